@@ -5,6 +5,7 @@ mod arithmetic;
 mod jumps;
 mod machine;
 mod state;
+mod views;
 
 pub use machine::Machine;
 pub use state::{BootFault, Registers, Status, Stop};

@@ -4,9 +4,9 @@ use Rattle.std.specs.List.{All}
 use Rattle.std.proofs.lemmas.Bool.{cases_lt, cases_eq}
 use Rattle.std.proofs.lemmas.List.{append-nil, ext_get_or, get_or-take, get_or-drop, length-take-le, length-drop, take-append-drop}
 use Rattle.std.proofs.lemmas.List.Elements.{All-take, All-drop, All-cons, All-nil}
-use Rattle.pm_words.specs.Words.{IsMemory, byte_at, bytes_at, bytes_of, copied, moved_up, with_byte, with_bytes, word_at}
+use Rattle.pm_words.specs.Words.{IsMemory, byte_at, bytes_at, bytes_of, copied, moved_down, moved_up, with_byte, with_bytes, with_word, word_at}
 use Rattle.pm_words.proofs.Pairs.{words_of-bytes_of}
-use Rattle.pm_words.proofs.Laws.{AreMemoryBytes-bytes_of, IsMemory-with_bytes, byte_at-with_bytes, byte_at-with_bytes_other, word_at-bytes}
+use Rattle.pm_words.proofs.Laws.{AreMemoryBytes-bytes_of, IsMemory-with_bytes, byte_at-even, byte_at-odd, byte_at-with_bytes, byte_at-with_bytes_other, word_at-bytes, word_at-with_word, word_at-with_word_other}
 
 -- the bytes of a memory are bytes, and those of a range as many as were asked for
 pub All-bytes_at : (ws : List ℕ) (a n : ℕ) → IsMemory ws → All (λ b. b < 256) (bytes_at ws a n)
@@ -23,6 +23,32 @@ get_or-bytes_at : (ws : List ℕ) (a n k : ℕ) → k < n → get_or (bytes_at w
 unfolding bytes_at byte_at
 get_or-bytes_at ws a n k h =
     get_or-take n (drop a (bytes_of ws)) k 0 h ∙ get_or-drop a (bytes_of ws) k 0
+
+-- a word's own bytes after it is written
+pub byte_at-with_word_low : (ws : List ℕ) (a x w : ℕ) → a % 2 ≡ 0 → a / 2 < length ws → x ≡ a → byte_at (with_word ws a w) x ≡ w % 256
+byte_at-with_word_low ws a x w even h e =
+    let place : x % 2 ≡ 0 = omega arith in
+    byte_at-even (with_word ws a w) x place ∙ ap (λ v. v % 256) (word_at-with_word ws a x w e h)
+
+pub byte_at-with_word_high : (ws : List ℕ) (a x w : ℕ) → a % 2 ≡ 0 → a / 2 < length ws → x ≡ a + 1 → byte_at (with_word ws a w) x ≡ w / 256
+byte_at-with_word_high ws a x w even h e =
+    let place : x % 2 ≡ 1 = omega arith in
+    let same : x - 1 ≡ a = omega arith in
+    byte_at-odd (with_word ws a w) x place ∙ ap (λ v. v / 256) (word_at-with_word ws a (x - 1) w same h)
+
+-- all other bytes stay
+pub byte_at-with_word_other : (ws : List ℕ) (a x w : ℕ) → a % 2 ≡ 0 → (x < a) ⊎ (a + 1 < x) → byte_at (with_word ws a w) x ≡ byte_at ws x
+byte_at-with_word_other ws a x w even away =
+    ⊎_elim
+    (λ place. byte_at-even (with_word ws a w) x place
+    ∙ (ap (λ v. v % 256) (word_at-with_word_other ws a x w even place (λ e. ⊎_elim (λ l. omega arith) (λ r. omega arith) away))
+    ∙ sym (byte_at-even ws x place)))
+    (λ odd. let place : x % 2 ≡ 1 = omega arith in
+    let below : (x - 1) % 2 ≡ 0 = omega arith in
+    byte_at-odd (with_word ws a w) x place
+    ∙ (ap (λ v. v / 256) (word_at-with_word_other ws a (x - 1) w even below (λ e. ⊎_elim (λ l. omega arith) (λ r. omega arith) away))
+    ∙ sym (byte_at-odd ws x place)))
+    (cases_eq (x % 2) 0)
 
 -- a word of which no byte is written stays
 pub word_at-with_bytes_other : (ws ys : List ℕ) (a x : ℕ) → IsMemory ws → a + length ys ≤ 65536 → All (λ b. b < 256) ys → x % 2 ≡ 0 → (x + 1 < a) ⊎ (a + length ys ≤ x) → word_at (with_bytes ws a ys) x ≡ word_at ws x
@@ -150,5 +176,45 @@ moved_up-copied (suc n) ws from to h source room apart =
     moved_up-copied n (with_byte ws to (byte_at ws from)) (suc from) (suc to) (IsMemory-with_byte ws to (byte_at ws from) h (omega arith) below) (omega arith) (omega arith) (⊎_elim (λ l. inl (omega arith)) (λ r. inr (omega arith)) apart)
     ∙ copied-first ws from to n h source room apart
 
--- the laws of copies, for callers
+-- one byte copied last, and the others before it, is the copy of all where nothing is read that was written
+copied-last : (ws : List ℕ) (from to n : ℕ) → IsMemory ws → from + suc n ≤ 65536 → to + suc n ≤ 65536 → (from ≤ to) ⊎ (to + suc n ≤ from) → copied (with_byte ws (to + n) (byte_at ws (from + n))) from to n ≡ copied ws from to (suc n)
+copied-last ws from to n h source room apart =
+    let below : byte_at ws (from + n) < 256 = byte_at-below ws (from + n) h (omega arith) in
+    let here : to + n < 65536 = omega arith in
+    let first = with_byte ws (to + n) (byte_at ws (from + n)) in
+    let k : IsMemory first = IsMemory-with_byte ws (to + n) (byte_at ws (from + n)) h here below in
+    let inner : from + n ≤ 65536 = omega arith in
+    let outer : to + n ≤ 65536 = omega arith in
+    same_memories _ _ (IsMemory-copied first from to n k inner outer) (IsMemory-copied ws from to (suc n) h source room)
+    (λ x l. ⊎_elim
+    (λ less. byte_at-copied_other first from to n x k inner outer (inl less)
+    ∙ (byte_at-with_byte_other ws (to + n) x (byte_at ws (from + n)) h here below (λ e. omega arith)
+    ∙ sym (byte_at-copied_other ws from to (suc n) x h source room (inl less))))
+    (λ more. ⊎_elim
+    (λ inside. ⊎_elim
+    (λ same. byte_at-copied_other first from to n x k inner outer (inr (omega arith))
+    ∙ (byte_at-with_byte ws (to + n) x (byte_at ws (from + n)) h here below same
+    ∙ (ap (byte_at ws) (omega arith) ∙ sym (byte_at-copied ws from to (suc n) x h source room more inside))))
+    (λ ne. byte_at-copied first from to n x k inner outer more (⊎_elim (λ p. p) (λ p. absurd (ne (omega arith))) (cases_lt x (to + n)))
+    ∙ (byte_at-with_byte_other ws (to + n) (from + (x - to)) (byte_at ws (from + n)) h here below (λ e. ⊎_elim (λ p. ne (omega arith)) (λ p. omega arith) apart)
+    ∙ sym (byte_at-copied ws from to (suc n) x h source room more inside)))
+    (cases_eq x (to + n)))
+    (λ past. byte_at-copied_other first from to n x k inner outer (inr (omega arith))
+    ∙ (byte_at-with_byte_other ws (to + n) x (byte_at ws (from + n)) h here below (λ e. omega arith)
+    ∙ sym (byte_at-copied_other ws from to (suc n) x h source room (inr past))))
+    (cases_lt x (to + suc n)))
+    (cases_lt x to))
+
+-- a move of descending bytes is a copy where the target is above the source, or apart from it
+pub moved_down-copied : (n : ℕ) (ws : List ℕ) (from to : ℕ) → IsMemory ws → from + n ≤ 65536 → to + n ≤ 65536 → (from ≤ to) ⊎ (to + n ≤ from) → moved_down ws from to n ≡ copied ws from to n
+unfolding moved_down
+moved_down-copied zero ws from to h source room apart = sym (copied-none ws from to)
+moved_down-copied (suc n) ws from to h source room apart =
+    let below : byte_at ws (from + n) < 256 = byte_at-below ws (from + n) h (omega arith) in
+    moved_down-copied n (with_byte ws (to + n) (byte_at ws (from + n))) from to (IsMemory-with_byte ws (to + n) (byte_at ws (from + n)) h (omega arith) below) (omega arith) (omega arith) (⊎_elim (λ l. inl l) (λ r. inr (omega arith)) apart)
+    ∙ copied-last ws from to n h source room apart
+
+-- the laws of single bytes and of copies, for callers
+pub ruleset byte_laws = (byte_at-with_byte, byte_at-with_byte_other, byte_at-with_word_low, byte_at-with_word_high, byte_at-with_word_other)
+
 pub ruleset copy_laws = (word_at-copied, word_at-copied_other, byte_at-copied, byte_at-copied_other, IsMemory-copied)

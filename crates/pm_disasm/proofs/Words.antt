@@ -2,7 +2,8 @@
 use Rattle.std.proofs.Common.{◌≡◌, ◌<◌, ◌≤◌, ℕ, zero, suc, ◌+◌, ◌*◌, ◌/◌, List, [], ◌∷◌, ◌++◌, length, map, drop, get_or, refl, sym, ap, ◌∙◌, arith, add-one, append-nil, append_assoc, drop-cons, length-drop}
 use Rattle.std.specs.Prelude.{codes}
 use Rattle.std.specs.Fmt.{decimal}
-use Rattle.pm_disasm.specs.Text.{operands_text, more_operands, words_of}
+use Rattle.pm_disasm.specs.Text.{operands_text, more_operands}
+use Rattle.pm_words.specs.Words.{words_of}
 
 -- operands behind k others
 abbrev pub rest_text : ℕ → List (List ℕ) → List ℕ
@@ -27,6 +28,7 @@ first_text zero t ts = refl
 first_text (suc k) t ts = refl
 
 words_at : (bs : List ℕ) (k : ℕ) → 2 * k + 1 < length bs → words_of (drop (2 * k) bs) ≡ (get_or bs (2 * k) 0 + 256 * get_or bs (2 * k + 1) 0) ∷ words_of (drop (2 * (k + 1)) bs)
+unfolding words_of
 words_at bs k h =
     let here : suc (2 * k) ≡ 2 * k + 1 = omega arith in
     let next : suc (2 * k + 1) ≡ 2 * (k + 1) = omega arith in
@@ -48,6 +50,7 @@ word_written bs done whole k h e =
     ∙ e
 
 none_left : (bs : List ℕ) → length bs ≤ 1 → words_of bs ≡ []
+unfolding words_of
 none_left [] h = refl
 none_left (b ∷ []) h = refl
 none_left (b ∷ d ∷ bs) h = absurd (omega arith)

@@ -9,7 +9,7 @@ use Rattle.pm_opcode.specs.declared.instr.Decode.{Decode}
 use Rattle.pm_opcode.specs.Table.{form_of, implied, mnemonic_of}
 use Rattle.pm_opcode.specs.Spelling.{named_by}
 use Rattle.pm_opcode.specs.Reading.{reading}
-use Rattle.pm_words.specs.Words.{bytes_of}
+use Rattle.pm_words.specs.Words.{bytes_of, words_of}
 
 -- a word as a signed number
 abbrev pub signed_text : ℕ → List ℕ
@@ -33,12 +33,6 @@ escaped byte = if is_plain byte then byte ∷ [] else 92 ∷ hex_digit (byte / 1
 
 abbrev pub quoted : List ℕ → List ℕ
 quoted bytes = 34 ∷ flat_map escaped bytes ++ 34 ∷ []
-
--- bytes as words, the low byte of each first
-abbrev pub words_of : List ℕ → List ℕ
-words_of [] = []
-words_of (low ∷ []) = []
-words_of (low ∷ high ∷ bytes) = (low + 256 * high) ∷ words_of bytes
 
 -- the type of the operands of a comparison, with their size where it has one
 abbrev pub type_text : ℕ → ℕ → Bool → List ℕ

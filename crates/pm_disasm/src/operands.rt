@@ -12,8 +12,8 @@ ghost use Rattle.pm_disasm.specs.Text.{
   quoted,
   signed_text,
   type_text,
-  words_of,
 };
+ghost use Rattle.pm_words.specs.Words.{words_of};
 
 use pm_opcode::implied_number;
 use std::fmt;

@@ -1,6 +1,7 @@
 use Rattle.std.proofs.Common.{◌≡◌, ◌*◌, ℕ, List, ◌++◌, drop, map}
 use Rattle.std.specs.Fmt.{HasWritten, IsPlainFormatter, decimal}
-use Rattle.pm_disasm.specs.Text.{operands_text, words_of}
+use Rattle.pm_words.specs.Words.{words_of}
+use Rattle.pm_disasm.specs.Text.{operands_text}
 use Rattle.pm_disasm.proofs.Words.{rest_text}
 use Rattle.pm_disasm.proofs.operands.WordsDisplay.fmt.Given as goal
 

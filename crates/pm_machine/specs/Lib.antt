@@ -1,0 +1,10 @@
+pub mod Faults
+pub mod Signed
+pub mod Arithmetic
+pub mod State
+pub mod Jumps
+pub mod Rows
+pub mod Steps
+pub mod Events
+pub mod Start
+pub mod Runs

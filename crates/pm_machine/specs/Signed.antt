@@ -1,0 +1,55 @@
+-- Words as signed numbers: a word from 32,768 on stands for itself less 65,536. Results are words again, modulo 65,536.
+use Rattle.std.specs.Prelude.{ℕ, ◌+◌, ◌-◌, ◌*◌, ◌%◌, Bool, not, Result, Ok, Err, if◌then◌else◌, ◌==◌, ℤ, pos, negsuc, unsigned_abs, int_lt, int_le, int_div, int_rem, bit_and, bit_or}
+use Rattle.std.specs.Int.{w16, cast_signed}
+use Rattle.pm_words.specs.declared.error.ExecError.{ExecError}
+use Rattle.pm_words.specs.declared.error.ExecError.TheVariants.{DivideByZero}
+use Rattle.pm_words.specs.Stack.{minus}
+use Rattle.pm_opcode.specs.declared.operation.Unary.{Unary}
+use Rattle.pm_opcode.specs.declared.operation.Unary.TheVariants.{Absolute, Negate, Square, Complement}
+use Rattle.pm_opcode.specs.declared.operation.Binary.{Binary}
+use Rattle.pm_opcode.specs.declared.operation.Binary.TheVariants.{Add, Subtract, Multiply, Divide, Modulo, And, Or}
+use Rattle.pm_opcode.specs.declared.operation.Relation.{Relation}
+use Rattle.pm_opcode.specs.declared.operation.Relation.TheVariants.{Equal, GreaterOrEqual, Greater, LessOrEqual, Less, NotEqual}
+
+-- the signed value of a word
+abbrev pub signed : ℕ → ℤ
+signed w = cast_signed w16 w
+
+-- a number modulo 65,536
+abbrev pub word : ℤ → ℕ
+word (pos n) = n % 65536
+word (negsuc n) = 65535 - n % 65536
+
+-- a truth value as a word
+abbrev pub truth : Bool → ℕ
+truth b = if b then 1 else 0
+
+-- the absolute value, the negative, the square, all 16 bits turned round
+abbrev pub unary : Unary → ℕ → ℕ
+unary Absolute a = unsigned_abs (signed a)
+unary Negate a = minus 0 a
+unary Square a = (a * a) % 65536
+unary Complement a = 65535 - a
+
+-- the word of a signed quotient or remainder; there is none by zero
+abbrev pub divided : (ℤ → ℤ → ℤ) → ℕ → ℕ → Result ℕ ExecError
+divided f a b = if b == 0 then Err DivideByZero else Ok (word (f (signed a) (signed b)))
+
+-- the quotient goes toward zero, and the remainder has the sign of a
+abbrev pub binary : Binary → ℕ → ℕ → Result ℕ ExecError
+binary Add a b = Ok ((a + b) % 65536)
+binary Subtract a b = Ok (minus a b)
+binary Multiply a b = Ok ((a * b) % 65536)
+binary Divide a b = divided int_div a b
+binary Modulo a b = divided int_rem a b
+binary And a b = Ok (bit_and a b)
+binary Or a b = Ok (bit_or a b)
+
+-- how a compares with b, as signed numbers
+abbrev pub relation : Relation → ℕ → ℕ → Bool
+relation Equal a b = a == b
+relation NotEqual a b = not (a == b)
+relation Less a b = int_lt (signed a) (signed b)
+relation LessOrEqual a b = int_le (signed a) (signed b)
+relation Greater a b = int_lt (signed b) (signed a)
+relation GreaterOrEqual a b = int_le (signed b) (signed a)

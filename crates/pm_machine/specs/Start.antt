@@ -1,0 +1,44 @@
+-- The machine at its start.
+use Rattle.std.specs.Prelude.{ℕ, ◌+◌, ◌%◌, ◌≡◌, List, Result, Ok, Err, IsOk, if◌then◌else◌, nat_lt, length}
+use Rattle.pm_words.specs.Words.{zero_words, with_word, with_bytes}
+use Rattle.pm_machine.specs.declared.state.BootFault.{BootFault}
+use Rattle.pm_machine.specs.declared.state.BootFault.TheVariants.{NoFile, NotCode, BadCode, Exec, NoMemory}
+use Rattle.pm_machine.specs.declared.state.Status.TheVariants as status
+use Rattle.pm_machine.specs.State.{State}
+
+-- The frame of the system, at 65,492: its static and its dynamic link lead to itself, JTAB, SEG and IPC are 0, and its
+-- SP is 65,504.
+unfoldable pub with_system_frame : List ℕ → List ℕ
+with_system_frame m =
+    let static = with_word m 65492 65492 in
+    let dynamic = with_word static 65494 65492 in
+    let jtab = with_word dynamic 65496 0 in
+    let seg = with_word jtab 65498 0 in
+    let ipc = with_word seg 65500 0 in
+    with_word ipc 65502 65504
+
+-- the end of code that stands from 1,024 on, made even upward
+abbrev pub code_end : List ℕ → ℕ
+code_end bytes = 1024 + length bytes + length bytes % 2
+
+-- The start on bare code: its bytes stand from 1,024 on, and the rest of the memory is zero but for the frame of the
+-- system. More than 60,000 bytes are refused.
+unfoldable pub raw_start : List ℕ → Result State BootFault
+raw_start bytes =
+    if nat_lt 60000 (length bytes) then Err BadCode
+    else (let e = code_end bytes in
+    Ok (record {
+      memory = with_system_frame (with_bytes zero_words 1024 bytes);
+      registers = record { sp = 65492; ipc = 1024; seg = e; jtab = e; mp = 65492; base = 65492; np = e; ioresult = 0 };
+      steps = 0;
+      status = status.Running;
+    }))
+
+-- a machine was made, or refused; memory is missing only where nothing else was wrong
+abbrev pub Starts : Result State BootFault → Result State BootFault → Type 0
+Starts (Ok m) start = start ≡ Ok m
+Starts (Err NoFile) start = start ≡ Err NoFile
+Starts (Err NotCode) start = start ≡ Err NotCode
+Starts (Err BadCode) start = start ≡ Err BadCode
+Starts (Err (Exec e)) start = start ≡ Err (Exec e)
+Starts (Err NoMemory) start = IsOk start

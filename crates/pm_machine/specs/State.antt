@@ -1,0 +1,12 @@
+-- The whole state of the machine. Definitions change it by its fields alone, so that it can grow.
+use Rattle.std.specs.Prelude.{ℕ, List}
+use Rattle.pm_machine.specs.declared.state.Registers.{Registers}
+use Rattle.pm_machine.specs.declared.state.Status.{Status}
+
+pub record State : Type 0 where
+  -- the 32,768 words
+  pub memory : List ℕ
+  pub registers : Registers
+  -- how many steps went or ended the program, up to the greatest u64
+  pub steps : ℕ
+  pub status : Status

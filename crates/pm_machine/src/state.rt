@@ -1,0 +1,117 @@
+//! The machine's plain parts.
+
+ghost use Rattle.std.specs.Prelude.{◌≡◌};
+ghost use Rattle.pm_machine.specs.Faults.{boot_number};
+
+use pm_words::ExecError;
+use std::alloc::AllocError;
+use thiserror::Error;
+
+/// The eight registers, each a word.
+#[derive(Clone, Copy, Debug, PartialEq, Eq)]
+pub struct Registers {
+    /// The address of the word on the top of the stack, which grows down. It is even, at least NP
+    /// and at most 65,504.
+    pub sp: u16,
+    /// The address of the next instruction.
+    pub ipc: u16,
+    /// The highest word of the running segment.
+    pub seg: u16,
+    /// The highest word of the running procedure's attribute table.
+    pub jtab: u16,
+    /// The frame of the running procedure.
+    pub mp: u16,
+    /// The frame of the running program.
+    pub base: u16,
+    /// The top of the heap, which grows up. It is even.
+    pub np: u16,
+    /// The result of the last input or output.
+    pub ioresult: u16,
+}
+
+/// Whether the machine goes on.
+#[derive(Clone, Copy, Debug, PartialEq, Eq)]
+pub enum Status {
+    /// The next step is an instruction.
+    Running,
+    /// The program has come to its end.
+    Ended,
+    /// An execution error has stopped the machine.
+    Halted(ExecError),
+}
+
+/// What a step answers.
+#[derive(Clone, Copy, Debug, PartialEq, Eq)]
+pub enum Stop {
+    /// The machine goes on.
+    Went,
+    /// The instruction waits for console bytes; nothing has changed.
+    Waiting,
+    /// The program has come to its end.
+    Ended,
+    /// An execution error has stopped the machine, which stands as before the instruction.
+    Halted(ExecError),
+}
+
+/// Why no machine starts.
+#[derive(Clone, Copy, Debug, Drop, Error, PartialEq, Eq)]
+pub enum BootFault {
+    /// 1: there is no volume, or no such file on it.
+    #[error("no such file")]
+    NoFile,
+    /// 2: the file is no code file.
+    #[error("not a code file")]
+    NotCode,
+    /// 3: the code cannot be read, or is too long.
+    #[error("bad code file")]
+    BadCode,
+    /// 4: the call of the first procedure fails.
+    #[error("execution error at the first call")]
+    Exec(ExecError),
+    /// 5: there is no memory for the machine.
+    #[error("out of memory")]
+    NoMemory,
+}
+
+impl BootFault {
+    /// The fault's number, as the program prints it.
+    pub fn number(self) -> u8
+        ensures value { result ≡ boot_number self }
+    {
+        match self {
+            BootFault::NoFile => 1,
+            BootFault::NotCode => 2,
+            BootFault::BadCode => 3,
+            BootFault::Exec(_) => 4,
+            BootFault::NoMemory => 5,
+        }
+    }
+}
+
+impl From<AllocError> for BootFault {
+    ghost use Rattle.pm_machine.specs.declared.state.BootFault.TheVariants.{NoMemory};
+
+    ghost from_gives = { λ _ f. f ≡ NoMemory };
+
+    fn from(_: AllocError) -> BootFault {
+        BootFault::NoMemory
+    }
+}
+
+/// Why an instruction does not go on.
+#[derive(Clone, Copy, Debug, PartialEq, Eq)]
+pub enum Trap {
+    Exec(ExecError),
+    Waiting,
+    NoMemory,
+}
+
+impl From<ExecError> for Trap {
+    ghost use Rattle.pm_machine.specs.declared.state.Trap.TheVariants.{Exec};
+
+    ghost from_gives = { λ e t. t ≡ Exec e };
+
+    fn from(error: ExecError) -> Trap {
+        Trap::Exec(error)
+    }
+}

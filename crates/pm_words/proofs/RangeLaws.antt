@@ -1,0 +1,154 @@
+-- The laws of ranges: what a word or a byte is after a copy, and when two moves are one.
+use Rattle.std.proofs.Common.{◌≡◌, ◌≢◌, ℕ, zero, suc, ◌+◌, ◌-◌, ◌*◌, ◌/◌, ◌%◌, ◌<◌, ◌≤◌, ◌⊎◌, List, [], ◌∷◌, length, drop, get_or, refl, sym, ap, ◌∙◌, arith, inl, inr, ⊎_elim}
+use Rattle.std.specs.List.{All}
+use Rattle.std.proofs.lemmas.Bool.{cases_lt, cases_eq}
+use Rattle.std.proofs.lemmas.List.{append-nil, ext_get_or, get_or-take, get_or-drop, length-take-le, length-drop, take-append-drop}
+use Rattle.std.proofs.lemmas.List.Elements.{All-take, All-drop, All-cons, All-nil}
+use Rattle.pm_words.specs.Words.{IsMemory, byte_at, bytes_at, bytes_of, copied, moved_up, with_byte, with_bytes, word_at}
+use Rattle.pm_words.proofs.Pairs.{words_of-bytes_of}
+use Rattle.pm_words.proofs.Laws.{AreMemoryBytes-bytes_of, IsMemory-with_bytes, byte_at-with_bytes, byte_at-with_bytes_other, word_at-bytes}
+
+-- the bytes of a memory are bytes, and those of a range as many as were asked for
+pub All-bytes_at : (ws : List ℕ) (a n : ℕ) → IsMemory ws → All (λ b. b < 256) (bytes_at ws a n)
+unfolding bytes_at
+All-bytes_at ws a n h =
+    All-take (λ b. b < 256) n (drop a (bytes_of ws)) (All-drop (λ b. b < 256) a (bytes_of ws) (AreMemoryBytes-bytes_of ws h).fits)
+
+pub length-bytes_at : (ws : List ℕ) (a n : ℕ) → IsMemory ws → a + n ≤ 65536 → length (bytes_at ws a n) ≡ n
+unfolding bytes_at
+length-bytes_at ws a n h room =
+    length-take-le n (drop a (bytes_of ws)) (omega (arith, length-drop a (bytes_of ws), (AreMemoryBytes-bytes_of ws h).size))
+
+get_or-bytes_at : (ws : List ℕ) (a n k : ℕ) → k < n → get_or (bytes_at ws a n) k 0 ≡ byte_at ws (a + k)
+unfolding bytes_at byte_at
+get_or-bytes_at ws a n k h =
+    get_or-take n (drop a (bytes_of ws)) k 0 h ∙ get_or-drop a (bytes_of ws) k 0
+
+-- a word of which no byte is written stays
+pub word_at-with_bytes_other : (ws ys : List ℕ) (a x : ℕ) → IsMemory ws → a + length ys ≤ 65536 → All (λ b. b < 256) ys → x % 2 ≡ 0 → (x + 1 < a) ⊎ (a + length ys ≤ x) → word_at (with_bytes ws a ys) x ≡ word_at ws x
+word_at-with_bytes_other ws ys a x h room fit even away =
+    let low = byte_at-with_bytes_other ws ys a x h room fit (⊎_elim (λ l. inl (omega arith)) (λ r. inr r) away) in
+    let high = byte_at-with_bytes_other ws ys a (x + 1) h room fit (⊎_elim (λ l. inl l) (λ r. inr (omega arith)) away) in
+    rw (word_at-bytes (with_bytes ws a ys) x even, word_at-bytes ws x even, low, high) refl
+
+-- the bytes of a copy
+pub byte_at-copied : (ws : List ℕ) (from to n x : ℕ) → IsMemory ws → from + n ≤ 65536 → to + n ≤ 65536 → to ≤ x → x < to + n → byte_at (copied ws from to n) x ≡ byte_at ws (from + (x - to))
+unfolding copied
+byte_at-copied ws from to n x h source room low high =
+    let size = length-bytes_at ws from n h source in
+    byte_at-with_bytes ws (bytes_at ws from n) to x h (omega arith) (All-bytes_at ws from n h) low (omega arith)
+    ∙ get_or-bytes_at ws from n (x - to) (omega arith)
+
+pub byte_at-copied_other : (ws : List ℕ) (from to n x : ℕ) → IsMemory ws → from + n ≤ 65536 → to + n ≤ 65536 → (x < to) ⊎ (to + n ≤ x) → byte_at (copied ws from to n) x ≡ byte_at ws x
+unfolding copied
+byte_at-copied_other ws from to n x h source room away =
+    let size = length-bytes_at ws from n h source in
+    byte_at-with_bytes_other ws (bytes_at ws from n) to x h (omega arith) (All-bytes_at ws from n h) (⊎_elim (λ l. inl l) (λ r. inr (omega arith)) away)
+
+-- the words of a copy from an even address to an even one
+pub word_at-copied : (ws : List ℕ) (from to n x : ℕ) → IsMemory ws → from + n ≤ 65536 → to + n ≤ 65536 → from % 2 ≡ 0 → to % 2 ≡ 0 → x % 2 ≡ 0 → to ≤ x → x + 1 < to + n → word_at (copied ws from to n) x ≡ word_at ws (from + (x - to))
+word_at-copied ws from to n x h source room f t even low high =
+    let first = byte_at-copied ws from to n x h source room low (omega arith) in
+    let second = byte_at-copied ws from to n (x + 1) h source room (omega arith) high in
+    let place : (from + (x - to)) % 2 ≡ 0 = omega arith in
+    let next : from + (x + 1 - to) ≡ from + (x - to) + 1 = omega arith in
+    rw (word_at-bytes (copied ws from to n) x even, word_at-bytes ws (from + (x - to)) place, first, second, next) refl
+
+pub word_at-copied_other : (ws : List ℕ) (from to n x : ℕ) → IsMemory ws → from + n ≤ 65536 → to + n ≤ 65536 → x % 2 ≡ 0 → (x + 1 < to) ⊎ (to + n ≤ x) → word_at (copied ws from to n) x ≡ word_at ws x
+unfolding copied
+word_at-copied_other ws from to n x h source room even away =
+    let size = length-bytes_at ws from n h source in
+    word_at-with_bytes_other ws (bytes_at ws from n) to x h (omega arith) (All-bytes_at ws from n h) even (⊎_elim (λ l. inl l) (λ r. inr (omega arith)) away)
+
+pub IsMemory-copied : (ws : List ℕ) (from to n : ℕ) → IsMemory ws → from + n ≤ 65536 → to + n ≤ 65536 → IsMemory (copied ws from to n)
+unfolding copied
+IsMemory-copied ws from to n h source room =
+    let size = length-bytes_at ws from n h source in
+    IsMemory-with_bytes ws (bytes_at ws from n) to h (omega arith) (All-bytes_at ws from n h)
+
+-- two memories with the same bytes are one
+same_word : (ws vs : List ℕ) (x : ℕ) → x % 2 ≡ 0 → byte_at ws x ≡ byte_at vs x → byte_at ws (x + 1) ≡ byte_at vs (x + 1) → word_at ws x ≡ word_at vs x
+same_word ws vs x even first second =
+    rw (word_at-bytes ws x even, word_at-bytes vs x even, first, second) refl
+
+word_at-twice : (ws : List ℕ) (i : ℕ) → word_at ws (2 * i) ≡ get_or ws i 0
+unfolding word_at
+word_at-twice ws i = let half : 2 * i / 2 ≡ i = omega arith in rw half refl
+
+pub same_memories : (ws vs : List ℕ) → IsMemory ws → IsMemory vs → ((a : ℕ) → a < 65536 → byte_at ws a ≡ byte_at vs a) → ws ≡ vs
+same_memories ws vs h k same =
+    ext_get_or 0 ws vs (h.size ∙ sym k.size)
+    (λ i l. sym (word_at-twice ws i) ∙ (same_word ws vs (2 * i) (omega arith) (same (2 * i) (omega (arith, h.size))) (same (2 * i + 1) (omega (arith, h.size))) ∙ word_at-twice vs i))
+
+-- ---- moves
+
+byte_at-below : (ws : List ℕ) (a : ℕ) → IsMemory ws → a < 65536 → byte_at ws a < 256
+unfolding byte_at
+byte_at-below ws a h l =
+    let bytes = AreMemoryBytes-bytes_of ws h in
+    bytes.fits a 0 (omega (arith, bytes.size))
+
+All-one : (b : ℕ) → b < 256 → All (λ x. x < 256) (b ∷ [])
+All-one b h = All-cons (λ x. x < 256) b [] h (All-nil (λ x. x < 256))
+
+pub IsMemory-with_byte : (ws : List ℕ) (a b : ℕ) → IsMemory ws → a < 65536 → b < 256 → IsMemory (with_byte ws a b)
+unfolding with_byte
+IsMemory-with_byte ws a b h l fit = IsMemory-with_bytes ws (b ∷ []) a h (omega arith) (All-one b fit)
+
+pub byte_at-with_byte : (ws : List ℕ) (a x b : ℕ) → IsMemory ws → a < 65536 → b < 256 → x ≡ a → byte_at (with_byte ws a b) x ≡ b
+unfolding with_byte
+byte_at-with_byte ws a x b h l fit e =
+    let none : x - a ≡ 0 = omega arith in
+    byte_at-with_bytes ws (b ∷ []) a x h (omega arith) (All-one b fit) (omega arith) (omega arith) ∙ rw none refl
+
+pub byte_at-with_byte_other : (ws : List ℕ) (a x b : ℕ) → IsMemory ws → a < 65536 → b < 256 → x ≢ a → byte_at (with_byte ws a b) x ≡ byte_at ws x
+unfolding with_byte
+byte_at-with_byte_other ws a x b h l fit ne =
+    byte_at-with_bytes_other ws (b ∷ []) a x h (omega arith) (All-one b fit) (⊎_elim (λ less. inl less) (λ more. inr (omega arith)) (cases_lt x a))
+
+copied-none : (ws : List ℕ) (from to : ℕ) → copied ws from to 0 ≡ ws
+unfolding copied bytes_at with_bytes
+copied-none ws from to =
+    let e : to + 0 ≡ to = omega arith in
+    rw (append-nil, e, take-append-drop to (bytes_of ws)) (words_of-bytes_of ws)
+
+-- one byte copied first, and then the rest, is the copy of all where nothing is read that was written
+copied-first : (ws : List ℕ) (from to n : ℕ) → IsMemory ws → from + suc n ≤ 65536 → to + suc n ≤ 65536 → (to ≤ from) ⊎ (from + suc n ≤ to) → copied (with_byte ws to (byte_at ws from)) (suc from) (suc to) n ≡ copied ws from to (suc n)
+copied-first ws from to n h source room apart =
+    let below : byte_at ws from < 256 = byte_at-below ws from h (omega arith) in
+    let here : to < 65536 = omega arith in
+    let first = with_byte ws to (byte_at ws from) in
+    let k : IsMemory first = IsMemory-with_byte ws to (byte_at ws from) h here below in
+    let inner : suc from + n ≤ 65536 = omega arith in
+    let outer : suc to + n ≤ 65536 = omega arith in
+    same_memories _ _ (IsMemory-copied first (suc from) (suc to) n k inner outer) (IsMemory-copied ws from to (suc n) h source room)
+    (λ x l. ⊎_elim
+    (λ less. byte_at-copied_other first (suc from) (suc to) n x k inner outer (inl (omega arith))
+    ∙ (byte_at-with_byte_other ws to x (byte_at ws from) h here below (λ e. omega arith)
+    ∙ sym (byte_at-copied_other ws from to (suc n) x h source room (inl less))))
+    (λ more. ⊎_elim
+    (λ inside. ⊎_elim
+    (λ same. byte_at-copied_other first (suc from) (suc to) n x k inner outer (inl (omega arith))
+    ∙ (byte_at-with_byte ws to x (byte_at ws from) h here below same
+    ∙ (ap (byte_at ws) (omega arith) ∙ sym (byte_at-copied ws from to (suc n) x h source room more inside))))
+    (λ ne. byte_at-copied first (suc from) (suc to) n x k inner outer (omega arith) (omega arith)
+    ∙ (byte_at-with_byte_other ws to (suc from + (x - suc to)) (byte_at ws from) h here below (λ e. ⊎_elim (λ p. omega arith) (λ p. omega arith) apart)
+    ∙ (ap (byte_at ws) (omega arith) ∙ sym (byte_at-copied ws from to (suc n) x h source room more inside))))
+    (cases_eq x to))
+    (λ past. byte_at-copied_other first (suc from) (suc to) n x k inner outer (inr (omega arith))
+    ∙ (byte_at-with_byte_other ws to x (byte_at ws from) h here below (λ e. omega arith)
+    ∙ sym (byte_at-copied_other ws from to (suc n) x h source room (inr past))))
+    (cases_lt x (to + suc n)))
+    (cases_lt x to))
+
+-- a move of ascending bytes is a copy where the target is below the source, or apart from it
+pub moved_up-copied : (n : ℕ) (ws : List ℕ) (from to : ℕ) → IsMemory ws → from + n ≤ 65536 → to + n ≤ 65536 → (to ≤ from) ⊎ (from + n ≤ to) → moved_up ws from to n ≡ copied ws from to n
+unfolding moved_up
+moved_up-copied zero ws from to h source room apart = sym (copied-none ws from to)
+moved_up-copied (suc n) ws from to h source room apart =
+    let below : byte_at ws from < 256 = byte_at-below ws from h (omega arith) in
+    moved_up-copied n (with_byte ws to (byte_at ws from)) (suc from) (suc to) (IsMemory-with_byte ws to (byte_at ws from) h (omega arith) below) (omega arith) (omega arith) (⊎_elim (λ l. inl (omega arith)) (λ r. inr (omega arith)) apart)
+    ∙ copied-first ws from to n h source room apart
+
+-- the laws of copies, for callers
+pub ruleset copy_laws = (word_at-copied, word_at-copied_other, byte_at-copied, byte_at-copied_other, IsMemory-copied)

@@ -1,0 +1,61 @@
+-- Steps that may fail, and the stack's own steps. The stack grows down: SP is the address of the word
+-- on its top, words are pushed below it, and it ends at 65,504, above which no word is popped.
+use Rattle.std.specs.Prelude.{ℕ, ◌+◌, ◌-◌, ◌%◌, ◌≤◌, ◌≡◌, ◌==◌, Bool, List, Result, Ok, Err, if◌then◌else◌, nat_lt}
+use Rattle.pm_words.specs.declared.error.ExecError.{ExecError}
+use Rattle.pm_words.specs.declared.error.ExecError.TheVariants.{InvalidMemory, StackOverflow}
+use Rattle.pm_words.specs.Words.{word_at, with_word}
+
+-- one step after another: the first error is the answer
+infixl 10 ◌>>=◌
+abbrev pub ◌>>=◌ : {A B E : Type 0} → Result A E → (A → Result B E) → Result B E
+(Ok x) >>= f = f x
+(Err e) >>= f = Err e
+
+-- a rule that has to hold, and the error where it does not
+abbrev pub demand : {E : Type 0} → Bool → E → Result (Unit {0}) E
+demand holds e = if holds then Ok tt else Err e
+
+abbrev pub is_even : ℕ → Bool
+is_even a = a % 2 == 0
+
+-- a difference modulo 65,536
+abbrev pub minus : ℕ → ℕ → ℕ
+minus a b = (a + (65536 - b)) % 65536
+
+-- the word at an address, which has to be even
+abbrev pub load : List ℕ → ℕ → Result ℕ ExecError
+load m a = if is_even a then Ok (word_at m a) else Err InvalidMemory
+
+-- the memory with a word written at an address, which has to be even
+abbrev pub store : List ℕ → ℕ → ℕ → Result (List ℕ) ExecError
+store m a w = if is_even a then Ok (with_word m a w) else Err InvalidMemory
+
+-- the word on the stack at sp, and the sp above it, which is at most 65,504
+abbrev pub pop : List ℕ → ℕ → Result (ℕ × ℕ) ExecError
+pop m sp = if nat_lt 65502 sp then Err InvalidMemory else (load m sp >>= λ w. Ok (w, sp + 2))
+
+-- the memory with a word put on the stack, and the new sp, which is at least np
+abbrev pub push : List ℕ → ℕ → ℕ → ℕ → Result (List ℕ × ℕ) ExecError
+push m sp np w = if nat_lt sp (np + 2) then Err StackOverflow else (store m (sp - 2) w >>= λ n. Ok (n, sp - 2))
+
+-- A row on the stack, from memory, SP and NP to memory and SP. Its lines stand in the order of its faults:
+-- the pops, then what it checks itself, then the push.
+abbrev pub StackRow : Type 0
+StackRow = List ℕ → ℕ → ℕ → Result (List ℕ × ℕ) ExecError
+
+-- a row on the stack was done: it gives the new memory and SP, or an error with the memory as it was
+abbrev pub Stacks : Result ℕ ExecError → List ℕ → List ℕ → Result (List ℕ × ℕ) ExecError → Type 0
+Stacks (Ok sp) old new row = row ≡ Ok (new, sp)
+Stacks (Err e) old new row = (row ≡ Err e) × (new ≡ old)
+
+-- a write was done, or an error leaves the memory as it was
+abbrev pub Stores : {A : Type 0} → Result A ExecError → List ℕ → List ℕ → Result (List ℕ) ExecError → Type 0
+Stores (Ok x) old new stored = stored ≡ Ok new
+Stores (Err e) old new stored = (stored ≡ Err e) × (new ≡ old)
+
+-- what every machine keeps: SP and NP are even, and NP ≤ SP ≤ 65,504
+pub record IsStack (sp np : ℕ) : Type 0 where
+  pub even_sp : sp % 2 ≡ 0
+  pub even_np : np % 2 ≡ 0
+  pub above : np ≤ sp
+  pub below : sp ≤ 65504

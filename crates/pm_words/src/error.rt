@@ -1,0 +1,67 @@
+//! The execution errors and their numbers.
+
+ghost use Rattle.std.specs.Prelude.{◌≡◌};
+ghost use Rattle.pm_words.specs.Errors.{number_of};
+
+use thiserror::Error;
+
+/// An execution error: it stops the machine, which stands as before the instruction. The numbers 0,
+/// 5, 8, 12 and 15 of the system (system error, integer overflow, user break, floating point, bad
+/// block) never arise.
+#[derive(Clone, Copy, Debug, Drop, Error, PartialEq, Eq)]
+pub enum ExecError {
+    /// 1: an index or a member outside its bounds.
+    #[error("invalid index")]
+    InvalidIndex,
+    /// 2: a segment, a procedure or a static link that is not there, or a bad code file.
+    #[error("no segment or bad code file")]
+    NoSegment,
+    /// 3: EXIT from a procedure that is not active.
+    #[error("procedure not present at exit time")]
+    NoProcedure,
+    /// 4: SP would be below NP.
+    #[error("stack overflow")]
+    StackOverflow,
+    /// 6: a division by zero.
+    #[error("divide by zero")]
+    DivideByZero,
+    /// 7: an odd word address, a range that leaves memory, or too few words on the stack.
+    #[error("invalid memory reference")]
+    InvalidMemory,
+    /// 9: code that cannot be loaded from its disk.
+    #[error("system I/O error")]
+    SystemIo,
+    /// 10: IORESULT was not 0 where it was checked.
+    #[error("user I/O error")]
+    UserIo,
+    /// 11: an opcode or a procedure that this machine does not have.
+    #[error("unimplemented instruction")]
+    Unimplemented,
+    /// 13: a string longer than its place.
+    #[error("string too long")]
+    StringTooLong,
+    /// 14: the program halted.
+    #[error("halt or breakpoint")]
+    Halt,
+}
+
+impl ExecError {
+    /// The error's number, as the system prints it.
+    pub fn number(self) -> u8
+        ensures value { result ≡ number_of self }
+    {
+        match self {
+            ExecError::InvalidIndex => 1,
+            ExecError::NoSegment => 2,
+            ExecError::NoProcedure => 3,
+            ExecError::StackOverflow => 4,
+            ExecError::DivideByZero => 6,
+            ExecError::InvalidMemory => 7,
+            ExecError::SystemIo => 9,
+            ExecError::UserIo => 10,
+            ExecError::Unimplemented => 11,
+            ExecError::StringTooLong => 13,
+            ExecError::Halt => 14,
+        }
+    }
+}

@@ -1,0 +1,10 @@
+//! The memory of the p-machine, the execution errors, and the steps of a row on the stack.
+#![tactic(auto)]
+
+mod error;
+mod memory;
+mod ranges;
+pub mod stack;
+
+pub use error::ExecError;
+pub use memory::Memory;

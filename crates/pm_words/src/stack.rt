@@ -1,0 +1,50 @@
+//! The steps of which a row on the stack is made. The stack grows down: SP is the address of the
+//! word on its top, and NP, the top of the heap, bounds it below.
+
+ghost use Rattle.std.specs.Prelude.{◌≡◌, ℕ, IfOk};
+ghost use Rattle.pm_words.specs.Stack.{IsStack, Stacks, Stores, load, pop, push, store};
+
+use crate::{ExecError, Memory};
+
+/// The word at an address; `InvalidMemory` where that is odd.
+pub fn load(memory: &Memory, address: u16) -> Result<u16, ExecError>
+    ensures word { result ≡ load memory.now.words address }
+{
+    memory.word(address).ok_or(ExecError::InvalidMemory)
+}
+
+/// Writes a word at an address; `InvalidMemory`, and nothing changed, where that is odd.
+pub fn store(memory: &mut Memory, address: u16, word: u16) -> Result<(), ExecError>
+    ensures stored { Stores result memory.old.words memory.new.words (store memory.old.words address word) }
+{
+    if memory.set_word(address, word) {
+        Ok(())
+    } else {
+        Err(ExecError::InvalidMemory)
+    }
+}
+
+/// The word on the stack, and the SP above it; `InvalidMemory` where that would pass 65,504.
+pub fn pop(memory: &Memory, sp: u16) -> Result<(u16, u16), ExecError>
+    ensures row { result ≡ pop memory.now.words sp }
+    ensures stack { (np : ℕ) → IsStack sp np → IfOk result (λ r. IsStack r.1 np) }
+{
+    if sp > 65502 {
+        return Err(ExecError::InvalidMemory);
+    }
+    let word = load(memory, sp)?;
+    Ok((word, sp + 2))
+}
+
+/// Puts a word on the stack, and gives the new SP; `StackOverflow`, and nothing changed, where that
+/// would be below NP.
+pub fn push(memory: &mut Memory, sp: u16, np: u16, word: u16) -> Result<u16, ExecError>
+    ensures row { Stacks result memory.old.words memory.new.words (push memory.old.words sp np word) }
+    ensures stack { IsStack sp np → IfOk result (λ sp. IsStack sp np) }
+{
+    if u32::from(sp) < u32::from(np) + 2 {
+        return Err(ExecError::StackOverflow);
+    }
+    store(memory, sp - 2, word)?;
+    Ok(sp - 2)
+}

@@ -3,7 +3,7 @@
 ghost use Rattle.std.specs.Prelude.{◌≡◌, ◌%◌, Some};
 ghost use Rattle.pm_debug.specs.Trace.{top_word, trace_line};
 
-use crate::digits::{Count, Top, Word};
+use crate::digits::{Count, column, column_or_dashes, joined};
 use pm_disasm::Line;
 use pm_machine::Machine;
 use pm_words::Memory;
@@ -34,22 +34,25 @@ impl fmt::Display for TraceLine<'_> {
         let registers = self.machine.registers();
         let memory = self.machine.memory();
         let steps = Count(self.machine.steps());
-        let ipc = Word(registers.ipc);
-        let sp = Word(registers.sp);
-        let mp = Word(registers.mp);
-        let base = Word(registers.base);
-        let np = Word(registers.np);
-        let top = Top(top(memory, registers.sp));
+        let columns = [
+            column(registers.ipc),
+            column(registers.sp),
+            column(registers.mp),
+            column(registers.base),
+            column(registers.np),
+            column_or_dashes(top(memory, registers.sp)),
+        ];
+        let columns = joined(&columns);
         let line = Line::new(memory, registers.ipc);
-        write!(f, "{steps} {ipc} {sp} {mp} {base} {np} {top} {line}")
+        write!(f, "{steps}{columns} {line}")
     }
 }
 
 /// The word at the top of the stack.
 #[tactic(auto, unfolding(crate::specs::Trace::top_word))]
 fn top(memory: &Memory, sp: u16) -> Option<u16>
-    requires { sp % 2 ≡ 0 }
-    ensures { result ≡ top_word memory.now.words sp }
+    requires even { sp % 2 ≡ 0 }
+    ensures word { result ≡ top_word memory.now.words sp }
 {
     if sp == 65504 { None } else { memory.word(sp) }
 }

@@ -97,7 +97,7 @@ impl fmt::Display for Implied {
 }
 
 fn is_plain_byte(byte: u8) -> bool
-    ensures { result ≡ is_plain byte }
+    ensures plain { result ≡ is_plain byte }
 {
     byte != b'"' && byte != b'\\' && byte >= 32 && byte <= 126
 }

@@ -50,8 +50,8 @@ impl fmt::Display for Line<'_> {
 
 /// The bytes that an instruction names.
 fn named_bytes<'a>(instr: &Instr, bytes: &'a [u8]) -> &'a [u8]
-    requires { IsTrue (has_spelling instr.now (length bytes.now)) }
-    ensures { result.now ≡ named_by instr.now bytes.now }
+    requires spelling { IsTrue (has_spelling instr.now (length bytes.now)) }
+    ensures named { result.now ≡ named_by instr.now bytes.now }
 {
     match form_at(instr.op) {
         Form::Chars | Form::Words | Form::Jumps => {

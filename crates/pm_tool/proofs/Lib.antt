@@ -1,0 +1,4 @@
+pub mod Transfers
+pub mod Spelled
+pub mod Runs
+pub mod Kept

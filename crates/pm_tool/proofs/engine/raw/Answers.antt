@@ -1,0 +1,39 @@
+use Rattle.std.proofs.Common.{rules}
+use Rattle.std.proofs.lemmas.Result.{err_from_is_err_and}
+use Rattle.pm_tool.proofs.Kept.{broken_unwritten, raw_refused, raw_done, raw_broken}
+use Rattle.pm_tool.proofs.engine.raw.Goals as goal
+
+pub returns-in_err-input-clause-broken : goal.returns-in_err-input-clause-broken
+returns-in_err-input-clause-broken g c =
+    let p = err_from_is_err_and c.from_residual.result c.from_residual.ensures.1 in
+    let e = c.in_err-input.ensures.cause in
+    rw (p.1, p.2) (broken_unwritten _ _ _ _ _ _ _ e.0 e.1 (rw c.requires.sink_well e.2))
+
+pub returns-in_err-machine-clause-broken : goal.returns-in_err-machine-clause-broken
+returns-in_err-machine-clause-broken g c =
+    let r = c.from_residual-in_err-machine in
+    let p = err_from_is_err_and r.result r.ensures.1 in
+    let reads = c.in_ok-input.ensures.all in
+    rw (p.1, p.2) (broken_unwritten _ _ _ _ _ _ _ c.in_ok-input.input.items reads.0 (c.requires.sink_well, c.in_ok-input.ensures.well, reads.2))
+
+pub returns-in_err-refuse-in-Err-clause-broken : goal.returns-in_err-refuse-in-Err-clause-broken
+returns-in_err-refuse-in-Err-clause-broken g c =
+    let r = c.from_residual-in_err-refuse-in-Err in
+    let p = err_from_is_err_and r.result r.ensures.1 in
+    let reads = c.in_ok-input.ensures.all in
+    rw (p.1, p.2) (broken_unwritten _ _ _ _ _ _ _ c.in_ok-input.input.items reads.0 (c.requires.sink_well, c.in_ok-input.ensures.well, reads.2))
+
+pub returns-in-Err-clause-done : goal.returns-in-Err-clause-done
+returns-in-Err-clause-done g c =
+    raw_refused _ _ c.in_ok-input.input.items c.in_ok-input.ensures.all c.args.limit c.in-Err.refusal (search rules) _ _ c.in_ok-refuse-in-Err.ensures.outcome
+
+pub returns-in_err-ending-clause-broken : goal.returns-in_err-ending-clause-broken
+returns-in_err-ending-clause-broken g c =
+    let r = c.from_residual-in_err-ending in
+    let p = err_from_is_err_and r.result r.ensures.1 in
+    rw (p.1, p.2) (raw_broken _ _ c.in_ok-input.input.items c.in_ok-input.ensures.all c.args.limit c.in-Ok.machine (search rules) _ _ _ _ _ c.in_err-ending.ensures.front c.in_ok-input.ensures.well c.in_err-ending.ensures.cause)
+
+pub returns-clause-done : goal.returns-clause-done
+returns-clause-done g c =
+    raw_done _ _ c.in_ok-input.input.items c.in_ok-input.ensures.all c.args.limit c.in-Ok.machine (search rules) _ _ c.plain.result c.in_ok-ending.ending
+    c.in_ok-ending.ensures.written c.in_ok-ending.ensures.ending (search rules) (search rules) c.plain.ensures.image c.plain.ensures.printer

@@ -1,0 +1,14 @@
+use Rattle.std.proofs.Common.{◌≡◌, ◌-◌, ◌≤◌, false, length, vec_len}
+use Rattle.std.specs.Io.KnownBytes.{Consumes}
+use Rattle.pm_tool.proofs.source.read_all.Given as goal
+
+abbrev pub invariant-reading : goal.invariant-reading
+invariant-reading g l = record {
+  so_far : Consumes (g.R.Source.remaining l.fn.source) (g.R.Source.remaining l.source) l.input.items;
+  well : g.R.Source.has_failed l.source ≡ false;
+  few : vec_len l.input ≤ 16777216;
+  room : length l.buffer ≡ 4096;
+}
+
+abbrev pub decreases-reading : goal.decreases-reading
+decreases-reading g l = 16777216 - vec_len l.input

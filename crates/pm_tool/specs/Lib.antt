@@ -1,0 +1,5 @@
+pub mod Streams
+pub mod Hex
+pub mod Run
+pub mod Outcomes
+pub mod Said

@@ -1,0 +1,75 @@
+-- What jobs come to, in numbers and words.
+use Rattle.std.specs.Prelude.{◌≡◌, ℕ, List, [], ◌∷◌, ◌++◌, Option, None, codes, vec_items, option_map, string_bytes}
+use Rattle.std.specs.Fmt.{decimal}
+use Rattle.pm_words.specs.Errors.{number_of}
+use Rattle.pm_machine.specs.Faults.{boot_number}
+use Rattle.pm_machine.specs.declared.state.BootFault.{BootFault}
+use Rattle.pm_machine.specs.declared.state.BootFault.TheVariants as boot
+use Rattle.pm_tool.specs.declared.fault.Fault.{Fault}
+use Rattle.pm_tool.specs.declared.fault.Fault.TheVariants as faults
+use Rattle.pm_tool.specs.declared.outcome.Exit.{Exit}
+use Rattle.pm_tool.specs.declared.outcome.Exit.TheVariants as exits
+use Rattle.pm_tool.specs.declared.outcome.Refusal.{Refusal}
+use Rattle.pm_tool.specs.declared.outcome.Refusal.TheVariants as refusals
+use Rattle.pm_tool.specs.declared.trace.Ending.{Ending}
+use Rattle.pm_tool.specs.declared.trace.Ending.TheVariants as endings
+use Rattle.pm_tool.specs.declared.outcome.Outcome.{Outcome}
+
+-- the exit status
+abbrev pub exit_number : Exit → ℕ
+exit_number exits.Ended = 0
+exit_number exits.Usage = 1
+exit_number exits.Refused = 2
+exit_number exits.ExecutionError = 3
+exit_number exits.StreamFault = 4
+exit_number exits.NoMemory = 5
+exit_number exits.Stopped = 6
+
+-- how a job ends whose run ends so
+abbrev pub exit_of : Ending → Exit
+exit_of endings.Ended = exits.Ended
+exit_of (endings.Error error) = exits.ExecutionError
+exit_of endings.Limit = exits.Stopped
+exit_of endings.Waiting = exits.Stopped
+
+abbrev pub fault_exit : Fault → Exit
+fault_exit faults.Read = exits.StreamFault
+fault_exit faults.Write = exits.StreamFault
+fault_exit faults.NoMemory = exits.NoMemory
+
+abbrev pub fault_text : Fault → List ℕ
+fault_text faults.Read = codes "read fault"
+fault_text faults.Write = codes "write fault"
+fault_text faults.NoMemory = codes "no memory"
+
+-- a space and the number of the execution error, where a start fails by one
+abbrev pub error_text : BootFault → List ℕ
+error_text boot.NoFile = []
+error_text boot.NotCode = []
+error_text boot.BadCode = []
+error_text (boot.Exec error) = 32 ∷ decimal (number_of error)
+error_text boot.NoMemory = []
+
+abbrev pub refusal_text : Refusal → List ℕ
+refusal_text refusals.Hex = codes "refused hex 1"
+refusal_text (refusals.Boot fault) = codes "refused boot " ++ (decimal (boot_number fault) ++ error_text fault)
+
+-- what a job says to its input: what it writes, how it ends, its message, image and printer bytes, and what of the input is left unread
+pub record Said : Type 0 where
+  pub written : List ℕ
+  pub exit : Exit
+  pub message : List ℕ
+  pub image : Option (List ℕ)
+  pub printer : List ℕ
+  pub unread : List ℕ
+
+-- a refused input: nothing is written, and the message says why
+abbrev pub refused : Refusal → List ℕ → Said
+refused refusal unread = record { written = []; exit = exits.Refused; message = refusal_text refusal; image = None; printer = []; unread = unread }
+
+-- the outcome is what is said
+pub record IsOutcome (outcome : Outcome) (told : Said) : Type 0 where
+  pub status : outcome.status ≡ exit_number told.exit
+  pub message : string_bytes outcome.message ≡ told.message
+  pub image : option_map vec_items outcome.image ≡ told.image
+  pub printer : outcome.printer.items ≡ told.printer

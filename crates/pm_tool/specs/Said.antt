@@ -1,0 +1,84 @@
+-- What a job says to its input, and how a job keeps to it.
+use Rattle.std.specs.Prelude.{◌≡◌, ◌≢◌, ◌⊎◌, ◌↔◌, true, ◌≤◌, ℕ, ◌<◌, List, [], ◌++◌, Option, Some, None, Result, Ok, Err, length, Bool, IfSome}
+use Rattle.std.specs.Io.KnownBytes.{Consumes, Appends, Keeps}
+use Rattle.pm_machine.specs.State.{State}
+use Rattle.pm_machine.specs.Start.{raw_start}
+use Rattle.pm_machine.specs.declared.state.BootFault.{BootFault}
+use Rattle.pm_tool.specs.declared.fault.Fault.{Fault}
+use Rattle.pm_tool.specs.declared.outcome.Exit.TheVariants as exits
+use Rattle.pm_tool.specs.declared.outcome.Job.{Job}
+use Rattle.pm_tool.specs.declared.outcome.Job.TheVariants as jobs
+use Rattle.pm_tool.specs.declared.outcome.Outcome.{Outcome}
+use Rattle.pm_tool.specs.declared.outcome.Refusal.{Refusal}
+use Rattle.pm_tool.specs.declared.outcome.Refusal.TheVariants as refusals
+use Rattle.pm_tool.specs.declared.source.TheConstants.{INPUT_LIMIT}
+use Rattle.pm_tool.specs.Hex.{spelled}
+use Rattle.pm_tool.specs.Outcomes.{Said, exit_number, exit_of, refused, IsOutcome}
+use Rattle.pm_tool.specs.Run.{Run, run_of, trace_of}
+use Rattle.pm_tool.specs.Streams.{IsFront, IsCause}
+
+-- ---- the jobs
+
+-- the machine that starts, or why the input is refused
+abbrev pub started : Result State BootFault → Result State Refusal
+started (Ok machine) = Ok machine
+started (Err fault) = Err (refusals.Boot fault)
+
+-- the machine that starts on the program that was read, if one was
+abbrev pub loaded : Option (List ℕ) → Result State Refusal
+loaded None = Err refusals.Hex
+loaded (Some program) = started (raw_start program)
+
+-- a run that is told by its trace
+abbrev pub traced : Run → List ℕ → Said
+traced run unread = record { written = trace_of run; exit = exit_of run.ending; message = []; image = None; printer = []; unread = unread }
+
+-- the trace of a machine's run, or the refusal; nothing is left unread
+abbrev pub said_loaded : ℕ → Result State Refusal → Said
+said_loaded limit (Ok machine) = traced (run_of limit machine) []
+said_loaded limit (Err refusal) = refused refusal []
+
+-- what a job says to all of its input
+abbrev pub said : Job → List ℕ → Said
+said (jobs.Raw limit) input = said_loaded limit (loaded (spelled input))
+
+-- ---- keeping to it
+
+-- a job's outcome, what it wrote and what it left unread are what is said
+pub record Tells (left held holds : Option (List ℕ)) (outcome : Outcome) (told : Said) : Type 0 where
+  pub written : Appends held holds told.written
+  pub comes_to : IsOutcome outcome told
+  pub unread : Keeps (Some told.unread) left
+
+-- what was written is a front of what is said to the bytes that were read, taken as the whole input, and to all of the input where that is known
+pub record IsCut (had left held holds : Option (List ℕ)) (text : List ℕ → Said) : Type 0 where
+  pub read : List ℕ
+  pub front : List ℕ
+  pub reads : Consumes had left read
+  pub writes : Appends held holds front
+  pub so_far : IsFront front (text read).written
+  pub whole : IfSome left (λ rest. IsFront front (text (read ++ rest)).written)
+
+-- neither a fault of a stream nor want of memory
+abbrev pub IsSound : ℕ → Type 0
+IsSound status = (status ≢ exit_number exits.StreamFault) × (status ≢ exit_number exits.NoMemory)
+
+-- a fault of a stream, or want of memory
+abbrev pub IsBroken : ℕ → Type 0
+IsBroken status = (status ≡ exit_number exits.StreamFault) ⊎ (status ≡ exit_number exits.NoMemory)
+
+-- a fault of a stream is answered exactly where a source or a sink has failed or too many bytes were read
+abbrev pub FailsExactly : Option (List ℕ) → Option (List ℕ) → Bool → Bool → ℕ → Type 0
+FailsExactly had left source_failed sink_failed status = (read : List ℕ) × Consumes had left read
+    × (status ≡ exit_number exits.StreamFault ↔ (source_failed ≡ true) ⊎ (sink_failed ≡ true) ⊎ (INPUT_LIMIT < length read))
+
+-- what holds of a job that comes to its end
+pub record IsDone (had left held holds : Option (List ℕ)) (outcome : Outcome) (text : List ℕ → Said) : Type 0 where
+  pub tells : IfSome had (λ input. Tells left held holds outcome (text input))
+  pub few : (read : List ℕ) × Consumes had left read × (length read ≤ INPUT_LIMIT)
+  pub status : IsSound outcome.status
+
+-- what holds of a job that is broken off
+pub record IsBrokenOff (had left held holds : Option (List ℕ)) (fault : Fault) (source_failed sink_failed : Bool) (text : List ℕ → Said) : Type 0 where
+  pub cut : IsCut had left held holds text
+  pub cause : IsCause fault source_failed sink_failed cut.read

@@ -1,0 +1,119 @@
+//! Jobs, from the bytes that are read to the bytes that are written.
+ghost use Rattle.std.specs.Prelude.{◌≡◌, ◌≢◌, ◌≤◌, ◌⊎◌, ◌↔◌, false, [], List, ℕ, None, IfOk, IfErr, OnOk, IfSome, string_bytes, string_len, codes, if◌then◌else◌};
+ghost use Rattle.std.specs.String.{string_capacity};
+ghost use Rattle.pm_tool.specs.Hex.{spelled};
+ghost use Rattle.pm_tool.specs.Outcomes.{exit_number, fault_exit, fault_text};
+ghost use Rattle.pm_tool.specs.Said.{loaded, said, said_loaded, IsSound, IsBroken, IsDone, IsBrokenOff, Tells, IsCut, FailsExactly};
+
+use crate::fault::{Fault, MESSAGE_ROOM};
+use crate::hex;
+use crate::outcome::{Exit, Job, Outcome, Refusal, refuse};
+use crate::sink::Sink;
+use crate::source::{Source, read_all};
+use crate::trace::trace;
+use pm_machine::{BootFault, Machine};
+use std::alloc::{AllocError, Global};
+
+/// The machine at its start on the program that the text spells, or why there is none.
+fn load(alloc: Global, text: &[u8]) -> Result<Result<Machine, Refusal>, AllocError>
+    ensures machine { IfOk result (λ machine. machine ≡ loaded (spelled text.now)) }
+{
+    let Some(program) = hex::decode(alloc, text)? else {
+        return Ok(Err(Refusal::Hex));
+    };
+    match Machine::raw(alloc, &program) {
+        Ok(machine) => Ok(Ok(machine)),
+        Err(BootFault::NoMemory) => Err(AllocError),
+        Err(fault) => Ok(Err(Refusal::Boot(fault))),
+    }
+}
+
+/// Writes the trace of the program that the input spells.
+fn raw<R: Source, W: Sink>(
+    alloc: Global,
+    source: &mut R,
+    sink: &mut W,
+    limit: u32,
+) -> Result<Outcome, Fault>
+    requires source_well { R.has_failed source.old ≡ false }
+    requires sink_well { W.has_failed sink.old ≡ false }
+    ensures done { IfOk result (λ outcome. IsDone (R.remaining source.old) (R.remaining source.new)
+        (W.contents sink.old) (W.contents sink.new) outcome (λ input. said_loaded limit (loaded (spelled input)))) }
+    ensures well { OnOk result ((R.has_failed source.new ≡ false) × (W.has_failed sink.new ≡ false)) }
+    ensures broken { IfErr result (λ fault. IsBrokenOff (R.remaining source.old) (R.remaining source.new)
+        (W.contents sink.old) (W.contents sink.new) fault (R.has_failed source.new) (W.has_failed sink.new) (λ input. said_loaded limit (loaded (spelled input)))) }
+{
+    let input = read_all(alloc, source)?;
+    let mut machine = match load(alloc, &input)? {
+        Ok(machine) => machine,
+        Err(refusal) => return Ok(refuse(alloc, refusal)?),
+    };
+    let ending = trace(alloc, sink, &mut machine, limit)?;
+    Ok(Outcome::plain(alloc, ending.exit(), String::new(alloc)))
+}
+
+/// Does the job, unless it is broken off.
+fn perform<R: Source, W: Sink>(
+    alloc: Global,
+    source: &mut R,
+    sink: &mut W,
+    job: Job,
+) -> Result<Outcome, Fault>
+    requires source_well { R.has_failed source.old ≡ false }
+    requires sink_well { W.has_failed sink.old ≡ false }
+    ensures done { IfOk result (λ outcome. IsDone (R.remaining source.old) (R.remaining source.new)
+        (W.contents sink.old) (W.contents sink.new) outcome (said job)) }
+    ensures well { OnOk result ((R.has_failed source.new ≡ false) × (W.has_failed sink.new ≡ false)) }
+    ensures broken { IfErr result (λ fault. IsBrokenOff (R.remaining source.old) (R.remaining source.new)
+        (W.contents sink.old) (W.contents sink.new) fault (R.has_failed source.new) (W.has_failed sink.new) (said job)) }
+{
+    match job {
+        Job::Raw { limit } => raw(alloc, source, sink, limit),
+    }
+}
+
+/// The outcome of a job that was broken off. The message has its room already.
+fn broken_off(alloc: Global, fault: Fault, mut message: String) -> Outcome
+    requires empty { string_bytes message ≡ [] }
+    requires empty_len { string_len message ≡ 0 }
+    requires room { MESSAGE_ROOM ≤ string_capacity message }
+    ensures status { result.status ≡ exit_number (fault_exit fault) }
+    ensures message { string_bytes result.message ≡ fault_text fault }
+    ensures image { result.image ≡ None }
+    ensures printer { result.printer.items ≡ [] }
+{
+    let _ = message.push_str(fault.text());
+    Outcome::plain(alloc, fault.exit(), message)
+}
+
+/// Does a job: reads its input, writes its output, and answers what it comes to.
+///
+/// Neither stream may have failed before. Room for the message of a fault is taken first; where that is refused the message is empty.
+pub fn run<R: Source, W: Sink>(alloc: Global, source: &mut R, sink: &mut W, job: Job) -> Outcome
+    requires source_well { R.has_failed source.old ≡ false }
+    requires sink_well { W.has_failed sink.old ≡ false }
+
+    // What is written, answered and left unread is exactly what is said to the input.
+    ensures exact { IsSound result.status → IfSome (R.remaining source.old)
+        (λ input. Tells (R.remaining source.new) (W.contents sink.old) (W.contents sink.new) result (said job input)) }
+
+    // After a fault of a stream or want of memory, what was written is a front of that.
+    ensures cut { IsBroken result.status →
+        IsCut (R.remaining source.old) (R.remaining source.new) (W.contents sink.old) (W.contents sink.new) (said job) }
+
+    // A fault of a stream is answered exactly where a read or a write failed or the input is too long.
+    ensures fails { FailsExactly (R.remaining source.old) (R.remaining source.new) (R.has_failed source.new) (W.has_failed sink.new) result.status }
+    ensures fault { result.status ≡ exit_number Exit.StreamFault →
+        string_bytes result.message ≡ (if W.has_failed sink.new then codes "write fault" else codes "read fault") }
+    ensures memory { result.status ≡ exit_number Exit.NoMemory →
+        (string_bytes result.message ≡ codes "no memory") ⊎ (string_bytes result.message ≡ []) }
+    ensures nothing_else { IsBroken result.status → (result.image ≡ None) × (result.printer.items ≡ []) }
+{
+    let Ok(room) = String::with_capacity(alloc, MESSAGE_ROOM) else {
+        return Outcome::plain(alloc, Exit::NoMemory, String::new(alloc));
+    };
+    match perform(alloc, source, sink, job) {
+        Ok(outcome) => outcome,
+        Err(fault) => broken_off(alloc, fault, room),
+    }
+}

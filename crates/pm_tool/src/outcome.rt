@@ -1,0 +1,117 @@
+//! Jobs, and what they come to.
+ghost use Rattle.std.specs.Prelude.{◌≡◌, [], List, ℕ, Some, None, IfOk};
+ghost use Rattle.pm_tool.specs.Outcomes.{exit_number, refusal_text, IsOutcome, refused};
+
+use pm_machine::BootFault;
+use std::alloc::{AllocError, Global};
+use std::fmt;
+
+/// What is to be done.
+#[derive(Clone, Copy, Debug, PartialEq, Eq)]
+pub enum Job {
+    /// The input is a program in hexadecimal digits; the output is the trace of at most `limit` steps of it.
+    Raw { limit: u32 },
+}
+
+/// How a job ended.
+#[derive(Clone, Copy, Debug, PartialEq, Eq)]
+pub enum Exit {
+    /// It came to its end.
+    Ended,
+    /// The words of the command line are not those of a job. No job answers this.
+    Usage,
+    /// The input was refused.
+    Refused,
+    /// The program stopped at an execution error.
+    ExecutionError,
+    /// A read or a write failed, or the input was too long.
+    StreamFault,
+    /// Memory was wanted and refused.
+    NoMemory,
+    /// The program came to the limit of its steps, or waited with no input left.
+    Stopped,
+}
+
+impl Exit {
+    /// The exit status of the process.
+    pub fn number(self) -> u8
+        ensures value { result ≡ exit_number self }
+    {
+        match self {
+            Exit::Ended => 0,
+            Exit::Usage => 1,
+            Exit::Refused => 2,
+            Exit::ExecutionError => 3,
+            Exit::StreamFault => 4,
+            Exit::NoMemory => 5,
+            Exit::Stopped => 6,
+        }
+    }
+}
+
+/// What a job comes to, beside what it wrote.
+#[derive(Drop)]
+pub struct Outcome {
+    /// The number of an `Exit`.
+    pub status: u8,
+    /// What is said of it, with no line feed at the end. It may be empty.
+    pub message: String,
+    /// The image of a volume to be kept, if there is one.
+    pub image: Option<Vec<u8>>,
+    /// The bytes that were printed.
+    pub printer: Vec<u8>,
+}
+
+impl Outcome {
+    /// An outcome with no image and no printer bytes.
+    pub(crate) fn plain(alloc: Global, exit: Exit, message: String) -> Outcome
+        ensures status { result.status ≡ exit_number exit }
+        ensures message { result.message ≡ message }
+        ensures image { result.image ≡ None }
+        ensures printer { result.printer.items ≡ [] }
+    {
+        Outcome {
+            status: exit.number(),
+            message,
+            image: None,
+            printer: Vec::new(alloc),
+        }
+    }
+}
+
+/// Why an input is refused.
+#[derive(Clone, Copy, Debug, PartialEq, Eq)]
+pub(crate) enum Refusal {
+    /// It is not pairs of hexadecimal digits and white space.
+    Hex,
+    /// The machine does not start on it.
+    Boot(BootFault),
+}
+
+impl fmt::Display for Refusal {
+    ghost output = { λ refusal. Some (refusal_text refusal) };
+
+    fn fmt<W: fmt::Write>(&self, f: &mut fmt::Formatter<W>) -> fmt::Result {
+        match *self {
+            Refusal::Hex => write!(f, "refused hex 1"),
+            Refusal::Boot(fault) => {
+                let number = fault.number();
+                match fault {
+                    BootFault::Exec(error) => {
+                        let error = error.number();
+                        write!(f, "refused boot {number} {error}")
+                    }
+                    _ => write!(f, "refused boot {number}"),
+                }
+            }
+        }
+    }
+}
+
+/// Refuses the input: nothing is written.
+pub(crate) fn refuse(alloc: Global, refusal: Refusal) -> Result<Outcome, AllocError>
+    ensures outcome { IfOk result (λ outcome. (unread : List ℕ) → IsOutcome outcome (refused refusal unread)) }
+{
+    let message = format!(in alloc; "{refusal}")?;
+    Ok(Outcome::plain(alloc, Exit::Refused, message))
+}

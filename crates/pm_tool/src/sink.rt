@@ -1,0 +1,81 @@
+//! Where a job's output goes.
+ghost use Rattle.std.specs.Prelude.{◌≡◌, Bool, Option, false, ◌||◌, List, ℕ, is_err, OnOk, IfErr};
+ghost use Rattle.std.specs.Io.{WritesAtMost};
+ghost use Rattle.std.specs.Io.KnownBytes.{WriteAppends, Appends};
+ghost use Rattle.pm_tool.specs.Streams.{took_nothing, AppendsFront};
+
+use crate::fault::Fault;
+use std::io;
+
+/// What a job writes its output to.
+pub trait Sink {
+    /// The bytes that were written, where they are known.
+    ghost contents: { Self → Option (List ℕ) };
+
+    /// A write has answered an error, or has taken no byte.
+    ghost has_failed: { Self → Bool };
+
+    /// Writes some bytes of the front of `buf` and answers how many. An error writes nothing.
+    fn write(&mut self, buf: &[u8]) -> io::Result<usize>
+        ensures bound { WritesAtMost result buf.now }
+        ensures bytes { WriteAppends (contents self.old) (contents self.new) result buf.now }
+        ensures failed { has_failed self.new ≡ (has_failed self.old || took_nothing result) };
+
+    /// Whether a write has answered an error or has taken no byte.
+    fn failed(&self) -> bool
+        ensures value { result ≡ has_failed self.now };
+}
+
+/// A sink over any writer.
+#[derive(Drop)]
+pub struct Writer<W> {
+    inner: W,
+    failed: bool,
+}
+
+impl<W: io::Write> Writer<W> {
+    /// A sink that writes to `inner`, and has not failed.
+    pub fn new(inner: W) -> Writer<W>
+        ensures contents { ⟦<Writer<W> as Sink>⟧.contents result ≡ W.contents inner }
+        ensures failed { ⟦<Writer<W> as Sink>⟧.has_failed result ≡ false }
+    {
+        Writer {
+            inner,
+            failed: false,
+        }
+    }
+}
+
+impl<W: io::Write> Sink for Writer<W> {
+    ghost contents = { λ sink. W.contents sink.inner };
+
+    ghost has_failed = { λ sink. sink.failed };
+
+    fn write(&mut self, buf: &[u8]) -> io::Result<usize> {
+        let outcome = self.inner.write(buf);
+        self.failed |= !matches!(outcome, Ok(1..));
+        outcome
+    }
+
+    fn failed(&self) -> bool {
+        self.failed
+    }
+}
+
+/// Writes all of `bytes`, by as many writes as it takes.
+pub(crate) fn write_all<W: Sink>(sink: &mut W, bytes: &[u8]) -> Result<(), Fault>
+    requires well { W.has_failed sink.old ≡ false }
+    ensures all { OnOk result (Appends (W.contents sink.old) (W.contents sink.new) bytes.now) }
+    ensures fault { IfErr result (λ fault. fault ≡ Fault.Write) }
+    ensures front { AppendsFront (W.contents sink.old) (W.contents sink.new) bytes.now }
+    ensures failed { W.has_failed sink.new ≡ is_err result }
+{
+    let mut rest = bytes;
+    'writing: while !rest.is_empty() {
+        match sink.write(rest) {
+            Ok(count @ 1..) => rest = rest.split_at(count).1,
+            _ => return Err(Fault::Write),
+        }
+    }
+    Ok(())
+}

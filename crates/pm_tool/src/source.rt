@@ -1,0 +1,92 @@
+//! Where a job's input comes from.
+ghost use Rattle.std.specs.Prelude.{◌≡◌, Bool, Option, false, ◌||◌, List, ℕ, is_err, OnOk, IfErr, IfOk};
+ghost use Rattle.std.specs.Io.{ReadsAtMost};
+ghost use Rattle.std.specs.Io.KnownBytes.{ReadConsumes, Consumes};
+ghost use Rattle.pm_tool.specs.Streams.{ReadsAll, IsCause};
+
+use crate::fault::Fault;
+use std::alloc::Global;
+use std::io;
+
+/// What a job reads its input from.
+pub trait Source {
+    /// The bytes that are still to come, where they are known.
+    ghost remaining: { Self → Option (List ℕ) };
+
+    /// A read has answered an error.
+    ghost has_failed: { Self → Bool };
+
+    /// Reads some bytes into the front of `buf` and answers how many: none only at the end, or where `buf` is empty. An error reads nothing.
+    fn read(&mut self, buf: &mut [u8]) -> io::Result<usize>
+        ensures bound { ReadsAtMost result buf.new }
+        ensures bytes { ReadConsumes (remaining self.old) (remaining self.new) result buf.new }
+        ensures failed { has_failed self.new ≡ (has_failed self.old || is_err result) };
+
+    /// Whether a read has answered an error.
+    fn failed(&self) -> bool
+        ensures value { result ≡ has_failed self.now };
+}
+
+/// A source over any reader.
+#[derive(Drop)]
+pub struct Reader<R> {
+    inner: R,
+    failed: bool,
+}
+
+impl<R: io::Read> Reader<R> {
+    /// A source of the bytes of `inner`, which has not failed.
+    pub fn new(inner: R) -> Reader<R>
+        ensures remaining { ⟦<Reader<R> as Source>⟧.remaining result ≡ R.remaining inner }
+        ensures failed { ⟦<Reader<R> as Source>⟧.has_failed result ≡ false }
+    {
+        Reader {
+            inner,
+            failed: false,
+        }
+    }
+}
+
+impl<R: io::Read> Source for Reader<R> {
+    ghost remaining = { λ source. R.remaining source.inner };
+
+    ghost has_failed = { λ source. source.failed };
+
+    fn read(&mut self, buf: &mut [u8]) -> io::Result<usize> {
+        let outcome = self.inner.read(buf);
+        self.failed |= outcome.is_err();
+        outcome
+    }
+
+    fn failed(&self) -> bool {
+        self.failed
+    }
+}
+
+/// The most bytes of input that a job reads. One more is a read fault.
+pub const INPUT_LIMIT: usize = 16_777_216;
+
+/// Reads all that is left.
+pub(crate) fn read_all<R: Source>(alloc: Global, source: &mut R) -> Result<Vec<u8>, Fault>
+    requires well { R.has_failed source.old ≡ false }
+    ensures all { IfOk result (λ input. ReadsAll (R.remaining source.old) (R.remaining source.new) input.items) }
+    ensures well { OnOk result (R.has_failed source.new ≡ false) }
+    ensures cause { IfErr result (λ fault. (read : List ℕ) × Consumes (R.remaining source.old) (R.remaining source.new) read
+        × IsCause fault (R.has_failed source.new) false read) }
+{
+    let mut input = Vec::new(alloc);
+    let mut buffer = [0; 4096];
+    'reading: loop {
+        let Ok(count) = source.read(&mut buffer) else {
+            return Err(Fault::Read);
+        };
+        if count == 0 {
+            break 'reading;
+        }
+        if count > INPUT_LIMIT - input.len() {
+            return Err(Fault::Read);
+        }
+        input.extend_from_slice(&buffer[..count])?;
+    }
+    Ok(input)
+}

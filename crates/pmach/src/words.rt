@@ -1,0 +1,129 @@
+//! The words of the command line.
+use clap::error::ErrorKind;
+use clap::{Arg, ArgMatches, Command};
+use pm_tool::{Exit, Job};
+use std::alloc::{AllocError, Global};
+use std::env::Args;
+use std::{fmt, io};
+
+/// The most steps of a run where no limit is given.
+const LIMIT: u32 = 10_000_000;
+
+/// Why the words are no job.
+#[derive(Drop)]
+pub enum WordsError {
+    /// They are not those of a command, or ask for help.
+    Usage(clap::Error),
+    /// There are options, but no command.
+    NoCommand,
+    /// The limit is no number of decimal digits alone, or too large.
+    BadLimit,
+    /// A word is not UTF-8, or the words cannot be read.
+    NotText,
+    NoMemory,
+}
+
+impl WordsError {
+    pub fn exit(&self) -> Exit {
+        match self {
+            WordsError::NoMemory => Exit::NoMemory,
+            _ => Exit::Usage,
+        }
+    }
+}
+
+impl fmt::Display for WordsError {
+    fn fmt<W: fmt::Write>(&self, f: &mut fmt::Formatter<W>) -> fmt::Result {
+        match self {
+            WordsError::Usage(error) => write!(f, "{error}"),
+            WordsError::NoCommand => f.write_str("error: no command among the words"),
+            WordsError::BadLimit => f.write_str(
+                "error: the limit is a number of decimal digits, at most 4294967295",
+            ),
+            WordsError::NotText => f.write_str("error: a word is not UTF-8"),
+            WordsError::NoMemory => f.write_str("no memory"),
+        }
+    }
+}
+
+impl From<clap::Error> for WordsError {
+    fn from(error: clap::Error) -> WordsError {
+        match error.kind() {
+            ErrorKind::OutOfMemory => WordsError::NoMemory,
+            _ => WordsError::Usage(error),
+        }
+    }
+}
+
+impl From<io::Error> for WordsError {
+    fn from(error: io::Error) -> WordsError {
+        match error.kind() {
+            io::ErrorKind::OutOfMemory => WordsError::NoMemory,
+            _ => WordsError::NotText,
+        }
+    }
+}
+
+impl From<AllocError> for WordsError {
+    fn from(_: AllocError) -> WordsError {
+        WordsError::NoMemory
+    }
+}
+
+fn limit<'a>(alloc: Global) -> Arg<'a> {
+    Arg::new(alloc, "limit")
+        .long("limit")
+        .value_name("N")
+        .help("The most steps that are made, 10000000 if not given")
+}
+
+fn raw<'a>(alloc: Global) -> Result<Command<'a>, AllocError> {
+    Command::new(alloc, "raw")
+        .about(
+            "Runs the program that standard input spells in hexadecimal digits, and writes its trace",
+        )
+        .arg(limit(alloc))
+}
+
+fn command<'a>(alloc: Global) -> Result<Command<'a>, AllocError> {
+    Command::new(alloc, "pmach")
+        .about("The p-machine of UCSD Pascal version II. With no words it does `raw`")
+        .subcommand(raw(alloc)?)
+}
+
+/// The number that decimal digits alone spell.
+fn number(text: &str) -> Option<u32> {
+    if text.is_empty() || !text.bytes().all(|byte| byte.is_ascii_digit()) {
+        return None;
+    }
+    text.parse().ok()
+}
+
+fn raw_job(matches: &ArgMatches<'_>) -> Result<Job, WordsError> {
+    let limit = match matches.get_str("limit") {
+        Some(text) => number(text).ok_or(WordsError::BadLimit)?,
+        None => LIMIT,
+    };
+    Ok(Job::Raw { limit })
+}
+
+fn job_asked(matches: &ArgMatches<'_>) -> Result<Job, WordsError> {
+    match matches.subcommand() {
+        Some((_, matches)) => raw_job(matches),
+        None => Err(WordsError::NoCommand),
+    }
+}
+
+fn parsed<'a>(alloc: Global, words: &'a [String]) -> Result<Job, WordsError> {
+    let matches = command(alloc)?.try_get_matches_from(words)?;
+    job_asked(&matches)
+}
+
+/// The job that the words ask for, the program's name before them.
+pub fn job_of(alloc: Global, args: io::Result<Args>) -> Result<Job, WordsError> {
+    let words: Vec<String> = args?.collect(alloc)?;
+    if words.len() <= 1 {
+        return Ok(Job::Raw { limit: LIMIT });
+    }
+    parsed(alloc, words.as_slice())
+}

@@ -1,0 +1,2 @@
+pub mod Zeros
+pub mod Columns

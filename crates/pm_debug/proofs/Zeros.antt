@@ -1,0 +1,58 @@
+-- Numbers with zeros in front, digit by digit.
+use Rattle.std.proofs.Common.{◌≡◌, ◌<◌, ◌≤◌, ℕ, zero, suc, ◌+◌, ◌-◌, ◌/◌, ◌%◌, ◌^◌, Bool, true, false, List, [], ◌∷◌, ◌++◌, length, replicate, refl, sym, ap, ◌∙◌, arith, append-nil, append_assoc, length-append}
+use Rattle.std.specs.Prelude.{nat_lt}
+use Rattle.std.specs.Fmt.{decimal, padded_integral, format_spec, char_count}
+use Rattle.std.proofs.lemmas.Bool.{ltb-false}
+use Rattle.std.proofs.lemmas.Bool.Decides.{nat_tests}
+use Rattle.std.proofs.lemmas.Fmt.{decimal_digit, decimal_step}
+use Rattle.pm_debug.specs.Trace.{padded}
+
+-- what `{n:08}` writes
+pub padded_eight : (n : ℕ) → padded_integral (format_spec 32 0 4 8 (2 ^ 64 - 1)) false [] (decimal n) ≡ padded 8 n
+unfolding padded_integral padded char_count
+padded_eight n = simp append-nil (ap (λ k. replicate k 48 ++ decimal n) (omega arith))
+
+zeros : ℕ → List ℕ
+zeros k = replicate k 48
+
+zeros_more : (k : ℕ) → zeros (suc k) ≡ zeros k ++ 48 ∷ []
+unfolding zeros
+zeros_more zero = refl
+zeros_more (suc k) = ap (λ u. 48 ∷ u) (zeros_more k)
+
+below_ten : (k n : ℕ) → n < 10 → padded (suc (suc k)) n ≡ padded (suc k) (n / 10) ++ (48 + n % 10) ∷ []
+unfolding padded zeros
+below_ten k n h =
+    let none : n / 10 ≡ 0 = omega arith in
+    let last : n % 10 ≡ n = omega arith in
+    let more : suc (suc k) - 1 ≡ suc k = omega arith in
+    let fewer : suc k - 1 ≡ k = omega arith in
+    rw (decimal_digit n h, none, last, decimal_digit 0 (omega arith), more, fewer) (ap (λ u. u ++ (48 + n) ∷ []) (zeros_more k))
+
+from_ten : (k n : ℕ) → 10 ≤ n → n < 2 ^ 64 → padded (suc (suc k)) n ≡ padded (suc k) (n / 10) ++ (48 + n % 10) ∷ []
+unfolding padded
+from_ten k n low high =
+    let front : List ℕ = decimal (n / 10) in
+    let size : suc (suc k) - length (front ++ (48 + n % 10) ∷ []) ≡ suc k - length front = omega (arith, length-append front ((48 + n % 10) ∷ [])) in
+    rw (decimal_step n low high, size) (sym (append_assoc (replicate (suc k - length front) 48) front ((48 + n % 10) ∷ [])))
+
+-- a further digit behind the others
+pub padded_step : (k n : ℕ) → n < 2 ^ 64 → padded (suc (suc k)) n ≡ padded (suc k) (n / 10) ++ (48 + n % 10) ∷ []
+padded_step k n h = go (nat_lt n 10) refl
+  where
+    go : (b : Bool) → nat_lt n 10 ≡ b → padded (suc (suc k)) n ≡ padded (suc k) (n / 10) ++ (48 + n % 10) ∷ []
+    go true e = below_ten k n (grind (arith, nat_tests))
+    go false e = from_ten k n (ltb-false _ _ e) h
+
+padded_last : (n : ℕ) → n < 10 → padded 1 n ≡ (48 + n) ∷ []
+unfolding padded
+padded_last n h = rw (decimal_digit n h) refl
+
+-- a word in five digits
+pub five_digits : (n : ℕ) → n < 65536 → padded 5 n ≡ (48 + n / 10 / 10 / 10 / 10) ∷ (48 + n / 10 / 10 / 10 % 10) ∷ (48 + n / 10 / 10 % 10) ∷ (48 + n / 10 % 10) ∷ (48 + n % 10) ∷ []
+five_digits n h =
+    padded_step 3 n (omega arith)
+    ∙ ap (λ u. u ++ (48 + n % 10) ∷ []) (padded_step 2 (n / 10) (omega arith)
+    ∙ ap (λ u. u ++ (48 + n / 10 % 10) ∷ []) (padded_step 1 (n / 10 / 10) (omega arith)
+    ∙ ap (λ u. u ++ (48 + n / 10 / 10 % 10) ∷ []) (padded_step 0 (n / 10 / 10 / 10) (omega arith)
+    ∙ ap (λ u. u ++ (48 + n / 10 / 10 / 10 % 10) ∷ []) (padded_last (n / 10 / 10 / 10 / 10) (omega arith)))))

@@ -1,0 +1,63 @@
+//! What stands at an address of memory, as text.
+
+ghost use Rattle.std.specs.Prelude.{◌≡◌, length, IsTrue, Some};
+ghost use Rattle.pm_opcode.specs.Spelling.{has_spelling, named_by};
+ghost use Rattle.pm_disasm.specs.Text.{line_text};
+
+use crate::item::Item;
+use pm_opcode::{Form, Instr, decode, form_at};
+use pm_words::Memory;
+use std::fmt;
+
+/// What stands at an address of memory: shown as the instruction that begins there, or as a
+/// `.BYTE` of the byte where none does.
+#[derive(Clone, Copy)]
+pub struct Line<'a> {
+    pub memory: &'a Memory,
+    pub address: u16,
+}
+
+impl<'a> Line<'a> {
+    /// The line at an address.
+    pub fn new(memory: &'a Memory, address: u16) -> Line<'a>
+        ensures memory { result.memory.now ≡ memory.now }
+        ensures address { result.address ≡ address }
+    {
+        Line { memory, address }
+    }
+}
+
+impl fmt::Display for Line<'_> {
+    ghost output = { λ l. Some (line_text l.memory.now.words l.address) };
+
+    #[tactic(auto, unfolding(crate::specs::Text::line_text, crate::specs::Text::text_at))]
+    fn fmt<W: fmt::Write>(&self, f: &mut fmt::Formatter<W>) -> fmt::Result {
+        let bytes = self.memory.bytes();
+        let at = self.address as usize;
+        match decode(bytes, at) {
+            Ok(instr) => {
+                let named = named_bytes(&instr, bytes);
+                let item = Item {
+                    instr: &instr,
+                    named,
+                };
+                write!(f, "{item}")
+            }
+            Err(_) => write!(f, ".BYTE {}", bytes[at]),
+        }
+    }
+}
+
+/// The bytes that an instruction names.
+fn named_bytes<'a>(instr: &Instr, bytes: &'a [u8]) -> &'a [u8]
+    requires spelling { IsTrue (has_spelling instr.now (length bytes.now)) }
+    ensures named { result.now ≡ named_by instr.now bytes.now }
+{
+    match form_at(instr.op) {
+        Form::Chars | Form::Words | Form::Jumps => {
+            let start = instr.start as usize;
+            &bytes[start..start + instr.count as usize]
+        }
+        _ => &[],
+    }
+}

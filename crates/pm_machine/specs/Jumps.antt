@@ -1,11 +1,14 @@
 -- Jumps. IPC is the next instruction in the registers that they are given.
-use Rattle.std.specs.Prelude.{ℕ, ◌+◌, ◌%◌, Bool, true, not, List, Result, Ok, if◌then◌else◌, ◌==◌, nat_lt}
+use Rattle.std.specs.Prelude.{ℕ, ◌+◌, ◌-◌, ◌*◌, ◌%◌, Bool, true, not, ◌&&◌, List, Result, Ok, if◌then◌else◌, ◌==◌, nat_lt, nat_le}
 use Rattle.pm_words.specs.declared.error.ExecError.{ExecError}
 use Rattle.pm_words.specs.declared.error.ExecError.TheVariants.{InvalidMemory}
 use Rattle.pm_words.specs.Stack.{◌>>=◌, demand, is_even, load, minus, pop}
 use Rattle.pm_opcode.specs.declared.operation.Condition.{Condition}
 use Rattle.pm_opcode.specs.declared.operation.Condition.TheVariants.{Always, IfFalse, IfDifferent, IfEqual}
-use Rattle.pm_machine.specs.declared.state.Registers.{Registers}
+use Rattle.pm_opcode.specs.declared.operation.Jump.{Jump}
+use Rattle.pm_opcode.specs.declared.operation.Jump.TheVariants.{Short, Case}
+use Rattle.pm_opcode.specs.Spelling.{rank}
+use Rattle.pm_calls.specs.declared.registers.Registers.{Registers}
 
 -- an entry of the jump table leads to its address less the word there
 abbrev pub entry_target : List ℕ → ℕ → Result ℕ ExecError
@@ -36,3 +39,21 @@ short_row IfEqual m r offset = do
   b ← pop m r.sp
   a ← pop m b.1
   jumped (a.0 == b.0) m (record r { sp = a.1 }) offset
+
+-- Where a case jump leads: for a signed value from low to high by the entry of its table for that value, else to the
+-- jump of two bytes before the table. A word's rank is its place in the order of signed words.
+abbrev pub case_target : ℕ → ℕ → ℕ → List ℕ → ℕ → Result ℕ ExecError
+case_target low high table m value =
+    if nat_le (rank low) (rank value) && nat_le (rank value) (rank high)
+    then entry_target m ((table + 2 * (rank value - rank low)) % 65536)
+    else Ok (minus (table % 65536) 2)
+
+unfoldable pub case_row : ℕ → ℕ → ℕ → List ℕ → Registers → Result Registers ExecError
+case_row low high table m r = do
+  a ← pop m r.sp
+  ipc ← case_target low high table m a.0
+  Ok (record r { sp = a.1; ipc = ipc })
+
+unfoldable pub jump_row : Jump → List ℕ → Registers → Result Registers ExecError
+jump_row (Short condition offset) m r = short_row condition m r offset
+jump_row (Case low high table) m r = case_row low high table m r

@@ -2,7 +2,11 @@ pub mod Faults
 pub mod Signed
 pub mod Arithmetic
 pub mod State
+pub mod Variables
+pub mod Pointers
+pub mod Literals
 pub mod Jumps
+pub mod Procedures
 pub mod Rows
 pub mod Steps
 pub mod Events

@@ -1,5 +1,5 @@
 -- The machine at its start.
-use Rattle.std.specs.Prelude.{ℕ, ◌+◌, ◌%◌, ◌≡◌, List, Result, Ok, Err, IsOk, if◌then◌else◌, nat_lt, length}
+use Rattle.std.specs.Prelude.{ℕ, ◌+◌, ◌%◌, ◌≡◌, List, Result, Ok, Err, IsOk, if◌then◌else◌, nat_lt, length, replicate, None}
 use Rattle.pm_words.specs.Words.{zero_words, with_word, with_bytes}
 use Rattle.pm_machine.specs.declared.state.BootFault.{BootFault}
 use Rattle.pm_machine.specs.declared.state.BootFault.TheVariants.{NoFile, NotCode, BadCode, Exec, NoMemory}
@@ -22,7 +22,7 @@ abbrev pub code_end : List ℕ → ℕ
 code_end bytes = 1024 + length bytes + length bytes % 2
 
 -- The start on bare code: its bytes stand from 1,024 on, and the rest of the memory is zero but for the frame of the
--- system. More than 60,000 bytes are refused.
+-- system. No segment stands anywhere. More than 60,000 bytes are refused.
 unfoldable pub raw_start : List ℕ → Result State BootFault
 raw_start bytes =
     if nat_lt 60000 (length bytes) then Err BadCode
@@ -32,6 +32,7 @@ raw_start bytes =
       registers = record { sp = 65492; ipc = 1024; seg = e; jtab = e; mp = 65492; base = 65492; np = e; ioresult = 0 };
       steps = 0;
       status = status.Running;
+      places = replicate 16 None;
     }))
 
 -- a machine was made, or refused; memory is missing only where nothing else was wrong

@@ -1,6 +1,7 @@
 -- The whole state of the machine. Definitions change it by its fields alone, so that it can grow.
-use Rattle.std.specs.Prelude.{ℕ, List}
-use Rattle.pm_machine.specs.declared.state.Registers.{Registers}
+use Rattle.std.specs.Prelude.{ℕ, List, Option}
+use Rattle.pm_calls.specs.declared.registers.Registers.{Registers}
+use Rattle.pm_calls.specs.declared.frames.Place.{Place}
 use Rattle.pm_machine.specs.declared.state.Status.{Status}
 
 pub record State : Type 0 where
@@ -10,3 +11,5 @@ pub record State : Type 0 where
   -- how many steps went or ended the program, up to the greatest u64
   pub steps : ℕ
   pub status : Status
+  -- for each of the 16 slots, where its segment stands, and for how many calls
+  pub places : List (Option Place)

@@ -3,9 +3,14 @@
 
 mod arithmetic;
 mod jumps;
+mod literals;
 mod machine;
+mod pointers;
+mod procedures;
 mod state;
+mod variables;
 mod views;
 
 pub use machine::Machine;
-pub use state::{BootFault, Registers, Status, Stop};
+pub use pm_calls::Registers;
+pub use state::{BootFault, Status, Stop};

@@ -1,0 +1,165 @@
+-- Calls.
+use Rattle.std.specs.Prelude.{ℕ, ◌+◌, ◌-◌, ℤ, pos, int_le, Bool, true, false, List, Option, Some, None, Result, Ok, Err, ◌≡◌, if◌then◌else◌, ◌==◌, nat_lt, nat_le, slice_get, slice_set, length}
+use Rattle.pm_words.specs.declared.error.ExecError.{ExecError}
+use Rattle.pm_words.specs.declared.error.ExecError.TheVariants.{NoSegment, InvalidMemory, StackOverflow}
+use Rattle.pm_words.specs.Words.{with_word, with_bytes, copied}
+use Rattle.pm_words.specs.Stack.{◌>>=◌, demand, minus}
+use Rattle.pm_calls.specs.declared.registers.Registers.{Registers}
+use Rattle.pm_calls.specs.declared.frames.Table.{Table}
+use Rattle.pm_calls.specs.declared.frames.Place.{Place}
+use Rattle.pm_calls.specs.declared.frames.Call.{Call}
+use Rattle.pm_calls.specs.declared.frames.Call.TheVariants.{Clp, Cgp, Cbp, Cip, Cxp}
+use Rattle.pm_calls.specs.Places.{Parts}
+use Rattle.pm_calls.specs.Links.{static_link}
+use Rattle.pm_calls.specs.Tables.{attributes}
+
+-- a call that is linked as that of a main procedure, and keeps the old BASE
+abbrev pub is_base : Call → ℤ → Bool
+is_base (Cbp p) level = true
+is_base (Cxp n p) level = int_le level (pos 0)
+is_base (Clp p) level = false
+is_base (Cgp p) level = false
+is_base (Cip p) level = false
+
+abbrev pub procedure_of : Call → ℕ
+procedure_of (Clp p) = p
+procedure_of (Cgp p) = p
+procedure_of (Cbp p) = p
+procedure_of (Cip p) = p
+procedure_of (Cxp n p) = p
+
+-- ---- the segment of a call
+
+-- where the called segment stands, the memory with its code, and how many bytes were loaded for the call
+pub record Reached : Type 0 where
+  pub memory : List ℕ
+  pub places : List (Option Place)
+  pub place : ℕ
+  pub loaded : ℕ
+
+-- the segment that runs
+abbrev pub here : Parts → Reached
+here c = record { memory = c.memory; places = c.places; place = c.registers.seg; loaded = 0 }
+
+-- a segment that is loaded now: its code ends at SP, and its highest word is the word below
+unfoldable pub loading : Parts → ℕ → List ℕ → Result Reached ExecError
+loading c n code = do
+  let sp = c.registers.sp
+  _ ← demand (nat_lt 0 (length code)) NoSegment
+  _ ← demand (nat_le (c.registers.np + length code) sp) StackOverflow
+  Ok (record {
+    memory = with_bytes c.memory (sp - length code) code;
+    places = slice_set c.places n (Some (record { place = minus sp 2; count = 1 }));
+    place = minus sp 2;
+    loaded = length code;
+  })
+
+-- a segment that stands already: a call from another segment counts, up to 65,535
+unfoldable pub standing : Parts → ℕ → Place → Result Reached ExecError
+standing c n p =
+    if p.place == c.registers.seg then Ok (here c)
+    else do
+      _ ← demand (nat_lt p.count 65535) StackOverflow
+      Ok (record {
+        memory = c.memory;
+        places = slice_set c.places n (Some (record p { count = p.count + 1 }));
+        place = p.place;
+        loaded = 0;
+      })
+
+-- ---- the frame of a call
+
+-- the bytes that a base call keeps below its frame
+abbrev pub kept_below : Bool → ℕ
+kept_below base = if base then 2 else 0
+
+-- where the frame ends: below the loaded code, or above the parameters
+abbrev pub frame_top : ℕ → ℕ → ℕ → ℕ
+frame_top loaded sp parameters = if nat_lt 0 loaded then sp - loaded else sp + parameters
+
+-- the six control words of a frame at f: static link, dynamic link, JTAB, SEG, IPC and SP of the caller
+unfoldable pub with_control : List ℕ → ℕ → ℕ → Registers → ℕ → List ℕ
+with_control m f static r above =
+    let linked = with_word m f static in
+    let dynamic = with_word linked (f + 2) r.mp in
+    let jtab = with_word dynamic (f + 4) r.jtab in
+    let seg = with_word jtab (f + 6) r.seg in
+    let ipc = with_word seg (f + 8) r.ipc in
+    with_word ipc (f + 10) above
+
+-- the memory with a frame at f: the parameters, copied from the stack, and the control words
+abbrev pub with_frame : List ℕ → ℕ → ℕ → Registers → ℕ → List ℕ
+with_frame m f static r parameters =
+    with_control (copied m r.sp (f + 12) parameters) f static r (r.sp + parameters)
+
+-- a base call keeps the old BASE below its frame
+abbrev pub with_old_base : Bool → List ℕ → ℕ → ℕ → List ℕ
+with_old_base base m f old = if base then with_word m (f - 2) old else m
+
+-- the registers in the procedure with this table and frame, of the segment at s
+abbrev pub inside : Bool → Registers → ℕ → Table → ℕ → Registers
+inside base r s t f = record r {
+  mp = f;
+  sp = f - kept_below base;
+  jtab = t.jtab;
+  seg = s;
+  ipc = t.enter;
+  base = if base then f else r.base;
+}
+
+-- The frame of a procedure with this table, once its static link is known: variables, parameters and control words,
+-- from the top down. Sums are whole numbers.
+unfoldable pub framed : List ℕ → ℕ → ℕ → Registers → Bool → Table → ℕ → Result (List ℕ × Registers) ExecError
+framed m s loaded r base t static = do
+  _ ← demand (nat_le (r.sp + t.parameters) 65504) InvalidMemory
+  let top = frame_top loaded r.sp t.parameters
+  let size = t.locals + t.parameters + 12
+  _ ← demand (nat_le (r.np + kept_below base + size) top) StackOverflow
+  let f = top - size
+  Ok (with_old_base base (with_frame m f static r t.parameters) f r.base, inside base r s t f)
+
+-- ---- the call
+
+-- a call in the segment at s, of which so many bytes were loaded for it; all reads are of the memory with them
+unfoldable pub entered : List ℕ → ℕ → ℕ → Registers → Call → Result (List ℕ × Registers) ExecError
+entered m s loaded r call = do
+  t ← attributes m s (procedure_of call)
+  static ← static_link call m r t.level
+  framed m s loaded r (is_base call t.level) t static
+
+-- a call in a segment that was reached
+unfoldable pub called_at : Parts → Call → Reached → Result Parts ExecError
+called_at c call at = do
+  e ← entered at.memory at.place at.loaded c.registers call
+  Ok (record { memory = e.0; registers = e.1; places = at.places })
+
+-- a call in a segment that stands, and in one that has to be loaded
+unfoldable pub called_standing : Parts → Call → ℕ → Place → Result Parts ExecError
+called_standing c call n p = standing c n p >>= called_at c call
+
+unfoldable pub called_loading : Parts → Call → ℕ → List ℕ → Result Parts ExecError
+called_loading c call n code = loading c n code >>= called_at c call
+
+-- a call in the segment of slot n, which may have a place; without one its code is needed
+abbrev pub called_slot : Parts → Call → ℕ → Option (List ℕ) → Option (Option Place) → Result Parts ExecError
+called_slot c call n code None = Err NoSegment
+called_slot c call n code (Some (Some p)) = called_standing c call n p
+called_slot c call n None (Some None) = Err NoSegment
+called_slot c call n (Some code) (Some None) = called_loading c call n code
+
+unfoldable pub called : Parts → Call → Option (List ℕ) → Result Parts ExecError
+called c (Cxp n p) code = called_slot c (Cxp n p) n code (slice_get c.places n)
+called c (Clp p) code = called_at c (Clp p) (here c)
+called c (Cgp p) code = called_at c (Cgp p) (here c)
+called c (Cbp p) code = called_at c (Cbp p) (here c)
+called c (Cip p) code = called_at c (Cip p) (here c)
+
+-- a call was entered: it gives the memory and the registers, or an error with the memory as it was
+abbrev pub Enters : Result Registers ExecError → List ℕ → List ℕ → Result (List ℕ × Registers) ExecError → Type 0
+Enters (Ok r) old new entering = entering ≡ Ok (new, r)
+Enters (Err e) old new entering = (entering ≡ Err e) × (new ≡ old)
+
+-- a call or a return gives the new parts, or an error with the parts as they were
+abbrev pub Leaves : {A : Type 0} → Result A ExecError → Parts → Parts → Result Parts ExecError → Type 0
+Leaves (Ok x) old new done = done ≡ Ok new
+Leaves (Err e) old new done = (done ≡ Err e) × (new ≡ old)

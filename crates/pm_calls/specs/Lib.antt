@@ -1,0 +1,5 @@
+pub mod Places
+pub mod Links
+pub mod Tables
+pub mod Calls
+pub mod Returns

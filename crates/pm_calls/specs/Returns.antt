@@ -1,0 +1,54 @@
+-- Returns.
+use Rattle.std.specs.Prelude.{ℕ, ◌+◌, ◌-◌, ◌*◌, ◌%◌, Bool, false, ◌&&◌, List, Option, Some, None, Result, Ok, if◌then◌else◌, ◌==◌, nat_lt, nat_le, slice_set, slice_index_or, option_and_then, position}
+use Rattle.pm_words.specs.declared.error.ExecError.{ExecError}
+use Rattle.pm_words.specs.declared.error.ExecError.TheVariants.{InvalidMemory, StackOverflow}
+use Rattle.pm_words.specs.Words.{word_at, copied}
+use Rattle.pm_words.specs.Stack.{◌>>=◌, demand, is_even, minus}
+use Rattle.pm_calls.specs.declared.registers.Registers.{Registers}
+use Rattle.pm_calls.specs.declared.frames.Place.{Place}
+use Rattle.pm_calls.specs.Places.{Parts}
+
+-- a slot with one call less, or with no place after the last
+abbrev pub less : Place → Option Place
+less p = if nat_lt 1 p.count then Some (record p { count = p.count - 1 }) else None
+
+-- a slot that stands at s, for some call
+abbrev pub stands_at : ℕ → Option Place → Bool
+stands_at s None = false
+stands_at s (Some p) = p.place == s && nat_lt 0 p.count
+
+-- one call less at a slot, if there is one
+abbrev pub lessened : Option ℕ → List (Option Place) → List (Option Place)
+lessened None places = places
+lessened (Some n) places = slice_set places n (option_and_then less (slice_index_or places n None))
+
+-- the places after a return from the segment at s: the lowest slot that stands there has one call less
+unfoldable pub released : ℕ → List (Option Place) → List (Option Place)
+released s places = lessened (position (stands_at s) places) places
+
+-- the registers after a return to the caller of the frame at f; a base return gives back the old BASE
+abbrev pub left_to : List ℕ → Registers → ℕ → ℕ → Bool → Registers
+left_to m r f sp base = record r {
+  sp = sp;
+  mp = word_at m (f + 2);
+  jtab = word_at m (f + 4);
+  seg = word_at m (f + 6);
+  ipc = word_at m (f + 8);
+  base = if base then word_at m (minus f 2) else r.base;
+}
+
+-- A return with so many words from the frame at MP, all reads being of the memory before it. The words that it returns
+-- stand above the control words, and go below the SP that the frame keeps.
+unfoldable pub returned : Parts → ℕ → Bool → Result Parts ExecError
+returned c words base = do
+  let f = c.registers.mp
+  _ ← demand (is_even f && nat_le (f + 12 + 2 * words) 65536) InvalidMemory
+  let above = word_at c.memory (f + 10)
+  _ ← demand (is_even above && nat_le above 65504) InvalidMemory
+  _ ← demand (nat_le (c.registers.np + 2 * words) above) StackOverflow
+  let r = left_to c.memory c.registers f (above - 2 * words) base
+  Ok (record {
+    memory = copied c.memory ((f + 12) % 65536) (above - 2 * words) (2 * words);
+    registers = r;
+    places = if r.seg == c.registers.seg then c.places else released c.registers.seg c.places;
+  })

@@ -1,0 +1,13 @@
+//! Frames: static links, attribute tables, calls, returns, and where segments stand.
+#![tactic(auto)]
+
+mod calls;
+mod frame;
+mod frames;
+mod links;
+mod registers;
+mod returns;
+mod tables;
+
+pub use frames::{Call, Frames, Place, Table};
+pub use registers::Registers;

@@ -1,0 +1,52 @@
+-- Calls and returns.
+use Rattle.std.specs.Prelude.{ℕ, Bool, true, false, None, Result, Ok, if◌then◌else◌, ◌==◌}
+use Rattle.pm_words.specs.declared.error.ExecError.{ExecError}
+use Rattle.pm_words.specs.Stack.{◌>>=◌}
+use Rattle.pm_opcode.specs.declared.operation.Call as codes
+use Rattle.pm_opcode.specs.declared.operation.Call.TheVariants.{Local, Global, Base, Intermediate, External}
+use Rattle.pm_opcode.specs.declared.operation.Return.{Return}
+use Rattle.pm_opcode.specs.declared.operation.Return.TheVariants as return
+use Rattle.pm_calls.specs.declared.frames.Call.{Call}
+use Rattle.pm_calls.specs.declared.frames.Call.TheVariants.{Clp, Cgp, Cbp, Cip, Cxp}
+use Rattle.pm_calls.specs.Places.{Parts}
+use Rattle.pm_calls.specs.Calls.{called}
+use Rattle.pm_calls.specs.Returns.{returned}
+use Rattle.pm_machine.specs.declared.state.Status.{Status}
+use Rattle.pm_machine.specs.declared.state.Status.TheVariants as status
+use Rattle.pm_machine.specs.State.{State}
+
+-- a call as the frames take it
+abbrev pub call_of : codes.Call → Call
+call_of (Local p) = Clp p
+call_of (Global p) = Cgp p
+call_of (Base p) = Cbp p
+call_of (Intermediate p) = Cip p
+call_of (External s p) = Cxp s p
+
+-- what calls and returns see of the state, and the state with that part new
+abbrev pub parts : State → Parts
+parts s = record { memory = s.memory; registers = s.registers; places = s.places }
+
+abbrev pub with_parts : Parts → State → State
+with_parts p s = record s { memory = p.memory; registers = p.registers; places = p.places }
+
+-- a call; no segment has code that could be loaded
+abbrev pub call_row : codes.Call → State → Result State ExecError
+call_row c s = called (parts s) (call_of c) None >>= λ p. Ok (with_parts p s)
+
+abbrev pub words_of_return : Return → ℕ
+words_of_return (return.Normal n) = n
+words_of_return (return.Base n) = n
+
+abbrev pub is_base_return : Return → Bool
+is_base_return (return.Normal n) = false
+is_base_return (return.Base n) = true
+
+-- a return to the frame of the system ends the program
+abbrev pub status_after : ℕ → Status → Status
+status_after mp now = if mp == 65492 then status.Ended else now
+
+abbrev pub return_row : Return → State → Result State ExecError
+return_row r s =
+    returned (parts s) (words_of_return r) (is_base_return r) >>= λ p.
+    Ok (record (with_parts p s) { status = status_after p.registers.mp s.status })

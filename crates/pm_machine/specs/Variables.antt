@@ -1,0 +1,45 @@
+-- The rows on variables. Variable b of a frame at f stands at f + 10 + 2b, so that variable 1 is the word behind the
+-- control words.
+use Rattle.std.specs.Prelude.{ℕ, ◌+◌, ◌*◌, ◌%◌, List, Result, Ok}
+use Rattle.pm_words.specs.declared.error.ExecError.{ExecError}
+use Rattle.pm_words.specs.Stack.{◌>>=◌, load, pop, push, store}
+use Rattle.pm_opcode.specs.declared.operation.Scope.{Scope}
+use Rattle.pm_opcode.specs.declared.operation.Scope.TheVariants.{Global, Local, Intermediate}
+use Rattle.pm_opcode.specs.declared.operation.Variable.{Variable}
+use Rattle.pm_opcode.specs.declared.operation.Variable.TheVariants.{Address, Load, Store}
+use Rattle.pm_calls.specs.declared.registers.Registers.{Registers}
+use Rattle.pm_calls.specs.Links.{link}
+
+-- the frame that a variable stands in: that of the program, of the procedure, or one so many static links up
+abbrev pub frame_of : Scope → List ℕ → Registers → Result ℕ ExecError
+frame_of Global m r = Ok r.base
+frame_of Local m r = Ok r.mp
+frame_of (Intermediate n) m r = link m r.mp n
+
+-- the address of a variable
+abbrev pub variable_at : Scope → ℕ → List ℕ → Registers → Result ℕ ExecError
+variable_at scope b m r = frame_of scope m r >>= λ f. Ok ((f + 10 + 2 * b) % 65536)
+
+-- Each row gives the memory and SP.
+unfoldable pub address_row : Scope → ℕ → List ℕ → Registers → Result (List ℕ × ℕ) ExecError
+address_row scope b m r = do
+  x ← variable_at scope b m r
+  push m r.sp r.np x
+
+unfoldable pub load_row : Scope → ℕ → List ℕ → Registers → Result (List ℕ × ℕ) ExecError
+load_row scope b m r = do
+  x ← variable_at scope b m r
+  w ← load m x
+  push m r.sp r.np w
+
+unfoldable pub store_row : Scope → ℕ → List ℕ → Registers → Result (List ℕ × ℕ) ExecError
+store_row scope b m r = do
+  v ← pop m r.sp
+  x ← variable_at scope b m r
+  n ← store m x v.0
+  Ok (n, v.1)
+
+unfoldable pub variable_row : Variable → List ℕ → Registers → Result (List ℕ × ℕ) ExecError
+variable_row (Address scope b) m r = address_row scope b m r
+variable_row (Load scope b) m r = load_row scope b m r
+variable_row (Store scope b) m r = store_row scope b m r

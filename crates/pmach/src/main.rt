@@ -22,7 +22,7 @@ fn main(rt: HostRuntime) -> ExitCode {
     let job = match words::job_of(alloc, std::env::args(&rt)) {
         Ok(job) => job,
         Err(error) => {
-            let _ = eprintln!(rt; "{error}");
+            let _ = eprint!(rt; "{error}");
             return ExitCode::from(error.exit().number());
         }
     };

@@ -32,16 +32,17 @@ impl WordsError {
     }
 }
 
+/// The text for standard error, with its line feeds.
 impl fmt::Display for WordsError {
     fn fmt<W: fmt::Write>(&self, f: &mut fmt::Formatter<W>) -> fmt::Result {
         match self {
             WordsError::Usage(error) => write!(f, "{error}"),
-            WordsError::NoCommand => f.write_str("error: no command among the words"),
+            WordsError::NoCommand => f.write_str("error: no command among the words\n"),
             WordsError::BadLimit => f.write_str(
-                "error: the limit is a number of decimal digits, at most 4294967295",
+                "error: the limit is a number of decimal digits, at most 4294967295\n",
             ),
-            WordsError::NotText => f.write_str("error: a word is not UTF-8"),
-            WordsError::NoMemory => f.write_str("no memory"),
+            WordsError::NotText => f.write_str("error: a word is not UTF-8\n"),
+            WordsError::NoMemory => f.write_str("no memory\n"),
         }
     }
 }

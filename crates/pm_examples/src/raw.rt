@@ -1,0 +1,95 @@
+//! Runs of bare code, from hexadecimal digits to a trace.
+use pm_tool::{Job, Outcome, Reader, Writer, run};
+use std::alloc::{AllocError, Global};
+use std::process::Abort;
+
+/// Adds two to three.
+pub(crate) const ADDITION: &str = "02 03 82 D6\n";
+
+pub(crate) const ADDITION_TRACE: &str = "\
+00000000 01024 65492 65492 65492 01028 65492 SLDC 2
+00000001 01025 65490 65492 65492 01028 00002 SLDC 3
+00000002 01026 65488 65492 65492 01028 00003 ADI
+00000003 01027 65490 65492 65492 01028 00005 XIT
+ended 4
+";
+
+const TWO_STEPS: &str = "\
+00000000 01024 65492 65492 65492 01028 65492 SLDC 2
+00000001 01025 65490 65492 65492 01028 00002 SLDC 3
+limit 2
+";
+
+/// What a job came to, and what it wrote.
+#[derive(Drop)]
+struct Ran {
+    outcome: Outcome,
+    written: Vec<u8>,
+}
+
+/// Runs the program that the text spells, over streams in memory.
+fn raw_run(alloc: Global, text: &[u8], limit: u32) -> Ran {
+    let mut written = Vec::new(alloc);
+    let mut source = Reader::new(text);
+    let mut sink = Writer::new(&mut written);
+    let outcome = run(alloc, &mut source, &mut sink, Job::Raw { limit });
+    Ran { outcome, written }
+}
+
+impl Ran {
+    fn assert(&self, rt: &impl Abort, status: u8, message: &str, written: &str) {
+        assert_eq!(rt; self.outcome.status, status);
+        assert_eq!(rt; self.outcome.message.as_str(), message);
+        assert_eq!(rt; self.written.as_slice(), written.as_bytes());
+        assert!(rt; self.outcome.image.is_none());
+        assert!(rt; self.outcome.printer.is_empty());
+    }
+}
+
+#[test]
+fn addition(rt: HostRuntime) {
+    raw_run(rt.alloc(), ADDITION.as_bytes(), 100).assert(&rt, 0, "", ADDITION_TRACE);
+}
+
+#[test]
+fn limit(rt: HostRuntime) {
+    raw_run(rt.alloc(), ADDITION.as_bytes(), 2).assert(&rt, 6, "", TWO_STEPS);
+    raw_run(rt.alloc(), ADDITION.as_bytes(), 0).assert(&rt, 6, "", "limit 0\n");
+    raw_run(rt.alloc(), ADDITION.as_bytes(), 4).assert(&rt, 0, "", ADDITION_TRACE);
+}
+
+/// Digits are of both cases, and white space stands anywhere but within a pair, or nowhere.
+#[test]
+fn digits(rt: HostRuntime) {
+    for text in ["020382D6", "\t02\r\n03 82d6", "\n\n02 0382 \r\t D6 "] {
+        raw_run(rt.alloc(), text.as_bytes(), 100).assert(&rt, 0, "", ADDITION_TRACE);
+    }
+}
+
+#[test]
+fn no_digits(rt: HostRuntime) {
+    for text in [
+        "02 0",
+        "0G",
+        "0 2",
+        "02 03 82 D6 D",
+        "02\u{b}03",
+        "02\u{c}03",
+        "02,03",
+        "0x02",
+    ] {
+        raw_run(rt.alloc(), text.as_bytes(), 100).assert(&rt, 2, "refused hex 1", "");
+    }
+}
+
+#[test]
+fn long_program(rt: HostRuntime) -> Result<(), AllocError> {
+    let alloc = rt.alloc();
+    let mut text = vec![in alloc; b'0'; 120_000]?;
+    raw_run(alloc, &text, 0).assert(&rt, 6, "", "limit 0\n");
+    text.extend_from_slice(b"D6")?;
+    raw_run(alloc, &text, 0).assert(&rt, 2, "refused boot 3", "");
+    text.push(b'G')?;
+    raw_run(alloc, &text, 0).assert(&rt, 2, "refused hex 1", "");
+    Ok(())
+}

@@ -1,0 +1,64 @@
+//! A reader and a writer that move one byte at a time and fail after a while.
+use std::io;
+use std::io::{ErrorKind, Read, Write};
+
+/// Gives its bytes one at a time, and an error at each read after the first `good`.
+#[derive(Drop)]
+pub(crate) struct ShortReader<'a> {
+    pub(crate) bytes: &'a [u8],
+    pub(crate) good: usize,
+}
+
+impl Read for ShortReader<'_> {
+    fn read(&mut self, buf: &mut [u8]) -> io::Result<usize> {
+        if self.good == 0 {
+            return Err(io::Error::from(ErrorKind::Other));
+        }
+        self.good -= 1;
+        let Some((first, rest)) = self.bytes.split_first() else {
+            return Ok(0);
+        };
+        let Some(place) = buf.first_mut() else {
+            return Ok(0);
+        };
+        *place = *first;
+        self.bytes = rest;
+        Ok(1)
+    }
+}
+
+/// What a writer does when it can take no more.
+#[derive(Clone, Copy)]
+pub(crate) enum Full {
+    Errs,
+    TakesNothing,
+}
+
+/// Takes one byte at each write, and none after the first `good`.
+#[derive(Drop)]
+pub(crate) struct ShortWriter {
+    pub(crate) bytes: Vec<u8>,
+    pub(crate) good: usize,
+    pub(crate) full: Full,
+}
+
+impl Write for ShortWriter {
+    fn write(&mut self, buf: &[u8]) -> io::Result<usize> {
+        let Some(first) = buf.first() else {
+            return Ok(0);
+        };
+        if self.good == 0 {
+            return match self.full {
+                Full::Errs => Err(io::Error::from(ErrorKind::Other)),
+                Full::TakesNothing => Ok(0),
+            };
+        }
+        self.bytes.push(*first)?;
+        self.good -= 1;
+        Ok(1)
+    }
+
+    fn flush(&mut self) -> io::Result<()> {
+        Ok(())
+    }
+}

@@ -2,8 +2,14 @@
 #![tactic(auto)]
 
 #[cfg(test)]
+mod calls;
+#[cfg(test)]
 mod faults;
 #[cfg(test)]
+mod machine;
+#[cfg(test)]
 mod raw;
+#[cfg(test)]
+mod rows;
 #[cfg(test)]
 mod streams;

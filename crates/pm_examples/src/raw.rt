@@ -22,13 +22,13 @@ limit 2
 
 /// What a job came to, and what it wrote.
 #[derive(Drop)]
-struct Ran {
-    outcome: Outcome,
-    written: Vec<u8>,
+pub(crate) struct Ran {
+    pub(crate) outcome: Outcome,
+    pub(crate) written: Vec<u8>,
 }
 
 /// Runs the program that the text spells, over streams in memory.
-fn raw_run(alloc: Global, text: &[u8], limit: u32) -> Ran {
+pub(crate) fn raw_run(alloc: Global, text: &[u8], limit: u32) -> Ran {
     let mut written = Vec::new(alloc);
     let mut source = Reader::new(text);
     let mut sink = Writer::new(&mut written);

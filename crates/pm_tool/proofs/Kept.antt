@@ -1,5 +1,5 @@
 -- Jobs that read all of their input before they write.
-use Rattle.std.proofs.Common.{◌≡◌, ℕ, ◌<◌, List, [], ◌++◌, Option, None, Some, inl, inr, Result, Ok, Err, Bool, false, refl, sym, ap, ◌∙◌, append-nil, arith, subst, IfSome, IfErr, string_bytes}
+use Rattle.std.proofs.Common.{◌≡◌, ℕ, List, [], ◌++◌, Option, None, Some, inl, inr, Result, Ok, Err, Bool, false, refl, sym, ap, ◌∙◌, append-nil, arith, subst, IfSome, IfErr, string_bytes}
 use Rattle.std.specs.Io.KnownBytes.{Consumes, Appends, Keeps, IsAtEnd}
 use Rattle.std.proofs.KnownBytes.{Appends-nil}
 use Rattle.pm_machine.specs.State.{State}
@@ -14,7 +14,7 @@ use Rattle.pm_tool.specs.declared.trace.Ending.TheVariants as endings
 use Rattle.pm_tool.specs.Hex.{spelled}
 use Rattle.pm_tool.specs.Outcomes.{Said, exit_number, exit_of, refused, IsOutcome}
 use Rattle.pm_tool.specs.Run.{run_of, trace_of}
-use Rattle.pm_tool.specs.Said.{loaded, said, said_loaded, IsSound, Tells, IsCut, IsDone, IsBrokenOff}
+use Rattle.pm_tool.specs.Said.{loaded, said, said_loaded, IsSound, Tells, IsDone, IsBrokenOff}
 use Rattle.pm_tool.specs.Streams.{IsFront, AppendsFront, IsCause, ReadsAll}
 
 -- where the input is known, it is what was read and what is left

@@ -8,7 +8,7 @@ use Rattle.pm_machine.specs.declared.state.Stop.{Stop}
 use Rattle.pm_machine.specs.declared.state.Stop.TheVariants.{Went, Waiting, Ended, Halted}
 use Rattle.pm_tool.specs.declared.trace.Ending.{Ending}
 use Rattle.pm_tool.specs.declared.trace.Ending.TheVariants as endings
-use Rattle.pm_tool.specs.Run.{Run, after_showing, ends, shown_of, follows, run_of, last_line, trace_of, IsOver}
+use Rattle.pm_tool.specs.Run.{after_showing, ends, shown_of, follows, run_of, last_line, trace_of, IsOver}
 use Rattle.pm_tool.specs.Streams.{IsFront, AppendsFront, AppendsBut}
 
 -- ---- the definition, one step at a time

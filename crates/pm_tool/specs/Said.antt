@@ -64,8 +64,8 @@ abbrev pub IsSound : ℕ → Type 0
 IsSound status = (status ≢ exit_number exits.StreamFault) × (status ≢ exit_number exits.NoMemory)
 
 -- a fault of a stream, or want of memory
-abbrev pub IsBroken : ℕ → Type 0
-IsBroken status = (status ≡ exit_number exits.StreamFault) ⊎ (status ≡ exit_number exits.NoMemory)
+abbrev pub IsCutShort : ℕ → Type 0
+IsCutShort status = (status ≡ exit_number exits.StreamFault) ⊎ (status ≡ exit_number exits.NoMemory)
 
 -- a fault of a stream is answered exactly where a source or a sink has failed or too many bytes were read
 abbrev pub FailsExactly : Option (List ℕ) → Option (List ℕ) → Bool → Bool → ℕ → Type 0

@@ -3,7 +3,7 @@ ghost use Rattle.std.specs.Prelude.{◌≡◌, ◌≢◌, ◌≤◌, ◌⊎◌, 
 ghost use Rattle.std.specs.String.{string_capacity};
 ghost use Rattle.pm_tool.specs.Hex.{spelled};
 ghost use Rattle.pm_tool.specs.Outcomes.{exit_number, fault_exit, fault_text};
-ghost use Rattle.pm_tool.specs.Said.{loaded, said, said_loaded, IsSound, IsBroken, IsDone, IsBrokenOff, Tells, IsCut, FailsExactly};
+ghost use Rattle.pm_tool.specs.Said.{loaded, said, said_loaded, IsSound, IsCutShort, IsDone, IsBrokenOff, Tells, IsCut, FailsExactly};
 
 use crate::fault::{Fault, MESSAGE_ROOM};
 use crate::hex;
@@ -88,7 +88,8 @@ fn broken_off(alloc: Global, fault: Fault, mut message: String) -> Outcome
 
 /// Does a job: reads its input, writes its output, and answers what it comes to.
 ///
-/// Neither stream may have failed before. Room for the message of a fault is taken first; where that is refused the message is empty.
+/// Neither stream may have failed before. An input of more than `INPUT_LIMIT` bytes is a read fault. Room for the message
+/// of a fault is taken first: where that is refused, the message at want of memory is empty.
 pub fn run<R: Source, W: Sink>(alloc: Global, source: &mut R, sink: &mut W, job: Job) -> Outcome
     requires source_well { R.has_failed source.old ≡ false }
     requires sink_well { W.has_failed sink.old ≡ false }
@@ -98,7 +99,7 @@ pub fn run<R: Source, W: Sink>(alloc: Global, source: &mut R, sink: &mut W, job:
         (λ input. Tells (R.remaining source.new) (W.contents sink.old) (W.contents sink.new) result (said job input)) }
 
     // After a fault of a stream or want of memory, what was written is a front of that.
-    ensures cut { IsBroken result.status →
+    ensures cut { IsCutShort result.status →
         IsCut (R.remaining source.old) (R.remaining source.new) (W.contents sink.old) (W.contents sink.new) (said job) }
 
     // A fault of a stream is answered exactly where a read or a write failed or the input is too long.
@@ -107,7 +108,7 @@ pub fn run<R: Source, W: Sink>(alloc: Global, source: &mut R, sink: &mut W, job:
         string_bytes result.message ≡ (if W.has_failed sink.new then codes "write fault" else codes "read fault") }
     ensures memory { result.status ≡ exit_number Exit.NoMemory →
         (string_bytes result.message ≡ codes "no memory") ⊎ (string_bytes result.message ≡ []) }
-    ensures nothing_else { IsBroken result.status → (result.image ≡ None) × (result.printer.items ≡ []) }
+    ensures nothing_else { IsCutShort result.status → (result.image ≡ None) × (result.printer.items ≡ []) }
 {
     let Ok(room) = String::with_capacity(alloc, MESSAGE_ROOM) else {
         return Outcome::plain(alloc, Exit::NoMemory, String::new(alloc));

@@ -7,9 +7,11 @@ use std::alloc::{AllocError, Global};
 use std::fmt;
 
 /// What is to be done.
-#[derive(Clone, Copy, Debug, PartialEq, Eq)]
+#[derive(Debug, Drop, PartialEq, Eq)]
 pub enum Job {
-    /// The input is a program in hexadecimal digits; the output is the trace of at most `limit` steps of it.
+    /// The input spells a program: its bytes are pairs of hexadecimal digits of both cases, with white space (tabs, line
+    /// feeds, carriage returns and spaces) anywhere but within a pair. The output is the trace of at most `limit` steps.
+    /// Any other input is refused by `refused hex 1`, and a program of more than 60,000 bytes by `refused boot 3`.
     Raw { limit: u32 },
 }
 

@@ -1,0 +1,4 @@
+pub mod Several
+pub mod Fields
+pub mod Sets
+pub mod Strings

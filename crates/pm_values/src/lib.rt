@@ -1,0 +1,11 @@
+//! The rows on bytes, fields, strings and sets in memory, and the typed comparisons.
+#![tactic(auto)]
+
+mod fields;
+mod sets;
+mod stack;
+mod strings;
+
+pub use fields::{index_field, load_byte, load_field, store_byte, store_field};
+pub use sets::in_set;
+pub use strings::{assign, index_string};

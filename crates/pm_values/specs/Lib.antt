@@ -1,4 +1,5 @@
 pub mod Several
 pub mod Fields
 pub mod Sets
+pub mod Combinations
 pub mod Strings

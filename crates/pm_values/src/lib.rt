@@ -7,5 +7,5 @@ mod stack;
 mod strings;
 
 pub use fields::{index_field, load_byte, load_field, store_byte, store_field};
-pub use sets::in_set;
+pub use sets::{adjust, difference, in_set, intersect, singleton, subrange, union};
 pub use strings::{assign, index_string};

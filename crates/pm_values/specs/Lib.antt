@@ -3,3 +3,4 @@ pub mod Fields
 pub mod Sets
 pub mod Combinations
 pub mod Strings
+pub mod Comparisons

@@ -40,11 +40,11 @@ enum Combination {
     Difference,
 }
 
-// A set taken from the stack, and the SP above it.
+/// A set taken from the stack, and the SP above it.
 #[derive(Drop)]
-struct StackSet {
-    words: ArrayVec<u16, SET_WORDS>,
-    above: u16,
+pub struct StackSet {
+    pub words: ArrayVec<u16, SET_WORDS>,
+    pub above: u16,
 }
 
 /// Replaces a value and a set by 1 or 0, whether the signed value is an element, and gives the new
@@ -158,9 +158,9 @@ fn combine(
     push_words(memory, lower.above, np, &set)
 }
 
-// Takes a set from the stack.
+/// Takes a set from the stack.
 #[tactic(auto, unfolding(crate::specs::Sets::pop_set))]
-fn take_set(memory: &Memory, sp: u16) -> Result<StackSet, ExecError>
+pub fn take_set(memory: &Memory, sp: u16) -> Result<StackSet, ExecError>
     ensures set { MatchResult result
         (λ s. pop_set memory.now.words sp ≡ Ok (record { members = s.words.items; above = s.above }))
         (λ e. pop_set memory.now.words sp ≡ Err e) }
@@ -209,8 +209,8 @@ fn contains(words: &[u16], value: u16) -> bool
     (word_or_zero(words, usize::from(value / 16)) >> (value % 16)) % 2 == 1
 }
 
-// The word at a place, 0 past the end.
-fn word_or_zero(words: &[u16], index: usize) -> u16
+/// The word at a place, 0 past the end.
+pub fn word_or_zero(words: &[u16], index: usize) -> u16
     ensures word { result ≡ slice_index words.now index }
 {
     words.get(index).copied().unwrap_or(0)

@@ -1,11 +1,8 @@
 -- What the code of an assignment writes, told as one list of bytes.
-use Rattle.std.proofs.Common.{◌≡◌, ℕ, suc, ◌+◌, ◌<◌, ◌≤◌, List, [], ◌∷◌, ◌++◌, length, take, drop, get_or, refl, sym, ap, ◌∙◌, arith}
-use Rattle.std.specs.List.{All}
-use Rattle.std.proofs.lemmas.List.{drop_more, length_push}
-use Rattle.std.proofs.lemmas.List.Edits.{paste-paste, take-paste}
-use Rattle.std.proofs.lemmas.List.Elements.{All-cons, All-nil}
-use Rattle.pm_words.specs.Words.{IsMemory, byte_at, bytes_at, bytes_of, copied, overwritten, with_byte, with_bytes, words_of}
-use Rattle.pm_words.proofs.Laws.{AreMemoryBytes-bytes_of, bytes_of-with_bytes}
+use Rattle.std.proofs.Common.{◌≡◌, ℕ, suc, ◌+◌, ◌<◌, ◌≤◌, List, ◌∷◌, length, drop, get_or, refl, ap, arith}
+use Rattle.std.proofs.lemmas.List.{drop_more}
+use Rattle.pm_words.specs.Words.{IsMemory, byte_at, bytes_at, bytes_of, copied, with_bytes}
+use Rattle.pm_words.proofs.Laws.{AreMemoryBytes-bytes_of}
 use Rattle.pm_words.proofs.RangeLaws.{length-bytes_at}
 
 -- a string has as many characters as its length says

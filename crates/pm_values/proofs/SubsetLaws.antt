@@ -1,9 +1,8 @@
 -- Subsets, word by word.
-use Rattle.std.proofs.Common.{◌≡◌, ◌≢◌, ℕ, zero, suc, ◌+◌, ◌-◌, ◌*◌, ◌^◌, ◌<◌, ◌≤◌, Bool, true, false, cond, eqb, List, length, get_or, sym, ap, ◌∙◌, refl, arith}
+use Rattle.std.proofs.Common.{◌≡◌, ◌≢◌, ℕ, zero, suc, ◌+◌, ◌-◌, ◌*◌, ◌^◌, ◌<◌, Bool, true, false, cond, eqb, List, length, get_or, ap, ◌∙◌, refl, arith}
 use Rattle.std.specs.Prelude.{◌&&◌, not, bit_and}
 use Rattle.std.specs.Int.{bit_not, w16}
 use Rattle.std.proofs.lemmas.Bool.Decides.{nat_tests}
-use Rattle.std.proofs.Math.Nat.{add-zero}
 use Rattle.pm_values.specs.declared.sets.Combination.TheVariants.{Difference}
 use Rattle.pm_values.specs.Comparisons.{is_subset, none_from}
 use Rattle.pm_values.specs.Sets.{bits_from, is_member}

@@ -1,7 +1,7 @@
 -- Bytes, and fields of words. A row takes its words from the stack, the top one first, then checks them, then writes or
 -- pushes: its lines stand in the order of its faults.
-use Rattle.std.specs.Prelude.{ℕ, ◌+◌, ◌-◌, ◌*◌, ◌/◌, ◌%◌, ◌^◌, ◌==◌, ◌&&◌, Bool, not, List, [], ◌∷◌, Ok, nat_lt, nat_le}
-use Rattle.pm_words.specs.Words.{byte_at, with_byte, word_at}
+use Rattle.std.specs.Prelude.{ℕ, ◌+◌, ◌-◌, ◌*◌, ◌/◌, ◌%◌, ◌^◌, ◌==◌, ◌&&◌, Bool, not, [], ◌∷◌, Ok, nat_lt, nat_le}
+use Rattle.pm_words.specs.Words.{byte_at, with_byte}
 use Rattle.pm_words.specs.declared.error.ExecError.TheVariants.{InvalidIndex}
 use Rattle.pm_words.specs.Stack.{◌>>=◌, StackRow, demand, load, pop, push, store}
 use Rattle.pm_values.specs.Several.{push_words}

@@ -1,5 +1,5 @@
 -- Strings in memory: a length byte, then so many characters.
-use Rattle.std.specs.Prelude.{ℕ, ◌+◌, if◌then◌else◌, List, [], ◌∷◌, length, Result, Ok, Err, nat_lt, nat_le}
+use Rattle.std.specs.Prelude.{ℕ, ◌+◌, if◌then◌else◌, List, [], ◌∷◌, length, Result, Ok, nat_lt, nat_le}
 use Rattle.pm_words.specs.Words.{byte_at, bytes_at, with_bytes}
 use Rattle.pm_words.specs.declared.error.ExecError.{ExecError}
 use Rattle.pm_words.specs.declared.error.ExecError.TheVariants.{InvalidIndex, InvalidMemory, StringTooLong}

@@ -35,9 +35,9 @@ pub fn load_byte(memory: &mut Memory, sp: u16, np: u16) -> Result<u16, ExecError
 /// sum, and gives the new SP; `InvalidMemory` where there are too few words. An error changes
 /// nothing.
 #[tactic(auto, unfolding(crate::specs::Fields::store_byte_row))]
-pub fn store_byte(memory: &mut Memory, sp: u16, _np: u16) -> Result<u16, ExecError>
-    ensures row { Stacks result memory.old.words memory.new.words (store_byte_row memory.old.words sp _np) }
-    ensures stack { IsStack sp _np → IfOk result (λ sp. IsStack sp _np) }
+pub fn store_byte(memory: &mut Memory, sp: u16, np: u16) -> Result<u16, ExecError>
+    ensures row { Stacks result memory.old.words memory.new.words (store_byte_row memory.old.words sp np) }
+    ensures stack { IsStack sp np → IfOk result (λ sp. IsStack sp np) }
 {
     let (value, sp) = pop(memory, sp)?;
     let (index, sp) = pop(memory, sp)?;
@@ -94,9 +94,9 @@ pub fn load_field(memory: &mut Memory, sp: u16, np: u16) -> Result<u16, ExecErro
 /// field, and gives the new SP. `InvalidMemory` where there are too few words; `InvalidIndex` for
 /// bits that are no field of a word; `InvalidMemory` for an odd address. An error changes nothing.
 #[tactic(auto, unfolding(crate::specs::Fields::store_field_row))]
-pub fn store_field(memory: &mut Memory, sp: u16, _np: u16) -> Result<u16, ExecError>
-    ensures row { Stacks result memory.old.words memory.new.words (store_field_row memory.old.words sp _np) }
-    ensures stack { IsStack sp _np → IfOk result (λ sp. IsStack sp _np) }
+pub fn store_field(memory: &mut Memory, sp: u16, np: u16) -> Result<u16, ExecError>
+    ensures row { Stacks result memory.old.words memory.new.words (store_field_row memory.old.words sp np) }
+    ensures stack { IsStack sp np → IfOk result (λ sp. IsStack sp np) }
 {
     let (value, sp) = pop(memory, sp)?;
     let (lowest, sp) = pop(memory, sp)?;

@@ -12,9 +12,9 @@ use pm_words::{ExecError, Memory};
 /// as it was. `InvalidMemory` where there are too few words; `InvalidIndex` for an index above the
 /// string's length, both unsigned. It changes nothing.
 #[tactic(auto, unfolding(crate::specs::Strings::index_string_row))]
-pub fn index_string(memory: &mut Memory, sp: u16, _np: u16) -> Result<u16, ExecError>
-    ensures row { Stacks result memory.old.words memory.new.words (index_string_row memory.old.words sp _np) }
-    ensures stack { IsStack sp _np → IfOk result (λ sp. IsStack sp _np) }
+pub fn index_string(memory: &mut Memory, sp: u16, np: u16) -> Result<u16, ExecError>
+    ensures row { Stacks result memory.old.words memory.new.words (index_string_row memory.old.words sp np) }
+    ensures stack { IsStack sp np → IfOk result (λ sp. IsStack sp np) }
 {
     let (index, above) = pop(memory, sp)?;
     let (string, _) = pop(memory, above)?;
@@ -30,9 +30,9 @@ pub fn index_string(memory: &mut Memory, sp: u16, _np: u16) -> Result<u16, ExecE
 /// memory; `StringTooLong` for more than `limit` characters; `InvalidMemory` where the destination
 /// passes the end. An error changes nothing.
 #[tactic(auto, unfolding(crate::specs::Strings::assign_row), using(crate::proofs::StringLaws::strings))]
-pub fn assign(memory: &mut Memory, sp: u16, _np: u16, limit: u8) -> Result<u16, ExecError>
-    ensures row { Stacks result memory.old.words memory.new.words (assign_row limit memory.old.words sp _np) }
-    ensures stack { IsStack sp _np → IfOk result (λ sp. IsStack sp _np) }
+pub fn assign(memory: &mut Memory, sp: u16, np: u16, limit: u8) -> Result<u16, ExecError>
+    ensures row { Stacks result memory.old.words memory.new.words (assign_row limit memory.old.words sp np) }
+    ensures stack { IsStack sp np → IfOk result (λ sp. IsStack sp np) }
 {
     let (source, sp) = pop(memory, sp)?;
     let (place, sp) = pop(memory, sp)?;

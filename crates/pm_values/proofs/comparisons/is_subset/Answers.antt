@@ -1,4 +1,4 @@
-use Rattle.std.proofs.Common.{◌≡◌, sym, arith}
+use Rattle.std.proofs.Common.{sym, arith}
 use Rattle.pm_values.proofs.SubsetLaws.{subset-more, subset-none, subset-not, subset-whole}
 use Rattle.pm_values.proofs.comparisons.is_subset.Goals as goal
 

@@ -1,4 +1,4 @@
-use Rattle.std.proofs.Common.{◌≡◌, ℕ, ◌+◌, ◌*◌, ◌%◌, ◌^◌, ◌<◌, ◌≤◌, arith, refl}
+use Rattle.std.proofs.Common.{◌≡◌, ◌*◌, ◌%◌, ◌^◌, arith, refl}
 use Rattle.std.proofs.lemmas.Nat.{one_shl}
 use Rattle.pm_values.specs.Fields.{field_of}
 use Rattle.pm_values.proofs.FieldLaws.{field_of-below}

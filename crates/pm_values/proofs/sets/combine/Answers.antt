@@ -1,4 +1,3 @@
-use Rattle.std.proofs.Common.{◌≡◌}
 use Rattle.pm_values.proofs.sets.combine.Goals as goal
 
 pub returns-clause-row : goal.returns-clause-row

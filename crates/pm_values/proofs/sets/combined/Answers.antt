@@ -1,5 +1,5 @@
-use Rattle.std.proofs.Common.{◌≡◌, ◌+◌, ◌∷◌, ap, rules}
-use Rattle.pm_values.specs.Combinations.{test_of, word_of}
+use Rattle.std.proofs.Common.{◌∷◌, ap, rules}
+use Rattle.pm_values.specs.Combinations.{test_of}
 use Rattle.pm_values.specs.Sets.{is_member}
 use Rattle.pm_values.proofs.SetLaws.{combined-word, set_of-more, set_of-none}
 use Rattle.pm_values.proofs.sets.combined.Goals as goal

@@ -1,4 +1,4 @@
-use Rattle.std.proofs.Common.{◌≡◌, ◌+◌, ◌*◌, ◌/◌, ◌∷◌, ap, refl, rules, arith}
+use Rattle.std.proofs.Common.{◌+◌, ◌/◌, ◌∷◌, ap, refl, rules}
 use Rattle.std.specs.Prelude.{◌&&◌, nat_le}
 use Rattle.pm_values.proofs.SetLaws.{set_of-more, set_of-none}
 use Rattle.pm_values.proofs.sets.interval.Goals as goal

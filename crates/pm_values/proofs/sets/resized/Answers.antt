@@ -1,4 +1,4 @@
-use Rattle.std.proofs.Common.{◌≡◌, ◌+◌, rules}
+use Rattle.std.proofs.Common.{rules}
 use Rattle.pm_values.specs.Sets.{is_member}
 use Rattle.pm_values.proofs.SetLaws.{member-word, set_of-more, set_of-none}
 use Rattle.pm_values.proofs.sets.resized.Goals as goal

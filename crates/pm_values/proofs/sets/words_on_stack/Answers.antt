@@ -1,4 +1,4 @@
-use Rattle.std.proofs.Common.{◌≡◌, ◌+◌, ◌*◌, ◌/◌, ◌<◌, ◌∙◌, length, sym, arith, refl, rules}
+use Rattle.std.proofs.Common.{◌+◌, ◌/◌, ◌<◌, length, arith, rules}
 use Rattle.std.proofs.lemmas.Grind.{common_steps}
 use Rattle.pm_words.proofs.Laws.{words_at-more, words_at-none}
 use Rattle.pm_values.proofs.sets.words_on_stack.Goals as goal

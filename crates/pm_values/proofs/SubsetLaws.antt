@@ -1,0 +1,69 @@
+-- Subsets, word by word.
+use Rattle.std.proofs.Common.{◌≡◌, ◌≢◌, ℕ, zero, suc, ◌+◌, ◌-◌, ◌*◌, ◌^◌, ◌<◌, Bool, true, false, cond, eqb, List, length, get_or, ap, ◌∙◌, refl, arith}
+use Rattle.std.specs.Prelude.{◌&&◌, not, bit_and}
+use Rattle.std.specs.Int.{bit_not, w16}
+use Rattle.std.proofs.lemmas.Bool.Decides.{nat_tests}
+use Rattle.pm_values.specs.declared.sets.Combination.TheVariants.{Difference}
+use Rattle.pm_values.specs.Comparisons.{is_subset, none_from}
+use Rattle.pm_values.specs.Sets.{bits_from, is_member}
+use Rattle.pm_values.proofs.SetLaws.{combined-word}
+
+-- no number of a run passes, if the number that their bits make is zero
+none_from-bits : (p : ℕ → Bool) (e n : ℕ) → none_from p e n ≡ eqb (bits_from p e n) 0
+unfolding none_from bits_from
+none_from-bits p e zero = refl
+none_from-bits p e (suc n) = first (p e) (bits_from p (suc e) n) (none_from p (suc e) n) (none_from-bits p (suc e) n)
+  where
+    first : (b : Bool) (x : ℕ) (t : Bool) → t ≡ eqb x 0 → not b && t ≡ eqb (cond b 1 0 + 2 * x) 0
+    first true x t h = grind (arith, nat_tests)
+    first false x t h = grind (arith, nat_tests)
+
+-- two runs, one after the other
+none_from-append : (p : ℕ → Bool) (e a b : ℕ) → none_from p e (a + b) ≡ none_from p e a && none_from p (e + a) b
+unfolding none_from
+none_from-append p e zero b =
+    let n : 0 + b ≡ b = omega arith in
+    let f : e + 0 ≡ e = omega arith in
+    rw (n, f) refl
+none_from-append p e (suc a) b =
+    let n : suc a + b ≡ suc (a + b) = omega arith in
+    let f : e + suc a ≡ suc e + a = omega arith in
+    rw (n, f) (both (not (p e)) _ _ _ (none_from-append p (suc e) a b))
+  where
+    both : (x t u v : Bool) → t ≡ u && v → x && t ≡ (x && u) && v
+    both true t u v h = h
+    both false t u v h = refl
+
+-- a word of the one set without the members of the other is zero, if all its numbers are in the other
+none_from-word : (xs ys : List ℕ) (i : ℕ) → get_or xs i 0 < 2 ^ 16 → get_or ys i 0 < 2 ^ 16 → none_from (λ e. is_member xs e && not (is_member ys e)) (16 * i) 16 ≡ eqb (bit_and (get_or xs i 0) (bit_not w16 (get_or ys i 0))) 0
+none_from-word xs ys i p q =
+    none_from-bits (λ e. is_member xs e && not (is_member ys e)) (16 * i) 16 ∙ ap (λ w. eqb w 0) (combined-word Difference xs ys i p q)
+
+pub subset-none : (p : ℕ → Bool) → none_from p 0 0 ≡ true
+unfolding none_from
+subset-none p = refl
+
+-- one word more of a subset
+pub subset-more : (xs ys : List ℕ) (i : ℕ) → get_or xs i 0 < 2 ^ 16 → get_or ys i 0 < 2 ^ 16 → bit_and (get_or xs i 0) (bit_not w16 (get_or ys i 0)) ≡ 0 → none_from (λ e. is_member xs e && not (is_member ys e)) 0 (16 * i) ≡ true → none_from (λ e. is_member xs e && not (is_member ys e)) 0 (16 * (i + 1)) ≡ true
+subset-more xs ys i p q zero_word h =
+    let more : 16 * (i + 1) ≡ 16 * i + 16 = omega arith in
+    let place : 0 + 16 * i ≡ 16 * i = omega arith in
+    rw (more, none_from-append _ 0 (16 * i) 16, h, place, none_from-word xs ys i p q, zero_word) refl
+
+-- one word that is not zero
+pub subset-not : (xs ys : List ℕ) (i : ℕ) → get_or xs i 0 < 2 ^ 16 → get_or ys i 0 < 2 ^ 16 → i < length xs → bit_and (get_or xs i 0) (bit_not w16 (get_or ys i 0)) ≢ 0 → is_subset xs ys ≡ false
+unfolding is_subset
+subset-not xs ys i p q inside ne =
+    let parts : 16 * length xs ≡ 16 * i + (16 + 16 * (length xs - (i + 1))) = omega arith in
+    let place : 0 + 16 * i ≡ 16 * i = omega arith in
+    let other : eqb (bit_and (get_or xs i 0) (bit_not w16 (get_or ys i 0))) 0 ≡ false = grind (arith, nat_tests) in
+    rw (parts, none_from-append _ 0 (16 * i) (16 + 16 * (length xs - (i + 1))), place, none_from-append _ (16 * i) 16 (16 * (length xs - (i + 1))), none_from-word xs ys i p q, other) (never _)
+  where
+    never : (b : Bool) → b && false ≡ false
+    never true = refl
+    never false = refl
+
+-- all words are looked at
+pub subset-whole : (xs ys : List ℕ) (n : ℕ) → n ≡ length xs → none_from (λ e. is_member xs e && not (is_member ys e)) 0 (16 * n) ≡ true → is_subset xs ys ≡ true
+unfolding is_subset
+subset-whole xs ys n e h = rw (← e) h

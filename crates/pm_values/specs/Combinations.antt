@@ -1,0 +1,23 @@
+-- The three ways in which two sets make a third.
+use Rattle.std.specs.Prelude.{ℕ, ◌&&◌, ◌||◌, Bool, not, max, min, bit_and, bit_or}
+use Rattle.std.specs.Int.{bit_not, w16}
+use Rattle.pm_values.specs.declared.sets.Combination.{Combination}
+use Rattle.pm_values.specs.declared.sets.Combination.TheVariants.{Intersection, Union, Difference}
+
+-- of how many words the third set is
+abbrev pub count_of : Combination → ℕ → ℕ → ℕ
+count_of Intersection s t = min s t
+count_of Union s t = max s t
+count_of Difference s t = s
+
+-- which numbers are in it
+abbrev pub test_of : Combination → Bool → Bool → Bool
+test_of Intersection s t = s && t
+test_of Union s t = s || t
+test_of Difference s t = s && not t
+
+-- a word of it
+abbrev pub word_of : Combination → ℕ → ℕ → ℕ
+word_of Intersection a b = bit_and a b
+word_of Union a b = bit_or a b
+word_of Difference a b = bit_and a (bit_not w16 b)

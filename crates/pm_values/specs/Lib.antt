@@ -1,0 +1,6 @@
+pub mod Several
+pub mod Fields
+pub mod Sets
+pub mod Combinations
+pub mod Strings
+pub mod Comparisons

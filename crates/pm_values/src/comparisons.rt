@@ -1,0 +1,232 @@
+//! The typed comparisons.
+
+ghost use Rattle.std.specs.Prelude.{◌≡◌, IfOk};
+ghost use Rattle.pm_words.specs.Stack.{IsStack, Stacks};
+ghost use Rattle.pm_values.specs.Comparisons.{
+  compare_booleans_row,
+  compare_bytes_row,
+  compare_row,
+  compare_sets_row,
+  compare_strings_row,
+  compare_words_row,
+  holds,
+  holds_of_sets,
+  is_equality,
+  is_of_sets,
+  is_subset,
+};
+
+use crate::sets::{take_set, word_or_zero};
+use crate::strings::characters;
+use pm_words::stack::{pop, push};
+use pm_words::{ExecError, Memory};
+use std::cmp::Ordering;
+
+/// What a comparison asks of its left operand beside its right one.
+#[derive(Clone, Copy, Debug, PartialEq, Eq)]
+pub enum Relation {
+    Equal,
+    NotEqual,
+    Less,
+    LessOrEqual,
+    Greater,
+    GreaterOrEqual,
+}
+
+/// What a comparison takes its operands for. Strings, bytes and words stand in memory, and their
+/// addresses on the stack; truth values and sets stand on the stack.
+#[derive(Clone, Copy, Debug, PartialEq, Eq)]
+pub enum Kind {
+    Real,
+    String,
+    Boolean,
+    Set,
+    /// So many bytes.
+    Bytes(u16),
+    /// So many words, at most 32,767.
+    Words(u16),
+}
+
+/// Replaces two operands of a kind, the left one below the right one, by 1 or 0, whether the
+/// relation holds, and gives the new SP. `Unimplemented` straight away for reals, for sets that are
+/// to be less or greater, and for words that are to be anything but equal or not. Then
+/// `InvalidMemory` where there are too few words, or an operand passes the end of memory, or words
+/// begin at an odd address; `InvalidIndex` for a set of more than 255 words. An error changes
+/// nothing.
+#[tactic(auto, unfolding(crate::specs::Comparisons::compare_row))]
+pub fn compare(
+    memory: &mut Memory,
+    sp: u16,
+    np: u16,
+    relation: Relation,
+    kind: Kind,
+) -> Result<u16, ExecError>
+    ensures row { Stacks result memory.old.words memory.new.words (compare_row relation kind memory.old.words sp np) }
+    ensures stack { IsStack sp np → IfOk result (λ sp. IsStack sp np) }
+{
+    match kind {
+        Kind::Real => Err(ExecError::Unimplemented),
+        Kind::String => compare_strings(memory, sp, np, relation),
+        Kind::Boolean => compare_booleans(memory, sp, np, relation),
+        Kind::Set => compare_sets(memory, sp, np, relation),
+        Kind::Bytes(count) => compare_bytes(memory, sp, np, relation, count),
+        Kind::Words(count) => compare_words(memory, sp, np, relation, count),
+    }
+}
+
+// Two strings, by their characters.
+#[tactic(auto, unfolding(crate::specs::Comparisons::compare_strings_row))]
+fn compare_strings(
+    memory: &mut Memory,
+    sp: u16,
+    np: u16,
+    relation: Relation,
+) -> Result<u16, ExecError>
+    ensures row { Stacks result memory.old.words memory.new.words (compare_strings_row relation memory.old.words sp np) }
+    ensures stack { IsStack sp np → IfOk result (λ sp. IsStack sp np) }
+{
+    let (right, sp) = pop(memory, sp)?;
+    let (left, sp) = pop(memory, sp)?;
+    let left = characters(memory, left)?;
+    let right = characters(memory, right)?;
+    let found = holds(relation, left.cmp(right));
+    push(memory, sp, np, u16::from(found))
+}
+
+// Two truth values, by bit 0 alone.
+#[tactic(auto, unfolding(crate::specs::Comparisons::compare_booleans_row))]
+fn compare_booleans(
+    memory: &mut Memory,
+    sp: u16,
+    np: u16,
+    relation: Relation,
+) -> Result<u16, ExecError>
+    ensures row { Stacks result memory.old.words memory.new.words (compare_booleans_row relation memory.old.words sp np) }
+    ensures stack { IsStack sp np → IfOk result (λ sp. IsStack sp np) }
+{
+    let (right, sp) = pop(memory, sp)?;
+    let (left, sp) = pop(memory, sp)?;
+    let (left, right) = (left % 2, right % 2);
+    let found = holds(relation, left.cmp(&right));
+    push(memory, sp, np, u16::from(found))
+}
+
+// Two ranges of bytes.
+#[tactic(auto, unfolding(crate::specs::Comparisons::compare_bytes_row))]
+fn compare_bytes(
+    memory: &mut Memory,
+    sp: u16,
+    np: u16,
+    relation: Relation,
+    count: u16,
+) -> Result<u16, ExecError>
+    ensures row { Stacks result memory.old.words memory.new.words (compare_bytes_row count relation memory.old.words sp np) }
+    ensures stack { IsStack sp np → IfOk result (λ sp. IsStack sp np) }
+{
+    let (right, sp) = pop(memory, sp)?;
+    let (left, sp) = pop(memory, sp)?;
+    let Some(order) = memory.compare(left, right, count) else {
+        return Err(ExecError::InvalidMemory);
+    };
+    push(memory, sp, np, u16::from(holds(relation, order)))
+}
+
+// Two ranges of words.
+#[tactic(auto, unfolding(crate::specs::Comparisons::compare_words_row))]
+fn compare_words(
+    memory: &mut Memory,
+    sp: u16,
+    np: u16,
+    relation: Relation,
+    count: u16,
+) -> Result<u16, ExecError>
+    ensures row { Stacks result memory.old.words memory.new.words (compare_words_row count relation memory.old.words sp np) }
+    ensures stack { IsStack sp np → IfOk result (λ sp. IsStack sp np) }
+{
+    if !is_equality(relation) {
+        return Err(ExecError::Unimplemented);
+    }
+    let (right, sp) = pop(memory, sp)?;
+    let (left, sp) = pop(memory, sp)?;
+    if count > 32767 || left % 2 != 0 || right % 2 != 0 {
+        return Err(ExecError::InvalidMemory);
+    }
+    let Some(order) = memory.compare(left, right, 2 * count) else {
+        return Err(ExecError::InvalidMemory);
+    };
+    push(memory, sp, np, u16::from(holds(relation, order)))
+}
+
+// Two sets, as sets of numbers.
+#[tactic(auto, unfolding(crate::specs::Comparisons::compare_sets_row))]
+fn compare_sets(memory: &mut Memory, sp: u16, np: u16, relation: Relation) -> Result<u16, ExecError>
+    ensures row { Stacks result memory.old.words memory.new.words (compare_sets_row relation memory.old.words sp np) }
+    ensures stack { IsStack sp np → IfOk result (λ sp. IsStack sp np) }
+{
+    if !is_of_sets(relation) {
+        return Err(ExecError::Unimplemented);
+    }
+    let right = take_set(memory, sp)?;
+    let left = take_set(memory, right.above)?;
+    let found = holds_of_sets(relation, &left.words, &right.words);
+    push(memory, left.above, np, u16::from(found))
+}
+
+// Whether a relation asks for equality alone.
+fn is_equality(relation: Relation) -> bool
+    ensures equality { result ≡ is_equality relation }
+{
+    match relation {
+        Relation::Equal | Relation::NotEqual => true,
+        _ => false,
+    }
+}
+
+// Whether sets have the relation.
+fn is_of_sets(relation: Relation) -> bool
+    ensures sets { result ≡ is_of_sets relation }
+{
+    match relation {
+        Relation::Less | Relation::Greater => false,
+        _ => true,
+    }
+}
+
+// Whether a relation holds of two values in an order.
+fn holds(relation: Relation, order: Ordering) -> bool
+    ensures holds { result ≡ holds relation order }
+{
+    match relation {
+        Relation::Equal => order.is_eq(),
+        Relation::NotEqual => order.is_ne(),
+        Relation::Less => order.is_lt(),
+        Relation::LessOrEqual => order.is_le(),
+        Relation::Greater => order.is_gt(),
+        Relation::GreaterOrEqual => order.is_ge(),
+    }
+}
+
+// Whether a relation holds of two sets.
+fn holds_of_sets(relation: Relation, left: &[u16], right: &[u16]) -> bool
+    ensures holds { result ≡ holds_of_sets relation left.now right.now }
+{
+    match relation {
+        Relation::Equal => is_subset(left, right) && is_subset(right, left),
+        Relation::NotEqual => !(is_subset(left, right) && is_subset(right, left)),
+        Relation::LessOrEqual => is_subset(left, right),
+        Relation::GreaterOrEqual => is_subset(right, left),
+        Relation::Less | Relation::Greater => false,
+    }
+}
+
+// Whether every number of the one set is in the other.
+fn is_subset(left: &[u16], right: &[u16]) -> bool
+    ensures subset { result ≡ is_subset left.now right.now }
+{
+    for i in 0..left.len() {
+        if left[i] & !word_or_zero(right, i) != 0 {
+            return false;
+        }
+    }
+    true
+}

@@ -1,0 +1,141 @@
+//! Bytes, and fields of words.
+
+ghost use Rattle.std.specs.Prelude.{◌≡◌, ◌+◌, ◌≤◌, IfOk, Err};
+ghost use Rattle.pm_words.specs.Stack.{IsStack, Stacks, demand};
+ghost use Rattle.pm_words.specs.declared.error.ExecError.TheVariants.{InvalidIndex};
+ghost use Rattle.pm_values.specs.Fields.{
+  field_of,
+  index_field_row,
+  is_field,
+  load_byte_row,
+  load_field_row,
+  store_byte_row,
+  store_field_row,
+  with_field,
+};
+
+use crate::stack::push_words;
+use pm_words::stack::{load, pop, push, store};
+use pm_words::{ExecError, Memory};
+
+/// Replaces a base and an index in bytes by the byte at their sum, and gives the new SP;
+/// `InvalidMemory` where there are too few words. An error changes nothing.
+#[tactic(auto, unfolding(crate::specs::Fields::load_byte_row))]
+pub fn load_byte(memory: &mut Memory, sp: u16, np: u16) -> Result<u16, ExecError>
+    ensures row { Stacks result memory.old.words memory.new.words (load_byte_row memory.old.words sp np) }
+    ensures stack { IsStack sp np → IfOk result (λ sp. IsStack sp np) }
+{
+    let (index, sp) = pop(memory, sp)?;
+    let (base, sp) = pop(memory, sp)?;
+    let byte = memory.byte(base.wrapping_add(index));
+    push(memory, sp, np, u16::from(byte))
+}
+
+/// Takes a base, an index in bytes and a value from the stack, writes the value's low byte at their
+/// sum, and gives the new SP; `InvalidMemory` where there are too few words. An error changes
+/// nothing.
+#[tactic(auto, unfolding(crate::specs::Fields::store_byte_row))]
+pub fn store_byte(memory: &mut Memory, sp: u16, np: u16) -> Result<u16, ExecError>
+    ensures row { Stacks result memory.old.words memory.new.words (store_byte_row memory.old.words sp np) }
+    ensures stack { IsStack sp np → IfOk result (λ sp. IsStack sp np) }
+{
+    let (value, sp) = pop(memory, sp)?;
+    let (index, sp) = pop(memory, sp)?;
+    let (base, sp) = pop(memory, sp)?;
+    memory.set_byte(base.wrapping_add(index), (value % 256) as u8);
+    Ok(sp)
+}
+
+/// Replaces a base and an index in fields by the place of that field, which is the address of its
+/// word, its width and its lowest bit, the last on the top, and gives the new SP. The array packs
+/// `per_word` fields of `width` bits in each word, the first in the lowest bits. `InvalidMemory`
+/// where there are too few words; `InvalidIndex` for a negative index, for no fields a word, and
+/// for bits that are no field of a word; `StackOverflow`. An error changes nothing.
+#[tactic(auto, unfolding(crate::specs::Fields::index_field_row))]
+pub fn index_field(
+    memory: &mut Memory,
+    sp: u16,
+    np: u16,
+    per_word: u8,
+    width: u8,
+) -> Result<u16, ExecError>
+    ensures row { Stacks result memory.old.words memory.new.words (index_field_row per_word width memory.old.words sp np) }
+    ensures stack { IsStack sp np → IfOk result (λ sp. IsStack sp np) }
+{
+    let (index, sp) = pop(memory, sp)?;
+    let (base, sp) = pop(memory, sp)?;
+    let (per_word, width) = (u16::from(per_word), u16::from(width));
+    if per_word == 0 || index > 32767 {
+        return Err(ExecError::InvalidIndex);
+    }
+    let lowest = (index % per_word) * width;
+    check_field(lowest, width)?;
+    let address = base.wrapping_add(2 * (index / per_word));
+    push_words(memory, sp, np, &[lowest, width, address])
+}
+
+/// Replaces the place of a field by the field, and gives the new SP. `InvalidMemory` where there are
+/// too few words; `InvalidIndex` for bits that are no field of a word; `InvalidMemory` for an odd
+/// address. An error changes nothing.
+#[tactic(auto, unfolding(crate::specs::Fields::load_field_row))]
+pub fn load_field(memory: &mut Memory, sp: u16, np: u16) -> Result<u16, ExecError>
+    ensures row { Stacks result memory.old.words memory.new.words (load_field_row memory.old.words sp np) }
+    ensures stack { IsStack sp np → IfOk result (λ sp. IsStack sp np) }
+{
+    let (lowest, sp) = pop(memory, sp)?;
+    let (width, sp) = pop(memory, sp)?;
+    let (address, sp) = pop(memory, sp)?;
+    check_field(lowest, width)?;
+    let word = load(memory, address)?;
+    push(memory, sp, np, extracted(word, lowest, width))
+}
+
+/// Takes the place of a field and a value from the stack, writes the value's low bits into the
+/// field, and gives the new SP. `InvalidMemory` where there are too few words; `InvalidIndex` for
+/// bits that are no field of a word; `InvalidMemory` for an odd address. An error changes nothing.
+#[tactic(auto, unfolding(crate::specs::Fields::store_field_row))]
+pub fn store_field(memory: &mut Memory, sp: u16, np: u16) -> Result<u16, ExecError>
+    ensures row { Stacks result memory.old.words memory.new.words (store_field_row memory.old.words sp np) }
+    ensures stack { IsStack sp np → IfOk result (λ sp. IsStack sp np) }
+{
+    let (value, sp) = pop(memory, sp)?;
+    let (lowest, sp) = pop(memory, sp)?;
+    let (width, sp) = pop(memory, sp)?;
+    let (address, sp) = pop(memory, sp)?;
+    check_field(lowest, width)?;
+    let word = load(memory, address)?;
+    store(memory, address, replaced(word, lowest, width, value))?;
+    Ok(sp)
+}
+
+// `InvalidIndex` where `width` bits from bit `lowest` on are no field of a word.
+fn check_field(lowest: u16, width: u16) -> Result<(), ExecError>
+    ensures field { result ≡ demand (is_field lowest width) InvalidIndex }
+{
+    if width == 0 || width > 16 || lowest > 16 - width {
+        return Err(ExecError::InvalidIndex);
+    }
+    Ok(())
+}
+
+// The field of `width` bits from bit `lowest` on.
+fn extracted(word: u16, lowest: u16, width: u16) -> u16
+    requires field { lowest + width ≤ 16 }
+    ensures field { result ≡ field_of word lowest width }
+{
+    let place = 1u32 << lowest;
+    let size = 1u32 << width;
+    ((u32::from(word) / place) % size) as u16
+}
+
+// The word with the field of `width` bits from bit `lowest` on replaced.
+fn replaced(word: u16, lowest: u16, width: u16, value: u16) -> u16
+    requires field { lowest + width ≤ 16 }
+    ensures word { result ≡ with_field word lowest width value }
+{
+    let place = 1u32 << lowest;
+    let size = 1u32 << width;
+    let (word, value) = (u32::from(word), u32::from(value));
+    let field = (word / place) % size;
+    (word - field * place + (value % size) * place) as u16
+}

@@ -1,0 +1,13 @@
+//! The rows on bytes, fields, strings and sets in memory, and the typed comparisons.
+#![tactic(auto)]
+
+mod comparisons;
+mod fields;
+mod sets;
+mod stack;
+mod strings;
+
+pub use comparisons::{Kind, Relation, compare};
+pub use fields::{index_field, load_byte, load_field, store_byte, store_field};
+pub use sets::{adjust, difference, in_set, intersect, singleton, subrange, union};
+pub use strings::{assign, index_string};

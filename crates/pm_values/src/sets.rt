@@ -1,0 +1,296 @@
+//! Sets on the stack.
+
+ghost use Rattle.std.specs.Prelude.{◌≡◌, ◌%◌, ◌≤◌, ◌+◌, ◌*◌, ◌&&◌, ℕ, IfOk, IsOk, MatchResult, Ok, Err, length, nat_le, slice_index};
+ghost use Rattle.pm_words.specs.Stack.{IsStack, Stacks};
+ghost use Rattle.pm_words.specs.Words.{words_at};
+ghost use Rattle.pm_values.specs.Combinations.{count_of, test_of, word_of};
+ghost use Rattle.pm_values.specs.Sets.{
+  adjust_row,
+  bits_from,
+  counted,
+  difference_row,
+  in_set_row,
+  intersect_row,
+  interval,
+  is_member,
+  pop_set,
+  set_of,
+  singleton_row,
+  subrange_row,
+  two_sets_row,
+  union_row,
+};
+
+use crate::stack::push_words;
+use arrayvec::ArrayVec;
+use pm_words::stack::{pop, push};
+use pm_words::{ExecError, Memory};
+
+const SET_WORDS: usize = 255;
+
+const COUNTED_WORDS: usize = 256; // a set's words and their count
+
+const LAST_MEMBER: u16 = 4079;
+
+// How two sets make a third.
+#[derive(Clone, Copy)]
+enum Combination {
+    Intersection,
+    Union,
+    Difference,
+}
+
+/// A set taken from the stack, and the SP above it.
+#[derive(Drop)]
+pub struct StackSet {
+    pub words: ArrayVec<u16, SET_WORDS>,
+    pub above: u16,
+}
+
+/// Replaces a value and a set by 1 or 0, whether the signed value is an element, and gives the new
+/// SP. `InvalidMemory` where there are too few words; `InvalidIndex` for a set of more than 255
+/// words. An error changes nothing.
+#[tactic(auto, unfolding(crate::specs::Sets::in_set_row))]
+pub fn in_set(memory: &mut Memory, sp: u16, np: u16) -> Result<u16, ExecError>
+    ensures row { Stacks result memory.old.words memory.new.words (in_set_row memory.old.words sp np) }
+    ensures stack { IsStack sp np → IfOk result (λ sp. IsStack sp np) }
+{
+    let set = take_set(memory, sp)?;
+    let (value, sp) = pop(memory, set.above)?;
+    let found = value < 32768 && contains(&set.words, value);
+    push(memory, sp, np, u16::from(found))
+}
+
+/// Replaces two sets by the set of the numbers in both, in as many words as the smaller has, and
+/// gives the new SP. For each operand, the top one first: `InvalidMemory` where there are too few
+/// words, `InvalidIndex` for a set of more than 255 words; then `StackOverflow`. An error changes
+/// nothing.
+#[tactic(auto, unfolding(crate::specs::Sets::intersect_row))]
+pub fn intersect(memory: &mut Memory, sp: u16, np: u16) -> Result<u16, ExecError>
+    ensures row { Stacks result memory.old.words memory.new.words (intersect_row memory.old.words sp np) }
+    ensures stack { IsStack sp np → IfOk result (λ sp. IsStack sp np) }
+{
+    combine(memory, sp, np, Combination::Intersection)
+}
+
+/// Replaces two sets by the set of the numbers in either, in as many words as the larger has, and
+/// gives the new SP. Errors as in `intersect`; an error changes nothing.
+#[tactic(auto, unfolding(crate::specs::Sets::union_row))]
+pub fn union(memory: &mut Memory, sp: u16, np: u16) -> Result<u16, ExecError>
+    ensures row { Stacks result memory.old.words memory.new.words (union_row memory.old.words sp np) }
+    ensures stack { IsStack sp np → IfOk result (λ sp. IsStack sp np) }
+{
+    combine(memory, sp, np, Combination::Union)
+}
+
+/// Replaces two sets by the set of the numbers in the lower and not in the upper one, in as many
+/// words as the lower set has, and gives the new SP. Errors as in `intersect`; an error changes
+/// nothing.
+#[tactic(auto, unfolding(crate::specs::Sets::difference_row))]
+pub fn difference(memory: &mut Memory, sp: u16, np: u16) -> Result<u16, ExecError>
+    ensures row { Stacks result memory.old.words memory.new.words (difference_row memory.old.words sp np) }
+    ensures stack { IsStack sp np → IfOk result (λ sp. IsStack sp np) }
+{
+    combine(memory, sp, np, Combination::Difference)
+}
+
+/// Replaces a value by the set of that number alone, and gives the new SP. `InvalidMemory` where
+/// there are too few words; `InvalidIndex` for a value that is not 0 to 4,079; `StackOverflow`. An
+/// error changes nothing.
+#[tactic(auto, unfolding(crate::specs::Sets::singleton_row))]
+pub fn singleton(memory: &mut Memory, sp: u16, np: u16) -> Result<u16, ExecError>
+    ensures row { Stacks result memory.old.words memory.new.words (singleton_row memory.old.words sp np) }
+    ensures stack { IsStack sp np → IfOk result (λ sp. IsStack sp np) }
+{
+    let (value, sp) = pop(memory, sp)?;
+    if value > LAST_MEMBER {
+        return Err(ExecError::InvalidIndex);
+    }
+    push_words(memory, sp, np, &interval(value, value))
+}
+
+/// Replaces two signed values by the set of the numbers from the lower word to the upper one, or by
+/// the set of no words if the first is the greater, and gives the new SP. `InvalidMemory` where
+/// there are too few words; `InvalidIndex` for a bound that is not 0 to 4,079; `StackOverflow`. An
+/// error changes nothing.
+#[tactic(auto, unfolding(crate::specs::Sets::subrange_row))]
+pub fn subrange(memory: &mut Memory, sp: u16, np: u16) -> Result<u16, ExecError>
+    ensures row { Stacks result memory.old.words memory.new.words (subrange_row memory.old.words sp np) }
+    ensures stack { IsStack sp np → IfOk result (λ sp. IsStack sp np) }
+{
+    let (high, sp) = pop(memory, sp)?;
+    let (low, sp) = pop(memory, sp)?;
+    if high.cast_signed() < low.cast_signed() {
+        return push_words(memory, sp, np, &[0]);
+    }
+    if low > LAST_MEMBER || high > LAST_MEMBER {
+        return Err(ExecError::InvalidIndex);
+    }
+    push_words(memory, sp, np, &interval(low, high))
+}
+
+/// Replaces a set by `words` words without a count, cut or filled up by zeros at the end of the
+/// greatest elements, and gives the new SP. `InvalidMemory` where there are too few words;
+/// `InvalidIndex` for a set of more than 255 words; `StackOverflow`. An error changes nothing.
+#[tactic(auto, unfolding(crate::specs::Sets::adjust_row))]
+pub fn adjust(memory: &mut Memory, sp: u16, np: u16, words: u8) -> Result<u16, ExecError>
+    ensures row { Stacks result memory.old.words memory.new.words (adjust_row words memory.old.words sp np) }
+    ensures stack { IsStack sp np → IfOk result (λ sp. IsStack sp np) }
+{
+    let set = take_set(memory, sp)?;
+    let members = resized(&set.words, usize::from(words));
+    push_words(memory, set.above, np, &members)
+}
+
+// Replaces two sets by the one that they make.
+fn combine(
+    memory: &mut Memory,
+    sp: u16,
+    np: u16,
+    combination: Combination,
+) -> Result<u16, ExecError>
+    ensures row { Stacks result memory.old.words memory.new.words (two_sets_row (count_of combination) (test_of combination) memory.old.words sp np) }
+    ensures stack { IsStack sp np → IfOk result (λ sp. IsStack sp np) }
+{
+    let upper = take_set(memory, sp)?;
+    let lower = take_set(memory, upper.above)?;
+    let set = combined(combination, &lower.words, &upper.words);
+    push_words(memory, lower.above, np, &set)
+}
+
+/// Takes a set from the stack.
+#[tactic(auto, unfolding(crate::specs::Sets::pop_set))]
+pub fn take_set(memory: &Memory, sp: u16) -> Result<StackSet, ExecError>
+    ensures set { MatchResult result
+        (λ s. pop_set memory.now.words sp ≡ Ok (record { members = s.words.items; above = s.above }))
+        (λ e. pop_set memory.now.words sp ≡ Err e) }
+    ensures even { IfOk result (λ s. s.above % 2 ≡ 0) }
+    ensures stack { (np : ℕ) → IsStack sp np → IfOk result (λ s. IsStack s.above np) }
+{
+    let (count, sp) = pop(memory, sp)?;
+    if count > 255 {
+        return Err(ExecError::InvalidIndex);
+    }
+    if 2 * count > 65504 - sp {
+        return Err(ExecError::InvalidMemory);
+    }
+    let words = words_on_stack(memory, sp, count)?;
+    Ok(StackSet {
+        words,
+        above: sp + 2 * count,
+    })
+}
+
+// The words from an even address on.
+fn words_on_stack(
+    memory: &Memory,
+    address: u16,
+    count: u16,
+) -> Result<ArrayVec<u16, SET_WORDS>, ExecError>
+    requires even { address % 2 ≡ 0 }
+    requires few { count ≤ 255 }
+    requires inside { address + 2 * count ≤ 65504 }
+    ensures words { IfOk result (λ v. v.items ≡ words_at memory.now.words address count) }
+    ensures always { IsOk result }
+{
+    let mut words = ArrayVec::new();
+    for i in 0..count {
+        let word = memory.word(address + 2 * i);
+        words.push(word.ok_or(ExecError::InvalidMemory)?);
+    }
+    Ok(words)
+}
+
+// Whether a number is in a set.
+#[tactic(auto, unfolding(crate::specs::Sets::is_member))]
+fn contains(words: &[u16], value: u16) -> bool
+    ensures member { result ≡ is_member words.now value }
+{
+    (word_or_zero(words, usize::from(value / 16)) >> (value % 16)) % 2 == 1
+}
+
+/// The word at a place, 0 past the end.
+pub fn word_or_zero(words: &[u16], index: usize) -> u16
+    ensures word { result ≡ slice_index words.now index }
+{
+    words.get(index).copied().unwrap_or(0)
+}
+
+// The set that two sets make, its count first.
+fn combined(combination: Combination, lower: &[u16], upper: &[u16]) -> ArrayVec<u16, COUNTED_WORDS>
+    requires lower { length lower.now ≤ 255 }
+    requires upper { length upper.now ≤ 255 }
+    ensures few { length result.items ≤ 256 }
+    ensures words { result.items ≡ counted (set_of (count_of combination (length lower.now) (length upper.now)) (λ e. test_of combination (is_member lower.now e) (is_member upper.now e))) }
+{
+    let count = combined_count(combination, lower.len(), upper.len());
+    let mut words = ArrayVec::new();
+    words.push(count as u16);
+    for i in 0..count {
+        let (lower, upper) = (word_or_zero(lower, i), word_or_zero(upper, i));
+        words.push(combined_word(combination, lower, upper));
+    }
+    words
+}
+
+// Of how many words the set is that two sets make.
+fn combined_count(combination: Combination, lower: usize, upper: usize) -> usize
+    ensures count { result ≡ count_of combination lower upper }
+{
+    match combination {
+        Combination::Intersection => lower.min(upper),
+        Combination::Union => lower.max(upper),
+        Combination::Difference => lower,
+    }
+}
+
+// The word that two words of sets make.
+fn combined_word(combination: Combination, lower: u16, upper: u16) -> u16
+    ensures word { result ≡ word_of combination lower upper }
+{
+    match combination {
+        Combination::Intersection => lower & upper,
+        Combination::Union => lower | upper,
+        Combination::Difference => lower & !upper,
+    }
+}
+
+// The set of the numbers from `low` to `high`, its count first.
+fn interval(low: u16, high: u16) -> ArrayVec<u16, COUNTED_WORDS>
+    requires order { low ≤ high }
+    requires bound { high ≤ 4079 }
+    ensures few { length result.items ≤ 256 }
+    ensures words { result.items ≡ counted (interval low high) }
+{
+    let count = high / 16 + 1;
+    let mut words = ArrayVec::new();
+    words.push(count);
+    for i in 0..count {
+        words.push(interval_word(low, high, 16 * i));
+    }
+    words
+}
+
+// The word of an interval of numbers that begins with the number `first`.
+fn interval_word(low: u16, high: u16, first: u16) -> u16
+    requires order { low ≤ high }
+    requires bound { high ≤ 4079 }
+    ensures word { result ≡ bits_from (λ e. nat_le low e && nat_le e high) first 16 }
+{
+    let from = low.saturating_sub(first).min(16);
+    let to = (high + 1).saturating_sub(first).min(16);
+    ((1u32 << to) - (1u32 << from)) as u16
+}
+
+// The members of a set in `count` words.
+fn resized(words: &[u16], count: usize) -> ArrayVec<u16, SET_WORDS>
+    requires few { count ≤ 255 }
+    ensures few { length result.items ≤ 256 }
+    ensures words { result.items ≡ set_of count (λ e. is_member words.now e) }
+{
+    let mut members = ArrayVec::new();
+    for i in 0..count {
+        members.push(word_or_zero(words, i));
+    }
+    members
+}

@@ -1,0 +1,29 @@
+//! Several words put on the stack at once.
+
+ghost use Rattle.std.specs.Prelude.{◌≡◌, ◌%◌, ◌≤◌, IfOk, length};
+ghost use Rattle.pm_words.specs.Stack.{IsStack, Stacks};
+ghost use Rattle.pm_values.specs.Several.{push_words};
+
+use pm_words::{ExecError, Memory};
+
+/// Puts words on the stack, the first of them on its top, and gives the new SP; `StackOverflow`,
+/// and nothing changed, where that would be below NP.
+pub fn push_words(memory: &mut Memory, sp: u16, np: u16, words: &[u16]) -> Result<u16, ExecError>
+    requires even { sp % 2 ≡ 0 }
+    requires few { length words.now ≤ 256 }
+    ensures row { Stacks result memory.old.words memory.new.words (push_words memory.old.words sp np words.now) }
+    ensures stack { IsStack sp np → IfOk result (λ sp. IsStack sp np) }
+{
+    let _ = memory.bytes(); // for its first clause
+    let size = 2 * words.len() as u16;
+    if u32::from(sp) < u32::from(np) + u32::from(size) {
+        return Err(ExecError::StackOverflow);
+    }
+    let top = sp - size;
+    let mut place = top;
+    for word in words {
+        memory.set_word(place, *word);
+        place += 2;
+    }
+    Ok(top)
+}

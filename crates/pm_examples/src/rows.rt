@@ -73,6 +73,58 @@ fn instructions(rt: HostRuntime) {
     }
 }
 
+/// Sets, moves, fields and strings.
+#[test]
+fn values(rt: HostRuntime) {
+    for (text, ending) in [
+        // the set of 4,079 has 255 words, united with the empty one
+        (
+            "C7 EF 0F 97 00 9C D6",
+            "00000004 01030 64980 65492 65492 01032 00255 XIT\nended 5\n",
+        ),
+        // a count of 256 words, and the set of 4,080
+        (
+            "00 C7 00 01 9C D6",
+            "00000002 01028 65488 65492 65492 01030 00256 UNI\nerror 1 2\n",
+        ),
+        (
+            "C7 F0 0F 97 D6",
+            "00000001 01027 65490 65492 65492 01030 04080 SGS\nerror 1 1\n",
+        ),
+        // two words to 65,534: no word is written
+        (
+            "C7 FE FF C7 00 04 A8 02 D6",
+            "00000002 01030 65488 65492 65492 01034 01024 MOV 2\nerror 7 2\n",
+        ),
+        // field 5 of an array at 2,000 with four fields of four bits a word
+        (
+            "C7 D0 07 05 C0 04 04 D6",
+            "00000003 01031 65486 65492 65492 01032 00004 XIT\nended 4\n",
+        ),
+        // that field of 43,981, and 3 stored in its place
+        (
+            "C7 D2 07 C7 CD AB 9A C7 D2 07 04 04 BA D6",
+            "00000007 01037 65490 65492 65492 01038 00012 XIT\nended 8\n",
+        ),
+        (
+            "C7 D2 07 C7 CD AB 9A C7 D2 07 04 04 03 BB C7 D2 07 F8 D6",
+            "00000010 01042 65490 65492 65492 01044 43837 XIT\nended 11\n",
+        ),
+        // one character, and a string of four where three fit
+        (
+            "C7 D0 07 41 AA 03 C7 D0 07 F8 D6",
+            "00000005 01034 65490 65492 65492 01036 16641 XIT\nended 6\n",
+        ),
+        (
+            "C7 D0 07 A6 04 61 62 63 64 AA 03 D6",
+            "00000002 01033 65488 65492 65492 01036 01028 SAS 3\nerror 13 2\n",
+        ),
+    ] {
+        let ran = raw_run(rt.alloc(), text.as_bytes(), 1_000_000);
+        assert!(rt; ran.written.ends_with(ending.as_bytes()), "{text}");
+    }
+}
+
 /// A case jump on -1 and 0, for a value below, at the first, at the last, and above.
 #[test]
 fn case_jumps(rt: HostRuntime) {

@@ -4,6 +4,7 @@ pub mod Arithmetic
 pub mod State
 pub mod Variables
 pub mod Pointers
+pub mod Values
 pub mod Literals
 pub mod Jumps
 pub mod Procedures

@@ -1,6 +1,6 @@
 -- The rows on addresses that are on the stack. Addresses are modulo 65,536.
-use Rattle.std.specs.Prelude.{ℕ, ◌+◌, ◌-◌, ◌*◌, ◌%◌, Bool, ◌&&◌, Ok, Err, nat_le}
-use Rattle.pm_words.specs.declared.error.ExecError.TheVariants.{InvalidMemory, StackOverflow, Unimplemented}
+use Rattle.std.specs.Prelude.{ℕ, ◌+◌, ◌-◌, ◌*◌, ◌%◌, Bool, ◌&&◌, Ok, nat_le, nat_lt}
+use Rattle.pm_words.specs.declared.error.ExecError.TheVariants.{InvalidMemory, StackOverflow}
 use Rattle.pm_words.specs.Words.{copied}
 use Rattle.pm_words.specs.Stack.{◌>>=◌, StackRow, demand, is_even, load, pop, push, store}
 use Rattle.pm_opcode.specs.declared.operation.Pointer.{Pointer}
@@ -50,6 +50,17 @@ store_words_row n m sp np = do
   _ ← demand (is_word_range a.0 n) InvalidMemory
   Ok (copied m sp a.0 (2 * n), a.1)
 
+-- b words from the upper address go to the lower one, all read before any is written; an instruction names at most
+-- 32,767 words
+unfoldable pub move_row : ℕ → StackRow
+move_row b m sp np = do
+  from ← pop m sp
+  to ← pop m from.1
+  _ ← demand (nat_lt b 32768) InvalidMemory
+  _ ← demand (is_word_range from.0 b) InvalidMemory
+  _ ← demand (is_word_range to.0 b) InvalidMemory
+  Ok (copied m from.0 to.0 (2 * b), to.1)
+
 unfoldable pub pointer_row : Pointer → StackRow
 pointer_row (Increment b) m sp np = increment_row b m sp np
 pointer_row (Load b) m sp np = indirect_row b m sp np
@@ -57,4 +68,4 @@ pointer_row (Index b) m sp np = index_row b m sp np
 pointer_row Store m sp np = store_indirect_row m sp np
 pointer_row (LoadWords n) m sp np = load_words_row n m sp np
 pointer_row (StoreWords n) m sp np = store_words_row n m sp np
-pointer_row (Move b) m sp np = Err Unimplemented
+pointer_row (Move b) m sp np = move_row b m sp np

@@ -8,6 +8,7 @@ mod machine;
 mod pointers;
 mod procedures;
 mod state;
+mod values;
 mod variables;
 mod views;
 

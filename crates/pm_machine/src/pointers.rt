@@ -1,12 +1,13 @@
 //! The rows on addresses that are on the stack.
 
-ghost use Rattle.std.specs.Prelude.{◌≡◌, ◌+◌, ◌*◌, ◌%◌, IfOk};
+ghost use Rattle.std.specs.Prelude.{ℕ, ◌≡◌, ◌+◌, ◌*◌, ◌%◌, IfOk};
 ghost use Rattle.pm_words.specs.Stack.{IsStack, Stacks};
 ghost use Rattle.pm_machine.specs.Pointers.{
   increment_row,
   index_row,
   indirect_row,
   load_words_row,
+  move_row,
   pointer_row,
   store_indirect_row,
   store_words_row,
@@ -98,6 +99,27 @@ fn store_words(memory: &mut Memory, sp: u16, np: u16, words: u8) -> Result<u16, 
     Ok(above)
 }
 
+#[tactic(auto, unfolding(crate::specs::Pointers::move_row))]
+fn move_words(memory: &mut Memory, sp: u16, words: u16) -> Result<u16, ExecError>
+    ensures row { (np : ℕ) → Stacks result memory.old.words memory.new.words (move_row words memory.old.words sp np) }
+    ensures stack { (np : ℕ) → IsStack sp np → IfOk result (λ sp. IsStack sp np) }
+{
+    let (from, sp) = pop(memory, sp)?;
+    let (to, sp) = pop(memory, sp)?;
+    if words >= 32768 {
+        return Err(ExecError::InvalidMemory);
+    }
+    let size = 2 * words;
+    if from % 2 != 0 || u32::from(from) + u32::from(size) > 65536 {
+        return Err(ExecError::InvalidMemory);
+    }
+    if to % 2 != 0 || u32::from(to) + u32::from(size) > 65536 {
+        return Err(ExecError::InvalidMemory);
+    }
+    memory.copy(from, to, size);
+    Ok(sp)
+}
+
 /// Does an operation on an address that is on the stack, and gives the new SP. An error changes
 /// nothing.
 #[tactic(auto, unfolding(crate::specs::Pointers::pointer_row))]
@@ -112,6 +134,6 @@ pub fn perform(memory: &mut Memory, sp: u16, np: u16, operation: Pointer) -> Res
         Pointer::Store => store_indirect(memory, sp, np),
         Pointer::LoadWords(words) => load_words(memory, sp, np, words),
         Pointer::StoreWords(words) => store_words(memory, sp, np, words),
-        Pointer::Move(_) => Err(ExecError::Unimplemented),
+        Pointer::Move(words) => move_words(memory, sp, words),
     }
 }

@@ -1,0 +1,61 @@
+-- The rows on bytes, sets, strings and fields, and the typed comparisons: each is a row of pm_values.
+use Rattle.pm_words.specs.Stack.{StackRow}
+use Rattle.pm_opcode.specs.declared.operation.Value.{Value}
+use Rattle.pm_opcode.specs.declared.operation.Value.TheVariants as value
+use Rattle.pm_opcode.specs.declared.operation.Byte.TheVariants as byte
+use Rattle.pm_opcode.specs.declared.operation.Set.{Set}
+use Rattle.pm_opcode.specs.declared.operation.Set.TheVariants as set
+use Rattle.pm_opcode.specs.declared.operation.Text.TheVariants as text
+use Rattle.pm_opcode.specs.declared.operation.Field.{Field}
+use Rattle.pm_opcode.specs.declared.operation.Field.TheVariants as field
+use Rattle.pm_opcode.specs.declared.operation.Relation as relations
+use Rattle.pm_opcode.specs.declared.operation.Relation.TheVariants as from
+use Rattle.pm_opcode.specs.declared.operation.Kind as kinds
+use Rattle.pm_opcode.specs.declared.operation.Kind.TheVariants as kind
+use Rattle.pm_values.specs.declared.comparisons.Relation.{Relation}
+use Rattle.pm_values.specs.declared.comparisons.Relation.TheVariants as to
+use Rattle.pm_values.specs.declared.comparisons.Kind.{Kind}
+use Rattle.pm_values.specs.declared.comparisons.Kind.TheVariants as of
+use Rattle.pm_values.specs.Comparisons.{compare_row}
+use Rattle.pm_values.specs.Fields.{load_byte_row, store_byte_row, index_field_row, load_field_row, store_field_row}
+use Rattle.pm_values.specs.Sets.{in_set_row, intersect_row, union_row, difference_row, singleton_row, subrange_row, adjust_row}
+use Rattle.pm_values.specs.Strings.{index_string_row, assign_row}
+
+abbrev pub relation_of : relations.Relation → Relation
+relation_of from.Equal = to.Equal
+relation_of from.NotEqual = to.NotEqual
+relation_of from.Less = to.Less
+relation_of from.LessOrEqual = to.LessOrEqual
+relation_of from.Greater = to.Greater
+relation_of from.GreaterOrEqual = to.GreaterOrEqual
+
+abbrev pub kind_of : kinds.Kind → Kind
+kind_of kind.Real = of.Real
+kind_of kind.String = of.String
+kind_of kind.Boolean = of.Boolean
+kind_of kind.Set = of.Set
+kind_of (kind.Bytes n) = of.Bytes n
+kind_of (kind.Words n) = of.Words n
+
+unfoldable pub set_row : Set → StackRow
+set_row set.Member m sp np = in_set_row m sp np
+set_row set.Intersection m sp np = intersect_row m sp np
+set_row set.Union m sp np = union_row m sp np
+set_row set.Difference m sp np = difference_row m sp np
+set_row set.Singleton m sp np = singleton_row m sp np
+set_row set.Subrange m sp np = subrange_row m sp np
+set_row (set.Adjust n) m sp np = adjust_row n m sp np
+
+unfoldable pub field_row : Field → StackRow
+field_row (field.Index per_word width) m sp np = index_field_row per_word width m sp np
+field_row field.Load m sp np = load_field_row m sp np
+field_row field.Store m sp np = store_field_row m sp np
+
+unfoldable pub value_row : Value → StackRow
+value_row (value.Byte byte.Load) m sp np = load_byte_row m sp np
+value_row (value.Byte byte.Store) m sp np = store_byte_row m sp np
+value_row (value.Set o) m sp np = set_row o m sp np
+value_row (value.Text text.Index) m sp np = index_string_row m sp np
+value_row (value.Text (text.Assign n)) m sp np = assign_row n m sp np
+value_row (value.Field o) m sp np = field_row o m sp np
+value_row (value.Compare r k) m sp np = compare_row (relation_of r) (kind_of k) m sp np

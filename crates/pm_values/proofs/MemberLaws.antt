@@ -89,7 +89,7 @@ intersection_commutes xs ys =
     rw count (set_from-same _ 0 _ _ (λ e. and_commutes (is_member xs e) (is_member ys e)))
 
 -- a member stands within the words
-member_within : (xs : List ℕ) (e : ℕ) → is_member xs e ≡ true → e < 16 * length xs
+pub member_within : (xs : List ℕ) (e : ℕ) → is_member xs e ≡ true → e < 16 * length xs
 unfolding is_member
 member_within xs e h = elim (cases_lt e (16 * length xs)) [
   | inl inside ↦ inside

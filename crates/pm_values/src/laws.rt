@@ -7,6 +7,7 @@ ghost use Rattle.pm_values.specs.Laws.{
   SetIsItsTest,
   StoredIsLoaded,
   StringsAreOrdered,
+  SubsetIsOfNumbers,
   UnionCommutes,
 };
 
@@ -32,6 +33,12 @@ pub fn intersection_commutes()
 #[tactic(auto, using(crate::proofs::MemberLaws::parts_unite))]
 pub fn parts_unite()
     ensures law { PartsUnite }
+{}
+
+/// A subset is one by its numbers, however many words the two sets have.
+#[tactic(auto, using(crate::proofs::SubsetLaws::subset_is_of_numbers))]
+pub fn subset_is_of_numbers()
+    ensures law { SubsetIsOfNumbers }
 {}
 
 /// The field that is stored is the field that is loaded.

@@ -2,7 +2,10 @@
 use Rattle.std.proofs.Common.{◌≡◌, ℕ, ◌+◌, ◌-◌, ◌*◌, ◌/◌, ◌%◌, ◌^◌, ◌<◌, ◌≤◌, inl, inr, sym, ap, ◌∙◌, arith}
 use Rattle.std.proofs.Math.Nat.{div-le_self, mod-le, div-add-mod', mod-lt, mul-le-mul_right}
 use Rattle.std.proofs.lemmas.Bool.{cases_lt}
-use Rattle.std.proofs.lemmas.Nat.{pow-add, pow_pos}
+use Rattle.std.specs.Int.{bit_at}
+use Rattle.std.proofs.lemmas.Nat.Bits.{bit_at_cat_high, bit_at_cat_low}
+use Rattle.std.proofs.lemmas.Nat.{div-mul-add, mod-mul-add, pow-add, pow_pos}
+use Rattle.pm_values.specs.Laws.{OtherBitsStay, StoredIsLoaded}
 use Rattle.pm_values.specs.Fields.{field_of, with_field}
 
 replaced-below : (place size above w v : ℕ) → 0 < place → 0 < size → above * (size * place) ≡ 65536 → w < 65536 → (w - (w / place) % size * place) + (v % size) * place < 65536
@@ -35,3 +38,37 @@ field_of-below w r k fit =
     let quotient = div-le_self w (2 ^ r) in
     let rest = mod-le (w / 2 ^ r) (2 ^ k) in
     omega arith
+
+-- a word in three parts: what is above the field, the field, what is below it
+word_parts : (w P S u : ℕ) → (w - (w / P) % S * P) + u * P ≡ (w / P / S * S + u) * P + w % P
+word_parts w P S u =
+    let outer = div-add-mod' w P in
+    let inner = div-add-mod' (w / P) S in
+    let split : (w / P / S * S + (w / P) % S) * P ≡ w / P * P = ap (λ x. x * P) inner in
+    omega arith
+
+with_field-parts : (w r k v : ℕ) → with_field w r k v ≡ (w / 2 ^ r / 2 ^ k * 2 ^ k + v % 2 ^ k) * 2 ^ r + w % 2 ^ r
+unfolding with_field field_of
+with_field-parts w r k v = word_parts w (2 ^ r) (2 ^ k) (v % 2 ^ k)
+
+pub stored_is_loaded : StoredIsLoaded
+unfolding field_of
+stored_is_loaded w r k v =
+    let low : w % 2 ^ r < 2 ^ r = mod-lt w (pow_pos r) in
+    let new : v % 2 ^ k < 2 ^ k = mod-lt v (pow_pos k) in
+    rw (with_field-parts w r k v, div-mul-add (w / 2 ^ r / 2 ^ k * 2 ^ k + v % 2 ^ k) (2 ^ r) (w % 2 ^ r) low) (mod-mul-add (w / 2 ^ r / 2 ^ k) (2 ^ k) (v % 2 ^ k) new)
+
+bit_above : (h u l r k i : ℕ) → u < 2 ^ k → l < 2 ^ r → r + k ≤ i → bit_at ((h * 2 ^ k + u) * 2 ^ r + l) i ≡ bit_at h (i - r - k)
+bit_above h u l r k i fit low place =
+    bit_at_cat_high (h * 2 ^ k + u) r l i low (omega arith) ∙ bit_at_cat_high h k u (i - r) fit (omega arith)
+
+pub other_bits_stay : OtherBitsStay
+other_bits_stay w r k v i away =
+    let whole : (w / 2 ^ r / 2 ^ k * 2 ^ k + (w / 2 ^ r) % 2 ^ k) * 2 ^ r + w % 2 ^ r ≡ w = ap (λ x. x * 2 ^ r + w % 2 ^ r) (div-add-mod' (w / 2 ^ r) (2 ^ k)) ∙ div-add-mod' w (2 ^ r) in
+    let low : w % 2 ^ r < 2 ^ r = mod-lt w (pow_pos r) in
+    let new : v % 2 ^ k < 2 ^ k = mod-lt v (pow_pos k) in
+    let old : (w / 2 ^ r) % 2 ^ k < 2 ^ k = mod-lt (w / 2 ^ r) (pow_pos k) in
+    ap (λ x. bit_at x i) (with_field-parts w r k v) ∙ (elim away [
+      | inl below ↦ bit_at_cat_low (w / 2 ^ r / 2 ^ k * 2 ^ k + v % 2 ^ k) r (w % 2 ^ r) i below ∙ sym (bit_at_cat_low (w / 2 ^ r / 2 ^ k * 2 ^ k + (w / 2 ^ r) % 2 ^ k) r (w % 2 ^ r) i below)
+      | inr above ↦ bit_above _ _ _ r k i new low above ∙ sym (bit_above _ _ _ r k i old low above)
+    ] ∙ ap (λ x. bit_at x i) whole)

@@ -1,10 +1,12 @@
 -- Subsets, word by word.
-use Rattle.std.proofs.Common.{◌≡◌, ◌≢◌, ℕ, zero, suc, ◌+◌, ◌-◌, ◌*◌, ◌^◌, ◌<◌, Bool, true, false, cond, eqb, List, length, get_or, ap, ◌∙◌, refl, arith}
+use Rattle.std.proofs.Common.{◌≡◌, ◌≢◌, ℕ, zero, suc, ◌+◌, ◌-◌, ◌*◌, ◌^◌, ◌<◌, Bool, true, false, cond, eqb, List, length, get_or, sym, ap, ◌∙◌, refl, arith}
 use Rattle.std.specs.Prelude.{◌&&◌, not, bit_and}
 use Rattle.std.specs.Int.{bit_not, w16}
 use Rattle.std.proofs.lemmas.Bool.Decides.{nat_tests}
 use Rattle.pm_values.specs.declared.sets.Combination.TheVariants.{Difference}
 use Rattle.pm_values.specs.Comparisons.{is_subset, none_from}
+use Rattle.pm_values.specs.Laws.{SubsetIsOfNumbers}
+use Rattle.pm_values.proofs.MemberLaws.{member_within}
 use Rattle.pm_values.specs.Sets.{bits_from, is_member}
 use Rattle.pm_values.proofs.SetLaws.{combined-word}
 
@@ -67,3 +69,55 @@ subset-not xs ys i p q inside ne =
 pub subset-whole : (xs ys : List ℕ) (n : ℕ) → n ≡ length xs → none_from (λ e. is_member xs e && not (is_member ys e)) 0 (16 * n) ≡ true → is_subset xs ys ≡ true
 unfolding is_subset
 subset-whole xs ys n e h = rw (← e) h
+
+-- a run of which none passes, number by number
+off_head : (x t : Bool) → not x && t ≡ true → x ≡ false
+off_head true t h = cc
+off_head false t h = refl
+
+off_tail : (x t : Bool) → not x && t ≡ true → t ≡ true
+off_tail true t h = cc
+off_tail false t h = h
+
+none_below : (p : ℕ → Bool) (s n b : ℕ) → none_from p s n ≡ true → b < n → p (s + b) ≡ false
+unfolding none_from
+none_below p s zero b h l = absurd (omega arith)
+none_below p s (suc n) zero h l = let place : s + 0 ≡ s = omega arith in rw place (off_head (p s) (none_from p (suc s) n) h)
+none_below p s (suc n) (suc b) h l =
+    let place : s + suc b ≡ suc s + b = omega arith in
+    rw place (none_below p (suc s) n b (off_tail (p s) (none_from p (suc s) n) h) (omega arith))
+
+none_if : (p : ℕ → Bool) (s n : ℕ) → ((b : ℕ) → b < n → p (s + b) ≡ false) → none_from p s n ≡ true
+unfolding none_from
+none_if p s zero h = refl
+none_if p s (suc n) h = rw (first, none_if p (suc s) n later) refl
+  where
+    first : p s ≡ false
+    first = let place : s + 0 ≡ s = omega arith in ap p (sym place) ∙ h 0 (omega arith)
+
+    later : (b : ℕ) → b < n → p (suc s + b) ≡ false
+    later b l = let place : s + suc b ≡ suc s + b = omega arith in ap p (sym place) ∙ h (suc b) (omega arith)
+
+inside_too : (x y : Bool) → x && not y ≡ false → x ≡ true → y ≡ true
+inside_too true true h g = refl
+inside_too true false h g = cc
+inside_too false y h g = cc
+
+none_outside : (x y : Bool) → (x ≡ true → y ≡ true) → x && not y ≡ false
+none_outside true y h = rw (h refl) refl
+none_outside false y h = refl
+
+forward : (xs ys : List ℕ) (e : ℕ) → is_subset xs ys ≡ true → is_member xs e ≡ true → is_member ys e ≡ true
+unfolding is_subset
+forward xs ys e h m =
+    let p = λ (e : ℕ). is_member xs e && not (is_member ys e) in
+    let start : 0 + e ≡ e = omega arith in
+    let out : p e ≡ false = ap p (sym start) ∙ none_below p 0 (16 * length xs) e h (member_within xs e m) in
+    inside_too (is_member xs e) (is_member ys e) out m
+
+backward : (xs ys : List ℕ) → ((e : ℕ) → is_member xs e ≡ true → is_member ys e ≡ true) → is_subset xs ys ≡ true
+unfolding is_subset
+backward xs ys h = none_if (λ e. is_member xs e && not (is_member ys e)) 0 (16 * length xs) (λ b l. none_outside (is_member xs (0 + b)) (is_member ys (0 + b)) (h (0 + b)))
+
+pub subset_is_of_numbers : SubsetIsOfNumbers
+subset_is_of_numbers xs ys = ((λ h e m. forward xs ys e h m), backward xs ys)

@@ -4,3 +4,4 @@ pub mod Sets
 pub mod Combinations
 pub mod Strings
 pub mod Comparisons
+pub mod Laws

@@ -3,6 +3,7 @@
 
 mod comparisons;
 mod fields;
+pub mod laws;
 mod sets;
 mod stack;
 mod strings;

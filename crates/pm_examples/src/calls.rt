@@ -28,16 +28,16 @@ fn calls_and_returns(rt: HostRuntime) -> Result<(), Fail> {
     Ok(())
 }
 
-/// What a first step on the program above comes to after words are written: an error leaves the
-/// whole state as it was.
+/// What the first step of a program comes to after words are written: an error leaves the whole
+/// state as it was.
 fn first_step(
     rt: &impl Abort,
     alloc: Global,
+    code: &[u8],
     pokes: &[(u16, u16)],
     error: Option<ExecError>,
 ) -> Result<(), Fail> {
-    let mut machine = Machine::raw(alloc, &CALLS)?;
-    machine.poke(1058, 513);
+    let mut machine = Machine::raw(alloc, code)?;
     for (address, word) in pokes {
         machine.poke(*address, *word);
     }
@@ -97,7 +97,14 @@ fn faults_of_calls(rt: HostRuntime) -> Result<(), Fail> {
         // a base call keeps the old BASE below its frame: two bytes more
         ([(1024, 0x01C2), (1040, 0x0001)], None),
     ] {
-        first_step(&rt, rt.alloc(), &pokes, error)?;
+        let [first, second] = pokes;
+        first_step(
+            &rt,
+            rt.alloc(),
+            &CALLS,
+            &[(1058, 513), first, second],
+            error,
+        )?;
     }
     Ok(())
 }
@@ -110,7 +117,8 @@ fn faults_of_base_calls(rt: HostRuntime) -> Result<(), Fail> {
         first_step(
             &rt,
             rt.alloc(),
-            &[(1024, 0x01C2), (1040, 0x0001), (1032, locals)],
+            &CALLS,
+            &[(1058, 513), (1024, 0x01C2), (1040, 0x0001), (1032, locals)],
             error,
         )?;
     }
@@ -141,6 +149,29 @@ fn links_and_returns(rt: HostRuntime) -> Result<(), Fail> {
         let mut machine = Machine::raw(rt.alloc(), &code)?;
         assert_eq!(rt; machine.run(100)?, (count, stop), "{code:?}");
         assert_eq!(rt; machine.registers().sp, sp, "{code:?}");
+    }
+    Ok(())
+}
+
+/// The return's faults one by one, beside the nearest return that goes. The frame of the system keeps
+/// its SP at 65,502; NP is 1,028.
+#[test]
+fn faults_of_returns(rt: HostRuntime) -> Result<(), Fail> {
+    let memory = Some(ExecError::InvalidMemory);
+    let stack = Some(ExecError::StackOverflow);
+    for (words, above, error) in [
+        (0, 65503, memory),
+        (0, 65506, memory),
+        (0, 1028, None),
+        (0, 1026, stack),
+        (1, 1030, None),
+        (1, 1028, stack),
+        (255, 65504, memory),
+    ] {
+        let code = [0xAD, words, 0xD7, 0xD7];
+        // another dynamic link, so that the return goes on
+        let pokes = [(65494, 4000), (65502, above)];
+        first_step(&rt, rt.alloc(), &code, &pokes, error)?;
     }
     Ok(())
 }

@@ -1,9 +1,9 @@
 -- Words as signed numbers: a word from 32,768 on stands for itself less 65,536. Results are words again, modulo 65,536.
 use Rattle.std.specs.Prelude.{ℕ, ◌+◌, ◌-◌, ◌*◌, ◌%◌, Bool, not, Result, Ok, Err, if◌then◌else◌, ◌==◌, ℤ, pos, negsuc, unsigned_abs, int_lt, int_le, int_div, int_rem, bit_and, bit_or}
-use Rattle.std.specs.Int.{w16, cast_signed}
 use Rattle.pm_words.specs.declared.error.ExecError.{ExecError}
 use Rattle.pm_words.specs.declared.error.ExecError.TheVariants.{DivideByZero}
 use Rattle.pm_words.specs.Stack.{minus}
+use Rattle.pm_values.specs.Sets.{signed}
 use Rattle.pm_opcode.specs.declared.operation.Unary.{Unary}
 use Rattle.pm_opcode.specs.declared.operation.Unary.TheVariants.{Absolute, Negate, Square, Complement}
 use Rattle.pm_opcode.specs.declared.operation.Binary.{Binary}
@@ -11,18 +11,10 @@ use Rattle.pm_opcode.specs.declared.operation.Binary.TheVariants.{Add, Subtract,
 use Rattle.pm_opcode.specs.declared.operation.Relation.{Relation}
 use Rattle.pm_opcode.specs.declared.operation.Relation.TheVariants.{Equal, GreaterOrEqual, Greater, LessOrEqual, Less, NotEqual}
 
--- the signed value of a word
-abbrev pub signed : ℕ → ℤ
-signed w = cast_signed w16 w
-
 -- a number modulo 65,536
 abbrev pub word : ℤ → ℕ
 word (pos n) = n % 65536
 word (negsuc n) = 65535 - n % 65536
-
--- a truth value as a word
-abbrev pub truth : Bool → ℕ
-truth b = if b then 1 else 0
 
 -- the absolute value, the negative, the square, all 16 bits turned round
 abbrev pub unary : Unary → ℕ → ℕ

@@ -14,6 +14,7 @@ use std::fmt;
 /// five dashes in place of the word where SP is 65,504; and the instruction at IPC.
 #[derive(Clone, Copy)]
 pub struct TraceLine<'a> {
+    /// The machine before the step.
     pub machine: &'a Machine,
 }
 

@@ -10,6 +10,7 @@ use std::fmt;
 /// An instruction with the bytes that it names, shown as its mnemonic and its operands.
 #[derive(Clone, Copy)]
 pub struct Item<'a> {
+    /// The instruction.
     pub instr: &'a Instr,
     /// The characters of LSA and LPA, or the bytes of LDC's words. Other instructions show none.
     pub named: &'a [u8],

@@ -13,7 +13,9 @@ use std::fmt;
 /// `.BYTE` of the byte where none does.
 #[derive(Clone, Copy)]
 pub struct Line<'a> {
+    /// The memory that it stands in.
     pub memory: &'a Memory,
+    /// Its address, odd or even.
     pub address: u16,
 }
 

@@ -25,11 +25,17 @@ use std::cmp::Ordering;
 /// What a comparison asks of its left operand beside its right one.
 #[derive(Clone, Copy, Debug, PartialEq, Eq)]
 pub enum Relation {
+    /// The left one equals the right one.
     Equal,
+    /// They differ.
     NotEqual,
+    /// The left one is less.
     Less,
+    /// The left one is less, or they are equal.
     LessOrEqual,
+    /// The left one is greater.
     Greater,
+    /// The left one is greater, or they are equal.
     GreaterOrEqual,
 }
 
@@ -37,9 +43,13 @@ pub enum Relation {
 /// addresses on the stack; truth values and sets stand on the stack.
 #[derive(Clone, Copy, Debug, PartialEq, Eq)]
 pub enum Kind {
+    /// Real numbers, which this machine does not have.
     Real,
+    /// Strings, by their characters.
     String,
+    /// Truth values, by bit 0.
     Boolean,
+    /// Sets of numbers.
     Set,
     /// So many bytes.
     Bytes(u16),

@@ -13,13 +13,14 @@ pub enum ExecError {
     /// 1: an index or a member outside its bounds.
     #[error("invalid index")]
     InvalidIndex,
-    /// 2: a segment, a procedure or a static link that is not there, or a bad code file.
+    /// 2: a segment, a procedure or a static link that is not there, a table at an odd address or
+    /// with an odd size, a wrong level, or a bad code file.
     #[error("no segment or bad code file")]
     NoSegment,
     /// 3: EXIT from a procedure that is not active.
     #[error("procedure not present at exit time")]
     NoProcedure,
-    /// 4: SP would be below NP.
+    /// 4: SP would be below NP, a segment has no room, or is called for a 65,536th time.
     #[error("stack overflow")]
     StackOverflow,
     /// 6: a division by zero.

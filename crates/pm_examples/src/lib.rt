@@ -13,3 +13,5 @@ mod raw;
 mod rows;
 #[cfg(test)]
 mod streams;
+#[cfg(test)]
+mod values;

@@ -88,6 +88,7 @@ fn check(
     (stack, before): (&[u16], Bytes),
     (left, after): (Left, Bytes),
 ) -> Result<(), Fail> {
+    let top = &stack[..stack.len().min(8)]; // for the messages
     let mut memory = Memory::new(alloc)?;
     let mut wanted = Memory::new(alloc)?;
     put(&mut memory, stack, before);
@@ -102,9 +103,9 @@ fn check(
     assert_eq!(rt;
         row.run(&mut memory, sp_of(stack), np),
         sp,
-        "{row:?} {stack:?}"
+        "{row:?} {top:?}"
     );
-    assert!(rt; memory.bytes() == wanted.bytes(), "{row:?} {stack:?}");
+    assert!(rt; memory.bytes() == wanted.bytes(), "{row:?} {top:?}");
     Ok(())
 }
 

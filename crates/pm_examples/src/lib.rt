@@ -15,3 +15,5 @@ mod rows;
 mod streams;
 #[cfg(test)]
 mod table;
+#[cfg(test)]
+mod values;

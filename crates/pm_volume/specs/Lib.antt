@@ -5,4 +5,5 @@ pub mod Entries
 pub mod Directory
 pub mod Files
 pub mod Changes
+pub mod Headers
 pub mod Disks

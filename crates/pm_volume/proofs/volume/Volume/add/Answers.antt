@@ -2,7 +2,8 @@ use Rattle.std.proofs.Common.{◌≡◌, ◌-◌, ◌∙◌, ap, sym, List, ℕ,
 use Rattle.std.proofs.lemmas.Result.{err_from_is_err_and}
 use Rattle.pm_volume.specs.Changes.{IsRoomFor, blocks_for, place_for, with_file}
 use Rattle.pm_volume.proofs.AddLaws.{bytes-added, files-added}
-use Rattle.pm_volume.proofs.PlaceLaws.{IsPlaced, IsPlaced-from_ok, IsRoomFor-placed, IsVolume-added, length-new_name}
+use Rattle.pm_volume.proofs.PlaceLaws.{IsPlaced, IsPlaced-from_ok, IsRoomFor-placed, IsVolume-added}
+use Rattle.pm_volume.proofs.NameLaws.{length-new_name}
 use Rattle.pm_volume.proofs.volume.Volume.add.Goals as goal
 use Rattle.pm_volume.proofs.volume.Volume.add.Goals.{After-put_file, In_ok-gap}
 use Rattle.pm_volume.proofs.SlotLaws.{written_back}
@@ -21,7 +22,7 @@ room : (c : In_ok-gap) → IsRoomFor c.args.self.now (blocks_for (length c.args.
 room c = IsRoomFor-placed c.args.self.now c.args.name.now _ _ c.place.ensures.volume (placed c)
 
 pub new_entry-entry-requires-clause-named : goal.new_entry-entry-requires-clause-named
-new_entry-entry-requires-clause-named c = (length-new_name _ (placed c).named).1
+new_entry-entry-requires-clause-named c = (length-new_name 15 _ (placed c).named).1
 
 pub new_entry-entry-requires-clause-room : goal.new_entry-entry-requires-clause-room
 new_entry-entry-requires-clause-room c = (room c).fits

@@ -6,7 +6,6 @@ use Rattle.pm_machine.specs.State.{State}
 use Rattle.pm_tool.specs.declared.fault.Fault.{Fault}
 use Rattle.pm_tool.specs.declared.fault.Fault.TheVariants as faults
 use Rattle.pm_tool.specs.declared.outcome.Job.{Job}
-use Rattle.pm_tool.specs.declared.outcome.Job.TheVariants as jobs
 use Rattle.pm_tool.specs.declared.outcome.Outcome.{Outcome}
 use Rattle.pm_tool.specs.declared.outcome.Refusal.{Refusal}
 use Rattle.pm_tool.specs.declared.trace.Ending.{Ending}
@@ -117,7 +116,7 @@ module _ (had left : Option (List ℕ)) (input : List ℕ) (reads : ReadsAll had
         (subst (λ s. AppendsFront held holds s.written) (ap (said_loaded limit) loads) writes) well cause
 
 -- the job is this one
-pub broken_job : (job : Job) (limit : ℕ) (had left held holds : Option (List ℕ)) (result : Result Outcome Fault) (source_failed sink_failed : Bool)
-    → IfErr result (λ fault. IsBrokenOff had left held holds fault source_failed sink_failed (λ i. said_loaded limit (loaded (spelled i)))) → job ≡ jobs.Raw limit
+pub broken_job : (job this : Job) (had left held holds : Option (List ℕ)) (result : Result Outcome Fault) (source_failed sink_failed : Bool)
+    → IfErr result (λ fault. IsBrokenOff had left held holds fault source_failed sink_failed (said this)) → job ≡ this
     → IfErr result (λ fault. IsBrokenOff had left held holds fault source_failed sink_failed (said job))
-broken_job job limit had left held holds result source_failed sink_failed broken e = rw e broken
+broken_job job this had left held holds result source_failed sink_failed broken e = rw e broken

@@ -1,10 +1,14 @@
 -- What jobs come to, in numbers and words.
-use Rattle.std.specs.Prelude.{◌≡◌, ℕ, List, [], ◌∷◌, ◌++◌, Option, None, codes, vec_items, option_map, string_bytes}
+use Rattle.std.specs.Prelude.{◌≡◌, ℕ, List, [], ◌∷◌, ◌++◌, Option, None, Some, codes, vec_items, option_map, string_bytes}
 use Rattle.std.specs.Fmt.{decimal}
 use Rattle.pm_words.specs.Errors.{number_of}
 use Rattle.pm_machine.specs.Faults.{boot_number}
 use Rattle.pm_machine.specs.declared.state.BootFault.{BootFault}
 use Rattle.pm_machine.specs.declared.state.BootFault.TheVariants as boot
+use Rattle.pm_volume.specs.Faults.{entry_in_fault, number_of as volume_number}
+use Rattle.pm_volume.specs.declared.fault.VolumeFault.{VolumeFault}
+use Rattle.pm_filer.specs.declared.fault.FilerFault.{FilerFault}
+use Rattle.pm_filer.specs.declared.fault.FilerFault.TheVariants as filer
 use Rattle.pm_tool.specs.declared.fault.Fault.{Fault}
 use Rattle.pm_tool.specs.declared.fault.Fault.TheVariants as faults
 use Rattle.pm_tool.specs.declared.outcome.Exit.{Exit}
@@ -50,8 +54,24 @@ error_text boot.BadCode = []
 error_text (boot.Exec error) = 32 ∷ decimal (number_of error)
 error_text boot.NoMemory = []
 
+-- a space and the entry of the directory, where a fault names one
+abbrev pub entry_text : Option ℕ → List ℕ
+entry_text None = []
+entry_text (Some entry) = 32 ∷ decimal entry
+
+-- the number of a volume's fault, and the entry that it names
+abbrev pub volume_text : VolumeFault → List ℕ
+volume_text fault = decimal (volume_number fault) ++ entry_text (entry_in_fault fault)
+
+-- the number of a filer's fault, and that of the volume's fault within it
+abbrev pub filer_text : FilerFault → List ℕ
+filer_text (filer.Volume fault) = 49 ∷ 32 ∷ volume_text fault
+filer_text filer.NoMemory = 52 ∷ []
+
 abbrev pub refusal_text : Refusal → List ℕ
 refusal_text refusals.Hex = codes "refused hex 1"
+refusal_text (refusals.Volume fault) = codes "refused volume " ++ volume_text fault
+refusal_text (refusals.Filer fault) = codes "refused filer " ++ filer_text fault
 refusal_text (refusals.Boot fault) = codes "refused boot " ++ (decimal (boot_number fault) ++ error_text fault)
 
 -- what a job says to its input: what it writes, how it ends, its message, image and printer bytes, and what of the input is left unread

@@ -1,5 +1,5 @@
 -- What a job says to its input, and how a job keeps to it.
-use Rattle.std.specs.Prelude.{◌≡◌, ◌≢◌, ◌⊎◌, ◌↔◌, true, ◌≤◌, ℕ, ◌<◌, List, [], ◌++◌, Option, Some, None, Result, Ok, Err, length, Bool, IfSome}
+use Rattle.std.specs.Prelude.{◌≡◌, ◌≢◌, ◌⊎◌, ◌↔◌, true, ◌≤◌, ℕ, ◌<◌, List, [], ◌++◌, Option, Some, None, Result, Ok, Err, length, Bool, IfSome, string_bytes}
 use Rattle.std.specs.Io.KnownBytes.{Consumes, Appends, Keeps}
 use Rattle.pm_machine.specs.State.{State}
 use Rattle.pm_machine.specs.Start.{raw_start}
@@ -12,6 +12,9 @@ use Rattle.pm_tool.specs.declared.outcome.Outcome.{Outcome}
 use Rattle.pm_tool.specs.declared.outcome.Refusal.{Refusal}
 use Rattle.pm_tool.specs.declared.outcome.Refusal.TheVariants as refusals
 use Rattle.pm_tool.specs.declared.source.TheConstants.{INPUT_LIMIT}
+use Rattle.pm_filer.specs.Filed.{order_of}
+use Rattle.pm_volume.specs.Headers.{blank_fault}
+use Rattle.pm_tool.specs.Files.{said_files, said_new}
 use Rattle.pm_tool.specs.Hex.{spelled}
 use Rattle.pm_tool.specs.Outcomes.{Said, exit_number, exit_of, refused, IsOutcome}
 use Rattle.pm_tool.specs.Run.{Run, run_of, trace_of}
@@ -41,6 +44,8 @@ said_loaded limit (Err refusal) = refused refusal []
 -- what a job says to all of its input
 abbrev pub said : Job → List ℕ → Said
 said (jobs.Raw limit) input = said_loaded limit (loaded (spelled input))
+said (jobs.Files image command) input = said_files image.items (order_of command) input
+said (jobs.New name blocks) input = said_new (blank_fault (string_bytes name) blocks) (string_bytes name) blocks input
 
 -- ---- keeping to it
 

@@ -6,6 +6,7 @@ ghost use Rattle.pm_tool.specs.Outcomes.{exit_number, fault_exit, fault_text};
 ghost use Rattle.pm_tool.specs.Said.{loaded, said, said_loaded, IsSound, IsCutShort, IsDone, IsBrokenOff, Tells, IsCut, FailsExactly};
 
 use crate::fault::{Fault, MESSAGE_ROOM};
+use crate::files::{files, new_volume};
 use crate::hex;
 use crate::outcome::{Exit, Job, Outcome, Refusal, refuse};
 use crate::sink::Sink;
@@ -69,6 +70,8 @@ fn perform<R: Source, W: Sink>(
 {
     match job {
         Job::Raw { limit } => raw(alloc, source, sink, limit),
+        Job::Files { image, command } => files(alloc, source, sink, image, command),
+        Job::New { name, blocks } => Ok(new_volume(alloc, name.as_str(), blocks)?),
     }
 }
 

@@ -3,6 +3,7 @@
 
 mod engine;
 mod fault;
+mod files;
 mod hex;
 mod outcome;
 mod sink;

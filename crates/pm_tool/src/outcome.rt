@@ -1,8 +1,10 @@
 //! Jobs, and what they come to.
-ghost use Rattle.std.specs.Prelude.{◌≡◌, [], List, ℕ, Some, None, IfOk};
-ghost use Rattle.pm_tool.specs.Outcomes.{exit_number, refusal_text, IsOutcome, refused};
+ghost use Rattle.std.specs.Prelude.{◌≡◌, [], List, ℕ, Some, None, IfOk, option_map, string_bytes, vec_items};
+ghost use Rattle.pm_tool.specs.Outcomes.{exit_number, refusal_text, volume_text, IsOutcome, refused};
 
+use pm_filer::{Command, FilerFault};
 use pm_machine::BootFault;
+use pm_volume::VolumeFault;
 use std::alloc::{AllocError, Global};
 use std::fmt;
 
@@ -13,6 +15,14 @@ pub enum Job {
     /// feeds, carriage returns and spaces) anywhere but within a pair. The output is the trace of at most `limit` steps.
     /// Any other input is refused by `refused hex 1`, and a program of more than 60,000 bytes by `refused boot 3`.
     Raw { limit: u32 },
+    /// A command on the volume that an image is. The input's bytes stand in the place of a put's, and no other command reads
+    /// any. The output is the list or the bytes of a file; after a change the outcome has the image that is to be kept. An
+    /// image that is no volume is refused by `refused volume N`, before the input is read, and a command that the volume
+    /// refuses by `refused filer 1 N`, N being the number of the volume's fault.
+    Files { image: Vec<u8>, command: Command },
+    /// A new volume of this name and so many blocks, without files, whose image the outcome has. The input is not read. A text
+    /// that is no name is refused by `refused volume 10`, and fewer than 6 blocks by `refused volume 3`.
+    New { name: String, blocks: u16 },
 }
 
 /// How a job ended.
@@ -81,6 +91,23 @@ impl Outcome {
     }
 }
 
+impl Outcome {
+    /// An outcome that keeps an image, with no message and no printer bytes.
+    pub(crate) fn keeping(alloc: Global, image: Vec<u8>) -> Outcome
+        ensures status { result.status ≡ exit_number Exit.Ended }
+        ensures message { string_bytes result.message ≡ [] }
+        ensures image { option_map vec_items result.image ≡ Some image.items }
+        ensures printer { result.printer.items ≡ [] }
+    {
+        Outcome {
+            status: Exit::Ended.number(),
+            message: String::new(alloc),
+            image: Some(image),
+            printer: Vec::new(alloc),
+        }
+    }
+}
+
 /// Why an input is refused.
 #[derive(Clone, Copy, Debug, PartialEq, Eq)]
 pub(crate) enum Refusal {
@@ -88,6 +115,26 @@ pub(crate) enum Refusal {
     Hex,
     /// The machine does not start on it.
     Boot(BootFault),
+    /// The image is no volume, or no volume can be made.
+    Volume(VolumeFault),
+    /// A command is refused.
+    Filer(FilerFault),
+}
+
+/// The number of a volume's fault, and the entry that it names.
+#[derive(Clone, Copy)]
+struct VolumeNumber(VolumeFault);
+
+impl fmt::Display for VolumeNumber {
+    ghost output = { λ fault. Some (volume_text fault.0) };
+
+    fn fmt<W: fmt::Write>(&self, f: &mut fmt::Formatter<W>) -> fmt::Result {
+        let number = self.0.number();
+        match self.0.entry() {
+            Some(entry) => write!(f, "{number} {entry}"),
+            None => write!(f, "{number}"),
+        }
+    }
 }
 
 impl fmt::Display for Refusal {
@@ -106,6 +153,15 @@ impl fmt::Display for Refusal {
                     _ => write!(f, "refused boot {number}"),
                 }
             }
+            Refusal::Volume(fault) => {
+                let fault = VolumeNumber(fault);
+                write!(f, "refused volume {fault}")
+            }
+            Refusal::Filer(FilerFault::Volume(fault)) => {
+                let fault = VolumeNumber(fault);
+                write!(f, "refused filer 1 {fault}")
+            }
+            Refusal::Filer(FilerFault::NoMemory) => write!(f, "refused filer 4"),
         }
     }
 }

@@ -7,3 +7,5 @@ pub mod Files
 pub mod Changes
 pub mod Headers
 pub mod Disks
+pub mod Space
+pub mod Made

@@ -8,6 +8,7 @@ mod entry;
 mod fault;
 mod gap;
 mod slots;
+mod space;
 mod volume;
 mod words;
 
@@ -15,6 +16,7 @@ pub use directory::Entries;
 pub use disk::Disk;
 pub use entry::Entry;
 pub use fault::VolumeFault;
+pub use space::Space;
 pub use volume::Volume;
 
 #[cfg(test)]

@@ -13,6 +13,7 @@ use crate::disk::{BLOCK, Disk};
 use crate::entry::{Entry, is_new_name};
 use crate::fault::VolumeFault;
 use crate::gap::Gap;
+use crate::space::{Space, space_of};
 use crate::words::word;
 use std::alloc::{AllocError, Global};
 use std::marker::Model;
@@ -44,11 +45,13 @@ impl Volume {
     ghost use Rattle.std.specs.List.{insert};
     ghost use Rattle.std.specs.Option.{option_map};
     ghost use Rattle.pm_volume.specs.Words.{word_in};
+    ghost use Rattle.pm_volume.specs.Space.{free_blocks, largest_gap};
 
     /// The volume that an image is. A refused image comes back unchanged.
     pub fn open(bytes: Vec<u8>) -> Result<Volume, (VolumeFault, Vec<u8>)>
         ensures accepted { IsOk result ↔ IsVolume bytes.items }
         ensures opened { IfOk result (λ v. v ≡ bytes.items) }
+        ensures sound { OnOk result (image_fault bytes.items ≡ None) }
         ensures first_fault { IfErr result (λ e. image_fault bytes.items ≡ Some e.0) }
         ensures returned { IfErr result (λ e. e.1 ≡ bytes) }
     {
@@ -109,6 +112,15 @@ impl Volume {
         ensures date { result ≡ word_in (directory_of self.now) 20 }
     {
         word(self.directory(), 20)
+    }
+
+    /// The free space: the blocks of all gaps, and of the largest one.
+    #[tactic(auto, unfolding(crate::specs::Space::free_blocks, crate::specs::Space::largest_gap))]
+    pub fn space(&self) -> Space
+        ensures free { result.free ≡ free_blocks self.now }
+        ensures largest { result.largest ≡ largest_gap self.now }
+    {
+        space_of(self.directory())
     }
 
     /// The files in block order.

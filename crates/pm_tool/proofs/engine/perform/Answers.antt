@@ -1,6 +1,18 @@
-use Rattle.std.proofs.Common.{rules}
-use Rattle.pm_tool.proofs.Kept.{broken_job}
+use Rattle.std.proofs.Common.{[], arith}
+use Rattle.std.proofs.lemmas.Result.{err_from_is_err_and}
+use Rattle.pm_tool.specs.declared.outcome.Job.TheVariants as jobs
+use Rattle.pm_tool.proofs.Kept.{broken_job, broken_unwritten}
+use Rattle.pm_tool.proofs.Filing.{consumes_none}
 use Rattle.pm_tool.proofs.engine.perform.Goals as goal
 
-pub returns-clause-broken : goal.returns-clause-broken
-returns-clause-broken g c = broken_job c.args.job _ _ _ _ _ _ _ _ c.raw.ensures.broken (search rules)
+pub returns-in-Raw-clause-broken : goal.returns-in-Raw-clause-broken
+returns-in-Raw-clause-broken g c = broken_job c.args.job (jobs.Raw c.in-Raw.limit) _ _ _ _ _ _ _ c.raw.ensures.broken c.in-Raw.is
+
+pub returns-in-Files-clause-broken : goal.returns-in-Files-clause-broken
+returns-in-Files-clause-broken g c = broken_job c.args.job (jobs.Files c.in-Files.image c.in-Files.command) _ _ _ _ _ _ _ c.files.ensures.broken c.in-Files.is
+
+pub returns-in_err-new_volume-in-New-clause-broken : goal.returns-in_err-new_volume-in-New-clause-broken
+returns-in_err-new_volume-in-New-clause-broken g c =
+    let r = c.from_residual in
+    let p = err_from_is_err_and r.result r.ensures.1 in
+    rw (p.1, p.2) (broken_unwritten _ _ _ _ _ _ _ [] (consumes_none _) (c.requires.sink_well, c.requires.source_well, omega arith))

@@ -1,0 +1,34 @@
+-- The changes of a volume as functions of its image.
+use Rattle.std.proofs.Common.{◌≡◌, ℕ, List, length, Ok, Err, None, refl}
+use Rattle.pm_volume.specs.Changes.{AddsFile, RemovesFile, RenamesFile, blocks_for, place_for, slot_named, slot_to_rename}
+use Rattle.pm_volume.specs.Directory.{directory_of}
+use Rattle.pm_volume.specs.Made.{added, removed, renamed}
+use Rattle.pm_volume.specs.declared.entry.Entry.{Entry}
+use Rattle.pm_volume.specs.declared.fault.VolumeFault.{VolumeFault}
+use Rattle.pm_volume.specs.declared.fault.VolumeFault.TheVariants.{NoFile}
+
+pub made-added : (old new name : List ℕ) (kind : ℕ) (bytes : List ℕ) (date : ℕ) (e : Entry) → AddsFile old new name kind bytes date e → added old name kind bytes date ≡ Ok new
+unfolding added
+made-added old new name kind bytes date e a = rw (a.placed, a.image, a.entry) refl
+
+pub made-removed : (old new name : List ℕ) → RemovesFile old new name → removed old name ≡ Ok new
+unfolding removed
+made-removed old new name a = rw (a.found, a.image) refl
+
+pub made-unadded : (image name : List ℕ) (kind : ℕ) (bytes : List ℕ) (date : ℕ) (fault : VolumeFault) → place_for image name (blocks_for (length bytes)) ≡ Err fault → added image name kind bytes date ≡ Err fault
+unfolding added
+made-unadded image name kind bytes date fault e = rw e refl
+
+pub made-unremoved : (image name : List ℕ) → slot_named (directory_of image) name ≡ None → removed image name ≡ Err NoFile
+unfolding removed
+made-unremoved image name e = rw e refl
+
+pub made-renamed : (old new from to : List ℕ) → RenamesFile old new from to → renamed old from to ≡ Ok new
+unfolding renamed
+made-renamed old new from to a = rw (a.found, a.image) refl
+
+pub made-unrenamed : (image from to : List ℕ) (fault : VolumeFault) → slot_to_rename (directory_of image) from to ≡ Err fault → renamed image from to ≡ Err fault
+unfolding renamed
+made-unrenamed image from to fault e = rw e refl
+
+pub ruleset made = (made-added, made-removed, made-renamed, made-unadded, made-unremoved, made-unrenamed)

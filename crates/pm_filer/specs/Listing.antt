@@ -1,0 +1,75 @@
+-- The list of a volume's files, as text.
+use Rattle.std.specs.Prelude.{ℕ, ◌-◌, ◌/◌, ◌%◌, ◌==◌, ◌&&◌, nat_le, List, [], ◌∷◌, ◌++◌, length, replicate, map, codes, Option, Some, None, if◌then◌else◌}
+use Rattle.std.specs.Fmt.{decimal}
+use Rattle.std.specs.List.{flat_map}
+use Rattle.pm_volume.specs.Files.{files_of}
+use Rattle.pm_volume.specs.Names.{characters_of}
+use Rattle.pm_volume.specs.Space.{free_blocks, largest_gap, name_of}
+use Rattle.pm_volume.specs.declared.entry.Entry.{Entry}
+
+-- a byte of a name as it is shown: a question mark for one that does not print
+abbrev pub shown_byte : ℕ → ℕ
+shown_byte c = if nat_le 32 c && nat_le c 126 then c else 63
+
+unfoldable pub shown_name : List ℕ → List ℕ
+shown_name name = map shown_byte name
+
+-- so many spaces
+unfoldable pub spaces : ℕ → List ℕ
+spaces n = replicate n 32
+
+-- a text at the left or right of a column of so many characters; a longer one pushes the rest to the right
+abbrev pub at_left : ℕ → List ℕ → List ℕ
+at_left width text = text ++ spaces (width - length text)
+
+unfoldable pub at_right : ℕ → ℕ → List ℕ
+at_right width n = spaces (width - length (decimal n)) ++ decimal n
+
+-- a number in at least so many digits, with zeros in front
+unfoldable pub padded : ℕ → ℕ → List ℕ
+padded width n = replicate (width - length (decimal n)) 48 ++ decimal n
+
+-- the words for kinds of files; kinds from 9 on have none
+unfoldable pub kind_word : ℕ → Option (List ℕ)
+kind_word kind =
+    if kind == 0 then Some (codes "none")
+    else (if kind == 1 then Some (codes "badb")
+    else (if kind == 2 then Some (codes "code")
+    else (if kind == 3 then Some (codes "text")
+    else (if kind == 4 then Some (codes "info")
+    else (if kind == 5 then Some (codes "data")
+    else (if kind == 6 then Some (codes "graf")
+    else (if kind == 7 then Some (codes "foto")
+    else (if kind == 8 then Some (codes "secd") else None))))))))
+
+abbrev pub word_or_number : Option (List ℕ) → ℕ → List ℕ
+word_or_number (Some word) kind = word
+word_or_number None kind = at_right 4 kind
+
+-- a kind in four characters
+unfoldable pub kind_text : ℕ → List ℕ
+kind_text kind = word_or_number (kind_word kind) kind
+
+-- a date as year, month and day; its word has the month in bits 0 to 3, the day in bits 4 to 8 and the year above
+unfoldable pub date_text : ℕ → List ℕ
+date_text date = padded 3 (date / 512) ++ (45 ∷ (padded 2 (date % 16) ++ (45 ∷ padded 2 (date / 16 % 32))))
+
+-- what the line of a file says behind its name: kind, first block, number of blocks, bytes in the last block, date
+unfoldable pub entry_details : Entry → List ℕ
+entry_details e =
+    kind_text e.kind ++ (32 ∷ (at_right 5 e.first ++ (32 ∷ (at_right 5 (e.end - e.first)
+    ++ (32 ∷ (at_right 3 e.last_bytes ++ (32 ∷ date_text e.date)))))))
+
+-- the line of a file
+unfoldable pub entry_line : Entry → List ℕ
+entry_line e = at_left 15 (shown_name (characters_of e.name)) ++ (32 ∷ (entry_details e ++ 10 ∷ []))
+
+-- the last line: the number of files, the free blocks, and the largest gap
+unfoldable pub space_line : List ℕ → List ℕ
+space_line image =
+    codes "files " ++ (decimal (length (files_of image)) ++ (codes " free " ++ (decimal (free_blocks image)
+    ++ (codes " largest " ++ (decimal (largest_gap image) ++ 10 ∷ [])))))
+
+-- the whole list: the volume's name and a colon, a line for each file, and the last line
+unfoldable pub list_text : List ℕ → List ℕ
+list_text image = shown_name (name_of image) ++ (58 ∷ 10 ∷ (flat_map entry_line (files_of image) ++ space_line image))

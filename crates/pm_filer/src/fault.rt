@@ -1,0 +1,50 @@
+//! Why a command is refused.
+ghost use Rattle.std.specs.Prelude.{◌≡◌};
+ghost use Rattle.pm_filer.specs.Filed.{filer_number};
+
+use pm_volume::VolumeFault;
+use std::alloc::AllocError;
+use thiserror::Error;
+
+/// Why a command is refused. The volume is then as it was.
+#[derive(Clone, Copy, Debug, PartialEq, Eq, Error)]
+pub enum FilerFault {
+    /// The volume refuses it.
+    #[error("{0}")]
+    Volume(VolumeFault),
+    /// Memory was wanted and refused.
+    #[error("out of memory")]
+    NoMemory,
+}
+
+impl FilerFault {
+    /// The number of the fault: 1 for the volume's, 4 for want of memory.
+    pub fn number(self) -> u8
+        ensures value { result ≡ filer_number self }
+    {
+        match self {
+            FilerFault::Volume(_) => 1,
+            FilerFault::NoMemory => 4,
+        }
+    }
+}
+
+impl From<VolumeFault> for FilerFault {
+    ghost use Rattle.pm_filer.specs.declared.fault.FilerFault.TheVariants.{Volume};
+
+    ghost from_gives = { λ inner fault. fault ≡ Volume inner };
+
+    fn from(fault: VolumeFault) -> FilerFault {
+        FilerFault::Volume(fault)
+    }
+}
+
+impl From<AllocError> for FilerFault {
+    ghost use Rattle.pm_filer.specs.declared.fault.FilerFault.TheVariants.{NoMemory};
+
+    ghost from_gives = { λ _ fault. fault ≡ NoMemory };
+
+    fn from(_: AllocError) -> FilerFault {
+        FilerFault::NoMemory
+    }
+}

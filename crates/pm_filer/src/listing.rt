@@ -1,0 +1,185 @@
+//! The list of a volume's files, as text.
+ghost use Rattle.std.specs.Prelude.{◌≡◌, ◌++◌, Some, IfOk, OnOk, string_bytes};
+ghost use Rattle.std.specs.Option.{option_map};
+ghost use Rattle.pm_filer.specs.Listing.{at_right, date_text, entry_details, entry_line, kind_text, kind_word, list_text, shown_byte, shown_name, space_line, spaces};
+ghost use Rattle.pm_volume.specs.Files.{files_of};
+ghost use Rattle.std.specs.List.{flat_map};
+
+use pm_volume::{Entry, Space, Volume};
+use std::alloc::{AllocError, Global};
+use std::fmt;
+
+/// The word for a kind of file: `none`, `badb`, `code`, `text`, `info`, `data`, `graf`, `foto` and `secd` for 0 to 8.
+/// Other kinds have none.
+#[tactic(auto, unfolding(crate::specs::Listing::kind_word))]
+pub fn kind_word(kind: u8) -> Option<&'static str>
+    ensures word { option_map (λ word. word.now) result ≡ kind_word kind }
+{
+    match kind {
+        0 => Some("none"),
+        1 => Some("badb"),
+        2 => Some("code"),
+        3 => Some("text"),
+        4 => Some("info"),
+        5 => Some("data"),
+        6 => Some("graf"),
+        7 => Some("foto"),
+        8 => Some("secd"),
+        _ => None,
+    }
+}
+
+/// A kind in four characters.
+#[derive(Clone, Copy)]
+struct Kind(u8);
+
+impl fmt::Display for Kind {
+    ghost output = { λ kind. Some (kind_text kind.0) };
+
+    #[tactic(auto, unfolding(crate::specs::Listing::kind_text), using(crate::proofs::Widths::right_in_four))]
+    fn fmt<W: fmt::Write>(&self, f: &mut fmt::Formatter<W>) -> fmt::Result {
+        let kind = self.0;
+        match kind_word(kind) {
+            Some(word) => f.write_str(word),
+            None => write!(f, "{kind:4}"),
+        }
+    }
+}
+
+/// A date as year, month and day.
+#[derive(Clone, Copy)]
+struct Date(u16);
+
+impl fmt::Display for Date {
+    ghost output = { λ date. Some (date_text date.0) };
+
+    #[tactic(auto, unfolding(crate::specs::Listing::date_text), using(crate::proofs::Widths::date_digits))]
+    fn fmt<W: fmt::Write>(&self, f: &mut fmt::Formatter<W>) -> fmt::Result {
+        let year = self.0 / 512;
+        let month = self.0 % 16;
+        let day = self.0 / 16 % 32;
+        write!(f, "{year:03}-{month:02}-{day:02}")
+    }
+}
+
+/// A number at the right of five characters.
+#[derive(Clone, Copy)]
+struct Five(u16);
+
+impl fmt::Display for Five {
+    ghost output = { λ n. Some (at_right 5 n.0) };
+
+    #[tactic(auto, using(crate::proofs::Widths::right_in_five))]
+    fn fmt<W: fmt::Write>(&self, f: &mut fmt::Formatter<W>) -> fmt::Result {
+        let n = self.0;
+        write!(f, "{n:5}")
+    }
+}
+
+/// A number at the right of three characters.
+#[derive(Clone, Copy)]
+struct Three(u16);
+
+impl fmt::Display for Three {
+    ghost output = { λ n. Some (at_right 3 n.0) };
+
+    #[tactic(auto, using(crate::proofs::Widths::right_in_three))]
+    fn fmt<W: fmt::Write>(&self, f: &mut fmt::Formatter<W>) -> fmt::Result {
+        let n = self.0;
+        write!(f, "{n:3}")
+    }
+}
+
+/// A byte of a name as it is shown.
+fn shown_byte(byte: u8) -> u8
+    ensures value { result ≡ shown_byte byte }
+{
+    if 32 <= byte && byte <= 126 { byte } else { b'?' }
+}
+
+/// Adds the bytes of a name as they are shown.
+fn push_name(text: &mut String, name: &[u8]) -> Result<(), AllocError>
+    ensures text { OnOk result (string_bytes text.new ≡ string_bytes text.old ++ shown_name name.now) }
+{
+    for byte in name {
+        text.push(char::from(shown_byte(*byte)))?;
+    }
+    Ok(())
+}
+
+/// Adds so many spaces.
+fn push_spaces(text: &mut String, count: usize) -> Result<(), AllocError>
+    ensures text { OnOk result (string_bytes text.new ≡ string_bytes text.old ++ spaces count) }
+{
+    for _ in 0..count {
+        text.push(' ')?;
+    }
+    Ok(())
+}
+
+/// What the line of a file says behind its name.
+#[derive(Clone, Copy)]
+struct Details(Entry);
+
+impl fmt::Display for Details {
+    ghost output = { λ details. Some (entry_details details.0) };
+
+    #[tactic(auto, unfolding(crate::specs::Listing::entry_details))]
+    fn fmt<W: fmt::Write>(&self, f: &mut fmt::Formatter<W>) -> fmt::Result {
+        let kind = Kind(self.0.kind);
+        let first = Five(self.0.first);
+        let blocks = Five(self.0.end.saturating_sub(self.0.first));
+        let last_bytes = Three(self.0.last_bytes);
+        let date = Date(self.0.date);
+        write!(f, "{kind} {first} {blocks} {last_bytes} {date}")
+    }
+}
+
+/// Adds the line of a file.
+#[tactic(auto, unfolding(crate::specs::Listing::entry_line), using(crate::proofs::Columns::shown_length))]
+fn push_entry(text: &mut String, entry: Entry) -> Result<(), AllocError>
+    ensures text { OnOk result (string_bytes text.new ≡ string_bytes text.old ++ entry_line entry) }
+{
+    let name = entry.characters();
+    push_name(text, name)?;
+    push_spaces(text, 15_usize.saturating_sub(name.len()))?;
+    let details = Details(entry);
+    writeln!(text, " {details}")?;
+    Ok(())
+}
+
+/// Adds the lines of the files.
+fn push_files(text: &mut String, volume: &Volume) -> Result<(), AllocError>
+    ensures text { OnOk result (string_bytes text.new ≡ string_bytes text.old ++ flat_map entry_line (files_of volume.now)) }
+{
+    let mut entries = volume.entries();
+    'files: while let Some(entry) = entries.next() {
+        push_entry(text, entry)?;
+    }
+    Ok(())
+}
+
+/// Adds the last line.
+#[tactic(auto, unfolding(crate::specs::Listing::space_line))]
+fn push_space(text: &mut String, volume: &Volume) -> Result<(), AllocError>
+    ensures text { OnOk result (string_bytes text.new ≡ string_bytes text.old ++ space_line volume.now) }
+{
+    let files = volume.entries().count();
+    let Space { free, largest } = volume.space();
+    writeln!(text, "files {files} free {free} largest {largest}")?;
+    Ok(())
+}
+
+/// The list of a volume's files: its name and a colon; a line for each file; the number of files, the free blocks and the
+/// largest gap.
+#[tactic(auto, unfolding(crate::specs::Listing::list_text))]
+pub(crate) fn list_text(alloc: Global, volume: &Volume) -> Result<String, AllocError>
+    ensures text { IfOk result (λ text. string_bytes text ≡ list_text volume.now) }
+{
+    let mut text = String::new(alloc);
+    push_name(&mut text, volume.name())?;
+    writeln!(text, ":")?;
+    push_files(&mut text, volume)?;
+    push_space(&mut text, volume)?;
+    Ok(text)
+}

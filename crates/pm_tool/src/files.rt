@@ -1,0 +1,118 @@
+//! Jobs on volumes.
+ghost use Rattle.std.specs.Prelude.{◌≡◌, false, [], Ok, List, ℕ, IfOk, IfErr, OnOk, OnErr};
+ghost use Rattle.std.specs.Io.KnownBytes.{Appends};
+ghost use Rattle.pm_filer.specs.Filed.{answer_of, filed, order_of};
+ghost use Rattle.pm_volume.specs.Headers.{blank_fault};
+ghost use Rattle.pm_tool.specs.Files.{said_new, answer_bytes, said_filed, said_files, said_order, takes_input, with_input};
+ghost use Rattle.pm_tool.specs.Outcomes.{IsOutcome};
+ghost use Rattle.pm_tool.specs.Said.{IsBrokenOff, IsDone, IsSound};
+ghost use Rattle.pm_tool.specs.Streams.{AppendsFront, IsCause};
+
+use crate::fault::Fault;
+use crate::outcome::{Exit, Outcome, Refusal, refuse};
+use crate::sink::{Sink, write_all};
+use crate::source::{Source, read_all};
+use pm_filer::{Command, FilerFault, Reply, apply};
+use pm_volume::{Volume, VolumeFault};
+use std::alloc::{AllocError, Global};
+
+/// Whether a command takes the input's bytes.
+fn takes_input(command: &Command) -> bool
+    ensures value { result ≡ takes_input (order_of command.now) }
+{
+    matches!(command, Command::Put(..))
+}
+
+/// A command with the input's bytes in the place of its own.
+fn with_input(command: Command, input: Vec<u8>) -> Command
+    ensures order { order_of result ≡ with_input (order_of command) input.items }
+{
+    match command {
+        Command::Put(name, kind, _) => Command::Put(name, kind, input),
+        other => other,
+    }
+}
+
+/// Writes what a command answered, and keeps the image of a volume that it changed.
+fn answer<W: Sink>(
+    alloc: Global,
+    sink: &mut W,
+    volume: Volume,
+    reply: Reply,
+) -> Result<Outcome, Fault>
+    requires well { W.has_failed sink.old ≡ false }
+    ensures written { OnOk result (Appends (W.contents sink.old) (W.contents sink.new) (answer_bytes (answer_of reply))) }
+    ensures outcome { IfOk result (λ outcome. (unread : List ℕ) → IsOutcome outcome (said_filed (Ok (record { image = volume; answer = answer_of reply })) unread)) }
+    ensures well { OnOk result (W.has_failed sink.new ≡ false) }
+    ensures front { OnErr result (AppendsFront (W.contents sink.old) (W.contents sink.new) (answer_bytes (answer_of reply))) }
+    ensures cause { IfErr result (λ fault. IsCause fault false (W.has_failed sink.new) []) }
+{
+    match reply {
+        Reply::Lines(text) => write_all(sink, text.as_bytes())?,
+        Reply::Bytes(bytes) => write_all(sink, &bytes)?,
+        Reply::Done => return Ok(Outcome::keeping(alloc, volume.into_bytes())),
+    }
+    Ok(Outcome::plain(alloc, Exit::Ended, String::new(alloc)))
+}
+
+/// Does a command on a volume.
+fn file<W: Sink>(
+    alloc: Global,
+    sink: &mut W,
+    mut volume: Volume,
+    command: Command,
+) -> Result<Outcome, Fault>
+    requires well { W.has_failed sink.old ≡ false }
+    ensures written { OnOk result (Appends (W.contents sink.old) (W.contents sink.new) (said_filed (filed volume (order_of command)) []).written) }
+    ensures outcome { IfOk result (λ outcome. (unread : List ℕ) → IsOutcome outcome (said_filed (filed volume (order_of command)) unread)) }
+    ensures well { OnOk result (W.has_failed sink.new ≡ false) }
+    ensures front { OnErr result (AppendsFront (W.contents sink.old) (W.contents sink.new) (said_filed (filed volume (order_of command)) []).written) }
+    ensures cause { IfErr result (λ fault. IsCause fault false (W.has_failed sink.new) []) }
+{
+    match apply(alloc, &mut volume, command) {
+        Ok(reply) => Ok(answer(alloc, sink, volume, reply)?),
+        Err(FilerFault::NoMemory) => Err(Fault::NoMemory),
+        Err(fault) => Ok(refuse(alloc, Refusal::Filer(fault))?),
+    }
+}
+
+/// Does a command on the volume that an image is.
+pub(crate) fn files<R: Source, W: Sink>(
+    alloc: Global,
+    source: &mut R,
+    sink: &mut W,
+    image: Vec<u8>,
+    command: Command,
+) -> Result<Outcome, Fault>
+    requires source_well { R.has_failed source.old ≡ false }
+    requires sink_well { W.has_failed sink.old ≡ false }
+    ensures done { IfOk result (λ outcome. IsDone (R.remaining source.old) (R.remaining source.new)
+        (W.contents sink.old) (W.contents sink.new) outcome (said_files image.items (order_of command))) }
+    ensures well { OnOk result ((R.has_failed source.new ≡ false) × (W.has_failed sink.new ≡ false)) }
+    ensures broken { IfErr result (λ fault. IsBrokenOff (R.remaining source.old) (R.remaining source.new)
+        (W.contents sink.old) (W.contents sink.new) fault (R.has_failed source.new) (W.has_failed sink.new) (said_files image.items (order_of command))) }
+{
+    let volume = match Volume::open(image) {
+        Ok(volume) => volume,
+        Err((fault, _)) => return Ok(refuse(alloc, Refusal::Volume(fault))?),
+    };
+    if !takes_input(&command) {
+        let outcome = file(alloc, sink, volume, command)?;
+        return Ok(outcome);
+    }
+    let input = read_all(alloc, source)?;
+    let outcome = file(alloc, sink, volume, with_input(command, input))?;
+    Ok(outcome)
+}
+
+/// A new volume without files.
+pub(crate) fn new_volume(alloc: Global, name: &str, blocks: u16) -> Result<Outcome, AllocError>
+    ensures outcome { IfOk result (λ outcome. (input : List ℕ) → IsOutcome outcome (said_new (blank_fault name.now blocks) name.now blocks input)) }
+    ensures sound { IfOk result (λ outcome. IsSound outcome.status) }
+{
+    match Volume::blank(alloc, name, blocks) {
+        Ok(volume) => Ok(Outcome::keeping(alloc, volume.into_bytes())),
+        Err(VolumeFault::NoMemory) => Err(AllocError),
+        Err(fault) => Ok(refuse(alloc, Refusal::Volume(fault))?),
+    }
+}

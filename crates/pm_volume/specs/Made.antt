@@ -1,0 +1,32 @@
+-- The image that a change makes, or why it is refused.
+use Rattle.std.specs.Prelude.{ℕ, List, length, Option, Some, None, Result, Ok, Err}
+use Rattle.pm_volume.specs.Changes.{blocks_for, new_entry, place_for, slot_named, slot_to_rename, with_file, with_name, without_file}
+use Rattle.pm_volume.specs.Directory.{directory_of}
+use Rattle.pm_volume.specs.declared.fault.VolumeFault.{VolumeFault}
+use Rattle.pm_volume.specs.declared.fault.VolumeFault.TheVariants.{NoFile}
+use Rattle.pm_volume.specs.declared.gap.Gap.{Gap}
+
+-- a new file in a gap
+abbrev pub added_in : List ℕ → List ℕ → ℕ → List ℕ → ℕ → Result Gap VolumeFault → Result (List ℕ) VolumeFault
+added_in image name kind bytes date (Ok gap) = Ok (with_file image gap.place (new_entry gap name kind (length bytes) date) bytes)
+added_in image name kind bytes date (Err fault) = Err fault
+
+-- the image with a new file of this name, kind, bytes and date
+unfoldable pub added : List ℕ → List ℕ → ℕ → List ℕ → ℕ → Result (List ℕ) VolumeFault
+added image name kind bytes date = added_in image name kind bytes date (place_for image name (blocks_for (length bytes)))
+
+abbrev pub removed_at : List ℕ → Option ℕ → Result (List ℕ) VolumeFault
+removed_at image (Some slot) = Ok (without_file image slot)
+removed_at image None = Err NoFile
+
+-- the image without the first file of this name
+unfoldable pub removed : List ℕ → List ℕ → Result (List ℕ) VolumeFault
+removed image name = removed_at image (slot_named (directory_of image) name)
+
+abbrev pub renamed_at : List ℕ → List ℕ → Result ℕ VolumeFault → Result (List ℕ) VolumeFault
+renamed_at image name (Ok slot) = Ok (with_name image slot name)
+renamed_at image name (Err fault) = Err fault
+
+-- the image with another name for the first file of this name
+unfoldable pub renamed : List ℕ → List ℕ → List ℕ → Result (List ℕ) VolumeFault
+renamed image old new = renamed_at image new (slot_to_rename (directory_of image) old new)

@@ -1,0 +1,32 @@
+-- The name and the free space of a volume.
+use Rattle.std.specs.Prelude.{ℕ, ◌+◌, ◌-◌, List, max, slice_index, slice_range}
+use Rattle.std.specs.List.{fold, sum_by}
+use Rattle.pm_volume.specs.Changes.{gaps}
+use Rattle.pm_volume.specs.Directory.{block_count, directory_of, files_begin, files_in}
+use Rattle.pm_volume.specs.declared.gap.Gap.{Gap}
+
+-- the characters of the volume's name
+abbrev pub name_of : List ℕ → List ℕ
+name_of image = slice_range (directory_of image) 7 (7 + slice_index (directory_of image) 6)
+
+-- the blocks of a gap
+abbrev pub gap_size : Gap → ℕ
+gap_size gap = gap.end - gap.begin
+
+-- all gaps of a directory, lowest first
+abbrev pub gaps_in : List ℕ → List Gap
+gaps_in directory = gaps (block_count directory) 1 (files_begin directory) (files_in directory)
+
+-- the blocks of all gaps
+abbrev pub free_in : List ℕ → ℕ
+free_in directory = sum_by gap_size (gaps_in directory)
+
+-- the blocks of the largest gap, 0 where no block is free
+abbrev pub largest_in : List ℕ → ℕ
+largest_in directory = fold (λ most gap. max most (gap_size gap)) 0 (gaps_in directory)
+
+unfoldable pub free_blocks : List ℕ → ℕ
+free_blocks image = free_in (directory_of image)
+
+unfoldable pub largest_gap : List ℕ → ℕ
+largest_gap image = largest_in (directory_of image)

@@ -1,0 +1,48 @@
+//! The free space of a volume.
+ghost use Rattle.std.specs.Prelude.{◌≡◌, ◌≤◌, ◌+◌, max, length};
+ghost use Rattle.pm_volume.specs.Directory.{file_count};
+ghost use Rattle.pm_volume.specs.Space.{free_in, largest_in};
+
+use crate::directory::entry_at;
+use crate::words::word;
+
+/// The free space of a volume.
+#[derive(Clone, Copy, Debug, PartialEq, Eq)]
+pub struct Space {
+    /// The blocks of all gaps.
+    pub free: u32,
+    /// The blocks of the largest gap, 0 where no block is free.
+    pub largest: u16,
+}
+
+impl Space {
+    // The space with a further gap of so many blocks.
+    fn with(self, size: u16) -> Space
+        requires room { self.free ≤ 4294901760 }
+        ensures free { result.free ≡ self.free + size }
+        ensures largest { result.largest ≡ max self.largest size }
+    {
+        Space {
+            free: self.free + u32::from(size),
+            largest: self.largest.max(size),
+        }
+    }
+}
+
+// The gaps of a directory, in blocks.
+#[tactic(auto, using(crate::proofs::SpaceLaws::space_steps))]
+pub(crate) fn space_of(directory: &[u8]) -> Space
+    requires whole { length directory.now ≡ 2048 }
+    requires few { file_count directory.now ≤ 77 }
+    ensures free { result.free ≡ free_in directory.now }
+    ensures largest { result.largest ≡ largest_in directory.now }
+{
+    let mut space = Space { free: 0, largest: 0 };
+    let mut from = word(directory, 2);
+    for n in 1..word(directory, 16) + 1 {
+        let entry = entry_at(directory, n);
+        space = space.with(entry.first.saturating_sub(from));
+        from = entry.end;
+    }
+    space.with(word(directory, 14).saturating_sub(from))
+}

@@ -1,6 +1,6 @@
 -- The entries of a directory with one slot less.
 use Rattle.byteorder.specs.Endian.{little_bytes}
-use Rattle.std.proofs.Common.{◌≡◌, ◌<◌, ◌≤◌, ℕ, zero, suc, ◌+◌, ◌-◌, ◌*◌, ◌/◌, List, [], ◌∷◌, ◌++◌, ◌∙◌, ap, sym, refl, length, drop, get_or, arith, length-append, length-take, length-drop}
+use Rattle.std.proofs.Common.{◌≡◌, ◌<◌, ◌≤◌, ◌⊎◌, ℕ, zero, suc, ◌+◌, ◌-◌, ◌*◌, ◌/◌, List, [], ◌∷◌, ◌++◌, ◌∙◌, ap, sym, refl, length, drop, get_or, arith, length-append, length-take, length-drop}
 use Rattle.std.proofs.lemmas.List.{get_or-drop, get_or-take, get_or_append_left}
 use Rattle.std.specs.List.{remove}
 use Rattle.pm_volume.specs.Changes.{no_slot, slots, without_file, without_slot}
@@ -13,7 +13,7 @@ use Rattle.pm_volume.proofs.EntryLaws.{length-no_slot}
 use Rattle.pm_volume.proofs.ImageLaws.{IsVolume-with, directory-with}
 use Rattle.pm_volume.proofs.OrderLaws.{IsSound-later}
 use Rattle.pm_volume.proofs.SlotChanges.{entries_from-add, entries_from-same, first_entry, length-entries_from}
-use Rattle.pm_volume.proofs.WrittenLaws.{get_written_above, get_written_below, get_written_in, length-directory, length-written, same_parts, word_in-written}
+use Rattle.pm_volume.proofs.WrittenLaws.{get_written_above, get_written_below, get_written_in, get_written_outside, length-directory, length-written, same_parts, word_in-written}
 
 earlier : (blocks from later : ℕ) (es : List Entry) → from ≤ later → AreInOrder blocks later es → AreInOrder blocks from es
 unfolding AreInOrder
@@ -62,6 +62,14 @@ module _ (d : List ℕ) (n : ℕ) (whole : length d ≡ 2048) (few : file_count 
   unfolding without_slot moved
   length-without_slot =
       length-written (written d (26 * n) moved) 16 (little_bytes 2 (file_count d - 1)) (omega (arith, length-area)) ∙ length-area
+
+  -- a byte outside the number of files and the slots that move
+  pub without_slot_outside : (k : ℕ) → (k < 16) ⊎ (18 ≤ k) → (k < 26 * n) ⊎ (26 * (file_count d + 1) ≤ k) → get_or (without_slot d n) k 0 ≡ get_or d k 0
+  unfolding without_slot moved
+  without_slot_outside k count slots =
+      let end : 26 * n + length moved ≡ 26 * (file_count d + 1) = omega (arith, length-moved, to) in
+      get_written_outside (written d (26 * n) moved) 16 (little_bytes 2 (file_count d - 1)) k (omega (arith, length-area)) count
+      ∙ get_written_outside d (26 * n) moved k room (rw end slots)
 
   below_byte : (k : ℕ) → 18 ≤ k → k < 26 * n → get_or (without_slot d n) k 0 ≡ get_or d k 0
   unfolding without_slot moved

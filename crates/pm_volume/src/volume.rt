@@ -1,4 +1,4 @@
-ghost use Rattle.std.specs.Prelude.{◌≡◌, ◌↔◌, ◌+◌, ◌≤◌, [], length, slice_index, slice_range, unwrap_or, Err, None, Some, IfErr, IfOk, IsOk, IsTrue, OnOk, OnErr, ℕ};
+ghost use Rattle.std.specs.Prelude.{◌≡◌, ◌↔◌, ◌+◌, ◌≤◌, [], ◌∷◌, length, slice_index, slice_range, unwrap_or, Err, None, Some, IfErr, IfOk, IfSome, IsOk, IsTrue, OnOk, OnErr, ℕ};
 ghost use Rattle.pm_volume.specs.Changes.{blocks_for};
 ghost use Rattle.pm_volume.specs.Directory.{directory_of, file_count, image_fault};
 ghost use Rattle.pm_volume.specs.Headers.{zeros};
@@ -36,8 +36,9 @@ impl Model for Volume {
 }
 
 impl Volume {
-    ghost use Rattle.pm_volume.specs.Changes.{AddsFile, RemovesFile, RenamesFile, place_for, slot_named, slot_to_rename};
+    ghost use Rattle.pm_volume.specs.Changes.{added_spans, removed_spans, AddsFile, RemovesFile, RenamesFile, place_for, slot_named, slot_to_rename};
     ghost use Rattle.pm_volume.specs.Headers.{blank_fault, blank_image, dated_image, zeroed_image};
+    ghost use Rattle.pm_volume.specs.Kept.{ChangesOnly, KeepsFiles, date_span, directory_span, name_span};
     ghost use Rattle.pm_volume.specs.Names.{is_new_name};
     ghost use Rattle.pm_volume.specs.Directory.{IsVolume, block_count};
     ghost use Rattle.pm_volume.specs.Disks.{block_of};
@@ -172,6 +173,9 @@ impl Volume {
         ensures added { IfOk result (λ e. AddsFile self.old self.new name.now kind bytes.now date e) }
         ensures files { IfOk result (λ e. (k : ℕ) × (files_of self.new ≡ insert (files_of self.old) k e)) }
         ensures contents { IfOk result (λ e. file_bytes self.new e ≡ Some bytes.now) }
+        ensures kept { OnOk result (KeepsFiles self.old self.new) }
+        ensures rest { IfOk result (λ e. IfOk (place_for self.old name.now (blocks_for (length bytes.now)))
+            (λ gap. ChangesOnly (added_spans (directory_of self.old) gap e) self.old self.new)) }
         ensures refused { IfErr result (λ fault. place_for self.old name.now (blocks_for (length bytes.now)) ≡ Err fault) }
         ensures unchanged { OnErr result (self.new ≡ self.old) }
     {
@@ -185,6 +189,9 @@ impl Volume {
     /// Removes the first file of a name. Its blocks keep their bytes.
     pub fn remove(&mut self, name: &str) -> Result<(), VolumeFault>
         ensures removed { OnOk result (RemovesFile self.old self.new name.now) }
+        ensures kept { OnOk result (KeepsFiles self.old self.new) }
+        ensures rest { IfSome (slot_named (directory_of self.old) name.now)
+            (λ slot. ChangesOnly (removed_spans (directory_of self.old) slot) self.old self.new) }
         ensures refused { IfErr result (λ fault. (fault ≡ VolumeFault.NoFile)
             × (slot_named (directory_of self.old) name.now ≡ None)) }
         ensures unchanged { OnErr result (self.new ≡ self.old) }
@@ -201,6 +208,9 @@ impl Volume {
     /// new name (the file's own name is allowed).
     pub fn rename(&mut self, old: &str, new: &str) -> Result<(), VolumeFault>
         ensures renamed { OnOk result (RenamesFile self.old self.new old.now new.now) }
+        ensures kept { OnOk result (KeepsFiles self.old self.new) }
+        ensures rest { IfOk (slot_to_rename (directory_of self.old) old.now new.now)
+            (λ slot. ChangesOnly (name_span slot ∷ []) self.old self.new) }
         ensures refused { IfErr result (λ fault. slot_to_rename (directory_of self.old) old.now new.now ≡ Err fault) }
         ensures unchanged { OnErr result (self.new ≡ self.old) }
     {
@@ -213,6 +223,7 @@ impl Volume {
     pub fn set_date(&mut self, date: u16)
         ensures dated { self.new ≡ dated_image self.old date }
         ensures files { files_of self.new ≡ files_of self.old }
+        ensures rest { ChangesOnly (date_span ∷ []) self.old self.new }
     {
         date_volume(&mut self.bytes, date);
     }
@@ -224,6 +235,7 @@ impl Volume {
         ensures accepted { IsOk result ↔ IsTrue (is_new_name 7 name.now) }
         ensures zeroed { OnOk result (self.new ≡ zeroed_image self.old name.now) }
         ensures empty { OnOk result (files_of self.new ≡ []) }
+        ensures rest { OnOk result (ChangesOnly (directory_span ∷ []) self.old self.new) }
         ensures refused { IfErr result (λ fault. fault ≡ VolumeFault.BadName) }
         ensures unchanged { OnErr result (self.new ≡ self.old) }
     {

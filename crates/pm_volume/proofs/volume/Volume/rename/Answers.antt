@@ -1,5 +1,6 @@
 use Rattle.std.proofs.Common.{◌≡◌, ◌∙◌, ap, sym, ◌++◌, take, drop, length}
 use Rattle.pm_volume.specs.Changes.{with_name}
+use Rattle.pm_volume.proofs.KeptLaws.{ChangesOnly-named, KeepsFiles-named}
 use Rattle.pm_volume.proofs.SlotLaws.{written_back}
 use Rattle.pm_volume.proofs.RenameLaws.{IsVolume-named, files-renamed}
 use Rattle.pm_volume.proofs.volume.Volume.rename.Goals as goal
@@ -32,3 +33,16 @@ returns-clause-renamed c =
       image = image_after w;
       files = rw (image_after w) (files-renamed c.args.self.now c.args.new.now c.in_ok-slot.slot c.slot_to_rename.ensures.volume new.0 new.1 slot.0 slot.1);
     }
+
+pub returns-clause-kept : goal.returns-clause-kept
+returns-clause-kept c =
+    let w = (goal.at.returns-clause-kept c).After-name_file in
+    let slot = c.in_ok-slot.ensures.within in
+    rw (image_after w) (KeepsFiles-named c.args.self.now c.slot_to_rename.ensures.volume c.in_ok-slot.slot slot.0 slot.1 c.args.new.now c.in_ok-slot.ensures.named.1)
+
+pub returns-clause-rest : goal.returns-clause-rest
+returns-clause-rest c =
+    let w = (goal.at.returns-clause-rest c).After-name_file in
+    let slot = c.in_ok-slot.ensures.within in
+    let found = sym c.slot_to_rename.ensures.found ∙ c.in_ok-slot.was in
+    rw (found, image_after w) (ChangesOnly-named c.args.self.now c.slot_to_rename.ensures.volume c.in_ok-slot.slot slot.0 slot.1 c.args.new.now c.in_ok-slot.ensures.named.1)

@@ -1,6 +1,7 @@
 use Rattle.std.proofs.Common.{◌≡◌, ◌∙◌, ap, ◌++◌, take, drop, List, ℕ, length, subst}
 use Rattle.pm_volume.specs.Directory.{IsVolume}
 use Rattle.pm_volume.specs.Headers.{dated_image}
+use Rattle.pm_volume.proofs.KeptLaws.{ChangesOnly-dated}
 use Rattle.pm_volume.proofs.HeaderLaws.{IsVolume-dated, files-dated_image}
 use Rattle.pm_volume.proofs.SlotLaws.{written_back}
 use Rattle.pm_volume.proofs.volume.Volume.set_date.Goals as goal
@@ -26,3 +27,8 @@ pub returns-clause-files : goal.returns-clause-files
 returns-clause-files c =
     let w = (goal.at.returns-clause-files c).After-date_volume in
     rw (image_after w) (files-dated_image c.args.self.now (volume w) c.args.date)
+
+pub returns-clause-rest : goal.returns-clause-rest
+returns-clause-rest c =
+    let w = (goal.at.returns-clause-rest c).After-date_volume in
+    rw (image_after w) (ChangesOnly-dated c.args.self.now (volume w) c.args.date)

@@ -2,6 +2,7 @@ use Rattle.std.proofs.Common.{◌≡◌, ◌<◌, ◌≤◌, ◌∙◌, ap, ◌+
 use Rattle.pm_volume.specs.Directory.{block_count, directory_of}
 use Rattle.pm_volume.specs.Headers.{zeroed_image}
 use Rattle.pm_volume.specs.Names.{is_new_name}
+use Rattle.pm_volume.proofs.KeptLaws.{ChangesOnly-zeroed}
 use Rattle.pm_volume.proofs.HeaderLaws.{IsVolume-zeroed, files-zeroed}
 use Rattle.pm_volume.proofs.NameLaws.{length-new_name}
 use Rattle.pm_volume.proofs.SlotLaws.{written_back}
@@ -37,3 +38,9 @@ returns-clause-empty c =
     let w = (goal.at.returns-clause-empty c).After-renew_directory in
     let n = name_length (goal.at.returns-clause-empty c).After-as_bytes-2 in
     rw (image_after w) (files-zeroed c.args.self.now c.directory-directory.ensures.volume c.args.name.now n.0 n.1)
+
+pub returns-clause-rest : goal.returns-clause-rest
+returns-clause-rest c =
+    let w = (goal.at.returns-clause-rest c).After-renew_directory in
+    let n = name_length (goal.at.returns-clause-rest c).After-as_bytes-2 in
+    rw (image_after w) (ChangesOnly-zeroed c.args.self.now c.directory-directory.ensures.volume c.args.name.now n.1)

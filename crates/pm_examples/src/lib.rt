@@ -6,6 +6,8 @@ mod calls;
 #[cfg(test)]
 mod faults;
 #[cfg(test)]
+mod files;
+#[cfg(test)]
 mod machine;
 #[cfg(test)]
 mod raw;

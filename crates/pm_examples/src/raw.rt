@@ -37,7 +37,7 @@ pub(crate) fn raw_run(alloc: Global, text: &[u8], limit: u32) -> Ran {
 }
 
 impl Ran {
-    fn assert(&self, rt: &impl Abort, status: u8, message: &str, written: &str) {
+    pub(crate) fn assert(&self, rt: &impl Abort, status: u8, message: &str, written: &str) {
         assert_eq!(rt; self.outcome.status, status);
         assert_eq!(rt; self.outcome.message.as_str(), message);
         assert_eq!(rt; self.written.as_slice(), written.as_bytes());

@@ -1,0 +1,133 @@
+-- What a change makes of a volume.
+use Rattle.std.specs.Prelude.{◌≡◌, ◌==◌, ◌<◌, ◌≤◌, Bool, not, nat_le, is_some, ℕ, ◌+◌, ◌-◌, ◌*◌, ◌/◌, ◌%◌, List, [], ◌∷◌, ◌++◌, length, replicate, slice_range, Option, Some, Result, Ok, Err, if◌then◌else◌}
+use Rattle.std.specs.List.{find, position_from, remove}
+use Rattle.std.specs.Option.{ok_or}
+use Rattle.pm_volume.specs.Directory.{block_count, directory_of, file_count, files_begin, files_in}
+use Rattle.pm_volume.specs.Files.{file_named, files_of, is_named}
+use Rattle.pm_volume.specs.Names.{is_new_name, name_field}
+use Rattle.pm_volume.specs.Words.{with_word, written}
+use Rattle.pm_volume.specs.declared.entry.Entry.{Entry}
+use Rattle.pm_volume.specs.declared.fault.VolumeFault.{VolumeFault}
+use Rattle.pm_volume.specs.declared.fault.VolumeFault.TheVariants.{BadName, DirectoryFull, Duplicate, NoRoom}
+use Rattle.pm_volume.specs.declared.gap.Gap.{Gap}
+
+-- an image with another directory
+abbrev pub with_directory : List ℕ → List ℕ → List ℕ
+with_directory image directory = written image 1024 directory
+
+-- the slots of a directory from n up to m
+abbrev pub slots : List ℕ → ℕ → ℕ → List ℕ
+slots directory n m = slice_range directory (26 * n) (26 * m)
+
+-- the directory with another number of files
+abbrev pub with_count : List ℕ → ℕ → List ℕ
+with_count directory count = with_word directory 16 count
+
+-- a slot without an entry
+unfoldable pub no_slot : List ℕ
+no_slot = replicate 26 0
+
+-- the directory with a slot put in at n
+unfoldable pub with_slot : List ℕ → ℕ → List ℕ → List ℕ
+with_slot directory n slot =
+    let count = file_count directory in
+    with_count (written directory (26 * n) (slot ++ slots directory n (count + 1))) (count + 1)
+
+-- the directory with slot n taken out, the slot that falls free being zero
+unfoldable pub without_slot : List ℕ → ℕ → List ℕ
+without_slot directory n =
+    let count = file_count directory in
+    with_count (written directory (26 * n) (slots directory (n + 1) (count + 1) ++ no_slot)) (count - 1)
+
+-- the slot of an entry
+unfoldable pub slot_of : Entry → List ℕ
+slot_of e =
+    let begun = with_word (with_word (with_word no_slot 0 e.first) 2 e.end) 4 e.kind in
+    with_word (with_word (written begun 6 e.name) 22 e.last_bytes) 24 e.date
+
+-- an entry whose fields fit in a slot
+pub record FitsSlot (e : Entry) : Type 0 where
+  pub name : length e.name ≡ 16
+  pub kind : e.kind < 16
+  pub first : e.first < 65536
+  pub end : e.end < 65536
+  pub last_bytes : e.last_bytes < 65536
+  pub date : e.date < 65536
+
+-- the gaps of a volume of so many blocks, each by the slot that a file in it gets and its blocks: before each of
+-- these entries, the first of them number n and after files that end at a block, and after the last
+unfoldable pub gaps : ℕ → ℕ → ℕ → List Entry → List Gap
+gaps blocks n from [] = record { place = n; begin = from; end = blocks } ∷ []
+gaps blocks n from (e ∷ es) = record { place = n; begin = from; end = e.first } ∷ gaps blocks (n + 1) e.end es
+
+-- whether a gap serves a file of so many blocks beside so many files: an empty one stands after all others
+abbrev pub serves : ℕ → ℕ → Gap → Bool
+serves need count g = if need == 0 then g.place == count + 1 else nat_le need (g.end - g.begin)
+
+-- the lowest gap that serves
+abbrev pub gap_for : List ℕ → ℕ → Option Gap
+gap_for directory need =
+    find (serves need (file_count directory)) (gaps (block_count directory) 1 (files_begin directory) (files_in directory))
+
+-- how many blocks hold so many bytes
+abbrev pub blocks_for : ℕ → ℕ
+blocks_for size = (size + 511) / 512
+
+-- where a new file goes, or why there is none
+unfoldable pub place_for : List ℕ → List ℕ → ℕ → Result Gap VolumeFault
+place_for image name need =
+    if not (is_new_name 15 name) then Err BadName
+    else (if is_some (file_named image name) then Err Duplicate
+    else (if nat_le 77 (file_count (directory_of image)) then Err DirectoryFull
+    else ok_or (gap_for (directory_of image) need) NoRoom))
+
+-- the entry of a new file in a gap
+abbrev pub new_entry : Gap → List ℕ → ℕ → ℕ → ℕ → Entry
+new_entry g name kind size date =
+    let need = blocks_for size in
+    record {
+      name = name_field 15 name;
+      kind = kind % 16;
+      first = g.begin;
+      end = g.begin + need;
+      last_bytes = 512 - (512 * need - size);
+      date = date;
+    }
+
+-- the image with a new file: its entry, its bytes, and zeros to the end of its last block
+unfoldable pub with_file : List ℕ → ℕ → Entry → List ℕ → List ℕ
+with_file image n e bytes =
+    let begin = 512 * e.first in
+    let listed = with_directory image (with_slot (directory_of image) n (slot_of e)) in
+    written (written listed begin bytes) (begin + length bytes) (replicate (512 * blocks_for (length bytes) - length bytes) 0)
+
+-- a gap holds so many blocks, and its slot is free
+pub record IsRoomFor (image : List ℕ) (need : ℕ) (g : Gap) : Type 0 where
+  pub few : file_count (directory_of image) < 77
+  pub first : 1 ≤ g.place
+  pub last : g.place ≤ file_count (directory_of image) + 1
+  pub fits : g.begin + need ≤ g.end
+  pub past_directory : 6 ≤ g.begin
+  pub within : 512 * g.end ≤ length image
+
+-- a file was added: its entry stands in the lowest gap that serves, and its bytes in the entry's blocks
+pub record AddsFile (old new name : List ℕ) (kind : ℕ) (bytes : List ℕ) (date : ℕ) (e : Entry) : Type 0 where
+  pub gap : Gap
+  pub placed : place_for old name (blocks_for (length bytes)) ≡ Ok gap
+  pub entry : e ≡ new_entry gap name kind (length bytes) date
+  pub image : new ≡ with_file old gap.place e bytes
+
+-- the image without the file in slot n; its blocks keep their bytes
+abbrev pub without_file : List ℕ → ℕ → List ℕ
+without_file image n = with_directory image (without_slot (directory_of image) n)
+
+-- the slot of the first file of a name
+abbrev pub slot_named : List ℕ → List ℕ → Option ℕ
+slot_named directory name = position_from (is_named name) 1 (files_in directory)
+
+-- the first file of a name was removed
+pub record RemovesFile (old new name : List ℕ) : Type 0 where
+  pub slot : ℕ
+  pub found : slot_named (directory_of old) name ≡ Some slot
+  pub image : new ≡ without_file old slot
+  pub files : files_of new ≡ remove (files_of old) (slot - 1)

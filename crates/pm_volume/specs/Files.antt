@@ -1,0 +1,25 @@
+-- The files of an image: their blocks and bytes.
+use Rattle.std.specs.Prelude.{Bool, nat_le, ℕ, ◌+◌, ◌-◌, ◌*◌, List, [], length, slice_range, Option, Some, None, if◌then◌else◌}
+use Rattle.std.specs.List.{find}
+use Rattle.pm_volume.specs.Directory.{directory_of, files_in}
+use Rattle.pm_volume.specs.Names.{characters_of, is_same_name}
+use Rattle.pm_volume.specs.declared.entry.Entry.{Entry}
+
+-- the files of an image in block order
+abbrev pub files_of : List ℕ → List Entry
+files_of image = files_in (directory_of image)
+
+-- whether an entry has this name
+abbrev pub is_named : List ℕ → Entry → Bool
+is_named name e = is_same_name (characters_of e.name) name
+
+-- the first file of a name
+abbrev pub file_named : List ℕ → List ℕ → Option Entry
+file_named image name = find (is_named name) (files_of image)
+
+-- the bytes of a file: its blocks with the last one cut, none if they leave the image; a file without blocks is empty
+unfoldable pub file_bytes : List ℕ → Entry → Option (List ℕ)
+file_bytes image e =
+    let end = 512 * (e.end - 1) + e.last_bytes in
+    if nat_le e.end e.first then Some []
+    else (if nat_le end (length image) then Some (slice_range image (512 * e.first) end) else None)

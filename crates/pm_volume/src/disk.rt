@@ -1,0 +1,86 @@
+//! Disks: images of whole blocks without a look at their directory.
+
+ghost use Rattle.std.specs.Prelude.{◌≡◌, ◌↔◌, ◌/◌, ◌%◌, IsTrue, length};
+ghost use Rattle.std.specs.Bool.{OnFalse, OnTrue};
+ghost use Rattle.std.specs.Option.{option_map};
+ghost use Rattle.pm_volume.specs.Disks.{IsInImage, block_of};
+ghost use Rattle.pm_volume.specs.Words.{written};
+
+use crate::words::set_bytes;
+use std::marker::Model;
+
+const BLOCK: usize = 512;
+
+/// A disk: an image of whole blocks of 512 bytes, seen as the list of its bytes.
+#[derive(Drop)]
+pub struct Disk {
+    bytes: Vec<u8>,
+}
+
+impl Model for Disk {
+    ghost use Rattle.std.specs.Prelude.{◌≡◌, ◌%◌, ℕ, List, length};
+
+    ghost Value = { List ℕ };
+
+    ghost view = { λ d. d.bytes.items };
+
+    ghost invariant = { λ d. record {
+      whole : length d.bytes.items % 512 ≡ 0;
+    } };
+}
+
+impl Disk {
+    // The disk of an image.
+    pub(crate) fn new(bytes: Vec<u8>) -> Disk
+        requires whole { length bytes.items % 512 ≡ 0 }
+        ensures image { result ≡ bytes.items }
+    {
+        Disk { bytes }
+    }
+
+    /// The number of blocks of the whole image.
+    pub fn blocks(&self) -> usize
+        ensures whole { length self.now % 512 ≡ 0 }
+        ensures count { result ≡ length self.now / 512 }
+    {
+        self.bytes.len() / BLOCK
+    }
+
+    /// All bytes of the image.
+    pub fn bytes(&self) -> &[u8]
+        ensures image { result.now ≡ self.now }
+    {
+        &self.bytes
+    }
+
+    /// Block n, 512 bytes; `None` past the image's end.
+    #[tactic(auto, unfolding(crate::specs::Disks::block_of))]
+    pub fn block(&self, n: u16) -> Option<&[u8]>
+        ensures bytes { option_map (λ bytes. bytes.now) result ≡ block_of self.now n }
+    {
+        let begin = BLOCK * usize::from(n);
+        self.bytes.get(begin..begin + BLOCK)
+    }
+
+    /// Overwrites the bytes from a place on; false, and nothing changed, if they pass the image's
+    /// end.
+    pub fn write(&mut self, place: usize, bytes: &[u8]) -> bool
+        ensures inside { IsTrue result ↔ IsInImage self.old place (length bytes.now) }
+        ensures written { OnTrue result (self.new ≡ written self.old place bytes.now) }
+        ensures refused { OnFalse result (self.new ≡ self.old) }
+    {
+        if place > self.bytes.len() || bytes.len() > self.bytes.len() - place {
+            return false;
+        }
+        set_bytes(&mut self.bytes, place, bytes);
+        true
+    }
+
+    /// The image.
+    pub fn into_bytes(self) -> Vec<u8>
+        ensures image { result.items ≡ self }
+    {
+        let Disk { bytes } = self;
+        bytes
+    }
+}

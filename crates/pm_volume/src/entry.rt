@@ -1,0 +1,146 @@
+ghost use Rattle.std.specs.Prelude.{◌≡◌, ◌≤◌, ◌++◌, drop, length};
+ghost use Rattle.std.specs.Str.{str_to_ascii_uppercase};
+ghost use Rattle.std.specs.List.{list_all};
+ghost use Rattle.pm_volume.specs.Entries.{entry_of, is_sound};
+ghost use Rattle.pm_volume.specs.Names.{characters_of, is_name_character, is_new_name, is_same_name, name_field};
+
+use crate::words::{set_bytes, set_word, word};
+
+/// A file's entry in the directory.
+#[derive(Clone, Copy, Debug, PartialEq, Eq)]
+pub struct Entry {
+    /// The name as the directory has it: a length byte, then up to 15 characters.
+    pub name: [u8; 16],
+    /// 0 untyped, 1 bad blocks, 2 code, 3 text, 4 info, 5 data, 6 graf, 7 foto, 8 secure
+    /// directory; 9 to 15 have no meaning.
+    pub kind: u8,
+    /// The file's first block.
+    pub first: u16,
+    /// The block past its last one; a file without blocks ends where it begins.
+    pub end: u16,
+    /// How many bytes the last block has: 1 to 512 where the file has blocks.
+    pub last_bytes: u16,
+    /// The month in bits 0 to 3, the day in bits 4 to 8, the year in bits 9 to 15.
+    pub date: u16,
+}
+
+impl Entry {
+    ghost use Rattle.pm_volume.specs.Changes.{slot_of};
+
+    // The entry that the 26 bytes of a directory's slot hold.
+    #[tactic(auto, unfolding(crate::specs::Entries::entry_of))]
+    pub(crate) fn read(slot: &[u8]) -> Entry
+        requires size { length slot.now ≡ 26 }
+        ensures entry { result ≡ entry_of slot.now }
+    {
+        let mut name = [0; 16];
+        name.copy_from_slice(&slot[6..22]);
+        Entry {
+            name,
+            kind: (word(slot, 4) % 16) as u8,
+            first: word(slot, 0),
+            end: word(slot, 2),
+            last_bytes: word(slot, 22),
+            date: word(slot, 24),
+        }
+    }
+
+    // The 26 bytes of the entry's slot.
+    #[tactic(auto, unfolding(crate::specs::Changes::slot_of))]
+    pub(crate) fn slot(&self) -> [u8; 26]
+        ensures fields { result ≡ slot_of self.now }
+        ensures size { length result ≡ 26 }
+    {
+        let mut slot = [0; 26];
+        set_word(&mut slot, 0, self.first);
+        set_word(&mut slot, 2, self.end);
+        set_word(&mut slot, 4, u16::from(self.kind));
+        set_bytes(&mut slot, 6, &self.name);
+        set_word(&mut slot, 22, self.last_bytes);
+        set_word(&mut slot, 24, self.date);
+        slot
+    }
+
+    // Whether the entry may stand after files that end at a block.
+    #[tactic(auto, unfolding(crate::specs::Entries::is_sound))]
+    pub(crate) fn is_sound(&self, from: u16) -> bool
+        ensures sound { result ≡ is_sound from self.now }
+    {
+        matches!(self.name[0], 1..=15)
+            && from <= self.first
+            && self.first <= self.end
+            && (self.first == self.end || matches!(self.last_bytes, 1..=512))
+    }
+
+    /// The characters of the name: as many bytes as its length byte says.
+    #[tactic(auto, unfolding(crate::specs::Names::characters_of))]
+    pub fn characters(&self) -> &[u8]
+        ensures characters { result.now ≡ characters_of self.now.name }
+    {
+        let length = usize::from(self.name[0]).min(15);
+        &self.name[1..1 + length]
+    }
+
+    // Whether the entry has this name, whatever the case.
+    pub(crate) fn is_named(&self, name: &str) -> bool
+        ensures named { result ≡ is_same_name (characters_of self.now.name) name.now }
+    {
+        is_same_name(self.characters(), name.as_bytes())
+    }
+}
+
+// Whether two names are one, whatever their case.
+#[tactic(auto, unfolding(crate::specs::Names::is_same_name))]
+fn is_same_name(left: &[u8], right: &[u8]) -> bool
+    ensures same { result ≡ is_same_name left.now right.now }
+{
+    left.len() == right.len()
+        && left
+            .iter()
+            .zip(right)
+            .all(|(a, b)| a.to_ascii_uppercase() == b.to_ascii_uppercase())
+}
+
+// Whether a text can be a new name of up to so many characters.
+#[tactic(auto, unfolding(crate::specs::Names::is_new_name))]
+pub(crate) fn is_new_name(most: usize, name: &[u8]) -> bool
+    ensures accepted { result ≡ is_new_name most name.now }
+{
+    1 <= name.len() && name.len() <= most && are_name_characters(name)
+}
+
+// Whether each character can stand in a name.
+fn are_name_characters(name: &[u8]) -> bool
+    ensures all { result ≡ list_all is_name_character name.now }
+{
+    name.iter().all(|c| is_name_character(*c))
+}
+
+// A character of a new name.
+fn is_name_character(c: u8) -> bool
+    ensures accepted { result ≡ is_name_character c }
+{
+    33 <= c && c <= 126 && c != b':'
+}
+
+// A new name in its field, raised.
+#[tactic(auto, unfolding(crate::specs::Names::name_field))]
+pub(crate) fn name_field(name: &[u8]) -> [u8; 16]
+    requires short { length name.now ≤ 15 }
+    ensures field { result ≡ name_field 15 name.now }
+{
+    let mut field = [0; 16];
+    field[0] = name.len() as u8;
+    raise_into(&mut field[1..], name);
+    field
+}
+
+// Writes the characters of a name, raised, at the front of a field.
+fn raise_into(field: &mut [u8], name: &[u8])
+    requires room { length name.now ≤ length field.old }
+    ensures raised { field.new ≡ str_to_ascii_uppercase name.now ++ drop (length name.now) field.old }
+{
+    for i in 0..name.len() {
+        field[i] = name[i].to_ascii_uppercase();
+    }
+}

@@ -1,0 +1,59 @@
+ghost use Rattle.std.specs.Prelude.{◌≡◌, ◌+◌, ◌≤◌, length};
+ghost use Rattle.pm_volume.specs.Directory.{file_count};
+
+use crate::directory::entry_at;
+use crate::words::word;
+
+/// Free blocks, and the slot that a file in them gets.
+#[derive(Clone, Copy, Debug, PartialEq, Eq)]
+pub(crate) struct Gap {
+    pub(crate) place: u16,
+    pub(crate) begin: u16,
+    pub(crate) end: u16,
+}
+
+impl Gap {
+    ghost use Rattle.pm_volume.specs.Changes.{gap_for, serves};
+
+    // Whether a file of so many blocks goes here, beside so many files.
+    fn serves(&self, need: usize, count: u16) -> bool
+        ensures enough { result ≡ serves need count self.now }
+    {
+        if need == 0 {
+            return usize::from(self.place) == usize::from(count) + 1;
+        }
+        need <= usize::from(self.end.saturating_sub(self.begin))
+    }
+
+    // The lowest gap for a file of so many blocks.
+    #[tactic(auto, using(crate::proofs::GapLaws::gap_steps))]
+    pub(crate) fn lowest(directory: &[u8], need: usize) -> Option<Gap>
+        requires whole { length directory.now ≡ 2048 }
+        requires few { file_count directory.now ≤ 77 }
+        ensures lowest { result ≡ gap_for directory.now need }
+    {
+        let count = word(directory, 16);
+        let mut from = word(directory, 2);
+        for n in 1..count + 1 {
+            let entry = entry_at(directory, n);
+            let gap = Gap {
+                place: n,
+                begin: from,
+                end: entry.first,
+            };
+            if gap.serves(need, count) {
+                return Some(gap);
+            }
+            from = entry.end;
+        }
+        let last = Gap {
+            place: count + 1,
+            begin: from,
+            end: word(directory, 14),
+        };
+        if last.serves(need, count) {
+            return Some(last);
+        }
+        None
+    }
+}

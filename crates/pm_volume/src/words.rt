@@ -1,0 +1,32 @@
+ghost use Rattle.std.specs.Prelude.{◌≡◌, ◌+◌, ◌≤◌, length};
+ghost use Rattle.byteorder.specs.Endian.{little_bytes};
+ghost use Rattle.pm_volume.specs.Words.{word_in, written};
+
+use byteorder::{ByteOrder, LittleEndian};
+
+// The word at a place, its low byte first.
+#[tactic(auto, unfolding(crate::specs::Words::word_in))]
+pub(crate) fn word(bytes: &[u8], place: usize) -> u16
+    requires room { place + 2 ≤ length bytes.now }
+    ensures word { result ≡ word_in bytes.now place }
+{
+    LittleEndian::read_u16(&bytes[place..])
+}
+
+// Writes a word at a place, its low byte first.
+#[tactic(auto, unfolding(crate::specs::Words::written))]
+pub(crate) fn set_word(bytes: &mut [u8], place: usize, word: u16)
+    requires room { place + 2 ≤ length bytes.old }
+    ensures written { bytes.new ≡ written bytes.old place (little_bytes 2 word) }
+{
+    LittleEndian::write_u16(&mut bytes[place..place + 2], word);
+}
+
+// Writes bytes at a place.
+#[tactic(auto, unfolding(crate::specs::Words::written))]
+pub(crate) fn set_bytes(bytes: &mut [u8], place: usize, new: &[u8])
+    requires room { place + length new.now ≤ length bytes.old }
+    ensures written { bytes.new ≡ written bytes.old place new.now }
+{
+    bytes[place..place + new.len()].copy_from_slice(new);
+}

@@ -1,0 +1,14 @@
+//! The standard procedures of the p-machine, and the units that they read and write.
+#![tactic(auto)]
+
+mod memory_rows;
+mod ports;
+mod procedures;
+mod rows;
+mod transfers;
+mod trap;
+mod units;
+
+pub use ports::MountFault;
+pub use trap::Trap;
+pub use units::Units;

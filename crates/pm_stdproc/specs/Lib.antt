@@ -4,3 +4,4 @@ pub mod MemoryRows
 pub mod Transfers
 pub mod UnitRows
 pub mod Procedures
+pub mod Laws

@@ -1,6 +1,7 @@
 //! The standard procedures of the p-machine, and the units that they read and write.
 #![tactic(auto)]
 
+pub mod laws;
 mod memory_rows;
 mod ports;
 mod procedures;
@@ -12,3 +13,6 @@ mod units;
 pub use ports::MountFault;
 pub use trap::Trap;
 pub use units::Units;
+
+#[cfg(test)]
+mod tests;

@@ -1,11 +1,11 @@
 -- A volume with one more file is a volume.
-use Rattle.std.proofs.Common.{◌≡◌, ◌<◌, ◌≤◌, ℕ, ◌+◌, ◌-◌, ◌*◌, ◌/◌, List, ◌∙◌, ap, refl, length, replicate, get_or, arith}
+use Rattle.std.proofs.Common.{◌≡◌, ◌<◌, ◌≤◌, ◌⊎◌, inl, inr, ℕ, ◌+◌, ◌-◌, ◌*◌, ◌/◌, List, ◌∙◌, ap, refl, length, replicate, get_or, arith}
 use Rattle.std.proofs.lemmas.List.{length-replicate, take_all}
 use Rattle.pm_volume.specs.Changes.{blocks_for, slot_of, with_directory, with_file, with_slot}
 use Rattle.pm_volume.specs.Words.{written}
 use Rattle.pm_volume.specs.Directory.{IsDirectory, IsVolume, directory_of}
 use Rattle.pm_volume.specs.declared.entry.Entry.{Entry}
-use Rattle.pm_volume.proofs.WrittenLaws.{get_written_below, get_written_in, length-written, same_parts}
+use Rattle.pm_volume.proofs.WrittenLaws.{get_written_above, get_written_below, get_written_in, length-written, same_parts}
 
 module _ (image : List ℕ) (n : ℕ) (e : Entry) (bytes d : List ℕ) (long : 3072 ≤ length image)
     (made : d ≡ with_slot (directory_of image) n (slot_of e)) (size : length d ≡ 2048) (after : 6 ≤ e.first)
@@ -70,3 +70,16 @@ module _ (image : List ℕ) (n : ℕ) (e : Entry) (bytes d : List ℕ) (long : 3
       ∙ get_written_below filed (512 * e.first + length bytes) zeros (512 * e.first + k) (omega (arith, length-filed, length-zeros, room)) (omega arith)
       ∙ get_written_in listed (512 * e.first) bytes (512 * e.first + k) (omega (arith, length-listed, room)) (omega arith) (omega arith)
       ∙ ap (λ (i : ℕ). get_or bytes i 0) at
+
+  -- a byte outside the blocks of the new file
+  pub outside_file : (place : ℕ) → (place < 512 * e.first) ⊎ (512 * e.first + 512 * blocks_for (length bytes) ≤ place)
+      → get_or (with_file image n e bytes) place 0 ≡ get_or (with_directory image d) place 0
+  unfolding filed listed
+  outside_file place (inl below) =
+      ap (λ (xs : List ℕ). get_or xs place 0) same_image
+      ∙ get_written_below filed (512 * e.first + length bytes) zeros place (omega (arith, length-filed, length-zeros, room)) (omega arith)
+      ∙ get_written_below listed (512 * e.first) bytes place (omega (arith, length-listed, room)) below
+  outside_file place (inr above) =
+      ap (λ (xs : List ℕ). get_or xs place 0) same_image
+      ∙ get_written_above filed (512 * e.first + length bytes) zeros place (omega (arith, length-filed, length-zeros, room)) (omega (arith, length-zeros))
+      ∙ get_written_above listed (512 * e.first) bytes place (omega (arith, length-listed, room)) (omega arith)

@@ -1,6 +1,6 @@
 -- The entries of a directory with one more slot.
 use Rattle.byteorder.specs.Endian.{little_bytes}
-use Rattle.std.proofs.Common.{◌≡◌, ◌<◌, ◌≤◌, ℕ, zero, suc, ◌+◌, ◌-◌, ◌*◌, List, ◌∷◌, ◌++◌, ◌∙◌, ap, sym, refl, length, take, drop, get_or, arith, length-append, length-take, length-drop, one-add}
+use Rattle.std.proofs.Common.{◌≡◌, ◌<◌, ◌≤◌, ◌⊎◌, ℕ, zero, suc, ◌+◌, ◌-◌, ◌*◌, List, ◌∷◌, ◌++◌, ◌∙◌, ap, sym, refl, length, take, drop, get_or, arith, length-append, length-take, length-drop, one-add}
 use Rattle.std.proofs.lemmas.List.{drop_at, get_or-append_right, get_or-drop, get_or-take, get_or_append_left, take_all, take_at}
 use Rattle.std.specs.List.{insert}
 use Rattle.pm_volume.specs.Changes.{slots, with_slot}
@@ -8,7 +8,7 @@ use Rattle.pm_volume.specs.Words.{word_in, written}
 use Rattle.pm_volume.specs.Directory.{IsDirectory, block_count, entries_from, entry_in, file_count, files_begin, files_in}
 use Rattle.pm_volume.specs.Entries.{AreInOrder, entry_of}
 use Rattle.pm_volume.specs.declared.entry.Entry.{Entry}
-use Rattle.pm_volume.proofs.WrittenLaws.{get_written_above, get_written_below, get_written_in, length-written, same_parts, word_in-written}
+use Rattle.pm_volume.proofs.WrittenLaws.{get_written_above, get_written_below, get_written_in, get_written_outside, length-written, same_parts, word_in-written}
 
 -- the entries of one directory are those of another, so many slots on
 pub entries_from-same : (d d' : List ℕ) (left i j : ℕ) → ((k : ℕ) → k < left → entry_in d (i + k) ≡ entry_in d' (j + k))
@@ -95,6 +95,16 @@ module _ (d slot : List ℕ) (n : ℕ) (whole : length d ≡ 2048) (size : lengt
       ∙ get_or-take (26 * (file_count d + 1) - 26 * n) (drop (26 * n) d) (((26 + k) - 26 * n) - 26) 0 (omega arith)
       ∙ get_or-drop (26 * n) d (((26 + k) - 26 * n) - 26) 0
       ∙ ap (λ (i : ℕ). get_or d i 0) at
+
+  -- a byte outside the number of files and the slots that move
+  pub with_slot_outside : (k : ℕ) → (k < 16) ⊎ (18 ≤ k) → (k < 26 * n) ⊎ (26 * (file_count d + 2) ≤ k) → get_or (with_slot d n slot) k 0 ≡ get_or d k 0
+  unfolding with_slot moved
+  with_slot_outside k count slots =
+      let room : 26 * n + length moved ≤ length d = omega (arith, length-moved, whole, free, to) in
+      let same = length-written d (26 * n) moved room in
+      let end : 26 * n + length moved ≡ 26 * (file_count d + 2) = omega (arith, length-moved, to) in
+      get_written_outside (written d (26 * n) moved) 16 (little_bytes 2 (file_count d + 1)) k (omega (arith, same, whole)) count
+      ∙ get_written_outside d (26 * n) moved k room (rw end slots)
 
   pub length-with_slot : length (with_slot d n slot) ≡ 2048
   unfolding with_slot moved

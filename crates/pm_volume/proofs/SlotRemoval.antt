@@ -1,18 +1,19 @@
 -- The entries of a directory with one slot less.
 use Rattle.byteorder.specs.Endian.{little_bytes}
-use Rattle.std.proofs.Common.{◌≡◌, ◌<◌, ◌≤◌, ℕ, zero, suc, ◌+◌, ◌-◌, ◌*◌, ◌/◌, List, [], ◌∷◌, ◌++◌, ◌∙◌, ap, sym, refl, length, drop, get_or, arith, length-append, length-take, length-drop}
-use Rattle.std.proofs.lemmas.List.{get_or-drop, get_or-take, get_or_append_left, take_all}
+use Rattle.std.proofs.Common.{◌≡◌, ◌<◌, ◌≤◌, ◌⊎◌, ℕ, zero, suc, ◌+◌, ◌-◌, ◌*◌, ◌/◌, List, [], ◌∷◌, ◌++◌, ◌∙◌, ap, sym, refl, length, drop, get_or, arith, length-append, length-take, length-drop}
+use Rattle.std.proofs.lemmas.List.{get_or-drop, get_or-take, get_or_append_left}
 use Rattle.std.specs.List.{remove}
-use Rattle.pm_volume.specs.Changes.{no_slot, slots, with_directory, without_file, without_slot}
+use Rattle.pm_volume.specs.Changes.{no_slot, slots, without_file, without_slot}
 use Rattle.pm_volume.specs.Words.{word_in, written}
 use Rattle.pm_volume.specs.Directory.{IsDirectory, IsVolume, block_count, directory_of, entries_from, entry_in, file_count, files_begin, files_in}
 use Rattle.pm_volume.specs.Entries.{AreInOrder, entry_of}
 use Rattle.pm_volume.specs.Files.{files_of}
 use Rattle.pm_volume.specs.declared.entry.Entry.{Entry}
 use Rattle.pm_volume.proofs.EntryLaws.{length-no_slot}
+use Rattle.pm_volume.proofs.ImageLaws.{IsVolume-with, directory-with}
 use Rattle.pm_volume.proofs.OrderLaws.{IsSound-later}
 use Rattle.pm_volume.proofs.SlotChanges.{entries_from-add, entries_from-same, first_entry, length-entries_from}
-use Rattle.pm_volume.proofs.WrittenLaws.{get_written_above, get_written_below, get_written_in, length-directory, length-written, same_parts, word_in-written}
+use Rattle.pm_volume.proofs.WrittenLaws.{get_written_above, get_written_below, get_written_in, get_written_outside, length-directory, length-written, same_parts, word_in-written}
 
 earlier : (blocks from later : ℕ) (es : List Entry) → from ≤ later → AreInOrder blocks later es → AreInOrder blocks from es
 unfolding AreInOrder
@@ -61,6 +62,14 @@ module _ (d : List ℕ) (n : ℕ) (whole : length d ≡ 2048) (few : file_count 
   unfolding without_slot moved
   length-without_slot =
       length-written (written d (26 * n) moved) 16 (little_bytes 2 (file_count d - 1)) (omega (arith, length-area)) ∙ length-area
+
+  -- a byte outside the number of files and the slots that move
+  pub without_slot_outside : (k : ℕ) → (k < 16) ⊎ (18 ≤ k) → (k < 26 * n) ⊎ (26 * (file_count d + 1) ≤ k) → get_or (without_slot d n) k 0 ≡ get_or d k 0
+  unfolding without_slot moved
+  without_slot_outside k count slots =
+      let end : 26 * n + length moved ≡ 26 * (file_count d + 1) = omega (arith, length-moved, to) in
+      get_written_outside (written d (26 * n) moved) 16 (little_bytes 2 (file_count d - 1)) k (omega (arith, length-area)) count
+      ∙ get_written_outside d (26 * n) moved k room (rw end slots)
 
   below_byte : (k : ℕ) → 18 ≤ k → k < 26 * n → get_or (without_slot d n) k 0 ≡ get_or d k 0
   unfolding without_slot moved
@@ -151,25 +160,6 @@ module _ (d : List ℕ) (n : ℕ) (whole : length d ≡ 2048) (few : file_count 
         few = omega (arith, count-without_slot, few);
         in_order = rw (total, begins, files-without_slot) (order-remove (block_count d) (files_begin d) (n - 1) (files_in d) old.in_order);
       }
-
--- the directory of an image with another directory
-pub directory-with : (image d : List ℕ) → 3072 ≤ length image → length d ≡ 2048 → directory_of (with_directory image d) ≡ d
-directory-with image d long size =
-    let same = length-written image 1024 d (omega arith) in
-    same_parts (with_directory image d) d 1024 0 2048 (omega arith) (omega arith) (λ k below.
-    let at : (1024 + k) - 1024 ≡ 0 + k = omega arith in
-    get_written_in image 1024 d (1024 + k) (omega arith) (omega arith) (omega arith) ∙ ap (λ (i : ℕ). get_or d i 0) at)
-    ∙ take_all 2048 d (omega arith)
-
--- a volume with another directory is one
-pub IsVolume-with : (image d : List ℕ) → IsVolume image → length d ≡ 2048 → IsDirectory d (length image / 512) → IsVolume (with_directory image d)
-IsVolume-with image d v size listing =
-    let same = length-written image 1024 d (omega (arith, v.long)) in
-    record {
-      whole = rw same v.whole;
-      long = rw same v.long;
-      has_directory = rw (directory-with image d v.long size, same) listing;
-    }
 
 module _ (image : List ℕ) (n : ℕ) (v : IsVolume image) (from : 1 ≤ n) (to : n ≤ file_count (directory_of image)) where
   pub IsVolume-removed : IsVolume (without_file image n)

@@ -1,7 +1,7 @@
 -- Bytes written in a list.
 use Rattle.byteorder.specs.Endian.{little_bytes}
 use Rattle.std.proofs.Math.Nat.{mod-eq_of_lt}
-use Rattle.std.proofs.Common.{◌≡◌, ◌<◌, ◌≤◌, ℕ, ◌+◌, ◌-◌, ◌*◌, ◌/◌, ◌%◌, List, [], ◌∷◌, ◌++◌, ◌∙◌, ap, sym, refl, length, map, set, take, drop, get_or, arith, length-append, length-take, length-drop}
+use Rattle.std.proofs.Common.{◌≡◌, ◌<◌, ◌≤◌, ◌⊎◌, inl, inr, ℕ, ◌+◌, ◌-◌, ◌*◌, ◌/◌, ◌%◌, List, [], ◌∷◌, ◌++◌, ◌∙◌, ap, sym, refl, length, map, set, take, drop, get_or, arith, length-append, length-take, length-drop}
 use Rattle.std.specs.Char.{to_ascii_uppercase}
 use Rattle.std.proofs.lemmas.List.{append_assoc, drop_more, length-map, map_more, set-append_right, get_or-append_right, get_or-drop, get_or-take, get_or_append_left, length-take-le, ext_get_or}
 use Rattle.pm_volume.specs.Words.{word_in, written}
@@ -40,6 +40,17 @@ get_written_above xs i ys k fits from =
     ∙ get_or-append_right ys (drop (i + length ys) xs) (length ys) (k - i) 0 refl (omega arith)
     ∙ get_or-drop (i + length ys) xs ((k - i) - length ys) 0
     ∙ ap (λ (n : ℕ). get_or xs n 0) place
+
+-- an item outside those written
+pub get_written_outside : (xs : List ℕ) (i : ℕ) (ys : List ℕ) (k : ℕ) → i + length ys ≤ length xs → (k < i) ⊎ (i + length ys ≤ k)
+    → get_or (written xs i ys) k 0 ≡ get_or xs k 0
+get_written_outside xs i ys k fits (inl below) = get_written_below xs i ys k fits below
+get_written_outside xs i ys k fits (inr above) = get_written_above xs i ys k fits above
+
+-- a place outside a part, counted from another place
+pub shifted : (from a b place : ℕ) → from ≤ place → (place < from + a) ⊎ (from + b ≤ place) → (place - from < a) ⊎ (b ≤ place - from)
+shifted from a b place after (inl below) = inl (omega arith)
+shifted from a b place after (inr above) = inr (omega arith)
 
 -- two parts of lists that agree item by item
 pub same_parts : (xs ys : List ℕ) (a b n : ℕ) → a + n ≤ length xs → b + n ≤ length ys

@@ -1,14 +1,15 @@
 -- What a change makes of a volume.
-use Rattle.std.specs.Prelude.{◌≡◌, ◌==◌, ◌<◌, ◌≤◌, Bool, not, nat_le, is_some, ℕ, ◌+◌, ◌-◌, ◌*◌, ◌/◌, ◌%◌, List, [], ◌∷◌, ◌++◌, length, replicate, slice_range, Option, Some, Result, Ok, Err, if◌then◌else◌}
-use Rattle.std.specs.List.{find, position_from, remove}
+use Rattle.std.specs.Prelude.{◌≡◌, ◌==◌, ◌<◌, Bool, not, nat_le, is_some, ℕ, ◌+◌, ◌-◌, ◌*◌, ◌/◌, ◌%◌, List, [], ◌∷◌, ◌++◌, length, replicate, slice_range, slice_set, Option, Some, None, Result, Ok, Err, if◌then◌else◌}
+use Rattle.std.specs.List.{find, list_any, position_from, remove}
 use Rattle.std.specs.Option.{ok_or}
-use Rattle.pm_volume.specs.Directory.{block_count, directory_of, file_count, files_begin, files_in}
+use Rattle.pm_volume.specs.Directory.{block_count, directory_of, entries_from, entry_in, file_count, files_begin, files_in}
 use Rattle.pm_volume.specs.Files.{file_named, files_of, is_named}
+use Rattle.pm_volume.specs.Kept.{Span, blocks_span, count_span, slots_span}
 use Rattle.pm_volume.specs.Names.{is_new_name, name_field}
 use Rattle.pm_volume.specs.Words.{with_word, written}
 use Rattle.pm_volume.specs.declared.entry.Entry.{Entry}
 use Rattle.pm_volume.specs.declared.fault.VolumeFault.{VolumeFault}
-use Rattle.pm_volume.specs.declared.fault.VolumeFault.TheVariants.{BadName, DirectoryFull, Duplicate, NoRoom}
+use Rattle.pm_volume.specs.declared.fault.VolumeFault.TheVariants.{BadName, DirectoryFull, Duplicate, NoFile, NoRoom}
 use Rattle.pm_volume.specs.declared.gap.Gap.{Gap}
 
 -- an image with another directory
@@ -101,21 +102,16 @@ with_file image n e bytes =
     let listed = with_directory image (with_slot (directory_of image) n (slot_of e)) in
     written (written listed begin bytes) (begin + length bytes) (replicate (512 * blocks_for (length bytes) - length bytes) 0)
 
--- a gap holds so many blocks, and its slot is free
-pub record IsRoomFor (image : List ℕ) (need : ℕ) (g : Gap) : Type 0 where
-  pub few : file_count (directory_of image) < 77
-  pub first : 1 ≤ g.place
-  pub last : g.place ≤ file_count (directory_of image) + 1
-  pub fits : g.begin + need ≤ g.end
-  pub past_directory : 6 ≤ g.begin
-  pub within : 512 * g.end ≤ length image
-
 -- a file was added: its entry stands in the lowest gap that serves, and its bytes in the entry's blocks
 pub record AddsFile (old new name : List ℕ) (kind : ℕ) (bytes : List ℕ) (date : ℕ) (e : Entry) : Type 0 where
   pub gap : Gap
   pub placed : place_for old name (blocks_for (length bytes)) ≡ Ok gap
   pub entry : e ≡ new_entry gap name kind (length bytes) date
   pub image : new ≡ with_file old gap.place e bytes
+
+-- what an added file changes: the number of files, the slots from its own to that of the last file, and its blocks
+abbrev pub added_spans : List ℕ → Gap → Entry → List Span
+added_spans directory g e = count_span ∷ slots_span g.place (file_count directory + 2) ∷ blocks_span e ∷ []
 
 -- the image without the file in slot n; its blocks keep their bytes
 abbrev pub without_file : List ℕ → ℕ → List ℕ
@@ -131,3 +127,36 @@ pub record RemovesFile (old new name : List ℕ) : Type 0 where
   pub found : slot_named (directory_of old) name ≡ Some slot
   pub image : new ≡ without_file old slot
   pub files : files_of new ≡ remove (files_of old) (slot - 1)
+
+-- what the removal of the file in slot n changes: the number of files, and the slots from n to that of the last file
+abbrev pub removed_spans : List ℕ → ℕ → List Span
+removed_spans directory n = count_span ∷ slots_span n (file_count directory + 1) ∷ []
+
+-- the files in all slots but this one
+abbrev pub files_beside : List ℕ → ℕ → List Entry
+files_beside directory slot =
+    entries_from directory 1 (slot - 1) ++ entries_from directory (slot + 1) (file_count directory - slot)
+
+-- whether a file in another slot has this name
+abbrev pub is_named_beside : List ℕ → ℕ → List ℕ → Bool
+is_named_beside directory slot name = list_any (is_named name) (files_beside directory slot)
+
+-- the slot of the file that gets another name, or why there is none
+unfoldable pub slot_to_rename : List ℕ → List ℕ → List ℕ → Result ℕ VolumeFault
+slot_to_rename directory old new = elim (slot_named directory old) [
+  | None ↦ Err NoFile
+  | Some slot ↦
+      if not (is_new_name 15 new) then Err BadName
+      else (if is_named_beside directory slot new then Err Duplicate else Ok slot)
+]
+
+-- the image with another name for the file in slot n: the 16 bytes of the name alone
+abbrev pub with_name : List ℕ → ℕ → List ℕ → List ℕ
+with_name image n name = with_directory image (written (directory_of image) (26 * n + 6) (name_field 15 name))
+
+-- the first file of a name got another one
+pub record RenamesFile (old new from to : List ℕ) : Type 0 where
+  pub slot : ℕ
+  pub found : slot_to_rename (directory_of old) from to ≡ Ok slot
+  pub image : new ≡ with_name old slot to
+  pub files : files_of new ≡ slice_set (files_of old) (slot - 1) (record (entry_in (directory_of old) slot) { name = name_field 15 to })

@@ -1,6 +1,5 @@
 -- The image of a disk as a list of bytes.
 use Rattle.std.specs.Prelude.{◌≤◌, nat_le, ℕ, ◌+◌, ◌*◌, List, length, slice_range, Option, Some, None, if◌then◌else◌}
-use Rattle.pm_volume.specs.Words.{written}
 
 -- block n of an image, none past its end
 unfoldable pub block_of : List ℕ → ℕ → Option (List ℕ)
@@ -9,7 +8,3 @@ block_of image n = if nat_le (512 * n + 512) (length image) then Some (slice_ran
 -- so many bytes from a place on lie in an image
 abbrev pub IsInImage : List ℕ → ℕ → ℕ → Type 0
 IsInImage image place count = place + count ≤ length image
-
--- the image with another block n
-abbrev pub with_block : List ℕ → ℕ → List ℕ → List ℕ
-with_block image n block = written image (512 * n) block

@@ -4,5 +4,7 @@ pub mod Names
 pub mod Entries
 pub mod Directory
 pub mod Files
+pub mod Kept
 pub mod Changes
+pub mod Headers
 pub mod Disks

@@ -1,16 +1,25 @@
-ghost use Rattle.std.specs.Prelude.{◌≡◌, ◌+◌, ◌<◌, ◌≤◌, ◌*◌, length, IfSome};
-ghost use Rattle.pm_volume.specs.Changes.{slot_named};
-ghost use Rattle.pm_volume.specs.Directory.{block_count, directory_fault, entry_in, file_count, files_begin, files_in, is_header};
+ghost use Rattle.std.specs.Prelude.{◌≡◌, ◌+◌, ◌-◌, ◌<◌, ◌≤◌, ◌*◌, length, IfSome};
+ghost use Rattle.std.specs.List.{list_any};
+ghost use Rattle.pm_volume.specs.Changes.{is_named_beside, slot_named};
+ghost use Rattle.pm_volume.specs.Files.{is_named};
+ghost use Rattle.pm_volume.specs.Headers.{new_directory};
+ghost use Rattle.pm_volume.specs.Directory.{block_count, directory_fault, entries_from, entry_in, file_count, files_begin, files_in, is_header};
 ghost use Rattle.pm_volume.specs.Entries.{entries_fault};
 
-use crate::entry::Entry;
+use crate::disk::BLOCK;
+use crate::entry::{Entry, volume_name_field};
 use crate::fault::VolumeFault;
-use crate::words::word;
+use crate::words::{clear_all, set_bytes, set_word, word};
 use std::marker::Model;
 
 pub(crate) const SLOT: usize = 26;
 
 pub(crate) const MOST_FILES: u16 = 77;
+
+// The directory is blocks 2 to 5 of the image.
+pub(crate) const DIRECTORY: usize = 2 * BLOCK;
+
+pub(crate) const DIRECTORY_END: usize = 6 * BLOCK;
 
 // The entry in a slot of a directory.
 pub(crate) fn entry_at(directory: &[u8], n: u16) -> Entry
@@ -84,6 +93,47 @@ pub(crate) fn slot_named(directory: &[u8], name: &str) -> Option<u16>
         }
     }
     None
+}
+
+// Whether a file in another slot has this name.
+pub(crate) fn is_named_beside(directory: &[u8], slot: u16, name: &str) -> bool
+    requires whole { length directory.now ≡ 2048 }
+    requires few { file_count directory.now ≤ 77 }
+    requires from { 1 ≤ slot }
+    requires to { slot ≤ file_count directory.now }
+    ensures named { result ≡ is_named_beside directory.now slot name.now }
+{
+    has_name(directory, 1, slot, name)
+        || has_name(directory, slot + 1, word(directory, 16) + 1, name)
+}
+
+// Whether a file in the slots from one on, up to another, has this name.
+#[tactic(auto, using(crate::proofs::GapLaws::any_steps))]
+fn has_name(directory: &[u8], from: u16, to: u16, name: &str) -> bool
+    requires whole { length directory.now ≡ 2048 }
+    requires slots { to ≤ 78 }
+    ensures named { result ≡ list_any (is_named name.now) (entries_from directory.now from (to - from)) }
+{
+    for n in from..to {
+        if entry_at(directory, n).is_named(name) {
+            return true;
+        }
+    }
+    false
+}
+
+// Writes a directory without files.
+pub(crate) fn write_directory(directory: &mut [u8], past: u16, name: &[u8], blocks: u16, date: u16)
+    requires whole { length directory.old ≡ 2048 }
+    requires short { length name.now ≤ 7 }
+    ensures directory { directory.new ≡ new_directory past name.now blocks date }
+{
+    let field = volume_name_field(name);
+    clear_all(directory);
+    set_word(directory, 2, past);
+    set_bytes(directory, 6, &field);
+    set_word(directory, 14, blocks);
+    set_word(directory, 20, date);
 }
 
 /// The entries of a volume, in block order: the list of those that are left.

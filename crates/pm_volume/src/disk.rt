@@ -9,7 +9,7 @@ ghost use Rattle.pm_volume.specs.Words.{written};
 use crate::words::set_bytes;
 use std::marker::Model;
 
-const BLOCK: usize = 512;
+pub(crate) const BLOCK: usize = 512;
 
 /// A disk: an image of whole blocks of 512 bytes, seen as the list of its bytes.
 #[derive(Drop)]

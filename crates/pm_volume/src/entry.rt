@@ -135,6 +135,18 @@ pub(crate) fn name_field(name: &[u8]) -> [u8; 16]
     field
 }
 
+// A new name of a volume in its field, raised.
+#[tactic(auto, unfolding(crate::specs::Names::name_field))]
+pub(crate) fn volume_name_field(name: &[u8]) -> [u8; 8]
+    requires short { length name.now ≤ 7 }
+    ensures field { result ≡ name_field 7 name.now }
+{
+    let mut field = [0; 8];
+    field[0] = name.len() as u8;
+    raise_into(&mut field[1..], name);
+    field
+}
+
 // Writes the characters of a name, raised, at the front of a field.
 fn raise_into(field: &mut [u8], name: &[u8])
     requires room { length name.now ≤ length field.old }

@@ -1,6 +1,7 @@
 //! Volumes: images of disks with a directory of files.
 #![tactic(auto)]
 
+mod changes;
 mod directory;
 mod disk;
 mod entry;

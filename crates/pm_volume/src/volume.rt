@@ -1,22 +1,21 @@
-ghost use Rattle.std.specs.Prelude.{◌≡◌, ◌↔◌, ◌+◌, ◌<◌, ◌≤◌, ◌*◌, length, slice_index, slice_range, replicate, Err, None, Some, IfErr, IfOk, IsOk, OnOk, OnErr, ℕ};
-ghost use Rattle.pm_volume.specs.Changes.{FitsSlot, blocks_for, new_entry, with_file, without_file};
-ghost use Rattle.pm_volume.specs.Words.{written};
+ghost use Rattle.std.specs.Prelude.{◌≡◌, ◌↔◌, ◌+◌, ◌≤◌, [], ◌∷◌, length, slice_index, slice_range, unwrap_or, Err, None, Some, IfErr, IfOk, IfSome, IsOk, IsTrue, OnOk, OnErr, ℕ};
+ghost use Rattle.pm_volume.specs.Changes.{blocks_for};
 ghost use Rattle.pm_volume.specs.Directory.{directory_of, file_count, image_fault};
+ghost use Rattle.pm_volume.specs.Headers.{zeros};
 
-use crate::directory::{Entries, MOST_FILES, fault_of_directory, slot_named};
-use crate::disk::Disk;
-use crate::entry::{Entry, is_new_name, name_field};
+use crate::changes::{
+    blocks_for, date_volume, name_file, new_entry, put_file, renew_directory, take_file,
+};
+use crate::directory::{
+    DIRECTORY, DIRECTORY_END, Entries, MOST_FILES, fault_of_directory, is_named_beside, slot_named,
+};
+use crate::disk::{BLOCK, Disk};
+use crate::entry::{Entry, is_new_name};
 use crate::fault::VolumeFault;
 use crate::gap::Gap;
-use crate::slots::{insert_slot, remove_slot};
-use crate::words::{set_bytes, word};
+use crate::words::word;
+use std::alloc::{AllocError, Global};
 use std::marker::Model;
-
-const BLOCK: usize = 512;
-
-const DIRECTORY: usize = 2 * BLOCK;
-
-const DIRECTORY_END: usize = 6 * BLOCK;
 
 /// A volume: an image whose directory is sound, seen as the image's bytes.
 #[derive(Drop)]
@@ -36,7 +35,10 @@ impl Model for Volume {
 }
 
 impl Volume {
-    ghost use Rattle.pm_volume.specs.Changes.{AddsFile, RemovesFile, place_for, slot_named};
+    ghost use Rattle.pm_volume.specs.Changes.{added_spans, removed_spans, AddsFile, RemovesFile, RenamesFile, place_for, slot_named, slot_to_rename};
+    ghost use Rattle.pm_volume.specs.Headers.{blank_fault, blank_image, dated_image, zeroed_image};
+    ghost use Rattle.pm_volume.specs.Kept.{ChangesOnly, KeepsFiles, date_span, directory_span, name_span};
+    ghost use Rattle.pm_volume.specs.Names.{is_new_name};
     ghost use Rattle.pm_volume.specs.Directory.{IsVolume, block_count};
     ghost use Rattle.pm_volume.specs.Disks.{block_of};
     ghost use Rattle.pm_volume.specs.Files.{file_bytes, file_named, files_of};
@@ -55,6 +57,29 @@ impl Volume {
             Some(fault) => Err((fault, bytes)),
             None => Ok(Volume { bytes }),
         }
+    }
+
+    /// A new volume of so many blocks without files, with last date 0: all bytes are zero but those
+    /// of the header. The refusals in order: `BadName` for a text that is no name of 1 to 7
+    /// characters, `BadHeader` for fewer than 6 blocks, `NoMemory`.
+    #[tactic(auto, unfolding(crate::specs::Headers::blank_fault))]
+    pub fn blank(alloc: Global, name: &str, blocks: u16) -> Result<Volume, VolumeFault>
+        ensures made { IfOk result (λ v. v ≡ blank_image name.now blocks) }
+        ensures empty { IfOk result (λ v. files_of v ≡ []) }
+        ensures sound { OnOk result (blank_fault name.now blocks ≡ None) }
+        ensures refused { IfErr result (λ fault. fault ≡ unwrap_or (blank_fault name.now blocks) VolumeFault.NoMemory) }
+    {
+        if !is_new_name(7, name.as_bytes()) {
+            return Err(VolumeFault::BadName);
+        }
+        if blocks < 6 {
+            return Err(VolumeFault::BadHeader);
+        }
+        let Ok(mut bytes) = zeros(alloc, BLOCK * usize::from(blocks)) else {
+            return Err(VolumeFault::NoMemory);
+        };
+        renew_directory(&mut bytes, 6, name.as_bytes(), blocks, 0);
+        Ok(Volume { bytes })
     }
 
     /// The image.
@@ -136,6 +161,9 @@ impl Volume {
         ensures added { IfOk result (λ e. AddsFile self.old self.new name.now kind bytes.now date e) }
         ensures files { IfOk result (λ e. (k : ℕ) × (files_of self.new ≡ insert (files_of self.old) k e)) }
         ensures contents { IfOk result (λ e. file_bytes self.new e ≡ Some bytes.now) }
+        ensures kept { OnOk result (KeepsFiles self.old self.new) }
+        ensures rest { IfOk result (λ e. IfOk (place_for self.old name.now (blocks_for (length bytes.now)))
+            (λ gap. ChangesOnly (added_spans (directory_of self.old) gap e) self.old self.new)) }
         ensures refused { IfErr result (λ fault. place_for self.old name.now (blocks_for (length bytes.now)) ≡ Err fault) }
         ensures unchanged { OnErr result (self.new ≡ self.old) }
     {
@@ -149,6 +177,9 @@ impl Volume {
     /// Removes the first file of a name. Its blocks keep their bytes.
     pub fn remove(&mut self, name: &str) -> Result<(), VolumeFault>
         ensures removed { OnOk result (RemovesFile self.old self.new name.now) }
+        ensures kept { OnOk result (KeepsFiles self.old self.new) }
+        ensures rest { IfSome (slot_named (directory_of self.old) name.now)
+            (λ slot. ChangesOnly (removed_spans (directory_of self.old) slot) self.old self.new) }
         ensures refused { IfErr result (λ fault. (fault ≡ VolumeFault.NoFile)
             × (slot_named (directory_of self.old) name.now ≡ None)) }
         ensures unchanged { OnErr result (self.new ≡ self.old) }
@@ -157,6 +188,53 @@ impl Volume {
             return Err(VolumeFault::NoFile);
         };
         take_file(&mut self.bytes, slot);
+        Ok(())
+    }
+
+    /// Gives the first file of a name another one; the 16 bytes of the name are all that changes.
+    /// The refusals in order: no file of the old name, a new name that is none, another file of the
+    /// new name (the file's own name is allowed).
+    pub fn rename(&mut self, old: &str, new: &str) -> Result<(), VolumeFault>
+        ensures renamed { OnOk result (RenamesFile self.old self.new old.now new.now) }
+        ensures kept { OnOk result (KeepsFiles self.old self.new) }
+        ensures rest { IfOk (slot_to_rename (directory_of self.old) old.now new.now)
+            (λ slot. ChangesOnly (name_span slot ∷ []) self.old self.new) }
+        ensures refused { IfErr result (λ fault. slot_to_rename (directory_of self.old) old.now new.now ≡ Err fault) }
+        ensures unchanged { OnErr result (self.new ≡ self.old) }
+    {
+        let slot = self.slot_to_rename(old, new)?;
+        name_file(&mut self.bytes, slot, new.as_bytes());
+        Ok(())
+    }
+
+    /// Sets the volume's last date; nothing else changes.
+    pub fn set_date(&mut self, date: u16)
+        ensures dated { self.new ≡ dated_image self.old date }
+        ensures files { files_of self.new ≡ files_of self.old }
+        ensures rest { ChangesOnly (date_span ∷ []) self.old self.new }
+    {
+        date_volume(&mut self.bytes, date);
+    }
+
+    /// Forgets all files: a new directory of this name, with the number of blocks and the last date
+    /// that the volume had. All blocks past the directory keep their bytes. `BadName` for a text
+    /// that is no name of 1 to 7 characters.
+    pub fn zero(&mut self, name: &str) -> Result<(), VolumeFault>
+        ensures accepted { IsOk result ↔ IsTrue (is_new_name 7 name.now) }
+        ensures zeroed { OnOk result (self.new ≡ zeroed_image self.old name.now) }
+        ensures empty { OnOk result (files_of self.new ≡ []) }
+        ensures rest { OnOk result (ChangesOnly (directory_span ∷ []) self.old self.new) }
+        ensures refused { IfErr result (λ fault. fault ≡ VolumeFault.BadName) }
+        ensures unchanged { OnErr result (self.new ≡ self.old) }
+    {
+        if !is_new_name(7, name.as_bytes()) {
+            return Err(VolumeFault::BadName);
+        }
+        let directory = self.directory();
+        let past = word(directory, 2);
+        let blocks = word(directory, 14);
+        let date = word(directory, 20);
+        renew_directory(&mut self.bytes, past, name.as_bytes(), blocks, date);
         Ok(())
     }
 
@@ -188,6 +266,28 @@ impl Volume {
         Gap::lowest(directory, need).ok_or(VolumeFault::NoRoom)
     }
 
+    // The slot of the file that gets another name, or why there is none.
+    #[tactic(auto, unfolding(crate::specs::Changes::slot_to_rename))]
+    fn slot_to_rename(&self, old: &str, new: &str) -> Result<u16, VolumeFault>
+        ensures volume { IsVolume self.now }
+        ensures found { result ≡ slot_to_rename (directory_of self.now) old.now new.now }
+        ensures within { IfOk result (λ slot. (1 ≤ slot) × (slot ≤ file_count (directory_of self.now))) }
+        ensures named { OnOk result ((1 ≤ length new.now) × (length new.now ≤ 15)) }
+    {
+        let directory = self.directory();
+        let Some(slot) = slot_named(directory, old) else {
+            return Err(VolumeFault::NoFile);
+        };
+        if !is_new_name(15, new.as_bytes()) {
+            return Err(VolumeFault::BadName);
+        }
+        if is_named_beside(directory, slot, new) {
+            return Err(VolumeFault::Duplicate);
+        }
+        Ok(slot)
+    }
+
+    // The directory's 2,048 bytes.
     fn directory(&self) -> &[u8]
         ensures volume { IsVolume self.now }
         ensures bytes { result.now ≡ directory_of self.now }
@@ -211,66 +311,10 @@ fn fault_of_image(image: &[u8]) -> Option<VolumeFault>
     fault_of_directory(&image[DIRECTORY..DIRECTORY_END], image.len() / BLOCK)
 }
 
-// How many blocks hold so many bytes.
-fn blocks_for(size: usize) -> usize
-    ensures count { result ≡ blocks_for size }
+// So many bytes of zero.
+#[tactic(auto, unfolding(crate::specs::Headers::zeros))]
+fn zeros(alloc: Global, count: usize) -> Result<Vec<u8>, AllocError>
+    ensures zeros { IfOk result (λ bytes. bytes.items ≡ zeros count) }
 {
-    size / BLOCK + usize::from(!size.is_multiple_of(BLOCK))
-}
-
-// The entry of a new file in a gap.
-fn new_entry(gap: Gap, name: &str, kind: u8, size: usize, date: u16) -> Entry
-    requires named { length name.now ≤ 15 }
-    requires room { gap.begin + blocks_for size ≤ gap.end }
-    ensures entry { result ≡ new_entry gap name.now kind size date }
-    ensures fits { FitsSlot result }
-{
-    let need = blocks_for(size);
-    Entry {
-        name: name_field(name.as_bytes()),
-        kind: kind % 16,
-        first: gap.begin,
-        end: gap.begin + need as u16,
-        last_bytes: (BLOCK - (BLOCK * need - size)) as u16,
-        date,
-    }
-}
-
-// Writes a file's entry, its bytes, and zeros to the end of its last block.
-#[tactic(auto, unfolding(crate::specs::Changes::with_file))]
-fn put_file(image: &mut [u8], n: u16, entry: &Entry, bytes: &[u8])
-    requires whole { 3072 ≤ length image.old }
-    requires few { file_count (directory_of image.old) < 77 }
-    requires from { 1 ≤ n }
-    requires to { n ≤ file_count (directory_of image.old) + 1 }
-    requires room { 512 * entry.now.first + 512 * blocks_for (length bytes.now) ≤ length image.old }
-    ensures image { image.new ≡ with_file image.old n entry.now bytes.now }
-{
-    let slot = entry.slot();
-    insert_slot(&mut image[DIRECTORY..DIRECTORY_END], n, &slot);
-    let begin = BLOCK * usize::from(entry.first);
-    let end = begin + bytes.len();
-    let past = begin + BLOCK * blocks_for(bytes.len());
-    set_bytes(image, begin, bytes);
-    clear(image, end, past - end);
-}
-
-// Takes a file's entry out. Its blocks keep their bytes.
-fn take_file(image: &mut [u8], slot: u16)
-    requires whole { 3072 ≤ length image.old }
-    requires few { file_count (directory_of image.old) ≤ 77 }
-    requires from { 1 ≤ slot }
-    requires to { slot ≤ file_count (directory_of image.old) }
-    ensures image { image.new ≡ without_file image.old slot }
-{
-    remove_slot(&mut image[DIRECTORY..DIRECTORY_END], slot);
-}
-
-// Writes zeros.
-#[tactic(auto, unfolding(crate::specs::Words::written))]
-fn clear(bytes: &mut [u8], place: usize, count: usize)
-    requires room { place + count ≤ length bytes.old }
-    ensures written { bytes.new ≡ written bytes.old place (replicate count 0) }
-{
-    bytes[place..place + count].fill(0);
+    vec![in alloc; 0; count]
 }

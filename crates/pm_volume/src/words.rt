@@ -1,5 +1,6 @@
-ghost use Rattle.std.specs.Prelude.{◌≡◌, ◌+◌, ◌≤◌, length};
+ghost use Rattle.std.specs.Prelude.{◌≡◌, ◌+◌, ◌≤◌, length, replicate};
 ghost use Rattle.byteorder.specs.Endian.{little_bytes};
+ghost use Rattle.pm_volume.specs.Headers.{zeros};
 ghost use Rattle.pm_volume.specs.Words.{word_in, written};
 
 use byteorder::{ByteOrder, LittleEndian};
@@ -29,4 +30,21 @@ pub(crate) fn set_bytes(bytes: &mut [u8], place: usize, new: &[u8])
     ensures written { bytes.new ≡ written bytes.old place new.now }
 {
     bytes[place..place + new.len()].copy_from_slice(new);
+}
+
+// Writes zeros.
+#[tactic(auto, unfolding(crate::specs::Words::written))]
+pub(crate) fn clear(bytes: &mut [u8], place: usize, count: usize)
+    requires room { place + count ≤ length bytes.old }
+    ensures written { bytes.new ≡ written bytes.old place (replicate count 0) }
+{
+    bytes[place..place + count].fill(0);
+}
+
+// Makes all bytes zero.
+#[tactic(auto, unfolding(crate::specs::Headers::zeros))]
+pub(crate) fn clear_all(bytes: &mut [u8])
+    ensures cleared { bytes.new ≡ zeros (length bytes.old) }
+{
+    bytes.fill(0);
 }

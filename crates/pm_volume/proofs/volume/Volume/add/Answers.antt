@@ -1,8 +1,10 @@
 use Rattle.std.proofs.Common.{◌≡◌, ◌-◌, ◌∙◌, ap, sym, List, ℕ, ◌++◌, take, drop, length, Ok, arith}
 use Rattle.std.proofs.lemmas.Result.{err_from_is_err_and}
-use Rattle.pm_volume.specs.Changes.{IsRoomFor, blocks_for, place_for, with_file}
+use Rattle.pm_volume.specs.Changes.{blocks_for, place_for, with_file}
+use Rattle.pm_volume.proofs.AddKept.{ChangesOnly-added, KeepsFiles-added}
 use Rattle.pm_volume.proofs.AddLaws.{bytes-added, files-added}
-use Rattle.pm_volume.proofs.PlaceLaws.{IsPlaced, IsPlaced-from_ok, IsRoomFor-placed, IsVolume-added, length-new_name}
+use Rattle.pm_volume.proofs.PlaceLaws.{IsPlaced, IsRoomFor, IsPlaced-from_ok, IsRoomFor-placed, IsVolume-added}
+use Rattle.pm_volume.proofs.NameLaws.{length-new_name}
 use Rattle.pm_volume.proofs.volume.Volume.add.Goals as goal
 use Rattle.pm_volume.proofs.volume.Volume.add.Goals.{After-put_file, In_ok-gap}
 use Rattle.pm_volume.proofs.SlotLaws.{written_back}
@@ -21,7 +23,7 @@ room : (c : In_ok-gap) → IsRoomFor c.args.self.now (blocks_for (length c.args.
 room c = IsRoomFor-placed c.args.self.now c.args.name.now _ _ c.place.ensures.volume (placed c)
 
 pub new_entry-entry-requires-clause-named : goal.new_entry-entry-requires-clause-named
-new_entry-entry-requires-clause-named c = (length-new_name _ (placed c).named).1
+new_entry-entry-requires-clause-named c = (length-new_name 15 _ (placed c).named).1
 
 pub new_entry-entry-requires-clause-room : goal.new_entry-entry-requires-clause-room
 new_entry-entry-requires-clause-room c = (room c).fits
@@ -92,3 +94,20 @@ returns-clause-contents c =
     let p = placed (goal.at.returns-clause-contents c).In_ok-gap in
     rw (image_after w, c.new_entry-entry.ensures.entry)
     (bytes-added c.args.self.now c.args.name.now c.args.bytes.now c.args.kind c.args.date c.in_ok-gap.gap c.place.ensures.volume p fit)
+
+pub returns-clause-kept : goal.returns-clause-kept
+returns-clause-kept c =
+    let w = (goal.at.returns-clause-kept c).After-put_file in
+    let fit = rw c.new_entry-entry.ensures.entry at c.new_entry-entry.ensures.fits in
+    let p = placed (goal.at.returns-clause-kept c).In_ok-gap in
+    rw (image_after w, c.new_entry-entry.ensures.entry)
+    (KeepsFiles-added c.args.self.now c.args.name.now c.args.bytes.now c.args.kind c.args.date c.in_ok-gap.gap c.place.ensures.volume p fit)
+
+pub returns-clause-rest : goal.returns-clause-rest
+returns-clause-rest c =
+    let w = (goal.at.returns-clause-rest c).After-put_file in
+    let fit = rw c.new_entry-entry.ensures.entry at c.new_entry-entry.ensures.fits in
+    let p = placed (goal.at.returns-clause-rest c).In_ok-gap in
+    let found = found (goal.at.returns-clause-rest c).In_ok-gap in
+    rw (found, image_after w, c.new_entry-entry.ensures.entry)
+    (ChangesOnly-added c.args.self.now c.args.name.now c.args.bytes.now c.args.kind c.args.date c.in_ok-gap.gap c.place.ensures.volume p fit)

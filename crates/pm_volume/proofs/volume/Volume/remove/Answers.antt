@@ -1,6 +1,7 @@
 use Rattle.std.proofs.Common.{◌≡◌, ◌≤◌, ◌∙◌, ap, sym, ◌++◌, take, drop, List, ℕ, length}
 use Rattle.pm_volume.specs.Changes.{without_file}
 use Rattle.pm_volume.specs.Directory.{directory_of, file_count}
+use Rattle.pm_volume.proofs.KeptLaws.{ChangesOnly-removed, KeepsFiles-removed}
 use Rattle.pm_volume.proofs.SlotLaws.{written_back}
 use Rattle.pm_volume.proofs.SlotRemoval.{IsVolume-removed, files-removed}
 use Rattle.pm_volume.proofs.volume.Volume.remove.Goals as goal
@@ -34,3 +35,16 @@ returns-clause-removed c =
       image = image_after w;
       files = rw (image_after w) (files-removed c.args.self.now c.in-Some.slot c.directory.ensures.volume slot.0 slot.1);
     }
+
+pub returns-clause-kept : goal.returns-clause-kept
+returns-clause-kept c =
+    let w = (goal.at.returns-clause-kept c).After-take_file in
+    let slot = within w in
+    rw (image_after w) (KeepsFiles-removed c.args.self.now c.directory.ensures.volume c.in-Some.slot slot.0 slot.1)
+
+pub returns-clause-rest : goal.returns-clause-rest
+returns-clause-rest c =
+    let w = (goal.at.returns-clause-rest c).After-take_file in
+    let slot = within w in
+    let found = rw c.directory.ensures.bytes at (sym c.in-Some.ensures.first) in
+    rw (found, image_after w) (ChangesOnly-removed c.args.self.now c.directory.ensures.volume c.in-Some.slot slot.0 slot.1)

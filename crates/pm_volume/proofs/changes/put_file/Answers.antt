@@ -5,7 +5,7 @@ use Rattle.pm_volume.specs.Directory.{directory_of}
 use Rattle.pm_volume.proofs.SlotChanges.{length-with_slot}
 use Rattle.pm_volume.proofs.SlotLaws.{listed}
 use Rattle.pm_volume.proofs.WrittenLaws.{length-directory}
-use Rattle.pm_volume.proofs.volume.put_file.Goals as goal
+use Rattle.pm_volume.proofs.changes.put_file.Goals as goal
 
 -- the three writes, one after the other
 filed : (image d bytes part last : List ℕ) (begin n m : ℕ) → last ≡ written (written part begin bytes) (begin + length bytes) (replicate n 0)

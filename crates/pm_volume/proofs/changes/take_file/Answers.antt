@@ -5,7 +5,7 @@ use Rattle.pm_volume.specs.Changes.{without_slot}
 use Rattle.pm_volume.proofs.SlotLaws.{listed}
 use Rattle.pm_volume.proofs.SlotRemoval.{length-without_slot}
 use Rattle.pm_volume.proofs.WrittenLaws.{length-directory}
-use Rattle.pm_volume.proofs.volume.take_file.Goals as goal
+use Rattle.pm_volume.proofs.changes.take_file.Goals as goal
 
 pub returns : goal.returns
 returns c =

@@ -1,0 +1,149 @@
+-- What a change leaves as it was.
+use Rattle.byteorder.specs.Endian.{little_bytes}
+use Rattle.std.proofs.Common.{◌≡◌, ◌<◌, ◌≤◌, ◌⊎◌, ℕ, ◌+◌, ◌-◌, ◌*◌, List, [], ◌∷◌, ◌∙◌, ap, refl, inl, inr, length, drop, get_or, arith, Some}
+use Rattle.std.proofs.lemmas.Bool.{cases_lt, le-leb, lt-leb}
+use Rattle.std.proofs.lemmas.List.{get_or-drop, get_or-take}
+use Rattle.std.proofs.lemmas.List.Elements.{All-weaker}
+use Rattle.std.specs.List.{All}
+use Rattle.pm_volume.specs.Changes.{removed_spans, with_directory, with_name, without_file, without_slot}
+use Rattle.pm_volume.specs.Directory.{IsVolume, block_count, directory_of, file_count, files_begin}
+use Rattle.pm_volume.specs.Files.{file_bytes, files_of}
+use Rattle.pm_volume.specs.Headers.{dated_image, last_date_of, new_directory, zeroed_image}
+use Rattle.pm_volume.specs.Kept.{ChangesOnly, IsOutside, KeepsFile, KeepsFiles, Span, date_span, directory_span, name_span}
+use Rattle.pm_volume.specs.Names.{name_field}
+use Rattle.pm_volume.specs.Words.{with_word, written}
+use Rattle.pm_volume.specs.declared.entry.Entry.{Entry}
+use Rattle.pm_volume.proofs.HeaderLaws.{length-dated, length-new_directory}
+use Rattle.pm_volume.proofs.NameLaws.{length-name_field}
+use Rattle.pm_volume.proofs.OrderLaws.{IsWithin, all_within}
+use Rattle.pm_volume.proofs.RenameLaws.{length-named}
+use Rattle.pm_volume.proofs.SlotRemoval.{length-without_slot, without_slot_outside}
+use Rattle.pm_volume.proofs.WrittenLaws.{get_written_above, get_written_below, get_written_in, get_written_outside, length-directory, length-written, same_parts, shifted}
+
+-- a byte of the directory
+pub directory_byte : (image : List ℕ) (k : ℕ) → k < 2048 → get_or (directory_of image) k 0 ≡ get_or image (1024 + k) 0
+directory_byte image k below = get_or-take 2048 (drop 1024 image) k 0 below ∙ get_or-drop 1024 image k 0
+
+-- a byte of an image whose directory is another one
+pub with_directory_outside : (image d : List ℕ) (place : ℕ) → 3072 ≤ length image → length d ≡ 2048 → (place < 1024) ⊎ (3072 ≤ place)
+    → get_or (with_directory image d) place 0 ≡ get_or image place 0
+with_directory_outside image d place long size (inl below) = get_written_below image 1024 d place (omega arith) below
+with_directory_outside image d place long size (inr above) = get_written_above image 1024 d place (omega arith) (omega arith)
+
+-- an image with another directory is the same where the directory is
+pub with_directory_same : (image d : List ℕ) (place : ℕ) → 3072 ≤ length image → length d ≡ 2048
+    → (1024 ≤ place → place < 3072 → get_or d (place - 1024) 0 ≡ get_or (directory_of image) (place - 1024) 0)
+    → get_or (with_directory image d) place 0 ≡ get_or image place 0
+with_directory_same image d place long size same = elim (cases_lt place 1024) [
+  | inl below ↦ with_directory_outside image d place long size (inl below)
+  | inr from ↦
+      elim (cases_lt place 3072) [
+        | inl inside ↦
+            let at : 1024 + (place - 1024) ≡ place = omega arith in
+            get_written_in image 1024 d place (omega arith) from (omega arith) ∙ same from inside
+            ∙ directory_byte image (place - 1024) (omega arith) ∙ ap (λ (i : ℕ). get_or image i 0) at
+        | inr above ↦ with_directory_outside image d place long size (inr above)
+      ]
+]
+
+pub length-with_directory : (image d : List ℕ) → 3072 ≤ length image → length d ≡ 2048 → length (with_directory image d) ≡ length image
+length-with_directory image d long size = length-written image 1024 d (omega arith)
+
+-- a file keeps its bytes where no byte of its blocks changes
+pub KeepsFile-from_outside : (old new : List ℕ) (e : Entry) → length new ≡ length old → 512 * e.end ≤ length old
+    → e.first ≤ e.end → (e.first < e.end → e.last_bytes ≤ 512)
+    → ((place : ℕ) → 512 * e.first ≤ place → place < 512 * e.end → get_or new place 0 ≡ get_or old place 0)
+    → KeepsFile old new e
+unfolding file_bytes
+KeepsFile-from_outside old new e size within ordered one_block same = record {
+  bytes = elim (cases_lt e.first e.end) [
+    | inl some ↦
+        let more = lt-leb e.end e.first some in
+        let last = one_block some in
+        let end = 512 * (e.end - 1) + e.last_bytes in
+        let inside = le-leb end (length old) (omega arith) in
+        rw (more, size, inside) (ap Some (same_parts new old (512 * e.first) (512 * e.first) (end - 512 * e.first) (omega arith) (omega arith)
+        (λ k below. same (512 * e.first + k) (omega arith) (omega arith))))
+    | inr none ↦ let over = le-leb e.end e.first none in rw over refl
+  ];
+  blocks = same_parts new old (512 * e.first) (512 * e.first) (512 * e.end - 512 * e.first) (omega arith) (omega arith)
+      (λ k below. same (512 * e.first + k) (omega arith) (omega arith));
+}
+
+-- the files of a volume, each by where it lies
+pub files_within : (image : List ℕ) → IsVolume image → All (IsWithin (files_begin (directory_of image)) (block_count (directory_of image))) (files_of image)
+files_within image v = all_within (block_count (directory_of image)) (files_begin (directory_of image)) (files_of image) v.has_directory.in_order
+
+-- all files keep their bytes where the directory alone is another one
+pub KeepsFiles-with_directory : (image d : List ℕ) → IsVolume image → length d ≡ 2048 → KeepsFiles image (with_directory image d)
+KeepsFiles-with_directory image d v size =
+    All-weaker (IsWithin (files_begin (directory_of image)) (block_count (directory_of image))) (KeepsFile image (with_directory image d))
+    (λ e w. KeepsFile-from_outside image (with_directory image d) e (length-with_directory image d v.long size)
+    (omega (arith, w.within, v.has_directory.within, v.whole)) w.ordered w.one_block
+    (λ place from to. with_directory_outside image d place v.long size (inr (omega (arith, w.after, v.has_directory.begins)))))
+    (files_of image) (files_within image v)
+
+-- what another directory changes, where the rest of the directory is the same
+pub ChangesOnly-with_directory : (image d : List ℕ) (spans : List Span) → 3072 ≤ length image → length d ≡ 2048
+    → ((place : ℕ) → IsOutside place spans → 1024 ≤ place → place < 3072 → get_or d (place - 1024) 0 ≡ get_or (directory_of image) (place - 1024) 0)
+    → ChangesOnly spans image (with_directory image d)
+ChangesOnly-with_directory image d spans long size same = record {
+  size = length-with_directory image d long size;
+  rest = λ place out. with_directory_same image d place long size (same place out);
+}
+
+module _ (image : List ℕ) (v : IsVolume image) where
+  -- a date
+  pub ChangesOnly-dated : (date : ℕ) → ChangesOnly (date_span ∷ []) image (dated_image image date)
+  ChangesOnly-dated date =
+      let d = directory_of image in
+      let whole = length-directory image v.long in
+      ChangesOnly-with_directory image (with_word d 20 date) (date_span ∷ []) v.long (length-dated d date whole)
+      (λ place out from to. get_written_outside d 20 (little_bytes 2 date) (place - 1024) (omega arith) (shifted 1024 20 22 place from out.0))
+
+  -- a new directory
+  pub ChangesOnly-zeroed : (name : List ℕ) → length name ≤ 7 → ChangesOnly (directory_span ∷ []) image (zeroed_image image name)
+  ChangesOnly-zeroed name short =
+      let d = directory_of image in
+      ChangesOnly-with_directory image (new_directory (files_begin d) name (block_count d) (last_date_of d)) (directory_span ∷ []) v.long
+      (length-new_directory (files_begin d) name (block_count d) (last_date_of d) short)
+      (λ place out from to. nowhere place from to out.0)
+    where
+      nowhere : {A : Type 0} (place : ℕ) → 1024 ≤ place → place < 3072 → (place < 1024) ⊎ (3072 ≤ place) → A
+      nowhere place from to (inl below) = absurd (omega arith)
+      nowhere place from to (inr above) = absurd (omega arith)
+
+  module _ (n : ℕ) (from : 1 ≤ n) (to : n ≤ file_count (directory_of image)) where
+    -- another name
+    module _ (name : List ℕ) (short : length name ≤ 15) where
+      length-with_name : length (written (directory_of image) (26 * n + 6) (name_field 15 name)) ≡ 2048
+      length-with_name = length-named (directory_of image) name n (length-directory image v.long) short from (omega (arith, v.has_directory.few))
+
+      pub ChangesOnly-named : ChangesOnly (name_span n ∷ []) image (with_name image n name)
+      ChangesOnly-named =
+          let d = directory_of image in
+          let whole = length-directory image v.long in
+          let field = name_field 15 name in
+          let size : length field ≡ 16 = length-name_field 15 name short in
+          let end : 26 * n + 6 + length field ≡ 26 * n + 22 = omega arith in
+          ChangesOnly-with_directory image (written d (26 * n + 6) field) (name_span n ∷ []) v.long length-with_name
+          (λ place out after below. get_written_outside d (26 * n + 6) field (place - 1024) (omega (arith, whole, v.has_directory.few))
+          (rw end (shifted 1024 (26 * n + 6) (26 * n + 22) place after out.0)))
+
+      pub KeepsFiles-named : KeepsFiles image (with_name image n name)
+      KeepsFiles-named = KeepsFiles-with_directory image (written (directory_of image) (26 * n + 6) (name_field 15 name)) v length-with_name
+
+    -- a removed file
+    pub ChangesOnly-removed : ChangesOnly (removed_spans (directory_of image) n) image (without_file image n)
+    ChangesOnly-removed =
+        let d = directory_of image in
+        let whole = length-directory image v.long in
+        let few = v.has_directory.few in
+        ChangesOnly-with_directory image (without_slot d n) (removed_spans d n) v.long (length-without_slot d n whole few from to)
+        (λ place out after below. without_slot_outside d n whole few from to (place - 1024)
+        (shifted 1024 16 18 place after out.0) (shifted 1024 (26 * n) (26 * (file_count d + 1)) place after out.1.0))
+
+    pub KeepsFiles-removed : KeepsFiles image (without_file image n)
+    KeepsFiles-removed =
+        let d = directory_of image in
+        KeepsFiles-with_directory image (without_slot d n) v (length-without_slot d n (length-directory image v.long) v.has_directory.few from to)

@@ -1,0 +1,57 @@
+-- What a change of a volume leaves as it was.
+use Rattle.std.specs.Prelude.{◌≡◌, ◌<◌, ◌≤◌, ◌⊎◌, ℕ, ◌+◌, ◌*◌, List, [], ◌∷◌, length, slice_index, slice_range}
+use Rattle.std.specs.List.{All}
+use Rattle.pm_volume.specs.Files.{file_bytes, files_of}
+use Rattle.pm_volume.specs.declared.entry.Entry.{Entry}
+
+-- the bytes of all blocks of a file
+abbrev pub blocks_of : List ℕ → Entry → List ℕ
+blocks_of image e = slice_range image (512 * e.first) (512 * e.end)
+
+-- a file has the same bytes in two images, those of its last block behind the file's end too
+pub record KeepsFile (old new : List ℕ) (e : Entry) : Type 0 where
+  pub bytes : file_bytes new e ≡ file_bytes old e
+  pub blocks : blocks_of new e ≡ blocks_of old e
+
+-- each file that was there has its bytes where they were
+abbrev pub KeepsFiles : List ℕ → List ℕ → Type 0
+KeepsFiles old new = All (KeepsFile old new) (files_of old)
+
+-- the bytes of an image from one place on, up to another
+pub record Span : Type 0 where
+  pub begin : ℕ
+  pub end : ℕ
+
+-- a place lies outside all these spans
+abbrev pub IsOutside : ℕ → List Span → Type 0
+IsOutside place [] = Unit {0}
+IsOutside place (s ∷ ss) = ((place < s.begin) ⊎ (s.end ≤ place)) × IsOutside place ss
+
+-- an image was changed in these spans alone
+pub record ChangesOnly (spans : List Span) (old new : List ℕ) : Type 0 where
+  pub size : length new ≡ length old
+  pub rest : (place : ℕ) → IsOutside place spans → slice_index new place ≡ slice_index old place
+
+-- the word with the number of files
+abbrev pub count_span : Span
+count_span = record { begin = 1040; end = 1042 }
+
+-- the word with the last date
+abbrev pub date_span : Span
+date_span = record { begin = 1044; end = 1046 }
+
+-- the whole directory
+abbrev pub directory_span : Span
+directory_span = record { begin = 1024; end = 3072 }
+
+-- the slots of the directory from n up to m
+abbrev pub slots_span : ℕ → ℕ → Span
+slots_span n m = record { begin = 1024 + 26 * n; end = 1024 + 26 * m }
+
+-- the name in slot n
+abbrev pub name_span : ℕ → Span
+name_span n = record { begin = 1024 + (26 * n + 6); end = 1024 + (26 * n + 22) }
+
+-- the blocks of a file
+abbrev pub blocks_span : Entry → Span
+blocks_span e = record { begin = 512 * e.first; end = 512 * e.end }

@@ -1,0 +1,4 @@
+pub mod Faults
+pub mod Dictionary
+pub mod Segments
+pub mod Layout

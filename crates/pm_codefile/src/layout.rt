@@ -1,8 +1,9 @@
 //! Writing code files.
 
-ghost use Rattle.std.specs.Prelude.{◌≡◌, ◌+◌, ◌-◌, ◌*◌, ◌<◌, ◌≤◌, ◌++◌, length, replicate, sum, IfOk, OnOk};
+ghost use Rattle.std.specs.Prelude.{All, ◌≡◌, ◌+◌, ◌-◌, ◌*◌, ◌%◌, ◌<◌, ◌≤◌, ◌++◌, length, replicate, slice_index_or, sum, ℕ, [], IfOk, OnOk};
 ghost use Rattle.byteorder.specs.Endian.{little_bytes};
 ghost use Rattle.pm_codefile.specs.Layout.{blocks_for, layout, name_for, names_for, padded, padding, pair, pairs};
+ghost use Rattle.pm_codefile.specs.ReadBack.{ReadsBack};
 
 use byteorder::{ByteOrder, LittleEndian};
 use std::alloc::{AllocError, Global};
@@ -24,6 +25,7 @@ pub fn write(
 ) -> Result<Vec<u8>, AllocError>
     requires joined { sum lengths.now ≡ length segments.now }
     ensures layout { IfOk result (λ file. file.items ≡ layout names.now lengths.now segments.now) }
+    ensures reads_back { All (λ n. n % 2 ≡ 0) lengths.now → IfOk result (λ file. ReadsBack names.now lengths.now segments.now file.items) }
 {
     let mut file = Vec::new(alloc);
     put_pairs(&mut file, lengths)?;
@@ -84,6 +86,7 @@ fn put_pairs(file: &mut Vec<u8>, lengths: &[u16]) -> Result<(), AllocError>
 // Adds the name of a slot.
 fn put_name(file: &mut Vec<u8>, name: &[u8; 8], count: u16) -> Result<(), AllocError>
     ensures added { OnOk result (file.new.items ≡ file.old.items ++ name_for name.now count) }
+    ensures eight { OnOk result (length name.now ≡ 8) }
 {
     if count == 0 {
         return file.extend_from_slice(&BLANK);
@@ -95,6 +98,7 @@ fn put_name(file: &mut Vec<u8>, name: &[u8; 8], count: u16) -> Result<(), AllocE
 fn put_names(file: &mut Vec<u8>, names: &[[u8; 8]], lengths: &[u16]) -> Result<(), AllocError>
     requires each { length names.now ≡ length lengths.now }
     ensures added { OnOk result (file.new.items ≡ file.old.items ++ names_for names.now lengths.now) }
+    ensures eight { OnOk result ((k : ℕ) → k < length names.now → length (slice_index_or names.now k []) ≡ 8) }
 {
     for n in 0..names.len() {
         put_name(file, &names[n], lengths[n])?;

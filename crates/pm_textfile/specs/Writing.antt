@@ -1,6 +1,6 @@
 -- The text file of a text: a header of 1,024 zeros, then pages of 1,024 bytes, each of whole lines and filled with zeros.
-use Rattle.std.specs.Prelude.{◌≡◌, ◌==◌, ◌&&◌, ◌<◌, ◌≤◌, Bool, not, nat_lt, IsTrue, ℕ, ◌+◌, ◌-◌, List, [], ◌∷◌, ◌++◌, drop, length, replicate, take, Option, Some, None, if◌then◌else◌}
-use Rattle.std.specs.List.{flat_map, list_all, prefix_len}
+use Rattle.std.specs.Prelude.{◌≡◌, ◌==◌, ◌&&◌, ◌<◌, ◌≤◌, Bool, not, nat_lt, IsTrue, ℕ, ◌+◌, ◌-◌, List, [], ◌∷◌, ◌++◌, drop, length, replicate, take, Option, Some, None, true, if◌then◌else◌}
+use Rattle.std.specs.List.{AllByRecursion, flat_map, list_all, prefix_len}
 use Rattle.pm_textfile.specs.declared.fault.TextFault.{TextFault}
 use Rattle.pm_textfile.specs.declared.fault.TextFault.TheVariants.{BadByte, LineTooLong}
 
@@ -95,3 +95,17 @@ lines_fault place number (line ∷ lines) =
 -- The first fault of a text. Places count from 0, lines from 1.
 abbrev pub text_fault : List ℕ → Option TextFault
 text_fault text = lines_fault 0 1 (lines_of text)
+
+-- A line that can stand in a file: each of its bytes is plain, and in its form it fits on a page.
+pub record IsSound (line : Line) : Type 0 where
+  pub plain : list_all is_plain line ≡ true
+  pub fits : length (coded line) ≤ 1024
+
+-- The fault is that of the first line that cannot stand in a file, which begins behind those before it and their line feeds.
+pub record IsFirstFault (text : List ℕ) (fault : TextFault) : Type 0 where
+  pub before : List Line
+  pub line : Line
+  pub after : List Line
+  pub lines : lines_of text ≡ before ++ line ∷ after
+  pub sound : AllByRecursion IsSound before
+  pub there : line_fault (length (flat_map ended before)) (length before + 1) line ≡ Some fault

@@ -25,6 +25,7 @@ ghost use Rattle.std.specs.Prelude.{
 ghost use Rattle.std.specs.List.{prefix_len};
 ghost use Rattle.pm_textfile.specs.Reading.{text_of};
 ghost use Rattle.pm_textfile.specs.Writing.{
+  IsFirstFault,
   Line,
   Writes,
   coded,
@@ -56,6 +57,7 @@ pub fn encode(alloc: Global, text: &[u8]) -> Result<Vec<u8>, TextFault>
     ensures reads_back { IfOk result (λ bytes. text_of bytes.items ≡ completed text.now) }
     ensures sound { OnOk result (text_fault text.now ≡ None) }
     ensures fault { IfErr result (λ e. e ≢ TextFault.NoMemory → text_fault text.now ≡ Some e) }
+    ensures first { IfErr result (λ e. e ≢ TextFault.NoMemory → IsFirstFault text.now e) }
 {
     let mut pages = Pages::new(alloc)?;
     let mut start = 0;

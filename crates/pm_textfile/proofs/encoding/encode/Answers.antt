@@ -3,7 +3,8 @@ use Rattle.std.proofs.lemmas.List.{at_drop_all, take_rest}
 use Rattle.std.proofs.lemmas.Result.{err_from_is_err_and}
 use Rattle.pm_textfile.specs.Laying.{laid}
 use Rattle.pm_textfile.specs.Writing.{Line, line_length, lines_fault, lines_of, text_fault}
-use Rattle.pm_textfile.proofs.LineLaws.{coded-fits, lines_fault-here, lines_fault-next, lines_of-drop}
+use Rattle.pm_textfile.proofs.LineLaws.{coded-fits, fault_of_line, lines_fault-next, lines_of-drop}
+use Rattle.pm_textfile.proofs.FaultLaws.{first-from_fault}
 use Rattle.pm_textfile.proofs.PageLaws.{Writes-from_laid}
 use Rattle.pm_textfile.proofs.encoding.encode.Goals.{In_ok-fill}
 use Rattle.pm_textfile.proofs.RoundTrip.{text_of-written}
@@ -58,13 +59,18 @@ returns-clause-file c = Writes-from_laid _ _ (no_fault c) (pages_laid c)
 pub returns-in_err-check_line-clause-fault : goal.returns-in_err-check_line-clause-fault
 returns-in_err-check_line-clause-fault c =
     let p = err_from_is_err_and c.from_residual-in_err-check_line.result c.from_residual-in_err-check_line.ensures.1 in
-    rw (p.1, p.2) (λ _.
-    let text = c.args.text.now in
     let start = c.loop-start.start in
-    let long = c.line_length.ensures.length ∙ ap line_length (take_rest text start) in
-    let step = lines_of-drop text start c.line_length.result (omega arith) long in
-    sym c.loop-start.invariant.faults ∙ ap (lines_fault start c.loop-start.number) step
-    ∙ lines_fault-here start c.loop-start.number _ _ _ c.in_err-check_line.ensures.fault)
+    let long = c.line_length.ensures.length ∙ ap line_length (take_rest c.args.text.now start) in
+    rw (p.1, p.2) (λ _. fault_of_line c.args.text.now start c.loop-start.number c.line_length.result _ (omega arith) long
+    c.loop-start.invariant.faults c.in_err-check_line.ensures.fault)
+
+pub returns-in_err-check_line-clause-first : goal.returns-in_err-check_line-clause-first
+returns-in_err-check_line-clause-first c =
+    let p = err_from_is_err_and c.from_residual-in_err-check_line.result c.from_residual-in_err-check_line.ensures.1 in
+    let start = c.loop-start.start in
+    let long = c.line_length.ensures.length ∙ ap line_length (take_rest c.args.text.now start) in
+    rw (p.1, p.2) (λ _. first-from_fault c.args.text.now _ (fault_of_line c.args.text.now start c.loop-start.number c.line_length.result _ (omega arith) long
+    c.loop-start.invariant.faults c.in_err-check_line.ensures.fault))
 
 pub returns-clause-reads_back : goal.returns-clause-reads_back
 returns-clause-reads_back c = text_of-written _ _ (Writes-from_laid _ _ (no_fault c) (pages_laid c))

@@ -7,4 +7,5 @@ pub mod Files
 pub mod Kept
 pub mod Changes
 pub mod Headers
+pub mod Packing
 pub mod Disks

@@ -7,6 +7,7 @@ mod disk;
 mod entry;
 mod fault;
 mod gap;
+mod packing;
 mod slots;
 mod space;
 mod volume;

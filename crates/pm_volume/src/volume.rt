@@ -13,6 +13,7 @@ use crate::disk::{BLOCK, Disk};
 use crate::entry::{Entry, is_new_name};
 use crate::fault::VolumeFault;
 use crate::gap::Gap;
+use crate::packing::pack_files;
 use crate::space::{Space, space_of};
 use crate::words::word;
 use std::alloc::{AllocError, Global};
@@ -39,6 +40,7 @@ impl Volume {
     ghost use Rattle.pm_volume.specs.Changes.{added_spans, removed_spans, AddsFile, RemovesFile, RenamesFile, place_for, slot_named, slot_to_rename};
     ghost use Rattle.pm_volume.specs.Headers.{blank_fault, blank_image, dated_image, zeroed_image};
     ghost use Rattle.pm_volume.specs.Kept.{ChangesOnly, KeepsFiles, date_span, directory_span, name_span};
+    ghost use Rattle.pm_volume.specs.Packing.{Krunches};
     ghost use Rattle.pm_volume.specs.Names.{is_new_name};
     ghost use Rattle.pm_volume.specs.Directory.{IsVolume, block_count};
     ghost use Rattle.pm_volume.specs.Disks.{block_of};
@@ -217,6 +219,15 @@ impl Volume {
         let slot = self.slot_to_rename(old, new)?;
         name_file(&mut self.bytes, slot, new.as_bytes());
         Ok(())
+    }
+
+    /// Moves the files together: each, in the order of the directory, down to the end of the one
+    /// before, the first to where files begin. Bad blocks (kind 1) stay. An entry gets new block
+    /// numbers and nothing else; blocks that fall free keep their bytes.
+    pub fn krunch(&mut self)
+        ensures krunched { Krunches self.old self.new }
+    {
+        pack_files(&mut self.bytes);
     }
 
     /// Sets the volume's last date; nothing else changes.

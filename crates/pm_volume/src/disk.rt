@@ -1,6 +1,6 @@
 //! Disks: images of whole blocks without a look at their directory.
 
-ghost use Rattle.std.specs.Prelude.{◌≡◌, ◌↔◌, ◌/◌, ◌%◌, IsTrue, length};
+ghost use Rattle.std.specs.Prelude.{◌≡◌, ◌↔◌, ◌/◌, ◌%◌, IfSome, IsTrue, length};
 ghost use Rattle.std.specs.Bool.{OnFalse, OnTrue};
 ghost use Rattle.std.specs.Option.{option_map};
 ghost use Rattle.pm_volume.specs.Disks.{IsInImage, block_of};
@@ -57,6 +57,7 @@ impl Disk {
     #[tactic(auto, unfolding(crate::specs::Disks::block_of))]
     pub fn block(&self, n: u16) -> Option<&[u8]>
         ensures bytes { option_map (λ bytes. bytes.now) result ≡ block_of self.now n }
+        ensures size { IfSome result (λ bytes. length bytes.now ≡ 512) }
     {
         let begin = BLOCK * usize::from(n);
         self.bytes.get(begin..begin + BLOCK)

@@ -147,6 +147,7 @@ impl Volume {
     #[tactic(auto, unfolding(crate::specs::Disks::block_of))]
     pub fn block(&self, n: u16) -> Option<&[u8]>
         ensures bytes { option_map (λ bytes. bytes.now) result ≡ block_of self.now n }
+        ensures size { IfSome result (λ bytes. length bytes.now ≡ 512) }
     {
         let begin = BLOCK * usize::from(n);
         self.bytes.get(begin..begin + BLOCK)

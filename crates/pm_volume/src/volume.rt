@@ -9,7 +9,7 @@ use crate::changes::{
 use crate::directory::{
     DIRECTORY, DIRECTORY_END, Entries, MOST_FILES, fault_of_directory, is_named_beside, slot_named,
 };
-use crate::disk::{BLOCK, Disk};
+use crate::disk::{BLOCK, Disk, block_in};
 use crate::entry::{Entry, is_new_name};
 use crate::fault::VolumeFault;
 use crate::gap::Gap;
@@ -156,12 +156,11 @@ impl Volume {
     }
 
     /// Block n of the image, 512 bytes; `None` past the image's end.
-    #[tactic(auto, unfolding(crate::specs::Disks::block_of))]
     pub fn block(&self, n: u16) -> Option<&[u8]>
         ensures bytes { option_map (λ bytes. bytes.now) result ≡ block_of self.now n }
+        ensures size { IfSome result (λ bytes. length bytes.now ≡ 512) }
     {
-        let begin = BLOCK * usize::from(n);
-        self.bytes.get(begin..begin + BLOCK)
+        block_in(&self.bytes, n)
     }
 
     /// Adds a file in the lowest gap that is large enough. A refusal changes nothing.

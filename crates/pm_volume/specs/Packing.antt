@@ -2,7 +2,7 @@
 use Rattle.std.specs.Prelude.{◌≡◌, ◌==◌, ℕ, zero, suc, ◌+◌, ◌-◌, ◌*◌, List, [], ◌∷◌, if◌then◌else◌}
 use Rattle.std.specs.List.{AllZip}
 use Rattle.pm_volume.specs.Changes.{with_directory}
-use Rattle.pm_volume.specs.Directory.{directory_of, entry_in, files_begin}
+use Rattle.pm_volume.specs.Directory.{directory_of, entry_in, file_count, files_begin}
 use Rattle.pm_volume.specs.Files.{file_bytes, files_of}
 use Rattle.pm_volume.specs.Kept.{ChangesOnly, Span, blocks_of, blocks_span, places_span}
 use Rattle.pm_volume.specs.Words.{with_word, written}
@@ -39,7 +39,7 @@ pub record Krunches (old new : List ℕ) : Type 0 where
   pub moved : AllZip (MovesFile old new) (files_of old) (files_of new)
   pub rest : ChangesOnly (packed_spans 1 (files_of new)) old new
 
--- What follows is how the files are moved, one after the other: no public clause rests on it.
+-- What follows is how the files are moved, one after the other. What that means is said above.
 
 -- a directory with other block numbers in slot n
 unfoldable pub with_places : List ℕ → ℕ → ℕ → ℕ → List ℕ
@@ -57,3 +57,7 @@ packed_image image n from (suc left) =
     let e = entry_in (directory_of image) n in
     let to = new_place from e in
     packed_image (with_moved image n e to) (n + 1) (to + (e.end - e.first)) left
+
+-- the image after all files were moved
+abbrev pub krunched_image : List ℕ → List ℕ
+krunched_image image = packed_image image 1 (files_begin (directory_of image)) (file_count (directory_of image))

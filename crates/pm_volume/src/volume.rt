@@ -1,4 +1,4 @@
-ghost use Rattle.std.specs.Prelude.{◌≡◌, ◌↔◌, ◌+◌, ◌≤◌, [], ◌∷◌, length, slice_index, slice_range, unwrap_or, Err, None, Some, IfErr, IfOk, IfSome, IsOk, IsTrue, OnOk, OnErr, ℕ};
+ghost use Rattle.std.specs.Prelude.{◌≡◌, ◌↔◌, ◌+◌, ◌≤◌, [], ◌∷◌, length, slice_index, slice_range, unwrap_or, Err, None, Some, IfErr, IfOk, IfSome, IsOk, IsTrue, OnOk, OnErr, true, false, ℕ};
 ghost use Rattle.pm_volume.specs.Changes.{blocks_for};
 ghost use Rattle.pm_volume.specs.Directory.{directory_of, file_count, image_fault};
 ghost use Rattle.pm_volume.specs.Headers.{zeros};
@@ -40,7 +40,7 @@ impl Volume {
     ghost use Rattle.pm_volume.specs.Changes.{added_spans, removed_spans, AddsFile, RemovesFile, RenamesFile, place_for, slot_named, slot_to_rename};
     ghost use Rattle.pm_volume.specs.Headers.{blank_fault, blank_image, dated_image, zeroed_image};
     ghost use Rattle.pm_volume.specs.Kept.{ChangesOnly, KeepsFiles, date_span, directory_span, name_span};
-    ghost use Rattle.pm_volume.specs.Packing.{Krunches};
+    ghost use Rattle.pm_volume.specs.Packing.{Krunches, krunched_image};
     ghost use Rattle.pm_volume.specs.Names.{is_new_name};
     ghost use Rattle.pm_volume.specs.Directory.{IsVolume, block_count};
     ghost use Rattle.pm_volume.specs.Disks.{block_of};
@@ -225,6 +225,7 @@ impl Volume {
     /// numbers and nothing else; blocks that fall free keep their bytes.
     pub fn krunch(&mut self)
         ensures krunched { Krunches self.old self.new }
+        ensures exact { self.new ≡ krunched_image self.old }
     {
         pack_files(&mut self.bytes);
     }
@@ -243,6 +244,8 @@ impl Volume {
     /// that is no name of 1 to 7 characters.
     pub fn zero(&mut self, name: &str) -> Result<(), VolumeFault>
         ensures accepted { IsOk result ↔ IsTrue (is_new_name 7 name.now) }
+        ensures good { OnOk result (is_new_name 7 name.now ≡ true) }
+        ensures bad { OnErr result (is_new_name 7 name.now ≡ false) }
         ensures zeroed { OnOk result (self.new ≡ zeroed_image self.old name.now) }
         ensures empty { OnOk result (files_of self.new ≡ []) }
         ensures rest { OnOk result (ChangesOnly (directory_span ∷ []) self.old self.new) }

@@ -66,6 +66,40 @@ pub fn files<'a>(alloc: Global) -> Result<Command<'a>, AllocError> {
             "Adds a file with the bytes of standard input",
             &[("NAME", FILE), ("KIND", kind)],
         )?)?
+        .subcommand(verb_command(
+            alloc,
+            "gettext",
+            "Writes the text of a text file to standard output",
+            &[("NAME", FILE)],
+        )?)?
+        .subcommand(verb_command(
+            alloc,
+            "puttext",
+            "Adds a text file with the text of standard input",
+            &[("NAME", FILE)],
+        )?)?
+        .subcommand(verb_command(
+            alloc,
+            "krunch",
+            "Moves the files together, so that the free blocks are one gap",
+            &[],
+        )?)?
+        .subcommand(verb_command(
+            alloc,
+            "date",
+            "Sets the volume's last date",
+            &[
+                ("Y", "The year, 0 to 127"),
+                ("M", "The month, 1 to 12"),
+                ("D", "The day, 1 to 31"),
+            ],
+        )?)?
+        .subcommand(verb_command(
+            alloc,
+            "zero",
+            "Forgets all files and gives the volume a name",
+            &[("NAME", "The volume's name, up to 7 characters")],
+        )?)?
         .subcommand(verb_command(alloc, "remove", "Removes a file", &[("NAME", FILE)])?)?
         .subcommand(verb_command(
             alloc,
@@ -105,6 +139,17 @@ fn word(alloc: Global, matches: &ArgMatches<'_>, id: &str) -> Result<String, Wor
     Ok(String::from_str(alloc, text)?)
 }
 
+/// A part of a date.
+fn part(matches: &ArgMatches<'_>, id: &str) -> Result<u8, WordsError> {
+    let number = number(matches.get_str(id).unwrap_or(""));
+    match number {
+        Some(part @ 0..=255) => Ok(part as u8),
+        _ => Err(WordsError::BadNumber(
+            "Y, M and D are numbers of decimal digits, at most 255",
+        )),
+    }
+}
+
 fn put(alloc: Global, matches: &ArgMatches<'_>) -> Result<Verb, WordsError> {
     let name = word(alloc, matches, "NAME")?;
     let kind = kind(matches.get_str("KIND").unwrap_or("")).ok_or(WordsError::BadNumber(
@@ -128,6 +173,11 @@ fn verb_of(alloc: Global, verb: &str, words: &ArgMatches<'_>) -> Result<Verb, Wo
         "get" => Command::Get(word(alloc, words, "NAME")?),
         "remove" => Command::Remove(word(alloc, words, "NAME")?),
         "change" => Command::Change(word(alloc, words, "OLD")?, word(alloc, words, "NEW")?),
+        "gettext" => Command::GetText(word(alloc, words, "NAME")?),
+        "puttext" => Command::PutText(word(alloc, words, "NAME")?, Vec::new(alloc)),
+        "krunch" => Command::Krunch,
+        "zero" => Command::Zero(word(alloc, words, "NAME")?),
+        "date" => Command::Date(part(words, "Y")?, part(words, "M")?, part(words, "D")?),
         "put" => return put(alloc, words),
         _ => return new(alloc, words),
     };

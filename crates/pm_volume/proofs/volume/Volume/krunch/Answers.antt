@@ -24,4 +24,4 @@ invariant_of-self c =
 pub returns : goal.returns
 returns c =
     let w = (goal.at.returns c).After-pack_files in
-    record { krunched = rw (image_after w) (Krunches-packed c.args.self.now (volume w) (fits w)) }
+    record { krunched = rw (image_after w) (Krunches-packed c.args.self.now (volume w) (fits w)); exact = image_after w }

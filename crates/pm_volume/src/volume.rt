@@ -1,3 +1,5 @@
+//! Volumes: images whose directory is sound.
+
 ghost use Rattle.std.specs.Prelude.{◌≡◌, ◌↔◌, ◌+◌, ◌≤◌, [], ◌∷◌, length, slice_index, slice_range, unwrap_or, Err, None, Some, IfErr, IfOk, IfSome, IsOk, IsTrue, OnOk, OnErr, ℕ};
 ghost use Rattle.pm_volume.specs.Changes.{blocks_for};
 ghost use Rattle.pm_volume.specs.Directory.{directory_of, file_count, image_fault};

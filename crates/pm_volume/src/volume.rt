@@ -1,3 +1,5 @@
+//! Volumes: images whose directory is sound.
+
 ghost use Rattle.std.specs.Prelude.{◌≡◌, ◌↔◌, ◌+◌, ◌≤◌, [], ◌∷◌, length, slice_index, slice_range, unwrap_or, Err, None, Some, IfErr, IfOk, IfSome, IsOk, IsTrue, OnOk, OnErr, true, false, ℕ};
 ghost use Rattle.pm_volume.specs.Changes.{blocks_for};
 ghost use Rattle.pm_volume.specs.Directory.{directory_of, file_count, image_fault};
@@ -50,7 +52,9 @@ impl Volume {
     ghost use Rattle.pm_volume.specs.Words.{word_in};
     ghost use Rattle.pm_volume.specs.Space.{free_blocks, largest_gap};
 
-    /// The volume that an image is. A refused image comes back unchanged.
+    /// The volume that an image is. The refusals in order: `NotBlocks`, `TooShort`, `BadHeader`,
+    /// `PastEnd` of the volume, `TooManyFiles`, then entry by entry `BadEntry` and `PastEnd`. A
+    /// refused image comes back unchanged.
     pub fn open(bytes: Vec<u8>) -> Result<Volume, (VolumeFault, Vec<u8>)>
         ensures accepted { IsOk result ↔ IsVolume bytes.items }
         ensures opened { IfOk result (λ v. v ≡ bytes.items) }
@@ -163,7 +167,11 @@ impl Volume {
         block_in(&self.bytes, n)
     }
 
-    /// Adds a file in the lowest gap that is large enough. A refusal changes nothing.
+    /// Adds a file in the lowest gap that is large enough; the rest of its last block becomes zero.
+    /// A file without bytes takes no block and stands after all others. Of the kind the low four
+    /// bits are stored, of the name the characters raised. The refusals in order: `BadName` for a
+    /// text that is no name of 1 to 15 characters 33 to 126 without `:`, `Duplicate`,
+    /// `DirectoryFull` with 77 files, `NoRoom`. A refusal changes nothing.
     pub fn add(
         &mut self,
         name: &str,
@@ -187,7 +195,9 @@ impl Volume {
         Ok(entry)
     }
 
-    /// Removes the first file of a name. Its blocks keep their bytes.
+    /// Removes the first file of a name, whatever its case. Its blocks keep their bytes, and the
+    /// slot that falls free in the directory becomes zero. `NoFile`, and nothing changed, where
+    /// there is none.
     pub fn remove(&mut self, name: &str) -> Result<(), VolumeFault>
         ensures removed { OnOk result (RemovesFile self.old self.new name.now) }
         ensures kept { OnOk result (KeepsFiles self.old self.new) }
@@ -205,8 +215,8 @@ impl Volume {
     }
 
     /// Gives the first file of a name another one; the 16 bytes of the name are all that changes.
-    /// The refusals in order: no file of the old name, a new name that is none, another file of the
-    /// new name (the file's own name is allowed).
+    /// The refusals in order: `NoFile`, `BadName` for a new name that is none, `Duplicate` for
+    /// another file of the new name (the file's own name is allowed). A refusal changes nothing.
     pub fn rename(&mut self, old: &str, new: &str) -> Result<(), VolumeFault>
         ensures renamed { OnOk result (RenamesFile self.old self.new old.now new.now) }
         ensures kept { OnOk result (KeepsFiles self.old self.new) }
@@ -263,7 +273,7 @@ impl Volume {
         Ok(())
     }
 
-    /// The image alone, as a disk: its directory is no longer looked at.
+    /// The image alone, as a disk: what is written to it may be anything, also in the directory.
     pub fn into_disk(self) -> Disk
         ensures image { result ≡ self }
     {

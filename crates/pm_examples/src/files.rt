@@ -169,3 +169,96 @@ fn new_volumes(rt: HostRuntime) -> Result<(), Fail> {
     }
     Ok(())
 }
+
+const TEXT_LIST: &str = "\
+WORK:
+A.TEXT          text     6     4 512 000-00-00
+files 1 free 10 largest 10
+";
+
+#[test]
+fn texts(rt: HostRuntime) -> Result<(), Fail> {
+    let alloc = rt.alloc();
+    let image = new_image(alloc, "WORK", 20)?;
+    let put_text = Command::PutText(text(alloc, "A.TEXT")?, Vec::new(alloc));
+    let image = changed(alloc, image, put_text, b"a\n")?;
+    let copy = image.as_slice().to_vec(alloc)?;
+    let command = Command::List;
+    let (ran, _) = job_run(
+        alloc,
+        Job::Files {
+            image: copy,
+            command,
+        },
+        b"",
+    );
+    ran.assert(&rt, 0, "", TEXT_LIST);
+    let copy = image.as_slice().to_vec(alloc)?;
+    let command = Command::GetText(text(alloc, "a.text")?);
+    let (ran, left) = job_run(
+        alloc,
+        Job::Files {
+            image: copy,
+            command,
+        },
+        b"xyz",
+    );
+    ran.assert(&rt, 0, "", "a\n");
+    assert_eq!(rt; left, 3);
+    let long = vec![in alloc; b'a'; 1024]?;
+    let command = Command::PutText(text(alloc, "B")?, Vec::new(alloc));
+    let (ran, _) = job_run(alloc, Job::Files { image, command }, &long);
+    ran.assert(&rt, 2, "refused filer 2 3 1", "");
+    Ok(())
+}
+
+/// Dates, a directory without files, and a file that is no text.
+#[test]
+fn other_commands(rt: HostRuntime) -> Result<(), Fail> {
+    let alloc = rt.alloc();
+    let image = new_image(alloc, "WORK", 20)?;
+    let image = changed(alloc, image, put(alloc, "A")?, b"xyz")?;
+    refusal(
+        alloc,
+        &image,
+        Command::GetText(text(alloc, "A")?),
+        &rt,
+        "refused filer 2 1",
+        3,
+    )?;
+    for (year, month, day) in [
+        (128, 1, 1),
+        (99, 13, 1),
+        (99, 0, 1),
+        (99, 1, 0),
+        (99, 1, 32),
+    ] {
+        let command = Command::Date(year, month, day);
+        refusal(alloc, &image, command, &rt, "refused filer 3", 3)?;
+    }
+    let image = changed(alloc, image, Command::Date(81, 11, 22), b"")?;
+    let image = changed(alloc, image, put(alloc, "B")?, b"q")?;
+    let image = changed(alloc, image, Command::Remove(text(alloc, "A")?), b"")?;
+    let image = changed(alloc, image, Command::Krunch, b"")?;
+    let copy = image.as_slice().to_vec(alloc)?;
+    let command = Command::List;
+    let (ran, _) = job_run(
+        alloc,
+        Job::Files {
+            image: copy,
+            command,
+        },
+        b"",
+    );
+    ran.assert(
+        &rt,
+        0,
+        "",
+        "WORK:\nB               data     6     1   1 081-11-22\nfiles 1 free 13 largest 13\n",
+    );
+    let image = changed(alloc, image, Command::Zero(text(alloc, "new")?), b"")?;
+    let command = Command::List;
+    let (ran, _) = job_run(alloc, Job::Files { image, command }, b"");
+    ran.assert(&rt, 0, "", "NEW:\nfiles 0 free 14 largest 14\n");
+    Ok(())
+}

@@ -144,9 +144,7 @@ fn part(matches: &ArgMatches<'_>, id: &str) -> Result<u8, WordsError> {
     let number = number(matches.get_str(id).unwrap_or(""));
     match number {
         Some(part @ 0..=255) => Ok(part as u8),
-        _ => Err(WordsError::BadNumber(
-            "Y, M and D are numbers of decimal digits, at most 255",
-        )),
+        _ => Err(WordsError::BadNumber("Y, M and D are numbers of decimal digits, at most 255")),
     }
 }
 

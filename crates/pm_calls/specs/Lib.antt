@@ -3,3 +3,4 @@ pub mod Links
 pub mod Tables
 pub mod Calls
 pub mod Returns
+pub mod Exits

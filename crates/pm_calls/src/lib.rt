@@ -1,7 +1,8 @@
-//! Frames: static links, attribute tables, calls, returns, and where segments stand.
+//! Frames: static links, attribute tables, calls, returns, EXIT, and where segments stand.
 #![tactic(auto)]
 
 mod calls;
+mod exits;
 mod frame;
 mod frames;
 mod links;

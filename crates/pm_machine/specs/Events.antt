@@ -1,24 +1,44 @@
 -- What can happen to a machine, and the state after it.
-use Rattle.std.specs.Prelude.{ℕ, List, [], ◌∷◌, if◌then◌else◌}
+use Rattle.std.specs.Prelude.{ℕ, List, [], ◌∷◌, ◌++◌, Result, Ok, Err, if◌then◌else◌}
 use Rattle.pm_words.specs.Words.{with_word}
 use Rattle.pm_words.specs.Stack.{is_even}
+use Rattle.pm_stdproc.specs.declared.ports.MountFault.{MountFault}
+use Rattle.pm_stdproc.specs.Devices.{Devices, mounted, ejected}
 use Rattle.pm_machine.specs.State.{State}
 use Rattle.pm_machine.specs.Steps.{stepped}
 
 pub data Event : Type 0 where
   -- one instruction
   Step : Event
+  -- a byte that the operator types
+  Key : (byte : ℕ) → Event
   -- a word written by the operator
   Poke : (address word : ℕ) → Event
+  -- an image put on a disk unit
+  Mount : (unit : ℕ) (image : List ℕ) → Event
+  -- the disk of a unit taken away
+  Eject : (unit : ℕ) → Event
+
+-- one byte more waits on the console
+abbrev pub keyed : ℕ → State → State
+keyed b s = record s { devices = record s.devices { queue = s.devices.queue ++ b ∷ [] } }
 
 -- a word at an odd address is refused, and leaves the state
 abbrev pub poked : ℕ → ℕ → State → State
 poked a w s = if is_even a then record s { memory = with_word s.memory a w } else s
 
+-- an image that is refused leaves the state
+abbrev pub or_same : State → Result Devices MountFault → State
+or_same s (Ok d) = record s { devices = d }
+or_same s (Err fault) = s
+
 -- the state after an event
 abbrev pub next : State → Event → State
 next s Step = (stepped s).0
+next s (Key b) = keyed b s
 next s (Poke a w) = poked a w s
+next s (Mount unit image) = or_same s (mounted unit image s.devices)
+next s (Eject unit) = record s { devices = ejected unit s.devices }
 
 -- the state after a list of events
 abbrev pub after_all : State → List Event → State

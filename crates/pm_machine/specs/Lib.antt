@@ -7,9 +7,11 @@ pub mod Pointers
 pub mod Values
 pub mod Literals
 pub mod Jumps
+pub mod Loads
 pub mod Procedures
 pub mod Rows
 pub mod Steps
 pub mod Events
 pub mod Start
 pub mod Runs
+pub mod Laws

@@ -1,5 +1,5 @@
--- Calls and returns.
-use Rattle.std.specs.Prelude.{ℕ, Bool, true, false, None, Result, Ok, if◌then◌else◌, ◌==◌}
+-- Calls, returns, and standard procedures.
+use Rattle.std.specs.Prelude.{ℕ, Bool, true, false, Result, Ok, if◌then◌else◌, ◌==◌}
 use Rattle.pm_words.specs.declared.error.ExecError.{ExecError}
 use Rattle.pm_words.specs.Stack.{◌>>=◌}
 use Rattle.pm_opcode.specs.declared.operation.Call as codes
@@ -13,7 +13,10 @@ use Rattle.pm_calls.specs.Calls.{called}
 use Rattle.pm_calls.specs.Returns.{returned}
 use Rattle.pm_machine.specs.declared.state.Status.{Status}
 use Rattle.pm_machine.specs.declared.state.Status.TheVariants as status
+use Rattle.pm_stdproc.specs.Traps.{Pause}
+use Rattle.pm_stdproc.specs.Procedures.{Reach, procedure_of, procedure_row}
 use Rattle.pm_machine.specs.State.{State}
+use Rattle.pm_machine.specs.Loads.{code_needed}
 
 -- a call as the frames take it
 abbrev pub call_of : codes.Call → Call
@@ -30,9 +33,12 @@ parts s = record { memory = s.memory; registers = s.registers; places = s.places
 abbrev pub with_parts : Parts → State → State
 with_parts p s = record s { memory = p.memory; registers = p.registers; places = p.places }
 
--- a call; no segment has code that could be loaded
-abbrev pub call_row : codes.Call → State → Result State ExecError
-call_row c s = called (parts s) (call_of c) None >>= λ p. Ok (with_parts p s)
+-- a call, with the code that it has to load
+unfoldable pub call_row : codes.Call → State → Result State ExecError
+call_row c s = do
+  code ← code_needed (call_of c) s.places s.rows s.devices
+  p ← called (parts s) (call_of c) code
+  Ok (with_parts p s)
 
 abbrev pub words_of_return : Return → ℕ
 words_of_return (return.Normal n) = n
@@ -50,3 +56,13 @@ abbrev pub return_row : Return → State → Result State ExecError
 return_row r s =
     returned (parts s) (words_of_return r) (is_base_return r) >>= λ p.
     Ok (record (with_parts p s) { status = status_after p.registers.mp s.status })
+
+-- what a standard procedure sees of the state, and the state with that part new
+abbrev pub reach : State → Reach
+reach s = record { memory = s.memory; registers = s.registers; places = s.places; devices = s.devices }
+
+abbrev pub with_reach : Reach → State → State
+with_reach t s = record s { memory = t.memory; registers = t.registers; places = t.places; devices = t.devices }
+
+abbrev pub standard_row : ℕ → State → Result State Pause
+standard_row n s = procedure_row (procedure_of n) (reach s) >>= λ t. Ok (with_reach t s)

@@ -1,8 +1,10 @@
 -- The machine at its start.
-use Rattle.std.specs.Prelude.{ℕ, ◌+◌, ◌%◌, ◌≡◌, List, Result, Ok, Err, IsOk, if◌then◌else◌, nat_lt, length, replicate, None}
+use Rattle.std.specs.Prelude.{ℕ, ◌+◌, ◌%◌, ◌≡◌, List, [], Option, Result, Ok, Err, IsOk, if◌then◌else◌, nat_lt, length, replicate, None}
 use Rattle.pm_words.specs.Words.{zero_words, with_word, with_bytes}
+use Rattle.pm_stdproc.specs.Devices.{Devices}
 use Rattle.pm_machine.specs.declared.state.BootFault.{BootFault}
 use Rattle.pm_machine.specs.declared.state.BootFault.TheVariants.{NoFile, NotCode, BadCode, Exec, NoMemory}
+use Rattle.pm_machine.specs.declared.state.SlotRow.{SlotRow}
 use Rattle.pm_machine.specs.declared.state.Status.TheVariants as status
 use Rattle.pm_machine.specs.State.{State}
 
@@ -17,12 +19,21 @@ with_system_frame m =
     let ipc = with_word seg 65500 0 in
     with_word ipc 65502 65504
 
+-- the row of a slot without a length
+abbrev pub no_row : SlotRow
+no_row = record { unit = 0; block = 0; length = 0 }
+
+-- these images on the disk units; no byte waits, and nothing was written
+abbrev pub devices_with : List (Option (List ℕ)) → ℕ → Devices
+devices_with images clock = record { disks = images; queue = []; console = []; printer = []; clock = clock }
+
 -- the end of code that stands from 1,024 on, made even upward
 abbrev pub code_end : List ℕ → ℕ
 code_end bytes = 1024 + length bytes + length bytes % 2
 
 -- The start on bare code: its bytes stand from 1,024 on, and the rest of the memory is zero but for the frame of the
--- system. No segment stands anywhere. More than 60,000 bytes are refused.
+-- system. No slot has a length, no segment stands anywhere, no disk is there, and the clock is 0. More than 60,000
+-- bytes are refused.
 unfoldable pub raw_start : List ℕ → Result State BootFault
 raw_start bytes =
     if nat_lt 60000 (length bytes) then Err BadCode
@@ -33,6 +44,8 @@ raw_start bytes =
       steps = 0;
       status = status.Running;
       places = replicate 16 None;
+      rows = replicate 16 no_row;
+      devices = devices_with (replicate 6 None) 0;
     }))
 
 -- a machine was made, or refused; memory is missing only where nothing else was wrong

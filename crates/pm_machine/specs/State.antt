@@ -2,7 +2,9 @@
 use Rattle.std.specs.Prelude.{ℕ, List, Option}
 use Rattle.pm_calls.specs.declared.registers.Registers.{Registers}
 use Rattle.pm_calls.specs.declared.frames.Place.{Place}
+use Rattle.pm_stdproc.specs.Devices.{Devices}
 use Rattle.pm_machine.specs.declared.state.Status.{Status}
+use Rattle.pm_machine.specs.declared.state.SlotRow.{SlotRow}
 
 pub record State : Type 0 where
   -- the 32,768 words
@@ -13,3 +15,7 @@ pub record State : Type 0 where
   pub status : Status
   -- for each of the 16 slots, where its segment stands, and for how many calls
   pub places : List (Option Place)
+  -- for each of the 16 slots, where its code stands on a disk; these never change
+  pub rows : List SlotRow
+  -- the disks, the console, the printer and the clock
+  pub devices : Devices

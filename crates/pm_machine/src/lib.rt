@@ -3,6 +3,8 @@
 
 mod arithmetic;
 mod jumps;
+pub mod laws;
+mod layout;
 mod literals;
 mod machine;
 mod pointers;
@@ -14,4 +16,4 @@ mod views;
 
 pub use machine::Machine;
 pub use pm_calls::Registers;
-pub use state::{BootFault, Status, Stop};
+pub use state::{BootFault, SlotRow, Status, Stop};

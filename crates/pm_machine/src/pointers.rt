@@ -13,6 +13,7 @@ ghost use Rattle.pm_machine.specs.Pointers.{
   store_words_row,
 };
 
+use crate::layout::HIGHEST_WORD;
 use pm_opcode::Pointer;
 use pm_words::stack::{load, pop, push, store};
 use pm_words::{ExecError, Memory};
@@ -88,7 +89,7 @@ fn store_words(memory: &mut Memory, sp: u16, np: u16, words: u8) -> Result<u16, 
     ensures stack { IsStack sp np → IfOk result (λ sp. IsStack sp np) }
 {
     let size = 2 * u16::from(words);
-    if u32::from(sp) + u32::from(size) > 65502 {
+    if u32::from(sp) + u32::from(size) > HIGHEST_WORD {
         return Err(ExecError::InvalidMemory);
     }
     let (a, above) = pop(memory, sp + size)?;

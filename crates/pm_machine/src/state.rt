@@ -76,20 +76,13 @@ impl From<AllocError> for BootFault {
     }
 }
 
-/// Why an instruction does not go on.
+/// Where the code of a slot stands on a disk.
 #[derive(Clone, Copy, Debug, PartialEq, Eq)]
-pub enum Trap {
-    Exec(ExecError),
-    Waiting,
-    NoMemory,
-}
-
-impl From<ExecError> for Trap {
-    ghost use Rattle.pm_machine.specs.declared.state.Trap.TheVariants.{Exec};
-
-    ghost from_gives = { λ e t. t ≡ Exec e };
-
-    fn from(error: ExecError) -> Trap {
-        Trap::Exec(error)
-    }
+pub struct SlotRow {
+    /// The unit of the disk.
+    pub unit: u8,
+    /// The block of the disk at which the code begins; 0 for a slot without a length.
+    pub block: u16,
+    /// How many bytes the code has.
+    pub length: u16,
 }

@@ -1,0 +1,79 @@
+-- The dictionary of a code file, its first block, by the place of each byte:
+--     0 to 63     16 pairs of words: a slot's block in the file, and its length in bytes
+--    64 to 191    16 names of 8 bytes, with spaces at the end
+--   192 to 223    16 kinds, each a word
+--   224 to 511    nothing that is read
+-- Slot n has the n-th pair, name and kind, counted from 0, and holds the segment of number n. A word has its low byte first.
+use Rattle.std.specs.Prelude.{◌≡◌, ◌==◌, ◌≤◌, ◌<◌, ◌&&◌, not, nat_lt, ℕ, zero, suc, ◌+◌, ◌*◌, ◌%◌, List, length, slice_index, slice_range, Option, Some, None, if◌then◌else◌}
+use Rattle.pm_codefile.specs.declared.fault.CodeFault.{CodeFault}
+use Rattle.pm_codefile.specs.declared.fault.CodeFault.TheVariants.{NoDictionary, SlotPastEnd, OddLength}
+use Rattle.pm_codefile.specs.declared.file.Slot.{Slot}
+
+-- The word at a place, its low byte first.
+unfoldable pub word_in : List ℕ → ℕ → ℕ
+word_in bytes place = slice_index bytes place + 256 * slice_index bytes (place + 1)
+
+-- The block of slot n.
+abbrev pub block_in : List ℕ → ℕ → ℕ
+block_in file n = word_in file (4 * n)
+
+-- The length of slot n.
+abbrev pub length_in : List ℕ → ℕ → ℕ
+length_in file n = word_in file (4 * n + 2)
+
+-- Why slot n is refused: its length is odd; or it has one, and its segment, which begins at its block, passes the file's end.
+unfoldable pub slot_fault : List ℕ → ℕ → Option CodeFault
+slot_fault file n =
+    if not (length_in file n % 2 == 0) then Some (OddLength n)
+    else (if nat_lt 0 (length_in file n) && nat_lt (length file) (512 * block_in file n + length_in file n) then Some (SlotPastEnd n)
+    else None)
+
+-- A fault, or else what else may be one.
+abbrev pub or_else : Option CodeFault → Option CodeFault → Option CodeFault
+or_else (Some fault) rest = Some fault
+or_else None rest = rest
+
+-- The first fault among so many slots from slot n on.
+unfoldable pub first_fault : List ℕ → ℕ → ℕ → Option CodeFault
+first_fault file n zero = None
+first_fault file n (suc left) = or_else (slot_fault file n) (first_fault file (n + 1) left)
+
+-- Why a file is refused.
+unfoldable pub file_fault : List ℕ → Option CodeFault
+file_fault file = if nat_lt (length file) 512 then Some NoDictionary else first_fault file 0 16
+
+-- No slot below slot n has a fault, and slot n has this one.
+pub record IsFaultOfSlot (file : List ℕ) (n : ℕ) (fault : CodeFault) : Type 0 where
+  pub dictionary : 512 ≤ length file
+  pub slot : n < 16
+  pub before : (k : ℕ) → k < n → slot_fault file k ≡ None
+  pub there : slot_fault file n ≡ Some fault
+
+-- The fault is the first one of the file.
+abbrev pub IsFirstFault : List ℕ → CodeFault → Type 0
+IsFirstFault file NoDictionary = length file < 512
+IsFirstFault file (SlotPastEnd n) = IsFaultOfSlot file n (SlotPastEnd n)
+IsFirstFault file (OddLength n) = IsFaultOfSlot file n (OddLength n)
+
+-- The bytes of a code file: it has a dictionary, and no slot is refused.
+pub record IsCodeFile (file : List ℕ) : Type 0 where
+  pub dictionary : 512 ≤ length file
+  pub sound : (n : ℕ) → n < 16 → slot_fault file n ≡ None
+
+-- What slot n says.
+unfoldable pub slot_in : List ℕ → ℕ → Option Slot
+slot_in file n =
+    if nat_lt 15 n then None
+    else Some (record {
+      block = block_in file n;
+      length = length_in file n;
+      kind = word_in file (192 + 2 * n);
+      name = slice_range file (64 + 8 * n) (64 + 8 * n + 8);
+    })
+
+-- The segment of slot n: as many bytes as its length says, from its block on; none without a length.
+unfoldable pub segment_in : List ℕ → ℕ → Option (List ℕ)
+segment_in file n =
+    if nat_lt 15 n then None
+    else (if length_in file n == 0 then None
+    else Some (slice_range file (512 * block_in file n) (512 * block_in file n + length_in file n)))

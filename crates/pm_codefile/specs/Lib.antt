@@ -1,0 +1,5 @@
+pub mod Faults
+pub mod Dictionary
+pub mod Segments
+pub mod Layout
+pub mod ReadBack

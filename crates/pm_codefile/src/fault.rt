@@ -1,0 +1,43 @@
+//! Why bytes are no code file.
+
+ghost use Rattle.std.specs.Prelude.{◌≡◌};
+ghost use Rattle.pm_codefile.specs.Faults.{number_of, slot_of};
+
+use thiserror::Error;
+
+/// Why bytes are no code file. A number names the slot of the dictionary, 0 to 15.
+#[derive(Clone, Copy, Debug, PartialEq, Eq, Error)]
+pub enum CodeFault {
+    /// 1: there are fewer than 512 bytes.
+    #[error("the file has no dictionary")]
+    NoDictionary,
+    /// 2: the segment of a slot passes the end of the file.
+    #[error("the segment of slot {0} passes the end of the file")]
+    SlotPastEnd(u8),
+    /// 3: the length of a slot is odd.
+    #[error("the length of slot {0} is odd")]
+    OddLength(u8),
+}
+
+impl CodeFault {
+    /// The fault's number, as the program prints it.
+    pub fn number(self) -> u8
+        ensures value { result ≡ number_of self }
+    {
+        match self {
+            CodeFault::NoDictionary => 1,
+            CodeFault::SlotPastEnd(_) => 2,
+            CodeFault::OddLength(_) => 3,
+        }
+    }
+
+    /// The slot that the fault names, if it names one.
+    pub fn slot(self) -> Option<u8>
+        ensures value { result ≡ slot_of self }
+    {
+        match self {
+            CodeFault::NoDictionary => None,
+            CodeFault::SlotPastEnd(n) | CodeFault::OddLength(n) => Some(n),
+        }
+    }
+}

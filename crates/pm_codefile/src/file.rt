@@ -1,0 +1,178 @@
+//! A code file by its slots.
+
+ghost use Rattle.std.specs.Prelude.{
+  ◌≡◌,
+  ◌+◌,
+  ◌*◌,
+  ◌%◌,
+  ◌<◌,
+  ◌≤◌,
+  ◌↔◌,
+  ℕ,
+  length,
+  option_map,
+  slice_range,
+  IfOk,
+  IfErr,
+  IfSome,
+  IsOk,
+  OnOk,
+  None,
+  Some,
+};
+ghost use Rattle.pm_codefile.specs.Dictionary.{
+  IsCodeFile,
+  IsFirstFault,
+  file_fault,
+  first_fault,
+  segment_in,
+  slot_fault,
+  slot_in,
+};
+
+use crate::fault::CodeFault;
+use crate::words::word;
+use std::marker::Model;
+
+const BLOCK: usize = 512;
+
+/// A slot of the dictionary.
+#[derive(Clone, Copy, Debug, PartialEq, Eq)]
+pub struct Slot {
+    /// The block of the file at which its segment begins.
+    pub block: u16,
+    /// How many bytes its segment has. A slot without a length has no segment.
+    pub length: u16,
+    /// Its kind. A slot with a length can be loaded whatever its kind.
+    pub kind: u16,
+    /// Its name, with spaces at the end.
+    pub name: [u8; 8],
+}
+
+/// A code file, seen as its bytes: 512 bytes or more, and each slot's segment lies among them.
+#[derive(Drop)]
+pub struct CodeFile<'a> {
+    bytes: &'a [u8],
+}
+
+impl<'a> Model for CodeFile<'a> {
+    ghost use Rattle.std.specs.Prelude.{ℕ, List};
+    ghost use Rattle.pm_codefile.specs.Dictionary.{IsCodeFile};
+
+    ghost Value = { List ℕ };
+
+    ghost view = { λ f. f.bytes.now };
+
+    ghost invariant = { λ f. IsCodeFile f.bytes.now };
+}
+
+// Why slot n is refused.
+#[tactic(auto, unfolding(crate::specs::Dictionary::slot_fault))]
+fn slot_fault(bytes: &[u8], n: u8) -> Option<CodeFault>
+    requires dictionary { 512 ≤ length bytes.now }
+    requires slot { n < 16 }
+    ensures fault { result ≡ slot_fault bytes.now n }
+{
+    let block = usize::from(word(bytes, 4 * usize::from(n)));
+    let count = usize::from(word(bytes, 4 * usize::from(n) + 2));
+    if count % 2 != 0 {
+        return Some(CodeFault::OddLength(n));
+    }
+    if count > 0 && BLOCK * block + count > bytes.len() {
+        return Some(CodeFault::SlotPastEnd(n));
+    }
+    None
+}
+
+// The first fault of a slot.
+fn first_fault(bytes: &[u8]) -> Option<CodeFault>
+    requires dictionary { 512 ≤ length bytes.now }
+    ensures fault { result ≡ first_fault bytes.now 0 16 }
+    ensures sound { result ≡ None → (n : ℕ) → n < 16 → slot_fault bytes.now n ≡ None }
+    ensures first { IfSome result (λ fault. IsFirstFault bytes.now fault) }
+{
+    for n in 0..16 {
+        if let Some(fault) = slot_fault(bytes, n) {
+            return Some(fault);
+        }
+    }
+    None
+}
+
+// Why a file is refused.
+#[tactic(auto, unfolding(crate::specs::Dictionary::file_fault))]
+fn file_fault(bytes: &[u8]) -> Option<CodeFault>
+    ensures fault { result ≡ file_fault bytes.now }
+    ensures sound { result ≡ None → IsCodeFile bytes.now }
+    ensures first { IfSome result (λ fault. IsFirstFault bytes.now fault) }
+{
+    if bytes.len() < BLOCK {
+        return Some(CodeFault::NoDictionary);
+    }
+    first_fault(bytes)
+}
+
+// The 8 bytes at a place.
+fn name_at(bytes: &[u8], place: usize) -> [u8; 8]
+    requires within { place + 8 ≤ length bytes.now }
+    ensures name { result ≡ slice_range bytes.now place (place + 8) }
+{
+    let mut name = [0; 8];
+    name.copy_from_slice(&bytes[place..place + 8]);
+    name
+}
+
+impl<'a> CodeFile<'a> {
+    /// The code file that the bytes are, which it borrows. `NoDictionary` under 512 bytes; then, slot by slot from 0
+    /// on, `OddLength` for an odd length, and `SlotPastEnd` where a slot has a length and its block times 512 plus
+    /// its length is more than the bytes are. Block 0 is allowed, slots may overlap, and nothing else is looked at.
+    pub fn read(bytes: &'a [u8]) -> Result<CodeFile<'a>, CodeFault>
+        ensures accepted { IsOk result ↔ (file_fault bytes.now ≡ None) }
+        ensures sound { OnOk result (IsCodeFile bytes.now) }
+        ensures read { IfOk result (λ f. f ≡ bytes.now) }
+        ensures fault { IfErr result (λ fault. file_fault bytes.now ≡ Some fault) }
+        ensures first { IfErr result (λ fault. IsFirstFault bytes.now fault) }
+    {
+        match file_fault(bytes) {
+            Some(fault) => Err(fault),
+            None => Ok(CodeFile { bytes }),
+        }
+    }
+
+    /// Slot n of the dictionary; None above 15.
+    #[tactic(auto, unfolding(crate::specs::Dictionary::slot_in, crate::specs::Dictionary::slot_fault))]
+    pub fn slot(&self, n: u8) -> Option<Slot>
+        ensures slot { result ≡ slot_in self.now n }
+        ensures even { IfSome result (λ slot. slot.length % 2 ≡ 0) }
+        ensures within { IfSome result (λ slot. 0 < slot.length → 512 * slot.block + slot.length ≤ length self.now) }
+    {
+        if n > 15 {
+            return None;
+        }
+        let n = usize::from(n);
+        Some(Slot {
+            block: word(self.bytes, 4 * n),
+            length: word(self.bytes, 4 * n + 2),
+            kind: word(self.bytes, 192 + 2 * n),
+            name: name_at(self.bytes, 64 + 8 * n),
+        })
+    }
+
+    /// The bytes of the segment of slot n; None above 15 and for a slot without a length.
+    #[tactic(auto, unfolding(crate::specs::Dictionary::segment_in, crate::specs::Dictionary::slot_fault))]
+    pub fn segment(&self, n: u8) -> Option<&'a [u8]>
+        ensures segment { option_map (λ bytes. bytes.now) result ≡ segment_in self.now n }
+        ensures even { IfSome result (λ bytes. length bytes.now % 2 ≡ 0) }
+        ensures size { IfSome result (λ bytes. length bytes.now ≤ 65534) }
+    {
+        if n > 15 {
+            return None;
+        }
+        let block = usize::from(word(self.bytes, 4 * usize::from(n)));
+        let count = usize::from(word(self.bytes, 4 * usize::from(n) + 2));
+        if count == 0 {
+            return None;
+        }
+        Some(&self.bytes[BLOCK * block..BLOCK * block + count])
+    }
+}

@@ -1,0 +1,62 @@
+//! Segments and the tables of their procedures.
+
+ghost use Rattle.std.specs.Prelude.{◌≡◌, ◌+◌, ◌%◌, ◌≤◌, length};
+ghost use Rattle.pm_codefile.specs.Dictionary.{word_in};
+ghost use Rattle.pm_codefile.specs.Segments.{attributes_in, less, procedures_in};
+
+use crate::table::Attributes;
+use crate::words::word;
+
+/// The number of procedures of a segment, which is its last byte; 0 for no bytes.
+pub fn procedures(segment: &[u8]) -> u8
+    ensures count { result ≡ procedures_in segment.now }
+{
+    match segment.last() {
+        Some(count) => *count,
+        None => 0,
+    }
+}
+
+// The place that a word names by its distance, if it is in the segment.
+fn self_relative(segment: &[u8], place: u16) -> Option<u16>
+    requires within { place + 2 ≤ length segment.now }
+    ensures place { result ≡ less place (word_in segment.now place) }
+{
+    place.checked_sub(word(segment, usize::from(place)))
+}
+
+/// The table of procedure `procedure` of a segment. None for number 0 and above the segment's count, and unless the
+/// table lies in the segment at an even offset and both code places at most 8 bytes below it. Places are counted in
+/// whole numbers, so one below the segment's start is none. Nothing else is looked at: not the number in the table,
+/// the sizes or the jump entries.
+#[tactic(auto, unfolding(crate::specs::Segments::attributes_in))]
+pub fn attributes(segment: &[u8], procedure: u8) -> Option<Attributes>
+    requires even { length segment.now % 2 ≡ 0 }
+    requires size { length segment.now ≤ 65534 }
+    ensures value { result ≡ attributes_in segment.now procedure }
+{
+    if procedure == 0 || procedure > procedures(segment) {
+        return None;
+    }
+    let at = (segment.len() as u16).checked_sub(2 * u16::from(procedure) + 2)?;
+    let jtab = self_relative(segment, at)?;
+    let last = jtab.checked_sub(8)?;
+    if jtab % 2 != 0 {
+        return None;
+    }
+    let enter = self_relative(segment, jtab - 2)?;
+    let exit = self_relative(segment, jtab - 4)?;
+    if enter > last || exit > last {
+        return None;
+    }
+    let table = usize::from(jtab);
+    Some(Attributes {
+        procedure: segment[table],
+        level: segment[table + 1].cast_signed(),
+        enter,
+        exit,
+        parameters: word(segment, table - 6),
+        locals: word(segment, table - 8),
+        jtab,
+    })
+}

@@ -1,0 +1,16 @@
+//! Laws of lists of events. The functions do nothing.
+
+ghost use Rattle.pm_machine.specs.Laws.{CallsGiveAll, EventsGoOn};
+
+/// Calls that state the next state one after another give the state after the list of their
+/// events.
+#[tactic(auto, using(crate::proofs::EventLaws::calls_give_all))]
+pub fn calls_give_all()
+    ensures law { CallsGiveAll }
+{}
+
+/// The events after others go on from the state after those.
+#[tactic(auto, using(crate::proofs::EventLaws::events_go_on))]
+pub fn events_go_on()
+    ensures law { EventsGoOn }
+{}

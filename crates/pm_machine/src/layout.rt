@@ -1,0 +1,10 @@
+//! The addresses that every machine has.
+
+/// The frame of the system, at the top of the memory.
+pub const SYSTEM_FRAME: u16 = 65_492;
+
+/// SP where nothing stands on the stack.
+pub const EMPTY_STACK: u16 = 65_504;
+
+/// The highest place of a word on the stack.
+pub const HIGHEST_WORD: u32 = 65_502;

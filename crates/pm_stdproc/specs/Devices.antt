@@ -1,0 +1,122 @@
+-- What stands outside the memory, and the numbers of the units.
+use Rattle.std.specs.Prelude.{ℕ, ◌+◌, ◌*◌, ◌<◌, ◌||◌, List, [], length, slice_range, slice_set, slice_index_or, Option, Some, None, is_none, Result, Ok, Err, if◌then◌else◌, ◌==◌, nat_le, Bool}
+use Rattle.pm_stdproc.specs.declared.ports.Port.{Port}
+use Rattle.pm_stdproc.specs.declared.ports.Port.TheVariants.{Console, Terminal, Absent, Printer, Disk, Unknown}
+use Rattle.pm_stdproc.specs.declared.ports.MountFault.{MountFault}
+use Rattle.pm_stdproc.specs.declared.ports.MountFault.TheVariants.{NoUnit, Taken}
+
+-- the disks of the units 4, 5, 9, 10, 11 and 12, each the bytes of its image; the bytes that wait to be read; the bytes
+-- that were written to the console and to the printer; the clock
+pub record Devices : Type 0 where
+  pub disks : List (Option (List ℕ))
+  pub queue : List ℕ
+  pub console : List ℕ
+  pub printer : List ℕ
+  pub clock : ℕ
+
+abbrev pub mount_number : MountFault → ℕ
+mount_number NoUnit = 1
+mount_number Taken = 2
+
+-- what stands behind a unit's number, a whole word; a disk goes by its place in the list
+unfoldable pub unit_of : ℕ → Port
+unit_of n =
+    if n == 1 then Console
+    else (if n == 2 then Terminal
+    else (if n == 3 || n == 7 || n == 8 then Absent
+    else (if n == 4 then Disk 0
+    else (if n == 5 then Disk 1
+    else (if n == 6 then Printer
+    else (if n == 9 then Disk 2
+    else (if n == 10 then Disk 3
+    else (if n == 11 then Disk 4
+    else (if n == 12 then Disk 5
+    else Unknown)))))))))
+
+-- a disk unit has one of the six places
+abbrev pub HasPlace : Port → Type 0
+HasPlace (Disk k) = k < 6
+HasPlace Console = Unit {0}
+HasPlace Terminal = Unit {0}
+HasPlace Absent = Unit {0}
+HasPlace Printer = Unit {0}
+HasPlace Unknown = Unit {0}
+
+-- ---- the images on the disk units
+
+-- the image at a place, if a disk is there
+abbrev pub image_at : Devices → ℕ → Option (List ℕ)
+image_at d k = slice_index_or d.disks k None
+
+-- the image on a unit, if it is a disk unit and a disk is there
+abbrev pub image_on : Port → Devices → Option (List ℕ)
+image_on (Disk k) d = image_at d k
+image_on Console d = None
+image_on Terminal d = None
+image_on Absent d = None
+image_on Printer d = None
+image_on Unknown d = None
+
+-- whether n bytes from a block on lie on an image: on the whole of it, whatever its directory says
+abbrev pub lies_on : List ℕ → ℕ → ℕ → Bool
+lies_on image block n = nat_le (512 * block + n) (length image)
+
+-- these bytes
+abbrev pub part_of : List ℕ → ℕ → ℕ → List ℕ
+part_of image block n = slice_range image (512 * block) (512 * block + n)
+
+abbrev pub code_in : Option (List ℕ) → ℕ → ℕ → Option (List ℕ)
+code_in None block n = None
+code_in (Some image) block n = if lies_on image block n then Some (part_of image block n) else None
+
+-- the n bytes of code from a block of a unit's disk on, as the disk is now; none without a disk or past its end
+unfoldable pub code_on : Devices → ℕ → ℕ → ℕ → Option (List ℕ)
+code_on d unit block n = code_in (image_on (unit_of unit) d) block n
+
+-- an image is put on a disk unit that has none
+abbrev pub mounted_at : Port → List ℕ → Devices → Result Devices MountFault
+mounted_at (Disk k) image d =
+    if is_none (image_at d k) then Ok (record d { disks = slice_set d.disks k (Some image) }) else Err Taken
+mounted_at Console image d = Err NoUnit
+mounted_at Terminal image d = Err NoUnit
+mounted_at Absent image d = Err NoUnit
+mounted_at Printer image d = Err NoUnit
+mounted_at Unknown image d = Err NoUnit
+
+unfoldable pub mounted : ℕ → List ℕ → Devices → Result Devices MountFault
+mounted unit image d = mounted_at (unit_of unit) image d
+
+-- the image that is taken away from a unit, and what is left
+unfoldable pub ejected_image : ℕ → Devices → Option (List ℕ)
+ejected_image unit d = image_on (unit_of unit) d
+
+abbrev pub ejected_at : Port → Devices → Devices
+ejected_at (Disk k) d = record d { disks = slice_set d.disks k None }
+ejected_at Console d = d
+ejected_at Terminal d = d
+ejected_at Absent d = d
+ejected_at Printer d = d
+ejected_at Unknown d = d
+
+unfoldable pub ejected : ℕ → Devices → Devices
+ejected unit d = ejected_at (unit_of unit) d
+
+-- ---- questions to a unit
+
+-- the IORESULT of a question: 2 where the number is no unit
+abbrev pub known : Port → ℕ
+known Unknown = 2
+known (Disk k) = 0
+known Console = 0
+known Terminal = 0
+known Absent = 0
+known Printer = 0
+
+-- A unit is cleared: the IORESULT, and what is left. The console and the terminal forget the bytes that wait.
+abbrev pub cleared : Port → Devices → ℕ × Devices
+cleared Unknown d = (2, d)
+cleared Absent d = (9, d)
+cleared Printer d = (0, d)
+cleared Console d = (0, record d { queue = [] })
+cleared Terminal d = (0, record d { queue = [] })
+cleared (Disk k) d = (if is_none (image_at d k) then 9 else 0, d)

@@ -1,0 +1,73 @@
+-- Laws of moves and scans, and of what a disk keeps.
+use Rattle.std.specs.Prelude.{◌≡◌, ◌⊎◌, ◌<◌, ◌≤◌, ℕ, ◌+◌, ◌-◌, ◌*◌, pos, negsuc, ◌-ℤ◌, Bool, true, false, List}
+use Rattle.pm_words.specs.Words.{IsMemory, byte_at, copied, moved_up, moved_down, scanned, stops}
+use Rattle.pm_volume.specs.Words as disk
+use Rattle.pm_stdproc.specs.Devices.{part_of}
+use Rattle.pm_stdproc.specs.Transfers.{can_move, named_bytes}
+use Rattle.pm_stdproc.specs.declared.transfers.Transfer.{Transfer}
+
+-- ---- moves
+
+-- from the low end: a move is a copy of the whole, where no byte is written before it is read
+abbrev pub MoveLeftCopies : Type 0
+MoveLeftCopies =
+    (m : List ℕ) (from to n : ℕ) → IsMemory m → from + n ≤ 65536 → to + n ≤ 65536 → (to ≤ from) ⊎ (from + n ≤ to) →
+    moved_up m from to n ≡ copied m from to n
+
+-- the same from the high end
+abbrev pub MoveRightCopies : Type 0
+MoveRightCopies =
+    (m : List ℕ) (from to n : ℕ) → IsMemory m → from + n ≤ 65536 → to + n ≤ 65536 → (from ≤ to) ⊎ (to + n ≤ from) →
+    moved_down m from to n ≡ copied m from to n
+
+-- Where a move from the low end goes to a higher place, bytes that it wrote are read again: afterwards each byte is as
+-- the byte from which it came is then. So the bytes between the two places repeat.
+abbrev pub MoveLeftRepeats : Type 0
+MoveLeftRepeats =
+    (m : List ℕ) (from to n i : ℕ) → IsMemory m → from + n ≤ 65536 → to + n ≤ 65536 → from ≤ to → i < n →
+    byte_at (moved_up m from to n) (to + i) ≡ byte_at (moved_up m from to n) (from + i)
+
+-- the same where a move from the high end goes to a lower place
+abbrev pub MoveRightRepeats : Type 0
+MoveRightRepeats =
+    (m : List ℕ) (from to n i : ℕ) → IsMemory m → from + n ≤ 65536 → to + n ≤ 65536 → to ≤ from → i < n →
+    byte_at (moved_down m from to n) (to + i) ≡ byte_at (moved_down m from to n) (from + i)
+
+-- neither changes a byte outside its destination
+abbrev pub MovesStayInside : Type 0
+MovesStayInside =
+    (m : List ℕ) (from to n x : ℕ) → IsMemory m → from + n ≤ 65536 → to + n ≤ 65536 → (x < to) ⊎ (to + n ≤ x) →
+    (byte_at (moved_up m from to n) x ≡ byte_at m x) × (byte_at (moved_down m from to n) x ≡ byte_at m x)
+
+-- ---- scans
+
+-- k is the least number below n that passes a test, or n where none does
+pub record IsFirst (test : ℕ → Bool) (n k : ℕ) : Type 0 where
+  pub inside : k ≤ n
+  pub before : (i : ℕ) → i < k → test i ≡ false
+  pub there : k < n → test k ≡ true
+
+-- an upward scan's answer is the least distance of a byte that stops it, or the limit
+pub record ScansUp (m : List ℕ) (a n b : ℕ) (equal : Bool) : Type 0 where
+  pub distance : ℕ
+  pub answer : scanned m a (pos n) b equal ≡ pos distance
+  pub first : IsFirst (λ i. stops equal b (byte_at m (a + i))) n distance
+
+-- a downward scan's answer is the same with a minus sign
+pub record ScansDown (m : List ℕ) (a d b : ℕ) (equal : Bool) : Type 0 where
+  pub distance : ℕ
+  pub answer : scanned m a (negsuc d) b equal ≡ pos 0 -ℤ pos distance
+  pub first : IsFirst (λ i. stops equal b (byte_at m (a - i))) (d + 1) distance
+
+abbrev pub ScansStopFirst : Type 0
+ScansStopFirst =
+    ((m : List ℕ) (a n b : ℕ) (equal : Bool) → IsMemory m → a + n ≤ 65536 → ScansUp m a n b equal) ×
+    ((m : List ℕ) (a d b : ℕ) (equal : Bool) → IsMemory m → d ≤ a → a < 65536 → ScansDown m a d b equal)
+
+-- ---- disks
+
+-- what a transfer writes on a disk is what the same transfer reads from it
+abbrev pub DisksKeep : Type 0
+DisksKeep =
+    (m : List ℕ) (image : List ℕ) (t : Transfer) → IsMemory m → t.address + t.count ≤ 65536 → can_move image t ≡ true →
+    part_of (disk.written image (512 * t.block) (named_bytes m t)) t.block t.count ≡ named_bytes m t

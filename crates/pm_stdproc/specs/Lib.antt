@@ -1,0 +1,7 @@
+pub mod Traps
+pub mod Devices
+pub mod MemoryRows
+pub mod Transfers
+pub mod UnitRows
+pub mod Procedures
+pub mod Laws

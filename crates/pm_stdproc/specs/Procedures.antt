@@ -1,0 +1,71 @@
+-- The standard procedures.
+use Rattle.std.specs.Prelude.{ℕ, List, Option, Result, Ok, Err, if◌then◌else◌, ◌==◌}
+use Rattle.pm_words.specs.declared.error.ExecError.{ExecError}
+use Rattle.pm_words.specs.declared.error.ExecError.TheVariants as error
+use Rattle.pm_words.specs.Stack.{◌>>=◌, pop}
+use Rattle.pm_calls.specs.declared.registers.Registers.{Registers}
+use Rattle.pm_calls.specs.declared.frames.Place.{Place}
+use Rattle.pm_calls.specs.Places.{Parts}
+use Rattle.pm_calls.specs.Exits.{exited}
+use Rattle.pm_stdproc.specs.Traps.{Pause, Fails, or_fails}
+use Rattle.pm_stdproc.specs.Devices.{Devices}
+use Rattle.pm_stdproc.specs.MemoryRows.{memory_row}
+use Rattle.pm_stdproc.specs.UnitRows.{Served, served, units_row}
+use Rattle.pm_stdproc.specs.declared.procedures.OnMemory.TheVariants as memory
+use Rattle.pm_stdproc.specs.declared.procedures.OnUnits.TheVariants as units
+use Rattle.pm_stdproc.specs.declared.procedures.Procedure.{Procedure}
+use Rattle.pm_stdproc.specs.declared.procedures.Procedure.TheVariants.{OnMemory, OnUnits, Exit, Unimplemented}
+
+-- what the standard procedures see of the machine
+pub record Reach : Type 0 where
+  pub memory : List ℕ
+  pub registers : Registers
+  pub places : List (Option Place)
+  pub devices : Devices
+
+-- the procedure of a number; all other numbers are procedures that this machine does not have
+unfoldable pub procedure_of : ℕ → Procedure
+procedure_of n =
+    if n == 0 then OnMemory memory.CheckIo
+    else (if n == 1 then OnMemory memory.New
+    else (if n == 2 then OnMemory memory.MoveLeft
+    else (if n == 3 then OnMemory memory.MoveRight
+    else (if n == 4 then Exit
+    else (if n == 5 then OnUnits units.Read
+    else (if n == 6 then OnUnits units.Write
+    else (if n == 9 then OnUnits units.Time
+    else (if n == 10 then OnMemory memory.Fill
+    else (if n == 11 then OnMemory memory.Scan
+    else (if n == 32 then OnMemory memory.Mark
+    else (if n == 33 then OnMemory memory.Release
+    else (if n == 34 then OnMemory memory.IoResult
+    else (if n == 35 then OnUnits units.Busy
+    else (if n == 37 then OnUnits units.Wait
+    else (if n == 38 then OnUnits units.Clear
+    else (if n == 39 then OnMemory memory.Halt
+    else (if n == 40 then OnMemory memory.FreeMemory
+    else Unimplemented)))))))))))))))))
+
+abbrev pub parts : Reach → Registers → Parts
+parts s r = record { memory = s.memory; registers = r; places = s.places }
+
+-- EXIT. Segment, procedure: the two numbers of the procedure that is left
+unfoldable pub exit_row : Reach → Result Reach ExecError
+exit_row s = do
+  procedure ← pop s.memory s.registers.sp
+  segment ← pop s.memory procedure.1
+  left ← exited (parts s (record s.registers { sp = segment.1 })) (record { segment = segment.0; procedure = procedure.0 })
+  Ok (record s { memory = left.memory; registers = left.registers; places = left.places })
+
+abbrev pub on_memory : Reach → Result (List ℕ × Registers) ExecError → Result Reach ExecError
+on_memory s row = row >>= λ t. Ok (record s { memory = t.0; registers = t.1 })
+
+abbrev pub on_units : Reach → Result Served Pause → Result Reach Pause
+on_units s row = row >>= λ t. Ok (record s { memory = t.memory; registers = t.registers; devices = t.devices })
+
+-- what a standard procedure does
+unfoldable pub procedure_row : Procedure → Reach → Result Reach Pause
+procedure_row (OnMemory o) s = or_fails (on_memory s (memory_row o s.memory s.registers))
+procedure_row (OnUnits o) s = on_units s (units_row o (served s.memory s.registers s.devices))
+procedure_row Exit s = or_fails (exit_row s)
+procedure_row Unimplemented s = Err (Fails error.Unimplemented)

@@ -1,0 +1,89 @@
+-- What the units give and take. IORESULT is 0 after a transfer, 1 for a bad block, 2 where the number is no unit, 3 for
+-- a unit that cannot do it, 9 for a unit that is not there.
+use Rattle.std.specs.Prelude.{ℕ, ◌*◌, ◌≡◌, Bool, true, false, ◌&&◌, List, ◌++◌, length, take, drop, slice_set, Option, Some, None, Result, Ok, Err, if◌then◌else◌, nat_lt}
+use Rattle.pm_words.specs.Words.{with_bytes, bytes_at}
+use Rattle.pm_volume.specs.Words as disk
+use Rattle.pm_stdproc.specs.Traps.{Pause, Fails, Waits}
+use Rattle.pm_stdproc.specs.Devices.{Devices, image_at, lies_on, part_of}
+use Rattle.pm_stdproc.specs.declared.ports.Port.{Port}
+use Rattle.pm_stdproc.specs.declared.ports.Port.TheVariants.{Console, Terminal, Absent, Printer, Disk, Unknown}
+use Rattle.pm_stdproc.specs.declared.transfers.Transfer.{Transfer}
+use Rattle.pm_stdproc.specs.declared.trap.Trap.{Trap}
+use Rattle.pm_stdproc.specs.declared.trap.Trap.TheVariants as trap
+
+-- what a transfer leaves
+pub record Moved : Type 0 where
+  pub memory : List ℕ
+  pub devices : Devices
+  pub ioresult : ℕ
+
+-- a transfer that moves nothing
+abbrev pub idle : ℕ → List ℕ → Devices → Moved
+idle code m d = record { memory = m; devices = d; ioresult = code }
+
+-- ---- reading
+
+-- the first bytes that wait are taken, and the console shows them; with too few the procedure waits, and takes none
+abbrev pub from_queue : Bool → Transfer → List ℕ → Devices → Result Moved Pause
+from_queue echo t m d =
+    if nat_lt (length d.queue) t.count then Err Waits
+    else Ok (record {
+      memory = with_bytes m t.address (take t.count d.queue);
+      devices = record d {
+        queue = drop t.count d.queue;
+        console = if echo then d.console ++ take t.count d.queue else d.console;
+      };
+      ioresult = 0;
+    })
+
+-- whether a block, which is signed, is not negative, and the bytes from it on lie on the image
+abbrev pub can_move : List ℕ → Transfer → Bool
+can_move image t = nat_lt t.block 32768 && lies_on image t.block t.count
+
+abbrev pub from_disk : Option (List ℕ) → Transfer → List ℕ → Devices → Moved
+from_disk None t m d = idle 9 m d
+from_disk (Some image) t m d =
+    if can_move image t then
+    record { memory = with_bytes m t.address (part_of image t.block t.count); devices = d; ioresult = 0 }
+    else idle 1 m d
+
+-- bytes read from a unit; the console shows what it reads, the terminal does not
+unfoldable pub read : Port → Transfer → List ℕ → Devices → Result Moved Pause
+read Unknown t m d = Ok (idle 2 m d)
+read Absent t m d = Ok (idle 9 m d)
+read Printer t m d = Ok (idle 3 m d)
+read Console t m d = from_queue true t m d
+read Terminal t m d = from_queue false t m d
+read (Disk k) t m d = Ok (from_disk (image_at d k) t m d)
+
+-- ---- writing
+
+-- the bytes of the memory that a transfer names
+abbrev pub named_bytes : List ℕ → Transfer → List ℕ
+named_bytes m t = bytes_at m t.address t.count
+
+abbrev pub to_disk : ℕ → Option (List ℕ) → Transfer → List ℕ → Devices → Moved
+to_disk k None t m d = idle 9 m d
+to_disk k (Some image) t m d =
+    if can_move image t then record {
+      memory = m;
+      devices = record d { disks = slice_set d.disks k (Some (disk.written image (512 * t.block) (named_bytes m t))) };
+      ioresult = 0;
+    }
+    else idle 1 m d
+
+-- bytes written to a unit; the console and the terminal have one output
+unfoldable pub written : Port → Transfer → List ℕ → Devices → Moved
+written Unknown t m d = idle 2 m d
+written Absent t m d = idle 9 m d
+written Printer t m d = idle 0 m (record d { printer = d.printer ++ named_bytes m t })
+written Console t m d = idle 0 m (record d { console = d.console ++ named_bytes m t })
+written Terminal t m d = idle 0 m (record d { console = d.console ++ named_bytes m t })
+written (Disk k) t m d = to_disk k (image_at d k) t m d
+
+-- a transfer was made: it gives the IORESULT and what is new, or it leaves all as it was
+abbrev pub Transfers : Result ℕ Trap → List ℕ → Devices → List ℕ → Devices → Result Moved Pause → Type 0
+Transfers (Ok code) m d m2 d2 done = done ≡ Ok (record { memory = m2; devices = d2; ioresult = code })
+Transfers (Err (trap.Exec e)) m d m2 d2 done = (done ≡ Err (Fails e)) × (m2 ≡ m) × (d2 ≡ d)
+Transfers (Err trap.Waiting) m d m2 d2 done = (done ≡ Err Waits) × (m2 ≡ m) × (d2 ≡ d)
+Transfers (Err trap.NoMemory) m d m2 d2 done = (m2 ≡ m) × (d2 ≡ d)

@@ -1,0 +1,97 @@
+-- The standard procedures that work with the units or the clock.
+use Rattle.std.specs.Prelude.{ℕ, ◌/◌, ◌%◌, ◌&&◌, List, Result, Ok}
+use Rattle.pm_words.specs.declared.error.ExecError.{ExecError}
+use Rattle.pm_words.specs.declared.error.ExecError.TheVariants.{InvalidMemory}
+use Rattle.pm_words.specs.Words.{with_word}
+use Rattle.pm_words.specs.Stack.{◌>>=◌, demand, is_even, pop, push}
+use Rattle.pm_calls.specs.declared.registers.Registers.{Registers}
+use Rattle.pm_stdproc.specs.Traps.{Pause, or_fails}
+use Rattle.pm_stdproc.specs.Devices.{Devices, cleared, known, unit_of}
+use Rattle.pm_stdproc.specs.MemoryRows.{lies_in_memory, pop_place}
+use Rattle.pm_stdproc.specs.Transfers.{Moved, read, written}
+use Rattle.pm_stdproc.specs.declared.procedures.OnUnits.{OnUnits}
+use Rattle.pm_stdproc.specs.declared.procedures.OnUnits.TheVariants.{Read, Write, Time, Busy, Wait, Clear}
+use Rattle.pm_stdproc.specs.declared.transfers.Order.{Order}
+
+-- what such a procedure sees of the machine
+pub record Served : Type 0 where
+  pub memory : List ℕ
+  pub registers : Registers
+  pub devices : Devices
+
+abbrev pub served : List ℕ → Registers → Devices → Served
+served m r d = record { memory = m; registers = r; devices = d }
+
+-- ---- transfers
+
+-- Unit, place, count, block, mode: the operands of a transfer. The bytes at the place have to lie in memory, whatever the
+-- unit; the count is unsigned, and nothing looks at the mode.
+unfoldable pub ordered : List ℕ → ℕ → Result Order ExecError
+ordered m sp = do
+  mode ← pop m sp
+  block ← pop m mode.1
+  count ← pop m block.1
+  place ← pop_place m count.1
+  unit ← pop m place.1
+  _ ← demand (lies_in_memory place.0 count.0) InvalidMemory
+  Ok (record { transfer = record { address = place.0; count = count.0; block = block.0 }; unit = unit.0; sp = unit.1 })
+
+-- what is left when a transfer is over
+abbrev pub after_transfer : Served → ℕ → Moved → Served
+after_transfer s sp t = record s {
+  memory = t.memory;
+  registers = record s.registers { sp = sp; ioresult = t.ioresult };
+  devices = t.devices;
+}
+
+-- UNITREAD
+unfoldable pub read_row : Served → Result Served Pause
+read_row s = do
+  o ← or_fails (ordered s.memory s.registers.sp)
+  t ← read (unit_of o.unit) o.transfer s.memory s.devices
+  Ok (after_transfer s o.sp t)
+
+-- UNITWRITE
+unfoldable pub write_row : Served → Result Served Pause
+write_row s = do
+  o ← or_fails (ordered s.memory s.registers.sp)
+  Ok (after_transfer s o.sp (written (unit_of o.unit) o.transfer s.memory s.devices))
+
+-- ---- the clock, and questions to a unit
+
+-- TIME. Address, address: the one gets the clock's high word, then the other its low word.
+unfoldable pub time_row : Served → Result Served ExecError
+time_row s = do
+  b ← pop s.memory s.registers.sp
+  a ← pop s.memory b.1
+  _ ← demand (is_even a.0 && is_even b.0) InvalidMemory
+  let high = with_word s.memory a.0 (s.devices.clock / 65536)
+  Ok (record s { memory = with_word high b.0 (s.devices.clock % 65536); registers = record s.registers { sp = a.1 } })
+
+-- UNITWAIT. Unit
+unfoldable pub wait_row : Served → Result Served ExecError
+wait_row s = do
+  unit ← pop s.memory s.registers.sp
+  Ok (record s { registers = record s.registers { sp = unit.1; ioresult = known (unit_of unit.0) } })
+
+-- UNITBUSY. Unit: no unit is ever busy, so 0 is pushed.
+unfoldable pub busy_row : Served → Result Served ExecError
+busy_row s = do
+  unit ← pop s.memory s.registers.sp
+  new ← push s.memory unit.1 s.registers.np 0
+  Ok (record s { memory = new.0; registers = record s.registers { sp = new.1; ioresult = known (unit_of unit.0) } })
+
+-- UNITCLEAR. Unit
+unfoldable pub clear_row : Served → Result Served ExecError
+clear_row s = do
+  unit ← pop s.memory s.registers.sp
+  let done = cleared (unit_of unit.0) s.devices
+  Ok (record s { registers = record s.registers { sp = unit.1; ioresult = done.0 }; devices = done.1 })
+
+unfoldable pub units_row : OnUnits → Served → Result Served Pause
+units_row Read s = read_row s
+units_row Write s = write_row s
+units_row Time s = or_fails (time_row s)
+units_row Busy s = or_fails (busy_row s)
+units_row Wait s = or_fails (wait_row s)
+units_row Clear s = or_fails (clear_row s)

@@ -1,0 +1,18 @@
+//! The standard procedures of the p-machine, and the units that they read and write.
+#![tactic(auto)]
+
+pub mod laws;
+mod memory_rows;
+mod ports;
+mod procedures;
+mod rows;
+mod transfers;
+mod trap;
+mod units;
+
+pub use ports::MountFault;
+pub use trap::Trap;
+pub use units::Units;
+
+#[cfg(test)]
+mod tests;

@@ -1,0 +1,239 @@
+//! The standard procedures that work on the stack, the heap and the memory alone.
+
+ghost use Rattle.std.specs.Prelude.{◌≡◌, IfOk, ℕ};
+ghost use Rattle.pm_words.specs.Stack.{IsStack, Stores};
+ghost use Rattle.pm_words.specs.Words.{moved_up, moved_down};
+ghost use Rattle.pm_stdproc.specs.MemoryRows.{
+  Changes,
+  check_io_row,
+  fill_row,
+  filled_with,
+  is_positive,
+  mark_row,
+  memory_row,
+  move_row,
+  moved,
+  new_row,
+  passed_by,
+  pop_place,
+  push_row,
+  release_row,
+  scan_row,
+};
+
+use crate::procedures::OnMemory;
+use pm_calls::Registers;
+use pm_words::stack::{load, pop, push, store};
+use pm_words::{ExecError, Memory};
+
+/// A byte place on the stack: its address, and the SP above it.
+pub fn pop_place(memory: &Memory, sp: u16) -> Result<(u16, u16), ExecError>
+    ensures place { result ≡ pop_place memory.now.words sp }
+    ensures stack { (np : ℕ) → IsStack sp np → IfOk result (λ r. IsStack r.1 np) }
+{
+    let (index, sp) = pop(memory, sp)?;
+    let (base, sp) = pop(memory, sp)?;
+    Ok((base.wrapping_add(index), sp))
+}
+
+// Whether a word is above 0 as a signed number.
+fn is_positive(word: u16) -> bool
+    ensures positive { result ≡ is_positive word }
+{
+    word > 0 && word < 32768
+}
+
+#[tactic(auto, unfolding(crate::specs::MemoryRows::check_io_row))]
+fn check_io(memory: &mut Memory, registers: Registers) -> Result<Registers, ExecError>
+    ensures row { Changes result memory.old.words memory.new.words (check_io_row memory.old.words registers) }
+    ensures stack { IsStack registers.sp registers.np → IfOk result (λ r. IsStack r.sp r.np) }
+{
+    if registers.ioresult != 0 {
+        return Err(ExecError::UserIo);
+    }
+    Ok(registers)
+}
+
+#[tactic(auto, unfolding(crate::specs::MemoryRows::new_row))]
+fn new(memory: &mut Memory, registers: Registers) -> Result<Registers, ExecError>
+    ensures row { Changes result memory.old.words memory.new.words (new_row memory.old.words registers) }
+    ensures stack { IsStack registers.sp registers.np → IfOk result (λ r. IsStack r.sp r.np) }
+{
+    let Registers { sp, np, .. } = registers;
+    let (count, sp) = pop(memory, sp)?;
+    let (address, sp) = pop(memory, sp)?;
+    if address % 2 != 0 {
+        return Err(ExecError::InvalidMemory);
+    }
+    let top = u32::from(np) + 2 * u32::from(count);
+    if top > u32::from(sp) {
+        return Err(ExecError::StackOverflow);
+    }
+    store(memory, address, np)?;
+    Ok(Registers {
+        sp,
+        np: top as u16,
+        ..registers
+    })
+}
+
+// Moves bytes one by one, the lowest first.
+fn move_up(memory: &mut Memory, from: u16, to: u16, count: u16) -> Result<(), ExecError>
+    ensures moved { Stores result memory.old.words memory.new.words (moved moved_up memory.old.words from to count) }
+{
+    if !is_positive(count) || memory.copy_up(from, to, count) {
+        Ok(())
+    } else {
+        Err(ExecError::InvalidMemory)
+    }
+}
+
+// Moves bytes one by one, the highest first.
+fn move_down(memory: &mut Memory, from: u16, to: u16, count: u16) -> Result<(), ExecError>
+    ensures moved { Stores result memory.old.words memory.new.words (moved moved_down memory.old.words from to count) }
+{
+    if !is_positive(count) || memory.copy_down(from, to, count) {
+        Ok(())
+    } else {
+        Err(ExecError::InvalidMemory)
+    }
+}
+
+#[tactic(auto, unfolding(crate::specs::MemoryRows::move_row))]
+fn move_left(memory: &mut Memory, registers: Registers) -> Result<Registers, ExecError>
+    ensures row { Changes result memory.old.words memory.new.words (move_row moved_up memory.old.words registers) }
+    ensures stack { IsStack registers.sp registers.np → IfOk result (λ r. IsStack r.sp r.np) }
+{
+    let (count, sp) = pop(memory, registers.sp)?;
+    let (to, sp) = pop_place(memory, sp)?;
+    let (from, sp) = pop_place(memory, sp)?;
+    move_up(memory, from, to, count)?;
+    Ok(Registers { sp, ..registers })
+}
+
+#[tactic(auto, unfolding(crate::specs::MemoryRows::move_row))]
+fn move_right(memory: &mut Memory, registers: Registers) -> Result<Registers, ExecError>
+    ensures row { Changes result memory.old.words memory.new.words (move_row moved_down memory.old.words registers) }
+    ensures stack { IsStack registers.sp registers.np → IfOk result (λ r. IsStack r.sp r.np) }
+{
+    let (count, sp) = pop(memory, registers.sp)?;
+    let (to, sp) = pop_place(memory, sp)?;
+    let (from, sp) = pop_place(memory, sp)?;
+    move_down(memory, from, to, count)?;
+    Ok(Registers { sp, ..registers })
+}
+
+// Fills a range with one byte.
+fn fill_with(memory: &mut Memory, at: u16, count: u16, byte: u8) -> Result<(), ExecError>
+    ensures filled { Stores result memory.old.words memory.new.words (filled_with memory.old.words at count byte) }
+{
+    if !is_positive(count) || memory.fill(at, count, byte) {
+        Ok(())
+    } else {
+        Err(ExecError::InvalidMemory)
+    }
+}
+
+#[tactic(auto, unfolding(crate::specs::MemoryRows::fill_row))]
+fn fill(memory: &mut Memory, registers: Registers) -> Result<Registers, ExecError>
+    ensures row { Changes result memory.old.words memory.new.words (fill_row memory.old.words registers) }
+    ensures stack { IsStack registers.sp registers.np → IfOk result (λ r. IsStack r.sp r.np) }
+{
+    let (character, sp) = pop(memory, registers.sp)?;
+    let (count, sp) = pop(memory, sp)?;
+    let (at, sp) = pop_place(memory, sp)?;
+    fill_with(memory, at, count, (character % 256) as u8)?;
+    Ok(Registers { sp, ..registers })
+}
+
+// How many bytes a scan passes.
+fn passed_by(memory: &Memory, at: u16, limit: u16, byte: u8, equal: bool) -> Result<u16, ExecError>
+    ensures passed { result ≡ passed_by memory.now.words at limit byte equal }
+{
+    let passed = memory.scan(at, limit.cast_signed(), byte, equal);
+    Ok(passed.ok_or(ExecError::InvalidMemory)?.cast_unsigned())
+}
+
+#[tactic(auto, unfolding(crate::specs::MemoryRows::scan_row))]
+fn scan(memory: &mut Memory, registers: Registers) -> Result<Registers, ExecError>
+    ensures row { Changes result memory.old.words memory.new.words (scan_row memory.old.words registers) }
+    ensures stack { IsStack registers.sp registers.np → IfOk result (λ r. IsStack r.sp r.np) }
+{
+    let (_mask, sp) = pop(memory, registers.sp)?;
+    let (at, sp) = pop_place(memory, sp)?;
+    let (character, sp) = pop(memory, sp)?;
+    let (kind, sp) = pop(memory, sp)?;
+    let (limit, sp) = pop(memory, sp)?;
+    let passed = passed_by(memory, at, limit, (character % 256) as u8, kind % 2 == 0)?;
+    let sp = push(memory, sp, registers.np, passed)?;
+    Ok(Registers { sp, ..registers })
+}
+
+#[tactic(auto, unfolding(crate::specs::MemoryRows::mark_row))]
+fn mark(memory: &mut Memory, registers: Registers) -> Result<Registers, ExecError>
+    ensures row { Changes result memory.old.words memory.new.words (mark_row memory.old.words registers) }
+    ensures stack { IsStack registers.sp registers.np → IfOk result (λ r. IsStack r.sp r.np) }
+{
+    let (address, sp) = pop(memory, registers.sp)?;
+    store(memory, address, registers.np)?;
+    Ok(Registers { sp, ..registers })
+}
+
+#[tactic(auto, unfolding(crate::specs::MemoryRows::release_row))]
+fn release(memory: &mut Memory, registers: Registers) -> Result<Registers, ExecError>
+    ensures row { Changes result memory.old.words memory.new.words (release_row memory.old.words registers) }
+    ensures stack { IsStack registers.sp registers.np → IfOk result (λ r. IsStack r.sp r.np) }
+{
+    let (address, sp) = pop(memory, registers.sp)?;
+    let np = load(memory, address)?;
+    if np % 2 != 0 {
+        return Err(ExecError::InvalidMemory);
+    }
+    if np > sp {
+        return Err(ExecError::StackOverflow);
+    }
+    Ok(Registers {
+        sp,
+        np,
+        ..registers
+    })
+}
+
+// Puts a word on the stack.
+#[tactic(auto, unfolding(crate::specs::MemoryRows::push_row))]
+fn put(memory: &mut Memory, registers: Registers, word: u16) -> Result<Registers, ExecError>
+    ensures row { Changes result memory.old.words memory.new.words (push_row word memory.old.words registers) }
+    ensures stack { IsStack registers.sp registers.np → IfOk result (λ r. IsStack r.sp r.np) }
+{
+    let sp = push(memory, registers.sp, registers.np, word)?;
+    Ok(Registers { sp, ..registers })
+}
+
+/// One of these procedures: it gives the registers after it; an error leaves the memory as it was.
+#[tactic(auto, unfolding(crate::specs::MemoryRows::memory_row))]
+pub fn perform(
+    memory: &mut Memory,
+    registers: Registers,
+    procedure: OnMemory,
+) -> Result<Registers, ExecError>
+    ensures row { Changes result memory.old.words memory.new.words (memory_row procedure memory.old.words registers) }
+    ensures stack { IsStack registers.sp registers.np → IfOk result (λ r. IsStack r.sp r.np) }
+{
+    match procedure {
+        OnMemory::CheckIo => check_io(memory, registers),
+        OnMemory::New => new(memory, registers),
+        OnMemory::MoveLeft => move_left(memory, registers),
+        OnMemory::MoveRight => move_right(memory, registers),
+        OnMemory::Fill => fill(memory, registers),
+        OnMemory::Scan => scan(memory, registers),
+        OnMemory::Mark => mark(memory, registers),
+        OnMemory::Release => release(memory, registers),
+        OnMemory::IoResult => put(memory, registers, registers.ioresult),
+        OnMemory::Halt => Err(ExecError::Halt),
+        OnMemory::FreeMemory => put(
+            memory,
+            registers,
+            registers.sp.saturating_sub(registers.np) / 2,
+        ),
+    }
+}

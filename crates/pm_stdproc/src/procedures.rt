@@ -1,0 +1,89 @@
+//! The numbers of the standard procedures.
+
+ghost use Rattle.std.specs.Prelude.{◌≡◌};
+ghost use Rattle.pm_stdproc.specs.Procedures.{procedure_of};
+
+/// A standard procedure that works on the stack, the heap and the memory alone.
+#[derive(Clone, Copy, Debug, PartialEq, Eq)]
+pub enum OnMemory {
+    /// IOCHECK.
+    CheckIo,
+    /// NEW.
+    New,
+    /// MOVELEFT.
+    MoveLeft,
+    /// MOVERIGHT.
+    MoveRight,
+    /// FILLCHAR.
+    Fill,
+    /// SCAN.
+    Scan,
+    /// MARK.
+    Mark,
+    /// RELEASE.
+    Release,
+    /// IORESULT.
+    IoResult,
+    /// HALT.
+    Halt,
+    /// MEMAVAIL.
+    FreeMemory,
+}
+
+/// A standard procedure that works with the units or the clock.
+#[derive(Clone, Copy, Debug, PartialEq, Eq)]
+pub enum OnUnits {
+    /// UNITREAD.
+    Read,
+    /// UNITWRITE.
+    Write,
+    /// TIME.
+    Time,
+    /// UNITBUSY.
+    Busy,
+    /// UNITWAIT.
+    Wait,
+    /// UNITCLEAR.
+    Clear,
+}
+
+/// A standard procedure.
+#[derive(Clone, Copy, Debug, PartialEq, Eq)]
+pub enum Procedure {
+    /// One on the memory.
+    OnMemory(OnMemory),
+    /// One on the units.
+    OnUnits(OnUnits),
+    /// EXIT.
+    Exit,
+    /// One that this machine does not have.
+    Unimplemented,
+}
+
+/// The procedure of a number.
+#[tactic(auto, unfolding(crate::specs::Procedures::procedure_of))]
+pub fn procedure_of(n: u8) -> Procedure
+    ensures procedure { result ≡ procedure_of n }
+{
+    match n {
+        0 => Procedure::OnMemory(OnMemory::CheckIo),
+        1 => Procedure::OnMemory(OnMemory::New),
+        2 => Procedure::OnMemory(OnMemory::MoveLeft),
+        3 => Procedure::OnMemory(OnMemory::MoveRight),
+        4 => Procedure::Exit,
+        5 => Procedure::OnUnits(OnUnits::Read),
+        6 => Procedure::OnUnits(OnUnits::Write),
+        9 => Procedure::OnUnits(OnUnits::Time),
+        10 => Procedure::OnMemory(OnMemory::Fill),
+        11 => Procedure::OnMemory(OnMemory::Scan),
+        32 => Procedure::OnMemory(OnMemory::Mark),
+        33 => Procedure::OnMemory(OnMemory::Release),
+        34 => Procedure::OnMemory(OnMemory::IoResult),
+        35 => Procedure::OnUnits(OnUnits::Busy),
+        37 => Procedure::OnUnits(OnUnits::Wait),
+        38 => Procedure::OnUnits(OnUnits::Clear),
+        39 => Procedure::OnMemory(OnMemory::Halt),
+        40 => Procedure::OnMemory(OnMemory::FreeMemory),
+        _ => Procedure::Unimplemented,
+    }
+}

@@ -1,0 +1,177 @@
+//! The standard procedures, by their numbers.
+
+ghost use Rattle.std.specs.Prelude.{◌≡◌, ◌+◌, ◌≤◌, ℕ, IfOk, OnOk, OnErr};
+ghost use Rattle.pm_words.specs.Stack.{IsStack};
+ghost use Rattle.pm_stdproc.specs.Traps.{Performs, or_fails};
+ghost use Rattle.pm_stdproc.specs.Procedures.{procedure_of, procedure_row};
+ghost use Rattle.pm_stdproc.specs.UnitRows.{busy_row, clear_row, ordered, read_row, served, time_row, units_row, wait_row, write_row};
+
+use crate::memory_rows::{self, pop_place};
+use crate::ports::{known, unit_of};
+use crate::procedures::{OnUnits, Procedure, procedure_of};
+use crate::transfers::{Order, Transfer};
+use crate::trap::Trap;
+use crate::units::Units;
+use pm_calls::{Frames, Registers};
+use pm_words::stack::{pop, push};
+use pm_words::{ExecError, Memory};
+
+// The operands of a transfer.
+#[tactic(auto, unfolding(crate::specs::UnitRows::ordered))]
+fn order(memory: &Memory, sp: u16) -> Result<Order, ExecError>
+    ensures order { result ≡ ordered memory.now.words sp }
+    ensures inside { IfOk result (λ o. o.transfer.address + o.transfer.count ≤ 65536) }
+    ensures stack { (np : ℕ) → IsStack sp np → IfOk result (λ o. IsStack o.sp np) }
+{
+    let (_mode, sp) = pop(memory, sp)?;
+    let (block, sp) = pop(memory, sp)?;
+    let (count, sp) = pop(memory, sp)?;
+    let (address, sp) = pop_place(memory, sp)?;
+    let (unit, sp) = pop(memory, sp)?;
+    if u32::from(address) + u32::from(count) > 65536 {
+        return Err(ExecError::InvalidMemory);
+    }
+    Ok(Order {
+        transfer: Transfer {
+            address,
+            count,
+            block,
+        },
+        unit,
+        sp,
+    })
+}
+
+impl Units {
+    /// Does the standard procedure of a number; IPC is the next instruction already. The answer is
+    /// an execution error by the procedure's row; `Waiting` where a unit has too few bytes to be
+    /// read; `NoMemory` where there is no memory for bytes that are written or shown. After each of
+    /// these everything is as it was: the scratch memory keeps what EXIT puts back, and holds
+    /// anything afterwards.
+    #[tactic(auto, unfolding(crate::specs::Procedures::procedure_row, crate::specs::Procedures::exit_row))]
+    pub fn perform(
+        &mut self,
+        n: u8,
+        memory: &mut Memory,
+        registers: &mut Registers,
+        frames: &mut Frames,
+        scratch: &mut Memory,
+    ) -> Result<(), Trap>
+        ensures stack { IsStack registers.old.sp registers.old.np → OnOk result (IsStack registers.new.sp registers.new.np) }
+        ensures row { Performs result
+            (record { memory = memory.old.words; registers = registers.old; places = frames.old.places; devices = self.old })
+            (record { memory = memory.new.words; registers = registers.new; places = frames.new.places; devices = self.new })
+            (procedure_row (procedure_of n) (record { memory = memory.old.words; registers = registers.old; places = frames.old.places; devices = self.old })) }
+        ensures refused { OnErr result ((memory.new.words ≡ memory.old.words) × (registers.new ≡ registers.old) × (frames.new.places ≡ frames.old.places) × (self.new ≡ self.old)) }
+    {
+        match procedure_of(n) {
+            Procedure::OnMemory(procedure) => {
+                *registers = memory_rows::perform(memory, *registers, procedure)?;
+                Ok(())
+            }
+            Procedure::OnUnits(procedure) => self.on_units(memory, registers, procedure),
+            Procedure::Exit => {
+                let (procedure, sp) = pop(memory, registers.sp)?;
+                let (segment, sp) = pop(memory, sp)?;
+                let mut inside = Registers { sp, ..*registers };
+                frames.exit(memory, &mut inside, segment, procedure, scratch)?;
+                *registers = inside;
+                Ok(())
+            }
+            Procedure::Unimplemented => Err(Trap::Exec(ExecError::Unimplemented)),
+        }
+    }
+
+    // A standard procedure that works with the units or the clock.
+    #[tactic(auto, unfolding(crate::specs::UnitRows::units_row))]
+    fn on_units(
+        &mut self,
+        memory: &mut Memory,
+        registers: &mut Registers,
+        procedure: OnUnits,
+    ) -> Result<(), Trap>
+        ensures stack { IsStack registers.old.sp registers.old.np → OnOk result (IsStack registers.new.sp registers.new.np) }
+        ensures row { Performs result (served memory.old.words registers.old self.old) (served memory.new.words registers.new self.new) (units_row procedure (served memory.old.words registers.old self.old)) }
+    {
+        match procedure {
+            OnUnits::Read => self.read_row(memory, registers),
+            OnUnits::Write => self.write_row(memory, registers),
+            OnUnits::Time => self.time_row(memory, registers),
+            OnUnits::Busy => self.busy_row(memory, registers),
+            OnUnits::Wait => self.wait_row(memory, registers),
+            OnUnits::Clear => self.clear_row(memory, registers),
+        }
+    }
+
+    #[tactic(auto, unfolding(crate::specs::UnitRows::read_row))]
+    fn read_row(&mut self, memory: &mut Memory, registers: &mut Registers) -> Result<(), Trap>
+        ensures stack { IsStack registers.old.sp registers.old.np → OnOk result (IsStack registers.new.sp registers.new.np) }
+        ensures row { Performs result (served memory.old.words registers.old self.old) (served memory.new.words registers.new self.new) (read_row (served memory.old.words registers.old self.old)) }
+    {
+        let order = order(memory, registers.sp)?;
+        registers.ioresult = self.read(memory, unit_of(order.unit), order.transfer)?;
+        registers.sp = order.sp;
+        Ok(())
+    }
+
+    #[tactic(auto, unfolding(crate::specs::UnitRows::write_row))]
+    fn write_row(&mut self, memory: &mut Memory, registers: &mut Registers) -> Result<(), Trap>
+        ensures stack { IsStack registers.old.sp registers.old.np → OnOk result (IsStack registers.new.sp registers.new.np) }
+        ensures row { Performs result (served memory.old.words registers.old self.old) (served memory.new.words registers.new self.new) (write_row (served memory.old.words registers.old self.old)) }
+    {
+        let order = order(memory, registers.sp)?;
+        registers.ioresult = self.write(memory, unit_of(order.unit), order.transfer)?;
+        registers.sp = order.sp;
+        Ok(())
+    }
+
+    #[tactic(auto, unfolding(crate::specs::UnitRows::time_row))]
+    fn time_row(&mut self, memory: &mut Memory, registers: &mut Registers) -> Result<(), Trap>
+        ensures stack { IsStack registers.old.sp registers.old.np → OnOk result (IsStack registers.new.sp registers.new.np) }
+        ensures row { Performs result (served memory.old.words registers.old self.old) (served memory.new.words registers.new self.new) (or_fails (time_row (served memory.old.words registers.old self.old))) }
+    {
+        let (low, sp) = pop(memory, registers.sp)?;
+        let (high, sp) = pop(memory, sp)?;
+        if high % 2 != 0 || low % 2 != 0 {
+            return Err(Trap::Exec(ExecError::InvalidMemory));
+        }
+        memory.set_word(high, (self.clock / 65536) as u16);
+        memory.set_word(low, (self.clock % 65536) as u16);
+        registers.sp = sp;
+        Ok(())
+    }
+
+    #[tactic(auto, unfolding(crate::specs::UnitRows::busy_row))]
+    fn busy_row(&mut self, memory: &mut Memory, registers: &mut Registers) -> Result<(), Trap>
+        ensures stack { IsStack registers.old.sp registers.old.np → OnOk result (IsStack registers.new.sp registers.new.np) }
+        ensures row { Performs result (served memory.old.words registers.old self.old) (served memory.new.words registers.new self.new) (or_fails (busy_row (served memory.old.words registers.old self.old))) }
+    {
+        let (unit, sp) = pop(memory, registers.sp)?;
+        let sp = push(memory, sp, registers.np, 0)?;
+        registers.sp = sp;
+        registers.ioresult = known(unit_of(unit));
+        Ok(())
+    }
+
+    #[tactic(auto, unfolding(crate::specs::UnitRows::wait_row))]
+    fn wait_row(&mut self, memory: &mut Memory, registers: &mut Registers) -> Result<(), Trap>
+        ensures stack { IsStack registers.old.sp registers.old.np → OnOk result (IsStack registers.new.sp registers.new.np) }
+        ensures row { Performs result (served memory.old.words registers.old self.old) (served memory.new.words registers.new self.new) (or_fails (wait_row (served memory.old.words registers.old self.old))) }
+    {
+        let (unit, sp) = pop(memory, registers.sp)?;
+        registers.sp = sp;
+        registers.ioresult = known(unit_of(unit));
+        Ok(())
+    }
+
+    #[tactic(auto, unfolding(crate::specs::UnitRows::clear_row))]
+    fn clear_row(&mut self, memory: &mut Memory, registers: &mut Registers) -> Result<(), Trap>
+        ensures stack { IsStack registers.old.sp registers.old.np → OnOk result (IsStack registers.new.sp registers.new.np) }
+        ensures row { Performs result (served memory.old.words registers.old self.old) (served memory.new.words registers.new self.new) (or_fails (clear_row (served memory.old.words registers.old self.old))) }
+    {
+        let (unit, sp) = pop(memory, registers.sp)?;
+        registers.ioresult = self.clear(unit_of(unit));
+        registers.sp = sp;
+        Ok(())
+    }
+}

@@ -1,0 +1,199 @@
+//! What the units give and take.
+
+ghost use Rattle.std.specs.Prelude.{◌≡◌, ◌+◌, ◌<◌, ◌≤◌, drop, length, Ok};
+ghost use Rattle.pm_stdproc.specs.Devices.{HasPlace, cleared, image_at};
+ghost use Rattle.pm_stdproc.specs.Transfers.{Transfers, can_move, from_disk, from_queue, named_bytes, read, to_disk, written};
+
+use crate::ports::Port;
+use crate::trap::Trap;
+use crate::units::{BLOCK, Units};
+use pm_words::Memory;
+
+/// A transfer between a unit and the memory.
+#[derive(Clone, Copy, Debug, PartialEq, Eq)]
+pub struct Transfer {
+    /// The address of the first byte in the memory.
+    pub address: u16,
+    /// How many bytes.
+    pub count: u16,
+    /// The block of the disk, a signed number.
+    pub block: u16,
+}
+
+/// The operands of a transfer.
+#[derive(Clone, Copy, Debug, PartialEq, Eq)]
+pub struct Order {
+    /// What is transferred.
+    pub transfer: Transfer,
+    /// The number of the unit.
+    pub unit: u16,
+    /// The SP above the operands.
+    pub sp: u16,
+}
+
+// Takes the first items away.
+fn drop_front(queue: &mut Vec<u8>, count: usize)
+    requires inside { count ≤ length queue.old.items }
+    ensures rest { queue.new.items ≡ drop count queue.old.items }
+{
+    let rest = queue.len() - count;
+    queue.rotate_left(count);
+    queue.truncate(rest);
+}
+
+// The bytes of the memory that a transfer names.
+#[tactic(auto, unfolding(pm_words::specs::Words::bytes_at))]
+fn named_bytes(memory: &Memory, transfer: Transfer) -> &[u8]
+    requires inside { transfer.address + transfer.count ≤ 65536 }
+    ensures bytes { result.now ≡ named_bytes memory.now.words transfer }
+    ensures size { length result.now ≡ transfer.count }
+{
+    let at = usize::from(transfer.address);
+    &memory.bytes()[at..at + usize::from(transfer.count)]
+}
+
+// Whether a transfer's block is not negative and its bytes lie on an image.
+fn can_move(image: &[u8], transfer: Transfer) -> bool
+    ensures can_move { result ≡ can_move image.now transfer }
+{
+    let at = BLOCK * usize::from(transfer.block);
+    transfer.block < 32768 && at + usize::from(transfer.count) <= image.len()
+}
+
+impl Units {
+    /// Reads from a unit into the memory, and gives the IORESULT.
+    #[tactic(auto, unfolding(crate::specs::Transfers::read))]
+    pub(crate) fn read(
+        &mut self,
+        memory: &mut Memory,
+        unit: Port,
+        transfer: Transfer,
+    ) -> Result<u16, Trap>
+        requires place { HasPlace unit }
+        requires inside { transfer.address + transfer.count ≤ 65536 }
+        ensures read { Transfers result memory.old.words self.old memory.new.words self.new (read unit transfer memory.old.words self.old) }
+    {
+        match unit {
+            Port::Unknown => Ok(2),
+            Port::Absent => Ok(9),
+            Port::Printer => Ok(3),
+            Port::Console => self.read_queue(memory, transfer, true),
+            Port::Terminal => self.read_queue(memory, transfer, false),
+            Port::Disk(k) => Ok(self.read_disk(memory, usize::from(k), transfer)),
+        }
+    }
+
+    // Reads the first bytes that wait, and perhaps shows them on the console.
+    fn read_queue(
+        &mut self,
+        memory: &mut Memory,
+        transfer: Transfer,
+        echo: bool,
+    ) -> Result<u16, Trap>
+        requires inside { transfer.address + transfer.count ≤ 65536 }
+        ensures read { Transfers result memory.old.words self.old memory.new.words self.new (from_queue echo transfer memory.old.words self.old) }
+    {
+        let count = usize::from(transfer.count);
+        if self.queue.len() < count {
+            return Err(Trap::Waiting);
+        }
+        if echo {
+            self.console.extend_from_slice(&self.queue[..count])?;
+        }
+        memory.write(transfer.address, &self.queue[..count]);
+        drop_front(&mut self.queue, count);
+        Ok(0)
+    }
+
+    // Reads from a disk, and gives the IORESULT.
+    fn read_disk(&mut self, memory: &mut Memory, k: usize, transfer: Transfer) -> u16
+        requires place { k < 6 }
+        requires inside { transfer.address + transfer.count ≤ 65536 }
+        ensures read { Transfers (Ok result) memory.old.words self.old memory.new.words self.new (Ok (from_disk (image_at self.old k) transfer memory.old.words self.old)) }
+    {
+        let Some(disk) = &self.disks[k] else {
+            return 9;
+        };
+        let image = disk.bytes();
+        if !can_move(image, transfer) {
+            return 1;
+        }
+        let at = BLOCK * usize::from(transfer.block);
+        memory.write(
+            transfer.address,
+            &image[at..at + usize::from(transfer.count)],
+        );
+        0
+    }
+
+    /// Writes from the memory to a unit, and gives the IORESULT.
+    #[tactic(auto, unfolding(crate::specs::Transfers::written))]
+    pub(crate) fn write(
+        &mut self,
+        memory: &mut Memory,
+        unit: Port,
+        transfer: Transfer,
+    ) -> Result<u16, Trap>
+        requires place { HasPlace unit }
+        requires inside { transfer.address + transfer.count ≤ 65536 }
+        ensures written { Transfers result memory.old.words self.old memory.new.words self.new (Ok (written unit transfer memory.old.words self.old)) }
+    {
+        match unit {
+            Port::Unknown => Ok(2),
+            Port::Absent => Ok(9),
+            Port::Printer => {
+                self.printer
+                    .extend_from_slice(named_bytes(memory, transfer))?;
+                Ok(0)
+            }
+            Port::Console | Port::Terminal => {
+                self.console
+                    .extend_from_slice(named_bytes(memory, transfer))?;
+                Ok(0)
+            }
+            Port::Disk(k) => Ok(self.write_disk(memory, usize::from(k), transfer)),
+        }
+    }
+
+    // Writes to a disk, and gives the IORESULT.
+    fn write_disk(&mut self, memory: &mut Memory, k: usize, transfer: Transfer) -> u16
+        requires place { k < 6 }
+        requires inside { transfer.address + transfer.count ≤ 65536 }
+        ensures written { Transfers (Ok result) memory.old.words self.old memory.new.words self.new (Ok (to_disk k (image_at self.old k) transfer memory.old.words self.old)) }
+    {
+        let Some(disk) = &mut self.disks[k] else {
+            return 9;
+        };
+        if !can_move(disk.bytes(), transfer) {
+            return 1;
+        }
+        disk.write(
+            BLOCK * usize::from(transfer.block),
+            named_bytes(memory, transfer),
+        );
+        0
+    }
+
+    /// Clears a unit, and gives the IORESULT.
+    pub(crate) fn clear(&mut self, unit: Port) -> u16
+        requires place { HasPlace unit }
+        ensures cleared { cleared unit self.old ≡ (result, self.new) }
+    {
+        match unit {
+            Port::Unknown => 2,
+            Port::Absent => 9,
+            Port::Printer => 0,
+            Port::Console | Port::Terminal => {
+                self.queue.clear();
+                0
+            }
+            Port::Disk(k) => {
+                if self.disks[usize::from(k)].is_some() {
+                    0
+                } else {
+                    9
+                }
+            }
+        }
+    }
+}

@@ -1,0 +1,155 @@
+//! The units: disks, the console, the printer, and the clock.
+
+ghost use Rattle.std.specs.Prelude.{◌≡◌, ◌+◌, ◌++◌, [], ◌∷◌, length, replicate, None, Some, Ok, Err, IfErr, IfSome, OnOk, OnErr, option_map};
+ghost use Rattle.pm_stdproc.specs.Devices.{HasPlace, code_in, code_on, ejected, ejected_image, image_on, mounted};
+
+use crate::ports::{MountFault, Port, unit_of};
+use pm_volume::{Disk, Volume};
+use std::alloc::{AllocError, Global};
+use std::marker::Model;
+
+/// The bytes of a block.
+pub const BLOCK: usize = 512;
+
+/// The units, seen as what stands outside the memory: the images on the disk units 4, 5, 9, 10, 11
+/// and 12, the bytes of input that wait, the bytes written to the console and to the printer, and
+/// the clock. Unit 1 is the console, which shows what it reads, unit 2 the same without showing,
+/// unit 6 the printer; units 3, 7 and 8 are not there, and other numbers are no units.
+#[derive(Drop)]
+pub struct Units {
+    pub(crate) disks: [Option<Disk>; 6],
+    pub(crate) queue: Vec<u8>,
+    pub(crate) console: Vec<u8>,
+    pub(crate) printer: Vec<u8>,
+    pub(crate) clock: u32,
+}
+
+impl Model for Units {
+    ghost use Rattle.pm_stdproc.specs.Devices.{Devices};
+
+    ghost Value = { Devices };
+
+    ghost view = { λ u. record { disks = u.disks; queue = u.queue.items; console = u.console.items; printer = u.printer.items; clock = u.clock } };
+}
+
+// The disk of a volume, if there is one.
+fn disk_of(volume: Option<Volume>) -> Option<Disk>
+    ensures disk { result ≡ volume }
+{
+    volume.map(Volume::into_disk)
+}
+
+// The bytes of an image from a block on.
+fn part(image: &[u8], block: u16, count: u16) -> Option<&[u8]>
+    ensures part { option_map (λ bytes. bytes.now) result ≡ code_in (Some image.now) block count }
+    ensures size { IfSome result (λ bytes. length bytes.now ≡ count) }
+{
+    let at = BLOCK * usize::from(block);
+    image.get(at..at + usize::from(count))
+}
+
+impl Units {
+    /// Units without a disk, with no input waiting and nothing written. Takes no memory.
+    pub fn new(alloc: Global, clock: u32) -> Units
+        ensures empty { result ≡ record { disks = replicate 6 None; queue = []; console = []; printer = []; clock = clock } }
+    {
+        Units {
+            disks: [None, None, None, None, None, None],
+            queue: Vec::new(alloc),
+            console: Vec::new(alloc),
+            printer: Vec::new(alloc),
+            clock,
+        }
+    }
+
+    /// Units with these volumes on the disk units 4, 5, 9, 10, 11 and 12, with no input waiting and
+    /// nothing written. Takes no memory.
+    pub fn with_volumes(alloc: Global, volumes: [Option<Volume>; 6], clock: u32) -> Units
+        ensures mounted { result ≡ record { disks = volumes; queue = []; console = []; printer = []; clock = clock } }
+    {
+        Units {
+            disks: volumes.map(disk_of),
+            ..Units::new(alloc, clock)
+        }
+    }
+
+    /// Lets one more byte of input wait. Want of memory changes nothing.
+    pub fn key(&mut self, byte: u8) -> Result<(), AllocError>
+        ensures waits { OnOk result (self.new ≡ record self.old { queue = self.old.queue ++ byte ∷ [] }) }
+        ensures refused { OnErr result (self.new ≡ self.old) }
+    {
+        self.queue.push(byte)?;
+        Ok(())
+    }
+
+    /// All bytes that were written to the console.
+    pub fn console(&self) -> &[u8]
+        ensures bytes { result.now ≡ self.now.console }
+    {
+        &self.console
+    }
+
+    /// All bytes that were written to the printer.
+    pub fn printer(&self) -> &[u8]
+        ensures bytes { result.now ≡ self.now.printer }
+    {
+        &self.printer
+    }
+
+    /// Puts a volume on a disk unit. `NoUnit` for a number that is none, `Taken` where a disk is
+    /// there already; the volume then comes back, and nothing changes.
+    #[tactic(auto, unfolding(crate::specs::Devices::mounted))]
+    pub fn mount(&mut self, unit: u8, volume: Volume) -> Result<(), (MountFault, Volume)>
+        ensures mounted { OnOk result (mounted unit volume self.old ≡ Ok self.new) }
+        ensures fault { IfErr result (λ e. mounted unit volume self.old ≡ Err e.0) }
+        ensures returned { IfErr result (λ e. e.1 ≡ volume) }
+        ensures refused { OnErr result (self.new ≡ self.old) }
+    {
+        let Port::Disk(k) = unit_of(u16::from(unit)) else {
+            return Err((MountFault::NoUnit, volume));
+        };
+        let k = usize::from(k);
+        if self.disks[k].is_some() {
+            return Err((MountFault::Taken, volume));
+        }
+        self.disks[k] = Some(volume.into_disk());
+        Ok(())
+    }
+
+    /// Takes the disk of a unit away; none where no disk is there, and for a number that is no disk
+    /// unit.
+    #[tactic(auto, unfolding(crate::specs::Devices::ejected, crate::specs::Devices::ejected_image))]
+    pub fn eject(&mut self, unit: u8) -> Option<Disk>
+        ensures disk { result ≡ ejected_image unit self.old }
+        ensures ejected { self.new ≡ ejected unit self.old }
+    {
+        match unit_of(u16::from(unit)) {
+            Port::Disk(k) => self.disks[usize::from(k)].take(),
+            _ => None,
+        }
+    }
+
+    /// So many bytes of code from a block of a unit's disk on, as the disk is now; none where no
+    /// disk is there, or where they pass its end.
+    #[tactic(auto, unfolding(crate::specs::Devices::code_on))]
+    pub fn code(&self, unit: u8, block: u16, count: u16) -> Option<&[u8]>
+        ensures code { option_map (λ bytes. bytes.now) result ≡ code_on self.now unit block count }
+        ensures size { IfSome result (λ bytes. length bytes.now ≡ count) }
+    {
+        part(self.image(unit_of(u16::from(unit)))?, block, count)
+    }
+
+    // The image of a disk unit.
+    fn image(&self, unit: Port) -> Option<&[u8]>
+        requires place { HasPlace unit }
+        ensures image { option_map (λ bytes. bytes.now) result ≡ image_on unit self.now }
+    {
+        match unit {
+            Port::Disk(k) => match &self.disks[usize::from(k)] {
+                Some(disk) => Some(disk.bytes()),
+                None => None,
+            },
+            _ => None,
+        }
+    }
+}

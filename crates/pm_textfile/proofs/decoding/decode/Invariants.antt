@@ -1,0 +1,10 @@
+use Rattle.std.proofs.Common.{◌≡◌, ◌++◌, drop}
+use Rattle.pm_textfile.specs.Reading.{text_from}
+use Rattle.pm_textfile.specs.declared.decoding.Place.TheVariants.{LineStart}
+use Rattle.pm_textfile.proofs.decoding.decode.Given as goal
+
+-- the text so far and that of the rest are the whole text
+abbrev pub invariant-loop-byte : goal.invariant-loop-byte
+invariant-loop-byte l = record {
+  whole : l.text.items ++ text_from l.place (drop l.byte-index l.byte-items) ≡ text_from LineStart l.byte-items;
+}

@@ -1,0 +1,4 @@
+pub mod Faults
+pub mod Reading
+pub mod Writing
+pub mod Laying

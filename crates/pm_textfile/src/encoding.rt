@@ -1,0 +1,201 @@
+//! Writing text files.
+
+ghost use Rattle.std.specs.Prelude.{
+  ◌≡◌,
+  ◌==◌,
+  ◌+◌,
+  ◌-◌,
+  [],
+  ◌∷◌,
+  ◌++◌,
+  ◌<◌,
+  ◌≤◌,
+  ◌^◌,
+  ◌≢◌,
+  ℕ,
+  List,
+  length,
+  replicate,
+  None,
+  Some,
+  IfErr,
+  IfOk,
+  OnOk,
+};
+ghost use Rattle.std.specs.List.{prefix_len};
+ghost use Rattle.pm_textfile.specs.Reading.{text_of};
+ghost use Rattle.pm_textfile.specs.Writing.{
+  IsFirstFault,
+  Line,
+  Writes,
+  coded,
+  completed,
+  indentation,
+  is_plain,
+  line_fault,
+  line_length,
+  text_fault,
+};
+ghost use Rattle.pm_textfile.specs.Laying.{laid};
+
+use crate::PAGE;
+use crate::copies::push_copies;
+use crate::fault::TextFault;
+use std::alloc::{AllocError, Global};
+
+const MOST_SPACES: usize = 223;
+
+/// The text file of a text, whose lines end with a line feed or with the text's end: 1,024 zeros, then pages of 1,024
+/// bytes, filled with zeros. A line is up to 223 leading spaces as 16 and 32 more than their number, its other
+/// characters as they are, and byte 13; it begins the next page if it does not fit on the rest of this one. An empty
+/// text has no page.
+///
+/// Line by line, `BadByte` for the first byte 0, 13 or 16, then `LineTooLong` for a line of more than 1,024 bytes in
+/// this form; `NoMemory` where a growth was refused.
+pub fn encode(alloc: Global, text: &[u8]) -> Result<Vec<u8>, TextFault>
+    ensures file { IfOk result (λ bytes. Writes text.now bytes.items) }
+    ensures reads_back { IfOk result (λ bytes. text_of bytes.items ≡ completed text.now) }
+    ensures sound { OnOk result (text_fault text.now ≡ None) }
+    ensures fault { IfErr result (λ e. e ≢ TextFault.NoMemory → text_fault text.now ≡ Some e) }
+    ensures first { IfErr result (λ e. e ≢ TextFault.NoMemory → IsFirstFault text.now e) }
+{
+    let mut pages = Pages::new(alloc)?;
+    let mut start = 0;
+    let mut number = 1;
+    while start < text.len() {
+        let end = start + line_length(&text[start..]);
+        let line = &text[start..end];
+        check_line(line, start, number)?;
+        pages.add_line(line)?;
+        start = end + 1;
+        number += 1;
+    }
+    pages.fill()?;
+    let Pages { bytes, .. } = pages;
+    Ok(bytes)
+}
+
+// How long the first line of a text is, without its line feed.
+fn line_length(text: &[u8]) -> usize
+    ensures length { result ≡ line_length text.now }
+    ensures within { result ≤ length text.now }
+{
+    text.iter().take_while(|c| **c != b'\n').count()
+}
+
+// How many bytes stand before the first that cannot stand in a file.
+fn plain_length(line: &[u8]) -> usize
+    ensures length { result ≡ prefix_len is_plain line.now }
+    ensures within { result ≤ length line.now }
+{
+    line.iter().take_while(|c| is_plain(**c)).count()
+}
+
+// Refuses a line that cannot stand in a file.
+#[tactic(auto, unfolding(crate::specs::Writing::line_fault))]
+fn check_line(line: &[u8], start: usize, number: usize) -> Result<(), TextFault>
+    requires within { start + length line.now < 2 ^ 64 }
+    ensures sound { OnOk result (line_fault start number line.now ≡ None) }
+    ensures fault { IfErr result (λ e. line_fault start number line.now ≡ Some e) }
+{
+    let plain = plain_length(line);
+    if plain < line.len() {
+        return Err(TextFault::BadByte(start + plain));
+    }
+    if coded_length(line) > PAGE {
+        return Err(TextFault::LineTooLong(number));
+    }
+    Ok(())
+}
+
+// Whether a byte stands for itself in a file.
+fn is_plain(byte: u8) -> bool
+    ensures value { result ≡ is_plain byte }
+{
+    !matches!(byte, 0 | 13 | 16)
+}
+
+// How many spaces at a line's start an indentation tells.
+#[tactic(auto, unfolding(crate::specs::Writing::indentation))]
+fn indentation(line: &[u8]) -> usize
+    ensures count { result ≡ indentation line.now }
+    ensures most { result ≤ 223 }
+    ensures within { result ≤ length line.now }
+{
+    line.iter()
+        .take(MOST_SPACES)
+        .take_while(|c| **c == b' ')
+        .count()
+}
+
+// How many bytes a line takes in a file.
+#[tactic(auto, unfolding(crate::specs::Writing::coded))]
+fn coded_length(line: &[u8]) -> usize
+    requires size { length line.now < 2 ^ 63 }
+    ensures length { result ≡ length (coded line.now) }
+{
+    match indentation(line) {
+        0 => line.len() + 1,
+        spaces => line.len() - spaces + 3,
+    }
+}
+
+// A file so far, and how many bytes are left on its last page.
+#[derive(Drop)]
+struct Pages {
+    bytes: Vec<u8>,
+    room: usize,
+    ghost within: { room ≤ 1024 },
+}
+
+impl Pages {
+    // A file with its header alone.
+    fn new(alloc: Global) -> Result<Pages, AllocError>
+        ensures header { IfOk result (λ pages. pages.bytes.items ≡ replicate 1024 0) }
+        ensures full { IfOk result (λ pages. pages.room ≡ 0) }
+    {
+        let bytes = vec![in alloc; 0; PAGE]?;
+        Ok(Pages { bytes, room: 0 })
+    }
+
+    // Adds a line, on the next page if it does not fit on this one.
+    #[tactic(auto, unfolding(crate::specs::Laying::laid))]
+    fn add_line(&mut self, line: &[u8]) -> Result<(), AllocError>
+        requires fits { length (coded line.now) ≤ 1024 }
+        ensures laid { OnOk result ((lines : List Line) →
+            self.new.bytes.items ++ laid self.new.room lines ≡ self.old.bytes.items ++ laid self.old.room (line.now ∷ lines)) }
+    {
+        let length = coded_length(line);
+        if length > self.room {
+            self.fill()?;
+            self.room = PAGE;
+        }
+        push_coded(&mut self.bytes, line)?;
+        self.room -= length;
+        Ok(())
+    }
+
+    // Fills the page with zeros.
+    fn fill(&mut self) -> Result<(), AllocError>
+        ensures filled { OnOk result (self.new.bytes.items ≡ self.old.bytes.items ++ replicate self.old.room 0) }
+    {
+        push_copies(&mut self.bytes, 0, self.room)?;
+        self.room = 0;
+        Ok(())
+    }
+}
+
+// Adds a line in its form.
+#[tactic(auto, unfolding(crate::specs::Writing::coded))]
+fn push_coded(bytes: &mut Vec<u8>, line: &[u8]) -> Result<(), AllocError>
+    ensures added { OnOk result (bytes.new.items ≡ bytes.old.items ++ coded line.now) }
+{
+    let spaces = indentation(line);
+    if spaces > 0 {
+        bytes.push(16)?;
+        bytes.push(32 + spaces as u8)?;
+    }
+    bytes.extend_from_slice(&line[spaces..])?;
+    bytes.push(13)?;
+    Ok(())
+}

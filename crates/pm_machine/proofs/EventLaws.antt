@@ -1,8 +1,7 @@
 -- Lists of events.
-use Rattle.std.proofs.Common.{◌≡◌, List, [], ◌∷◌, ◌++◌, refl, ◌∙◌, ap}
-use Rattle.pm_machine.specs.State.{State}
-use Rattle.pm_machine.specs.Events.{Event, next, after_all}
-use Rattle.pm_machine.specs.Laws.{Goes, CallsGiveAll, EventsGoOn}
+use Rattle.std.proofs.Common.{[], ◌∷◌, refl, ◌∙◌, ap}
+use Rattle.pm_machine.specs.Events.{next, after_all}
+use Rattle.pm_machine.specs.Laws.{CallsGiveAll, EventsGoOn}
 
 pub calls_give_all : CallsGiveAll
 calls_give_all s t [] h = h

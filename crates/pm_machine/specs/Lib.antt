@@ -13,5 +13,6 @@ pub mod Rows
 pub mod Steps
 pub mod Events
 pub mod Start
+pub mod Boot
 pub mod Runs
 pub mod Laws

@@ -2,6 +2,7 @@
 #![tactic(auto)]
 
 mod arithmetic;
+mod boot;
 mod jumps;
 pub mod laws;
 mod layout;

@@ -76,6 +76,16 @@ impl From<AllocError> for BootFault {
     }
 }
 
+impl From<ExecError> for BootFault {
+    ghost use Rattle.pm_machine.specs.declared.state.BootFault.TheVariants.{Exec};
+
+    ghost from_gives = { λ e f. f ≡ Exec e };
+
+    fn from(error: ExecError) -> BootFault {
+        BootFault::Exec(error)
+    }
+}
+
 /// Where the code of a slot stands on a disk.
 #[derive(Clone, Copy, Debug, PartialEq, Eq)]
 pub struct SlotRow {

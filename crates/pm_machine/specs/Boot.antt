@@ -1,0 +1,111 @@
+-- The start of a program from a code file on a volume.
+use Rattle.std.specs.Prelude.{ℕ, zero, suc, ◌+◌, ◌%◌, ◌==◌, ◌≡◌, List, [], ◌∷◌, ◌++◌, Option, Some, None, is_none, is_some, replicate, Result, Ok, Err, IsOk, if◌then◌else◌}
+use Rattle.pm_words.specs.declared.error.ExecError.{ExecError}
+use Rattle.pm_words.specs.Words.{zero_words}
+use Rattle.pm_words.specs.Stack.{◌>>=◌, demand}
+use Rattle.pm_calls.specs.declared.frames.Call.TheVariants.{Cxp}
+use Rattle.pm_calls.specs.Places.{Parts}
+use Rattle.pm_calls.specs.Calls.{called}
+use Rattle.pm_volume.specs.declared.entry.Entry.{Entry}
+use Rattle.pm_volume.specs.Files.{file_bytes, file_named}
+use Rattle.pm_codefile.specs.declared.file.Slot.{Slot}
+use Rattle.pm_codefile.specs.Dictionary.{file_fault, segment_in, slot_in}
+use Rattle.pm_stdproc.specs.Devices.{image_on, unit_of}
+use Rattle.pm_machine.specs.declared.boot.Begun.{Begun}
+use Rattle.pm_machine.specs.declared.state.BootFault.{BootFault}
+use Rattle.pm_machine.specs.declared.state.BootFault.TheVariants.{NoFile, NotCode, BadCode, Exec, NoMemory}
+use Rattle.pm_machine.specs.declared.state.SlotRow.{SlotRow}
+use Rattle.pm_machine.specs.declared.state.Status.TheVariants as status
+use Rattle.pm_machine.specs.State.{State}
+use Rattle.pm_machine.specs.Start.{devices_with, with_system_frame}
+
+-- what has to be there, and the fault where it is not
+abbrev pub some_or : {A : Type 0} → BootFault → Option A → Result A BootFault
+some_or fault (Some x) = Ok x
+some_or fault None = Err fault
+
+-- the image on a disk unit; none where the number is not that of a disk unit
+unfoldable pub image_of : List (Option (List ℕ)) → ℕ → Option (List ℕ)
+image_of images unit = image_on (unit_of unit) (devices_with images 0)
+
+-- The code file of a name on the volume of a unit: a file of kind 2 that is readable and has a segment in slot 1. Its
+-- entry, and its bytes.
+unfoldable pub code_file : List (Option (List ℕ)) → ℕ → List ℕ → Result (Entry × List ℕ) BootFault
+code_file images unit name = do
+  image ← some_or NoFile (image_of images unit)
+  entry ← some_or NoFile (file_named image name)
+  _ ← demand (entry.kind == 2) NotCode
+  file ← some_or BadCode (file_bytes image entry)
+  _ ← demand (is_none (file_fault file)) BadCode
+  _ ← demand (is_some (segment_in file 1)) BadCode
+  Ok (entry, file)
+
+-- where the code of a slot stands on the disk of a unit, the code file beginning at its first block
+abbrev pub row_of : ℕ → ℕ → Option Slot → SlotRow
+row_of unit first None = record { unit = unit; block = 0; length = 0 }
+row_of unit first (Some slot) =
+    if slot.length == 0 then record { unit = unit; block = 0; length = 0 }
+    else record { unit = unit; block = (first + slot.block) % 65536; length = slot.length }
+
+-- the rows of the first n slots
+unfoldable pub rows_below : ℕ → ℕ → List ℕ → ℕ → List SlotRow
+rows_below unit first file zero = []
+rows_below unit first file (suc n) = rows_below unit first file n ++ row_of unit first (slot_in file n) ∷ []
+
+-- The machine before its first call: a memory with the frame of the system, the heap from 1,024 on, and no segment
+-- anywhere.
+unfoldable pub first_parts : Parts
+first_parts = record {
+  memory = with_system_frame zero_words;
+  registers = record { sp = 65492; ipc = 0; seg = 0; jtab = 0; mp = 65492; base = 65492; np = 1024; ioresult = 0 };
+  places = replicate 16 None;
+}
+
+-- an error of the first call
+abbrev pub or_exec : {A : Type 0} → Result A ExecError → Result A BootFault
+or_exec (Ok x) = Ok x
+or_exec (Err e) = Err (Exec e)
+
+-- A program begins by a call of procedure 1 of slot 1, whose segment is loaded: the machine in it, and the rows of its 16
+-- slots.
+unfoldable pub begun : List (Option (List ℕ)) → ℕ → List ℕ → Result (Parts × List SlotRow) BootFault
+begun images unit name = do
+  found ← code_file images unit name
+  parts ← or_exec (called first_parts (Cxp 1 1) (segment_in found.1 1))
+  Ok (parts, rows_below unit found.0.first found.1 16)
+
+-- The start of a program: the volumes are the disks, no byte waits, and nothing was written. The call is no step.
+unfoldable pub boot_start : List (Option (List ℕ)) → ℕ → List ℕ → ℕ → Result State BootFault
+boot_start images unit name clock = do
+  b ← begun images unit name
+  Ok (record {
+    memory = b.0.memory;
+    registers = b.0.registers;
+    steps = 0;
+    status = status.Running;
+    places = b.0.places;
+    rows = b.1;
+    devices = devices_with images clock;
+  })
+
+-- what calls see of a machine that begins
+abbrev pub parts_of : Begun → Parts
+parts_of b = record { memory = b.memory.words; registers = b.registers; places = b.frames.places }
+
+-- a program began, or was refused; memory is missing only where its file was found
+abbrev pub Begins : Result Begun BootFault → Result (Entry × List ℕ) BootFault → Result (Parts × List SlotRow) BootFault → Type 0
+Begins (Ok b) found start = start ≡ Ok (parts_of b, b.rows)
+Begins (Err NoFile) found start = start ≡ Err NoFile
+Begins (Err NotCode) found start = start ≡ Err NotCode
+Begins (Err BadCode) found start = start ≡ Err BadCode
+Begins (Err (Exec e)) found start = start ≡ Err (Exec e)
+Begins (Err NoMemory) found start = IsOk found
+
+-- a machine was booted, or refused; memory is missing only where the file of the program was found
+abbrev pub Boots : {A : Type 0} → Result State (BootFault × A) → Result (Entry × List ℕ) BootFault → Result State BootFault → Type 0
+Boots (Ok s) found start = start ≡ Ok s
+Boots (Err (NoFile, back)) found start = start ≡ Err NoFile
+Boots (Err (NotCode, back)) found start = start ≡ Err NotCode
+Boots (Err (BadCode, back)) found start = start ≡ Err BadCode
+Boots (Err (Exec e, back)) found start = start ≡ Err (Exec e)
+Boots (Err (NoMemory, back)) found start = IsOk found

@@ -1,0 +1,169 @@
+//! The start of a program from a code file on a volume.
+
+ghost use Rattle.std.specs.Prelude.{◌≡◌, ◌<◌, ◌%◌, All, IfOk, IfErr, IfSome, OnOk, length, option_map};
+ghost use Rattle.pm_words.specs.Stack.{IsStack};
+ghost use Rattle.pm_calls.specs.Calls.{Leaves, called};
+ghost use Rattle.pm_calls.specs.declared.frames.Call.TheVariants.{Cxp};
+ghost use Rattle.pm_codefile.specs.Dictionary.{slot_in};
+ghost use Rattle.pm_machine.specs.Faults.{boot_number};
+ghost use Rattle.pm_machine.specs.Boot.{Begins, begun, code_file, first_parts, image_of, parts_of, row_of, rows_below};
+
+use crate::layout::{HEAP, SYSTEM_FRAME};
+use crate::machine::{NO_ROW, put_system_frame};
+use crate::state::{BootFault, SlotRow};
+use pm_calls::{Call, Frames, Registers};
+use pm_codefile::CodeFile;
+use pm_volume::{Entry, Volume};
+use pm_words::{ExecError, Memory};
+use std::alloc::{AllocError, Global};
+
+/// What a machine begins with, but for its units.
+#[derive(Drop)]
+pub struct Begun {
+    pub memory: Memory,
+    pub scratch: Memory,
+    pub registers: Registers,
+    pub frames: Frames,
+    pub rows: [SlotRow; 16],
+}
+
+// The volume on a disk unit.
+#[tactic(auto, unfolding(crate::specs::Boot::image_of, pm_stdproc::specs::Devices::unit_of))]
+fn volume_on(volumes: &[Option<Volume>; 6], unit: u8) -> Option<&Volume>
+    ensures volume { option_map (λ volume. volume.now) result ≡ image_of volumes.now unit }
+{
+    match unit {
+        4 => volumes[0].as_ref(),
+        5 => volumes[1].as_ref(),
+        9 => volumes[2].as_ref(),
+        10 => volumes[3].as_ref(),
+        11 => volumes[4].as_ref(),
+        12 => volumes[5].as_ref(),
+        _ => None,
+    }
+}
+
+// The code file of a name, with its entry.
+#[tactic(auto, unfolding(crate::specs::Boot::code_file))]
+fn code_file<'a>(
+    volumes: &'a [Option<Volume>; 6],
+    unit: u8,
+    name: &str,
+) -> Result<(Entry, CodeFile<'a>), BootFault>
+    ensures file { result ≡ code_file volumes.now unit name.now }
+    ensures of_the_file { IfErr result (λ fault. boot_number fault < 4) }
+{
+    let Some(volume) = volume_on(volumes, unit) else {
+        return Err(BootFault::NoFile);
+    };
+    let Some(entry) = volume.find(name) else {
+        return Err(BootFault::NoFile);
+    };
+    if entry.kind != 2 {
+        return Err(BootFault::NotCode);
+    }
+    let Some(bytes) = volume.file(&entry) else {
+        return Err(BootFault::BadCode);
+    };
+    let Ok(file) = CodeFile::read(bytes) else {
+        return Err(BootFault::BadCode);
+    };
+    if file.segment(1).is_none() {
+        return Err(BootFault::BadCode);
+    }
+    Ok((entry, file))
+}
+
+// Where the code of a slot stands on the disk.
+fn row_of(unit: u8, first: u16, file: &CodeFile<'_>, n: u8) -> SlotRow
+    ensures row { result ≡ row_of unit first (slot_in file.now n) }
+    ensures even { result.length % 2 ≡ 0 }
+{
+    match file.slot(n) {
+        Some(slot) if slot.length > 0 => SlotRow {
+            unit,
+            block: first.wrapping_add(slot.block),
+            length: slot.length,
+        },
+        _ => SlotRow {
+            unit,
+            block: 0,
+            length: 0,
+        },
+    }
+}
+
+// Where the code of each slot stands on the disk.
+fn rows_of(unit: u8, first: u16, file: &CodeFile<'_>) -> [SlotRow; 16]
+    ensures rows { result ≡ rows_below unit first file.now 16 }
+    ensures even { All (λ row. row.length % 2 ≡ 0) result }
+{
+    let mut rows = [NO_ROW; 16];
+    for n in 0..16 {
+        rows[n] = row_of(unit, first, file, n as u8);
+    }
+    rows
+}
+
+// What a machine has before its first call.
+#[tactic(auto, unfolding(crate::specs::Boot::first_parts))]
+fn start(alloc: Global) -> Result<Begun, AllocError>
+    ensures parts { IfOk result (λ b. parts_of b ≡ first_parts) }
+    ensures stack { IfOk result (λ b. IsStack b.registers.sp b.registers.np) }
+{
+    let mut memory = Memory::new(alloc)?;
+    put_system_frame(&mut memory);
+    let scratch = Memory::new(alloc)?;
+    let registers = Registers {
+        sp: SYSTEM_FRAME,
+        ipc: 0,
+        seg: 0,
+        jtab: 0,
+        mp: SYSTEM_FRAME,
+        base: SYSTEM_FRAME,
+        np: HEAP,
+        ioresult: 0,
+    };
+    Ok(Begun {
+        memory,
+        scratch,
+        registers,
+        frames: Frames::new(),
+        rows: [NO_ROW; 16],
+    })
+}
+
+// Calls procedure 1 of slot 1.
+fn first_call(start: &mut Begun, code: Option<&[u8]>) -> Result<(), ExecError>
+    requires stack { IsStack start.old.registers.sp start.old.registers.np }
+    requires even_code { IfSome code (λ c. length c.now % 2 ≡ 0) }
+    ensures stack { OnOk result (IsStack start.new.registers.sp start.new.registers.np) }
+    ensures done { Leaves result (parts_of start.old) (parts_of start.new) (called (parts_of start.old) (Cxp 1 1) (option_map (λ c. c.now) code.entry)) }
+{
+    start.frames.call(
+        &mut start.memory,
+        &mut start.registers,
+        Call::Cxp(1, 1),
+        code,
+        &mut start.scratch,
+    )
+}
+
+/// Begins the program of a name on the volume of a unit.
+#[tactic(auto, unfolding(crate::specs::Boot::begun))]
+pub fn begin(
+    alloc: Global,
+    volumes: &[Option<Volume>; 6],
+    unit: u8,
+    name: &str,
+) -> Result<Begun, BootFault>
+    ensures begins { Begins result (code_file volumes.now unit name.now) (begun volumes.now unit name.now) }
+    ensures stack { IfOk result (λ b. IsStack b.registers.sp b.registers.np) }
+    ensures rows { IfOk result (λ b. All (λ row. row.length % 2 ≡ 0) b.rows) }
+{
+    let (entry, file) = code_file(volumes, unit, name)?;
+    let mut start = start(alloc)?;
+    first_call(&mut start, file.segment(1))?;
+    start.rows = rows_of(unit, entry.first, &file);
+    Ok(start)
+}

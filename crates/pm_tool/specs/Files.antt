@@ -56,7 +56,6 @@ said_opened (Some fault) image order input = refused (refusals.Volume fault) inp
 abbrev pub said_files : List ℕ → Order → List ℕ → Said
 said_files image order input = said_opened (image_fault image) image order input
 
-
 -- a new volume, or why there is none; nothing is read
 abbrev pub said_new : Option VolumeFault → List ℕ → ℕ → List ℕ → Said
 said_new None name blocks input = record { written = []; exit = exits.Ended; message = []; image = Some (blank_image name blocks); printer = []; unread = input }

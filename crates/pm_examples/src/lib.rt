@@ -18,6 +18,8 @@ mod raw;
 #[cfg(test)]
 mod rows;
 #[cfg(test)]
+mod runs;
+#[cfg(test)]
 mod streams;
 #[cfg(test)]
 mod table;

@@ -1,36 +1,30 @@
 -- Jobs that read all of their input before they write.
-use Rattle.std.proofs.Common.{◌≡◌, ℕ, List, [], ◌++◌, Option, None, Some, inl, inr, Result, Ok, Err, Bool, false, refl, sym, ap, ◌∙◌, append-nil, arith, subst, IfSome, IfErr, string_bytes}
+use Rattle.std.proofs.Common.{◌≡◌, ℕ, List, [], ◌∷◌, ◌++◌, Option, None, Some, Result, Ok, Err, Bool, false, refl, sym, ap, ◌∙◌, append-nil, arith, subst, IfSome, IfErr}
 use Rattle.std.specs.Io.KnownBytes.{Consumes, Appends, Keeps, IsAtEnd}
 use Rattle.std.proofs.KnownBytes.{Appends-nil}
 use Rattle.pm_machine.specs.State.{State}
 use Rattle.pm_tool.specs.declared.fault.Fault.{Fault}
-use Rattle.pm_tool.specs.declared.fault.Fault.TheVariants as faults
 use Rattle.pm_tool.specs.declared.outcome.Job.{Job}
 use Rattle.pm_tool.specs.declared.outcome.Outcome.{Outcome}
 use Rattle.pm_tool.specs.declared.outcome.Refusal.{Refusal}
-use Rattle.pm_tool.specs.declared.trace.Ending.{Ending}
-use Rattle.pm_tool.specs.declared.trace.Ending.TheVariants as endings
 use Rattle.pm_tool.specs.Hex.{spelled}
-use Rattle.pm_tool.specs.Outcomes.{Said, exit_number, exit_of, refused, IsOutcome}
-use Rattle.pm_tool.specs.Run.{run_of, trace_of}
-use Rattle.pm_tool.specs.Said.{loaded, said, said_loaded, IsSound, Tells, IsDone, IsBrokenOff}
+use Rattle.pm_tool.specs.Outcomes.{Said, refused, IsOutcome}
+use Rattle.pm_tool.specs.declared.steps.Show.TheVariants.{Trace}
+use Rattle.pm_tool.specs.Run.{run_of}
+use Rattle.pm_tool.proofs.Transfers.{cause_longer}
+use Rattle.pm_tool.specs.Said.{loaded, said, said_run, said_started, IsSound, Tells, IsDone, IsBrokenOff}
 use Rattle.pm_tool.specs.Streams.{IsFront, AppendsFront, IsCause, ReadsAll}
 
 -- where the input is known, it is what was read and what is left
-tells_known : (had left held holds : Option (List ℕ)) (read : List ℕ) → Consumes had left read → (outcome : Outcome) (text : List ℕ → Said)
+pub tells_known : (had left held holds : Option (List ℕ)) (read : List ℕ) → Consumes had left read → (outcome : Outcome) (text : List ℕ → Said)
     → ((rest : List ℕ) → left ≡ Some rest → Tells left held holds outcome (text (read ++ rest))) → IfSome had (λ input. Tells left held holds outcome (text input))
 tells_known None left held holds read reads outcome text f = tt
 tells_known (Some input) None held holds read reads outcome text f = absurd reads
 tells_known (Some input) (Some rest) held holds read reads outcome text f = subst (λ i. Tells (Some rest) held holds outcome (text i)) (sym reads) (f rest refl)
 
-if_known : (left : Option (List ℕ)) (P : List ℕ → Type 0) → ((rest : List ℕ) → left ≡ Some rest → P rest) → IfSome left P
+pub if_known : (left : Option (List ℕ)) (P : List ℕ → Type 0) → ((rest : List ℕ) → left ≡ Some rest → P rest) → IfSome left P
 if_known None P f = tt
 if_known (Some rest) P f = f rest refl
-
-cause_longer : (fault : Fault) (sink_failed : Bool) (had left : Option (List ℕ)) (read : List ℕ) → ReadsAll had left read → IsCause fault false sink_failed [] → IsCause fault false sink_failed read
-cause_longer faults.Read sink_failed had left read all c = elim c.1 [ inl bad ↦ cc | inr bad ↦ absurd (omega arith) ]
-cause_longer faults.Write sink_failed had left read all c = (c.0, refl, all.2)
-cause_longer faults.NoMemory sink_failed had left read all c = (c.0, refl, all.2)
 
 -- broken off before anything was written
 pub broken_unwritten : (had left held : Option (List ℕ)) (fault : Fault) (source_failed sink_failed : Bool) (text : List ℕ → Said) (read : List ℕ)
@@ -77,43 +71,50 @@ module _ (had left : Option (List ℕ)) (input : List ℕ) (reads : ReadsAll had
       so_far = writes.2;
       whole = if_known left _ (λ rest e. subst (λ s. IsFront writes.0 s.written) (sym (text_all rest e)) writes.2);
     };
-    cause = rw well (cause_longer fault sink_failed had left input reads cause);
+    cause = rw well (cause_longer fault sink_failed input reads.2 cause);
   }
 
 -- ---- the trace of the program that the input spells
 
-sound_ending : (ending : Ending) → IsSound (exit_number (exit_of ending))
-sound_ending endings.Ended = (λ e. absurd (omega arith), λ e. absurd (omega arith))
-sound_ending (endings.Error error) = (λ e. absurd (omega arith), λ e. absurd (omega arith))
-sound_ending endings.Limit = (λ e. absurd (omega arith), λ e. absurd (omega arith))
-sound_ending endings.Waiting = (λ e. absurd (omega arith), λ e. absurd (omega arith))
-
 abbrev text_of : ℕ → List ℕ → Said
-text_of limit input = said_loaded limit (loaded (spelled input))
+text_of limit input = said_started Trace limit (loaded (spelled input)) []
+
+nothing_read : (left : Option (List ℕ)) (read : List ℕ) → Consumes (Some []) left read → read ≡ []
+nothing_read None read c = absurd c
+nothing_read (Some rest) [] c = refl
+nothing_read (Some rest) (x ∷ read) c = cc
+
+nothing_left : (left : Option (List ℕ)) (read unread : List ℕ) → Consumes (Some []) left read → Keeps (Some unread) left → unread ≡ []
+nothing_left None read unread c k = absurd c
+nothing_left (Some []) read unread c k = sym k
+nothing_left (Some (y ∷ rest)) [] unread c k = cc
+nothing_left (Some (y ∷ rest)) (x ∷ read) unread c k = cc
 
 module _ (had left : Option (List ℕ)) (input : List ℕ) (reads : ReadsAll had left input) (limit : ℕ) where
   pub raw_refused : (refusal : Refusal) → Err refusal ≡ loaded (spelled input) → (held : Option (List ℕ)) (outcome : Outcome)
-      → ((unread : List ℕ) → IsOutcome outcome (refused refusal unread)) → IsDone had left held held outcome (λ i. said_loaded limit (loaded (spelled i)))
+      → ((unread : List ℕ) → IsOutcome outcome (refused refusal unread)) → IsDone had left held held outcome (λ i. said_started Trace limit (loaded (spelled i)) [])
   raw_refused refusal loads held outcome out =
-      let said = ap (said_loaded limit) loads in
+      let said = ap (λ start. said_started Trace limit start []) loads in
       done_whole had left input reads (text_of limit) held held outcome (subst (λ s. Appends held held s.written) said (Appends-nil held)) (subst (IsOutcome outcome) said (out []))
       (ap (λ s. s.unread) (sym said)) (subst IsSound (sym (out []).status) (λ e. absurd (omega arith), λ e. absurd (omega arith)))
 
-  module _ (machine : State) (loads : Ok machine ≡ loaded (spelled input)) (held holds : Option (List ℕ)) where
-    pub raw_done : (outcome : Outcome) (ending : Ending) → Appends held holds (trace_of (run_of limit machine)) → ending ≡ (run_of limit machine).ending
-        → outcome.status ≡ exit_number (exit_of ending) → string_bytes outcome.message ≡ [] → outcome.image ≡ None → outcome.printer.items ≡ []
-        → IsDone had left held holds outcome (λ i. said_loaded limit (loaded (spelled i)))
-    raw_done outcome ending writes ends status message image printer =
-        let said = ap (said_loaded limit) loads in
-        done_whole had left input reads (text_of limit) held holds outcome (subst (λ s. Appends held holds s.written) said writes)
-        (subst (IsOutcome outcome) said (record { status = status ∙ ap (λ e. exit_number (exit_of e)) ends; message = message; image = rw image refl; printer = printer }))
-        (ap (λ s. s.unread) (sym said)) (subst IsSound (sym status) (sound_ending ending))
+  module _ (machine : State) (loads : Ok machine ≡ loaded (spelled input)) (nothing held holds : Option (List ℕ)) where
+    pub raw_done : (outcome : Outcome) → IsDone (Some []) nothing held holds outcome (λ keys. said_run Trace (run_of Trace limit keys machine))
+        → IsDone had left held holds outcome (λ i. said_started Trace limit (loaded (spelled i)) [])
+    raw_done outcome d =
+        let said = ap (λ start. said_started Trace limit start []) loads in
+        done_whole had left input reads (text_of limit) held holds outcome (subst (λ s. Appends held holds s.written) said d.tells.written)
+        (subst (IsOutcome outcome) said d.tells.comes_to)
+        (ap (λ s. s.unread) (sym said) ∙ nothing_left nothing d.few.0 _ d.few.1 d.tells.unread) d.status
 
-    pub raw_broken : (fault : Fault) (source_failed sink_failed : Bool) → AppendsFront held holds (trace_of (run_of limit machine)) → source_failed ≡ false
-        → IsCause fault false sink_failed [] → IsBrokenOff had left held holds fault source_failed sink_failed (λ i. said_loaded limit (loaded (spelled i)))
-    raw_broken fault source_failed sink_failed writes well cause =
+    pub raw_broken : (fault : Fault) (source_failed sink_failed : Bool) → source_failed ≡ false
+        → IsBrokenOff (Some []) nothing held holds fault false sink_failed (λ keys. said_run Trace (run_of Trace limit keys machine))
+        → IsBrokenOff had left held holds fault source_failed sink_failed (λ i. said_started Trace limit (loaded (spelled i)) [])
+    raw_broken fault source_failed sink_failed well b =
+        let said = ap (λ start. said_started Trace limit start []) loads in
+        let none = nothing_read nothing b.cut.read b.cut.reads in
         broken_writing had left input reads (text_of limit) held holds fault source_failed sink_failed
-        (subst (λ s. AppendsFront held holds s.written) (ap (said_loaded limit) loads) writes) well cause
+        (b.cut.front, b.cut.writes, subst (λ s. IsFront b.cut.front s.written) said (rw none at b.cut.so_far)) well (rw none at b.cause)
 
 -- the job is this one
 pub broken_job : (job this : Job) (had left held holds : Option (List ℕ)) (result : Result Outcome Fault) (source_failed sink_failed : Bool)

@@ -1,5 +1,9 @@
 pub mod Transfers
 pub mod Spelled
 pub mod Runs
+pub mod Pages
+pub mod Driven
 pub mod Kept
 pub mod Filing
+pub mod Played
+pub mod Opening

@@ -1,9 +1,12 @@
 -- What several reads and writes did to known bytes.
-use Rattle.std.proofs.Common.{◌≡◌, ℕ, List, [], ◌++◌, Option, take, drop, refl, sym, ap, ◌∙◌, append_assoc, append-nil}
+use Rattle.std.proofs.Common.{◌≡◌, ◌≤◌, ℕ, List, [], ◌++◌, Option, Bool, false, length, take, drop, inl, inr, refl, sym, ap, ◌∙◌, append_assoc, append-nil, arith}
 use Rattle.std.proofs.lemmas.List.{take-append-drop}
 use Rattle.std.specs.Io.KnownBytes.{Appends}
 use Rattle.std.proofs.KnownBytes.{Appends-trans, Appends-nil}
-use Rattle.pm_tool.specs.Streams.{AppendsFront}
+use Rattle.pm_tool.specs.declared.fault.Fault.{Fault}
+use Rattle.pm_tool.specs.declared.fault.Fault.TheVariants as faults
+use Rattle.pm_tool.specs.declared.source.TheConstants.{INPUT_LIMIT}
+use Rattle.pm_tool.specs.Streams.{AppendsFront, IsCause, IsFront}
 
 -- rest is still to be written, and what stands before it is
 pub record Written (old new : Option (List ℕ)) (bytes rest : List ℕ) : Type 0 where
@@ -26,3 +29,19 @@ Written-all old new bytes w = rw (w.whole ∙ append-nil w.done) w.appends
 
 pub Written-front : (old new : Option (List ℕ)) (bytes rest : List ℕ) → Written old new bytes rest → AppendsFront old new bytes
 Written-front old new bytes rest w = (w.done, w.appends, (rest, w.whole))
+
+-- ---- fronts
+
+pub front_trans : (a b c : List ℕ) → IsFront a b → IsFront b c → IsFront a c
+front_trans a b c f g = (f.0 ++ g.0, g.1 ∙ ap (λ t. t ++ g.0) f.1 ∙ append_assoc a f.0 g.0)
+
+pub front_after : (a b c : List ℕ) → IsFront b c → IsFront (a ++ b) (a ++ c)
+front_after a b c f = (f.0, ap (λ t. a ++ t) f.1 ∙ sym (append_assoc a b f.0))
+
+-- ---- causes
+
+-- what broke a job off while it read nothing
+pub cause_longer : (fault : Fault) (sink_failed : Bool) (read : List ℕ) → length read ≤ INPUT_LIMIT → IsCause fault false sink_failed [] → IsCause fault false sink_failed read
+cause_longer faults.Read sink_failed read few c = elim c.1 [ inl bad ↦ cc | inr bad ↦ absurd (omega arith) ]
+cause_longer faults.Write sink_failed read few c = (c.0, refl, few)
+cause_longer faults.NoMemory sink_failed read few c = (c.0, refl, few)

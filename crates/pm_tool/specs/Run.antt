@@ -1,46 +1,68 @@
--- A run of the machine and its trace.
-use Rattle.std.specs.Prelude.{◌≡◌, ℕ, zero, suc, List, [], ◌∷◌, ◌++◌, Option, codes}
+-- A run of the machine and what is shown of it.
+use Rattle.std.specs.Prelude.{◌≡◌, ◌≤◌, ℕ, zero, suc, Bool, true, false, List, [], ◌∷◌, ◌++◌, drop, length, Option, if◌then◌else◌, codes}
 use Rattle.std.specs.Fmt.{decimal}
+use Rattle.std.specs.Io.KnownBytes.{Appends, Consumes, IsAtEnd}
 use Rattle.pm_words.specs.Errors.{number_of}
 use Rattle.pm_machine.specs.State.{State}
 use Rattle.pm_machine.specs.Steps.{stepped}
+use Rattle.pm_machine.specs.Events.{Key, next}
 use Rattle.pm_machine.specs.declared.state.Stop.{Stop}
 use Rattle.pm_machine.specs.declared.state.Stop.TheVariants.{Went, Waiting, Ended, Halted}
 use Rattle.pm_debug.specs.Trace.{trace_line}
-use Rattle.pm_tool.specs.declared.trace.Ending.{Ending}
-use Rattle.pm_tool.specs.declared.trace.Ending.TheVariants as endings
-use Rattle.pm_tool.specs.Streams.{AppendsBut}
+use Rattle.pm_tool.specs.declared.fault.Fault.{Fault}
+use Rattle.pm_tool.specs.declared.source.TheConstants.{INPUT_LIMIT}
+use Rattle.pm_tool.specs.declared.ending.Ending.{Ending}
+use Rattle.pm_tool.specs.declared.ending.Ending.TheVariants as endings
+use Rattle.pm_tool.specs.declared.steps.Show.{Show}
+use Rattle.pm_tool.specs.declared.steps.Show.TheVariants.{Trace, Console}
+use Rattle.pm_tool.specs.Streams.{AppendsBut, IsCause, IsFront}
 
--- a run to where it ends: the lines of its steps, why it ends, and the machine then
+-- a run to where it ends: what its steps show, why it ends, the machine then, and the console bytes that are left unread
 pub record Run : Type 0 where
   pub shown : List ℕ
   pub ending : Ending
   pub machine : State
+  pub unread : List ℕ
 
 abbrev pub after_showing : List ℕ → Run → Run
 after_showing text run = record run { shown = text ++ run.shown }
 
-abbrev pub ends : List ℕ → Ending → State → Run
-ends shown ending machine = record { shown = shown; ending = ending; machine = machine }
+abbrev pub ends : List ℕ → Ending → State → List ℕ → Run
+ends shown ending machine unread = record { shown = shown; ending = ending; machine = machine; unread = unread }
 
--- what is shown of a step from this state that gave this answer: the line of the state, unless the step waited
-abbrev pub shown_of : State → Stop → List ℕ
-shown_of before Waiting = []
-shown_of before Went = trace_line before ++ (10 ∷ [])
-shown_of before Ended = trace_line before ++ (10 ∷ [])
-shown_of before (Halted error) = trace_line before ++ (10 ∷ [])
+-- what is shown of a step from one state to the other: the line of the state before it, or the bytes that it adds to the console
+abbrev pub shown_of : Show → State → State → List ℕ
+shown_of Trace before after = trace_line before ++ (10 ∷ [])
+shown_of (Console save) before after = drop (length before.devices.console) after.devices.console
+
+abbrev pub is_waiting : Stop → Bool
+is_waiting Waiting = true
+is_waiting Went = false
+is_waiting Ended = false
+is_waiting (Halted error) = false
+
+-- a step that waits shows nothing
+abbrev pub shown_by : Show → State → State → Stop → List ℕ
+shown_by show before after stop = if is_waiting stop then [] else shown_of show before after
 
 -- what a step leads to, where rest says how the run goes on
-abbrev pub follows : (State → Run) → State → State → Stop → Run
-follows rest before after Went = after_showing (shown_of before Went) (rest after)
-follows rest before after Waiting = ends (shown_of before Waiting) endings.Waiting after
-follows rest before after Ended = ends (shown_of before Ended) endings.Ended after
-follows rest before after (Halted error) = ends (shown_of before (Halted error)) (endings.Error error) after
+abbrev pub follows : Show → (List ℕ → State → Run) → State → State → Stop → List ℕ → Run
+follows show rest before after Went keys = after_showing (shown_of show before after) (rest keys after)
+follows show rest before after Ended keys = ends (shown_of show before after) endings.Ended after keys
+follows show rest before after (Halted error) keys = ends (shown_of show before after) (endings.Error error) after keys
+follows show rest before after Waiting keys = ends [] endings.Waiting after keys
 
--- the run of at most so many steps
-unfoldable pub run_of : ℕ → State → Run
-run_of zero m = ends [] endings.Limit m
-run_of (suc n) m = follows (run_of n) m (stepped m).0 (stepped m).1
+-- One step, and what it leads to. Each time that it waits the next console byte is keyed and the step is made again, as long as there are any.
+unfoldable pub turn : Show → (List ℕ → State → Run) → List ℕ → State → Run
+turn show rest [] m = follows show rest m (stepped m).0 (stepped m).1 []
+turn show rest (key ∷ keys) m =
+    if is_waiting (stepped m).1 then turn show rest keys (next (stepped m).0 (Key key))
+    else follows show rest m (stepped m).0 (stepped m).1 (key ∷ keys)
+
+-- the run of at most so many steps, with these console bytes to come
+unfoldable pub run_of : Show → ℕ → List ℕ → State → Run
+run_of show zero keys m = ends [] endings.Limit m keys
+run_of show (suc n) keys m = turn show (run_of show n) keys m
 
 -- the last line of a run that ended after so many steps of the machine, without its line feed
 abbrev pub last_line : Ending → ℕ → List ℕ
@@ -49,12 +71,28 @@ last_line (endings.Error error) steps = codes "error " ++ (decimal (number_of er
 last_line endings.Limit steps = codes "limit " ++ decimal steps
 last_line endings.Waiting steps = codes "waiting " ++ decimal steps
 
--- the whole trace of a run
-abbrev pub trace_of : Run → List ℕ
-trace_of run = run.shown ++ (last_line run.ending run.machine.steps ++ (10 ∷ []))
+-- what is written after the steps: the last line ends a trace
+abbrev pub end_text : Show → Ending → ℕ → List ℕ
+end_text Trace ending steps = last_line ending steps ++ (10 ∷ [])
+end_text (Console save) ending steps = []
 
--- the run ends here: its lines were written but for those that are held back
-pub record IsOver (held holds : Option (List ℕ)) (held_back : List ℕ) (limit : ℕ) (began : State) (ending : Ending) (machine : State) : Type 0 where
+-- ---- a run that is written as it goes
+
+-- The run is at its end: these bytes were keyed, and what it shows was written but for what is held back. If it waits, nothing is left to read.
+pub record IsOver (had left held holds : Option (List ℕ)) (held_back : List ℕ) (show : Show) (limit : ℕ) (began : State) (ending : Ending) (machine : State) : Type 0 where
+  pub read : List ℕ
   pub shown : List ℕ
+  pub few : length read ≤ INPUT_LIMIT
+  pub reads : Consumes had left read
   pub writes : AppendsBut held holds held_back shown
-  pub run : run_of limit began ≡ ends shown ending machine
+  pub run : (rest : List ℕ) → (ending ≡ endings.Waiting → rest ≡ []) → run_of show limit (read ++ rest) began ≡ ends shown ending machine rest
+  pub drained : ending ≡ endings.Waiting → IsAtEnd left
+
+-- the run was broken off: what was written is a front of what it shows, whatever is left to read
+pub record IsBroken (had left held holds : Option (List ℕ)) (show : Show) (limit : ℕ) (began : State) (fault : Fault) (source_failed sink_failed : Bool) : Type 0 where
+  pub read : List ℕ
+  pub front : List ℕ
+  pub reads : Consumes had left read
+  pub writes : Appends held holds front
+  pub begins : (rest : List ℕ) → IsFront front (run_of show limit (read ++ rest) began).shown
+  pub cause : IsCause fault source_failed sink_failed read

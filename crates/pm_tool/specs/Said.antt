@@ -1,9 +1,9 @@
 -- What a job says to its input, and how a job keeps to it.
-use Rattle.std.specs.Prelude.{◌≡◌, ◌≢◌, ◌⊎◌, ◌↔◌, true, ◌≤◌, ℕ, ◌<◌, List, [], ◌++◌, Option, Some, None, Result, Ok, Err, length, Bool, IfSome, string_bytes}
+use Rattle.std.specs.Prelude.{◌≡◌, ◌≢◌, ◌⊎◌, ◌↔◌, true, ◌≤◌, ℕ, ◌<◌, List, [], ◌++◌, Option, Some, None, Result, Ok, Err, length, Bool, if◌then◌else◌, IfSome, string_bytes}
 use Rattle.std.specs.Io.KnownBytes.{Consumes, Appends, Keeps}
 use Rattle.pm_machine.specs.State.{State}
 use Rattle.pm_machine.specs.Start.{raw_start}
-use Rattle.pm_machine.specs.declared.state.BootFault.{BootFault}
+use Rattle.pm_stdproc.specs.Devices.{ejected_image}
 use Rattle.pm_tool.specs.declared.fault.Fault.{Fault}
 use Rattle.pm_tool.specs.declared.outcome.Exit.TheVariants as exits
 use Rattle.pm_tool.specs.declared.outcome.Job.{Job}
@@ -14,18 +14,16 @@ use Rattle.pm_tool.specs.declared.outcome.Refusal.TheVariants as refusals
 use Rattle.pm_tool.specs.declared.source.TheConstants.{INPUT_LIMIT}
 use Rattle.pm_filer.specs.Filed.{order_of}
 use Rattle.pm_volume.specs.Headers.{blank_fault}
+use Rattle.pm_tool.specs.Disks.{booted, images_of, started}
 use Rattle.pm_tool.specs.Files.{said_files, said_new}
 use Rattle.pm_tool.specs.Hex.{spelled}
 use Rattle.pm_tool.specs.Outcomes.{Said, exit_number, exit_of, refused, IsOutcome}
-use Rattle.pm_tool.specs.Run.{Run, run_of, trace_of}
+use Rattle.pm_tool.specs.declared.steps.Show.{Show}
+use Rattle.pm_tool.specs.declared.steps.Show.TheVariants.{Trace, Console}
+use Rattle.pm_tool.specs.Run.{Run, end_text, last_line, run_of}
 use Rattle.pm_tool.specs.Streams.{IsFront, IsCause}
 
 -- ---- the jobs
-
--- the machine that starts, or why the input is refused
-abbrev pub started : Result State BootFault → Result State Refusal
-started (Ok machine) = Ok machine
-started (Err fault) = Err (refusals.Boot fault)
 
 -- the machine that starts on the program that was read, if one was
 abbrev pub loaded : Option (List ℕ) → Result State Refusal
@@ -33,17 +31,41 @@ loaded None = Err refusals.Hex
 loaded (Some program) = started (raw_start program)
 
 -- a run that is told by its trace
-abbrev pub traced : Run → List ℕ → Said
-traced run unread = record { written = trace_of run; exit = exit_of run.ending; message = []; image = None; printer = []; unread = unread }
+abbrev pub traced : Run → Said
+traced run = record {
+  written = run.shown ++ end_text Trace run.ending run.machine.steps;
+  exit = exit_of run.ending;
+  message = [];
+  image = None;
+  printer = [];
+  unread = run.unread;
+}
 
--- the trace of a machine's run, or the refusal; nothing is left unread
-abbrev pub said_loaded : ℕ → Result State Refusal → Said
-said_loaded limit (Ok machine) = traced (run_of limit machine) []
-said_loaded limit (Err refusal) = refused refusal []
+-- a run that is told by its console bytes: its last line is the message, and the image on unit 4 is kept where it is to be saved
+abbrev pub performed : Bool → Run → Said
+performed save run = record {
+  written = run.shown;
+  exit = exit_of run.ending;
+  message = last_line run.ending run.machine.steps;
+  image = if save then ejected_image 4 run.machine.devices else None;
+  printer = run.machine.devices.printer;
+  unread = run.unread;
+}
+
+abbrev pub said_run : Show → Run → Said
+said_run Trace run = traced run
+said_run (Console save) run = performed save run
+
+-- the run of a machine whose console bytes are the input, or the refusal
+abbrev pub said_started : Show → ℕ → Result State Refusal → List ℕ → Said
+said_started show limit (Ok machine) input = said_run show (run_of show limit input machine)
+said_started show limit (Err refusal) input = refused refusal input
 
 -- what a job says to all of its input
 abbrev pub said : Job → List ℕ → Said
-said (jobs.Raw limit) input = said_loaded limit (loaded (spelled input))
+said (jobs.Raw limit) input = said_started Trace limit (loaded (spelled input)) []
+said (jobs.Run disks name limit save) input = said_started (Console save) limit (booted (images_of disks) (string_bytes name)) input
+said (jobs.Trace disks name limit) input = said_started Trace limit (booted (images_of disks) (string_bytes name)) input
 said (jobs.Files image command) input = said_files image.items (order_of command) input
 said (jobs.New name blocks) input = said_new (blank_fault (string_bytes name) blocks) (string_bytes name) blocks input
 

@@ -1,6 +1,6 @@
 -- What a source gave and a sink took.
-use Rattle.std.specs.Prelude.{◌≡◌, ℕ, ◌==◌, ◌<◌, ◌≤◌, ◌⊎◌, Bool, true, false, List, ◌++◌, length, Option, Result, Ok, Err}
-use Rattle.std.specs.Io.KnownBytes.{Appends, Consumes, IsAtEnd}
+use Rattle.std.specs.Prelude.{◌≡◌, ℕ, ◌==◌, ◌<◌, ◌≤◌, ◌⊎◌, Bool, true, false, List, [], ◌∷◌, ◌++◌, length, Option, None, Some, Result, Ok, Err}
+use Rattle.std.specs.Io.KnownBytes.{Appends, Consumes, IsAtEnd, Keeps}
 use Rattle.pm_tool.specs.declared.fault.Fault.{Fault}
 use Rattle.pm_tool.specs.declared.fault.Fault.TheVariants as faults
 use Rattle.pm_tool.specs.declared.source.TheConstants.{INPUT_LIMIT}
@@ -25,6 +25,11 @@ AppendsBut old new held_back text = (written : List ℕ) × Appends old new writ
 -- known bytes are read to their end, and are not too many
 abbrev pub ReadsAll : Option (List ℕ) → Option (List ℕ) → List ℕ → Type 0
 ReadsAll old new input = Consumes old new input × IsAtEnd new × (length input ≤ INPUT_LIMIT)
+
+-- one byte is read, or none is left
+abbrev pub ReadsByte : Option (List ℕ) → Option (List ℕ) → Option ℕ → Type 0
+ReadsByte old new None = Keeps old new × IsAtEnd new
+ReadsByte old new (Some byte) = Consumes old new (byte ∷ [])
 
 -- why a job is broken off when it has read these bytes: a read failed or they are too many; a write failed; there was no memory
 abbrev pub IsCause : Fault → Bool → Bool → List ℕ → Type 0

@@ -3,15 +3,17 @@ ghost use Rattle.std.specs.Prelude.{◌≡◌, ◌≢◌, ◌≤◌, ◌⊎◌, 
 ghost use Rattle.std.specs.String.{string_capacity};
 ghost use Rattle.pm_tool.specs.Hex.{spelled};
 ghost use Rattle.pm_tool.specs.Outcomes.{exit_number, fault_exit, fault_text};
-ghost use Rattle.pm_tool.specs.Said.{loaded, said, said_loaded, IsSound, IsCutShort, IsDone, IsBrokenOff, Tells, IsCut, FailsExactly};
+ghost use Rattle.pm_tool.specs.Said.{loaded, said, said_started, IsSound, IsCutShort, IsDone, IsBrokenOff, Tells, IsCut, FailsExactly};
 
 use crate::fault::{Fault, MESSAGE_ROOM};
 use crate::files::{files, new_volume};
 use crate::hex;
+use crate::nothing::Nothing;
 use crate::outcome::{Exit, Job, Outcome, Refusal, refuse};
+use crate::programs::{play, program};
 use crate::sink::Sink;
 use crate::source::{Source, read_all};
-use crate::trace::trace;
+use crate::steps::Show;
 use pm_machine::{BootFault, Machine};
 use std::alloc::{AllocError, Global};
 
@@ -39,18 +41,18 @@ fn raw<R: Source, W: Sink>(
     requires source_well { R.has_failed source.old ≡ false }
     requires sink_well { W.has_failed sink.old ≡ false }
     ensures done { IfOk result (λ outcome. IsDone (R.remaining source.old) (R.remaining source.new)
-        (W.contents sink.old) (W.contents sink.new) outcome (λ input. said_loaded limit (loaded (spelled input)))) }
+        (W.contents sink.old) (W.contents sink.new) outcome (λ input. said_started Show.Trace limit (loaded (spelled input)) [])) }
     ensures well { OnOk result ((R.has_failed source.new ≡ false) × (W.has_failed sink.new ≡ false)) }
     ensures broken { IfErr result (λ fault. IsBrokenOff (R.remaining source.old) (R.remaining source.new)
-        (W.contents sink.old) (W.contents sink.new) fault (R.has_failed source.new) (W.has_failed sink.new) (λ input. said_loaded limit (loaded (spelled input)))) }
+        (W.contents sink.old) (W.contents sink.new) fault (R.has_failed source.new) (W.has_failed sink.new) (λ input. said_started Show.Trace limit (loaded (spelled input)) [])) }
 {
     let input = read_all(alloc, source)?;
-    let mut machine = match load(alloc, &input)? {
+    let machine = match load(alloc, &input)? {
         Ok(machine) => machine,
         Err(refusal) => return Ok(refuse(alloc, refusal)?),
     };
-    let ending = trace(alloc, sink, &mut machine, limit)?;
-    Ok(Outcome::plain(alloc, ending.exit(), String::new(alloc)))
+    let outcome = play(alloc, &mut Nothing, sink, machine, Show::Trace, limit)?;
+    Ok(outcome)
 }
 
 /// Does the job, unless it is broken off.
@@ -70,6 +72,31 @@ fn perform<R: Source, W: Sink>(
 {
     match job {
         Job::Raw { limit } => raw(alloc, source, sink, limit),
+        Job::Run {
+            disks,
+            name,
+            limit,
+            save,
+        } => program(
+            alloc,
+            source,
+            sink,
+            disks,
+            name.as_str(),
+            Show::Console { save },
+            limit,
+        ),
+        Job::Trace { disks, name, limit } => {
+            program(
+                alloc,
+                source,
+                sink,
+                disks,
+                name.as_str(),
+                Show::Trace,
+                limit,
+            )
+        }
         Job::Files { image, command } => files(alloc, source, sink, image, command),
         Job::New { name, blocks } => Ok(new_volume(alloc, name.as_str(), blocks)?),
     }

@@ -1,14 +1,17 @@
 //! The engine of the program: one job, from the bytes that are read to the bytes that are written.
 #![tactic(auto)]
 
+mod ending;
 mod engine;
 mod fault;
 mod files;
 mod hex;
+mod nothing;
 mod outcome;
+mod programs;
 mod sink;
 mod source;
-mod trace;
+mod steps;
 
 pub use engine::run;
 pub use outcome::{Exit, Job, Outcome};

@@ -15,16 +15,42 @@ pub enum Job {
     /// The input spells a program: its bytes are pairs of hexadecimal digits of both cases, with white space (tabs, line
     /// feeds, carriage returns and spaces) anywhere but within a pair. The output is the trace of at most `limit` steps.
     /// Any other input is refused by `refused hex 1`, and a program of more than 60,000 bytes by `refused boot 3`.
-    Raw { limit: u32 },
+    Raw {
+        limit: u32,
+    },
+    /// A program runs: the code file `name` on the disk of unit 4. The disks are those of the units 4, 5, 9, 10, 11 and 12, and
+    /// are opened in that order: an image that is no volume is refused by `refused volume N`, and a program that does not start
+    /// by `refused boot N`, both before any input is read. The input is the console's: each time that the program waits for
+    /// console bytes, one is read. The output is what the program writes to the console. The message is the last line of a
+    /// trace; the outcome has the printer's bytes and, with `save`, the image on unit 4 as the program left it.
+    Run {
+        disks: [Option<Vec<u8>>; 6],
+        name: String,
+        limit: u32,
+        save: bool,
+    },
+    /// The same program runs, and the output is its trace alone: a line for each step that does not wait, of the state before it,
+    /// and a last line: `ended K`, `error N K`, `limit K` after `limit` steps, or `waiting K` where no input is left.
+    Trace {
+        disks: [Option<Vec<u8>>; 6],
+        name: String,
+        limit: u32,
+    },
     /// A command on the volume that an image is. The input's bytes stand in the place of a put's, of bytes or text, and no
-    /// other command reads any. The output is the list, the bytes or the text of a file; after a change the outcome has the image that is to be kept. An
-    /// image that is no volume is refused by `refused volume N`, before the input is read; a command that the volume
+    /// other command reads any. The output is the list, the bytes or the text of a file; after a change the outcome has the
+    /// image that is to be kept. An image that is no volume is refused by `refused volume N`, before the input is read; a command that the volume
     /// refuses by `refused filer 1 N`, N being the number of the volume's fault; a text or a text file by `refused filer 2 N`,
     /// with the number of its fault and the line or place; a date by `refused filer 3`.
-    Files { image: Vec<u8>, command: Command },
+    Files {
+        image: Vec<u8>,
+        command: Command,
+    },
     /// A new volume of this name and so many blocks, without files, whose image the outcome has. The input is not read. A text
     /// that is no name is refused by `refused volume 10`, and fewer than 6 blocks by `refused volume 3`.
-    New { name: String, blocks: u16 },
+    New {
+        name: String,
+        blocks: u16,
+    },
 }
 
 /// How a job ended.

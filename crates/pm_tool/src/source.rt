@@ -1,8 +1,8 @@
 //! Where a job's input comes from.
-ghost use Rattle.std.specs.Prelude.{◌≡◌, Bool, Option, false, ◌||◌, List, ℕ, is_err, OnOk, IfErr, IfOk};
+ghost use Rattle.std.specs.Prelude.{◌≡◌, Bool, Option, false, ◌||◌, List, ℕ, is_err, OnOk, OnErr, IfErr, IfOk};
 ghost use Rattle.std.specs.Io.{ReadsAtMost};
-ghost use Rattle.std.specs.Io.KnownBytes.{ReadConsumes, Consumes};
-ghost use Rattle.pm_tool.specs.Streams.{ReadsAll, IsCause};
+ghost use Rattle.std.specs.Io.KnownBytes.{ReadConsumes, Consumes, Keeps};
+ghost use Rattle.pm_tool.specs.Streams.{ReadsAll, ReadsByte, IsCause};
 
 use crate::fault::Fault;
 use std::alloc::Global;
@@ -89,4 +89,20 @@ pub(crate) fn read_all<R: Source>(alloc: Global, source: &mut R) -> Result<Vec<u
         input.extend_from_slice(&buffer[..count])?;
     }
     Ok(input)
+}
+
+/// Reads one byte, if one is left.
+pub(crate) fn read_byte<R: Source>(source: &mut R) -> Result<Option<u8>, Fault>
+    requires well { R.has_failed source.old ≡ false }
+    ensures byte { IfOk result (λ byte. ReadsByte (R.remaining source.old) (R.remaining source.new) byte) }
+    ensures failed { R.has_failed source.new ≡ is_err result }
+    ensures fault { IfErr result (λ fault. fault ≡ Fault.Read) }
+    ensures kept { OnErr result (Keeps (R.remaining source.old) (R.remaining source.new)) }
+{
+    let mut buffer = [0; 1];
+    match source.read(&mut buffer) {
+        Ok(0) => Ok(None),
+        Ok(_) => Ok(Some(buffer[0])),
+        Err(_) => Err(Fault::Read),
+    }
 }

@@ -3,11 +3,13 @@
 
 mod disks;
 mod file_words;
+mod run_words;
 mod words;
 
 use disks::{DiskFault, read_image, write_file};
 use file_words::{FilesPlan, Verb};
 use pm_tool::{Exit, Job, Outcome, Reader, Writer};
+use run_words::{Disks, Keeping, Program};
 use std::io;
 use std::process::ExitCode;
 use words::Plan;
@@ -51,6 +53,13 @@ fn faulty(rt: &HostRuntime, fault: DiskFault) -> End {
     }
 }
 
+fn end_or_fault(rt: &HostRuntime, end: Result<End, DiskFault>) -> End {
+    match end {
+        Ok(end) => end,
+        Err(fault) => faulty(rt, fault),
+    }
+}
+
 /// The end of a program after a job that needs no file.
 fn end_of(outcome: Outcome) -> End {
     End {
@@ -77,13 +86,75 @@ fn do_files(rt: &HostRuntime, plan: FilesPlan) -> Result<End, DiskFault> {
     Ok(end_of(outcome))
 }
 
+/// Reads the image of a disk, where there is one.
+fn disk(rt: &HostRuntime, path: &Option<String>) -> Result<Option<Vec<u8>>, DiskFault> {
+    match path {
+        Some(path) => Ok(Some(read_image(rt, rt.alloc(), path.as_str())?)),
+        None => Ok(None),
+    }
+}
+
+/// Reads the images of the disks in the order of their units.
+fn disks(rt: &HostRuntime, paths: &Disks) -> Result<[Option<Vec<u8>>; 6], DiskFault> {
+    Ok([
+        disk(rt, &paths[0])?,
+        disk(rt, &paths[1])?,
+        disk(rt, &paths[2])?,
+        disk(rt, &paths[3])?,
+        disk(rt, &paths[4])?,
+        disk(rt, &paths[5])?,
+    ])
+}
+
+/// Whether a program came to an end of its own, of its steps or of its input.
+fn has_run(status: u8) -> bool {
+    status == Exit::Ended.number()
+        || status == Exit::ExecutionError.number()
+        || status == Exit::Stopped.number()
+}
+
+/// Runs a program, and then writes the image and the printer's bytes where they are wanted.
+fn do_run(rt: &HostRuntime, program: Program, keeping: Keeping) -> Result<End, DiskFault> {
+    let Program {
+        disks: paths,
+        name,
+        limit,
+    } = program;
+    let job = Job::Run {
+        disks: disks(rt, &paths)?,
+        name,
+        limit,
+        save: keeping.save,
+    };
+    let outcome = perform(rt, job);
+    if let (Some(image), Some(path)) = (&outcome.image, &paths[0]) {
+        write_file(rt, path.as_str(), image)?;
+    }
+    if let Some(path) = &keeping.printer {
+        if has_run(outcome.status) {
+            write_file(rt, path.as_str(), &outcome.printer)?;
+        }
+    }
+    Ok(end_of(outcome))
+}
+
+/// Writes the trace of a program.
+fn do_trace(rt: &HostRuntime, program: Program) -> Result<End, DiskFault> {
+    let Program {
+        disks: paths,
+        name,
+        limit,
+    } = program;
+    let disks = disks(rt, &paths)?;
+    Ok(end_of(perform(rt, Job::Trace { disks, name, limit })))
+}
+
 fn follow(rt: &HostRuntime, plan: Plan) -> End {
     match plan {
         Plan::Job(job) => end_of(perform(rt, job)),
-        Plan::Files(plan) => match do_files(rt, plan) {
-            Ok(end) => end,
-            Err(fault) => faulty(rt, fault),
-        },
+        Plan::Files(plan) => end_or_fault(rt, do_files(rt, plan)),
+        Plan::Run(program, keeping) => end_or_fault(rt, do_run(rt, program, keeping)),
+        Plan::Trace(program) => end_or_fault(rt, do_trace(rt, program)),
     }
 }
 

@@ -1,5 +1,6 @@
 //! The words of the command line.
 use crate::file_words::{FilesPlan, files, files_plan};
+use crate::run_words::{Keeping, Program, keeping, program, run, trace};
 use clap::error::ErrorKind;
 use clap::{Arg, ArgMatches, Command};
 use pm_tool::{Exit, Job};
@@ -17,6 +18,10 @@ pub enum Plan {
     Job(Job),
     /// A command on the image that a file has, or a new image for it.
     Files(FilesPlan),
+    /// A program to be run.
+    Run(Program, Keeping),
+    /// A program whose trace is written.
+    Trace(Program),
 }
 
 /// Why the words are no job.
@@ -79,7 +84,8 @@ impl From<AllocError> for WordsError {
     }
 }
 
-fn limit<'a>(alloc: Global) -> Arg<'a> {
+/// The option `--limit`.
+pub fn limit<'a>(alloc: Global) -> Arg<'a> {
     Arg::new(alloc, "limit")
         .long("limit")
         .value_name("N")
@@ -98,7 +104,9 @@ fn command<'a>(alloc: Global) -> Result<Command<'a>, AllocError> {
     Command::new(alloc, "pmach")
         .about("The p-machine of UCSD Pascal version II. With no words it does `raw`")
         .subcommand(raw(alloc)?)?
-        .subcommand(files(alloc)?)
+        .subcommand(files(alloc)?)?
+        .subcommand(run(alloc)?)?
+        .subcommand(trace(alloc)?)
 }
 
 /// The number that decimal digits alone spell.
@@ -109,19 +117,23 @@ pub fn number(text: &str) -> Option<u32> {
     text.parse().ok()
 }
 
-fn raw_job(matches: &ArgMatches<'_>) -> Result<Job, WordsError> {
-    let limit = match matches.get_str("limit") {
+/// The limit that the words give.
+pub fn limit_of(matches: &ArgMatches<'_>) -> Result<u32, WordsError> {
+    match matches.get_str("limit") {
         Some(text) => number(text).ok_or(WordsError::BadNumber(
             "the limit is a number of decimal digits, at most 4294967295",
-        ))?,
-        None => LIMIT,
-    };
-    Ok(Job::Raw { limit })
+        )),
+        None => Ok(LIMIT),
+    }
 }
 
 fn plan_asked(alloc: Global, matches: &ArgMatches<'_>) -> Result<Plan, WordsError> {
     match matches.subcommand() {
-        Some(("raw", matches)) => Ok(Plan::Job(raw_job(matches)?)),
+        Some(("raw", matches)) => Ok(Plan::Job(Job::Raw {
+            limit: limit_of(matches)?,
+        })),
+        Some(("run", matches)) => Ok(Plan::Run(program(alloc, matches)?, keeping(alloc, matches)?)),
+        Some(("trace", matches)) => Ok(Plan::Trace(program(alloc, matches)?)),
         Some((_, matches)) => Ok(Plan::Files(files_plan(alloc, matches)?)),
         None => Err(WordsError::NoCommand),
     }

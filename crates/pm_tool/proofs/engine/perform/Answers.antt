@@ -8,6 +8,12 @@ use Rattle.pm_tool.proofs.engine.perform.Goals as goal
 pub returns-in-Raw-clause-broken : goal.returns-in-Raw-clause-broken
 returns-in-Raw-clause-broken g c = broken_job c.args.job (jobs.Raw c.in-Raw.limit) _ _ _ _ _ _ _ c.raw.ensures.broken c.in-Raw.is
 
+pub returns-in-Run-clause-broken : goal.returns-in-Run-clause-broken
+returns-in-Run-clause-broken g c = broken_job c.args.job (jobs.Run c.in-Run.disks c.in-Run.name c.in-Run.limit c.in-Run.save) _ _ _ _ _ _ _ (rw c.as_str.ensures.value at c.program.ensures.broken) c.in-Run.is
+
+pub returns-in-Trace-clause-broken : goal.returns-in-Trace-clause-broken
+returns-in-Trace-clause-broken g c = broken_job c.args.job (jobs.Trace c.in-Trace.disks c.in-Trace.name c.in-Trace.limit) _ _ _ _ _ _ _ (rw c.as_str-in-Trace.ensures.value at c.program-in-Trace.ensures.broken) c.in-Trace.is
+
 pub returns-in-Files-clause-broken : goal.returns-in-Files-clause-broken
 returns-in-Files-clause-broken g c = broken_job c.args.job (jobs.Files c.in-Files.image c.in-Files.command) _ _ _ _ _ _ _ c.files.ensures.broken c.in-Files.is
 

@@ -27,13 +27,12 @@ pub returns-in-Err-clause-done : goal.returns-in-Err-clause-done
 returns-in-Err-clause-done g c =
     raw_refused _ _ c.in_ok-input.input.items c.in_ok-input.ensures.all c.args.limit c.in-Err.refusal (search rules) _ _ c.in_ok-refuse-in-Err.ensures.outcome
 
-pub returns-in_err-ending-clause-broken : goal.returns-in_err-ending-clause-broken
-returns-in_err-ending-clause-broken g c =
-    let r = c.from_residual-in_err-ending in
+pub returns-in_err-outcome-clause-broken : goal.returns-in_err-outcome-clause-broken
+returns-in_err-outcome-clause-broken g c =
+    let r = c.from_residual-in_err-outcome in
     let p = err_from_is_err_and r.result r.ensures.1 in
-    rw (p.1, p.2) (raw_broken _ _ c.in_ok-input.input.items c.in_ok-input.ensures.all c.args.limit c.in-Ok.machine (search rules) _ _ _ _ _ c.in_err-ending.ensures.front c.in_ok-input.ensures.well c.in_err-ending.ensures.cause)
+    rw (p.1, p.2) (raw_broken _ _ c.in_ok-input.input.items c.in_ok-input.ensures.all c.args.limit c.in-Ok.machine (search rules) _ _ _ _ _ _ c.in_ok-input.ensures.well c.in_err-outcome.ensures.broken)
 
 pub returns-clause-done : goal.returns-clause-done
 returns-clause-done g c =
-    raw_done _ _ c.in_ok-input.input.items c.in_ok-input.ensures.all c.args.limit c.in-Ok.machine (search rules) _ _ c.plain.result c.in_ok-ending.ending
-    c.in_ok-ending.ensures.written c.in_ok-ending.ensures.ending (search rules) (search rules) c.plain.ensures.image c.plain.ensures.printer
+    raw_done _ _ c.in_ok-input.input.items c.in_ok-input.ensures.all c.args.limit c.in-Ok.machine (search rules) _ _ _ _ c.in_ok-outcome.ensures.done

@@ -1,0 +1,199 @@
+-- How a run that is written as it goes goes on by one turn, and how it ends.
+use Rattle.std.proofs.Common.{◌≡◌, ℕ, ◌+◌, ◌-◌, ◌<◌, ◌≤◌, List, [], ◌∷◌, ◌++◌, Option, None, Bool, true, false, length, refl, sym, ap, ◌∙◌, append_assoc, append-nil, inl}
+use Rattle.std.proofs.lemmas.List.{length-append}
+use Rattle.std.specs.Io.KnownBytes.{Consumes, Appends, Keeps}
+use Rattle.std.proofs.KnownBytes.{Consumes-trans, Consumes-nil, Consumes-kept}
+use Rattle.pm_words.specs.declared.error.ExecError.{ExecError}
+use Rattle.pm_machine.specs.State.{State}
+use Rattle.pm_machine.specs.Steps.{stepped}
+use Rattle.pm_machine.specs.Events.{Key, next}
+use Rattle.pm_machine.specs.declared.state.Stop.TheVariants.{Went, Waiting, Ended, Halted}
+use Rattle.pm_tool.specs.declared.ending.Ending.TheVariants as endings
+use Rattle.pm_tool.specs.declared.fault.Fault.{Fault}
+use Rattle.pm_tool.specs.declared.fault.Fault.TheVariants as faults
+use Rattle.pm_tool.specs.declared.source.TheConstants.{INPUT_LIMIT}
+use Rattle.pm_tool.specs.declared.steps.Show.{Show}
+use Rattle.pm_tool.specs.Run.{after_showing, ends, shown_of, shown_by, run_of, IsOver, IsBroken}
+use Rattle.pm_tool.specs.Streams.{IsFront, AppendsFront, AppendsBut, IsCause, ReadsByte}
+use Rattle.pm_tool.proofs.Pages.{but_none, but_grown, but_turned, but_front, but_lost, but_cleared}
+use Rattle.pm_tool.proofs.Runs.{run_of-goes, run_of-waits, run_of-stuck, run_of-none}
+use Rattle.pm_tool.proofs.Transfers.{cause_longer, front_trans}
+
+-- A run of at most limit steps from began, as far as it was made: bytes were keyed, and what was shown was written but for the page. It goes on as a run of at most n steps from m.
+pub record IsUnderWay (had left held holds : Option (List ℕ)) (page : List ℕ) (taken : ℕ) (show : Show) (limit : ℕ) (began : State) (n : ℕ) (m : State) : Type 0 where
+  pub read : List ℕ
+  pub shown : List ℕ
+  pub count : length read ≡ taken
+  pub reads : Consumes had left read
+  pub writes : AppendsBut held holds page shown
+  pub run : (rest : List ℕ) → run_of show limit (read ++ rest) began ≡ after_showing shown (run_of show n rest m)
+
+pub under_way_none : (had held : Option (List ℕ)) (page : List ℕ) (show : Show) (limit n : ℕ) (began : State) → page ≡ [] → n ≡ limit
+    → IsUnderWay had had held held page 0 show limit began n began
+under_way_none had held page show limit n began blank e = record {
+  read = [];
+  shown = [];
+  count = refl;
+  reads = Consumes-nil had;
+  writes = rw blank (but_none held);
+  run = λ rest. ap (λ k. run_of show k rest began) (sym e);
+}
+
+module _ (had left held holds : Option (List ℕ)) (page : List ℕ) (taken : ℕ) (show : Show) (limit : ℕ) (began : State) (n : ℕ) (m : State)
+    (u : IsUnderWay had left held holds page taken show limit began n m) where
+  -- the front of the page is written
+  pub under_way_turned : (holds' : Option (List ℕ)) (rest : List ℕ) → AppendsBut holds holds' rest page → IsUnderWay had left held holds' rest taken show limit began n m
+  under_way_turned holds' rest turned = record {
+    read = u.read;
+    shown = u.shown;
+    count = u.count;
+    reads = u.reads;
+    writes = but_turned held holds holds' page rest u.shown u.writes turned;
+    run = u.run;
+  }
+
+  -- the page is written and cleared
+  pub under_way_cleared : (holds' : Option (List ℕ)) (blank : List ℕ) → Appends holds holds' page → blank ≡ [] → IsUnderWay had left held holds' blank taken show limit began n m
+  under_way_cleared holds' blank a e = record {
+    read = u.read;
+    shown = u.shown;
+    count = u.count;
+    reads = u.reads;
+    writes = but_cleared held holds holds' page blank u.shown u.writes a e;
+    run = u.run;
+  }
+
+  -- the limit is reached
+  pub over_limit : taken ≤ INPUT_LIMIT → n ≡ 0 → IsOver had left held holds page show limit began endings.Limit m
+  over_limit few none = record {
+    read = u.read;
+    shown = u.shown;
+    few = rw u.count few;
+    reads = u.reads;
+    writes = u.writes;
+    run = λ rest _. u.run rest ∙ rw none (ap (after_showing u.shown) (run_of-none show rest m) ∙ ap (λ t. ends t endings.Limit m rest) (append-nil u.shown));
+    drained = λ w. cc;
+  }
+
+  -- a front of what was shown is a front of what the run shows
+  begins : (front rest : List ℕ) → IsFront front u.shown → IsFront front (run_of show limit (u.read ++ rest) began).shown
+  begins front rest f = rw (u.run rest) (front_trans front u.shown (u.shown ++ (run_of show n rest m).shown) f ((run_of show n rest m).shown, refl))
+
+  -- the page is lost
+  pub broken_between : (fault : Fault) (source_failed sink_failed : Bool) → ((read : List ℕ) → length read ≡ taken → IsCause fault source_failed sink_failed read)
+      → IsBroken had left held holds show limit began fault source_failed sink_failed
+  broken_between fault source_failed sink_failed cause =
+      let lost = but_lost held holds page u.shown u.writes in
+      record {
+        read = u.read;
+        front = lost.0;
+        reads = u.reads;
+        writes = lost.1;
+        begins = λ rest. begins lost.0 rest lost.2;
+        cause = cause u.read u.count;
+      }
+
+  -- the page could not be written
+  pub broken_writing : (holds' : Option (List ℕ)) (fault : Fault) (source_failed sink_failed : Bool) → taken ≤ INPUT_LIMIT → AppendsFront holds holds' page
+      → source_failed ≡ false → IsCause fault false sink_failed [] → IsBroken had left held holds' show limit began fault source_failed sink_failed
+  broken_writing holds' fault source_failed sink_failed few a well cause =
+      let front = but_front held holds holds' page u.shown u.writes a in
+      record {
+        read = u.read;
+        front = front.0;
+        reads = u.reads;
+        writes = front.1;
+        begins = λ rest. begins front.0 rest front.2;
+        cause = rw well (cause_longer fault sink_failed u.read (rw u.count few) cause);
+      }
+
+  -- no byte could be read
+  pub broken_reading : (left' : Option (List ℕ)) (fault : Fault) (source_failed sink_failed : Bool) → Keeps left left' → fault ≡ faults.Read → source_failed ≡ true → sink_failed ≡ false
+      → IsBroken had left' held holds show limit began fault source_failed sink_failed
+  broken_reading left' fault source_failed sink_failed k e failed well =
+      let lost = but_lost held holds page u.shown u.writes in
+      record {
+        read = u.read;
+        front = lost.0;
+        reads = Consumes-kept had left left' u.read u.reads k;
+        writes = lost.1;
+        begins = λ rest. begins lost.0 rest lost.2;
+        cause = rw e (well, inl failed);
+      }
+
+  module _ (page' : List ℕ) (after : State) (some : 0 < n) where
+    -- a step that went
+    pub under_way_went : (k : ℕ) → stepped m ≡ (after, Went) → page' ≡ page ++ shown_by show m after Went → k ≡ n - 1
+        → IsUnderWay had left held holds page' taken show limit began k after
+    under_way_went k step grown ke =
+        let line = shown_of show m after in
+        record {
+          read = u.read;
+          shown = u.shown ++ line;
+          count = u.count;
+          reads = u.reads;
+          writes = but_grown held holds page u.shown line page' u.writes grown;
+          run = λ rest. u.run rest ∙ ap (after_showing u.shown) (run_of-goes show n rest m after Went some step refl)
+              ∙ ap (λ j. after_showing u.shown (after_showing line (run_of show j rest after))) (sym ke)
+              ∙ ap (λ t. record (run_of show k rest after) { shown = t }) (sym (append_assoc u.shown line (run_of show k rest after).shown));
+        }
+
+    pub over_ended : taken ≤ INPUT_LIMIT → stepped m ≡ (after, Ended) → page' ≡ page ++ shown_by show m after Ended → IsOver had left held holds page' show limit began endings.Ended after
+    over_ended few step grown = record {
+      read = u.read;
+      shown = u.shown ++ shown_of show m after;
+      few = rw u.count few;
+      reads = u.reads;
+      writes = but_grown held holds page u.shown (shown_of show m after) page' u.writes grown;
+      run = λ rest _. u.run rest ∙ ap (after_showing u.shown) (run_of-goes show n rest m after Ended some step refl);
+      drained = λ w. cc;
+    }
+
+    pub over_halted : (error : ExecError) → taken ≤ INPUT_LIMIT → stepped m ≡ (after, Halted error) → page' ≡ page ++ shown_by show m after (Halted error)
+        → IsOver had left held holds page' show limit began (endings.Error error) after
+    over_halted error few step grown = record {
+      read = u.read;
+      shown = u.shown ++ shown_of show m after;
+      few = rw u.count few;
+      reads = u.reads;
+      writes = but_grown held holds page u.shown (shown_of show m after) page' u.writes grown;
+      run = λ rest _. u.run rest ∙ ap (after_showing u.shown) (run_of-goes show n rest m after (Halted error) some step refl);
+      drained = λ w. cc;
+    }
+
+    -- a step that waits shows nothing
+    pub under_way_waited : page' ≡ page ++ shown_by show m after Waiting → IsUnderWay had left held holds page' taken show limit began n m
+    under_way_waited grown = record {
+      read = u.read;
+      shown = u.shown;
+      count = u.count;
+      reads = u.reads;
+      writes = rw (grown ∙ append-nil page) u.writes;
+      run = u.run;
+    }
+
+    -- the byte that it waited for is keyed
+    pub under_way_key : (left' : Option (List ℕ)) (key : ℕ) (m' : State) → stepped m ≡ (after, Waiting) → Consumes left left' (key ∷ []) → m' ≡ next after (Key key)
+        → IsUnderWay had left' held holds page (taken + 1) show limit began n m'
+    under_way_key left' key m' step reads keyed = record {
+      read = u.read ++ key ∷ [];
+      shown = u.shown;
+      count = length-append u.read (key ∷ []) ∙ ap (λ k. k + 1) u.count;
+      reads = Consumes-trans had left left' u.read (key ∷ []) u.reads reads;
+      writes = u.writes;
+      run = λ rest. ap (λ keys. run_of show limit keys began) (append_assoc u.read (key ∷ []) rest) ∙ u.run (key ∷ rest)
+          ∙ ap (after_showing u.shown) (run_of-waits show n key rest m after some step) ∙ ap (λ t. after_showing u.shown (run_of show n rest t)) (sym keyed);
+    }
+
+    -- no byte is left
+    pub over_waiting : (left' : Option (List ℕ)) → taken ≤ INPUT_LIMIT → stepped m ≡ (after, Waiting) → ReadsByte left left' None → IsOver had left' held holds page show limit began endings.Waiting after
+    over_waiting left' few step none = record {
+      read = u.read;
+      shown = u.shown;
+      few = rw u.count few;
+      reads = Consumes-kept had left left' u.read u.reads none.0;
+      writes = u.writes;
+      run = λ rest no. let e = no refl in
+          u.run rest ∙ rw e (ap (after_showing u.shown) (run_of-stuck show n m after some step) ∙ ap (λ t. ends t endings.Waiting after []) (append-nil u.shown));
+      drained = λ _. none.1;
+    }

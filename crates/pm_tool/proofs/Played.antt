@@ -1,0 +1,130 @@
+-- From a run of the machine to what is said.
+use Rattle.std.proofs.Common.{◌≡◌, ℕ, List, [], ◌++◌, Option, Some, Bool, false, Result, Ok, Err, refl, sym, ap, ◌∙◌, append-nil, arith, subst}
+use Rattle.std.specs.Io.KnownBytes.{Appends, Keeps, IsAtEnd}
+use Rattle.std.proofs.KnownBytes.{Appends-nil}
+use Rattle.pm_machine.specs.State.{State}
+use Rattle.pm_tool.specs.declared.ending.Ending.{Ending}
+use Rattle.pm_tool.specs.declared.ending.Ending.TheVariants as endings
+use Rattle.pm_tool.specs.declared.fault.Fault.{Fault}
+use Rattle.pm_tool.specs.declared.outcome.Outcome.{Outcome}
+use Rattle.pm_tool.specs.declared.outcome.Refusal.{Refusal}
+use Rattle.pm_tool.specs.declared.steps.Show.{Show}
+use Rattle.pm_tool.specs.declared.steps.Show.TheVariants.{Trace, Console}
+use Rattle.pm_tool.specs.Outcomes.{Said, exit_number, exit_of, refused, IsOutcome}
+use Rattle.pm_tool.specs.Run.{Run, end_text, ends, run_of, IsOver, IsBroken}
+use Rattle.pm_tool.specs.Said.{said_run, said_started, IsSound, IsDone, IsBrokenOff}
+use Rattle.pm_tool.specs.Streams.{IsFront, AppendsFront, IsCause}
+use Rattle.pm_tool.proofs.Filing.{done_unread}
+use Rattle.pm_tool.proofs.Kept.{if_known, tells_known}
+use Rattle.pm_tool.proofs.Pages.{but_all, but_front, but_grown}
+use Rattle.pm_tool.proofs.Transfers.{cause_longer, front_trans}
+
+said_written : (show : Show) (run : Run) → (said_run show run).written ≡ run.shown ++ end_text show run.ending run.machine.steps
+said_written Trace run = refl
+said_written (Console save) run = sym (append-nil run.shown)
+
+said_unread : (show : Show) (run : Run) → (said_run show run).unread ≡ run.unread
+said_unread Trace run = refl
+said_unread (Console save) run = refl
+
+said_exit : (show : Show) (run : Run) → (said_run show run).exit ≡ exit_of run.ending
+said_exit Trace run = refl
+said_exit (Console save) run = refl
+
+sound_ending : (ending : Ending) → IsSound (exit_number (exit_of ending))
+sound_ending endings.Ended = (λ e. absurd (omega arith), λ e. absurd (omega arith))
+sound_ending (endings.Error error) = (λ e. absurd (omega arith), λ e. absurd (omega arith))
+sound_ending endings.Limit = (λ e. absurd (omega arith), λ e. absurd (omega arith))
+sound_ending endings.Waiting = (λ e. absurd (omega arith), λ e. absurd (omega arith))
+
+abbrev text_of : Show → ℕ → State → List ℕ → Said
+text_of show limit began input = said_run show (run_of show limit input began)
+
+module _ (had left held holds : Option (List ℕ)) (page : List ℕ) (show : Show) (limit : ℕ) (began : State) (ending : Ending) (m : State)
+    (o : IsOver had left held holds page show limit began ending m) where
+  rest_drained : (rest : List ℕ) → left ≡ Some rest → ending ≡ endings.Waiting → rest ≡ []
+  rest_drained rest e w = subst IsAtEnd e (o.drained w)
+
+  said_over : (rest : List ℕ) → (ending ≡ endings.Waiting → rest ≡ []) → text_of show limit began (o.read ++ rest) ≡ said_run show (ends o.shown ending m rest)
+  said_over rest w = ap (said_run show) (o.run rest w)
+
+  written_over : (rest : List ℕ) → (ending ≡ endings.Waiting → rest ≡ []) → (text_of show limit began (o.read ++ rest)).written ≡ o.shown ++ end_text show ending m.steps
+  written_over rest w = ap (λ s. s.written) (said_over rest w) ∙ said_written show (ends o.shown ending m rest)
+
+  module _ (holds' : Option (List ℕ)) where
+    -- the end was told
+    pub done_over : (outcome : Outcome) → Appends holds holds' (page ++ end_text show ending m.steps)
+        → ((shown unread : List ℕ) → IsOutcome outcome (said_run show (ends shown ending m unread)))
+        → IsDone had left held holds' outcome (λ input. said_run show (run_of show limit input began))
+    done_over outcome a out =
+        let whole = but_grown held holds page o.shown (end_text show ending m.steps) (page ++ end_text show ending m.steps) o.writes refl in
+        record {
+          tells = tells_known had left held holds' o.read o.reads outcome (text_of show limit began) (λ rest e.
+              let w = rest_drained rest e in
+              record {
+                written = subst (Appends held holds') (sym (written_over rest w)) (but_all held holds holds' _ (o.shown ++ end_text show ending m.steps) whole a);
+                comes_to = subst (IsOutcome outcome) (sym (said_over rest w)) (out o.shown rest);
+                unread = rw (ap (λ s. s.unread) (said_over rest w) ∙ said_unread show (ends o.shown ending m rest)) (subst (Keeps (Some rest)) (sym e) refl);
+              });
+          few = (o.read, o.reads, o.few);
+          status = subst IsSound (sym ((out [] []).status ∙ ap exit_number (said_exit show (ends [] ending m [])))) (sound_ending ending);
+        }
+
+    -- the end was not told whole
+    pub broken_telling : (fault : Fault) (source_failed sink_failed : Bool) → AppendsFront holds holds' (page ++ end_text show ending m.steps) → source_failed ≡ false
+        → IsCause fault false sink_failed [] → IsBrokenOff had left held holds' fault source_failed sink_failed (λ input. said_run show (run_of show limit input began))
+    broken_telling fault source_failed sink_failed a well cause =
+        let whole = but_grown held holds page o.shown (end_text show ending m.steps) (page ++ end_text show ending m.steps) o.writes refl in
+        let front = but_front held holds holds' _ (o.shown ++ end_text show ending m.steps) whole a in
+        record {
+          cut = record {
+            read = o.read;
+            front = front.0;
+            reads = o.reads;
+            writes = front.1;
+            so_far = subst (λ r. IsFront front.0 (text_of show limit began r).written) (append-nil o.read) (subst (IsFront front.0) (sym (written_over [] (λ _. refl))) front.2);
+            whole = if_known left _ (λ rest e. subst (IsFront front.0) (sym (written_over rest (rest_drained rest e))) front.2);
+          };
+          cause = rw well (cause_longer fault sink_failed o.read o.few cause);
+        }
+
+-- a run that was broken off
+pub broken_run : (had left held holds : Option (List ℕ)) (show : Show) (limit : ℕ) (began : State) (fault : Fault) (source_failed sink_failed : Bool)
+    → IsBroken had left held holds show limit began fault source_failed sink_failed
+    → IsBrokenOff had left held holds fault source_failed sink_failed (λ input. said_run show (run_of show limit input began))
+broken_run had left held holds show limit began fault source_failed sink_failed b = record {
+  cut = record {
+    read = b.read;
+    front = b.front;
+    reads = b.reads;
+    writes = b.writes;
+    so_far = subst (λ r. IsFront b.front (text_of show limit began r).written) (append-nil b.read) (begins (b.read ++ []) (b.begins []));
+    whole = if_known left _ (λ rest e. begins (b.read ++ rest) (b.begins rest));
+  };
+  cause = b.cause;
+}
+  where
+    begins : (input : List ℕ) → IsFront b.front (run_of show limit input began).shown → IsFront b.front (text_of show limit began input).written
+    begins input f =
+        let run = run_of show limit input began in
+        rw (said_written show run) (front_trans b.front run.shown (run.shown ++ end_text show run.ending run.machine.steps) f (end_text show run.ending run.machine.steps, refl))
+
+-- ---- a machine that starts, or none
+
+pub started_done : (had left held holds : Option (List ℕ)) (show : Show) (limit : ℕ) (start : Result State Refusal) (m : State) (outcome : Outcome) → Ok m ≡ start
+    → IsDone had left held holds outcome (λ input. said_run show (run_of show limit input m)) → IsDone had left held holds outcome (said_started show limit start)
+started_done had left held holds show limit start m outcome e d = subst (λ s. IsDone had left held holds outcome (said_started show limit s)) e d
+
+pub started_broken : (had left held holds : Option (List ℕ)) (show : Show) (limit : ℕ) (start : Result State Refusal) (m : State) (fault : Fault) (source_failed sink_failed : Bool) → Ok m ≡ start
+    → IsBrokenOff had left held holds fault source_failed sink_failed (λ input. said_run show (run_of show limit input m))
+    → IsBrokenOff had left held holds fault source_failed sink_failed (said_started show limit start)
+started_broken had left held holds show limit start m fault source_failed sink_failed e b =
+    subst (λ s. IsBrokenOff had left held holds fault source_failed sink_failed (said_started show limit s)) e b
+
+-- the input is refused before it is read
+pub started_refused : (had held : Option (List ℕ)) (show : Show) (limit : ℕ) (start : Result State Refusal) (refusal : Refusal) (outcome : Outcome) → Err refusal ≡ start
+    → ((unread : List ℕ) → IsOutcome outcome (refused refusal unread)) → IsDone had had held held outcome (said_started show limit start)
+started_refused had held show limit start refusal outcome e out =
+    subst (λ s. IsDone had had held held outcome (said_started show limit s)) e
+    (done_unread had held held outcome (said_started show limit (Err refusal)) (λ input. (Appends-nil held, out input, refl))
+    (subst IsSound (sym (out []).status) (λ k. absurd (omega arith), λ k. absurd (omega arith))))

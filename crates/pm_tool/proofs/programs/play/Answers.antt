@@ -1,0 +1,20 @@
+use Rattle.std.proofs.lemmas.Result.{err_from_is_err_and}
+use Rattle.pm_tool.proofs.Played.{done_over, broken_telling, broken_run}
+use Rattle.pm_tool.proofs.programs.play.Goals as goal
+
+pub returns-in_err-ending-clause-broken : goal.returns-in_err-ending-clause-broken
+returns-in_err-ending-clause-broken g c =
+    let p = err_from_is_err_and c.from_residual.result c.from_residual.ensures.1 in
+    rw (p.1, p.2) (broken_run _ _ _ _ c.args.show c.args.limit c.args.machine _ _ _ c.in_err-ending.ensures.broken)
+
+pub returns-in_err-outcome-clause-broken : goal.returns-in_err-outcome-clause-broken
+returns-in_err-outcome-clause-broken g c =
+    let r = c.from_residual-in_err-outcome in
+    let p = err_from_is_err_and r.result r.ensures.1 in
+    rw (p.1, p.2) (broken_telling _ _ _ _ _ c.args.show c.args.limit c.args.machine c.in_ok-ending.ending c.drive.new.machine c.in_ok-ending.ensures.over
+    _ _ _ _ c.in_err-outcome.ensures.front c.in_ok-ending.ensures.source_well c.in_err-outcome.ensures.cause)
+
+pub returns-clause-done : goal.returns-clause-done
+returns-clause-done g c =
+    done_over _ _ _ _ _ c.args.show c.args.limit c.args.machine c.in_ok-ending.ending c.drive.new.machine c.in_ok-ending.ensures.over
+    _ _ c.in_ok-outcome.ensures.written c.in_ok-outcome.ensures.outcome

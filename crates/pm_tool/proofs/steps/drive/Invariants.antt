@@ -1,0 +1,17 @@
+use Rattle.std.proofs.Common.{◌≡◌, ◌+◌, ◌-◌, ◌≤◌, false}
+use Rattle.pm_tool.specs.declared.source.TheConstants.{INPUT_LIMIT}
+use Rattle.pm_tool.proofs.Driven.{IsUnderWay}
+use Rattle.pm_tool.proofs.steps.drive.Given as goal
+
+abbrev pub invariant-steps : goal.invariant-steps
+invariant-steps g l = record {
+  under_way : IsUnderWay (g.R.Source.remaining l.fn.source) (g.R.Source.remaining l.source) (g.W.Sink.contents l.fn.sink) (g.W.Sink.contents l.sink)
+      l.page.items l.taken l.show l.limit l.fn.machine (l.limit - l.went) l.machine;
+  source_well : g.R.Source.has_failed l.source ≡ false;
+  sink_well : g.W.Sink.has_failed l.sink ≡ false;
+  few : l.taken ≤ INPUT_LIMIT;
+  within : l.went ≤ l.limit;
+}
+
+abbrev pub decreases-steps : goal.decreases-steps
+decreases-steps g l = (l.limit - l.went) + (INPUT_LIMIT - l.taken)

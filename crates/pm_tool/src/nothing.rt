@@ -1,0 +1,23 @@
+//! The input of a job that reads none.
+ghost use Rattle.std.specs.Prelude.{[], false, Some};
+
+use crate::source::Source;
+use std::io;
+
+/// A source with nothing in it.
+#[derive(Drop)]
+pub(crate) struct Nothing;
+
+impl Source for Nothing {
+    ghost remaining = { λ _. Some [] };
+
+    ghost has_failed = { λ _. false };
+
+    fn read(&mut self, _buf: &mut [u8]) -> io::Result<usize> {
+        Ok(0)
+    }
+
+    fn failed(&self) -> bool {
+        false
+    }
+}

@@ -1,0 +1,162 @@
+//! Programs, and what is told of their runs.
+ghost use Rattle.std.specs.Prelude.{◌≡◌, false, [], ◌++◌, List, ℕ, Some, None, IfOk, IfErr, OnOk, OnErr, option_map, vec_items};
+ghost use Rattle.pm_tool.specs.Disks.{booted, disk_fault, first_fault, images_of};
+ghost use Rattle.std.specs.Io.KnownBytes.{Appends};
+ghost use Rattle.pm_tool.specs.Outcomes.{IsOutcome};
+ghost use Rattle.pm_tool.specs.Run.{end_text, ends, run_of};
+ghost use Rattle.pm_tool.specs.Said.{IsBrokenOff, IsDone, said_run, said_started};
+ghost use Rattle.pm_tool.specs.Streams.{AppendsFront, IsCause};
+
+use crate::ending::{Ending, LastLine};
+use crate::fault::Fault;
+use crate::outcome::{Outcome, Refusal, refuse};
+use crate::sink::{Sink, write_all};
+use crate::source::Source;
+use crate::steps::{Show, drive};
+use pm_machine::{BootFault, Machine};
+use pm_volume::{Disk, Volume, VolumeFault};
+use std::alloc::{AllocError, Global};
+
+/// Writes the end of what is shown of a run, after what is left on the page, and answers what the run comes to.
+fn tell<W: Sink>(
+    alloc: Global,
+    sink: &mut W,
+    machine: &mut Machine,
+    show: Show,
+    ending: Ending,
+    mut page: Vec<u8>,
+) -> Result<Outcome, Fault>
+    requires well { W.has_failed sink.old ≡ false }
+    ensures written { OnOk result (Appends (W.contents sink.old) (W.contents sink.new) (page.items ++ end_text show ending machine.old.steps)) }
+    ensures outcome { IfOk result (λ outcome. (shown unread : List ℕ) → IsOutcome outcome (said_run show (ends shown ending machine.old unread))) }
+    ensures well { OnOk result (W.has_failed sink.new ≡ false) }
+    ensures front { OnErr result (AppendsFront (W.contents sink.old) (W.contents sink.new) (page.items ++ end_text show ending machine.old.steps)) }
+    ensures cause { IfErr result (λ fault. IsCause fault false (W.has_failed sink.new) []) }
+{
+    let last = LastLine {
+        ending,
+        steps: machine.steps(),
+    };
+    match show {
+        Show::Trace => {
+            let line = format!(in alloc; "{last}\n")?;
+            page.extend_from_slice(line.as_bytes())?;
+            write_all(sink, &page)?;
+            Ok(Outcome::plain(alloc, ending.exit(), String::new(alloc)))
+        }
+        Show::Console { save } => {
+            write_all(sink, &page)?;
+            let message = format!(in alloc; "{last}")?;
+            let printer = Vec::from_slice(alloc, machine.printer())?;
+            let image = if save {
+                machine.eject(4).map(Disk::into_bytes)
+            } else {
+                None
+            };
+            Ok(Outcome {
+                status: ending.exit().number(),
+                message,
+                image,
+                printer,
+            })
+        }
+    }
+}
+
+/// Runs a machine whose console bytes are the input, and tells of it.
+pub(crate) fn play<R: Source, W: Sink>(
+    alloc: Global,
+    source: &mut R,
+    sink: &mut W,
+    mut machine: Machine,
+    show: Show,
+    limit: u32,
+) -> Result<Outcome, Fault>
+    requires source_well { R.has_failed source.old ≡ false }
+    requires sink_well { W.has_failed sink.old ≡ false }
+    ensures done { IfOk result (λ outcome. IsDone (R.remaining source.old) (R.remaining source.new)
+        (W.contents sink.old) (W.contents sink.new) outcome (λ input. said_run show (run_of show limit input machine))) }
+    ensures well { OnOk result ((R.has_failed source.new ≡ false) × (W.has_failed sink.new ≡ false)) }
+    ensures broken { IfErr result (λ fault. IsBrokenOff (R.remaining source.old) (R.remaining source.new)
+        (W.contents sink.old) (W.contents sink.new) fault (R.has_failed source.new) (W.has_failed sink.new) (λ input. said_run show (run_of show limit input machine))) }
+{
+    let mut page = Vec::new(alloc);
+    let ending = drive(alloc, source, sink, &mut machine, show, limit, &mut page)?;
+    let outcome = tell(alloc, sink, &mut machine, show, ending, page)?;
+    Ok(outcome)
+}
+
+/// The volume that an image is, where there is one.
+fn volume_of(image: Option<Vec<u8>>) -> Result<Option<Volume>, VolumeFault>
+    ensures volume { IfOk result (λ volume. volume ≡ option_map vec_items image) }
+    ensures sound { OnOk result (disk_fault (option_map vec_items image) ≡ None) }
+    ensures fault { IfErr result (λ fault. disk_fault (option_map vec_items image) ≡ Some fault) }
+{
+    match image {
+        None => Ok(None),
+        Some(image) => match Volume::open(image) {
+            Ok(volume) => Ok(Some(volume)),
+            Err((fault, _)) => Err(fault),
+        },
+    }
+}
+
+/// The volumes that the images are, or the first fault.
+fn volumes_of(disks: [Option<Vec<u8>>; 6]) -> Result<[Option<Volume>; 6], VolumeFault>
+    ensures volumes { IfOk result (λ volumes. volumes ≡ images_of disks) }
+    ensures sound { OnOk result (first_fault (images_of disks) ≡ None) }
+    ensures fault { IfErr result (λ fault. first_fault (images_of disks) ≡ Some fault) }
+{
+    let mut volumes = [None, None, None, None, None, None];
+    let mut place = 0;
+    'opening: for image in disks {
+        volumes[place] = volume_of(image)?;
+        place += 1;
+    }
+    Ok(volumes)
+}
+
+/// The machine at the start of a program of unit 4, or why there is none.
+fn boot(
+    alloc: Global,
+    disks: [Option<Vec<u8>>; 6],
+    name: &str,
+) -> Result<Result<Machine, Refusal>, AllocError>
+    ensures machine { IfOk result (λ machine. machine ≡ booted (images_of disks) name.now) }
+{
+    let volumes = match volumes_of(disks) {
+        Ok(volumes) => volumes,
+        Err(fault) => return Ok(Err(Refusal::Volume(fault))),
+    };
+    match Machine::boot(alloc, volumes, 4, name, 0) {
+        Ok(machine) => Ok(Ok(machine)),
+        Err((BootFault::NoMemory, _)) => Err(AllocError),
+        Err((fault, _)) => Ok(Err(Refusal::Boot(fault))),
+    }
+}
+
+/// Runs a program of unit 4 whose console bytes are the input, and tells of it.
+pub(crate) fn program<R: Source, W: Sink>(
+    alloc: Global,
+    source: &mut R,
+    sink: &mut W,
+    disks: [Option<Vec<u8>>; 6],
+    name: &str,
+    show: Show,
+    limit: u32,
+) -> Result<Outcome, Fault>
+    requires source_well { R.has_failed source.old ≡ false }
+    requires sink_well { W.has_failed sink.old ≡ false }
+    ensures done { IfOk result (λ outcome. IsDone (R.remaining source.old) (R.remaining source.new)
+        (W.contents sink.old) (W.contents sink.new) outcome (said_started show limit (booted (images_of disks) name.now))) }
+    ensures well { OnOk result ((R.has_failed source.new ≡ false) × (W.has_failed sink.new ≡ false)) }
+    ensures broken { IfErr result (λ fault. IsBrokenOff (R.remaining source.old) (R.remaining source.new)
+        (W.contents sink.old) (W.contents sink.new) fault (R.has_failed source.new) (W.has_failed sink.new) (said_started show limit (booted (images_of disks) name.now))) }
+{
+    let machine = match boot(alloc, disks, name)? {
+        Ok(machine) => machine,
+        Err(refusal) => return Ok(refuse(alloc, refusal)?),
+    };
+    let outcome = play(alloc, source, sink, machine, show, limit)?;
+    Ok(outcome)
+}

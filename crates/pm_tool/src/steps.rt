@@ -1,0 +1,150 @@
+//! The steps of a run: what they show is written, and a machine that waits gets the next byte of the input.
+ghost use Rattle.std.specs.Prelude.{◌≡◌, false, [], ◌++◌, drop, length, IfOk, IfErr, OnOk, OnErr};
+ghost use Rattle.std.specs.Io.KnownBytes.{Appends};
+ghost use Rattle.pm_machine.specs.Steps.{stepped};
+ghost use Rattle.pm_tool.specs.Run.{IsBroken, IsOver, shown_by};
+ghost use Rattle.pm_tool.specs.Streams.{AppendsBut, AppendsFront, IsCause};
+
+use crate::ending::Ending;
+use crate::fault::Fault;
+use crate::sink::{Sink, write_all};
+use crate::source::{INPUT_LIMIT, Source, read_byte};
+use pm_debug::TraceLine;
+use pm_machine::{Machine, Stop};
+use std::alloc::{AllocError, Global};
+
+/// What is shown of a run.
+#[derive(Clone, Copy, Debug, PartialEq, Eq)]
+pub(crate) enum Show {
+    /// A line for each step, and a last line that says why the run ended.
+    Trace,
+    /// The bytes that the program writes to the console. With `save` the image of unit 4 is kept.
+    Console { save: bool },
+}
+
+/// Makes one step. Its line goes onto the page, unless the step waits.
+fn traced_step(
+    machine: &mut Machine,
+    line: &mut String,
+    page: &mut Vec<u8>,
+) -> Result<Stop, AllocError>
+    ensures next { IfOk result (λ stop. stepped machine.old ≡ (machine.new, stop)) }
+    ensures page { IfOk result (λ stop. page.new.items ≡ page.old.items ++ shown_by Show.Trace machine.old machine.new stop) }
+{
+    line.clear();
+    let before = TraceLine::new(machine);
+    writeln!(line, "{before}")?;
+    let stop = machine.step()?;
+    if !matches!(stop, Stop::Waiting) {
+        page.extend_from_slice(line.as_bytes())?;
+    }
+    Ok(stop)
+}
+
+/// Makes one step. What it adds to the console goes onto the page, unless the step waits.
+fn console_step(machine: &mut Machine, page: &mut Vec<u8>) -> Result<Stop, AllocError>
+    ensures next { IfOk result (λ stop. stepped machine.old ≡ (machine.new, stop)) }
+    ensures page { IfOk result (λ stop. page.new.items ≡ page.old.items ++ shown_by (Show.Console false) machine.old machine.new stop) }
+{
+    let before = machine.console().len();
+    let stop = machine.step()?;
+    if !matches!(stop, Stop::Waiting) {
+        page.extend_from_slice(machine.console().get(before..).unwrap_or(&[]))?;
+    }
+    Ok(stop)
+}
+
+/// Makes one step. What it shows goes onto the page.
+fn step(
+    machine: &mut Machine,
+    show: Show,
+    line: &mut String,
+    page: &mut Vec<u8>,
+) -> Result<Stop, AllocError>
+    ensures next { IfOk result (λ stop. stepped machine.old ≡ (machine.new, stop)) }
+    ensures page { IfOk result (λ stop. page.new.items ≡ page.old.items ++ shown_by show machine.old machine.new stop) }
+{
+    match show {
+        Show::Trace => traced_step(machine, line, page),
+        Show::Console { .. } => console_step(machine, page),
+    }
+}
+
+/// The bytes at which a page is full.
+const PAGE: usize = 4096;
+
+/// Writes the page and clears it.
+fn write_page<W: Sink>(sink: &mut W, page: &mut Vec<u8>) -> Result<(), Fault>
+    requires well { W.has_failed sink.old ≡ false }
+    ensures written { OnOk result (Appends (W.contents sink.old) (W.contents sink.new) page.old.items) }
+    ensures cleared { OnOk result (page.new.items ≡ []) }
+    ensures well { OnOk result (W.has_failed sink.new ≡ false) }
+    ensures front { OnErr result (AppendsFront (W.contents sink.old) (W.contents sink.new) page.old.items) }
+    ensures cause { IfErr result (λ fault. IsCause fault false (W.has_failed sink.new) []) }
+{
+    write_all(sink, page)?;
+    page.clear();
+    Ok(())
+}
+
+/// Writes the page and clears it, once it is full.
+fn turn_page<W: Sink>(sink: &mut W, page: &mut Vec<u8>) -> Result<(), Fault>
+    requires well { W.has_failed sink.old ≡ false }
+    ensures written { OnOk result (AppendsBut (W.contents sink.old) (W.contents sink.new) page.new.items page.old.items) }
+    ensures well { OnOk result (W.has_failed sink.new ≡ false) }
+    ensures front { OnErr result (AppendsFront (W.contents sink.old) (W.contents sink.new) page.old.items) }
+    ensures cause { IfErr result (λ fault. IsCause fault false (W.has_failed sink.new) []) }
+{
+    if page.len() >= PAGE {
+        write_page(sink, page)?;
+    }
+    Ok(())
+}
+
+/// Makes at most `limit` steps and writes what they show, but for what it leaves on the page. Each time that the machine
+/// waits, the page is written and the machine gets the next byte of the input.
+pub(crate) fn drive<R: Source, W: Sink>(
+    alloc: Global,
+    source: &mut R,
+    sink: &mut W,
+    machine: &mut Machine,
+    show: Show,
+    limit: u32,
+    page: &mut Vec<u8>,
+) -> Result<Ending, Fault>
+    requires source_well { R.has_failed source.old ≡ false }
+    requires sink_well { W.has_failed sink.old ≡ false }
+    requires blank { page.old.items ≡ [] }
+    ensures over { IfOk result (λ ending. IsOver (R.remaining source.old) (R.remaining source.new)
+        (W.contents sink.old) (W.contents sink.new) page.new.items show limit machine.old ending machine.new) }
+    ensures source_well { OnOk result (R.has_failed source.new ≡ false) }
+    ensures sink_well { OnOk result (W.has_failed sink.new ≡ false) }
+    ensures broken { IfErr result (λ fault. IsBroken (R.remaining source.old) (R.remaining source.new)
+        (W.contents sink.old) (W.contents sink.new) show limit machine.old fault (R.has_failed source.new) (W.has_failed sink.new)) }
+{
+    let mut line = String::new(alloc);
+    let mut went = 0;
+    let mut taken = 0;
+    'steps: while went < limit {
+        match step(machine, show, &mut line, page)? {
+            Stop::Went => {
+                went += 1;
+                turn_page(sink, page)?;
+            }
+            Stop::Ended => return Ok(Ending::Ended),
+            Stop::Halted(error) => return Ok(Ending::Error(error)),
+            Stop::Waiting => {
+                write_page(sink, page)?;
+                let Some(byte) = read_byte(source)? else {
+                    return Ok(Ending::Waiting);
+                };
+                if taken == INPUT_LIMIT {
+                    return Err(Fault::Read);
+                }
+                taken += 1;
+                machine.key(byte)?;
+            }
+        }
+    }
+    Ok(Ending::Limit)
+}

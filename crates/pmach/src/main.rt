@@ -95,7 +95,7 @@ fn disk(rt: &HostRuntime, path: &Option<String>) -> Result<Option<Vec<u8>>, Disk
 }
 
 /// Reads the images of the disks in the order of their units.
-fn disks(rt: &HostRuntime, paths: &Disks) -> Result<[Option<Vec<u8>>; 6], DiskFault> {
+fn images(rt: &HostRuntime, paths: &Disks) -> Result<[Option<Vec<u8>>; 6], DiskFault> {
     Ok([
         disk(rt, &paths[0])?,
         disk(rt, &paths[1])?,
@@ -121,7 +121,7 @@ fn do_run(rt: &HostRuntime, program: Program, keeping: Keeping) -> Result<End, D
         limit,
     } = program;
     let job = Job::Run {
-        disks: disks(rt, &paths)?,
+        disks: images(rt, &paths)?,
         name,
         limit,
         save: keeping.save,
@@ -145,7 +145,7 @@ fn do_trace(rt: &HostRuntime, program: Program) -> Result<End, DiskFault> {
         name,
         limit,
     } = program;
-    let disks = disks(rt, &paths)?;
+    let disks = images(rt, &paths)?;
     Ok(end_of(perform(rt, Job::Trace { disks, name, limit })))
 }
 

@@ -78,7 +78,7 @@ fn given(alloc: Global, matches: &ArgMatches<'_>, id: &str) -> Result<Option<Str
 }
 
 /// The program that the words name.
-pub fn program(alloc: Global, matches: &ArgMatches<'_>) -> Result<Program, WordsError> {
+pub fn program_of(alloc: Global, matches: &ArgMatches<'_>) -> Result<Program, WordsError> {
     let disks = [
         given(alloc, matches, "d4")?,
         given(alloc, matches, "d5")?,
@@ -93,7 +93,7 @@ pub fn program(alloc: Global, matches: &ArgMatches<'_>) -> Result<Program, Words
 }
 
 /// What the words of `run` say beside the program.
-pub fn keeping(alloc: Global, matches: &ArgMatches<'_>) -> Result<Keeping, WordsError> {
+pub fn keeping_of(alloc: Global, matches: &ArgMatches<'_>) -> Result<Keeping, WordsError> {
     Ok(Keeping {
         save: matches.get_flag("save"),
         printer: given(alloc, matches, "printer")?,

@@ -1,6 +1,6 @@
 //! The words of the command line.
 use crate::file_words::{FilesPlan, files, files_plan};
-use crate::run_words::{Keeping, Program, keeping, program, run, trace};
+use crate::run_words::{Keeping, Program, keeping_of, program_of, run, trace};
 use clap::error::ErrorKind;
 use clap::{Arg, ArgMatches, Command};
 use pm_tool::{Exit, Job};
@@ -133,7 +133,7 @@ fn plan_asked(alloc: Global, matches: &ArgMatches<'_>) -> Result<Plan, WordsErro
             limit: limit_of(matches)?,
         })),
         Some(("run", matches)) => Ok(Plan::Run(program(alloc, matches)?, keeping(alloc, matches)?)),
-        Some(("trace", matches)) => Ok(Plan::Trace(program(alloc, matches)?)),
+        Some(("trace", matches)) => Ok(Plan::Trace(program_of(alloc, matches)?)),
         Some((_, matches)) => Ok(Plan::Files(files_plan(alloc, matches)?)),
         None => Err(WordsError::NoCommand),
     }

@@ -132,7 +132,10 @@ fn plan_asked(alloc: Global, matches: &ArgMatches<'_>) -> Result<Plan, WordsErro
         Some(("raw", matches)) => Ok(Plan::Job(Job::Raw {
             limit: limit_of(matches)?,
         })),
-        Some(("run", matches)) => Ok(Plan::Run(program(alloc, matches)?, keeping(alloc, matches)?)),
+        Some(("run", matches)) => Ok(Plan::Run(
+            program_of(alloc, matches)?,
+            keeping_of(alloc, matches)?,
+        )),
         Some(("trace", matches)) => Ok(Plan::Trace(program_of(alloc, matches)?)),
         Some((_, matches)) => Ok(Plan::Files(files_plan(alloc, matches)?)),
         None => Err(WordsError::NoCommand),

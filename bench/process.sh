@@ -140,6 +140,46 @@ usage "an image without a path" files --image= list
 usage "one word more than a verb takes" files --image "$image" list all
 usage "a name that begins with -" files --image "$image" get -A
 
+# programs
+programs=$scratch/programs.img
+"$here/examples/programs.sh" "$programs"
+result "a volume with programs" $?
+printf 'OK' >"$scratch/text"
+echo "ended 9" >"$message"
+case_of "a program writes" 0 "$scratch/text" "$message" run --d4 "$programs" OK </dev/null
+printf 'ab.' >"$scratch/text"
+echo "ended 41" >"$message"
+case_of "a program reads" 0 "$scratch/text" "$message" run --d4 "$programs" ECHO < <(printf 'ab.cd')
+printf 'ab' >"$scratch/text"
+echo "waiting 32" >"$message"
+case_of "the input ends" 6 "$scratch/text" "$message" run --d4 "$programs" echo < <(printf 'ab')
+printf '%s\n' "00000000 65470 65456 65458 65458 01024 65492 CXP 2, 1" \
+    "00000001 65440 65422 65424 65424 01024 65458 RBP 0" \
+    "00000002 65473 65456 65458 65458 01024 65492 CXP 3, 1" \
+    "00000003 65440 65418 65420 65420 01024 65458 RBP 0" \
+    "00000004 65476 65456 65458 65458 01024 65492 RBP 0" "ended 5" >"$scratch/text"
+case_of "a trace" 0 "$scratch/text" "$nothing" trace --d4 "$programs" LOADS </dev/null
+echo "refused boot 1" >"$message"
+case_of "no such program" 2 "$nothing" "$message" run --d4 "$programs" NONE </dev/null
+echo "refused volume 1" >"$message"
+case_of "a disk that is no volume" 2 "$nothing" "$message" run --d4 "$programs" --d9 "$scratch/short" OK </dev/null
+echo "read fault" >"$message"
+case_of "a disk that is not there" 4 "$nothing" "$message" run --d4 "$scratch/short" --d12 "$scratch/none" OK </dev/null
+cp "$programs" "$scratch/before"
+printf 'OK' >"$scratch/text"
+echo "ended 9" >"$message"
+case_of "an image is saved, and printer bytes" 0 "$scratch/text" "$message" run --d4 "$programs" --save --printer "$scratch/printed" OK </dev/null
+cmp -s "$programs" "$scratch/before" && [ -f "$scratch/printed" ] && [ ! -s "$scratch/printed" ]
+result "the image is as it was, and nothing was printed" $?
+echo "write fault" >"$message"
+case_of "printer bytes that cannot be written" 4 "$scratch/text" "$message" run --d4 "$programs" --printer "$scratch/none/x" OK </dev/null
+usage "no disk on unit 4" run OK
+usage "no program" run --d4 "$programs"
+usage "a disk on unit 6" run --d4 "$programs" --d6 "$programs" OK
+usage "two disks on unit 4" run --d4 "$programs" --d4 "$programs" OK
+usage "save twice" run --d4 "$programs" --save --save OK
+usage "save in a trace" trace --d4 "$programs" --save OK
+
 # words
 usage "--help" --help
 usage "raw --help" raw --help

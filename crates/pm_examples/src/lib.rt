@@ -14,6 +14,8 @@ mod files;
 #[cfg(test)]
 mod machine;
 #[cfg(test)]
+mod procedures;
+#[cfg(test)]
 mod raw;
 #[cfg(test)]
 mod rows;

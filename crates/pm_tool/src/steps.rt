@@ -23,6 +23,7 @@ pub(crate) enum Show {
 }
 
 /// Makes one step. Its line goes onto the page, unless the step waits.
+#[inline(never)]
 fn traced_step(
     machine: &mut Machine,
     line: &mut String,
@@ -48,8 +49,9 @@ fn console_step(machine: &mut Machine, page: &mut Vec<u8>) -> Result<Stop, Alloc
 {
     let before = machine.console().len();
     let stop = machine.step()?;
-    if !matches!(stop, Stop::Waiting) {
-        page.extend_from_slice(machine.console().get(before..).unwrap_or(&[]))?;
+    let console = machine.console();
+    if console.len() > before && !matches!(stop, Stop::Waiting) {
+        page.extend_from_slice(&console[before..])?;
     }
     Ok(stop)
 }

@@ -1,5 +1,5 @@
 -- The code that is loaded is the segment of the code file.
-use Rattle.std.proofs.Common.{◌≡◌, inl, inr, ◌≤◌, ◌<◌, ◌==◌, ℕ, zero, suc, ◌+◌, ◌-◌, ◌*◌, ◌%◌, Bool, true, false, cond, not, nat_lt, nat_le, ◌&&◌, List, [], ◌∷◌, ◌++◌, length, take, drop, get_or, slice_range, Option, Some, None, is_none, is_some, Result, Ok, Err, refl, sym, ◌∙◌, ap, subst, arith, take-take, drop-drop}
+use Rattle.std.proofs.Common.{◌≡◌, inl, inr, ◌≤◌, ◌<◌, ◌==◌, ℕ, zero, suc, ◌+◌, ◌-◌, ◌*◌, ◌%◌, Bool, true, false, cond, not, nat_lt, nat_le, ◌&&◌, List, [], ◌∷◌, length, take, drop, get_or, slice_range, Option, Some, None, is_none, is_some, Result, Ok, refl, sym, ◌∙◌, ap, subst, arith, take-take, drop-drop}
 use Rattle.std.specs.Prelude.{slice_get}
 use Rattle.std.specs.List.{All, find}
 use Rattle.std.proofs.lemmas.Bool.{cases_Bool}
@@ -9,16 +9,12 @@ use Rattle.std.proofs.lemmas.Option.{slice_get_read, slice_get_past}
 use Rattle.std.proofs.Math.ListN.{get_or-append}
 use Rattle.std.proofs.Math.Seq.{get_or-append_seam}
 use Rattle.pm_words.specs.Stack.{◌>>=◌, demand}
-use Rattle.pm_calls.specs.declared.frames.Call.TheVariants.{Cxp}
-use Rattle.pm_calls.specs.declared.frames.Place.{Place}
-use Rattle.pm_calls.specs.Places.{placed}
 use Rattle.pm_volume.specs.declared.entry.Entry.{Entry}
-use Rattle.pm_volume.specs.Directory.{IsVolume, block_count, directory_of, files_begin}
+use Rattle.pm_volume.specs.Directory.{block_count, directory_of, files_begin}
 use Rattle.pm_volume.specs.Files.{file_bytes, file_named, files_of, is_named}
 use Rattle.pm_volume.proofs.KeptLaws.{files_within}
 use Rattle.pm_volume.proofs.OrderLaws.{IsWithin}
 use Rattle.pm_codefile.specs.declared.fault.CodeFault.{CodeFault}
-use Rattle.pm_codefile.specs.declared.file.Slot.{Slot}
 use Rattle.pm_codefile.specs.Dictionary.{block_in, file_fault, first_fault, length_in, or_else, segment_in, slot_fault, slot_in}
 use Rattle.pm_stdproc.specs.Devices.{Devices, code_on, image_on, unit_of}
 use Rattle.pm_machine.specs.declared.state.BootFault.{BootFault}

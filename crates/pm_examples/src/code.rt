@@ -136,6 +136,17 @@ fn loads_from_the_disk_there(rt: HostRuntime) -> Result<(), Fail> {
     Ok(())
 }
 
+/// Without the disk nothing is loaded.
+#[test]
+fn loads_nothing_without_the_disk(rt: HostRuntime) -> Result<(), Fail> {
+    let volume = volume(rt.alloc(), 2, [22, 16, 16], &SEGMENTS)?;
+    let mut machine = booted(rt.alloc(), volume)?;
+    assert!(rt; machine.eject(4).is_some());
+    assert_eq!(rt; machine.step()?, Stop::Halted(ExecError::SystemIo));
+    assert_eq!(rt; machine.steps(), 0);
+    Ok(())
+}
+
 /// Boots from a volume on unit 4, and the fault, with which the volume comes back.
 fn refused(
     rt: &impl Abort,

@@ -125,10 +125,10 @@ echo "refused volume 1" >"$message"
 head -c 513 "$image" >"$scratch/short"
 case_of "513 bytes" 2 "$nothing" "$message" files --image "$scratch/short" list </dev/null
 echo "read fault" >"$message"
-case_of "no image" 4 "$nothing" "$message" files --image "$scratch/none" list </dev/null
+case_of "no image" 4 "$nothing" "$message" files --image "$scratch/absent" list </dev/null
 case_of "a directory as an image" 4 "$nothing" "$message" files --image "$scratch" list </dev/null
 echo "write fault" >"$message"
-case_of "an image that cannot be written" 4 "$nothing" "$message" files --image "$scratch/none/x" new WORK 20 </dev/null
+case_of "an image that cannot be written" 4 "$nothing" "$message" files --image "$scratch/absent/x" new WORK 20 </dev/null
 usage "a kind that is none" files --image "$image" put A Data
 usage "a kind above 15" files --image "$image" put A 16
 usage "blocks that are too many" files --image "$image" new A 65536
@@ -164,7 +164,7 @@ case_of "no such program" 2 "$nothing" "$message" run --d4 "$programs" NONE </de
 echo "refused volume 1" >"$message"
 case_of "a disk that is no volume" 2 "$nothing" "$message" run --d4 "$programs" --d9 "$scratch/short" OK </dev/null
 echo "read fault" >"$message"
-case_of "a disk that is not there" 4 "$nothing" "$message" run --d4 "$scratch/short" --d12 "$scratch/none" OK </dev/null
+case_of "a disk that is not there" 4 "$nothing" "$message" run --d4 "$scratch/short" --d12 "$scratch/absent" OK </dev/null
 cp "$programs" "$scratch/before"
 printf 'OK' >"$scratch/text"
 echo "ended 9" >"$message"
@@ -172,7 +172,7 @@ case_of "an image is saved, and printer bytes" 0 "$scratch/text" "$message" run 
 cmp -s "$programs" "$scratch/before" && [ -f "$scratch/printed" ] && [ ! -s "$scratch/printed" ]
 result "the image is as it was, and nothing was printed" $?
 echo "write fault" >"$message"
-case_of "printer bytes that cannot be written" 4 "$scratch/text" "$message" run --d4 "$programs" --printer "$scratch/none/x" OK </dev/null
+case_of "printer bytes that cannot be written" 4 "$scratch/text" "$message" run --d4 "$programs" --printer "$scratch/absent/x" OK </dev/null
 usage "no disk on unit 4" run OK
 usage "no program" run --d4 "$programs"
 usage "a disk on unit 6" run --d4 "$programs" --d6 "$programs" OK

@@ -1,5 +1,5 @@
 //! The words of `files`.
-use crate::words::{WordsError, number};
+use crate::words::{WordsError, given, number};
 use clap::{Arg, ArgMatches, Command};
 use pm_filer::kind_word;
 use std::alloc::{AllocError, Global};
@@ -184,7 +184,7 @@ fn verb_of(alloc: Global, verb: &str, words: &ArgMatches<'_>) -> Result<Verb, Wo
 
 /// What the words of `files` ask for.
 pub fn files_plan(alloc: Global, matches: &ArgMatches<'_>) -> Result<FilesPlan, WordsError> {
-    let path = word(alloc, matches, "image")?;
+    let path = given(alloc, matches, "image")?.ok_or(WordsError::NoCommand)?;
     let Some((verb, words)) = matches.subcommand() else {
         return Err(WordsError::NoCommand);
     };

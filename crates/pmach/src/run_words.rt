@@ -1,5 +1,5 @@
 //! The words of `run` and `trace`.
-use crate::words::{WordsError, limit, limit_of};
+use crate::words::{WordsError, given, limit, limit_of};
 use clap::{Arg, ArgAction, ArgMatches, Command};
 use std::alloc::{AllocError, Global};
 
@@ -69,14 +69,6 @@ pub fn trace<'a>(alloc: Global) -> Result<Command<'a>, AllocError> {
     with_program(alloc, command)
 }
 
-/// An option's value, if it is given.
-fn given(alloc: Global, matches: &ArgMatches<'_>, id: &str) -> Result<Option<String>, WordsError> {
-    match matches.get_str(id) {
-        Some(text) => Ok(Some(String::from_str(alloc, text)?)),
-        None => Ok(None),
-    }
-}
-
 /// The program that the words name.
 pub fn program_of(alloc: Global, matches: &ArgMatches<'_>) -> Result<Program, WordsError> {
     let disks = [
@@ -87,7 +79,8 @@ pub fn program_of(alloc: Global, matches: &ArgMatches<'_>) -> Result<Program, Wo
         given(alloc, matches, "d11")?,
         given(alloc, matches, "d12")?,
     ];
-    let name = given(alloc, matches, "NAME")?.ok_or(WordsError::NoCommand)?;
+    let name = matches.get_str("NAME").ok_or(WordsError::NoCommand)?;
+    let name = String::from_str(alloc, name)?;
     let limit = limit_of(matches)?;
     Ok(Program { disks, name, limit })
 }

@@ -31,6 +31,8 @@ pub enum WordsError {
     Usage(clap::Error),
     /// There are options, but no command.
     NoCommand,
+    /// An option has no value, as in `--image=`.
+    NoValue,
     /// A number is not made of decimal digits alone, or too large.
     BadNumber(&'static str),
     /// A word is not UTF-8, or the words cannot be read.
@@ -54,6 +56,7 @@ impl fmt::Display for WordsError {
             WordsError::Usage(error) => write!(f, "{error}"),
             WordsError::NoCommand => f.write_str("error: no command among the words\n"),
             WordsError::BadNumber(range) => write!(f, "error: {range}\n"),
+            WordsError::NoValue => f.write_str("error: an option has no value\n"),
             WordsError::NotText => f.write_str("error: a word is not UTF-8\n"),
             WordsError::NoMemory => f.write_str("no memory\n"),
         }
@@ -115,6 +118,19 @@ pub fn number(text: &str) -> Option<u32> {
         return None;
     }
     text.parse().ok()
+}
+
+/// The value of an option, if it is given.
+pub fn given(
+    alloc: Global,
+    matches: &ArgMatches<'_>,
+    id: &str,
+) -> Result<Option<String>, WordsError> {
+    match matches.get_str(id) {
+        Some("") => Err(WordsError::NoValue),
+        Some(text) => Ok(Some(String::from_str(alloc, text)?)),
+        None => Ok(None),
+    }
 }
 
 /// The limit that the words give.

@@ -88,6 +88,98 @@ result "standard output is closed" $?
 [ "${PIPESTATUS[0]}" = 4 ] && cmp -s "$scratch/err" "$message"
 result "standard output is a pipe that is shut" $?
 
+# volumes
+image=$scratch/work.img
+list=$scratch/list
+case_of "a new volume" 0 "$nothing" "$nothing" files --image "$image" new WORK 20 </dev/null
+[ "$(wc -c <"$image")" = 10240 ]
+result "its image has 10,240 bytes" $?
+printf 'xyz' >"$scratch/bytes"
+case_of "a put" 0 "$nothing" "$nothing" files --image "$image" put A data <"$scratch/bytes"
+printf 'WORK:\nA               data     6     1   3 000-00-00\nfiles 1 free 13 largest 13\n' >"$list"
+case_of "a list" 0 "$list" "$nothing" files --image "$image" list </dev/null
+case_of "a get" 0 "$scratch/bytes" "$nothing" files --image "$image" get a </dev/null
+cp "$image" "$scratch/before"
+echo "refused filer 1 9" >"$message"
+case_of "a second put" 2 "$nothing" "$message" files --image "$image" put a 5 <"$scratch/bytes"
+cmp -s "$image" "$scratch/before"
+result "a refused put leaves the file" $?
+echo "refused filer 3" >"$message"
+case_of "a month 13" 2 "$nothing" "$message" files --image "$image" date 99 13 1 </dev/null
+echo "refused filer 2 3 1" >"$message"
+printf 'a%.0s' $(seq 1024) >"$scratch/line"
+case_of "a line of 1,024 letters" 2 "$nothing" "$message" files --image "$image" puttext L <"$scratch/line"
+case_of "a change" 0 "$nothing" "$nothing" files --image "$image" change A B.TEXT </dev/null
+case_of "a removal" 0 "$nothing" "$nothing" files --image "$image" remove b.text </dev/null
+printf 'a\n' >"$scratch/text"
+case_of "a text is put" 0 "$nothing" "$nothing" files --image "$image" puttext A.TEXT <"$scratch/text"
+case_of "a text is got" 0 "$scratch/text" "$nothing" files --image "$image" gettext A.TEXT </dev/null
+printf 'WORK:\nA.TEXT          text     6     4 512 000-00-00\nfiles 1 free 10 largest 10\n' >"$list"
+case_of "the list of a text" 0 "$list" "$nothing" files --image "$image" list </dev/null
+case_of "a date" 0 "$nothing" "$nothing" files --image "$image" date 81 11 22 </dev/null
+case_of "a krunch" 0 "$nothing" "$nothing" files --image "$image" krunch </dev/null
+case_of "a zero" 0 "$nothing" "$nothing" files --image "$image" zero EMPTY </dev/null
+printf 'EMPTY:\nfiles 0 free 14 largest 14\n' >"$list"
+case_of "the list after it" 0 "$list" "$nothing" files --image "$image" list </dev/null
+echo "refused volume 1" >"$message"
+head -c 513 "$image" >"$scratch/short"
+case_of "513 bytes" 2 "$nothing" "$message" files --image "$scratch/short" list </dev/null
+echo "read fault" >"$message"
+case_of "no image" 4 "$nothing" "$message" files --image "$scratch/none" list </dev/null
+case_of "a directory as an image" 4 "$nothing" "$message" files --image "$scratch" list </dev/null
+echo "write fault" >"$message"
+case_of "an image that cannot be written" 4 "$nothing" "$message" files --image "$scratch/none/x" new WORK 20 </dev/null
+usage "a kind that is none" files --image "$image" put A Data
+usage "a kind above 15" files --image "$image" put A 16
+usage "blocks that are too many" files --image "$image" new A 65536
+usage "a year that is too large" files --image "$image" date 256 1 1
+usage "no image among the words" files list
+usage "no verb" files --image "$image"
+usage "two images" files --image "$image" --image "$image" list
+usage "an image without a path" files --image= list
+usage "one word more than a verb takes" files --image "$image" list all
+usage "a name that begins with -" files --image "$image" get -A
+
+# programs
+programs=$scratch/programs.img
+"$here/examples/programs.sh" "$programs"
+result "a volume with programs" $?
+printf 'OK' >"$scratch/text"
+echo "ended 9" >"$message"
+case_of "a program writes" 0 "$scratch/text" "$message" run --d4 "$programs" OK </dev/null
+printf 'ab.' >"$scratch/text"
+echo "ended 41" >"$message"
+case_of "a program reads" 0 "$scratch/text" "$message" run --d4 "$programs" ECHO < <(printf 'ab.cd')
+printf 'ab' >"$scratch/text"
+echo "waiting 32" >"$message"
+case_of "the input ends" 6 "$scratch/text" "$message" run --d4 "$programs" echo < <(printf 'ab')
+printf '%s\n' "00000000 65470 65456 65458 65458 01024 65492 CXP 2, 1" \
+    "00000001 65440 65422 65424 65424 01024 65458 RBP 0" \
+    "00000002 65473 65456 65458 65458 01024 65492 CXP 3, 1" \
+    "00000003 65440 65418 65420 65420 01024 65458 RBP 0" \
+    "00000004 65476 65456 65458 65458 01024 65492 RBP 0" "ended 5" >"$scratch/text"
+case_of "a trace" 0 "$scratch/text" "$nothing" trace --d4 "$programs" LOADS </dev/null
+echo "refused boot 1" >"$message"
+case_of "no such program" 2 "$nothing" "$message" run --d4 "$programs" NONE </dev/null
+echo "refused volume 1" >"$message"
+case_of "a disk that is no volume" 2 "$nothing" "$message" run --d4 "$programs" --d9 "$scratch/short" OK </dev/null
+echo "read fault" >"$message"
+case_of "a disk that is not there" 4 "$nothing" "$message" run --d4 "$scratch/short" --d12 "$scratch/none" OK </dev/null
+cp "$programs" "$scratch/before"
+printf 'OK' >"$scratch/text"
+echo "ended 9" >"$message"
+case_of "an image is saved, and printer bytes" 0 "$scratch/text" "$message" run --d4 "$programs" --save --printer "$scratch/printed" OK </dev/null
+cmp -s "$programs" "$scratch/before" && [ -f "$scratch/printed" ] && [ ! -s "$scratch/printed" ]
+result "the image is as it was, and nothing was printed" $?
+echo "write fault" >"$message"
+case_of "printer bytes that cannot be written" 4 "$scratch/text" "$message" run --d4 "$programs" --printer "$scratch/none/x" OK </dev/null
+usage "no disk on unit 4" run OK
+usage "no program" run --d4 "$programs"
+usage "a disk on unit 6" run --d4 "$programs" --d6 "$programs" OK
+usage "two disks on unit 4" run --d4 "$programs" --d4 "$programs" OK
+usage "save twice" run --d4 "$programs" --save --save OK
+usage "save in a trace" trace --d4 "$programs" --save OK
+
 # words
 usage "--help" --help
 usage "raw --help" raw --help

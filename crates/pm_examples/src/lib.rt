@@ -4,13 +4,23 @@
 #[cfg(test)]
 mod calls;
 #[cfg(test)]
+mod code;
+#[cfg(test)]
+mod devices;
+#[cfg(test)]
 mod faults;
 #[cfg(test)]
+mod files;
+#[cfg(test)]
 mod machine;
+#[cfg(test)]
+mod procedures;
 #[cfg(test)]
 mod raw;
 #[cfg(test)]
 mod rows;
+#[cfg(test)]
+mod runs;
 #[cfg(test)]
 mod streams;
 #[cfg(test)]

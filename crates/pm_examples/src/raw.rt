@@ -20,6 +20,16 @@ const TWO_STEPS: &str = "\
 limit 2
 ";
 
+const WAITING_TRACE: &str = "\
+00000000 01024 65492 65492 65492 01036 65492 SLDC 1
+00000001 01025 65490 65492 65492 01036 00001 LDCI 2000
+00000002 01028 65488 65492 65492 01036 02000 SLDC 0
+00000003 01029 65486 65492 65492 01036 00000 SLDC 3
+00000004 01030 65484 65492 65492 01036 00003 SLDC 0
+00000005 01031 65482 65492 65492 01036 00000 SLDC 0
+waiting 6
+";
+
 /// What a job came to, and what it wrote.
 #[derive(Drop)]
 pub(crate) struct Ran {
@@ -37,7 +47,7 @@ pub(crate) fn raw_run(alloc: Global, text: &[u8], limit: u32) -> Ran {
 }
 
 impl Ran {
-    fn assert(&self, rt: &impl Abort, status: u8, message: &str, written: &str) {
+    pub(crate) fn assert(&self, rt: &impl Abort, status: u8, message: &str, written: &str) {
         assert_eq!(rt; self.outcome.status, status);
         assert_eq!(rt; self.outcome.message.as_str(), message);
         assert_eq!(rt; self.written.as_slice(), written.as_bytes());
@@ -80,6 +90,12 @@ fn no_digits(rt: HostRuntime) {
     ] {
         raw_run(rt.alloc(), text.as_bytes(), 100).assert(&rt, 2, "refused hex 1", "");
     }
+}
+
+/// Three bytes of the console are wanted, and there is no console.
+#[test]
+fn waiting(rt: HostRuntime) {
+    raw_run(rt.alloc(), b"01 C7 D0 07 00 03 00 00 9E 05 D6", 100).assert(&rt, 6, "", WAITING_TRACE);
 }
 
 #[test]

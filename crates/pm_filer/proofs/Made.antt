@@ -1,11 +1,13 @@
 -- The changes of a volume as functions of its image.
-use Rattle.std.proofs.Common.{◌≡◌, ℕ, List, length, Ok, Err, None, refl}
+use Rattle.std.proofs.Common.{◌≡◌, ℕ, List, length, Ok, Err, None, true, false, refl}
 use Rattle.pm_volume.specs.Changes.{AddsFile, RemovesFile, RenamesFile, blocks_for, place_for, slot_named, slot_to_rename}
 use Rattle.pm_volume.specs.Directory.{directory_of}
-use Rattle.pm_volume.specs.Made.{added, removed, renamed}
+use Rattle.pm_volume.specs.Made.{added, removed, renamed, zeroed}
+use Rattle.pm_volume.specs.Headers.{zeroed_image}
+use Rattle.pm_volume.specs.Names.{is_new_name}
 use Rattle.pm_volume.specs.declared.entry.Entry.{Entry}
 use Rattle.pm_volume.specs.declared.fault.VolumeFault.{VolumeFault}
-use Rattle.pm_volume.specs.declared.fault.VolumeFault.TheVariants.{NoFile}
+use Rattle.pm_volume.specs.declared.fault.VolumeFault.TheVariants.{BadName, NoFile}
 
 pub made-added : (old new name : List ℕ) (kind : ℕ) (bytes : List ℕ) (date : ℕ) (e : Entry) → AddsFile old new name kind bytes date e → added old name kind bytes date ≡ Ok new
 unfolding added
@@ -31,4 +33,12 @@ pub made-unrenamed : (image from to : List ℕ) (fault : VolumeFault) → slot_t
 unfolding renamed
 made-unrenamed image from to fault e = rw e refl
 
-pub ruleset made = (made-added, made-removed, made-renamed, made-unadded, made-unremoved, made-unrenamed)
+pub made-zeroed : (old new name : List ℕ) → is_new_name 7 name ≡ true → new ≡ zeroed_image old name → zeroed old name ≡ Ok new
+unfolding zeroed
+made-zeroed old new name good e = rw (good, e) refl
+
+pub made-unzeroed : (image name : List ℕ) → is_new_name 7 name ≡ false → zeroed image name ≡ Err BadName
+unfolding zeroed
+made-unzeroed image name bad = rw bad refl
+
+pub ruleset made = (made-zeroed, made-unzeroed, made-added, made-removed, made-renamed, made-unadded, made-unremoved, made-unrenamed)

@@ -1,9 +1,16 @@
 -- What a command makes of a volume, and what it answers.
-use Rattle.std.specs.Prelude.{ℕ, List, Option, Some, None, Result, Ok, Err, string_bytes}
+use Rattle.std.specs.Prelude.{ℕ, List, Option, Some, None, Result, Ok, Err, string_bytes, Bool, ◌+◌, ◌*◌, ◌&&◌, nat_le, nat_lt, length, if◌then◌else◌}
 use Rattle.pm_volume.specs.Files.{file_bytes, file_named}
 use Rattle.pm_volume.specs.Directory.{directory_of}
-use Rattle.pm_volume.specs.Headers.{last_date_of}
-use Rattle.pm_volume.specs.Made.{added, removed, renamed}
+use Rattle.pm_volume.specs.Headers.{dated_image, last_date_of}
+use Rattle.pm_volume.specs.Made.{added, removed, renamed, zeroed}
+use Rattle.pm_volume.specs.Packing.{krunched_image}
+use Rattle.pm_textfile.specs.Reading.{text_of}
+use Rattle.pm_textfile.specs.Writing.{text_fault}
+use Rattle.pm_textfile.specs.Laying.{text_file}
+use Rattle.pm_textfile.specs.declared.fault.TextFault.{TextFault}
+use Rattle.pm_textfile.specs.declared.fault.TextFault.TheVariants as text
+use Rattle.pm_textfile.specs.declared.fault.TextFault.TheVariants.{NoHeader}
 use Rattle.pm_volume.specs.declared.entry.Entry.{Entry}
 use Rattle.pm_volume.specs.declared.fault.VolumeFault.{VolumeFault}
 use Rattle.pm_volume.specs.declared.fault.VolumeFault.TheVariants.{NoFile}
@@ -17,7 +24,16 @@ use Rattle.pm_filer.specs.Listing.{list_text}
 
 abbrev pub filer_number : FilerFault → ℕ
 filer_number (faults.Volume fault) = 1
+filer_number (faults.Text fault) = 2
+filer_number faults.BadDate = 3
 filer_number faults.NoMemory = 4
+
+-- a fault of a text; want of memory is the filer's own
+abbrev pub of_text : TextFault → FilerFault
+of_text NoHeader = faults.Text NoHeader
+of_text text.NoMemory = faults.NoMemory
+of_text (text.LineTooLong line) = faults.Text (text.LineTooLong line)
+of_text (text.BadByte place) = faults.Text (text.BadByte place)
 
 -- a command by its numbers and bytes
 pub data Order : Type 0 where
@@ -26,6 +42,11 @@ pub data Order : Type 0 where
   Put : List ℕ → ℕ → List ℕ → Order
   Remove : List ℕ → Order
   Change : List ℕ → List ℕ → Order
+  GetText : List ℕ → Order
+  PutText : List ℕ → List ℕ → Order
+  Krunch : Order
+  Date : ℕ → ℕ → ℕ → Order
+  Zero : List ℕ → Order
 
 abbrev pub order_of : Command → Order
 order_of commands.List = ListFiles
@@ -33,6 +54,11 @@ order_of (commands.Get name) = Get (string_bytes name)
 order_of (commands.Put name kind bytes) = Put (string_bytes name) kind bytes.items
 order_of (commands.Remove name) = Remove (string_bytes name)
 order_of (commands.Change old new) = Change (string_bytes old) (string_bytes new)
+order_of (commands.GetText name) = GetText (string_bytes name)
+order_of (commands.PutText name bytes) = PutText (string_bytes name) bytes.items
+order_of commands.Krunch = Krunch
+order_of (commands.Date year month day) = Date year month day
+order_of (commands.Zero name) = Zero (string_bytes name)
 
 -- what a command answers, by its bytes
 pub data Answer : Type 0 where
@@ -64,6 +90,24 @@ abbrev pub bytes_of : List ℕ → Option Entry → Option (List ℕ)
 bytes_of image None = None
 bytes_of image (Some entry) = file_bytes image entry
 
+-- the text of a text file, if there is one
+abbrev pub read : List ℕ → Option (List ℕ) → Result Filed FilerFault
+read image (Some bytes) = if nat_lt (length bytes) 1024 then Err (faults.Text NoHeader) else Ok (record { image = image; answer = Bytes (text_of bytes) })
+read image None = Err (faults.Volume NoFile)
+
+-- a text that was written as a file of kind 3, unless it has a fault, which comes before the volume's
+abbrev pub written : List ℕ → List ℕ → List ℕ → Option TextFault → Result Filed FilerFault
+written image name text None = changed (added image name 3 (text_file text) (last_date_of (directory_of image)))
+written image name text (Some fault) = Err (faults.Text fault)
+
+-- a date: a year of two digits and more, a month and a day, without a calendar
+abbrev pub is_date : ℕ → ℕ → ℕ → Bool
+is_date year month day = nat_le year 127 && nat_le 1 month && nat_le month 12 && nat_le 1 day && nat_le day 31
+
+-- the word of a date
+abbrev pub date_word : ℕ → ℕ → ℕ → ℕ
+date_word year month day = 512 * year + 16 * day + month
+
 -- what a command comes to; a refused one leaves the volume
 unfoldable pub filed : List ℕ → Order → Result Filed FilerFault
 filed image ListFiles = Ok (record { image = image; answer = Lines (list_text image) })
@@ -71,3 +115,9 @@ filed image (Get name) = lent image (bytes_of image (file_named image name))
 filed image (Put name kind bytes) = changed (added image name kind bytes (last_date_of (directory_of image)))
 filed image (Remove name) = changed (removed image name)
 filed image (Change old new) = changed (renamed image old new)
+filed image (GetText name) = read image (bytes_of image (file_named image name))
+filed image (PutText name text) = written image name text (text_fault text)
+filed image Krunch = Ok (record { image = krunched_image image; answer = Done })
+filed image (Date year month day) =
+    if is_date year month day then Ok (record { image = dated_image image (date_word year month day); answer = Done }) else Err faults.BadDate
+filed image (Zero name) = changed (zeroed image name)

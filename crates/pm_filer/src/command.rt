@@ -1,9 +1,10 @@
 //! Commands, and what they answer.
-ghost use Rattle.std.specs.Prelude.{◌≡◌, ◌≢◌, Ok, Err, IfOk, IfErr, OnErr, OnOk};
-ghost use Rattle.pm_volume.specs.Made.{added, renamed};
+ghost use Rattle.std.specs.Prelude.{◌≡◌, ◌≢◌, Ok, Err, Some, None, IfOk, IfErr, OnErr, OnOk, if◌then◌else◌};
+ghost use Rattle.pm_volume.specs.Made.{added, renamed, zeroed};
 ghost use Rattle.pm_volume.specs.Directory.{directory_of};
 ghost use Rattle.pm_volume.specs.Headers.{last_date_of};
-ghost use Rattle.pm_filer.specs.Filed.{Filed, answer_of, bytes_of, filed, lent, order_of};
+ghost use Rattle.pm_textfile.specs.Writing.{text_fault};
+ghost use Rattle.pm_filer.specs.Filed.{Done, Filed, answer_of, bytes_of, date_word, filed, is_date, lent, order_of, read, written};
 ghost use Rattle.pm_volume.specs.Files.{file_named};
 
 use crate::fault::FilerFault;
@@ -24,6 +25,16 @@ pub enum Command {
     Remove(String),
     /// Gives the first file of the first name the second name.
     Change(String, String),
+    /// Gives the text of the first file of this name, which is a text file.
+    GetText(String),
+    /// Adds a file of this name and kind 3, the text file of this text, with the volume's last date.
+    PutText(String, Vec<u8>),
+    /// Moves the files together; bad blocks stay.
+    Krunch,
+    /// Sets the volume's last date: year 0 to 127, month 1 to 12, day 1 to 31.
+    Date(u8, u8, u8),
+    /// Forgets all files and gives the volume this name.
+    Zero(String),
 }
 
 /// What a command answers.
@@ -45,6 +56,53 @@ fn get(alloc: Global, volume: &Volume, name: &str) -> Result<Reply, FilerFault>
     let entry = volume.find(name).ok_or(VolumeFault::NoFile)?;
     let bytes = volume.file(&entry).ok_or(VolumeFault::NoFile)?;
     Ok(Reply::Bytes(bytes.to_vec(alloc)?))
+}
+
+/// The text of the first file of a name.
+fn get_text(alloc: Global, volume: &Volume, name: &str) -> Result<Reply, FilerFault>
+    ensures done { IfOk result (λ reply. read volume.now (bytes_of volume.now (file_named volume.now name.now)) ≡ Ok (record { image = volume.now; answer = answer_of reply })) }
+    ensures refused { IfErr result (λ fault. fault ≢ FilerFault.NoMemory → read volume.now (bytes_of volume.now (file_named volume.now name.now)) ≡ Err fault) }
+{
+    let entry = volume.find(name).ok_or(VolumeFault::NoFile)?;
+    let bytes = volume.file(&entry).ok_or(VolumeFault::NoFile)?;
+    let text = pm_textfile::decode(alloc, bytes)?;
+    Ok(Reply::Bytes(text))
+}
+
+/// Adds the text file of a text.
+fn put_text(alloc: Global, volume: &mut Volume, name: &str, text: &[u8]) -> Result<(), FilerFault>
+    ensures done { OnOk result (written volume.old name.now text.now (text_fault text.now) ≡ Ok (record { image = volume.new; answer = Done })) }
+    ensures refused { IfErr result (λ fault. fault ≢ FilerFault.NoMemory → written volume.old name.now text.now (text_fault text.now) ≡ Err fault) }
+    ensures unchanged { OnErr result (volume.new ≡ volume.old) }
+{
+    let bytes = pm_textfile::encode(alloc, text)?;
+    put(volume, name, TEXT, &bytes)?;
+    Ok(())
+}
+
+/// The kind of a text file.
+const TEXT: u8 = 3;
+
+/// The word of a date, if it is one.
+fn date_word(year: u8, month: u8, day: u8) -> Option<u16>
+    ensures word { result ≡ (if is_date year month day then Some (date_word year month day) else None) }
+{
+    if year <= 127 && (1..=12).contains(&month) && (1..=31).contains(&day) {
+        Some(512 * u16::from(year) + 16 * u16::from(day) + u16::from(month))
+    } else {
+        None
+    }
+}
+
+/// Forgets all files.
+#[tactic(auto, using(crate::proofs::Made::made))]
+fn forget(volume: &mut Volume, name: &str) -> Result<(), VolumeFault>
+    ensures done { OnOk result (zeroed volume.old name.now ≡ Ok volume.new) }
+    ensures refused { IfErr result (λ fault. zeroed volume.old name.now ≡ Err fault) }
+    ensures unchanged { OnErr result (volume.new ≡ volume.old) }
+{
+    volume.zero(name)?;
+    Ok(())
 }
 
 /// Adds a file with the volume's last date.
@@ -72,7 +130,7 @@ fn change(volume: &mut Volume, old: &str, new: &str) -> Result<(), VolumeFault>
 
 /// Does a command on a volume. A refused command leaves the volume as it was.
 ///
-/// Only the list and the bytes of a file take memory.
+/// Only the list, the bytes and the text of a file, and a text to be put take memory.
 #[tactic(auto, unfolding(crate::specs::Filed::filed), using(crate::proofs::Made::made))]
 pub fn apply(alloc: Global, volume: &mut Volume, command: Command) -> Result<Reply, FilerFault>
     ensures done { IfOk result (λ reply. filed volume.old (order_of command) ≡ Ok (record { image = volume.new; answer = answer_of reply })) }
@@ -92,6 +150,24 @@ pub fn apply(alloc: Global, volume: &mut Volume, command: Command) -> Result<Rep
         }
         Command::Change(old, new) => {
             change(volume, old.as_str(), new.as_str())?;
+            Ok(Reply::Done)
+        }
+        Command::GetText(name) => get_text(alloc, volume, name.as_str()),
+        Command::PutText(name, text) => {
+            put_text(alloc, volume, name.as_str(), &text)?;
+            Ok(Reply::Done)
+        }
+        Command::Krunch => {
+            volume.krunch();
+            Ok(Reply::Done)
+        }
+        Command::Date(year, month, day) => {
+            let date = date_word(year, month, day).ok_or(FilerFault::BadDate)?;
+            volume.set_date(date);
+            Ok(Reply::Done)
+        }
+        Command::Zero(name) => {
+            forget(volume, name.as_str())?;
             Ok(Reply::Done)
         }
     }

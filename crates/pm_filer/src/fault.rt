@@ -2,6 +2,7 @@
 ghost use Rattle.std.specs.Prelude.{◌≡◌};
 ghost use Rattle.pm_filer.specs.Filed.{filer_number};
 
+use pm_textfile::TextFault;
 use pm_volume::VolumeFault;
 use std::alloc::AllocError;
 use thiserror::Error;
@@ -12,18 +13,26 @@ pub enum FilerFault {
     /// The volume refuses it.
     #[error("{0}")]
     Volume(VolumeFault),
+    /// The text, or the text file, has a fault.
+    #[error("{0}")]
+    Text(TextFault),
+    /// A year above 127, a month outside 1 to 12, or a day outside 1 to 31.
+    #[error("not a date")]
+    BadDate,
     /// Memory was wanted and refused.
     #[error("out of memory")]
     NoMemory,
 }
 
 impl FilerFault {
-    /// The number of the fault: 1 for the volume's, 4 for want of memory.
+    /// The number of the fault: 1 for the volume's, 2 for the text's, 3 for a date's, 4 for want of memory.
     pub fn number(self) -> u8
         ensures value { result ≡ filer_number self }
     {
         match self {
             FilerFault::Volume(_) => 1,
+            FilerFault::Text(_) => 2,
+            FilerFault::BadDate => 3,
             FilerFault::NoMemory => 4,
         }
     }
@@ -46,5 +55,18 @@ impl From<AllocError> for FilerFault {
 
     fn from(_: AllocError) -> FilerFault {
         FilerFault::NoMemory
+    }
+}
+
+impl From<TextFault> for FilerFault {
+    ghost use Rattle.pm_filer.specs.Filed.{of_text};
+
+    ghost from_gives = { λ inner fault. fault ≡ of_text inner };
+
+    fn from(fault: TextFault) -> FilerFault {
+        match fault {
+            TextFault::NoMemory => FilerFault::NoMemory,
+            fault => FilerFault::Text(fault),
+        }
     }
 }

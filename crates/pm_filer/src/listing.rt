@@ -94,7 +94,11 @@ impl fmt::Display for Three {
 fn shown_byte(byte: u8) -> u8
     ensures value { result ≡ shown_byte byte }
 {
-    if 32 <= byte && byte <= 126 { byte } else { b'?' }
+    if 32 <= byte && byte <= 126 {
+        byte
+    } else {
+        b'?'
+    }
 }
 
 /// Adds the bytes of a name as they are shown.

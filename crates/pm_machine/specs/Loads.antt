@@ -21,7 +21,7 @@ abbrev pub code_of : Option SlotRow → Devices → Result (Option (List ℕ)) E
 code_of None d = Ok None
 code_of (Some row) d = if row.length == 0 then Ok None else found_code (code_on d row.unit row.block row.length)
 
--- the code that a call loads: that of another slot than those that have a place
+-- the code that a call loads: that of the slot of a CXP, where it has no place; no other call loads
 unfoldable pub code_needed : Call → List (Option Place) → List SlotRow → Devices → Result (Option (List ℕ)) ExecError
 code_needed (Cxp n p) places rows d = if is_none (placed places n) then code_of (slice_get rows n) d else Ok None
 code_needed (Clp p) places rows d = Ok None

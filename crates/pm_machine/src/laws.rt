@@ -1,6 +1,6 @@
-//! Laws of lists of events. The functions do nothing.
+//! Laws of lists of events, and of loads. The functions do nothing.
 
-ghost use Rattle.pm_machine.specs.Laws.{CallsGiveAll, EventsGoOn};
+ghost use Rattle.pm_machine.specs.Laws.{CallsGiveAll, EventsGoOn, LoadsGiveSegments};
 
 /// Calls that state the next state one after another give the state after the list of their
 /// events.
@@ -13,4 +13,10 @@ pub fn calls_give_all()
 #[tactic(auto, using(crate::proofs::EventLaws::events_go_on))]
 pub fn events_go_on()
     ensures law { EventsGoOn }
+{}
+
+/// While the disk is as it was at boot, the code that is loaded is the segment of the code file.
+#[tactic(auto, using(crate::proofs::LoadLaws::loads_give_segments))]
+pub fn loads_give_segments()
+    ensures law { LoadsGiveSegments }
 {}

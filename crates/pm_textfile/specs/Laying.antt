@@ -1,6 +1,6 @@
--- How a writer lays lines on pages, for the clauses of its parts. What a file is says `Writing`.
+-- How a writer lays lines on pages, one after the other. What the file of a text is says `Writing`; that this is one says `encode`.
 use Rattle.std.specs.Prelude.{ℕ, ◌-◌, List, [], ◌∷◌, ◌++◌, length, replicate, nat_le, if◌then◌else◌}
-use Rattle.pm_textfile.specs.Writing.{Line, coded}
+use Rattle.pm_textfile.specs.Writing.{Line, coded, lines_of}
 
 -- The bytes that lines take, so many bytes being left on the page.
 unfoldable pub laid : ℕ → List Line → List ℕ
@@ -8,3 +8,7 @@ laid room [] = replicate room 0
 laid room (line ∷ lines) =
     if nat_le (length (coded line)) room then coded line ++ laid (room - length (coded line)) lines
     else replicate room 0 ++ coded line ++ laid (1024 - length (coded line)) lines
+
+-- The text file of a text: the header, and its lines laid on pages.
+unfoldable pub text_file : List ℕ → List ℕ
+text_file text = replicate 1024 0 ++ laid 0 (lines_of text)

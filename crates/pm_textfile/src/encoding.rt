@@ -36,7 +36,7 @@ ghost use Rattle.pm_textfile.specs.Writing.{
   line_length,
   text_fault,
 };
-ghost use Rattle.pm_textfile.specs.Laying.{laid};
+ghost use Rattle.pm_textfile.specs.Laying.{laid, text_file};
 
 use crate::PAGE;
 use crate::copies::push_copies;
@@ -54,6 +54,7 @@ const MOST_SPACES: usize = 223;
 /// this form; `NoMemory` where a growth was refused.
 pub fn encode(alloc: Global, text: &[u8]) -> Result<Vec<u8>, TextFault>
     ensures file { IfOk result (λ bytes. Writes text.now bytes.items) }
+    ensures exact { IfOk result (λ bytes. bytes.items ≡ text_file text.now) }
     ensures reads_back { IfOk result (λ bytes. text_of bytes.items ≡ completed text.now) }
     ensures sound { OnOk result (text_fault text.now ≡ None) }
     ensures fault { IfErr result (λ e. e ≢ TextFault.NoMemory → text_fault text.now ≡ Some e) }

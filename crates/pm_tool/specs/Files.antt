@@ -3,7 +3,7 @@ use Rattle.std.specs.Prelude.{ℕ, Bool, true, false, List, [], Option, Some, No
 use Rattle.pm_volume.specs.Directory.{image_fault}
 use Rattle.pm_volume.specs.Headers.{blank_image}
 use Rattle.pm_volume.specs.declared.fault.VolumeFault.{VolumeFault}
-use Rattle.pm_filer.specs.Filed.{Answer, Lines, Bytes, Done, Order, ListFiles, Get, Put, Remove, Change, Filed, filed}
+use Rattle.pm_filer.specs.Filed.{Answer, Lines, Bytes, Done, Order, ListFiles, Get, Put, Remove, Change, GetText, PutText, Krunch, Date, Zero, Filed, filed}
 use Rattle.pm_filer.specs.declared.fault.FilerFault.{FilerFault}
 use Rattle.pm_tool.specs.declared.outcome.Exit.TheVariants as exits
 use Rattle.pm_tool.specs.declared.outcome.Refusal.TheVariants as refusals
@@ -33,6 +33,11 @@ takes_input (Get name) = false
 takes_input (Put name kind bytes) = true
 takes_input (Remove name) = false
 takes_input (Change old new) = false
+takes_input (GetText name) = false
+takes_input (PutText name text) = true
+takes_input Krunch = false
+takes_input (Date year month day) = false
+takes_input (Zero name) = false
 
 -- the command with the input's bytes in the place of its own
 abbrev pub with_input : Order → List ℕ → Order
@@ -41,6 +46,11 @@ with_input (Get name) input = Get name
 with_input (Put name kind bytes) input = Put name kind input
 with_input (Remove name) input = Remove name
 with_input (Change old new) input = Change old new
+with_input (GetText name) input = GetText name
+with_input (PutText name text) input = PutText name input
+with_input Krunch input = Krunch
+with_input (Date year month day) input = Date year month day
+with_input (Zero name) input = Zero name
 
 -- a command on an image that is a volume: the input is read to its end where the command takes it, and else not at all
 abbrev pub said_order : List ℕ → Order → List ℕ → Said

@@ -7,6 +7,8 @@ use Rattle.pm_machine.specs.declared.state.BootFault.{BootFault}
 use Rattle.pm_machine.specs.declared.state.BootFault.TheVariants as boot
 use Rattle.pm_volume.specs.Faults.{entry_in_fault, number_of as volume_number}
 use Rattle.pm_volume.specs.declared.fault.VolumeFault.{VolumeFault}
+use Rattle.pm_textfile.specs.Faults.{place_of, number_of as text_number}
+use Rattle.pm_textfile.specs.declared.fault.TextFault.{TextFault}
 use Rattle.pm_filer.specs.declared.fault.FilerFault.{FilerFault}
 use Rattle.pm_filer.specs.declared.fault.FilerFault.TheVariants as filer
 use Rattle.pm_tool.specs.declared.fault.Fault.{Fault}
@@ -54,7 +56,7 @@ error_text boot.BadCode = []
 error_text (boot.Exec error) = 32 ∷ decimal (number_of error)
 error_text boot.NoMemory = []
 
--- a space and the entry of the directory, where a fault names one
+-- a space and the entry of the directory, the line or the place, where a fault names one
 abbrev pub entry_text : Option ℕ → List ℕ
 entry_text None = []
 entry_text (Some entry) = 32 ∷ decimal entry
@@ -63,9 +65,15 @@ entry_text (Some entry) = 32 ∷ decimal entry
 abbrev pub volume_text : VolumeFault → List ℕ
 volume_text fault = decimal (volume_number fault) ++ entry_text (entry_in_fault fault)
 
--- the number of a filer's fault, and that of the volume's fault within it
+-- the number of a text's fault, and the line or place that it names
+abbrev pub text_fault_text : TextFault → List ℕ
+text_fault_text fault = decimal (text_number fault) ++ entry_text (place_of fault)
+
+-- the number of a filer's fault, and that of the fault within it
 abbrev pub filer_text : FilerFault → List ℕ
 filer_text (filer.Volume fault) = 49 ∷ 32 ∷ volume_text fault
+filer_text (filer.Text fault) = 50 ∷ 32 ∷ text_fault_text fault
+filer_text filer.BadDate = 51 ∷ []
 filer_text filer.NoMemory = 52 ∷ []
 
 abbrev pub refusal_text : Refusal → List ℕ

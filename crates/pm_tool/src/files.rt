@@ -20,7 +20,7 @@ use std::alloc::{AllocError, Global};
 fn takes_input(command: &Command) -> bool
     ensures value { result ≡ takes_input (order_of command.now) }
 {
-    matches!(command, Command::Put(..))
+    matches!(command, Command::Put(..) | Command::PutText(..))
 }
 
 /// A command with the input's bytes in the place of its own.
@@ -29,6 +29,7 @@ fn with_input(command: Command, input: Vec<u8>) -> Command
 {
     match command {
         Command::Put(name, kind, _) => Command::Put(name, kind, input),
+        Command::PutText(name, _) => Command::PutText(name, input),
         other => other,
     }
 }

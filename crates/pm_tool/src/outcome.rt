@@ -1,9 +1,10 @@
 //! Jobs, and what they come to.
 ghost use Rattle.std.specs.Prelude.{◌≡◌, [], List, ℕ, Some, None, IfOk, option_map, string_bytes, vec_items};
-ghost use Rattle.pm_tool.specs.Outcomes.{exit_number, refusal_text, volume_text, IsOutcome, refused};
+ghost use Rattle.pm_tool.specs.Outcomes.{exit_number, refusal_text, text_fault_text, volume_text, IsOutcome, refused};
 
 use pm_filer::{Command, FilerFault};
 use pm_machine::BootFault;
+use pm_textfile::TextFault;
 use pm_volume::VolumeFault;
 use std::alloc::{AllocError, Global};
 use std::fmt;
@@ -35,10 +36,11 @@ pub enum Job {
         name: String,
         limit: u32,
     },
-    /// A command on the volume that an image is. The input's bytes stand in the place of a put's, and no other command reads
-    /// any. The output is the list or the bytes of a file; after a change the outcome has the image that is to be kept. An
-    /// image that is no volume is refused by `refused volume N`, before the input is read, and a command that the volume
-    /// refuses by `refused filer 1 N`, N being the number of the volume's fault.
+    /// A command on the volume that an image is. The input's bytes stand in the place of a put's, of bytes or text, and no
+    /// other command reads any. The output is the list, the bytes or the text of a file; after a change the outcome has the
+    /// image that is to be kept. An image that is no volume is refused by `refused volume N`, before the input is read; a command that the volume
+    /// refuses by `refused filer 1 N`, N being the number of the volume's fault; a text or a text file by `refused filer 2 N`,
+    /// with the number of its fault and the line or place; a date by `refused filer 3`.
     Files {
         image: Vec<u8>,
         command: Command,
@@ -163,6 +165,22 @@ impl fmt::Display for VolumeNumber {
     }
 }
 
+/// The number of a text's fault, and the line or place that it names.
+#[derive(Clone, Copy)]
+struct TextNumber(TextFault);
+
+impl fmt::Display for TextNumber {
+    ghost output = { λ fault. Some (text_fault_text fault.0) };
+
+    fn fmt<W: fmt::Write>(&self, f: &mut fmt::Formatter<W>) -> fmt::Result {
+        let number = self.0.number();
+        match self.0.place() {
+            Some(place) => write!(f, "{number} {place}"),
+            None => write!(f, "{number}"),
+        }
+    }
+}
+
 impl fmt::Display for Refusal {
     ghost output = { λ refusal. Some (refusal_text refusal) };
 
@@ -187,6 +205,11 @@ impl fmt::Display for Refusal {
                 let fault = VolumeNumber(fault);
                 write!(f, "refused filer 1 {fault}")
             }
+            Refusal::Filer(FilerFault::Text(fault)) => {
+                let fault = TextNumber(fault);
+                write!(f, "refused filer 2 {fault}")
+            }
+            Refusal::Filer(FilerFault::BadDate) => write!(f, "refused filer 3"),
             Refusal::Filer(FilerFault::NoMemory) => write!(f, "refused filer 4"),
         }
     }

@@ -15,7 +15,7 @@ use Rattle.pm_volume.proofs.OrderLaws.{IsSound-later}
 use Rattle.pm_volume.proofs.SlotChanges.{entries_from-add, entries_from-same, first_entry, length-entries_from}
 use Rattle.pm_volume.proofs.WrittenLaws.{get_written_above, get_written_below, get_written_in, get_written_outside, length-directory, length-written, same_parts, word_in-written}
 
-earlier : (blocks from later : ℕ) (es : List Entry) → from ≤ later → AreInOrder blocks later es → AreInOrder blocks from es
+pub earlier : (blocks from later : ℕ) (es : List Entry) → from ≤ later → AreInOrder blocks later es → AreInOrder blocks from es
 unfolding AreInOrder
 earlier blocks from later [] h order = tt
 earlier blocks from later (x ∷ xs) h order = (IsSound-later later from x (omega (arith, order.0.after)) order.0, order.1, order.2)

@@ -1,6 +1,6 @@
 -- What a change makes of a volume.
 use Rattle.std.specs.Prelude.{◌≡◌, ◌==◌, ◌<◌, Bool, not, nat_le, is_some, ℕ, ◌+◌, ◌-◌, ◌*◌, ◌/◌, ◌%◌, List, [], ◌∷◌, ◌++◌, length, replicate, slice_range, slice_set, Option, Some, None, Result, Ok, Err, if◌then◌else◌}
-use Rattle.std.specs.List.{find, list_any, position_from, remove}
+use Rattle.std.specs.List.{find, insert, list_any, position_from, remove}
 use Rattle.std.specs.Option.{ok_or}
 use Rattle.pm_volume.specs.Directory.{block_count, directory_of, entries_from, entry_in, file_count, files_begin, files_in}
 use Rattle.pm_volume.specs.Files.{file_named, files_of, is_named}
@@ -102,12 +102,14 @@ with_file image n e bytes =
     let listed = with_directory image (with_slot (directory_of image) n (slot_of e)) in
     written (written listed begin bytes) (begin + length bytes) (replicate (512 * blocks_for (length bytes) - length bytes) 0)
 
--- a file was added: its entry stands in the lowest gap that serves, and its bytes in the entry's blocks
+-- a file was added: its entry stands in the lowest gap that serves, and its bytes in the entry's blocks; it comes into the list
+-- of files at that gap's place
 pub record AddsFile (old new name : List ℕ) (kind : ℕ) (bytes : List ℕ) (date : ℕ) (e : Entry) : Type 0 where
   pub gap : Gap
   pub placed : place_for old name (blocks_for (length bytes)) ≡ Ok gap
   pub entry : e ≡ new_entry gap name kind (length bytes) date
   pub image : new ≡ with_file old gap.place e bytes
+  pub files : files_of new ≡ insert (files_of old) (gap.place - 1) e
 
 -- what an added file changes: the number of files, the slots from its own to that of the last file, and its blocks
 abbrev pub added_spans : List ℕ → Gap → Entry → List Span

@@ -52,6 +52,10 @@ slots_span n m = record { begin = 1024 + 26 * n; end = 1024 + 26 * m }
 abbrev pub name_span : ℕ → Span
 name_span n = record { begin = 1024 + (26 * n + 6); end = 1024 + (26 * n + 22) }
 
+-- the two block numbers in slot n
+abbrev pub places_span : ℕ → Span
+places_span n = record { begin = 1024 + 26 * n; end = 1024 + (26 * n + 4) }
+
 -- the blocks of a file
 abbrev pub blocks_span : Entry → Span
 blocks_span e = record { begin = 512 * e.first; end = 512 * e.end }

@@ -7,6 +7,7 @@ pub mod Files
 pub mod Kept
 pub mod Changes
 pub mod Headers
+pub mod Packing
 pub mod Disks
 pub mod Space
 pub mod Made

@@ -1,9 +1,11 @@
 -- The image that a change makes, or why it is refused.
-use Rattle.std.specs.Prelude.{ℕ, List, length, Option, Some, None, Result, Ok, Err}
+use Rattle.std.specs.Prelude.{ℕ, List, length, Option, Some, None, Result, Ok, Err, if◌then◌else◌}
 use Rattle.pm_volume.specs.Changes.{blocks_for, new_entry, place_for, slot_named, slot_to_rename, with_file, with_name, without_file}
 use Rattle.pm_volume.specs.Directory.{directory_of}
+use Rattle.pm_volume.specs.Headers.{zeroed_image}
+use Rattle.pm_volume.specs.Names.{is_new_name}
 use Rattle.pm_volume.specs.declared.fault.VolumeFault.{VolumeFault}
-use Rattle.pm_volume.specs.declared.fault.VolumeFault.TheVariants.{NoFile}
+use Rattle.pm_volume.specs.declared.fault.VolumeFault.TheVariants.{BadName, NoFile}
 use Rattle.pm_volume.specs.declared.gap.Gap.{Gap}
 
 -- a new file in a gap
@@ -30,3 +32,7 @@ renamed_at image name (Err fault) = Err fault
 -- the image with another name for the first file of this name
 unfoldable pub renamed : List ℕ → List ℕ → List ℕ → Result (List ℕ) VolumeFault
 renamed image old new = renamed_at image new (slot_to_rename (directory_of image) old new)
+
+-- the image with a new directory of this name
+unfoldable pub zeroed : List ℕ → List ℕ → Result (List ℕ) VolumeFault
+zeroed image name = if is_new_name 7 name then Ok (zeroed_image image name) else Err BadName

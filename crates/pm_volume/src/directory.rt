@@ -1,3 +1,5 @@
+//! The directory: its header, its slots and the list of files.
+
 ghost use Rattle.std.specs.Prelude.{◌≡◌, ◌+◌, ◌-◌, ◌<◌, ◌≤◌, ◌*◌, length, IfSome};
 ghost use Rattle.std.specs.List.{list_any};
 ghost use Rattle.pm_volume.specs.Changes.{is_named_beside, slot_named};

@@ -1,6 +1,6 @@
 //! Disks: images of whole blocks without a look at their directory.
 
-ghost use Rattle.std.specs.Prelude.{◌≡◌, ◌↔◌, ◌/◌, ◌%◌, IsTrue, length};
+ghost use Rattle.std.specs.Prelude.{◌≡◌, ◌↔◌, ◌/◌, ◌%◌, IfSome, IsTrue, length};
 ghost use Rattle.std.specs.Bool.{OnFalse, OnTrue};
 ghost use Rattle.std.specs.Option.{option_map};
 ghost use Rattle.pm_volume.specs.Disks.{IsInImage, block_of};
@@ -54,12 +54,11 @@ impl Disk {
     }
 
     /// Block n, 512 bytes; `None` past the image's end.
-    #[tactic(auto, unfolding(crate::specs::Disks::block_of))]
     pub fn block(&self, n: u16) -> Option<&[u8]>
         ensures bytes { option_map (λ bytes. bytes.now) result ≡ block_of self.now n }
+        ensures size { IfSome result (λ bytes. length bytes.now ≡ 512) }
     {
-        let begin = BLOCK * usize::from(n);
-        self.bytes.get(begin..begin + BLOCK)
+        block_in(&self.bytes, n)
     }
 
     /// Overwrites the bytes from a place on; false, and nothing changed, if they pass the image's
@@ -83,4 +82,14 @@ impl Disk {
         let Disk { bytes } = self;
         bytes
     }
+}
+
+// Block n of an image.
+#[tactic(auto, unfolding(crate::specs::Disks::block_of))]
+pub(crate) fn block_in(image: &[u8], n: u16) -> Option<&[u8]>
+    ensures bytes { option_map (λ bytes. bytes.now) result ≡ block_of image.now n }
+    ensures size { IfSome result (λ bytes. length bytes.now ≡ 512) }
+{
+    let begin = BLOCK * usize::from(n);
+    image.get(begin..begin + BLOCK)
 }

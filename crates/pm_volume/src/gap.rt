@@ -1,3 +1,5 @@
+//! The gaps between files.
+
 ghost use Rattle.std.specs.Prelude.{◌≡◌, ◌+◌, ◌≤◌, length};
 ghost use Rattle.pm_volume.specs.Directory.{file_count};
 

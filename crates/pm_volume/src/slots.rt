@@ -1,3 +1,5 @@
+//! Slots put into a directory and taken out.
+
 ghost use Rattle.std.specs.Prelude.{◌≡◌, ◌+◌, ◌-◌, ◌++◌, ◌<◌, ◌≤◌, drop, length, replicate, take};
 ghost use Rattle.pm_volume.specs.Changes.{with_slot, without_slot};
 ghost use Rattle.pm_volume.specs.Directory.{file_count};

@@ -37,7 +37,10 @@ pub(crate) fn space_of(directory: &[u8]) -> Space
     ensures free { result.free ≡ free_in directory.now }
     ensures largest { result.largest ≡ largest_in directory.now }
 {
-    let mut space = Space { free: 0, largest: 0 };
+    let mut space = Space {
+        free: 0,
+        largest: 0,
+    };
     let mut from = word(directory, 2);
     for n in 1..word(directory, 16) + 1 {
         let entry = entry_at(directory, n);

@@ -1,4 +1,6 @@
-ghost use Rattle.std.specs.Prelude.{◌≡◌, ◌↔◌, ◌+◌, ◌≤◌, [], ◌∷◌, length, slice_index, slice_range, unwrap_or, Err, None, Some, IfErr, IfOk, IfSome, IsOk, IsTrue, OnOk, OnErr, ℕ};
+//! Volumes: images whose directory is sound.
+
+ghost use Rattle.std.specs.Prelude.{◌≡◌, ◌↔◌, ◌+◌, ◌≤◌, [], ◌∷◌, length, slice_index, slice_range, unwrap_or, Err, None, Some, IfErr, IfOk, IfSome, IsOk, IsTrue, OnOk, OnErr, true, false, ℕ};
 ghost use Rattle.pm_volume.specs.Changes.{blocks_for};
 ghost use Rattle.pm_volume.specs.Directory.{directory_of, file_count, image_fault};
 ghost use Rattle.pm_volume.specs.Headers.{zeros};
@@ -9,10 +11,11 @@ use crate::changes::{
 use crate::directory::{
     DIRECTORY, DIRECTORY_END, Entries, MOST_FILES, fault_of_directory, is_named_beside, slot_named,
 };
-use crate::disk::{BLOCK, Disk};
+use crate::disk::{BLOCK, Disk, block_in};
 use crate::entry::{Entry, is_new_name};
 use crate::fault::VolumeFault;
 use crate::gap::Gap;
+use crate::packing::pack_files;
 use crate::space::{Space, space_of};
 use crate::words::word;
 use std::alloc::{AllocError, Global};
@@ -39,6 +42,7 @@ impl Volume {
     ghost use Rattle.pm_volume.specs.Changes.{added_spans, removed_spans, AddsFile, RemovesFile, RenamesFile, place_for, slot_named, slot_to_rename};
     ghost use Rattle.pm_volume.specs.Headers.{blank_fault, blank_image, dated_image, zeroed_image};
     ghost use Rattle.pm_volume.specs.Kept.{ChangesOnly, KeepsFiles, date_span, directory_span, name_span};
+    ghost use Rattle.pm_volume.specs.Packing.{Krunches, krunched_image};
     ghost use Rattle.pm_volume.specs.Names.{is_new_name};
     ghost use Rattle.pm_volume.specs.Directory.{IsVolume, block_count};
     ghost use Rattle.pm_volume.specs.Disks.{block_of};
@@ -48,7 +52,9 @@ impl Volume {
     ghost use Rattle.pm_volume.specs.Words.{word_in};
     ghost use Rattle.pm_volume.specs.Space.{free_blocks, largest_gap};
 
-    /// The volume that an image is. A refused image comes back unchanged.
+    /// The volume that an image is. The refusals in order: `NotBlocks`, `TooShort`, `BadHeader`,
+    /// `PastEnd` of the volume, `TooManyFiles`, then entry by entry `BadEntry` and `PastEnd`. A
+    /// refused image comes back unchanged.
     pub fn open(bytes: Vec<u8>) -> Result<Volume, (VolumeFault, Vec<u8>)>
         ensures accepted { IsOk result ↔ IsVolume bytes.items }
         ensures opened { IfOk result (λ v. v ≡ bytes.items) }
@@ -154,15 +160,18 @@ impl Volume {
     }
 
     /// Block n of the image, 512 bytes; `None` past the image's end.
-    #[tactic(auto, unfolding(crate::specs::Disks::block_of))]
     pub fn block(&self, n: u16) -> Option<&[u8]>
         ensures bytes { option_map (λ bytes. bytes.now) result ≡ block_of self.now n }
+        ensures size { IfSome result (λ bytes. length bytes.now ≡ 512) }
     {
-        let begin = BLOCK * usize::from(n);
-        self.bytes.get(begin..begin + BLOCK)
+        block_in(&self.bytes, n)
     }
 
-    /// Adds a file in the lowest gap that is large enough. A refusal changes nothing.
+    /// Adds a file in the lowest gap that is large enough; the rest of its last block becomes zero.
+    /// A file without bytes takes no block and stands after all others. Of the kind the low four
+    /// bits are stored, of the name the characters raised. The refusals in order: `BadName` for a
+    /// text that is no name of 1 to 15 characters 33 to 126 without `:`, `Duplicate`,
+    /// `DirectoryFull` with 77 files, `NoRoom`. A refusal changes nothing.
     pub fn add(
         &mut self,
         name: &str,
@@ -186,7 +195,9 @@ impl Volume {
         Ok(entry)
     }
 
-    /// Removes the first file of a name. Its blocks keep their bytes.
+    /// Removes the first file of a name, whatever its case. Its blocks keep their bytes, and the
+    /// slot that falls free in the directory becomes zero. `NoFile`, and nothing changed, where
+    /// there is none.
     pub fn remove(&mut self, name: &str) -> Result<(), VolumeFault>
         ensures removed { OnOk result (RemovesFile self.old self.new name.now) }
         ensures kept { OnOk result (KeepsFiles self.old self.new) }
@@ -204,8 +215,8 @@ impl Volume {
     }
 
     /// Gives the first file of a name another one; the 16 bytes of the name are all that changes.
-    /// The refusals in order: no file of the old name, a new name that is none, another file of the
-    /// new name (the file's own name is allowed).
+    /// The refusals in order: `NoFile`, `BadName` for a new name that is none, `Duplicate` for
+    /// another file of the new name (the file's own name is allowed). A refusal changes nothing.
     pub fn rename(&mut self, old: &str, new: &str) -> Result<(), VolumeFault>
         ensures renamed { OnOk result (RenamesFile self.old self.new old.now new.now) }
         ensures kept { OnOk result (KeepsFiles self.old self.new) }
@@ -217,6 +228,16 @@ impl Volume {
         let slot = self.slot_to_rename(old, new)?;
         name_file(&mut self.bytes, slot, new.as_bytes());
         Ok(())
+    }
+
+    /// Moves the files together: each, in the order of the directory, down to the end of the one
+    /// before, the first to where files begin. Bad blocks (kind 1) stay. An entry gets new block
+    /// numbers and nothing else; blocks that fall free keep their bytes.
+    pub fn krunch(&mut self)
+        ensures krunched { Krunches self.old self.new }
+        ensures exact { self.new ≡ krunched_image self.old }
+    {
+        pack_files(&mut self.bytes);
     }
 
     /// Sets the volume's last date; nothing else changes.
@@ -233,6 +254,8 @@ impl Volume {
     /// that is no name of 1 to 7 characters.
     pub fn zero(&mut self, name: &str) -> Result<(), VolumeFault>
         ensures accepted { IsOk result ↔ IsTrue (is_new_name 7 name.now) }
+        ensures good { OnOk result (is_new_name 7 name.now ≡ true) }
+        ensures bad { OnErr result (is_new_name 7 name.now ≡ false) }
         ensures zeroed { OnOk result (self.new ≡ zeroed_image self.old name.now) }
         ensures empty { OnOk result (files_of self.new ≡ []) }
         ensures rest { OnOk result (ChangesOnly (directory_span ∷ []) self.old self.new) }
@@ -250,7 +273,7 @@ impl Volume {
         Ok(())
     }
 
-    /// The image alone, as a disk: its directory is no longer looked at.
+    /// The image alone, as a disk: what is written to it may be anything, also in the directory.
     pub fn into_disk(self) -> Disk
         ensures image { result ≡ self }
     {

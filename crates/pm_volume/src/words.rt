@@ -1,3 +1,5 @@
+//! Words and bytes in a slice of bytes.
+
 ghost use Rattle.std.specs.Prelude.{◌≡◌, ◌+◌, ◌≤◌, length, replicate};
 ghost use Rattle.byteorder.specs.Endian.{little_bytes};
 ghost use Rattle.pm_volume.specs.Headers.{zeros};

@@ -1,4 +1,6 @@
 //! The words of the command line.
+use crate::file_words::{FilesPlan, files, files_plan};
+use crate::run_words::{Keeping, Program, keeping_of, program_of, run, trace};
 use clap::error::ErrorKind;
 use clap::{Arg, ArgMatches, Command};
 use pm_tool::{Exit, Job};
@@ -9,6 +11,19 @@ use std::{fmt, io};
 /// The most steps of a run where no limit is given.
 const LIMIT: u32 = 10_000_000;
 
+/// What the words ask for.
+#[derive(Drop)]
+pub enum Plan {
+    /// A job that takes no file.
+    Job(Job),
+    /// A command on the image that a file has, or a new image for it.
+    Files(FilesPlan),
+    /// A program to be run.
+    Run(Program, Keeping),
+    /// A program whose trace is written.
+    Trace(Program),
+}
+
 /// Why the words are no job.
 #[derive(Drop)]
 pub enum WordsError {
@@ -16,8 +31,8 @@ pub enum WordsError {
     Usage(clap::Error),
     /// There are options, but no command.
     NoCommand,
-    /// The limit is no number of decimal digits alone, or too large.
-    BadLimit,
+    /// A number is not made of decimal digits alone, or too large.
+    BadNumber(&'static str),
     /// A word is not UTF-8, or the words cannot be read.
     NotText,
     NoMemory,
@@ -38,9 +53,7 @@ impl fmt::Display for WordsError {
         match self {
             WordsError::Usage(error) => write!(f, "{error}"),
             WordsError::NoCommand => f.write_str("error: no command among the words\n"),
-            WordsError::BadLimit => f.write_str(
-                "error: the limit is a number of decimal digits, at most 4294967295\n",
-            ),
+            WordsError::BadNumber(range) => write!(f, "error: {range}\n"),
             WordsError::NotText => f.write_str("error: a word is not UTF-8\n"),
             WordsError::NoMemory => f.write_str("no memory\n"),
         }
@@ -71,7 +84,8 @@ impl From<AllocError> for WordsError {
     }
 }
 
-fn limit<'a>(alloc: Global) -> Arg<'a> {
+/// The option `--limit`.
+pub fn limit<'a>(alloc: Global) -> Arg<'a> {
     Arg::new(alloc, "limit")
         .long("limit")
         .value_name("N")
@@ -89,42 +103,55 @@ fn raw<'a>(alloc: Global) -> Result<Command<'a>, AllocError> {
 fn command<'a>(alloc: Global) -> Result<Command<'a>, AllocError> {
     Command::new(alloc, "pmach")
         .about("The p-machine of UCSD Pascal version II. With no words it does `raw`")
-        .subcommand(raw(alloc)?)
+        .subcommand(raw(alloc)?)?
+        .subcommand(files(alloc)?)?
+        .subcommand(run(alloc)?)?
+        .subcommand(trace(alloc)?)
 }
 
 /// The number that decimal digits alone spell.
-fn number(text: &str) -> Option<u32> {
+pub fn number(text: &str) -> Option<u32> {
     if text.is_empty() || !text.bytes().all(|byte| byte.is_ascii_digit()) {
         return None;
     }
     text.parse().ok()
 }
 
-fn raw_job(matches: &ArgMatches<'_>) -> Result<Job, WordsError> {
-    let limit = match matches.get_str("limit") {
-        Some(text) => number(text).ok_or(WordsError::BadLimit)?,
-        None => LIMIT,
-    };
-    Ok(Job::Raw { limit })
+/// The limit that the words give.
+pub fn limit_of(matches: &ArgMatches<'_>) -> Result<u32, WordsError> {
+    match matches.get_str("limit") {
+        Some(text) => number(text).ok_or(WordsError::BadNumber(
+            "the limit is a number of decimal digits, at most 4294967295",
+        )),
+        None => Ok(LIMIT),
+    }
 }
 
-fn job_asked(matches: &ArgMatches<'_>) -> Result<Job, WordsError> {
+fn plan_asked(alloc: Global, matches: &ArgMatches<'_>) -> Result<Plan, WordsError> {
     match matches.subcommand() {
-        Some((_, matches)) => raw_job(matches),
+        Some(("raw", matches)) => Ok(Plan::Job(Job::Raw {
+            limit: limit_of(matches)?,
+        })),
+        Some(("run", matches)) => Ok(Plan::Run(
+            program_of(alloc, matches)?,
+            keeping_of(alloc, matches)?,
+        )),
+        Some(("trace", matches)) => Ok(Plan::Trace(program_of(alloc, matches)?)),
+        Some((_, matches)) => Ok(Plan::Files(files_plan(alloc, matches)?)),
         None => Err(WordsError::NoCommand),
     }
 }
 
-fn parsed<'a>(alloc: Global, words: &'a [String]) -> Result<Job, WordsError> {
+fn parsed<'a>(alloc: Global, words: &'a [String]) -> Result<Plan, WordsError> {
     let matches = command(alloc)?.try_get_matches_from(words)?;
-    job_asked(&matches)
+    plan_asked(alloc, &matches)
 }
 
-/// The job that the words ask for, the program's name before them.
-pub fn job_of(alloc: Global, args: io::Result<Args>) -> Result<Job, WordsError> {
+/// What the words ask for, the program's name before them.
+pub fn plan_of(alloc: Global, args: io::Result<Args>) -> Result<Plan, WordsError> {
     let words: Vec<String> = args?.collect(alloc)?;
     if words.len() <= 1 {
-        return Ok(Job::Raw { limit: LIMIT });
+        return Ok(Plan::Job(Job::Raw { limit: LIMIT }));
     }
     parsed(alloc, words.as_slice())
 }

@@ -1,7 +1,7 @@
 use Rattle.std.proofs.Common.{◌≡◌, ◌∙◌, sym, ap, None, replicate, drop, take, length, length-drop, length-take, ◌++◌, ◌+◌, ◌-◌, ℕ, List, arith}
 use Rattle.std.proofs.lemmas.List.{at_drop_all, take_rest}
 use Rattle.std.proofs.lemmas.Result.{err_from_is_err_and}
-use Rattle.pm_textfile.specs.Laying.{laid}
+use Rattle.pm_textfile.specs.Laying.{laid, text_file}
 use Rattle.pm_textfile.specs.Writing.{Line, line_length, lines_fault, lines_of, text_fault}
 use Rattle.pm_textfile.proofs.LineLaws.{coded-fits, fault_of_line, lines_fault-next, lines_of-drop}
 use Rattle.pm_textfile.proofs.FaultLaws.{first-from_fault}
@@ -52,6 +52,10 @@ pages_laid c =
 
 pub returns-clause-sound : goal.returns-clause-sound
 returns-clause-sound c = no_fault c
+
+pub returns-clause-exact : goal.returns-clause-exact
+unfolding text_file
+returns-clause-exact c = pages_laid c
 
 pub returns-clause-file : goal.returns-clause-file
 returns-clause-file c = Writes-from_laid _ _ (no_fault c) (pages_laid c)

@@ -17,7 +17,7 @@ returns c =
           let m = 26 * (count + 1) - 26 * (n + 1) in
           let wrote = rw (c.pop_front.ensures.moved, c.from-begin.ensures, c.from.ensures, c.word-count.ensures.word) at c.set_word.ensures.written in
           let next : 26 * n + 26 ≡ 26 * (n + 1) = omega arith in
-          wrote ∙ ap (λ (bs : List ℕ). written bs 16 (little_bytes 2 (count - 1)))
+          rw wrote (ap (λ (bs : List ℕ). written bs 16 (little_bytes 2 (count - 1)))
           (removed directory no_slot (26 * n) (26 * (count + 1) - 26 * n) m 26 refl (omega arith) (omega arith)
-          ∙ ap (λ (b : ℕ). written directory (26 * n) (take m (drop b directory) ++ no_slot)) next);
+          ∙ ap (λ (b : ℕ). written directory (26 * n) (take m (drop b directory) ++ no_slot)) next));
     }

@@ -63,12 +63,18 @@ invariant_of-self c =
     (IsVolume-added c.args.self.now c.args.name.now c.args.bytes.now c.args.kind c.args.date c.in_ok-gap.gap c.place.ensures.volume p fit)
 
 pub returns-clause-added : goal.returns-clause-added
-returns-clause-added c = record {
-  gap = c.in_ok-gap.gap;
-  placed = found (goal.at.returns-clause-added c).In_ok-gap;
-  entry = c.new_entry-entry.ensures.entry;
-  image = image_after (goal.at.returns-clause-added c).After-put_file;
-}
+returns-clause-added c =
+    let w = (goal.at.returns-clause-added c).After-put_file in
+    let fit = rw c.new_entry-entry.ensures.entry at c.new_entry-entry.ensures.fits in
+    let p = placed (goal.at.returns-clause-added c).In_ok-gap in
+    record {
+      gap = c.in_ok-gap.gap;
+      placed = found (goal.at.returns-clause-added c).In_ok-gap;
+      entry = c.new_entry-entry.ensures.entry;
+      image = image_after w;
+      files = rw (image_after w, c.new_entry-entry.ensures.entry)
+          (files-added c.args.self.now c.args.name.now c.args.bytes.now c.args.kind c.args.date c.in_ok-gap.gap c.place.ensures.volume p fit);
+    }
 
 pub returns-in_err-gap-clause-refused : goal.returns-in_err-gap-clause-refused
 returns-in_err-gap-clause-refused c =

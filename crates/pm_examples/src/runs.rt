@@ -1,0 +1,152 @@
+//! Jobs that run a code file of a volume, and that trace it.
+ghost use Rattle.std.specs.Prelude.{◌≡◌, length, sum};
+
+use crate::code::{EXITS, LETTERS, SEGMENTS, volume};
+use crate::raw::Ran;
+use pm_tool::{Job, Reader, Writer, run};
+use std::alloc::Global;
+use std::test::Fail;
+
+/// Reads one byte, which the console shows, again and again, until it is a full stop.
+const ECHO: [u8; 38] = [
+    0x01, 0xC7, 0xD0, 0x07, 0x00, 0x01, 0x00, 0x00, 0x9E, 0x05, 0xC7, 0xD0, 0x07, 0x00, 0xBE, 0x2E,
+    0xC3, 0xA1, 0xF6, 0xD7, 0xC1, 0x00, 0x16, 0x00, 0x00, 0x00, 0x00, 0x00, 0x08, 0x00, 0x1E, 0x00,
+    0x01, 0x00, 0x02, 0x00, 0x01, 0x01,
+];
+
+const SEGMENTS_TRACE: &str = "\
+00000000 65470 65456 65458 65458 01024 65492 CXP 2, 1
+00000001 65440 65422 65424 65424 01024 65458 RBP 0
+00000002 65473 65456 65458 65458 01024 65492 CXP 3, 1
+00000003 65440 65418 65420 65420 01024 65458 RBP 0
+00000004 65476 65456 65458 65458 01024 65492 RBP 0
+ended 5
+";
+
+/// The disks of a job: a volume with a code file `P` on unit 4.
+fn disks(
+    alloc: Global,
+    kind: u8,
+    lengths: [u16; 3],
+    segments: &[u8],
+) -> Result<[Option<Vec<u8>>; 6], Fail>
+    requires joined { sum lengths ≡ length segments.now }
+{
+    let image = volume(alloc, kind, lengths, segments)?.into_bytes();
+    Ok([Some(image), None, None, None, None, None])
+}
+
+/// What a job came to, and how much of the input is left.
+fn job_run(alloc: Global, job: Job, input: &[u8]) -> (Ran, usize) {
+    let mut written = Vec::new(alloc);
+    let mut rest = input;
+    let mut source = Reader::new(&mut rest);
+    let mut sink = Writer::new(&mut written);
+    let outcome = run(alloc, &mut source, &mut sink, job);
+    (Ran { outcome, written }, rest.len())
+}
+
+fn run_job(
+    alloc: Global,
+    disks: [Option<Vec<u8>>; 6],
+    limit: u32,
+    save: bool,
+) -> Result<Job, Fail> {
+    let name = String::from_str(alloc, "P")?;
+    Ok(Job::Run {
+        disks,
+        name,
+        limit,
+        save,
+    })
+}
+
+fn trace_job(alloc: Global, disks: [Option<Vec<u8>>; 6], limit: u32) -> Result<Job, Fail> {
+    let name = String::from_str(alloc, "P")?;
+    Ok(Job::Trace { disks, name, limit })
+}
+
+#[test]
+fn writes(rt: HostRuntime) -> Result<(), Fail> {
+    let alloc = rt.alloc();
+    let job = run_job(alloc, disks(alloc, 2, [28, 0, 0], &LETTERS)?, 100, false)?;
+    let (ran, left) = job_run(alloc, job, b"xyz");
+    ran.assert(&rt, 0, "ended 9", "OK");
+    assert_eq!(rt; left, 3);
+    let job = run_job(alloc, disks(alloc, 2, [28, 0, 0], &LETTERS)?, 8, false)?;
+    let (ran, _) = job_run(alloc, job, b"");
+    ran.assert(&rt, 6, "limit 8", "OK");
+    let job = run_job(alloc, disks(alloc, 2, [28, 0, 0], &LETTERS)?, 0, false)?;
+    let (ran, _) = job_run(alloc, job, b"");
+    ran.assert(&rt, 6, "limit 0", "");
+    Ok(())
+}
+
+/// The image of unit 4 is kept where that is asked for.
+#[test]
+fn saves(rt: HostRuntime) -> Result<(), Fail> {
+    let alloc = rt.alloc();
+    let job = run_job(alloc, disks(alloc, 2, [28, 0, 0], &LETTERS)?, 100, true)?;
+    let (ran, _) = job_run(alloc, job, b"");
+    assert_eq!(rt; ran.outcome.status, 0);
+    assert_eq!(rt; ran.outcome.image.map(|image| image.len()), Some(42496));
+    Ok(())
+}
+
+/// Exactly the bytes that the program takes are read.
+#[test]
+fn echoes(rt: HostRuntime) -> Result<(), Fail> {
+    let alloc = rt.alloc();
+    let job = run_job(alloc, disks(alloc, 2, [38, 0, 0], &ECHO)?, 1000, false)?;
+    let (ran, left) = job_run(alloc, job, b"ab.cd");
+    ran.assert(&rt, 0, "ended 41", "ab.");
+    assert_eq!(rt; left, 2);
+    let job = run_job(alloc, disks(alloc, 2, [38, 0, 0], &ECHO)?, 1000, false)?;
+    let (ran, left) = job_run(alloc, job, b"ab");
+    ran.assert(&rt, 6, "waiting 32", "ab");
+    assert_eq!(rt; left, 0);
+    Ok(())
+}
+
+#[test]
+fn leaves(rt: HostRuntime) -> Result<(), Fail> {
+    let alloc = rt.alloc();
+    let job = run_job(alloc, disks(alloc, 2, [36, 38, 0], &EXITS)?, 100, false)?;
+    let (ran, _) = job_run(alloc, job, b"");
+    ran.assert(&rt, 0, "ended 10", "");
+    let mut other = EXITS;
+    other[36 + 17] = 7;
+    let job = run_job(alloc, disks(alloc, 2, [36, 38, 0], &other)?, 100, false)?;
+    let (ran, _) = job_run(alloc, job, b"");
+    ran.assert(&rt, 3, "error 3 5", "");
+    Ok(())
+}
+
+#[test]
+fn traces(rt: HostRuntime) -> Result<(), Fail> {
+    let alloc = rt.alloc();
+    let job = trace_job(alloc, disks(alloc, 2, [22, 16, 16], &SEGMENTS)?, 100)?;
+    let (ran, _) = job_run(alloc, job, b"");
+    ran.assert(&rt, 0, "", SEGMENTS_TRACE);
+    Ok(())
+}
+
+#[test]
+fn refuses(rt: HostRuntime) -> Result<(), Fail> {
+    let alloc = rt.alloc();
+    let job = run_job(alloc, disks(alloc, 5, [28, 0, 0], &LETTERS)?, 100, true)?;
+    let (ran, left) = job_run(alloc, job, b"xyz");
+    ran.assert(&rt, 2, "refused boot 2", "");
+    assert_eq!(rt; left, 3);
+    let job = run_job(alloc, disks(alloc, 2, [2, 0, 0], &[1, 0])?, 100, true)?;
+    let (ran, _) = job_run(alloc, job, b"");
+    ran.assert(&rt, 2, "refused boot 4 2", "");
+    let job = trace_job(alloc, [None, None, None, None, None, None], 100)?;
+    let (ran, _) = job_run(alloc, job, b"");
+    ran.assert(&rt, 2, "refused boot 1", "");
+    let mut two = disks(alloc, 5, [28, 0, 0], &LETTERS)?;
+    two[1] = Some(Vec::new(alloc));
+    let (ran, _) = job_run(alloc, trace_job(alloc, two, 100)?, b"");
+    ran.assert(&rt, 2, "refused volume 2", "");
+    Ok(())
+}

@@ -1,0 +1,63 @@
+-- The files of a volume moved together, so that its free blocks are one gap.
+use Rattle.std.specs.Prelude.{◌≡◌, ◌==◌, ℕ, zero, suc, ◌+◌, ◌-◌, ◌*◌, List, [], ◌∷◌, if◌then◌else◌}
+use Rattle.std.specs.List.{AllZip}
+use Rattle.pm_volume.specs.Changes.{with_directory}
+use Rattle.pm_volume.specs.Directory.{directory_of, entry_in, file_count, files_begin}
+use Rattle.pm_volume.specs.Files.{file_bytes, files_of}
+use Rattle.pm_volume.specs.Kept.{ChangesOnly, Span, blocks_of, blocks_span, places_span}
+use Rattle.pm_volume.specs.Words.{with_word, written}
+use Rattle.pm_volume.specs.declared.entry.Entry.{Entry}
+
+-- a file's entry where its blocks begin at another one
+abbrev pub moved_entry : Entry → ℕ → Entry
+moved_entry e to = record e { first = to; end = to + (e.end - e.first) }
+
+-- where a file goes, the one before it ending at a block: there; bad blocks stay
+abbrev pub new_place : ℕ → Entry → ℕ
+new_place from e = if e.kind == 1 then e.first else from
+
+-- files moved together: each to the end of the one before, the first to a block
+unfoldable pub packed : ℕ → List Entry → List Entry
+packed from [] = []
+packed from (e ∷ es) =
+    let f = moved_entry e (new_place from e) in
+    f ∷ packed f.end es
+
+-- what moving files changes, the first of them in slot n: the two block numbers of each entry, and the blocks where each file is now
+unfoldable pub packed_spans : ℕ → List Entry → List Span
+packed_spans n [] = []
+packed_spans n (f ∷ fs) = places_span n ∷ blocks_span f ∷ packed_spans (n + 1) fs
+
+-- a file has the same bytes, those of its last block behind the file's end too, where its blocks were moved
+pub record MovesFile (old new : List ℕ) (e f : Entry) : Type 0 where
+  pub bytes : file_bytes new f ≡ file_bytes old e
+  pub blocks : blocks_of new f ≡ blocks_of old e
+
+-- the files of a volume were moved together
+pub record Krunches (old new : List ℕ) : Type 0 where
+  pub files : files_of new ≡ packed (files_begin (directory_of old)) (files_of old)
+  pub moved : AllZip (MovesFile old new) (files_of old) (files_of new)
+  pub rest : ChangesOnly (packed_spans 1 (files_of new)) old new
+
+-- What follows is how the files are moved, one after the other. What that means is said above.
+
+-- a directory with other block numbers in slot n
+unfoldable pub with_places : List ℕ → ℕ → ℕ → ℕ → List ℕ
+with_places directory n first end = with_word (with_word directory (26 * n) first) (26 * n + 2) end
+
+-- the image with the blocks of the file in slot n at another place
+unfoldable pub with_moved : List ℕ → ℕ → Entry → ℕ → List ℕ
+with_moved image n e to =
+    with_directory (written image (512 * to) (blocks_of image e)) (with_places (directory_of image) n to (to + (e.end - e.first)))
+
+-- the image after the files of so many slots from slot n on were moved, the one before them ending at a block
+unfoldable pub packed_image : List ℕ → ℕ → ℕ → ℕ → List ℕ
+packed_image image n from zero = image
+packed_image image n from (suc left) =
+    let e = entry_in (directory_of image) n in
+    let to = new_place from e in
+    packed_image (with_moved image n e to) (n + 1) (to + (e.end - e.first)) left
+
+-- the image after all files were moved
+abbrev pub krunched_image : List ℕ → List ℕ
+krunched_image image = packed_image image 1 (files_begin (directory_of image)) (file_count (directory_of image))

@@ -1,0 +1,102 @@
+//! Files moved together.
+
+ghost use Rattle.std.specs.Prelude.{◌≡◌, ◌+◌, ◌-◌, ◌<◌, ◌≤◌, ◌*◌, length, slice_range};
+ghost use Rattle.pm_volume.specs.Changes.{with_directory};
+ghost use Rattle.pm_volume.specs.Directory.{IsVolume, block_count, directory_of, entry_in, file_count, files_begin};
+ghost use Rattle.pm_volume.specs.Packing.{new_place, packed_image, with_moved, with_places};
+ghost use Rattle.pm_volume.specs.Words.{with_word, written};
+
+use crate::directory::{DIRECTORY, DIRECTORY_END, SLOT, entry_at};
+use crate::disk::BLOCK;
+use crate::entry::Entry;
+use crate::words::{set_word, word};
+
+// The kind of a file of bad blocks, which stays where it is.
+const BAD_BLOCKS: u8 = 1;
+
+// Moves each file to the end of the one before.
+pub(crate) fn pack_files(image: &mut Vec<u8>)
+    requires volume { IsVolume image.old.items }
+    ensures packed { image.new.items ≡ packed_image image.old.items 1
+        (files_begin (directory_of image.old.items)) (file_count (directory_of image.old.items)) }
+    ensures blocks { block_count (directory_of image.old.items) < 65536 }
+{
+    let directory = &image[DIRECTORY..DIRECTORY_END];
+    let _blocks = word(directory, 14); // for the second clause
+    let count = word(directory, 16);
+    let mut from = word(directory, 2);
+    for n in 1..count + 1 {
+        from = pack_file(image, n, from);
+    }
+}
+
+// Moves the file in a slot to a block, where the one before it ends; bad blocks stay. Returns where
+// the file ends now.
+fn pack_file(image: &mut Vec<u8>, n: u16, from: u16) -> u16
+    requires whole { 3072 ≤ length image.old.items }
+    requires slot { n ≤ 77 }
+    requires past { 6 ≤ from }
+    requires after { from ≤ (entry_in (directory_of image.old.items) n).first }
+    requires ordered { (entry_in (directory_of image.old.items) n).first ≤ (entry_in (directory_of image.old.items) n).end }
+    requires within { 512 * (entry_in (directory_of image.old.items) n).end ≤ length image.old.items }
+    ensures moved { image.new.items ≡ with_moved image.old.items n (entry_in (directory_of image.old.items) n)
+        (new_place from (entry_in (directory_of image.old.items) n)) }
+    ensures end { result ≡ new_place from (entry_in (directory_of image.old.items) n)
+        + ((entry_in (directory_of image.old.items) n).end - (entry_in (directory_of image.old.items) n).first) }
+{
+    let entry = entry_at(&image[DIRECTORY..DIRECTORY_END], n);
+    let to = new_place(&entry, from);
+    let end = to + (entry.end - entry.first);
+    move_part(
+        image,
+        BLOCK * usize::from(entry.first),
+        BLOCK * usize::from(entry.end),
+        BLOCK * usize::from(to),
+    );
+    place_file(image, n, to, end);
+    end
+}
+
+// Where a file goes, the one before it ending at a block.
+fn new_place(entry: &Entry, from: u16) -> u16
+    ensures place { result ≡ new_place from entry.now }
+{
+    if entry.kind == BAD_BLOCKS {
+        entry.first
+    } else {
+        from
+    }
+}
+
+// Moves bytes, all read before the first is written.
+fn move_part(bytes: &mut Vec<u8>, begin: usize, end: usize, to: usize)
+    requires order { begin ≤ end }
+    requires source { end ≤ length bytes.old.items }
+    requires down { to ≤ begin }
+    ensures moved { bytes.new.items ≡ written bytes.old.items to (slice_range bytes.old.items begin end) }
+{
+    bytes.copy_within(begin..end, to);
+}
+
+// Writes the block numbers of the file in a slot.
+fn place_file(image: &mut [u8], n: u16, first: u16, end: u16)
+    requires whole { 3072 ≤ length image.old }
+    requires slot { n ≤ 77 }
+    ensures placed { image.new ≡ with_directory image.old (with_places (directory_of image.old) n first end) }
+{
+    set_places(
+        &mut image[DIRECTORY..DIRECTORY_END],
+        SLOT * usize::from(n),
+        first,
+        end,
+    );
+}
+
+// Writes two words, one behind the other.
+fn set_places(directory: &mut [u8], place: usize, first: u16, end: u16)
+    requires room { place + 4 ≤ length directory.old }
+    ensures placed { directory.new ≡ with_word (with_word directory.old place first) (place + 2) end }
+{
+    set_word(directory, place, first);
+    set_word(directory, place + 2, end);
+}

@@ -1,0 +1,193 @@
+//! The words of `files`.
+use crate::words::{WordsError, number};
+use clap::{Arg, ArgMatches, Command};
+use pm_filer::kind_word;
+use std::alloc::{AllocError, Global};
+
+/// A command on the image that a file has, or a new image for it.
+#[derive(Drop)]
+pub struct FilesPlan {
+    /// The file's path.
+    pub path: String,
+    /// What is to be done.
+    pub verb: Verb,
+}
+
+/// What is to be done with an image.
+#[derive(Drop)]
+pub enum Verb {
+    /// A command on the volume that the image is.
+    Command(pm_filer::Command),
+    /// A new volume of this name and so many blocks.
+    New(String, u16),
+}
+
+fn name<'a>(alloc: Global, id: &'a str, help: &'a str) -> Arg<'a> {
+    Arg::new(alloc, id).value_name(id).required(true).help(help)
+}
+
+fn verb_command<'a>(
+    alloc: Global,
+    word: &'a str,
+    about: &'a str,
+    words: &[(&'a str, &'a str)],
+) -> Result<Command<'a>, AllocError> {
+    let mut command = Command::new(alloc, word).about(about);
+    for (id, help) in words {
+        command = command.arg(name(alloc, id, help))?;
+    }
+    Ok(command)
+}
+
+const FILE: &str = "The file's name, in either case";
+
+/// The command `files` and its verbs.
+pub fn files<'a>(alloc: Global) -> Result<Command<'a>, AllocError> {
+    let image = Arg::new(alloc, "image")
+        .long("image")
+        .value_name("PATH")
+        .required(true)
+        .help("The file that has the volume's image");
+    let kind = "none, badb, code, text, info, data, graf, foto, secd, or a number 0 to 15";
+    let blocks = "The number of blocks, 6 to 65535";
+    Command::new(alloc, "files")
+        .about("Lists, gets and changes the files of a volume")
+        .arg(image)?
+        .subcommand(verb_command(alloc, "list", "Lists the files", &[])?)?
+        .subcommand(verb_command(
+            alloc,
+            "get",
+            "Writes a file's bytes to standard output",
+            &[("NAME", FILE)],
+        )?)?
+        .subcommand(verb_command(
+            alloc,
+            "put",
+            "Adds a file with the bytes of standard input",
+            &[("NAME", FILE), ("KIND", kind)],
+        )?)?
+        .subcommand(verb_command(
+            alloc,
+            "gettext",
+            "Writes the text of a text file to standard output",
+            &[("NAME", FILE)],
+        )?)?
+        .subcommand(verb_command(
+            alloc,
+            "puttext",
+            "Adds a text file with the text of standard input",
+            &[("NAME", FILE)],
+        )?)?
+        .subcommand(verb_command(
+            alloc,
+            "krunch",
+            "Moves the files together, so that the free blocks are one gap",
+            &[],
+        )?)?
+        .subcommand(verb_command(
+            alloc,
+            "date",
+            "Sets the volume's last date",
+            &[
+                ("Y", "The year, 0 to 127"),
+                ("M", "The month, 1 to 12"),
+                ("D", "The day, 1 to 31"),
+            ],
+        )?)?
+        .subcommand(verb_command(
+            alloc,
+            "zero",
+            "Forgets all files and gives the volume a name",
+            &[("NAME", "The volume's name, up to 7 characters")],
+        )?)?
+        .subcommand(verb_command(alloc, "remove", "Removes a file", &[("NAME", FILE)])?)?
+        .subcommand(verb_command(
+            alloc,
+            "change",
+            "Gives a file another name",
+            &[("OLD", FILE), ("NEW", "The other name")],
+        )?)?
+        .subcommand(verb_command(
+            alloc,
+            "new",
+            "Makes a new volume without files",
+            &[
+                ("NAME", "The volume's name, up to 7 characters"),
+                ("BLOCKS", blocks),
+            ],
+        )?)
+}
+
+/// The kind that a word names.
+fn kind(text: &str) -> Option<u8> {
+    for kind in 0..16 {
+        if kind_word(kind) == Some(text) {
+            return Some(kind);
+        }
+    }
+    let kind = number(text)?;
+    if kind < 16 { Some(kind as u8) } else { None }
+}
+
+fn blocks(text: &str) -> Option<u16> {
+    u16::try_from(number(text)?).ok()
+}
+
+/// A word that the command line has to have.
+fn word(alloc: Global, matches: &ArgMatches<'_>, id: &str) -> Result<String, WordsError> {
+    let text = matches.get_str(id).ok_or(WordsError::NoCommand)?;
+    Ok(String::from_str(alloc, text)?)
+}
+
+/// A part of a date.
+fn part(matches: &ArgMatches<'_>, id: &str) -> Result<u8, WordsError> {
+    let number = number(matches.get_str(id).unwrap_or(""));
+    match number {
+        Some(part @ 0..=255) => Ok(part as u8),
+        _ => Err(WordsError::BadNumber("Y, M and D are numbers of decimal digits, at most 255")),
+    }
+}
+
+fn put(alloc: Global, matches: &ArgMatches<'_>) -> Result<Verb, WordsError> {
+    let name = word(alloc, matches, "NAME")?;
+    let kind = kind(matches.get_str("KIND").unwrap_or("")).ok_or(WordsError::BadNumber(
+        "KIND is a word of the list's column or a number 0 to 15",
+    ))?;
+    Ok(Verb::Command(pm_filer::Command::Put(name, kind, Vec::new(alloc))))
+}
+
+fn new(alloc: Global, matches: &ArgMatches<'_>) -> Result<Verb, WordsError> {
+    let name = word(alloc, matches, "NAME")?;
+    let blocks = blocks(matches.get_str("BLOCKS").unwrap_or("")).ok_or(WordsError::BadNumber(
+        "BLOCKS is a number of decimal digits, at most 65535",
+    ))?;
+    Ok(Verb::New(name, blocks))
+}
+
+fn verb_of(alloc: Global, verb: &str, words: &ArgMatches<'_>) -> Result<Verb, WordsError> {
+    use pm_filer::Command;
+    let command = match verb {
+        "list" => Command::List,
+        "get" => Command::Get(word(alloc, words, "NAME")?),
+        "remove" => Command::Remove(word(alloc, words, "NAME")?),
+        "change" => Command::Change(word(alloc, words, "OLD")?, word(alloc, words, "NEW")?),
+        "gettext" => Command::GetText(word(alloc, words, "NAME")?),
+        "puttext" => Command::PutText(word(alloc, words, "NAME")?, Vec::new(alloc)),
+        "krunch" => Command::Krunch,
+        "zero" => Command::Zero(word(alloc, words, "NAME")?),
+        "date" => Command::Date(part(words, "Y")?, part(words, "M")?, part(words, "D")?),
+        "put" => return put(alloc, words),
+        _ => return new(alloc, words),
+    };
+    Ok(Verb::Command(command))
+}
+
+/// What the words of `files` ask for.
+pub fn files_plan(alloc: Global, matches: &ArgMatches<'_>) -> Result<FilesPlan, WordsError> {
+    let path = word(alloc, matches, "image")?;
+    let Some((verb, words)) = matches.subcommand() else {
+        return Err(WordsError::NoCommand);
+    };
+    let verb = verb_of(alloc, verb, words)?;
+    Ok(FilesPlan { path, verb })
+}

@@ -1,0 +1,101 @@
+//! The words of `run` and `trace`.
+use crate::words::{WordsError, limit, limit_of};
+use clap::{Arg, ArgAction, ArgMatches, Command};
+use std::alloc::{AllocError, Global};
+
+/// The files that have the images of the disks, in the order of the units 4, 5, 9, 10, 11 and 12.
+pub type Disks = [Option<String>; 6];
+
+/// A program to be run.
+#[derive(Drop)]
+pub struct Program {
+    /// The images' files.
+    pub disks: Disks,
+    /// The name of the code file on unit 4.
+    pub name: String,
+    /// The most steps that are made.
+    pub limit: u32,
+}
+
+/// What `run` does beside running.
+#[derive(Drop)]
+pub struct Keeping {
+    /// Whether unit 4's image is written back.
+    pub save: bool,
+    /// The file that gets the printer's bytes.
+    pub printer: Option<String>,
+}
+
+fn disk<'a>(alloc: Global, id: &'a str, help: &'a str) -> Arg<'a> {
+    Arg::new(alloc, id).long(id).value_name("IMAGE").help(help)
+}
+
+fn with_program<'a>(alloc: Global, command: Command<'a>) -> Result<Command<'a>, AllocError> {
+    let name = Arg::new(alloc, "NAME")
+        .required(true)
+        .help("The name of the code file on unit 4");
+    command
+        .arg(disk(alloc, "d4", "The image of the disk on unit 4").required(true))?
+        .arg(disk(alloc, "d5", "The image of the disk on unit 5"))?
+        .arg(disk(alloc, "d9", "The image of the disk on unit 9"))?
+        .arg(disk(alloc, "d10", "The image of the disk on unit 10"))?
+        .arg(disk(alloc, "d11", "The image of the disk on unit 11"))?
+        .arg(disk(alloc, "d12", "The image of the disk on unit 12"))?
+        .arg(limit(alloc))?
+        .arg(name)
+}
+
+/// The command `run`.
+pub fn run<'a>(alloc: Global) -> Result<Command<'a>, AllocError> {
+    let save = Arg::new(alloc, "save")
+        .long("save")
+        .action(ArgAction::SetTrue)
+        .help("Writes the image of unit 4 back");
+    let printer = Arg::new(alloc, "printer")
+        .long("printer")
+        .value_name("PATH")
+        .help("The file that gets the printer's bytes");
+    let command = Command::new(alloc, "run").about(
+        "Runs a code file of the disk on unit 4, with the standard streams as its console",
+    );
+    with_program(alloc, command)?.arg(save)?.arg(printer)
+}
+
+/// The command `trace`.
+pub fn trace<'a>(alloc: Global) -> Result<Command<'a>, AllocError> {
+    let command = Command::new(alloc, "trace").about(
+        "Runs a code file of the disk on unit 4, with standard input as its console, and writes its trace",
+    );
+    with_program(alloc, command)
+}
+
+/// An option's value, if it is given.
+fn given(alloc: Global, matches: &ArgMatches<'_>, id: &str) -> Result<Option<String>, WordsError> {
+    match matches.get_str(id) {
+        Some(text) => Ok(Some(String::from_str(alloc, text)?)),
+        None => Ok(None),
+    }
+}
+
+/// The program that the words name.
+pub fn program_of(alloc: Global, matches: &ArgMatches<'_>) -> Result<Program, WordsError> {
+    let disks = [
+        given(alloc, matches, "d4")?,
+        given(alloc, matches, "d5")?,
+        given(alloc, matches, "d9")?,
+        given(alloc, matches, "d10")?,
+        given(alloc, matches, "d11")?,
+        given(alloc, matches, "d12")?,
+    ];
+    let name = given(alloc, matches, "NAME")?.ok_or(WordsError::NoCommand)?;
+    let limit = limit_of(matches)?;
+    Ok(Program { disks, name, limit })
+}
+
+/// What the words of `run` say beside the program.
+pub fn keeping_of(alloc: Global, matches: &ArgMatches<'_>) -> Result<Keeping, WordsError> {
+    Ok(Keeping {
+        save: matches.get_flag("save"),
+        printer: given(alloc, matches, "printer")?,
+    })
+}

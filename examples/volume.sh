@@ -1,0 +1,21 @@
+#!/bin/sh
+# Makes a small volume, by the program alone: examples/volume.sh PATH
+# The image is 40 blocks: two text files, a file of data, and free blocks between them.
+set -e
+[ $# = 1 ] || {
+    echo "usage: volume.sh PATH" >&2
+    exit 1
+}
+here=$(dirname "$(readlink -f "$0")")/..
+files() {
+    "$here/pmach" files --image "$image" "$@"
+}
+image=$1
+files new WORK 40
+files date 81 11 22
+printf 'program hello;\nbegin\n  writeln(%shello%s)\nend.\n' "'" "'" | files puttext HELLO.TEXT
+printf 'gone soon\n' | files puttext DRAFT.TEXT
+printf '\001\002\003' | files put TABLE.DATA data
+printf 'one line\n' | files puttext NOTES.TEXT
+files remove DRAFT.TEXT
+files change TABLE.DATA NUMBERS.DATA

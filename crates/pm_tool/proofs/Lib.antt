@@ -7,3 +7,4 @@ pub mod Kept
 pub mod Filing
 pub mod Played
 pub mod Opening
+pub mod RunLaws

@@ -5,3 +5,4 @@ pub mod Outcomes
 pub mod Disks
 pub mod Files
 pub mod Said
+pub mod Laws

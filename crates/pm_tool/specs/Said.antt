@@ -52,6 +52,7 @@ performed save run = record {
   unread = run.unread;
 }
 
+-- a run, told in one of the two ways
 abbrev pub said_run : Show → Run → Said
 said_run Trace run = traced run
 said_run (Console save) run = performed save run
@@ -61,7 +62,7 @@ abbrev pub said_started : Show → ℕ → Result State Refusal → List ℕ →
 said_started show limit (Ok machine) input = said_run show (run_of show limit input machine)
 said_started show limit (Err refusal) input = refused refusal input
 
--- what a job says to all of its input
+-- What a job says to all of its input. A program that the input spells has no console bytes; to a program of a disk the input is its console's.
 abbrev pub said : Job → List ℕ → Said
 said (jobs.Raw limit) input = said_started Trace limit (loaded (spelled input)) []
 said (jobs.Run disks name limit save) input = said_started (Console save) limit (booted (images_of disks) (string_bytes name)) input

@@ -6,6 +6,7 @@ mod engine;
 mod fault;
 mod files;
 mod hex;
+pub mod laws;
 mod nothing;
 mod outcome;
 mod programs;

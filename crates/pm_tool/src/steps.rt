@@ -72,7 +72,7 @@ fn step(
     }
 }
 
-/// The bytes at which a page is full.
+/// The bytes at which a page of a trace is full.
 const PAGE: usize = 4096;
 
 /// Writes the page and clears it.
@@ -89,15 +89,19 @@ fn write_page<W: Sink>(sink: &mut W, page: &mut Vec<u8>) -> Result<(), Fault>
     Ok(())
 }
 
-/// Writes the page and clears it, once it is full.
-fn turn_page<W: Sink>(sink: &mut W, page: &mut Vec<u8>) -> Result<(), Fault>
+/// Writes the page and clears it, once it is full: a trace is written by pages, and console bytes are written at once.
+fn turn_page<W: Sink>(sink: &mut W, page: &mut Vec<u8>, show: Show) -> Result<(), Fault>
     requires well { W.has_failed sink.old ≡ false }
     ensures written { OnOk result (AppendsBut (W.contents sink.old) (W.contents sink.new) page.new.items page.old.items) }
     ensures well { OnOk result (W.has_failed sink.new ≡ false) }
     ensures front { OnErr result (AppendsFront (W.contents sink.old) (W.contents sink.new) page.old.items) }
     ensures cause { IfErr result (λ fault. IsCause fault false (W.has_failed sink.new) []) }
 {
-    if page.len() >= PAGE {
+    let full = match show {
+        Show::Trace => PAGE,
+        Show::Console { .. } => 1,
+    };
+    if page.len() >= full {
         write_page(sink, page)?;
     }
     Ok(())
@@ -131,7 +135,7 @@ pub(crate) fn drive<R: Source, W: Sink>(
         match step(machine, show, &mut line, page)? {
             Stop::Went => {
                 went += 1;
-                turn_page(sink, page)?;
+                turn_page(sink, page, show)?;
             }
             Stop::Ended => return Ok(Ending::Ended),
             Stop::Halted(error) => return Ok(Ending::Error(error)),

@@ -1,0 +1,44 @@
+-- Laws of runs.
+use Rattle.std.specs.Prelude.{◌≡◌, ℕ, Bool, true, false, List, [], ◌∷◌, ◌++◌}
+use Rattle.pm_machine.specs.State.{State}
+use Rattle.pm_machine.specs.Events.{Event, Step, Key, Poke, Mount, Eject, after_all}
+use Rattle.pm_tool.specs.declared.steps.Show.{Show}
+use Rattle.pm_tool.specs.Run.{Run, run_of}
+
+-- the bytes that these events key
+abbrev pub keyed_in : List Event → List ℕ
+keyed_in [] = []
+keyed_in (Key byte ∷ events) = byte ∷ keyed_in events
+keyed_in (Step ∷ events) = keyed_in events
+keyed_in (Poke address word ∷ events) = keyed_in events
+keyed_in (Mount unit image ∷ events) = keyed_in events
+keyed_in (Eject unit ∷ events) = keyed_in events
+
+-- these events are steps and keys alone
+abbrev pub are_steps_and_keys : List Event → Bool
+are_steps_and_keys [] = true
+are_steps_and_keys (Key byte ∷ events) = are_steps_and_keys events
+are_steps_and_keys (Step ∷ events) = are_steps_and_keys events
+are_steps_and_keys (Poke address word ∷ events) = false
+are_steps_and_keys (Mount unit image ∷ events) = false
+are_steps_and_keys (Eject unit ∷ events) = false
+
+-- a run from m leaves the machine as these steps and keys leave it, the keys being the bytes that it read
+pub record IsOfEvents (run : Run) (bytes : List ℕ) (m : State) (events : List Event) : Type 0 where
+  pub alone : are_steps_and_keys events ≡ true
+  pub left : run.machine ≡ after_all m events
+  pub read : bytes ≡ keyed_in events ++ run.unread
+
+-- each run is one of steps and keys, and the bytes that are keyed are exactly those that are read
+abbrev pub RunsAreEvents : Type 0
+RunsAreEvents = (show : Show) (limit : ℕ) (bytes : List ℕ) (m : State) → (events : List Event) × IsOfEvents (run_of show limit bytes m) bytes m events
+
+-- runs that differ in what they show alone
+pub record AreAlike (run other : Run) : Type 0 where
+  pub ending : run.ending ≡ other.ending
+  pub machine : run.machine ≡ other.machine
+  pub unread : run.unread ≡ other.unread
+
+-- what is shown of a run changes nothing else of it
+abbrev pub ShowingChangesNothing : Type 0
+ShowingChangesNothing = (show other : Show) (limit : ℕ) (bytes : List ℕ) (m : State) → AreAlike (run_of show limit bytes m) (run_of other limit bytes m)

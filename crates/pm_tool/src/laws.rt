@@ -1,0 +1,15 @@
+//! Laws of runs. The functions do nothing.
+ghost use Rattle.pm_tool.specs.Laws.{RunsAreEvents, ShowingChangesNothing};
+
+/// A run leaves the machine as a list of steps and keys leaves it, and the bytes that are keyed are exactly those that are
+/// read.
+#[tactic(auto, using(crate::proofs::RunLaws::runs_are_events))]
+pub fn runs_are_events()
+    ensures law { RunsAreEvents }
+{}
+
+/// What is shown of a run, its trace or its console, changes neither its end, nor the machine, nor what is read.
+#[tactic(auto, using(crate::proofs::RunLaws::showing_changes_nothing))]
+pub fn showing_changes_nothing()
+    ensures law { ShowingChangesNothing }
+{}

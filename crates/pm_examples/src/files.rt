@@ -44,130 +44,131 @@ A               data     6     1   3 000-00-00
 files 1 free 13 largest 13
 ";
 
+/// A command on an image: status, message, what is written, and how much of three bytes of input is left.
+fn tells(
+    rt: &impl Abort,
+    alloc: Global,
+    image: &[u8],
+    command: Command,
+    told: (u8, &str, &str, usize),
+) -> Result<(), AllocError> {
+    let image = image.to_vec(alloc)?;
+    let (ran, left) = job_run(alloc, Job::Files { image, command }, b"xyz");
+    assert_eq!(rt; ran.outcome.status, told.0);
+    assert_eq!(rt; ran.outcome.message.as_str(), told.1);
+    assert_eq!(rt; ran.written.as_slice(), told.2.as_bytes());
+    assert_eq!(rt; left, told.3);
+    Ok(())
+}
+
+/// The list of an image's volume.
+fn lists(rt: &impl Abort, alloc: Global, image: &[u8], list: &str) -> Result<(), AllocError> {
+    tells(rt, alloc, image, Command::List, (0, "", list, 3))
+}
+
+/// A refused command.
+fn refuses(
+    rt: &impl Abort,
+    alloc: Global,
+    image: &[u8],
+    command: Command,
+    message: &str,
+    left: usize,
+) -> Result<(), AllocError> {
+    tells(rt, alloc, image, command, (2, message, "", left))
+}
+
+/// A volume with the file A of three bytes.
+fn one_file(alloc: Global) -> Result<Vec<u8>, Fail> {
+    let image = new_image(alloc, "work", 20)?;
+    changed(alloc, image, put(alloc, "A")?, b"xyz")
+}
+
 #[test]
 fn listed(rt: HostRuntime) -> Result<(), Fail> {
     let alloc = rt.alloc();
     let image = new_image(alloc, "work", 20)?;
     assert_eq!(rt; image.len(), 10240);
-    let (ran, left) = job_run(
-        alloc,
-        Job::Files {
-            image: image.as_slice().to_vec(alloc)?,
-            command: Command::List,
-        },
-        b"xyz",
-    );
-    ran.assert(&rt, 0, "", EMPTY);
-    assert_eq!(rt; left, 3);
-    let image = changed(alloc, image, put(alloc, "A")?, b"xyz")?;
-    let copy = image.as_slice().to_vec(alloc)?;
-    let (ran, _) = job_run(
-        alloc,
-        Job::Files {
-            image: copy,
-            command: Command::List,
-        },
-        b"",
-    );
-    ran.assert(&rt, 0, "", ONE_FILE);
+    lists(&rt, alloc, &image, EMPTY)?;
+    let image = one_file(alloc)?;
+    lists(&rt, alloc, &image, ONE_FILE)?;
     let command = Command::Get(text(alloc, "a")?);
-    let (ran, left) = job_run(alloc, Job::Files { image, command }, b"xyz");
-    ran.assert(&rt, 0, "", "xyz");
-    assert_eq!(rt; left, 3);
+    tells(&rt, alloc, &image, command, (0, "", "xyz", 3))?;
     Ok(())
 }
 
-/// Refused commands and images: the message, and how much of three bytes of input is left.
-fn refusal(
+fn puts(
+    rt: &impl Abort,
     alloc: Global,
     image: &[u8],
-    command: Command,
-    rt: &impl Abort,
+    name: &str,
     message: &str,
-    left: usize,
 ) -> Result<(), AllocError> {
-    let image = image.to_vec(alloc)?;
-    let (ran, rest) = job_run(alloc, Job::Files { image, command }, b"xyz");
-    ran.assert(rt, 2, message, "");
-    assert_eq!(rt; rest, left);
+    refuses(rt, alloc, image, put(alloc, name)?, message, 0)
+}
+
+#[test]
+fn refused_puts(rt: HostRuntime) -> Result<(), Fail> {
+    let alloc = rt.alloc();
+    let image = one_file(alloc)?;
+    puts(&rt, alloc, &image, "a", "refused filer 1 9")?;
+    puts(&rt, alloc, &image, "a:b", "refused filer 1 10")?;
+    let large = vec![in alloc; 1; 6657]?;
+    let command = put(alloc, "B")?;
+    let (ran, _) = job_run(alloc, Job::Files { image, command }, &large);
+    ran.assert(&rt, 2, "refused filer 1 7", "");
     Ok(())
 }
 
 #[test]
 fn refused_commands(rt: HostRuntime) -> Result<(), Fail> {
     let alloc = rt.alloc();
-    let image = new_image(alloc, "WORK", 20)?;
-    let image = changed(alloc, image, put(alloc, "A")?, b"xyz")?;
-    let none = Command::Get(text(alloc, "B")?);
-    refusal(alloc, &image, put(alloc, "a")?, &rt, "refused filer 1 9", 0)?;
-    refusal(
-        alloc,
-        &image,
-        put(alloc, "a:b")?,
-        &rt,
-        "refused filer 1 10",
-        0,
-    )?;
-    refusal(alloc, &image, none, &rt, "refused filer 1 11", 3)?;
+    let image = one_file(alloc)?;
+    let get = Command::Get(text(alloc, "B")?);
+    refuses(&rt, alloc, &image, get, "refused filer 1 11", 3)?;
     let change = Command::Change(text(alloc, "A")?, text(alloc, "")?);
-    refusal(alloc, &image, change, &rt, "refused filer 1 10", 3)?;
-    let large = vec![in alloc; 1; 6657]?;
-    let (ran, _) = job_run(
-        alloc,
-        Job::Files {
-            image,
-            command: put(alloc, "B")?,
-        },
-        &large,
-    );
-    ran.assert(&rt, 2, "refused filer 1 7", "");
+    refuses(&rt, alloc, &image, change, "refused filer 1 10", 3)?;
+    let get_text = Command::GetText(text(alloc, "A")?);
+    refuses(&rt, alloc, &image, get_text, "refused filer 2 1", 3)?;
     Ok(())
 }
 
 #[test]
 fn refused_images(rt: HostRuntime) -> Result<(), Fail> {
     let alloc = rt.alloc();
-    let image = new_image(alloc, "WORK", 20)?;
-    refusal(
-        alloc,
-        &image[..513],
-        put(alloc, "A")?,
-        &rt,
-        "refused volume 1",
-        3,
-    )?;
-    refusal(
-        alloc,
-        &image[..2560],
-        Command::List,
-        &rt,
-        "refused volume 2",
-        3,
-    )?;
-    let mut duplicate = image.as_slice().to_vec(alloc)?;
-    duplicate[1026] = 10;
-    refusal(alloc, &duplicate, Command::List, &rt, "refused volume 3", 3)?;
-    let mut entry = image;
-    entry[1040] = 1;
-    refusal(alloc, &entry, Command::List, &rt, "refused volume 4 1", 3)?;
+    let mut image = new_image(alloc, "WORK", 20)?;
+    let put = put(alloc, "A")?;
+    refuses(&rt, alloc, &image[..513], put, "refused volume 1", 3)?;
+    let list = Command::List;
+    refuses(&rt, alloc, &image[..2560], list, "refused volume 2", 3)?;
+    image[1040] = 1;
+    refuses(&rt, alloc, &image, Command::List, "refused volume 4 1", 3)?;
+    image[1026] = 10;
+    refuses(&rt, alloc, &image, Command::List, "refused volume 3", 3)?;
+    Ok(())
+}
+
+/// A new volume that is refused; no input is read.
+fn no_volume(
+    rt: &impl Abort,
+    alloc: Global,
+    name: &str,
+    blocks: u16,
+    message: &str,
+) -> Result<(), AllocError> {
+    let name = text(alloc, name)?;
+    let (ran, left) = job_run(alloc, Job::New { name, blocks }, b"xyz");
+    ran.assert(rt, 2, message, "");
+    assert_eq!(rt; left, 3);
     Ok(())
 }
 
 #[test]
-fn new_volumes(rt: HostRuntime) -> Result<(), Fail> {
-    let alloc = rt.alloc();
-    for (name, blocks, message) in [
-        ("WORK", 5, "refused volume 3"),
-        ("", 20, "refused volume 10"),
-        ("EIGHTLET", 20, "refused volume 10"),
-        ("A:B", 5, "refused volume 10"),
-    ] {
-        let name = text(alloc, name)?;
-        let (ran, left) = job_run(alloc, Job::New { name, blocks }, b"xyz");
-        ran.assert(&rt, 2, message, "");
-        assert_eq!(rt; left, 3);
-    }
-    Ok(())
+fn new_volumes(rt: HostRuntime) -> Result<(), AllocError> {
+    no_volume(&rt, rt.alloc(), "WORK", 5, "refused volume 3")?;
+    no_volume(&rt, rt.alloc(), "", 20, "refused volume 10")?;
+    no_volume(&rt, rt.alloc(), "EIGHTLET", 20, "refused volume 10")?;
+    no_volume(&rt, rt.alloc(), "A:B", 5, "refused volume 10")
 }
 
 const TEXT_LIST: &str = "\
@@ -182,29 +183,9 @@ fn texts(rt: HostRuntime) -> Result<(), Fail> {
     let image = new_image(alloc, "WORK", 20)?;
     let put_text = Command::PutText(text(alloc, "A.TEXT")?, Vec::new(alloc));
     let image = changed(alloc, image, put_text, b"a\n")?;
-    let copy = image.as_slice().to_vec(alloc)?;
-    let command = Command::List;
-    let (ran, _) = job_run(
-        alloc,
-        Job::Files {
-            image: copy,
-            command,
-        },
-        b"",
-    );
-    ran.assert(&rt, 0, "", TEXT_LIST);
-    let copy = image.as_slice().to_vec(alloc)?;
-    let command = Command::GetText(text(alloc, "a.text")?);
-    let (ran, left) = job_run(
-        alloc,
-        Job::Files {
-            image: copy,
-            command,
-        },
-        b"xyz",
-    );
-    ran.assert(&rt, 0, "", "a\n");
-    assert_eq!(rt; left, 3);
+    lists(&rt, alloc, &image, TEXT_LIST)?;
+    let get_text = Command::GetText(text(alloc, "a.text")?);
+    tells(&rt, alloc, &image, get_text, (0, "", "a\n", 3))?;
     let long = vec![in alloc; b'a'; 1024]?;
     let command = Command::PutText(text(alloc, "B")?, Vec::new(alloc));
     let (ran, _) = job_run(alloc, Job::Files { image, command }, &long);
@@ -212,53 +193,37 @@ fn texts(rt: HostRuntime) -> Result<(), Fail> {
     Ok(())
 }
 
-/// Dates, a directory without files, and a file that is no text.
+fn no_date(rt: &impl Abort, alloc: Global, year: u8, month: u8, day: u8) -> Result<(), Fail> {
+    let image = new_image(alloc, "WORK", 20)?;
+    let command = Command::Date(year, month, day);
+    Ok(refuses(rt, alloc, &image, command, "refused filer 3", 3)?)
+}
+
+#[test]
+fn dates(rt: HostRuntime) -> Result<(), Fail> {
+    no_date(&rt, rt.alloc(), 128, 1, 1)?;
+    no_date(&rt, rt.alloc(), 99, 13, 1)?;
+    no_date(&rt, rt.alloc(), 99, 0, 1)?;
+    no_date(&rt, rt.alloc(), 99, 1, 0)?;
+    no_date(&rt, rt.alloc(), 99, 1, 32)
+}
+
+const DATED: &str = "\
+WORK:
+B               data     6     1   1 081-11-22
+files 1 free 13 largest 13
+";
+
+/// A date, a file with it, the file before it gone, all moved together; then no file.
 #[test]
 fn other_commands(rt: HostRuntime) -> Result<(), Fail> {
     let alloc = rt.alloc();
-    let image = new_image(alloc, "WORK", 20)?;
-    let image = changed(alloc, image, put(alloc, "A")?, b"xyz")?;
-    refusal(
-        alloc,
-        &image,
-        Command::GetText(text(alloc, "A")?),
-        &rt,
-        "refused filer 2 1",
-        3,
-    )?;
-    for (year, month, day) in [
-        (128, 1, 1),
-        (99, 13, 1),
-        (99, 0, 1),
-        (99, 1, 0),
-        (99, 1, 32),
-    ] {
-        let command = Command::Date(year, month, day);
-        refusal(alloc, &image, command, &rt, "refused filer 3", 3)?;
-    }
-    let image = changed(alloc, image, Command::Date(81, 11, 22), b"")?;
+    let image = changed(alloc, one_file(alloc)?, Command::Date(81, 11, 22), b"")?;
     let image = changed(alloc, image, put(alloc, "B")?, b"q")?;
     let image = changed(alloc, image, Command::Remove(text(alloc, "A")?), b"")?;
     let image = changed(alloc, image, Command::Krunch, b"")?;
-    let copy = image.as_slice().to_vec(alloc)?;
-    let command = Command::List;
-    let (ran, _) = job_run(
-        alloc,
-        Job::Files {
-            image: copy,
-            command,
-        },
-        b"",
-    );
-    ran.assert(
-        &rt,
-        0,
-        "",
-        "WORK:\nB               data     6     1   1 081-11-22\nfiles 1 free 13 largest 13\n",
-    );
+    lists(&rt, alloc, &image, DATED)?;
     let image = changed(alloc, image, Command::Zero(text(alloc, "new")?), b"")?;
-    let command = Command::List;
-    let (ran, _) = job_run(alloc, Job::Files { image, command }, b"");
-    ran.assert(&rt, 0, "", "NEW:\nfiles 0 free 14 largest 14\n");
+    lists(&rt, alloc, &image, "NEW:\nfiles 0 free 14 largest 14\n")?;
     Ok(())
 }

@@ -5,6 +5,7 @@ use pm_volume::Volume;
 use pm_words::stack::push;
 use pm_words::{ExecError, Memory};
 use std::alloc::{AllocError, Global};
+use std::process::Abort;
 use std::test::Fail;
 
 /// The parts of a machine, its stack empty and its heap at 1,024. The clock is 70,000.
@@ -61,19 +62,48 @@ impl Bench {
         )
     }
 
-    /// IORESULT after a procedure that is done.
-    fn result_of(&mut self, n: u8, words: &[u16]) -> Result<u16, Trap> {
-        self.registers.ioresult = 77;
-        self.perform(n, words)?;
-        Ok(self.registers.ioresult)
+    /// The procedure answers this.
+    fn answers(&mut self, rt: &impl Abort, n: u8, words: &[u16], answer: Result<(), Trap>) {
+        assert_eq!(rt; self.perform(n, words), answer);
     }
 
-    fn top(&self) -> Option<u16> {
-        self.memory.word(self.registers.sp)
+    /// The procedure is done with this IORESULT, and no word is left on the stack.
+    fn comes_to(&mut self, rt: &impl Abort, n: u8, words: &[u16], ioresult: u16) {
+        self.registers.ioresult = 77;
+        assert_eq!(rt; self.perform(n, words), DONE);
+        assert_eq!(rt;
+            (self.registers.ioresult, self.registers.sp),
+            (ioresult, 65504)
+        );
+    }
+
+    /// The procedure is done and leaves this word on the stack.
+    fn leaves(&mut self, rt: &impl Abort, n: u8, words: &[u16], word: u16) {
+        assert_eq!(rt; self.perform(n, words), DONE);
+        assert_eq!(rt; self.registers.sp, 65502);
+        assert_eq!(rt; self.memory.word(65502), Some(word));
+    }
+
+    fn holds(&self, rt: &impl Abort, address: u16, word: u16) {
+        assert_eq!(rt; self.memory.word(address), Some(word));
+    }
+
+    fn has_heap_at(&self, rt: &impl Abort, np: u16) {
+        assert_eq!(rt; self.registers.np, np);
+    }
+
+    fn has_shown(&self, rt: &impl Abort, bytes: &[u8]) {
+        assert_eq!(rt; self.units.console(), bytes);
+    }
+
+    fn key(&mut self, rt: &impl Abort, byte: u8) {
+        assert!(rt; self.units.key(byte).is_ok());
     }
 }
 
 const DONE: Result<(), Trap> = Ok(());
+
+const WAITING: Result<(), Trap> = Err(Trap::Waiting);
 
 const MEMORY: Result<(), Trap> = Err(Trap::Exec(ExecError::InvalidMemory));
 
@@ -95,77 +125,86 @@ fn on_empty_stack(n: u8) -> Result<(), Trap> {
 fn numbers(rt: HostRuntime) -> Result<(), Fail> {
     let mut bench = Bench::new(rt.alloc())?;
     for n in 0..=255 {
-        assert_eq!(rt; bench.perform(n, &[]), on_empty_stack(n));
+        bench.answers(&rt, n, &[], on_empty_stack(n));
     }
     Ok(())
 }
 
-/// IORESULT of reading and writing no bytes on units 0 to 13 without a disk, and of UNITCLEAR.
-const RESULTS: [(u16, u16, u16); 14] = [
-    (2, 2, 2),
-    (0, 0, 0),
-    (0, 0, 0),
-    (9, 9, 9),
-    (9, 9, 9),
-    (9, 9, 9),
-    (3, 0, 0),
-    (9, 9, 9),
-    (9, 9, 9),
-    (9, 9, 9),
-    (9, 9, 9),
-    (9, 9, 9),
-    (9, 9, 9),
-    (2, 2, 2),
+/// IORESULT of reading and writing no bytes on units 0 to 13 without a disk, of UNITCLEAR, and of UNITWAIT.
+const RESULTS: [[u16; 4]; 14] = [
+    [2, 2, 2, 2],
+    [0, 0, 0, 0],
+    [0, 0, 0, 0],
+    [9, 9, 9, 0],
+    [9, 9, 9, 0],
+    [9, 9, 9, 0],
+    [3, 0, 0, 0],
+    [9, 9, 9, 0],
+    [9, 9, 9, 0],
+    [9, 9, 9, 0],
+    [9, 9, 9, 0],
+    [9, 9, 9, 0],
+    [9, 9, 9, 0],
+    [2, 2, 2, 2],
 ];
+
+/// What a unit without a disk comes to; UNITBUSY has UNITWAIT's result.
+fn on_unit(rt: &impl Abort, bench: &mut Bench, unit: u16, results: &[u16; 4]) {
+    let order = [unit, 2000, 0, 0, 0, 0];
+    bench.comes_to(rt, 5, &order, results[0]);
+    bench.comes_to(rt, 6, &order, results[1]);
+    bench.comes_to(rt, 38, &[unit], results[2]);
+    bench.comes_to(rt, 37, &[unit], results[3]);
+    bench.leaves(rt, 35, &[unit], 0);
+    assert_eq!(rt; bench.registers.ioresult, results[3]);
+}
 
 #[test]
 fn units(rt: HostRuntime) -> Result<(), Fail> {
     let mut bench = Bench::new(rt.alloc())?;
-    let mut unit = 0;
-    for results in RESULTS {
-        let (read, write, clear) = results;
-        let order = [unit, 2000, 0, 0, 0, 0];
-        assert_eq!(rt; bench.result_of(5, &order), Ok(read));
-        assert_eq!(rt; bench.result_of(6, &order), Ok(write));
-        assert_eq!(rt; bench.result_of(38, &[unit]), Ok(clear));
-        let there = if unit == 0 || unit == 13 { 2 } else { 0 };
-        assert_eq!(rt; bench.result_of(37, &[unit]), Ok(there));
-        assert_eq!(rt; bench.result_of(35, &[unit]), Ok(there));
-        assert_eq!(rt; (bench.top(), bench.registers.sp), (Some(0), 65502));
-        unit += 1;
+    for unit in 0..RESULTS.len() {
+        on_unit(&rt, &mut bench, unit as u16, &RESULTS[unit]);
     }
-    assert_eq!(rt; bench.result_of(6, &[257, 2000, 0, 1, 0, 0]), Ok(2));
-    assert_eq!(rt; bench.result_of(38, &[257]), Ok(2));
+    bench.comes_to(&rt, 6, &[257, 2000, 0, 1, 0, 0], 2);
+    bench.comes_to(&rt, 38, &[257], 2);
     Ok(())
 }
 
 /// Transfers of a disk of 10 blocks: place, bytes, block and IORESULT.
-const ON_DISK: [(u16, u16, u16, u16); 8] = [
-    (2000, 0, 0, 0),
-    (2000, 512, 9, 0),
-    (2000, 513, 9, 1),
-    (2000, 0, 10, 0),
-    (2000, 1, 10, 1),
-    (2000, 1, 65535, 1),
-    (2000, 0, 32768, 1),
-    (1, 65535, 0, 1),
+const ON_DISK: [[u16; 4]; 8] = [
+    [2000, 0, 0, 0],
+    [2000, 512, 9, 0],
+    [2000, 513, 9, 1],
+    [2000, 0, 10, 0],
+    [2000, 1, 10, 1],
+    [2000, 1, 65535, 1],
+    [2000, 0, 32768, 1],
+    [1, 65535, 0, 1],
 ];
+
+fn on_disk(rt: &impl Abort, bench: &mut Bench, row: &[u16; 4]) {
+    let order = [4, row[0], 0, row[1], row[2], 0];
+    bench.comes_to(rt, 6, &order, row[3]);
+    bench.comes_to(rt, 5, &order, row[3]);
+}
 
 #[test]
 fn disk_transfers(rt: HostRuntime) -> Result<(), Fail> {
     let mut bench = Bench::with_disk(rt.alloc())?;
-    for row in ON_DISK {
-        let (place, count, block, result) = row;
-        let order = [4, place, 0, count, block, 0];
-        assert_eq!(rt; bench.result_of(6, &order), Ok(result));
-        assert_eq!(rt; bench.result_of(5, &order), Ok(result));
-        assert_eq!(rt; bench.registers.sp, 65504);
+    for row in &ON_DISK {
+        on_disk(&rt, &mut bench, row);
     }
-    assert_eq!(rt; bench.result_of(38, &[4]), Ok(0));
-    // an impossible place goes before the unit
+    bench.comes_to(&rt, 38, &[4], 0);
+    Ok(())
+}
+
+/// An impossible place goes before the unit.
+#[test]
+fn places_before_units(rt: HostRuntime) -> Result<(), Fail> {
+    let mut bench = Bench::new(rt.alloc())?;
     for unit in [0, 3, 4, 5, 257] {
-        assert_eq!(rt; bench.perform(5, &[unit, 2, 0, 65535, 0, 0]), MEMORY);
-        assert_eq!(rt; bench.perform(6, &[unit, 65535, 65535, 3, 0, 0]), MEMORY);
+        bench.answers(&rt, 5, &[unit, 2, 0, 65535, 0, 0], MEMORY);
+        bench.answers(&rt, 6, &[unit, 65535, 65535, 3, 0, 0], MEMORY);
     }
     Ok(())
 }
@@ -174,104 +213,95 @@ fn disk_transfers(rt: HostRuntime) -> Result<(), Fail> {
 fn waiting(rt: HostRuntime) -> Result<(), Fail> {
     let mut bench = Bench::new(rt.alloc())?;
     let order = [1, 2000, 0, 2, 0, 0];
-    bench.units.key(65)?;
-    assert_eq!(rt; bench.perform(5, &order), Err(Trap::Waiting));
-    assert_eq!(rt; bench.units.console(), b"".as_slice());
-    assert_eq!(rt; bench.perform(5, &[2, 2000, 0, 65535, 0, 0]), MEMORY);
-    assert_eq!(rt;
-        bench.perform(5, &[2, 1, 0, 65535, 0, 0]),
-        Err(Trap::Waiting)
-    );
-    bench.units.key(66)?;
-    bench.perform(5, &order)?;
-    assert_eq!(rt; bench.memory.word(2000), Some(66 * 256 + 65));
-    assert_eq!(rt; bench.units.console(), b"AB".as_slice());
+    bench.key(&rt, 65);
+    bench.answers(&rt, 5, &order, WAITING);
+    bench.has_shown(&rt, b"");
+    bench.answers(&rt, 5, &[2, 1, 0, 65535, 0, 0], WAITING);
+    bench.key(&rt, 66);
+    bench.comes_to(&rt, 5, &order, 0);
+    bench.holds(&rt, 2000, 66 * 256 + 65);
+    bench.has_shown(&rt, b"AB");
     // UNITCLEAR empties the queue
-    bench.units.key(67)?;
-    bench.perform(38, &[2])?;
-    assert_eq!(rt;
-        bench.perform(5, &[2, 2000, 0, 1, 0, 0]),
-        Err(Trap::Waiting)
-    );
+    bench.key(&rt, 67);
+    bench.comes_to(&rt, 38, &[2], 0);
+    bench.answers(&rt, 5, &[2, 2000, 0, 1, 0, 0], WAITING);
     Ok(())
 }
 
-/// NEW, MARK, RELEASE and MEMAVAIL at their limits.
+/// NEW and MEMAVAIL at their limits.
 #[test]
-fn heap(rt: HostRuntime) -> Result<(), Fail> {
+fn new_blocks(rt: HostRuntime) -> Result<(), Fail> {
     let mut bench = Bench::new(rt.alloc())?;
-    bench.perform(40, &[])?;
-    assert_eq!(rt; bench.top(), Some(32240));
-    assert_eq!(rt; bench.perform(1, &[2001, 1]), MEMORY);
-    assert_eq!(rt; bench.perform(1, &[2000, 32241]), OVERFLOW);
-    assert_eq!(rt; bench.perform(1, &[2000, 65535]), OVERFLOW);
-    assert_eq!(rt; bench.memory.word(2000), Some(0));
-    bench.perform(1, &[2000, 10])?;
-    assert_eq!(rt;
-        (bench.memory.word(2000), bench.registers.np),
-        (Some(1024), 1044)
-    );
-    assert_eq!(rt; bench.perform(32, &[2003]), MEMORY);
-    bench.perform(32, &[2002])?;
-    assert_eq!(rt; bench.memory.word(2002), Some(1044));
-    bench.perform(33, &[2000])?;
-    assert_eq!(rt; bench.registers.np, 1024);
-    bench.perform(1, &[2000, 32240])?;
-    assert_eq!(rt; bench.registers.np, 65504);
-    assert_eq!(rt; bench.perform(40, &[]), OVERFLOW);
-    assert_eq!(rt; bench.perform(34, &[]), OVERFLOW);
-    bench.registers.np = 1024;
-    for value in [(65505, MEMORY), (65506, OVERFLOW), (65504, DONE), (0, DONE)] {
-        let (word, answer) = value;
-        bench.registers.np = 1024;
-        bench.memory.set_word(2000, word);
-        assert_eq!(rt; bench.perform(33, &[2000]), answer);
-    }
-    assert_eq!(rt; bench.registers.np, 0);
+    bench.leaves(&rt, 40, &[], 32240);
+    bench.answers(&rt, 1, &[2001, 1], MEMORY);
+    bench.answers(&rt, 1, &[2000, 32241], OVERFLOW);
+    bench.answers(&rt, 1, &[2000, 65535], OVERFLOW);
+    bench.holds(&rt, 2000, 0);
+    bench.answers(&rt, 1, &[2000, 10], DONE);
+    bench.holds(&rt, 2000, 1024);
+    bench.has_heap_at(&rt, 1044);
+    bench.answers(&rt, 1, &[2000, 32230], DONE);
+    bench.has_heap_at(&rt, 65504);
+    bench.answers(&rt, 40, &[], OVERFLOW);
+    bench.answers(&rt, 34, &[], OVERFLOW);
     Ok(())
 }
 
-/// SCAN: limit, kind and place, and the answer.
-const SCANS: [(u16, u16, u16, Option<u16>); 9] = [
-    (0, 0, 65535, Some(0)),
-    (5, 1, 100, Some(5)),
-    (5, 0, 100, Some(0)),
-    (65531, 1, 100, Some(65531)),
-    (65531, 0, 100, Some(0)),
-    (32768, 1, 32767, Some(32768)),
-    (32768, 1, 32766, None),
-    (5, 0, 65532, None),
-    (65531, 0, 3, None),
+/// The heap at 1,024, a word at 2,000, and what RELEASE of it answers.
+fn releases(rt: &impl Abort, bench: &mut Bench, word: u16, answer: Result<(), Trap>) {
+    bench.registers.np = 1024;
+    bench.memory.set_word(2000, word);
+    bench.answers(rt, 33, &[2000], answer);
+}
+
+/// MARK and RELEASE at their limits.
+#[test]
+fn marks(rt: HostRuntime) -> Result<(), Fail> {
+    let mut bench = Bench::new(rt.alloc())?;
+    bench.answers(&rt, 32, &[2003], MEMORY);
+    bench.answers(&rt, 32, &[2002], DONE);
+    bench.holds(&rt, 2002, 1024);
+    releases(&rt, &mut bench, 65505, MEMORY);
+    releases(&rt, &mut bench, 65506, OVERFLOW);
+    bench.has_heap_at(&rt, 1024);
+    releases(&rt, &mut bench, 65504, DONE);
+    bench.has_heap_at(&rt, 65504);
+    releases(&rt, &mut bench, 0, DONE);
+    bench.has_heap_at(&rt, 0);
+    Ok(())
+}
+
+/// SCAN over zeros: limit, kind, place and answer.
+const SCANS: [[u16; 4]; 6] = [
+    [0, 0, 65535, 0],
+    [5, 1, 100, 5],
+    [5, 0, 100, 0],
+    [65531, 1, 100, 65531],
+    [65531, 0, 100, 0],
+    [32768, 1, 32767, 32768],
 ];
 
 #[test]
 fn scans(rt: HostRuntime) -> Result<(), Fail> {
     let mut bench = Bench::new(rt.alloc())?;
-    for row in SCANS {
-        let (limit, kind, place, answer) = row;
-        let outcome = bench.perform(11, &[limit, kind, 0, place, 0, 9]);
-        match answer {
-            Some(word) => {
-                assert_eq!(rt; outcome, DONE);
-                assert_eq!(rt; bench.top(), Some(word));
-            }
-            None => assert_eq!(rt; outcome, MEMORY),
-        }
+    for row in &SCANS {
+        bench.leaves(&rt, 11, &[row[0], row[1], 0, row[2], 0, 9], row[3]);
     }
+    bench.answers(&rt, 11, &[32768, 1, 0, 32766, 0, 9], MEMORY);
+    bench.answers(&rt, 11, &[5, 0, 0, 65532, 0, 9], MEMORY);
+    bench.answers(&rt, 11, &[65531, 0, 0, 3, 0, 9], MEMORY);
     Ok(())
 }
 
 #[test]
 fn clock(rt: HostRuntime) -> Result<(), Fail> {
     let mut bench = Bench::new(rt.alloc())?;
-    bench.perform(9, &[2000, 2002])?;
-    assert_eq!(rt;
-        (bench.memory.word(2000), bench.memory.word(2002)),
-        (Some(1), Some(4464))
-    );
-    bench.perform(9, &[2004, 2004])?;
-    assert_eq!(rt; bench.memory.word(2004), Some(4464));
-    assert_eq!(rt; bench.perform(9, &[2001, 2002]), MEMORY);
-    assert_eq!(rt; bench.perform(9, &[2000, 2003]), MEMORY);
+    bench.answers(&rt, 9, &[2000, 2002], DONE);
+    bench.holds(&rt, 2000, 1);
+    bench.holds(&rt, 2002, 4464);
+    bench.answers(&rt, 9, &[2004, 2004], DONE);
+    bench.holds(&rt, 2004, 4464);
+    bench.answers(&rt, 9, &[2001, 2002], MEMORY);
+    bench.answers(&rt, 9, &[2000, 2003], MEMORY);
     Ok(())
 }

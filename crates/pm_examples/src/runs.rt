@@ -5,6 +5,7 @@ use crate::code::{EXITS, LETTERS, SEGMENTS, volume};
 use crate::raw::Ran;
 use pm_tool::{Job, Reader, Writer, run};
 use std::alloc::Global;
+use std::process::Abort;
 use std::test::Fail;
 
 /// Reads one byte, which the console shows, again and again, until it is a full stop.
@@ -66,87 +67,108 @@ fn trace_job(alloc: Global, disks: [Option<Vec<u8>>; 6], limit: u32) -> Result<J
     Ok(Job::Trace { disks, name, limit })
 }
 
+/// What a job comes to: status, message, what it writes, and how much of the input it leaves.
+type Told<'a> = (u8, &'a str, &'a str, usize);
+
+fn tells(rt: &impl Abort, alloc: Global, job: Job, input: &[u8], told: Told<'_>) {
+    let (ran, left) = job_run(alloc, job, input);
+    ran.assert(rt, told.0, told.1, told.2);
+    assert_eq!(rt; left, told.3);
+}
+
+fn letters(
+    rt: &impl Abort,
+    alloc: Global,
+    limit: u32,
+    input: &[u8],
+    told: Told<'_>,
+) -> Result<(), Fail> {
+    let disks = disks(alloc, 2, [28, 0, 0], &LETTERS)?;
+    tells(rt, alloc, run_job(alloc, disks, limit, false)?, input, told);
+    Ok(())
+}
+
 #[test]
 fn writes(rt: HostRuntime) -> Result<(), Fail> {
-    let alloc = rt.alloc();
-    let job = run_job(alloc, disks(alloc, 2, [28, 0, 0], &LETTERS)?, 100, false)?;
-    let (ran, left) = job_run(alloc, job, b"xyz");
-    ran.assert(&rt, 0, "ended 9", "OK");
-    assert_eq!(rt; left, 3);
-    let job = run_job(alloc, disks(alloc, 2, [28, 0, 0], &LETTERS)?, 8, false)?;
-    let (ran, _) = job_run(alloc, job, b"");
-    ran.assert(&rt, 6, "limit 8", "OK");
-    let job = run_job(alloc, disks(alloc, 2, [28, 0, 0], &LETTERS)?, 0, false)?;
-    let (ran, _) = job_run(alloc, job, b"");
-    ran.assert(&rt, 6, "limit 0", "");
-    Ok(())
+    letters(&rt, rt.alloc(), 100, b"xyz", (0, "ended 9", "OK", 3))?;
+    letters(&rt, rt.alloc(), 8, b"", (6, "limit 8", "OK", 0))?;
+    letters(&rt, rt.alloc(), 0, b"", (6, "limit 0", "", 0))
 }
 
 /// The image of unit 4 is kept where that is asked for.
 #[test]
 fn saves(rt: HostRuntime) -> Result<(), Fail> {
     let alloc = rt.alloc();
-    let job = run_job(alloc, disks(alloc, 2, [28, 0, 0], &LETTERS)?, 100, true)?;
-    let (ran, _) = job_run(alloc, job, b"");
+    let disks = disks(alloc, 2, [28, 0, 0], &LETTERS)?;
+    let (ran, _) = job_run(alloc, run_job(alloc, disks, 100, true)?, b"");
     assert_eq!(rt; ran.outcome.status, 0);
     assert_eq!(rt; ran.outcome.image.map(|image| image.len()), Some(42496));
+    Ok(())
+}
+
+fn echo(rt: &impl Abort, alloc: Global, input: &[u8], told: Told<'_>) -> Result<(), Fail> {
+    let disks = disks(alloc, 2, [38, 0, 0], &ECHO)?;
+    tells(rt, alloc, run_job(alloc, disks, 1000, false)?, input, told);
     Ok(())
 }
 
 /// Exactly the bytes that the program takes are read.
 #[test]
 fn echoes(rt: HostRuntime) -> Result<(), Fail> {
-    let alloc = rt.alloc();
-    let job = run_job(alloc, disks(alloc, 2, [38, 0, 0], &ECHO)?, 1000, false)?;
-    let (ran, left) = job_run(alloc, job, b"ab.cd");
-    ran.assert(&rt, 0, "ended 41", "ab.");
-    assert_eq!(rt; left, 2);
-    let job = run_job(alloc, disks(alloc, 2, [38, 0, 0], &ECHO)?, 1000, false)?;
-    let (ran, left) = job_run(alloc, job, b"ab");
-    ran.assert(&rt, 6, "waiting 32", "ab");
-    assert_eq!(rt; left, 0);
+    echo(&rt, rt.alloc(), b"ab.cd", (0, "ended 41", "ab.", 2))?;
+    echo(&rt, rt.alloc(), b"ab", (6, "waiting 32", "ab", 0))
+}
+
+fn exits(rt: &impl Abort, alloc: Global, segments: &[u8; 74], told: Told<'_>) -> Result<(), Fail> {
+    let disks = disks(alloc, 2, [36, 38, 0], segments)?;
+    tells(rt, alloc, run_job(alloc, disks, 100, false)?, b"", told);
     Ok(())
 }
 
 #[test]
 fn leaves(rt: HostRuntime) -> Result<(), Fail> {
-    let alloc = rt.alloc();
-    let job = run_job(alloc, disks(alloc, 2, [36, 38, 0], &EXITS)?, 100, false)?;
-    let (ran, _) = job_run(alloc, job, b"");
-    ran.assert(&rt, 0, "ended 10", "");
+    exits(&rt, rt.alloc(), &EXITS, (0, "ended 10", "", 0))?;
     let mut other = EXITS;
     other[36 + 17] = 7;
-    let job = run_job(alloc, disks(alloc, 2, [36, 38, 0], &other)?, 100, false)?;
-    let (ran, _) = job_run(alloc, job, b"");
-    ran.assert(&rt, 3, "error 3 5", "");
-    Ok(())
+    exits(&rt, rt.alloc(), &other, (3, "error 3 5", "", 0))
 }
 
 #[test]
 fn traces(rt: HostRuntime) -> Result<(), Fail> {
     let alloc = rt.alloc();
-    let job = trace_job(alloc, disks(alloc, 2, [22, 16, 16], &SEGMENTS)?, 100)?;
-    let (ran, _) = job_run(alloc, job, b"");
-    ran.assert(&rt, 0, "", SEGMENTS_TRACE);
+    let disks = disks(alloc, 2, [22, 16, 16], &SEGMENTS)?;
+    let job = trace_job(alloc, disks, 100)?;
+    tells(&rt, alloc, job, b"", (0, "", SEGMENTS_TRACE, 0));
+    Ok(())
+}
+
+/// A program that does not start: nothing is read, and no image is kept.
+fn refused(
+    rt: &impl Abort,
+    alloc: Global,
+    disks: [Option<Vec<u8>>; 6],
+    message: &str,
+) -> Result<(), Fail> {
+    let job = run_job(alloc, disks, 100, true)?;
+    tells(rt, alloc, job, b"xyz", (2, message, "", 3));
     Ok(())
 }
 
 #[test]
 fn refuses(rt: HostRuntime) -> Result<(), Fail> {
     let alloc = rt.alloc();
-    let job = run_job(alloc, disks(alloc, 5, [28, 0, 0], &LETTERS)?, 100, true)?;
-    let (ran, left) = job_run(alloc, job, b"xyz");
-    ran.assert(&rt, 2, "refused boot 2", "");
-    assert_eq!(rt; left, 3);
-    let job = run_job(alloc, disks(alloc, 2, [2, 0, 0], &[1, 0])?, 100, true)?;
-    let (ran, _) = job_run(alloc, job, b"");
-    ran.assert(&rt, 2, "refused boot 4 2", "");
-    let job = trace_job(alloc, [None, None, None, None, None, None], 100)?;
-    let (ran, _) = job_run(alloc, job, b"");
-    ran.assert(&rt, 2, "refused boot 1", "");
+    let data = disks(alloc, 5, [28, 0, 0], &LETTERS)?;
+    refused(&rt, alloc, data, "refused boot 2")?;
+    let no_procedure = disks(alloc, 2, [2, 0, 0], &[1, 0])?;
+    refused(&rt, alloc, no_procedure, "refused boot 4 2")
+}
+
+#[test]
+fn refuses_disks(rt: HostRuntime) -> Result<(), Fail> {
+    let alloc = rt.alloc();
+    let none = [None, None, None, None, None, None];
+    refused(&rt, alloc, none, "refused boot 1")?;
     let mut two = disks(alloc, 5, [28, 0, 0], &LETTERS)?;
     two[1] = Some(Vec::new(alloc));
-    let (ran, _) = job_run(alloc, trace_job(alloc, two, 100)?, b"");
-    ran.assert(&rt, 2, "refused volume 2", "");
-    Ok(())
+    refused(&rt, alloc, two, "refused volume 2")
 }

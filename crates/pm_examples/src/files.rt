@@ -1,7 +1,7 @@
 //! Jobs on volumes, from image to image.
 use crate::raw::Ran;
 use pm_filer::Command;
-use pm_tool::{Job, Reader, Writer, run};
+use pm_tool::{Job, Outcome, Reader, Writer, run};
 use std::alloc::{AllocError, Global};
 use std::process::Abort;
 use std::test::Fail;
@@ -19,17 +19,24 @@ fn text(alloc: Global, text: &str) -> Result<String, AllocError> {
     String::from_str(alloc, text)
 }
 
+/// The image that a job keeps.
+pub(crate) fn image_of(ran: Ran) -> Option<Vec<u8>> {
+    let Ran { outcome, .. } = ran;
+    let Outcome { image, .. } = outcome;
+    image
+}
+
 /// The image of a new volume.
 fn new_image(alloc: Global, name: &str, blocks: u16) -> Result<Vec<u8>, Fail> {
     let name = text(alloc, name)?;
     let (ran, _) = job_run(alloc, Job::New { name, blocks }, b"");
-    Ok(ran.outcome.image.ok_or("no image")?)
+    Ok(image_of(ran).ok_or("no image")?)
 }
 
 /// A command that is accepted and changes the volume: the image after it.
 fn changed(alloc: Global, image: Vec<u8>, command: Command, input: &[u8]) -> Result<Vec<u8>, Fail> {
     let (ran, _) = job_run(alloc, Job::Files { image, command }, input);
-    Ok(ran.outcome.image.ok_or("no image")?)
+    Ok(image_of(ran).ok_or("no image")?)
 }
 
 fn put(alloc: Global, name: &str) -> Result<Command, AllocError> {
@@ -133,17 +140,33 @@ fn refused_commands(rt: HostRuntime) -> Result<(), Fail> {
     Ok(())
 }
 
+/// The front of an image is refused.
+fn refuses_front(
+    rt: &impl Abort,
+    alloc: Global,
+    image: &[u8],
+    count: usize,
+    message: &str,
+) -> Result<(), AllocError> {
+    let front = image.get(..count).unwrap_or(&[]);
+    refuses(rt, alloc, front, put(alloc, "A")?, message, 3)
+}
+
+fn set(image: &mut [u8], place: usize, byte: u8) {
+    if let Some(there) = image.get_mut(place) {
+        *there = byte;
+    }
+}
+
 #[test]
 fn refused_images(rt: HostRuntime) -> Result<(), Fail> {
     let alloc = rt.alloc();
     let mut image = new_image(alloc, "WORK", 20)?;
-    let put = put(alloc, "A")?;
-    refuses(&rt, alloc, &image[..513], put, "refused volume 1", 3)?;
-    let list = Command::List;
-    refuses(&rt, alloc, &image[..2560], list, "refused volume 2", 3)?;
-    image[1040] = 1;
+    refuses_front(&rt, alloc, &image, 513, "refused volume 1")?;
+    refuses_front(&rt, alloc, &image, 2560, "refused volume 2")?;
+    set(&mut image, 1040, 1);
     refuses(&rt, alloc, &image, Command::List, "refused volume 4 1", 3)?;
-    image[1026] = 10;
+    set(&mut image, 1026, 10);
     refuses(&rt, alloc, &image, Command::List, "refused volume 3", 3)?;
     Ok(())
 }

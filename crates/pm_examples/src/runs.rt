@@ -2,6 +2,7 @@
 ghost use Rattle.std.specs.Prelude.{◌≡◌, length, sum};
 
 use crate::code::{EXITS, LETTERS, SEGMENTS, volume};
+use crate::files::image_of;
 use crate::raw::Ran;
 use pm_tool::{Job, Reader, Writer, run};
 use std::alloc::Global;
@@ -102,7 +103,7 @@ fn saves(rt: HostRuntime) -> Result<(), Fail> {
     let disks = disks(alloc, 2, [28, 0, 0], &LETTERS)?;
     let (ran, _) = job_run(alloc, run_job(alloc, disks, 100, true)?, b"");
     assert_eq!(rt; ran.outcome.status, 0);
-    assert_eq!(rt; ran.outcome.image.map(|image| image.len()), Some(42496));
+    assert_eq!(rt; image_of(ran).map(|image| image.len()), Some(42496));
     Ok(())
 }
 

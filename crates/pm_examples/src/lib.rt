@@ -12,6 +12,8 @@ mod faults;
 #[cfg(test)]
 mod files;
 #[cfg(test)]
+mod jobs;
+#[cfg(test)]
 mod machine;
 #[cfg(test)]
 mod procedures;
@@ -25,5 +27,7 @@ mod runs;
 mod streams;
 #[cfg(test)]
 mod table;
+#[cfg(test)]
+mod tested;
 #[cfg(test)]
 mod values;

@@ -1,45 +1,118 @@
-//! Instructions as text.
+//! The items of a procedure's code as text.
 
-ghost use Rattle.std.specs.Prelude.{Some};
-ghost use Rattle.pm_disasm.specs.Text.{item_text};
+ghost use Rattle.std.specs.Prelude.{◌≡◌, ◌<◌, ◌%◌, ◌+◌, ◌-◌, ◌*◌, ◌^◌, map, Some};
+ghost use Rattle.pm_words.specs.Words.{words_of};
+ghost use Rattle.pm_disasm.specs.Split.{table_places};
+ghost use Rattle.pm_disasm.specs.Shown.{label_text, shown_item, target_text};
+ghost use Rattle.pm_disasm.specs.Text.{more_operands};
+ghost use Rattle.pm_disasm.specs.Views.{item_seen, target_seen};
 
-use crate::operands::{Implied, Number, OperandType, Quoted, Signed, Words};
-use pm_opcode::{Form, Instr, form_at, row_at};
+use crate::instruction::Instruction;
+use crate::operands::Signed;
+use pm_opcode::{Instr, row_at};
 use std::fmt;
 
-/// An instruction with the bytes that it names, shown as its mnemonic and its operands.
+/// A place of a segment as a label: `L` and its offset in five digits.
 #[derive(Clone, Copy)]
-pub struct Item<'a> {
-    /// The instruction.
-    pub instr: &'a Instr,
-    /// The characters of LSA and LPA, or the bytes of LDC's words. Other instructions show none.
-    pub named: &'a [u8],
+pub(crate) struct Label(pub usize);
+
+impl fmt::Display for Label {
+    ghost output = { λ l. Some (label_text l.0) };
+
+    #[tactic(auto, using(crate::proofs::Digits::padded_five))]
+    fn fmt<W: fmt::Write>(&self, f: &mut fmt::Formatter<W>) -> fmt::Result {
+        let place = self.0;
+        write!(f, "L{place:05}")
+    }
+}
+
+/// Where a jump leads.
+#[derive(Clone, Copy)]
+pub(crate) enum Target {
+    /// A place of the segment.
+    To(usize),
+    /// An entry of the jump table.
+    Through(u8),
+}
+
+impl fmt::Display for Target {
+    ghost output = { λ t. Some (target_text (target_seen t)) };
+
+    fn fmt<W: fmt::Write>(&self, f: &mut fmt::Formatter<W>) -> fmt::Result {
+        match *self {
+            Target::To(place) => write!(f, "{}", Label(place)),
+            Target::Through(entry) => write!(f, "^{entry}"),
+        }
+    }
+}
+
+/// The table of a case jump: words that stand from a place of the segment on.
+#[derive(Clone, Copy)]
+pub(crate) struct Table<'a> {
+    /// The place of the first word.
+    pub at: u32,
+    /// The bytes of the words.
+    pub words: &'a [u8],
+}
+
+/// The places of a table, each behind a comma.
+#[derive(Clone, Copy)]
+pub(crate) struct Places<'a>(pub Table<'a>);
+
+impl fmt::Display for Places<'_> {
+    ghost output = { λ p. Some (more_operands (map label_text (table_places p.0.at (words_of p.0.words.now)))) };
+
+    fn fmt<W: fmt::Write>(&self, f: &mut fmt::Formatter<W>) -> fmt::Result {
+        let at = self.0.at;
+        let words = self.0.words;
+        for k in 0..words.len() / 2 {
+            let word = u16::from(words[2 * k]) + 256 * u16::from(words[2 * k + 1]);
+            let place = Label(table_place(at, k, word));
+            write!(f, ", {place}")?;
+        }
+        Ok(())
+    }
+}
+
+/// The place that a word of a table names: so far below the word, modulo 65,536.
+pub(crate) fn table_place(at: u32, index: usize, word: u16) -> usize
+    requires index { 2 * index < 2 ^ 63 }
+    ensures place { result ≡ (at + 2 * index + 65536 - word) % 65536 }
+{
+    (at as usize + 2 * index + 65536 - usize::from(word)) % 65536
+}
+
+/// A part of code that is written as an instruction.
+#[derive(Clone, Copy)]
+pub(crate) enum Item<'a> {
+    /// An instruction that names no place, and the bytes that it names.
+    Plain(Instr, &'a [u8]),
+    /// A short jump: its opcode and where it leads.
+    Jump(u8, Target),
+    /// A case jump: its bounds, where the jump out of them leads, and its table.
+    Case(u16, u16, Target, Table<'a>),
 }
 
 impl fmt::Display for Item<'_> {
-    ghost output = { λ i. Some (item_text i.instr.now i.named.now) };
+    ghost output = { λ i. Some (shown_item (item_seen i)) };
 
-    #[tactic(auto, unfolding(crate::specs::Text::item_text))]
+    #[tactic(auto, unfolding(crate::specs::Shown::shown_item, crate::specs::Text::item_text))]
     fn fmt<W: fmt::Write>(&self, f: &mut fmt::Formatter<W>) -> fmt::Result {
-        let op = self.instr.op;
-        let (a, b, c) = (self.instr.a, self.instr.b, self.instr.c);
-        let long = self.instr.long;
-        let name = row_at(op).mnemonic;
-        match form_at(op) {
-            Form::Plain => write!(f, "{name}{}", Implied(op)),
-            Form::Ub | Form::Db | Form::W => write!(f, "{name} {a}"),
-            Form::Sb => write!(f, "{name} {}", Signed(a)),
-            Form::B => write!(f, "{name} {}", Number { value: a, long }),
-            Form::UbB | Form::DbB => write!(f, "{name} {a}, {}", Number { value: b, long }),
-            Form::UbUb => write!(f, "{name} {a}, {b}"),
-            Form::Chars => write!(f, "{name} {}", Quoted(self.named)),
-            Form::Words => write!(f, "{name}{}", Words(self.named)),
-            Form::Jumps => write!(f, "{name} {}, {}, {c}", Signed(a), Signed(b)),
-            Form::Typed => {
-                let size = Number { value: b, long };
-                write!(f, "{name} {}", OperandType { code: a, size })
+        match *self {
+            Item::Plain(instr, named) => {
+                let instr = &instr;
+                write!(f, "{}", Instruction { instr, named })
             }
-            Form::Unassigned => write!(f, "{name}"),
+            Item::Jump(op, target) => {
+                let name = row_at(op).mnemonic;
+                write!(f, "{name} {target}")
+            }
+            Item::Case(low, high, otherwise, table) => {
+                let name = row_at(172).mnemonic;
+                let (low, high) = (Signed(low), Signed(high));
+                let places = Places(table);
+                write!(f, "{name} {low}, {high}, {otherwise}{places}")
+            }
         }
     }
 }

@@ -1,12 +1,16 @@
-//! Instructions as text.
+//! Code as text: an instruction, an item of a procedure, a procedure, and a code file.
 #![tactic(auto)]
 
+mod front;
+mod instruction;
 mod item;
 mod operands;
+mod parts;
 mod place;
+mod places;
 mod text;
 
-pub use item::Item;
+pub use instruction::Instruction;
 pub use place::Line;
 pub use text::line;
 

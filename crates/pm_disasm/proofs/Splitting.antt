@@ -1,0 +1,46 @@
+-- Code in parts.
+use Rattle.std.proofs.Common.{◌≡◌, ◌<◌, ◌≤◌, ℕ, zero, suc, ◌+◌, ◌-◌, Bool, true, false, List, [], ◌∷◌, ◌++◌, length, drop, get_or, refl, sym, ap, ◌∙◌, arith, drop-cons, drop-drop, Option, Some, None}
+use Rattle.std.specs.Prelude.{◌||◌, ◌==◌}
+use Rattle.pm_disasm.specs.Program.{is_among}
+use Rattle.pm_disasm.specs.Split.{Front, Part, bytes_after_first, ends_of, part_of, parts, taken}
+
+-- bytes that belong to a part before are passed over
+pub parts_behind : (forced : List ℕ) (skip at : ℕ) (bytes : List ℕ) → parts forced skip at bytes ≡ parts forced 0 (at + skip) (drop skip bytes)
+parts_behind forced zero at bytes = ap (λ n. parts forced 0 n bytes) (let e : at ≡ at + 0 = omega arith in e)
+parts_behind forced (suc skip) at [] = refl
+parts_behind forced (suc skip) at (b ∷ bytes) = parts_behind forced skip (at + 1) bytes ∙ ap (λ n. parts forced 0 n (drop skip bytes)) (let e : at + 1 + skip ≡ at + suc skip = omega arith in e)
+
+-- the parts from a place on are the part there and those behind it
+pub next_part : (forced bytes : List ℕ) (at n : ℕ) (p : Part) → at < length bytes → p ≡ part_of at (drop at bytes) (taken forced at (drop at bytes)) → bytes_after_first (taken forced at (drop at bytes)) + 1 ≡ n
+    → parts forced 0 at (drop at bytes) ≡ p ∷ parts forced 0 (at + n) (drop (at + n) bytes)
+next_part forced bytes at n p inside same size =
+    let front : drop at bytes ≡ get_or bytes at 0 ∷ drop (suc at) bytes = drop-cons bytes at 0 inside in
+    let skip : ℕ = bytes_after_first (taken forced at (drop at bytes)) in
+    let next : suc at ≡ at + 1 = omega arith in
+    let place : at + 1 + skip ≡ at + n = omega (arith, size) in
+    let rest : drop skip (drop (suc at) bytes) ≡ drop (at + n) bytes = drop-drop skip (suc at) bytes ∙ ap (λ k. drop k bytes) (let e : suc at + skip ≡ at + n = omega (arith, size) in e) in
+    ap (parts forced 0 at) front
+    ∙ ap (λ bs. part_of at bs (taken forced at bs) ∷ parts forced (bytes_after_first (taken forced at bs)) (at + 1) (drop (suc at) bytes)) (sym front)
+    ∙ ap (λ q. q ∷ parts forced skip (at + 1) (drop (suc at) bytes)) (sym same)
+    ∙ ap (λ ps. p ∷ ps) (parts_behind forced skip (at + 1) (drop (suc at) bytes) ∙ ap (λ bs. parts forced 0 (at + 1 + skip) bs) rest ∙ ap (λ k. parts forced 0 k (drop (at + n) bytes)) place)
+
+place_of_part : (at : ℕ) (bytes : List ℕ) (o : Option Front) → (part_of at bytes o).at ≡ at
+place_of_part at bytes None = refl
+place_of_part at bytes (Some f) = refl
+
+shuffle : (a b c : Bool) → ((a || b) || c) ≡ (b || (a || c))
+shuffle true true c = refl
+shuffle true false c = refl
+shuffle false b c = refl
+
+-- the places of those parts
+pub next_places : (forced bytes : List ℕ) (at n end place : ℕ) (p : Part) (before : Bool) → p ≡ part_of at (drop at bytes) (taken forced at (drop at bytes))
+    → parts forced 0 at (drop at bytes) ≡ p ∷ parts forced 0 (at + n) (drop (at + n) bytes)
+    → (((at == place) || before) || is_among (ends_of end (parts forced 0 (at + n) (drop (at + n) bytes))) place)
+    ≡ (before || is_among (ends_of end (parts forced 0 at (drop at bytes))) place)
+next_places forced bytes at n end place p before same next =
+    let rest : List Part = parts forced 0 (at + n) (drop (at + n) bytes) in
+    let here : p.at ≡ at = ap (λ (q : Part). q.at) same ∙ place_of_part at (drop at bytes) (taken forced at (drop at bytes)) in
+    shuffle (at == place) before (is_among (ends_of end rest) place)
+    ∙ ap (λ k. before || ((k == place) || is_among (ends_of end rest) place)) (sym here)
+    ∙ ap (λ ps. before || is_among (ends_of end ps) place) (sym next)

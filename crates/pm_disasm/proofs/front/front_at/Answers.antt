@@ -4,7 +4,7 @@ use Rattle.pm_opcode.specs.Reading.{reading}
 use Rattle.pm_opcode.specs.Table.{form_of}
 use Rattle.pm_opcode.specs.Spelling.{is_odd, named_by}
 use Rattle.pm_disasm.specs.Split.{front, has_zero_padding, item_of}
-use Rattle.pm_disasm.proofs.Fronts.{bounds, front_none, front_read}
+use Rattle.pm_disasm.proofs.FrontCode.{bounds, front_none, front_read}
 use Rattle.pm_disasm.proofs.front.front_at.Goals as goal
 
 pub returns-in_default-clause-front : goal.returns-in_default-clause-front

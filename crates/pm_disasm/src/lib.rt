@@ -2,6 +2,7 @@
 #![tactic(auto)]
 
 mod item;
+pub mod laws;
 mod operands;
 mod place;
 mod text;

@@ -24,7 +24,7 @@ pub record IsWritten (forced : List ℕ) (at : ℕ) (code : List ℕ) (items : L
 
 -- Whatever count of jump entries is taken, the parts of code are items of the same bytes.
 abbrev pub SplitKeepsBytes : Type 0
-SplitKeepsBytes = (forced : List ℕ) (allowed : Bool) (at : ℕ) (code : List ℕ) → AllByRecursion IsByte code → at + length code < 65536
+SplitKeepsBytes = (forced : List ℕ) (allowed : Bool) (at : ℕ) (code : List ℕ) → AllByRecursion IsByte code
     → IsWritten forced at code (items_in forced allowed at code)
 
 -- what the table of a procedure says

@@ -12,7 +12,7 @@ use Rattle.pm_disasm.specs.Shown.{file_text, name_of, program_text}
 
 -- An instruction is read in its own bytes, whatever follows.
 abbrev pub InstructionIsRead : Type 0
-InstructionIsRead = (at : ℕ) (item : Item ℕ) (rest : List ℕ) → IsItem at item → is_instruction item ≡ true → at + size at item < 65536
+InstructionIsRead = (at : ℕ) (item : Item ℕ) (rest : List ℕ) → IsItem at item → is_instruction item ≡ true
     → front at (item_bytes at item ++ rest) ≡ Some (record { size = size at item; item = Some item })
 
 -- What is written for code: items of the code's bytes, which name boundaries alone; and each forced place is a boundary.
@@ -24,7 +24,7 @@ pub record IsWritten (forced : List ℕ) (at : ℕ) (code : List ℕ) (items : L
 
 -- Whatever count of jump entries is taken, the parts of code are items of the same bytes.
 abbrev pub SplitKeepsBytes : Type 0
-SplitKeepsBytes = (forced : List ℕ) (allowed : Bool) (at : ℕ) (code : List ℕ) → AllByRecursion IsByte code → at + length code < 65536
+SplitKeepsBytes = (forced : List ℕ) (allowed : Bool) (at : ℕ) (code : List ℕ) → AllByRecursion IsByte code
     → IsWritten forced at code (items_in forced allowed at code)
 
 -- what the table of a procedure says

@@ -4,6 +4,7 @@
 mod front;
 mod instruction;
 mod item;
+pub mod laws;
 mod operands;
 mod parts;
 mod place;

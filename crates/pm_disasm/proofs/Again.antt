@@ -12,7 +12,7 @@ use Rattle.pm_disasm.specs.Program.{code_bytes, end_of, boundaries, is_among, Is
 use Rattle.pm_disasm.specs.Split.{Front, front, uncut, taken, Part, part_of, bytes_after_first, parts, is_allowed_item, leads, written_as, written, ends_of, items_in}
 use Rattle.pm_disasm.proofs.Sizes.{length-item, size-some, length-code}
 use Rattle.pm_disasm.proofs.Read.{found, instruction_is_read}
-use Rattle.pm_disasm.proofs.Written.{either, or_right, named_then}
+use Rattle.pm_disasm.proofs.Boundaries.{either, or_right, named_then}
 
 -- the parts that items are
 abbrev pub parts_of_items : ℕ → List (Item ℕ) → List Part

@@ -1,6 +1,7 @@
 -- Words as they are written one after the other.
 use Rattle.std.proofs.Common.{◌≡◌, ◌<◌, ◌≤◌, ℕ, zero, suc, ◌+◌, ◌-◌, ◌*◌, ◌/◌, ◌%◌, List, [], ◌∷◌, ◌++◌, length, map, drop, get_or, refl, sym, ap, ◌∙◌, arith, add-one, append-nil, append_assoc, drop-cons, length-drop}
-use Rattle.std.specs.Prelude.{codes}
+use Rattle.std.specs.Prelude.{codes, Bool, true, false, ◌&&◌}
+use Rattle.std.specs.List.{list_all}
 use Rattle.std.specs.Fmt.{decimal}
 use Rattle.pm_disasm.specs.Text.{operands_text, more_operands}
 use Rattle.pm_words.specs.Words.{words_of}
@@ -85,3 +86,28 @@ pub places_written : (bs done whole : List ℕ) (at k : ℕ) → length bs / 2 �
 places_written bs done whole at k h e =
     let none : words_of (drop (2 * k) bs) ≡ [] = none_left (drop (2 * k) bs) (omega (arith, length-drop (2 * k) bs)) in
     sym (append-nil done) ∙ ap (λ u. done ++ more_operands (map label_text (table_places (at + 2 * k) u))) (sym none) ∙ e
+
+-- the places of a table from its word k on
+pub next_place : (bs : List ℕ) (at k : ℕ) → 2 * k + 1 < length bs → table_places (at + 2 * k) (words_of (drop (2 * k) bs))
+    ≡ ((at + 2 * k + 65536 - (get_or bs (2 * k) 0 + 256 * get_or bs (2 * k + 1) 0)) % 65536) ∷ table_places (at + 2 * (k + 1)) (words_of (drop (2 * (k + 1)) bs))
+next_place bs at k h =
+    let w : ℕ = get_or bs (2 * k) 0 + 256 * get_or bs (2 * k + 1) 0 in
+    let next : at + 2 * k + 2 ≡ at + 2 * (k + 1) = omega arith in
+    ap (table_places (at + 2 * k)) (words_at bs k h)
+    ∙ ap (λ n. ((at + 2 * k + 65536 - w) % 65536) ∷ table_places n (words_of (drop (2 * (k + 1)) bs))) next
+
+pub no_place : (bs : List ℕ) (at k : ℕ) → length bs / 2 ≤ k → table_places (at + 2 * k) (words_of (drop (2 * k) bs)) ≡ []
+no_place bs at k h = ap (table_places (at + 2 * k)) (none_left (drop (2 * k) bs) (omega (arith, length-drop (2 * k) bs)))
+
+-- a test of all places of a table, place by place
+pub table_out : (test : ℕ → Bool) (bs : List ℕ) (at k p : ℕ) (whole : Bool) → 2 * k + 1 < length bs → p ≡ (at + 2 * k + 65536 - (get_or bs (2 * k) 0 + 256 * get_or bs (2 * k + 1) 0)) % 65536 → test p ≡ false
+    → list_all test (table_places (at + 2 * k) (words_of (drop (2 * k) bs))) ≡ whole → false ≡ whole
+table_out test bs at k p whole h e out i =
+    let rest : List ℕ = table_places (at + 2 * (k + 1)) (words_of (drop (2 * (k + 1)) bs)) in
+    sym (ap (λ b. b && list_all test rest) out) ∙ ap (λ q. test q && list_all test rest) e ∙ ap (list_all test) (sym (next_place bs at k h)) ∙ i
+
+pub table_in : (test : ℕ → Bool) (bs : List ℕ) (at k p : ℕ) (whole : Bool) → 2 * k + 1 < length bs → p ≡ (at + 2 * k + 65536 - (get_or bs (2 * k) 0 + 256 * get_or bs (2 * k + 1) 0)) % 65536 → test p ≡ true
+    → list_all test (table_places (at + 2 * k) (words_of (drop (2 * k) bs))) ≡ whole → list_all test (table_places (at + 2 * (k + 1)) (words_of (drop (2 * (k + 1)) bs))) ≡ whole
+table_in test bs at k p whole h e within i =
+    let rest : List ℕ = table_places (at + 2 * (k + 1)) (words_of (drop (2 * (k + 1)) bs)) in
+    sym (ap (λ b. b && list_all test rest) within) ∙ ap (λ q. test q && list_all test rest) e ∙ ap (list_all test) (sym (next_place bs at k h)) ∙ i

@@ -1,5 +1,5 @@
 -- What the values of the code stand for.
-use Rattle.std.specs.Prelude.{◌≡◌, ℕ, ◌-◌, Bool, false, nat_le, ◌&&◌, get_or, List, Option, Some, None, option_map}
+use Rattle.std.specs.Prelude.{◌≡◌, ◌<◌, ◌≤◌, ℕ, ◌+◌, ◌-◌, length, Bool, false, nat_le, ◌&&◌, get_or, List, Option, Some, None, option_map}
 use Rattle.pm_words.specs.Words.{words_of}
 use Rattle.pm_disasm.specs.declared.item.Item.{Item}
 use Rattle.pm_disasm.specs.declared.item.Item.TheVariants as items
@@ -36,3 +36,11 @@ has s place = nat_le s.begin place && get_or s.marks.items (place - s.begin) fal
 -- A set of places is a list of them.
 abbrev pub IsSetOf : PlaceSet → List ℕ → Type 0
 IsSetOf s places = (place : ℕ) → has s place ≡ is_among places place
+
+-- a place from the begin of a set's places to their end
+abbrev pub IsInside : PlaceSet → ℕ → Type 0
+IsInside s place = (s.begin ≤ place) × (place < s.begin + length s.marks.items)
+
+-- two sets of places of the same code
+abbrev pub IsAlike : PlaceSet → PlaceSet → Type 0
+IsAlike s t = (s.begin ≡ t.begin) × (length s.marks.items ≡ length t.marks.items)

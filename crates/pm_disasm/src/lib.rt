@@ -5,11 +5,13 @@ mod front;
 mod instruction;
 mod item;
 pub mod laws;
+mod named;
 mod operands;
 mod parts;
 mod place;
 mod places;
 mod text;
+mod written;
 
 pub use instruction::Instruction;
 pub use place::Line;

@@ -1,7 +1,7 @@
 //! Sets of places of code.
 
 ghost use Rattle.std.specs.Prelude.{◌≡◌, ◌==◌, ◌<◌, ◌≤◌, ◌^◌, ◌+◌, ◌-◌, ◌||◌, ℕ, false, length, IfOk};
-ghost use Rattle.pm_disasm.specs.Views.{has};
+ghost use Rattle.pm_disasm.specs.Views.{IsAlike, IsInside, has};
 
 use std::alloc::{AllocError, Global};
 
@@ -42,11 +42,9 @@ impl PlaceSet {
 
     /// Adds a place.
     pub fn add(&mut self, place: usize)
-        requires begin { self.old.begin ≤ place }
-        requires end { place < self.old.begin + length self.old.marks.items }
+        requires inside { IsInside self.old place }
         ensures has { (p : ℕ) → has self.new p ≡ ((place == p) || has self.old p) }
-        ensures begin { self.new.begin ≡ self.old.begin }
-        ensures size { length self.new.marks.items ≡ length self.old.marks.items }
+        ensures alike { IsAlike self.new self.old }
     {
         self.marks[place - self.begin] = true;
     }

@@ -22,8 +22,8 @@ parts-preserved c =
       inside = c.part_at-part.ensures.within;
       from = omega (arith, before.from);
       split = ap (λ ps. map part_seen ps ++ rest) c.in_ok-push.ensures.items ∙ ap (λ ps. ps ++ rest) (map-append part_seen c.parts.parts.items (c.part_at-part.result ∷ [])) ∙ append_assoc done (p ∷ []) rest ∙ ap (λ ps. done ++ ps) (sym next) ∙ before.split;
-      begun = c.add.ensures.begin ∙ before.begun;
-      sized = c.add.ensures.size ∙ before.sized;
+      begun = c.add.ensures.alike.0 ∙ before.begun;
+      sized = c.add.ensures.alike.1 ∙ before.sized;
       places = λ place. ap (λ b. b || is_among (ends_of (length bytes) rest) place) (c.add.ensures.has place)
           ∙ next_places forced bytes at n (length bytes) place p (has c.parts.boundaries place) c.part_at-part.ensures.part next
           ∙ before.places place;

@@ -1,5 +1,5 @@
 -- What is written for parts, by a test of boundaries.
-use Rattle.std.specs.Prelude.{◌≡◌, ◌<◌, ℕ, ◌+◌, Bool, ◌&&◌, ◌==◌, List, [], ◌∷◌, ◌++◌, length, map, if◌then◌else◌, codes, Option, Some, None, IfSome}
+use Rattle.std.specs.Prelude.{◌≡◌, ◌≤◌, ℕ, ◌+◌, Bool, ◌&&◌, ◌==◌, List, [], ◌∷◌, ◌++◌, length, map, if◌then◌else◌, codes, Option, Some, None, IfSome}
 use Rattle.std.specs.List.{list_all}
 use Rattle.pm_disasm.specs.Item.{Item, size}
 use Rattle.pm_disasm.specs.Item.Item.{OneByte}
@@ -7,10 +7,13 @@ use Rattle.pm_disasm.specs.Program.{item_places}
 use Rattle.pm_disasm.specs.Shown.{label_text, put_if, shown_item}
 use Rattle.pm_disasm.specs.Split.{Part, is_allowed_item}
 
--- Parts that stand one behind another from a place on, each item of the size of its bytes.
-abbrev pub Follow : ℕ → List Part → Type 0
-Follow at [] = Unit {0}
-Follow at (p ∷ ps) = (p.at ≡ at) × ((0 < length p.bytes) × (IfSome p.item (λ item. size at item ≡ length p.bytes) × Follow (at + length p.bytes) ps))
+abbrev pub Items : Type 0
+Items = List (Item ℕ)
+
+-- Parts that stand one behind another from a place to an end, each item of the size of its bytes.
+abbrev pub Follow : ℕ → ℕ → List Part → Type 0
+Follow at end [] = at ≡ end
+Follow at end (p ∷ ps) = (p.at ≡ at) × ((at + length p.bytes ≤ end) × (IfSome p.item (λ item. size at item ≡ length p.bytes) × Follow (at + length p.bytes) end ps))
 
 -- the item of a part, if its jumps can be written
 abbrev pub leading : (ℕ → Bool) → Bool → Item ℕ → Bool

@@ -5,6 +5,7 @@ mod front;
 mod instruction;
 mod item;
 pub mod laws;
+mod lines;
 mod named;
 mod operands;
 mod parts;

@@ -1,6 +1,7 @@
 //! Code as text: an instruction, an item of a procedure, a procedure, and a code file.
 #![tactic(auto)]
 
+mod counts;
 mod front;
 mod instruction;
 mod item;
@@ -11,6 +12,7 @@ mod operands;
 mod parts;
 mod place;
 mod places;
+mod procedure;
 mod text;
 mod written;
 

@@ -2,6 +2,7 @@
 
 ghost use Rattle.std.specs.Prelude.{◌≡◌, ◌<◌, ◌≤◌, ◌^◌, ◌+◌, ◌-◌, ◌&&◌, nat_lt, drop, length, map, option_map, IfOk, IfSome};
 ghost use Rattle.std.specs.List.{list_any};
+ghost use Rattle.pm_disasm.specs.Follow.{Follow};
 ghost use Rattle.pm_disasm.specs.Split.{bytes_after_first, ends_of, part_of, parts, taken};
 ghost use Rattle.pm_disasm.specs.Views.{IsSetOf, front_seen, part_seen};
 
@@ -85,6 +86,7 @@ pub(crate) fn split<'a>(
     requires inside { begin ≤ length bytes.now }
     ensures parts { IfOk result (λ code. map part_seen code.parts.items ≡ parts forced.now 0 begin (drop begin bytes.now)) }
     ensures boundaries { IfOk result (λ code. IsSetOf code.boundaries (ends_of (length bytes.now) (parts forced.now 0 begin (drop begin bytes.now)))) }
+    ensures follow { IfOk result (λ code. Follow begin (length bytes.now) (map part_seen code.parts.items)) }
     ensures begin { IfOk result (λ code. code.boundaries.begin ≡ begin) }
     ensures size { IfOk result (λ code. length code.boundaries.marks.items ≡ length bytes.now - begin + 1) }
 {

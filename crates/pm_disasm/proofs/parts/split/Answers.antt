@@ -1,10 +1,15 @@
-use Rattle.std.proofs.Common.{◌≡◌, ◌+◌, ◌∷◌, ◌++◌, List, [], drop, length, map, sym, ap, ◌∙◌, arith, append_assoc}
-use Rattle.std.proofs.lemmas.List.{map-append}
+use Rattle.std.proofs.Common.{◌≡◌, ◌+◌, ◌∷◌, ◌++◌, List, [], drop, length, map, sym, ap, ◌∙◌, arith, append_assoc, append-nil, subst, length-drop}
+use Rattle.std.specs.List.{AllByRecursion}
+use Rattle.pm_opcode.proofs.ReadTakes.{IsBytes-from_index}
+use Rattle.pm_disasm.specs.Item.{IsByte}
+use Rattle.pm_disasm.specs.Follow.{Follow}
+use Rattle.pm_disasm.proofs.Fronts.{drop-bytes, from_bytes}
+use Rattle.std.proofs.lemmas.List.{drop_all, map-append}
 use Rattle.std.specs.Prelude.{◌||◌, ◌==◌}
 use Rattle.pm_disasm.specs.Program.{is_among}
 use Rattle.pm_disasm.specs.Split.{Part, ends_of, parts}
 use Rattle.pm_disasm.specs.Views.{has, part_seen}
-use Rattle.pm_disasm.proofs.Splitting.{next_part, next_places}
+use Rattle.pm_disasm.proofs.Splitting.{next_part, next_places, parts_follow}
 use Rattle.pm_disasm.proofs.parts.split.Goals as goal
 
 pub parts-preserved : goal.parts-preserved
@@ -28,3 +33,18 @@ parts-preserved c =
           ∙ next_places forced bytes at n (length bytes) place p (has c.parts.boundaries place) c.part_at-part.ensures.part next
           ∙ before.places place;
     }
+
+pub returns-clause-follow : goal.returns-clause-follow
+returns-clause-follow c =
+    let bytes = c.args.bytes.now in
+    let begin = c.args.begin in
+    let forced = c.args.forced.now in
+    let none : drop c.parts.at bytes ≡ [] = drop_all c.parts.at bytes (omega arith) in
+    let whole : map part_seen c.parts.parts.items ≡ parts forced 0 begin (drop begin bytes) =
+    sym (append-nil (map part_seen c.parts.parts.items)) ∙ ap (λ bs. map part_seen c.parts.parts.items ++ parts forced 0 c.parts.at bs) (sym none) ∙ c.parts.invariant.split in
+    let bounds : AllByRecursion IsByte (drop begin bytes) = drop-bytes begin bytes (from_bytes bytes (IsBytes-from_index bytes (λ i. omega (arith, c.type_inv.bytes i)))) in
+    let from : begin + 0 ≡ begin = omega arith in
+    let to : begin + length (drop begin bytes) ≡ length bytes = omega (arith, length-drop begin bytes, c.requires.inside) in
+    subst (λ n. Follow n (length bytes) (map part_seen c.parts.parts.items)) from
+    (subst (λ n. Follow (begin + 0) n (map part_seen c.parts.parts.items)) to
+    (subst (Follow (begin + 0) (begin + length (drop begin bytes))) (sym whole) (parts_follow forced 0 begin (drop begin bytes) bounds (omega arith))))

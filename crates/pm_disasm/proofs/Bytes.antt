@@ -1,6 +1,6 @@
 -- The bytes of items are bytes.
-use Rattle.std.proofs.Common.{◌≡◌, ◌<◌, ◌≤◌, ℕ, zero, suc, ◌+◌, ◌-◌, ◌*◌, ◌/◌, ◌%◌, Bool, true, false, cond, eqb, leb, List, [], ◌∷◌, ◌++◌, length, refl, sym, ap, ◌∙◌, subst, arith, inl, inr}
-use Rattle.std.specs.Prelude.{◌&&◌, ◌||◌, nat_le, nat_lt}
+use Rattle.std.proofs.Common.{◌≡◌, ◌<◌, ◌≤◌, ℕ, ◌+◌, ◌-◌, ◌*◌, ◌%◌, Bool, true, false, cond, eqb, leb, List, [], ◌∷◌, ◌++◌, length, arith, inl, inr}
+use Rattle.std.specs.Prelude.{◌||◌, nat_lt}
 use Rattle.std.specs.List.{AllByRecursion}
 use Rattle.std.proofs.lemmas.Bool.{and_parts, cases_Bool, cases_lt, eqb-true, ltb-true, le-leb, true≢false}
 use Rattle.std.proofs.lemmas.Bool.Decides.{nat_tests}
@@ -8,7 +8,7 @@ use Rattle.pm_opcode.specs.declared.operand_form.Form.{Form}
 use Rattle.pm_opcode.specs.declared.operand_form.Form.TheVariants as forms
 use Rattle.pm_opcode.specs.declared.instr.Instr.{Instr}
 use Rattle.pm_opcode.specs.Spelling.{operands, word, number, padding, flip, is_odd, is_sized, is_unsized, in_range}
-use Rattle.pm_disasm.specs.Item.{Item, IsItem, IsByte, item_bytes, size, names_place, case_opcode, jump_opcode, jump_byte, table_place, table_words}
+use Rattle.pm_disasm.specs.Item.{Item, IsItem, IsByte, item_bytes, size, names_place, jump_opcode, jump_byte, table_place, table_words}
 use Rattle.pm_disasm.specs.Item.Item.{Plain, Jump, Case, OneByte}
 use Rattle.pm_disasm.specs.Program.{AreItems, back_to, code_bytes, entry_bytes}
 use Rattle.pm_disasm.proofs.Places.{all-append, either}
@@ -79,12 +79,11 @@ are_item_bytes at (Jump op target) h = (h.1, (jump_byte-is_byte (at + 2) target 
 are_item_bytes at (Case low high otherwise places) h =
     let table = table_place at in
     let pad : List ℕ = padding (flip (is_odd at)) 0 in
-    let last : List ℕ = jump_opcode ∷ jump_byte table otherwise ∷ table_words table places in
-    (
+    let last : List ℕ = jump_opcode ∷ jump_byte table otherwise ∷ table_words table places in (
       omega arith,
       join_bytes pad (word low ++ (word high ++ last)) (padding_bytes (flip (is_odd at)))
-      (join_bytes (word low) (word high ++ last) (word_bytes low h.least)
-      (join_bytes (word high) last (word_bytes high h.greatest) (omega arith, (jump_byte-is_byte table otherwise h.near, table_bytes table places)))),
+          (join_bytes (word low) (word high ++ last) (word_bytes low h.least)
+          (join_bytes (word high) last (word_bytes high h.greatest) (omega arith, (jump_byte-is_byte table otherwise h.near, table_bytes table places)))),
     )
 are_item_bytes at (OneByte b) h = (h, tt)
 

@@ -1,14 +1,12 @@
 -- Where the procedures of a segment and its dictionary stand.
-use Rattle.std.proofs.Common.{◌≡◌, ◌<◌, ◌≤◌, ℕ, zero, suc, ◌+◌, ◌-◌, ◌*◌, ◌%◌, Bool, true, false, List, [], ◌∷◌, ◌++◌, length, map, take, drop, reverse, refl, sym, ap, ◌∙◌, subst, arith, append_assoc, length-append, drop-drop}
+use Rattle.std.proofs.Common.{◌≡◌, ◌<◌, ◌≤◌, ℕ, ◌+◌, ◌-◌, ◌*◌, List, [], ◌∷◌, ◌++◌, length, map, drop, reverse, refl, sym, ap, ◌∙◌, subst, arith, append_assoc, length-append, drop-drop}
 use Rattle.std.specs.List.{AllByRecursion}
 use Rattle.std.proofs.Math.Seq.{drop-append_seam}
 use Rattle.std.proofs.lemmas.List.{length-reverse, map-append, reverse-append}
 use Rattle.pm_opcode.specs.Spelling.{word}
-use Rattle.pm_disasm.specs.Item.{IsByte}
 use Rattle.pm_disasm.specs.Program.{Procedure, Segment, IsProcedure, IsSegment, FollowFrom, attribute_bytes, back_to, code_end, code_of, dictionary_bytes, entry_bytes, jtab_of, procedure_bytes, procedures_bytes, procedures_end, segment_bytes}
 use Rattle.pm_disasm.specs.Laws.{StandsIn}
 use Rattle.pm_disasm.proofs.Sizes.{length-code}
-use Rattle.pm_disasm.proofs.Again.{later, earlier}
 use Rattle.pm_disasm.proofs.Stored.{Table, length-entry_bytes}
 use Rattle.pm_disasm.proofs.Bytes.{AreBytes, join_bytes, word_bytes, are_code_bytes, are_entry_bytes}
 

@@ -1,6 +1,5 @@
 -- A segment of a program is shown as one of the same bytes.
-use Rattle.std.proofs.Common.{◌≡◌, ◌<◌, ◌≤◌, ℕ, zero, suc, ◌+◌, ◌-◌, ◌*◌, Bool, true, false, cond, ltb, List, [], ◌∷◌, ◌++◌, length, map, take, drop, get_or, reverse, refl, sym, ap, ◌∙◌, subst, arith, length-append, length-drop, drop-drop, Option, Some, None}
-use Rattle.std.specs.Prelude.{nat_lt, slice_index}
+use Rattle.std.proofs.Common.{◌≡◌, ◌≤◌, ℕ, ◌+◌, ◌-◌, ◌*◌, false, cond, ltb, List, [], ◌∷◌, ◌++◌, length, map, drop, reverse, refl, sym, ap, ◌∙◌, subst, arith, length-append, length-drop, drop-drop, Some}
 use Rattle.std.specs.List.{AllByRecursion}
 use Rattle.std.proofs.Math.Seq.{drop-append_seam}
 use Rattle.std.proofs.lemmas.Bool.{le-ltb}
@@ -9,12 +8,12 @@ use Rattle.pm_codefile.specs.Dictionary.{word_in}
 use Rattle.pm_codefile.specs.Segments.{attributes_in, procedures_in}
 use Rattle.pm_disasm.specs.Program.{Procedure, Segment, IsProcedure, IsSegment, AreInstructions, FollowFrom, back_to, dictionary_bytes, entry_bytes, jtab_of, procedure_bytes, procedures_bytes, procedures_end, segment_bytes}
 use Rattle.pm_disasm.specs.Split.{procedure_of}
-use Rattle.pm_disasm.specs.Shown.{missing_line, procedure_lines, procedures_lines, table_lines, table_lines_or, tables_lines}
-use Rattle.pm_disasm.specs.Laws.{StandsIn, attributes_of, IsShownAs, IsSameSegment}
+use Rattle.pm_disasm.specs.Shown.{missing_line, procedure_lines, procedures_lines, table_lines_or, tables_lines}
+use Rattle.pm_disasm.specs.Laws.{attributes_of, IsShownAs, IsSameSegment}
 use Rattle.pm_disasm.proofs.Again.{later}
 use Rattle.pm_disasm.proofs.Stored.{Table, first_word, other_words}
 use Rattle.pm_disasm.proofs.LeastCount.{procedure_is_shown}
-use Rattle.pm_disasm.proofs.Laid.{AllStand, all_stand, are_segment_bytes, dictionary_there, dictionary_reversed, length-procedures, tables_before}
+use Rattle.pm_disasm.proofs.Laid.{AllStand, all_stand, are_segment_bytes, dictionary_there, dictionary_reversed, tables_before}
 use Rattle.pm_disasm.proofs.Tables.{table_found, stored_byte}
 
 -- what is shown for procedures that are numbered from one number on
@@ -34,8 +33,7 @@ all_found : (segment rest : List ℕ) (at number k : ℕ) (ps : List Procedure) 
 all_found segment rest at number k [] t e few s b = tt
 all_found segment rest at number k (p ∷ ps) t e few s b =
     let place = length segment + 6 - 10 - 2 * k in
-    let word : word_in segment place ≡ place - jtab_of p = first_word segment at (length segment + 6) k (jtab_of p) (map jtab_of ps) rest t in
-    (
+    let word : word_in segment place ≡ place - jtab_of p = first_word segment at (length segment + 6) k (jtab_of p) (map jtab_of ps) rest t in (
       table_found segment number place p s.0 (omega (arith, e)) (omega (arith, few)) (omega (arith, t.ends, e)) word (omega (arith, t.ends, b.0)),
       all_found segment (back_to (at + 2 * length (map jtab_of ps)) (jtab_of p) ++ rest) at (number + 1) (k + 1) ps (other_words segment at (length segment + 6) k (jtab_of p) (map jtab_of ps) rest t) (omega (arith, e)) (omega (arith, few)) s.1 b.1,
     )
@@ -118,8 +116,8 @@ shown_well s h short =
         number = refl;
         name = refl;
         bytes = ap (λ bs. bs ++ (dictionary_bytes (procedures_end 0 qs) (reverse qs) ++ s.number ∷ length qs ∷ [])) shown.bytes
-        ∙ ap (λ bs. procedures_bytes 1 ps ++ (bs ++ s.number ∷ length qs ∷ [])) dictionary
-        ∙ ap (λ n. procedures_bytes 1 ps ++ (dictionary_bytes end (reverse ps) ++ s.number ∷ n ∷ [])) shown.count;
+            ∙ ap (λ bs. procedures_bytes 1 ps ++ (bs ++ s.number ∷ length qs ∷ [])) dictionary
+            ∙ ap (λ n. procedures_bytes 1 ps ++ (dictionary_bytes end (reverse ps) ++ s.number ∷ n ∷ [])) shown.count;
         same = λ i. ap (λ qs. record s { procedures = qs }) (shown.same i);
       };
       lines = ap (tables_lines bytes 1) count ∙ tables_shown bytes 1 ps stand found;

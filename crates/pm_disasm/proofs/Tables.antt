@@ -1,17 +1,14 @@
 -- The table of a procedure that stands in a segment is found by its number.
-use Rattle.std.proofs.Common.{◌≡◌, ◌<◌, ◌≤◌, ℕ, zero, suc, ◌+◌, ◌-◌, ◌*◌, ◌/◌, ◌%◌, Bool, true, false, cond, eqb, leb, List, [], ◌∷◌, ◌++◌, length, drop, get_or, reverse, refl, sym, ap, ◌∙◌, arith, length-append, drop-drop, Option, Some, None}
+use Rattle.std.proofs.Common.{◌≡◌, ◌≤◌, ℕ, ◌+◌, ◌-◌, ◌*◌, ◌%◌, Bool, true, leb, List, [], ◌∷◌, ◌++◌, length, drop, reverse, refl, sym, ap, ◌∙◌, arith, drop-drop, Some}
 use Rattle.std.specs.Prelude.{◌&&◌, nat_le, slice_index, ◌==◌}
-use Rattle.std.specs.Int.{w8, cast_signed}
 use Rattle.std.proofs.Math.Seq.{drop-append_seam}
 use Rattle.std.proofs.lemmas.List.{get_or-drop, length-reverse}
 use Rattle.std.proofs.lemmas.Bool.{and_from, le-leb, eq-eqb}
 use Rattle.pm_opcode.specs.Spelling.{word}
-use Rattle.pm_codefile.specs.declared.table.Attributes.{Attributes}
 use Rattle.pm_codefile.specs.Dictionary.{word_in}
 use Rattle.pm_codefile.specs.Segments.{attributes_in, given, less, procedures_in}
 use Rattle.pm_disasm.specs.Program.{Procedure, attribute_bytes, back_to, code_end, entry_bytes, jtab_of}
 use Rattle.pm_disasm.specs.Laws.{StandsIn, attributes_of}
-use Rattle.pm_disasm.proofs.Sizes.{length-code}
 use Rattle.pm_disasm.proofs.Again.{later, earlier}
 use Rattle.pm_disasm.proofs.Stored.{stored_word, length-entry_bytes}
 use Rattle.pm_disasm.proofs.Counts.{table_there}

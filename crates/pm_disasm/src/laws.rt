@@ -1,7 +1,7 @@
 //! What the text of code says of its bytes. The functions do nothing: their contracts are laws of the definitions that
 //! the disassembler meets.
 
-ghost use Rattle.pm_disasm.specs.Laws.{InstructionIsRead, SplitKeepsBytes, OwnCountFits, SmallerCountFails, ProcedureIsShown};
+ghost use Rattle.pm_disasm.specs.Laws.{InstructionIsRead, SplitKeepsBytes, OwnCountFits, SmallerCountFails, ProcedureIsShown, ProgramIsShown};
 
 /// An instruction is read in its own bytes, whatever follows them.
 pub fn instruction_is_read()
@@ -28,4 +28,10 @@ pub fn smaller_count_fails()
 /// are instructions.
 pub fn procedure_is_shown()
     ensures law { ProcedureIsShown }
+{}
+
+/// The text of a code file that holds a program is that of a program with the same bytes: of the same one, segment by segment,
+/// where all items are instructions.
+pub fn program_is_shown()
+    ensures law { ProgramIsShown }
 {}

@@ -10,7 +10,7 @@ use Rattle.pm_disasm.specs.Program.{code_bytes, end_of, boundaries, is_among, Is
 use Rattle.pm_disasm.specs.Split.{uncut, taken, Part, part_of, bytes_after_first, parts}
 use Rattle.pm_disasm.proofs.Sizes.{length-item, size-some, length-code}
 use Rattle.pm_disasm.proofs.Read.{instruction_is_read}
-use Rattle.pm_disasm.proofs.Places.{either}
+use Rattle.pm_disasm.proofs.Boundaries.{either}
 
 -- the parts that items are
 abbrev pub parts_of_items : ℕ → List (Item ℕ) → List Part

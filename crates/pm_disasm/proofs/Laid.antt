@@ -8,7 +8,7 @@ use Rattle.pm_disasm.specs.Program.{Procedure, Segment, IsProcedure, IsSegment, 
 use Rattle.pm_disasm.specs.Laws.{StandsIn}
 use Rattle.pm_disasm.proofs.Sizes.{length-code}
 use Rattle.pm_disasm.proofs.Stored.{Table, length-entry_bytes}
-use Rattle.pm_disasm.proofs.Bytes.{AreBytes, join_bytes, word_bytes, are_code_bytes, are_entry_bytes}
+use Rattle.pm_disasm.proofs.ItemBytes.{AreBytes, join_bytes, word_bytes, are_code_bytes, are_entry_bytes}
 
 pub length-procedure : (number : ℕ) (p : Procedure) → p.start + length (procedure_bytes number p) ≡ jtab_of p + 2
 length-procedure number p =

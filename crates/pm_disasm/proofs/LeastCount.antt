@@ -10,7 +10,7 @@ use Rattle.pm_disasm.specs.Program.{Procedure, AreItems, AreInstructions, code_e
 use Rattle.pm_disasm.specs.Split.{Part, parts, is_allowed, is_allowed_item, leads, written, written_as, ends_of, code_with, procedure_with, fits, least_from, with_count, procedure_of}
 use Rattle.pm_disasm.specs.Laws.{StandsIn, attributes_of, IsShownAs, ProcedureIsShown}
 use Rattle.pm_disasm.proofs.Again.{later, earlier}
-use Rattle.pm_disasm.proofs.Counts.{own_count, own_fits, smaller_count_fails}
+use Rattle.pm_disasm.proofs.OwnCount.{own_count, own_fits, smaller_count_fails}
 use Rattle.pm_disasm.proofs.ShownAs.{Counted, fits_counted, counted_shown}
 
 least_fits : (segment : List ℕ) (a : Attributes) (t count : ℕ) → IfSome (least_from segment a t count) (λ u. fits segment a u ≡ true)

@@ -8,7 +8,7 @@ use Rattle.pm_disasm.specs.Item.Target.{To, Through}
 use Rattle.pm_disasm.specs.Program.{code_bytes, end_of, boundaries, is_among, IsIn, AreItems, AreInstructions, NamesWithin, item_places, entries_needed}
 use Rattle.pm_disasm.specs.Split.{Front, Part, part_of, bytes_after_first, taken, parts, is_allowed, is_allowed_item, leads, written_as, written, ends_of, items_in}
 use Rattle.pm_disasm.proofs.Sizes.{length-code}
-use Rattle.pm_disasm.proofs.Places.{either, or_right, named_then}
+use Rattle.pm_disasm.proofs.Boundaries.{either, or_right, named_then}
 use Rattle.pm_disasm.proofs.Again.{parts_of_items, split_again, forced_whole}
 
 all_pass : (xs ps : List ℕ) → AllByRecursion (IsIn xs) ps → list_all (is_among xs) ps ≡ true

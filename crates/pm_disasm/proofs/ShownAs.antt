@@ -14,10 +14,10 @@ use Rattle.pm_disasm.specs.Laws.{StandsIn, attributes_of}
 use Rattle.pm_disasm.proofs.Sizes.{length-code}
 use Rattle.pm_disasm.proofs.Fronts.{take-bytes, drop-bytes}
 use Rattle.pm_disasm.proofs.Joined.{Joins, code_joined}
-use Rattle.pm_disasm.proofs.Places.{forced_written, jumps_written, or_right}
+use Rattle.pm_disasm.proofs.Boundaries.{forced_written, jumps_written, or_right}
 use Rattle.pm_disasm.proofs.Again.{later}
 use Rattle.pm_disasm.proofs.Stored.{entries_again, length-entry_places, length-entry_bytes}
-use Rattle.pm_disasm.proofs.Counts.{code_there, behind_code, level_again}
+use Rattle.pm_disasm.proofs.OwnCount.{code_there, behind_code, level_again}
 
 -- What a count of entries has to meet for a procedure to be shown with it.
 pub record Counted (segment : List ℕ) (number : ℕ) (p : Procedure) (allowed : Bool) (t : ℕ) : Type 0 where

@@ -9,7 +9,7 @@ use Rattle.pm_codefile.specs.Dictionary.{segment_in, slot_in}
 use Rattle.pm_disasm.specs.Program.{Segment, IsSegment, AreShort, AscendFrom, is_name_character, is_segment_name, segment_bytes}
 use Rattle.pm_disasm.specs.Shown.{cut, file_text, joined, name_of, or_mark, procedures_lines, program_text, segment_line, segment_lines, segments_lines, shown_name, slot_lines, slots_lines}
 use Rattle.pm_disasm.specs.Laws.{Holds, IsSameSegment, ProgramIsShown, segment_numbered}
-use Rattle.pm_disasm.proofs.Places.{all-append}
+use Rattle.pm_disasm.proofs.Boundaries.{all-append}
 use Rattle.pm_disasm.proofs.ShownSegment.{ShownWell, shown_segment, shown_well}
 
 all-reverse : (P : ℕ → Type 0) (xs : List ℕ) → AllByRecursion P xs → AllByRecursion P (reverse xs)

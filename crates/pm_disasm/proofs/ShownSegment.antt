@@ -14,7 +14,7 @@ use Rattle.pm_disasm.proofs.Again.{later}
 use Rattle.pm_disasm.proofs.Stored.{Table, first_word, other_words}
 use Rattle.pm_disasm.proofs.LeastCount.{procedure_is_shown}
 use Rattle.pm_disasm.proofs.Laid.{AllStand, all_stand, are_segment_bytes, dictionary_there, dictionary_reversed, tables_before}
-use Rattle.pm_disasm.proofs.Tables.{table_found, stored_byte}
+use Rattle.pm_disasm.proofs.FoundTables.{table_found, stored_byte}
 
 -- what is shown for procedures that are numbered from one number on
 abbrev pub shown_from : List ℕ → ℕ → List Procedure → List Procedure

@@ -1,4 +1,4 @@
-use Rattle.pm_disasm.proofs.Counts.{own_count_fits}
+use Rattle.pm_disasm.proofs.OwnCount.{own_count_fits}
 use Rattle.pm_disasm.proofs.laws.own_count_fits.Goals as goal
 
 pub returns : goal.returns

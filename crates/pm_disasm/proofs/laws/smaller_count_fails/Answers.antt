@@ -1,4 +1,4 @@
-use Rattle.pm_disasm.proofs.Counts.{smaller_count_fails}
+use Rattle.pm_disasm.proofs.OwnCount.{smaller_count_fails}
 use Rattle.pm_disasm.proofs.laws.smaller_count_fails.Goals as goal
 
 pub returns : goal.returns

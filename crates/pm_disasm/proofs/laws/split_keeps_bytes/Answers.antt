@@ -1,5 +1,5 @@
 use Rattle.pm_disasm.proofs.Joined.{code_joined}
-use Rattle.pm_disasm.proofs.Places.{forced_written, jumps_written}
+use Rattle.pm_disasm.proofs.Boundaries.{forced_written, jumps_written}
 use Rattle.pm_disasm.proofs.laws.split_keeps_bytes.Goals as goal
 
 pub returns : goal.returns

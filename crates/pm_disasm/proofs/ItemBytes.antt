@@ -11,7 +11,7 @@ use Rattle.pm_opcode.specs.Spelling.{operands, word, number, padding, flip, is_o
 use Rattle.pm_disasm.specs.Item.{Item, IsItem, IsByte, item_bytes, size, names_place, jump_opcode, jump_byte, table_place, table_words}
 use Rattle.pm_disasm.specs.Item.Item.{Plain, Jump, Case, OneByte}
 use Rattle.pm_disasm.specs.Program.{AreItems, back_to, code_bytes, entry_bytes}
-use Rattle.pm_disasm.proofs.Places.{all-append, either}
+use Rattle.pm_disasm.proofs.Boundaries.{all-append, either}
 use Rattle.pm_disasm.proofs.Read.{jump_byte-is_byte}
 
 abbrev pub AreBytes : List ℕ → Type 0

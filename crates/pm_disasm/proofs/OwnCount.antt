@@ -11,7 +11,7 @@ use Rattle.pm_disasm.specs.Program.{Procedure, IsProcedure, IsIn, AreInstruction
 use Rattle.pm_disasm.specs.Split.{items_in, entry_places, are_after, end_with, code_with, procedure_with, fits}
 use Rattle.pm_disasm.specs.Laws.{StandsIn, attributes_of, OwnCountFits, SmallerCountFails}
 use Rattle.pm_disasm.proofs.Sizes.{length-code}
-use Rattle.pm_disasm.proofs.Places.{all-map}
+use Rattle.pm_disasm.proofs.Boundaries.{all-map}
 use Rattle.pm_disasm.proofs.Again.{later, earlier}
 use Rattle.pm_disasm.proofs.Own.{items_again, at_least_as_many}
 use Rattle.pm_disasm.proofs.Stored.{Table, entries_read, entries_after}

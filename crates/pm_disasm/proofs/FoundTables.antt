@@ -11,7 +11,7 @@ use Rattle.pm_disasm.specs.Program.{Procedure, attribute_bytes, back_to, code_en
 use Rattle.pm_disasm.specs.Laws.{StandsIn, attributes_of}
 use Rattle.pm_disasm.proofs.Again.{later, earlier}
 use Rattle.pm_disasm.proofs.Stored.{stored_word, length-entry_bytes}
-use Rattle.pm_disasm.proofs.Counts.{table_there}
+use Rattle.pm_disasm.proofs.OwnCount.{table_there}
 
 given_true : (b : Bool) → b ≡ true → given b ≡ Some tt
 given_true b e = rw e refl

@@ -1,18 +1,16 @@
 -- The instructions of a procedure are the parts of its code, whatever follows.
-use Rattle.std.proofs.Common.{◌≡◌, ◌<◌, ◌≤◌, ℕ, ◌+◌, ◌-◌, ◌⊎◌, Bool, true, false, ltb, eqb, max, List, [], ◌∷◌, ◌++◌, length, take, refl, sym, ap, ◌∙◌, subst, arith, inl, inr, append_assoc, append-nil, Option, Some}
-use Rattle.std.specs.Prelude.{◌&&◌, ◌||◌, nat_lt}
-use Rattle.std.specs.List.{list_any, list_all, AllByRecursion}
+use Rattle.std.proofs.Common.{◌≡◌, ◌<◌, ◌≤◌, ℕ, ◌+◌, ◌-◌, ◌⊎◌, Bool, true, false, ltb, eqb, List, [], ◌∷◌, ◌++◌, length, take, refl, sym, ap, ◌∙◌, arith, inl, inr, append_assoc, Option, Some}
+use Rattle.std.specs.Prelude.{◌&&◌, nat_lt}
+use Rattle.std.specs.List.{list_any, AllByRecursion}
 use Rattle.std.proofs.Math.Seq.{take-append_seam}
-use Rattle.std.proofs.lemmas.Bool.{le-ltb, eqb-true, and_from}
+use Rattle.std.proofs.lemmas.Bool.{le-ltb, eqb-true}
 use Rattle.std.proofs.lemmas.Bool.Decides.{nat_tests}
-use Rattle.pm_disasm.specs.Item.{Item, Target, item_bytes, size, is_instruction}
-use Rattle.pm_disasm.specs.Item.Item.{Plain, Jump, Case, OneByte}
-use Rattle.pm_disasm.specs.Item.Target.{To, Through}
-use Rattle.pm_disasm.specs.Program.{code_bytes, end_of, boundaries, is_among, IsIn, AreItems, AreInstructions, NamesWithin, item_places, entries_for, entries_used, entries_needed}
-use Rattle.pm_disasm.specs.Split.{Front, front, uncut, taken, Part, part_of, bytes_after_first, parts, is_allowed_item, leads, written_as, written, ends_of, items_in}
+use Rattle.pm_disasm.specs.Item.{Item, item_bytes, size}
+use Rattle.pm_disasm.specs.Program.{code_bytes, end_of, boundaries, is_among, IsIn, AreItems, AreInstructions}
+use Rattle.pm_disasm.specs.Split.{uncut, taken, Part, part_of, bytes_after_first, parts}
 use Rattle.pm_disasm.proofs.Sizes.{length-item, size-some, length-code}
-use Rattle.pm_disasm.proofs.Read.{found, instruction_is_read}
-use Rattle.pm_disasm.proofs.Boundaries.{either, or_right, named_then}
+use Rattle.pm_disasm.proofs.Read.{instruction_is_read}
+use Rattle.pm_disasm.proofs.Boundaries.{either}
 
 -- the parts that items are
 abbrev pub parts_of_items : ℕ → List (Item ℕ) → List Part

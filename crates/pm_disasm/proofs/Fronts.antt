@@ -1,6 +1,6 @@
 -- What is read at the front of bytes is an item of those bytes.
-use Rattle.std.proofs.Common.{◌≡◌, ◌<◌, ◌≤◌, ℕ, zero, suc, ◌+◌, ◌-◌, ◌*◌, ◌/◌, ◌%◌, Bool, true, false, cond, ltb, leb, eqb, List, [], ◌∷◌, ◌++◌, length, take, drop, get_or, refl, sym, ap, ◌∙◌, subst, arith, inl, inr, append_assoc, length-append, IfSome, IfOk, Option, Some, None, Result, Ok, Err}
-use Rattle.std.specs.Prelude.{◌&&◌, nat_lt, nat_le, ◌==◌, replicate}
+use Rattle.std.proofs.Common.{◌≡◌, ◌<◌, ◌≤◌, ℕ, zero, suc, ◌+◌, ◌-◌, ◌*◌, ◌/◌, ◌%◌, Bool, true, false, cond, ltb, eqb, List, [], ◌∷◌, ◌++◌, length, take, drop, refl, sym, ap, ◌∙◌, subst, arith, inl, inr, append_assoc, length-append, IfSome, IfOk, Option, Some, None, Result, Ok, Err}
+use Rattle.std.specs.Prelude.{◌&&◌, nat_le, ◌==◌}
 use Rattle.std.specs.List.{AllByRecursion}
 use Rattle.std.proofs.Math.Seq.{take-append_seam}
 use Rattle.std.proofs.lemmas.Bool.{le-ltb, lt-ltb, ltb-true, eqb-true, agree_below_at, and_parts, cases_Bool, cases_lt, true≢false}
@@ -10,17 +10,17 @@ use Rattle.pm_opcode.specs.declared.operand_form.Form.TheVariants as forms
 use Rattle.pm_opcode.specs.declared.instr.Instr.{Instr}
 use Rattle.pm_opcode.specs.declared.instr.Decode.{Decode}
 use Rattle.pm_opcode.specs.Table.{groups, form_of}
-use Rattle.pm_opcode.specs.Spelling.{spelling, operands, word, padding, flip, is_odd, is_sized, is_unsized, in_range, has_spelling, lies_within, jump_count, names_bytes, named_by, signed_byte}
-use Rattle.pm_opcode.specs.Standing.{clear, standing, Stands}
+use Rattle.pm_opcode.specs.Spelling.{spelling, operands, word, padding, flip, is_odd, is_sized, in_range, lies_within, jump_count, names_bytes, named_by}
+use Rattle.pm_opcode.specs.Standing.{clear, Stands}
 use Rattle.pm_opcode.specs.Reading.{reading}
 use Rattle.pm_opcode.proofs.Takes.{IsBytes}
-use Rattle.pm_opcode.proofs.ReadTakes.{reading_takes, IsBytes-drop}
-use Rattle.pm_opcode.proofs.ReadAgain.{length-operands, length-named_by}
+use Rattle.pm_opcode.proofs.ReadTakes.{reading_takes}
+use Rattle.pm_opcode.proofs.ReadAgain.{length-named_by}
 use Rattle.pm_words.specs.Words.{words_of}
 use Rattle.pm_words.proofs.Pairs.{length-words_of}
-use Rattle.pm_disasm.specs.Item.{Item, Target, IsItem, IsPlain, IsCase, IsNear, IsByte, item_bytes, size, is_instruction, names_place, case_opcode, jump_opcode, jump_byte, table_place, table_words}
-use Rattle.pm_disasm.specs.Item.Item.{Plain, Jump, Case, OneByte}
-use Rattle.pm_disasm.specs.Item.Target.{To, Through}
+use Rattle.pm_disasm.specs.Item.{Item, Target, IsItem, IsNear, IsByte, item_bytes, size, names_place, jump_opcode, jump_byte, table_place, table_words}
+use Rattle.pm_disasm.specs.Item.Item.{Plain, Case}
+use Rattle.pm_disasm.specs.Item.Target.{Through}
 use Rattle.pm_disasm.specs.Split.{Front, front, front_by, item_of, has_zero_padding, standing_at, target_of, jump_item, case_item, table_places, by_operands}
 use Rattle.pm_disasm.proofs.Read.{drop-standing, no_count}
 use Rattle.pm_disasm.proofs.Sizes.{length-item}

@@ -1,10 +1,10 @@
 -- What is written for code are items of its bytes.
-use Rattle.std.proofs.Common.{◌≡◌, ◌<◌, ◌≤◌, ℕ, zero, suc, ◌+◌, ◌-◌, Bool, true, false, cond, List, [], ◌∷◌, ◌++◌, length, map, take, drop, refl, sym, ap, ◌∙◌, subst, arith, append-nil, IfSome, Option, Some, None}
+use Rattle.std.proofs.Common.{◌≡◌, ℕ, zero, suc, ◌+◌, ◌-◌, Bool, true, false, cond, List, [], ◌∷◌, ◌++◌, length, map, take, drop, refl, sym, ap, ◌∙◌, subst, arith, append-nil, IfSome, Option, Some, None}
 use Rattle.std.specs.Prelude.{◌&&◌, nat_lt}
 use Rattle.std.specs.List.{list_any, AllByRecursion}
 use Rattle.std.proofs.lemmas.List.{take-append-drop}
 use Rattle.std.proofs.lemmas.Grind.{common_steps}
-use Rattle.pm_disasm.specs.Item.{Item, item_bytes, size, IsByte, IsItem}
+use Rattle.pm_disasm.specs.Item.{Item, item_bytes, size, IsByte}
 use Rattle.pm_disasm.specs.Item.Item.{OneByte}
 use Rattle.pm_disasm.specs.Program.{code_bytes, end_of, AreItems}
 use Rattle.pm_disasm.specs.Split.{Front, front, uncut, taken, part_of, bytes_after_first, parts, leads, written_as, written, ends_of, items_in}

@@ -1,6 +1,6 @@
 -- An instruction is read in its own bytes, whatever follows.
-use Rattle.std.proofs.Common.{◌≡◌, ◌<◌, ◌≤◌, ℕ, zero, suc, ◌+◌, ◌-◌, ◌*◌, ◌/◌, ◌%◌, Bool, true, false, cond, ltb, List, [], ◌∷◌, ◌++◌, length, take, drop, refl, sym, ap, ◌∙◌, arith, inl, inr, append_assoc, Option, Some, None, Ok}
-use Rattle.std.specs.Prelude.{◌&&◌, nat_lt, nat_le, ◌==◌, replicate}
+use Rattle.std.proofs.Common.{◌≡◌, ◌<◌, ℕ, ◌+◌, ◌-◌, ◌*◌, ◌/◌, ◌%◌, Bool, true, false, cond, ltb, List, [], ◌∷◌, ◌++◌, length, drop, refl, sym, ap, ◌∙◌, arith, inl, inr, append_assoc, Option, Some, Ok}
+use Rattle.std.specs.Prelude.{◌&&◌, nat_le, ◌==◌, replicate}
 use Rattle.std.specs.List.{AllByRecursion}
 use Rattle.std.proofs.Math.Seq.{drop-append_seam}
 use Rattle.std.proofs.lemmas.List.{length-replicate}
@@ -10,15 +10,15 @@ use Rattle.pm_opcode.specs.declared.operand_form.Form.{Form}
 use Rattle.pm_opcode.specs.declared.operand_form.Form.TheVariants as forms
 use Rattle.pm_opcode.specs.declared.instr.Instr.{Instr}
 use Rattle.pm_opcode.specs.Table.{groups, form_of}
-use Rattle.pm_opcode.specs.Spelling.{spelling, operands, word, padding, flip, is_odd, is_sized, in_range, jump_count, names_bytes, named_by, signed_byte}
+use Rattle.pm_opcode.specs.Spelling.{spelling, operands, is_odd, is_sized, in_range, jump_count, names_bytes, named_by, signed_byte}
 use Rattle.pm_opcode.specs.Standing.{clear, standing}
 use Rattle.pm_opcode.specs.Reading.{reading}
 use Rattle.pm_opcode.proofs.ReadAgain.{spelled_read, named_at}
 use Rattle.pm_words.specs.Words.{words_of}
-use Rattle.pm_disasm.specs.Item.{Item, Target, IsItem, IsPlain, IsCase, IsNear, item_bytes, size, is_instruction, names_place, case_opcode, jump_opcode, jump_byte, table_place, table_words}
+use Rattle.pm_disasm.specs.Item.{Item, Target, IsItem, IsPlain, IsCase, IsNear, item_bytes, size, is_instruction, names_place, jump_byte, table_place, table_words}
 use Rattle.pm_disasm.specs.Item.Item.{Plain, Jump, Case, OneByte}
 use Rattle.pm_disasm.specs.Item.Target.{To, Through}
-use Rattle.pm_disasm.specs.Split.{Front, front, front_by, item_of, has_zero_padding, standing_at, target_of, jump_item, case_item, table_places, by_operands}
+use Rattle.pm_disasm.specs.Split.{Front, front, front_by, item_of, has_zero_padding, standing_at, target_of, jump_item, table_places, by_operands}
 use Rattle.pm_disasm.proofs.Sizes.{length-table_words, length-item}
 
 pub drop-standing : (at : ℕ) (bytes : List ℕ) → drop at (standing_at at bytes) ≡ bytes

@@ -1,5 +1,5 @@
 -- How many bytes items have.
-use Rattle.std.proofs.Common.{◌≡◌, ◌<◌, ◌≤◌, ℕ, ◌+◌, ◌*◌, List, [], ◌∷◌, ◌++◌, length, refl, sym, ap, ◌∙◌, arith, length-append, append_assoc}
+use Rattle.std.proofs.Common.{◌≡◌, ◌<◌, ℕ, ◌+◌, ◌*◌, List, [], ◌∷◌, ◌++◌, length, refl, sym, ap, ◌∙◌, arith, length-append, append_assoc}
 use Rattle.pm_opcode.specs.Spelling.{word, padding, flip, is_odd}
 use Rattle.pm_disasm.specs.Item.{Item, item_bytes, size, table_words, table_place, jump_byte, jump_opcode}
 use Rattle.pm_disasm.specs.Item.Item.{Plain, Jump, Case, OneByte}

@@ -1,9 +1,9 @@
 -- A jump table that stands in a segment.
-use Rattle.std.proofs.Common.{◌≡◌, ◌<◌, ◌≤◌, ℕ, zero, suc, ◌+◌, ◌-◌, ◌*◌, ◌/◌, ◌%◌, Bool, true, false, leb, List, [], ◌∷◌, ◌++◌, length, take, drop, get_or, reverse, refl, sym, ap, ◌∙◌, subst, arith, append_assoc, length-append, length-drop, drop-drop}
-use Rattle.std.specs.Prelude.{◌&&◌, nat_le}
+use Rattle.std.proofs.Common.{◌≡◌, ◌≤◌, ℕ, zero, suc, ◌+◌, ◌-◌, ◌*◌, ◌/◌, ◌%◌, true, List, [], ◌∷◌, ◌++◌, length, take, drop, get_or, reverse, refl, sym, ap, ◌∙◌, arith, append_assoc, length-drop, drop-drop}
+use Rattle.std.specs.Prelude.{nat_le}
 use Rattle.std.specs.List.{AllByRecursion}
-use Rattle.std.proofs.Math.Seq.{take-add, drop-append_seam}
-use Rattle.std.proofs.lemmas.List.{get_or-drop, reverse-append, length-reverse, get_or-append_right}
+use Rattle.std.proofs.Math.Seq.{take-add}
+use Rattle.std.proofs.lemmas.List.{get_or-drop, reverse-append, length-reverse}
 use Rattle.std.proofs.lemmas.Bool.{and_from, and_parts, le-leb, leb-true}
 use Rattle.pm_opcode.specs.Spelling.{word}
 use Rattle.pm_codefile.specs.Dictionary.{word_in}
@@ -56,7 +56,7 @@ pub record Table (segment : List ℕ) (at jtab k : ℕ) (places rest : List ℕ)
   pub ends : jtab ≡ at + 2 * length places + 8 + 2 * k
 
 -- its first entry, and the table of the others
-first_word : (segment : List ℕ) (at jtab k place : ℕ) (places rest : List ℕ) → Table segment at jtab k (place ∷ places) rest → word_in segment (jtab - 10 - 2 * k) ≡ (jtab - 10 - 2 * k) - place
+pub first_word : (segment : List ℕ) (at jtab k place : ℕ) (places rest : List ℕ) → Table segment at jtab k (place ∷ places) rest → word_in segment (jtab - 10 - 2 * k) ≡ (jtab - 10 - 2 * k) - place
 first_word segment at jtab k place places rest t =
     let here : at + 2 * length places ≡ jtab - 10 - 2 * k = omega (arith, t.ends) in
     let before : List ℕ = entry_bytes at (reverse places) in
@@ -65,7 +65,7 @@ first_word segment at jtab k place places rest t =
     (t.there ∙ ap (λ bs. bs ++ rest) (entries-first at place places) ∙ append_assoc before (back_to (at + 2 * length places) place) rest ∙ ap (λ n. before ++ (back_to n place ++ rest)) here)
     (omega (arith, long, here))
 
-other_words : (segment : List ℕ) (at jtab k place : ℕ) (places rest : List ℕ) → Table segment at jtab k (place ∷ places) rest → Table segment at jtab (k + 1) places (back_to (at + 2 * length places) place ++ rest)
+pub other_words : (segment : List ℕ) (at jtab k place : ℕ) (places rest : List ℕ) → Table segment at jtab k (place ∷ places) rest → Table segment at jtab (k + 1) places (back_to (at + 2 * length places) place ++ rest)
 other_words segment at jtab k place places rest t = record {
   there = t.there ∙ ap (λ bs. bs ++ rest) (entries-first at place places) ∙ append_assoc (entry_bytes at (reverse places)) (back_to (at + 2 * length places) place) rest;
   ends = omega (arith, t.ends);

@@ -4,7 +4,6 @@ use Rattle.std.specs.Int.{w8, cast_signed}
 use Rattle.std.specs.List.{AllByRecursion, AllZip}
 use Rattle.pm_codefile.specs.declared.table.Attributes.{Attributes}
 use Rattle.pm_codefile.specs.Dictionary.{segment_in, slot_in}
-use Rattle.pm_codefile.specs.Segments.{attributes_in}
 use Rattle.pm_disasm.specs.Item.{Item, IsItem, IsByte, item_bytes, size, is_instruction}
 use Rattle.pm_disasm.specs.Program.{Procedure, Segment, AreItems, AreInstructions, AreShort, IsIn, IsProcedure, IsProgram, NamesWithin, boundaries, code_bytes, jtab_of, procedure_bytes, segment_bytes}
 use Rattle.pm_disasm.specs.Split.{Front, fits, front, items_in, procedure_of, procedure_with}
@@ -45,7 +44,6 @@ pub record StandsIn (segment : List ℕ) (number : ℕ) (p : Procedure) : Type 0
   pub rest : List ℕ
   pub there : drop p.start segment ≡ procedure_bytes number p ++ rest
   pub bytes : AllByRecursion IsByte segment
-  pub short : length segment < 65536
 
 -- For a procedure without a byte that is no instruction its own count of entries fits, and it is what is read with that count.
 abbrev pub OwnCountFits : Type 0

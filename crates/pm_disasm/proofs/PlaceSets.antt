@@ -72,7 +72,7 @@ entry_step es e q new old whole n i = ap (λ b. b || is_among es q) n ∙ swap (
     swap true false c = refl
     swap false b c = refl
 
-among-append : (xs ys : List ℕ) (q : ℕ) → is_among (xs ++ ys) q ≡ (is_among xs q || is_among ys q)
+pub among-append : (xs ys : List ℕ) (q : ℕ) → is_among (xs ++ ys) q ≡ (is_among xs q || is_among ys q)
 among-append [] ys q = refl
 among-append (x ∷ xs) ys q = ap (λ b. (x == q) || b) (among-append xs ys q) ∙ deeper (x == q) (is_among xs q) (is_among ys q)
   where

@@ -65,15 +65,27 @@ parts_follow forced zero at (b ∷ bytes) h s =
   where
     here : (o : Option Front) → IfSome o (Fronts at (b ∷ bytes)) → ((n : ℕ) → n ≤ length bytes → Follow (at + 1 + n) (at + suc (length bytes)) (parts forced n (at + 1) bytes))
         → Follow (at + 0) (at + suc (length bytes)) (part_of at (b ∷ bytes) o ∷ parts forced (bytes_after_first o) (at + 1) bytes)
-    here None f next = (let e : at ≡ at + 0 = omega arith in e, (let w : at + 0 + 1 ≤ at + suc (length bytes) = omega arith in w, (tt,
-      let e : at + 1 + 0 ≡ at + 0 + 1 = omega arith in subst (λ k. Follow k (at + suc (length bytes)) (parts forced 0 (at + 1) bytes)) e (next 0 (omega arith)))))
+    here None f next = (
+      let e : at ≡ at + 0 = omega arith in e,
+      (
+        let w : at + 0 + 1 ≤ at + suc (length bytes) = omega arith in w,
+        (
+          tt,
+          let e : at + 1 + 0 ≡ at + 0 + 1 = omega arith in subst (λ k. Follow k (at + suc (length bytes)) (parts forced 0 (at + 1) bytes)) e (next 0 (omega arith)),
+        ),
+      ),
+    )
     here (Some f) g next =
         let long : length (take f.size (b ∷ bytes)) ≡ f.size = length-take-le f.size (b ∷ bytes) g.within in (
           let e : at ≡ at + 0 = omega arith in e,
-          (let w : at + 0 + length (take f.size (b ∷ bytes)) ≤ at + suc (length bytes) = omega (arith, long, g.within) in w, (
-            item f.item long g.item,
-            let e : at + 1 + (f.size - 1) ≡ at + 0 + length (take f.size (b ∷ bytes)) = omega (arith, long, g.some) in
-            subst (λ k. Follow k (at + suc (length bytes)) (parts forced (f.size - 1) (at + 1) bytes)) e (next (f.size - 1) (omega (arith, g.within, g.some))))),
+          (
+            let w : at + 0 + length (take f.size (b ∷ bytes)) ≤ at + suc (length bytes) = omega (arith, long, g.within) in w,
+            (
+              item f.item long g.item,
+              let e : at + 1 + (f.size - 1) ≡ at + 0 + length (take f.size (b ∷ bytes)) = omega (arith, long, g.some) in
+                  subst (λ k. Follow k (at + suc (length bytes)) (parts forced (f.size - 1) (at + 1) bytes)) e (next (f.size - 1) (omega (arith, g.within, g.some))),
+            ),
+          ),
         )
       where
         item : (o : Option (Item ℕ)) → length (take f.size (b ∷ bytes)) ≡ f.size → IfSome o (Spells at (b ∷ bytes) f.size) → IfSome o (λ i. size (at + 0) i ≡ length (take f.size (b ∷ bytes)))

@@ -1,5 +1,6 @@
 -- Code as it is read with a count of entries.
-use Rattle.std.specs.Prelude.{◌≡◌, ◌<◌, ◌≤◌, ℕ, ◌+◌, ◌-◌, ◌*◌, ◌%◌, Bool, ◌&&◌, nat_le, List, ◌∷◌, length, map}
+use Rattle.std.specs.Prelude.{◌≡◌, ◌<◌, ◌≤◌, ℕ, ◌+◌, ◌-◌, ◌*◌, ◌%◌, Bool, ◌&&◌, nat_le, List, ◌∷◌, length, map, slice_index}
+use Rattle.std.specs.Int.{w8, cast_unsigned}
 use Rattle.std.specs.List.{AllByRecursion, list_all}
 use Rattle.pm_codefile.specs.declared.table.Attributes.{Attributes}
 use Rattle.pm_disasm.specs.declared.parts.Code.{Code}
@@ -8,11 +9,12 @@ use Rattle.pm_disasm.specs.Follow.{Follow}
 use Rattle.pm_disasm.specs.Split.{Part, are_after, code_with, end_with, ends_of, entry_places, parts}
 use Rattle.pm_disasm.specs.Views.{IsSetOf, part_seen}
 
--- A table that lies in a segment, its code places below it.
+-- A table that lies in a segment, its code places below it; its level is the byte above its place.
 pub record IsTable (segment : List ℕ) (a : Attributes) : Type 0 where
   pub within : a.jtab + 2 ≤ length segment
   pub enter : a.enter + 8 ≤ a.jtab
   pub exit : a.exit + 8 ≤ a.jtab
+  pub level : slice_index segment (a.jtab + 1) < 256 → cast_unsigned w8 a.level ≡ slice_index segment (a.jtab + 1)
 
 -- the forced places of a count of entries: the exit code and the places of the entries
 abbrev pub forced_with : List ℕ → Attributes → ℕ → List ℕ

@@ -1,10 +1,10 @@
 -- What the values of the code stand for.
 use Rattle.std.specs.Prelude.{◌≡◌, ◌<◌, ◌≤◌, ℕ, ◌+◌, ◌-◌, length, Bool, false, nat_le, ◌&&◌, get_or, List, Option, Some, None, option_map}
 use Rattle.pm_words.specs.Words.{words_of}
-use Rattle.pm_disasm.specs.declared.item.Item.{Item}
-use Rattle.pm_disasm.specs.declared.item.Item.TheVariants as items
-use Rattle.pm_disasm.specs.declared.item.Target.{Target}
-use Rattle.pm_disasm.specs.declared.item.Target.TheVariants as targets
+use Rattle.pm_disasm.specs.declared.items.Item.{Item}
+use Rattle.pm_disasm.specs.declared.items.Item.TheVariants as items
+use Rattle.pm_disasm.specs.declared.items.Target.{Target}
+use Rattle.pm_disasm.specs.declared.items.Target.TheVariants as targets
 use Rattle.pm_disasm.specs.declared.front.Front.{Front}
 use Rattle.pm_disasm.specs.declared.parts.Part.{Part}
 use Rattle.pm_disasm.specs.declared.places.PlaceSet.{PlaceSet}

@@ -8,7 +8,7 @@ ghost use Rattle.pm_opcode.specs.Spelling.{is_odd, named_by};
 ghost use Rattle.pm_disasm.specs.Split.{front, has_zero_padding, item_of, target_of};
 ghost use Rattle.pm_disasm.specs.Views.{front_seen, item_seen, target_seen};
 
-use crate::item::{Item, Table, Target};
+use crate::items::{Item, Table, Target};
 use crate::place::named_bytes;
 use pm_opcode::{Form, Instr, decode, form_at};
 

@@ -4,7 +4,7 @@
 mod counts;
 mod front;
 mod instruction;
-mod item;
+mod items;
 pub mod laws;
 mod lines;
 mod named;
@@ -12,12 +12,14 @@ mod operands;
 mod parts;
 mod place;
 mod places;
-mod procedure;
+mod procedures;
+mod segments;
 mod text;
 mod written;
 
 pub use instruction::Instruction;
 pub use place::Line;
+pub use segments::{file, item, procedure};
 pub use text::line;
 
 #[cfg(test)]

@@ -7,7 +7,7 @@ ghost use Rattle.pm_disasm.specs.Follow.{Follow, Items, code_lines_by, items_or_
 ghost use Rattle.pm_disasm.specs.Shown.{joined};
 ghost use Rattle.pm_disasm.specs.Views.{has, item_seen, part_seen};
 
-use crate::item::{Item, Label};
+use crate::items::{Item, Label};
 use crate::parts::Part;
 use crate::places::PlaceSet;
 use crate::written::item_led;

@@ -9,7 +9,7 @@ ghost use Rattle.pm_disasm.specs.Shown.{named_places};
 ghost use Rattle.pm_disasm.specs.Split.{table_places};
 ghost use Rattle.pm_disasm.specs.Views.{IsAlike, IsInside, has, item_seen, part_seen, target_seen};
 
-use crate::item::{Item, Table, Target, table_place};
+use crate::items::{Item, Table, Target, table_place};
 use crate::parts::Part;
 use crate::places::PlaceSet;
 use crate::written::item_led;

@@ -7,7 +7,7 @@ ghost use Rattle.pm_disasm.specs.Split.{bytes_after_first, ends_of, part_of, par
 ghost use Rattle.pm_disasm.specs.Views.{IsSetOf, front_seen, part_seen};
 
 use crate::front::{Front, front_at};
-use crate::item::Item;
+use crate::items::Item;
 use crate::places::PlaceSet;
 use std::alloc::{AllocError, Global};
 
@@ -26,9 +26,7 @@ pub(crate) struct Part<'a> {
 fn is_cut(forced: &[u16], begin: usize, end: usize) -> bool
     ensures cut { result ≡ list_any (λ place. nat_lt begin place && nat_lt place end) forced.now }
 {
-    forced
-        .iter()
-        .any(|place| begin < usize::from(*place) && usize::from(*place) < end)
+    forced.iter().any(|place| begin < usize::from(*place) && usize::from(*place) < end)
 }
 
 /// The instruction at a place, unless a forced place lies strictly inside.

@@ -34,10 +34,7 @@ impl PlaceSet {
         if place < self.begin {
             return false;
         }
-        self.marks
-            .get(place - self.begin)
-            .copied()
-            .unwrap_or(false)
+        self.marks.get(place - self.begin).copied().unwrap_or(false)
     }
 
     /// Adds a place.

@@ -9,7 +9,7 @@ ghost use Rattle.pm_disasm.specs.Shown.{named_places};
 ghost use Rattle.pm_disasm.specs.Split.{is_allowed, is_allowed_item, table_places};
 ghost use Rattle.pm_disasm.specs.Views.{IsSetOf, has, item_seen, part_seen, target_seen};
 
-use crate::item::{Item, Table, Target, table_place};
+use crate::items::{Item, Table, Target, table_place};
 use crate::parts::Part;
 use crate::places::PlaceSet;
 
@@ -52,11 +52,7 @@ fn leads(item: Item<'_>, boundaries: &PlaceSet, allowed: bool) -> bool
 }
 
 /// The item that is written for a part; None where it is written as bytes.
-pub(crate) fn item_led<'a>(
-    part: Part<'a>,
-    boundaries: &PlaceSet,
-    allowed: bool,
-) -> Option<Item<'a>>
+pub(crate) fn item_led<'a>(part: Part<'a>, boundaries: &PlaceSet, allowed: bool) -> Option<Item<'a>>
     ensures item { option_map item_seen result ≡ item_led (has boundaries.now) allowed (part_seen part.entry).item }
     ensures leads { IfSome result (λ item. list_all (has boundaries.now) (item_places (item_seen item)) ≡ true) }
 {

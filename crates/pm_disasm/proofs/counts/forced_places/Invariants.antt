@@ -7,5 +7,5 @@ use Rattle.pm_disasm.proofs.counts.forced_places.Given as goal
 abbrev pub invariant-loop-entry : goal.invariant-loop-entry
 invariant-loop-entry l = record {
   taken : l.forced.items ++ entry_places l.segment l.a.jtab l.entry (l.count - l.entry) ≡ forced_with l.segment l.a l.count;
-  inside : are_inside l.segment l.a l.end l.a.jtab l.entry (l.count - l.entry) ≡ are_inside l.segment l.a l.end l.a.jtab 0 l.count
+  inside : are_inside l.segment l.a l.end l.a.jtab l.entry (l.count - l.entry) ≡ are_inside l.segment l.a l.end l.a.jtab 0 l.count;
 }

@@ -26,6 +26,11 @@ returns c =
     let segment = c.args.segment.now in
     let a = c.args.a.now in
     let read = c.in_ok-code.ensures in
-    record { shown = (0, none_fits segment a c.loop-count.count (omega arith) c.loop-count.invariant,
-      is_reading segment a 0 _ _ _ c.from.result c.from.ensures c.requires.table c.requires.short (c.in_ok-push.ensures.items ∙ ap (λ v. v ++ a.exit ∷ []) c.new-forced.ensures.items) (omega arith) (omega (arith, c.requires.table.enter)) refl c.deref.ensures.value refl
-      (record { parts = read.parts; boundaries = read.boundaries; follow = read.follow; from = read.begin; size = read.size })) }
+    record {
+      shown = (
+        0,
+        none_fits segment a c.loop-count.count (omega arith) c.loop-count.invariant,
+        is_reading segment a 0 _ _ _ c.from.result c.from.ensures c.requires.table c.requires.short (c.in_ok-push.ensures.items ∙ ap (λ v. v ++ a.exit ∷ []) c.new-forced.ensures.items) (omega arith) (omega (arith, c.requires.table.enter)) refl c.deref.ensures.value refl
+            (record { parts = read.parts; boundaries = read.boundaries; follow = read.follow; from = read.begin; size = read.size }),
+      );
+    }

@@ -10,5 +10,5 @@ abbrev pub invariant-loop-entry : goal.invariant-loop-entry
 invariant-loop-entry l = record {
   alike : IsAlike l.named l.fn.named;
   within : AllByRecursion (IsInside l.fn.named) (drop l.entry-index l.entries);
-  places : (p : ℕ) → (has l.named p || is_among (drop l.entry-index l.entries) p) ≡ (has l.fn.named p || is_among l.entries p)
+  places : (p : ℕ) → (has l.named p || is_among (drop l.entry-index l.entries) p) ≡ (has l.fn.named p || is_among l.entries p);
 }

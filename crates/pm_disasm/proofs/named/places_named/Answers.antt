@@ -20,15 +20,15 @@ loop-part-preserved c =
     let before = λ (p : ℕ). ap (λ b. has c.loop-part.named p || b) (sym (at_drop_more (λ ps. is_among (named_places (written_by test allowed (map part_seen ps))) p) parts k _ c.loop-part-test.true)) ∙ c.loop-part.invariant.places p in
     elim c.match-item_led.branch [
       | in-Some w ↦ record {
-          alike = (ap (λ s. s.begin) w.named-is ∙ w.add_item.ensures.alike.0, ap (λ s. length s.marks.items) w.named-is ∙ w.add_item.ensures.alike.1);
-          places = λ p. ap (λ s. has s p || is_among (named_places (written_by test allowed rest)) p) w.named-is
-              ∙ part_step test allowed (part_seen (get_or parts k _)) rest p _ (has c.loop-part.named p) _ o c.item_led.ensures.item (w.add_item.ensures.has p ∙ ap (λ r. is_among (places_by (option_map item_seen r)) p || has c.loop-part.named p) (sym w.in-Some.is)) (before p);
-        }
+        alike = (ap (λ s. s.begin) w.named-is ∙ w.add_item.ensures.alike.0, ap (λ s. length s.marks.items) w.named-is ∙ w.add_item.ensures.alike.1);
+        places = λ p. ap (λ s. has s p || is_among (named_places (written_by test allowed rest)) p) w.named-is
+            ∙ part_step test allowed (part_seen (get_or parts k _)) rest p _ (has c.loop-part.named p) _ o c.item_led.ensures.item (w.add_item.ensures.has p ∙ ap (λ r. is_among (places_by (option_map item_seen r)) p || has c.loop-part.named p) (sym w.in-Some.is)) (before p);
+      }
       | in_default w ↦ record {
-          alike = (ap (λ s. s.begin) w.named-is ∙ c.loop-part.invariant.alike.0, ap (λ s. length s.marks.items) w.named-is ∙ c.loop-part.invariant.alike.1);
-          places = λ p. ap (λ s. has s p || is_among (named_places (written_by test allowed rest)) p) w.named-is
-              ∙ part_step test allowed (part_seen (get_or parts k _)) rest p _ (has c.loop-part.named p) _ o c.item_led.ensures.item (ap (λ r. is_among (places_by (option_map item_seen r)) p || has c.loop-part.named p) (sym w.in_default.is)) (before p);
-        }
+        alike = (ap (λ s. s.begin) w.named-is ∙ c.loop-part.invariant.alike.0, ap (λ s. length s.marks.items) w.named-is ∙ c.loop-part.invariant.alike.1);
+        places = λ p. ap (λ s. has s p || is_among (named_places (written_by test allowed rest)) p) w.named-is
+            ∙ part_step test allowed (part_seen (get_or parts k _)) rest p _ (has c.loop-part.named p) _ o c.item_led.ensures.item (ap (λ r. is_among (places_by (option_map item_seen r)) p || has c.loop-part.named p) (sym w.in_default.is)) (before p);
+      }
     ]
 
 pub returns-clause-has : goal.returns-clause-has

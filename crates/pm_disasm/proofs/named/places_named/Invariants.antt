@@ -11,5 +11,5 @@ abbrev pub invariant-loop-part : goal.invariant-loop-part
 invariant-loop-part l = record {
   alike : IsAlike l.named l.boundaries;
   places : (p : ℕ) → (has l.named p || is_among (named_places (written_by (has l.boundaries) l.allowed (map part_seen (drop l.part-index l.parts)))) p)
-  ≡ is_among (named_places (written_by (has l.boundaries) l.allowed (map part_seen l.parts))) p
+      ≡ is_among (named_places (written_by (has l.boundaries) l.allowed (map part_seen l.parts))) p;
 }

@@ -4,7 +4,7 @@ use Rattle.pm_words.specs.Words.{words_of}
 use Rattle.pm_disasm.specs.Split.{table_places}
 use Rattle.pm_disasm.specs.Shown.{label_text}
 use Rattle.pm_disasm.specs.Text.{more_operands}
-use Rattle.pm_disasm.proofs.item.PlacesDisplay.fmt.Given as goal
+use Rattle.pm_disasm.proofs.items.PlacesDisplay.fmt.Given as goal
 
 -- what is written, with what the other words give, is the whole
 abbrev pub invariant-loop-k : goal.invariant-loop-k

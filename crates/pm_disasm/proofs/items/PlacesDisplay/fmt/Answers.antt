@@ -3,7 +3,7 @@ use Rattle.std.specs.Prelude.{codes}
 use Rattle.std.proofs.Output.{has_written_append, has_written_of_eq}
 use Rattle.pm_disasm.specs.Shown.{label_text}
 use Rattle.pm_disasm.proofs.Words.{place_written, places_written}
-use Rattle.pm_disasm.proofs.item.PlacesDisplay.fmt.Goals as goal
+use Rattle.pm_disasm.proofs.items.PlacesDisplay.fmt.Goals as goal
 
 pub loop-k-preserved : goal.loop-k-preserved
 loop-k-preserved g c plain =

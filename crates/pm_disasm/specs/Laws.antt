@@ -1,0 +1,89 @@
+-- What the text of code says of its bytes.
+use Rattle.std.specs.Prelude.{◌≡◌, ℕ, ◌+◌, ◌-◌, ◌<◌, ◌≤◌, Bool, true, false, List, [], ◌∷◌, ◌++◌, length, drop, replicate, ◌==◌, if◌then◌else◌, Option, Some, None, option_map}
+use Rattle.std.specs.Int.{w8, cast_signed}
+use Rattle.std.specs.List.{AllByRecursion, AllZip}
+use Rattle.pm_codefile.specs.declared.table.Attributes.{Attributes}
+use Rattle.pm_codefile.specs.Dictionary.{segment_in, slot_in}
+use Rattle.pm_disasm.specs.Item.{Item, IsItem, IsByte, item_bytes, size, is_instruction}
+use Rattle.pm_disasm.specs.Program.{Procedure, Segment, AreItems, AreInstructions, AreShort, IsIn, IsProcedure, IsProgram, NamesWithin, boundaries, code_bytes, jtab_of, procedure_bytes, segment_bytes}
+use Rattle.pm_disasm.specs.Split.{Front, fits, front, items_in, procedure_of, procedure_with}
+use Rattle.pm_disasm.specs.Shown.{file_text, name_of, program_text}
+
+-- An instruction is read in its own bytes, whatever follows.
+abbrev pub InstructionIsRead : Type 0
+InstructionIsRead = (at : ℕ) (item : Item ℕ) (rest : List ℕ) → IsItem at item → is_instruction item ≡ true
+    → front at (item_bytes at item ++ rest) ≡ Some (record { size = size at item; item = Some item })
+
+-- What is written for code: items of the code's bytes, which name boundaries alone; and each forced place is a boundary.
+pub record IsWritten (forced : List ℕ) (at : ℕ) (code : List ℕ) (items : List (Item ℕ)) : Type 0 where
+  pub sound : AreItems at items
+  pub bytes : code_bytes at items ≡ code
+  pub jumps : AllByRecursion (NamesWithin (boundaries at items)) items
+  pub places : (place : ℕ) → IsIn forced place → at ≤ place → place ≤ at + length code → IsIn (boundaries at items) place
+
+-- Whatever count of jump entries is taken, the parts of code are items of the same bytes.
+abbrev pub SplitKeepsBytes : Type 0
+SplitKeepsBytes = (forced : List ℕ) (allowed : Bool) (at : ℕ) (code : List ℕ) → AllByRecursion IsByte code
+    → IsWritten forced at code (items_in forced allowed at code)
+
+-- what the table of a procedure says
+abbrev pub attributes_of : ℕ → Procedure → Attributes
+attributes_of number p = record { procedure = number; level = cast_signed w8 p.level; enter = p.start; exit = p.exit; parameters = p.parameters; locals = p.locals; jtab = jtab_of p }
+
+-- the item of an instruction that stands at an offset of a segment
+abbrev pub item_in : Option Front → Option (Item ℕ)
+item_in None = None
+item_in (Some f) = f.item
+
+unfoldable pub item_at : List ℕ → ℕ → Option (Item ℕ)
+item_at segment at = item_in (front at (drop at segment))
+
+-- A procedure stands in a segment.
+pub record StandsIn (segment : List ℕ) (number : ℕ) (p : Procedure) : Type 0 where
+  pub procedure : IsProcedure p
+  pub rest : List ℕ
+  pub there : drop p.start segment ≡ procedure_bytes number p ++ rest
+  pub bytes : AllByRecursion IsByte segment
+
+-- For a procedure without a byte that is no instruction its own count of entries fits, and it is what is read with that count.
+abbrev pub OwnCountFits : Type 0
+OwnCountFits = (segment : List ℕ) (number : ℕ) (p : Procedure) → StandsIn segment number p → AreInstructions p.items
+    → (procedure_with segment (attributes_of number p) true (length p.entries) ≡ p) × (fits segment (attributes_of number p) (length p.entries) ≡ true)
+
+-- No smaller count fits there.
+abbrev pub SmallerCountFails : Type 0
+SmallerCountFails = (segment : List ℕ) (number : ℕ) (p : Procedure) (t : ℕ) → StandsIn segment number p → AreInstructions p.items → t < length p.entries
+    → fits segment (attributes_of number p) t ≡ false
+
+-- A procedure of a program is shown as one of the same bytes at the same place: as itself where all its items are instructions.
+pub record IsShownAs (number : ℕ) (p q : Procedure) : Type 0 where
+  pub procedure : IsProcedure q
+  pub start : q.start ≡ p.start
+  pub jtab : jtab_of q ≡ jtab_of p
+  pub bytes : procedure_bytes number q ≡ procedure_bytes number p
+  pub same : AreInstructions p.items → q ≡ p
+
+abbrev pub ProcedureIsShown : Type 0
+ProcedureIsShown = (segment : List ℕ) (number : ℕ) (p : Procedure) → StandsIn segment number p → IsShownAs number p (procedure_of segment (attributes_of number p))
+
+-- the segment of a number
+abbrev pub segment_numbered : ℕ → List Segment → Option Segment
+segment_numbered n [] = None
+segment_numbered n (s ∷ ss) = if s.number == n then Some s else segment_numbered n ss
+
+-- A code file holds a program: a slot has the bytes of the segment of its number, and its name with spaces at the end, or no segment.
+pub record Holds (file : List ℕ) (ss : List Segment) : Type 0 where
+  pub segments : (n : ℕ) → n < 16 → segment_in file n ≡ option_map segment_bytes (segment_numbered n ss)
+  pub names : (n : ℕ) (s : Segment) → segment_numbered n ss ≡ Some s → name_of (slot_in file n) ≡ s.name ++ replicate (8 - length s.name) 32
+
+-- Segments of one number and name with the same bytes; and the same segments, where the items of the first are all instructions.
+pub record IsSameSegment (s t : Segment) : Type 0 where
+  pub number : t.number ≡ s.number
+  pub name : t.name ≡ s.name
+  pub bytes : segment_bytes t ≡ segment_bytes s
+  pub same : AllByRecursion (λ (p : Procedure). AreInstructions p.items) s.procedures → t ≡ s
+
+-- The text of a code file that holds a program is that of a program with the same bytes.
+abbrev pub ProgramIsShown : Type 0
+ProgramIsShown = (file : List ℕ) (ss : List Segment) → IsProgram ss → AreShort ss → Holds file ss
+    → (ts : List Segment) × IsProgram ts × AllZip IsSameSegment ss ts × (file_text file ≡ program_text ts)

@@ -14,7 +14,7 @@ use crate::breaks::{Breakpoint, Breaks};
 use crate::reason::Reason;
 use crate::refusal::{Refusal, refusal_of};
 use crate::run::run;
-use crate::views::{EMPTY_STACK, chain, words_at};
+use crate::views::{DYNAMIC_LINK, EMPTY_STACK, STATIC_LINK, chain, words_at};
 use crate::{breaks, text};
 use arrayvec::ArrayVec;
 use pm_machine::Machine;
@@ -62,7 +62,8 @@ impl Debugger {
     pub fn into_machine(self) -> Machine
         ensures machine { result ≡ self.machine }
     {
-        self.machine
+        let Debugger { machine, .. } = self;
+        machine
     }
 
     /// Sets a breakpoint: the number of a segment, the number of a procedure, and the distance in
@@ -127,26 +128,16 @@ impl Debugger {
     pub fn static_chain(&self, alloc: Global, limit: u16) -> Result<Vec<u16>, Refusal>
         ensures frames { ShowsChain (λ frames. frames.items) result (static_chain self.now.machine limit) }
     {
-        chain(
-            alloc,
-            self.machine.memory(),
-            0,
-            limit,
-            self.machine.registers().mp,
-        )
+        let frame = self.machine.registers().mp;
+        chain(alloc, self.machine.memory(), STATIC_LINK, limit, frame)
     }
 
     /// The frames from MP on by their dynamic links, as the static chain.
     pub fn dynamic_chain(&self, alloc: Global, limit: u16) -> Result<Vec<u16>, Refusal>
         ensures frames { ShowsChain (λ frames. frames.items) result (dynamic_chain self.now.machine limit) }
     {
-        chain(
-            alloc,
-            self.machine.memory(),
-            2,
-            limit,
-            self.machine.registers().mp,
-        )
+        let frame = self.machine.registers().mp;
+        chain(alloc, self.machine.memory(), DYNAMIC_LINK, limit, frame)
     }
 
     /// Variable `b` of the procedure `depth` static links up, the running one for 0. `TooDeep` for

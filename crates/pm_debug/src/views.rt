@@ -12,6 +12,12 @@ use std::alloc::{AllocError, Global};
 /// Where nothing stands on the stack.
 pub(crate) const EMPTY_STACK: u16 = 65_504;
 
+/// Where MSSTAT, the static link, stands in a frame.
+pub(crate) const STATIC_LINK: u16 = 0;
+
+/// Where MSDYN, the dynamic link, stands in a frame.
+pub(crate) const DYNAMIC_LINK: u16 = 2;
+
 /// The frame of the system, where every chain ends.
 const SYSTEM_FRAME: u16 = 65_492;
 

@@ -52,7 +52,7 @@ pub(crate) fn volume(
 }
 
 /// The machine that a volume on unit 4 boots.
-fn booted(alloc: Global, volume: Volume) -> Result<Machine, Fail> {
+pub(crate) fn booted(alloc: Global, volume: Volume) -> Result<Machine, Fail> {
     let volumes = [Some(volume), None, None, None, None, None];
     match Machine::boot(alloc, volumes, 4, "P", 0) {
         Ok(machine) => Ok(machine),

@@ -6,6 +6,8 @@ mod calls;
 #[cfg(test)]
 mod code;
 #[cfg(test)]
+mod debugger;
+#[cfg(test)]
 mod devices;
 #[cfg(test)]
 mod faults;

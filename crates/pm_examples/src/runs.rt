@@ -10,7 +10,7 @@ use std::process::Abort;
 use std::test::Fail;
 
 /// Reads one byte, which the console shows, again and again, until it is a full stop.
-const ECHO: [u8; 38] = [
+pub(crate) const ECHO: [u8; 38] = [
     0x01, 0xC7, 0xD0, 0x07, 0x00, 0x01, 0x00, 0x00, 0x9E, 0x05, 0xC7, 0xD0, 0x07, 0x00, 0xBE, 0x2E,
     0xC3, 0xA1, 0xF6, 0xD7, 0xC1, 0x00, 0x16, 0x00, 0x00, 0x00, 0x00, 0x00, 0x08, 0x00, 0x1E, 0x00,
     0x01, 0x00, 0x02, 0x00, 0x01, 0x01,
@@ -26,7 +26,7 @@ ended 5
 ";
 
 /// The disks of a job: a volume with a code file `P` on unit 4.
-fn disks(
+pub(crate) fn disks(
     alloc: Global,
     kind: u8,
     lengths: [u16; 3],
@@ -69,9 +69,9 @@ fn trace_job(alloc: Global, disks: [Option<Vec<u8>>; 6], limit: u32) -> Result<J
 }
 
 /// What a job comes to: status, message, what it writes, and how much of the input it leaves.
-type Told<'a> = (u8, &'a str, &'a str, usize);
+pub(crate) type Told<'a> = (u8, &'a str, &'a str, usize);
 
-fn tells(rt: &impl Abort, alloc: Global, job: Job, input: &[u8], told: Told<'_>) {
+pub(crate) fn tells(rt: &impl Abort, alloc: Global, job: Job, input: &[u8], told: Told<'_>) {
     let (ran, left) = job_run(alloc, job, input);
     ran.assert(rt, told.0, told.1, told.2);
     assert_eq!(rt; left, told.3);

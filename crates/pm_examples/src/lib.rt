@@ -6,6 +6,8 @@ mod calls;
 #[cfg(test)]
 mod code;
 #[cfg(test)]
+mod debugger;
+#[cfg(test)]
 mod devices;
 #[cfg(test)]
 mod faults;
@@ -23,6 +25,8 @@ mod raw;
 mod rows;
 #[cfg(test)]
 mod runs;
+#[cfg(test)]
+mod sessions;
 #[cfg(test)]
 mod streams;
 #[cfg(test)]

@@ -5,6 +5,7 @@ pub mod Pages
 pub mod Driven
 pub mod Kept
 pub mod Filing
+pub mod Coded
 pub mod Played
 pub mod Opening
 pub mod RunLaws

@@ -3,6 +3,7 @@ pub mod Hex
 pub mod Run
 pub mod Outcomes
 pub mod Disks
+pub mod Code
 pub mod Files
 pub mod Said
 pub mod Laws

@@ -9,6 +9,8 @@ use Rattle.pm_volume.specs.Faults.{entry_in_fault, number_of as volume_number}
 use Rattle.pm_volume.specs.declared.fault.VolumeFault.{VolumeFault}
 use Rattle.pm_textfile.specs.Faults.{place_of, number_of as text_number}
 use Rattle.pm_textfile.specs.declared.fault.TextFault.{TextFault}
+use Rattle.pm_codefile.specs.Faults.{slot_of, number_of as code_number}
+use Rattle.pm_codefile.specs.declared.fault.CodeFault.{CodeFault}
 use Rattle.pm_filer.specs.declared.fault.FilerFault.{FilerFault}
 use Rattle.pm_filer.specs.declared.fault.FilerFault.TheVariants as filer
 use Rattle.pm_tool.specs.declared.fault.Fault.{Fault}
@@ -56,7 +58,7 @@ error_text boot.BadCode = []
 error_text (boot.Exec error) = 32 ∷ decimal (number_of error)
 error_text boot.NoMemory = []
 
--- a space and the entry of the directory, the line or the place, where a fault names one
+-- a space and the entry of the directory, the slot, the line or the place, where a fault names one
 abbrev pub entry_text : Option ℕ → List ℕ
 entry_text None = []
 entry_text (Some entry) = 32 ∷ decimal entry
@@ -76,9 +78,14 @@ filer_text (filer.Text fault) = 50 ∷ 32 ∷ text_fault_text fault
 filer_text filer.BadDate = 51 ∷ []
 filer_text filer.NoMemory = 52 ∷ []
 
+-- the number of a code file's fault, and the slot that it names
+abbrev pub code_text : CodeFault → List ℕ
+code_text fault = decimal (code_number fault) ++ entry_text (slot_of fault)
+
 abbrev pub refusal_text : Refusal → List ℕ
 refusal_text refusals.Hex = codes "refused hex 1"
 refusal_text (refusals.Volume fault) = codes "refused volume " ++ volume_text fault
+refusal_text (refusals.Code fault) = codes "refused code " ++ code_text fault
 refusal_text (refusals.Filer fault) = codes "refused filer " ++ filer_text fault
 refusal_text (refusals.Boot fault) = codes "refused boot " ++ (decimal (boot_number fault) ++ error_text fault)
 

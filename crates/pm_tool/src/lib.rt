@@ -2,6 +2,7 @@
 #![tactic(auto)]
 
 mod answer;
+mod code;
 mod commands;
 mod debug;
 mod ending;

@@ -1,7 +1,8 @@
 //! Jobs, and what they come to.
 ghost use Rattle.std.specs.Prelude.{◌≡◌, [], List, ℕ, Some, None, IfOk, option_map, string_bytes, vec_items};
-ghost use Rattle.pm_tool.specs.Outcomes.{exit_number, refusal_text, text_fault_text, volume_text, IsOutcome, refused};
+ghost use Rattle.pm_tool.specs.Outcomes.{code_text, exit_number, refusal_text, text_fault_text, volume_text, IsOutcome, refused};
 
+use pm_codefile::CodeFault;
 use pm_filer::{Command, FilerFault};
 use pm_machine::BootFault;
 use pm_textfile::TextFault;
@@ -43,6 +44,9 @@ pub enum Job {
         disks: [Option<Vec<u8>>; 6],
         name: String,
     },
+    /// The input is a code file, and the output is its text: its segments by ascending slot, each with its procedures. An input
+    /// that is no code file is refused by `refused code N`, with the slot that the fault names.
+    Dis,
     /// A command on the volume that an image is. The input's bytes stand in the place of a put's, of bytes or text, and no
     /// other command reads any. The output is the list, the bytes or the text of a file; after a change the outcome has the
     /// image that is to be kept. An image that is no volume is refused by `refused volume N`, before the input is read; a command that the volume
@@ -154,6 +158,8 @@ pub(crate) enum Refusal {
     Volume(VolumeFault),
     /// A command is refused.
     Filer(FilerFault),
+    /// It is no code file.
+    Code(CodeFault),
 }
 
 /// The number of a volume's fault, and the entry that it names.
@@ -188,6 +194,22 @@ impl fmt::Display for TextNumber {
     }
 }
 
+/// The number of a code file's fault, and the slot that it names.
+#[derive(Clone, Copy)]
+struct CodeNumber(CodeFault);
+
+impl fmt::Display for CodeNumber {
+    ghost output = { λ fault. Some (code_text fault.0) };
+
+    fn fmt<W: fmt::Write>(&self, f: &mut fmt::Formatter<W>) -> fmt::Result {
+        let number = self.0.number();
+        match self.0.slot() {
+            Some(slot) => write!(f, "{number} {slot}"),
+            None => write!(f, "{number}"),
+        }
+    }
+}
+
 impl fmt::Display for Refusal {
     ghost output = { λ refusal. Some (refusal_text refusal) };
 
@@ -215,6 +237,10 @@ impl fmt::Display for Refusal {
             Refusal::Filer(FilerFault::Text(fault)) => {
                 let fault = TextNumber(fault);
                 write!(f, "refused filer 2 {fault}")
+            }
+            Refusal::Code(fault) => {
+                let fault = CodeNumber(fault);
+                write!(f, "refused code {fault}")
             }
             Refusal::Filer(FilerFault::BadDate) => write!(f, "refused filer 3"),
             Refusal::Filer(FilerFault::NoMemory) => write!(f, "refused filer 4"),

@@ -105,6 +105,11 @@ fn raw<'a>(alloc: Global) -> Result<Command<'a>, AllocError> {
         .arg(limit(alloc))
 }
 
+fn dis<'a>(alloc: Global) -> Command<'a> {
+    Command::new(alloc, "dis")
+        .about("Writes the text of the code file that standard input is: its segments, procedures and items")
+}
+
 fn command<'a>(alloc: Global) -> Result<Command<'a>, AllocError> {
     Command::new(alloc, "pmach")
         .about("The p-machine of UCSD Pascal version II. With no words it does `raw`")
@@ -112,7 +117,8 @@ fn command<'a>(alloc: Global) -> Result<Command<'a>, AllocError> {
         .subcommand(files(alloc)?)?
         .subcommand(run(alloc)?)?
         .subcommand(trace(alloc)?)?
-        .subcommand(debug(alloc)?)
+        .subcommand(debug(alloc)?)?
+        .subcommand(dis(alloc))
 }
 
 /// The number that decimal digits alone spell.
@@ -157,6 +163,7 @@ fn plan_asked(alloc: Global, matches: &ArgMatches<'_>) -> Result<Plan, WordsErro
         )),
         Some(("trace", matches)) => Ok(Plan::Trace(program_of(alloc, matches)?)),
         Some(("debug", matches)) => Ok(Plan::Debug(program_of(alloc, matches)?)),
+        Some(("dis", _)) => Ok(Plan::Job(Job::Dis)),
         Some((_, matches)) => Ok(Plan::Files(files_plan(alloc, matches)?)),
         None => Err(WordsError::NoCommand),
     }

@@ -1,0 +1,35 @@
+//! The job on a code file.
+ghost use Rattle.std.specs.Prelude.{◌≡◌, false, IfOk, IfErr, OnOk};
+ghost use Rattle.pm_tool.specs.Code.{said_dis};
+ghost use Rattle.pm_tool.specs.Said.{IsBrokenOff, IsDone};
+
+use crate::fault::Fault;
+use crate::outcome::{Exit, Outcome, Refusal, refuse};
+use crate::sink::{Sink, write_all};
+use crate::source::{Source, read_all};
+use pm_codefile::CodeFile;
+use std::alloc::Global;
+
+/// Writes the text of the code file that the input is.
+pub(crate) fn disassemble<R: Source, W: Sink>(
+    alloc: Global,
+    source: &mut R,
+    sink: &mut W,
+) -> Result<Outcome, Fault>
+    requires source_well { R.has_failed source.old ≡ false }
+    requires sink_well { W.has_failed sink.old ≡ false }
+    ensures done { IfOk result (λ outcome. IsDone (R.remaining source.old) (R.remaining source.new)
+        (W.contents sink.old) (W.contents sink.new) outcome said_dis) }
+    ensures well { OnOk result ((R.has_failed source.new ≡ false) × (W.has_failed sink.new ≡ false)) }
+    ensures broken { IfErr result (λ fault. IsBrokenOff (R.remaining source.old) (R.remaining source.new)
+        (W.contents sink.old) (W.contents sink.new) fault (R.has_failed source.new) (W.has_failed sink.new) said_dis) }
+{
+    let input = read_all(alloc, source)?;
+    let file = match CodeFile::read(&input) {
+        Ok(file) => file,
+        Err(fault) => return Ok(refuse(alloc, Refusal::Code(fault))?),
+    };
+    let text = pm_disasm::file(alloc, &file)?;
+    write_all(sink, text.as_bytes())?;
+    Ok(Outcome::plain(alloc, Exit::Ended, String::new(alloc)))
+}

@@ -1,0 +1,7 @@
+//! The assembler's text: what a line says, what is wrong in a text, and the program that it spells.
+#![tactic(auto)]
+
+mod fault;
+mod number;
+
+pub use fault::AsmFault;

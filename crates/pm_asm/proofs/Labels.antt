@@ -1,5 +1,5 @@
 -- The labels of a procedure without faults mean a procedure of a program.
-use Rattle.std.proofs.Common.{◌≡◌, ◌≤◌, ℕ, ◌+◌, Bool, true, false, List, [], ◌∷◌, ◌++◌, length, map, refl, sym, ap, subst, ◌∙◌, arith, Option, Some, None}
+use Rattle.std.proofs.Common.{◌≡◌, ℕ, ◌+◌, Bool, true, false, List, [], ◌∷◌, ◌++◌, length, map, refl, sym, ap, subst, ◌∙◌, Option, Some, None}
 use Rattle.std.specs.Prelude.{suc, ◌||◌, nat_lt, is_none}
 use Rattle.std.specs.List.{AllZip, list_any}
 use Rattle.std.specs.Option.{unwrap_or}
@@ -10,10 +10,10 @@ use Rattle.pm_disasm.specs.Item.Target.{To, Through}
 use Rattle.pm_disasm.specs.Program.{end_of}
 use Rattle.pm_asm.specs.declared.fault.AsmFault.{AsmFault}
 use Rattle.pm_asm.specs.declared.fault.AsmFault.TheVariants.{NoLabel, Far}
-use Rattle.pm_asm.specs.Source.{Name, Row, Source, items_of, row_items}
+use Rattle.pm_asm.specs.Source.{Name, Row, items_of}
 use Rattle.pm_asm.specs.Source.Row.{Items, Exit}
-use Rattle.pm_asm.specs.Faults.{Places, place_of, only_if, is_unknown_target, is_unknown_label, is_far_place, is_far, item_faults, items_faults, code_faults, entries_faults, label_faults}
-use Rattle.pm_asm.specs.Meaning.{LeadsTo, Means, ReachesFrom, IsNearFrom, AreNear, MeansProcedure, found_target, found_label, found_item, found_procedure}
+use Rattle.pm_asm.specs.Faults.{Places, place_of, only_if, is_unknown_target, is_unknown_label, is_far_place, is_far, item_faults, items_faults, code_faults, entries_faults}
+use Rattle.pm_asm.specs.Meaning.{LeadsTo, Means, ReachesFrom, IsNearFrom, AreNear, found_target, found_label, found_item}
 use Rattle.pm_asm.specs.Laws.{LabelsFound}
 
 pub both_empty : {A : Type 0} (xs ys : List A) → xs ++ ys ≡ [] → (xs ≡ []) × (ys ≡ [])

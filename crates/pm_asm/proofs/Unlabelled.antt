@@ -1,5 +1,5 @@
 -- A procedure that means a procedure of a program has no faults of labels, and means no other.
-use Rattle.std.proofs.Common.{◌≡◌, ◌≤◌, ℕ, ◌+◌, Bool, true, false, ltb, List, [], ◌∷◌, ◌++◌, map, refl, sym, ap, subst, ◌∙◌, Option, Some, None}
+use Rattle.std.proofs.Common.{◌≡◌, ℕ, ◌+◌, false, ltb, List, [], ◌∷◌, ◌++◌, map, refl, sym, ap, subst, ◌∙◌, Some}
 use Rattle.std.specs.Prelude.{◌||◌, is_none}
 use Rattle.std.specs.List.{AllZip, list_any}
 use Rattle.std.specs.Option.{unwrap_or}
@@ -8,11 +8,11 @@ use Rattle.pm_disasm.specs.Item.{Item, Target, size, table_place}
 use Rattle.pm_disasm.specs.Item.Item.{Plain, Jump, Case, OneByte}
 use Rattle.pm_disasm.specs.Item.Target.{To, Through}
 use Rattle.pm_disasm.specs.Program.{Procedure, end_of}
-use Rattle.pm_asm.specs.declared.fault.AsmFault.TheVariants.{NoLabel, Far}
-use Rattle.pm_asm.specs.Source.{Name, Row, Source, items_of}
+use Rattle.pm_asm.specs.declared.fault.AsmFault.TheVariants.{NoLabel}
+use Rattle.pm_asm.specs.Source.{Name, Row, items_of}
 use Rattle.pm_asm.specs.Source.Row.{Items, Exit}
 use Rattle.pm_asm.specs.Faults.{Places, place_of, only_if, is_unknown_target, is_unknown_label, is_far_place, is_far, item_faults, items_faults, code_faults, entries_faults}
-use Rattle.pm_asm.specs.Meaning.{LeadsTo, Means, ReachesFrom, IsNearFrom, AreNear, MeansProcedure, found_target, found_label, found_item, found_procedure}
+use Rattle.pm_asm.specs.Meaning.{LeadsTo, Means, ReachesFrom, IsNearFrom, AreNear, found_target, found_label, found_item, found_procedure}
 use Rattle.pm_asm.specs.Laws.{FoundIsFaultless}
 use Rattle.pm_asm.proofs.Labels.{found_size}
 

@@ -1,6 +1,6 @@
 //! Laws of the assembler's text, of what it spells and of its listing. The functions do nothing.
 ghost use Rattle.pm_asm.specs.Image.{ListingIsSegment};
-ghost use Rattle.pm_asm.specs.Laws.{FoundIsFaultless, LabelsFound};
+ghost use Rattle.pm_asm.specs.Laws.{FaultlessIsSaid, FoundIsFaultless, LabelsFound, SaidIsFaultless};
 
 /// The bytes of a segment's lines in a listing, joined, are the segment.
 #[tactic(auto, using(crate::proofs::Listed::listing_is_segment))]
@@ -17,4 +17,14 @@ pub fn labels_are_found()
 /// A procedure that means one of a program has no fault of its labels, and it means no other.
 pub fn found_is_faultless()
     ensures law { FoundIsFaultless }
+{}
+
+/// Where no line has a fault, the lines say sound segments with labels, those that the text is read as.
+pub fn faultless_is_said()
+    ensures law { FaultlessIsSaid }
+{}
+
+/// Where the lines say sound segments with labels, none has a fault, and they say no others.
+pub fn said_is_faultless()
+    ensures law { SaidIsFaultless }
 {}

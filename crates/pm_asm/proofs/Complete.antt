@@ -36,7 +36,7 @@ labels_append (Items line label items ∷ xs) ys = ap (λ zs. option_to_list lab
 labels_append (Exit ∷ xs) ys = labels_append xs ys
 
 -- an element among distinct ones is none of those before it
-new_among : {K : Type 0} (eq : K → K → Bool) (xs : List K) (y : K) (ys : List K) → IsDistinct eq (xs ++ y ∷ ys) → list_any (λ x. eq x y) xs ≡ false
+pub new_among : {K : Type 0} (eq : K → K → Bool) (xs : List K) (y : K) (ys : List K) → IsDistinct eq (xs ++ y ∷ ys) → list_any (λ x. eq x y) xs ≡ false
 unfolding IsDistinct
 new_among eq [] y ys h = refl
 new_among eq (x ∷ xs) y ys h = both (eq x y) (list_any (λ z. eq z y) xs) (at xs h.0) (new_among eq xs y ys h.1)

@@ -57,7 +57,7 @@ labels_known places (label ∷ labels) h =
     let parts = neither (is_unknown_label places label) (list_any (is_unknown_label places) labels) h in
     (label_known places label parts.0, labels_known places labels parts.1)
 
-map_length : {A B : Type 0} (f : A → B) (xs : List A) → length (map f xs) ≡ length xs
+pub map_length : {A B : Type 0} (f : A → B) (xs : List A) → length (map f xs) ≡ length xs
 map_length f [] = refl
 map_length f (x ∷ xs) = ap suc (map_length f xs)
 

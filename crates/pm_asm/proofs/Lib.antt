@@ -6,3 +6,7 @@ pub mod Complete
 pub mod Sound
 pub mod Lines
 pub mod Exactly
+pub mod Numerals
+pub mod Ranged
+pub mod Ends
+pub mod Spelled

@@ -34,7 +34,7 @@ record Steps (r : Reading) (s : Statement) : Type 0 where
 abbrev with : List SourceSegment → Option Source → Reading
 with segments current = record { segments = segments; current = current }
 
-all_append : {A : Type 0} (P : A → Type 0) (xs ys : List A) → AllByRecursion P xs → AllByRecursion P ys → AllByRecursion P (xs ++ ys)
+pub all_append : {A : Type 0} (P : A → Type 0) (xs ys : List A) → AllByRecursion P xs → AllByRecursion P ys → AllByRecursion P (xs ++ ys)
 all_append P [] ys h k = k
 all_append P (x ∷ xs) ys h k = (h.0, all_append P xs ys h.1 k)
 

@@ -1,6 +1,6 @@
 //! Laws of the assembler's text, of what it spells and of its listing. The functions do nothing.
 ghost use Rattle.pm_asm.specs.Image.{ListingIsSegment};
-ghost use Rattle.pm_asm.specs.Laws.{FaultlessIsSaid, FoundIsFaultless, LabelsFound, SaidIsFaultless};
+ghost use Rattle.pm_asm.specs.Laws.{FaultlessIsSaid, FaultlessIsSpelled, FoundIsFaultless, LabelsFound, SaidIsFaultless, SpelledIsFaultless};
 
 /// The bytes of a segment's lines in a listing, joined, are the segment.
 #[tactic(auto, using(crate::proofs::Listed::listing_is_segment))]
@@ -27,4 +27,14 @@ pub fn faultless_is_said()
 /// Where the lines say sound segments with labels, none has a fault, and they say no others.
 pub fn said_is_faultless()
     ensures law { SaidIsFaultless }
+{}
+
+/// A text without faults spells its program.
+pub fn faultless_is_spelled()
+    ensures law { FaultlessIsSpelled }
+{}
+
+/// A text that spells a program has no faults, and it spells no other.
+pub fn spelled_is_faultless()
+    ensures law { SpelledIsFaultless }
 {}

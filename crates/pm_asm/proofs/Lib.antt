@@ -10,3 +10,7 @@ pub mod Numerals
 pub mod Ranged
 pub mod Ends
 pub mod Spelled
+pub mod Goods
+pub mod Forms
+pub mod Texts
+pub mod Instructions

@@ -42,6 +42,9 @@ small true magnitude above w h e =
     omega (arith, same)
 small false magnitude above w h e = omega (arith, leb-true magnitude above e, mod-le magnitude w)
 
+pub stored_small : (above w : ℕ) (n : Numeral) → above < w → within 0 above n ≡ true → stored w n ≤ above
+stored_small above w n h e = small n.negative n.magnitude above w h e
+
 -- a number as one of w values is below w
 below : (negative : Bool) (magnitude w : ℕ) → 0 < w → (if negative then (w - magnitude) % w else magnitude % w) < w
 below true magnitude w h = mod-lt (w - magnitude) h

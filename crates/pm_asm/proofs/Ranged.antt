@@ -1,22 +1,28 @@
 -- What a line says without a flaw is in its ranges.
 use Rattle.std.proofs.Common.{◌≡◌, ◌<◌, ◌≤◌, ℕ, ◌+◌, ◌%◌, Bool, true, false, List, [], ◌∷◌, refl, sym, ap, subst, ◌∙◌, arith, Option, Some, None}
-use Rattle.std.specs.Prelude.{◌&&◌, if◌then◌else◌}
+use Rattle.std.specs.Prelude.{zero, suc, map, ◌&&◌, if◌then◌else◌}
 use Rattle.std.proofs.lemmas.Bool.{eqb-true}
 use Rattle.std.specs.List.{AllByRecursion, list_all}
 use Rattle.std.specs.Str.Lines.{lines}
-use Rattle.pm_disasm.specs.Item.{Item}
+use Rattle.std.specs.Map.{lookup}
+use Rattle.std.specs.Str.{bytes_eq}
+use Rattle.pm_opcode.specs.Table.{form_of, mnemonic_of}
+use Rattle.pm_disasm.specs.Item.{Item, IsByte}
+use Rattle.pm_disasm.specs.Item.Item.{OneByte}
+use Rattle.pm_asm.proofs.Goods.{IsGood, all_ranged, byte_ranged}
+use Rattle.pm_asm.proofs.Instructions.{checked_is, found_in, instruction_good}
 use Rattle.pm_disasm.specs.Program.{is_segment_name}
 use Rattle.pm_asm.specs.Words.{Cut, is_empty, is_name, cut, words}
 use Rattle.pm_asm.specs.Source.{Name, Statement}
 use Rattle.pm_asm.specs.Source.Row.{Items, Exit}
 use Rattle.pm_asm.specs.Source.Statement.{Segment, Begin, Code, Entry, End}
-use Rattle.pm_asm.specs.Line.{Flaw, Line, Operand, Said, ◌>>=◌, Keyword, numeral_operand, checked, said, saying, spoken, labelled, labelled_by, line_of_words, line_by, line_of, label_of, keyword_of, code_said, items_said, segment_operands, procedure_operands, entry_operands, no_operands, label_operand, size_operand, is_even, is_character, uncommented, ends_procedure}
-use Rattle.pm_asm.specs.Line.Flaw.{NoFlaw, OutOfRange}
+use Rattle.pm_asm.specs.Line.{Flaw, Line, Operand, Said, ◌>>=◌, Keyword, numeral_operand, said, saying, spoken, labelled, labelled_by, line_of_words, line_by, line_of, label_of, keyword_of, code_said, items_said, bytes_said, one_item, operands, byte_operand, all_operands, instruction_said, directives, named_from, mnemonic_keyword, keyword_or, segment_operands, procedure_operands, entry_operands, no_operands, label_operand, size_operand, is_even, is_character, uncommented, ends_procedure}
+use Rattle.pm_asm.specs.Line.Flaw.{NoFlaw}
 use Rattle.pm_asm.specs.Line.Line.{Blank, Wrong, Strange, Says}
 use Rattle.pm_asm.specs.Line.Keyword.{OfSegment, OfProcedure, OfExit, OfJump, OfEnd, OfBytes, Mnemonic}
 use Rattle.pm_asm.specs.Faults.{lines_from, lines_of}
 use Rattle.pm_asm.specs.Meaning.{AreSaid}
-use Rattle.pm_asm.proofs.Numerals.{Bound, bound, both, pair_is, numeral_small, numeral_below}
+use Rattle.pm_asm.proofs.Numerals.{some_is, Bound, bound, both, pair_is, numeral_small, numeral_below}
 
 abbrev pub IsSize : ℕ → Type 0
 IsSize n = (n < 65536) × (n % 2 ≡ 0)
@@ -25,16 +31,43 @@ IsSize n = (n < 65536) × (n % 2 ≡ 0)
 abbrev pub IsRanged : Statement → Type 0
 IsRanged (Segment number name) = (number < 16) × (is_segment_name name ≡ true)
 IsRanged (Begin number level parameters locals) = (number < 256) × (level < 256) × IsSize parameters × IsSize locals
+IsRanged (Code (Items line label items)) = AllByRecursion IsGood items
 IsRanged _ = Unit {0}
+
+-- A keyword whose opcode is one.
+abbrev IsKnown : Keyword → Type 0
+IsKnown (Mnemonic op) = op < 256
+IsKnown _ = Unit {0}
+
+named_small : (name : List ℕ) (from count op : ℕ) → named_from name from count ≡ Some op → op < from + count
+named_small name from zero op e = absurd (cc)
+named_small name from (suc count) op e = by (bytes_eq name (mnemonic_of from)) e (λ f. named_small name (from + 1) count op f)
+  where
+    by : (b : Bool) → (if b then Some from else named_from name (from + 1) count) ≡ Some op → (named_from name (from + 1) count ≡ Some op → op < from + 1 + count) → op < from + suc count
+    by true e more = omega (arith, some_is from op e)
+    by false e more = omega (arith, more e)
+
+directives_known : AllByRecursion (λ (e : Name × Keyword). IsKnown e.1) directives
+unfolding directives
+directives_known = (tt, (tt, (tt, (tt, (tt, (tt, tt))))))
+
+keyword_known : (name : List ℕ) (keyword : Keyword) → keyword_of name ≡ Some keyword → IsKnown keyword
+unfolding keyword_of
+keyword_known name keyword e = by (lookup (bytes_eq name) directives) refl e
+  where
+    opcode : (op : Option ℕ) → named_from name 0 256 ≡ op → mnemonic_keyword op ≡ Some keyword → IsKnown keyword
+    opcode None f e = absurd (cc)
+    opcode (Some op) f e = subst IsKnown (some_is (Mnemonic op) keyword e) (named_small name 0 256 op f)
+
+    by : (found : Option Keyword) → lookup (bytes_eq name) directives ≡ found → keyword_or name found ≡ Some keyword → IsKnown keyword
+    by None f e = opcode (named_from name 0 256) refl e
+    by (Some k) f e = subst IsKnown (some_is k keyword e) (found_in IsKnown (bytes_eq name) directives k directives_known f)
 
 abbrev pair_with : ℕ → Bool → Operand ℕ
 pair_with n in_range = Some (n, in_range)
 
--- what is checked without a flaw
-pub checked_is : {A : Type 0} (o : Operand A) (x : A) → checked o ≡ Some (x, NoFlaw) → o ≡ Some (x, true)
-checked_is None x e = absurd (cc)
-checked_is (Some (y, true)) x e = let p = pair_is y x NoFlaw NoFlaw e in ap (λ z. Some (z, true)) p.0
-checked_is (Some (y, false)) x e = absurd (let p = pair_is y x OutOfRange NoFlaw e in let q = p.1 in cc)
+abbrev flawed : {A : Type 0} → A → Flaw → Said A
+flawed x flaw = Some (x, flaw)
 
 abbrev named : Name → ℕ × Bool → Operand Statement
 named name k = Some (Segment k.0 name, k.1)
@@ -118,21 +151,56 @@ procedure_ranged (p ∷ level ∷ parameters ∷ []) s e = absurd (cc)
 procedure_ranged (p ∷ level ∷ parameters ∷ locals ∷ other ∷ others) s e = absurd (cc)
 procedure_ranged (p ∷ level ∷ parameters ∷ locals ∷ []) s e = begin_ranged p level parameters locals s e
 
-code_ranged : (line : ℕ) (label : Option Name) (keyword : Keyword) (rest : List ℕ) (s : Statement) → code_said line label (items_said keyword rest) ≡ Some (s, NoFlaw) → IsRanged s
-code_ranged line label keyword rest s e = by (items_said keyword rest) refl e
+ones_good : (bs : List ℕ) → AllByRecursion IsByte bs → AllByRecursion IsGood (map OneByte bs)
+ones_good [] h = tt
+ones_good (b ∷ bs) h = (h.0, ones_good bs h.1)
+
+abbrev bytes_of : List ℕ × Bool → Operand (List (Item Name))
+bytes_of bs = Some (map OneByte bs.0, bs.1)
+
+bytes_good : (texts : List (List ℕ)) (items : List (Item Name)) → bytes_said texts ≡ Some (items, true) → AllByRecursion IsGood items
+bytes_good [] items e = absurd (cc)
+bytes_good (text ∷ texts) items e =
+    let b = bound (all_operands byte_operand (text ∷ texts)) bytes_of (items, true) e in
+    let bs = b.value in
+    let parts = pair_is (map OneByte bs.0) items bs.1 true b.next in
+    subst (AllByRecursion IsGood) parts.0 (ones_good bs.0 (all_ranged IsByte byte_operand byte_ranged (text ∷ texts) bs b.first))
+
+item_good : (op : ℕ) (texts : List (List ℕ)) (items : List (Item Name)) → op < 256 → (instruction_said (form_of op) op texts >>= one_item) ≡ Some (items, NoFlaw) → AllByRecursion IsGood items
+item_good op texts items o e =
+    let b = bound (instruction_said (form_of op) op texts) one_item (items, NoFlaw) e in
+    let x = b.value in
+    let parts = pair_is (x.0 ∷ []) items x.1 NoFlaw b.next in
+    let right : instruction_said (form_of op) op texts ≡ Some (x.0, NoFlaw) = b.first ∙ ap (flawed x.0) parts.1 in
+    subst (AllByRecursion IsGood) parts.0 (instruction_good (form_of op) op texts x.0 o refl right, tt)
+
+items_good : (keyword : Keyword) (rest : List ℕ) (items : List (Item Name)) → IsKnown keyword → items_said keyword rest ≡ Some (items, NoFlaw) → AllByRecursion IsGood items
+items_good OfBytes rest items k e = bytes_good (operands rest) items (checked_is (bytes_said (operands rest)) items e)
+items_good (Mnemonic op) rest items k e = item_good op (operands rest) items k e
+items_good OfSegment rest items k e = absurd (cc)
+items_good OfProcedure rest items k e = absurd (cc)
+items_good OfExit rest items k e = absurd (cc)
+items_good OfJump rest items k e = absurd (cc)
+items_good OfEnd rest items k e = absurd (cc)
+
+code_ranged : (line : ℕ) (label : Option Name) (keyword : Keyword) (rest : List ℕ) (s : Statement) → IsKnown keyword → code_said line label (items_said keyword rest) ≡ Some (s, NoFlaw) → IsRanged s
+code_ranged line label keyword rest s k e = by (items_said keyword rest) refl e
   where
     by : (o : Said (List (Item Name))) → items_said keyword rest ≡ o → code_said line label o ≡ Some (s, NoFlaw) → IsRanged s
     by None f e = absurd (cc)
-    by (Some (items, flaw)) f e = let p = pair_is (Code (Items line label items)) s flaw NoFlaw e in subst IsRanged p.0 tt
+    by (Some (items, flaw)) f e =
+        let p = pair_is (Code (Items line label items)) s flaw NoFlaw e in
+        let right : items_said keyword rest ≡ Some (items, NoFlaw) = f ∙ ap (flawed items) p.1 in
+        subst IsRanged p.0 (items_good keyword rest items k right)
 
-said_ranged : (line : ℕ) (keyword : Keyword) (rest : List ℕ) (s : Statement) → said line keyword rest ≡ Some (s, NoFlaw) → IsRanged s
-said_ranged line OfSegment rest s e = segment_ranged (words rest) s (checked_is (segment_operands (words rest)) s e)
-said_ranged line OfProcedure rest s e = procedure_ranged (words rest) s (checked_is (procedure_operands (words rest)) s e)
-said_ranged line OfExit rest s e = subst IsRanged (none_said s (Code Exit) (words rest) (checked_is (no_operands (Code Exit) (words rest)) s e)) tt
-said_ranged line OfJump rest s e = entry_ranged line (words rest) s (checked_is (entry_operands line (words rest)) s e)
-said_ranged line OfEnd rest s e = subst IsRanged (none_said s End (words rest) (checked_is (no_operands End (words rest)) s e)) tt
-said_ranged line OfBytes rest s e = code_ranged line None OfBytes rest s e
-said_ranged line (Mnemonic op) rest s e = code_ranged line None (Mnemonic op) rest s e
+said_ranged : (line : ℕ) (keyword : Keyword) (rest : List ℕ) (s : Statement) → IsKnown keyword → said line keyword rest ≡ Some (s, NoFlaw) → IsRanged s
+said_ranged line OfSegment rest s k e = segment_ranged (words rest) s (checked_is (segment_operands (words rest)) s e)
+said_ranged line OfProcedure rest s k e = procedure_ranged (words rest) s (checked_is (procedure_operands (words rest)) s e)
+said_ranged line OfExit rest s k e = subst IsRanged (none_said s (Code Exit) (words rest) (checked_is (no_operands (Code Exit) (words rest)) s e)) tt
+said_ranged line OfJump rest s k e = entry_ranged line (words rest) s (checked_is (entry_operands line (words rest)) s e)
+said_ranged line OfEnd rest s k e = subst IsRanged (none_said s End (words rest) (checked_is (no_operands End (words rest)) s e)) tt
+said_ranged line OfBytes rest s k e = code_ranged line None OfBytes rest s k e
+said_ranged line (Mnemonic op) rest s k e = code_ranged line None (Mnemonic op) rest s k e
 
 says_is : (s t : Statement) (flaw other : Flaw) → Says s flaw ≡ Says t other → (s ≡ t) × (flaw ≡ other)
 says_is s t flaw other e = (cc, cc)
@@ -141,16 +209,16 @@ saying_is : (end : Bool) (o : Said Statement) (s : Statement) → saying end o �
 saying_is end None s e = absurd (cc)
 saying_is end (Some (t, flaw)) s e = let p = says_is t s flaw NoFlaw e in let one = p.0 in let other = p.1 in cc
 
-spoken_ranged : (line : ℕ) (rest : List ℕ) (keyword : Option Keyword) (s : Statement) → spoken line rest keyword ≡ Says s NoFlaw → IsRanged s
-spoken_ranged line rest None s e = absurd (cc)
-spoken_ranged line rest (Some keyword) s e = said_ranged line keyword rest s (saying_is (ends_procedure keyword) (said line keyword rest) s e)
+spoken_ranged : (line : ℕ) (rest : List ℕ) (keyword : Option Keyword) (s : Statement) → ((k : Keyword) → keyword ≡ Some k → IsKnown k) → spoken line rest keyword ≡ Says s NoFlaw → IsRanged s
+spoken_ranged line rest None s k e = absurd (cc)
+spoken_ranged line rest (Some keyword) s k e = said_ranged line keyword rest s (k keyword refl) (saying_is (ends_procedure keyword) (said line keyword rest) s e)
 
-labelled_by_ranged : (line : ℕ) (label rest : List ℕ) (keyword : Option Keyword) (s : Statement) → labelled_by line label rest keyword ≡ Says s NoFlaw → IsRanged s
-labelled_by_ranged line label rest None s e = absurd (cc)
-labelled_by_ranged line label rest (Some keyword) s e = by (is_name label) e
+labelled_by_ranged : (line : ℕ) (label rest : List ℕ) (keyword : Option Keyword) (s : Statement) → ((k : Keyword) → keyword ≡ Some k → IsKnown k) → labelled_by line label rest keyword ≡ Says s NoFlaw → IsRanged s
+labelled_by_ranged line label rest None s k e = absurd (cc)
+labelled_by_ranged line label rest (Some keyword) s k e = by (is_name label) e
   where
     by : (b : Bool) → (if b then saying false (code_said line (Some label) (items_said keyword rest)) else Wrong false) ≡ Says s NoFlaw → IsRanged s
-    by true e = code_ranged line (Some label) keyword rest s (saying_is false (code_said line (Some label) (items_said keyword rest)) s e)
+    by true e = code_ranged line (Some label) keyword rest s (k keyword refl) (saying_is false (code_said line (Some label) (items_said keyword rest)) s e)
     by false e = absurd (cc)
 
 labelled_ranged : (line : ℕ) (label rest word : List ℕ) (s : Statement) → labelled line label rest word ≡ Says s NoFlaw → IsRanged s
@@ -159,10 +227,10 @@ labelled_ranged line label rest [] s e = by (is_name label) e
     by : (b : Bool) → (if b then Says (Code (Items line (Some label) [])) NoFlaw else Wrong false) ≡ Says s NoFlaw → IsRanged s
     by true e = let p = says_is (Code (Items line (Some label) [])) s NoFlaw NoFlaw e in subst IsRanged p.0 tt
     by false e = absurd (cc)
-labelled_ranged line label rest (c ∷ cs) s e = labelled_by_ranged line label rest (keyword_of (c ∷ cs)) s e
+labelled_ranged line label rest (c ∷ cs) s e = labelled_by_ranged line label rest (keyword_of (c ∷ cs)) s (λ k f. keyword_known (c ∷ cs) k f) e
 
 words_ranged : (line : ℕ) (k : Cut) (label : Option Name) (s : Statement) → line_of_words line k label ≡ Says s NoFlaw → IsRanged s
-words_ranged line k None s e = spoken_ranged line k.rest (keyword_of k.word) s e
+words_ranged line k None s e = spoken_ranged line k.rest (keyword_of k.word) s (λ keyword f. keyword_known k.word keyword f) e
 words_ranged line k (Some label) s e = let next : Cut = cut k.rest in labelled_ranged line label next.rest next.word s e
 
 line_ranged : (line : ℕ) (text : List ℕ) (s : Statement) → line_of line text ≡ Says s NoFlaw → IsRanged s

@@ -14,3 +14,6 @@ pub mod Goods
 pub mod Forms
 pub mod Texts
 pub mod Instructions
+pub mod Sizes
+pub mod Placed
+pub mod Programs

@@ -16,11 +16,11 @@ use Rattle.pm_asm.proofs.Ends.{found_behind, all_ascending, ascending_all, all_s
 use Rattle.pm_asm.proofs.Ranged.{IsRanged, said_ranges}
 
 -- procedures without faults of labels, from an offset on
-record MeanFrom (at : ℕ) (ps : List Source) : Type 0 where
-  mean : AllZip MeansProcedure ps (found_procedures at ps)
-  follow : FollowFrom at (found_procedures at ps)
+pub record MeanFrom (at : ℕ) (ps : List Source) : Type 0 where
+  pub mean : AllZip MeansProcedure ps (found_procedures at ps)
+  pub follow : FollowFrom at (found_procedures at ps)
 
-procedures_found : (at : ℕ) (ps : List Source) → label_faults_from at ps ≡ [] → MeanFrom at ps
+pub procedures_found : (at : ℕ) (ps : List Source) → label_faults_from at ps ≡ [] → MeanFrom at ps
 procedures_found at [] h = record { mean = tt; follow = tt }
 procedures_found at (p ∷ ps) h =
     let next : ℕ = source_end at p in
@@ -29,7 +29,7 @@ procedures_found at (p ∷ ps) h =
     record { mean = (labels_found at p parts.0, more.mean); follow = (refl, subst (λ k. FollowFrom k (found_procedures next ps)) (sym (found_behind at p)) more.follow) }
 
 -- a segment whose labels have no fault
-abbrev IsClean : SourceSegment → Type 0
+abbrev pub IsClean : SourceSegment → Type 0
 IsClean s = label_faults_from 0 s.procedures ≡ []
 
 segment_found : (s : SourceSegment) → IsClean s → MeansSegment s (found_segment s)
@@ -89,7 +89,7 @@ segment_same s t n m p =
     ∙ ap (λ v. record s { number = t.number; name = v }) m
     ∙ ap (λ v. record t { procedures = v }) p
 
-segments_come : (ss : List SourceSegment) (ts : List Segment) → AllZip MeansSegment ss ts → AllByRecursion IsClean ss × (map found_segment ss ≡ ts)
+pub segments_come : (ss : List SourceSegment) (ts : List Segment) → AllZip MeansSegment ss ts → AllByRecursion IsClean ss × (map found_segment ss ≡ ts)
 segments_come [] [] h = (tt, refl)
 segments_come [] (t ∷ ts) h = absurd h
 segments_come (s ∷ ss) [] h = absurd h

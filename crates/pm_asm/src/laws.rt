@@ -1,6 +1,6 @@
 //! Laws of the assembler's text, of what it spells and of its listing. The functions do nothing.
 ghost use Rattle.pm_asm.specs.Image.{ListingIsSegment};
-ghost use Rattle.pm_asm.specs.Laws.{FaultlessIsSaid, FaultlessIsSpelled, FoundIsFaultless, LabelsFound, SaidIsFaultless, SpelledIsFaultless};
+ghost use Rattle.pm_asm.specs.Laws.{FaultlessIsSaid, FaultlessIsSpelled, FoundIsFaultless, LabelsFound, SaidIsFaultless, SpelledIsFaultless, SpelledIsProgram};
 
 /// The bytes of a segment's lines in a listing, joined, are the segment.
 #[tactic(auto, using(crate::proofs::Listed::listing_is_segment))]
@@ -37,4 +37,9 @@ pub fn faultless_is_spelled()
 /// A text that spells a program has no faults, and it spells no other.
 pub fn spelled_is_faultless()
     ensures law { SpelledIsFaultless }
+{}
+
+/// What a text spells is a program, where no segment has more than 60,000 bytes.
+pub fn spelled_is_program()
+    ensures law { SpelledIsProgram }
 {}

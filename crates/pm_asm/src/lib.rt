@@ -1,0 +1,8 @@
+//! The assembler's text: what a line says, what is wrong in a text, and the program that it spells.
+#![tactic(auto)]
+
+mod fault;
+pub mod laws;
+mod number;
+
+pub use fault::AsmFault;

@@ -1,0 +1,10 @@
+//! Numbers of a text.
+
+/// A number as a text writes it, cut off at a million, which is out of every range.
+#[derive(Clone, Copy, Debug, PartialEq, Eq)]
+pub struct Numeral {
+    /// There is a `-` before it.
+    pub negative: bool,
+    /// Its size without the sign.
+    pub magnitude: u32,
+}

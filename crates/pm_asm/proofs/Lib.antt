@@ -1,2 +1,3 @@
 pub mod Cutting
 pub mod Operanded
+pub mod Numbers

@@ -1,3 +1,5 @@
 pub mod Cutting
 pub mod Operanded
 pub mod Numbers
+pub mod Quoting
+pub mod Mnemonics

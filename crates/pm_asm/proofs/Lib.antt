@@ -3,3 +3,4 @@ pub mod Operanded
 pub mod Numbers
 pub mod Quoting
 pub mod Mnemonics
+pub mod Instructions

@@ -130,7 +130,7 @@ operands_rest (t ∷ ts) h = record {
   whole = ap (λ u. 32 ∷ u) (h.0.passes (more_operands ts) ∙ ap (λ u. t ++ u) (more_whole ts h.1));
 }
 
-first_of_words : (w tail : List ℕ) → is_empty w ≡ false → list_all is_name_character w ≡ true → ends_word tail ≡ true → words (w ++ tail) ≡ w ∷ words tail
+pub first_of_words : (w tail : List ℕ) → is_empty w ≡ false → list_all is_name_character w ≡ true → ends_word tail ≡ true → words (w ++ tail) ≡ w ∷ words tail
 first_of_words [] tail e h t = absurd (cc)
 first_of_words (c ∷ []) tail e h t = let solid : is_blank c ≡ false = (wordly c (and_parts _ _ h).0).blank in rw (solid, t) refl
 first_of_words (c ∷ d ∷ w) tail e h t =

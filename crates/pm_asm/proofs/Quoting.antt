@@ -88,13 +88,13 @@ mark_word n false h =
     let w : IsWord (decimal n) = decimal_word n h in
     record { some = ap is_empty (append_nil (decimal n)) ∙ w.some; plain = ap (list_all is_name_character) (append_nil (decimal n)) ∙ w.plain }
 
--- a number that is marked where it has two bytes and needs one: its mark says that it is long where it is small
-small_if : (n : ℕ) (long : Bool) → (long && nat_lt n 128) ≡ long → long ≡ true → n < 128
-small_if n true e k = grind (arith, nat_tests)
-small_if n false e k = absurd (cc)
+small_if : (n : ℕ) (long : Bool) → (long && nat_lt n 128) ≡ true → n < 128
+small_if n true e = grind (arith, nat_tests)
+small_if n false e = absurd (cc)
 
-pub number_text_shown : (n : ℕ) (long : Bool) → n < 32768 → (long && nat_lt n 128) ≡ long → number_operand (number_text n long) ≡ Some ((n, long), true)
-number_text_shown n long h k = ap (λ b. number_operand (mark_if n b)) k ∙ mark_shown n long h (small_if n long k)
+-- a number that is marked where it has two bytes and needs one
+pub number_text_shown : (n : ℕ) (long : Bool) → n < 32768 → number_operand (number_text n long) ≡ Some ((n, long && nat_lt n 128), true)
+number_text_shown n long h = mark_shown n (long && nat_lt n 128) h (small_if n long)
 
 pub marked_word : (n : ℕ) (long : Bool) → n < 2 ^ 64 → IsWord (number_text n long)
 marked_word n long h = mark_word n (long && nat_lt n 128) h

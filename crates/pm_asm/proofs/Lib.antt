@@ -4,3 +4,4 @@ pub mod Numbers
 pub mod Quoting
 pub mod Mnemonics
 pub mod Instructions
+pub mod SpokenLines

@@ -5,3 +5,5 @@ pub mod Quoting
 pub mod Mnemonics
 pub mod Instructions
 pub mod SpokenLines
+pub mod ShownRows
+pub mod ShownExits

@@ -7,3 +7,6 @@ pub mod Instructions
 pub mod SpokenLines
 pub mod ShownRows
 pub mod ShownExits
+pub mod ShownLengths
+pub mod ShownProcedures
+pub mod ShownPrograms

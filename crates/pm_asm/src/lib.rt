@@ -3,5 +3,6 @@
 
 mod fault;
 mod number;
+pub mod shown;
 
 pub use fault::AsmFault;

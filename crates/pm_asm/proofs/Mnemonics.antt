@@ -83,7 +83,7 @@ none_is : {A : Type 0} (label : Option A) → is_none label ≡ true → label �
 none_is None e = refl
 none_is (Some x) e = absurd (cc)
 
-or_false : (a b : Bool) → a ≡ false → (a || b) ≡ true → b ≡ true
+pub or_false : (a b : Bool) → a ≡ false → (a || b) ≡ true → b ≡ true
 or_false false b e h = h
 or_false true b e h = absurd (cc)
 
@@ -129,7 +129,7 @@ pub record IsShort (op n : ℕ) : Type 0 where
   pub small : nat_le n 127 ≡ true
   pub opcode : first + (n - range.0) ≡ op
 
-plain_is : (form : Form) → is_plain form ≡ true → form ≡ forms.Plain
+pub plain_is : (form : Form) → is_plain form ≡ true → form ≡ forms.Plain
 plain_is forms.Plain h = refl
 plain_is forms.Ub h = absurd (cc)
 plain_is forms.Sb h = absurd (cc)

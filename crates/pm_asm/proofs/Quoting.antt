@@ -140,6 +140,10 @@ pub labels_operands : (places : List ℕ) → AllByRecursion (λ p. p < 100000) 
 labels_operands [] h = tt
 labels_operands (p ∷ places) h = (of_word (label_text p) (label_word p (omega (arith, h.0))), labels_operands places h.1)
 
+pub same_count : (places : List ℕ) → length (map label_text places) ≡ length places
+same_count [] = refl
+same_count (p ∷ places) = omega (arith, same_count places)
+
 -- quoted text
 unhex : (d : ℕ) → d < 16 → lower_hex (hex_digit d) ≡ Some d
 unhex d h = grind (arith, nat_tests)

@@ -11,8 +11,9 @@ use Rattle.pm_disasm.specs.Shown.{label_text, put_if}
 use Rattle.pm_asm.specs.Source.{Name, Row, labels_of, exits_of}
 use Rattle.pm_asm.specs.Source.Row.{Items, Exit}
 use Rattle.pm_asm.specs.Meaning.{exit_place}
+use Rattle.pm_asm.proofs.Mnemonics.{or_false}
 use Rattle.pm_asm.proofs.SpokenLines.{labelled_item}
-use Rattle.pm_asm.proofs.ShownRows.{rows_at, rows_of, line_behind, end_above, same_size, positive, other_label, or_false}
+use Rattle.pm_asm.proofs.ShownRows.{rows_at, rows_of, line_behind, end_above, same_size, positive, other_label}
 
 turned : (m n : ℕ) → (m == n) ≡ false → (n == m) ≡ false
 turned m n e = grind (arith, nat_tests)

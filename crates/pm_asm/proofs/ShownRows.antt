@@ -20,6 +20,8 @@ use Rattle.pm_asm.specs.Line.Line.{Says}
 use Rattle.pm_asm.specs.Faults.{lines_from, place_of}
 use Rattle.pm_asm.specs.Meaning.{AreSaid, exit_place}
 use Rattle.pm_asm.proofs.Numbers.{same_label}
+use Rattle.pm_asm.proofs.Mnemonics.{or_false}
+use Rattle.pm_asm.proofs.Quoting.{same_count}
 use Rattle.pm_asm.proofs.SpokenLines.{labelled_item, IsWritableItem, item_line, label_line, exit_line}
 
 abbrev pub next_if : Bool → ℕ → ℕ
@@ -107,10 +109,6 @@ rows_items n used exit at (item ∷ items) =
     let rest : List Row = Items m None (labelled_item item ∷ []) ∷ rows_of (m + 1) used exit (at + size at item) items in
     same_items (is_among used at) (exit == at) n (label_text at) rest ∙ ap (λ is. labelled_item item ∷ is) (rows_items (m + 1) used exit (at + size at item) items)
 
-pub same_count : (places : List ℕ) → length (map label_text places) ≡ length places
-same_count [] = refl
-same_count (p ∷ places) = omega (arith, same_count places)
-
 pub same_size : (at : ℕ) (item : Item ℕ) → size at (labelled_item item) ≡ size at item
 same_size at (Plain i named) = refl
 same_size at (Jump op target) = refl
@@ -148,10 +146,6 @@ other_label m n h k e = go (bytes_eq (label_text m) (label_text n)) refl
       where
         differ : m ≡ n → (m == n) ≡ false → ⊥
         differ s e = grind (arith, nat_tests)
-
-pub or_false : (a b : Bool) → a ≡ false → (a || b) ≡ true → b ≡ true
-or_false false b e h = h
-or_false true b e h = absurd (cc)
 
 place_here : (n : ℕ) (used : List ℕ) (exit at : ℕ) (rows : List Row) (q : ℕ) → IsIn used q → at ≡ q → place_of at (rows_at n used exit at rows) (label_text q) ≡ Some q
 place_here n used exit at rows q u e =

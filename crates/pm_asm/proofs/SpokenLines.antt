@@ -28,8 +28,8 @@ use Rattle.pm_asm.specs.Line.Keyword.{OfSegment, OfProcedure, OfExit, OfJump, Of
 use Rattle.pm_asm.proofs.Cutting.{IsCut, IsFront, cut_behind, by_cut, spoken_line, indented, and_parts, and_turned}
 use Rattle.pm_asm.proofs.Operanded.{IsOperand, IsWord, of_word, operands_shown, operands_rest, words_shown, words_rest, append_nil}
 use Rattle.pm_asm.proofs.Numbers.{decimal_word, label_word, label_name, number_shown, byte_shown, slot_shown, size_shown, level_word, level_shown, bound_word, bound_shown}
-use Rattle.pm_asm.proofs.Quoting.{shown_target, IsWritable, target_shown, target_word, labels_again, labels_operands}
-use Rattle.pm_asm.proofs.Mnemonics.{IsNamed, IsShort, is_named, is_short, is_plain, is_unassigned, no_number}
+use Rattle.pm_asm.proofs.Quoting.{shown_target, IsWritable, target_shown, target_word, labels_again, labels_operands, same_count}
+use Rattle.pm_asm.proofs.Mnemonics.{IsNamed, IsShort, is_named, is_short, is_plain, plain_is, is_unassigned, no_number}
 use Rattle.pm_asm.proofs.Instructions.{IsOfForm, IsReadAs, said_plain, cleared, unnamed, read_as}
 
 -- an item as a text has it
@@ -144,22 +144,6 @@ of_form form i named e h = record {
 plain_line : (n : ℕ) (i : Instr) (named : List ℕ) → IsPlain i named → PlainLine n i named (operand_texts (form_of i.op) i named)
 plain_line n i named h = go (is_plain (form_of i.op)) refl
   where
-    plain_is : (form : Form) → is_plain form ≡ true → form ≡ forms.Plain
-    plain_is forms.Plain h = refl
-    plain_is forms.Ub h = absurd (cc)
-    plain_is forms.Sb h = absurd (cc)
-    plain_is forms.Db h = absurd (cc)
-    plain_is forms.B h = absurd (cc)
-    plain_is forms.UbB h = absurd (cc)
-    plain_is forms.UbUb h = absurd (cc)
-    plain_is forms.DbB h = absurd (cc)
-    plain_is forms.W h = absurd (cc)
-    plain_is forms.Chars h = absurd (cc)
-    plain_is forms.Words h = absurd (cc)
-    plain_is forms.Jumps h = absurd (cc)
-    plain_is forms.Typed h = absurd (cc)
-    plain_is forms.Unassigned h = absurd (cc)
-
     go : (b : Bool) → is_plain (form_of i.op) ≡ b → PlainLine n i named (operand_texts (form_of i.op) i named)
     go true e =
         let f : form_of i.op ≡ forms.Plain = plain_is (form_of i.op) e in
@@ -193,16 +177,12 @@ case_line n at low high otherwise places h w s =
     let greatest = bound_shown high h.greatest in
     let target = target_shown otherwise w in
     let labels = labels_again places s in
-    let count : (length (map label_text places) == jump_count low high) ≡ true = same (length (map label_text places)) (jump_count low high) (same_length places ∙ h.count) in
+    let count : (length (map label_text places) == jump_count low high) ≡ true = same (length (map label_text places)) (jump_count low high) (same_count places ∙ h.count) in
     instruction_line n case_opcode case_opcode forms.Jumps (item_operands (Case low high otherwise places)) (Case low high (shown_target otherwise) (map label_text places)) k.front k.keyword case_form o
         (rw (least, greatest, target, labels) (rw count refl))
   where
     same : (m n : ℕ) → m ≡ n → (m == n) ≡ true
     same m n e = grind (arith, nat_tests)
-
-    same_length : (places : List ℕ) → length (map label_text places) ≡ length places
-    same_length [] = refl
-    same_length (p ∷ places) = omega (arith, same_length places)
 
 byte_line : (n b : ℕ) → b < 256 → line_of n (32 ∷ 32 ∷ codes ".BYTE" ++ operands_text (decimal b ∷ [])) ≡ Says (Code (Items n None (OneByte b ∷ []))) NoFlaw
 byte_line n b h =

@@ -1,6 +1,6 @@
 -- The operands of an instruction that names no place are read again, form by form.
-use Rattle.std.proofs.Common.{◌≡◌, ◌<◌, ◌≤◌, ℕ, zero, suc, ◌+◌, ◌-◌, ◌*◌, ◌/◌, ◌%◌, Bool, true, false, eqb, List, [], ◌∷◌, ◌++◌, length, map, refl, sym, ap, subst, ◌∙◌, arith, Option, Some, None}
-use Rattle.std.specs.Prelude.{◌&&◌, ◌||◌, ◌==◌, nat_le, nat_lt, codes, if◌then◌else◌}
+use Rattle.std.proofs.Common.{◌≡◌, ◌<◌, ℕ, zero, suc, ◌+◌, ◌*◌, ◌/◌, ◌%◌, Bool, true, false, eqb, List, [], ◌∷◌, ◌++◌, length, refl, sym, ap, subst, ◌∙◌, arith, Some}
+use Rattle.std.specs.Prelude.{◌&&◌, ◌==◌, nat_le, nat_lt, codes, if◌then◌else◌}
 use Rattle.std.specs.List.{AllByRecursion}
 use Rattle.std.specs.Fmt.{decimal}
 use Rattle.std.proofs.lemmas.Bool.{eqb-true}
@@ -9,15 +9,14 @@ use Rattle.pm_words.specs.Words.{words_of}
 use Rattle.pm_opcode.specs.declared.operand_form.Form.{Form}
 use Rattle.pm_opcode.specs.declared.operand_form.Form.TheVariants as forms
 use Rattle.pm_opcode.specs.declared.instr.Instr.{Instr}
-use Rattle.pm_opcode.specs.Table.{implied}
 use Rattle.pm_opcode.specs.Spelling.{in_range, is_sized, is_unsized}
 use Rattle.pm_opcode.specs.Standing.{clear}
 use Rattle.pm_disasm.specs.Item.{Item, IsByte, names_place}
 use Rattle.pm_disasm.specs.Item.Item.{Plain}
-use Rattle.pm_disasm.specs.Text.{operand_texts, number_text, quoted, type_text}
+use Rattle.pm_disasm.specs.Text.{operand_texts, number_text, type_text}
 use Rattle.pm_asm.specs.Source.{Name}
 use Rattle.pm_asm.specs.Words.{words}
-use Rattle.pm_asm.specs.Line.{Said, bare, plain, few, flat_words, text_item, words_item, checked, instruction_said, one_comparison, comparison}
+use Rattle.pm_asm.specs.Line.{Said, bare, flat_words, instruction_said, one_comparison, comparison}
 use Rattle.pm_asm.specs.Line.Flaw.{NoFlaw}
 use Rattle.pm_asm.proofs.Cutting.{and_parts}
 use Rattle.pm_asm.proofs.Operanded.{IsOperand, IsWord, of_word, append_nil, first_of_words, two_words}
@@ -129,7 +128,7 @@ chars_is i named h =
     let short : nat_le (length named) 255 ≡ true = at_most (length named) (omega (arith, size, small)) in
     let read = text_shown named h.bytes in
     let same : record (bare i.op) { a = length named; count = length named } ≡ i =
-        ap (λ n. record (bare i.op) { a = n; count = length named }) size ∙ ap (λ n. record (bare i.op) { a = i.a; count = n }) h.count ∙ cleared forms.Chars i named h in
+    ap (λ n. record (bare i.op) { a = n; count = length named }) size ∙ ap (λ n. record (bare i.op) { a = i.a; count = n }) h.count ∙ cleared forms.Chars i named h in
     ((quoted_operand named h.bytes, tt), rw read (rw short (ap (λ j. said_plain j named) same)))
   where
     at_most : (n : ℕ) → n < 256 → nat_le n 255 ≡ true
@@ -167,7 +166,7 @@ words_is i named h =
     let short : nat_le (length (words_of named)) 255 ≡ true = at_most (length (words_of named)) (omega (arith, size, small)) in
     let read = words_again (words_of named) w.ranges in
     let same : record (bare i.op) { a = length (words_of named); count = 2 * length (words_of named) } ≡ i =
-        ap (λ n. record (bare i.op) { a = n; count = 2 * length (words_of named) }) size ∙ ap (λ n. record (bare i.op) { a = i.a; count = n }) bytes ∙ cleared forms.Words i named h in
+    ap (λ n. record (bare i.op) { a = n; count = 2 * length (words_of named) }) size ∙ ap (λ n. record (bare i.op) { a = i.a; count = n }) bytes ∙ cleared forms.Words i named h in
     let moved : said_plain (record (bare i.op) { a = length (words_of named); count = 2 * length (words_of named) }) (flat_words (words_of named)) ≡ said_plain i (flat_words (words_of named)) = ap (λ j. said_plain j (flat_words (words_of named))) same in
     let ended : said_plain i (flat_words (words_of named)) ≡ said_plain i named = ap (said_plain i) w.flat in
     (words_operands (words_of named) w.ranges, rw read (rw short (moved ∙ ended)))
@@ -195,9 +194,10 @@ two_words_of a b h k = first_of_words a (32 ∷ b) h.some h.plain refl ∙ ap (�
 sized_is : (op size : ℕ) (long : Bool) (type : ℕ) (w : List ℕ) → type_text type size long ≡ w ++ 32 ∷ number_text size long → IsWord w → size < 32768
     → comparison op (w ∷ number_text size long ∷ []) ≡ said_plain (compared op size long type) [] → IsType op size long type
 sized_is op size long type w t h l e =
-    let n : IsWord (number_text size long) = marked_word size long (omega (arith, l)) in
-    (subst IsOperand (sym t) (two_words w (number_text size long) (of_word w h) (of_word (number_text size long) n)),
-     ap (λ u. comparison op (words u)) t ∙ ap (comparison op) (two_words_of w (number_text size long) h n) ∙ e)
+    let n : IsWord (number_text size long) = marked_word size long (omega (arith, l)) in (
+      subst IsOperand (sym t) (two_words w (number_text size long) (of_word w h) (of_word (number_text size long) n)),
+      ap (λ u. comparison op (words u)) t ∙ ap (comparison op) (two_words_of w (number_text size long) h n) ∙ e,
+    )
 
 types : (op size : ℕ) (long : Bool) (type : ℕ) → (if is_sized type then nat_lt size 32768 else is_unsized type) ≡ true → IsType op size long type
 types op size long type h = two (eqb type 2) refl

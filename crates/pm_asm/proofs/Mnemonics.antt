@@ -4,14 +4,14 @@ use Rattle.std.specs.Prelude.{◌&&◌, ◌||◌, ◌==◌, is_none, nat_le, if�
 use Rattle.std.specs.List.{list_all}
 use Rattle.std.specs.Str.{bytes_eq}
 use Rattle.std.specs.Map.{lookup}
-use Rattle.std.proofs.lemmas.Bool.{eqb-true, leb-true}
+use Rattle.std.proofs.lemmas.Bool.{eqb-true}
 use Rattle.std.proofs.lemmas.Bool.Decides.{nat_tests}
 use Rattle.pm_opcode.specs.declared.operand_form.Form.{Form}
 use Rattle.pm_opcode.specs.declared.operand_form.Form.TheVariants as forms
 use Rattle.pm_opcode.specs.Table.{groups, form_of, implied, mnemonic_of}
 use Rattle.pm_disasm.specs.Program.{is_name_character}
 use Rattle.pm_asm.specs.Words.{is_empty}
-use Rattle.pm_asm.specs.Line.{Keyword, directives, keyword_of, keyword_or, mnemonic_keyword, named_from, label_of, short_range}
+use Rattle.pm_asm.specs.Line.{directives, keyword_of, keyword_or, mnemonic_keyword, named_from, label_of, short_range}
 use Rattle.pm_asm.specs.Line.Keyword.{Mnemonic}
 use Rattle.pm_asm.proofs.Cutting.{IsFront, and_parts}
 
@@ -99,7 +99,7 @@ known op l u =
     let word : List ℕ = mnemonic_of op in
     let names : List (List ℕ) = names_from 0 256 in
     let all = or_false (is_unassigned (form_of op)) (not (is_empty word) && (list_all is_name_character word && (is_none (label_of word) && (is_none (lookup (bytes_eq word) directives) && found op (implied op) (named_in word 0 names))))) u
-        (each_read names 0 256 op table_is_read (omega arith) (omega (arith, l))) in
+    (each_read names 0 256 op table_is_read (omega arith) (omega (arith, l))) in
     let one = and_parts (not (is_empty word)) (list_all is_name_character word && (is_none (label_of word) && (is_none (lookup (bytes_eq word) directives) && found op (implied op) (named_in word 0 names)))) all in
     let two = and_parts (list_all is_name_character word) (is_none (label_of word) && (is_none (lookup (bytes_eq word) directives) && found op (implied op) (named_in word 0 names))) one.1 in
     let three = and_parts (is_none (label_of word)) (is_none (lookup (bytes_eq word) directives) && found op (implied op) (named_in word 0 names)) two.1 in

@@ -1,5 +1,5 @@
 -- Where the code of procedures ends, against the length of their bytes.
-use Rattle.std.proofs.Common.{◌≡◌, ◌<◌, ◌≤◌, ℕ, ◌+◌, ◌*◌, List, [], ◌∷◌, ◌++◌, length, reverse, refl, sym, ap, ◌∙◌, arith}
+use Rattle.std.proofs.Common.{◌≡◌, ◌≤◌, ℕ, ◌+◌, ◌*◌, List, [], ◌∷◌, ◌++◌, length, reverse, refl, arith}
 use Rattle.std.specs.List.{AllByRecursion}
 use Rattle.std.proofs.lemmas.List.{length-append, length-reverse}
 use Rattle.std.proofs.lemmas.Grind.{common_steps}
@@ -33,12 +33,14 @@ entries_length at (place ∷ places) = omega (arith, entries_length (at + 2) pla
 
 procedure_length : (k : ℕ) (p : Procedure) → p.start + length (procedure_bytes k p) ≡ jtab_of p + 2
 procedure_length k p =
-    omega (arith,
-        length-append (code_of p) (entry_bytes (code_end p) (reverse p.entries) ++ attribute_bytes k p),
-        length-append (entry_bytes (code_end p) (reverse p.entries)) (attribute_bytes k p),
-        code_length p.start p.items,
-        entries_length (code_end p) (reverse p.entries),
-        length-reverse p.entries)
+    omega (
+      arith,
+      length-append (code_of p) (entry_bytes (code_end p) (reverse p.entries) ++ attribute_bytes k p),
+      length-append (entry_bytes (code_end p) (reverse p.entries)) (attribute_bytes k p),
+      code_length p.start p.items,
+      entries_length (code_end p) (reverse p.entries),
+      length-reverse p.entries,
+    )
 
 -- The code of each procedure ends within the bytes of all.
 pub ends_within : (at k last : ℕ) (ps : List Procedure) → FollowFrom at ps → at + length (procedures_bytes k ps) ≤ last → AllByRecursion (λ p. code_end p ≤ last) ps

@@ -1,9 +1,8 @@
 -- The text that is shown for a program spells it.
-use Rattle.std.proofs.Common.{◌≡◌, ◌<◌, ◌≤◌, ℕ, zero, suc, ◌+◌, ◌-◌, Bool, true, false, eqb, List, [], ◌∷◌, ◌++◌, length, map, reverse, refl, sym, ap, subst, ◌∙◌, arith, Option, Some, None, append_assoc}
-use Rattle.std.specs.Prelude.{◌==◌, codes, nat_eq, slice_index, if◌then◌else◌}
+use Rattle.std.proofs.Common.{◌≡◌, ◌<◌, ◌≤◌, ℕ, zero, suc, ◌+◌, ◌-◌, Bool, true, false, eqb, List, [], ◌∷◌, ◌++◌, length, map, reverse, refl, sym, ap, subst, ◌∙◌, arith, None, append_assoc}
+use Rattle.std.specs.Prelude.{◌==◌, codes, nat_eq, slice_index}
 use Rattle.std.specs.List.{list_all, AllByRecursion, AllZip, IsDistinct, slice_split, onto_first}
 use Rattle.std.specs.Option.{option_to_list}
-use Rattle.std.specs.Fmt.{decimal}
 use Rattle.std.specs.Str.{bytes_eq}
 use Rattle.std.specs.Str.Lines.{lines, lines_of_parts, strip_carriage_return}
 use Rattle.std.proofs.lemmas.List.{length-append}
@@ -11,9 +10,9 @@ use Rattle.std.proofs.lemmas.Bool.{eqb-true}
 use Rattle.std.proofs.lemmas.Bool.Decides.{nat_tests}
 use Rattle.pm_disasm.specs.Program as program
 use Rattle.pm_disasm.specs.Program.{Procedure, IsProcedure, IsSegment, IsProgram, AreShort, AscendFrom, FollowFrom, code_end, dictionary_bytes, procedures_bytes, procedures_end, segment_bytes}
-use Rattle.pm_disasm.specs.Shown.{joined, words_text, procedure_lines, procedures_lines, segment_line, segment_lines, segments_lines, program_text}
+use Rattle.pm_disasm.specs.Shown.{joined, procedure_lines, procedures_lines, segment_line, segments_lines, program_text}
 use Rattle.pm_asm.specs.Words.{cut}
-use Rattle.pm_asm.specs.Source.{Source, SourceSegment, Statement, IsSource, head_statements, statements_from, segment_statements, statements}
+use Rattle.pm_asm.specs.Source.{Source, SourceSegment, Statement, IsSource, head_statements, statements_from, statements}
 use Rattle.pm_asm.specs.Source.Statement.{Segment, End}
 use Rattle.pm_asm.specs.Line.{Line, line_of, is_character, uncommented}
 use Rattle.pm_asm.specs.Line.Line.{Blank, Wrong, Strange, Says}

@@ -1,24 +1,24 @@
 -- The rows that the shown lines of a procedure's code say.
-use Rattle.std.proofs.Common.{◌≡◌, ◌<◌, ◌≤◌, ℕ, ◌^◌, ◌+◌, ◌*◌, ◌%◌, Bool, true, false, eqb, List, [], ◌∷◌, ◌++◌, length, map, refl, sym, ap, subst, ◌∙◌, arith, Some, None}
-use Rattle.std.specs.Prelude.{◌||◌, ◌==◌, codes, if◌then◌else◌}
-use Rattle.std.specs.List.{AllByRecursion, IsDistinct}
+use Rattle.std.proofs.Common.{◌≡◌, ◌<◌, ◌≤◌, ℕ, ◌^◌, ◌+◌, ◌*◌, Bool, true, false, eqb, List, [], ◌∷◌, ◌++◌, length, map, refl, sym, ap, subst, ◌∙◌, arith, Some, None}
+use Rattle.std.specs.Prelude.{◌==◌, codes, if◌then◌else◌}
+use Rattle.std.specs.List.{AllByRecursion}
 use Rattle.std.specs.Str.{bytes_eq}
 use Rattle.std.proofs.lemmas.Slice.Eq.{bytes_eq-Decides}
 use Rattle.std.proofs.lemmas.Bool.{eqb-true}
 use Rattle.std.proofs.lemmas.Bool.Decides.{nat_tests}
-use Rattle.pm_opcode.specs.Spelling.{spelling, padding, flip, is_odd}
+use Rattle.pm_opcode.specs.Spelling.{padding, flip, is_odd}
 use Rattle.pm_disasm.specs.Item.{Item, size}
 use Rattle.pm_disasm.specs.Item.Item.{Plain, Jump, Case, OneByte}
 use Rattle.pm_disasm.specs.Program.{is_among, IsIn, boundaries, end_of, AreItems}
 use Rattle.pm_disasm.specs.Shown.{label_text, shown_item, put_if, lines_at, code_lines}
-use Rattle.pm_asm.specs.Source.{Name, Row, Statement, has_label, code_end, items_of, row_items, labels_of, exits_of, is_exit}
+use Rattle.pm_asm.specs.Source.{Name, Row, Statement, code_end, items_of}
 use Rattle.pm_asm.specs.Source.Row.{Items, Exit}
 use Rattle.pm_asm.specs.Source.Statement.{Code}
 use Rattle.pm_asm.specs.Line.{line_of}
 use Rattle.pm_asm.specs.Line.Flaw.{NoFlaw}
 use Rattle.pm_asm.specs.Line.Line.{Says}
 use Rattle.pm_asm.specs.Faults.{lines_from, place_of}
-use Rattle.pm_asm.specs.Meaning.{AreSaid, exit_place}
+use Rattle.pm_asm.specs.Meaning.{AreSaid}
 use Rattle.pm_asm.proofs.Numbers.{same_label}
 use Rattle.pm_asm.proofs.Mnemonics.{or_false}
 use Rattle.pm_asm.proofs.Quoting.{same_count}

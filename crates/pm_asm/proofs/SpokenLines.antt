@@ -1,5 +1,5 @@
 -- Each kind of shown line is read again.
-use Rattle.std.proofs.Common.{◌≡◌, ◌<◌, ◌≤◌, ℕ, ◌^◌, ◌+◌, ◌-◌, ◌%◌, Bool, true, false, List, [], ◌∷◌, ◌++◌, length, map, refl, sym, ap, subst, ◌∙◌, arith, Option, Some, None}
+use Rattle.std.proofs.Common.{◌≡◌, ◌<◌, ◌≤◌, ℕ, ◌%◌, Bool, true, false, List, [], ◌∷◌, ◌++◌, length, map, refl, sym, ap, subst, ◌∙◌, arith, Option, Some, None}
 use Rattle.std.specs.Prelude.{◌&&◌, ◌==◌, nat_le, codes}
 use Rattle.std.specs.List.{list_all, AllByRecursion}
 use Rattle.std.specs.Fmt.{decimal}
@@ -12,7 +12,7 @@ use Rattle.pm_opcode.specs.declared.instr.Instr.{Instr}
 use Rattle.pm_opcode.specs.Table.{groups, form_of, implied, mnemonic_of}
 use Rattle.pm_opcode.specs.Spelling.{in_range, jump_count}
 use Rattle.pm_opcode.specs.Standing.{clear}
-use Rattle.pm_disasm.specs.Item.{Item, Target, IsItem, IsPlain, IsCase, IsByte, case_opcode, names_place}
+use Rattle.pm_disasm.specs.Item.{Item, Target, IsItem, IsPlain, IsCase, case_opcode}
 use Rattle.pm_disasm.specs.Item.Item.{Plain, Jump, Case, OneByte}
 use Rattle.pm_disasm.specs.Program.{is_name_character, is_segment_name}
 use Rattle.pm_disasm.specs.Text.{operands_text, operand_texts, signed_text}
@@ -21,11 +21,11 @@ use Rattle.pm_asm.specs.Words.{cut, words}
 use Rattle.pm_asm.specs.Source.{Name, Statement}
 use Rattle.pm_asm.specs.Source.Row.{Items, Exit}
 use Rattle.pm_asm.specs.Source.Statement.{Segment, Begin, Code, Entry, End}
-use Rattle.pm_asm.specs.Line.{Keyword, directives, keyword_of, instruction_said, saying, spoken, line_of, label_of, label_before, segment_operands, procedure_operands, said, bare}
+use Rattle.pm_asm.specs.Line.{Keyword, directives, keyword_of, instruction_said, saying, spoken, line_of, label_of, label_before, said, bare}
 use Rattle.pm_asm.specs.Line.Flaw.{NoFlaw}
 use Rattle.pm_asm.specs.Line.Line.{Says}
 use Rattle.pm_asm.specs.Line.Keyword.{OfSegment, OfProcedure, OfExit, OfJump, OfEnd, OfBytes, Mnemonic}
-use Rattle.pm_asm.proofs.Cutting.{IsCut, IsFront, cut_behind, by_cut, spoken_line, indented, and_parts, and_turned}
+use Rattle.pm_asm.proofs.Cutting.{IsCut, IsFront, cut_behind, by_cut, spoken_line, indented, and_turned}
 use Rattle.pm_asm.proofs.Operanded.{IsOperand, IsWord, of_word, operands_shown, operands_rest, words_shown, words_rest, append_nil}
 use Rattle.pm_asm.proofs.Numbers.{decimal_word, label_word, label_name, number_shown, byte_shown, slot_shown, size_shown, level_word, level_shown, bound_word, bound_shown}
 use Rattle.pm_asm.proofs.Quoting.{shown_target, IsWritable, target_shown, target_word, labels_again, labels_operands, same_count}
@@ -172,14 +172,14 @@ case_line n at low high otherwise places h w s =
     let u : is_unassigned (form_of case_opcode) ≡ false = ap is_unassigned case_form in
     let k : IsNamed case_opcode = is_named case_opcode (omega arith) u (no_number case_opcode (omega arith) u (ap is_plain case_form)) in
     let o : AllByRecursion IsOperand (item_operands (Case low high otherwise places)) =
-        (of_word (signed_text low) (bound_word low h.least), (of_word (signed_text high) (bound_word high h.greatest), (of_word (target_text otherwise) (target_word otherwise w), labels_operands places s))) in
+    (of_word (signed_text low) (bound_word low h.least), (of_word (signed_text high) (bound_word high h.greatest), (of_word (target_text otherwise) (target_word otherwise w), labels_operands places s))) in
     let least = bound_shown low h.least in
     let greatest = bound_shown high h.greatest in
     let target = target_shown otherwise w in
     let labels = labels_again places s in
     let count : (length (map label_text places) == jump_count low high) ≡ true = same (length (map label_text places)) (jump_count low high) (same_count places ∙ h.count) in
     instruction_line n case_opcode case_opcode forms.Jumps (item_operands (Case low high otherwise places)) (Case low high (shown_target otherwise) (map label_text places)) k.front k.keyword case_form o
-        (rw (least, greatest, target, labels) (rw count refl))
+    (rw (least, greatest, target, labels) (rw count refl))
   where
     same : (m n : ℕ) → m ≡ n → (m == n) ≡ true
     same m n e = grind (arith, nat_tests)

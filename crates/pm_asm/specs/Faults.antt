@@ -1,7 +1,6 @@
 -- What is wrong in a text, in the order of its lines; and what its lines say.
-use Rattle.std.specs.Prelude.{◌≡◌, ◌<◌, ℕ, zero, suc, ◌+◌, ◌*◌, ◌%◌, ◌≤◌, Bool, true, false, not, List, [], ◌∷◌, ◌++◌, length, map, nat_lt, ◌==◌, ◌||◌, ◌&&◌, if◌then◌else◌, Option, Some, None, is_none, is_some}
+use Rattle.std.specs.Prelude.{ℕ, ◌+◌, ◌*◌, ◌%◌, Bool, true, false, not, List, [], ◌∷◌, ◌++◌, length, nat_lt, ◌==◌, ◌||◌, ◌&&◌, if◌then◌else◌, Option, Some, None, is_none, is_some}
 use Rattle.std.specs.List.{list_any}
-use Rattle.std.specs.Option.{option_to_list}
 use Rattle.std.specs.Str.Lines.{lines}
 use Rattle.pm_disasm.specs.Item.{Item, Target, size, table_place}
 use Rattle.pm_disasm.specs.Item.Item.{Jump, Case}
@@ -14,7 +13,7 @@ use Rattle.pm_asm.specs.Source.{Name, Row, Statement, Source, SourceSegment, cod
 use Rattle.pm_asm.specs.Source.Row.{Items, Exit}
 use Rattle.pm_asm.specs.Source.Statement.{Segment, Begin, Code, Entry, End}
 use Rattle.pm_asm.specs.Line.{Flaw, Line, line_of}
-use Rattle.pm_asm.specs.Line.Flaw.{NoFlaw, OutOfRange, UnknownType}
+use Rattle.pm_asm.specs.Line.Flaw.{OutOfRange, UnknownType}
 use Rattle.pm_asm.specs.Line.Line.{Blank, Wrong, Strange, Says}
 
 -- What the lines so far have said: the segments with their ended procedures, and the procedure that has not ended.

@@ -1,5 +1,5 @@
 -- The code file and the listing of a program.
-use Rattle.std.specs.Prelude.{◌≡◌, ◌<◌, ℕ, zero, suc, ◌+◌, ◌-◌, ◌/◌, ◌%◌, List, [], ◌∷◌, ◌++◌, length, map, reverse, replicate, nat_lt, ◌==◌, if◌then◌else◌, codes, Option, Some, None, Result, Ok, Err}
+use Rattle.std.specs.Prelude.{◌≡◌, ℕ, zero, suc, ◌+◌, ◌-◌, ◌/◌, ◌%◌, List, [], ◌∷◌, ◌++◌, length, map, reverse, replicate, nat_lt, if◌then◌else◌, codes, Option, Some, None}
 use Rattle.pm_codefile.specs.Layout.{layout}
 use Rattle.pm_disasm.specs.Item.{Item, item_bytes, size}
 use Rattle.pm_disasm.specs.Program.{Procedure, Segment, attribute_bytes, code_end, dictionary_bytes, entry_bytes, jtab_of, procedures_end, segment_bytes}

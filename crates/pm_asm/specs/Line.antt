@@ -13,7 +13,7 @@ use Rattle.pm_disasm.specs.Item.Item.{Plain, Jump, Case, OneByte}
 use Rattle.pm_disasm.specs.Item.Target.{To, Through}
 use Rattle.pm_disasm.specs.Program.{is_segment_name}
 use Rattle.pm_asm.specs.declared.number.Numeral.{Numeral}
-use Rattle.pm_asm.specs.Words.{Cut, is_blank, is_empty, unindented, trimmed, cut, words, is_name, number, within, stored}
+use Rattle.pm_asm.specs.Words.{Cut, is_empty, unindented, trimmed, cut, words, is_name, number, within, stored}
 use Rattle.pm_asm.specs.Source.{Name, Statement}
 use Rattle.pm_asm.specs.Source.Row.{Items, Exit}
 use Rattle.pm_asm.specs.Source.Statement.{Segment, Begin, Code, Entry, End}

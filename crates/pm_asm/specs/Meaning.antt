@@ -1,16 +1,15 @@
 -- The program that a text spells.
-use Rattle.std.specs.Prelude.{◌≡◌, ℕ, zero, suc, ◌+◌, ◌≤◌, Bool, true, List, [], ◌∷◌, ◌++◌, length, map, ◌==◌, if◌then◌else◌, Option, Some, None}
+use Rattle.std.specs.Prelude.{◌≡◌, ℕ, zero, suc, ◌+◌, ◌≤◌, List, [], ◌∷◌, ◌++◌, map, ◌==◌, if◌then◌else◌, Option, Some, None}
 use Rattle.std.specs.List.{AllZip}
 use Rattle.std.specs.Option.{option_to_list, unwrap_or}
 use Rattle.pm_disasm.specs.Item.{Item, Target, size, table_place}
 use Rattle.pm_disasm.specs.Item.Item.{Plain, Jump, Case, OneByte}
 use Rattle.pm_disasm.specs.Item.Target.{To, Through}
-use Rattle.pm_disasm.specs.Item as item
 use Rattle.pm_disasm.specs.Program as program
 use Rattle.pm_asm.specs.Source.{Name, Row, Statement, Source, SourceSegment, statements, items_of, is_exit, row_items, AreSources}
 use Rattle.pm_asm.specs.Line.{Line}
 use Rattle.pm_asm.specs.Line.Flaw.{NoFlaw}
-use Rattle.pm_asm.specs.Line.Line.{Blank, Wrong, Strange, Says}
+use Rattle.pm_asm.specs.Line.Line.{Blank, Says}
 use Rattle.pm_asm.specs.Faults.{Places, place_of, lines_of, source_of, source_end}
 
 abbrev pub exit_place : ℕ → List Row → ℕ

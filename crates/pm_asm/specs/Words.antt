@@ -1,5 +1,5 @@
 -- Words, names and numbers of a text.
-use Rattle.std.specs.Prelude.{ℕ, ◌+◌, ◌-◌, ◌%◌, Bool, true, false, not, List, [], ◌∷◌, ◌++◌, length, reverse, nat_lt, nat_le, min, ◌==◌, ◌||◌, ◌&&◌, if◌then◌else◌, Option, Some, None}
+use Rattle.std.specs.Prelude.{ℕ, ◌-◌, ◌%◌, Bool, true, false, not, List, [], ◌∷◌, length, reverse, nat_lt, nat_le, min, ◌==◌, ◌||◌, ◌&&◌, if◌then◌else◌, Option, Some, None}
 use Rattle.std.specs.List.{list_all, onto_first}
 use Rattle.std.specs.Char.{is_ascii_digit, is_ascii_hexdigit, is_ascii_alphabetic, is_ascii_alphanumeric}
 use Rattle.std.specs.Str.Parse.{digits_value}

@@ -1,2 +1,5 @@
 pub mod Zeros
 pub mod Columns
+pub mod StepLaws
+pub mod GoLaws
+pub mod ChainLaws

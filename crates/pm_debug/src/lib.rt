@@ -1,10 +1,20 @@
-//! What is shown of the machine.
+//! The debugger: breakpoints, and what is shown of a machine.
 #![tactic(auto)]
 
+mod breaks;
+mod debugger;
 mod digits;
+mod reason;
+mod refusal;
+mod run;
 mod state_line;
 mod text;
+mod views;
 
+pub use breaks::Breakpoint;
+pub use debugger::Debugger;
+pub use reason::Reason;
+pub use refusal::Refusal;
 pub use state_line::TraceLine;
 pub use text::trace_line;
 

@@ -4,7 +4,6 @@ use Rattle.std.specs.Int.{w8, cast_signed}
 use Rattle.std.specs.List.{AllByRecursion, AllZip}
 use Rattle.pm_codefile.specs.declared.table.Attributes.{Attributes}
 use Rattle.pm_codefile.specs.Dictionary.{segment_in, slot_in}
-use Rattle.pm_codefile.specs.Segments.{attributes_in}
 use Rattle.pm_disasm.specs.Item.{Item, IsItem, IsByte, item_bytes, size, is_instruction}
 use Rattle.pm_disasm.specs.Program.{Procedure, Segment, AreItems, AreInstructions, AreShort, IsIn, IsProcedure, IsProgram, NamesWithin, boundaries, code_bytes, jtab_of, procedure_bytes, segment_bytes}
 use Rattle.pm_disasm.specs.Split.{Front, fits, front, items_in, procedure_of, procedure_with}
@@ -12,7 +11,7 @@ use Rattle.pm_disasm.specs.Shown.{file_text, name_of, program_text}
 
 -- An instruction is read in its own bytes, whatever follows.
 abbrev pub InstructionIsRead : Type 0
-InstructionIsRead = (at : ℕ) (item : Item ℕ) (rest : List ℕ) → IsItem at item → is_instruction item ≡ true → at + size at item < 65536
+InstructionIsRead = (at : ℕ) (item : Item ℕ) (rest : List ℕ) → IsItem at item → is_instruction item ≡ true
     → front at (item_bytes at item ++ rest) ≡ Some (record { size = size at item; item = Some item })
 
 -- What is written for code: items of the code's bytes, which name boundaries alone; and each forced place is a boundary.
@@ -24,7 +23,7 @@ pub record IsWritten (forced : List ℕ) (at : ℕ) (code : List ℕ) (items : L
 
 -- Whatever count of jump entries is taken, the parts of code are items of the same bytes.
 abbrev pub SplitKeepsBytes : Type 0
-SplitKeepsBytes = (forced : List ℕ) (allowed : Bool) (at : ℕ) (code : List ℕ) → AllByRecursion IsByte code → at + length code < 65536
+SplitKeepsBytes = (forced : List ℕ) (allowed : Bool) (at : ℕ) (code : List ℕ) → AllByRecursion IsByte code
     → IsWritten forced at code (items_in forced allowed at code)
 
 -- what the table of a procedure says
@@ -45,7 +44,6 @@ pub record StandsIn (segment : List ℕ) (number : ℕ) (p : Procedure) : Type 0
   pub rest : List ℕ
   pub there : drop p.start segment ≡ procedure_bytes number p ++ rest
   pub bytes : AllByRecursion IsByte segment
-  pub short : length segment < 65536
 
 -- For a procedure without a byte that is no instruction its own count of entries fits, and it is what is read with that count.
 abbrev pub OwnCountFits : Type 0

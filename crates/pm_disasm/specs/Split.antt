@@ -193,4 +193,3 @@ with_count segment a (Some t) = procedure_with segment a true t
 -- written.
 unfoldable pub procedure_of : List ℕ → Attributes → Procedure
 procedure_of segment a = with_count segment a (least_from segment a 0 61)
-

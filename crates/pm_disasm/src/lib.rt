@@ -1,13 +1,25 @@
-//! Instructions as text.
+//! Code as text: an instruction, an item of a procedure, a procedure, and a code file.
 #![tactic(auto)]
 
-mod item;
+mod counts;
+mod front;
+mod instruction;
+mod items;
+pub mod laws;
+mod lines;
+mod named;
 mod operands;
+mod parts;
 mod place;
+mod places;
+mod procedures;
+mod segments;
 mod text;
+mod written;
 
-pub use item::Item;
+pub use instruction::Instruction;
 pub use place::Line;
+pub use segments::{file, item, procedure};
 pub use text::line;
 
 #[cfg(test)]

@@ -4,7 +4,7 @@ ghost use Rattle.std.specs.Prelude.{◌≡◌, length, IsTrue, Some};
 ghost use Rattle.pm_opcode.specs.Spelling.{has_spelling, named_by};
 ghost use Rattle.pm_disasm.specs.Text.{line_text};
 
-use crate::item::Item;
+use crate::instruction::Instruction;
 use pm_opcode::{Form, Instr, decode, form_at};
 use pm_words::Memory;
 use std::fmt;
@@ -39,11 +39,11 @@ impl fmt::Display for Line<'_> {
         match decode(bytes, at) {
             Ok(instr) => {
                 let named = named_bytes(&instr, bytes);
-                let item = Item {
+                let instruction = Instruction {
                     instr: &instr,
                     named,
                 };
-                write!(f, "{item}")
+                write!(f, "{instruction}")
             }
             Err(_) => write!(f, ".BYTE {}", bytes[at]),
         }
@@ -51,7 +51,7 @@ impl fmt::Display for Line<'_> {
 }
 
 /// The bytes that an instruction names.
-fn named_bytes<'a>(instr: &Instr, bytes: &'a [u8]) -> &'a [u8]
+pub(crate) fn named_bytes<'a>(instr: &Instr, bytes: &'a [u8]) -> &'a [u8]
     requires spelling { IsTrue (has_spelling instr.now (length bytes.now)) }
     ensures named { result.now ≡ named_by instr.now bytes.now }
 {

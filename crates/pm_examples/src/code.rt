@@ -1,6 +1,7 @@
 //! Programs of code files: their start, the segments that they load, and EXIT.
 ghost use Rattle.std.specs.Prelude.{◌≡◌, length, sum};
 
+use crate::tested::Tested;
 use pm_machine::{BootFault, Machine, Stop};
 use pm_volume::Volume;
 use pm_words::ExecError;
@@ -51,135 +52,148 @@ pub(crate) fn volume(
     Ok(volume)
 }
 
-/// The machine that a volume on unit 4 boots.
-fn booted(alloc: Global, volume: Volume) -> Result<Machine, Fail> {
-    let volumes = [Some(volume), None, None, None, None, None];
-    match Machine::boot(alloc, volumes, 4, "P", 0) {
-        Ok(machine) => Ok(machine),
-        Err((fault, _)) => Err(fault)?,
-    }
+/// The machine that a volume with a code file `P` boots, with these lengths of the slots 1, 2 and 3.
+fn booted(alloc: Global, lengths: [u16; 3], segments: &[u8]) -> Result<Tested, Fail>
+    requires joined { sum lengths ≡ length segments.now }
+{
+    let volume = volume(alloc, 2, lengths, segments)?;
+    Ok(Tested::booted(alloc, volume)?)
 }
 
 #[test]
 fn writes_letters(rt: HostRuntime) -> Result<(), Fail> {
-    let volume = volume(rt.alloc(), 2, [28, 0, 0], &LETTERS)?;
-    let mut machine = booted(rt.alloc(), volume)?;
-    assert_eq!(rt; machine.run(100)?, (9, Stop::Ended));
-    assert_eq!(rt; machine.console(), b"OK".as_slice());
+    let mut machine = booted(rt.alloc(), [28, 0, 0], &LETTERS)?;
+    machine.runs_to(&rt, 100, 9, Stop::Ended);
+    machine.has_shown(&rt, b"OK");
     Ok(())
 }
 
 #[test]
 fn leaves_procedures(rt: HostRuntime) -> Result<(), Fail> {
-    let volume_of_exits = volume(rt.alloc(), 2, [36, 38, 0], &EXITS)?;
-    let mut machine = booted(rt.alloc(), volume_of_exits)?;
-    assert_eq!(rt; machine.run(100)?, (10, Stop::Ended));
-    let mut other = EXITS;
-    other[36 + 17] = 7;
-    let volume_of_others = volume(rt.alloc(), 2, [36, 38, 0], &other)?;
-    let mut machine = booted(rt.alloc(), volume_of_others)?;
-    assert_eq!(rt;
-        machine.run(100)?,
-        (5, Stop::Halted(ExecError::NoProcedure))
-    );
+    let mut machine = booted(rt.alloc(), [36, 38, 0], &EXITS)?;
+    machine.runs_to(&rt, 100, 10, Stop::Ended);
     Ok(())
 }
 
-/// IPC, SP, MP and BASE before each step; segment 3 stands where segment 2 stood.
+#[test]
+fn leaves_no_other_procedure(rt: HostRuntime) -> Result<(), Fail> {
+    let mut other = EXITS;
+    other[36 + 17] = 7;
+    let mut machine = booted(rt.alloc(), [36, 38, 0], &other)?;
+    machine.runs_to(&rt, 100, 5, Stop::Halted(ExecError::NoProcedure));
+    Ok(())
+}
+
+/// IPC, SP, MP and BASE before each step of `SEGMENTS` but the last.
+const LOADS: [[u16; 4]; 4] = [
+    [65470, 65456, 65458, 65458],
+    [65440, 65422, 65424, 65424],
+    [65473, 65456, 65458, 65458],
+    [65440, 65418, 65420, 65420],
+];
+
+fn stands_at(rt: &impl Abort, machine: &Tested, row: [u16; 4]) {
+    let there = machine.registers();
+    assert_eq!(rt; [there.ipc, there.sp, there.mp, there.base], row);
+    assert_eq!(rt; there.np, 1024);
+}
+
+fn goes_from(rt: &impl Abort, machine: &mut Tested, row: [u16; 4]) {
+    stands_at(rt, machine, row);
+    machine.steps_to(rt, Stop::Went);
+}
+
+/// Segment 3 stands where segment 2 stood.
 #[test]
 fn loads_segments(rt: HostRuntime) -> Result<(), Fail> {
-    let volume = volume(rt.alloc(), 2, [22, 16, 16], &SEGMENTS)?;
-    let mut machine = booted(rt.alloc(), volume)?;
-    assert_eq!(rt; machine.place(1), Some((65490, 1)));
-    for row in [
-        [65470, 65456, 65458, 65458],
-        [65440, 65422, 65424, 65424],
-        [65473, 65456, 65458, 65458],
-        [65440, 65418, 65420, 65420],
-        [65476, 65456, 65458, 65458],
-    ] {
-        let registers = machine.registers();
-        let [ipc, sp, mp, base] = row;
-        assert_eq!(rt; (registers.ipc, registers.sp), (ipc, sp));
-        assert_eq!(rt;
-            (registers.mp, registers.base, registers.np),
-            (mp, base, 1024)
-        );
-        machine.step()?;
+    let mut machine = booted(rt.alloc(), [22, 16, 16], &SEGMENTS)?;
+    machine.has_place(&rt, 1, Some((65490, 1)));
+    for row in LOADS {
+        goes_from(&rt, &mut machine, row);
     }
-    assert_eq!(rt; machine.steps(), 5);
-    assert_eq!(rt; machine.step()?, Stop::Ended);
-    assert_eq!(rt; machine.place(1), None);
+    stands_at(&rt, &machine, [65476, 65456, 65458, 65458]);
+    machine.steps_to(&rt, Stop::Ended);
+    machine.has_made(&rt, 5);
+    machine.steps_to(&rt, Stop::Ended);
+    machine.has_place(&rt, 1, None);
     Ok(())
 }
 
 /// A load is of the disk as it is then.
 #[test]
 fn loads_from_the_disk_there(rt: HostRuntime) -> Result<(), Fail> {
-    let first = volume(rt.alloc(), 2, [22, 16, 16], &SEGMENTS)?;
-    let mut machine = booted(rt.alloc(), first)?;
-    assert!(rt; machine.eject(4).is_some());
+    let mut machine = booted(rt.alloc(), [22, 16, 16], &SEGMENTS)?;
     let mut other = SEGMENTS;
     other[22 + 2] = 6;
     let second = volume(rt.alloc(), 2, [22, 16, 16], &other)?;
-    assert!(rt; machine.mount(4, second).is_ok());
-    assert_eq!(rt; machine.step()?, Stop::Went);
-    assert_eq!(rt; machine.registers().mp, 65422);
-    assert_eq!(rt; machine.place(2), Some((65454, 1)));
-    assert_eq!(rt; machine.step()?, Stop::Went);
-    assert_eq!(rt; machine.place(2), None);
-    assert!(rt; machine.eject(4).is_some());
-    let registers = machine.registers();
-    assert_eq!(rt; machine.step()?, Stop::Halted(ExecError::SystemIo));
-    assert_eq!(rt; machine.registers(), registers);
-    assert_eq!(rt; machine.steps(), 2);
+    machine.ejects(&rt, 4, Some(83));
+    machine.mounts(&rt, 4, second);
+    machine.steps_to(&rt, Stop::Went);
+    machine.has_mp(&rt, 65422);
+    machine.has_place(&rt, 2, Some((65454, 1)));
+    machine.steps_to(&rt, Stop::Went);
+    machine.has_place(&rt, 2, None);
+    machine.ejects(&rt, 4, Some(83));
+    machine.stays_at(&rt, rt.alloc(), Stop::Halted(ExecError::SystemIo));
+    machine.has_made(&rt, 2);
     Ok(())
 }
 
 /// Without the disk nothing is loaded.
 #[test]
 fn loads_nothing_without_the_disk(rt: HostRuntime) -> Result<(), Fail> {
-    let volume = volume(rt.alloc(), 2, [22, 16, 16], &SEGMENTS)?;
-    let mut machine = booted(rt.alloc(), volume)?;
-    assert!(rt; machine.eject(4).is_some());
-    assert_eq!(rt; machine.step()?, Stop::Halted(ExecError::SystemIo));
-    assert_eq!(rt; machine.steps(), 0);
+    let mut machine = booted(rt.alloc(), [22, 16, 16], &SEGMENTS)?;
+    machine.ejects(&rt, 4, Some(83));
+    machine.steps_to(&rt, Stop::Halted(ExecError::SystemIo));
+    machine.has_made(&rt, 0);
     Ok(())
 }
 
-/// Boots from a volume on unit 4, and the fault, with which the volume comes back.
-fn refused(
-    rt: &impl Abort,
-    alloc: Global,
-    volume: Volume,
-    unit: u8,
-    name: &str,
-) -> Result<BootFault, Fail> {
+/// The fault of a boot from a volume on unit 4, where the volume comes back.
+fn boot_fault(alloc: Global, volume: Volume, unit: u8, name: &str) -> Option<BootFault> {
     let volumes = [Some(volume), None, None, None, None, None];
     match Machine::boot(alloc, volumes, unit, name, 0) {
-        Ok(_) => Err(Fail::new("a machine was booted")),
+        Ok(_) => None,
         Err(refusal) => {
-            assert!(rt; refusal.1[0].is_some());
-            Ok(refusal.0)
+            let fault = refusal.0;
+            if refusal.1[0].is_some() {
+                Some(fault)
+            } else {
+                None
+            }
         }
     }
 }
 
+/// A file `P` of this kind with one segment is not booted.
+fn refuses(
+    rt: &impl Abort,
+    alloc: Global,
+    kind: u8,
+    unit: u8,
+    name: &str,
+    fault: BootFault,
+) -> Result<(), Fail> {
+    let volume = volume(alloc, kind, [28, 0, 0], &LETTERS)?;
+    assert_eq!(rt; boot_fault(alloc, volume, unit, name), Some(fault));
+    Ok(())
+}
+
 #[test]
 fn refuses_to_boot(rt: HostRuntime) -> Result<(), Fail> {
-    for (unit, name, kind) in [(4, "Q", 2), (5, "P", 2), (6, "P", 2)] {
-        let volume = volume(rt.alloc(), kind, [28, 0, 0], &LETTERS)?;
-        assert_eq!(rt;
-            refused(&rt, rt.alloc(), volume, unit, name)?,
-            BootFault::NoFile
-        );
-    }
-    let data = volume(rt.alloc(), 5, [28, 0, 0], &LETTERS)?;
-    assert_eq!(rt; refused(&rt, rt.alloc(), data, 4, "P")?, BootFault::NotCode);
-    let empty = volume(rt.alloc(), 2, [0, 0, 0], &[])?;
+    let alloc = rt.alloc();
+    refuses(&rt, alloc, 2, 4, "Q", BootFault::NoFile)?;
+    refuses(&rt, alloc, 2, 5, "P", BootFault::NoFile)?;
+    refuses(&rt, alloc, 2, 6, "P", BootFault::NoFile)?;
+    refuses(&rt, alloc, 5, 4, "P", BootFault::NotCode)
+}
+
+#[test]
+fn refuses_to_boot_no_segments(rt: HostRuntime) -> Result<(), Fail> {
+    let volume = volume(rt.alloc(), 2, [0, 0, 0], &[])?;
     assert_eq!(rt;
-        refused(&rt, rt.alloc(), empty, 4, "P")?,
-        BootFault::BadCode
+        boot_fault(rt.alloc(), volume, 4, "P"),
+        Some(BootFault::BadCode)
     );
     Ok(())
 }

@@ -1,80 +1,103 @@
 //! Streams that fail at each of their calls in turn.
 use crate::raw::{ADDITION, ADDITION_TRACE};
 use crate::streams::{Full, ShortReader, ShortWriter};
-use pm_tool::{Job, Reader, Sink, Source, Writer, run};
+use pm_tool::{Job, Outcome, Reader, Sink, Source, Writer, run};
 use std::alloc::Global;
+use std::process::Abort;
 
-fn short_writer(alloc: Global, good: usize, full: Full) -> ShortWriter {
-    ShortWriter {
+/// What a run of the addition came to, whether its input failed and whether its output did, and what it wrote.
+#[derive(Drop)]
+struct Ran {
+    outcome: Outcome,
+    failed: (bool, bool),
+    written: Vec<u8>,
+}
+
+impl Ran {
+    fn is(&self, rt: &impl Abort, status: u8, message: &str, failed: (bool, bool)) {
+        assert_eq!(rt; (self.outcome.status, self.failed), (status, failed));
+        assert_eq!(rt; self.outcome.message.as_str(), message);
+    }
+
+    fn has_written(&self, rt: &impl Abort, bytes: &[u8]) {
+        assert_eq!(rt; self.written.as_slice(), bytes);
+    }
+}
+
+/// A run whose input fails after so many reads.
+fn read_run(alloc: Global, good: usize) -> Ran {
+    let mut written = Vec::new(alloc);
+    let mut source = Reader::new(ShortReader {
+        bytes: ADDITION.as_bytes(),
+        good,
+    });
+    let mut sink = Writer::new(&mut written);
+    let outcome = run(alloc, &mut source, &mut sink, Job::Raw { limit: 100 });
+    let failed = (source.failed(), sink.failed());
+    Ran {
+        outcome,
+        failed,
+        written,
+    }
+}
+
+/// A run whose output takes so many bytes.
+fn write_run(alloc: Global, good: usize, full: Full) -> Ran {
+    let mut writer = ShortWriter {
         bytes: Vec::new(alloc),
         good,
         full,
+    };
+    let mut source = Reader::new(ADDITION.as_bytes());
+    let mut sink = Writer::new(&mut writer);
+    let outcome = run(alloc, &mut source, &mut sink, Job::Raw { limit: 100 });
+    let failed = (source.failed(), sink.failed());
+    Ran {
+        outcome,
+        failed,
+        written: writer.bytes,
     }
+}
+
+fn fails_to_read(rt: &impl Abort, alloc: Global, good: usize) {
+    let ran = read_run(alloc, good);
+    ran.is(rt, 4, "read fault", (true, false));
+    ran.has_written(rt, b"");
 }
 
 /// There is a read for each byte of the input and one that finds its end.
 #[test]
 fn each_read_fails(rt: HostRuntime) {
-    let alloc = rt.alloc();
     for good in 0..=ADDITION.len() {
-        let mut written = Vec::new(alloc);
-        let mut source = Reader::new(ShortReader {
-            bytes: ADDITION.as_bytes(),
-            good,
-        });
-        let mut sink = Writer::new(&mut written);
-        let outcome = run(alloc, &mut source, &mut sink, Job::Raw { limit: 100 });
-        assert_eq!(rt; outcome.status, 4, "after {good} reads");
-        assert_eq!(rt; outcome.message.as_str(), "read fault");
-        assert!(rt; source.failed());
-        assert!(rt; !sink.failed());
-        assert!(rt; written.is_empty());
+        fails_to_read(&rt, rt.alloc(), good);
     }
 }
 
 #[test]
 fn no_read_fails(rt: HostRuntime) {
-    let alloc = rt.alloc();
-    let mut written = Vec::new(alloc);
-    let mut source = Reader::new(ShortReader {
-        bytes: ADDITION.as_bytes(),
-        good: ADDITION.len() + 1,
-    });
-    let mut sink = Writer::new(&mut written);
-    let outcome = run(alloc, &mut source, &mut sink, Job::Raw { limit: 100 });
-    assert_eq!(rt; outcome.status, 0);
-    assert!(rt; !source.failed());
-    assert_eq!(rt; written.as_slice(), ADDITION_TRACE.as_bytes());
+    let ran = read_run(rt.alloc(), ADDITION.len() + 1);
+    ran.is(&rt, 0, "", (false, false));
+    ran.has_written(&rt, ADDITION_TRACE.as_bytes());
+}
+
+fn fails_to_write(rt: &impl Abort, alloc: Global, good: usize, full: Full) {
+    let ran = write_run(alloc, good, full);
+    ran.is(rt, 4, "write fault", (false, true));
+    ran.has_written(rt, ADDITION_TRACE.as_bytes().get(..good).unwrap_or(&[]));
 }
 
 /// There is a write for each byte of the trace.
 #[test]
 fn each_write_fails(rt: HostRuntime) {
-    let alloc = rt.alloc();
-    let trace = ADDITION_TRACE.as_bytes();
-    for full in [Full::Errs, Full::TakesNothing] {
-        for good in 0..trace.len() {
-            let mut written = short_writer(alloc, good, full);
-            let mut source = Reader::new(ADDITION.as_bytes());
-            let mut sink = Writer::new(&mut written);
-            let outcome = run(alloc, &mut source, &mut sink, Job::Raw { limit: 100 });
-            assert_eq!(rt; outcome.status, 4, "after {good} writes");
-            assert_eq!(rt; outcome.message.as_str(), "write fault");
-            assert!(rt; sink.failed());
-            assert!(rt; !source.failed());
-            assert_eq!(rt; written.bytes.as_slice(), &trace[..good]);
-        }
+    for good in 0..ADDITION_TRACE.len() {
+        fails_to_write(&rt, rt.alloc(), good, Full::Errs);
+        fails_to_write(&rt, rt.alloc(), good, Full::TakesNothing);
     }
 }
 
 #[test]
 fn no_write_fails(rt: HostRuntime) {
-    let alloc = rt.alloc();
-    let mut written = short_writer(alloc, ADDITION_TRACE.len(), Full::Errs);
-    let mut source = Reader::new(ADDITION.as_bytes());
-    let mut sink = Writer::new(&mut written);
-    let outcome = run(alloc, &mut source, &mut sink, Job::Raw { limit: 100 });
-    assert_eq!(rt; outcome.status, 0);
-    assert!(rt; !sink.failed());
-    assert_eq!(rt; written.bytes.as_slice(), ADDITION_TRACE.as_bytes());
+    let ran = write_run(rt.alloc(), ADDITION_TRACE.len(), Full::Errs);
+    ran.is(&rt, 0, "", (false, false));
+    ran.has_written(&rt, ADDITION_TRACE.as_bytes());
 }

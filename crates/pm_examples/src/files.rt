@@ -1,42 +1,26 @@
 //! Jobs on volumes, from image to image.
-use crate::raw::Ran;
+use crate::jobs::{Told, job_run, tells};
 use pm_filer::Command;
-use pm_tool::{Job, Outcome, Reader, Writer, run};
+use pm_tool::Job;
 use std::alloc::{AllocError, Global};
 use std::process::Abort;
 use std::test::Fail;
-
-fn job_run(alloc: Global, job: Job, input: &[u8]) -> (Ran, usize) {
-    let mut written = Vec::new(alloc);
-    let mut rest = input;
-    let mut source = Reader::new(&mut rest);
-    let mut sink = Writer::new(&mut written);
-    let outcome = run(alloc, &mut source, &mut sink, job);
-    (Ran { outcome, written }, rest.len())
-}
 
 fn text(alloc: Global, text: &str) -> Result<String, AllocError> {
     String::from_str(alloc, text)
 }
 
-/// The image that a job keeps.
-pub(crate) fn image_of(ran: Ran) -> Option<Vec<u8>> {
-    let Ran { outcome, .. } = ran;
-    let Outcome { image, .. } = outcome;
-    image
-}
-
 /// The image of a new volume.
 fn new_image(alloc: Global, name: &str, blocks: u16) -> Result<Vec<u8>, Fail> {
     let name = text(alloc, name)?;
-    let (ran, _) = job_run(alloc, Job::New { name, blocks }, b"");
-    Ok(image_of(ran).ok_or("no image")?)
+    let ran = job_run(alloc, Job::New { name, blocks }, b"");
+    Ok(ran.into_image().ok_or("no image")?)
 }
 
 /// A command that is accepted and changes the volume: the image after it.
 fn changed(alloc: Global, image: Vec<u8>, command: Command, input: &[u8]) -> Result<Vec<u8>, Fail> {
-    let (ran, _) = job_run(alloc, Job::Files { image, command }, input);
-    Ok(image_of(ran).ok_or("no image")?)
+    let ran = job_run(alloc, Job::Files { image, command }, input);
+    Ok(ran.into_image().ok_or("no image")?)
 }
 
 fn put(alloc: Global, name: &str) -> Result<Command, AllocError> {
@@ -51,26 +35,23 @@ A               data     6     1   3 000-00-00
 files 1 free 13 largest 13
 ";
 
-/// A command on an image: status, message, what is written, and how much of three bytes of input is left.
-fn tells(
+/// A command on an image comes to this.
+fn answers(
     rt: &impl Abort,
     alloc: Global,
     image: &[u8],
     command: Command,
-    told: (u8, &str, &str, usize),
+    input: &[u8],
+    told: Told<'_>,
 ) -> Result<(), AllocError> {
     let image = image.to_vec(alloc)?;
-    let (ran, left) = job_run(alloc, Job::Files { image, command }, b"xyz");
-    assert_eq!(rt; ran.outcome.status, told.0);
-    assert_eq!(rt; ran.outcome.message.as_str(), told.1);
-    assert_eq!(rt; ran.written.as_slice(), told.2.as_bytes());
-    assert_eq!(rt; left, told.3);
+    tells(rt, alloc, Job::Files { image, command }, input, told);
     Ok(())
 }
 
 /// The list of an image's volume.
 fn lists(rt: &impl Abort, alloc: Global, image: &[u8], list: &str) -> Result<(), AllocError> {
-    tells(rt, alloc, image, Command::List, (0, "", list, 3))
+    answers(rt, alloc, image, Command::List, b"xyz", (0, "", list, 3))
 }
 
 /// A refused command.
@@ -82,7 +63,7 @@ fn refuses(
     message: &str,
     left: usize,
 ) -> Result<(), AllocError> {
-    tells(rt, alloc, image, command, (2, message, "", left))
+    answers(rt, alloc, image, command, b"xyz", (2, message, "", left))
 }
 
 /// A volume with the file A of three bytes.
@@ -100,7 +81,7 @@ fn listed(rt: HostRuntime) -> Result<(), Fail> {
     let image = one_file(alloc)?;
     lists(&rt, alloc, &image, ONE_FILE)?;
     let command = Command::Get(text(alloc, "a")?);
-    tells(&rt, alloc, &image, command, (0, "", "xyz", 3))?;
+    answers(&rt, alloc, &image, command, b"xyz", (0, "", "xyz", 3))?;
     Ok(())
 }
 
@@ -114,16 +95,27 @@ fn puts(
     refuses(rt, alloc, image, put(alloc, name)?, message, 0)
 }
 
+/// One byte more than the free blocks hold.
+fn puts_too_much(rt: &impl Abort, alloc: Global, image: &[u8]) -> Result<(), AllocError> {
+    let large = vec![in alloc; 1; 6657]?;
+    let command = put(alloc, "B")?;
+    answers(
+        rt,
+        alloc,
+        image,
+        command,
+        &large,
+        (2, "refused filer 1 7", "", 0),
+    )
+}
+
 #[test]
 fn refused_puts(rt: HostRuntime) -> Result<(), Fail> {
     let alloc = rt.alloc();
     let image = one_file(alloc)?;
     puts(&rt, alloc, &image, "a", "refused filer 1 9")?;
     puts(&rt, alloc, &image, "a:b", "refused filer 1 10")?;
-    let large = vec![in alloc; 1; 6657]?;
-    let command = put(alloc, "B")?;
-    let (ran, _) = job_run(alloc, Job::Files { image, command }, &large);
-    ran.assert(&rt, 2, "refused filer 1 7", "");
+    puts_too_much(&rt, alloc, &image)?;
     Ok(())
 }
 
@@ -180,9 +172,13 @@ fn no_volume(
     message: &str,
 ) -> Result<(), AllocError> {
     let name = text(alloc, name)?;
-    let (ran, left) = job_run(alloc, Job::New { name, blocks }, b"xyz");
-    ran.assert(rt, 2, message, "");
-    assert_eq!(rt; left, 3);
+    tells(
+        rt,
+        alloc,
+        Job::New { name, blocks },
+        b"xyz",
+        (2, message, "", 3),
+    );
     Ok(())
 }
 
@@ -200,19 +196,44 @@ A.TEXT          text     6     4 512 000-00-00
 files 1 free 10 largest 10
 ";
 
+fn put_text(alloc: Global, name: &str) -> Result<Command, AllocError> {
+    Ok(Command::PutText(text(alloc, name)?, Vec::new(alloc)))
+}
+
+/// A volume with the text file A.TEXT of one line.
+fn one_text(alloc: Global) -> Result<Vec<u8>, Fail> {
+    let image = new_image(alloc, "WORK", 20)?;
+    changed(alloc, image, put_text(alloc, "A.TEXT")?, b"a\n")
+}
+
 #[test]
 fn texts(rt: HostRuntime) -> Result<(), Fail> {
     let alloc = rt.alloc();
-    let image = new_image(alloc, "WORK", 20)?;
-    let put_text = Command::PutText(text(alloc, "A.TEXT")?, Vec::new(alloc));
-    let image = changed(alloc, image, put_text, b"a\n")?;
+    let image = one_text(alloc)?;
     lists(&rt, alloc, &image, TEXT_LIST)?;
     let get_text = Command::GetText(text(alloc, "a.text")?);
-    tells(&rt, alloc, &image, get_text, (0, "", "a\n", 3))?;
-    let long = vec![in alloc; b'a'; 1024]?;
-    let command = Command::PutText(text(alloc, "B")?, Vec::new(alloc));
-    let (ran, _) = job_run(alloc, Job::Files { image, command }, &long);
-    ran.assert(&rt, 2, "refused filer 2 3 1", "");
+    answers(&rt, alloc, &image, get_text, b"xyz", (0, "", "a\n", 3))?;
+    Ok(())
+}
+
+fn puts_long_line(rt: &impl Abort, alloc: Global, image: &[u8]) -> Result<(), AllocError> {
+    let line = vec![in alloc; b'a'; 1024]?;
+    let command = put_text(alloc, "B")?;
+    answers(
+        rt,
+        alloc,
+        image,
+        command,
+        &line,
+        (2, "refused filer 2 3 1", "", 0),
+    )
+}
+
+/// A line of 1,024 letters.
+#[test]
+fn long_lines(rt: HostRuntime) -> Result<(), Fail> {
+    let image = one_text(rt.alloc())?;
+    puts_long_line(&rt, rt.alloc(), &image)?;
     Ok(())
 }
 
@@ -237,14 +258,19 @@ B               data     6     1   1 081-11-22
 files 1 free 13 largest 13
 ";
 
-/// A date, a file with it, the file before it gone, all moved together; then no file.
-#[test]
-fn other_commands(rt: HostRuntime) -> Result<(), Fail> {
-    let alloc = rt.alloc();
+/// A date, a file with it, the file before it gone, all moved together.
+fn dated(alloc: Global) -> Result<Vec<u8>, Fail> {
     let image = changed(alloc, one_file(alloc)?, Command::Date(81, 11, 22), b"")?;
     let image = changed(alloc, image, put(alloc, "B")?, b"q")?;
     let image = changed(alloc, image, Command::Remove(text(alloc, "A")?), b"")?;
-    let image = changed(alloc, image, Command::Krunch, b"")?;
+    changed(alloc, image, Command::Krunch, b"")
+}
+
+/// The date's file alone; then no file.
+#[test]
+fn other_commands(rt: HostRuntime) -> Result<(), Fail> {
+    let alloc = rt.alloc();
+    let image = dated(alloc)?;
     lists(&rt, alloc, &image, DATED)?;
     let image = changed(alloc, image, Command::Zero(text(alloc, "new")?), b"")?;
     lists(&rt, alloc, &image, "NEW:\nfiles 0 free 14 largest 14\n")?;

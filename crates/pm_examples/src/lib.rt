@@ -6,11 +6,15 @@ mod calls;
 #[cfg(test)]
 mod code;
 #[cfg(test)]
+mod debugger;
+#[cfg(test)]
 mod devices;
 #[cfg(test)]
 mod faults;
 #[cfg(test)]
 mod files;
+#[cfg(test)]
+mod jobs;
 #[cfg(test)]
 mod machine;
 #[cfg(test)]
@@ -22,8 +26,12 @@ mod rows;
 #[cfg(test)]
 mod runs;
 #[cfg(test)]
+mod sessions;
+#[cfg(test)]
 mod streams;
 #[cfg(test)]
 mod table;
+#[cfg(test)]
+mod tested;
 #[cfg(test)]
 mod values;

@@ -2,15 +2,14 @@
 ghost use Rattle.std.specs.Prelude.{◌≡◌, length, sum};
 
 use crate::code::{EXITS, LETTERS, SEGMENTS, volume};
-use crate::files::image_of;
-use crate::raw::Ran;
-use pm_tool::{Job, Reader, Writer, run};
+use crate::jobs::{Told, job_run, tells};
+use pm_tool::Job;
 use std::alloc::Global;
 use std::process::Abort;
 use std::test::Fail;
 
 /// Reads one byte, which the console shows, again and again, until it is a full stop.
-const ECHO: [u8; 38] = [
+pub(crate) const ECHO: [u8; 38] = [
     0x01, 0xC7, 0xD0, 0x07, 0x00, 0x01, 0x00, 0x00, 0x9E, 0x05, 0xC7, 0xD0, 0x07, 0x00, 0xBE, 0x2E,
     0xC3, 0xA1, 0xF6, 0xD7, 0xC1, 0x00, 0x16, 0x00, 0x00, 0x00, 0x00, 0x00, 0x08, 0x00, 0x1E, 0x00,
     0x01, 0x00, 0x02, 0x00, 0x01, 0x01,
@@ -26,7 +25,7 @@ ended 5
 ";
 
 /// The disks of a job: a volume with a code file `P` on unit 4.
-fn disks(
+pub(crate) fn disks(
     alloc: Global,
     kind: u8,
     lengths: [u16; 3],
@@ -36,16 +35,6 @@ fn disks(
 {
     let image = volume(alloc, kind, lengths, segments)?.into_bytes();
     Ok([Some(image), None, None, None, None, None])
-}
-
-/// What a job came to, and how much of the input is left.
-fn job_run(alloc: Global, job: Job, input: &[u8]) -> (Ran, usize) {
-    let mut written = Vec::new(alloc);
-    let mut rest = input;
-    let mut source = Reader::new(&mut rest);
-    let mut sink = Writer::new(&mut written);
-    let outcome = run(alloc, &mut source, &mut sink, job);
-    (Ran { outcome, written }, rest.len())
 }
 
 fn run_job(
@@ -68,15 +57,6 @@ fn trace_job(alloc: Global, disks: [Option<Vec<u8>>; 6], limit: u32) -> Result<J
     Ok(Job::Trace { disks, name, limit })
 }
 
-/// What a job comes to: status, message, what it writes, and how much of the input it leaves.
-type Told<'a> = (u8, &'a str, &'a str, usize);
-
-fn tells(rt: &impl Abort, alloc: Global, job: Job, input: &[u8], told: Told<'_>) {
-    let (ran, left) = job_run(alloc, job, input);
-    ran.assert(rt, told.0, told.1, told.2);
-    assert_eq!(rt; left, told.3);
-}
-
 fn letters(
     rt: &impl Abort,
     alloc: Global,
@@ -96,14 +76,20 @@ fn writes(rt: HostRuntime) -> Result<(), Fail> {
     letters(&rt, rt.alloc(), 0, b"", (6, "limit 0", "", 0))
 }
 
+/// How a job ends, and the length of the image that it keeps.
+fn kept(alloc: Global, job: Job) -> (u8, Option<usize>) {
+    let ran = job_run(alloc, job, b"");
+    let status = ran.outcome.status;
+    (status, ran.into_image().map(|image| image.len()))
+}
+
 /// The image of unit 4 is kept where that is asked for.
 #[test]
 fn saves(rt: HostRuntime) -> Result<(), Fail> {
     let alloc = rt.alloc();
     let disks = disks(alloc, 2, [28, 0, 0], &LETTERS)?;
-    let (ran, _) = job_run(alloc, run_job(alloc, disks, 100, true)?, b"");
-    assert_eq!(rt; ran.outcome.status, 0);
-    assert_eq!(rt; image_of(ran).map(|image| image.len()), Some(42496));
+    let job = run_job(alloc, disks, 100, true)?;
+    assert_eq!(rt; kept(alloc, job), (0, Some(42496)));
     Ok(())
 }
 

@@ -8,7 +8,6 @@ use pm_words::{ExecError, Memory};
 use std::alloc::{AllocError, Global};
 use std::cmp::Ordering;
 use std::process::Abort;
-use std::test::Fail;
 
 /// The rows with their operands.
 #[derive(Clone, Copy, Debug)]
@@ -87,7 +86,7 @@ fn check(
     (row, np): (Row, u16),
     (stack, before): (&[u16], Bytes),
     (left, after): (Left, Bytes),
-) -> Result<(), Fail> {
+) -> Result<(), AllocError> {
     let top = &stack[..stack.len().min(8)]; // for the messages
     let mut memory = Memory::new(alloc)?;
     let mut wanted = Memory::new(alloc)?;
@@ -254,26 +253,44 @@ const NO_TWO_SETS: &[(&[u16], Left)] = &[
     (&[0, 255], MEMORY),
 ];
 
-#[test]
-fn sets(rt: HostRuntime) -> Result<(), Fail> {
-    for cases in [SETS, SUBRANGES] {
-        for (row, stack, left) in cases {
-            check(&rt, rt.alloc(), (*row, NP), (stack, &[]), (*left, &[]))?;
-        }
+fn leave(rt: &impl Abort, alloc: Global, cases: &[OnStack]) -> Result<(), AllocError> {
+    for (row, stack, left) in cases {
+        check(rt, alloc, (*row, NP), (stack, &[]), (*left, &[]))?;
     }
+    Ok(())
+}
+
+/// The three rows on two sets leave these.
+fn join(
+    rt: &impl Abort,
+    alloc: Global,
+    stack: &[u16],
+    [common, either, rest]: [Left; 3],
+) -> Result<(), AllocError> {
+    let sets = (stack, [].as_slice());
+    check(rt, alloc, (Row::Intersect, NP), sets, (common, &[]))?;
+    check(rt, alloc, (Row::Union, NP), sets, (either, &[]))?;
+    check(rt, alloc, (Row::Difference, NP), sets, (rest, &[]))
+}
+
+#[test]
+fn sets(rt: HostRuntime) -> Result<(), AllocError> {
+    leave(&rt, rt.alloc(), SETS)?;
+    leave(&rt, rt.alloc(), SUBRANGES)
+}
+
+#[test]
+fn pairs_of_sets(rt: HostRuntime) -> Result<(), AllocError> {
     for (stack, common, either, rest) in TWO_SETS {
-        for (row, left) in [
-            (Row::Intersect, *common),
-            (Row::Union, *either),
-            (Row::Difference, *rest),
-        ] {
-            check(&rt, rt.alloc(), (row, NP), (stack, &[]), (Ok(left), &[]))?;
-        }
+        join(
+            &rt,
+            rt.alloc(),
+            stack,
+            [Ok(*common), Ok(*either), Ok(*rest)],
+        )?;
     }
     for (stack, error) in NO_TWO_SETS {
-        for row in [Row::Intersect, Row::Union, Row::Difference] {
-            check(&rt, rt.alloc(), (row, NP), (stack, &[]), (*error, &[]))?;
-        }
+        join(&rt, rt.alloc(), stack, [*error, *error, *error])?;
     }
     Ok(())
 }
@@ -281,8 +298,11 @@ fn sets(rt: HostRuntime) -> Result<(), Fail> {
 /// Words that stand so many times each.
 type Runs<'a> = &'a [(u16, u16)];
 
+/// A row on a stack, and what it leaves or its error.
+type Wide<'a> = (Row, Runs<'a>, Result<Runs<'a>, ExecError>);
+
 /// Stacks of many words, in a memory without a heap.
-const WIDE: &[(Row, Runs, Result<Runs, ExecError>)] = &[
+const WIDE: &[Wide] = &[
     // 4,079 is bit 15 of word 254; 4,080 and 32,767 are in no set
     (
         Row::InSet,
@@ -358,7 +378,7 @@ const WIDE: &[(Row, Runs, Result<Runs, ExecError>)] = &[
     ),
 ];
 
-const WIDE_PAIRS: &[(Row, Runs, Result<Runs, ExecError>)] = &[
+const WIDE_PAIRS: &[Wide] = &[
     // an empty set above one of 255 words
     (
         Row::Union,
@@ -451,7 +471,7 @@ const WIDE_PAIRS: &[(Row, Runs, Result<Runs, ExecError>)] = &[
 ];
 
 /// SP is 0 below 32,752 words, and NP is 0 too: a row may leave SP there, and not below.
-const DEEP: &[(Row, Runs, Result<Runs, ExecError>)] = &[
+const DEEP: &[Wide] = &[
     (Row::Singleton, &[(32752, 0)], Err(ExecError::StackOverflow)),
     (Row::Subrange, &[(32752, 0)], Ok(&[(2, 1), (32750, 0)])),
     (Row::Adjust(1), &[(32752, 0)], Ok(&[(32752, 0)])),
@@ -473,23 +493,44 @@ fn spread(alloc: Global, runs: Runs) -> Result<Vec<u16>, AllocError> {
     Ok(words)
 }
 
-#[test]
-fn wide_sets(rt: HostRuntime) -> Result<(), Fail> {
-    for cases in [WIDE, WIDE_PAIRS, DEEP] {
-        for (row, stack, left) in cases {
-            let stack = spread(rt.alloc(), stack)?;
-            let left = match left {
-                Ok(runs) => Ok(spread(rt.alloc(), runs)?),
-                Err(error) => Err(*error),
-            };
-            let left = match &left {
-                Ok(words) => Ok(words.as_slice()),
-                Err(error) => Err(*error),
-            };
-            check(&rt, rt.alloc(), (*row, 0), (&stack, &[]), (left, &[]))?;
+fn leaves(
+    rt: &impl Abort,
+    alloc: Global,
+    row: Row,
+    stack: Runs,
+    left: Runs,
+) -> Result<(), AllocError> {
+    let stack = spread(alloc, stack)?;
+    let left = spread(alloc, left)?;
+    check(rt, alloc, (row, 0), (&stack, &[]), (Ok(&left), &[]))
+}
+
+fn fails(
+    rt: &impl Abort,
+    alloc: Global,
+    row: Row,
+    stack: Runs,
+    error: ExecError,
+) -> Result<(), AllocError> {
+    let stack = spread(alloc, stack)?;
+    check(rt, alloc, (row, 0), (&stack, &[]), (Err(error), &[]))
+}
+
+fn all_leave(rt: &impl Abort, alloc: Global, cases: &[Wide]) -> Result<(), AllocError> {
+    for (row, stack, left) in cases {
+        match left {
+            Ok(left) => leaves(rt, alloc, *row, stack, left)?,
+            Err(error) => fails(rt, alloc, *row, stack, *error)?,
         }
     }
     Ok(())
+}
+
+#[test]
+fn wide_sets(rt: HostRuntime) -> Result<(), AllocError> {
+    all_leave(&rt, rt.alloc(), WIDE)?;
+    all_leave(&rt, rt.alloc(), WIDE_PAIRS)?;
+    all_leave(&rt, rt.alloc(), DEEP)
 }
 
 /// Rows with an NP near SP, which is 65,502, 65,500 and 65,498 for one, two and three words.
@@ -531,7 +572,7 @@ const FULL: &[(Row, u16, &[u16], Left)] = &[
 ];
 
 #[test]
-fn full_stacks(rt: HostRuntime) -> Result<(), Fail> {
+fn full_stacks(rt: HostRuntime) -> Result<(), AllocError> {
     for (row, np, stack, left) in FULL {
         check(&rt, rt.alloc(), (*row, *np), (stack, &[]), (*left, &[]))?;
     }
@@ -746,20 +787,24 @@ const BYTES: &[OnMemory] = &[
     (Row::StoreByte, &[], MEMORY, &[]),
 ];
 
-#[test]
-fn fields_and_bytes(rt: HostRuntime) -> Result<(), Fail> {
-    for cases in [FIELD_PLACES, FIELD_LOADS, FIELD_STORES, BYTES] {
-        for (row, stack, left, after) in cases {
-            check(
-                &rt,
-                rt.alloc(),
-                (*row, NP),
-                (stack, FIELD_WORDS),
-                (*left, after),
-            )?;
-        }
+fn write(
+    rt: &impl Abort,
+    alloc: Global,
+    before: Bytes,
+    cases: &[OnMemory],
+) -> Result<(), AllocError> {
+    for (row, stack, left, after) in cases {
+        check(rt, alloc, (*row, NP), (stack, before), (*left, after))?;
     }
     Ok(())
+}
+
+#[test]
+fn fields_and_bytes(rt: HostRuntime) -> Result<(), AllocError> {
+    write(&rt, rt.alloc(), FIELD_WORDS, FIELD_PLACES)?;
+    write(&rt, rt.alloc(), FIELD_WORDS, FIELD_LOADS)?;
+    write(&rt, rt.alloc(), FIELD_WORDS, FIELD_STORES)?;
+    write(&rt, rt.alloc(), FIELD_WORDS, BYTES)
 }
 
 /// The empty string at 1,000, where byte 1,001 is 65; four characters at 3,000; 255 at 4,000, all of
@@ -876,19 +921,10 @@ const ASSIGNMENTS: &[OnMemory] = &[
 ];
 
 #[test]
-fn strings(rt: HostRuntime) -> Result<(), Fail> {
-    for cases in [STRINGS, CHARACTERS, ASSIGNMENTS] {
-        for (row, stack, left, after) in cases {
-            check(
-                &rt,
-                rt.alloc(),
-                (*row, NP),
-                (stack, STRING_BYTES),
-                (*left, after),
-            )?;
-        }
-    }
-    Ok(())
+fn strings(rt: HostRuntime) -> Result<(), AllocError> {
+    write(&rt, rt.alloc(), STRING_BYTES, STRINGS)?;
+    write(&rt, rt.alloc(), STRING_BYTES, CHARACTERS)?;
+    write(&rt, rt.alloc(), STRING_BYTES, ASSIGNMENTS)
 }
 
 /// Each relation, and whether it holds of a left operand that is less, equal and greater.
@@ -919,7 +955,7 @@ fn check_order(
     kind: Kind,
     operands: (&[u16], Bytes),
     order: Order,
-) -> Result<(), Fail> {
+) -> Result<(), AllocError> {
     for (relation, [less, equal, greater]) in RELATIONS {
         let answer = [match order {
             LESS => less,
@@ -1011,7 +1047,7 @@ const ORDERED: &[(Kind, &[u16], Order)] = &[
 ];
 
 #[test]
-fn orders(rt: HostRuntime) -> Result<(), Fail> {
+fn orders(rt: HostRuntime) -> Result<(), AllocError> {
     for (left, right, order) in STRING_PAIRS {
         check_order(
             &rt,
@@ -1029,60 +1065,71 @@ fn orders(rt: HostRuntime) -> Result<(), Fail> {
 
 /// The right set and the left one below it; whether they are equal, whether the left one is a
 /// subset, whether it is a superset.
-const SET_PAIRS: &[(&[u16], [u16; 3])] = &[
+const SET_PAIRS: &[(&[u16], [bool; 3])] = &[
     // empty ones, of no words and of two
-    (&[0, 0], [1, 1, 1]),
-    (&[0, 2, 0, 0], [1, 1, 1]),
-    (&[2, 0, 0, 0], [1, 1, 1]),
+    (&[0, 0], [true, true, true]),
+    (&[0, 2, 0, 0], [true, true, true]),
+    (&[2, 0, 0, 0], [true, true, true]),
     // the same numbers, also in more words
-    (&[1, 6, 1, 6], [1, 1, 1]),
-    (&[3, 6, 0, 0, 1, 6], [1, 1, 1]),
-    (&[1, 6, 3, 6, 0, 0], [1, 1, 1]),
+    (&[1, 6, 1, 6], [true, true, true]),
+    (&[3, 6, 0, 0, 1, 6], [true, true, true]),
+    (&[1, 6, 3, 6, 0, 0], [true, true, true]),
     // 16 besides, in the right set and in the left one
-    (&[2, 6, 1, 1, 6], [0, 1, 0]),
-    (&[1, 6, 2, 6, 1], [0, 0, 1]),
+    (&[2, 6, 1, 1, 6], [false, true, false]),
+    (&[1, 6, 2, 6, 1], [false, false, true]),
     // 2 besides
-    (&[1, 6, 1, 2], [0, 1, 0]),
-    (&[1, 2, 1, 6], [0, 0, 1]),
+    (&[1, 6, 1, 2], [false, true, false]),
+    (&[1, 2, 1, 6], [false, false, true]),
     // nothing against 15
-    (&[1, 0x8000, 0], [0, 1, 0]),
-    (&[0, 1, 0x8000], [0, 0, 1]),
+    (&[1, 0x8000, 0], [false, true, false]),
+    (&[0, 1, 0x8000], [false, false, true]),
     // 0 against 1; 0 to 2 against 1, 2 and 16, and the other way round
-    (&[1, 1, 1, 2], [0, 0, 0]),
-    (&[1, 7, 2, 6, 1], [0, 0, 0]),
-    (&[2, 6, 1, 1, 7], [0, 0, 0]),
+    (&[1, 1, 1, 2], [false, false, false]),
+    (&[1, 7, 2, 6, 1], [false, false, false]),
+    (&[2, 6, 1, 1, 7], [false, false, false]),
 ];
 
+fn compare_sets(
+    rt: &impl Abort,
+    alloc: Global,
+    stack: &[u16],
+    relation: Relation,
+    left: Left,
+) -> Result<(), AllocError> {
+    let row = Row::Compare(relation, Kind::Set);
+    check(rt, alloc, (row, NP), (stack, &[]), (left, &[]))
+}
+
+/// The four relations that sets have.
+fn order_sets(
+    rt: &impl Abort,
+    alloc: Global,
+    stack: &[u16],
+    [equal, unequal, subset, superset]: [Left; 4],
+) -> Result<(), AllocError> {
+    compare_sets(rt, alloc, stack, Relation::Equal, equal)?;
+    compare_sets(rt, alloc, stack, Relation::NotEqual, unequal)?;
+    compare_sets(rt, alloc, stack, Relation::LessOrEqual, subset)?;
+    compare_sets(rt, alloc, stack, Relation::GreaterOrEqual, superset)
+}
+
+/// What a comparison leaves.
+fn truth(holds: bool) -> Left<'static> {
+    if holds { Ok(&[1]) } else { Ok(&[0]) }
+}
+
+/// What the relations leave of two sets that are equal, or whose left one is a subset, or a superset.
+fn truths([equal, subset, superset]: [bool; 3]) -> [Left<'static>; 4] {
+    [truth(equal), truth(!equal), truth(subset), truth(superset)]
+}
+
 #[test]
-fn set_orders(rt: HostRuntime) -> Result<(), Fail> {
+fn set_orders(rt: HostRuntime) -> Result<(), AllocError> {
     for (stack, answers) in SET_PAIRS {
-        let [equal, subset, superset] = *answers;
-        for (relation, answer) in [
-            (Relation::Equal, equal),
-            (Relation::NotEqual, 1 ^ equal),
-            (Relation::LessOrEqual, subset),
-            (Relation::GreaterOrEqual, superset),
-        ] {
-            let row = Row::Compare(relation, Kind::Set);
-            check(
-                &rt,
-                rt.alloc(),
-                (row, NP),
-                (stack, &[]),
-                (Ok(&[answer]), &[]),
-            )?;
-        }
+        order_sets(&rt, rt.alloc(), stack, truths(*answers))?;
     }
     for (stack, error) in NO_TWO_SETS {
-        for relation in [
-            Relation::Equal,
-            Relation::NotEqual,
-            Relation::LessOrEqual,
-            Relation::GreaterOrEqual,
-        ] {
-            let row = Row::Compare(relation, Kind::Set);
-            check(&rt, rt.alloc(), (row, NP), (stack, &[]), (*error, &[]))?;
-        }
+        order_sets(&rt, rt.alloc(), stack, [*error, *error, *error, *error])?;
     }
     Ok(())
 }
@@ -1114,27 +1161,31 @@ const WORD_PAIRS: &[(u16, &[u16], Left)] = &[
     (0, &[], MEMORY),
 ];
 
-#[test]
-fn equal_words(rt: HostRuntime) -> Result<(), Fail> {
+const UNEQUAL_WORDS: &[(u16, &[u16], Left)] = &[
+    (1, &[3000, 2000], Ok(&[0])),
+    (2, &[3000, 2000], Ok(&[1])),
+    (0, &[65534, 0], Ok(&[0])),
+    (0, &[2001, 2000], MEMORY),
+];
+
+fn compare_words(
+    rt: &impl Abort,
+    alloc: Global,
+    relation: Relation,
+    cases: &[(u16, &[u16], Left)],
+) -> Result<(), AllocError> {
     let before: Bytes = &[(2000, &[1, 2, 3, 128]), (3000, &[1, 2, 3, 127])];
-    for (count, stack, left) in WORD_PAIRS {
-        let row = Row::Compare(Relation::Equal, Kind::Words(*count));
-        check(&rt, rt.alloc(), (row, NP), (stack, before), (*left, &[]))?;
-    }
-    for (count, stack, left) in [
-        (1, &[3000u16, 2000], Ok(&[0u16])),
-        (2, &[3000, 2000], Ok(&[1])),
-        (0, &[65534, 0], Ok(&[0])),
-        (0, &[2001, 2000], Err(ExecError::InvalidMemory)),
-    ] {
-        let row = Row::Compare(Relation::NotEqual, Kind::Words(count));
-        let left = match left {
-            Ok(answer) => Ok(answer.as_slice()),
-            Err(error) => Err(error),
-        };
-        check(&rt, rt.alloc(), (row, NP), (stack, before), (left, &[]))?;
+    for (count, stack, left) in cases {
+        let row = Row::Compare(relation, Kind::Words(*count));
+        check(rt, alloc, (row, NP), (stack, before), (*left, &[]))?;
     }
     Ok(())
+}
+
+#[test]
+fn equal_words(rt: HostRuntime) -> Result<(), AllocError> {
+    compare_words(&rt, rt.alloc(), Relation::Equal, WORD_PAIRS)?;
+    compare_words(&rt, rt.alloc(), Relation::NotEqual, UNEQUAL_WORDS)
 }
 
 /// Comparisons that are not made, whatever is on the stack.
@@ -1156,13 +1207,19 @@ const NOT_MADE: [(Relation, Kind); 14] = [
 ];
 
 #[test]
-fn comparisons_not_made(rt: HostRuntime) -> Result<(), Fail> {
+fn comparisons_not_made(rt: HostRuntime) -> Result<(), AllocError> {
     for (relation, kind) in NOT_MADE {
-        let row = (Row::Compare(relation, kind), NP);
+        let row = Row::Compare(relation, kind);
         // good operands; a bad count, and odd addresses; no operands
-        check(&rt, rt.alloc(), row, (&[0, 0, 0, 0], &[]), (NOT_HERE, &[]))?;
-        check(&rt, rt.alloc(), row, (&[301, 301], &[]), (NOT_HERE, &[]))?;
-        check(&rt, rt.alloc(), row, (&[], &[]), (NOT_HERE, &[]))?;
+        leave(
+            &rt,
+            rt.alloc(),
+            &[
+                (row, &[0, 0, 0, 0], NOT_HERE),
+                (row, &[301, 301], NOT_HERE),
+                (row, &[], NOT_HERE),
+            ],
+        )?;
     }
     Ok(())
 }

@@ -8,3 +8,7 @@ pub mod Filing
 pub mod Played
 pub mod Opening
 pub mod RunLaws
+pub mod WordLaws
+pub mod CommandLaws
+pub mod SessionLaws
+pub mod Talked

@@ -6,3 +6,8 @@ pub mod Disks
 pub mod Files
 pub mod Said
 pub mod Laws
+pub mod Words
+pub mod Commands
+pub mod Answers
+pub mod Sessions
+pub mod Talks

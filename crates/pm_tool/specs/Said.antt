@@ -21,6 +21,7 @@ use Rattle.pm_tool.specs.Outcomes.{Said, exit_number, exit_of, refused, IsOutcom
 use Rattle.pm_tool.specs.declared.steps.Show.{Show}
 use Rattle.pm_tool.specs.declared.steps.Show.TheVariants.{Trace, Console}
 use Rattle.pm_tool.specs.Run.{Run, end_text, last_line, run_of}
+use Rattle.pm_tool.specs.Sessions.{said_debug}
 use Rattle.pm_tool.specs.Streams.{IsFront, IsCause}
 
 -- ---- the jobs
@@ -67,6 +68,7 @@ abbrev pub said : Job → List ℕ → Said
 said (jobs.Raw limit) input = said_started Trace limit (loaded (spelled input)) []
 said (jobs.Run disks name limit save) input = said_started (Console save) limit (booted (images_of disks) (string_bytes name)) input
 said (jobs.Trace disks name limit) input = said_started Trace limit (booted (images_of disks) (string_bytes name)) input
+said (jobs.Debug disks name) input = said_debug (booted (images_of disks) (string_bytes name)) input
 said (jobs.Files image command) input = said_files image.items (order_of command) input
 said (jobs.New name blocks) input = said_new (blank_fault (string_bytes name) blocks) (string_bytes name) blocks input
 

@@ -5,6 +5,7 @@ ghost use Rattle.pm_tool.specs.Hex.{spelled};
 ghost use Rattle.pm_tool.specs.Outcomes.{exit_number, fault_exit, fault_text};
 ghost use Rattle.pm_tool.specs.Said.{loaded, said, said_started, IsSound, IsCutShort, IsDone, IsBrokenOff, Tells, IsCut, FailsExactly};
 
+use crate::debug::debug;
 use crate::fault::{Fault, MESSAGE_ROOM};
 use crate::files::{files, new_volume};
 use crate::hex;
@@ -97,6 +98,7 @@ fn perform<R: Source, W: Sink>(
                 limit,
             )
         }
+        Job::Debug { disks, name } => debug(alloc, source, sink, disks, name.as_str()),
         Job::Files { image, command } => files(alloc, source, sink, image, command),
         Job::New { name, blocks } => Ok(new_volume(alloc, name.as_str(), blocks)?),
     }

@@ -1,6 +1,9 @@
 //! The engine of the program: one job, from the bytes that are read to the bytes that are written.
 #![tactic(auto)]
 
+mod answer;
+mod commands;
+mod debug;
 mod ending;
 mod engine;
 mod fault;

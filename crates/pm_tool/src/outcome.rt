@@ -36,6 +36,13 @@ pub enum Job {
         name: String,
         limit: u32,
     },
+    /// A debugger of the same program, which is not run by itself: each line of the input is a command, and is answered by one
+    /// line, before the next is read. The session ends behind the line of `quit`, or with the input, and the job then ends
+    /// well, whatever the machine did. The console's bytes are not shown, and none of the input is its.
+    Debug {
+        disks: [Option<Vec<u8>>; 6],
+        name: String,
+    },
     /// A command on the volume that an image is. The input's bytes stand in the place of a put's, of bytes or text, and no
     /// other command reads any. The output is the list, the bytes or the text of a file; after a change the outcome has the
     /// image that is to be kept. An image that is no volume is refused by `refused volume N`, before the input is read; a command that the volume

@@ -117,7 +117,7 @@ fn volumes_of(disks: [Option<Vec<u8>>; 6]) -> Result<[Option<Volume>; 6], Volume
 }
 
 /// The machine at the start of a program of unit 4, or why there is none.
-fn boot(
+pub(crate) fn boot(
     alloc: Global,
     disks: [Option<Vec<u8>>; 6],
     name: &str,

@@ -26,12 +26,11 @@ fn name<'a>(alloc: Global, id: &'a str, help: &'a str) -> Arg<'a> {
     Arg::new(alloc, id).value_name(id).required(true).help(help)
 }
 
-fn verb_command<'a>(
-    alloc: Global,
-    word: &'a str,
-    about: &'a str,
-    words: &[(&'a str, &'a str)],
-) -> Result<Command<'a>, AllocError> {
+/// A verb, what it does, and the words after it with their meanings.
+type VerbRow<'a> = (&'a str, &'a str, &'a [(&'a str, &'a str)]);
+
+fn verb_command<'a>(alloc: Global, row: VerbRow<'a>) -> Result<Command<'a>, AllocError> {
+    let (word, about, words) = row;
     let mut command = Command::new(alloc, word).about(about);
     for (id, help) in words {
         command = command.arg(name(alloc, id, help))?;
@@ -41,6 +40,66 @@ fn verb_command<'a>(
 
 const FILE: &str = "The file's name, in either case";
 
+const KIND: &str = "none, badb, code, text, info, data, graf, foto, secd, or a number 0 to 15";
+
+const VOLUME: &str = "The volume's name, up to 7 characters";
+
+const BLOCKS: &str = "The number of blocks, 6 to 65535";
+
+const VERBS: &[VerbRow] = &[
+    ("list", "Lists the files", &[]),
+    (
+        "get",
+        "Writes a file's bytes to standard output",
+        &[("NAME", FILE)],
+    ),
+    (
+        "put",
+        "Adds a file with the bytes of standard input",
+        &[("NAME", FILE), ("KIND", KIND)],
+    ),
+    (
+        "gettext",
+        "Writes the text of a text file to standard output",
+        &[("NAME", FILE)],
+    ),
+    (
+        "puttext",
+        "Adds a text file with the text of standard input",
+        &[("NAME", FILE)],
+    ),
+    (
+        "krunch",
+        "Moves the files together, so that the free blocks are one gap",
+        &[],
+    ),
+    (
+        "date",
+        "Sets the volume's last date",
+        &[
+            ("Y", "The year, 0 to 127"),
+            ("M", "The month, 1 to 12"),
+            ("D", "The day, 1 to 31"),
+        ],
+    ),
+    (
+        "zero",
+        "Forgets all files and gives the volume a name",
+        &[("NAME", VOLUME)],
+    ),
+    ("remove", "Removes a file", &[("NAME", FILE)]),
+    (
+        "change",
+        "Gives a file another name",
+        &[("OLD", FILE), ("NEW", "The other name")],
+    ),
+    (
+        "new",
+        "Makes a new volume without files",
+        &[("NAME", VOLUME), ("BLOCKS", BLOCKS)],
+    ),
+];
+
 /// The command `files` and its verbs.
 pub fn files<'a>(alloc: Global) -> Result<Command<'a>, AllocError> {
     let image = Arg::new(alloc, "image")
@@ -48,74 +107,13 @@ pub fn files<'a>(alloc: Global) -> Result<Command<'a>, AllocError> {
         .value_name("PATH")
         .required(true)
         .help("The file that has the volume's image");
-    let kind = "none, badb, code, text, info, data, graf, foto, secd, or a number 0 to 15";
-    let blocks = "The number of blocks, 6 to 65535";
-    Command::new(alloc, "files")
+    let mut command = Command::new(alloc, "files")
         .about("Lists, gets and changes the files of a volume")
-        .arg(image)?
-        .subcommand(verb_command(alloc, "list", "Lists the files", &[])?)?
-        .subcommand(verb_command(
-            alloc,
-            "get",
-            "Writes a file's bytes to standard output",
-            &[("NAME", FILE)],
-        )?)?
-        .subcommand(verb_command(
-            alloc,
-            "put",
-            "Adds a file with the bytes of standard input",
-            &[("NAME", FILE), ("KIND", kind)],
-        )?)?
-        .subcommand(verb_command(
-            alloc,
-            "gettext",
-            "Writes the text of a text file to standard output",
-            &[("NAME", FILE)],
-        )?)?
-        .subcommand(verb_command(
-            alloc,
-            "puttext",
-            "Adds a text file with the text of standard input",
-            &[("NAME", FILE)],
-        )?)?
-        .subcommand(verb_command(
-            alloc,
-            "krunch",
-            "Moves the files together, so that the free blocks are one gap",
-            &[],
-        )?)?
-        .subcommand(verb_command(
-            alloc,
-            "date",
-            "Sets the volume's last date",
-            &[
-                ("Y", "The year, 0 to 127"),
-                ("M", "The month, 1 to 12"),
-                ("D", "The day, 1 to 31"),
-            ],
-        )?)?
-        .subcommand(verb_command(
-            alloc,
-            "zero",
-            "Forgets all files and gives the volume a name",
-            &[("NAME", "The volume's name, up to 7 characters")],
-        )?)?
-        .subcommand(verb_command(alloc, "remove", "Removes a file", &[("NAME", FILE)])?)?
-        .subcommand(verb_command(
-            alloc,
-            "change",
-            "Gives a file another name",
-            &[("OLD", FILE), ("NEW", "The other name")],
-        )?)?
-        .subcommand(verb_command(
-            alloc,
-            "new",
-            "Makes a new volume without files",
-            &[
-                ("NAME", "The volume's name, up to 7 characters"),
-                ("BLOCKS", blocks),
-            ],
-        )?)
+        .arg(image)?;
+    for row in VERBS {
+        command = command.subcommand(verb_command(alloc, *row)?)?;
+    }
+    Ok(command)
 }
 
 /// The kind that a word names.

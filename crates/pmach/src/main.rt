@@ -149,12 +149,24 @@ fn do_trace(rt: &HostRuntime, program: Program) -> Result<End, DiskFault> {
     Ok(end_of(perform(rt, Job::Trace { disks, name, limit })))
 }
 
+/// Debugs a program, by the commands of standard input.
+fn do_debug(rt: &HostRuntime, program: Program) -> Result<End, DiskFault> {
+    let Program {
+        disks: paths,
+        name,
+        ..
+    } = program;
+    let disks = images(rt, &paths)?;
+    Ok(end_of(perform(rt, Job::Debug { disks, name })))
+}
+
 fn follow(rt: &HostRuntime, plan: Plan) -> End {
     match plan {
         Plan::Job(job) => end_of(perform(rt, job)),
         Plan::Files(plan) => end_or_fault(rt, do_files(rt, plan)),
         Plan::Run(program, keeping) => end_or_fault(rt, do_run(rt, program, keeping)),
         Plan::Trace(program) => end_or_fault(rt, do_trace(rt, program)),
+        Plan::Debug(program) => end_or_fault(rt, do_debug(rt, program)),
     }
 }
 

@@ -1,4 +1,4 @@
-//! The words of `run` and `trace`.
+//! The words of `run`, `trace` and `debug`.
 use crate::words::{WordsError, given, limit, limit_of};
 use clap::{Arg, ArgAction, ArgMatches, Command};
 use std::alloc::{AllocError, Global};
@@ -65,6 +65,14 @@ pub fn run<'a>(alloc: Global) -> Result<Command<'a>, AllocError> {
 pub fn trace<'a>(alloc: Global) -> Result<Command<'a>, AllocError> {
     let command = Command::new(alloc, "trace").about(
         "Runs a code file of the disk on unit 4, with standard input as its console, and writes its trace",
+    );
+    with_program(alloc, command)
+}
+
+/// The command `debug`, whose limit has no effect.
+pub fn debug<'a>(alloc: Global) -> Result<Command<'a>, AllocError> {
+    let command = Command::new(alloc, "debug").about(
+        "Debugs a code file of the disk on unit 4, by the commands of standard input",
     );
     with_program(alloc, command)
 }

@@ -1,6 +1,6 @@
 //! The words of the command line.
 use crate::file_words::{FilesPlan, files, files_plan};
-use crate::run_words::{Keeping, Program, keeping_of, program_of, run, trace};
+use crate::run_words::{Keeping, Program, debug, keeping_of, program_of, run, trace};
 use clap::error::ErrorKind;
 use clap::{Arg, ArgMatches, Command};
 use pm_tool::{Exit, Job};
@@ -22,6 +22,8 @@ pub enum Plan {
     Run(Program, Keeping),
     /// A program whose trace is written.
     Trace(Program),
+    /// A program that is debugged.
+    Debug(Program),
 }
 
 /// Why the words are no job.
@@ -109,7 +111,8 @@ fn command<'a>(alloc: Global) -> Result<Command<'a>, AllocError> {
         .subcommand(raw(alloc)?)?
         .subcommand(files(alloc)?)?
         .subcommand(run(alloc)?)?
-        .subcommand(trace(alloc)?)
+        .subcommand(trace(alloc)?)?
+        .subcommand(debug(alloc)?)
 }
 
 /// The number that decimal digits alone spell.
@@ -153,6 +156,7 @@ fn plan_asked(alloc: Global, matches: &ArgMatches<'_>) -> Result<Plan, WordsErro
             keeping_of(alloc, matches)?,
         )),
         Some(("trace", matches)) => Ok(Plan::Trace(program_of(alloc, matches)?)),
+        Some(("debug", matches)) => Ok(Plan::Debug(program_of(alloc, matches)?)),
         Some((_, matches)) => Ok(Plan::Files(files_plan(alloc, matches)?)),
         None => Err(WordsError::NoCommand),
     }

@@ -14,6 +14,9 @@ returns-in-Run-clause-broken g c = broken_job c.args.job (jobs.Run c.in-Run.disk
 pub returns-in-Trace-clause-broken : goal.returns-in-Trace-clause-broken
 returns-in-Trace-clause-broken g c = broken_job c.args.job (jobs.Trace c.in-Trace.disks c.in-Trace.name c.in-Trace.limit) _ _ _ _ _ _ _ (rw c.as_str-in-Trace.ensures.value at c.program-in-Trace.ensures.broken) c.in-Trace.is
 
+pub returns-in-Debug-clause-broken : goal.returns-in-Debug-clause-broken
+returns-in-Debug-clause-broken g c = broken_job c.args.job (jobs.Debug c.in-Debug.disks c.in-Debug.name) _ _ _ _ _ _ _ (rw c.as_str-in-Debug.ensures.value at c.debug.ensures.broken) c.in-Debug.is
+
 pub returns-in-Files-clause-broken : goal.returns-in-Files-clause-broken
 returns-in-Files-clause-broken g c = broken_job c.args.job (jobs.Files c.in-Files.image c.in-Files.command) _ _ _ _ _ _ _ c.files.ensures.broken c.in-Files.is
 

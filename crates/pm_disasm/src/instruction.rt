@@ -9,14 +9,14 @@ use std::fmt;
 
 /// An instruction with the bytes that it names, shown as its mnemonic and its operands.
 #[derive(Clone, Copy)]
-pub struct Item<'a> {
+pub struct Instruction<'a> {
     /// The instruction.
     pub instr: &'a Instr,
     /// The characters of LSA and LPA, or the bytes of LDC's words. Other instructions show none.
     pub named: &'a [u8],
 }
 
-impl fmt::Display for Item<'_> {
+impl fmt::Display for Instruction<'_> {
     ghost output = { λ i. Some (item_text i.instr.now i.named.now) };
 
     #[tactic(auto, unfolding(crate::specs::Text::item_text))]

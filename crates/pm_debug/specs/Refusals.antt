@@ -1,0 +1,32 @@
+-- Refusals of the debugger.
+use Rattle.std.specs.Prelude.{ℕ, Result, Ok, Err}
+use Rattle.pm_words.specs.declared.error.ExecError.{ExecError}
+use Rattle.pm_words.specs.declared.error.ExecError.TheVariants as errors
+use Rattle.pm_debug.specs.declared.refusal.Refusal.{Refusal}
+use Rattle.pm_debug.specs.declared.refusal.Refusal.TheVariants.{Full, NoBreak, OddAddress, NoMemory, TooDeep}
+
+abbrev pub number_of : Refusal → ℕ
+number_of Full = 1
+number_of NoBreak = 2
+number_of OddAddress = 3
+number_of NoMemory = 4
+number_of TooDeep = 5
+
+-- the refusal of a read that fails: too many static links, or an odd address on the way
+abbrev pub refusal_of : ExecError → Refusal
+refusal_of errors.NoSegment = TooDeep
+refusal_of errors.InvalidIndex = OddAddress
+refusal_of errors.NoProcedure = OddAddress
+refusal_of errors.StackOverflow = OddAddress
+refusal_of errors.DivideByZero = OddAddress
+refusal_of errors.InvalidMemory = OddAddress
+refusal_of errors.SystemIo = OddAddress
+refusal_of errors.UserIo = OddAddress
+refusal_of errors.Unimplemented = OddAddress
+refusal_of errors.StringTooLong = OddAddress
+refusal_of errors.Halt = OddAddress
+
+-- a read, or its refusal
+abbrev pub or_refused : Result ℕ ExecError → Result ℕ Refusal
+or_refused (Ok word) = Ok word
+or_refused (Err error) = Err (refusal_of error)

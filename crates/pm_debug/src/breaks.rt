@@ -1,0 +1,98 @@
+//! Breakpoints.
+
+ghost use Rattle.std.specs.Prelude.{◌≡◌, Ok, IfErr, OnOk, OnErr, Err};
+ghost use Rattle.pm_debug.specs.Breaks.{is_at_break, is_same, is_set, standing, with_break, without_break};
+
+use crate::refusal::Refusal;
+use arrayvec::ArrayVec;
+use pm_machine::Machine;
+
+/// The most breakpoints.
+pub(crate) const MOST_BREAKS: usize = 64;
+
+/// A place in the code before which a run stops: the numbers of a segment and a procedure, and the
+/// distance in bytes from where the procedure is entered.
+#[derive(Clone, Copy, Debug, Default)]
+pub struct Breakpoint {
+    /// The segment's number, the low byte of its highest word.
+    pub segment: u8,
+    /// The procedure's number, the low byte of the highest word of its table.
+    pub procedure: u8,
+    /// IPC less the place where the procedure is entered.
+    pub offset: u16,
+}
+
+/// The breakpoints that are set.
+pub(crate) type Breaks = ArrayVec<Breakpoint, MOST_BREAKS>;
+
+fn is_same(a: Breakpoint, b: Breakpoint) -> bool
+    ensures same { result ≡ is_same a b }
+{
+    a.segment == b.segment && a.procedure == b.procedure && a.offset == b.offset
+}
+
+/// Whether a breakpoint is set.
+fn is_set(breaks: &[Breakpoint], wanted: Breakpoint) -> bool
+    ensures set { result ≡ is_set wanted breaks.now }
+{
+    breaks.iter().any(|known| is_same(wanted, *known))
+}
+
+/// Sets a breakpoint. One that is set already stays; a new one beside 64 is refused.
+#[tactic(auto, unfolding(crate::specs::Breaks::with_break))]
+pub(crate) fn set(breaks: &mut Breaks, new: Breakpoint) -> Result<(), Refusal>
+    ensures set { OnOk result (with_break new breaks.old.items ≡ Ok breaks.new.items) }
+    ensures refused { IfErr result (λ refusal. with_break new breaks.old.items ≡ Err refusal) }
+    ensures kept { OnErr result (breaks.new ≡ breaks.old) }
+{
+    if is_set(breaks, new) {
+        return Ok(());
+    }
+    if breaks.is_full() {
+        return Err(Refusal::Full);
+    }
+    breaks.push(new);
+    Ok(())
+}
+
+/// Takes a breakpoint away.
+#[tactic(auto, unfolding(crate::specs::Breaks::without_break))]
+pub(crate) fn clear(breaks: &mut Breaks, old: Breakpoint) -> Result<(), Refusal>
+    ensures cleared { OnOk result (without_break old breaks.old.items ≡ Ok breaks.new.items) }
+    ensures refused { IfErr result (λ refusal. without_break old breaks.old.items ≡ Err refusal) }
+    ensures kept { OnErr result (breaks.new ≡ breaks.old) }
+{
+    if !is_set(breaks, old) {
+        return Err(Refusal::NoBreak);
+    }
+    breaks.retain(|known| !is_same(old, *known));
+    Ok(())
+}
+
+/// Where a machine stands in the code; nowhere where SEG or JTAB is odd.
+#[tactic(auto, unfolding(crate::specs::Breaks::standing))]
+fn standing(machine: &Machine) -> Option<Breakpoint>
+    ensures place { result ≡ standing machine.now }
+{
+    let registers = machine.registers();
+    let memory = machine.memory();
+    let segment = memory.word(registers.seg)?;
+    let procedure = memory.word(registers.jtab)?;
+    let at = registers.jtab.wrapping_sub(2);
+    let enter = at.wrapping_sub(memory.word(at)?);
+    Some(Breakpoint {
+        segment: (segment % 256) as u8,
+        procedure: (procedure % 256) as u8,
+        offset: registers.ipc.wrapping_sub(enter),
+    })
+}
+
+/// Whether a machine stands at a breakpoint.
+pub(crate) fn is_at_break(machine: &Machine, breaks: &[Breakpoint]) -> bool
+    ensures matches { result ≡ is_at_break breaks.now machine.now }
+{
+    match standing(machine) {
+        Some(place) => is_set(breaks, place),
+        None => false,
+    }
+}

@@ -1,0 +1,168 @@
+//! The debugger.
+
+ghost use Rattle.std.specs.Prelude.{◌≡◌, [], Ok, Err, IfOk, IfErr, OnOk, OnErr, string_bytes};
+ghost use Rattle.std.specs.Borrow.{sem};
+ghost use Rattle.pm_machine.specs.Runs.{GaveUp};
+ghost use Rattle.pm_debug.specs.Breaks.{break_at, with_break, without_break};
+ghost use Rattle.pm_debug.specs.Lending.{LendsMachine};
+ghost use Rattle.pm_debug.specs.Refusals.{or_refused};
+ghost use Rattle.pm_debug.specs.Runs.{gone};
+ghost use Rattle.pm_debug.specs.Trace.{trace_line};
+ghost use Rattle.pm_debug.specs.Views.{ShowsChain, dynamic_chain, local, stack_words, static_chain};
+
+use crate::breaks::{Breakpoint, Breaks};
+use crate::reason::Reason;
+use crate::refusal::{Refusal, refusal_of};
+use crate::run::run;
+use crate::views::{DYNAMIC_LINK, EMPTY_STACK, STATIC_LINK, chain, words_at};
+use crate::{breaks, text};
+use arrayvec::ArrayVec;
+use pm_machine::Machine;
+use std::alloc::{AllocError, Global};
+use std::marker::Model;
+
+/// A machine, and the breakpoints at which a run of it stops, seen as the state of the machine and
+/// the list of the breakpoints. What it shows is the state as it is, whatever was shown, written or
+/// run before.
+#[derive(Drop)]
+pub struct Debugger {
+    machine: Machine,
+    breaks: Breaks,
+}
+
+impl Model for Debugger {
+    ghost use Rattle.pm_debug.specs.Session.{Session};
+
+    ghost Value = { Session };
+
+    ghost view = { λ d. record { machine = d.machine; breaks = d.breaks.items } };
+}
+
+impl Debugger {
+    /// A debugger of a machine, without breakpoints.
+    pub fn new(machine: Machine) -> Debugger
+        ensures machine { result.machine ≡ machine }
+        ensures breaks { result.breaks ≡ [] }
+    {
+        Debugger {
+            machine,
+            breaks: ArrayVec::new(),
+        }
+    }
+
+    /// The machine, which is lent: what is done to it is done to the debugger's.
+    pub fn machine(&mut self) -> &mut Machine
+        ensures* lends { sem 𝓛 (LendsMachine self.entry result) }
+        ensures value { result.now ≡ self.old.machine }
+    {
+        &mut self.machine
+    }
+
+    /// The machine, without its breakpoints.
+    pub fn into_machine(self) -> Machine
+        ensures machine { result ≡ self.machine }
+    {
+        let Debugger { machine, .. } = self;
+        machine
+    }
+
+    /// Sets a breakpoint: the number of a segment, the number of a procedure, and the distance in
+    /// bytes from where the procedure is entered. One that is set already stays, also beside 64
+    /// breakpoints; `Full` for a new one beside 64.
+    pub fn set_break(&mut self, segment: u8, procedure: u8, offset: u16) -> Result<(), Refusal>
+        ensures machine { self.new.machine ≡ self.old.machine }
+        ensures set { OnOk result (with_break (break_at segment procedure offset) self.old.breaks ≡ Ok self.new.breaks) }
+        ensures refused { IfErr result (λ refusal. with_break (break_at segment procedure offset) self.old.breaks ≡ Err refusal) }
+        ensures kept { OnErr result (self.new ≡ self.old) }
+    {
+        let place = Breakpoint {
+            segment,
+            procedure,
+            offset,
+        };
+        breaks::set(&mut self.breaks, place)
+    }
+
+    /// Takes a breakpoint away; `NoBreak` where it is not set.
+    pub fn clear_break(&mut self, segment: u8, procedure: u8, offset: u16) -> Result<(), Refusal>
+        ensures machine { self.new.machine ≡ self.old.machine }
+        ensures cleared { OnOk result (without_break (break_at segment procedure offset) self.old.breaks ≡ Ok self.new.breaks) }
+        ensures refused { IfErr result (λ refusal. without_break (break_at segment procedure offset) self.old.breaks ≡ Err refusal) }
+        ensures kept { OnErr result (self.new ≡ self.old) }
+    {
+        let place = Breakpoint {
+            segment,
+            procedure,
+            offset,
+        };
+        breaks::clear(&mut self.breaks, place)
+    }
+
+    /// Makes at most `limit` steps, and stops before that where a breakpoint matches after the first
+    /// step, where the program ends, and where a step waits or fails: how many steps went or ended
+    /// the program, and why no more. A breakpoint that matches at the limit is not told. After want
+    /// of memory the machine stands after the steps that went.
+    pub fn go(&mut self, limit: u64) -> Result<(u64, Reason), AllocError>
+        ensures breaks { self.new.breaks ≡ self.old.breaks }
+        ensures gone { IfOk result (λ r. gone self.old.breaks limit self.old.machine ≡ record { steps = r.0; reason = r.1; machine = self.new.machine }) }
+        ensures err { OnErr result (GaveUp limit self.old.machine self.new.machine) }
+    {
+        let gone = run(&mut self.machine, &self.breaks, limit)?;
+        Ok(gone)
+    }
+
+    /// The words on the stack from SP up, at most `n`, and none from 65,504 on.
+    #[tactic(auto, unfolding(crate::specs::Views::stack_words))]
+    pub fn stack(&self, alloc: Global, n: u16) -> Result<Vec<u16>, AllocError>
+        ensures words { IfOk result (λ words. words.items ≡ stack_words self.now.machine n) }
+    {
+        let sp = self.machine.registers().sp;
+        let count = n.min((EMPTY_STACK - sp) / 2);
+        let words = words_at(alloc, self.machine.memory(), sp, count)?;
+        Ok(words)
+    }
+
+    /// The frames from MP on by their static links, at most `limit`; the frame of the system, 65,492,
+    /// is the last where it comes. `OddAddress` where the link of a frame at an odd address is asked
+    /// for.
+    pub fn static_chain(&self, alloc: Global, limit: u16) -> Result<Vec<u16>, Refusal>
+        ensures frames { ShowsChain (λ frames. frames.items) result (static_chain self.now.machine limit) }
+    {
+        let frame = self.machine.registers().mp;
+        chain(alloc, self.machine.memory(), STATIC_LINK, limit, frame)
+    }
+
+    /// The frames from MP on by their dynamic links, as the static chain.
+    pub fn dynamic_chain(&self, alloc: Global, limit: u16) -> Result<Vec<u16>, Refusal>
+        ensures frames { ShowsChain (λ frames. frames.items) result (dynamic_chain self.now.machine limit) }
+    {
+        let frame = self.machine.registers().mp;
+        chain(alloc, self.machine.memory(), DYNAMIC_LINK, limit, frame)
+    }
+
+    /// Variable `b` of the procedure `depth` static links up, the running one for 0. `TooDeep` for
+    /// a depth above 127, before anything is read; `OddAddress` where a link or the variable stands
+    /// at an odd address. Nothing changes.
+    #[tactic(auto, unfolding(crate::specs::Views::local))]
+    pub fn local(&mut self, depth: u16, b: u16) -> Result<u16, Refusal>
+        ensures word { result ≡ or_refused (local self.old.machine depth b) }
+        ensures same { self.new ≡ self.old }
+    {
+        let frame = match self.machine.link(depth) {
+            Ok(frame) => frame,
+            Err(error) => return Err(refusal_of(error)),
+        };
+        let address = frame.wrapping_add(10).wrapping_add(b.wrapping_mul(2));
+        match self.machine.memory().word(address) {
+            Some(word) => Ok(word),
+            None => Err(Refusal::OddAddress),
+        }
+    }
+
+    /// The line of a trace for the step that the machine makes next, without a line feed.
+    pub fn trace_line(&self, alloc: Global) -> Result<String, AllocError>
+        ensures text { IfOk result (λ text. string_bytes text ≡ trace_line self.now.machine) }
+    {
+        text::trace_line(alloc, &self.machine)
+    }
+}

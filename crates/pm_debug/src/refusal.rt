@@ -1,0 +1,73 @@
+//! What the debugger refuses.
+
+ghost use Rattle.std.specs.Prelude.{◌≡◌};
+ghost use Rattle.pm_debug.specs.Refusals.{number_of, refusal_of};
+
+use pm_words::ExecError;
+use std::alloc::{AllocError, AllocFailed};
+use thiserror::Error;
+
+/// Why the debugger refuses a call. Nothing has changed then.
+#[derive(Clone, Copy, Debug, Drop, Error, PartialEq, Eq)]
+pub enum Refusal {
+    /// 1: there are 64 breakpoints already.
+    #[error("too many breakpoints")]
+    Full,
+    /// 2: there is no such breakpoint.
+    #[error("no such breakpoint")]
+    NoBreak,
+    /// 3: an odd address on the way.
+    #[error("odd address")]
+    OddAddress,
+    /// 4: there is no memory for the answer.
+    #[error("out of memory")]
+    NoMemory,
+    /// 5: more than 127 static links.
+    #[error("too many static links")]
+    TooDeep,
+}
+
+impl Refusal {
+    /// The refusal's number, as the program prints it.
+    pub fn number(self) -> u8
+        ensures value { result ≡ number_of self }
+    {
+        match self {
+            Refusal::Full => 1,
+            Refusal::NoBreak => 2,
+            Refusal::OddAddress => 3,
+            Refusal::NoMemory => 4,
+            Refusal::TooDeep => 5,
+        }
+    }
+}
+
+impl From<AllocError> for Refusal {
+    ghost use Rattle.pm_debug.specs.declared.refusal.Refusal.TheVariants.{NoMemory};
+
+    ghost from_gives = { λ _ refusal. refusal ≡ NoMemory };
+
+    fn from(_: AllocError) -> Refusal {
+        Refusal::NoMemory
+    }
+}
+
+impl<T: Drop> From<AllocFailed<T>> for Refusal {
+    ghost use Rattle.pm_debug.specs.declared.refusal.Refusal.TheVariants.{NoMemory};
+
+    ghost from_gives = { λ _ refusal. refusal ≡ NoMemory };
+
+    fn from(_: AllocFailed<T>) -> Refusal {
+        Refusal::NoMemory
+    }
+}
+
+/// The refusal of a read that fails.
+pub(crate) fn refusal_of(error: ExecError) -> Refusal
+    ensures refusal { result ≡ refusal_of error }
+{
+    match error {
+        ExecError::NoSegment => Refusal::TooDeep,
+        _ => Refusal::OddAddress,
+    }
+}

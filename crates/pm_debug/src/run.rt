@@ -1,0 +1,49 @@
+//! Runs to a breakpoint.
+
+ghost use Rattle.std.specs.Prelude.{◌≡◌, IfOk, OnErr};
+ghost use Rattle.pm_machine.specs.Runs.{GaveUp};
+ghost use Rattle.pm_debug.specs.Runs.{breaks_after, gone, has_ended};
+
+use crate::breaks::{Breakpoint, is_at_break};
+use crate::reason::Reason;
+use pm_machine::{Machine, Status, Stop};
+use std::alloc::AllocError;
+
+/// Whether a breakpoint stops a run after so many steps.
+fn breaks_after(machine: &Machine, breaks: &[Breakpoint], count: u64) -> bool
+    ensures breaks { result ≡ breaks_after breaks.now count machine.now }
+{
+    count != 0 && is_at_break(machine, breaks)
+}
+
+fn has_ended(status: Status) -> bool
+    ensures ended { result ≡ has_ended status }
+{
+    matches!(status, Status::Ended)
+}
+
+/// Makes at most `limit` steps, and stops before that at a breakpoint.
+pub(crate) fn run(
+    machine: &mut Machine,
+    breaks: &[Breakpoint],
+    limit: u64,
+) -> Result<(u64, Reason), AllocError>
+    ensures gone { IfOk result (λ r. gone breaks.now limit machine.old ≡ record { steps = r.0; reason = r.1; machine = machine.new }) }
+    ensures err { OnErr result (GaveUp limit machine.old machine.new) }
+{
+    if has_ended(machine.status()) {
+        return Ok((0, Reason::Ended));
+    }
+    for count in 0..limit {
+        if breaks_after(machine, breaks, count) {
+            return Ok((count, Reason::Break));
+        }
+        match machine.step()? {
+            Stop::Went => {}
+            Stop::Ended => return Ok((count + 1, Reason::Ended)),
+            Stop::Waiting => return Ok((count, Reason::Waiting)),
+            Stop::Halted(error) => return Ok((count, Reason::Halted(error))),
+        }
+    }
+    Ok((limit, Reason::Limit))
+}

@@ -1,0 +1,85 @@
+//! The stack and the chains of frames.
+
+ghost use Rattle.std.specs.Prelude.{◌≡◌, ◌==◌, ◌||◌, ◌+◌, ◌*◌, ◌%◌, ◌≤◌, Some, None, IfOk, if◌then◌else◌};
+ghost use Rattle.pm_words.specs.Words.{word_at, words_at};
+ghost use Rattle.pm_words.specs.Stack.{is_even};
+ghost use Rattle.pm_debug.specs.Views.{ShowsChain, chain};
+
+use crate::refusal::Refusal;
+use pm_words::Memory;
+use std::alloc::{AllocError, Global};
+
+/// Where nothing stands on the stack.
+pub(crate) const EMPTY_STACK: u16 = 65_504;
+
+/// Where MSSTAT, the static link, stands in a frame.
+pub(crate) const STATIC_LINK: u16 = 0;
+
+/// Where MSDYN, the dynamic link, stands in a frame.
+pub(crate) const DYNAMIC_LINK: u16 = 2;
+
+/// The frame of the system, where every chain ends.
+const SYSTEM_FRAME: u16 = 65_492;
+
+/// The words from an even address on.
+pub(crate) fn words_at(
+    alloc: Global,
+    memory: &Memory,
+    start: u16,
+    count: u16,
+) -> Result<Vec<u16>, AllocError>
+    requires even { start % 2 ≡ 0 }
+    requires inside { start + 2 * count ≤ 65536 }
+    ensures words { IfOk result (λ words. words.items ≡ words_at memory.now.words start count) }
+{
+    let mut words = Vec::new(alloc);
+    for i in 0..count {
+        words.push(memory.word(start + 2 * i).unwrap_or(0))?;
+    }
+    Ok(words)
+}
+
+// Whether a frame is the last of a chain of which so many more are wanted.
+fn is_last(frame: u16, more: u16) -> bool
+    ensures last { result ≡ (more == 0 || frame == 65492) }
+{
+    more == 0 || frame == SYSTEM_FRAME
+}
+
+// The frame that a word of another frame leads to; none where that frame is at an odd address.
+fn next_frame(memory: &Memory, frame: u16, distance: u16) -> Option<u16>
+    requires even { distance % 2 ≡ 0 }
+    ensures next { result ≡ (if is_even frame then Some (word_at memory.now.words ((frame + distance) % 65536)) else None) }
+{
+    if frame % 2 != 0 {
+        return None;
+    }
+    memory.word(frame.wrapping_add(distance))
+}
+
+/// The frames from `first` on, each led to by the word at an even distance in the one before, at
+/// most `limit`; the frame of the system is the last.
+pub(crate) fn chain(
+    alloc: Global,
+    memory: &Memory,
+    distance: u16,
+    limit: u16,
+    first: u16,
+) -> Result<Vec<u16>, Refusal>
+    requires even { distance % 2 ≡ 0 }
+    ensures frames { ShowsChain (λ frames. frames.items) result (chain memory.now.words distance limit first) }
+{
+    let mut frames = Vec::new(alloc);
+    let mut frame = first;
+    for count in 0..limit {
+        frames.push(frame)?;
+        if is_last(frame, limit - count - 1) {
+            return Ok(frames);
+        }
+        let Some(next) = next_frame(memory, frame, distance) else {
+            return Err(Refusal::OddAddress);
+        };
+        frame = next;
+    }
+    Ok(frames)
+}

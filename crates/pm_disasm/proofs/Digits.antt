@@ -1,0 +1,9 @@
+-- Numbers with zeros in front.
+use Rattle.std.proofs.Common.{◌≡◌, ℕ, ◌-◌, ◌^◌, false, List, [], ◌++◌, length, replicate, ap, arith, append-nil}
+use Rattle.std.specs.Fmt.{decimal, padded_integral, format_spec, char_count}
+use Rattle.pm_disasm.specs.Shown.{padded}
+
+-- what `{n:05}` writes
+pub padded_five : (n : ℕ) → padded_integral (format_spec 32 0 4 5 (2 ^ 64 - 1)) false [] (decimal n) ≡ padded 5 n
+unfolding padded_integral padded char_count
+padded_five n = simp append-nil (ap (λ k. replicate k 48 ++ decimal n) (omega arith))

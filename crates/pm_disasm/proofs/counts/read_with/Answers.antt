@@ -1,0 +1,12 @@
+use Rattle.std.proofs.Common.{◌≡◌, ◌∙◌, refl, sym, ap, arith, is_some, true}
+use Rattle.pm_disasm.specs.Chosen.{forced_with}
+use Rattle.pm_disasm.proofs.Readings.{given, is_reading}
+use Rattle.pm_disasm.proofs.counts.read_with.Goals as goal
+
+pub returns-clause-reading : goal.returns-clause-reading
+returns-clause-reading c =
+    let read = c.in_ok-code.ensures in
+    let within = sym c.in_ok-forced.ensures.inside ∙ ap is_some c.in-Some.is in
+    let forced = given (λ v. v.items ≡ forced_with c.args.segment.now c.args.a.now c.args.count) c.in_ok-forced.field-0 c.in-Some.forced c.in-Some.is c.in_ok-forced.ensures.places in
+    is_reading c.args.segment.now c.args.a.now c.args.count _ _ _ c.from-4.result c.from-4.ensures c.requires.table c.requires.short forced (omega arith) (omega arith) within c.deref.ensures.value refl
+    (record { parts = read.parts; boundaries = read.boundaries; follow = read.follow; from = read.begin; size = read.size })

@@ -1,0 +1,12 @@
+use Rattle.std.proofs.Common.{◌≡◌, ◌++◌, ℕ, drop, map, string_bytes}
+use Rattle.pm_disasm.specs.Follow.{Follow, code_lines_by, written_by}
+use Rattle.pm_disasm.specs.Shown.{joined}
+use Rattle.pm_disasm.specs.Views.{has, part_seen}
+use Rattle.pm_disasm.proofs.lines.push_code.Given as goal
+
+-- the parts that are left stand behind those before, and the text so far with their lines is the whole
+abbrev pub invariant-loop-part : goal.invariant-loop-part
+invariant-loop-part l =
+    (at : ℕ) × Follow at l.end (map part_seen (drop l.part-index l.parts))
+    × (string_bytes l.text ++ joined (code_lines_by (has l.marks.named.now) l.marks.exit at (written_by (has l.boundaries) l.allowed (map part_seen (drop l.part-index l.parts))))
+    ≡ string_bytes l.fn.text ++ joined (code_lines_by (has l.marks.named.now) l.marks.exit l.boundaries.begin (written_by (has l.boundaries) l.allowed (map part_seen l.parts))))

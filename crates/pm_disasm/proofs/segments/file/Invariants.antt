@@ -1,0 +1,7 @@
+use Rattle.std.proofs.Common.{◌≡◌, ◌-◌, ◌++◌, string_bytes}
+use Rattle.pm_disasm.specs.Shown.{joined, slots_lines}
+use Rattle.pm_disasm.proofs.segments.file.Given as goal
+
+-- the text so far with the slots that are left is the whole
+abbrev pub invariant-loop-n : goal.invariant-loop-n
+invariant-loop-n l = string_bytes l.text ++ joined (slots_lines l.file l.n (16 - l.n)) ≡ joined (slots_lines l.file 0 16)

@@ -1,0 +1,40 @@
+-- What is written for parts, by a test of boundaries.
+use Rattle.std.specs.Prelude.{◌≡◌, ◌≤◌, ℕ, ◌+◌, Bool, ◌&&◌, ◌==◌, List, [], ◌∷◌, ◌++◌, length, map, if◌then◌else◌, codes, Option, Some, None, IfSome}
+use Rattle.std.specs.List.{list_all}
+use Rattle.pm_disasm.specs.Item.{Item, size}
+use Rattle.pm_disasm.specs.Item.Item.{OneByte}
+use Rattle.pm_disasm.specs.Program.{item_places}
+use Rattle.pm_disasm.specs.Shown.{label_text, put_if, shown_item}
+use Rattle.pm_disasm.specs.Split.{Part, is_allowed_item}
+
+abbrev pub Items : Type 0
+Items = List (Item ℕ)
+
+-- Parts that stand one behind another from a place to an end, each item of the size of its bytes.
+abbrev pub Follow : ℕ → ℕ → List Part → Type 0
+Follow at end [] = at ≡ end
+Follow at end (p ∷ ps) = (p.at ≡ at) × ((at + length p.bytes ≤ end) × (IfSome p.item (λ item. size at item ≡ length p.bytes) × Follow (at + length p.bytes) end ps))
+
+-- the item of a part, if its jumps can be written
+abbrev pub leading : (ℕ → Bool) → Bool → Item ℕ → Bool
+leading test allowed item = is_allowed_item allowed item && list_all test (item_places item)
+
+abbrev pub item_led : (ℕ → Bool) → Bool → Option (Item ℕ) → Option (Item ℕ)
+item_led test allowed None = None
+item_led test allowed (Some item) = if leading test allowed item then Some item else None
+
+abbrev pub items_or_bytes : List ℕ → Option (Item ℕ) → List (Item ℕ)
+items_or_bytes bytes None = map OneByte bytes
+items_or_bytes bytes (Some item) = item ∷ []
+
+abbrev pub written_by : (ℕ → Bool) → Bool → List Part → List (Item ℕ)
+written_by test allowed [] = []
+written_by test allowed (p ∷ ps) = items_or_bytes p.bytes (item_led test allowed p.item) ++ written_by test allowed ps
+
+-- the lines of items, by a test of the places that are named
+abbrev pub lines_at_by : (ℕ → Bool) → ℕ → ℕ → List (List ℕ) → List (List ℕ)
+lines_at_by test exit at rest = put_if (test at) (label_text at ++ 58 ∷ []) (put_if (exit == at) (codes ".EXIT") rest)
+
+abbrev pub code_lines_by : (ℕ → Bool) → ℕ → ℕ → List (Item ℕ) → List (List ℕ)
+code_lines_by test exit at [] = lines_at_by test exit at []
+code_lines_by test exit at (item ∷ items) = lines_at_by test exit at ((32 ∷ 32 ∷ shown_item item) ∷ code_lines_by test exit (at + size at item) items)

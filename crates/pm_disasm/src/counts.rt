@@ -1,0 +1,155 @@
+//! The count of entries of a procedure's jump table, which its bytes do not say.
+
+ghost use Rattle.std.specs.Prelude.{◌≡◌, ◌<◌, ◌≤◌, ◌^◌, ◌+◌, ◌-◌, ◌*◌, ◌∷◌, [], ◌&&◌, ℕ, nat_le, true, is_some, length, IfOk, IfSome};
+ghost use Rattle.pm_codefile.specs.Dictionary.{word_in};
+ghost use Rattle.pm_disasm.specs.Chosen.{IsReading, IsTable, are_inside, can_read, forced_with};
+ghost use Rattle.pm_disasm.specs.Split.{end_with, fits, procedure_of, procedure_with};
+
+use crate::parts::{Code, split};
+use crate::written::entries_needed;
+use byteorder::{ByteOrder, LittleEndian};
+use pm_codefile::Attributes;
+use std::alloc::{AllocError, Global};
+
+/// A procedure's code as it is read with a count of entries.
+#[derive(Drop)]
+pub(crate) struct Reading<'a> {
+    /// The exit code, and the places of the entries.
+    pub forced: Vec<u16>,
+    /// Where the code ends.
+    pub end: usize,
+    /// The code in parts.
+    pub code: Code<'a>,
+}
+
+/// The word at a place, its low byte first.
+#[tactic(auto, unfolding(pm_codefile::specs::Dictionary::word_in))]
+fn word(bytes: &[u8], place: usize) -> u16
+    requires within { place + 2 ≤ length bytes.now }
+    ensures word { result ≡ word_in bytes.now place }
+{
+    LittleEndian::read_u16(&bytes[place..])
+}
+
+/// Whether a place so far below a word lies in the code.
+fn leads_inside(enter: u16, end: u16, at: u16, distance: u16) -> bool
+    ensures inside { result ≡ (nat_le (enter + distance) at && nat_le (at - distance) end) }
+{
+    u32::from(enter) + u32::from(distance) <= u32::from(at) && at - distance <= end
+}
+
+/// The exit code and the places that the first entries of a jump table name; None if an entry leads before the code or behind its
+/// end.
+fn forced_places(
+    alloc: Global,
+    segment: &[u8],
+    a: &Attributes,
+    count: u16,
+) -> Result<Option<Vec<u16>>, AllocError>
+    requires table { IsTable segment.now a.now }
+    requires room { a.now.enter + 8 + 2 * count ≤ a.now.jtab }
+    ensures places { IfOk result (λ r. IfSome r (λ v. v.items ≡ forced_with segment.now a.now count)) }
+    ensures inside { IfOk result (λ r. is_some r ≡ are_inside segment.now a.now (end_with a.now count) a.now.jtab 0 count) }
+{
+    let end = a.jtab - 8 - 2 * count;
+    let mut forced = Vec::new(alloc);
+    forced.push(a.exit)?;
+    for entry in 0..count {
+        let at = a.jtab - 10 - 2 * entry;
+        let distance = word(segment, usize::from(at));
+        if !leads_inside(a.enter, end, at, distance) {
+            return Ok(None);
+        }
+        forced.push(at - distance)?;
+    }
+    Ok(Some(forced))
+}
+
+/// The code as it is read with a count of entries, if none leads elsewhere and the exit code does not lie behind the code's end.
+fn read_with<'a>(
+    alloc: Global,
+    segment: &'a [u8],
+    a: &Attributes,
+    count: u16,
+) -> Result<Option<Reading<'a>>, AllocError>
+    requires table { IsTable segment.now a.now }
+    requires short { length segment.now ≤ 65534 }
+    requires order { a.now.enter ≤ a.now.exit }
+    ensures reading { IfOk result (λ r. IfSome r (λ r. IsReading segment.now a.now count r)) }
+    ensures inside { IfOk result (λ r. is_some r ≡ can_read segment.now a.now count) }
+{
+    if usize::from(a.jtab) < usize::from(a.enter) + 8 + 2 * usize::from(count) {
+        return Ok(None);
+    }
+    let end = a.jtab - 8 - 2 * count;
+    if a.exit > end {
+        return Ok(None);
+    }
+    let Some(forced) = forced_places(alloc, segment, a, count)? else {
+        return Ok(None);
+    };
+    let end = usize::from(end);
+    let code = split(alloc, &segment[..end], usize::from(a.enter), &forced)?;
+    Ok(Some(Reading { forced, end, code }))
+}
+
+/// The code as it is read with a count of entries, if that fits: as many entries are taken by what is written.
+fn fitting<'a>(
+    alloc: Global,
+    segment: &'a [u8],
+    a: &Attributes,
+    count: u16,
+) -> Result<Option<Reading<'a>>, AllocError>
+    requires table { IsTable segment.now a.now }
+    requires short { length segment.now ≤ 65534 }
+    requires order { a.now.enter ≤ a.now.exit }
+    ensures reading { IfOk result (λ r. IfSome r (λ r. IsReading segment.now a.now count r)) }
+    ensures fits { IfOk result (λ r. is_some r ≡ fits segment.now a.now count) }
+{
+    let Some(reading) = read_with(alloc, segment, a, count)? else {
+        return Ok(None);
+    };
+    let needed = entries_needed(&reading.code.parts, &reading.code.boundaries);
+    if needed != usize::from(count) {
+        return Ok(None);
+    }
+    Ok(Some(reading))
+}
+
+/// A procedure's code as it is shown.
+#[derive(Drop)]
+pub(crate) struct Shown<'a> {
+    /// The code.
+    pub reading: Reading<'a>,
+    /// Whether jumps through an entry are written.
+    pub allowed: bool,
+}
+
+/// The code as it is shown: with the least count of entries from 0 to 60 that fits; where none does, without entries, and no jump
+/// through one is written.
+pub(crate) fn shown_code<'a>(
+    alloc: Global,
+    segment: &'a [u8],
+    a: &Attributes,
+) -> Result<Shown<'a>, AllocError>
+    requires table { IsTable segment.now a.now }
+    requires short { length segment.now ≤ 65534 }
+    requires order { a.now.enter ≤ a.now.exit }
+    ensures shown { IfOk result (λ shown. (t : ℕ) × (procedure_of segment.now a.now ≡ procedure_with segment.now a.now shown.allowed t) × IsReading segment.now a.now t shown.reading) }
+{
+    for count in 0..61 {
+        if let Some(reading) = fitting(alloc, segment, a, count)? {
+            let allowed = true;
+            return Ok(Shown { reading, allowed });
+        }
+    }
+    let mut forced = Vec::new(alloc);
+    forced.push(a.exit)?;
+    let end = usize::from(a.jtab - 8);
+    let code = split(alloc, &segment[..end], usize::from(a.enter), &forced)?;
+    let reading = Reading { forced, end, code };
+    Ok(Shown {
+        reading,
+        allowed: false,
+    })
+}

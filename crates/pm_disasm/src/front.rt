@@ -1,0 +1,116 @@
+//! The instruction at a place of code.
+
+ghost use Rattle.std.specs.Prelude.{◌≡◌, ◌<◌, ◌≤◌, ◌^◌, ◌+◌, ◌-◌, ◌*◌, drop, length, option_map, slice_index, IfSome};
+ghost use Rattle.pm_opcode.specs.Standing.{Stands};
+ghost use Rattle.pm_opcode.specs.declared.operand_form.Form.TheVariants as forms;
+ghost use Rattle.pm_opcode.specs.Table.{form_of};
+ghost use Rattle.pm_opcode.specs.Spelling.{is_odd, named_by};
+ghost use Rattle.pm_disasm.specs.Split.{front, has_zero_padding, item_of, target_of};
+ghost use Rattle.pm_disasm.specs.Views.{front_seen, item_seen, target_seen};
+
+use crate::items::{Item, Table, Target};
+use crate::place::named_bytes;
+use pm_opcode::{Form, Instr, decode, form_at};
+
+/// What is read at a place of code.
+#[derive(Clone, Copy)]
+pub(crate) struct Front<'a> {
+    /// How many bytes the instruction has.
+    pub size: usize,
+    /// The item that it is; None where a jump of it leads neither forward nor through an entry.
+    pub item: Option<Item<'a>>,
+}
+
+/// The target of a short jump by its byte, which counts from a place.
+fn target_of(next: usize, byte: u8) -> Option<Target>
+    requires next { next < 2 ^ 32 }
+    ensures target { option_map target_seen result ≡ target_of next byte }
+{
+    if byte < 128 {
+        return Some(Target::To(next + usize::from(byte)));
+    }
+    if byte % 2 == 0 && byte <= 246 {
+        return Some(Target::Through((246 - byte) / 2));
+    }
+    None
+}
+
+/// Whether the padding byte of an instruction is zero, if it has one.
+fn has_zero_padding(instr: Instr, bytes: &[u8], at: usize) -> bool
+    requires at { at < 2 ^ 32 }
+    ensures zero { result ≡ has_zero_padding (form_of instr.op) (is_odd at) (drop at bytes.now) }
+{
+    let odd = at % 2 == 1;
+    match form_at(instr.op) {
+        Form::Words => !odd || byte_or_zero(bytes, at + 2) == 0,
+        Form::Jumps => odd || byte_or_zero(bytes, at + 1) == 0,
+        _ => true,
+    }
+}
+
+/// The byte at a place, 0 past the end.
+fn byte_or_zero(bytes: &[u8], place: usize) -> u8
+    ensures byte { result ≡ slice_index bytes.now place }
+{
+    bytes.get(place).copied().unwrap_or(0)
+}
+
+/// The item of a case jump, whose bytes end before a place.
+fn case_of<'a>(instr: Instr, named: &'a [u8], end: usize) -> Option<Item<'a>>
+    requires end { end < 2 ^ 32 }
+    requires table { instr.count ≤ end }
+    ensures item { option_map item_seen result ≡ item_of forms.Jumps instr named.now end }
+{
+    let distance = (instr.c / 256) as u8;
+    if instr.c % 256 != 185 {
+        return None;
+    }
+    let at = end - instr.count as usize;
+    let otherwise = target_of(at, distance)?;
+    let words = Table {
+        at: at as u32,
+        words: named,
+    };
+    Some(Item::Case(instr.a, instr.b, otherwise, words))
+}
+
+/// The item of an instruction that names these bytes and ends before a place.
+fn item_of<'a>(instr: Instr, named: &'a [u8], end: usize) -> Option<Item<'a>>
+    requires end { end < 2 ^ 32 }
+    requires table { instr.count ≤ end }
+    ensures item { option_map item_seen result ≡ item_of (form_of instr.op) instr named.now end }
+{
+    match form_at(instr.op) {
+        Form::Sb => {
+            let target = target_of(end, (instr.a % 256) as u8)?;
+            Some(Item::Jump(instr.op, target))
+        }
+        Form::Jumps => case_of(instr, named, end),
+        _ => {
+            let instr = Instr {
+                start: 0,
+                len: 0,
+                ..instr
+            };
+            Some(Item::Plain(instr, named))
+        }
+    }
+}
+
+/// The instruction at a place of code that ends with these bytes, if one stands there.
+pub(crate) fn front_at(bytes: &[u8], at: usize) -> Option<Front<'_>>
+    requires short { length bytes.now < 2 ^ 32 }
+    ensures front { option_map front_seen result ≡ front at (drop at bytes.now) }
+    ensures within { IfSome result (λ f. (0 < f.size) × (at + f.size ≤ length bytes.now)) }
+{
+    let Ok(instr) = decode(bytes, at) else {
+        return None;
+    };
+    if !has_zero_padding(instr, bytes, at) {
+        return None;
+    }
+    let size = instr.len as usize;
+    let named = named_bytes(&instr, bytes);
+    let item = item_of(instr, named, at + size);
+    Some(Front { size, item })
+}

@@ -1,0 +1,113 @@
+//! The lines of code.
+
+ghost use Rattle.std.specs.Prelude.{◌≡◌, ◌<◌, ◌^◌, ◌+◌, ◌++◌, [], ◌∷◌, List, ℕ, length, map, string_bytes, option_map, IfSome, OnOk};
+ghost use Rattle.pm_disasm.specs.Item.{size};
+ghost use Rattle.pm_disasm.specs.Item.Item.{OneByte};
+ghost use Rattle.pm_disasm.specs.Follow.{Follow, Items, code_lines_by, items_or_bytes, lines_at_by, written_by};
+ghost use Rattle.pm_disasm.specs.Shown.{joined};
+ghost use Rattle.pm_disasm.specs.Views.{has, item_seen, part_seen};
+
+use crate::items::{Item, Label};
+use crate::parts::Part;
+use crate::places::PlaceSet;
+use crate::written::item_led;
+use std::alloc::AllocError;
+use std::fmt::Write;
+
+/// Which places have lines of their own.
+#[derive(Clone, Copy)]
+pub(crate) struct Marks<'a> {
+    /// The places with a label.
+    pub named: &'a PlaceSet,
+    /// The place of the exit code.
+    pub exit: usize,
+}
+
+/// Adds the label of a place, if it has one, and the exit code, if it is there.
+fn push_place(text: &mut String, place: usize, marks: Marks<'_>) -> Result<(), AllocError>
+    ensures text { OnOk result (string_bytes text.new ≡ string_bytes text.old ++ joined (lines_at_by (has marks.entry.named.now) marks.entry.exit place [])) }
+{
+    if marks.named.contains(place) {
+        let label = Label(place);
+        writeln!(text, "{label}:")?;
+    }
+    if marks.exit == place {
+        writeln!(text, ".EXIT")?;
+    }
+    Ok(())
+}
+
+/// Adds bytes that stand from a place on.
+fn push_bytes(
+    text: &mut String,
+    bytes: &[u8],
+    at: usize,
+    marks: Marks<'_>,
+) -> Result<(), AllocError>
+    requires short { at + length bytes.now < 2 ^ 32 }
+    ensures text { OnOk result ((rest : Items) → string_bytes text.new ++ joined (code_lines_by (has marks.entry.named.now) marks.entry.exit (at + length bytes.now) rest)
+        ≡ string_bytes text.old ++ joined (code_lines_by (has marks.entry.named.now) marks.entry.exit at (map OneByte bytes.now ++ rest))) }
+{
+    let mut place = at;
+    for byte in bytes {
+        push_place(text, place, marks)?;
+        writeln!(text, "  .BYTE {byte}")?;
+        place += 1;
+    }
+    Ok(())
+}
+
+/// Adds an item that stands at a place.
+fn push_item(
+    text: &mut String,
+    item: Item<'_>,
+    at: usize,
+    marks: Marks<'_>,
+) -> Result<(), AllocError>
+    ensures text { OnOk result ((rest : Items) → string_bytes text.new ++ joined (code_lines_by (has marks.entry.named.now) marks.entry.exit (at + size at (item_seen item.entry)) rest)
+        ≡ string_bytes text.old ++ joined (code_lines_by (has marks.entry.named.now) marks.entry.exit at (item_seen item.entry ∷ rest))) }
+{
+    push_place(text, at, marks)?;
+    writeln!(text, "  {item}")?;
+    Ok(())
+}
+
+/// Adds the items or bytes that are written for a part.
+fn push_part(
+    text: &mut String,
+    part: Part<'_>,
+    item: Option<Item<'_>>,
+    marks: Marks<'_>,
+) -> Result<(), AllocError>
+    requires short { part.at + length part.bytes.now < 2 ^ 32 }
+    requires sized { IfSome item (λ item. size part.at (item_seen item) ≡ length part.bytes.now) }
+    ensures text { OnOk result ((rest : Items) → string_bytes text.new ++ joined (code_lines_by (has marks.entry.named.now) marks.entry.exit (part.entry.at + length part.entry.bytes.now) rest)
+        ≡ string_bytes text.old ++ joined (code_lines_by (has marks.entry.named.now) marks.entry.exit part.entry.at (items_or_bytes part.entry.bytes.now (option_map item_seen item.entry) ++ rest))) }
+{
+    match item {
+        Some(item) => push_item(text, item, part.at, marks)?,
+        None => push_bytes(text, part.bytes, part.at, marks)?,
+    }
+    Ok(())
+}
+
+/// Adds the lines of code, which begins and ends at these places.
+pub(crate) fn push_code(
+    text: &mut String,
+    parts: &[Part<'_>],
+    boundaries: &PlaceSet,
+    allowed: bool,
+    end: usize,
+    marks: Marks<'_>,
+) -> Result<(), AllocError>
+    requires follow { Follow boundaries.now.begin end (map part_seen parts.now) }
+    requires short { end < 2 ^ 32 }
+    ensures text { OnOk result (string_bytes text.new
+        ≡ string_bytes text.old ++ joined (code_lines_by (has marks.entry.named.now) marks.entry.exit boundaries.now.begin (written_by (has boundaries.now) allowed (map part_seen parts.now)))) }
+{
+    for part in parts {
+        let item = item_led(*part, boundaries, allowed);
+        push_part(text, *part, item, marks)?;
+    }
+    push_place(text, end, marks)
+}

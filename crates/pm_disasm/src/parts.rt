@@ -1,0 +1,102 @@
+//! Code as parts.
+
+ghost use Rattle.std.specs.Prelude.{◌≡◌, ◌<◌, ◌≤◌, ◌^◌, ◌+◌, ◌-◌, ◌&&◌, nat_lt, drop, length, map, option_map, IfOk, IfSome};
+ghost use Rattle.std.specs.List.{list_any};
+ghost use Rattle.pm_disasm.specs.Follow.{Follow};
+ghost use Rattle.pm_disasm.specs.Split.{bytes_after_first, ends_of, part_of, parts, taken};
+ghost use Rattle.pm_disasm.specs.Views.{IsSetOf, front_seen, part_seen};
+
+use crate::front::{Front, front_at};
+use crate::items::Item;
+use crate::places::PlaceSet;
+use std::alloc::{AllocError, Global};
+
+/// A part of code.
+#[derive(Clone, Copy)]
+pub(crate) struct Part<'a> {
+    /// Its place.
+    pub at: usize,
+    /// Its bytes.
+    pub bytes: &'a [u8],
+    /// The item that it is if its jumps lead to boundaries; without one it is written as bytes.
+    pub item: Option<Item<'a>>,
+}
+
+/// Whether a forced place lies strictly between two places.
+fn is_cut(forced: &[u16], begin: usize, end: usize) -> bool
+    ensures cut { result ≡ list_any (λ place. nat_lt begin place && nat_lt place end) forced.now }
+{
+    forced.iter().any(|place| begin < usize::from(*place) && usize::from(*place) < end)
+}
+
+/// The instruction at a place, unless a forced place lies strictly inside.
+fn taken<'a>(bytes: &'a [u8], at: usize, forced: &[u16]) -> Option<Front<'a>>
+    requires short { length bytes.now < 2 ^ 32 }
+    ensures taken { option_map front_seen result ≡ taken forced.now at (drop at bytes.now) }
+    ensures within { IfSome result (λ f. (0 < f.size) × (at + f.size ≤ length bytes.now)) }
+{
+    let front = front_at(bytes, at)?;
+    if is_cut(forced, at, at + front.size) {
+        return None;
+    }
+    Some(front)
+}
+
+/// The part at a place: the instruction that is taken, else one byte.
+fn part_at<'a>(bytes: &'a [u8], at: usize, forced: &[u16]) -> Part<'a>
+    requires short { length bytes.now < 2 ^ 32 }
+    requires inside { at < length bytes.now }
+    ensures part { part_seen result ≡ part_of at (drop at bytes.now) (taken forced.now at (drop at bytes.now)) }
+    ensures size { bytes_after_first (taken forced.now at (drop at bytes.now)) + 1 ≡ length result.bytes.now }
+    ensures within { at + length result.bytes.now ≤ length bytes.now }
+{
+    match taken(bytes, at, forced) {
+        Some(front) => Part {
+            at,
+            bytes: &bytes[at..at + front.size],
+            item: front.item,
+        },
+        None => Part {
+            at,
+            bytes: &bytes[at..at + 1],
+            item: None,
+        },
+    }
+}
+
+/// Code in parts.
+#[derive(Drop)]
+pub(crate) struct Code<'a> {
+    /// The parts, one behind another.
+    pub parts: Vec<Part<'a>>,
+    /// Where they begin, and the end of the code.
+    pub boundaries: PlaceSet,
+}
+
+/// The parts of code that begins at a place and ends with these bytes.
+pub(crate) fn split<'a>(
+    alloc: Global,
+    bytes: &'a [u8],
+    begin: usize,
+    forced: &[u16],
+) -> Result<Code<'a>, AllocError>
+    requires short { length bytes.now < 2 ^ 32 - 1 }
+    requires inside { begin ≤ length bytes.now }
+    ensures parts { IfOk result (λ code. map part_seen code.parts.items ≡ parts forced.now 0 begin (drop begin bytes.now)) }
+    ensures boundaries { IfOk result (λ code. IsSetOf code.boundaries (ends_of (length bytes.now) (parts forced.now 0 begin (drop begin bytes.now)))) }
+    ensures follow { IfOk result (λ code. Follow begin (length bytes.now) (map part_seen code.parts.items)) }
+    ensures begin { IfOk result (λ code. code.boundaries.begin ≡ begin) }
+    ensures size { IfOk result (λ code. length code.boundaries.marks.items ≡ length bytes.now - begin + 1) }
+{
+    let mut parts = Vec::new(alloc);
+    let mut boundaries = PlaceSet::new(alloc, begin, bytes.len())?;
+    let mut at = begin;
+    'parts: while at < bytes.len() {
+        let part = part_at(bytes, at, forced);
+        boundaries.add(at);
+        at += part.bytes.len();
+        parts.push(part)?;
+    }
+    boundaries.add(at);
+    Ok(Code { parts, boundaries })
+}

@@ -1,0 +1,159 @@
+//! Procedures as text.
+
+ghost use Rattle.std.specs.Prelude.{◌≡◌, ◌<◌, ◌≤◌, ◌+◌, ◌++◌, ◌∷◌, codes, ℕ, [], Some, None, drop, length, map, string_bytes, IfOk, OnOk};
+ghost use Rattle.std.specs.Fmt.{decimal};
+ghost use Rattle.pm_codefile.specs.Segments.{attributes_in};
+ghost use Rattle.pm_disasm.specs.Chosen.{IsReading, IsTable};
+ghost use Rattle.pm_disasm.specs.Program.{is_among};
+ghost use Rattle.pm_disasm.specs.Shown.{entry_line, joined, level_text, missing_line, named_places, procedure_lines, table_lines, words_text};
+ghost use Rattle.pm_disasm.specs.Split.{entry_places, procedure_of, procedure_with};
+ghost use Rattle.pm_disasm.specs.Views.{IsSetOf};
+
+use crate::counts::{Shown, shown_code};
+use crate::items::Label;
+use crate::lines::{Marks, push_code};
+use crate::named::{add_entries, places_named};
+use crate::places::PlaceSet;
+use pm_codefile::Attributes;
+use std::alloc::{AllocError, Global};
+use std::fmt;
+use std::fmt::Write;
+
+/// A level, a byte, as a signed number.
+#[derive(Clone, Copy)]
+struct Level(u8);
+
+impl fmt::Display for Level {
+    ghost output = { λ l. Some (level_text l.0) };
+
+    fn fmt<W: fmt::Write>(&self, f: &mut fmt::Formatter<W>) -> fmt::Result {
+        let level = self.0;
+        if level < 128 {
+            write!(f, "{level}")
+        } else {
+            let size = 256 - u16::from(level);
+            write!(f, "-{size}")
+        }
+    }
+}
+
+/// What the line of a procedure's beginning says.
+#[derive(Clone, Copy)]
+struct Header {
+    number: u8,
+    level: Level,
+    parameters: u16,
+    locals: u16,
+}
+
+impl fmt::Display for Header {
+    ghost output = { λ h. Some (codes ".PROC" ++ words_text (decimal h.number ∷ level_text h.level.0 ∷ decimal h.parameters ∷ decimal h.locals ∷ [])) };
+
+    fn fmt<W: fmt::Write>(&self, f: &mut fmt::Formatter<W>) -> fmt::Result {
+        let number = self.number;
+        let level = self.level;
+        let parameters = self.parameters;
+        let locals = self.locals;
+        write!(f, ".PROC {number} {level} {parameters} {locals}")
+    }
+}
+
+/// The places of the entries among the forced places: all but the exit code, which is the first.
+fn entries_of(forced: &[u16]) -> &[u16]
+    ensures entries { result.now ≡ drop 1 forced.now }
+{
+    match forced {
+        [] => &[],
+        [_, entries @ ..] => entries,
+    }
+}
+
+/// Adds the lines of the entries of a jump table.
+fn push_entries(text: &mut String, entries: &[u16]) -> Result<(), AllocError>
+    ensures text { OnOk result (string_bytes text.new ≡ string_bytes text.old ++ joined (map entry_line entries.now)) }
+{
+    for entry in entries {
+        let place = Label(usize::from(*entry));
+        writeln!(text, ".JUMP {place}")?;
+    }
+    Ok(())
+}
+
+/// The places that the items of a procedure and its entries name.
+fn places_shown(
+    alloc: Global,
+    segment: &[u8],
+    a: &Attributes,
+    shown: &Shown<'_>,
+) -> Result<PlaceSet, AllocError>
+    requires table { IsTable segment.now a.now }
+    requires reading { (t : ℕ) × IsReading segment.now a.now t shown.now.reading }
+    ensures places { IfOk result (λ named. (t : ℕ) → IsReading segment.now a.now t shown.now.reading
+        → IsSetOf named (named_places (procedure_with segment.now a.now shown.now.allowed t).items ++ (procedure_with segment.now a.now shown.now.allowed t).entries)) }
+{
+    let code = &shown.reading.code;
+    let end = shown.reading.end;
+    let mut named = places_named(alloc, &code.parts, &code.boundaries, end, shown.allowed)?;
+    add_entries(&mut named, entries_of(&shown.reading.forced));
+    Ok(named)
+}
+
+/// Adds a procedure whose exit code does not lie before its code.
+fn push_shown(
+    alloc: Global,
+    text: &mut String,
+    segment: &[u8],
+    a: Attributes,
+) -> Result<(), AllocError>
+    requires table { IsTable segment.now a }
+    requires short { length segment.now ≤ 65534 }
+    requires order { a.enter ≤ a.exit }
+    ensures text { OnOk result (string_bytes text.new ≡ string_bytes text.old ++ joined (procedure_lines a.procedure (procedure_of segment.now a))) }
+{
+    let header = Header {
+        number: a.procedure,
+        level: Level(segment[usize::from(a.jtab) + 1]),
+        parameters: a.parameters,
+        locals: a.locals,
+    };
+    writeln!(text, "{header}")?;
+    let shown = shown_code(alloc, segment, &a)?;
+    let named = places_shown(alloc, segment, &a, &shown)?;
+    let marks = Marks {
+        named: &named,
+        exit: usize::from(a.exit),
+    };
+    let code = &shown.reading.code;
+    let end = shown.reading.end;
+    push_code(
+        text,
+        &code.parts,
+        &code.boundaries,
+        shown.allowed,
+        end,
+        marks,
+    )?;
+    push_entries(text, entries_of(&shown.reading.forced))?;
+    writeln!(text, ".END")?;
+    Ok(())
+}
+
+/// Adds what is shown for a procedure by its table: one whose exit code lies before its code by its number alone.
+pub(crate) fn push_table(
+    alloc: Global,
+    text: &mut String,
+    segment: &[u8],
+    a: &Attributes,
+) -> Result<(), AllocError>
+    requires table { IsTable segment.now a.now }
+    requires short { length segment.now ≤ 65534 }
+    ensures text { OnOk result (string_bytes text.new ≡ string_bytes text.old ++ joined (table_lines segment.now a.now)) }
+{
+    if a.exit < a.enter {
+        let number = a.procedure;
+        writeln!(text, "; procedure {number}")?;
+        return Ok(());
+    }
+    push_shown(alloc, text, segment, *a)?;
+    Ok(())
+}

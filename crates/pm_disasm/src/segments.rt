@@ -1,0 +1,137 @@
+//! Code files as text.
+
+ghost use Rattle.std.specs.Prelude.{◌≡◌, ◌<◌, ◌≤◌, ◌^◌, ◌%◌, ◌++◌, ℕ, Some, true, if◌then◌else◌, is_some, map, option_map, length, reverse, string_bytes, IfOk, OnOk};
+ghost use Rattle.pm_codefile.specs.Dictionary.{segment_in, slot_in};
+ghost use Rattle.pm_codefile.specs.Segments.{attributes_in, procedures_in};
+ghost use Rattle.pm_disasm.specs.Program.{is_name_character};
+ghost use Rattle.pm_disasm.specs.Laws.{item_at};
+ghost use Rattle.pm_disasm.specs.Shown.{cut, file_text, joined, name_of, procedure_text, shown_item, shown_name, slot_lines, slots_lines, tables_lines};
+
+use crate::front::{Front, front_at};
+use crate::procedures::push_table;
+use pm_codefile::{Attributes, CodeFile, attributes, procedures};
+use std::alloc::{AllocError, Global};
+use std::fmt::Write;
+
+/// A name without the spaces at its end.
+fn without_spaces(name: &[u8]) -> &[u8]
+    ensures cut { result.now ≡ reverse (cut (reverse name.now)) }
+{
+    let mut count = name.len();
+    'spaces: while count > 0 && name[count - 1] == b' ' {
+        count -= 1;
+    }
+    &name[..count]
+}
+
+/// Whether a byte may stand in a segment's name in a text.
+fn is_name_byte(byte: u8) -> bool
+    ensures name { result ≡ is_name_character byte }
+{
+    (33..=126).contains(&byte) && byte != b';' && byte != b',' && byte != b'"'
+}
+
+/// Adds the bytes of a name, each that may not stand in one as a question mark.
+fn push_marked(text: &mut String, name: &[u8]) -> Result<(), AllocError>
+    ensures text { OnOk result (string_bytes text.new ≡ string_bytes text.old ++ map (λ c. if is_name_character c then c else 63) name.now) }
+{
+    for byte in name {
+        let shown = if is_name_byte(*byte) { *byte } else { b'?' };
+        text.push(char::from(shown))?;
+    }
+    Ok(())
+}
+
+/// Adds a segment's name as it stands in a code file.
+fn push_name(text: &mut String, name: &[u8]) -> Result<(), AllocError>
+    ensures text { OnOk result (string_bytes text.new ≡ string_bytes text.old ++ shown_name name.now) }
+{
+    let name = without_spaces(name);
+    if name.is_empty() {
+        return text.push('?');
+    }
+    push_marked(text, name)
+}
+
+/// Adds the procedures of a segment.
+fn push_tables(alloc: Global, text: &mut String, segment: &[u8]) -> Result<(), AllocError>
+    requires even { length segment.now % 2 ≡ 0 }
+    requires short { length segment.now ≤ 65534 }
+    ensures text { OnOk result (string_bytes text.new ≡ string_bytes text.old ++ joined (tables_lines segment.now 1 (procedures_in segment.now))) }
+{
+    for done in 0..procedures(segment) {
+        let number = done + 1;
+        match attributes(segment, number) {
+            Some(a) => push_table(alloc, text, segment, &a)?,
+            None => writeln!(text, "; procedure {number}")?,
+        }
+    }
+    Ok(())
+}
+
+/// Adds the segment of slot n, if it has one.
+fn push_slot(alloc: Global, text: &mut String, file: &CodeFile<'_>, n: u8) -> Result<(), AllocError>
+    requires slot { n < 16 }
+    ensures text { OnOk result (string_bytes text.new ≡ string_bytes text.old ++ joined (slot_lines n (name_of (slot_in file.now n)) (segment_in file.now n))) }
+{
+    let Some(segment) = file.segment(n) else {
+        return Ok(());
+    };
+    let Some(slot) = file.slot(n) else {
+        return Ok(());
+    };
+    write!(text, ".SEG {n} ")?;
+    push_name(text, &slot.name)?;
+    text.push('\n')?;
+    push_tables(alloc, text, segment)?;
+    Ok(())
+}
+
+/// The text of a code file: its segments by ascending slot, each with its procedures. A slot without a length gives nothing. A
+/// procedure without a table that can be read, or whose exit code lies before its code, is a comment with its number.
+#[tactic(auto, unfolding(crate::specs::Shown::file_text))]
+pub fn file(alloc: Global, file: &CodeFile<'_>) -> Result<String, AllocError>
+    ensures text { IfOk result (λ text. string_bytes text ≡ file_text file.now) }
+{
+    let mut text = String::new(alloc);
+    for n in 0..16 {
+        push_slot(alloc, &mut text, file, n)?;
+    }
+    Ok(text)
+}
+
+/// The text of a procedure of a segment, by its table: its lines from `.PROC` to `.END`, each with a line feed. Where its exit code
+/// lies before its code it is a comment with the number in the table.
+#[tactic(auto, unfolding(crate::specs::Shown::procedure_text))]
+pub fn procedure(
+    alloc: Global,
+    segment: &[u8],
+    attributes: &Attributes,
+) -> Result<String, AllocError>
+    requires short { length segment.now ≤ 65534 }
+    requires of_segment { (p : ℕ) × (attributes_in segment.now p ≡ Some attributes.now) }
+    ensures text { IfOk result (λ text. string_bytes text ≡ procedure_text segment.now attributes.now) }
+{
+    let mut text = String::new(alloc);
+    push_table(alloc, &mut text, segment, attributes)?;
+    Ok(text)
+}
+
+/// The text of the instruction at an offset of a segment, without spaces before it and without a line feed. A short jump is shown
+/// with the label of its place or with its entry, as in the text of a procedure.
+#[tactic(auto, unfolding(crate::specs::Laws::item_at))]
+pub fn item(alloc: Global, segment: &[u8], at: u16) -> Result<String, AllocError>
+    requires short { length segment.now < 2 ^ 32 }
+    requires there { is_some (item_at segment.now at) ≡ true }
+    ensures text { IfOk result (λ text. Some (string_bytes text) ≡ option_map shown_item (item_at segment.now at)) }
+{
+    match front_at(segment, usize::from(at)) {
+        Some(
+            Front {
+                item: Some(item),
+                ..
+            },
+        ) => format!(in alloc; "{item}"),
+        _ => Ok(String::new(alloc)),
+    }
+}

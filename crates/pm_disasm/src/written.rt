@@ -1,0 +1,98 @@
+//! What is written for the parts of code.
+
+ghost use Rattle.std.specs.Prelude.{◌≡◌, ◌<◌, ◌≤◌, ◌+◌, ◌-◌, ◌||◌, ◌&&◌, ◌++◌, ℕ, true, length, map, option_map, IfSome};
+ghost use Rattle.std.specs.List.{AllByRecursion, list_all};
+ghost use Rattle.pm_words.specs.Words.{words_of};
+ghost use Rattle.pm_disasm.specs.Follow.{item_led, leading, written_by};
+ghost use Rattle.pm_disasm.specs.Program.{entries_for, entries_needed, entries_used, is_among, item_places, target_places};
+ghost use Rattle.pm_disasm.specs.Shown.{named_places};
+ghost use Rattle.pm_disasm.specs.Split.{is_allowed, is_allowed_item, table_places};
+ghost use Rattle.pm_disasm.specs.Views.{IsSetOf, has, item_seen, part_seen, target_seen};
+
+use crate::items::{Item, Table, Target, table_place};
+use crate::parts::Part;
+use crate::places::PlaceSet;
+
+/// Whether a jump can be written: by a label at a boundary, or through an entry where that is allowed.
+fn target_leads(target: Target, boundaries: &PlaceSet, allowed: bool) -> bool
+    ensures leads { result ≡ (is_allowed allowed (target_seen target) && list_all (has boundaries.now) (target_places (target_seen target))) }
+{
+    match target {
+        Target::To(place) => boundaries.contains(place),
+        Target::Through(_) => allowed,
+    }
+}
+
+/// Whether all places of a table are boundaries.
+fn table_leads(table: Table<'_>, boundaries: &PlaceSet) -> bool
+    ensures leads { result ≡ list_all (has boundaries.now) (table_places table.entry.at (words_of table.entry.words.now)) }
+{
+    let at = table.at;
+    let words = table.words;
+    for k in 0..words.len() / 2 {
+        let word = u16::from(words[2 * k]) + 256 * u16::from(words[2 * k + 1]);
+        if !boundaries.contains(table_place(at, k, word)) {
+            return false;
+        }
+    }
+    true
+}
+
+/// Whether the jumps of an item can be written.
+fn leads(item: Item<'_>, boundaries: &PlaceSet, allowed: bool) -> bool
+    ensures leads { result ≡ leading (has boundaries.now) allowed (item_seen item.entry) }
+{
+    match item {
+        Item::Plain(_, _) => true,
+        Item::Jump(_, target) => target_leads(target, boundaries, allowed),
+        Item::Case(_, _, otherwise, table) => {
+            target_leads(otherwise, boundaries, allowed) && table_leads(table, boundaries)
+        }
+    }
+}
+
+/// The item that is written for a part; None where it is written as bytes.
+pub(crate) fn item_led<'a>(part: Part<'a>, boundaries: &PlaceSet, allowed: bool) -> Option<Item<'a>>
+    ensures item { option_map item_seen result ≡ item_led (has boundaries.now) allowed (part_seen part.entry).item }
+    ensures leads { IfSome result (λ item. list_all (has boundaries.now) (item_places (item_seen item)) ≡ true) }
+{
+    let item = part.item?;
+    if !leads(item, boundaries, allowed) {
+        return None;
+    }
+    Some(item)
+}
+
+/// How many entries a jump table has to have for an item.
+fn entries_used(item: Item<'_>) -> usize
+    ensures entries { result ≡ entries_used (item_seen item.entry) }
+{
+    match item {
+        Item::Plain(_, _) => 0,
+        Item::Jump(_, target) => entries_for(target),
+        Item::Case(_, _, otherwise, _) => entries_for(otherwise),
+    }
+}
+
+/// How many entries a jump table has to have for a jump.
+fn entries_for(target: Target) -> usize
+    ensures entries { result ≡ entries_for (target_seen target) }
+{
+    match target {
+        Target::To(_) => 0,
+        Target::Through(entry) => usize::from(entry) + 1,
+    }
+}
+
+/// How many entries the jumps of code take that are written.
+pub(crate) fn entries_needed(parts: &[Part<'_>], boundaries: &PlaceSet) -> usize
+    ensures entries { result ≡ entries_needed (written_by (has boundaries.now) true (map part_seen parts.now)) }
+{
+    let mut needed = 0;
+    for part in parts {
+        if let Some(item) = item_led(*part, boundaries, true) {
+            needed = entries_used(item).max(needed);
+        }
+    }
+    needed
+}

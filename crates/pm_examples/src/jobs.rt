@@ -1,0 +1,66 @@
+//! A job, run over streams in memory, and what is asserted of it.
+use pm_tool::{Job, Outcome, Reader, Writer, run};
+use std::alloc::Global;
+use std::process::Abort;
+
+/// What a job came to, what it wrote, and how much of the input it left.
+#[derive(Drop)]
+pub(crate) struct Ran {
+    pub(crate) outcome: Outcome,
+    pub(crate) written: Vec<u8>,
+    pub(crate) left: usize,
+}
+
+/// Runs a job.
+pub(crate) fn job_run(alloc: Global, job: Job, input: &[u8]) -> Ran {
+    let mut written = Vec::new(alloc);
+    let mut rest = input;
+    let mut source = Reader::new(&mut rest);
+    let mut sink = Writer::new(&mut written);
+    let outcome = run(alloc, &mut source, &mut sink, job);
+    let left = rest.len();
+    Ran {
+        outcome,
+        written,
+        left,
+    }
+}
+
+/// What is asserted of a job: its status and message, what it writes, and how much of the input it leaves.
+pub(crate) type Told<'a> = (u8, &'a str, &'a str, usize);
+
+impl Ran {
+    fn has_message(&self, rt: &impl Abort, message: &str) {
+        assert_eq!(rt; self.outcome.message.as_str(), message);
+    }
+
+    fn has_written(&self, rt: &impl Abort, written: &str) {
+        assert_eq!(rt; self.written.as_slice(), written.as_bytes());
+    }
+
+    /// No image is kept, and nothing is printed.
+    fn keeps_nothing(&self, rt: &impl Abort) {
+        assert!(rt; self.outcome.image.is_none());
+        assert!(rt; self.outcome.printer.is_empty());
+    }
+
+    fn is(&self, rt: &impl Abort, told: Told<'_>) {
+        let (status, message, written, left) = told;
+        assert_eq!(rt; (self.outcome.status, self.left), (status, left));
+        self.has_message(rt, message);
+        self.has_written(rt, written);
+        self.keeps_nothing(rt);
+    }
+
+    /// The image that is kept.
+    pub(crate) fn into_image(self) -> Option<Vec<u8>> {
+        let Ran { outcome, .. } = self;
+        let Outcome { image, .. } = outcome;
+        image
+    }
+}
+
+/// The job comes to this.
+pub(crate) fn tells(rt: &impl Abort, alloc: Global, job: Job, input: &[u8], told: Told<'_>) {
+    job_run(alloc, job, input).is(rt, told);
+}

@@ -1,0 +1,258 @@
+-- How a session that is written as it goes goes on by one byte, and how it ends.
+use Rattle.std.proofs.Common.{◌≡◌, ℕ, ◌+◌, ◌<◌, ◌≤◌, List, [], ◌∷◌, ◌++◌, Option, None, Some, Result, Ok, Err, Bool, true, false, length, refl, sym, ap, ◌∙◌, append_assoc, append-nil, inl, arith, subst}
+use Rattle.std.proofs.lemmas.List.{length-append}
+use Rattle.std.specs.Prelude.{◌==◌}
+use Rattle.std.specs.Io.KnownBytes.{Consumes, Appends, Keeps, IsAtEnd}
+use Rattle.std.proofs.KnownBytes.{Consumes-trans, Consumes-nil, Consumes-kept, Appends-trans, Appends-nil}
+use Rattle.pm_machine.specs.State.{State}
+use Rattle.pm_debug.specs.Session.{Session}
+use Rattle.pm_tool.specs.declared.fault.Fault.{Fault}
+use Rattle.pm_tool.specs.declared.fault.Fault.TheVariants as faults
+use Rattle.pm_tool.specs.declared.outcome.Exit.TheVariants as exits
+use Rattle.pm_tool.specs.declared.outcome.Outcome.{Outcome}
+use Rattle.pm_tool.specs.declared.outcome.Refusal.{Refusal}
+use Rattle.pm_tool.specs.declared.source.TheConstants.{INPUT_LIMIT}
+use Rattle.pm_tool.specs.Answers.{after_line}
+use Rattle.pm_tool.specs.Commands.{command_of}
+use Rattle.pm_tool.specs.Outcomes.{IsOutcome, refused}
+use Rattle.pm_tool.specs.Said.{IsBrokenOff, IsDone, IsSound}
+use Rattle.pm_tool.specs.Sessions.{answer, debugged, is_quit, opened, said_debug}
+use Rattle.pm_tool.specs.Streams.{IsFront, AppendsFront, IsCause, ReadsByte}
+use Rattle.pm_tool.specs.Talks.{IsCutOff, IsTold, Told, told}
+use Rattle.pm_tool.proofs.Filing.{done_unread}
+use Rattle.pm_tool.proofs.Kept.{if_known, tells_known}
+use Rattle.pm_tool.proofs.SessionLaws.{after_telling, answer_quit, told_byte, told_from, told_last, told_line, told_none, told_quit, told_start}
+use Rattle.pm_tool.proofs.Transfers.{cause_longer, front_after, front_trans}
+
+-- a session as far as it went: bytes were read, answers were written, and the last line has these bytes so far
+pub record IsTalking (had left held holds : Option (List ℕ)) (line : List ℕ) (taken : ℕ) (began d : Session) : Type 0 where
+  pub read : List ℕ
+  pub shown : List ℕ
+  pub count : length read ≡ taken
+  pub reads : Consumes had left read
+  pub writes : Appends held holds shown
+  pub run : (rest : List ℕ) → told (read ++ rest) began ≡ after_telling shown (told_from line rest d)
+
+empty_is : (line : List ℕ) → length line ≡ 0 → line ≡ []
+empty_is [] h = refl
+empty_is (c ∷ line) h = absurd (omega arith)
+
+pub talking_none : (had held : Option (List ℕ)) (line : List ℕ) (began : Session) → line ≡ [] → IsTalking had had held held line 0 began began
+talking_none had held line began e = record {
+  read = [];
+  shown = [];
+  count = refl;
+  reads = Consumes-nil had;
+  writes = Appends-nil held;
+  run = λ rest. rw e (told_start rest began);
+}
+
+module _ (had left held holds : Option (List ℕ)) (line : List ℕ) (taken : ℕ) (began d : Session) (u : IsTalking had left held holds line taken began d) where
+  module _ (left' : Option (List ℕ)) (c : ℕ) (reads : Consumes left left' (c ∷ [])) where
+    more_count : length (u.read ++ c ∷ []) ≡ taken + 1
+    more_count = length-append u.read (c ∷ []) ∙ ap (λ k. k + 1) u.count
+
+    more_reads : Consumes had left' (u.read ++ c ∷ [])
+    more_reads = Consumes-trans had left left' u.read (c ∷ []) u.reads reads
+
+    more_run : (rest : List ℕ) → told ((u.read ++ c ∷ []) ++ rest) began ≡ after_telling u.shown (told_from line (c ∷ rest) d)
+    more_run rest = ap (λ input. told input began) (append_assoc u.read (c ∷ []) rest) ∙ u.run (c ∷ rest)
+
+    -- a byte of the line
+    pub talking_byte : (line' : List ℕ) → (c == 10) ≡ false → line' ≡ line ++ c ∷ [] → IsTalking had left' held holds line' (taken + 1) began d
+    talking_byte line' h e = record {
+      read = u.read ++ c ∷ [];
+      shown = u.shown;
+      count = more_count;
+      reads = more_reads;
+      writes = u.writes;
+      run = λ rest. rw e (more_run rest ∙ ap (after_telling u.shown) (told_byte line c rest d h));
+    }
+
+    -- the session is broken off behind a byte
+    pub cut_behind : (fault : Fault) (source_failed sink_failed : Bool) → ((read : List ℕ) → length read ≡ taken + 1 → IsCause fault source_failed sink_failed read)
+        → IsCutOff had left' held holds began fault source_failed sink_failed
+    cut_behind fault source_failed sink_failed cause = record {
+      read = u.read ++ c ∷ [];
+      front = u.shown;
+      ended = false;
+      reads = more_reads;
+      writes = u.writes;
+      begins = λ rest _. ((told_from line (c ∷ rest) d).text, ap (λ t. t.text) (more_run rest));
+      drained = λ e. cc;
+      cause = cause (u.read ++ c ∷ []) more_count;
+    }
+
+    module _ (feed : (c == 10) ≡ true) (holds' : Option (List ℕ)) where
+      -- a line is answered
+      pub talking_line : (line' : List ℕ) (d' : Session) → is_quit (command_of line) ≡ false → Appends holds holds' (answer (command_of line) d) → line' ≡ []
+          → d' ≡ after_line (command_of line) d → IsTalking had left' held holds' line' (taken + 1) began d'
+      talking_line line' d' q a e s =
+          let text : List ℕ = answer (command_of line) d in
+          record {
+            read = u.read ++ c ∷ [];
+            shown = u.shown ++ text;
+            count = more_count;
+            reads = more_reads;
+            writes = Appends-trans held holds holds' u.shown text u.writes a;
+            run = λ rest. rw (e, s) (more_run rest ∙ ap (after_telling u.shown) (told_line line c rest d feed q)
+                ∙ regroup u.shown text (told rest (after_line (command_of line) d)) ∙ ap (after_telling (u.shown ++ text)) (told_start rest (after_line (command_of line) d)));
+          }
+        where
+          regroup : (a b : List ℕ) (t : Told) → after_telling a (after_telling b t) ≡ after_telling (a ++ b) t
+          regroup a b t = ap (λ text. record t { text = text }) (sym (append_assoc a b t.text))
+
+      -- the session ends by `quit`
+      pub told_by_quit : is_quit (command_of line) ≡ true → Appends holds holds' (answer (command_of line) d) → taken + 1 ≤ INPUT_LIMIT → IsTold had left' held holds' began
+      told_by_quit q a few = record {
+        read = u.read ++ c ∷ [];
+        shown = u.shown;
+        ended = false;
+        few = rw more_count few;
+        reads = more_reads;
+        writes = subst (Appends held holds') (append-nil u.shown) (Appends-trans held holds holds' u.shown [] u.writes (rw (answer_quit line d q) at a));
+        all = λ rest _. more_run rest ∙ ap (after_telling u.shown) (told_quit line c rest d feed q) ∙ ap (λ text. record { text = text; unread = rest }) (append-nil u.shown);
+        drained = λ e. cc;
+      }
+
+      -- the answer could not be written
+      pub cut_answering : (fault : Fault) (source_failed sink_failed : Bool) → AppendsFront holds holds' (answer (command_of line) d) → taken + 1 ≤ INPUT_LIMIT → source_failed ≡ false
+          → IsCause fault false sink_failed [] → IsCutOff had left' held holds' began fault source_failed sink_failed
+      cut_answering fault source_failed sink_failed a few well cause = record {
+        read = u.read ++ c ∷ [];
+        front = u.shown ++ a.0;
+        ended = false;
+        reads = more_reads;
+        writes = Appends-trans held holds holds' u.shown a.0 u.writes a.1;
+        begins = λ rest _. rw (more_run rest) (front_after u.shown a.0 (told_from line (c ∷ rest) d).text (front_trans a.0 (answer (command_of line) d) (told_from line (c ∷ rest) d).text a.2 (answered rest (is_quit (command_of line)) refl)));
+        drained = λ e. cc;
+        cause = rw well (cause_longer fault sink_failed (u.read ++ c ∷ []) (rw more_count few) cause);
+      }
+        where
+          answered : (rest : List ℕ) (q : Bool) → is_quit (command_of line) ≡ q → IsFront (answer (command_of line) d) (told_from line (c ∷ rest) d).text
+          answered rest true e = ((told_from line (c ∷ rest) d).text, rw (answer_quit line d e) refl)
+          answered rest false e = ((told rest (after_line (command_of line) d)).text, ap (λ t. t.text) (told_line line c rest d feed e))
+
+  module _ (left' : Option (List ℕ)) (none : ReadsByte left left' None) where
+    -- the input ends behind a line feed
+    pub told_at_end : length line ≡ 0 → taken ≤ INPUT_LIMIT → IsTold had left' held holds began
+    told_at_end size few = let e = empty_is line size in record {
+      read = u.read;
+      shown = u.shown;
+      ended = true;
+      few = rw u.count few;
+      reads = Consumes-kept had left left' u.read u.reads none.0;
+      writes = u.writes;
+      all = λ rest none_left. let empty = none_left refl in
+          rw empty (u.run [] ∙ rw e (ap (after_telling u.shown) (told_none d) ∙ ap (λ text. record { text = text; unread = [] }) (append-nil u.shown)));
+      drained = λ _. none.1;
+    }
+
+    module _ (some : 0 < length line) (holds' : Option (List ℕ)) where
+      -- the last line has no line feed
+      pub told_at_last : Appends holds holds' (answer (command_of line) d) → taken ≤ INPUT_LIMIT → IsTold had left' held holds' began
+      told_at_last a few = record {
+        read = u.read;
+        shown = u.shown ++ answer (command_of line) d;
+        ended = true;
+        few = rw u.count few;
+        reads = Consumes-kept had left left' u.read u.reads none.0;
+        writes = Appends-trans held holds holds' u.shown (answer (command_of line) d) u.writes a;
+        all = λ rest none_left. let empty = none_left refl in rw empty (u.run [] ∙ ap (after_telling u.shown) (told_last line d some));
+        drained = λ _. none.1;
+      }
+
+      pub cut_at_last : (fault : Fault) (source_failed sink_failed : Bool) → AppendsFront holds holds' (answer (command_of line) d) → taken ≤ INPUT_LIMIT → source_failed ≡ false
+          → IsCause fault false sink_failed [] → IsCutOff had left' held holds' began fault source_failed sink_failed
+      cut_at_last fault source_failed sink_failed a few well cause = record {
+        read = u.read;
+        front = u.shown ++ a.0;
+        ended = true;
+        reads = Consumes-kept had left left' u.read u.reads none.0;
+        writes = Appends-trans held holds holds' u.shown a.0 u.writes a.1;
+        begins = λ rest none_left. let empty = none_left refl in
+            rw empty (subst (IsFront (u.shown ++ a.0)) (sym (ap (λ t. t.text) (u.run [] ∙ ap (after_telling u.shown) (told_last line d some)))) (front_after u.shown a.0 (answer (command_of line) d) a.2));
+        drained = λ _. none.1;
+        cause = rw well (cause_longer fault sink_failed u.read (rw u.count few) cause);
+      }
+
+  -- no byte could be read
+  pub cut_reading : (left' : Option (List ℕ)) (fault : Fault) (source_failed sink_failed : Bool) → Keeps left left' → fault ≡ faults.Read → source_failed ≡ true → sink_failed ≡ false
+      → IsCutOff had left' held holds began fault source_failed sink_failed
+  cut_reading left' fault source_failed sink_failed k e failed well = record {
+    read = u.read;
+    front = u.shown;
+    ended = false;
+    reads = Consumes-kept had left left' u.read u.reads k;
+    writes = u.writes;
+    begins = λ rest _. ((told_from line rest d).text, ap (λ t. t.text) (u.run rest));
+    drained = λ h. cc;
+    cause = rw e (well, inl failed);
+  }
+
+-- ---- what the job comes to
+
+told_written : (machine : State) (input : List ℕ) → (debugged machine input).written ≡ (told input (opened machine)).text
+unfolding told
+told_written machine input = refl
+
+told_unread : (machine : State) (input : List ℕ) → (debugged machine input).unread ≡ (told input (opened machine)).unread
+unfolding told
+told_unread machine input = refl
+
+rest_drained : (left : Option (List ℕ)) (rest : List ℕ) → left ≡ Some rest → IsAtEnd left → rest ≡ []
+rest_drained left rest e end = subst IsAtEnd e end
+
+pub done_told : (had left held holds : Option (List ℕ)) (began : Session) (machine : State) (outcome : Outcome) → IsTold had left held holds began → began ≡ opened machine
+    → ((unread written : List ℕ) → IsOutcome outcome (record { written = written; exit = exits.Ended; message = []; image = None; printer = []; unread = unread }))
+    → IsDone had left held holds outcome (debugged machine)
+done_told had left held holds began machine outcome o b out = record {
+  tells = tells_known had left held holds o.read o.reads outcome (debugged machine) (λ rest e.
+      let all = o.all rest (λ ended. rest_drained left rest e (o.drained ended)) in
+      let here = rw b at all in
+      record {
+        written = rw (told_written machine (o.read ++ rest), ap (λ t. t.text) here) o.writes;
+        comes_to = out _ _;
+        unread = rw (told_unread machine (o.read ++ rest), ap (λ t. t.unread) here) (subst (Keeps (Some rest)) (sym e) refl);
+      });
+  few = (o.read, o.reads, o.few);
+  status = subst IsSound (sym (out [] []).status) (λ k. absurd (omega arith), λ k. absurd (omega arith));
+}
+
+pub cut_told : (had left held holds : Option (List ℕ)) (began : Session) (machine : State) (fault : Fault) (source_failed sink_failed : Bool)
+    → IsCutOff had left held holds began fault source_failed sink_failed → began ≡ opened machine → IsBrokenOff had left held holds fault source_failed sink_failed (debugged machine)
+cut_told had left held holds began machine fault source_failed sink_failed o b = record {
+  cut = record {
+    read = o.read;
+    front = o.front;
+    reads = o.reads;
+    writes = o.writes;
+    so_far = subst (λ r. IsFront o.front (debugged machine r).written) (append-nil o.read) (begins [] (λ _. refl));
+    whole = if_known left _ (λ rest e. begins rest (λ ended. rest_drained left rest e (o.drained ended)));
+  };
+  cause = o.cause;
+}
+  where
+    begins : (rest : List ℕ) → (o.ended ≡ true → rest ≡ []) → IsFront o.front (debugged machine (o.read ++ rest)).written
+    begins rest none = rw (told_written machine (o.read ++ rest)) (rw b at (o.begins rest none))
+
+-- ---- a machine that starts, or none
+
+pub opened_is : (d : Session) (machine : State) → d.machine ≡ machine → d.breaks ≡ [] → d ≡ opened machine
+opened_is d machine a b = ap (λ m. record d { machine = m }) a ∙ ap (λ breaks. record (opened machine) { breaks = breaks }) b
+
+pub debug_done : (had left held holds : Option (List ℕ)) (start : Result State Refusal) (m : State) (outcome : Outcome) → Ok m ≡ start
+    → IsDone had left held holds outcome (debugged m) → IsDone had left held holds outcome (said_debug start)
+debug_done had left held holds start m outcome e d = subst (λ s. IsDone had left held holds outcome (said_debug s)) e d
+
+pub debug_broken : (had left held holds : Option (List ℕ)) (start : Result State Refusal) (m : State) (fault : Fault) (source_failed sink_failed : Bool) → Ok m ≡ start
+    → IsBrokenOff had left held holds fault source_failed sink_failed (debugged m) → IsBrokenOff had left held holds fault source_failed sink_failed (said_debug start)
+debug_broken had left held holds start m fault source_failed sink_failed e b =
+    subst (λ s. IsBrokenOff had left held holds fault source_failed sink_failed (said_debug s)) e b
+
+pub debug_refused : (had held : Option (List ℕ)) (start : Result State Refusal) (refusal : Refusal) (outcome : Outcome) → Err refusal ≡ start
+    → ((unread : List ℕ) → IsOutcome outcome (refused refusal unread)) → IsDone had had held held outcome (said_debug start)
+debug_refused had held start refusal outcome e out =
+    subst (λ s. IsDone had had held held outcome (said_debug s)) e
+    (done_unread had held held outcome (said_debug (Err refusal)) (λ input. (Appends-nil held, out input, refl))
+    (subst IsSound (sym (out []).status) (λ k. absurd (omega arith), λ k. absurd (omega arith))))

@@ -1,0 +1,168 @@
+//! What the debugger answers to a command.
+ghost use Rattle.std.specs.Prelude.{◌≡◌, ◌++◌, ◌∷◌, [], IfOk, OnOk, Option, List, ℕ, string_bytes, codes, if◌then◌else◌};
+ghost use Rattle.pm_words.specs.Stack.{is_even};
+ghost use Rattle.pm_machine.specs.Events.{Key, Poke, next};
+ghost use Rattle.pm_debug.specs.Views.{ShowsChain};
+ghost use Rattle.pm_tool.specs.Answers.{after_command, after_line, chain_text, command_text, done_text, gone_text, line_text, numbers_text, refused_text, registers_text, word_text};
+
+use crate::commands::Command;
+use crate::ending::{Ending, LastLine};
+use pm_debug::{Debugger, Reason, Refusal};
+use pm_machine::Registers;
+use std::alloc::{AllocError, Global};
+
+fn refused(alloc: Global, refusal: Refusal) -> Result<String, AllocError>
+    ensures text { IfOk result (λ text. string_bytes text ≡ refused_text refusal) }
+{
+    let number = refusal.number();
+    format!(in alloc; "refused {number}")
+}
+
+/// Done, or refused.
+fn done(alloc: Global, outcome: Result<(), Refusal>) -> Result<String, AllocError>
+    ensures text { IfOk result (λ text. string_bytes text ≡ done_text outcome) }
+{
+    match outcome {
+        Ok(()) => format!(in alloc; "ok"),
+        Err(refusal) => refused(alloc, refusal),
+    }
+}
+
+/// Numbers with single spaces between them.
+fn numbers(alloc: Global, numbers: &[u16]) -> Result<String, AllocError>
+    ensures text { IfOk result (λ text. string_bytes text ≡ numbers_text numbers.now) }
+{
+    let Some((first, rest)) = numbers.split_first() else {
+        return Ok(String::new(alloc));
+    };
+    let mut text = format!(in alloc; "{first}")?;
+    for number in rest {
+        write!(text, " {number}")?;
+    }
+    Ok(text)
+}
+
+/// The frames of a chain, or its refusal.
+fn chain(alloc: Global, chain: Result<Vec<u16>, Refusal>) -> Result<String, AllocError>
+    ensures text { IfOk result (λ text. (frames : Option (List ℕ)) → ShowsChain (λ v. v.items) chain frames → string_bytes text ≡ chain_text frames) }
+{
+    match chain {
+        Ok(frames) => numbers(alloc, &frames),
+        Err(Refusal::NoMemory) => Err(AllocError),
+        Err(refusal) => refused(alloc, refusal),
+    }
+}
+
+/// A word, or its refusal.
+fn word(alloc: Global, word: Result<u16, Refusal>) -> Result<String, AllocError>
+    ensures text { IfOk result (λ text. string_bytes text ≡ word_text word) }
+{
+    match word {
+        Ok(word) => format!(in alloc; "{word}"),
+        Err(refusal) => refused(alloc, refusal),
+    }
+}
+
+/// Why a run ended, and after how many steps.
+fn gone(alloc: Global, steps: u64, reason: Reason) -> Result<String, AllocError>
+    ensures text { IfOk result (λ text. string_bytes text ≡ gone_text reason steps) }
+{
+    let ending = match reason {
+        Reason::Break => return format!(in alloc; "break {steps}"),
+        Reason::Limit => Ending::Limit,
+        Reason::Waiting => Ending::Waiting,
+        Reason::Ended => Ending::Ended,
+        Reason::Halted(error) => Ending::Error(error),
+    };
+    let last = LastLine { ending, steps };
+    format!(in alloc; "{last}")
+}
+
+/// The registers, each behind its name.
+#[tactic(auto, unfolding(crate::specs::Answers::registers_text))]
+fn registers(alloc: Global, registers: Registers) -> Result<String, AllocError>
+    ensures text { IfOk result (λ text. string_bytes text ≡ registers_text registers) }
+{
+    let Registers {
+        sp,
+        ipc,
+        seg,
+        jtab,
+        mp,
+        base,
+        np,
+        ioresult,
+    } = registers;
+    format!(in alloc;
+        "IPC {ipc} SP {sp} SEG {seg} JTAB {jtab} MP {mp} BASE {base} NP {np} IO {ioresult}"
+    )
+}
+
+/// Writes a word of the memory, at an even address.
+fn poke(debugger: &mut Debugger, address: u16, word: u16) -> Result<(), Refusal>
+    ensures text { done_text result ≡ (if is_even address then codes "ok" else refused_text Refusal.OddAddress) }
+    ensures session { debugger.new ≡ record debugger.old { machine = next debugger.old.machine (Poke address word) } }
+{
+    if debugger.machine().poke(address, word) {
+        Ok(())
+    } else {
+        Err(Refusal::OddAddress)
+    }
+}
+
+/// Lets one more byte wait on the console.
+fn key(debugger: &mut Debugger, byte: u8) -> Result<(), AllocError>
+    ensures session { OnOk result (debugger.new ≡ record debugger.old { machine = next debugger.old.machine (Key byte) }) }
+{
+    debugger.machine().key(byte)?;
+    Ok(())
+}
+
+/// Does a command, and gives its answer without a line feed.
+#[tactic(auto, unfolding(crate::specs::Answers::command_text, crate::specs::Answers::after_command))]
+fn perform(alloc: Global, debugger: &mut Debugger, command: Command) -> Result<String, AllocError>
+    ensures text { IfOk result (λ text. string_bytes text ≡ command_text command debugger.old) }
+    ensures session { OnOk result (debugger.new ≡ after_command command debugger.old) }
+{
+    match command {
+        Command::Break(segment, procedure, offset) => {
+            done(alloc, debugger.set_break(segment, procedure, offset))
+        }
+        Command::Clear(segment, procedure, offset) => {
+            done(alloc, debugger.clear_break(segment, procedure, offset))
+        }
+        Command::Poke(address, word) => done(alloc, poke(debugger, address, word)),
+        Command::Key(byte) => {
+            key(debugger, byte)?;
+            done(alloc, Ok(()))
+        }
+        Command::Go(limit) => {
+            let (steps, reason) = debugger.go(u64::from(limit))?;
+            gone(alloc, steps, reason)
+        }
+        Command::Stack(n) => numbers(alloc, &debugger.stack(alloc, n)?),
+        Command::Static(limit) => chain(alloc, debugger.static_chain(alloc, limit)),
+        Command::Dynamic(limit) => chain(alloc, debugger.dynamic_chain(alloc, limit)),
+        Command::Local(depth, b) => word(alloc, debugger.local(depth, b)),
+        Command::Registers => registers(alloc, debugger.machine().registers()),
+        Command::Trace => debugger.trace_line(alloc),
+        Command::Quit => Ok(String::new(alloc)),
+    }
+}
+
+/// Does the command that a line is, and gives its answer with a line feed.
+pub(crate) fn answer(
+    alloc: Global,
+    debugger: &mut Debugger,
+    command: Option<Command>,
+) -> Result<String, AllocError>
+    ensures text { IfOk result (λ text. string_bytes text ≡ line_text command debugger.old ++ 10 ∷ []) }
+    ensures session { OnOk result (debugger.new ≡ after_line command debugger.old) }
+{
+    let mut text = match command {
+        Some(command) => perform(alloc, debugger, command)?,
+        None => format!(in alloc; "?")?,
+    };
+    text.push_str("\n")?;
+    Ok(text)
+}

@@ -3,7 +3,7 @@ pub mod Operanded
 pub mod Numbers
 pub mod Quoting
 pub mod Mnemonics
-pub mod Instructions
+pub mod ShownInstructions
 pub mod SpokenLines
 pub mod ShownRows
 pub mod ShownExits

@@ -30,7 +30,7 @@ use Rattle.pm_asm.proofs.Operanded.{IsOperand, IsWord, of_word, operands_shown, 
 use Rattle.pm_asm.proofs.Numbers.{decimal_word, label_word, label_name, number_shown, byte_shown, slot_shown, size_shown, level_word, level_shown, bound_word, bound_shown}
 use Rattle.pm_asm.proofs.Quoting.{shown_target, IsWritable, target_shown, target_word, labels_again, labels_operands, same_count}
 use Rattle.pm_asm.proofs.Mnemonics.{IsNamed, IsShort, is_named, is_short, is_plain, plain_is, is_unassigned, no_number}
-use Rattle.pm_asm.proofs.Instructions.{IsOfForm, IsReadAs, said_plain, cleared, unnamed, read_as}
+use Rattle.pm_asm.proofs.ShownInstructions.{IsOfForm, IsReadAs, said_plain, cleared, unnamed, read_as}
 
 -- an item as a text has it
 abbrev pub labelled_item : Item ℕ → Item Name

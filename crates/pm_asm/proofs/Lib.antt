@@ -17,3 +17,15 @@ pub mod Instructions
 pub mod Sizes
 pub mod Placed
 pub mod Programs
+pub mod Cutting
+pub mod Operanded
+pub mod Numbers
+pub mod Quoting
+pub mod Mnemonics
+pub mod ShownInstructions
+pub mod SpokenLines
+pub mod ShownRows
+pub mod ShownExits
+pub mod ShownLengths
+pub mod ShownProcedures
+pub mod ShownPrograms

@@ -4,5 +4,6 @@
 mod fault;
 pub mod laws;
 mod number;
+pub mod shown;
 
 pub use fault::AsmFault;

@@ -5,8 +5,8 @@ ghost use Rattle.pm_tool.specs.Hex.{spelled};
 ghost use Rattle.pm_tool.specs.Outcomes.{exit_number, fault_exit, fault_text};
 ghost use Rattle.pm_tool.specs.Said.{loaded, said, said_started, IsSound, IsCutShort, IsDone, IsBrokenOff, Tells, IsCut, FailsExactly};
 
-use crate::debug::debug;
 use crate::code::disassemble;
+use crate::debug::debug;
 use crate::fault::{Fault, MESSAGE_ROOM};
 use crate::files::{files, new_volume};
 use crate::hex;

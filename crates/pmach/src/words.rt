@@ -106,8 +106,9 @@ fn raw<'a>(alloc: Global) -> Result<Command<'a>, AllocError> {
 }
 
 fn dis<'a>(alloc: Global) -> Command<'a> {
-    Command::new(alloc, "dis")
-        .about("Writes the text of the code file that standard input is: its segments, procedures and items")
+    Command::new(alloc, "dis").about(
+        "Writes the text of the code file that standard input is: its segments, procedures and items",
+    )
 }
 
 fn command<'a>(alloc: Global) -> Result<Command<'a>, AllocError> {

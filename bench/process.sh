@@ -180,6 +180,33 @@ usage "two disks on unit 4" run --d4 "$programs" --d4 "$programs" OK
 usage "save twice" run --d4 "$programs" --save --save OK
 usage "save in a trace" trace --d4 "$programs" --save OK
 
+# code files as text
+"$pmach" files --image "$programs" get LOADS >"$scratch/code" </dev/null
+printf '%s\n' ".SEG 1 ?" ".PROC 1 0 0 0" "  CXP 2, 1" "  CXP 3, 1" ".EXIT" "  RBP 0" ".END" \
+    ".SEG 2 ?" ".PROC 1 0 0 4" ".EXIT" "  RBP 0" ".END" \
+    ".SEG 3 ?" ".PROC 1 0 0 8" ".EXIT" "  RBP 0" ".END" >"$scratch/text"
+case_of "the text of a code file" 0 "$scratch/text" "$nothing" dis <"$scratch/code"
+echo "refused code 1" >"$message"
+case_of "500 bytes are no code file" 2 "$nothing" "$message" dis < <(head -c 500 "$scratch/code")
+echo "refused code 2 1" >"$message"
+case_of "520 bytes of one" 2 "$nothing" "$message" dis < <(head -c 520 "$scratch/code")
+echo "read fault" >"$message"
+case_of "a directory as a code file" 4 "$nothing" "$message" dis </
+echo "write fault" >"$message"
+"$pmach" dis <"$scratch/code" >/dev/full 2>"$scratch/err"
+[ $? = 4 ] && cmp -s "$scratch/err" "$message"
+result "the text on a full device" $?
+usage "a word behind dis" dis code
+
+# the debugger
+printf '%s\n' ok "break 1" "65424 65458 65492" "65458 65492 65458" "?" >"$scratch/text"
+case_of "a session" 0 "$scratch/text" "$nothing" debug --d4 "$programs" LOADS < <(printf 'break 2 1 0\ngo 100\ndynamic 10\nstack 3\nplace 2\nquit\nregs\n')
+printf 'ended 5\n' >"$scratch/text"
+case_of "a session without quit, and a limit" 0 "$scratch/text" "$nothing" debug --d4 "$programs" --limit 2 LOADS < <(printf 'go 100')
+echo "refused boot 1" >"$message"
+case_of "no program to debug" 2 "$nothing" "$message" debug --d4 "$programs" NONE </dev/null
+usage "no disk for the debugger" debug LOADS
+
 # words
 usage "--help" --help
 usage "raw --help" raw --help

@@ -14,7 +14,7 @@ use Rattle.pm_disasm.specs.Program.{is_name_character}
 use Rattle.pm_disasm.specs.Text.{signed_text}
 use Rattle.pm_disasm.specs.Shown.{padded, label_text, level_text}
 use Rattle.pm_asm.specs.Words.{number, decimal_number, is_empty, is_name, continues_name}
-use Rattle.pm_asm.specs.Line.{byte_operand, word_operand, bound_operand, numeral_operand, size_operand, is_even}
+use Rattle.pm_asm.specs.Line.{byte_operand, slot_operand, word_operand, bound_operand, numeral_operand, size_operand, is_even}
 use Rattle.pm_asm.proofs.Cutting.{and_parts, and_turned}
 use Rattle.pm_asm.proofs.Operanded.{IsWord}
 
@@ -128,12 +128,11 @@ byte_shown b h =
     let range : nat_le b 255 ≡ true = grind (arith, nat_tests) in
     rw (read, kept, range) refl
 
-pub slot_shown : (b : ℕ) → b < 16 → numeral_operand 0 15 256 (decimal b) ≡ Some (b, true)
+pub slot_shown : (b : ℕ) → b < 16 → slot_operand (decimal b) ≡ Some (b, true)
 slot_shown b h =
     let read = number_shown b (omega arith) in
-    let kept : b % 256 ≡ b = omega arith in
     let range : nat_le b 15 ≡ true = grind (arith, nat_tests) in
-    rw (read, kept, range) refl
+    rw (read, range) refl
 
 pub word_shown : (w : ℕ) → w < 65536 → word_operand (decimal w) ≡ Some (w, true)
 word_shown w h =

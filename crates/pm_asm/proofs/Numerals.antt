@@ -1,11 +1,11 @@
 -- Operands that are in range, as the numbers that are stored.
-use Rattle.std.proofs.Common.{◌≡◌, ◌<◌, ◌≤◌, ℕ, ◌-◌, ◌%◌, Bool, true, false, List, refl, ap, subst, ◌∙◌, arith, Option, Some, None}
+use Rattle.std.proofs.Common.{◌≡◌, ◌<◌, ◌≤◌, ℕ, ◌-◌, ◌%◌, Bool, true, false, List, refl, ap, subst, sym, ◌∙◌, arith, Option, Some, None}
 use Rattle.std.specs.Prelude.{nat_le, ◌&&◌, if◌then◌else◌}
 use Rattle.std.proofs.lemmas.Bool.{leb-true}
 use Rattle.std.proofs.Math.Nat.{mod_self, mod-lt, mod-le}
 use Rattle.pm_asm.specs.declared.number.Numeral.{Numeral}
 use Rattle.pm_asm.specs.Words.{within, stored, number}
-use Rattle.pm_asm.specs.Line.{◌>>=◌, numeral_operand}
+use Rattle.pm_asm.specs.Line.{◌>>=◌, numeral_operand, segment_number, slot_operand}
 
 -- What a bind gives, its first part gave too.
 pub record Bound {A B : Type 0} (o : Option A) (f : A → Option B) (y : B) : Type 0 where
@@ -63,3 +63,15 @@ numeral_below least above w text v in_range h e =
     let n : Numeral = b.value in
     let parts = pair_is (stored w n) v (within least above n) in_range b.next in
     subst (λ k. k < w) parts.0 (below n.negative n.magnitude w h)
+
+size_within : (negative : Bool) (magnitude above : ℕ) → (if negative then nat_le magnitude 0 else nat_le magnitude above) ≡ true → magnitude ≤ above
+size_within true magnitude above e = omega (arith, leb-true magnitude 0 e)
+size_within false magnitude above e = leb-true magnitude above e
+
+pub slot_small : (text : List ℕ) (v : ℕ) → slot_operand text ≡ Some (v, true) → v ≤ 15
+slot_small text v e =
+    let b : Bound (number text) (λ n. Some (segment_number n, within 0 15 n)) (v, true) = bound (number text) (λ n. Some (segment_number n, within 0 15 n)) (v, true) e in
+    let n : Numeral = b.value in
+    let parts = pair_is (segment_number n) v (within 0 15 n) true b.next in
+    let same : segment_number n ≡ n.magnitude = ap (λ c. if c then n.magnitude else 16) parts.1 in
+    subst (λ k. k ≤ 15) (sym same ∙ parts.0) (size_within n.negative n.magnitude 15 parts.1)

@@ -16,13 +16,13 @@ use Rattle.pm_asm.specs.Words.{Cut, is_empty, is_name, cut, words}
 use Rattle.pm_asm.specs.Source.{Name, Statement}
 use Rattle.pm_asm.specs.Source.Row.{Items, Exit}
 use Rattle.pm_asm.specs.Source.Statement.{Segment, Begin, Code, Entry, End}
-use Rattle.pm_asm.specs.Line.{Flaw, Line, Operand, Said, ◌>>=◌, Keyword, numeral_operand, said, saying, spoken, labelled, labelled_by, line_of_words, line_by, line_of, label_of, keyword_of, code_said, items_said, bytes_said, one_item, operands, byte_operand, all_operands, instruction_said, directives, named_from, mnemonic_keyword, keyword_or, segment_operands, procedure_operands, entry_operands, no_operands, label_operand, size_operand, is_even, is_character, uncommented, ends_procedure}
+use Rattle.pm_asm.specs.Line.{Flaw, Line, Operand, Said, ◌>>=◌, Keyword, numeral_operand, slot_operand, said, saying, spoken, labelled, labelled_by, line_of_words, line_by, line_of, label_of, keyword_of, code_said, items_said, bytes_said, one_item, operands, byte_operand, all_operands, instruction_said, directives, named_from, mnemonic_keyword, keyword_or, segment_operands, procedure_operands, entry_operands, no_operands, label_operand, size_operand, is_even, is_character, uncommented, ends_procedure}
 use Rattle.pm_asm.specs.Line.Flaw.{NoFlaw}
 use Rattle.pm_asm.specs.Line.Line.{Blank, Wrong, Strange, Says}
 use Rattle.pm_asm.specs.Line.Keyword.{OfSegment, OfProcedure, OfExit, OfJump, OfEnd, OfBytes, Mnemonic}
 use Rattle.pm_asm.specs.Faults.{lines_from, lines_of}
 use Rattle.pm_asm.specs.Meaning.{AreSaid}
-use Rattle.pm_asm.proofs.Numerals.{some_is, Bound, bound, both, pair_is, numeral_small, numeral_below}
+use Rattle.pm_asm.proofs.Numerals.{some_is, Bound, bound, both, pair_is, numeral_small, numeral_below, slot_small}
 
 abbrev pub IsSize : ℕ → Type 0
 IsSize n = (n < 65536) × (n % 2 ≡ 0)
@@ -78,13 +78,13 @@ segment_ranged (n ∷ []) s e = absurd (cc)
 segment_ranged (n ∷ name ∷ more ∷ others) s e = absurd (cc)
 segment_ranged (n ∷ name ∷ []) s e = by (is_segment_name name) refl e
   where
-    by : (b : Bool) → is_segment_name name ≡ b → (if b then (numeral_operand 0 15 256 n >>= named name) else None) ≡ Some (s, true) → IsRanged s
+    by : (b : Bool) → is_segment_name name ≡ b → (if b then (slot_operand n >>= named name) else None) ≡ Some (s, true) → IsRanged s
     by false f e = absurd (cc)
     by true f e =
-        let b = bound (numeral_operand 0 15 256 n) (named name) (s, true) e in
+        let b = bound (slot_operand n) (named name) (s, true) e in
         let k = b.value in
         let parts = pair_is (Segment k.0 name) s k.1 true b.next in
-        let small : k.0 ≤ 15 = numeral_small 15 256 n k.0 (omega arith) (b.first ∙ ap (pair_with k.0) parts.1) in
+        let small : k.0 ≤ 15 = slot_small n k.0 (b.first ∙ ap (pair_with k.0) parts.1) in
         subst IsRanged parts.0 (omega (arith, small), f)
 
 none_said : (said t : Statement) (texts : List (List ℕ)) → no_operands t texts ≡ Some (said, true) → t ≡ said

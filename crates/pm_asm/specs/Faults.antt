@@ -132,9 +132,14 @@ line_faults n r (Says said flaw) rest =
     ++ (only_if (is_again r said) (Twice n)
     ++ only_if (is_out_of_range flaw || is_miscounted r said) (Range n)))
 
+-- a line that has a fault and ends a procedure ends it all the same
+abbrev pub after_ending : Bool → Reading → Reading
+after_ending true r = closed r.segments r.current
+after_ending false r = r
+
 abbrev pub after_line : Reading → Line → Reading
-after_line r (Says said flaw) = if is_in_place r said then after r said else r
-after_line r (Wrong true) = closed r.segments r.current
+after_line r (Says said flaw) = if is_in_place r said then after r said else after_ending (is_end said) r
+after_line r (Wrong end) = after_ending end r
 after_line r _ = r
 
 -- The faults of lines that are numbered from n.

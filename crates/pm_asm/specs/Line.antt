@@ -312,9 +312,16 @@ keyword_or name (Some keyword) = Some keyword
 unfoldable pub keyword_of : List ℕ → Option Keyword
 keyword_of name = keyword_or name (lookup (bytes_eq name) directives)
 
+-- the number of a segment; out of its range it is 16, which no segment has
+abbrev pub segment_number : Numeral → ℕ
+segment_number n = if within 0 15 n then n.magnitude else 16
+
+abbrev pub slot_operand : List ℕ → Operand ℕ
+slot_operand text = number text >>= λ n. Some (segment_number n, within 0 15 n)
+
 -- a number and a name
 abbrev pub segment_operands : List (List ℕ) → Operand Statement
-segment_operands (n ∷ name ∷ []) = if is_segment_name name then (numeral_operand 0 15 256 n >>= λ n. Some (Segment n.0 name, n.1)) else None
+segment_operands (n ∷ name ∷ []) = if is_segment_name name then (slot_operand n >>= λ n. Some (Segment n.0 name, n.1)) else None
 segment_operands _ = None
 
 abbrev pub is_even : ℕ → Bool

@@ -88,9 +88,9 @@ is_again r _ = false
 abbrev pub is_uneven : Source → Bool
 is_uneven p = not (code_end 0 p.code % 2 == 0) || not (length p.entries == entries_used p.code)
 
--- A procedure's number that is not the next one; or at its end an odd length or a wrong count of entries.
+-- A procedure's number that is not the next one, outside a procedure; or at its end an odd length or a wrong count of entries.
 abbrev pub is_miscounted : Reading → Statement → Bool
-is_miscounted r (Begin number level parameters locals) = not (number == procedure_count r.segments + 1)
+is_miscounted r (Begin number level parameters locals) = is_none r.current && not (number == procedure_count r.segments + 1)
 is_miscounted r End = if_open is_uneven r.current
 is_miscounted r _ = false
 

@@ -1,7 +1,1 @@
-pub mod Words
-pub mod Source
-pub mod Line
-pub mod Faults
-pub mod Meaning
-pub mod Image
-pub mod Laws
+pub mod Views

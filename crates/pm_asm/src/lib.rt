@@ -1,9 +1,4 @@
-//! The assembler's text: what a line says, what is wrong in a text, and the program that it spells.
+//! The assembler: a text becomes a code file and its listing.
 #![tactic(auto)]
 
-mod fault;
-pub mod laws;
-mod number;
-pub mod shown;
-
-pub use fault::AsmFault;
+mod source;

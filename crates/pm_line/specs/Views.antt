@@ -1,0 +1,120 @@
+-- What the values of the code stand for.
+use Rattle.std.specs.Prelude.{ℕ, Bool, true, List, [], ◌∷◌, ◌++◌, ◌&&◌, Vec, Option, Some, None, map, length, option_map, false, if◌then◌else◌}
+use Rattle.std.specs.Borrow.{Bor}
+use Rattle.pm_line.specs.declared.item.Target.{Target}
+use Rattle.pm_line.specs.declared.item.Target.TheVariants as targets
+use Rattle.pm_line.specs.declared.item.Item.{Item}
+use Rattle.pm_line.specs.declared.item.Item.TheVariants as items
+use Rattle.pm_line.specs.declared.item.Row.{Row}
+use Rattle.pm_line.specs.declared.item.Row.TheVariants as rows
+use Rattle.pm_line.specs.declared.item.Statement.{Statement}
+use Rattle.pm_line.specs.declared.item.Statement.TheVariants as statements
+use Rattle.pm_line.specs.declared.item.Flaw.{Flaw}
+use Rattle.pm_line.specs.declared.item.Flaw.TheVariants as flaws
+use Rattle.pm_line.specs.declared.item.Line.{Line}
+use Rattle.pm_line.specs.declared.item.Line.TheVariants as lines
+use Rattle.pm_disasm.specs.Item as model
+use Rattle.pm_disasm.specs.Item.Item.{Plain, Jump, Case, OneByte}
+use Rattle.pm_disasm.specs.Item.Target.{To, Through}
+use Rattle.pm_source.specs.Source as source
+use Rattle.pm_source.specs.Source.{Name}
+use Rattle.pm_source.specs.Source.Row.{Items, Exit}
+use Rattle.pm_source.specs.Source.Statement.{Segment, Begin, Code, Entry, End}
+use Rattle.pm_source.specs.Line as text
+use Rattle.pm_source.specs.Line.{Operand, Said, flat_words, pieces}
+use Rattle.pm_source.specs.Line.Flaw.{NoFlaw, OutOfRange, UnknownType}
+use Rattle.pm_source.specs.Line.Line.{Blank, Wrong, Strange, Says}
+use Rattle.pm_source.specs.Line.Keyword.{OfSegment, OfProcedure, OfExit, OfJump, OfEnd, OfBytes, Mnemonic}
+
+abbrev pub text_seen : Bor (List ℕ) → List ℕ
+text_seen t = t.now
+
+abbrev pub texts_seen : List (Bor (List ℕ)) → List (List ℕ)
+texts_seen ts = map text_seen ts
+
+abbrev pub target_seen : Target → model.Target Name
+target_seen (targets.To label) = To label.now
+target_seen (targets.Through k) = Through k
+
+abbrev pub item_seen : Item → model.Item Name
+item_seen (items.Plain instr named) = Plain instr named.items
+item_seen (items.Jump op target) = Jump op (target_seen target)
+item_seen (items.Case low high otherwise labels) = Case low high (target_seen otherwise) (texts_seen labels.items)
+item_seen (items.OneByte b) = OneByte b
+
+abbrev pub items_seen : {R : Type 0} → Vec Item R → List (model.Item Name)
+items_seen list = map item_seen list.items
+
+abbrev pub row_seen : Row → source.Row
+row_seen (rows.Items line label list) = Items line (option_map text_seen label) (items_seen list)
+row_seen rows.Exit = Exit
+
+abbrev pub statement_seen : Statement → source.Statement
+statement_seen (statements.Segment number name) = Segment number name.now
+statement_seen (statements.Begin number level parameters locals) = Begin number level parameters locals
+statement_seen (statements.Code row) = Code (row_seen row)
+statement_seen (statements.Entry line label) = Entry line label.now
+statement_seen statements.End = End
+
+abbrev pub flaw_seen : Flaw → text.Flaw
+flaw_seen flaws.NoFlaw = NoFlaw
+flaw_seen flaws.OutOfRange = OutOfRange
+flaw_seen flaws.UnknownType = UnknownType
+
+-- What a line of the code says.
+abbrev pub line_seen : Line → text.Line
+line_seen lines.Blank = Blank
+line_seen (lines.Wrong ends) = Wrong ends
+line_seen lines.Strange = Strange
+line_seen (lines.Says said flaw) = Says (statement_seen said) (flaw_seen flaw)
+
+-- An operand, or what a keyword says, by what it stands for.
+abbrev pub pair_seen : {A B C : Type 0} → (A → B) → A × C → B × C
+pair_seen f x = (f x.0, x.1)
+
+abbrev pub operand_seen : {A B : Type 0} → (A → B) → Option (A × Bool) → Operand B
+operand_seen f operand = option_map (pair_seen f) operand
+
+abbrev pub said_seen : {A B : Type 0} → (A → B) → Option (A × Flaw) → Said B
+said_seen f said = option_map (λ x. (f x.0, flaw_seen x.1)) said
+
+abbrev pub range_flaw : Bool → text.Flaw
+range_flaw in_range = if in_range then NoFlaw else OutOfRange
+
+abbrev pub vec_seen : {A R : Type 0} → Vec A R → List A
+vec_seen list = list.items
+
+abbrev pub labels_seen : {R : Type 0} → Vec (Bor (List ℕ)) R → List Name
+labels_seen list = texts_seen list.items
+
+-- whether a keyword is a directive with words behind it
+abbrev pub is_directive : text.Keyword → Bool
+is_directive OfBytes = false
+is_directive (Mnemonic op) = false
+is_directive _ = true
+
+-- the pieces behind a comma, if there is one
+abbrev pub pieces_behind : Option (List ℕ) → List (List ℕ)
+pieces_behind None = []
+pieces_behind (Some rest) = pieces false rest
+
+-- a piece that goes on with what the first of others begins with
+abbrev pub onto_piece : List ℕ → List (List ℕ) → List (List ℕ)
+onto_piece [] ps = ps
+onto_piece (c ∷ cs) [] = []
+onto_piece (c ∷ cs) (p ∷ ps) = ((c ∷ cs) ++ p) ∷ ps
+
+-- bytes before others, where there are others
+abbrev pub onto_bytes : List ℕ → Option (List ℕ) → Option (List ℕ)
+onto_bytes bs None = None
+onto_bytes bs (Some cs) = Some (bs ++ cs)
+
+-- what characters stand for whose first byte is this, if there is one
+abbrev pub first_unescaped : Option (ℕ × List ℕ) → Option (List ℕ)
+first_unescaped None = None
+first_unescaped (Some x) = onto_bytes (x.0 ∷ []) (text.unescaped x.1)
+
+-- operands before others, where there are others
+abbrev pub onto_operands : {A : Type 0} → List A → Bool → Operand (List A) → Operand (List A)
+onto_operands xs good None = None
+onto_operands xs good (Some more) = Some (xs ++ more.0, good && more.1)

@@ -1,0 +1,111 @@
+//! What lines say.
+
+use pm_opcode::Instr;
+
+/// Where a jump leads.
+#[derive(Clone, Copy, Debug, PartialEq, Eq)]
+pub enum Target<'a> {
+    /// The place of a label.
+    To(&'a [u8]),
+    /// The place that an entry of the jump table names.
+    Through(u8),
+}
+
+/// An item of code, with labels for places.
+#[derive(Debug, Drop)]
+pub enum Item<'a> {
+    /// An instruction that names no place, with the bytes that it names.
+    Plain(Instr, Vec<u8>),
+    /// A short jump, by its opcode.
+    Jump(u8, Target<'a>),
+    /// A case jump.
+    Case {
+        /// Its low bound, as a word.
+        low: u16,
+        /// Its high bound, as a word.
+        high: u16,
+        /// Where it leads out of bounds.
+        otherwise: Target<'a>,
+        /// The labels of its table.
+        labels: Vec<&'a [u8]>,
+    },
+    /// A byte that stands for itself.
+    OneByte(u8),
+}
+
+/// A line of a procedure's code.
+#[derive(Debug, Drop)]
+pub enum Row<'a> {
+    /// A label, items, or both.
+    Items {
+        /// The line's number.
+        line: usize,
+        /// The label before the items.
+        label: Option<&'a [u8]>,
+        /// The items, in order.
+        items: Vec<Item<'a>>,
+    },
+    /// The place of the exit code.
+    Exit,
+}
+
+/// A well-formed line that is not blank.
+#[derive(Debug, Drop)]
+pub enum Statement<'a> {
+    /// The head of a segment.
+    Segment {
+        /// Its number; 16 where the text's is out of range.
+        number: u8,
+        /// Its name, 1 to 8 bytes.
+        name: &'a [u8],
+    },
+    /// The head of a procedure.
+    Begin {
+        /// Its number.
+        number: u8,
+        /// Its level, a byte in two's complement.
+        level: u8,
+        /// The size of its parameters, in bytes.
+        parameters: u16,
+        /// The size of its locals, in bytes.
+        locals: u16,
+    },
+    /// Code of a procedure.
+    Code(Row<'a>),
+    /// An entry of a procedure's jump table.
+    Entry {
+        /// The line's number.
+        line: usize,
+        /// The label that it names.
+        label: &'a [u8],
+    },
+    /// The end of a procedure.
+    End,
+}
+
+/// What is wrong in a well-formed line.
+#[derive(Clone, Copy, Debug, PartialEq, Eq)]
+pub enum Flaw {
+    /// Nothing.
+    NoFlaw,
+    /// A number is out of its range, or a length or count is.
+    OutOfRange,
+    /// A comparison has an unknown type word.
+    UnknownType,
+}
+
+/// What a line is.
+#[derive(Debug, Drop)]
+pub enum Line<'a> {
+    /// It says nothing: it is empty, or a comment.
+    Blank,
+    /// It is ill-formed.
+    Wrong {
+        /// Its first word is `.END`, so it ends its procedure all the same.
+        ends: bool,
+    },
+    /// Its mnemonic or directive is unknown.
+    Strange,
+    /// It is well-formed.
+    Says(Statement<'a>, Flaw),
+}

@@ -1,0 +1,45 @@
+-- Statements that stand where they may, one after another, and what a reading of them keeps.
+use Rattle.std.specs.Prelude.{◌≡◌, ℕ, ◌+◌, ◌≤◌, true, false, List, [], ◌∷◌, ◌++◌, Option, Some, None}
+use Rattle.std.specs.List.{list_any, IsDistinct}
+use Rattle.std.specs.Str.{bytes_eq}
+use Rattle.pm_source.specs.Words.{is_empty}
+use Rattle.pm_source.specs.Source.{Statement, Source, SourceSegment, head_statements, statements, labels_of, exits_of, AreSources}
+use Rattle.pm_source.specs.Faults.{Reading, after, is_in_place, is_again, is_miscounted, is_begin, is_end, procedure_count}
+
+-- A statement with no fault of its place.
+pub record IsFit (r : Reading) (s : Statement) : Type 0 where
+  pub in_place : is_in_place r s ≡ true
+  pub new : is_again r s ≡ false
+  pub counted : is_miscounted r s ≡ false
+
+abbrev pub AreFit : Reading → List Statement → Type 0
+AreFit r [] = Unit {0}
+AreFit r (s ∷ said) = IsFit r s × AreFit (after r s) said
+
+-- each procedure that begins is ended
+abbrev pub AllEnd : List Statement → Type 0
+AllEnd [] = Unit {0}
+AllEnd (s ∷ said) = (is_begin s ≡ true → list_any is_end said ≡ true) × AllEnd said
+
+-- what statements say
+abbrev pub after_all : Reading → List Statement → Reading
+after_all r [] = r
+after_all r (s ∷ said) = after_all (after r s) said
+
+-- The statements that a reading has taken in.
+abbrev pub open_statements : ℕ → Option Source → List Statement
+open_statements n None = []
+open_statements n (Some p) = head_statements n p
+
+abbrev pub taken_in : Reading → List Statement
+taken_in r = statements r.segments ++ open_statements (procedure_count r.segments + 1) r.current
+
+-- A procedure that has not ended.
+abbrev pub IsBegun : List SourceSegment → Option Source → Type 0
+IsBegun segments None = Unit {0}
+IsBegun segments (Some p) = IsDistinct bytes_eq (labels_of p.code) × (exits_of p.code ≤ 1) × (is_empty segments ≡ false)
+
+-- A reading without faults so far.
+pub record IsSound (r : Reading) : Type 0 where
+  pub finished : AreSources r.segments
+  pub begun : IsBegun r.segments r.current

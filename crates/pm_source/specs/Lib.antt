@@ -1,0 +1,7 @@
+pub mod Words
+pub mod Source
+pub mod Line
+pub mod Faults
+pub mod Meaning
+pub mod Image
+pub mod Laws

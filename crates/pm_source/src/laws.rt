@@ -1,0 +1,45 @@
+//! Laws of the assembler's text, of what it spells and of its listing. The functions do nothing.
+ghost use Rattle.pm_source.specs.Image.{ListingIsSegment};
+ghost use Rattle.pm_source.specs.Laws.{FaultlessIsSaid, FaultlessIsSpelled, FoundIsFaultless, LabelsFound, SaidIsFaultless, SpelledIsFaultless, SpelledIsProgram};
+
+/// The bytes of a segment's lines in a listing, joined, are the segment.
+#[tactic(auto, using(crate::proofs::Listed::listing_is_segment))]
+pub fn listing_is_segment()
+    ensures law { ListingIsSegment }
+{}
+
+/// The labels of a procedure that has no fault of them are found: it means the procedure of a program that has their
+/// places.
+pub fn labels_are_found()
+    ensures law { LabelsFound }
+{}
+
+/// A procedure that means one of a program has no fault of its labels, and it means no other.
+pub fn found_is_faultless()
+    ensures law { FoundIsFaultless }
+{}
+
+/// Where no line has a fault, the lines say sound segments with labels, those that the text is read as.
+pub fn faultless_is_said()
+    ensures law { FaultlessIsSaid }
+{}
+
+/// Where the lines say sound segments with labels, none has a fault, and they say no others.
+pub fn said_is_faultless()
+    ensures law { SaidIsFaultless }
+{}
+
+/// A text without faults spells its program.
+pub fn faultless_is_spelled()
+    ensures law { FaultlessIsSpelled }
+{}
+
+/// A text that spells a program has no faults, and it spells no other.
+pub fn spelled_is_faultless()
+    ensures law { SpelledIsFaultless }
+{}
+
+/// What a text spells is a program, where no segment has more than 60,000 bytes.
+pub fn spelled_is_program()
+    ensures law { SpelledIsProgram }
+{}

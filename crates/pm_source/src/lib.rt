@@ -1,0 +1,10 @@
+//! The assembler's text: what a line says, what is wrong in a text, and the program that it spells.
+#![tactic(auto)]
+
+mod fault;
+pub mod laws;
+mod number;
+pub mod shown;
+
+pub use fault::AsmFault;
+pub use number::Numeral;

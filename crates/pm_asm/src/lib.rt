@@ -1,4 +1,5 @@
 //! The assembler: a text becomes a code file and its listing.
 #![tactic(auto)]
 
+mod sizes;
 mod source;

@@ -1,5 +1,6 @@
 //! The assembler: a text becomes a code file and its listing.
 #![tactic(auto)]
 
+mod labels;
 mod sizes;
 mod source;

@@ -2,5 +2,6 @@
 #![tactic(auto)]
 
 mod labels;
+mod lengths;
 mod sizes;
 mod source;

@@ -1,6 +1,7 @@
 -- What the values of the code stand for.
-use Rattle.std.specs.Prelude.{ℕ, Bool, true, List, [], ◌∷◌, ◌++◌, ◌&&◌, Vec, Option, Some, None, map, length, option_map, false, if◌then◌else◌}
+use Rattle.std.specs.Prelude.{ℕ, ◌+◌, Bool, true, not, List, [], ◌∷◌, ◌++◌, ◌&&◌, Vec, Option, Some, None, map, length, option_map, false, if◌then◌else◌}
 use Rattle.std.specs.Borrow.{Bor}
+use Rattle.std.specs.List.{onto_first}
 use Rattle.pm_line.specs.declared.item.Target.{Target}
 use Rattle.pm_line.specs.declared.item.Target.TheVariants as targets
 use Rattle.pm_line.specs.declared.item.Item.{Item}
@@ -13,9 +14,13 @@ use Rattle.pm_line.specs.declared.item.Flaw.{Flaw}
 use Rattle.pm_line.specs.declared.item.Flaw.TheVariants as flaws
 use Rattle.pm_line.specs.declared.item.Line.{Line}
 use Rattle.pm_line.specs.declared.item.Line.TheVariants as lines
+use Rattle.pm_line.specs.declared.keyword.Keyword.{Keyword}
+use Rattle.pm_line.specs.declared.keyword.Keyword.TheVariants as keywords
+use Rattle.pm_line.specs.declared.operand.Number.{Number}
 use Rattle.pm_disasm.specs.Item as model
 use Rattle.pm_disasm.specs.Item.Item.{Plain, Jump, Case, OneByte}
 use Rattle.pm_disasm.specs.Item.Target.{To, Through}
+use Rattle.pm_source.specs.Words.{Cut, is_blank}
 use Rattle.pm_source.specs.Source as source
 use Rattle.pm_source.specs.Source.{Name}
 use Rattle.pm_source.specs.Source.Row.{Items, Exit}
@@ -68,6 +73,18 @@ line_seen (lines.Wrong ends) = Wrong ends
 line_seen lines.Strange = Strange
 line_seen (lines.Says said flaw) = Says (statement_seen said) (flaw_seen flaw)
 
+abbrev pub keyword_seen : Keyword → text.Keyword
+keyword_seen keywords.Segment = OfSegment
+keyword_seen keywords.Procedure = OfProcedure
+keyword_seen keywords.Exit = OfExit
+keyword_seen keywords.Jump = OfJump
+keyword_seen keywords.End = OfEnd
+keyword_seen keywords.Bytes = OfBytes
+keyword_seen (keywords.Mnemonic op) = Mnemonic op
+
+abbrev pub number_seen : Number → ℕ × Bool
+number_seen n = (n.value, n.long)
+
 -- An operand, or what a keyword says, by what it stands for.
 abbrev pub pair_seen : {A B C : Type 0} → (A → B) → A × C → B × C
 pair_seen f x = (f x.0, x.1)
@@ -98,11 +115,39 @@ abbrev pub pieces_behind : Option (List ℕ) → List (List ℕ)
 pieces_behind None = []
 pieces_behind (Some rest) = pieces false rest
 
+-- A word and what stands behind it.
+abbrev pub cut_seen : List ℕ → List ℕ → Cut
+cut_seen word rest = record { word = word; rest = rest }
+
+-- Not one text.
+abbrev pub IsNotOne : List (List ℕ) → Type 0
+IsNotOne (t ∷ []) = ⊥
+IsNotOne _ = Unit {0}
+
+-- Not two texts.
+abbrev pub IsNotTwo : List (List ℕ) → Type 0
+IsNotTwo (t ∷ u ∷ []) = ⊥
+IsNotTwo _ = Unit {0}
+
+-- Not four texts.
+abbrev pub IsNotFour : List (List ℕ) → Type 0
+IsNotFour (t ∷ u ∷ v ∷ w ∷ []) = ⊥
+IsNotFour _ = Unit {0}
+
+-- whether a text begins with no blank
+abbrev pub begins_solid : List ℕ → Bool
+begins_solid [] = false
+begins_solid (c ∷ cs) = not (is_blank c)
+
+-- how much is left to cut into pieces
+abbrev pub left : Option (List ℕ) → ℕ
+left None = 0
+left (Some rest) = 1 + length rest
+
 -- a piece that goes on with what the first of others begins with
 abbrev pub onto_piece : List ℕ → List (List ℕ) → List (List ℕ)
 onto_piece [] ps = ps
-onto_piece (c ∷ cs) [] = []
-onto_piece (c ∷ cs) (p ∷ ps) = ((c ∷ cs) ++ p) ∷ ps
+onto_piece (c ∷ cs) ps = onto_first c (onto_piece cs ps)
 
 -- bytes before others, where there are others
 abbrev pub onto_bytes : List ℕ → Option (List ℕ) → Option (List ℕ)
@@ -113,6 +158,11 @@ onto_bytes bs (Some cs) = Some (bs ++ cs)
 abbrev pub first_unescaped : Option (ℕ × List ℕ) → Option (List ℕ)
 first_unescaped None = None
 first_unescaped (Some x) = onto_bytes (x.0 ∷ []) (text.unescaped x.1)
+
+-- what characters between quotes stand for, if there are quotes
+abbrev pub unescaped_if : Option (List ℕ) → Option (List ℕ)
+unescaped_if None = None
+unescaped_if (Some cs) = text.unescaped cs
 
 -- operands before others, where there are others
 abbrev pub onto_operands : {A : Type 0} → List A → Bool → Operand (List A) → Operand (List A)

@@ -1,6 +1,20 @@
 //! Lines of the assembler's text: what each says.
+//!
+//! `line` reads one line. What it answers borrows from the text: names and labels are slices of the line.
 #![tactic(auto)]
 
+mod comparison;
+mod counted;
+mod directive;
+mod instruction;
 mod item;
+mod keyword;
+mod lists;
+mod number;
+mod operand;
+mod pieces;
+mod spoken;
+mod words;
 
 pub use item::{Flaw, Item, Line, Row, Statement, Target};
+pub use spoken::line;

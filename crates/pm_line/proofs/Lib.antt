@@ -1,0 +1,8 @@
+pub mod Capped
+pub mod Blanks
+pub mod Onto
+pub mod Escapes
+pub mod Counts
+pub mod Cuts
+pub mod Named
+pub mod Wholes

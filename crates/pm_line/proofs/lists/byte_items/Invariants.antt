@@ -1,0 +1,8 @@
+use Rattle.std.proofs.Common.{◌≡◌, ◌++◌, map, drop}
+use Rattle.pm_disasm.specs.Item.Item.{OneByte}
+use Rattle.pm_line.specs.Views.{items_seen}
+use Rattle.pm_line.proofs.lists.byte_items.Given as goal
+
+-- the items so far and those that are left
+abbrev pub invariant-loop-byte : goal.invariant-loop-byte
+invariant-loop-byte l = items_seen l.items ++ map OneByte (drop l.byte-index l.bytes) ≡ map OneByte l.bytes

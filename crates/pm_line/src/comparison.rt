@@ -1,0 +1,123 @@
+//! Comparisons, whose operand is a type word, with a size behind it where the type has one.
+
+ghost use Rattle.std.specs.Prelude.{◌≡◌, option_map, IfOk};
+ghost use Rattle.std.specs.Map.{lookup};
+ghost use Rattle.std.specs.Str.{bytes_eq};
+ghost use Rattle.pm_source.specs.Line.{checked, comparison, instruction_said, one_comparison, sized_comparison, sized_type_words, type_words};
+ghost use Rattle.pm_line.specs.Views.{flaw_seen, item_seen, range_flaw, said_seen, texts_seen};
+
+use crate::counted::only;
+use crate::instruction::{bare, instruction, plain};
+use crate::item::{Flaw, Item};
+use crate::operand::number_operand;
+use crate::words::words;
+use pm_opcode::{Form, Instr};
+use std::alloc::{AllocError, Global};
+
+/// What may be ill-formed, with its flaw; and a want of memory.
+pub(crate) type Said<T> = Result<Option<(T, Flaw)>, AllocError>;
+
+/// The flaw of what is in range or not.
+pub(crate) fn flaw_of(in_range: bool) -> Flaw
+    ensures flaw { flaw_seen result ≡ range_flaw in_range }
+{
+    if in_range {
+        Flaw::NoFlaw
+    } else {
+        Flaw::OutOfRange
+    }
+}
+
+/// The type byte of a type word that has no size.
+fn unsized_type(word: &[u8]) -> Option<u8>
+    ensures type_byte { result ≡ lookup (bytes_eq word.now) type_words }
+{
+    match word {
+        b"REAL" => Some(2),
+        b"STR" => Some(4),
+        b"BOOL" => Some(6),
+        b"SET" => Some(8),
+        _ => None,
+    }
+}
+
+/// The type byte of a type word that has a size.
+fn sized_type(word: &[u8]) -> Option<u8>
+    ensures type_byte { result ≡ lookup (bytes_eq word.now) sized_type_words }
+{
+    match word {
+        b"BYTES" => Some(10),
+        b"WORDS" => Some(12),
+        _ => None,
+    }
+}
+
+/// A comparison of a type that has a size, or of none, by the words behind the type.
+#[tactic(auto, using(crate::proofs::Counts::no_sized))]
+fn sized_comparison<'a>(
+    alloc: Global,
+    op: u8,
+    others: &[&'a [u8]],
+    sized: Option<u8>,
+) -> Option<(Item<'a>, Flaw)>
+    ensures item { said_seen item_seen result ≡ sized_comparison op (texts_seen others.now) sized }
+{
+    let Some(sized) = sized else {
+        return Some((plain(alloc, bare(op)), Flaw::UnknownType));
+    };
+    let size = only(others)?;
+    let (size, in_range) = number_operand(size)?;
+    let instr = Instr {
+        a: u16::from(sized),
+        b: size.value,
+        long: size.long,
+        ..bare(op)
+    };
+    Some((plain(alloc, instr), flaw_of(in_range)))
+}
+
+/// A comparison by the words of its operand.
+fn comparison<'a>(alloc: Global, op: u8, words: &[&'a [u8]]) -> Option<(Item<'a>, Flaw)>
+    ensures item { said_seen item_seen result ≡ comparison op (texts_seen words.now) }
+{
+    let [name, others @ ..] = words else {
+        return None;
+    };
+    let Some(plain_type) = unsized_type(name) else {
+        return sized_comparison(alloc, op, others, sized_type(name));
+    };
+    if !others.is_empty() {
+        return None;
+    }
+    let a = u16::from(plain_type);
+    Some((plain(alloc, Instr { a, ..bare(op) }), Flaw::NoFlaw))
+}
+
+#[tactic(auto, using(crate::proofs::Counts::no_comparison))]
+fn one_comparison<'a>(alloc: Global, op: u8, texts: &[&'a [u8]]) -> Said<Item<'a>>
+    ensures item { IfOk result (λ item. said_seen item_seen item ≡ one_comparison op (texts_seen texts.now)) }
+{
+    let Some(text) = only(texts) else {
+        return Ok(None);
+    };
+    let words = words(alloc, text)?;
+    Ok(comparison(alloc, op, &words))
+}
+
+/// An instruction by the form of its operands.
+pub(crate) fn instruction_said<'a>(
+    alloc: Global,
+    form: Form,
+    op: u8,
+    texts: &[&'a [u8]],
+) -> Said<Item<'a>>
+    ensures item { IfOk result (λ item. said_seen item_seen item ≡ instruction_said form op (texts_seen texts.now)) }
+{
+    if let Form::Typed = form {
+        return one_comparison(alloc, op, texts);
+    }
+    let Some((item, in_range)) = instruction(alloc, form, op, texts)? else {
+        return Ok(None);
+    };
+    Ok(Some((item, flaw_of(in_range))))
+}

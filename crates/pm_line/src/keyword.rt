@@ -1,0 +1,62 @@
+//! The first word of a line, or the one behind a label.
+
+ghost use Rattle.std.specs.Prelude.{◌≡◌, option_map};
+ghost use Rattle.std.specs.Map.{lookup};
+ghost use Rattle.std.specs.Str.{bytes_eq};
+ghost use Rattle.pm_source.specs.Line.{directives, keyword_of, named_from};
+ghost use Rattle.pm_line.specs.Views.{keyword_seen};
+
+use pm_opcode::row_at;
+
+/// What such a word can be.
+#[derive(Clone, Copy, Debug, PartialEq, Eq)]
+pub(crate) enum Keyword {
+    Segment,
+    Procedure,
+    Exit,
+    Jump,
+    End,
+    Bytes,
+    /// The first opcode of a mnemonic.
+    Mnemonic(u8),
+}
+
+/// The first opcode that has a name.
+fn opcode_named(name: &[u8]) -> Option<u8>
+    ensures opcode { result ≡ named_from name.now 0 256 }
+{
+    for op in 0..256u16 {
+        let op = op as u8;
+        if name == row_at(op).mnemonic.as_bytes() {
+            return Some(op);
+        }
+    }
+    None
+}
+
+/// The directive that a word is.
+#[tactic(auto, unfolding(pm_source::specs::Line::directives))]
+fn directive_named(word: &[u8]) -> Option<Keyword>
+    ensures directive { option_map keyword_seen result ≡ lookup (bytes_eq word.now) directives }
+{
+    match word {
+        b".SEG" => Some(Keyword::Segment),
+        b".PROC" => Some(Keyword::Procedure),
+        b".EXIT" => Some(Keyword::Exit),
+        b".JUMP" => Some(Keyword::Jump),
+        b".END" => Some(Keyword::End),
+        b".BYTE" => Some(Keyword::Bytes),
+        _ => None,
+    }
+}
+
+/// The directive or mnemonic that a word is.
+#[tactic(auto, unfolding(pm_source::specs::Line::keyword_of))]
+pub(crate) fn keyword_of(word: &[u8]) -> Option<Keyword>
+    ensures keyword { option_map keyword_seen result ≡ keyword_of word.now }
+{
+    match directive_named(word) {
+        Some(keyword) => Some(keyword),
+        None => Some(Keyword::Mnemonic(opcode_named(word)?)),
+    }
+}

@@ -1,0 +1,112 @@
+//! Numbers of a text.
+
+ghost use Rattle.std.specs.Prelude.{◌≡◌, ◌<◌, ◌≤◌, min};
+ghost use Rattle.std.specs.Char.{digit_value, is_ascii_digit, is_ascii_hexdigit};
+ghost use Rattle.std.specs.List.{list_all};
+ghost use Rattle.std.specs.Str.Parse.{digits_value};
+ghost use Rattle.pm_source.specs.Words.{decimal_number, hexadecimal_number, number, stored, within};
+
+use pm_source::Numeral;
+
+/// Where magnitudes are cut off: more than any operand can be.
+const LARGEST: u32 = 1_000_000;
+
+fn digit_value(digit: u8) -> u32
+    ensures value { result ≡ digit_value digit }
+    ensures small { result ≤ 36 }
+{
+    match digit {
+        b'0'..=b'9' => u32::from(digit - b'0'),
+        b'A'..=b'Z' => u32::from(digit - b'A') + 10,
+        b'a'..=b'z' => u32::from(digit - b'a') + 10,
+        _ => 36,
+    }
+}
+
+fn are_decimal(digits: &[u8]) -> bool
+    ensures decimal { result ≡ list_all is_ascii_digit digits.now }
+{
+    digits.iter().all(|digit| digit.is_ascii_digit())
+}
+
+fn are_hexadecimal(digits: &[u8]) -> bool
+    ensures hexadecimal { result ≡ list_all is_ascii_hexdigit digits.now }
+{
+    digits.iter().all(|digit| digit.is_ascii_hexdigit())
+}
+
+/// What digits are worth, cut off at a million.
+fn magnitude(radix: u32, digits: &[u8]) -> u32
+    requires radix { (1 ≤ radix) × (radix ≤ 16) }
+    ensures value { result ≡ min 1000000 (digits_value radix digits.now) }
+{
+    let mut magnitude = 0;
+    for digit in digits {
+        magnitude = LARGEST.min(magnitude * radix + digit_value(*digit));
+    }
+    magnitude
+}
+
+/// The number that decimal digits are.
+fn decimal_number(negative: bool, digits: &[u8]) -> Option<Numeral>
+    ensures number { result ≡ decimal_number negative digits.now }
+{
+    if digits.is_empty() || !are_decimal(digits) {
+        return None;
+    }
+    let magnitude = magnitude(10, digits);
+    Some(Numeral {
+        negative,
+        magnitude,
+    })
+}
+
+/// The number that one to four hexadecimal digits are.
+#[tactic(auto, using(crate::proofs::Capped::four_digits))]
+fn hexadecimal_number(digits: &[u8]) -> Option<Numeral>
+    ensures number { result ≡ hexadecimal_number digits.now }
+{
+    if digits.is_empty() || digits.len() > 4 || !are_hexadecimal(digits) {
+        return None;
+    }
+    let magnitude = magnitude(16, digits);
+    Some(Numeral {
+        negative: false,
+        magnitude,
+    })
+}
+
+/// The number that a text is.
+pub(crate) fn number(text: &[u8]) -> Option<Numeral>
+    ensures number { result ≡ number text.now }
+{
+    match text {
+        [b'-', digits @ ..] => decimal_number(true, digits),
+        [b'$', digits @ ..] => hexadecimal_number(digits),
+        digits => decimal_number(false, digits),
+    }
+}
+
+/// Whether a number lies from the negative of `below` to `above`.
+pub(crate) fn is_within(below: u32, above: u32, n: Numeral) -> bool
+    ensures within { result ≡ within below above n }
+{
+    if n.negative {
+        n.magnitude <= below
+    } else {
+        n.magnitude <= above
+    }
+}
+
+/// A number as one of so many values, from 0 on.
+pub(crate) fn stored(values: u32, n: Numeral) -> u32
+    requires some { 0 < values }
+    ensures value { result ≡ stored values n }
+    ensures small { result < values }
+{
+    if n.negative {
+        values.saturating_sub(n.magnitude) % values
+    } else {
+        n.magnitude % values
+    }
+}

@@ -1,0 +1,197 @@
+//! The operands of instructions and directives.
+
+ghost use Rattle.std.specs.Prelude.{◌≡◌, ◌<◌, ◌≤◌, ◌∷◌, [], length, option_map, IfOk, IfSome};
+ghost use Rattle.pm_source.specs.Line.{bound_operand, byte_operand, is_plain, jump_operand, label_operand, lower_hex, number_operand, numeral_operand, size_operand, slot_operand, text_operand, unescaped, word_operand};
+ghost use Rattle.pm_line.specs.Views.{first_unescaped, number_seen, onto_bytes, operand_seen, target_seen, text_seen, unescaped_if};
+
+use crate::item::Target;
+use crate::number::{is_within, number, stored};
+use crate::words::is_name;
+use std::alloc::{AllocError, Global};
+
+/// A number, and whether it is written with two bytes though it is below 128.
+#[derive(Clone, Copy, Debug, PartialEq, Eq)]
+pub(crate) struct Number {
+    pub value: u16,
+    pub long: bool,
+}
+
+/// A number from the negative of `below` to `above` as one of so many values, and whether it lies there.
+pub(crate) fn numeral_operand(
+    below: u32,
+    above: u32,
+    values: u32,
+    text: &[u8],
+) -> Option<(u32, bool)>
+    requires some { 0 < values }
+    ensures operand { result ≡ numeral_operand below above values text.now }
+    ensures small { IfSome result (λ x. x.0 < values) }
+{
+    let n = number(text)?;
+    Some((stored(values, n), is_within(below, above, n)))
+}
+
+/// A byte, 0 to 255.
+pub(crate) fn byte_operand(text: &[u8]) -> Option<(u8, bool)>
+    ensures operand { result ≡ byte_operand text.now }
+{
+    let (n, in_range) = numeral_operand(0, 255, 256, text)?;
+    Some((n as u8, in_range))
+}
+
+/// A word, -32,768 to 65,535.
+pub(crate) fn word_operand(text: &[u8]) -> Option<(u16, bool)>
+    ensures operand { result ≡ word_operand text.now }
+{
+    let (n, in_range) = numeral_operand(32768, 65535, 65536, text)?;
+    Some((n as u16, in_range))
+}
+
+/// A bound of a case jump, -32,768 to 32,767.
+pub(crate) fn bound_operand(text: &[u8]) -> Option<(u16, bool)>
+    ensures operand { result ≡ bound_operand text.now }
+{
+    let (n, in_range) = numeral_operand(32768, 32767, 65536, text)?;
+    Some((n as u16, in_range))
+}
+
+/// A level of a procedure, -128 to 127.
+pub(crate) fn level_operand(text: &[u8]) -> Option<(u8, bool)>
+    ensures operand { result ≡ numeral_operand 128 127 256 text.now }
+{
+    let (n, in_range) = numeral_operand(128, 127, 256, text)?;
+    Some((n as u8, in_range))
+}
+
+/// A size of a procedure's data, an even number of bytes up to 65,534.
+pub(crate) fn size_operand(text: &[u8]) -> Option<(u16, bool)>
+    ensures operand { result ≡ size_operand text.now }
+{
+    let (n, in_range) = numeral_operand(0, 65534, 65536, text)?;
+    Some((n as u16, in_range && n % 2 == 0))
+}
+
+/// A segment's number, 0 to 15; 16 where it is out of range.
+pub(crate) fn slot_operand(text: &[u8]) -> Option<(u8, bool)>
+    ensures operand { result ≡ slot_operand text.now }
+{
+    let n = number(text)?;
+    if is_within(0, 15, n) {
+        Some((n.magnitude as u8, true))
+    } else {
+        Some((16, false))
+    }
+}
+
+/// `n`, up to 32,767, or `n!`, up to 127, for two bytes.
+pub(crate) fn number_operand(text: &[u8]) -> Option<(Number, bool)>
+    ensures operand { operand_seen number_seen result ≡ number_operand text.now }
+{
+    if let [digits @ .., b'!'] = text {
+        let (n, in_range) = numeral_operand(0, 127, 65536, digits)?;
+        let value = n as u16;
+        return Some((Number { value, long: true }, in_range));
+    }
+    let (n, in_range) = numeral_operand(0, 32767, 65536, text)?;
+    let value = n as u16;
+    Some((Number { value, long: false }, in_range))
+}
+
+/// A label.
+pub(crate) fn label_operand(text: &[u8]) -> Option<(&[u8], bool)>
+    ensures operand { operand_seen text_seen result ≡ label_operand text.now }
+{
+    if is_name(text) {
+        Some((text, true))
+    } else {
+        None
+    }
+}
+
+/// A label, or `^k` for entry k of the jump table, up to 59.
+pub(crate) fn jump_operand(text: &[u8]) -> Option<(Target<'_>, bool)>
+    ensures operand { operand_seen target_seen result ≡ jump_operand text.now }
+{
+    match text {
+        [b'^', digits @ ..] => {
+            let (k, in_range) = numeral_operand(0, 59, 256, digits)?;
+            Some((Target::Through(k as u8), in_range))
+        }
+        label if is_name(label) => Some((Target::To(label), true)),
+        _ => None,
+    }
+}
+
+fn lower_hex(digit: u8) -> Option<u8>
+    ensures value { result ≡ lower_hex digit }
+    ensures small { IfSome result (λ value. value < 16) }
+{
+    match digit {
+        b'0'..=b'9' => Some(digit - b'0'),
+        b'a'..=b'f' => Some(digit - b'a' + 10),
+        _ => None,
+    }
+}
+
+/// Whether a character between quotes stands for itself.
+fn is_plain(byte: u8) -> bool
+    ensures plain { result ≡ is_plain byte }
+{
+    (32..=126).contains(&byte) && byte != b'"' && byte != b'\\'
+}
+
+/// The byte that the characters at the front stand for, and the characters behind them.
+#[tactic(auto, using(crate::proofs::Escapes::plain_slice))]
+fn first_unescaped(text: &[u8]) -> Option<(u8, &[u8])>
+    requires some { 0 < length text.now }
+    ensures front { unescaped text.now ≡ first_unescaped (option_map (λ x. (x.0, x.1.now)) result) }
+    ensures shorter { IfSome result (λ x. length x.1.now < length text.now) }
+{
+    match text {
+        [b'\\', high, low, rest @ ..] => {
+            let high = lower_hex(*high)?;
+            let low = lower_hex(*low)?;
+            Some((16 * high + low, rest))
+        }
+        [byte, rest @ ..] if is_plain(*byte) => Some((*byte, rest)),
+        _ => None,
+    }
+}
+
+/// The bytes that the characters between quotes stand for: `\` and two lower case hexadecimal digits stand for one byte.
+#[tactic(auto, using(crate::proofs::Escapes::onto_both))]
+fn unescaped(alloc: Global, text: &[u8]) -> Result<Option<Vec<u8>>, AllocError>
+    ensures bytes { IfOk result (λ list. option_map (λ bytes. bytes.items) list ≡ unescaped text.now) }
+{
+    let mut bytes = Vec::new(alloc);
+    let mut rest = text;
+    'bytes: while !rest.is_empty() {
+        let Some((byte, behind)) = first_unescaped(rest) else {
+            return Ok(None);
+        };
+        bytes.push(byte)?;
+        rest = behind;
+    }
+    Ok(Some(bytes))
+}
+
+/// What stands between a quote at the front and one at the end.
+#[tactic(auto, using(crate::proofs::Escapes::quoted_slice))]
+fn between_quotes(text: &[u8]) -> Option<&[u8]>
+    ensures inner { text_operand text.now ≡ unescaped_if (option_map text_seen result) }
+{
+    match text {
+        [b'"', inner @ .., b'"'] => Some(inner),
+        _ => None,
+    }
+}
+
+/// The bytes that `"text"` stands for.
+pub(crate) fn text_operand(alloc: Global, text: &[u8]) -> Result<Option<Vec<u8>>, AllocError>
+    ensures bytes { IfOk result (λ list. option_map (λ bytes. bytes.items) list ≡ text_operand text.now) }
+{
+    match between_quotes(text) {
+        Some(inner) => unescaped(alloc, inner),
+        None => Ok(None),
+    }
+}

@@ -1,0 +1,193 @@
+//! What a line says.
+
+ghost use Rattle.std.specs.Prelude.{◌≡◌, ℕ, List, true, option_map, IfOk};
+ghost use Rattle.std.specs.List.{list_all};
+ghost use Rattle.pm_source.specs.Words.{words};
+ghost use Rattle.pm_source.specs.Line.{bytes_said, checked, code_said, is_character, items_said, label_of, labelled, line_of, line_of_words, said, spoken};
+ghost use Rattle.pm_line.specs.Views.{cut_seen, is_directive, items_seen, keyword_seen, line_seen, operand_seen, said_seen, statement_seen, text_seen, texts_seen};
+
+use crate::comparison::{Said, flaw_of, instruction_said};
+use crate::directive::{entry_operands, no_operands, procedure_operands, segment_operands};
+use crate::item::{Flaw, Item, Line, Row, Statement};
+use crate::keyword::{Keyword, keyword_of};
+use crate::lists::{byte_items, byte_operands};
+use crate::pieces::{operands, uncommented};
+use crate::words::{cut, is_name, words};
+use pm_opcode::form_at;
+use std::alloc::{AllocError, Global};
+
+/// The items that `.BYTE` says.
+fn bytes_said<'a>(alloc: Global, texts: &[&'a [u8]]) -> Said<Vec<Item<'a>>>
+    ensures items { IfOk result (λ list. said_seen items_seen list ≡ checked (bytes_said (texts_seen texts.now))) }
+{
+    if texts.is_empty() {
+        return Ok(None);
+    }
+    let Some((bytes, in_range)) = byte_operands(alloc, texts)? else {
+        return Ok(None);
+    };
+    Ok(Some((byte_items(alloc, &bytes)?, flaw_of(in_range))))
+}
+
+/// The items that a keyword and the text behind it say.
+fn items_said<'a>(alloc: Global, keyword: Keyword, rest: &'a [u8]) -> Said<Vec<Item<'a>>>
+    ensures items { IfOk result (λ list. said_seen items_seen list ≡ items_said (keyword_seen keyword) rest.now) }
+{
+    match keyword {
+        Keyword::Bytes => bytes_said(alloc, &operands(alloc, rest)?),
+        Keyword::Mnemonic(op) => {
+            let texts = operands(alloc, rest)?;
+            let Some((item, flaw)) = instruction_said(alloc, form_at(op), op, &texts)? else {
+                return Ok(None);
+            };
+            let mut items = Vec::new(alloc);
+            items.push(item)?;
+            Ok(Some((items, flaw)))
+        }
+        _ => Ok(None),
+    }
+}
+
+/// A line of code by its items.
+fn code_said<'a>(
+    line: usize,
+    label: Option<&'a [u8]>,
+    items: Option<(Vec<Item<'a>>, Flaw)>,
+) -> Option<(Statement<'a>, Flaw)>
+    ensures said { said_seen statement_seen result ≡ code_said line (option_map text_seen label.entry) (said_seen items_seen items.entry) }
+{
+    let (items, flaw) = items?;
+    let row = Row::Items { line, label, items };
+    Some((Statement::Code(row), flaw))
+}
+
+/// What a directive and the words behind it say; None for what is no directive but `.BYTE`.
+fn directive<'a>(line: usize, keyword: Keyword, texts: &[&'a [u8]]) -> Option<(Statement<'a>, bool)>
+    requires directive { is_directive (keyword_seen keyword) ≡ true }
+    ensures said { (rest : List ℕ) → texts_seen texts.now ≡ words rest → checked (operand_seen statement_seen result) ≡ said line (keyword_seen keyword) rest }
+{
+    match keyword {
+        Keyword::Segment => segment_operands(texts),
+        Keyword::Procedure => procedure_operands(texts),
+        Keyword::Exit => no_operands(Statement::Code(Row::Exit), texts),
+        Keyword::Jump => entry_operands(line, texts),
+        Keyword::End => no_operands(Statement::End, texts),
+        Keyword::Bytes | Keyword::Mnemonic(_) => None,
+    }
+}
+
+/// What a keyword and the text behind it say.
+fn said<'a>(alloc: Global, line: usize, keyword: Keyword, rest: &'a [u8]) -> Said<Statement<'a>>
+    ensures said { IfOk result (λ s. said_seen statement_seen s ≡ said line (keyword_seen keyword) rest.now) }
+{
+    if let Keyword::Bytes | Keyword::Mnemonic(_) = keyword {
+        return Ok(code_said(line, None, items_said(alloc, keyword, rest)?));
+    }
+    let words = words(alloc, rest)?;
+    let Some((said, in_range)) = directive(line, keyword, &words) else {
+        return Ok(None);
+    };
+    Ok(Some((said, flaw_of(in_range))))
+}
+
+/// A line without a label, by the keyword at its front.
+fn spoken<'a>(
+    alloc: Global,
+    line: usize,
+    rest: &'a [u8],
+    keyword: Option<Keyword>,
+) -> Result<Line<'a>, AllocError>
+    ensures line { IfOk result (λ l. line_seen l ≡ spoken line rest.now (option_map keyword_seen keyword)) }
+{
+    let Some(keyword) = keyword else {
+        return Ok(Line::Strange);
+    };
+    let ends = matches!(keyword, Keyword::End);
+    Ok(match said(alloc, line, keyword, rest)? {
+        Some((said, flaw)) => Line::Says(said, flaw),
+        None => Line::Wrong { ends },
+    })
+}
+
+/// A line with a label, by the word behind it and what follows.
+fn labelled<'a>(
+    alloc: Global,
+    line: usize,
+    label: &'a [u8],
+    word: &'a [u8],
+    rest: &'a [u8],
+) -> Result<Line<'a>, AllocError>
+    ensures line { IfOk result (λ l. line_seen l ≡ labelled line label.now rest.now word.now) }
+{
+    let items = if word.is_empty() {
+        Some((Vec::new(alloc), Flaw::NoFlaw))
+    } else {
+        let Some(keyword) = keyword_of(word) else {
+            return Ok(Line::Strange);
+        };
+        if !is_name(label) {
+            return Ok(Line::Wrong { ends: false });
+        }
+        items_said(alloc, keyword, rest)?
+    };
+    if !is_name(label) {
+        return Ok(Line::Wrong { ends: false });
+    }
+    Ok(match code_said(line, Some(label), items) {
+        Some((said, flaw)) => Line::Says(said, flaw),
+        None => Line::Wrong { ends: false },
+    })
+}
+
+/// The label before the `:` at a word's end.
+fn label_of(word: &[u8]) -> Option<&[u8]>
+    ensures label { option_map text_seen result ≡ label_of word.now }
+{
+    match word {
+        [label @ .., b':'] => Some(label),
+        _ => None,
+    }
+}
+
+/// Whether all characters may stand in a text: tabs, and 32 to 126.
+fn are_characters(text: &[u8]) -> bool
+    ensures characters { result ≡ list_all is_character text.now }
+{
+    text.iter()
+        .all(|byte| *byte == b'\t' || (32..=126).contains(byte))
+}
+
+/// A line by its first word and what stands behind it.
+fn line_of_words<'a>(
+    alloc: Global,
+    number: usize,
+    word: &'a [u8],
+    rest: &'a [u8],
+) -> Result<Line<'a>, AllocError>
+    ensures line { IfOk result (λ l. line_seen l ≡ line_of_words number (cut_seen word.now rest.now) (label_of word.now)) }
+{
+    let Some(label) = label_of(word) else {
+        return spoken(alloc, number, rest, keyword_of(word));
+    };
+    let (word, rest) = cut(rest);
+    labelled(alloc, number, label, word, rest)
+}
+
+/// What a line says, by its number and its characters, without the line feed.
+///
+/// Its own errors are in the answer: `Line::Wrong`, `Line::Strange`, and the flaw of `Line::Says`. `AllocError`: memory could not grow.
+#[tactic(auto, unfolding(pm_source::specs::Line::line_of))]
+pub fn line<'a>(alloc: Global, number: usize, text: &'a [u8]) -> Result<Line<'a>, AllocError>
+    ensures line { IfOk result (λ l. line_seen l ≡ line_of number text.now) }
+{
+    let (word, rest) = cut(uncommented(text));
+    if !are_characters(text) {
+        return Ok(Line::Wrong {
+            ends: word == b".END".as_slice(),
+        });
+    }
+    if word.is_empty() {
+        return Ok(Line::Blank);
+    }
+    line_of_words(alloc, number, word, rest)
+}

@@ -1,3 +1,4 @@
 pub mod Firsts
 pub mod Lengths
 pub mod Views
+pub mod Assembled

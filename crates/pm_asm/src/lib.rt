@@ -1,7 +1,11 @@
 //! The assembler: a text becomes a code file and its listing.
 #![tactic(auto)]
 
+mod assembly;
 mod labels;
 mod lengths;
 mod sizes;
 mod source;
+
+pub use assembly::{Assembly, assemble};
+pub use pm_source::AsmFault;

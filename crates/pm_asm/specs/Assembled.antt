@@ -1,0 +1,39 @@
+-- What assembling a text gives.
+use Rattle.std.specs.Prelude.{◌≡◌, ℕ, List, Option, Some, None, Result, Ok, Err}
+use Rattle.pm_disasm.specs.Program.{Segment, AreShort}
+use Rattle.pm_source.specs.declared.fault.AsmFault.{AsmFault}
+use Rattle.pm_source.specs.declared.fault.AsmFault.TheVariants.{TooLong}
+use Rattle.pm_source.specs.Faults.{faults}
+use Rattle.pm_source.specs.Image.{file_of, listing}
+use Rattle.pm_source.specs.Meaning.{Spells, program_of}
+use Rattle.pm_asm.specs.Firsts.{first_of}
+use Rattle.pm_asm.specs.Lengths.{first_long}
+
+-- A code file and a listing, or a fault.
+abbrev pub Outcome : Type 0
+Outcome = Result (List ℕ × List ℕ) AsmFault
+
+-- of a program, by its first segment that is too long
+abbrev pub outcome_of : List Segment → Option ℕ → Outcome
+outcome_of ss None = Ok (file_of ss, listing ss)
+outcome_of ss (Some n) = Err (TooLong n)
+
+abbrev pub outcome_by : List ℕ → Option AsmFault → Outcome
+outcome_by text None = outcome_of (program_of text) (first_long (program_of text))
+outcome_by text (Some fault) = Err fault
+
+-- The first of a text's faults; without one, its first segment that is too long; else the code file and the listing of its program.
+unfoldable pub assembled : List ℕ → Outcome
+assembled text = outcome_by text (first_of (faults text))
+
+-- A code file and a listing are those of a program that the text spells, of which no segment has more than 60,000 bytes.
+pub record Assembles (text file shown : List ℕ) : Type 0 where
+  pub program : List Segment
+  pub spelled : Spells text program
+  pub short : AreShort program
+  pub image : file ≡ file_of program
+  pub lines : shown ≡ listing program
+
+-- The text spells no program without a segment of more than 60,000 bytes.
+abbrev pub SpellsNothing : List ℕ → Type 0
+SpellsNothing text = (ss : List Segment) → Spells text ss → AreShort ss → ⊥

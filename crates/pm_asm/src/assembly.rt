@@ -1,0 +1,33 @@
+//! From a text to its code file and listing.
+
+ghost use Rattle.std.specs.Prelude.{◌≡◌, ◌≢◌, string_bytes, Ok, Err, IfOk, IfErr};
+ghost use Rattle.pm_source.specs.declared.fault.AsmFault.TheVariants.{NoMemory};
+ghost use Rattle.pm_asm.specs.Assembled.{Assembles, SpellsNothing, assembled};
+
+use pm_source::AsmFault;
+use std::alloc::Global;
+
+/// A code file and its listing.
+#[derive(Debug, Drop)]
+pub struct Assembly {
+    /// The bytes of the code file.
+    pub file: Vec<u8>,
+    /// The listing: a line for each item, jump entry, attribute table and dictionary of each segment.
+    pub listing: String,
+}
+
+/// The code file of a text's program, and its listing.
+///
+/// It is Ok exactly when the text spells a program of which no segment has more than 60,000 bytes, if memory can grow. Refusals:
+///
+/// - the first of the text's faults (`Syntax`, `Unknown`, `Range`, `NoLabel`, `Twice`, `Far`), with its line;
+/// - `TooLong(n)`: no fault, and n is the first segment with more than 60,000 bytes;
+/// - `NoMemory`: memory could not grow.
+pub fn assemble(alloc: Global, text: &str) -> Result<Assembly, AsmFault>
+    ensures assembled { IfOk result (λ a. assembled text.now ≡ Ok (a.file.items, string_bytes a.listing)) }
+    ensures refused { IfErr result (λ fault. fault ≢ NoMemory → assembled text.now ≡ Err fault) }
+    ensures spelled { IfOk result (λ a. Assembles text.now a.file.items (string_bytes a.listing)) }
+    ensures unspelled { IfErr result (λ fault. fault ≢ NoMemory → SpellsNothing text.now) }
+{
+    Err(AsmFault::NoMemory)
+}

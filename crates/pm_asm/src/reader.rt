@@ -1,0 +1,191 @@
+//! The reader: what the lines so far have said, and what is wrong in the next.
+
+ghost use Rattle.std.specs.Prelude.{◌≡◌, ◌==◌, List, map, IfSome};
+ghost use Rattle.std.specs.List.{list_any};
+ghost use Rattle.pm_line.specs.Views.{row_seen, item_seen, target_seen, items_seen, statement_seen};
+ghost use Rattle.pm_disasm.specs.Program.{entries_for, entries_needed};
+ghost use Rattle.pm_disasm.specs.Program as program;
+ghost use Rattle.pm_source.specs.Source.{entries_used, is_exit, has_label, has_exit, has_label_in};
+ghost use Rattle.pm_source.specs.Faults.{is_in_place, is_again, is_uneven, is_miscounted, procedure_count};
+ghost use Rattle.pm_asm.specs.Views.{procedure_seen, segments_seen};
+ghost use Rattle.pm_asm.specs.Reader.{reader_seen};
+
+use crate::sizes::code_end;
+use crate::source::{Procedure, Segment};
+use pm_line::{Item, Row, Statement, Target};
+
+/// What the lines so far have said: the segments with their ended procedures, and the procedure that has not ended.
+#[derive(Debug, Drop)]
+pub(crate) struct Reader<'a> {
+    segments: Vec<Segment<'a>>,
+    procedure: Option<Procedure<'a>>,
+}
+
+/// Whether a line is the place of the exit code.
+fn row_is_exit(row: &Row<'_>) -> bool
+    ensures { result ≡ is_exit (row_seen row.now) }
+{
+    matches!(row, Row::Exit)
+}
+
+/// Whether a label stands before a line's items.
+fn row_has_label(row: &Row<'_>, name: &[u8]) -> bool
+    ensures { result ≡ has_label name.now (row_seen row.now) }
+{
+    match row {
+        Row::Items {
+            label: Some(label), ..
+        } => *label == name,
+        _ => false,
+    }
+}
+
+/// Whether the exit code stands in code.
+fn any_exit(rows: &[Row<'_>]) -> bool
+    ensures { result ≡ list_any (λ row. is_exit (row_seen row)) rows.now }
+{
+    rows.iter().any(|row| row_is_exit(row))
+}
+
+/// Whether a label stands in code.
+fn any_label(rows: &[Row<'_>], name: &[u8]) -> bool
+    ensures { result ≡ list_any (λ row. has_label name.now (row_seen row)) rows.now }
+{
+    rows.iter().any(|row| row_has_label(row, name))
+}
+
+/// Whether a segment has a number.
+fn any_number(segments: &[Segment<'_>], number: u8) -> bool
+    ensures { result ≡ list_any (λ s. s.number == number) segments.now }
+{
+    segments.iter().any(|segment| segment.number == number)
+}
+
+/// How many entries a jump takes.
+fn target_entries(target: Target<'_>) -> usize
+    ensures { result ≡ entries_for (target_seen target.entry) }
+{
+    match target {
+        Target::To(_) => 0,
+        Target::Through(entry) => usize::from(entry) + 1,
+    }
+}
+
+/// How many entries an item takes.
+fn item_entries(item: &Item<'_>) -> usize
+    ensures { result ≡ program.entries_used (item_seen item.now) }
+{
+    match item {
+        Item::Jump(_, target) => target_entries(*target),
+        Item::Case { otherwise, .. } => target_entries(*otherwise),
+        Item::Plain(_, _) | Item::OneByte(_) => 0,
+    }
+}
+
+/// How many entries items take.
+fn items_entries(items: &[Item<'_>]) -> usize
+    ensures { result ≡ entries_needed (map item_seen items.now) }
+{
+    let mut most = 0;
+    for item in items {
+        most = most.max(item_entries(item));
+    }
+    most
+}
+
+/// How many entries code takes.
+fn rows_entries(rows: &[Row<'_>]) -> usize
+    ensures { result ≡ entries_used (map row_seen rows.now) }
+{
+    let mut most = 0;
+    for row in rows {
+        if let Row::Items { items, .. } = row {
+            most = most.max(items_entries(items));
+        }
+    }
+    most
+}
+
+impl Procedure<'_> {
+    #[tactic(auto, using(crate::proofs::Seen::any_of_views))]
+    fn has_exit(&self) -> bool
+        ensures { result ≡ has_exit (procedure_seen self.now) }
+    {
+        any_exit(&self.code)
+    }
+
+    #[tactic(auto, using(crate::proofs::Seen::any_of_views))]
+    fn has_label(&self, name: &[u8]) -> bool
+        ensures { result ≡ has_label_in name.now (procedure_seen self.now) }
+    {
+        any_label(&self.code, name)
+    }
+
+    /// Whether the code has an odd length, or takes other entries than there are; none where memory cannot hold the code.
+    fn is_uneven(&self) -> Option<bool>
+        ensures { IfSome result (λ uneven. uneven ≡ is_uneven (procedure_seen self.now)) }
+    {
+        let end = code_end(0, &self.code)?;
+        Some(end % 2 != 0 || self.entries.len() != rows_entries(&self.code))
+    }
+}
+
+/// How many procedures the last segment has.
+fn last_count(segments: &[Segment<'_>]) -> usize
+    ensures { result ≡ procedure_count (segments_seen segments.now) }
+{
+    match segments.last() {
+        Some(segment) => segment.procedures.len(),
+        None => 0,
+    }
+}
+
+impl Reader<'_> {
+    /// Whether a statement may stand here.
+    fn is_in_place(&self, statement: &Statement<'_>) -> bool
+        ensures { result ≡ is_in_place (reader_seen self.now) (statement_seen statement.now) }
+    {
+        match (statement, &self.procedure) {
+            (Statement::Segment { .. }, procedure) => procedure.is_none(),
+            (Statement::Begin { .. }, procedure) => {
+                procedure.is_none() && !self.segments.is_empty()
+            }
+            (_, None) => false,
+            (Statement::Code(_), Some(procedure)) => procedure.entries.is_empty(),
+            (Statement::Entry { .. }, Some(_)) => true,
+            (Statement::End, Some(procedure)) => procedure.has_exit(),
+        }
+    }
+
+    /// Whether a slot, a label of the procedure or its exit code comes again.
+    #[tactic(auto, using(crate::proofs::Seen::any_of_views))]
+    fn is_again(&self, statement: &Statement<'_>) -> bool
+        ensures { result ≡ is_again (reader_seen self.now) (statement_seen statement.now) }
+    {
+        match (statement, &self.procedure) {
+            (Statement::Segment { number, .. }, _) => any_number(&self.segments, *number),
+            (
+                Statement::Code(Row::Items {
+                    label: Some(label), ..
+                }),
+                Some(procedure),
+            ) => procedure.has_label(label),
+            (Statement::Code(Row::Exit), Some(procedure)) => procedure.has_exit(),
+            _ => false,
+        }
+    }
+
+    /// Whether a procedure has a number that is not the next one, or ends with an odd length or a wrong count of entries; none where
+    /// memory cannot hold its code.
+    fn is_miscounted(&self, statement: &Statement<'_>) -> Option<bool>
+        ensures { IfSome result (λ wrong. wrong ≡ is_miscounted (reader_seen self.now) (statement_seen statement.now)) }
+    {
+        match (statement, &self.procedure) {
+            (Statement::Begin { number, .. }, None) => {
+                Some(usize::from(*number) != last_count(&self.segments) + 1)
+            }
+            (Statement::End, Some(procedure)) => procedure.is_uneven(),
+            _ => Some(false),
+        }
+    }
+}

@@ -1,11 +1,11 @@
 //! The reader: what the lines so far have said, and what is wrong in the next.
 
-ghost use Rattle.std.specs.Prelude.{◌≡◌, ◌==◌, List, map, IfSome};
+ghost use Rattle.std.specs.Prelude.{◌≡◌, ◌==◌, ◌+◌, List, map, IfSome};
 ghost use Rattle.std.specs.List.{list_any};
 ghost use Rattle.pm_line.specs.Views.{row_seen, item_seen, target_seen, items_seen, statement_seen};
 ghost use Rattle.pm_disasm.specs.Program.{entries_for, entries_needed};
 ghost use Rattle.pm_disasm.specs.Program as program;
-ghost use Rattle.pm_source.specs.Source.{entries_used, is_exit, has_label, has_exit, has_label_in};
+ghost use Rattle.pm_source.specs.Source.{row_items, entries_used, is_exit, has_label, has_exit, has_label_in};
 ghost use Rattle.pm_source.specs.Faults.{is_in_place, is_again, is_uneven, is_miscounted, procedure_count};
 ghost use Rattle.pm_asm.specs.Views.{procedure_seen, segments_seen};
 ghost use Rattle.pm_asm.specs.Reader.{reader_seen};
@@ -93,15 +93,23 @@ fn items_entries(items: &[Item<'_>]) -> usize
     most
 }
 
+/// How many entries a line takes.
+fn row_entries(row: &Row<'_>) -> usize
+    ensures { result ≡ entries_needed (row_items (row_seen row.now)) }
+{
+    match row {
+        Row::Items { items, .. } => items_entries(items),
+        Row::Exit => 0,
+    }
+}
+
 /// How many entries code takes.
 fn rows_entries(rows: &[Row<'_>]) -> usize
     ensures { result ≡ entries_used (map row_seen rows.now) }
 {
     let mut most = 0;
     for row in rows {
-        if let Row::Items { items, .. } = row {
-            most = most.max(items_entries(items));
-        }
+        most = most.max(row_entries(row));
     }
     most
 }
@@ -138,6 +146,13 @@ fn last_count(segments: &[Segment<'_>]) -> usize
         Some(segment) => segment.procedures.len(),
         None => 0,
     }
+}
+
+/// Whether a procedure has the next number after so many.
+fn is_next(number: u8, count: usize) -> bool
+    ensures { result ≡ (number == count + 1) }
+{
+    number > 0 && usize::from(number) - 1 == count
 }
 
 impl Reader<'_> {
@@ -182,7 +197,7 @@ impl Reader<'_> {
     {
         match (statement, &self.procedure) {
             (Statement::Begin { number, .. }, None) => {
-                Some(usize::from(*number) != last_count(&self.segments) + 1)
+                Some(!is_next(*number, last_count(&self.segments)))
             }
             (Statement::End, Some(procedure)) => procedure.is_uneven(),
             _ => Some(false),

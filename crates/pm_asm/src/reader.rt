@@ -1,18 +1,23 @@
 //! The reader: what the lines so far have said, and what is wrong in the next.
 
-ghost use Rattle.std.specs.Prelude.{◌≡◌, ◌==◌, ◌+◌, List, map, IfSome};
+ghost use Rattle.std.specs.Prelude.{◌≡◌, ◌==◌, ◌+◌, List, map, IfSome, OnOk};
 ghost use Rattle.std.specs.List.{list_any};
-ghost use Rattle.pm_line.specs.Views.{row_seen, item_seen, target_seen, items_seen, statement_seen};
+ghost use Rattle.pm_line.specs.Views.{row_seen, item_seen, target_seen, statement_seen, flaw_seen, line_seen};
 ghost use Rattle.pm_disasm.specs.Program.{entries_for, entries_needed};
 ghost use Rattle.pm_disasm.specs.Program as program;
 ghost use Rattle.pm_source.specs.Source.{row_items, entries_used, is_exit, has_label, has_exit, has_label_in};
-ghost use Rattle.pm_source.specs.Faults.{is_in_place, is_again, is_uneven, is_miscounted, procedure_count};
+ghost use Rattle.pm_source.specs.Faults.{is_in_place, is_again, is_uneven, is_miscounted, procedure_count, ends, line_faults, closed, after, after_line};
+ghost use Rattle.pm_source.specs.Faults as faults;
+ghost use Rattle.pm_source.specs.Line as text;
+ghost use Rattle.pm_source.specs.Line.Line.{Says};
 ghost use Rattle.pm_asm.specs.Views.{procedure_seen, segments_seen};
-ghost use Rattle.pm_asm.specs.Reader.{reader_seen};
+ghost use Rattle.pm_asm.specs.Reader.{reader_seen, Answers};
 
 use crate::sizes::code_end;
-use crate::source::{Procedure, Segment};
-use pm_line::{Item, Row, Statement, Target};
+use crate::source::{Entry, Procedure, Segment};
+use pm_line::{Flaw, Item, Line, Row, Statement, Target};
+use pm_source::AsmFault;
+use std::alloc::{AllocError, Global};
 
 /// What the lines so far have said: the segments with their ended procedures, and the procedure that has not ended.
 #[derive(Debug, Drop)]
@@ -155,6 +160,31 @@ fn is_next(number: u8, count: usize) -> bool
     number > 0 && usize::from(number) - 1 == count
 }
 
+/// Whether a statement is the head of a procedure.
+fn is_begin(statement: &Statement<'_>) -> bool
+    ensures { result ≡ faults.is_begin (statement_seen statement.now) }
+{
+    matches!(statement, Statement::Begin { .. })
+}
+
+/// Whether a statement is the end of a procedure.
+fn is_end(statement: &Statement<'_>) -> bool
+    ensures { result ≡ faults.is_end (statement_seen statement.now) }
+{
+    matches!(statement, Statement::End)
+}
+
+/// Whether a line ends a procedure, whatever else is wrong in it.
+fn line_ends(line: &Line<'_>) -> bool
+    ensures { result ≡ ends (line_seen line.now) }
+{
+    match line {
+        Line::Wrong { ends } => *ends,
+        Line::Says(said, _) => is_end(said),
+        Line::Blank | Line::Strange => false,
+    }
+}
+
 impl Reader<'_> {
     /// Whether a statement may stand here.
     fn is_in_place(&self, statement: &Statement<'_>) -> bool
@@ -201,6 +231,127 @@ impl Reader<'_> {
             }
             (Statement::End, Some(procedure)) => procedure.is_uneven(),
             _ => Some(false),
+        }
+    }
+
+    /// What is wrong in a statement, with its flaw, if a later line ends a procedure or none does; or memory cannot hold the code.
+    fn said_fault(
+        &self,
+        number: usize,
+        said: &Statement<'_>,
+        flaw: Flaw,
+        ends_later: bool,
+    ) -> Option<AsmFault>
+        ensures { (rest : List text.Line) → ends_later ≡ list_any ends rest
+            → Answers result (line_faults number (reader_seen self.now) (Says (statement_seen said.now) (flaw_seen flaw)) rest) }
+    {
+        if !self.is_in_place(said) || is_begin(said) && !ends_later {
+            return Some(AsmFault::Syntax(number));
+        }
+        if flaw == Flaw::UnknownType {
+            return Some(AsmFault::Unknown(number));
+        }
+        if self.is_again(said) {
+            return Some(AsmFault::Twice(number));
+        }
+        if flaw == Flaw::OutOfRange {
+            return Some(AsmFault::Range(number));
+        }
+        match self.is_miscounted(said) {
+            None => Some(AsmFault::NoMemory),
+            Some(true) => Some(AsmFault::Range(number)),
+            Some(false) => None,
+        }
+    }
+
+    /// What is wrong in a line, if a later line ends a procedure or none does; or memory cannot hold the code.
+    fn line_fault(&self, number: usize, line: &Line<'_>, ends_later: bool) -> Option<AsmFault>
+        ensures { (rest : List text.Line) → ends_later ≡ list_any ends rest
+            → Answers result (line_faults number (reader_seen self.now) (line_seen line.now) rest) }
+    {
+        match line {
+            Line::Blank => None,
+            Line::Wrong { .. } => Some(AsmFault::Syntax(number)),
+            Line::Strange => Some(AsmFault::Unknown(number)),
+            Line::Says(said, flaw) => self.said_fault(number, said, *flaw, ends_later),
+        }
+    }
+}
+
+impl<'a> Reader<'a> {
+    /// Ends the procedure that goes on, if one does.
+    fn close(&mut self) -> Result<(), AllocError>
+        ensures ok { OnOk result (reader_seen self.new
+            ≡ closed (reader_seen self.old).segments (reader_seen self.old).current) }
+    {
+        if let Some(procedure) = self.procedure.take() {
+            if let Some(mut segment) = self.segments.pop() {
+                segment.procedures.push(procedure)?;
+                self.segments.push(segment)?;
+            }
+        }
+        Ok(())
+    }
+
+    /// Takes in a statement.
+    fn say(&mut self, alloc: Global, statement: Statement<'a>) -> Result<(), AllocError>
+        ensures ok { OnOk result (reader_seen self.new
+            ≡ after (reader_seen self.old) (statement_seen statement.entry)) }
+    {
+        match statement {
+            Statement::Segment { number, name } => {
+                self.segments.push(Segment {
+                    number,
+                    name,
+                    procedures: Vec::new(alloc),
+                })?;
+            }
+            Statement::Begin {
+                level,
+                parameters,
+                locals,
+                ..
+            } => {
+                self.procedure = Some(Procedure {
+                    level,
+                    parameters,
+                    locals,
+                    code: Vec::new(alloc),
+                    entries: Vec::new(alloc),
+                });
+            }
+            Statement::Code(row) => {
+                if let Some(procedure) = &mut self.procedure {
+                    procedure.code.push(row)?;
+                }
+            }
+            Statement::Entry { line, label } => {
+                if let Some(procedure) = &mut self.procedure {
+                    procedure.entries.push(Entry { line, label })?;
+                }
+            }
+            Statement::End => self.close()?,
+        }
+        Ok(())
+    }
+
+    /// Takes in a line: a statement in its place; one that ends a procedure ends it wherever it stands.
+    fn take(&mut self, alloc: Global, line: Line<'a>) -> Result<(), AllocError>
+        ensures ok { OnOk result (reader_seen self.new
+            ≡ after_line (reader_seen self.old) (line_seen line.entry)) }
+    {
+        match line {
+            Line::Says(said, _) => {
+                if self.is_in_place(&said) {
+                    self.say(alloc, said)
+                } else if is_end(&said) {
+                    self.close()
+                } else {
+                    Ok(())
+                }
+            }
+            Line::Wrong { ends: true } => self.close(),
+            Line::Blank | Line::Wrong { ends: false } | Line::Strange => Ok(()),
         }
     }
 }

@@ -1,3 +1,4 @@
 pub mod Closing
+pub mod Ends
 pub mod Entries
 pub mod Seen

@@ -1,17 +1,17 @@
 //! The reader: what the lines so far have said, and what is wrong in the next.
 
-ghost use Rattle.std.specs.Prelude.{◌≡◌, ◌==◌, ◌+◌, List, map, IfSome, OnOk};
+ghost use Rattle.std.specs.Prelude.{◌≡◌, ◌==◌, ◌+◌, List, [], ℕ, nat_lt, drop, map, IfSome, IfOk, IfErr, OnOk};
 ghost use Rattle.std.specs.List.{list_any};
 ghost use Rattle.pm_line.specs.Views.{row_seen, item_seen, target_seen, statement_seen, flaw_seen, line_seen};
 ghost use Rattle.pm_disasm.specs.Program.{entries_for, entries_needed};
 ghost use Rattle.pm_disasm.specs.Program as program;
 ghost use Rattle.pm_source.specs.Source.{row_items, entries_used, is_exit, has_label, has_exit, has_label_in};
-ghost use Rattle.pm_source.specs.Faults.{is_in_place, is_again, is_uneven, is_miscounted, procedure_count, ends, line_faults, closed, after, after_line};
+ghost use Rattle.pm_source.specs.Faults.{is_in_place, is_again, is_uneven, is_miscounted, procedure_count, ends, line_faults, closed, after, after_line, faults_from, after_lines, start};
 ghost use Rattle.pm_source.specs.Faults as faults;
 ghost use Rattle.pm_source.specs.Line as text;
 ghost use Rattle.pm_source.specs.Line.Line.{Says};
 ghost use Rattle.pm_asm.specs.Views.{procedure_seen, segments_seen};
-ghost use Rattle.pm_asm.specs.Reader.{reader_seen, Answers};
+ghost use Rattle.pm_asm.specs.Reader.{reader_seen, Answers, IsFault};
 
 use crate::sizes::code_end;
 use crate::source::{Entry, Procedure, Segment};
@@ -354,4 +354,58 @@ impl<'a> Reader<'a> {
             Line::Blank | Line::Wrong { ends: false } | Line::Strange => Ok(()),
         }
     }
+
+    /// Takes in a line without fault.
+    fn step(
+        &mut self,
+        alloc: Global,
+        number: usize,
+        line: Line<'a>,
+        ends_later: bool,
+    ) -> Result<(), AsmFault>
+        ensures faultless { (rest : List text.Line) → ends_later ≡ list_any ends rest
+            → OnOk result (line_faults number (reader_seen self.old) (line_seen line.entry) rest ≡ []) }
+        ensures taken { OnOk result (reader_seen self.new
+            ≡ after_line (reader_seen self.old) (line_seen line.entry)) }
+        ensures fault { (rest : List text.Line) → ends_later ≡ list_any ends rest
+            → IfErr result (λ fault. IsFault fault (line_faults number (reader_seen self.old) (line_seen line.entry) rest)) }
+    {
+        if let Some(fault) = self.line_fault(number, &line, ends_later) {
+            return Err(fault);
+        }
+        self.take(alloc, line).map_err(|_| AsmFault::NoMemory)
+    }
+}
+
+/// How many lines there are up to the last one that ends a procedure.
+fn until_last_end(lines: &[Line<'_>]) -> usize
+    ensures { (at : ℕ) → list_any ends (drop at (map line_seen lines.now)) ≡ nat_lt at result }
+{
+    let mut until = 0;
+    for (i, line) in lines.iter().enumerate() {
+        if line_ends(line) {
+            until = i + 1;
+        }
+    }
+    until
+}
+
+/// Reads lines, numbered from 1, in order; the first fault ends it.
+pub(crate) fn read<'a>(alloc: Global, lines: Vec<Line<'a>>) -> Result<Vec<Segment<'a>>, AsmFault>
+    ensures faultless { OnOk result (faults_from 1 start (map line_seen lines.entry.items) ≡ []) }
+    ensures read { IfOk result (λ ss. segments_seen ss.items
+        ≡ (after_lines start (map line_seen lines.entry.items)).segments) }
+    ensures fault { IfErr result (λ fault. IsFault fault (faults_from 1 start (map line_seen lines.entry.items))) }
+{
+    let until = until_last_end(&lines);
+    let mut reader = Reader {
+        segments: Vec::new(alloc),
+        procedure: None,
+    };
+    let mut number = 0;
+    for line in lines {
+        number += 1;
+        reader.step(alloc, number, line, number < until)?;
+    }
+    Ok(reader.segments)
 }

@@ -2,3 +2,4 @@ pub mod Closing
 pub mod Ends
 pub mod Entries
 pub mod Seen
+pub mod Stepping

@@ -35,6 +35,6 @@ ended_last olds news kept last changed opened now p was none before behind more 
     let old : segments_seen olds ≡ segments_seen kept ++ segment_seen last ∷ [] = ap segments_seen before ∙ map-append segment_seen kept (last ∷ []) in
     let new : segments_seen news ≡ segments_seen kept ++ segment_seen changed ∷ [] = ap segments_seen behind ∙ map-append segment_seen kept (changed ∷ []) in
     let ended : segments_seen news ≡ with_procedure q (segments_seen olds) =
-        new ∙ (ap (λ s. segments_seen kept ++ s ∷ []) more ∙ sym (ap (with_procedure q) old ∙ with_last q (segments_seen kept) (segment_seen last))) in
+    new ∙ (ap (λ s. segments_seen kept ++ s ∷ []) more ∙ sym (ap (with_procedure q) old ∙ with_last q (segments_seen kept) (segment_seen last))) in
     ap (λ o. reading (segments_seen news) (option_map procedure_seen o)) none
     ∙ (ap (λ ss. reading ss None) ended ∙ sym (ap (λ o. closed (segments_seen olds) (option_map procedure_seen o)) was))

@@ -24,12 +24,12 @@ none_past lines line at h =
 
 pub until_here : (lines : List Line) (line : Line) → ends line ≡ true → IsUntil (lines ++ line ∷ []) (length lines + 1)
 until_here lines line e at = elim (cases_lt at (length lines + 1)) [
-    | inl h ↦ any_more lines line at (omega (arith, h)) ∙ (ap (λ b. list_any ends (drop at lines) || b) e ∙ (or-true (list_any ends (drop at lines)) ∙ sym (lt-ltb at (length lines + 1) h)))
-    | inr h ↦ none_past lines line at h ∙ sym (le-ltb at (length lines + 1) h)
-  ]
+  | inl h ↦ any_more lines line at (omega (arith, h)) ∙ (ap (λ b. list_any ends (drop at lines) || b) e ∙ (or-true (list_any ends (drop at lines)) ∙ sym (lt-ltb at (length lines + 1) h)))
+  | inr h ↦ none_past lines line at h ∙ sym (le-ltb at (length lines + 1) h)
+]
 
 pub until_before : (lines : List Line) (line : Line) (until : ℕ) → ends line ≡ false → until ≤ length lines → IsUntil lines until → IsUntil (lines ++ line ∷ []) until
 until_before lines line until e few before at = elim (cases_lt at (length lines + 1)) [
-    | inl h ↦ any_more lines line at (omega (arith, h)) ∙ (ap (λ b. list_any ends (drop at lines) || b) e ∙ (or-false (list_any ends (drop at lines)) ∙ before at))
-    | inr h ↦ none_past lines line at h ∙ sym (le-ltb at until (omega (arith, h, few)))
-  ]
+  | inl h ↦ any_more lines line at (omega (arith, h)) ∙ (ap (λ b. list_any ends (drop at lines) || b) e ∙ (or-false (list_any ends (drop at lines)) ∙ before at))
+  | inr h ↦ none_past lines line at h ∙ sym (le-ltb at until (omega (arith, h, few)))
+]

@@ -1,5 +1,5 @@
 pub mod Closing
 pub mod Ends
-pub mod Entries
+pub mod EntryCounts
 pub mod Seen
 pub mod Stepping

@@ -1,6 +1,8 @@
 //! The assembler: a text becomes a code file and its listing.
 #![tactic(auto)]
 
+mod entries;
 mod reader;
+mod reading;
 mod sizes;
 mod source;

@@ -1,21 +1,20 @@
 //! The reader: what the lines so far have said, and what is wrong in the next.
 
-ghost use Rattle.std.specs.Prelude.{◌≡◌, ◌==◌, ◌+◌, List, [], ℕ, nat_lt, drop, map, IfSome, IfOk, IfErr, OnOk};
+ghost use Rattle.std.specs.Prelude.{◌≡◌, ◌==◌, ◌+◌, List, [], IfSome, IfErr, OnOk};
 ghost use Rattle.std.specs.List.{list_any};
-ghost use Rattle.pm_line.specs.Views.{row_seen, item_seen, target_seen, statement_seen, flaw_seen, line_seen};
-ghost use Rattle.pm_disasm.specs.Program.{entries_for, entries_needed};
-ghost use Rattle.pm_disasm.specs.Program as program;
-ghost use Rattle.pm_source.specs.Source.{row_items, entries_used, is_exit, has_label, has_exit, has_label_in};
-ghost use Rattle.pm_source.specs.Faults.{is_in_place, is_again, is_uneven, is_miscounted, procedure_count, ends, line_faults, closed, after, after_line, faults_from, after_lines, start};
-ghost use Rattle.pm_source.specs.Faults as faults;
+ghost use Rattle.pm_line.specs.Views.{row_seen, statement_seen, flaw_seen, line_seen};
+ghost use Rattle.pm_source.specs.Source.{is_exit, has_label, has_exit, has_label_in};
 ghost use Rattle.pm_source.specs.Line as text;
 ghost use Rattle.pm_source.specs.Line.Line.{Says};
+ghost use Rattle.pm_source.specs.Faults as faults;
+ghost use Rattle.pm_source.specs.Faults.{after, after_line, closed, ends, is_again, is_in_place, is_miscounted, is_uneven, line_faults, procedure_count, start};
 ghost use Rattle.pm_asm.specs.Views.{procedure_seen, segments_seen};
 ghost use Rattle.pm_asm.specs.Reader.{reader_seen, Answers, IsFault};
 
+use crate::entries::rows_entries;
 use crate::sizes::code_end;
 use crate::source::{Entry, Procedure, Segment};
-use pm_line::{Flaw, Item, Line, Row, Statement, Target};
+use pm_line::{Flaw, Line, Row, Statement};
 use pm_source::AsmFault;
 use std::alloc::{AllocError, Global};
 
@@ -39,7 +38,8 @@ fn row_has_label(row: &Row<'_>, name: &[u8]) -> bool
 {
     match row {
         Row::Items {
-            label: Some(label), ..
+            label: Some(label),
+            ..
         } => *label == name,
         _ => false,
     }
@@ -64,59 +64,6 @@ fn any_number(segments: &[Segment<'_>], number: u8) -> bool
     ensures { result ≡ list_any (λ s. s.number == number) segments.now }
 {
     segments.iter().any(|segment| segment.number == number)
-}
-
-/// How many entries a jump takes.
-fn target_entries(target: Target<'_>) -> usize
-    ensures { result ≡ entries_for (target_seen target.entry) }
-{
-    match target {
-        Target::To(_) => 0,
-        Target::Through(entry) => usize::from(entry) + 1,
-    }
-}
-
-/// How many entries an item takes.
-fn item_entries(item: &Item<'_>) -> usize
-    ensures { result ≡ program.entries_used (item_seen item.now) }
-{
-    match item {
-        Item::Jump(_, target) => target_entries(*target),
-        Item::Case { otherwise, .. } => target_entries(*otherwise),
-        Item::Plain(_, _) | Item::OneByte(_) => 0,
-    }
-}
-
-/// How many entries items take.
-fn items_entries(items: &[Item<'_>]) -> usize
-    ensures { result ≡ entries_needed (map item_seen items.now) }
-{
-    let mut most = 0;
-    for item in items {
-        most = most.max(item_entries(item));
-    }
-    most
-}
-
-/// How many entries a line takes.
-fn row_entries(row: &Row<'_>) -> usize
-    ensures { result ≡ entries_needed (row_items (row_seen row.now)) }
-{
-    match row {
-        Row::Items { items, .. } => items_entries(items),
-        Row::Exit => 0,
-    }
-}
-
-/// How many entries code takes.
-fn rows_entries(rows: &[Row<'_>]) -> usize
-    ensures { result ≡ entries_used (map row_seen rows.now) }
-{
-    let mut most = 0;
-    for row in rows {
-        most = most.max(row_entries(row));
-    }
-    most
 }
 
 impl Procedure<'_> {
@@ -168,21 +115,10 @@ fn is_begin(statement: &Statement<'_>) -> bool
 }
 
 /// Whether a statement is the end of a procedure.
-fn is_end(statement: &Statement<'_>) -> bool
+pub(crate) fn is_end(statement: &Statement<'_>) -> bool
     ensures { result ≡ faults.is_end (statement_seen statement.now) }
 {
     matches!(statement, Statement::End)
-}
-
-/// Whether a line ends a procedure, whatever else is wrong in it.
-fn line_ends(line: &Line<'_>) -> bool
-    ensures { result ≡ ends (line_seen line.now) }
-{
-    match line {
-        Line::Wrong { ends } => *ends,
-        Line::Says(said, _) => is_end(said),
-        Line::Blank | Line::Strange => false,
-    }
 }
 
 impl Reader<'_> {
@@ -210,9 +146,12 @@ impl Reader<'_> {
         match (statement, &self.procedure) {
             (Statement::Segment { number, .. }, _) => any_number(&self.segments, *number),
             (
-                Statement::Code(Row::Items {
-                    label: Some(label), ..
-                }),
+                Statement::Code(
+                    Row::Items {
+                        label: Some(label),
+                        ..
+                    },
+                ),
                 Some(procedure),
             ) => procedure.has_label(label),
             (Statement::Code(Row::Exit), Some(procedure)) => procedure.has_exit(),
@@ -279,6 +218,23 @@ impl Reader<'_> {
 }
 
 impl<'a> Reader<'a> {
+    /// One that no line has told anything.
+    pub(crate) fn new(alloc: Global) -> Reader<'a>
+        ensures { reader_seen result ≡ start }
+    {
+        Reader {
+            segments: Vec::new(alloc),
+            procedure: None,
+        }
+    }
+
+    /// The segments.
+    pub(crate) fn into_segments(self) -> Vec<Segment<'a>>
+        ensures { segments_seen result.items ≡ (reader_seen self.entry).segments }
+    {
+        self.segments
+    }
+
     /// Ends the procedure that goes on, if one does.
     fn close(&mut self) -> Result<(), AllocError>
         ensures ok { OnOk result (reader_seen self.new
@@ -356,7 +312,7 @@ impl<'a> Reader<'a> {
     }
 
     /// Takes in a line without fault.
-    fn step(
+    pub(crate) fn step(
         &mut self,
         alloc: Global,
         number: usize,
@@ -375,37 +331,4 @@ impl<'a> Reader<'a> {
         }
         self.take(alloc, line).map_err(|_| AsmFault::NoMemory)
     }
-}
-
-/// How many lines there are up to the last one that ends a procedure.
-fn until_last_end(lines: &[Line<'_>]) -> usize
-    ensures { (at : ℕ) → list_any ends (drop at (map line_seen lines.now)) ≡ nat_lt at result }
-{
-    let mut until = 0;
-    for (i, line) in lines.iter().enumerate() {
-        if line_ends(line) {
-            until = i + 1;
-        }
-    }
-    until
-}
-
-/// Reads lines, numbered from 1, in order; the first fault ends it.
-pub(crate) fn read<'a>(alloc: Global, lines: Vec<Line<'a>>) -> Result<Vec<Segment<'a>>, AsmFault>
-    ensures faultless { OnOk result (faults_from 1 start (map line_seen lines.entry.items) ≡ []) }
-    ensures read { IfOk result (λ ss. segments_seen ss.items
-        ≡ (after_lines start (map line_seen lines.entry.items)).segments) }
-    ensures fault { IfErr result (λ fault. IsFault fault (faults_from 1 start (map line_seen lines.entry.items))) }
-{
-    let until = until_last_end(&lines);
-    let mut reader = Reader {
-        segments: Vec::new(alloc),
-        procedure: None,
-    };
-    let mut number = 0;
-    for line in lines {
-        number += 1;
-        reader.step(alloc, number, line, number < until)?;
-    }
-    Ok(reader.segments)
 }

@@ -3,8 +3,8 @@ use Rattle.std.proofs.lemmas.List.{at_drop_more}
 use Rattle.pm_line.specs.Views.{row_seen}
 use Rattle.pm_disasm.specs.Program.{entries_needed}
 use Rattle.pm_source.specs.Source.{entries_used, row_items}
-use Rattle.pm_asm.proofs.Entries.{used-more}
-use Rattle.pm_asm.proofs.reader.rows_entries.Goals as goal
+use Rattle.pm_asm.proofs.EntryCounts.{used-more}
+use Rattle.pm_asm.proofs.entries.rows_entries.Goals as goal
 
 pub loop-row-preserved : goal.loop-row-preserved
 loop-row-preserved c =

@@ -7,7 +7,7 @@ use Rattle.pm_line.specs.Views.{line_seen}
 use Rattle.pm_asm.specs.Reader.{reader_seen}
 use Rattle.pm_asm.proofs.Ends.{IsUntil}
 use Rattle.pm_asm.proofs.Stepping.{later, faults_behind, said_behind, first_fault}
-use Rattle.pm_asm.proofs.reader.read.Goals as goal
+use Rattle.pm_asm.proofs.reading.read.Goals as goal
 
 pub loop-line-preserved : goal.loop-line-preserved
 loop-line-preserved c =

@@ -2,7 +2,7 @@ use Rattle.std.proofs.Common.{◌≡◌, ◌+◌, length, map, drop}
 use Rattle.pm_line.specs.Views.{line_seen}
 use Rattle.pm_source.specs.Faults.{faults_from, after_lines, start}
 use Rattle.pm_asm.specs.Reader.{reader_seen}
-use Rattle.pm_asm.proofs.reader.read.Given as goal
+use Rattle.pm_asm.proofs.reading.read.Given as goal
 
 -- what is left says the rest, and has the faults that there are
 abbrev pub invariant-loop-line : goal.invariant-loop-line

@@ -1,0 +1,55 @@
+//! A text's lines, read in order.
+
+ghost use Rattle.std.specs.Prelude.{◌≡◌, ℕ, List, [], nat_lt, drop, map, IfOk, IfErr, OnOk};
+ghost use Rattle.std.specs.List.{list_any};
+ghost use Rattle.pm_line.specs.Views.{line_seen};
+ghost use Rattle.pm_source.specs.Faults.{after_lines, ends, faults_from, start};
+ghost use Rattle.pm_asm.specs.Reader.{IsFault};
+ghost use Rattle.pm_asm.specs.Views.{segments_seen};
+
+use crate::reader::{Reader, is_end};
+use crate::source::Segment;
+use pm_line::Line;
+use pm_source::AsmFault;
+use std::alloc::Global;
+
+/// Whether a line ends a procedure, whatever else is wrong in it.
+fn line_ends(line: &Line<'_>) -> bool
+    ensures { result ≡ ends (line_seen line.now) }
+{
+    match line {
+        Line::Wrong { ends } => *ends,
+        Line::Says(said, _) => is_end(said),
+        Line::Blank | Line::Strange => false,
+    }
+}
+
+/// How many lines there are up to the last one that ends a procedure.
+fn until_last_end(lines: &[Line<'_>]) -> usize
+    ensures { (at : ℕ) → list_any ends (drop at (map line_seen lines.now)) ≡ nat_lt at result }
+{
+    let mut until = 0;
+    for (i, line) in lines.iter().enumerate() {
+        if line_ends(line) {
+            until = i + 1;
+        }
+    }
+    until
+}
+
+/// Reads lines, numbered from 1, in order; the first fault ends it.
+pub(crate) fn read<'a>(alloc: Global, lines: Vec<Line<'a>>) -> Result<Vec<Segment<'a>>, AsmFault>
+    ensures faultless { OnOk result (faults_from 1 start (map line_seen lines.entry.items) ≡ []) }
+    ensures read { IfOk result (λ ss. segments_seen ss.items
+        ≡ (after_lines start (map line_seen lines.entry.items)).segments) }
+    ensures fault { IfErr result (λ fault. IsFault fault (faults_from 1 start (map line_seen lines.entry.items))) }
+{
+    let until = until_last_end(&lines);
+    let mut reader = Reader::new(alloc);
+    let mut number = 0;
+    for line in lines {
+        number += 1;
+        reader.step(alloc, number, line, number < until)?;
+    }
+    Ok(reader.into_segments())
+}

@@ -1,2 +1,4 @@
+pub mod Firsts
+pub mod Lengths
 pub mod Reader
 pub mod Views

@@ -2,6 +2,8 @@
 #![tactic(auto)]
 
 mod entries;
+mod labels;
+mod lengths;
 mod reader;
 mod reading;
 mod sizes;

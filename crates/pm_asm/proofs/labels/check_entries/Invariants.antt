@@ -1,0 +1,9 @@
+use Rattle.std.proofs.Common.{◌≡◌, drop, map}
+use Rattle.pm_source.specs.Faults.{entries_faults}
+use Rattle.pm_asm.specs.Firsts.{places_in}
+use Rattle.pm_asm.specs.Views.{entry_seen}
+use Rattle.pm_asm.proofs.labels.check_entries.Given as goal
+
+-- only the entries that are left have faults
+abbrev pub invariant-loop-entry : goal.invariant-loop-entry
+invariant-loop-entry l = entries_faults (places_in l.code) (map entry_seen (drop l.entry-index l.entries)) ≡ entries_faults (places_in l.code) (map entry_seen l.entries)

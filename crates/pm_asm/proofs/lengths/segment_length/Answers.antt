@@ -1,0 +1,14 @@
+use Rattle.std.proofs.Common.{◌≡◌, ◌∙◌, sym, ap, arith}
+use Rattle.std.specs.Prelude.{length, map}
+use Rattle.pm_asm.specs.Lengths.{sources_end}
+use Rattle.pm_asm.specs.Views.{procedure_seen}
+use Rattle.pm_asm.proofs.FoundLengths.{found_length-seen}
+use Rattle.pm_asm.proofs.lengths.segment_length.Goals as goal
+
+pub returns : goal.returns
+returns c =
+    let whole = found_length-seen c.args.segment.now in
+    let end : c.in_ok-end.end ≡ sources_end 0 (map procedure_seen c.args.segment.now.procedures.items) =
+    c.in_ok-end.ensures ∙ ap (λ ps. sources_end 0 (map procedure_seen ps)) c.deref.ensures.value in
+    let count : c.len.result ≡ length c.args.segment.now.procedures.items = c.len.ensures ∙ sym c.deref.ensures.len ∙ ap length c.deref.ensures.value in
+    omega (arith, c.in_ok-length.ensures.1, c.in_ok-checked_add.ensures.1, c.in_ok-words.ensures.1)

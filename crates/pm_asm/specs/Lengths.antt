@@ -1,0 +1,32 @@
+-- How long segments are.
+use Rattle.std.specs.Prelude.{◌≡◌, ℕ, List, [], ◌∷◌, length, map, nat_lt, if◌then◌else◌, Option, Some, None}
+use Rattle.pm_disasm.specs.Program.{Segment, segment_bytes}
+use Rattle.pm_source.specs.declared.fault.AsmFault.{AsmFault}
+use Rattle.pm_source.specs.declared.fault.AsmFault.TheVariants.{TooLong, NoMemory}
+use Rattle.pm_source.specs.Faults.{source_end}
+use Rattle.pm_source.specs.Meaning.{ascending, found_segment}
+use Rattle.pm_source.specs.Source.{Source, SourceSegment}
+
+-- where procedures end, of which the first begins at an offset
+abbrev pub sources_end : ℕ → List Source → ℕ
+sources_end at [] = at
+sources_end at (p ∷ ps) = sources_end (source_end at p) ps
+
+-- the length of a segment in bytes, once its labels are found
+abbrev pub found_length : SourceSegment → ℕ
+found_length s = length (segment_bytes (found_segment s))
+
+-- the number of the first segment that has more than 60,000 bytes
+abbrev pub first_long : List Segment → Option ℕ
+first_long [] = None
+first_long (s ∷ ss) = if nat_lt 60000 (length (segment_bytes s)) then Some s.number else first_long ss
+
+-- A fault names the first segment that is too long, if it is not that memory could not grow.
+abbrev pub IsTooLong : List Segment → AsmFault → Type 0
+IsTooLong ss (TooLong n) = first_long ss ≡ Some n
+IsTooLong ss NoMemory = Unit {0}
+IsTooLong ss _ = ⊥
+
+-- the program of segments with labels, by ascending number
+abbrev pub found_program : List SourceSegment → List Segment
+found_program ss = map found_segment (ascending ss)

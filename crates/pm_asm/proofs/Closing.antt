@@ -1,6 +1,6 @@
 -- A procedure that ends, in the last segment.
 use Rattle.std.proofs.Common.{◌≡◌, List, [], ◌∷◌, ◌++◌, ◌∙◌, map, refl, ap, sym}
-use Rattle.std.specs.Prelude.{Option, Some, None, Vec}
+use Rattle.std.specs.Prelude.{Option, Some, None}
 use Rattle.std.specs.Option.{option_map}
 use Rattle.std.proofs.lemmas.List.{map-append}
 use Rattle.pm_source.specs.Source.{Source, SourceSegment}

@@ -1,7 +1,6 @@
 -- How many entries code takes, row by row.
 use Rattle.std.proofs.Common.{◌≡◌, ℕ, List, [], ◌∷◌, ◌++◌, ◌∙◌, max, ap, sym, arith}
 use Rattle.pm_disasm.specs.Item.{Item}
-use Rattle.pm_disasm.specs.Program as program
 use Rattle.pm_disasm.specs.Program.{entries_needed}
 use Rattle.pm_source.specs.Source.{Name, Row, row_items, items_of, entries_used}
 

@@ -1,6 +1,6 @@
 -- Tests of what is seen.
 use Rattle.std.proofs.Common.{◌≡◌, ℕ, zero, suc, ◌-◌, Bool, List, [], ◌∷◌, length, map, refl, ap, arith}
-use Rattle.std.specs.Prelude.{◌||◌, Option, Some, slice_get}
+use Rattle.std.specs.Prelude.{◌||◌, Some, slice_get}
 use Rattle.pm_asm.specs.declared.source.Segment.{Segment}
 use Rattle.pm_asm.specs.Views.{procedure_seen, segments_seen}
 use Rattle.pm_source.specs.Faults.{procedure_count}

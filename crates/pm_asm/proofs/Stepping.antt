@@ -1,5 +1,5 @@
 -- One line of those that are read.
-use Rattle.std.proofs.Common.{◌≡◌, ℕ, ◌+◌, ◌<◌, List, [], ◌∷◌, ◌++◌, ◌∙◌, ◌⊎◌, length, drop, map, get_or, ap, sym, subst, inl, inr}
+use Rattle.std.proofs.Common.{◌≡◌, ℕ, ◌+◌, ◌<◌, List, [], ◌∷◌, ◌++◌, ◌∙◌, length, drop, map, get_or, ap, sym, subst}
 use Rattle.std.specs.Prelude.{nat_lt}
 use Rattle.std.specs.List.{list_any, drop-map}
 use Rattle.std.proofs.lemmas.List.{at_drop_more}
@@ -8,8 +8,9 @@ use Rattle.pm_line.specs.Views.{line_seen}
 use Rattle.pm_source.specs.Line as text
 use Rattle.pm_source.specs.Faults.{Reading, ends, line_faults, after_line, faults_from, after_lines}
 use Rattle.pm_source.specs.declared.fault.AsmFault.{AsmFault}
-use Rattle.pm_asm.specs.Reader.{IsFault, IsFirstOf}
+use Rattle.pm_asm.specs.Firsts.{IsFirstOf}
 use Rattle.pm_asm.proofs.Ends.{IsUntil}
+use Rattle.pm_asm.proofs.Firsts.{first_front}
 
 -- the lines from one on
 abbrev pub seen_from : ℕ → List Line → List text.Line
@@ -39,16 +40,12 @@ pub said_behind : (lines : List Line) (n : ℕ) (line : Line) (before behind who
 said_behind lines n line before behind whole turn is all =
     ap (λ r. after_lines r (seen_from (n + 1) lines)) is ∙ (sym (ap (after_lines before) (front lines n line turn)) ∙ all)
 
-first_of_more : (fault : AsmFault) (faults more : List AsmFault) → IsFault fault faults → IsFault fault (faults ++ more)
-first_of_more fault faults more (inl memory) = inl memory
-first_of_more fault [] more (inr h) = absurd h
-first_of_more fault (first ∷ faults) more (inr h) = inr h
-
 -- a fault of the line is the first of all
 pub first_fault : (lines : List Line) (n : ℕ) (line : Line) (before : Reading) (faults : List AsmFault) (fault : AsmFault)
-    → (n < length lines) × (line ≡ get_or lines n line) → IsFault fault (line_faults (n + 1) before (line_seen line) (seen_from (n + 1) lines))
-    → faults_from (n + 1) before (seen_from n lines) ≡ faults → IsFault fault faults
+    → (n < length lines) × (line ≡ get_or lines n line) → IsFirstOf fault (line_faults (n + 1) before (line_seen line) (seen_from (n + 1) lines))
+    → faults_from (n + 1) before (seen_from n lines) ≡ faults → IsFirstOf fault faults
 first_fault lines n line before faults fault turn here whole =
     let rest = seen_from (n + 1) lines in
-    let first = first_of_more fault (line_faults (n + 1) before (line_seen line) rest) (faults_from (n + 1 + 1) (after_line before (line_seen line)) rest) here in
-    subst (IsFault fault) (sym (ap (faults_from (n + 1) before) (front lines n line turn)) ∙ whole) first
+    let more = faults_from (n + 1 + 1) (after_line before (line_seen line)) rest in
+    let first : IsFirstOf fault (line_faults (n + 1) before (line_seen line) rest ++ more) = λ memory. first_front fault (line_faults (n + 1) before (line_seen line) rest) more (here memory) in
+    subst (IsFirstOf fault) (sym (ap (faults_from (n + 1) before) (front lines n line turn)) ∙ whole) first

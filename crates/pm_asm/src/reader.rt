@@ -9,9 +9,11 @@ ghost use Rattle.pm_source.specs.Line.Line.{Says};
 ghost use Rattle.pm_source.specs.Faults as faults;
 ghost use Rattle.pm_source.specs.Faults.{after, after_line, closed, ends, is_again, is_in_place, is_miscounted, is_uneven, line_faults, procedure_count, start};
 ghost use Rattle.pm_asm.specs.Views.{procedure_seen, segments_seen};
-ghost use Rattle.pm_asm.specs.Reader.{reader_seen, Answers, IsFault};
+ghost use Rattle.pm_asm.specs.Firsts.{IsFirstOf};
+ghost use Rattle.pm_asm.specs.Reader.{reader_seen, Answers};
 
 use crate::entries::rows_entries;
+use crate::labels::has_label;
 use crate::sizes::code_end;
 use crate::source::{Entry, Procedure, Segment};
 use pm_line::{Flaw, Line, Row, Statement};
@@ -32,19 +34,6 @@ fn row_is_exit(row: &Row<'_>) -> bool
     matches!(row, Row::Exit)
 }
 
-/// Whether a label stands before a line's items.
-fn row_has_label(row: &Row<'_>, name: &[u8]) -> bool
-    ensures { result ≡ has_label name.now (row_seen row.now) }
-{
-    match row {
-        Row::Items {
-            label: Some(label),
-            ..
-        } => *label == name,
-        _ => false,
-    }
-}
-
 /// Whether the exit code stands in code.
 fn any_exit(rows: &[Row<'_>]) -> bool
     ensures { result ≡ list_any (λ row. is_exit (row_seen row)) rows.now }
@@ -56,7 +45,7 @@ fn any_exit(rows: &[Row<'_>]) -> bool
 fn any_label(rows: &[Row<'_>], name: &[u8]) -> bool
     ensures { result ≡ list_any (λ row. has_label name.now (row_seen row)) rows.now }
 {
-    rows.iter().any(|row| row_has_label(row, name))
+    rows.iter().any(|row| has_label(name, row))
 }
 
 /// Whether a segment has a number.
@@ -324,7 +313,7 @@ impl<'a> Reader<'a> {
         ensures taken { OnOk result (reader_seen self.new
             ≡ after_line (reader_seen self.old) (line_seen line.entry)) }
         ensures fault { (rest : List text.Line) → ends_later ≡ list_any ends rest
-            → IfErr result (λ fault. IsFault fault (line_faults number (reader_seen self.old) (line_seen line.entry) rest)) }
+            → IfErr result (λ fault. IsFirstOf fault (line_faults number (reader_seen self.old) (line_seen line.entry) rest)) }
     {
         if let Some(fault) = self.line_fault(number, &line, ends_later) {
             return Err(fault);

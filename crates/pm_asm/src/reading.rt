@@ -4,7 +4,7 @@ ghost use Rattle.std.specs.Prelude.{◌≡◌, ℕ, List, [], nat_lt, drop, map,
 ghost use Rattle.std.specs.List.{list_any};
 ghost use Rattle.pm_line.specs.Views.{line_seen};
 ghost use Rattle.pm_source.specs.Faults.{after_lines, ends, faults_from, start};
-ghost use Rattle.pm_asm.specs.Reader.{IsFault};
+ghost use Rattle.pm_asm.specs.Firsts.{IsFirstOf};
 ghost use Rattle.pm_asm.specs.Views.{segments_seen};
 
 use crate::reader::{Reader, is_end};
@@ -42,7 +42,7 @@ pub(crate) fn read<'a>(alloc: Global, lines: Vec<Line<'a>>) -> Result<Vec<Segmen
     ensures faultless { OnOk result (faults_from 1 start (map line_seen lines.entry.items) ≡ []) }
     ensures read { IfOk result (λ ss. segments_seen ss.items
         ≡ (after_lines start (map line_seen lines.entry.items)).segments) }
-    ensures fault { IfErr result (λ fault. IsFault fault (faults_from 1 start (map line_seen lines.entry.items))) }
+    ensures fault { IfErr result (λ fault. IsFirstOf fault (faults_from 1 start (map line_seen lines.entry.items))) }
 {
     let until = until_last_end(&lines);
     let mut reader = Reader::new(alloc);

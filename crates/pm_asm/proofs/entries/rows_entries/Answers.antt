@@ -1,4 +1,4 @@
-use Rattle.std.proofs.Common.{◌≡◌, ◌+◌, ◌∙◌, List, map, max, drop, get_or, ap, sym, rules}
+use Rattle.std.proofs.Common.{◌≡◌, ◌+◌, ◌∙◌, map, max, drop, get_or, ap, sym, rules}
 use Rattle.std.proofs.lemmas.List.{at_drop_more}
 use Rattle.pm_line.specs.Views.{row_seen}
 use Rattle.pm_disasm.specs.Program.{entries_needed}

@@ -1,4 +1,4 @@
-use Rattle.std.proofs.Common.{◌≡◌, ◌-◌, ◌∙◌, length, sym, rules}
+use Rattle.std.proofs.Common.{◌≡◌, ◌-◌, ◌∙◌, length, sym}
 use Rattle.std.specs.Prelude.{Some, slice_get}
 use Rattle.pm_asm.proofs.Seen.{count_of_last}
 use Rattle.pm_asm.proofs.reader.last_count.Goals as goal

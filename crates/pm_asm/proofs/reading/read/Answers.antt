@@ -1,10 +1,9 @@
-use Rattle.std.proofs.Common.{◌≡◌, ◌+◌, ◌<◌, ◌∙◌, ap, sym, subst, rules, length, get_or, map}
+use Rattle.std.proofs.Common.{◌≡◌, ◌+◌, ◌<◌, ◌∙◌, ap, sym, rules, length, get_or, map}
 use Rattle.std.proofs.lemmas.List.{length_push}
 use Rattle.std.proofs.lemmas.Result.{err_from_is_err_and}
 use Rattle.std.proofs.lemmas.Iterator.Adapters.{YieldsList-from_vec}
 use Rattle.std.proofs.lemmas.Iterator.Consumers.{YieldsList-turn}
 use Rattle.pm_line.specs.Views.{line_seen}
-use Rattle.pm_asm.specs.Reader.{reader_seen}
 use Rattle.pm_asm.proofs.Ends.{IsUntil}
 use Rattle.pm_asm.proofs.Stepping.{later, faults_behind, said_behind, first_fault}
 use Rattle.pm_asm.proofs.reading.read.Goals as goal

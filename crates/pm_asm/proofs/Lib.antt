@@ -3,5 +3,6 @@ pub mod Ends
 pub mod EntryCounts
 pub mod Firsts
 pub mod FoundLengths
+pub mod Numbering
 pub mod Seen
 pub mod Stepping

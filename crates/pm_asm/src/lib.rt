@@ -8,3 +8,4 @@ mod reader;
 mod reading;
 mod sizes;
 mod source;
+mod stand_in;

@@ -56,6 +56,7 @@ fn any_number(segments: &[Segment<'_>], number: u8) -> bool
 }
 
 impl Procedure<'_> {
+    /// Whether the exit code stands in it.
     #[tactic(auto, using(crate::proofs::Seen::any_of_views))]
     fn has_exit(&self) -> bool
         ensures { result ≡ has_exit (procedure_seen self.now) }
@@ -63,6 +64,7 @@ impl Procedure<'_> {
         any_exit(&self.code)
     }
 
+    /// Whether a label stands in it.
     #[tactic(auto, using(crate::proofs::Seen::any_of_views))]
     fn has_label(&self, name: &[u8]) -> bool
         ensures { result ≡ has_label_in name.now (procedure_seen self.now) }
@@ -162,7 +164,7 @@ impl Reader<'_> {
         }
     }
 
-    /// What is wrong in a statement, with its flaw, if a later line ends a procedure or none does; or memory cannot hold the code.
+    /// The first of what is wrong in a statement, by whether a later line ends a procedure; no memory where it cannot hold the code.
     fn said_fault(
         &self,
         number: usize,
@@ -192,7 +194,7 @@ impl Reader<'_> {
         }
     }
 
-    /// What is wrong in a line, if a later line ends a procedure or none does; or memory cannot hold the code.
+    /// The first of what is wrong in a line, by whether a later line ends a procedure; no memory where it cannot hold the code.
     fn line_fault(&self, number: usize, line: &Line<'_>, ends_later: bool) -> Option<AsmFault>
         ensures { (rest : List text.Line) → ends_later ≡ list_any ends rest
             → Answers result (line_faults number (reader_seen self.now) (line_seen line.now) rest) }
@@ -207,7 +209,7 @@ impl Reader<'_> {
 }
 
 impl<'a> Reader<'a> {
-    /// One that no line has told anything.
+    /// One that has taken in no line.
     pub(crate) fn new(alloc: Global) -> Reader<'a>
         ensures { reader_seen result ≡ start }
     {
@@ -217,7 +219,7 @@ impl<'a> Reader<'a> {
         }
     }
 
-    /// The segments.
+    /// The segments, without a procedure that has not ended.
     pub(crate) fn into_segments(self) -> Vec<Segment<'a>>
         ensures { segments_seen result.items ≡ (reader_seen self.entry).segments }
     {
@@ -300,7 +302,7 @@ impl<'a> Reader<'a> {
         }
     }
 
-    /// Takes in a line without fault.
+    /// Takes in a line without fault, by its number and whether a later line ends a procedure; its first fault is refused.
     pub(crate) fn step(
         &mut self,
         alloc: Global,

@@ -1,2 +1,8 @@
+pub mod Closing
+pub mod Ends
+pub mod EntryCounts
 pub mod Firsts
 pub mod FoundLengths
+pub mod Numbering
+pub mod Seen
+pub mod Stepping

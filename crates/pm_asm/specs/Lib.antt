@@ -1,4 +1,5 @@
 pub mod Firsts
 pub mod Lengths
+pub mod Reader
 pub mod Views
 pub mod Assembled

@@ -38,7 +38,7 @@ pub(crate) struct Code<'r, 'a> {
 }
 
 /// Whether a label stands in a row.
-fn has_label(name: &[u8], row: &Row<'_>) -> bool
+pub(crate) fn has_label(name: &[u8], row: &Row<'_>) -> bool
     ensures { result ≡ has_label name.now (row_seen row.now) }
 {
     match row {

@@ -2,8 +2,11 @@
 #![tactic(auto)]
 
 mod assembly;
+mod entries;
 mod labels;
 mod lengths;
+mod reader;
+mod reading;
 mod sizes;
 mod source;
 

@@ -29,3 +29,4 @@ pub mod ShownExits
 pub mod ShownLengths
 pub mod ShownProcedures
 pub mod ShownPrograms
+pub mod Held

@@ -1,9 +1,11 @@
 -- Texts and what they spell.
 use Rattle.std.specs.Prelude.{◌≡◌, ℕ, List, []}
 use Rattle.pm_disasm.specs.Program.{Procedure, Segment, IsProgram, AreShort}
+use Rattle.pm_disasm.specs.Laws.{Holds}
 use Rattle.pm_disasm.specs.Shown.{program_text}
 use Rattle.pm_source.specs.Source.{Source, SourceSegment, statements, AreSources}
 use Rattle.pm_source.specs.Faults.{faults, faults_of_lines, label_faults, lines_of, source_of}
+use Rattle.pm_source.specs.Image.{file_of}
 use Rattle.pm_source.specs.Meaning.{AreSaid, MeansProcedure, Spells, found_procedure, program_of}
 
 -- Where no line has a fault, the lines say segments with labels that are sound, and these are the text's.
@@ -37,3 +39,7 @@ SpelledIsFaultless = (text : List ℕ) (ss : List Segment) → Spells text ss �
 -- The text that is shown for a program spells that program.
 abbrev pub ShownIsSpelled : Type 0
 ShownIsSpelled = (ss : List Segment) → IsProgram ss → AreShort ss → Spells (program_text ss) ss
+
+-- The code file of a program holds it: the segment of each number in its slot, with its name.
+abbrev pub FileHoldsProgram : Type 0
+FileHoldsProgram = (ss : List Segment) → IsProgram ss → AreShort ss → Holds (file_of ss) ss

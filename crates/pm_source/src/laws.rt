@@ -1,6 +1,6 @@
 //! Laws of the assembler's text, of what it spells and of its listing. The functions do nothing.
 ghost use Rattle.pm_source.specs.Image.{ListingIsSegment};
-ghost use Rattle.pm_source.specs.Laws.{FaultlessIsSaid, FaultlessIsSpelled, FoundIsFaultless, LabelsFound, SaidIsFaultless, SpelledIsFaultless, SpelledIsProgram};
+ghost use Rattle.pm_source.specs.Laws.{FaultlessIsSaid, FaultlessIsSpelled, FileHoldsProgram, FoundIsFaultless, LabelsFound, SaidIsFaultless, SpelledIsFaultless, SpelledIsProgram};
 
 /// The bytes of a segment's lines in a listing, joined, are the segment.
 #[tactic(auto, using(crate::proofs::Listed::listing_is_segment))]
@@ -42,4 +42,10 @@ pub fn spelled_is_faultless()
 /// What a text spells is a program, where no segment has more than 60,000 bytes.
 pub fn spelled_is_program()
     ensures law { SpelledIsProgram }
+{}
+
+/// The code file of a program holds it, where no segment has more than 60,000 bytes: each slot has the bytes of the segment of its
+/// number, and its name with spaces at the end, or no segment.
+pub fn file_holds_program()
+    ensures law { FileHoldsProgram }
 {}

@@ -1,0 +1,5 @@
+use Rattle.pm_source.proofs.laws.file_holds_program.Goals as goal
+use Rattle.pm_source.proofs.Held.{file_holds_program}
+
+pub returns : goal.returns
+returns c = record { law = file_holds_program }

@@ -1,4 +1,7 @@
 //! The assembler: a text becomes a code file and its listing.
 #![tactic(auto)]
 
+mod bytes;
+mod found;
+mod sizes;
 mod source;

@@ -3,5 +3,6 @@
 
 mod bytes;
 mod found;
+mod image;
 mod sizes;
 mod source;

@@ -1,2 +1,3 @@
 pub mod Found
+pub mod Standing
 pub mod Views

@@ -156,7 +156,7 @@ fn push_distances(out: &mut Vec<u8>, places: &[usize]) -> Result<(), AllocError>
 }
 
 /// The places that entries name, from entry 0 on.
-fn entry_places(
+pub(crate) fn entry_places(
     alloc: Global,
     labels: Labels<'_, '_>,
     entries: &[Entry<'_>],

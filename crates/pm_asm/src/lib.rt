@@ -4,5 +4,6 @@
 mod bytes;
 mod found;
 mod image;
+mod listing;
 mod sizes;
 mod source;

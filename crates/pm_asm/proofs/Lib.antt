@@ -6,3 +6,8 @@ pub mod FoundLengths
 pub mod Numbering
 pub mod Seen
 pub mod Stepping
+pub mod Pushed
+pub mod Slotted
+pub mod Digits
+pub mod Standings
+pub mod Outlines

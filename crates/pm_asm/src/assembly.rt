@@ -4,6 +4,11 @@ ghost use Rattle.std.specs.Prelude.{◌≡◌, ◌≢◌, string_bytes, Ok, Err,
 ghost use Rattle.pm_source.specs.declared.fault.AsmFault.TheVariants.{NoMemory};
 ghost use Rattle.pm_asm.specs.Assembled.{Assembles, SpellsNothing, assembled};
 
+use crate::image::code_file;
+use crate::labels::check_labels;
+use crate::lengths::check_lengths;
+use crate::listing::listing_of;
+use crate::reading::source_of;
 use pm_source::AsmFault;
 use std::alloc::Global;
 
@@ -29,5 +34,10 @@ pub fn assemble(alloc: Global, text: &str) -> Result<Assembly, AsmFault>
     ensures spelled { IfOk result (λ a. Assembles text.now a.file.items (string_bytes a.listing)) }
     ensures unspelled { IfErr result (λ fault. fault ≢ NoMemory → SpellsNothing text.now) }
 {
-    Err(AsmFault::NoMemory)
+    let segments = source_of(alloc, text)?;
+    check_labels(&segments)?;
+    check_lengths(&segments)?;
+    let file = code_file(alloc, &segments).map_err(|_| AsmFault::NoMemory)?;
+    let listing = listing_of(alloc, &segments).map_err(|_| AsmFault::NoMemory)?;
+    Ok(Assembly { file, listing })
 }

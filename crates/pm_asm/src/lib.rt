@@ -2,9 +2,13 @@
 #![tactic(auto)]
 
 mod assembly;
+mod bytes;
 mod entries;
+mod found;
+mod image;
 mod labels;
 mod lengths;
+mod listing;
 mod reader;
 mod reading;
 mod sizes;

@@ -3,6 +3,7 @@
 
 mod assembly;
 mod labels;
+pub mod laws;
 mod lengths;
 mod sizes;
 mod source;

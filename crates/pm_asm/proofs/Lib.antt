@@ -11,3 +11,5 @@ pub mod Slotted
 pub mod Digits
 pub mod Standings
 pub mod Outlines
+pub mod Outcomes
+pub mod Stages

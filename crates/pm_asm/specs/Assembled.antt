@@ -1,5 +1,5 @@
 -- What assembling a text gives.
-use Rattle.std.specs.Prelude.{◌≡◌, ℕ, List, Option, Some, None, Result, Ok, Err}
+use Rattle.std.specs.Prelude.{◌≡◌, ◌↔◌, ℕ, List, Option, Some, None, Result, Ok, Err}
 use Rattle.pm_disasm.specs.Program.{Segment, AreShort}
 use Rattle.pm_source.specs.declared.fault.AsmFault.{AsmFault}
 use Rattle.pm_source.specs.declared.fault.AsmFault.TheVariants.{TooLong}
@@ -37,3 +37,11 @@ pub record Assembles (text file shown : List ℕ) : Type 0 where
 -- The text spells no program without a segment of more than 60,000 bytes.
 abbrev pub SpellsNothing : List ℕ → Type 0
 SpellsNothing text = (ss : List Segment) → Spells text ss → AreShort ss → ⊥
+
+-- A text gives a code file and a listing exactly where they are those of a program that it spells, of which no segment is too long.
+abbrev pub AssembledIsSpelled : Type 0
+AssembledIsSpelled = (text file shown : List ℕ) → (assembled text ≡ Ok (file, shown)) ↔ Assembles text file shown
+
+-- A text that is refused spells no program without a segment that is too long.
+abbrev pub RefusedSpellsNothing : Type 0
+RefusedSpellsNothing = (text : List ℕ) (fault : AsmFault) → assembled text ≡ Err fault → SpellsNothing text

@@ -7,6 +7,7 @@ mod entries;
 mod found;
 mod image;
 mod labels;
+pub mod laws;
 mod lengths;
 mod listing;
 mod reader;

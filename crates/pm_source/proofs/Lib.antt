@@ -30,3 +30,4 @@ pub mod ShownLengths
 pub mod ShownProcedures
 pub mod ShownPrograms
 pub mod Held
+pub mod Round

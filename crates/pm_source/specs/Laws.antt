@@ -1,8 +1,9 @@
 -- Texts and what they spell.
 use Rattle.std.specs.Prelude.{◌≡◌, ℕ, List, []}
-use Rattle.pm_disasm.specs.Program.{Procedure, Segment, IsProgram, AreShort}
-use Rattle.pm_disasm.specs.Laws.{Holds}
-use Rattle.pm_disasm.specs.Shown.{program_text}
+use Rattle.std.specs.List.{AllByRecursion, AllZip}
+use Rattle.pm_disasm.specs.Program.{Procedure, Segment, IsProgram, AreInstructions, AreShort}
+use Rattle.pm_disasm.specs.Laws.{Holds, IsSameSegment}
+use Rattle.pm_disasm.specs.Shown.{file_text, program_text}
 use Rattle.pm_source.specs.Source.{Source, SourceSegment, statements, AreSources}
 use Rattle.pm_source.specs.Faults.{faults, faults_of_lines, label_faults, lines_of, source_of}
 use Rattle.pm_source.specs.Image.{file_of}
@@ -43,3 +44,14 @@ ShownIsSpelled = (ss : List Segment) → IsProgram ss → AreShort ss → Spells
 -- The code file of a program holds it: the segment of each number in its slot, with its name.
 abbrev pub FileHoldsProgram : Type 0
 FileHoldsProgram = (ss : List Segment) → IsProgram ss → AreShort ss → Holds (file_of ss) ss
+
+-- The text of a program's code file spells a program of the same code file: of the same segments in their bytes, and the same program
+-- where no item is a byte that is no instruction.
+pub record IsShownAgain (ss ts : List Segment) : Type 0 where
+  pub spelled : Spells (file_text (file_of ss)) ts
+  pub segments : AllZip IsSameSegment ss ts
+  pub file : file_of ts ≡ file_of ss
+  pub same : AllByRecursion (λ s. AllByRecursion (λ (p : Procedure). AreInstructions p.items) s.procedures) ss → ts ≡ ss
+
+abbrev pub ShownFileIsSpelled : Type 0
+ShownFileIsSpelled = (ss : List Segment) → IsProgram ss → AreShort ss → (ts : List Segment) × IsShownAgain ss ts

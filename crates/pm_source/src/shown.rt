@@ -1,9 +1,15 @@
-//! The law of shown texts. The function does nothing.
+//! The laws of shown texts. The functions do nothing.
 
-ghost use Rattle.pm_source.specs.Laws.{ShownIsSpelled};
+ghost use Rattle.pm_source.specs.Laws.{ShownFileIsSpelled, ShownIsSpelled};
 
 /// The text that the disassembler shows for a program spells that program, by the assembler's definitions: each of its lines is
 /// well-formed and in range, its labels are known and stand once, and what it means is the program.
 pub fn shown_is_spelled()
     ensures law { ShownIsSpelled }
+{}
+
+/// The text that the disassembler shows for the code file of a program spells a program of the same code file, of the same segments in
+/// their bytes: the same program, where no item of it is a byte that is no instruction.
+pub fn shown_file_is_spelled()
+    ensures law { ShownFileIsSpelled }
 {}

@@ -1,0 +1,110 @@
+-- What assembling gives, and what the text spells.
+use Rattle.std.proofs.Common.{◌≡◌, ◌≢◌, ℕ, false, List, [], ◌∷◌, length, refl, sym, ap, ◌∙◌, subst, Option, Some, None}
+use Rattle.std.specs.Prelude.{nat_lt, if◌then◌else◌, Ok, Err}
+use Rattle.std.proofs.lemmas.Bool.{le-ltb}
+use Rattle.pm_disasm.specs.Program.{Segment, AreShort, IsProgram, segment_bytes}
+use Rattle.pm_source.specs.declared.fault.AsmFault.{AsmFault}
+use Rattle.pm_source.specs.declared.fault.AsmFault.TheVariants.{TooLong, NoMemory}
+use Rattle.pm_source.specs.Faults.{faults}
+use Rattle.pm_source.specs.Image.{file_of, listing}
+use Rattle.pm_source.specs.Meaning.{program_of}
+use Rattle.pm_source.proofs.Spelled.{faultless_is_spelled, spelled_is_faultless}
+use Rattle.pm_source.proofs.Programs.{spelled_is_program}
+use Rattle.pm_asm.specs.Assembled.{AssembledIsSpelled, Assembles, RefusedSpellsNothing, SpellsNothing, assembled, outcome_by, outcome_of}
+use Rattle.pm_asm.specs.Firsts.{IsFirstOf, first_of}
+use Rattle.pm_asm.specs.Lengths.{IsTooLong, first_long}
+use Rattle.pm_asm.proofs.FoundLengths.{all_short}
+
+-- where all are short, none is long
+pub none_too_long : (ss : List Segment) → AreShort ss → first_long ss ≡ None
+none_too_long [] h = refl
+none_too_long (s ∷ ss) h =
+    let short : nat_lt 60000 (length (segment_bytes s)) ≡ false = le-ltb 60000 (length (segment_bytes s)) h.0 in
+    ap (λ b. if b then Some s.number else first_long ss) short ∙ none_too_long ss h.1
+
+first_none : (fs : List AsmFault) → first_of fs ≡ None → fs ≡ []
+first_none [] h = refl
+first_none (f ∷ fs) h = absurd (cc)
+
+-- What is assembled from a text without faults whose segments are short.
+pub assembled_ok : (text : List ℕ) → faults text ≡ [] → AreShort (program_of text) → assembled text ≡ Ok (file_of (program_of text), listing (program_of text))
+unfolding assembled
+assembled_ok text none short =
+    ap (λ fs. outcome_by text (first_of fs)) none ∙ ap (outcome_of (program_of text)) (none_too_long (program_of text) short)
+
+pub is_assembled : (text file shown : List ℕ) → faults text ≡ [] → AreShort (program_of text) → file ≡ file_of (program_of text) → shown ≡ listing (program_of text)
+    → assembled text ≡ Ok (file, shown)
+is_assembled text file shown none short image lines = assembled_ok text none short ∙ sym (ap (λ f. Ok (f, shown)) image ∙ ap (λ l. Ok (file_of (program_of text), l)) lines)
+
+-- It is that of the program that the text spells.
+pub is_spelled : (text file shown : List ℕ) → faults text ≡ [] → AreShort (program_of text) → file ≡ file_of (program_of text) → shown ≡ listing (program_of text)
+    → Assembles text file shown
+is_spelled text file shown none short image lines = record { program = program_of text; spelled = faultless_is_spelled text none; short = short; image = image; lines = lines }
+
+-- A text is refused by its first fault.
+pub fault_refused : (text : List ℕ) (fault : AsmFault) → first_of (faults text) ≡ Some fault → assembled text ≡ Err fault
+unfolding assembled
+fault_refused text fault h = ap (outcome_by text) h
+
+-- A text without faults is refused by its first segment that is too long.
+pub length_refused : (text : List ℕ) (n : ℕ) → faults text ≡ [] → first_long (program_of text) ≡ Some n → assembled text ≡ Err (TooLong n)
+unfolding assembled
+length_refused text n none long = ap (λ fs. outcome_by text (first_of fs)) none ∙ ap (outcome_of (program_of text)) long
+
+-- A text that is refused spells no program whose segments are short.
+pub refused_spells_nothing : RefusedSpellsNothing
+refused_spells_nothing text fault h ss spells short =
+    let said = spelled_is_faultless text ss spells in
+    let ok = assembled_ok text said.0 (subst AreShort (sym said.1) short) in
+    absurd (cc (h, ok))
+
+-- The same, as the stages of assembling find it.
+pub fault_unspelled : (text : List ℕ) (fault : AsmFault) → first_of (faults text) ≡ Some fault → SpellsNothing text
+fault_unspelled text fault h = refused_spells_nothing text fault (fault_refused text fault h)
+
+pub length_unspelled : (text : List ℕ) (n : ℕ) → faults text ≡ [] → first_long (program_of text) ≡ Some n → SpellsNothing text
+length_unspelled text n none long = refused_spells_nothing text (TooLong n) (length_refused text n none long)
+
+pub first_refused : (text : List ℕ) (fault : AsmFault) → IsFirstOf fault (faults text) → fault ≢ NoMemory → assembled text ≡ Err fault
+first_refused text fault h other = fault_refused text fault (h other)
+
+pub first_unspelled : (text : List ℕ) (fault : AsmFault) → IsFirstOf fault (faults text) → fault ≢ NoMemory → SpellsNothing text
+first_unspelled text fault h other = fault_unspelled text fault (h other)
+
+pub long_refused : (text : List ℕ) (fault : AsmFault) → faults text ≡ [] → IsTooLong (program_of text) fault → fault ≢ NoMemory → assembled text ≡ Err fault
+long_refused text (TooLong n) none long other = length_refused text n none long
+long_refused text NoMemory none long other = absurd (other refl)
+long_refused text _ none long other = absurd long
+
+pub long_unspelled : (text : List ℕ) (fault : AsmFault) → faults text ≡ [] → IsTooLong (program_of text) fault → fault ≢ NoMemory → SpellsNothing text
+long_unspelled text fault none long other = refused_spells_nothing text fault (long_refused text fault none long other)
+
+-- What is assembled is of a program that the text spells.
+assembled_spelled : (text file shown : List ℕ) → assembled text ≡ Ok (file, shown) → Assembles text file shown
+unfolding assembled
+assembled_spelled text file shown h = by_fault (first_of (faults text)) refl h
+  where
+    by_length : (o : Option ℕ) → faults text ≡ [] → first_long (program_of text) ≡ o → outcome_of (program_of text) o ≡ Ok (file, shown) → Assembles text file shown
+    by_length (Some n) none e h = absurd (cc)
+    by_length None none e h =
+        let made : List ℕ × List ℕ = (file_of (program_of text), listing (program_of text)) in
+        let given : List ℕ × List ℕ = (file, shown) in
+        let both : made ≡ given = cc in
+        is_spelled text file shown none (all_short (program_of text) e) (sym (ap (λ b. b.0) both)) (sym (ap (λ b. b.1) both))
+
+    by_fault : (o : Option AsmFault) → first_of (faults text) ≡ o → outcome_by text o ≡ Ok (file, shown) → Assembles text file shown
+    by_fault (Some fault) e h = absurd (cc)
+    by_fault None e h = by_length (first_long (program_of text)) (first_none (faults text) e) refl h
+
+-- What a program that the text spells has, is assembled.
+spelled_assembled : (text file shown : List ℕ) → Assembles text file shown → assembled text ≡ Ok (file, shown)
+spelled_assembled text file shown a =
+    let said = spelled_is_faultless text a.program a.spelled in
+    is_assembled text file shown said.0 (subst AreShort (sym said.1) a.short) (a.image ∙ ap file_of (sym said.1)) (a.lines ∙ ap listing (sym said.1))
+
+pub assembled_is_spelled : AssembledIsSpelled
+assembled_is_spelled text file shown = (assembled_spelled text file shown, spelled_assembled text file shown)
+
+-- A text without faults whose segments are short is of a program.
+pub faultless_is_program : (text : List ℕ) → faults text ≡ [] → AreShort (program_of text) → IsProgram (program_of text)
+faultless_is_program text none short = spelled_is_program text (program_of text) (faultless_is_spelled text none) short

@@ -1,0 +1,13 @@
+//! Laws of what assembling gives. The functions do nothing.
+ghost use Rattle.pm_asm.specs.Assembled.{AssembledIsSpelled, RefusedSpellsNothing};
+
+/// A text is assembled exactly where it spells a program of which no segment has more than 60,000 bytes: what it gives is the code
+/// file and the listing of such a program, and where they are those of one, it gives them.
+pub fn assembled_is_spelled()
+    ensures law { AssembledIsSpelled }
+{}
+
+/// A text that is refused spells no program of which no segment has more than 60,000 bytes.
+pub fn refused_spells_nothing()
+    ensures law { RefusedSpellsNothing }
+{}

@@ -1,3 +1,4 @@
 pub mod Firsts
 pub mod FoundLengths
 pub mod Outcomes
+pub mod Stages

@@ -11,7 +11,7 @@ use Rattle.pm_source.specs.Meaning.{program_of}
 use Rattle.pm_source.proofs.Spelled.{faultless_is_spelled, spelled_is_faultless}
 use Rattle.pm_source.proofs.Programs.{spelled_is_program}
 use Rattle.pm_asm.specs.Assembled.{AssembledIsSpelled, Assembles, RefusedSpellsNothing, SpellsNothing, assembled, outcome_by, outcome_of}
-use Rattle.pm_asm.specs.Firsts.{IsFirstOf, first_of}
+use Rattle.pm_asm.specs.Firsts.{first_of}
 use Rattle.pm_asm.specs.Lengths.{IsTooLong, first_long}
 use Rattle.pm_asm.proofs.FoundLengths.{all_short}
 
@@ -65,19 +65,11 @@ fault_unspelled text fault h = refused_spells_nothing text fault (fault_refused 
 pub length_unspelled : (text : List ℕ) (n : ℕ) → faults text ≡ [] → first_long (program_of text) ≡ Some n → SpellsNothing text
 length_unspelled text n none long = refused_spells_nothing text (TooLong n) (length_refused text n none long)
 
-pub first_refused : (text : List ℕ) (fault : AsmFault) → IsFirstOf fault (faults text) → fault ≢ NoMemory → assembled text ≡ Err fault
-first_refused text fault h other = fault_refused text fault (h other)
-
-pub first_unspelled : (text : List ℕ) (fault : AsmFault) → IsFirstOf fault (faults text) → fault ≢ NoMemory → SpellsNothing text
-first_unspelled text fault h other = fault_unspelled text fault (h other)
-
+-- The same, by a fault that names the first segment that is too long.
 pub long_refused : (text : List ℕ) (fault : AsmFault) → faults text ≡ [] → IsTooLong (program_of text) fault → fault ≢ NoMemory → assembled text ≡ Err fault
 long_refused text (TooLong n) none long other = length_refused text n none long
 long_refused text NoMemory none long other = absurd (other refl)
 long_refused text _ none long other = absurd long
-
-pub long_unspelled : (text : List ℕ) (fault : AsmFault) → faults text ≡ [] → IsTooLong (program_of text) fault → fault ≢ NoMemory → SpellsNothing text
-long_unspelled text fault none long other = refused_spells_nothing text fault (long_refused text fault none long other)
 
 -- What is assembled is of a program that the text spells.
 assembled_spelled : (text file shown : List ℕ) → assembled text ≡ Ok (file, shown) → Assembles text file shown

@@ -1,17 +1,19 @@
 -- The stages of assembling: what is read, its labels, and its lengths.
-use Rattle.std.proofs.Common.{◌≡◌, ◌≢◌, ℕ, List, [], refl, sym, ap, subst, ◌∙◌, Some}
-use Rattle.std.specs.Prelude.{if◌then◌else◌, map, Ok, Err}
-use Rattle.pm_disasm.specs.Program.{Segment, AreShort, IsProgram}
+use Rattle.std.proofs.Common.{◌≡◌, ◌≢◌, ℕ, List, [], ◌∷◌, sym, ap, subst, ◌∙◌, Some}
+use Rattle.std.specs.Prelude.{if◌then◌else◌, Ok, Err}
+use Rattle.pm_disasm.specs.Program.{AreShort, IsProgram}
 use Rattle.pm_source.specs.declared.fault.AsmFault.{AsmFault}
 use Rattle.pm_source.specs.declared.fault.AsmFault.TheVariants.{NoMemory}
 use Rattle.pm_source.specs.Faults.{all_label_faults, faults, faults_of_lines, source_of}
 use Rattle.pm_source.specs.Image.{file_of, listing}
-use Rattle.pm_source.specs.Meaning.{ascending, found_segment, program_of}
+use Rattle.pm_source.specs.Meaning.{program_of}
 use Rattle.pm_source.specs.Source.{SourceSegment}
 use Rattle.pm_source.specs.Words.{is_empty}
+use Rattle.pm_asm.specs.declared.source.Segment as code
 use Rattle.pm_asm.specs.Assembled.{Assembles, assembled}
 use Rattle.pm_asm.specs.Firsts.{IsFirstOf, first_of}
 use Rattle.pm_asm.specs.Lengths.{IsTooLong, found_program}
+use Rattle.pm_asm.specs.Views.{segments_seen}
 use Rattle.pm_asm.proofs.Outcomes.{fault_refused, faultless_is_program, is_assembled, is_spelled, long_refused}
 
 -- the faults of a text, those of its lines and of its labels
@@ -44,6 +46,11 @@ pub record IsReady (text : List ℕ) (ss : List SourceSegment) : Type 0 where
   pub lines : faults_of_lines text ≡ []
   pub read : ss ≡ source_of text
   pub labels : all_label_faults ss ≡ []
+
+-- of segments of the code, whose labels are looked up by reference
+pub seen_ready : (text : List ℕ) (segments lent : List code.Segment) → faults_of_lines text ≡ [] → segments_seen segments ≡ source_of text
+    → lent ≡ segments → all_label_faults (segments_seen lent) ≡ [] → IsReady text (segments_seen segments)
+seen_ready text segments lent lines read same labels = record { lines = lines; read = read; labels = ap (λ s. all_label_faults (segments_seen s)) (sym same) ∙ labels }
 
 ready_faultless : (text : List ℕ) (ss : List SourceSegment) → IsReady text ss → faults text ≡ []
 ready_faultless text ss r = label_faults_alone text ss r.lines r.read ∙ r.labels

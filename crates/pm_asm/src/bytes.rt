@@ -9,10 +9,12 @@ ghost use Rattle.pm_disasm.specs.Program.{AreItems, IsProcedure, IsSegment, back
 ghost use Rattle.pm_line.specs.Views.{item_seen, row_seen, target_seen, texts_seen};
 ghost use Rattle.pm_source.specs.Meaning.{found_item, found_label, found_procedure, found_procedures, found_segment, found_target};
 ghost use Rattle.pm_source.specs.Source.{row_items};
-ghost use Rattle.pm_asm.specs.Found.{items_in, places_in};
+ghost use Rattle.pm_asm.specs.Found.{items_in};
+ghost use Rattle.pm_asm.specs.Firsts.{places_in};
 ghost use Rattle.pm_asm.specs.Views.{entry_seen, procedure_seen, segment_seen};
 
-use crate::found::{Labels, exit_place, found_label, jump_byte};
+use crate::found::{exit_place, found_label, jump_byte};
+use crate::labels::Code;
 use crate::source::{Entry, Procedure, Segment};
 use pm_line::{Item, Row, Target};
 use pm_opcode::encode;
@@ -38,7 +40,7 @@ fn push_padding(out: &mut Vec<u8>, at: usize) -> Result<(), AllocError>
 }
 
 /// Adds the table of a case jump: each word says how far its place lies below it, modulo 65,536.
-fn push_table(out: &mut Vec<u8>, labels: Labels<'_, '_>, names: &[&[u8]]) -> Result<(), AllocError>
+fn push_table(out: &mut Vec<u8>, labels: Code<'_, '_>, names: &[&[u8]]) -> Result<(), AllocError>
     requires within { AllByRecursion (λ place. place < 65536) (map (found_label (places_in labels)) (texts_seen names.now)) }
     ensures bytes { OnOk result (out.new.items ≡ out.old.items ++ table_words (length out.old.items) (map (found_label (places_in labels.entry)) (texts_seen names.now))) }
 {
@@ -53,7 +55,7 @@ fn push_table(out: &mut Vec<u8>, labels: Labels<'_, '_>, names: &[&[u8]]) -> Res
 /// Adds a case jump with its bounds, its jump out of them and its table.
 fn push_case(
     out: &mut Vec<u8>,
-    labels: Labels<'_, '_>,
+    labels: Code<'_, '_>,
     bounds: (u16, u16),
     otherwise: Target<'_>,
     names: &[&[u8]],
@@ -74,7 +76,7 @@ fn push_case(
 }
 
 /// Adds an item.
-fn push_item(out: &mut Vec<u8>, labels: Labels<'_, '_>, item: &Item<'_>) -> Result<(), AllocError>
+fn push_item(out: &mut Vec<u8>, labels: Code<'_, '_>, item: &Item<'_>) -> Result<(), AllocError>
     requires item { IsItem (length out.old.items) (found_item (places_in labels) (item_seen item.now)) }
     ensures bytes { OnOk result (out.new.items ≡ out.old.items ++ item_bytes (length out.old.items) (found_item (places_in labels.entry) (item_seen item.now))) }
 {
@@ -100,7 +102,7 @@ fn push_item(out: &mut Vec<u8>, labels: Labels<'_, '_>, item: &Item<'_>) -> Resu
 /// Adds items.
 fn push_items(
     out: &mut Vec<u8>,
-    labels: Labels<'_, '_>,
+    labels: Code<'_, '_>,
     items: &[Item<'_>],
 ) -> Result<(), AllocError>
     requires items { AreItems (length out.old.items) (map (found_item (places_in labels)) (map item_seen items.now)) }
@@ -113,7 +115,7 @@ fn push_items(
 }
 
 /// Adds the items of a line.
-fn push_row(out: &mut Vec<u8>, labels: Labels<'_, '_>, row: &Row<'_>) -> Result<(), AllocError>
+fn push_row(out: &mut Vec<u8>, labels: Code<'_, '_>, row: &Row<'_>) -> Result<(), AllocError>
     requires items { AreItems (length out.old.items) (map (found_item (places_in labels)) (row_items (row_seen row.now))) }
     ensures bytes { OnOk result (out.new.items ≡ out.old.items ++ code_bytes (length out.old.items) (map (found_item (places_in labels.entry)) (row_items (row_seen row.now)))) }
 {
@@ -124,7 +126,7 @@ fn push_row(out: &mut Vec<u8>, labels: Labels<'_, '_>, row: &Row<'_>) -> Result<
 }
 
 /// Adds code.
-fn push_code(out: &mut Vec<u8>, labels: Labels<'_, '_>) -> Result<(), AllocError>
+fn push_code(out: &mut Vec<u8>, labels: Code<'_, '_>) -> Result<(), AllocError>
     requires items { AreItems (length out.old.items) (items_in labels) }
     ensures bytes { OnOk result (out.new.items ≡ out.old.items ++ code_bytes (length out.old.items) (items_in labels.entry)) }
 {
@@ -158,7 +160,7 @@ fn push_distances(out: &mut Vec<u8>, places: &[usize]) -> Result<(), AllocError>
 /// The places that entries name, from entry 0 on.
 pub(crate) fn entry_places(
     alloc: Global,
-    labels: Labels<'_, '_>,
+    labels: Code<'_, '_>,
     entries: &[Entry<'_>],
 ) -> Result<Vec<usize>, AllocError>
     ensures { IfOk result (λ places. places.items ≡ map (λ e. found_label (places_in labels.entry) e.1) (map entry_seen entries.now)) }
@@ -204,7 +206,7 @@ fn push_procedure(
     ensures bytes { OnOk result (out.new.items ≡ out.old.items ++ procedure_bytes number (found_procedure (length out.old.items) (procedure_seen procedure.now))) }
 {
     let start = out.len();
-    let labels = Labels {
+    let labels = Code {
         start,
         rows: &procedure.code,
     };

@@ -4,37 +4,16 @@ ghost use Rattle.std.specs.Prelude.{◌≡◌, IfOk};
 ghost use Rattle.pm_disasm.specs.Item.{IsNear, jump_byte};
 ghost use Rattle.pm_line.specs.Views.{row_seen, target_seen};
 ghost use Rattle.pm_source.specs.Meaning.{found_label, found_target};
-ghost use Rattle.pm_source.specs.Source.{has_label};
-ghost use Rattle.pm_asm.specs.Found.{exit_in, places_in};
+ghost use Rattle.pm_asm.specs.Found.{exit_in};
+ghost use Rattle.pm_asm.specs.Firsts.{places_in};
 
+use crate::labels::{Code, has_label};
 use crate::sizes::row_end;
 use pm_line::{Row, Target};
 use std::alloc::AllocError;
 
-/// Code in which labels stand.
-#[derive(Clone, Copy)]
-pub(crate) struct Labels<'a, 'b> {
-    /// The offset in the segment where the code begins.
-    pub start: usize,
-    /// The code, line by line.
-    pub rows: &'b [Row<'a>],
-}
-
-/// Whether a label stands before a row.
-fn has_label(name: &[u8], row: &Row<'_>) -> bool
-    ensures { result ≡ has_label name.now (row_seen row.now) }
-{
-    match row {
-        Row::Items {
-            label: Some(label),
-            ..
-        } => *label == name,
-        _ => false,
-    }
-}
-
 /// The place of a label, 0 for one that does not stand there. It fails only where the code is longer than memory can be.
-pub(crate) fn found_label(labels: Labels<'_, '_>, name: &[u8]) -> Result<usize, AllocError>
+pub(crate) fn found_label(labels: Code<'_, '_>, name: &[u8]) -> Result<usize, AllocError>
     ensures { IfOk result (λ place. place ≡ found_label (places_in labels.entry) name.now) }
 {
     let mut at = labels.start;
@@ -48,7 +27,7 @@ pub(crate) fn found_label(labels: Labels<'_, '_>, name: &[u8]) -> Result<usize, 
 }
 
 /// The place of the exit code. It fails only where the code is longer than memory can be.
-pub(crate) fn exit_place(labels: Labels<'_, '_>) -> Result<usize, AllocError>
+pub(crate) fn exit_place(labels: Code<'_, '_>) -> Result<usize, AllocError>
     ensures { IfOk result (λ place. place ≡ exit_in labels.entry) }
 {
     let mut at = labels.start;
@@ -63,7 +42,7 @@ pub(crate) fn exit_place(labels: Labels<'_, '_>) -> Result<usize, AllocError>
 
 /// The byte of a short jump that counts from an offset.
 pub(crate) fn jump_byte(
-    labels: Labels<'_, '_>,
+    labels: Code<'_, '_>,
     next: usize,
     target: Target<'_>,
 ) -> Result<u8, AllocError>

@@ -10,23 +10,9 @@ ghost use Rattle.pm_asm.specs.Views.{segments_seen};
 
 use crate::bytes::segment_bytes;
 use crate::source::Segment;
+use crate::lengths::segment_with;
 use pm_codefile::write;
 use std::alloc::{AllocError, Global};
-
-/// The segment of a number, the first one if there are more.
-pub(crate) fn segment_with<'a, 'b>(
-    segments: &'b [Segment<'a>],
-    number: u8,
-) -> Option<&'b Segment<'a>>
-    ensures { option_map lent_seen result ≡ segment_with number (segments_seen segments.now) }
-{
-    for segment in segments {
-        if segment.number == number {
-            return Some(segment);
-        }
-    }
-    None
-}
 
 /// A name with spaces at its end.
 fn padded_name(name: &[u8]) -> [u8; 8]

@@ -11,13 +11,14 @@ ghost use Rattle.pm_source.specs.Faults.{source_end};
 ghost use Rattle.pm_source.specs.Image.{Listed, listed_entries, listed_items, listed_line, listed_lines, listed_procedure, listed_procedures, listed_segment, listing, pairs_text, upper_digit};
 ghost use Rattle.pm_source.specs.Meaning.{found_item, found_procedure, found_procedures, found_segment, segment_with};
 ghost use Rattle.pm_source.specs.Source.{code_end, row_items};
-ghost use Rattle.pm_asm.specs.Found.{items_in, places_in, program_seen};
+ghost use Rattle.pm_asm.specs.Found.{items_in, program_seen};
+ghost use Rattle.pm_asm.specs.Firsts.{places_in};
 ghost use Rattle.pm_asm.specs.Standing.{Stands};
 ghost use Rattle.pm_asm.specs.Views.{procedure_seen, segment_seen, segments_seen};
 
 use crate::bytes::{entry_places, segment_bytes};
-use crate::found::Labels;
-use crate::image::segment_with;
+use crate::labels::Code;
+use crate::lengths::segment_with;
 use crate::sizes::item_size;
 use crate::source::{Procedure, Segment};
 use pm_line::{Item, Row};
@@ -122,7 +123,7 @@ fn push_line(text: &mut String, place: Place, bytes: &[u8], what: &str) -> Resul
 
 /// A procedure that is listed.
 #[derive(Clone, Copy)]
-struct Code<'a, 'b> {
+struct CodeLines<'a, 'b> {
     /// The number of its segment.
     segment: u8,
     /// Its number.
@@ -130,14 +131,14 @@ struct Code<'a, 'b> {
     /// The bytes of its segment.
     bytes: &'b [u8],
     /// Its code.
-    labels: Labels<'a, 'b>,
+    labels: Code<'b, 'a>,
 }
 
 /// What an item is that stands at an offset.
 #[tactic(auto, using(crate::proofs::Digits::one_byte))]
 fn item_text(
     alloc: Global,
-    code: Code<'_, '_>,
+    code: CodeLines<'_, '_>,
     at: usize,
     item: &Item<'_>,
 ) -> Result<String, AllocError>
@@ -156,7 +157,7 @@ fn item_text(
 fn push_item(
     alloc: Global,
     text: &mut String,
-    code: Code<'_, '_>,
+    code: CodeLines<'_, '_>,
     at: usize,
     item: &Item<'_>,
 ) -> Result<usize, AllocError>
@@ -186,7 +187,7 @@ fn push_item(
 fn push_items(
     alloc: Global,
     text: &mut String,
-    code: Code<'_, '_>,
+    code: CodeLines<'_, '_>,
     at: usize,
     items: &[Item<'_>],
 ) -> Result<usize, AllocError>
@@ -208,7 +209,7 @@ fn push_items(
 fn push_row(
     alloc: Global,
     text: &mut String,
-    code: Code<'_, '_>,
+    code: CodeLines<'_, '_>,
     at: usize,
     row: &Row<'_>,
 ) -> Result<usize, AllocError>
@@ -226,7 +227,7 @@ fn push_row(
 }
 
 /// Adds the lines of code, and answers where it ends.
-fn push_code(alloc: Global, text: &mut String, code: Code<'_, '_>) -> Result<usize, AllocError>
+fn push_code(alloc: Global, text: &mut String, code: CodeLines<'_, '_>) -> Result<usize, AllocError>
     requires items { AreItems code.labels.start (items_in code.labels) }
     requires stand { Stands code.bytes.now code.labels.start (code_bytes code.labels.start (items_in code.labels)) }
     requires short { length code.bytes.now ≤ 60000 }
@@ -298,11 +299,11 @@ fn push_procedure(
     ensures text { OnOk result ((rest : List Listed) → string_bytes text.new ++ listed_lines place.segment rest
         ≡ string_bytes text.old ++ listed_lines place.segment (listed_procedure place.procedure (found_procedure place.at (procedure_seen procedure.now)) rest)) }
 {
-    let labels = Labels {
+    let labels = Code {
         start: place.at,
         rows: &procedure.code,
     };
-    let code = Code {
+    let code = CodeLines {
         segment: place.segment,
         procedure: place.procedure,
         bytes,

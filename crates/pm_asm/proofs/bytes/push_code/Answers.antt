@@ -3,7 +3,7 @@ use Rattle.pm_disasm.specs.Program.{AreItems, code_bytes}
 use Rattle.pm_line.specs.Views.{row_seen}
 use Rattle.pm_source.specs.Source.{items_of, row_items}
 use Rattle.pm_source.specs.Meaning.{found_item}
-use Rattle.pm_asm.specs.Found.{places_in}
+use Rattle.pm_asm.specs.Firsts.{places_in}
 use Rattle.pm_asm.proofs.Pushed.{are_split, items_good, items_more, rows_split, there}
 use Rattle.pm_asm.proofs.bytes.push_code.Goals as goal
 

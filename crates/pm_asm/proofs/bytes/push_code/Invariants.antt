@@ -3,7 +3,8 @@ use Rattle.pm_disasm.specs.Program.{AreItems, code_bytes}
 use Rattle.pm_line.specs.Views.{row_seen}
 use Rattle.pm_source.specs.Source.{items_of}
 use Rattle.pm_source.specs.Meaning.{found_item}
-use Rattle.pm_asm.specs.Found.{items_in, places_in}
+use Rattle.pm_asm.specs.Found.{items_in}
+use Rattle.pm_asm.specs.Firsts.{places_in}
 use Rattle.pm_asm.proofs.bytes.push_code.Given as goal
 
 abbrev pub invariant-loop-row : goal.invariant-loop-row

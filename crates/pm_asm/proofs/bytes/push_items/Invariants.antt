@@ -2,7 +2,7 @@ use Rattle.std.proofs.Common.{◌≡◌, ◌++◌, drop, length, map}
 use Rattle.pm_disasm.specs.Program.{AreItems, code_bytes}
 use Rattle.pm_line.specs.Views.{item_seen}
 use Rattle.pm_source.specs.Meaning.{found_item}
-use Rattle.pm_asm.specs.Found.{places_in}
+use Rattle.pm_asm.specs.Firsts.{places_in}
 use Rattle.pm_asm.proofs.bytes.push_items.Given as goal
 
 abbrev pub invariant-loop-item : goal.invariant-loop-item

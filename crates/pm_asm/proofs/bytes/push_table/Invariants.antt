@@ -3,7 +3,7 @@ use Rattle.std.specs.List.{AllByRecursion}
 use Rattle.pm_disasm.specs.Item.{table_words}
 use Rattle.pm_line.specs.Views.{texts_seen}
 use Rattle.pm_source.specs.Meaning.{found_label}
-use Rattle.pm_asm.specs.Found.{places_in}
+use Rattle.pm_asm.specs.Firsts.{places_in}
 use Rattle.pm_asm.proofs.bytes.push_table.Given as goal
 
 abbrev pub invariant-loop-name : goal.invariant-loop-name

@@ -1,7 +1,7 @@
 use Rattle.std.proofs.Common.{◌≡◌, drop, map}
 use Rattle.pm_line.specs.Views.{row_seen}
 use Rattle.pm_source.specs.Faults.{place_of}
-use Rattle.pm_asm.specs.Found.{places_in}
+use Rattle.pm_asm.specs.Firsts.{places_in}
 use Rattle.pm_asm.proofs.found.found_label.Given as goal
 
 -- the label stands in the rows that are left where it stands in all

@@ -4,7 +4,7 @@ use Rattle.pm_disasm.specs.Laws.{item_at}
 use Rattle.pm_disasm.specs.Shown.{shown_item}
 use Rattle.pm_line.specs.Views.{item_seen}
 use Rattle.pm_source.specs.Meaning.{found_item}
-use Rattle.pm_asm.specs.Found.{places_in}
+use Rattle.pm_asm.specs.Firsts.{places_in}
 use Rattle.pm_asm.proofs.Pushed.{if_ok_map}
 use Rattle.pm_asm.proofs.Standings.{is_other, item_there, some_same}
 use Rattle.pm_asm.proofs.listing.item_text.Goals as goal

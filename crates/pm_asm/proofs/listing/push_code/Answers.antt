@@ -5,7 +5,7 @@ use Rattle.pm_line.specs.Views.{row_seen}
 use Rattle.pm_source.specs.Image.{listed_items, listed_lines}
 use Rattle.pm_source.specs.Meaning.{found_item}
 use Rattle.pm_source.specs.Source.{items_of, row_items}
-use Rattle.pm_asm.specs.Found.{places_in}
+use Rattle.pm_asm.specs.Firsts.{places_in}
 use Rattle.pm_asm.specs.Standing.{Stands}
 use Rattle.pm_asm.proofs.Pushed.{are_split, rows_split, there}
 use Rattle.pm_asm.proofs.Standings.{items_listed, parts_first, parts_next}

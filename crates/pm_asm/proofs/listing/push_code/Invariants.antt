@@ -4,7 +4,8 @@ use Rattle.pm_line.specs.Views.{row_seen}
 use Rattle.pm_source.specs.Image.{Listed, listed_items, listed_lines}
 use Rattle.pm_source.specs.Meaning.{found_item}
 use Rattle.pm_source.specs.Source.{items_of}
-use Rattle.pm_asm.specs.Found.{items_in, places_in}
+use Rattle.pm_asm.specs.Found.{items_in}
+use Rattle.pm_asm.specs.Firsts.{places_in}
 use Rattle.pm_asm.specs.Standing.{Stands}
 use Rattle.pm_asm.proofs.listing.push_code.Given as goal
 

@@ -5,7 +5,7 @@ use Rattle.pm_line.specs.Views.{item_seen}
 use Rattle.pm_source.specs.Image.{listed_line}
 use Rattle.pm_source.specs.Meaning.{found_item}
 use Rattle.pm_source.proofs.Labels.{found_size}
-use Rattle.pm_asm.specs.Found.{places_in}
+use Rattle.pm_asm.specs.Firsts.{places_in}
 use Rattle.pm_asm.proofs.Standings.{item_within, stands_part}
 use Rattle.pm_asm.proofs.listing.push_item.Goals as goal
 

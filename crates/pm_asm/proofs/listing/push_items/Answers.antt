@@ -7,7 +7,7 @@ use Rattle.pm_line.specs.Views.{item_seen}
 use Rattle.pm_source.specs.Image.{listed_items, listed_lines}
 use Rattle.pm_source.specs.Meaning.{found_item}
 use Rattle.pm_source.proofs.Labels.{found_size}
-use Rattle.pm_asm.specs.Found.{places_in}
+use Rattle.pm_asm.specs.Firsts.{places_in}
 use Rattle.pm_asm.specs.Standing.{Stands}
 use Rattle.pm_asm.proofs.Pushed.{there}
 use Rattle.pm_asm.proofs.Standings.{line_more, stands_next}

@@ -3,7 +3,7 @@ use Rattle.pm_disasm.specs.Program.{AreItems, code_bytes, end_of}
 use Rattle.pm_line.specs.Views.{item_seen}
 use Rattle.pm_source.specs.Image.{Listed, listed_items, listed_lines}
 use Rattle.pm_source.specs.Meaning.{found_item}
-use Rattle.pm_asm.specs.Found.{places_in}
+use Rattle.pm_asm.specs.Firsts.{places_in}
 use Rattle.pm_asm.specs.Standing.{Stands}
 use Rattle.pm_asm.proofs.listing.push_items.Given as goal
 

@@ -16,6 +16,8 @@ mod files;
 #[cfg(test)]
 mod jobs;
 #[cfg(test)]
+mod lines;
+#[cfg(test)]
 mod machine;
 #[cfg(test)]
 mod procedures;

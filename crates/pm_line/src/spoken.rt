@@ -125,9 +125,6 @@ fn labelled<'a>(
         let Some(keyword) = keyword_of(word) else {
             return Ok(Line::Strange);
         };
-        if !is_name(label) {
-            return Ok(Line::Wrong { ends: false });
-        }
         items_said(alloc, keyword, rest)?
     };
     if !is_name(label) {

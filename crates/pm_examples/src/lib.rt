@@ -2,6 +2,8 @@
 #![tactic(auto)]
 
 #[cfg(test)]
+mod assembled;
+#[cfg(test)]
 mod calls;
 #[cfg(test)]
 mod code;

@@ -44,7 +44,7 @@ const GOOD: [&str; 31] = [
 const BLANK: [&str; 4] = ["", " \t", "; x", " ;\"a"];
 
 /// Lines with a word in the place of a mnemonic or directive that is none.
-const UNKNOWN: [&str; 20] = [
+pub(crate) const UNKNOWN: [&str; 20] = [
     "FOO",
     "L1:NOP",
     "L1 : NOP",
@@ -68,7 +68,7 @@ const UNKNOWN: [&str; 20] = [
 ];
 
 /// Comparisons with a type word that is none.
-const UNKNOWN_TYPE: [&str; 5] = ["EQU FOO", "EQU FOO 1 2", "EQU 5", "EQU \"x\"", "EQU str"];
+pub(crate) const UNKNOWN_TYPE: [&str; 5] = ["EQU FOO", "EQU FOO 1 2", "EQU 5", "EQU \"x\"", "EQU str"];
 
 /// Lines with a number, a length or a count that is out of range.
 const RANGE: [&str; 17] = [
@@ -92,7 +92,7 @@ const RANGE: [&str; 17] = [
 ];
 
 /// Ill-formed lines that end no procedure.
-const ILL_FORMED: [&str; 51] = [
+pub(crate) const ILL_FORMED: [&str; 51] = [
     ".END\u{7f}",
     "\u{7f}.END",
     ".END\r",
@@ -147,7 +147,7 @@ const ILL_FORMED: [&str; 51] = [
 ];
 
 /// Ill-formed lines that end their procedure.
-const ILL_FORMED_ENDS: [&str; 3] = [".END \u{7f}", ".END ;\u{7f}", ".END 1"];
+pub(crate) const ILL_FORMED_ENDS: [&str; 3] = [".END \u{7f}", ".END ;\u{7f}", ".END 1"];
 
 /// What a line is, in a word or two.
 fn kind(line: &Line<'_>) -> &'static str {

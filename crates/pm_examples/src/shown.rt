@@ -10,7 +10,7 @@ use std::process::Abort;
 use std::test::Fail;
 
 /// Three names, of the slots 1, 2 and 3, and blanks.
-const NAMES: [[u8; 8]; 16] = [
+pub(crate) const NAMES: [[u8; 8]; 16] = [
     *b"        ",
     *b"MAIN    ",
     *b"A       ",
@@ -29,7 +29,7 @@ const NAMES: [[u8; 8]; 16] = [
     *b"        ",
 ];
 
-const TEXT: &str = "\
+pub(crate) const TEXT: &str = "\
 .SEG 1 MAIN
 .PROC 1 0 0 0
   CXP 2, 1
@@ -84,12 +84,12 @@ L00000:
 ";
 
 /// A number below 128 in two bytes.
-const LONG: [u8; 20] = [
+pub(crate) const LONG: [u8; 20] = [
     0xA9, 0x80, 0x05, 0xD7, 0xC1, 0x00, 0x00, 0x00, 0x00, 0x00, 0x06, 0x00, 0x0C, 0x00, 0x01, 0x00,
     0x02, 0x00, 0x01, 0x01,
 ];
 
-const LONG_TEXT: &str = "\
+pub(crate) const LONG_TEXT: &str = "\
 .SEG 1 MAIN
 .PROC 1 0 0 0
   LDO 5!
@@ -100,7 +100,7 @@ const LONG_TEXT: &str = "\
 ";
 
 /// The lengths of the slots 1, 2 and 3 among those of all.
-fn lengths_of(lengths: [u16; 3]) -> [u16; 16]
+pub(crate) fn lengths_of(lengths: [u16; 3]) -> [u16; 16]
     ensures sum { sum result ≡ sum lengths }
 {
     let [a, b, c] = lengths;

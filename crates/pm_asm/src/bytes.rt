@@ -100,11 +100,7 @@ fn push_item(out: &mut Vec<u8>, labels: Code<'_, '_>, item: &Item<'_>) -> Result
 }
 
 /// Adds items.
-fn push_items(
-    out: &mut Vec<u8>,
-    labels: Code<'_, '_>,
-    items: &[Item<'_>],
-) -> Result<(), AllocError>
+fn push_items(out: &mut Vec<u8>, labels: Code<'_, '_>, items: &[Item<'_>]) -> Result<(), AllocError>
     requires items { AreItems (length out.old.items) (map (found_item (places_in labels)) (map item_seen items.now)) }
     ensures bytes { OnOk result (out.new.items ≡ out.old.items ++ code_bytes (length out.old.items) (map (found_item (places_in labels.entry)) (map item_seen items.now))) }
 {

@@ -9,8 +9,8 @@ ghost use Rattle.pm_asm.specs.Found.{lent_seen, program_seen};
 ghost use Rattle.pm_asm.specs.Views.{segments_seen};
 
 use crate::bytes::segment_bytes;
-use crate::source::Segment;
 use crate::lengths::segment_with;
+use crate::source::Segment;
 use pm_codefile::write;
 use std::alloc::{AllocError, Global};
 

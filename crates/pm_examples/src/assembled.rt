@@ -225,12 +225,37 @@ fn faults_of_texts(rt: HostRuntime) -> Result<(), Fail> {
     is(&rt, alloc, "EQU FOO\n", AsmFault::Syntax(1));
     is(&rt, alloc, ".SEG 1 A\n.SEG 1 A\n", AsmFault::Twice(2));
     is(&rt, alloc, ".SEG 16 A\n", AsmFault::Range(1));
-    is(&rt, alloc, ".PROC 1 0 0 0\n.EXIT\n.END\n", AsmFault::Syntax(1));
-    is(&rt, alloc, ".SEG 1 A\n.PROC 2 0 0 0\n.EXIT\n.END\n", AsmFault::Range(2));
+    is(
+        &rt,
+        alloc,
+        ".PROC 1 0 0 0\n.EXIT\n.END\n",
+        AsmFault::Syntax(1),
+    );
+    is(
+        &rt,
+        alloc,
+        ".SEG 1 A\n.PROC 2 0 0 0\n.EXIT\n.END\n",
+        AsmFault::Range(2),
+    );
     is(&rt, alloc, ".SEG 1 A\n.PROC 2 0 0 0\n", AsmFault::Syntax(2));
-    is(&rt, alloc, ".SEG 1 A\n.PROC 1 0 0 0\n.EXIT\nL1: .END\n", AsmFault::Syntax(2));
-    is(&rt, alloc, ".SEG 1 A\n.PROC 1 0 0 0\n.EXIT\n.END 1\n.END\n", AsmFault::Syntax(4));
-    is(&rt, alloc, ".SEG 1 A\n.PROC 1 0 0 0\nL1:\nL1: SLDC 128\n.EXIT\n.END\n", AsmFault::Twice(4));
+    is(
+        &rt,
+        alloc,
+        ".SEG 1 A\n.PROC 1 0 0 0\n.EXIT\nL1: .END\n",
+        AsmFault::Syntax(2),
+    );
+    is(
+        &rt,
+        alloc,
+        ".SEG 1 A\n.PROC 1 0 0 0\n.EXIT\n.END 1\n.END\n",
+        AsmFault::Syntax(4),
+    );
+    is(
+        &rt,
+        alloc,
+        ".SEG 1 A\n.PROC 1 0 0 0\nL1:\nL1: SLDC 128\n.EXIT\n.END\n",
+        AsmFault::Twice(4),
+    );
     is(&rt, alloc, ".SEG 1 A\r\n.EXIT\r", AsmFault::Syntax(2));
     Ok(())
 }

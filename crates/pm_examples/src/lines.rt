@@ -68,7 +68,13 @@ pub(crate) const UNKNOWN: [&str; 20] = [
 ];
 
 /// Comparisons with a type word that is none.
-pub(crate) const UNKNOWN_TYPE: [&str; 5] = ["EQU FOO", "EQU FOO 1 2", "EQU 5", "EQU \"x\"", "EQU str"];
+pub(crate) const UNKNOWN_TYPE: [&str; 5] = [
+    "EQU FOO",
+    "EQU FOO 1 2",
+    "EQU 5",
+    "EQU \"x\"",
+    "EQU str",
+];
 
 /// Lines with a number, a length or a count that is out of range.
 const RANGE: [&str; 17] = [
@@ -184,12 +190,7 @@ fn lines(rt: HostRuntime) -> Result<(), Fail> {
 }
 
 /// A line with so many operands.
-fn with_operands(
-    rt: &impl Abort,
-    alloc: Global,
-    count: usize,
-    expected: &str,
-) -> Result<(), Fail> {
+fn with_operands(rt: &impl Abort, alloc: Global, count: usize, expected: &str) -> Result<(), Fail> {
     let mut words = Vec::new(alloc);
     words.extend_from_slice(b"LDC 1")?;
     for _more in 1..count {

@@ -9,7 +9,5 @@ pub mod Coded
 pub mod Played
 pub mod Opening
 pub mod RunLaws
-pub mod WordLaws
-pub mod CommandLaws
 pub mod SessionLaws
 pub mod Talked

@@ -3,12 +3,12 @@ use Rattle.std.proofs.Common.{◌≡◌, ◌∙◌, ◌+◌, ◌<◌, ap, sym, r
 use Rattle.std.specs.Prelude.{◌==◌, if◌then◌else◌}
 use Rattle.std.proofs.Math.Seq.{drop-append-add}
 use Rattle.pm_debug.specs.Session.{Session}
+use Rattle.pm_commands.specs.Commands.{command_of}
+use Rattle.pm_commands.specs.Words.{lines_of, pieces, without_empty_end}
+use Rattle.pm_commands.proofs.WordLaws.{pieces_byte, pieces_mark, pieces_none, pieces_some, with_front, with_front-byte, with_front-none}
 use Rattle.pm_tool.specs.Answers.{after_line, line_text}
-use Rattle.pm_tool.specs.Commands.{command_of}
 use Rattle.pm_tool.specs.Sessions.{answer, answers, behind_quit, is_quit}
 use Rattle.pm_tool.specs.Talks.{Told, told}
-use Rattle.pm_tool.specs.Words.{lines_of, pieces, without_empty_end}
-use Rattle.pm_tool.proofs.WordLaws.{pieces_byte, pieces_mark, pieces_none, pieces_some, with_front, with_front-byte, with_front-none}
 
 -- the answers to these lines of an input
 abbrev pub told_lines : List (List ℕ) → List ℕ → Session → Told

@@ -6,6 +6,7 @@ use Rattle.std.specs.Io.KnownBytes.{Consumes, Appends, Keeps, IsAtEnd}
 use Rattle.std.proofs.KnownBytes.{Consumes-trans, Consumes-nil, Consumes-kept, Appends-trans, Appends-nil}
 use Rattle.pm_machine.specs.State.{State}
 use Rattle.pm_debug.specs.Session.{Session}
+use Rattle.pm_commands.specs.Commands.{command_of}
 use Rattle.pm_tool.specs.declared.fault.Fault.{Fault}
 use Rattle.pm_tool.specs.declared.fault.Fault.TheVariants as faults
 use Rattle.pm_tool.specs.declared.outcome.Exit.TheVariants as exits
@@ -13,7 +14,6 @@ use Rattle.pm_tool.specs.declared.outcome.Outcome.{Outcome}
 use Rattle.pm_tool.specs.declared.outcome.Refusal.{Refusal}
 use Rattle.pm_tool.specs.declared.source.TheConstants.{INPUT_LIMIT}
 use Rattle.pm_tool.specs.Answers.{after_line}
-use Rattle.pm_tool.specs.Commands.{command_of}
 use Rattle.pm_tool.specs.Outcomes.{IsOutcome, refused}
 use Rattle.pm_tool.specs.Said.{IsBrokenOff, IsDone, IsSound}
 use Rattle.pm_tool.specs.Sessions.{answer, debugged, is_quit, opened, said_debug}

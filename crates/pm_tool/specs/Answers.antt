@@ -15,8 +15,8 @@ use Rattle.pm_debug.specs.declared.reason.Reason.{Reason}
 use Rattle.pm_debug.specs.declared.reason.Reason.TheVariants as reasons
 use Rattle.pm_debug.specs.declared.refusal.Refusal.{Refusal}
 use Rattle.pm_debug.specs.declared.refusal.Refusal.TheVariants.{OddAddress}
-use Rattle.pm_tool.specs.declared.commands.Command.{Command}
-use Rattle.pm_tool.specs.declared.commands.Command.TheVariants as commands
+use Rattle.pm_commands.specs.declared.commands.Command.{Command}
+use Rattle.pm_commands.specs.declared.commands.Command.TheVariants as commands
 use Rattle.pm_tool.specs.declared.ending.Ending.TheVariants as endings
 use Rattle.pm_tool.specs.Run.{last_line}
 

@@ -7,8 +7,6 @@ pub mod Code
 pub mod Files
 pub mod Said
 pub mod Laws
-pub mod Words
-pub mod Commands
 pub mod Answers
 pub mod Sessions
 pub mod Talks

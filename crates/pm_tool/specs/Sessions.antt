@@ -2,14 +2,14 @@
 use Rattle.std.specs.Prelude.{ℕ, ◌+◌, Bool, true, false, List, [], ◌∷◌, ◌++◌, drop, length, Option, Some, None, Result, Ok, Err, if◌then◌else◌}
 use Rattle.pm_machine.specs.State.{State}
 use Rattle.pm_debug.specs.Session.{Session}
-use Rattle.pm_tool.specs.declared.commands.Command.{Command}
-use Rattle.pm_tool.specs.declared.commands.Command.TheVariants as commands
+use Rattle.pm_commands.specs.declared.commands.Command.{Command}
+use Rattle.pm_commands.specs.declared.commands.Command.TheVariants as commands
+use Rattle.pm_commands.specs.Commands.{command_of}
+use Rattle.pm_commands.specs.Words.{lines_of}
 use Rattle.pm_tool.specs.declared.outcome.Exit.TheVariants as exits
 use Rattle.pm_tool.specs.declared.outcome.Refusal.{Refusal}
 use Rattle.pm_tool.specs.Answers.{after_line, line_text}
-use Rattle.pm_tool.specs.Commands.{command_of}
 use Rattle.pm_tool.specs.Outcomes.{Said, refused}
-use Rattle.pm_tool.specs.Words.{lines_of}
 
 abbrev pub is_quit : Option Command → Bool
 is_quit None = false

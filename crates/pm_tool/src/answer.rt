@@ -5,8 +5,8 @@ ghost use Rattle.pm_machine.specs.Events.{Key, Poke, next};
 ghost use Rattle.pm_debug.specs.Views.{ShowsChain};
 ghost use Rattle.pm_tool.specs.Answers.{after_command, after_line, chain_text, command_text, done_text, gone_text, line_text, numbers_text, refused_text, registers_text, word_text};
 
-use crate::commands::Command;
 use crate::ending::{Ending, LastLine};
+use pm_commands::Command;
 use pm_debug::{Debugger, Reason, Refusal};
 use pm_machine::Registers;
 use std::alloc::{AllocError, Global};

@@ -1,8 +1,8 @@
 //! The session of a debugger.
 ghost use Rattle.std.specs.Prelude.{◌≡◌, false, true, not, [], List, ℕ, IfOk, IfErr, OnOk, OnErr};
 ghost use Rattle.std.specs.Io.KnownBytes.{Appends};
+ghost use Rattle.pm_commands.specs.Commands.{command_of};
 ghost use Rattle.pm_tool.specs.Answers.{after_line};
-ghost use Rattle.pm_tool.specs.Commands.{command_of};
 ghost use Rattle.pm_tool.specs.Disks.{booted, images_of};
 ghost use Rattle.pm_tool.specs.Said.{IsBrokenOff, IsDone};
 ghost use Rattle.pm_tool.specs.Sessions.{answer, debugged, is_quit, said_debug};
@@ -10,12 +10,12 @@ ghost use Rattle.pm_tool.specs.Streams.{AppendsFront, IsCause};
 ghost use Rattle.pm_tool.specs.Talks.{IsCutOff, IsTold};
 
 use crate::answer::answer;
-use crate::commands::{Command, command_of};
 use crate::fault::Fault;
 use crate::outcome::{Exit, Outcome, refuse};
 use crate::programs::boot;
 use crate::sink::{Sink, write_all};
 use crate::source::{INPUT_LIMIT, Source, read_byte};
+use pm_commands::{Command, command_of};
 use pm_debug::Debugger;
 use pm_machine::Machine;
 use std::alloc::Global;

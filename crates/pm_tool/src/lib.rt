@@ -3,7 +3,6 @@
 
 mod answer;
 mod code;
-mod commands;
 mod debug;
 mod ending;
 mod engine;

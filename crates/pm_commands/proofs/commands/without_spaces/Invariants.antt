@@ -1,6 +1,6 @@
 use Rattle.std.proofs.Common.{◌≡◌, ◌≤◌, length}
-use Rattle.pm_tool.specs.Words.{words}
-use Rattle.pm_tool.proofs.commands.without_spaces.Given as goal
+use Rattle.pm_commands.specs.Words.{words}
+use Rattle.pm_commands.proofs.commands.without_spaces.Given as goal
 
 -- the words stay the same
 abbrev pub invariant-spaces : goal.invariant-spaces

@@ -1,7 +1,7 @@
 use Rattle.std.proofs.Common.{rules, arith, ◌≡◌, ◌∷◌, ◌+◌, length, length-append, []}
-use Rattle.pm_tool.specs.Words.{words}
-use Rattle.pm_tool.proofs.CommandLaws.{numbers_are, numbers_too_many, numbers_none, numbers_next}
-use Rattle.pm_tool.proofs.commands.numbers.Goals as goal
+use Rattle.pm_commands.specs.Words.{words}
+use Rattle.pm_commands.proofs.CommandLaws.{numbers_are, numbers_too_many, numbers_none, numbers_next}
+use Rattle.pm_commands.proofs.commands.numbers.Goals as goal
 
 pub returns-in_default-number-clause-none : goal.returns-in_default-number-clause-none
 returns-in_default-number-clause-none c =

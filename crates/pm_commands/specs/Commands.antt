@@ -1,11 +1,11 @@
 -- The commands of a debugger's line.
 use Rattle.std.specs.Prelude.{ℕ, zero, suc, ◌+◌, ◌-◌, ◌*◌, ◌^◌, ◌&&◌, Bool, List, [], ◌∷◌, Option, Some, None, option_map, if◌then◌else◌, nat_le, nat_lt, codes}
 use Rattle.std.specs.Str.{bytes_eq}
-use Rattle.pm_tool.specs.declared.commands.Verb.{Verb}
-use Rattle.pm_tool.specs.declared.commands.Verb.TheVariants as verbs
-use Rattle.pm_tool.specs.declared.commands.Command.{Command}
-use Rattle.pm_tool.specs.declared.commands.Command.TheVariants as commands
-use Rattle.pm_tool.specs.Words.{without_return, words}
+use Rattle.pm_commands.specs.declared.commands.Verb.{Verb}
+use Rattle.pm_commands.specs.declared.commands.Verb.TheVariants as verbs
+use Rattle.pm_commands.specs.declared.commands.Command.{Command}
+use Rattle.pm_commands.specs.declared.commands.Command.TheVariants as commands
+use Rattle.pm_commands.specs.Words.{without_return, words}
 
 -- ---- numbers
 

@@ -1,7 +1,7 @@
 use Rattle.std.proofs.Common.{rules, arith, ◌∙◌, sym, ap, ◌≡◌, ◌∷◌, length, suc}
-use Rattle.pm_tool.specs.Words.{words}
-use Rattle.pm_tool.proofs.WordLaws.{words_space}
-use Rattle.pm_tool.proofs.commands.without_spaces.Goals as goal
+use Rattle.pm_commands.specs.Words.{words}
+use Rattle.pm_commands.proofs.WordLaws.{words_space}
+use Rattle.pm_commands.proofs.commands.without_spaces.Goals as goal
 
 pub spaces-preserved : goal.spaces-preserved
 spaces-preserved c =

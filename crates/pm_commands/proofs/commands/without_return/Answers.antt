@@ -1,7 +1,7 @@
 use Rattle.std.proofs.Common.{rules, arith}
 use Rattle.std.proofs.lemmas.Bool.Decides.{nat_tests}
-use Rattle.pm_tool.proofs.WordLaws.{return_cut, return_none, return_empty}
-use Rattle.pm_tool.proofs.commands.without_return.Goals as goal
+use Rattle.pm_commands.proofs.WordLaws.{return_cut, return_none, return_empty}
+use Rattle.pm_commands.proofs.commands.without_return.Goals as goal
 
 pub returns-then-last-eq13 : goal.returns-then-last-eq13
 returns-then-last-eq13 c = record { line = return_cut _ _ c.in-Some.last.now (search rules) (search rules) }

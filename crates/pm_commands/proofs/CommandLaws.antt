@@ -2,7 +2,7 @@
 use Rattle.std.proofs.Common.{◌≡◌, ◌∙◌, ◌+◌, ◌-◌, ◌*◌, ◌^◌, ◌≤◌, ◌<◌, ap, sym, refl, arith, ℕ, zero, suc, Bool, true, false, List, [], ◌∷◌, ◌++◌, length, append_assoc, append-nil, Option, Some, None}
 use Rattle.std.specs.Prelude.{nat_lt, if◌then◌else◌}
 use Rattle.std.proofs.lemmas.Bool.Decides.{nat_tests}
-use Rattle.pm_tool.specs.Commands.{is_digit, joined, number, number_behind, numbers}
+use Rattle.pm_commands.specs.Commands.{is_digit, joined, number, number_behind, numbers}
 
 -- a number that is too large stays so
 number_large : (n : ℕ) (word : List ℕ) → 4294967295 < n → number_behind n word ≡ None

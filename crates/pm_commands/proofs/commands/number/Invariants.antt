@@ -1,6 +1,6 @@
 use Rattle.std.proofs.Common.{◌≡◌, ◌≤◌, length}
-use Rattle.pm_tool.specs.Commands.{number, number_behind}
-use Rattle.pm_tool.proofs.commands.number.Given as goal
+use Rattle.pm_commands.specs.Commands.{number, number_behind}
+use Rattle.pm_commands.proofs.commands.number.Given as goal
 
 -- the number that the rest writes behind the digits so far is the word's
 abbrev pub invariant-digits : goal.invariant-digits

@@ -1,8 +1,8 @@
 use Rattle.std.proofs.Common.{◌≡◌, ◌≤◌, ◌-◌, length}
-use Rattle.pm_tool.specs.Commands.{numbers}
-use Rattle.pm_tool.specs.Words.{words}
-use Rattle.pm_tool.proofs.CommandLaws.{behind}
-use Rattle.pm_tool.proofs.commands.numbers.Given as goal
+use Rattle.pm_commands.specs.Commands.{numbers}
+use Rattle.pm_commands.specs.Words.{words}
+use Rattle.pm_commands.proofs.CommandLaws.{behind}
+use Rattle.pm_commands.proofs.commands.numbers.Given as goal
 
 -- the numbers so far, and those of the rest, are the line's
 abbrev pub invariant-words : goal.invariant-words

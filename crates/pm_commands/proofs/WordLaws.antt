@@ -2,7 +2,7 @@
 use Rattle.std.proofs.Common.{◌≡◌, ◌∙◌, ◌+◌, ◌<◌, ap, sym, refl, arith, ℕ, zero, suc, Bool, true, false, not, List, [], ◌∷◌, ◌++◌, length, take, drop, get_or, add-one, append_assoc, append-nil}
 use Rattle.std.proofs.Math.Seq.{drop-cons, take-suc}
 use Rattle.std.specs.Prelude.{◌==◌, if◌then◌else◌}
-use Rattle.pm_tool.specs.Words.{begins_word, filled, pieces, with_byte, without_return, words}
+use Rattle.pm_commands.specs.Words.{begins_word, filled, pieces, with_byte, without_return, words}
 
 -- ---- pieces
 

@@ -1,6 +1,6 @@
 use Rattle.std.proofs.Common.{rules, arith, ◌≡◌, ◌∷◌, length, suc, ap, sym}
-use Rattle.pm_tool.proofs.WordLaws.{in_word_none, in_word_more, words_at_end}
-use Rattle.pm_tool.proofs.commands.word_and_rest.Goals as goal
+use Rattle.pm_commands.proofs.WordLaws.{in_word_none, in_word_more, words_at_end}
+use Rattle.pm_commands.proofs.commands.word_and_rest.Goals as goal
 
 pub bytes-init : goal.bytes-init
 bytes-init c = record { under_way = in_word_none _; size = omega arith }

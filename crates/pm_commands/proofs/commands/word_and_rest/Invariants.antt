@@ -1,6 +1,6 @@
 use Rattle.std.proofs.Common.{◌≡◌, ◌+◌, length}
-use Rattle.pm_tool.proofs.WordLaws.{IsInWord}
-use Rattle.pm_tool.proofs.commands.word_and_rest.Given as goal
+use Rattle.pm_commands.proofs.WordLaws.{IsInWord}
+use Rattle.pm_commands.proofs.commands.word_and_rest.Given as goal
 
 -- the bytes so far are of the first word
 abbrev pub invariant-bytes : goal.invariant-bytes

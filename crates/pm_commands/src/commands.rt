@@ -1,14 +1,14 @@
 //! The commands of a debugger's line.
 ghost use Rattle.std.specs.Prelude.{◌≡◌, ◌<◌, ◌≤◌, ◌⊎◌, true, [], ◌∷◌, Some, None, IfSome, IfNone, length};
-ghost use Rattle.pm_tool.specs.Commands.{alone, asked, command_of, is_digit, number, numbers, one, pair, place, up_to, verb_of};
+ghost use Rattle.pm_commands.specs.Commands.{alone, asked, command_of, is_digit, number, numbers, one, pair, place, up_to, verb_of};
 ghost use Rattle.std.specs.Str.{bytes_eq};
-ghost use Rattle.pm_tool.specs.Words.{begins_word, words, without_return};
+ghost use Rattle.pm_commands.specs.Words.{begins_word, words, without_return};
 
 use arrayvec::ArrayVec;
 
 /// A command of the debugger.
 #[derive(Clone, Copy, Debug, PartialEq, Eq)]
-pub(crate) enum Command {
+pub enum Command {
     /// Sets a breakpoint: segment, procedure and offset.
     Break(u8, u8, u16),
     /// Takes a breakpoint away.
@@ -37,7 +37,7 @@ pub(crate) enum Command {
 
 /// The first word of a command.
 #[derive(Clone, Copy, Debug, PartialEq, Eq)]
-pub(crate) enum Verb {
+enum Verb {
     Break,
     Clear,
     Poke,
@@ -320,7 +320,7 @@ fn without_return(line: &[u8]) -> &[u8]
 
 /// The command that a line is, without its line feed.
 #[tactic(auto, unfolding(crate::specs::Commands::command_of))]
-pub(crate) fn command_of(line: &[u8]) -> Option<Command>
+pub fn command_of(line: &[u8]) -> Option<Command>
     ensures command { result ≡ command_of line.now }
 {
     let (name, rest) = next_word(without_return(line))?;

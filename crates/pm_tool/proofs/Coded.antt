@@ -1,5 +1,5 @@
 -- Jobs that read all of their input, and then write some bytes or refuse it.
-use Rattle.std.proofs.Common.{◌≡◌, ℕ, List, [], Option, Bool, false, refl, sym, ap, arith, subst}
+use Rattle.std.proofs.Common.{◌≡◌, ℕ, List, [], Option, Bool, false, sym, ap, arith, subst}
 use Rattle.std.specs.Io.KnownBytes.{Appends}
 use Rattle.std.proofs.KnownBytes.{Appends-nil}
 use Rattle.pm_tool.specs.declared.fault.Fault.{Fault}

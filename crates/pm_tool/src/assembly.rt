@@ -1,5 +1,5 @@
 //! The job on a text of the assembler.
-ghost use Rattle.std.specs.Prelude.{◌≡◌, ◌++◌, false, Ok, Err, IfOk, IfErr, OnOk, map, string_bytes};
+ghost use Rattle.std.specs.Prelude.{◌≡◌, false, Ok, Err, IfOk, IfErr, OnOk, string_bytes};
 ghost use Rattle.pm_asm.specs.Assembled.{assembled};
 ghost use Rattle.pm_tool.specs.Assembly.{character_of, said_asm, text_of, wanted};
 ghost use Rattle.pm_tool.specs.Said.{IsBrokenOff, IsDone};

@@ -1,4 +1,4 @@
-use Rattle.std.proofs.Common.{rules, ◌≡◌, ◌∙◌, refl, sym, ap, subst, Ok, Err, option_map, string_bytes, arith}
+use Rattle.std.proofs.Common.{◌≡◌, ◌∙◌, refl, sym, ap, subst, Ok, Err, option_map, string_bytes, arith}
 use Rattle.std.specs.Prelude.{vec_items}
 use Rattle.std.specs.Io.KnownBytes.{Appends}
 use Rattle.pm_asm.specs.Assembled.{assembled}

@@ -180,6 +180,26 @@ usage "two disks on unit 4" run --d4 "$programs" --d4 "$programs" OK
 usage "save twice" run --d4 "$programs" --save --save OK
 usage "save in a trace" trace --d4 "$programs" --save OK
 
+# texts of the assembler
+printf '%s\n' ".SEG 2 A" ".PROC 1 0 0 4" ".EXIT" "  RBP 0" ".END" >"$scratch/source"
+printf '%s\n' "02 001 00000 C1 00  RBP 0" "02 001 00002 04 00 00 00 06 00 08 00 01 00  .ATTR" "02 000 00012 02 00 02 01  .DICT" >"$scratch/text"
+case_of "the listing of a text" 0 "$scratch/text" "$nothing" asm --list <"$scratch/source"
+"$pmach" asm <"$scratch/source" >"$scratch/code"
+case_of "the text of what was assembled" 0 "$scratch/source" "$nothing" dis <"$scratch/code"
+case_of "an empty text has an empty listing" 0 "$nothing" "$nothing" asm --list </dev/null
+echo "refused asm 2 1" >"$message"
+case_of "an unknown word" 2 "$nothing" "$message" asm < <(echo FOO)
+echo "refused asm 1 6" >"$message"
+case_of "a byte above 127" 2 "$nothing" "$message" asm --list < <(cat "$scratch/source" && printf '; \377\n')
+echo "read fault" >"$message"
+case_of "a directory as a text" 4 "$nothing" "$message" asm </
+echo "write fault" >"$message"
+"$pmach" asm <"$scratch/source" >/dev/full 2>"$scratch/err"
+[ $? = 4 ] && cmp -s "$scratch/err" "$message"
+result "a code file on a full device" $?
+usage "a word behind asm" asm text
+usage "the listing twice" asm --list --list
+
 # code files as text
 "$pmach" files --image "$programs" get LOADS >"$scratch/code" </dev/null
 printf '%s\n' ".SEG 1 ?" ".PROC 1 0 0 0" "  CXP 2, 1" "  CXP 3, 1" ".EXIT" "  RBP 0" ".END" \

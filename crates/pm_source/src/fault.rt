@@ -1,32 +1,69 @@
 //! What is wrong in a text.
 
+ghost use Rattle.std.specs.Prelude.{◌≡◌};
+ghost use Rattle.pm_source.specs.FaultNumbers.{number_of, place_of};
+
 use thiserror::Error;
 
 /// Why a text is refused. Lines are counted from 1.
 #[derive(Clone, Copy, Debug, PartialEq, Eq, Error)]
 pub enum AsmFault {
-    /// A line is ill-formed or out of place, or begins a procedure that does not end.
+    /// 1: a line is ill-formed or out of place, or begins a procedure that does not end.
     #[error("line {0} is ill-formed or out of place")]
     Syntax(usize),
-    /// A mnemonic, directive or type word is unknown.
+    /// 2: a mnemonic, directive or type word is unknown.
     #[error("line {0} has an unknown word")]
     Unknown(usize),
-    /// A number is out of its range, or a count or length is wrong.
+    /// 3: a number is out of its range, or a count or length is wrong.
     #[error("line {0} has a number out of range")]
     Range(usize),
-    /// A label does not stand in the procedure.
+    /// 4: a label does not stand in the procedure.
     #[error("line {0} names an unknown label")]
     NoLabel(usize),
-    /// A slot, a label of the procedure or the exit code is there already.
+    /// 5: a slot, a label of the procedure or the exit code is there already.
     #[error("line {0} says something again")]
     Twice(usize),
-    /// A short jump leads backward or more than 127 bytes forward.
+    /// 6: a short jump leads backward or more than 127 bytes forward.
     #[error("line {0} jumps too far")]
     Far(usize),
-    /// A segment has more than 60,000 bytes.
+    /// 7: a segment has more than 60,000 bytes.
     #[error("segment {0} is too long")]
     TooLong(u8),
-    /// Memory could not grow.
+    /// 8: memory could not grow.
     #[error("no memory")]
     NoMemory,
+}
+
+impl AsmFault {
+    /// The fault's number, as the program prints it.
+    pub fn number(self) -> u8
+        ensures value { result ≡ number_of self }
+    {
+        match self {
+            AsmFault::Syntax(_) => 1,
+            AsmFault::Unknown(_) => 2,
+            AsmFault::Range(_) => 3,
+            AsmFault::NoLabel(_) => 4,
+            AsmFault::Twice(_) => 5,
+            AsmFault::Far(_) => 6,
+            AsmFault::TooLong(_) => 7,
+            AsmFault::NoMemory => 8,
+        }
+    }
+
+    /// The line that the fault names; of `TooLong` the segment's number. Want of memory names none.
+    pub fn place(self) -> Option<usize>
+        ensures value { result ≡ place_of self }
+    {
+        match self {
+            AsmFault::Syntax(line)
+            | AsmFault::Unknown(line)
+            | AsmFault::Range(line)
+            | AsmFault::NoLabel(line)
+            | AsmFault::Twice(line)
+            | AsmFault::Far(line) => Some(line),
+            AsmFault::TooLong(segment) => Some(usize::from(segment)),
+            AsmFault::NoMemory => None,
+        }
+    }
 }

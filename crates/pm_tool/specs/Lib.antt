@@ -4,6 +4,7 @@ pub mod Run
 pub mod Outcomes
 pub mod Disks
 pub mod Code
+pub mod Assembly
 pub mod Files
 pub mod Said
 pub mod Laws

@@ -11,6 +11,8 @@ use Rattle.pm_textfile.specs.Faults.{place_of, number_of as text_number}
 use Rattle.pm_textfile.specs.declared.fault.TextFault.{TextFault}
 use Rattle.pm_codefile.specs.Faults.{slot_of, number_of as code_number}
 use Rattle.pm_codefile.specs.declared.fault.CodeFault.{CodeFault}
+use Rattle.pm_source.specs.FaultNumbers.{number_of as asm_number, place_of as asm_place}
+use Rattle.pm_source.specs.declared.fault.AsmFault.{AsmFault}
 use Rattle.pm_filer.specs.declared.fault.FilerFault.{FilerFault}
 use Rattle.pm_filer.specs.declared.fault.FilerFault.TheVariants as filer
 use Rattle.pm_tool.specs.declared.fault.Fault.{Fault}
@@ -82,10 +84,15 @@ filer_text filer.NoMemory = 52 ∷ []
 abbrev pub code_text : CodeFault → List ℕ
 code_text fault = decimal (code_number fault) ++ entry_text (slot_of fault)
 
+-- the number of a fault of the assembler's text, and the line or the segment that it names
+abbrev pub asm_text : AsmFault → List ℕ
+asm_text fault = decimal (asm_number fault) ++ entry_text (asm_place fault)
+
 abbrev pub refusal_text : Refusal → List ℕ
 refusal_text refusals.Hex = codes "refused hex 1"
 refusal_text (refusals.Volume fault) = codes "refused volume " ++ volume_text fault
 refusal_text (refusals.Code fault) = codes "refused code " ++ code_text fault
+refusal_text (refusals.Asm fault) = codes "refused asm " ++ asm_text fault
 refusal_text (refusals.Filer fault) = codes "refused filer " ++ filer_text fault
 refusal_text (refusals.Boot fault) = codes "refused boot " ++ (decimal (boot_number fault) ++ error_text fault)
 
@@ -101,6 +108,10 @@ pub record Said : Type 0 where
 -- a refused input: nothing is written, and the message says why
 abbrev pub refused : Refusal → List ℕ → Said
 refused refusal unread = record { written = []; exit = exits.Refused; message = refusal_text refusal; image = None; printer = []; unread = unread }
+
+-- all of the input was read, and these bytes are written
+abbrev pub wrote : List ℕ → Said
+wrote bytes = record { written = bytes; exit = exits.Ended; message = []; image = None; printer = []; unread = [] }
 
 -- the outcome is what is said
 pub record IsOutcome (outcome : Outcome) (told : Said) : Type 0 where

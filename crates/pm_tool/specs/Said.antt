@@ -14,6 +14,7 @@ use Rattle.pm_tool.specs.declared.outcome.Refusal.TheVariants as refusals
 use Rattle.pm_tool.specs.declared.source.TheConstants.{INPUT_LIMIT}
 use Rattle.pm_filer.specs.Filed.{order_of}
 use Rattle.pm_volume.specs.Headers.{blank_fault}
+use Rattle.pm_tool.specs.Assembly.{said_asm}
 use Rattle.pm_tool.specs.Code.{said_dis}
 use Rattle.pm_tool.specs.Disks.{booted, images_of, started}
 use Rattle.pm_tool.specs.Files.{said_files, said_new}
@@ -70,6 +71,7 @@ said (jobs.Raw limit) input = said_started Trace limit (loaded (spelled input)) 
 said (jobs.Run disks name limit save) input = said_started (Console save) limit (booted (images_of disks) (string_bytes name)) input
 said (jobs.Trace disks name limit) input = said_started Trace limit (booted (images_of disks) (string_bytes name)) input
 said (jobs.Debug disks name) input = said_debug (booted (images_of disks) (string_bytes name)) input
+said (jobs.Asm list) input = said_asm list input
 said jobs.Dis input = said_dis input
 said (jobs.Files image command) input = said_files image.items (order_of command) input
 said (jobs.New name blocks) input = said_new (blank_fault (string_bytes name) blocks) (string_bytes name) blocks input

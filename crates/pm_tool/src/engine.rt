@@ -5,6 +5,7 @@ ghost use Rattle.pm_tool.specs.Hex.{spelled};
 ghost use Rattle.pm_tool.specs.Outcomes.{exit_number, fault_exit, fault_text};
 ghost use Rattle.pm_tool.specs.Said.{loaded, said, said_started, IsSound, IsCutShort, IsDone, IsBrokenOff, Tells, IsCut, FailsExactly};
 
+use crate::assembly::assemble;
 use crate::code::disassemble;
 use crate::debug::debug;
 use crate::fault::{Fault, MESSAGE_ROOM};
@@ -100,6 +101,7 @@ fn perform<R: Source, W: Sink>(
             )
         }
         Job::Debug { disks, name } => debug(alloc, source, sink, disks, name.as_str()),
+        Job::Asm { list } => assemble(alloc, source, sink, list),
         Job::Dis => disassemble(alloc, source, sink),
         Job::Files { image, command } => files(alloc, source, sink, image, command),
         Job::New { name, blocks } => Ok(new_volume(alloc, name.as_str(), blocks)?),

@@ -2,6 +2,7 @@
 #![tactic(auto)]
 
 mod answer;
+mod assembly;
 mod code;
 mod debug;
 mod ending;

@@ -1,7 +1,8 @@
 //! Jobs, and what they come to.
 ghost use Rattle.std.specs.Prelude.{◌≡◌, [], List, ℕ, Some, None, IfOk, option_map, string_bytes, vec_items};
-ghost use Rattle.pm_tool.specs.Outcomes.{code_text, exit_number, refusal_text, text_fault_text, volume_text, IsOutcome, refused};
+ghost use Rattle.pm_tool.specs.Outcomes.{asm_text, code_text, exit_number, refusal_text, text_fault_text, volume_text, IsOutcome, refused};
 
+use pm_asm::AsmFault;
 use pm_codefile::CodeFault;
 use pm_filer::{Command, FilerFault};
 use pm_machine::BootFault;
@@ -43,6 +44,12 @@ pub enum Job {
     Debug {
         disks: [Option<Vec<u8>>; 6],
         name: String,
+    },
+    /// The input is a text of the assembler, each byte above 127 being character 127, and the output is the code file of its
+    /// program, or with `list` its listing alone. Any other text is refused by `refused asm N LINE`, with the number of its first
+    /// fault and its line, and one with a segment that is too long by `refused asm 7 SEGMENT`.
+    Asm {
+        list: bool,
     },
     /// The input is a code file, and the output is its text: its segments by ascending slot, each with its procedures. An input
     /// that is no code file is refused by `refused code N`, with the slot that the fault names.
@@ -160,6 +167,8 @@ pub(crate) enum Refusal {
     Filer(FilerFault),
     /// It is no code file.
     Code(CodeFault),
+    /// It is a text that spells no program, or one with a segment that is too long.
+    Asm(AsmFault),
 }
 
 /// The number of a volume's fault, and the entry that it names.
@@ -210,6 +219,22 @@ impl fmt::Display for CodeNumber {
     }
 }
 
+/// The number of a fault of the assembler's text, and the line or the segment that it names.
+#[derive(Clone, Copy)]
+struct AsmNumber(AsmFault);
+
+impl fmt::Display for AsmNumber {
+    ghost output = { λ fault. Some (asm_text fault.0) };
+
+    fn fmt<W: fmt::Write>(&self, f: &mut fmt::Formatter<W>) -> fmt::Result {
+        let number = self.0.number();
+        match self.0.place() {
+            Some(line) => write!(f, "{number} {line}"),
+            None => write!(f, "{number}"),
+        }
+    }
+}
+
 impl fmt::Display for Refusal {
     ghost output = { λ refusal. Some (refusal_text refusal) };
 
@@ -241,6 +266,10 @@ impl fmt::Display for Refusal {
             Refusal::Code(fault) => {
                 let fault = CodeNumber(fault);
                 write!(f, "refused code {fault}")
+            }
+            Refusal::Asm(fault) => {
+                let fault = AsmNumber(fault);
+                write!(f, "refused asm {fault}")
             }
             Refusal::Filer(FilerFault::BadDate) => write!(f, "refused filer 3"),
             Refusal::Filer(FilerFault::NoMemory) => write!(f, "refused filer 4"),

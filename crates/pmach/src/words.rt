@@ -2,7 +2,7 @@
 use crate::file_words::{FilesPlan, files, files_plan};
 use crate::run_words::{Keeping, Program, debug, keeping_of, program_of, run, trace};
 use clap::error::ErrorKind;
-use clap::{Arg, ArgMatches, Command};
+use clap::{Arg, ArgAction, ArgMatches, Command};
 use pm_tool::{Exit, Job};
 use std::alloc::{AllocError, Global};
 use std::env::Args;
@@ -105,6 +105,16 @@ fn raw<'a>(alloc: Global) -> Result<Command<'a>, AllocError> {
         .arg(limit(alloc))
 }
 
+fn asm<'a>(alloc: Global) -> Result<Command<'a>, AllocError> {
+    let list = Arg::new(alloc, "list")
+        .long("list")
+        .action(ArgAction::SetTrue)
+        .help("Writes the listing in place of the code file");
+    Command::new(alloc, "asm")
+        .about("Writes the code file of the assembler's text that standard input is")
+        .arg(list)
+}
+
 fn dis<'a>(alloc: Global) -> Command<'a> {
     Command::new(alloc, "dis").about(
         "Writes the text of the code file that standard input is: its segments, procedures and items",
@@ -119,6 +129,7 @@ fn command<'a>(alloc: Global) -> Result<Command<'a>, AllocError> {
         .subcommand(run(alloc)?)?
         .subcommand(trace(alloc)?)?
         .subcommand(debug(alloc)?)?
+        .subcommand(asm(alloc)?)?
         .subcommand(dis(alloc))
 }
 
@@ -164,6 +175,9 @@ fn plan_asked(alloc: Global, matches: &ArgMatches<'_>) -> Result<Plan, WordsErro
         )),
         Some(("trace", matches)) => Ok(Plan::Trace(program_of(alloc, matches)?)),
         Some(("debug", matches)) => Ok(Plan::Debug(program_of(alloc, matches)?)),
+        Some(("asm", matches)) => Ok(Plan::Job(Job::Asm {
+            list: matches.get_flag("list"),
+        })),
         Some(("dis", _)) => Ok(Plan::Job(Job::Dis)),
         Some((_, matches)) => Ok(Plan::Files(files_plan(alloc, matches)?)),
         None => Err(WordsError::NoCommand),

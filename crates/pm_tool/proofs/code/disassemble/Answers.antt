@@ -3,9 +3,11 @@ use Rattle.std.specs.Prelude.{vec_items}
 use Rattle.std.specs.Io.KnownBytes.{Appends}
 use Rattle.pm_codefile.specs.Dictionary.{file_fault}
 use Rattle.pm_disasm.specs.Shown.{file_text}
+use Rattle.pm_tool.specs.declared.outcome.Refusal.TheVariants as refusals
+use Rattle.pm_tool.specs.Code.{said_code, said_dis}
 use Rattle.pm_tool.specs.Streams.{AppendsFront}
 use Rattle.std.proofs.lemmas.Result.{err_from_is_err_and}
-use Rattle.pm_tool.proofs.Coded.{code_broken, code_refused, code_shown}
+use Rattle.pm_tool.proofs.Coded.{bytes_broken, bytes_written, input_refused}
 use Rattle.pm_tool.proofs.Kept.{broken_unwritten}
 use Rattle.pm_tool.proofs.code.disassemble.Goals as goal
 
@@ -24,7 +26,9 @@ returns-in_err-refuse-in-Err-clause-broken g c =
 
 pub returns-in-Err-clause-done : goal.returns-in-Err-clause-done
 returns-in-Err-clause-done g c =
-    code_refused _ _ c.in_ok-input.input.items c.in_ok-input.ensures.all _ c.in-Err.fault (sym (ap file_fault c.deref.ensures.value) ∙ c.in-Err.ensures.fault) _ c.in_ok-refuse-in-Err.ensures.outcome
+    let input = c.in_ok-input.input.items in
+    let fault = sym (ap file_fault c.deref.ensures.value) ∙ c.in-Err.ensures.fault in
+    input_refused _ _ input c.in_ok-input.ensures.all _ said_dis (refusals.Code c.in-Err.fault) (ap (λ o. said_code o input) (sym fault)) _ c.in_ok-refuse-in-Err.ensures.outcome
 
 pub returns-in_err-text-clause-broken : goal.returns-in_err-text-clause-broken
 returns-in_err-text-clause-broken g c =
@@ -40,14 +44,14 @@ returns-in_err-write_all-clause-broken g c =
     let input = c.in_ok-input.input.items in
     let sound : file_fault input ≡ None = sym (ap file_fault c.deref.ensures.value) ∙ c.in-Ok.ensures.accepted.0 (search rules) in
     let text : c.as_bytes.result.now ≡ file_text input = c.as_bytes.ensures.value ∙ c.in_ok-text.ensures.text ∙ ap file_text (c.in-Ok.ensures.read ∙ c.deref.ensures.value) in
-    rw (p.1, p.2) (code_broken _ _ input c.in_ok-input.ensures.all _ sound _ _ _ _ (subst (AppendsFront _ _) text c.in_err-write_all.ensures.front) c.in_ok-input.ensures.well (rw c.in_err-write_all.ensures.fault (c.in_err-write_all.ensures.failed, refl, omega arith)))
+    rw (p.1, p.2) (bytes_broken _ _ input c.in_ok-input.ensures.all _ said_dis (file_text input) (ap (λ o. said_code o input) (sym sound)) _ _ _ _ (subst (AppendsFront _ _) text c.in_err-write_all.ensures.front) c.in_ok-input.ensures.well (rw c.in_err-write_all.ensures.fault (c.in_err-write_all.ensures.failed, refl, omega arith)))
 
 pub returns-clause-done : goal.returns-clause-done
 returns-clause-done g c =
     let input = c.in_ok-input.input.items in
     let sound : file_fault input ≡ None = sym (ap file_fault c.deref.ensures.value) ∙ c.in-Ok.ensures.accepted.0 (search rules) in
     let text : c.as_bytes.result.now ≡ file_text input = c.as_bytes.ensures.value ∙ c.in_ok-text.ensures.text ∙ ap file_text (c.in-Ok.ensures.read ∙ c.deref.ensures.value) in
-    code_shown _ _ input c.in_ok-input.ensures.all _ sound _ c.plain.result (subst (Appends _ _) text c.in_ok-write_all.ensures.all) (record {
+    bytes_written _ _ input c.in_ok-input.ensures.all _ said_dis (file_text input) (ap (λ o. said_code o input) (sym sound)) _ c.plain.result (subst (Appends _ _) text c.in_ok-write_all.ensures.all) (record {
       status = c.plain.ensures.status;
       message = ap string_bytes c.plain.ensures.message ∙ c.new.ensures.bytes;
       image = ap (option_map vec_items) c.plain.ensures.image;

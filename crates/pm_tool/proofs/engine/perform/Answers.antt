@@ -17,6 +17,9 @@ returns-in-Trace-clause-broken g c = broken_job c.args.job (jobs.Trace c.in-Trac
 pub returns-in-Debug-clause-broken : goal.returns-in-Debug-clause-broken
 returns-in-Debug-clause-broken g c = broken_job c.args.job (jobs.Debug c.in-Debug.disks c.in-Debug.name) _ _ _ _ _ _ _ (rw c.as_str-in-Debug.ensures.value at c.debug.ensures.broken) c.in-Debug.is
 
+pub returns-in-Asm-clause-broken : goal.returns-in-Asm-clause-broken
+returns-in-Asm-clause-broken g c = broken_job c.args.job (jobs.Asm c.in-Asm.list) _ _ _ _ _ _ _ c.assemble.ensures.broken c.in-Asm.is
+
 pub returns-in-Dis-clause-broken : goal.returns-in-Dis-clause-broken
 returns-in-Dis-clause-broken g c = broken_job c.args.job jobs.Dis _ _ _ _ _ _ _ c.disassemble.ensures.broken c.in-Dis.is
 

@@ -1,0 +1,69 @@
+//! The job on a text of the assembler.
+ghost use Rattle.std.specs.Prelude.{◌≡◌, false, Ok, Err, IfOk, IfErr, OnOk, string_bytes};
+ghost use Rattle.pm_asm.specs.Assembled.{assembled};
+ghost use Rattle.pm_tool.specs.Assembly.{character_of, said_asm, text_of, wanted};
+ghost use Rattle.pm_tool.specs.Said.{IsBrokenOff, IsDone};
+
+use crate::fault::Fault;
+use crate::outcome::{Exit, Outcome, Refusal, refuse};
+use crate::sink::{Sink, write_all};
+use crate::source::{Source, read_all};
+use pm_asm::{AsmFault, Assembly};
+use std::alloc::{AllocError, Global};
+
+/// The character of the text that a byte is: one above 127 is character 127.
+fn character(byte: u8) -> char
+    ensures value { result ≡ character_of byte }
+{
+    char::from(byte.min(127))
+}
+
+/// The text that an input is.
+#[tactic(auto, unfolding(crate::specs::Assembly::text_of))]
+fn text_of(alloc: Global, input: &[u8]) -> Result<String, AllocError>
+    ensures text { IfOk result (λ text. string_bytes text ≡ text_of input.now) }
+{
+    let mut text = String::new(alloc);
+    for byte in input {
+        text.push(character(*byte))?;
+    }
+    Ok(text)
+}
+
+/// The bytes of the code file of the text that an input is; with `list` those of its listing.
+fn wanted(alloc: Global, input: &[u8], list: bool) -> Result<Result<Vec<u8>, AsmFault>, AllocError>
+    ensures bytes { IfOk result (λ bytes. IfOk bytes (λ bytes. wanted list (assembled (text_of input.now)) ≡ Ok bytes.items)) }
+    ensures fault { IfOk result (λ bytes. IfErr bytes (λ fault. wanted list (assembled (text_of input.now)) ≡ Err fault)) }
+{
+    let text = text_of(alloc, input)?;
+    match pm_asm::assemble(alloc, &text) {
+        Ok(Assembly { listing, .. }) if list => Ok(Ok(listing.into_bytes())),
+        Ok(Assembly { file, .. }) => Ok(Ok(file)),
+        Err(AsmFault::NoMemory) => Err(AllocError),
+        Err(fault) => Ok(Err(fault)),
+    }
+}
+
+/// Writes the code file of the text that the input is, or with `list` its listing.
+pub(crate) fn assemble<R: Source, W: Sink>(
+    alloc: Global,
+    source: &mut R,
+    sink: &mut W,
+    list: bool,
+) -> Result<Outcome, Fault>
+    requires source_well { R.has_failed source.old ≡ false }
+    requires sink_well { W.has_failed sink.old ≡ false }
+    ensures done { IfOk result (λ outcome. IsDone (R.remaining source.old) (R.remaining source.new)
+        (W.contents sink.old) (W.contents sink.new) outcome (said_asm list)) }
+    ensures well { OnOk result ((R.has_failed source.new ≡ false) × (W.has_failed sink.new ≡ false)) }
+    ensures broken { IfErr result (λ fault. IsBrokenOff (R.remaining source.old) (R.remaining source.new)
+        (W.contents sink.old) (W.contents sink.new) fault (R.has_failed source.new) (W.has_failed sink.new) (said_asm list)) }
+{
+    let input = read_all(alloc, source)?;
+    let bytes = match wanted(alloc, &input, list)? {
+        Ok(bytes) => bytes,
+        Err(fault) => return Ok(refuse(alloc, Refusal::Asm(fault))?),
+    };
+    write_all(sink, &bytes)?;
+    Ok(Outcome::plain(alloc, Exit::Ended, String::new(alloc)))
+}

@@ -2,13 +2,14 @@
 ghost use Rattle.std.specs.Prelude.{◌≡◌, length, sum};
 
 use crate::code::SEGMENTS;
-use crate::jobs::tells;
+use crate::jobs::{job_run, tells};
 use crate::lines::{ILL_FORMED, ILL_FORMED_ENDS, UNKNOWN, UNKNOWN_TYPE};
 use crate::shown::{LONG, LONG_TEXT, NAMES, TEXT, lengths_of};
 use crate::tested::Tested;
 use pm_asm::{AsmFault, assemble};
 use pm_codefile::CodeFile;
 use pm_machine::Stop;
+use pm_tool::Job;
 use pm_volume::Volume;
 use pm_words::ExecError;
 use std::alloc::Global;
@@ -127,6 +128,63 @@ fn round_trips(rt: HostRuntime) -> Result<(), Fail> {
     comes_back(&rt, rt.alloc(), TEXT)?;
     comes_back(&rt, rt.alloc(), LONG_TEXT)?;
     comes_back(&rt, rt.alloc(), "")
+}
+
+/// What the job refuses.
+fn refuses(rt: &impl Abort, alloc: Global, input: &[u8], message: &str) {
+    tells(
+        rt,
+        alloc,
+        Job::Asm { list: false },
+        input,
+        (2, message, "", 0),
+    );
+    tells(
+        rt,
+        alloc,
+        Job::Asm { list: true },
+        input,
+        (2, message, "", 0),
+    );
+}
+
+#[test]
+fn refusals(rt: HostRuntime) -> Result<(), Fail> {
+    let alloc = rt.alloc();
+    refuses(&rt, alloc, b"FOO\n", "refused asm 2 1");
+    refuses(&rt, alloc, b"\n; \xc3\xa9\nFOO\n", "refused asm 1 2");
+    let long = long_text(alloc, 29993)?;
+    refuses(&rt, alloc, long.as_bytes(), "refused asm 7 5");
+    Ok(())
+}
+
+#[test]
+fn listings(rt: HostRuntime) -> Result<(), Fail> {
+    let job = Job::Asm { list: true };
+    tells(&rt, rt.alloc(), job, TEXT.as_bytes(), (0, "", LISTING, 0));
+    Ok(())
+}
+
+/// The job on a text writes a code file with these segments.
+fn writes(
+    rt: &impl Abort,
+    alloc: Global,
+    text: &str,
+    lengths: [u16; 3],
+    segments: &[u8],
+) -> Result<(), Fail>
+    requires joined { sum lengths ≡ length segments.now }
+{
+    let file = pm_codefile::write(alloc, &NAMES, &lengths_of(lengths), segments)?;
+    let ran = job_run(alloc, Job::Asm { list: false }, text.as_bytes());
+    assert_eq!(rt; ran.written.as_slice(), file.as_slice());
+    Ok(())
+}
+
+#[test]
+fn files(rt: HostRuntime) -> Result<(), Fail> {
+    writes(&rt, rt.alloc(), TEXT, [22, 16, 16], &SEGMENTS)?;
+    writes(&rt, rt.alloc(), LONG_TEXT, [20, 0, 0], &LONG)
 }
 
 #[test]

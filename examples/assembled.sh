@@ -1,0 +1,22 @@
+#!/bin/bash
+# Assembles the programs of this folder and puts them into a new volume: examples/assembled.sh PATH
+#   OK      writes OK to the console
+#   ECHO    reads the console, which shows what is typed, until a full stop
+#   LOADS   calls two segments, one loaded where the other stood
+#   CASES   writes a word for each of three numbers, by a table jump
+#   NESTED  has a procedure in a procedure, which changes a variable of the outer one
+set -e
+[ $# = 1 ] || {
+    echo "usage: assembled.sh PATH" >&2
+    exit 1
+}
+here=$(dirname "$(readlink -f "$0")")
+pmach=$here/../pmach
+image=$1
+scratch=$(mktemp -d)
+trap 'rm -rf "$scratch"' EXIT
+"$pmach" files --image "$image" new WORK 40
+for name in ok echo loads cases nested; do
+    "$pmach" asm <"$here/$name.text" >"$scratch/code"
+    "$pmach" files --image "$image" put "${name^^}" code <"$scratch/code"
+done

@@ -19,7 +19,7 @@ procedure() {
 
 # timed NAME OPTIONS..: seconds of processor time, and the size of what is written
 timed() {
-    local name=$1 seconds status
+    local name=$1 seconds
     shift
     seconds=$({ TIMEFORMAT=%U; time "$pmach" asm "$@" <"$scratch/text" >"$scratch/out" 2>"$scratch/err"; } 2>&1)
     echo "$name${*:+ $*}: text of $(wc -c <"$scratch/text") bytes, ${seconds} s, $(wc -c <"$scratch/out") bytes $(cat "$scratch/err")"

@@ -318,6 +318,66 @@ fn faults_of_texts(rt: HostRuntime) -> Result<(), Fail> {
     Ok(())
 }
 
+/// The fault of a procedure of these lines, the first of which is line 3 of the text.
+fn procedure_is(
+    rt: &impl Abort,
+    alloc: Global,
+    lines: &str,
+    expected: AsmFault,
+) -> Result<(), Fail> {
+    let mut text = String::new(alloc);
+    text.push_str(".SEG 1 MAIN\n.PROC 1 0 0 0\n")?;
+    text.push_str(lines)?;
+    is(rt, alloc, &text, expected);
+    Ok(())
+}
+
+#[test]
+fn faults_of_procedures(rt: HostRuntime) -> Result<(), Fail> {
+    let alloc = rt.alloc();
+    procedure_is(
+        &rt,
+        alloc,
+        "L1:\nL1: FOO\n.EXIT\n.END\n",
+        AsmFault::Unknown(4),
+    )?;
+    procedure_is(
+        &rt,
+        alloc,
+        "L1:\n.EXIT\n.JUMP L1\nFOO\n.END\n",
+        AsmFault::Unknown(6),
+    )?;
+    procedure_is(
+        &rt,
+        alloc,
+        "L1:\n.EXIT\n.JUMP L1\n.EXIT\n.END\n",
+        AsmFault::Syntax(6),
+    )?;
+    procedure_is(
+        &rt,
+        alloc,
+        "L1:\n.EXIT\n.JUMP L1\n.END\n",
+        AsmFault::Range(6),
+    )?;
+    procedure_is(
+        &rt,
+        alloc,
+        "L1:\n.EXIT\n.JUMP L2\nUJP ^0\n.END\n",
+        AsmFault::Syntax(6),
+    )?;
+    procedure_is(
+        &rt,
+        alloc,
+        "UJP ^0\n.EXIT\n.JUMP L2\n.END\n",
+        AsmFault::NoLabel(5),
+    )?;
+    procedure_is(&rt, alloc, ".EXIT\n.END,\n.END\n", AsmFault::Unknown(4))?;
+    procedure_is(&rt, alloc, ".EXIT\n.END,\n", AsmFault::Syntax(2))?;
+    procedure_is(&rt, alloc, ".EXIT\n.END\u{7f}\n", AsmFault::Syntax(2))?;
+    procedure_is(&rt, alloc, ".EXIT\n.END\r\r\n.END\n", AsmFault::Syntax(4))?;
+    procedure_is(&rt, alloc, ".EXIT\n.END\nFOO \"\"\n", AsmFault::Unknown(5))
+}
+
 /// A text of a segment 5 with one procedure, whose code has so many pairs of bytes and two more.
 fn long_text(alloc: Global, pairs: usize) -> Result<String, Fail> {
     let mut text = String::new(alloc);

@@ -7,7 +7,7 @@ ghost use Rattle.pm_source.specs.Meaning.{found_label, found_target};
 ghost use Rattle.pm_asm.specs.Found.{exit_in};
 ghost use Rattle.pm_asm.specs.Firsts.{places_in};
 
-use crate::labels::{Code, has_label};
+use crate::labels::{Code, place_of};
 use crate::sizes::row_end;
 use pm_line::{Row, Target};
 use std::alloc::AllocError;
@@ -16,14 +16,8 @@ use std::alloc::AllocError;
 pub(crate) fn found_label(labels: Code<'_, '_>, name: &[u8]) -> Result<usize, AllocError>
     ensures { IfOk result (λ place. place ≡ found_label (places_in labels.entry) name.now) }
 {
-    let mut at = labels.start;
-    for row in labels.rows {
-        if has_label(name, row) {
-            return Ok(at);
-        }
-        at = row_end(at, row).ok_or(AllocError)?;
-    }
-    Ok(0)
+    let place = place_of(&labels, name).map_err(|_| AllocError)?;
+    Ok(place.unwrap_or(0))
 }
 
 /// The place of the exit code. It fails only where the code is longer than memory can be.

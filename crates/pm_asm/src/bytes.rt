@@ -20,6 +20,12 @@ use pm_line::{Item, Row, Target};
 use pm_opcode::encode;
 use std::alloc::{AllocError, Global};
 
+/// The opcode of XJP.
+const CASE_JUMP: u8 = 172;
+
+/// The opcode of UJP, the jump in an XJP.
+const JUMP: u8 = 185;
+
 /// Adds a word, its low byte first.
 fn push_word(out: &mut Vec<u8>, value: u16) -> Result<(), AllocError>
     ensures { OnOk result (out.new.items ≡ out.old.items ++ word value) }
@@ -65,12 +71,12 @@ fn push_case(
         (Case bounds.0 bounds.1 (found_target (places_in labels.entry) (target_seen otherwise.entry)) (map (found_label (places_in labels.entry)) (texts_seen names.now)))) }
 {
     let at = out.len();
-    out.push(172)?;
+    out.push(CASE_JUMP)?;
     push_padding(out, at)?;
     push_word(out, bounds.0)?;
     push_word(out, bounds.1)?;
     let byte = jump_byte(labels, out.len() + 2, otherwise)?;
-    out.push(185)?;
+    out.push(JUMP)?;
     out.push(byte)?;
     push_table(out, labels, names)
 }

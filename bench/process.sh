@@ -202,9 +202,9 @@ usage "the listing twice" asm --list --list
 
 # code files as text
 "$pmach" files --image "$programs" get LOADS >"$scratch/code" </dev/null
-printf '%s\n' ".SEG 1 ?" ".PROC 1 0 0 0" "  CXP 2, 1" "  CXP 3, 1" ".EXIT" "  RBP 0" ".END" \
-    ".SEG 2 ?" ".PROC 1 0 0 4" ".EXIT" "  RBP 0" ".END" \
-    ".SEG 3 ?" ".PROC 1 0 0 8" ".EXIT" "  RBP 0" ".END" >"$scratch/text"
+printf '%s\n' ".SEG 1 LOADS" ".PROC 1 0 0 0" "  CXP 2, 1" "  CXP 3, 1" ".EXIT" "  RBP 0" ".END" \
+    ".SEG 2 FIRST" ".PROC 1 0 0 4" ".EXIT" "  RBP 0" ".END" \
+    ".SEG 3 SECOND" ".PROC 1 0 0 8" ".EXIT" "  RBP 0" ".END" >"$scratch/text"
 case_of "the text of a code file" 0 "$scratch/text" "$nothing" dis <"$scratch/code"
 echo "refused code 1" >"$message"
 case_of "500 bytes are no code file" 2 "$nothing" "$message" dis < <(head -c 500 "$scratch/code")

@@ -4,3 +4,4 @@ pub mod Tables
 pub mod Calls
 pub mod Returns
 pub mod Exits
+pub mod Laws

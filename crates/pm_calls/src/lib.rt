@@ -5,6 +5,7 @@ mod calls;
 mod exits;
 mod frame;
 mod frames;
+pub mod laws;
 mod links;
 mod registers;
 mod returns;

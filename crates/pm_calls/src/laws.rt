@@ -1,0 +1,10 @@
+//! A law of calls and returns. The function does nothing.
+
+ghost use Rattle.pm_calls.specs.Laws.{ReturnGivesBack};
+
+/// A return right after its call gives the caller's registers back: all but SP, which leaves the
+/// parameters behind and has the words returned on it. IPC is the call's next instruction.
+#[tactic(auto, using(crate::proofs::ReturnLaws::return_gives_back))]
+pub fn return_gives_back()
+    ensures law { ReturnGivesBack }
+{}

@@ -14,6 +14,8 @@ mod devices;
 #[cfg(test)]
 mod faults;
 #[cfg(test)]
+mod fields;
+#[cfg(test)]
 mod files;
 #[cfg(test)]
 mod jobs;
@@ -21,6 +23,8 @@ mod jobs;
 mod lines;
 #[cfg(test)]
 mod machine;
+#[cfg(test)]
+mod orders;
 #[cfg(test)]
 mod procedures;
 #[cfg(test)]
@@ -31,6 +35,8 @@ mod rows;
 mod runs;
 #[cfg(test)]
 mod sessions;
+#[cfg(test)]
+mod sets;
 #[cfg(test)]
 mod shown;
 #[cfg(test)]

@@ -16,3 +16,4 @@ pub mod Start
 pub mod Boot
 pub mod Runs
 pub mod Laws
+pub mod RunLaws

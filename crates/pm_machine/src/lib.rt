@@ -11,6 +11,7 @@ mod machine;
 mod pointers;
 mod procedures;
 mod state;
+pub mod step_laws;
 mod values;
 mod variables;
 mod views;

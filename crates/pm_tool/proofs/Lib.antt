@@ -11,3 +11,4 @@ pub mod Opening
 pub mod RunLaws
 pub mod SessionLaws
 pub mod Talked
+pub mod MachineRuns

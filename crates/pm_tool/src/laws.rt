@@ -1,5 +1,5 @@
 //! Laws of runs. The functions do nothing.
-ghost use Rattle.pm_tool.specs.Laws.{RunsAreEvents, ShowingChangesNothing};
+ghost use Rattle.pm_tool.specs.Laws.{RunsAreEvents, RunsGoByTheMachine, ShowingChangesNothing};
 
 /// A run leaves the machine as a list of steps and keys leaves it, and the bytes that are keyed are exactly those that are
 /// read.
@@ -12,4 +12,11 @@ pub fn runs_are_events()
 #[tactic(auto, using(crate::proofs::RunLaws::showing_changes_nothing))]
 pub fn showing_changes_nothing()
     ensures law { ShowingChangesNothing }
+{}
+
+/// A run is that of the machine without input as far as it goes; where that waits, the next byte is keyed, and what is left
+/// of the limit is run from there.
+#[tactic(auto, using(crate::proofs::MachineRuns::runs_go_by_the_machine))]
+pub fn runs_go_by_the_machine()
+    ensures law { RunsGoByTheMachine }
 {}

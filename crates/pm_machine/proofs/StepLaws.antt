@@ -1,0 +1,262 @@
+-- What a step and a row leave as it is.
+use Rattle.std.proofs.Common.{◌≡◌, ◌≢◌, ℕ, ◌+◌, ◌-◌, ◌%◌, ◌==◌, ◌&&◌, inl, inr, Some, None, length, Bool, true, false, cond, nat_lt, List, Option, Result, Ok, Err, refl, sym, ap, ◌∙◌, arith}
+use Rattle.std.proofs.lemmas.Bool.{cases_Bool}
+use Rattle.std.proofs.lemmas.Bool.Decides.{nat_tests}
+use Rattle.pm_words.specs.declared.error.ExecError.{ExecError}
+use Rattle.pm_words.specs.declared.error.ExecError.TheVariants.{InvalidIndex, InvalidMemory, StackOverflow}
+use Rattle.pm_words.specs.Words.{with_word, word_at}
+use Rattle.pm_words.specs.Stack.{◌>>=◌, StackRow, demand, is_even, load, pop, push, store}
+use Rattle.pm_words.proofs.Laws.{word_at-with_word_other}
+use Rattle.pm_opcode.specs.declared.instr.Instr.{Instr}
+use Rattle.pm_opcode.specs.declared.operation.Operation.{Operation}
+use Rattle.pm_opcode.specs.declared.operation.Operation.TheVariants as operation
+use Rattle.pm_opcode.specs.declared.operation.Arithmetic.{Arithmetic}
+use Rattle.pm_opcode.specs.declared.operation.Arithmetic.TheVariants.{Constant, Nil, OnOne, OnTwo, Compare, Check}
+use Rattle.pm_opcode.specs.declared.operation.Call as codes
+use Rattle.pm_opcode.specs.declared.operation.Return.{Return}
+use Rattle.pm_opcode.specs.Operations.{operation_of}
+use Rattle.pm_calls.specs.declared.registers.Registers.{Registers}
+use Rattle.pm_calls.specs.Calls.{called}
+use Rattle.pm_calls.specs.Exits.{exited}
+use Rattle.pm_calls.specs.Returns.{returned}
+use Rattle.pm_calls.specs.Places.{Parts}
+use Rattle.pm_stdproc.specs.Traps.{Pause, Fails, Waits, or_fails}
+use Rattle.pm_stdproc.specs.Devices.{Devices, cleared, image_at, unit_of}
+use Rattle.pm_stdproc.specs.Transfers.{Moved, can_move, from_disk, from_queue, read}
+use Rattle.pm_stdproc.specs.UnitRows.{Served, busy_row, clear_row, ordered, read_row, served, time_row, units_row, wait_row}
+use Rattle.pm_stdproc.specs.Procedures.{Reach, exit_row, on_memory, on_units, procedure_of, procedure_row}
+use Rattle.pm_stdproc.specs.Procedures as standard
+use Rattle.pm_stdproc.specs.MemoryRows.{memory_row}
+use Rattle.pm_stdproc.specs.declared.ports.Port.{Port}
+use Rattle.pm_stdproc.specs.declared.ports.Port.TheVariants.{Console, Terminal, Absent, Printer, Disk, Unknown}
+use Rattle.pm_stdproc.specs.declared.transfers.Transfer.{Transfer}
+use Rattle.pm_stdproc.specs.declared.procedures.OnUnits.{OnUnits}
+use Rattle.pm_stdproc.specs.declared.procedures.OnUnits.TheVariants as units
+use Rattle.pm_stdproc.specs.declared.procedures.Procedure.{Procedure}
+use Rattle.pm_stdproc.specs.declared.procedures.Procedure.TheVariants as procedure
+use Rattle.pm_machine.specs.declared.state.Status.{Status}
+use Rattle.pm_machine.specs.declared.state.Status.TheVariants as status
+use Rattle.pm_machine.specs.declared.state.Stop.{Stop}
+use Rattle.pm_machine.specs.State.{State}
+use Rattle.pm_machine.specs.Arithmetic.{arithmetic_row, binary_row, check_row, constant_row, relation_row, unary_row}
+use Rattle.pm_machine.specs.Jumps.{jump_row}
+use Rattle.pm_machine.specs.Literals.{literal_row}
+use Rattle.pm_machine.specs.Pointers.{pointer_row}
+use Rattle.pm_machine.specs.Values.{value_row}
+use Rattle.pm_machine.specs.Variables.{variable_row}
+use Rattle.pm_machine.specs.Loads.{code_needed}
+use Rattle.pm_machine.specs.Procedures.{call_of, call_row, is_base_return, parts, reach, return_row, standard_row, with_parts, with_reach, words_of_return}
+use Rattle.pm_machine.specs.Rows.{fetched, on_registers, on_stack, past, performed, row}
+use Rattle.pm_machine.specs.Signed.{binary}
+use Rattle.pm_machine.specs.Steps.{at_status, executed, settled, stepped}
+use Rattle.pm_machine.specs.RunLaws.{ArithmeticKeepsBelow, IsUnitWrite, KeepsBelow, RestStays, StepsKeepDisks}
+
+-- ---- a machine at rest
+
+at_rest : (a : Status) (s : State) → a ≢ status.Running → (at_status a s).0 ≡ s
+at_rest status.Running s other = absurd (other refl)
+at_rest status.Ended s other = refl
+at_rest (status.Halted e) s other = refl
+
+pub rest_stays : RestStays
+unfolding stepped
+rest_stays s other = at_rest s.status s other
+
+-- ---- disks
+
+abbrev Disks : Type 0
+Disks = List (Option (List ℕ))
+
+abbrev KeepsDevices : Disks → Result Devices Pause → Type 0
+KeepsDevices d (Ok e) = e.disks ≡ d
+KeepsDevices d (Err e) = Unit {0}
+
+-- what a part of a row gives has the old disks
+abbrev Keeps : {A E : Type 0} → (A → Disks) → Disks → Result A E → Type 0
+Keeps disks d (Ok x) = disks x ≡ d
+Keeps disks d (Err e) = Unit {0}
+
+then : {A B E : Type 0} (disks : B → Disks) (d : Disks) (r : Result A E) (f : A → Result B E) → ((x : A) → Keeps disks d (f x)) → Keeps disks d (r >>= f)
+then disks d (Ok x) f h = h x
+then disks d (Err e) f h = tt
+
+-- the same where the first part has the old disks itself
+after : {A B E : Type 0} (first : A → Disks) (disks : B → Disks) (d : Disks) (r : Result A E) (f : A → Result B E) → Keeps first d r → ((x : A) → first x ≡ d → Keeps disks d (f x)) → Keeps disks d (r >>= f)
+after first disks d (Ok x) f k h = h x k
+after first disks d (Err e) f k h = tt
+
+lifted : {A : Type 0} (disks : A → Disks) (d : Disks) (r : Result A ExecError) → Keeps disks d r → Keeps disks d (or_fails r)
+lifted disks d (Ok x) h = h
+lifted disks d (Err e) h = tt
+
+abbrev of_state : State → Disks
+of_state s = s.devices.disks
+
+abbrev of_reach : Reach → Disks
+of_reach s = s.devices.disks
+
+abbrev of_served : Served → Disks
+of_served s = s.devices.disks
+
+abbrev of_moved : Moved → Disks
+of_moved s = s.devices.disks
+
+-- ---- the standard procedures
+
+queue_keeps : (echo : Bool) (t : Transfer) (m : List ℕ) (d : Devices) → Keeps of_moved d.disks (from_queue echo t m d)
+queue_keeps echo t m d = elim (cases_Bool (nat_lt (length d.queue) t.count)) [ inl e ↦ rw e tt | inr e ↦ rw e refl ]
+
+disk_keeps : (o : Option (List ℕ)) (t : Transfer) (m : List ℕ) (d : Devices) → (from_disk o t m d).devices.disks ≡ d.disks
+disk_keeps None t m d = refl
+disk_keeps (Some image) t m d = elim (cases_Bool (can_move image t)) [ inl e ↦ rw e refl | inr e ↦ rw e refl ]
+
+read_keeps : (p : Port) (t : Transfer) (m : List ℕ) (d : Devices) → Keeps of_moved d.disks (read p t m d)
+unfolding read
+read_keeps Unknown t m d = refl
+read_keeps Absent t m d = refl
+read_keeps Printer t m d = refl
+read_keeps Console t m d = queue_keeps true t m d
+read_keeps Terminal t m d = queue_keeps false t m d
+read_keeps (Disk k) t m d = disk_keeps (image_at d k) t m d
+
+read_row_keeps : (s : Served) → Keeps of_served s.devices.disks (read_row s)
+unfolding read_row
+read_row_keeps s = then of_served s.devices.disks (or_fails (ordered s.memory s.registers.sp)) _ (λ o.
+  after of_moved of_served s.devices.disks (read (unit_of o.unit) o.transfer s.memory s.devices) _ (read_keeps (unit_of o.unit) o.transfer s.memory s.devices) (λ t e. e))
+
+time_keeps : (s : Served) → Keeps of_served s.devices.disks (time_row s)
+unfolding time_row
+time_keeps s = then of_served s.devices.disks (pop s.memory s.registers.sp) _ (λ b.
+  then of_served s.devices.disks (pop s.memory b.1) _ (λ a. then of_served s.devices.disks (demand (is_even a.0 && is_even b.0) InvalidMemory) _ (λ h. refl)))
+
+busy_keeps : (s : Served) → Keeps of_served s.devices.disks (busy_row s)
+unfolding busy_row
+busy_keeps s = then of_served s.devices.disks (pop s.memory s.registers.sp) _ (λ unit.
+  then of_served s.devices.disks (push s.memory unit.1 s.registers.np 0) _ (λ n. refl))
+
+wait_keeps : (s : Served) → Keeps of_served s.devices.disks (wait_row s)
+unfolding wait_row
+wait_keeps s = then of_served s.devices.disks (pop s.memory s.registers.sp) _ (λ unit. refl)
+
+cleared_keeps : (p : Port) (d : Devices) → (cleared p d).1.disks ≡ d.disks
+cleared_keeps Unknown d = refl
+cleared_keeps Absent d = refl
+cleared_keeps Printer d = refl
+cleared_keeps Console d = refl
+cleared_keeps Terminal d = refl
+cleared_keeps (Disk k) d = refl
+
+clear_keeps : (s : Served) → Keeps of_served s.devices.disks (clear_row s)
+unfolding clear_row
+clear_keeps s = then of_served s.devices.disks (pop s.memory s.registers.sp) _ (λ unit. cleared_keeps (unit_of unit.0) s.devices)
+
+units_keep : (o : OnUnits) (s : Served) → o ≢ units.Write → Keeps of_served s.devices.disks (units_row o s)
+unfolding units_row
+units_keep units.Read s other = read_row_keeps s
+units_keep units.Write s other = absurd (other refl)
+units_keep units.Time s other = lifted of_served s.devices.disks (time_row s) (time_keeps s)
+units_keep units.Busy s other = lifted of_served s.devices.disks (busy_row s) (busy_keeps s)
+units_keep units.Wait s other = lifted of_served s.devices.disks (wait_row s) (wait_keeps s)
+units_keep units.Clear s other = lifted of_served s.devices.disks (clear_row s) (clear_keeps s)
+
+exit_keeps : (s : Reach) → Keeps of_reach s.devices.disks (exit_row s)
+unfolding exit_row
+exit_keeps s = then of_reach s.devices.disks (pop s.memory s.registers.sp) _ (λ p.
+  then of_reach s.devices.disks (pop s.memory p.1) _ (λ n.
+    then of_reach s.devices.disks (exited (standard.parts s (record s.registers { sp = n.1 })) (record { segment = n.0; procedure = p.0 })) _ (λ left. refl)))
+
+procedure_keeps : (p : Procedure) (s : Reach) → p ≢ procedure.OnUnits units.Write → Keeps of_reach s.devices.disks (procedure_row p s)
+unfolding procedure_row
+procedure_keeps (procedure.OnMemory o) s other = lifted of_reach s.devices.disks (on_memory s (memory_row o s.memory s.registers)) (
+  then of_reach s.devices.disks (memory_row o s.memory s.registers) _ (λ t. refl))
+procedure_keeps (procedure.OnUnits o) s other =
+    after of_served of_reach s.devices.disks (units_row o (served s.memory s.registers s.devices)) _ (
+      units_keep o (served s.memory s.registers s.devices) (λ e. other (ap procedure.OnUnits e))) (λ t e. e)
+procedure_keeps procedure.Exit s other = lifted of_reach s.devices.disks (exit_row s) (exit_keeps s)
+procedure_keeps procedure.Unimplemented s other = tt
+
+-- ---- the rows
+
+standard_keeps : (n : ℕ) (s : State) → procedure_of n ≢ procedure.OnUnits units.Write → Keeps of_state s.devices.disks (standard_row n s)
+standard_keeps n s other =
+    after of_reach of_state s.devices.disks (procedure_row (procedure_of n) (reach s)) _ (procedure_keeps (procedure_of n) (reach s) other) (λ t e. e)
+
+stack_keeps : (s : State) (r : Result (List ℕ × ℕ) ExecError) → Keeps of_state s.devices.disks (or_fails (on_stack s r))
+stack_keeps s r = lifted of_state s.devices.disks (on_stack s r) (then of_state s.devices.disks r _ (λ t. refl))
+
+registers_keep : (s : State) (r : Result Registers ExecError) → Keeps of_state s.devices.disks (or_fails (on_registers s r))
+registers_keep s r = lifted of_state s.devices.disks (on_registers s r) (then of_state s.devices.disks r _ (λ t. refl))
+
+call_keeps : (c : codes.Call) (s : State) → Keeps of_state s.devices.disks (call_row c s)
+unfolding call_row
+call_keeps c s = then of_state s.devices.disks (code_needed (call_of c) s.places s.rows s.devices) _ (λ code.
+  then of_state s.devices.disks (called (parts s) (call_of c) code) _ (λ p. refl))
+
+return_keeps : (r : Return) (s : State) → Keeps of_state s.devices.disks (return_row r s)
+return_keeps r s = then of_state s.devices.disks (returned (parts s) (words_of_return r) (is_base_return r)) _ (λ p. refl)
+
+performed_keeps : (o : Operation) (s : State) → ((n : ℕ) → o ≡ operation.Standard n → procedure_of n ≢ procedure.OnUnits units.Write) →
+    Keeps of_state s.devices.disks (performed o s)
+performed_keeps (operation.Arithmetic o) s other = stack_keeps s (arithmetic_row o s.memory s.registers.sp s.registers.np)
+performed_keeps (operation.Variable o) s other = stack_keeps s (variable_row o s.memory s.registers)
+performed_keeps (operation.Pointer o) s other = stack_keeps s (pointer_row o s.memory s.registers.sp s.registers.np)
+performed_keeps (operation.Value o) s other = stack_keeps s (value_row o s.memory s.registers.sp s.registers.np)
+performed_keeps (operation.Literal o) s other = stack_keeps s (literal_row o s.memory s.registers.sp s.registers.np)
+performed_keeps (operation.Jump o) s other = registers_keep s (jump_row o s.memory s.registers)
+performed_keeps (operation.Call o) s other = lifted of_state s.devices.disks (call_row o s) (call_keeps o s)
+performed_keeps (operation.Return o) s other = lifted of_state s.devices.disks (return_row o s) (return_keeps o s)
+performed_keeps (operation.Standard n) s other = standard_keeps n s (other n refl)
+performed_keeps operation.Nothing s other = refl
+performed_keeps operation.End s other = refl
+performed_keeps operation.Unimplemented s other = tt
+
+-- ---- a step
+
+settled_keeps : (s : State) (r : Result State Pause) → Keeps of_state s.devices.disks r → (settled s r).0.devices.disks ≡ s.devices.disks
+settled_keeps s (Ok t) h = h
+settled_keeps s (Err (Fails e)) h = refl
+settled_keeps s (Err Waits) h = refl
+
+fetched_keeps : (s : State) (r : Result Instr ExecError) → ((i : Instr) → r ≡ Ok i → IsUnitWrite i → ⊥) →
+    Keeps of_state s.devices.disks (or_fails r >>= λ i. row i s)
+unfolding row
+fetched_keeps s (Err e) other = tt
+fetched_keeps s (Ok i) other = performed_keeps (operation_of i) (past i s) (λ n e p. other i refl (n, e, p))
+
+status_keeps : (a : Status) (s : State) → ((i : Instr) → fetched s.memory s.registers.ipc ≡ Ok i → IsUnitWrite i → ⊥) →
+    (at_status a s).0.devices.disks ≡ s.devices.disks
+unfolding executed
+status_keeps status.Running s other = settled_keeps s (executed s) (fetched_keeps s (fetched s.memory s.registers.ipc) other)
+status_keeps status.Ended s other = refl
+status_keeps (status.Halted e) s other = refl
+
+pub steps_keep_disks : StepsKeepDisks
+unfolding stepped
+steps_keep_disks s other = status_keeps s.status s other
+
+-- ---- the stack
+
+bound : {A : Type 0} (m : List ℕ) (r : Result A ExecError) (f : A → Result (List ℕ × ℕ) ExecError) → ((x : A) → KeepsBelow m (f x)) → KeepsBelow m (r >>= f)
+bound m (Ok x) f h = h x
+bound m (Err e) f h = tt
+
+stored_below : (m : List ℕ) (a w : ℕ) → KeepsBelow m (store m a w >>= λ n. Ok (n, a))
+stored_below m a w = elim (cases_Bool (is_even a)) [
+  | inl e ↦ rw e (λ x even other. word_at-with_word_other m a x w (grind (arith, nat_tests, e)) even other)
+  | inr e ↦ rw e tt
+]
+
+pushed_below : (m : List ℕ) (sp np w : ℕ) → KeepsBelow m (push m sp np w)
+pushed_below m sp np w = elim (cases_Bool (nat_lt sp (np + 2))) [
+  | inl e ↦ rw e tt
+  | inr e ↦ rw e (stored_below m (sp - 2) w)
+]
+
+pub arithmetic_keeps_below : ArithmeticKeepsBelow
+unfolding arithmetic_row constant_row unary_row binary_row relation_row check_row
+arithmetic_keeps_below (Constant w) m sp np = pushed_below m sp np w
+arithmetic_keeps_below Nil m sp np = pushed_below m sp np 0
+arithmetic_keeps_below (OnOne o) m sp np = bound m (pop m sp) _ (λ a. pushed_below m a.1 np _)
+arithmetic_keeps_below (OnTwo o) m sp np = bound m (pop m sp) _ (λ b. bound m (pop m b.1) _ (λ a. bound m (binary o a.0 b.0) _ (λ c. pushed_below m a.1 np c)))
+arithmetic_keeps_below (Compare o) m sp np = bound m (pop m sp) _ (λ b. bound m (pop m b.1) _ (λ a. pushed_below m a.1 np _))
+arithmetic_keeps_below Check m sp np = bound m (pop m sp) _ (λ c. bound m (pop m c.1) _ (λ b. bound m (pop m b.1) _ (λ a. bound m _ _ (λ h. pushed_below m a.1 np a.0))))

@@ -1,0 +1,70 @@
+-- Laws of steps and runs.
+use Rattle.std.specs.Prelude.{◌≡◌, ◌≢◌, ℕ, ◌+◌, ◌%◌, List, Result, Ok, Err}
+use Rattle.pm_words.specs.declared.error.ExecError.{ExecError}
+use Rattle.pm_words.specs.Words.{word_at}
+use Rattle.pm_opcode.specs.declared.instr.Instr.{Instr}
+use Rattle.pm_opcode.specs.declared.operation.Operation.TheVariants as operation
+use Rattle.pm_opcode.specs.declared.operation.Arithmetic.{Arithmetic}
+use Rattle.pm_opcode.specs.Operations.{operation_of}
+use Rattle.pm_stdproc.specs.Procedures.{procedure_of}
+use Rattle.pm_stdproc.specs.declared.procedures.OnUnits.TheVariants as units
+use Rattle.pm_stdproc.specs.declared.procedures.Procedure.TheVariants.{OnUnits}
+use Rattle.pm_machine.specs.declared.state.Status.TheVariants as status
+use Rattle.pm_machine.specs.declared.state.Stop.{Stop}
+use Rattle.pm_machine.specs.declared.state.Stop.TheVariants as stop
+use Rattle.pm_machine.specs.State.{State}
+use Rattle.pm_machine.specs.Arithmetic.{arithmetic_row}
+use Rattle.pm_machine.specs.Rows.{fetched}
+use Rattle.pm_machine.specs.Runs.{Ran}
+use Rattle.pm_machine.specs.Steps.{stepped}
+
+-- ---- runs
+
+-- a run that its limit stopped, and one that goes on from there, are one run of both limits, and all their steps count
+abbrev pub RunsGoOn : Type 0
+RunsGoOn =
+    (m n c d : ℕ) (s t u : State) (answer : Stop) →
+    Ran m s c stop.Went t → Ran n t d answer u → Ran (m + n) s (c + d) answer u
+
+-- a run that an answer stopped is the run of every greater limit as well
+abbrev pub RunsStay : Type 0
+RunsStay =
+    (m n c : ℕ) (s t : State) (answer : Stop) → answer ≢ stop.Went → Ran m s c answer t → Ran (m + n) s c answer t
+
+-- the outcomes of a run: how many steps counted, the last answer, and the state
+pub record SameOutcome (c d : ℕ) (a b : Stop) (t u : State) : Type 0 where
+  pub count : c ≡ d
+  pub answer : a ≡ b
+  pub state : t ≡ u
+
+-- a run has one outcome
+abbrev pub RunsAreOne : Type 0
+RunsAreOne =
+    (limit c d : ℕ) (s t u : State) (a b : Stop) → Ran limit s c a t → Ran limit s d b u → SameOutcome c d a b t u
+
+-- ---- steps
+
+-- a machine that has ended or halted stays as it is, whatever steps it is asked for
+abbrev pub RestStays : Type 0
+RestStays = (s : State) → s.status ≢ status.Running → (stepped s).0 ≡ s
+
+-- an instruction that is UNITWRITE
+abbrev pub IsUnitWrite : Instr → Type 0
+IsUnitWrite i = (n : ℕ) × (operation_of i ≡ operation.Standard n) × (procedure_of n ≡ OnUnits units.Write)
+
+-- a step changes no disk, unless its instruction is UNITWRITE
+abbrev pub StepsKeepDisks : Type 0
+StepsKeepDisks =
+    (s : State) → ((i : Instr) → fetched s.memory s.registers.ipc ≡ Ok i → IsUnitWrite i → ⊥) →
+    (stepped s).0.devices.disks ≡ s.devices.disks
+
+-- ---- rows
+
+-- what a row on the stack gives has every word of the old memory, but for the one on the new top
+abbrev pub KeepsBelow : List ℕ → Result (List ℕ × ℕ) ExecError → Type 0
+KeepsBelow m (Ok t) = (a : ℕ) → a % 2 ≡ 0 → a ≢ t.1 → word_at t.0 a ≡ word_at m a
+KeepsBelow m (Err e) = Unit {0}
+
+-- a row on words as integers writes its result, and nothing else
+abbrev pub ArithmeticKeepsBelow : Type 0
+ArithmeticKeepsBelow = (o : Arithmetic) (m : List ℕ) (sp np : ℕ) → KeepsBelow m (arithmetic_row o m sp np)

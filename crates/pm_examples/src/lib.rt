@@ -46,4 +46,6 @@ mod table;
 #[cfg(test)]
 mod tested;
 #[cfg(test)]
+mod tour;
+#[cfg(test)]
 mod values;

@@ -1,4 +1,5 @@
 //! Comparisons of strings, bytes, words, booleans and sets.
+use crate::sets::{NO_TWO_SETS, leave};
 use crate::values::{Bytes, Left, MEMORY, NOT_HERE, NP, Row, check};
 use pm_values::{Kind, Relation};
 use pm_words::ExecError;

@@ -119,7 +119,7 @@ const TWO_SETS: &[(&[u16], &[u16], &[u16], &[u16])] = &[
 ];
 
 /// Stacks that no row on two sets takes, in the order of the faults.
-const NO_TWO_SETS: &[(&[u16], Left)] = &[
+pub(crate) const NO_TWO_SETS: &[(&[u16], Left)] = &[
     (&[], MEMORY),
     (&[300], INDEX),
     // the upper set's words are not there, also where a word is the lower one's bad count
@@ -137,7 +137,7 @@ const NO_TWO_SETS: &[(&[u16], Left)] = &[
     (&[0, 255], MEMORY),
 ];
 
-fn leave(rt: &impl Abort, alloc: Global, cases: &[OnStack]) -> Result<(), AllocError> {
+pub(crate) fn leave(rt: &impl Abort, alloc: Global, cases: &[OnStack]) -> Result<(), AllocError> {
     for (row, stack, left) in cases {
         check(rt, alloc, (*row, NP), (stack, &[]), (*left, &[]))?;
     }

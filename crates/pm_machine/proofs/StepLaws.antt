@@ -1,17 +1,17 @@
 -- What a step and a row leave as it is.
-use Rattle.std.proofs.Common.{◌≡◌, ◌≢◌, ℕ, ◌+◌, ◌-◌, ◌%◌, ◌==◌, ◌&&◌, inl, inr, Some, None, length, Bool, true, false, cond, nat_lt, List, Option, Result, Ok, Err, refl, sym, ap, ◌∙◌, arith}
+use Rattle.std.proofs.Common.{◌≡◌, ◌≢◌, ℕ, ◌+◌, ◌-◌, ◌*◌, ◌%◌, ◌&&◌, inl, inr, Some, None, length, Bool, true, false, nat_lt, List, Option, Result, Ok, Err, refl, ap, arith}
 use Rattle.std.proofs.lemmas.Bool.{cases_Bool}
 use Rattle.std.proofs.lemmas.Bool.Decides.{nat_tests}
 use Rattle.pm_words.specs.declared.error.ExecError.{ExecError}
-use Rattle.pm_words.specs.declared.error.ExecError.TheVariants.{InvalidIndex, InvalidMemory, StackOverflow}
-use Rattle.pm_words.specs.Words.{with_word, word_at}
-use Rattle.pm_words.specs.Stack.{◌>>=◌, StackRow, demand, is_even, load, pop, push, store}
+use Rattle.pm_words.specs.declared.error.ExecError.TheVariants.{InvalidMemory}
+use Rattle.pm_words.specs.Stack.{◌>>=◌, demand, is_even, load, pop, push, store}
 use Rattle.pm_words.proofs.Laws.{word_at-with_word_other}
 use Rattle.pm_opcode.specs.declared.instr.Instr.{Instr}
 use Rattle.pm_opcode.specs.declared.operation.Operation.{Operation}
 use Rattle.pm_opcode.specs.declared.operation.Operation.TheVariants as operation
 use Rattle.pm_opcode.specs.declared.operation.Arithmetic.{Arithmetic}
 use Rattle.pm_opcode.specs.declared.operation.Arithmetic.TheVariants.{Constant, Nil, OnOne, OnTwo, Compare, Check}
+use Rattle.pm_opcode.specs.declared.operation.Scope.{Scope}
 use Rattle.pm_opcode.specs.declared.operation.Call as codes
 use Rattle.pm_opcode.specs.declared.operation.Return.{Return}
 use Rattle.pm_opcode.specs.Operations.{operation_of}
@@ -19,7 +19,6 @@ use Rattle.pm_calls.specs.declared.registers.Registers.{Registers}
 use Rattle.pm_calls.specs.Calls.{called}
 use Rattle.pm_calls.specs.Exits.{exited}
 use Rattle.pm_calls.specs.Returns.{returned}
-use Rattle.pm_calls.specs.Places.{Parts}
 use Rattle.pm_stdproc.specs.Traps.{Pause, Fails, Waits, or_fails}
 use Rattle.pm_stdproc.specs.Devices.{Devices, cleared, image_at, unit_of}
 use Rattle.pm_stdproc.specs.Transfers.{Moved, can_move, from_disk, from_queue, read}
@@ -36,20 +35,19 @@ use Rattle.pm_stdproc.specs.declared.procedures.Procedure.{Procedure}
 use Rattle.pm_stdproc.specs.declared.procedures.Procedure.TheVariants as procedure
 use Rattle.pm_machine.specs.declared.state.Status.{Status}
 use Rattle.pm_machine.specs.declared.state.Status.TheVariants as status
-use Rattle.pm_machine.specs.declared.state.Stop.{Stop}
 use Rattle.pm_machine.specs.State.{State}
 use Rattle.pm_machine.specs.Arithmetic.{arithmetic_row, binary_row, check_row, constant_row, relation_row, unary_row}
 use Rattle.pm_machine.specs.Jumps.{jump_row}
 use Rattle.pm_machine.specs.Literals.{literal_row}
-use Rattle.pm_machine.specs.Pointers.{pointer_row}
+use Rattle.pm_machine.specs.Pointers.{increment_row, indirect_row, index_row, pointer_row}
 use Rattle.pm_machine.specs.Values.{value_row}
-use Rattle.pm_machine.specs.Variables.{variable_row}
+use Rattle.pm_machine.specs.Variables.{address_row, load_row, variable_at, variable_row}
 use Rattle.pm_machine.specs.Loads.{code_needed}
-use Rattle.pm_machine.specs.Procedures.{call_of, call_row, is_base_return, parts, reach, return_row, standard_row, with_parts, with_reach, words_of_return}
+use Rattle.pm_machine.specs.Procedures.{call_of, call_row, is_base_return, parts, reach, return_row, standard_row, words_of_return}
 use Rattle.pm_machine.specs.Rows.{fetched, on_registers, on_stack, past, performed, row}
 use Rattle.pm_machine.specs.Signed.{binary}
 use Rattle.pm_machine.specs.Steps.{at_status, executed, settled, stepped}
-use Rattle.pm_machine.specs.RunLaws.{ArithmeticKeepsBelow, IsUnitWrite, KeepsBelow, RestStays, StepsKeepDisks}
+use Rattle.pm_machine.specs.RunLaws.{RowsKeepBelow, IsUnitWrite, KeepsBelow, RestStays, StepsKeepDisks}
 
 -- ---- a machine at rest
 
@@ -122,17 +120,17 @@ read_keeps (Disk k) t m d = disk_keeps (image_at d k) t m d
 read_row_keeps : (s : Served) → Keeps of_served s.devices.disks (read_row s)
 unfolding read_row
 read_row_keeps s = then of_served s.devices.disks (or_fails (ordered s.memory s.registers.sp)) _ (λ o.
-  after of_moved of_served s.devices.disks (read (unit_of o.unit) o.transfer s.memory s.devices) _ (read_keeps (unit_of o.unit) o.transfer s.memory s.devices) (λ t e. e))
+    after of_moved of_served s.devices.disks (read (unit_of o.unit) o.transfer s.memory s.devices) _ (read_keeps (unit_of o.unit) o.transfer s.memory s.devices) (λ t e. e))
 
 time_keeps : (s : Served) → Keeps of_served s.devices.disks (time_row s)
 unfolding time_row
 time_keeps s = then of_served s.devices.disks (pop s.memory s.registers.sp) _ (λ b.
-  then of_served s.devices.disks (pop s.memory b.1) _ (λ a. then of_served s.devices.disks (demand (is_even a.0 && is_even b.0) InvalidMemory) _ (λ h. refl)))
+    then of_served s.devices.disks (pop s.memory b.1) _ (λ a. then of_served s.devices.disks (demand (is_even a.0 && is_even b.0) InvalidMemory) _ (λ h. refl)))
 
 busy_keeps : (s : Served) → Keeps of_served s.devices.disks (busy_row s)
 unfolding busy_row
 busy_keeps s = then of_served s.devices.disks (pop s.memory s.registers.sp) _ (λ unit.
-  then of_served s.devices.disks (push s.memory unit.1 s.registers.np 0) _ (λ n. refl))
+    then of_served s.devices.disks (push s.memory unit.1 s.registers.np 0) _ (λ n. refl))
 
 wait_keeps : (s : Served) → Keeps of_served s.devices.disks (wait_row s)
 unfolding wait_row
@@ -162,16 +160,16 @@ units_keep units.Clear s other = lifted of_served s.devices.disks (clear_row s) 
 exit_keeps : (s : Reach) → Keeps of_reach s.devices.disks (exit_row s)
 unfolding exit_row
 exit_keeps s = then of_reach s.devices.disks (pop s.memory s.registers.sp) _ (λ p.
-  then of_reach s.devices.disks (pop s.memory p.1) _ (λ n.
+    then of_reach s.devices.disks (pop s.memory p.1) _ (λ n.
     then of_reach s.devices.disks (exited (standard.parts s (record s.registers { sp = n.1 })) (record { segment = n.0; procedure = p.0 })) _ (λ left. refl)))
 
 procedure_keeps : (p : Procedure) (s : Reach) → p ≢ procedure.OnUnits units.Write → Keeps of_reach s.devices.disks (procedure_row p s)
 unfolding procedure_row
 procedure_keeps (procedure.OnMemory o) s other = lifted of_reach s.devices.disks (on_memory s (memory_row o s.memory s.registers)) (
-  then of_reach s.devices.disks (memory_row o s.memory s.registers) _ (λ t. refl))
+    then of_reach s.devices.disks (memory_row o s.memory s.registers) _ (λ t. refl))
 procedure_keeps (procedure.OnUnits o) s other =
     after of_served of_reach s.devices.disks (units_row o (served s.memory s.registers s.devices)) _ (
-      units_keep o (served s.memory s.registers s.devices) (λ e. other (ap procedure.OnUnits e))) (λ t e. e)
+    units_keep o (served s.memory s.registers s.devices) (λ e. other (ap procedure.OnUnits e))) (λ t e. e)
 procedure_keeps procedure.Exit s other = lifted of_reach s.devices.disks (exit_row s) (exit_keeps s)
 procedure_keeps procedure.Unimplemented s other = tt
 
@@ -190,7 +188,7 @@ registers_keep s r = lifted of_state s.devices.disks (on_registers s r) (then of
 call_keeps : (c : codes.Call) (s : State) → Keeps of_state s.devices.disks (call_row c s)
 unfolding call_row
 call_keeps c s = then of_state s.devices.disks (code_needed (call_of c) s.places s.rows s.devices) _ (λ code.
-  then of_state s.devices.disks (called (parts s) (call_of c) code) _ (λ p. refl))
+    then of_state s.devices.disks (called (parts s) (call_of c) code) _ (λ p. refl))
 
 return_keeps : (r : Return) (s : State) → Keeps of_state s.devices.disks (return_row r s)
 return_keeps r s = then of_state s.devices.disks (returned (parts s) (words_of_return r) (is_base_return r)) _ (λ p. refl)
@@ -252,11 +250,41 @@ pushed_below m sp np w = elim (cases_Bool (nat_lt sp (np + 2))) [
   | inr e ↦ rw e (stored_below m (sp - 2) w)
 ]
 
-pub arithmetic_keeps_below : ArithmeticKeepsBelow
+arithmetic_keeps : (o : Arithmetic) (m : List ℕ) (sp np : ℕ) → KeepsBelow m (arithmetic_row o m sp np)
 unfolding arithmetic_row constant_row unary_row binary_row relation_row check_row
-arithmetic_keeps_below (Constant w) m sp np = pushed_below m sp np w
-arithmetic_keeps_below Nil m sp np = pushed_below m sp np 0
-arithmetic_keeps_below (OnOne o) m sp np = bound m (pop m sp) _ (λ a. pushed_below m a.1 np _)
-arithmetic_keeps_below (OnTwo o) m sp np = bound m (pop m sp) _ (λ b. bound m (pop m b.1) _ (λ a. bound m (binary o a.0 b.0) _ (λ c. pushed_below m a.1 np c)))
-arithmetic_keeps_below (Compare o) m sp np = bound m (pop m sp) _ (λ b. bound m (pop m b.1) _ (λ a. pushed_below m a.1 np _))
-arithmetic_keeps_below Check m sp np = bound m (pop m sp) _ (λ c. bound m (pop m c.1) _ (λ b. bound m (pop m b.1) _ (λ a. bound m _ _ (λ h. pushed_below m a.1 np a.0))))
+arithmetic_keeps (Constant w) m sp np = pushed_below m sp np w
+arithmetic_keeps Nil m sp np = pushed_below m sp np 0
+arithmetic_keeps (OnOne o) m sp np = bound m (pop m sp) _ (λ a. pushed_below m a.1 np _)
+arithmetic_keeps (OnTwo o) m sp np = bound m (pop m sp) _ (λ b. bound m (pop m b.1) _ (λ a. bound m (binary o a.0 b.0) _ (λ c. pushed_below m a.1 np c)))
+arithmetic_keeps (Compare o) m sp np = bound m (pop m sp) _ (λ b. bound m (pop m b.1) _ (λ a. pushed_below m a.1 np _))
+arithmetic_keeps Check m sp np = bound m (pop m sp) _ (λ c. bound m (pop m c.1) _ (λ b. bound m (pop m b.1) _ (λ a. bound m _ _ (λ h. pushed_below m a.1 np a.0))))
+
+increment_keeps : (b : ℕ) (m : List ℕ) (sp np : ℕ) → KeepsBelow m (increment_row b m sp np)
+unfolding increment_row
+increment_keeps b m sp np = bound m (pop m sp) _ (λ a. pushed_below m a.1 np _)
+
+indirect_keeps : (b : ℕ) (m : List ℕ) (sp np : ℕ) → KeepsBelow m (indirect_row b m sp np)
+unfolding indirect_row
+indirect_keeps b m sp np = bound m (pop m sp) _ (λ a. bound m (load m ((a.0 + 2 * b) % 65536)) _ (λ w. pushed_below m a.1 np w))
+
+index_keeps : (b : ℕ) (m : List ℕ) (sp np : ℕ) → KeepsBelow m (index_row b m sp np)
+unfolding index_row
+index_keeps b m sp np = bound m (pop m sp) _ (λ i. bound m (pop m i.1) _ (λ a. pushed_below m a.1 np _))
+
+address_keeps : (scope : Scope) (b : ℕ) (m : List ℕ) (r : Registers) → KeepsBelow m (address_row scope b m r)
+unfolding address_row
+address_keeps scope b m r = bound m (variable_at scope b m r) _ (λ x. pushed_below m r.sp r.np x)
+
+variable_keeps : (scope : Scope) (b : ℕ) (m : List ℕ) (r : Registers) → KeepsBelow m (load_row scope b m r)
+unfolding load_row
+variable_keeps scope b m r = bound m (variable_at scope b m r) _ (λ x. bound m (load m x) _ (λ w. pushed_below m r.sp r.np w))
+
+pub rows_keep_below : RowsKeepBelow
+rows_keep_below = record {
+  arithmetic = arithmetic_keeps;
+  increments = increment_keeps;
+  loads = indirect_keeps;
+  indexes = index_keeps;
+  addresses = address_keeps;
+  variables = variable_keeps;
+}

@@ -5,7 +5,9 @@ use Rattle.pm_words.specs.Words.{word_at}
 use Rattle.pm_opcode.specs.declared.instr.Instr.{Instr}
 use Rattle.pm_opcode.specs.declared.operation.Operation.TheVariants as operation
 use Rattle.pm_opcode.specs.declared.operation.Arithmetic.{Arithmetic}
+use Rattle.pm_opcode.specs.declared.operation.Scope.{Scope}
 use Rattle.pm_opcode.specs.Operations.{operation_of}
+use Rattle.pm_calls.specs.declared.registers.Registers.{Registers}
 use Rattle.pm_stdproc.specs.Procedures.{procedure_of}
 use Rattle.pm_stdproc.specs.declared.procedures.OnUnits.TheVariants as units
 use Rattle.pm_stdproc.specs.declared.procedures.Procedure.TheVariants.{OnUnits}
@@ -14,9 +16,11 @@ use Rattle.pm_machine.specs.declared.state.Stop.{Stop}
 use Rattle.pm_machine.specs.declared.state.Stop.TheVariants as stop
 use Rattle.pm_machine.specs.State.{State}
 use Rattle.pm_machine.specs.Arithmetic.{arithmetic_row}
+use Rattle.pm_machine.specs.Pointers.{increment_row, indirect_row, index_row}
 use Rattle.pm_machine.specs.Rows.{fetched}
 use Rattle.pm_machine.specs.Runs.{Ran}
 use Rattle.pm_machine.specs.Steps.{stepped}
+use Rattle.pm_machine.specs.Variables.{address_row, load_row}
 
 -- ---- runs
 
@@ -65,6 +69,12 @@ abbrev pub KeepsBelow : List ℕ → Result (List ℕ × ℕ) ExecError → Type
 KeepsBelow m (Ok t) = (a : ℕ) → a % 2 ≡ 0 → a ≢ t.1 → word_at t.0 a ≡ word_at m a
 KeepsBelow m (Err e) = Unit {0}
 
--- a row on words as integers writes its result, and nothing else
-abbrev pub ArithmeticKeepsBelow : Type 0
-ArithmeticKeepsBelow = (o : Arithmetic) (m : List ℕ) (sp np : ℕ) → KeepsBelow m (arithmetic_row o m sp np)
+-- Rows that put one word onto the stack write it, and nothing else: arithmetic and comparisons of words, increments,
+-- indirect loads and indexes of addresses, and addresses and values of variables.
+pub record RowsKeepBelow : Type 0 where
+  pub arithmetic : (o : Arithmetic) (m : List ℕ) (sp np : ℕ) → KeepsBelow m (arithmetic_row o m sp np)
+  pub increments : (b : ℕ) (m : List ℕ) (sp np : ℕ) → KeepsBelow m (increment_row b m sp np)
+  pub loads : (b : ℕ) (m : List ℕ) (sp np : ℕ) → KeepsBelow m (indirect_row b m sp np)
+  pub indexes : (b : ℕ) (m : List ℕ) (sp np : ℕ) → KeepsBelow m (index_row b m sp np)
+  pub addresses : (scope : Scope) (b : ℕ) (m : List ℕ) (r : Registers) → KeepsBelow m (address_row scope b m r)
+  pub variables : (scope : Scope) (b : ℕ) (m : List ℕ) (r : Registers) → KeepsBelow m (load_row scope b m r)

@@ -1,6 +1,6 @@
 //! Laws of runs, of steps and of rows. The functions do nothing.
 
-ghost use Rattle.pm_machine.specs.RunLaws.{ArithmeticKeepsBelow, RestStays, RunsAreOne, RunsGoOn, RunsStay, StepsKeepDisks};
+ghost use Rattle.pm_machine.specs.RunLaws.{RestStays, RowsKeepBelow, RunsAreOne, RunsGoOn, RunsStay, StepsKeepDisks};
 
 /// A run that its limit stopped, and one that goes on from there, are one run of both limits.
 #[tactic(auto, using(crate::proofs::RunLaws::runs_go_on))]
@@ -32,8 +32,9 @@ pub fn steps_keep_disks()
     ensures law { StepsKeepDisks }
 {}
 
-/// Arithmetic and comparisons of words change no word but the one on the new top of the stack.
-#[tactic(auto, using(crate::proofs::StepLaws::arithmetic_keeps_below))]
-pub fn arithmetic_keeps_below()
-    ensures law { ArithmeticKeepsBelow }
+/// Rows that put one word onto the stack change no other: arithmetic and comparisons of words,
+/// increments, loads and indexes of addresses, addresses and values of variables.
+#[tactic(auto, using(crate::proofs::StepLaws::rows_keep_below))]
+pub fn rows_keep_below()
+    ensures law { RowsKeepBelow }
 {}

@@ -332,45 +332,22 @@ fn procedure_is(
     Ok(())
 }
 
+/// Faults behind a label that stands twice, and behind jump entries.
+const FAULTS_BEHIND: [(&str, AsmFault); 6] = [
+    ("L1:\nL1: FOO\n.EXIT\n.END\n", AsmFault::Unknown(4)),
+    ("L1:\n.EXIT\n.JUMP L1\nFOO\n.END\n", AsmFault::Unknown(6)),
+    ("L1:\n.EXIT\n.JUMP L1\n.EXIT\n.END\n", AsmFault::Syntax(6)),
+    ("L1:\n.EXIT\n.JUMP L1\n.END\n", AsmFault::Range(6)),
+    ("L1:\n.EXIT\n.JUMP L2\nUJP ^0\n.END\n", AsmFault::Syntax(6)),
+    ("UJP ^0\n.EXIT\n.JUMP L2\n.END\n", AsmFault::NoLabel(5)),
+];
+
 #[test]
 fn faults_of_procedures(rt: HostRuntime) -> Result<(), Fail> {
     let alloc = rt.alloc();
-    procedure_is(
-        &rt,
-        alloc,
-        "L1:\nL1: FOO\n.EXIT\n.END\n",
-        AsmFault::Unknown(4),
-    )?;
-    procedure_is(
-        &rt,
-        alloc,
-        "L1:\n.EXIT\n.JUMP L1\nFOO\n.END\n",
-        AsmFault::Unknown(6),
-    )?;
-    procedure_is(
-        &rt,
-        alloc,
-        "L1:\n.EXIT\n.JUMP L1\n.EXIT\n.END\n",
-        AsmFault::Syntax(6),
-    )?;
-    procedure_is(
-        &rt,
-        alloc,
-        "L1:\n.EXIT\n.JUMP L1\n.END\n",
-        AsmFault::Range(6),
-    )?;
-    procedure_is(
-        &rt,
-        alloc,
-        "L1:\n.EXIT\n.JUMP L2\nUJP ^0\n.END\n",
-        AsmFault::Syntax(6),
-    )?;
-    procedure_is(
-        &rt,
-        alloc,
-        "UJP ^0\n.EXIT\n.JUMP L2\n.END\n",
-        AsmFault::NoLabel(5),
-    )?;
+    for (text, fault) in FAULTS_BEHIND {
+        procedure_is(&rt, alloc, text, fault)?;
+    }
     procedure_is(&rt, alloc, ".EXIT\n.END,\n.END\n", AsmFault::Unknown(4))?;
     procedure_is(&rt, alloc, ".EXIT\n.END,\n", AsmFault::Syntax(2))?;
     procedure_is(&rt, alloc, ".EXIT\n.END\u{7f}\n", AsmFault::Syntax(2))?;

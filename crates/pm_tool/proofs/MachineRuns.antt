@@ -1,17 +1,17 @@
 -- Runs beside those of the machine without input.
-use Rattle.std.proofs.Common.{◌≡◌, ◌<◌, ℕ, zero, suc, ◌+◌, ◌-◌, Bool, true, false, cond, List, [], ◌∷◌, refl, sym, ap, ◌∙◌, subst, arith}
+use Rattle.std.proofs.Common.{◌≡◌, ℕ, zero, suc, ◌+◌, ◌-◌, List, [], ◌∷◌, refl, sym, ap, ◌∙◌, subst, arith}
 use Rattle.pm_words.specs.declared.error.ExecError.{ExecError}
 use Rattle.pm_machine.specs.State.{State}
 use Rattle.pm_machine.specs.Steps.{stepped}
 use Rattle.pm_machine.specs.Events.{Key, next}
-use Rattle.pm_machine.specs.Runs.{after, AllWent, Ran, StoppedAfter, last_counts}
+use Rattle.pm_machine.specs.Runs.{after, AllWent, StoppedAfter, last_counts}
 use Rattle.pm_machine.specs.declared.state.Status.{Status}
 use Rattle.pm_machine.specs.declared.state.Status.TheVariants as status
 use Rattle.pm_machine.specs.declared.state.Stop.{Stop}
 use Rattle.pm_machine.specs.declared.state.Stop.TheVariants.{Went, Waiting, Ended, Halted}
 use Rattle.pm_tool.specs.declared.ending.Ending.TheVariants as endings
 use Rattle.pm_tool.specs.declared.steps.Show.{Show}
-use Rattle.pm_tool.specs.Laws.{AreAlike, GoesOn, RunsGoByTheMachine}
+use Rattle.pm_tool.specs.Laws.{AreAlike, RunsGoByTheMachine}
 use Rattle.pm_tool.specs.Run.{Run, ends, run_of, turn}
 
 then_alike : (a b c : Run) → AreAlike a b → AreAlike b c → AreAlike a c
@@ -26,7 +26,9 @@ turn_went show rest (byte ∷ bytes) m e = rw e (record { ending = refl; machine
 
 steps_first : (show : Show) (n k : ℕ) (bytes : List ℕ) (m : State) → AllWent n m → AreAlike (run_of show (n + k) bytes m) (run_of show k bytes (after n m))
 unfolding after run_of
-steps_first show zero k bytes m went = record { ending = refl; machine = refl; unread = refl }
+steps_first show zero k bytes m went =
+    let e : zero + k ≡ k = omega arith in
+    rw e (record { ending = refl; machine = refl; unread = refl })
 steps_first show (suc n) k bytes m went =
     let e : suc n + k ≡ n + suc k = omega arith in
     let first : AreAlike (run_of show (n + suc k) bytes m) (run_of show (suc k) bytes (after n m)) = steps_first show n (suc k) bytes m (λ i l. went i (omega (arith, l))) in

@@ -19,3 +19,6 @@ pub record State : Type 0 where
   pub rows : List SlotRow
   -- the disks, the console, the printer and the clock
   pub devices : Devices
+
+abbrev pub devices_of : State → Devices
+devices_of s = s.devices

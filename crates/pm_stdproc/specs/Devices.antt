@@ -14,6 +14,10 @@ pub record Devices : Type 0 where
   pub printer : List ℕ
   pub clock : ℕ
 
+-- how many bytes were written to the console and to the printer
+abbrev pub output_length : Devices → ℕ
+output_length d = length d.console + length d.printer
+
 abbrev pub mount_number : MountFault → ℕ
 mount_number NoUnit = 1
 mount_number Taken = 2

@@ -1,5 +1,5 @@
-pub mod Traps
 pub mod Devices
+pub mod Traps
 pub mod MemoryRows
 pub mod Transfers
 pub mod UnitRows

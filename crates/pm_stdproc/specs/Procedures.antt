@@ -23,6 +23,9 @@ pub record Reach : Type 0 where
   pub places : List (Option Place)
   pub devices : Devices
 
+abbrev pub devices_reached : Reach → Devices
+devices_reached s = s.devices
+
 -- the procedure of a number; all other numbers are procedures that this machine does not have
 unfoldable pub procedure_of : ℕ → Procedure
 procedure_of n =

@@ -22,6 +22,9 @@ pub record Served : Type 0 where
 abbrev pub served : List ℕ → Registers → Devices → Served
 served m r d = record { memory = m; registers = r; devices = d }
 
+abbrev pub devices_served : Served → Devices
+devices_served s = s.devices
+
 -- ---- transfers
 
 -- Unit, place, count, block, mode: the operands of a transfer. The bytes at the place have to lie in memory, whatever the

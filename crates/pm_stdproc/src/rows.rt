@@ -3,8 +3,8 @@
 ghost use Rattle.std.specs.Prelude.{◌≡◌, ◌+◌, ◌≤◌, ℕ, IfOk, OnOk, OnErr};
 ghost use Rattle.pm_words.specs.Stack.{IsStack};
 ghost use Rattle.pm_stdproc.specs.Traps.{Performs, or_fails};
-ghost use Rattle.pm_stdproc.specs.Procedures.{procedure_of, procedure_row};
-ghost use Rattle.pm_stdproc.specs.UnitRows.{busy_row, clear_row, ordered, read_row, served, time_row, units_row, wait_row, write_row};
+ghost use Rattle.pm_stdproc.specs.Procedures.{devices_reached, procedure_of, procedure_row};
+ghost use Rattle.pm_stdproc.specs.UnitRows.{busy_row, clear_row, devices_served, ordered, read_row, served, time_row, units_row, wait_row, write_row};
 
 use crate::memory_rows::{self, pop_place};
 use crate::ports::{known, unit_of};
@@ -58,7 +58,7 @@ impl Units {
         scratch: &mut Memory,
     ) -> Result<(), Trap>
         ensures stack { IsStack registers.old.sp registers.old.np → OnOk result (IsStack registers.new.sp registers.new.np) }
-        ensures row { Performs result
+        ensures row { Performs devices_reached result
             (record { memory = memory.old.words; registers = registers.old; places = frames.old.places; devices = self.old })
             (record { memory = memory.new.words; registers = registers.new; places = frames.new.places; devices = self.new })
             (procedure_row (procedure_of n) (record { memory = memory.old.words; registers = registers.old; places = frames.old.places; devices = self.old })) }
@@ -91,7 +91,7 @@ impl Units {
         procedure: OnUnits,
     ) -> Result<(), Trap>
         ensures stack { IsStack registers.old.sp registers.old.np → OnOk result (IsStack registers.new.sp registers.new.np) }
-        ensures row { Performs result (served memory.old.words registers.old self.old) (served memory.new.words registers.new self.new) (units_row procedure (served memory.old.words registers.old self.old)) }
+        ensures row { Performs devices_served result (served memory.old.words registers.old self.old) (served memory.new.words registers.new self.new) (units_row procedure (served memory.old.words registers.old self.old)) }
     {
         match procedure {
             OnUnits::Read => self.read_row(memory, registers),
@@ -106,7 +106,7 @@ impl Units {
     #[tactic(auto, unfolding(crate::specs::UnitRows::read_row))]
     fn read_row(&mut self, memory: &mut Memory, registers: &mut Registers) -> Result<(), Trap>
         ensures stack { IsStack registers.old.sp registers.old.np → OnOk result (IsStack registers.new.sp registers.new.np) }
-        ensures row { Performs result (served memory.old.words registers.old self.old) (served memory.new.words registers.new self.new) (read_row (served memory.old.words registers.old self.old)) }
+        ensures row { Performs devices_served result (served memory.old.words registers.old self.old) (served memory.new.words registers.new self.new) (read_row (served memory.old.words registers.old self.old)) }
     {
         let order = order(memory, registers.sp)?;
         registers.ioresult = self.read(memory, unit_of(order.unit), order.transfer)?;
@@ -117,7 +117,7 @@ impl Units {
     #[tactic(auto, unfolding(crate::specs::UnitRows::write_row))]
     fn write_row(&mut self, memory: &mut Memory, registers: &mut Registers) -> Result<(), Trap>
         ensures stack { IsStack registers.old.sp registers.old.np → OnOk result (IsStack registers.new.sp registers.new.np) }
-        ensures row { Performs result (served memory.old.words registers.old self.old) (served memory.new.words registers.new self.new) (write_row (served memory.old.words registers.old self.old)) }
+        ensures row { Performs devices_served result (served memory.old.words registers.old self.old) (served memory.new.words registers.new self.new) (write_row (served memory.old.words registers.old self.old)) }
     {
         let order = order(memory, registers.sp)?;
         registers.ioresult = self.write(memory, unit_of(order.unit), order.transfer)?;
@@ -128,7 +128,7 @@ impl Units {
     #[tactic(auto, unfolding(crate::specs::UnitRows::time_row))]
     fn time_row(&mut self, memory: &mut Memory, registers: &mut Registers) -> Result<(), Trap>
         ensures stack { IsStack registers.old.sp registers.old.np → OnOk result (IsStack registers.new.sp registers.new.np) }
-        ensures row { Performs result (served memory.old.words registers.old self.old) (served memory.new.words registers.new self.new) (or_fails (time_row (served memory.old.words registers.old self.old))) }
+        ensures row { Performs devices_served result (served memory.old.words registers.old self.old) (served memory.new.words registers.new self.new) (or_fails (time_row (served memory.old.words registers.old self.old))) }
     {
         let (low, sp) = pop(memory, registers.sp)?;
         let (high, sp) = pop(memory, sp)?;
@@ -144,7 +144,7 @@ impl Units {
     #[tactic(auto, unfolding(crate::specs::UnitRows::busy_row))]
     fn busy_row(&mut self, memory: &mut Memory, registers: &mut Registers) -> Result<(), Trap>
         ensures stack { IsStack registers.old.sp registers.old.np → OnOk result (IsStack registers.new.sp registers.new.np) }
-        ensures row { Performs result (served memory.old.words registers.old self.old) (served memory.new.words registers.new self.new) (or_fails (busy_row (served memory.old.words registers.old self.old))) }
+        ensures row { Performs devices_served result (served memory.old.words registers.old self.old) (served memory.new.words registers.new self.new) (or_fails (busy_row (served memory.old.words registers.old self.old))) }
     {
         let (unit, sp) = pop(memory, registers.sp)?;
         let sp = push(memory, sp, registers.np, 0)?;
@@ -156,7 +156,7 @@ impl Units {
     #[tactic(auto, unfolding(crate::specs::UnitRows::wait_row))]
     fn wait_row(&mut self, memory: &mut Memory, registers: &mut Registers) -> Result<(), Trap>
         ensures stack { IsStack registers.old.sp registers.old.np → OnOk result (IsStack registers.new.sp registers.new.np) }
-        ensures row { Performs result (served memory.old.words registers.old self.old) (served memory.new.words registers.new self.new) (or_fails (wait_row (served memory.old.words registers.old self.old))) }
+        ensures row { Performs devices_served result (served memory.old.words registers.old self.old) (served memory.new.words registers.new self.new) (or_fails (wait_row (served memory.old.words registers.old self.old))) }
     {
         let (unit, sp) = pop(memory, registers.sp)?;
         registers.sp = sp;
@@ -167,7 +167,7 @@ impl Units {
     #[tactic(auto, unfolding(crate::specs::UnitRows::clear_row))]
     fn clear_row(&mut self, memory: &mut Memory, registers: &mut Registers) -> Result<(), Trap>
         ensures stack { IsStack registers.old.sp registers.old.np → OnOk result (IsStack registers.new.sp registers.new.np) }
-        ensures row { Performs result (served memory.old.words registers.old self.old) (served memory.new.words registers.new self.new) (or_fails (clear_row (served memory.old.words registers.old self.old))) }
+        ensures row { Performs devices_served result (served memory.old.words registers.old self.old) (served memory.new.words registers.new self.new) (or_fails (clear_row (served memory.old.words registers.old self.old))) }
     {
         let (unit, sp) = pop(memory, registers.sp)?;
         registers.ioresult = self.clear(unit_of(unit));

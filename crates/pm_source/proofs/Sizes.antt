@@ -7,7 +7,7 @@ use Rattle.pm_disasm.specs.Item.{Item, size}
 use Rattle.pm_disasm.specs.Item.Item.{Plain, Jump, Case, OneByte}
 use Rattle.pm_disasm.specs.Program.{Procedure, Segment, FollowFrom, code_of, code_end, end_of, entry_bytes, attribute_bytes, dictionary_bytes, jtab_of, procedure_bytes, procedures_bytes, procedures_end, segment_bytes}
 use Rattle.pm_disasm.proofs.Sizes.{length-code}
-use Rattle.pm_source.specs.Source.{Name, Row, row_items}
+use Rattle.pm_source.specs.Source.{Row, row_items}
 use Rattle.pm_source.specs.Source as source
 
 entries_length : (at : ℕ) (places : List ℕ) → length (entry_bytes at places) ≡ 2 * length places

@@ -8,6 +8,7 @@ pub mod Seen
 pub mod Stepping
 pub mod Pushed
 pub mod Slotted
+pub mod Spelled
 pub mod Digits
 pub mod Standings
 pub mod Outlines

@@ -3,8 +3,8 @@
 ghost use Rattle.std.specs.Prelude.{◌≡◌, ◌<◌, ◌≤◌, ◌+◌, ◌*◌, ◌++◌, ◌∷◌, [], length, map, reverse, IfOk, OnOk};
 ghost use Rattle.std.specs.List.{AllByRecursion};
 ghost use Rattle.pm_opcode.specs.Spelling.{flip, is_odd, padding, word};
-ghost use Rattle.pm_disasm.specs.Item.{IsCase, IsItem, item_bytes, table_words};
-ghost use Rattle.pm_disasm.specs.Item.Item.{Case};
+ghost use Rattle.pm_disasm.specs.Item.{IsCase, IsItem, IsPlain, item_bytes, table_words};
+ghost use Rattle.pm_disasm.specs.Item.Item.{Case, Plain};
 ghost use Rattle.pm_disasm.specs.Program.{AreItems, IsProcedure, IsSegment, back_to, code_bytes, entry_bytes, jtab_of, procedure_bytes, procedures_bytes, procedures_end, segment_bytes};
 ghost use Rattle.pm_line.specs.Views.{item_seen, row_seen, target_seen, texts_seen};
 ghost use Rattle.pm_source.specs.Meaning.{found_item, found_label, found_procedure, found_procedures, found_segment, found_target};
@@ -17,7 +17,7 @@ use crate::found::{exit_place, found_label, jump_byte};
 use crate::labels::Code;
 use crate::source::{Entry, Procedure, Segment};
 use pm_line::{Item, Row, Target};
-use pm_opcode::encode;
+use pm_opcode::{Encode, Instr, encode};
 use std::alloc::{AllocError, Global};
 
 /// The opcode of XJP.
@@ -28,7 +28,7 @@ const JUMP: u8 = 185;
 
 /// Adds a word, its low byte first.
 fn push_word(out: &mut Vec<u8>, value: u16) -> Result<(), AllocError>
-    ensures { OnOk result (out.new.items ≡ out.old.items ++ word value) }
+    ensures bytes { OnOk result (out.new.items ≡ out.old.items ++ word value) }
 {
     out.push((value % 256) as u8)?;
     out.push((value / 256) as u8)?;
@@ -37,7 +37,7 @@ fn push_word(out: &mut Vec<u8>, value: u16) -> Result<(), AllocError>
 
 /// Adds the padding of a case jump whose opcode stands at an offset.
 fn push_padding(out: &mut Vec<u8>, at: usize) -> Result<(), AllocError>
-    ensures { OnOk result (out.new.items ≡ out.old.items ++ padding (flip (is_odd at)) 0) }
+    ensures bytes { OnOk result (out.new.items ≡ out.old.items ++ padding (flip (is_odd at)) 0) }
 {
     if at % 2 == 0 {
         out.push(0)?;
@@ -81,6 +81,20 @@ fn push_case(
     push_table(out, labels, names)
 }
 
+/// Adds an instruction that names no place. It has a spelling, so that nothing but want of memory stops it.
+#[tactic(auto, using(crate::proofs::Spelled::plain_spelled))]
+fn push_plain(out: &mut Vec<u8>, instr: &Instr, named: &[u8]) -> Result<(), AllocError>
+    requires plain { IsPlain instr.now named.now }
+    ensures bytes { OnOk result (out.new.items ≡ out.old.items ++ item_bytes (length out.old.items) (Plain instr.now named.now)) }
+{
+    let at = out.len();
+    match encode(instr, named, at, out) {
+        Ok(()) => Ok(()),
+        Err(Encode::NoMemory) => Err(AllocError),
+        Err(Encode::OutOfRange) => unreachable!(),
+    }
+}
+
 /// Adds an item.
 fn push_item(out: &mut Vec<u8>, labels: Code<'_, '_>, item: &Item<'_>) -> Result<(), AllocError>
     requires item { IsItem (length out.old.items) (found_item (places_in labels) (item_seen item.now)) }
@@ -88,7 +102,7 @@ fn push_item(out: &mut Vec<u8>, labels: Code<'_, '_>, item: &Item<'_>) -> Result
 {
     let at = out.len();
     match item {
-        Item::Plain(instr, named) => encode(instr, named, at, out).map_err(|_| AllocError),
+        Item::Plain(instr, named) => push_plain(out, instr, named),
         Item::Jump(opcode, target) => {
             let byte = jump_byte(labels, at + 2, *target)?;
             out.push(*opcode)?;
@@ -165,7 +179,7 @@ pub(crate) fn entry_places(
     labels: Code<'_, '_>,
     entries: &[Entry<'_>],
 ) -> Result<Vec<usize>, AllocError>
-    ensures { IfOk result (λ places. places.items ≡ map (λ e. found_label (places_in labels.entry) e.1) (map entry_seen entries.now)) }
+    ensures places { IfOk result (λ places. places.items ≡ map (λ e. found_label (places_in labels.entry) e.1) (map entry_seen entries.now)) }
 {
     let mut places = Vec::new(alloc);
     for entry in entries {

@@ -10,7 +10,7 @@ use pm_line::{Item, Row, Target};
 
 /// How many entries a jump takes.
 fn target_entries(target: Target<'_>) -> usize
-    ensures { result ≡ entries_for (target_seen target.entry) }
+    ensures entries { result ≡ entries_for (target_seen target.entry) }
 {
     match target {
         Target::To(_) => 0,
@@ -20,7 +20,7 @@ fn target_entries(target: Target<'_>) -> usize
 
 /// How many entries an item takes.
 fn item_entries(item: &Item<'_>) -> usize
-    ensures { result ≡ program.entries_used (item_seen item.now) }
+    ensures entries { result ≡ program.entries_used (item_seen item.now) }
 {
     match item {
         Item::Jump(_, target) => target_entries(*target),
@@ -31,7 +31,7 @@ fn item_entries(item: &Item<'_>) -> usize
 
 /// How many entries items take.
 fn items_entries(items: &[Item<'_>]) -> usize
-    ensures { result ≡ entries_needed (map item_seen items.now) }
+    ensures entries { result ≡ entries_needed (map item_seen items.now) }
 {
     let mut most = 0;
     for item in items {
@@ -42,7 +42,7 @@ fn items_entries(items: &[Item<'_>]) -> usize
 
 /// How many entries a line takes.
 fn row_entries(row: &Row<'_>) -> usize
-    ensures { result ≡ entries_needed (row_items (row_seen row.now)) }
+    ensures entries { result ≡ entries_needed (row_items (row_seen row.now)) }
 {
     match row {
         Row::Items { items, .. } => items_entries(items),
@@ -52,7 +52,7 @@ fn row_entries(row: &Row<'_>) -> usize
 
 /// How many entries code takes.
 pub(crate) fn rows_entries(rows: &[Row<'_>]) -> usize
-    ensures { result ≡ entries_used (map row_seen rows.now) }
+    ensures entries { result ≡ entries_used (map row_seen rows.now) }
 {
     let mut most = 0;
     for row in rows {

@@ -14,7 +14,7 @@ use std::alloc::AllocError;
 
 /// The place of a label, 0 for one that does not stand there. It fails only where the code is longer than memory can be.
 pub(crate) fn found_label(labels: Code<'_, '_>, name: &[u8]) -> Result<usize, AllocError>
-    ensures { IfOk result (λ place. place ≡ found_label (places_in labels.entry) name.now) }
+    ensures place { IfOk result (λ place. place ≡ found_label (places_in labels.entry) name.now) }
 {
     let place = place_of(&labels, name).map_err(|_| AllocError)?;
     Ok(place.unwrap_or(0))
@@ -22,7 +22,7 @@ pub(crate) fn found_label(labels: Code<'_, '_>, name: &[u8]) -> Result<usize, Al
 
 /// The place of the exit code. It fails only where the code is longer than memory can be.
 pub(crate) fn exit_place(labels: Code<'_, '_>) -> Result<usize, AllocError>
-    ensures { IfOk result (λ place. place ≡ exit_in labels.entry) }
+    ensures place { IfOk result (λ place. place ≡ exit_in labels.entry) }
 {
     let mut at = labels.start;
     for row in labels.rows {

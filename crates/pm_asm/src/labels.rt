@@ -39,7 +39,7 @@ pub(crate) struct Code<'r, 'a> {
 
 /// Whether a label stands in a row.
 pub(crate) fn has_label(name: &[u8], row: &Row<'_>) -> bool
-    ensures { result ≡ has_label name.now (row_seen row.now) }
+    ensures label { result ≡ has_label name.now (row_seen row.now) }
 {
     match row {
         Row::Items {
@@ -99,7 +99,7 @@ fn is_unknown_target(code: &Code<'_, '_>, target: Target<'_>) -> Result<bool, As
 
 /// Whether a short jump cannot reach a place from the next instruction: it lies before it, or more than 127 bytes behind it.
 fn is_far_place(next: usize, place: usize) -> bool
-    ensures { result ≡ is_far_place next (Some place) }
+    ensures far { result ≡ is_far_place next (Some place) }
 {
     place < next || place - next > 127
 }
@@ -120,7 +120,7 @@ fn is_far(code: &Code<'_, '_>, next: usize, target: Target<'_>) -> Result<bool, 
 
 /// Where the table of a case jump begins: behind the opcode, the padding and three words.
 fn table_place(at: usize) -> Option<usize>
-    ensures { IfSome result (λ place. place ≡ table_place at) }
+    ensures place { IfSome result (λ place. place ≡ table_place at) }
 {
     if at % 2 == 1 {
         at.checked_add(7)

@@ -20,7 +20,7 @@ pub(crate) fn segment_with<'s, 'a>(
     segments: &'s [Segment<'a>],
     number: u8,
 ) -> Option<&'s Segment<'a>>
-    ensures { option_map (λ s. segment_seen s.now) result ≡ segment_with number (segments_seen segments.now) }
+    ensures segment { option_map (λ s. segment_seen s.now) result ≡ segment_with number (segments_seen segments.now) }
 {
     for segment in segments {
         if segment.number == number {
@@ -32,7 +32,7 @@ pub(crate) fn segment_with<'s, 'a>(
 
 /// Where the procedures of a segment end.
 fn procedures_end(procedures: &[Procedure<'_>]) -> Option<usize>
-    ensures { IfSome result (λ end. end ≡ sources_end 0 (map procedure_seen procedures.now)) }
+    ensures end { IfSome result (λ end. end ≡ sources_end 0 (map procedure_seen procedures.now)) }
 {
     let mut end = 0;
     for procedure in procedures {
@@ -43,7 +43,7 @@ fn procedures_end(procedures: &[Procedure<'_>]) -> Option<usize>
 
 /// How many bytes a segment has: its procedures, a word for each, and one more.
 fn segment_length(segment: &Segment<'_>) -> Option<usize>
-    ensures { IfSome result (λ length. length ≡ found_length (segment_seen segment.now)) }
+    ensures size { IfSome result (λ length. length ≡ found_length (segment_seen segment.now)) }
 {
     let end = procedures_end(&segment.procedures)?;
     let words = segment.procedures.len().checked_mul(2)?;

@@ -43,7 +43,7 @@ struct SegmentNumber(u8);
 impl fmt::Display for SegmentNumber {
     ghost output = { λ n. Some (padded 2 n.0) };
 
-    #[tactic(auto, using(crate::proofs::Digits::padded_two))]
+    #[tactic(auto, using(pm_disasm::proofs::Digits::padded_written))]
     fn fmt<W: fmt::Write>(&self, f: &mut fmt::Formatter<W>) -> fmt::Result {
         let number = self.0;
         write!(f, "{number:02}")
@@ -57,7 +57,7 @@ struct ProcedureNumber(u8);
 impl fmt::Display for ProcedureNumber {
     ghost output = { λ n. Some (padded 3 n.0) };
 
-    #[tactic(auto, using(crate::proofs::Digits::padded_three))]
+    #[tactic(auto, using(pm_disasm::proofs::Digits::padded_written))]
     fn fmt<W: fmt::Write>(&self, f: &mut fmt::Formatter<W>) -> fmt::Result {
         let number = self.0;
         write!(f, "{number:03}")
@@ -71,7 +71,7 @@ struct Offset(usize);
 impl fmt::Display for Offset {
     ghost output = { λ n. Some (padded 5 n.0) };
 
-    #[tactic(auto, using(pm_disasm::proofs::Digits::padded_five))]
+    #[tactic(auto, using(pm_disasm::proofs::Digits::padded_written))]
     fn fmt<W: fmt::Write>(&self, f: &mut fmt::Formatter<W>) -> fmt::Result {
         let offset = self.0;
         write!(f, "{offset:05}")
@@ -89,7 +89,7 @@ fn upper_digit(value: u8) -> u8
 
 /// Adds a byte as two digits, behind a space.
 fn push_pair(text: &mut String, byte: u8) -> Result<(), AllocError>
-    ensures { OnOk result (string_bytes text.new ≡ string_bytes text.old ++ pairs_text (byte ∷ [])) }
+    ensures text { OnOk result (string_bytes text.new ≡ string_bytes text.old ++ pairs_text (byte ∷ [])) }
 {
     text.push(' ')?;
     text.push(char::from(upper_digit(byte / 16)))?;
@@ -99,7 +99,7 @@ fn push_pair(text: &mut String, byte: u8) -> Result<(), AllocError>
 
 /// Adds bytes as pairs of digits, each behind a space.
 fn push_pairs(text: &mut String, bytes: &[u8]) -> Result<(), AllocError>
-    ensures { OnOk result (string_bytes text.new ≡ string_bytes text.old ++ pairs_text bytes.now) }
+    ensures text { OnOk result (string_bytes text.new ≡ string_bytes text.old ++ pairs_text bytes.now) }
 {
     for byte in bytes {
         push_pair(text, *byte)?;
@@ -109,7 +109,7 @@ fn push_pairs(text: &mut String, bytes: &[u8]) -> Result<(), AllocError>
 
 /// Adds a line: a place, the bytes there, and what they are.
 fn push_line(text: &mut String, place: Place, bytes: &[u8], what: &str) -> Result<(), AllocError>
-    ensures { OnOk result (string_bytes text.new ≡ string_bytes text.old
+    ensures text { OnOk result (string_bytes text.new ≡ string_bytes text.old
         ++ listed_line place.segment (record { procedure = place.procedure; at = place.at; bytes = bytes.now; what = what.now })) }
 {
     let segment = SegmentNumber(place.segment);

@@ -29,28 +29,28 @@ pub(crate) struct Reader<'a> {
 
 /// Whether a line is the place of the exit code.
 fn row_is_exit(row: &Row<'_>) -> bool
-    ensures { result ≡ is_exit (row_seen row.now) }
+    ensures exit { result ≡ is_exit (row_seen row.now) }
 {
     matches!(row, Row::Exit)
 }
 
 /// Whether the exit code stands in code.
 fn any_exit(rows: &[Row<'_>]) -> bool
-    ensures { result ≡ list_any (λ row. is_exit (row_seen row)) rows.now }
+    ensures exit { result ≡ list_any (λ row. is_exit (row_seen row)) rows.now }
 {
     rows.iter().any(|row| row_is_exit(row))
 }
 
 /// Whether a label stands in code.
 fn any_label(rows: &[Row<'_>], name: &[u8]) -> bool
-    ensures { result ≡ list_any (λ row. has_label name.now (row_seen row)) rows.now }
+    ensures label { result ≡ list_any (λ row. has_label name.now (row_seen row)) rows.now }
 {
     rows.iter().any(|row| has_label(name, row))
 }
 
 /// Whether a segment has a number.
 fn any_number(segments: &[Segment<'_>], number: u8) -> bool
-    ensures { result ≡ list_any (λ s. s.number == number) segments.now }
+    ensures number { result ≡ list_any (λ s. s.number == number) segments.now }
 {
     segments.iter().any(|segment| segment.number == number)
 }
@@ -59,7 +59,7 @@ impl Procedure<'_> {
     /// Whether the exit code stands in it.
     #[tactic(auto, using(crate::proofs::Seen::any_of_views))]
     fn has_exit(&self) -> bool
-        ensures { result ≡ has_exit (procedure_seen self.now) }
+        ensures exit { result ≡ has_exit (procedure_seen self.now) }
     {
         any_exit(&self.code)
     }
@@ -67,14 +67,14 @@ impl Procedure<'_> {
     /// Whether a label stands in it.
     #[tactic(auto, using(crate::proofs::Seen::any_of_views))]
     fn has_label(&self, name: &[u8]) -> bool
-        ensures { result ≡ has_label_in name.now (procedure_seen self.now) }
+        ensures label { result ≡ has_label_in name.now (procedure_seen self.now) }
     {
         any_label(&self.code, name)
     }
 
     /// Whether the code has an odd length, or takes other entries than there are; none where memory cannot hold the code.
     fn is_uneven(&self) -> Option<bool>
-        ensures { IfSome result (λ uneven. uneven ≡ is_uneven (procedure_seen self.now)) }
+        ensures uneven { IfSome result (λ uneven. uneven ≡ is_uneven (procedure_seen self.now)) }
     {
         let end = code_end(0, &self.code)?;
         Some(end % 2 != 0 || self.entries.len() != rows_entries(&self.code))
@@ -83,7 +83,7 @@ impl Procedure<'_> {
 
 /// How many procedures the last segment has.
 fn last_count(segments: &[Segment<'_>]) -> usize
-    ensures { result ≡ procedure_count (segments_seen segments.now) }
+    ensures count { result ≡ procedure_count (segments_seen segments.now) }
 {
     match segments.last() {
         Some(segment) => segment.procedures.len(),
@@ -93,21 +93,21 @@ fn last_count(segments: &[Segment<'_>]) -> usize
 
 /// Whether a procedure has the next number after so many.
 fn is_next(number: u8, count: usize) -> bool
-    ensures { result ≡ (number == count + 1) }
+    ensures next { result ≡ (number == count + 1) }
 {
     number > 0 && usize::from(number) - 1 == count
 }
 
 /// Whether a statement is the head of a procedure.
 fn is_begin(statement: &Statement<'_>) -> bool
-    ensures { result ≡ faults.is_begin (statement_seen statement.now) }
+    ensures begin { result ≡ faults.is_begin (statement_seen statement.now) }
 {
     matches!(statement, Statement::Begin { .. })
 }
 
 /// Whether a statement is the end of a procedure.
 pub(crate) fn is_end(statement: &Statement<'_>) -> bool
-    ensures { result ≡ faults.is_end (statement_seen statement.now) }
+    ensures end { result ≡ faults.is_end (statement_seen statement.now) }
 {
     matches!(statement, Statement::End)
 }
@@ -115,7 +115,7 @@ pub(crate) fn is_end(statement: &Statement<'_>) -> bool
 impl Reader<'_> {
     /// Whether a statement may stand here.
     fn is_in_place(&self, statement: &Statement<'_>) -> bool
-        ensures { result ≡ is_in_place (reader_seen self.now) (statement_seen statement.now) }
+        ensures in_place { result ≡ is_in_place (reader_seen self.now) (statement_seen statement.now) }
     {
         match (statement, &self.procedure) {
             (Statement::Segment { .. }, procedure) => procedure.is_none(),
@@ -132,7 +132,7 @@ impl Reader<'_> {
     /// Whether a slot, a label of the procedure or its exit code comes again.
     #[tactic(auto, using(crate::proofs::Seen::any_of_views))]
     fn is_again(&self, statement: &Statement<'_>) -> bool
-        ensures { result ≡ is_again (reader_seen self.now) (statement_seen statement.now) }
+        ensures again { result ≡ is_again (reader_seen self.now) (statement_seen statement.now) }
     {
         match (statement, &self.procedure) {
             (Statement::Segment { number, .. }, _) => any_number(&self.segments, *number),
@@ -153,7 +153,7 @@ impl Reader<'_> {
     /// Whether a procedure has a number that is not the next one, or ends with an odd length or a wrong count of entries; none where
     /// memory cannot hold its code.
     fn is_miscounted(&self, statement: &Statement<'_>) -> Option<bool>
-        ensures { IfSome result (λ wrong. wrong ≡ is_miscounted (reader_seen self.now) (statement_seen statement.now)) }
+        ensures miscounted { IfSome result (λ wrong. wrong ≡ is_miscounted (reader_seen self.now) (statement_seen statement.now)) }
     {
         match (statement, &self.procedure) {
             (Statement::Begin { number, .. }, None) => {
@@ -172,7 +172,7 @@ impl Reader<'_> {
         flaw: Flaw,
         ends_later: bool,
     ) -> Option<AsmFault>
-        ensures { (rest : List text.Line) → ends_later ≡ list_any ends rest
+        ensures fault { (rest : List text.Line) → ends_later ≡ list_any ends rest
             → Answers result (line_faults number (reader_seen self.now) (Says (statement_seen said.now) (flaw_seen flaw)) rest) }
     {
         if !self.is_in_place(said) || is_begin(said) && !ends_later {
@@ -196,7 +196,7 @@ impl Reader<'_> {
 
     /// The first of what is wrong in a line, by whether a later line ends a procedure; no memory where it cannot hold the code.
     fn line_fault(&self, number: usize, line: &Line<'_>, ends_later: bool) -> Option<AsmFault>
-        ensures { (rest : List text.Line) → ends_later ≡ list_any ends rest
+        ensures fault { (rest : List text.Line) → ends_later ≡ list_any ends rest
             → Answers result (line_faults number (reader_seen self.now) (line_seen line.now) rest) }
     {
         match line {
@@ -211,7 +211,7 @@ impl Reader<'_> {
 impl<'a> Reader<'a> {
     /// One that has taken in no line.
     pub(crate) fn new(alloc: Global) -> Reader<'a>
-        ensures { reader_seen result ≡ start }
+        ensures start { reader_seen result ≡ start }
     {
         Reader {
             segments: Vec::new(alloc),
@@ -221,7 +221,7 @@ impl<'a> Reader<'a> {
 
     /// The segments, without a procedure that has not ended.
     pub(crate) fn into_segments(self) -> Vec<Segment<'a>>
-        ensures { segments_seen result.items ≡ (reader_seen self.entry).segments }
+        ensures segments { segments_seen result.items ≡ (reader_seen self.entry).segments }
     {
         self.segments
     }

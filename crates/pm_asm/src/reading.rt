@@ -15,7 +15,7 @@ use std::alloc::{AllocError, Global};
 
 /// Whether a line ends a procedure, whatever else is wrong in it.
 fn line_ends(line: &Line<'_>) -> bool
-    ensures { result ≡ ends (line_seen line.now) }
+    ensures ends { result ≡ ends (line_seen line.now) }
 {
     match line {
         Line::Wrong { ends } => *ends,
@@ -26,7 +26,7 @@ fn line_ends(line: &Line<'_>) -> bool
 
 /// How many lines there are up to the last one that ends a procedure.
 fn until_last_end(lines: &[Line<'_>]) -> usize
-    ensures { (at : ℕ) → list_any ends (drop at (map line_seen lines.now)) ≡ nat_lt at result }
+    ensures until { (at : ℕ) → list_any ends (drop at (map line_seen lines.now)) ≡ nat_lt at result }
 {
     let mut until = 0;
     for (i, line) in lines.iter().enumerate() {

@@ -15,28 +15,28 @@ use pm_opcode::{Form, Instr, form_at};
 
 /// How many bytes a number has.
 fn number_size(value: u16, long: bool) -> usize
-    ensures { result ≡ length (number value long) }
+    ensures size { result ≡ length (number value long) }
 {
     if long || value >= 128 { 2 } else { 1 }
 }
 
 /// How many bytes the padding before an odd address has.
 fn padding_size(odd: bool) -> usize
-    ensures { result ≡ length (padding odd 0) }
+    ensures size { result ≡ length (padding odd 0) }
 {
     if odd { 1 } else { 0 }
 }
 
 /// Whether the operands of a comparison of this type have a size.
 fn has_size(operand_type: u16) -> bool
-    ensures { result ≡ is_sized operand_type }
+    ensures sized { result ≡ is_sized operand_type }
 {
     operand_type == 10 || operand_type == 12
 }
 
 /// How many bytes an instruction has at an offset, with the bytes that it names.
 fn spelling_size(at: usize, instr: &Instr, named: &[u8]) -> Option<usize>
-    ensures { IfSome result (λ n. n ≡ length (spelling (is_odd at) 0 instr.now named.now)) }
+    ensures size { IfSome result (λ n. n ≡ length (spelling (is_odd at) 0 instr.now named.now)) }
 {
     let odd = at % 2 == 1;
     match form_at(instr.op) {
@@ -55,7 +55,7 @@ fn spelling_size(at: usize, instr: &Instr, named: &[u8]) -> Option<usize>
 
 /// How many bytes an item has at an offset, wherever its jumps lead.
 pub(crate) fn item_size(at: usize, item: &Item<'_>) -> Option<usize>
-    ensures { IfSome result (λ n. n ≡ size at (item_seen item.now)) }
+    ensures size { IfSome result (λ n. n ≡ size at (item_seen item.now)) }
 {
     match item {
         Item::Plain(instr, named) => spelling_size(at, instr, named),
@@ -70,7 +70,7 @@ pub(crate) fn item_size(at: usize, item: &Item<'_>) -> Option<usize>
 
 /// Where items end that begin at an offset.
 pub(crate) fn items_end(at: usize, items: &[Item<'_>]) -> Option<usize>
-    ensures { IfSome result (λ n. n ≡ end_of at (map item_seen items.now)) }
+    ensures end { IfSome result (λ n. n ≡ end_of at (map item_seen items.now)) }
 {
     let mut end = at;
     for item in items {
@@ -81,7 +81,7 @@ pub(crate) fn items_end(at: usize, items: &[Item<'_>]) -> Option<usize>
 
 /// Where a row ends that begins at an offset.
 pub(crate) fn row_end(at: usize, row: &Row<'_>) -> Option<usize>
-    ensures { IfSome result (λ n. n ≡ end_of at (row_items (row_seen row.now))) }
+    ensures end { IfSome result (λ n. n ≡ end_of at (row_items (row_seen row.now))) }
 {
     match row {
         Row::Items { items, .. } => items_end(at, items),
@@ -91,7 +91,7 @@ pub(crate) fn row_end(at: usize, row: &Row<'_>) -> Option<usize>
 
 /// Where code ends that begins at an offset.
 pub(crate) fn code_end(at: usize, rows: &[Row<'_>]) -> Option<usize>
-    ensures { IfSome result (λ n. n ≡ code_end at (map row_seen rows.now)) }
+    ensures end { IfSome result (λ n. n ≡ code_end at (map row_seen rows.now)) }
 {
     let mut end = at;
     for row in rows {
@@ -102,7 +102,7 @@ pub(crate) fn code_end(at: usize, rows: &[Row<'_>]) -> Option<usize>
 
 /// Where a procedure ends that begins at an offset: behind its code, its entries and ten bytes.
 pub(crate) fn source_end(at: usize, procedure: &Procedure<'_>) -> Option<usize>
-    ensures { IfSome result (λ n. n ≡ source_end at (procedure_seen procedure.now)) }
+    ensures end { IfSome result (λ n. n ≡ source_end at (procedure_seen procedure.now)) }
 {
     let code = code_end(at, &procedure.code)?;
     let entries = procedure.entries.len().checked_mul(2)?;

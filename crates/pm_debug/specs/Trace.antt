@@ -1,13 +1,9 @@
 -- The lines of a trace.
-use Rattle.std.specs.Prelude.{ℕ, ◌-◌, ◌==◌, List, [], ◌∷◌, ◌++◌, length, replicate, codes, Option, None, Some, if◌then◌else◌}
-use Rattle.std.specs.Fmt.{decimal}
+use Rattle.std.specs.Prelude.{ℕ, ◌==◌, List, [], ◌∷◌, ◌++◌, codes, Option, None, Some, if◌then◌else◌}
 use Rattle.pm_words.specs.Words.{word_at}
 use Rattle.pm_machine.specs.State.{State}
+use Rattle.pm_disasm.specs.Shown.{padded}
 use Rattle.pm_disasm.specs.Text.{line_text}
-
--- a number in at least so many digits, with zeros in front
-unfoldable pub padded : ℕ → ℕ → List ℕ
-padded width n = replicate (width - length (decimal n)) 48 ++ decimal n
 
 -- the word at the top of the stack; there is none where SP is 65,504
 unfoldable pub top_word : List ℕ → ℕ → Option ℕ

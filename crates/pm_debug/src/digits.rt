@@ -3,7 +3,8 @@
 ghost use Rattle.std.specs.Prelude.{◌≡◌, ◌∷◌, Some};
 ghost use Rattle.std.specs.List.{AllByRecursion, flat_map};
 ghost use Rattle.std.specs.Str.{IsAscii};
-ghost use Rattle.pm_debug.specs.Trace.{padded, top_text};
+ghost use Rattle.pm_disasm.specs.Shown.{padded};
+ghost use Rattle.pm_debug.specs.Trace.{top_text};
 
 use std::fmt;
 
@@ -14,7 +15,7 @@ pub(crate) struct Count(pub u64);
 impl fmt::Display for Count {
     ghost output = { λ c. Some (padded 8 c.0) };
 
-    #[tactic(auto, using(crate::proofs::Zeros::padded_eight))]
+    #[tactic(auto, using(pm_disasm::proofs::Digits::padded_written))]
     fn fmt<W: fmt::Write>(&self, f: &mut fmt::Formatter<W>) -> fmt::Result {
         let count = self.0;
         write!(f, "{count:08}")

@@ -3,7 +3,7 @@ use Rattle.std.proofs.Common.{◌≡◌, ℕ, ◌-◌, ◌^◌, false, List, [],
 use Rattle.std.specs.Fmt.{decimal, padded_integral, format_spec, char_count}
 use Rattle.pm_disasm.specs.Shown.{padded}
 
--- what `{n:05}` writes
-pub padded_five : (n : ℕ) → padded_integral (format_spec 32 0 4 5 (2 ^ 64 - 1)) false [] (decimal n) ≡ padded 5 n
+-- what `{n:05}` writes, and so for each other width
+pub padded_written : (width n : ℕ) → padded_integral (format_spec 32 0 4 width (2 ^ 64 - 1)) false [] (decimal n) ≡ padded width n
 unfolding padded_integral padded char_count
-padded_five n = simp append-nil (ap (λ k. replicate k 48 ++ decimal n) (omega arith))
+padded_written width n = simp append-nil (ap (λ k. replicate k 48 ++ decimal n) (omega arith))

@@ -19,7 +19,7 @@ pub(crate) struct Label(pub usize);
 impl fmt::Display for Label {
     ghost output = { λ l. Some (label_text l.0) };
 
-    #[tactic(auto, using(crate::proofs::Digits::padded_five))]
+    #[tactic(auto, using(crate::proofs::Digits::padded_written))]
     fn fmt<W: fmt::Write>(&self, f: &mut fmt::Formatter<W>) -> fmt::Result {
         let place = self.0;
         write!(f, "L{place:05}")

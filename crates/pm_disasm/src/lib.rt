@@ -19,7 +19,7 @@ mod written;
 
 pub use instruction::Instruction;
 pub use place::Line;
-pub use segments::{file, item, procedure};
+pub use segments::{file, is_name_character, item, procedure};
 pub use text::line;
 
 #[cfg(test)]

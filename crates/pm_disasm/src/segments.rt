@@ -24,9 +24,9 @@ fn without_spaces(name: &[u8]) -> &[u8]
     &name[..count]
 }
 
-/// Whether a byte may stand in a segment's name in a text.
-fn is_name_byte(byte: u8) -> bool
-    ensures name { result ≡ is_name_character byte }
+/// Whether a byte may stand in a segment's name in a text: 33 to 126 but `;`, `,` and `"`.
+pub fn is_name_character(byte: u8) -> bool
+    ensures character { result ≡ is_name_character byte }
 {
     (33..=126).contains(&byte) && byte != b';' && byte != b',' && byte != b'"'
 }
@@ -36,7 +36,11 @@ fn push_marked(text: &mut String, name: &[u8]) -> Result<(), AllocError>
     ensures text { OnOk result (string_bytes text.new ≡ string_bytes text.old ++ map (λ c. if is_name_character c then c else 63) name.now) }
 {
     for byte in name {
-        let shown = if is_name_byte(*byte) { *byte } else { b'?' };
+        let shown = if is_name_character(*byte) {
+            *byte
+        } else {
+            b'?'
+        };
         text.push(char::from(shown))?;
     }
     Ok(())

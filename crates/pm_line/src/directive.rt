@@ -11,13 +11,7 @@ ghost use Rattle.pm_line.specs.Views.{operand_seen, statement_seen, texts_seen};
 use crate::counted::{four, only, pair};
 use crate::item::Statement;
 use crate::operand::{byte_operand, label_operand, level_operand, size_operand, slot_operand};
-
-/// Whether a character may stand in a segment's name.
-fn is_name_character(byte: u8) -> bool
-    ensures character { result ≡ is_name_character byte }
-{
-    (33..=126).contains(&byte) && byte != b';' && byte != b',' && byte != b'"'
-}
+use pm_disasm::is_name_character;
 
 fn are_name_characters(name: &[u8]) -> bool
     ensures characters { result ≡ list_all is_name_character name.now }

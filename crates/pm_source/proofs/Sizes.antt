@@ -1,30 +1,14 @@
--- How many bytes items and segments have, and the parity of where they end.
+-- How many bytes procedures and segments have, and the parity of where items end.
 use Rattle.std.proofs.Common.{◌≡◌, ◌≤◌, ℕ, ◌+◌, ◌*◌, ◌%◌, List, [], ◌∷◌, ◌++◌, length, reverse, refl, ap, arith, length-append}
 use Rattle.std.specs.Prelude.{◌==◌}
 use Rattle.std.proofs.lemmas.List.{length-reverse}
-use Rattle.pm_opcode.specs.Spelling.{word, padding, flip, is_odd, spelling}
-use Rattle.pm_disasm.specs.Item.{Item, item_bytes, size, table_words, table_place, jump_byte, jump_opcode}
+use Rattle.pm_opcode.specs.Spelling.{padding, flip, spelling}
+use Rattle.pm_disasm.specs.Item.{Item, size}
 use Rattle.pm_disasm.specs.Item.Item.{Plain, Jump, Case, OneByte}
-use Rattle.pm_disasm.specs.Program.{Procedure, Segment, FollowFrom, code_bytes, code_of, code_end, end_of, entry_bytes, attribute_bytes, dictionary_bytes, jtab_of, procedure_bytes, procedures_bytes, procedures_end, segment_bytes}
-use Rattle.pm_source.specs.Source.{Name, Row, row_items}
+use Rattle.pm_disasm.specs.Program.{Procedure, Segment, FollowFrom, code_of, code_end, end_of, entry_bytes, attribute_bytes, dictionary_bytes, jtab_of, procedure_bytes, procedures_bytes, procedures_end, segment_bytes}
+use Rattle.pm_disasm.proofs.Sizes.{length-code}
+use Rattle.pm_source.specs.Source.{Row, row_items}
 use Rattle.pm_source.specs.Source as source
-
-words_length : (at : ℕ) (places : List ℕ) → length (table_words at places) ≡ 2 * length places
-words_length at [] = refl
-words_length at (place ∷ places) = omega (arith, words_length (at + 2) places)
-
-item_length : (at : ℕ) (item : Item ℕ) → length (item_bytes at item) ≡ size at item
-item_length at (Plain i named) = refl
-item_length at (Jump op target) = refl
-item_length at (Case low high otherwise places) =
-    let pad : List ℕ = padding (flip (is_odd at)) 0 in
-    let rest : List ℕ = word low ++ (word high ++ (jump_opcode ∷ jump_byte (table_place at) otherwise ∷ table_words (table_place at) places)) in
-    omega (arith, length-append pad rest, words_length (table_place at) places)
-item_length at (OneByte b) = refl
-
-code_length : (at : ℕ) (items : List (Item ℕ)) → at + length (code_bytes at items) ≡ end_of at items
-code_length at [] = omega arith
-code_length at (item ∷ items) = omega (arith, length-append (item_bytes at item) (code_bytes (at + size at item) items), item_length at item, code_length (at + size at item) items)
 
 entries_length : (at : ℕ) (places : List ℕ) → length (entry_bytes at places) ≡ 2 * length places
 entries_length at [] = refl
@@ -35,7 +19,7 @@ procedure_length number p =
     let entries : List ℕ = entry_bytes (code_end p) (reverse p.entries) in
     let last : List ℕ = attribute_bytes number p in
     let ten : length last ≡ 10 = refl in
-    omega (arith, length-append (code_of p) (entries ++ last), length-append entries last, code_length p.start p.items, entries_length (code_end p) (reverse p.entries), length-reverse p.entries, ten)
+    omega (arith, length-append (code_of p) (entries ++ last), length-append entries last, length-code p.start p.items, entries_length (code_end p) (reverse p.entries), length-reverse p.entries, ten)
 
 procedures_length : (number at : ℕ) (ps : List Procedure) → FollowFrom at ps → at + length (procedures_bytes number ps) ≡ procedures_end at ps
 procedures_length number at [] f = omega arith

@@ -2,7 +2,7 @@
 use Rattle.std.specs.Prelude.{◌≡◌, ℕ, zero, suc, ◌+◌, ◌-◌, ◌/◌, ◌%◌, List, [], ◌∷◌, ◌++◌, length, map, reverse, replicate, nat_lt, if◌then◌else◌, codes, Option, Some, None}
 use Rattle.pm_codefile.specs.Layout.{layout}
 use Rattle.pm_disasm.specs.Item.{Item, item_bytes, size}
-use Rattle.pm_disasm.specs.Program.{Procedure, Segment, attribute_bytes, code_end, dictionary_bytes, entry_bytes, jtab_of, procedures_end, segment_bytes}
+use Rattle.pm_disasm.specs.Program.{Procedure, Segment, FollowFrom, attribute_bytes, code_end, dictionary_bytes, entry_bytes, jtab_of, procedures_end, segment_bytes}
 use Rattle.pm_disasm.specs.Laws.{segment_numbered}
 use Rattle.pm_disasm.specs.Shown.{entry_line, padded, shown_item}
 
@@ -99,3 +99,12 @@ listed_bytes (l ∷ ls) = l.bytes ++ listed_bytes ls
 -- The bytes of a segment's lines, joined, are the segment.
 abbrev pub ListingIsSegment : Type 0
 ListingIsSegment = (s : Segment) → listed_bytes (listed_segment s) ≡ segment_bytes s
+
+-- Each line names the offset at which its bytes stand, where the first ones stand at this one.
+abbrev pub StandFrom : ℕ → List Listed → Type 0
+StandFrom at [] = Unit {0}
+StandFrom at (l ∷ ls) = (l.at ≡ at) × StandFrom (at + length l.bytes) ls
+
+-- Each of a segment's lines names the offset at which its bytes stand in the segment.
+abbrev pub ListingIsPlaced : Type 0
+ListingIsPlaced = (s : Segment) → FollowFrom 0 s.procedures → StandFrom 0 (listed_segment s)

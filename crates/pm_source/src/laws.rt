@@ -1,11 +1,12 @@
 //! Laws of the assembler's text, of what it spells and of its listing. The functions do nothing.
-ghost use Rattle.pm_source.specs.Image.{ListingIsSegment};
+ghost use Rattle.pm_source.specs.Image.{ListingIsPlaced, ListingIsSegment};
 ghost use Rattle.pm_source.specs.Laws.{FaultlessIsSaid, FaultlessIsSpelled, FileHoldsProgram, FoundIsFaultless, LabelsFound, SaidIsFaultless, SpelledIsFaultless, SpelledIsProgram};
 
-/// The bytes of a segment's lines in a listing, joined, are the segment.
-#[tactic(auto, using(crate::proofs::Listed::listing_is_segment))]
+/// The bytes of a segment's lines in a listing, joined, are the segment, and each line names the offset at which its bytes stand in it.
+#[tactic(auto, using(crate::proofs::Listed::listing_is_segment, crate::proofs::Listed::listing_is_placed))]
 pub fn listing_is_segment()
     ensures law { ListingIsSegment }
+    ensures placed { ListingIsPlaced }
 {}
 
 /// The labels of a procedure that has no fault of them are found: it means the procedure of a program that has their

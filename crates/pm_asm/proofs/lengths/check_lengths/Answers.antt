@@ -8,16 +8,16 @@ pub returns-then-branch-clause-fault : goal.returns-then-branch-clause-fault
 returns-then-branch-clause-fault c =
     let long = sym c.in_ok-is_long.ensures.value ∙ c.if-branch.true in
     sym c.loop-number.invariant
-    ∙ long_here c.loop-number.number (segments_seen c.args.segments.now) (segment_seen c.in-Some.segment.now) (omega arith) (sym c.in-Some.ensures) long
+    ∙ long_here c.loop-number.number (segments_seen c.args.segments.now) (segment_seen c.in-Some.segment.now) (omega arith) (sym c.in-Some.ensures.segment) long
 
 pub loop-number-preserved : goal.loop-number-preserved
 loop-number-preserved c =
     elim c.match-segment_with.branch [
       | in-Some+in_ok-is_long+else-branch w ↦ (
           let short = sym w.in_ok-is_long.ensures.value ∙ w.if-branch.false in
-          sym (short_here c.loop-number.number (segments_seen c.args.segments.now) (segment_seen w.in-Some.segment.now) (omega arith) (sym w.in-Some.ensures) short)
+          sym (short_here c.loop-number.number (segments_seen c.args.segments.now) (segment_seen w.in-Some.segment.now) (omega arith) (sym w.in-Some.ensures.segment) short)
           ∙ c.loop-number.invariant)
-      | in_default w ↦ sym (none_long c.loop-number.number (segments_seen c.args.segments.now) (omega arith) (sym w.in_default.ensures)) ∙ c.loop-number.invariant
+      | in_default w ↦ sym (none_long c.loop-number.number (segments_seen c.args.segments.now) (omega arith) (sym w.in_default.ensures.segment)) ∙ c.loop-number.invariant
     ]
 
 pub returns-clause-short : goal.returns-clause-short

@@ -9,6 +9,6 @@ pub returns : goal.returns
 returns c =
     let whole = found_length-seen c.args.segment.now in
     let end : c.in_ok-end.end ≡ sources_end 0 (map procedure_seen c.args.segment.now.procedures.items) =
-    c.in_ok-end.ensures ∙ ap (λ ps. sources_end 0 (map procedure_seen ps)) c.deref.ensures.value in
+    c.in_ok-end.ensures.end ∙ ap (λ ps. sources_end 0 (map procedure_seen ps)) c.deref.ensures.value in
     let count : c.len.result ≡ length c.args.segment.now.procedures.items = c.len.ensures ∙ sym c.deref.ensures.len ∙ ap length c.deref.ensures.value in
-    omega (arith, c.in_ok-length.ensures.1, c.in_ok-checked_add.ensures.1, c.in_ok-words.ensures.1)
+    record { size = omega (arith, c.in_ok-length.ensures.1, c.in_ok-checked_add.ensures.1, c.in_ok-words.ensures.1) }

@@ -26,5 +26,5 @@ returns c =
           (after ≡ before ++ line (take (at + 2 - at) (drop at c.args.bytes.now)) c.deref.result.now)
           ((rest : List Listed) → after ++ listed_lines c.args.place.segment rest ≡ before ++ listed_lines c.args.place.segment (listed_entries c.args.place.procedure at (c.args.leads ∷ []) ++ rest))
           (λ e rest. line_more c.args.place.segment (record { procedure = c.args.place.procedure; at = at; bytes = bytes; what = entry_line c.args.leads }) before after rest (e ∙ ap (λ bs. before ++ line bs c.deref.result.now) part ∙ ap (λ ws. before ++ line bytes ws) what))
-          c.push_line.ensures;
+          c.push_line.ensures.text;
     }

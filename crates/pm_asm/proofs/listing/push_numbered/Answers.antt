@@ -13,18 +13,18 @@ use Rattle.pm_asm.proofs.listing.push_numbered.Goals as goal
 pub returns-in_default : goal.returns-in_default
 returns-in_default c =
     let before : List ℕ = string_bytes c.args.text.now in
-    record { text = sym (append-nil before) ∙ ap (λ bs. before ++ bs) (sym listing_none ∙ ap (λ o. listing (map found_segment (option_to_list o))) c.in_default.ensures) }
+    record { text = sym (append-nil before) ∙ ap (λ bs. before ++ bs) (sym listing_none ∙ ap (λ o. listing (map found_segment (option_to_list o))) c.in_default.ensures.segment) }
 
 pub push_segment-requires-clause-segment : goal.push_segment-requires-clause-segment
 push_segment-requires-clause-segment c =
     let s = segment_seen c.in-Some.segment.now in
-    let there = slot_there c.args.number (segments_seen c.args.segments.now) s c.requires.number c.in-Some.ensures in
+    let there = slot_there c.args.number (segments_seen c.args.segments.now) s c.requires.number c.in-Some.ensures.segment in
     numbered_all IsSegment c.args.number (program_seen c.args.segments.now) (found_segment s) there c.requires.program.segments
 
 pub push_segment-requires-clause-short : goal.push_segment-requires-clause-short
 push_segment-requires-clause-short c =
     let s = segment_seen c.in-Some.segment.now in
-    let there = slot_there c.args.number (segments_seen c.args.segments.now) s c.requires.number c.in-Some.ensures in
+    let there = slot_there c.args.number (segments_seen c.args.segments.now) s c.requires.number c.in-Some.ensures.segment in
     numbered_all (λ t. length (segment_bytes t) ≤ 60000) c.args.number (program_seen c.args.segments.now) (found_segment s) there c.requires.short
 
 pub returns : goal.returns
@@ -36,6 +36,6 @@ returns c =
       text = on_ok_map c.push_segment.result
           (after ≡ before ++ listed_lines s.number (listed_segment (found_segment s)))
           (after ≡ before ++ listing (map found_segment (option_to_list (segment_with c.args.number (segments_seen c.args.segments.now)))))
-          (λ e. e ∙ ap (λ bs. before ++ bs) (sym (listing_one (found_segment s)) ∙ ap (λ o. listing (map found_segment (option_to_list o))) c.in-Some.ensures))
+          (λ e. e ∙ ap (λ bs. before ++ bs) (sym (listing_one (found_segment s)) ∙ ap (λ o. listing (map found_segment (option_to_list o))) c.in-Some.ensures.segment))
           c.push_segment.ensures.text;
     }

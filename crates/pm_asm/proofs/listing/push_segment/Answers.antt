@@ -49,5 +49,5 @@ returns c =
           ∙ ap (λ bs. second ++ bs) (sym (append-nil (listed_line number dictionary)))
           ∙ c.in_ok-at.ensures.text (dictionary ∷ [])
           ∙ ap (λ ps. first ++ listed_lines number (listed_procedures 1 (found_procedures 0 (map procedure_seen ps)) (dictionary ∷ []))) c.deref-2.ensures.value)
-          c.push_line.ensures;
+          c.push_line.ensures.text;
     }

@@ -9,4 +9,4 @@ returns-in-Some c =
     let last = c.in-Some.segment.now in
     let found : slice_get segments (length segments - 1) ≡ Some last = sym c.in-Some.ensures.value in
     let count : length last.procedures.items ≡ _ = count_of_last segments last found in
-    c.len.ensures ∙ (last.procedures.ok.0 ∙ count)
+    record { count = c.len.ensures ∙ (last.procedures.ok.0 ∙ count) }

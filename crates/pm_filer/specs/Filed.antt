@@ -1,5 +1,5 @@
 -- What a command makes of a volume, and what it answers.
-use Rattle.std.specs.Prelude.{ℕ, List, Option, Some, None, Result, Ok, Err, string_bytes, Bool, ◌+◌, ◌*◌, ◌&&◌, nat_le, nat_lt, length, if◌then◌else◌}
+use Rattle.std.specs.Prelude.{ℕ, List, Option, Some, None, Result, Ok, Err, IsOk, ⊤, string_bytes, Bool, ◌+◌, ◌*◌, ◌&&◌, nat_le, nat_lt, length, if◌then◌else◌}
 use Rattle.pm_volume.specs.Files.{file_bytes, file_named}
 use Rattle.pm_volume.specs.Directory.{directory_of}
 use Rattle.pm_volume.specs.Headers.{dated_image, last_date_of}
@@ -121,3 +121,17 @@ filed image Krunch = Ok (record { image = krunched_image image; answer = Done })
 filed image (Date year month day) =
     if is_date year month day then Ok (record { image = dated_image image (date_word year month day); answer = Done }) else Err faults.BadDate
 filed image (Zero name) = changed (zeroed image name)
+
+-- a command may answer want of memory: one that gives bytes or text, where nothing else is wrong; and one that puts a text, whose file is
+-- made before anything is looked at
+abbrev pub MayWantMemory : Order → Result Filed FilerFault → Type 0
+MayWantMemory ListFiles outcome = IsOk outcome
+MayWantMemory (Get name) outcome = IsOk outcome
+MayWantMemory (GetText name) outcome = IsOk outcome
+MayWantMemory (PutText name text) outcome = ⊤
+MayWantMemory (Put name kind bytes) outcome = ⊥
+MayWantMemory (Remove name) outcome = ⊥
+MayWantMemory (Change old new) outcome = ⊥
+MayWantMemory Krunch outcome = ⊥
+MayWantMemory (Date year month day) outcome = ⊥
+MayWantMemory (Zero name) outcome = ⊥

@@ -1,10 +1,10 @@
 //! Commands, and what they answer.
-ghost use Rattle.std.specs.Prelude.{◌≡◌, ◌≢◌, Ok, Err, Some, None, IfOk, IfErr, OnErr, OnOk, if◌then◌else◌};
+ghost use Rattle.std.specs.Prelude.{◌≡◌, ◌≢◌, Ok, Err, Some, None, IfOk, IfErr, IsErrOf, IsOk, OnErr, OnOk, if◌then◌else◌};
 ghost use Rattle.pm_volume.specs.Made.{added, renamed, zeroed};
 ghost use Rattle.pm_volume.specs.Directory.{directory_of};
 ghost use Rattle.pm_volume.specs.Headers.{last_date_of};
 ghost use Rattle.pm_textfile.specs.Writing.{text_fault};
-ghost use Rattle.pm_filer.specs.Filed.{Done, Filed, answer_of, bytes_of, date_word, filed, is_date, lent, order_of, read, written};
+ghost use Rattle.pm_filer.specs.Filed.{Done, Filed, MayWantMemory, answer_of, bytes_of, date_word, filed, is_date, lent, order_of, read, written};
 ghost use Rattle.pm_volume.specs.Files.{file_named};
 
 use crate::fault::FilerFault;
@@ -52,6 +52,7 @@ pub enum Reply {
 fn get(alloc: Global, volume: &Volume, name: &str) -> Result<Reply, FilerFault>
     ensures done { IfOk result (λ reply. lent volume.now (bytes_of volume.now (file_named volume.now name.now)) ≡ Ok (record { image = volume.now; answer = answer_of reply })) }
     ensures refused { IfErr result (λ fault. fault ≢ FilerFault.NoMemory → lent volume.now (bytes_of volume.now (file_named volume.now name.now)) ≡ Err fault) }
+    ensures memory { IsErrOf result FilerFault.NoMemory → IsOk (lent volume.now (bytes_of volume.now (file_named volume.now name.now))) }
 {
     let entry = volume.find(name).ok_or(VolumeFault::NoFile)?;
     let bytes = volume.file(&entry).ok_or(VolumeFault::NoFile)?;
@@ -62,6 +63,7 @@ fn get(alloc: Global, volume: &Volume, name: &str) -> Result<Reply, FilerFault>
 fn get_text(alloc: Global, volume: &Volume, name: &str) -> Result<Reply, FilerFault>
     ensures done { IfOk result (λ reply. read volume.now (bytes_of volume.now (file_named volume.now name.now)) ≡ Ok (record { image = volume.now; answer = answer_of reply })) }
     ensures refused { IfErr result (λ fault. fault ≢ FilerFault.NoMemory → read volume.now (bytes_of volume.now (file_named volume.now name.now)) ≡ Err fault) }
+    ensures memory { IsErrOf result FilerFault.NoMemory → IsOk (read volume.now (bytes_of volume.now (file_named volume.now name.now))) }
 {
     let entry = volume.find(name).ok_or(VolumeFault::NoFile)?;
     let bytes = volume.file(&entry).ok_or(VolumeFault::NoFile)?;
@@ -135,6 +137,7 @@ fn change(volume: &mut Volume, old: &str, new: &str) -> Result<(), VolumeFault>
 pub fn apply(alloc: Global, volume: &mut Volume, command: Command) -> Result<Reply, FilerFault>
     ensures done { IfOk result (λ reply. filed volume.old (order_of command) ≡ Ok (record { image = volume.new; answer = answer_of reply })) }
     ensures refused { IfErr result (λ fault. fault ≢ FilerFault.NoMemory → filed volume.old (order_of command) ≡ Err fault) }
+    ensures memory { IsErrOf result FilerFault.NoMemory → MayWantMemory (order_of command) (filed volume.old (order_of command)) }
     ensures unchanged { OnErr result (volume.new ≡ volume.old) }
 {
     match command {

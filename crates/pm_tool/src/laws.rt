@@ -1,5 +1,8 @@
 //! Laws of runs. The functions do nothing.
+ghost use Rattle.std.specs.Prelude.{◌≡◌};
 ghost use Rattle.pm_tool.specs.Laws.{RunsAreEvents, ShowingChangesNothing};
+
+use crate::source::INPUT_LIMIT;
 
 /// A run leaves the machine as a list of steps and keys leaves it, and the bytes that are keyed are exactly those that are
 /// read.
@@ -12,4 +15,9 @@ pub fn runs_are_events()
 #[tactic(auto, using(crate::proofs::RunLaws::showing_changes_nothing))]
 pub fn showing_changes_nothing()
     ensures law { ShowingChangesNothing }
+{}
+
+/// An input has at most 16,777,216 bytes.
+pub fn input_is_bounded()
+    ensures bound { INPUT_LIMIT ≡ 16777216 }
 {}

@@ -1,5 +1,5 @@
 -- How a run that is written as it goes goes on by one turn, and how it ends.
-use Rattle.std.proofs.Common.{◌≡◌, ℕ, ◌+◌, ◌-◌, ◌<◌, ◌≤◌, List, [], ◌∷◌, ◌++◌, Option, None, Bool, true, false, length, refl, sym, ap, ◌∙◌, append_assoc, append-nil, inl}
+use Rattle.std.proofs.Common.{◌≡◌, ℕ, ◌+◌, ◌-◌, ◌<◌, ◌≤◌, List, [], ◌∷◌, ◌++◌, Option, None, Bool, true, false, length, refl, sym, ap, ◌∙◌, append_assoc, append-nil, inl, subst}
 use Rattle.std.proofs.lemmas.List.{length-append}
 use Rattle.std.specs.Io.KnownBytes.{Consumes, Appends, Keeps}
 use Rattle.std.proofs.KnownBytes.{Consumes-trans, Consumes-nil, Consumes-kept}
@@ -80,9 +80,9 @@ module _ (had left held holds : Option (List ℕ)) (page : List ℕ) (taken : �
   begins front rest f = rw (u.run rest) (front_trans front u.shown (u.shown ++ (run_of show n rest m).shown) f ((run_of show n rest m).shown, refl))
 
   -- the page is lost
-  pub broken_between : (fault : Fault) (source_failed sink_failed : Bool) → ((read : List ℕ) → length read ≡ taken → IsCause fault source_failed sink_failed read)
+  pub broken_between : (fault : Fault) (source_failed sink_failed : Bool) → source_failed ≡ false → ((read : List ℕ) → length read ≡ taken → IsCause fault source_failed sink_failed read)
       → IsBroken had left held holds show limit began fault source_failed sink_failed
-  broken_between fault source_failed sink_failed cause =
+  broken_between fault source_failed sink_failed well cause =
       let lost = but_lost held holds page u.shown u.writes in
       record {
         read = u.read;
@@ -90,6 +90,7 @@ module _ (had left held holds : Option (List ℕ)) (page : List ℕ) (taken : �
         reads = u.reads;
         writes = lost.1;
         begins = λ rest. begins lost.0 rest lost.2;
+        prompt = λ failed. cc;
         cause = cause u.read u.count;
       }
 
@@ -104,22 +105,23 @@ module _ (had left held holds : Option (List ℕ)) (page : List ℕ) (taken : �
         reads = u.reads;
         writes = front.1;
         begins = λ rest. begins front.0 rest front.2;
+        prompt = λ failed. cc;
         cause = rw well (cause_longer fault sink_failed u.read (rw u.count few) cause);
       }
 
-  -- no byte could be read
+  -- no byte could be read for a step that waits, and the page is blank
   pub broken_reading : (left' : Option (List ℕ)) (fault : Fault) (source_failed sink_failed : Bool) → Keeps left left' → fault ≡ faults.Read → source_failed ≡ true → sink_failed ≡ false
-      → IsBroken had left' held holds show limit began fault source_failed sink_failed
-  broken_reading left' fault source_failed sink_failed k e failed well =
-      let lost = but_lost held holds page u.shown u.writes in
-      record {
-        read = u.read;
-        front = lost.0;
-        reads = Consumes-kept had left left' u.read u.reads k;
-        writes = lost.1;
-        begins = λ rest. begins lost.0 rest lost.2;
-        cause = rw e (well, inl failed);
-      }
+      → page ≡ [] → (after : State) → 0 < n → stepped m ≡ (after, Waiting) → IsBroken had left' held holds show limit began fault source_failed sink_failed
+  broken_reading left' fault source_failed sink_failed k e failed well blank after some step = record {
+    read = u.read;
+    front = u.shown;
+    reads = Consumes-kept had left left' u.read u.reads k;
+    writes = subst (Appends held holds) (sym (u.writes.2 ∙ ap (λ p. u.writes.0 ++ p) blank ∙ append-nil u.writes.0)) u.writes.1;
+    begins = λ rest. begins u.shown rest ([], sym (append-nil u.shown));
+    prompt = λ _. ap (λ r. (run_of show limit r began).shown) (sym (append-nil u.read))
+        ∙ ap (λ t. t.shown) (u.run [] ∙ ap (after_showing u.shown) (run_of-stuck show n m after some step)) ∙ append-nil u.shown;
+    cause = rw e (well, inl failed);
+  }
 
   module _ (page' : List ℕ) (after : State) (some : 0 < n) where
     -- a step that went

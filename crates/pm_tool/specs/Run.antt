@@ -41,6 +41,10 @@ is_waiting Went = false
 is_waiting Ended = false
 is_waiting (Halted error) = false
 
+abbrev pub is_console : Show → Bool
+is_console Trace = false
+is_console (Console save) = true
+
 -- a step that waits shows nothing
 abbrev pub shown_by : Show → State → State → Stop → List ℕ
 shown_by show before after stop = if is_waiting stop then [] else shown_of show before after
@@ -88,11 +92,13 @@ pub record IsOver (had left held holds : Option (List ℕ)) (held_back : List �
   pub run : (rest : List ℕ) → (ending ≡ endings.Waiting → rest ≡ []) → run_of show limit (read ++ rest) began ≡ ends shown ending machine rest
   pub drained : ending ≡ endings.Waiting → IsAtEnd left
 
--- the run was broken off: what was written is a front of what it shows, whatever is left to read
+-- The run was broken off: what was written is a front of what it shows, whatever is left to read. Where a read failed, it is all that
+-- was shown up to then: a program never waits for input before its output is written.
 pub record IsBroken (had left held holds : Option (List ℕ)) (show : Show) (limit : ℕ) (began : State) (fault : Fault) (source_failed sink_failed : Bool) : Type 0 where
   pub read : List ℕ
   pub front : List ℕ
   pub reads : Consumes had left read
   pub writes : Appends held holds front
   pub begins : (rest : List ℕ) → IsFront front (run_of show limit (read ++ rest) began).shown
+  pub prompt : source_failed ≡ true → (run_of show limit read began).shown ≡ front
   pub cause : IsCause fault source_failed sink_failed read

@@ -1,8 +1,8 @@
 //! The steps of a run: what they show is written, and a machine that waits gets the next byte of the input.
-ghost use Rattle.std.specs.Prelude.{◌≡◌, false, [], ◌++◌, drop, length, IfOk, IfErr, OnOk, OnErr};
+ghost use Rattle.std.specs.Prelude.{◌≡◌, false, true, [], ◌++◌, drop, length, IfOk, IfErr, OnOk, OnErr};
 ghost use Rattle.std.specs.Io.KnownBytes.{Appends};
 ghost use Rattle.pm_machine.specs.Steps.{stepped};
-ghost use Rattle.pm_tool.specs.Run.{IsBroken, IsOver, shown_by};
+ghost use Rattle.pm_tool.specs.Run.{IsBroken, IsOver, is_console, shown_by};
 ghost use Rattle.pm_tool.specs.Streams.{AppendsBut, AppendsFront, IsCause};
 
 use crate::ending::Ending;
@@ -93,6 +93,7 @@ fn write_page<W: Sink>(sink: &mut W, page: &mut Vec<u8>) -> Result<(), Fault>
 fn turn_page<W: Sink>(sink: &mut W, page: &mut Vec<u8>, show: Show) -> Result<(), Fault>
     requires well { W.has_failed sink.old ≡ false }
     ensures written { OnOk result (AppendsBut (W.contents sink.old) (W.contents sink.new) page.new.items page.old.items) }
+    ensures at_once { is_console show ≡ true → OnOk result (page.new.items ≡ []) }
     ensures well { OnOk result (W.has_failed sink.new ≡ false) }
     ensures front { OnErr result (AppendsFront (W.contents sink.old) (W.contents sink.new) page.old.items) }
     ensures cause { IfErr result (λ fault. IsCause fault false (W.has_failed sink.new) []) }

@@ -15,7 +15,7 @@ steps-init g c = record {
 pub returns-in_err-step-clause-broken : goal.returns-in_err-step-clause-broken
 returns-in_err-step-clause-broken g c =
     let p = err_from_is_err_and c.from_residual.result c.from_residual.ensures.1 in
-    rw (p.1, p.2) (broken_between _ _ _ _ _ _ _ _ _ _ _ c.steps.invariant.under_way _ _ _ (λ read e. (c.steps.invariant.sink_well, c.steps.invariant.source_well, omega arith)))
+    rw (p.1, p.2) (broken_between _ _ _ _ _ _ _ _ _ _ _ c.steps.invariant.under_way _ _ _ c.steps.invariant.source_well (λ read e. (c.steps.invariant.sink_well, c.steps.invariant.source_well, omega arith)))
 
 pub returns-in-Ended-clause-over : goal.returns-in-Ended-clause-over
 returns-in-Ended-clause-over g c =
@@ -66,7 +66,8 @@ returns-in_err-byte-in-Waiting-clause-broken g c =
     (under_way_cleared _ _ _ _ _ _ _ _ _ _ _
     (under_way_waited _ _ _ _ _ _ _ _ _ _ _ c.steps.invariant.under_way c.step.new.page.items c.step.new.machine (omega arith) (search rules))
     _ _ c.in_ok-write_page-in-Waiting.ensures.written c.in_ok-write_page-in-Waiting.ensures.cleared)
-    _ _ _ _ c.in_err-byte-in-Waiting.ensures.kept c.in_err-byte-in-Waiting.ensures.fault c.in_err-byte-in-Waiting.ensures.failed c.in_ok-write_page-in-Waiting.ensures.well)
+    _ _ _ _ c.in_err-byte-in-Waiting.ensures.kept c.in_err-byte-in-Waiting.ensures.fault c.in_err-byte-in-Waiting.ensures.failed c.in_ok-write_page-in-Waiting.ensures.well
+    c.in_ok-write_page-in-Waiting.ensures.cleared c.step.new.machine (omega arith) (search rules))
 
 pub returns-in_default-clause-over : goal.returns-in_default-clause-over
 returns-in_default-clause-over g c =
@@ -85,7 +86,7 @@ returns-then-taken-eq-INPUT_LIMIT-clause-broken g c =
     (under_way_waited _ _ _ _ _ _ _ _ _ _ _ c.steps.invariant.under_way c.step.new.page.items c.step.new.machine (omega arith) (search rules))
     _ _ c.in_ok-write_page-in-Waiting.ensures.written c.in_ok-write_page-in-Waiting.ensures.cleared)
     c.write_page.new.page.items c.step.new.machine (omega arith) _ c.in-Some.byte _ (search rules) (rw c.in-Some.is at c.in_ok-byte-in-Waiting.ensures.byte) refl)
-    _ _ _ (λ read e. (c.in_ok-write_page-in-Waiting.ensures.well, inr (omega arith)))
+    _ _ _ c.in_ok-byte-in-Waiting.ensures.failed (λ read e. (c.in_ok-write_page-in-Waiting.ensures.well, inr (omega arith)))
 
 pub steps-preserved : goal.steps-preserved
 steps-preserved g c = record {
@@ -111,4 +112,4 @@ returns-in_err-key-in-Waiting-clause-broken g c =
     (under_way_waited _ _ _ _ _ _ _ _ _ _ _ c.steps.invariant.under_way c.step.new.page.items c.step.new.machine (omega arith) (search rules))
     _ _ c.in_ok-write_page-in-Waiting.ensures.written c.in_ok-write_page-in-Waiting.ensures.cleared)
     c.write_page.new.page.items c.step.new.machine (omega arith) _ c.in-Some.byte _ (search rules) (rw c.in-Some.is at c.in_ok-byte-in-Waiting.ensures.byte) refl)
-    _ _ _ (λ read e. (c.in_ok-write_page-in-Waiting.ensures.well, c.in_ok-byte-in-Waiting.ensures.failed, omega arith)))
+    _ _ _ c.in_ok-byte-in-Waiting.ensures.failed (λ read e. (c.in_ok-write_page-in-Waiting.ensures.well, c.in_ok-byte-in-Waiting.ensures.failed, omega arith)))

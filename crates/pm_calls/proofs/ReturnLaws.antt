@@ -137,14 +137,16 @@ frame_made m n s loaded static r inner base t h =
     let both = ok_same _ _ second.1 in
     let fits : r.sp + t.parameters ≤ 65504 = grind (arith, nat_tests, first.0) in
     let low : top ≤ 65504 = top_inside loaded r.sp t.parameters fits in
-    let room : r.np + kept_below base + size ≤ top = grind (arith, nat_tests, second.0) in
-    (f, record {
-      inside_memory = fits;
-      room = omega (arith, room, low);
-      below = omega (arith, room, low);
-      memory = sym (ap (λ (p : List ℕ × Registers). p.0) both);
-      registers = sym (ap (λ (p : List ℕ × Registers). p.1) both);
-    })
+    let room : r.np + kept_below base + size ≤ top = grind (arith, nat_tests, second.0) in (
+      f,
+      record {
+        inside_memory = fits;
+        room = omega (arith, room, low);
+        below = omega (arith, room, low);
+        memory = sym (ap (λ (p : List ℕ × Registers). p.0) both);
+        registers = sym (ap (λ (p : List ℕ × Registers). p.1) both);
+      },
+    )
 
 -- ---- a return
 

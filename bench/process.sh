@@ -173,6 +173,53 @@ cmp -s "$programs" "$scratch/before" && [ -f "$scratch/printed" ] && [ ! -s "$sc
 result "the image is as it was, and nothing was printed" $?
 echo "write fault" >"$message"
 case_of "printer bytes that cannot be written" 4 "$scratch/text" "$message" run --d4 "$programs" --printer "$scratch/absent/x" OK </dev/null
+
+# what a program leaves behind: it writes OK on unit 4 and on the printer, and then goes round without an end
+printf '%s\n' ".SEG 1 KEEPS" ".PROC 1 0 0 0" \
+    "SLDC 4" 'LPA "OK"' "SLDC 0" "SLDC 2" "SLDC 39" "SLDC 0" "CSP 6" \
+    "SLDC 6" 'LPA "OK"' "SLDC 0" "SLDC 2" "SLDC 0" "SLDC 0" "CSP 6" \
+    "again: UJP ^0" ".EXIT" "RBP 0" ".JUMP again" ".END" >"$scratch/source"
+"$pmach" asm <"$scratch/source" >"$scratch/code"
+cp "$programs" "$scratch/keeps.img"
+case_of "a program is put" 0 "$nothing" "$nothing" files --image "$scratch/keeps.img" put KEEPS code <"$scratch/code"
+cp "$scratch/keeps.img" "$scratch/before"
+echo "limit 100" >"$message"
+case_of "nothing is saved unasked" 6 "$nothing" "$message" run --d4 "$scratch/keeps.img" --limit 100 KEEPS </dev/null
+cmp -s "$scratch/keeps.img" "$scratch/before"
+result "the image is as it was" $?
+case_of "a changed image is saved at the limit" 6 "$nothing" "$message" \
+    run --d4 "$scratch/keeps.img" --d5 "$programs" --save --printer "$scratch/printed" --limit 100 KEEPS </dev/null
+[ "$(tail -c +19969 "$scratch/keeps.img" | head -c 2)" = OK ] && [ "$(cat "$scratch/printed")" = OK ]
+result "the image and the printer have OK" $?
+echo "limit 10000000" >"$message"
+case_of "the limit that is not given" 6 "$nothing" "$message" run --d4 "$scratch/keeps.img" KEEPS </dev/null
+
+# which disk is on which unit: the program writes the name of unit 9's volume
+printf '%s\n' ".SEG 1 NAMES" ".PROC 1 0 0 0" \
+    "SLDC 9" "LDCI 2000" "SLDC 0" "SLDC 14" "SLDC 2" "SLDC 0" "CSP 5" \
+    "SLDC 1" "LDCI 2007" "SLDC 0" "SLDC 4" "SLDC 0" "SLDC 0" "CSP 6" \
+    ".EXIT" "RBP 0" ".END" >"$scratch/source"
+"$pmach" asm <"$scratch/source" >"$scratch/code"
+case_of "another program is put" 0 "$nothing" "$nothing" files --image "$scratch/keeps.img" put NAMES code <"$scratch/code"
+for name in FIVE NINE ELEV; do
+    "$pmach" files --image "$scratch/$name" new $name 20
+done
+printf 'NINE' >"$scratch/text"
+echo "ended 15" >"$message"
+case_of "three disks" 0 "$scratch/text" "$message" \
+    run --d4 "$scratch/keeps.img" --d5 "$scratch/FIVE" --d9 "$scratch/NINE" --d11 "$scratch/ELEV" NAMES </dev/null
+
+# images of other sizes
+case_of "a new volume over a larger file" 0 "$nothing" "$nothing" files --image "$scratch/keeps.img" new WORK 20 </dev/null
+[ "$(wc -c <"$scratch/keeps.img")" = 10240 ]
+result "the file is as long as its image" $?
+head -c 33554432 /dev/zero >"$scratch/large"
+echo "refused volume 3" >"$message"
+case_of "33,554,432 bytes of an image" 2 "$nothing" "$message" files --image "$scratch/large" list </dev/null
+head -c 1 /dev/zero >>"$scratch/large"
+echo "read fault" >"$message"
+case_of "33,554,433 bytes of an image" 4 "$nothing" "$message" files --image "$scratch/large" list </dev/null
+
 usage "no disk on unit 4" run OK
 usage "no program" run --d4 "$programs"
 usage "a disk on unit 6" run --d4 "$programs" --d6 "$programs" OK

@@ -56,9 +56,13 @@ impl fmt::Display for WordsError {
     fn fmt<W: fmt::Write>(&self, f: &mut fmt::Formatter<W>) -> fmt::Result {
         match self {
             WordsError::Usage(error) => write!(f, "{error}"),
-            WordsError::NoCommand => f.write_str("error: no command among the words\n"),
+            WordsError::NoCommand => f.write_str(
+                "error: no command among the words; --help lists them\n",
+            ),
             WordsError::BadNumber(range) => write!(f, "error: {range}\n"),
-            WordsError::NoValue => f.write_str("error: an option has no value\n"),
+            WordsError::NoValue => f.write_str(
+                "error: an option has no value; --help tells what it takes\n",
+            ),
             WordsError::NotText => f.write_str("error: a word is not UTF-8\n"),
             WordsError::NoMemory => f.write_str("no memory\n"),
         }

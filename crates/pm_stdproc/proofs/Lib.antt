@@ -1,3 +1,4 @@
 pub mod MoveLaws
 pub mod ScanLaws
 pub mod DiskLaws
+pub mod Computed

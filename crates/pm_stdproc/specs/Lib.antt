@@ -5,3 +5,4 @@ pub mod Transfers
 pub mod UnitRows
 pub mod Procedures
 pub mod Laws
+pub mod Worked

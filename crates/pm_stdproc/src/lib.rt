@@ -9,6 +9,7 @@ mod rows;
 mod transfers;
 mod trap;
 mod units;
+pub mod worked;
 
 pub use ports::MountFault;
 pub use trap::Trap;

@@ -8,6 +8,7 @@ mod copies;
 mod decoding;
 mod encoding;
 mod fault;
+pub mod worked;
 
 pub use decoding::decode;
 pub use encoding::encode;

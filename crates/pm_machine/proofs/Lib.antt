@@ -3,3 +3,4 @@ pub mod LoadLaws
 pub mod WordLists
 pub mod RunLaws
 pub mod StepLaws
+pub mod Computed

@@ -15,6 +15,7 @@ pub mod step_laws;
 mod values;
 mod variables;
 mod views;
+pub mod worked;
 
 pub use machine::Machine;
 pub use pm_calls::Registers;

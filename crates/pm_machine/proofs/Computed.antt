@@ -1,0 +1,20 @@
+-- The results are computed.
+use Rattle.std.proofs.Common.{refl}
+use Rattle.pm_machine.specs.Worked.{WorkedResults}
+
+pub worked_results : WorkedResults
+worked_results = record {
+  sum = refl;
+  difference = refl;
+  product = refl;
+  quotient = refl;
+  remainder = refl;
+  wrapped = refl;
+  by_zero = refl;
+  absolute = refl;
+  negative = refl;
+  square = refl;
+  complement = refl;
+  below = refl;
+  not_below = refl;
+}

@@ -1,0 +1,26 @@
+-- Results computed: what the definitions give for a few words, worked out by hand.
+use Rattle.std.specs.Prelude.{◌≡◌, Ok, Err, true, false}
+use Rattle.pm_words.specs.declared.error.ExecError.TheVariants.{DivideByZero}
+use Rattle.pm_opcode.specs.declared.operation.Unary.TheVariants.{Absolute, Negate, Square, Complement}
+use Rattle.pm_opcode.specs.declared.operation.Binary.TheVariants.{Add, Subtract, Multiply, Divide, Modulo}
+use Rattle.pm_opcode.specs.declared.operation.Relation.TheVariants.{Less}
+use Rattle.pm_machine.specs.Signed.{binary, relation, unary}
+
+pub record WorkedResults : Type 0 where
+  -- sums and products wrap: 32,767 + 1 is the word 32,768
+  pub sum : binary Add 32767 1 ≡ Ok 32768
+  pub difference : binary Subtract 0 1 ≡ Ok 65535
+  pub product : binary Multiply 256 257 ≡ Ok 256
+  -- -7 by 2 is -3 and leaves -1; -32,768 by -1 wraps; nothing is divided by 0
+  pub quotient : binary Divide 65529 2 ≡ Ok 65533
+  pub remainder : binary Modulo 65529 2 ≡ Ok 65535
+  pub wrapped : binary Divide 32768 65535 ≡ Ok 32768
+  pub by_zero : binary Divide 65529 0 ≡ Err DivideByZero
+  -- the absolute value and the negative of -32,768 are its own word
+  pub absolute : unary Absolute 32768 ≡ 32768
+  pub negative : unary Negate 32768 ≡ 32768
+  pub square : unary Square 65535 ≡ 1
+  pub complement : unary Complement 0 ≡ 65535
+  -- words compare as signed numbers
+  pub below : relation Less 65535 0 ≡ true
+  pub not_below : relation Less 32767 32768 ≡ false

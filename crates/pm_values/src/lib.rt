@@ -7,6 +7,7 @@ pub mod laws;
 mod sets;
 mod stack;
 mod strings;
+pub mod worked;
 
 pub use comparisons::{Kind, Relation, compare};
 pub use fields::{index_field, load_byte, load_field, store_byte, store_field};

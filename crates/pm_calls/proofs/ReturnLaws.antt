@@ -20,7 +20,7 @@ use Rattle.pm_calls.specs.Links.{static_link}
 use Rattle.pm_calls.specs.Tables.{attributes}
 use Rattle.pm_calls.specs.Calls.{Reached, called, called_at, called_loading, called_slot, called_standing, entered, framed, frame_top, here, inside, is_base, kept_below, loading, procedure_of, standing, with_control, with_frame, with_old_base}
 use Rattle.pm_calls.specs.Returns.{left_to, returned}
-use Rattle.pm_calls.specs.Laws.{GivesBack, IsCode, ReturnGivesBack}
+use Rattle.pm_calls.specs.Laws.{GivesBack, IsCode, Reaches, ReachesSlot, ReturnGivesBack}
 
 -- ---- chains that gave a value
 
@@ -204,18 +204,18 @@ framed_returns m n s loaded static words r inner base t places e h made done =
 
 -- ---- a call in a segment that was reached
 
-at_gives_back : (c d e : Parts) (call : Call) (at : Reached) (words : ℕ) (base : Bool) → IsMemory at.memory →
-    called_at c call at ≡ Ok d → returned d words base ≡ Ok e → GivesBack c.registers call words base e.registers
+at_gives_back : (c d e : Parts) (call : Call) (code : Option (List ℕ)) (at : Reached) (words : ℕ) (base : Bool) → Reaches c call code at → IsMemory at.memory →
+    called_at c call at ≡ Ok d → returned d words base ≡ Ok e → GivesBack c call code words base e.registers
 unfolding called_at entered
-at_gives_back c d e call at words base h made done =
+at_gives_back c d e call code at words base is h made done =
     let x = bound (entered at.memory at.place at.loaded c.registers call) _ _ made in
     let t = bound (attributes at.memory at.place (procedure_of call)) _ _ x.1 in
     let l = bound (static_link call at.memory c.registers t.0.level) _ _ t.2 in
     let same = ok_same _ _ x.2 in
     record {
       table = t.0;
-      memory = at.memory;
-      segment = at.place;
+      at = at;
+      reached = is;
       found = t.1;
       registers = λ kind. framed_returns at.memory x.0.0 at.place at.loaded l.0 words c.registers x.0.1 (is_base call t.0.level) t.0 at.places e h l.2 (rw (sym same, kind) at done);
     }
@@ -239,23 +239,24 @@ loading_memory c n code at m bytes low h =
     subst IsMemory is (IsMemory-with_bytes c.memory code (c.registers.sp - length code) m (omega (arith, room, low)) bytes)
 
 slot_gives_back : (c d e : Parts) (call : Call) (n : ℕ) (code : Option (List ℕ)) (slot : Option (Option Place)) (words : ℕ) (base : Bool) →
+    ((at : Reached) → ReachesSlot c n code slot at → Reaches c call code at) →
     IsMemory c.memory → IsCode code → c.registers.sp ≤ 65504 →
-    called_slot c call n code slot ≡ Ok d → returned d words base ≡ Ok e → GivesBack c.registers call words base e.registers
+    called_slot c call n code slot ≡ Ok d → returned d words base ≡ Ok e → GivesBack c call code words base e.registers
 unfolding called_standing called_loading
-slot_gives_back c d e call n code None words base m bytes low made done = absurd (cc)
-slot_gives_back c d e call n code (Some (Some p)) words base m bytes low made done =
+slot_gives_back c d e call n code None words base k m bytes low made done = absurd (cc)
+slot_gives_back c d e call n code (Some (Some p)) words base k m bytes low made done =
     let x = bound (standing c n p) _ _ made in
-    at_gives_back c d e call x.0 words base (rw (standing_memory c n p x.0 x.1) m) x.2 done
-slot_gives_back c d e call n None (Some None) words base m bytes low made done = absurd (cc)
-slot_gives_back c d e call n (Some code) (Some None) words base m bytes low made done =
+    at_gives_back c d e call code x.0 words base (k x.0 x.1) (rw (standing_memory c n p x.0 x.1) m) x.2 done
+slot_gives_back c d e call n None (Some None) words base k m bytes low made done = absurd (cc)
+slot_gives_back c d e call n (Some code) (Some None) words base k m bytes low made done =
     let x = bound (loading c n code) _ _ made in
-    at_gives_back c d e call x.0 words base (loading_memory c n code x.0 m bytes low x.1) x.2 done
+    at_gives_back c d e call (Some code) x.0 words base (k x.0 x.1) (loading_memory c n code x.0 m bytes low x.1) x.2 done
 
 pub return_gives_back : ReturnGivesBack
 unfolding called
-return_gives_back c d e (Clp p) code words base m bytes low made done = at_gives_back c d e (Clp p) (here c) words base m made done
-return_gives_back c d e (Cgp p) code words base m bytes low made done = at_gives_back c d e (Cgp p) (here c) words base m made done
-return_gives_back c d e (Cbp p) code words base m bytes low made done = at_gives_back c d e (Cbp p) (here c) words base m made done
-return_gives_back c d e (Cip p) code words base m bytes low made done = at_gives_back c d e (Cip p) (here c) words base m made done
+return_gives_back c d e (Clp p) code words base m bytes low made done = at_gives_back c d e (Clp p) code (here c) words base refl m made done
+return_gives_back c d e (Cgp p) code words base m bytes low made done = at_gives_back c d e (Cgp p) code (here c) words base refl m made done
+return_gives_back c d e (Cbp p) code words base m bytes low made done = at_gives_back c d e (Cbp p) code (here c) words base refl m made done
+return_gives_back c d e (Cip p) code words base m bytes low made done = at_gives_back c d e (Cip p) code (here c) words base refl m made done
 return_gives_back c d e (Cxp n p) code words base m bytes low made done =
-    slot_gives_back c d e (Cxp n p) n code (slice_get c.places n) words base m bytes low made done
+    slot_gives_back c d e (Cxp n p) n code (slice_get c.places n) words base (λ at r. r) m bytes low made done

@@ -1,18 +1,18 @@
 -- What is read at a place of code.
-use Rattle.std.proofs.Common.{◌≡◌, ◌<◌, ◌≤◌, ℕ, ◌+◌, ◌-◌, Bool, true, false, cond, List, [], ◌∷◌, ◌++◌, length, take, drop, replicate, Result, Ok, Err, Some, None, refl, sym, ap, ◌∙◌, arith, inl, inr, length-append, length-drop, drop-drop}
+use Rattle.std.proofs.Common.{◌≡◌, ◌<◌, ◌≤◌, ℕ, ◌+◌, ◌-◌, Bool, true, false, cond, List, ◌++◌, length, take, drop, replicate, Ok, Err, Some, None, refl, sym, ap, ◌∙◌, arith, inl, inr, length-append, length-drop, drop-drop}
 use Rattle.std.proofs.Math.Seq.{drop-append_seam}
 use Rattle.std.proofs.lemmas.List.{length-replicate}
-use Rattle.std.proofs.lemmas.Bool.{cases_Bool, true≢false, and_parts}
+use Rattle.std.proofs.lemmas.Bool.{cases_Bool, true≢false}
 use Rattle.pm_opcode.specs.declared.operand_form.Form.{Form}
 use Rattle.pm_opcode.specs.declared.operand_form.Form.TheVariants.{Plain, Ub, Sb, Db, B, UbB, UbUb, DbB, W, Chars, Words, Jumps, Typed, Unassigned}
 use Rattle.pm_opcode.specs.declared.instr.Instr.{Instr}
 use Rattle.pm_opcode.specs.declared.instr.Decode.{Decode}
 use Rattle.pm_opcode.specs.Table.{form_of}
-use Rattle.pm_opcode.specs.Spelling.{is_odd, is_sized, names_bytes, named_by, operands, spelling}
-use Rattle.pm_opcode.specs.Standing.{Stands, clear, standing}
+use Rattle.pm_opcode.specs.Spelling.{is_odd, is_sized, names_bytes, named_by, spelling}
+use Rattle.pm_opcode.specs.Standing.{Stands, clear}
 use Rattle.pm_opcode.specs.Reading.{reading}
 use Rattle.pm_opcode.proofs.ReadAgain.{length-named, length-named_by, length-operands}
-use Rattle.pm_disasm.specs.Split.{Front, front, front_by, has_zero_padding, item_of, standing_at}
+use Rattle.pm_disasm.specs.Split.{front, has_zero_padding, item_of, standing_at}
 
 -- the bytes from an offset on are those that stand there
 pub drop_standing : (at : ℕ) (bytes : List ℕ) → drop at (standing_at at bytes) ≡ bytes

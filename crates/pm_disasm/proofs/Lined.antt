@@ -1,5 +1,5 @@
 -- Lines of code, item by item.
-use Rattle.std.proofs.Common.{◌≡◌, ℕ, ◌+◌, Bool, true, false, cond, List, [], ◌∷◌, ◌++◌, length, map, refl, sym, ap, ◌∙◌, arith, append_assoc, append-nil, subst, IfSome, Option, Some, None}
+use Rattle.std.proofs.Common.{◌≡◌, ℕ, ◌+◌, Bool, true, false, List, [], ◌∷◌, ◌++◌, refl, sym, ap, ◌∙◌, append_assoc, append-nil, subst, IfSome, Option, Some, None}
 use Rattle.std.specs.Prelude.{codes, ◌==◌}
 use Rattle.std.specs.Fmt.{decimal}
 use Rattle.pm_disasm.specs.Item.{Item, size}

@@ -1,7 +1,7 @@
 -- Sets of places, place by place.
 use Rattle.std.proofs.Common.{◌≡◌, ◌<◌, ◌≤◌, ℕ, ◌+◌, ◌-◌, ◌*◌, ◌/◌, ◌%◌, Bool, true, false, List, [], ◌∷◌, ◌++◌, length, map, drop, get_or, refl, sym, ap, ◌∙◌, arith, append-nil, append_assoc, zero, suc, Option, Some, None, inl, inr}
 use Rattle.std.specs.Prelude.{◌&&◌, ◌||◌, ◌==◌, nat_le}
-use Rattle.std.specs.List.{AllByRecursion, list_all}
+use Rattle.std.specs.List.{list_all}
 use Rattle.std.proofs.lemmas.Bool.{and_parts, leb-true, cases_lt, true≢false}
 use Rattle.pm_words.specs.Words.{words_of}
 use Rattle.pm_disasm.specs.declared.places.PlaceSet.{PlaceSet}

@@ -7,7 +7,6 @@ use Rattle.std.proofs.lemmas.List.{drop-take}
 use Rattle.pm_codefile.specs.declared.table.Attributes.{Attributes}
 use Rattle.pm_codefile.specs.Dictionary.{word_in}
 use Rattle.pm_disasm.specs.declared.counts.Reading.{Reading}
-use Rattle.pm_disasm.specs.declared.places.PlaceSet.{PlaceSet}
 use Rattle.pm_disasm.specs.Item.{Item, size}
 use Rattle.pm_disasm.specs.Program.{entries_needed, is_among, item_places}
 use Rattle.pm_disasm.specs.Shown.{code_lines, lines_at, put_if, shown_item, label_text}

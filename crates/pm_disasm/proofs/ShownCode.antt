@@ -1,5 +1,5 @@
 -- The text of a procedure, from its pieces.
-use Rattle.std.proofs.Common.{◌≡◌, ◌≤◌, ◌<◌, ℕ, ◌+◌, ◌-◌, ◌*◌, Bool, List, [], ◌∷◌, ◌++◌, length, map, drop, take, refl, sym, ap, ◌∙◌, arith, append_assoc, subst, Option, Some, None}
+use Rattle.std.proofs.Common.{◌≡◌, ◌≤◌, ℕ, Bool, List, [], ◌∷◌, ◌++◌, map, refl, sym, ap, ◌∙◌, arith, append_assoc}
 use Rattle.std.specs.Prelude.{codes, ◌||◌}
 use Rattle.std.specs.Fmt.{decimal}
 use Rattle.std.specs.List.{AllByRecursion}
@@ -10,7 +10,7 @@ use Rattle.pm_disasm.specs.Program.{Procedure, is_among}
 use Rattle.pm_disasm.specs.Shown.{code_lines, entry_line, joined, level_text, named_places, procedure_lines, words_text}
 use Rattle.pm_disasm.specs.Split.{entry_places, procedure_with}
 use Rattle.pm_disasm.specs.Follow.{code_lines_by, written_by}
-use Rattle.pm_disasm.specs.Chosen.{IsReading, IsTable, forced_with}
+use Rattle.pm_disasm.specs.Chosen.{IsReading, IsTable}
 use Rattle.pm_disasm.specs.Views.{IsAlike, IsInside, IsSetOf, has, part_seen}
 use Rattle.pm_disasm.proofs.PlaceSets.{among-append}
 use Rattle.pm_disasm.proofs.Readings.{items_read, same_lines}

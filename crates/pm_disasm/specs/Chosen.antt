@@ -1,9 +1,8 @@
 -- Code as it is read with a count of entries.
-use Rattle.std.specs.Prelude.{◌≡◌, ◌<◌, ◌≤◌, ℕ, ◌+◌, ◌-◌, ◌*◌, ◌%◌, Bool, ◌&&◌, nat_le, List, ◌∷◌, length, map, slice_index}
+use Rattle.std.specs.Prelude.{◌≡◌, ◌<◌, ◌≤◌, ℕ, ◌+◌, ◌-◌, ◌*◌, Bool, ◌&&◌, nat_le, List, ◌∷◌, length, map, slice_index}
 use Rattle.std.specs.Int.{w8, cast_unsigned}
 use Rattle.std.specs.List.{AllByRecursion, list_all}
 use Rattle.pm_codefile.specs.declared.table.Attributes.{Attributes}
-use Rattle.pm_disasm.specs.declared.parts.Code.{Code}
 use Rattle.pm_disasm.specs.declared.counts.Reading.{Reading}
 use Rattle.pm_disasm.specs.Follow.{Follow}
 use Rattle.pm_disasm.specs.Split.{Part, are_after, code_with, end_with, ends_of, entry_places, parts}

@@ -1,5 +1,5 @@
 -- Programs, with each place as an offset in its segment, and their bytes. A label is only a spelling of a place, so a program has none.
-use Rattle.std.specs.Prelude.{◌≡◌, ℕ, ◌+◌, ◌-◌, ◌*◌, ◌/◌, ◌%◌, ◌<◌, ◌≤◌, Bool, true, not, List, [], ◌∷◌, ◌++◌, length, reverse, max, nat_le, ◌==◌, ◌&&◌, ◌||◌}
+use Rattle.std.specs.Prelude.{◌≡◌, ℕ, ◌+◌, ◌-◌, ◌*◌, ◌%◌, ◌<◌, ◌≤◌, Bool, true, not, List, [], ◌∷◌, ◌++◌, length, reverse, max, nat_le, ◌==◌, ◌&&◌, ◌||◌}
 use Rattle.std.specs.List.{AllByRecursion, list_any, list_all}
 use Rattle.pm_opcode.specs.Spelling.{word}
 use Rattle.pm_disasm.specs.Item.{Item, Target, item_bytes, size, IsItem, is_instruction}

@@ -6,7 +6,7 @@ use Rattle.pm_codefile.specs.declared.table.Attributes.{Attributes}
 use Rattle.pm_codefile.specs.declared.file.Slot.{Slot}
 use Rattle.pm_codefile.specs.Dictionary.{segment_in, slot_in}
 use Rattle.pm_codefile.specs.Segments.{attributes_in, procedures_in}
-use Rattle.pm_disasm.specs.Text.{item_text, operands_text, operand_texts, signed_text}
+use Rattle.pm_disasm.specs.Text.{operands_text, operand_texts, signed_text}
 use Rattle.pm_disasm.specs.Item.{Item, Target, case_opcode, size}
 use Rattle.pm_disasm.specs.Item.Item.{Plain, Jump, Case, OneByte}
 use Rattle.pm_disasm.specs.Item.Target.{To, Through}

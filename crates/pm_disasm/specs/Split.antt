@@ -1,5 +1,5 @@
 -- The items that are read in a segment's bytes.
-use Rattle.std.specs.Prelude.{◌≡◌, ℕ, zero, suc, ◌+◌, ◌-◌, ◌*◌, ◌/◌, ◌%◌, Bool, true, false, List, [], ◌∷◌, ◌++◌, length, map, take, drop, replicate, nat_lt, nat_le, ◌==◌, ◌&&◌, if◌then◌else◌, Option, Some, None, Result, Ok, Err, slice_index}
+use Rattle.std.specs.Prelude.{ℕ, zero, suc, ◌+◌, ◌-◌, ◌*◌, ◌/◌, ◌%◌, Bool, true, false, List, [], ◌∷◌, ◌++◌, length, map, take, drop, replicate, nat_lt, nat_le, ◌==◌, ◌&&◌, if◌then◌else◌, Option, Some, None, Result, Ok, Err, slice_index}
 use Rattle.std.specs.Int.{w8, cast_unsigned}
 use Rattle.std.specs.List.{list_any, list_all}
 use Rattle.pm_opcode.specs.declared.operand_form.Form.{Form}
@@ -15,7 +15,7 @@ use Rattle.pm_codefile.specs.Dictionary.{word_in}
 use Rattle.pm_disasm.specs.Item.{Item, Target, jump_opcode}
 use Rattle.pm_disasm.specs.Item.Item.{Plain, Jump, Case, OneByte}
 use Rattle.pm_disasm.specs.Item.Target.{To, Through}
-use Rattle.pm_disasm.specs.Program.{Procedure, entries_needed, is_among, item_places, target_places}
+use Rattle.pm_disasm.specs.Program.{Procedure, entries_needed, is_among, item_places}
 
 -- An instruction at the front of bytes: how many bytes it has, and the item that it is; none where a jump of it leads neither forward nor
 -- through an entry.

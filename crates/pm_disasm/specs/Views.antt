@@ -1,5 +1,5 @@
 -- What the values of the code stand for.
-use Rattle.std.specs.Prelude.{◌≡◌, ◌<◌, ◌≤◌, ℕ, ◌+◌, ◌-◌, length, Bool, false, nat_le, ◌&&◌, get_or, List, Option, Some, None, option_map}
+use Rattle.std.specs.Prelude.{◌≡◌, ◌<◌, ◌≤◌, ℕ, ◌+◌, ◌-◌, length, Bool, false, nat_le, ◌&&◌, get_or, List, option_map}
 use Rattle.pm_words.specs.Words.{words_of}
 use Rattle.pm_disasm.specs.declared.items.Item.{Item}
 use Rattle.pm_disasm.specs.declared.items.Item.TheVariants as items

@@ -28,7 +28,7 @@ pub fn is_apart(from: u16, to: u16, count: u16) -> bool
 
 // Writes bytes over others.
 pub fn overwrite(bytes: &mut [u8], at: usize, source: &[u8])
-    requires { at + length source.now ≤ length bytes.old }
+    requires inside { at + length source.now ≤ length bytes.old }
     ensures written { bytes.new ≡ overwritten bytes.old at source.now }
     ensures fit { All (λ b. b < 256) bytes.old → All (λ b. b < 256) bytes.new }
 {
@@ -37,7 +37,7 @@ pub fn overwrite(bytes: &mut [u8], at: usize, source: &[u8])
 
 // Writes one byte over each byte of a range.
 pub fn overwrite_all(bytes: &mut [u8], at: usize, count: usize, byte: u8)
-    requires { at + count ≤ length bytes.old }
+    requires inside { at + count ≤ length bytes.old }
     ensures written { bytes.new ≡ overwritten bytes.old at (replicate count byte) }
     ensures fit { All (λ b. b < 256) bytes.old → All (λ b. b < 256) bytes.new }
 {

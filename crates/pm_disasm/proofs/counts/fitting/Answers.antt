@@ -1,4 +1,4 @@
-use Rattle.std.proofs.Common.{◌≡◌, ◌∙◌, refl, sym, ap, arith, is_some, true, map}
+use Rattle.std.proofs.Common.{◌∙◌, sym, ap, is_some, true, map}
 use Rattle.pm_disasm.specs.Program.{entries_needed}
 use Rattle.pm_disasm.specs.Follow.{written_by}
 use Rattle.pm_disasm.specs.Views.{has, part_seen}

@@ -1,4 +1,4 @@
-use Rattle.std.proofs.Common.{◌≡◌, ◌+◌, ◌-◌, ◌*◌, ◌∙◌, ◌++◌, ◌∷◌, [], arith, refl, sym, ap}
+use Rattle.std.proofs.Common.{◌≡◌, ◌+◌, ◌-◌, ◌*◌, ◌∙◌, ◌++◌, arith, refl, ap}
 use Rattle.pm_codefile.specs.Dictionary.{word_in}
 use Rattle.pm_disasm.specs.Split.{entry_places}
 use Rattle.pm_disasm.proofs.Entries.{entry_in, entry_out, entry_taken}

@@ -1,4 +1,4 @@
-use Rattle.std.proofs.Common.{◌≡◌, ◌∙◌, refl, sym, ap, arith, is_some, true}
+use Rattle.std.proofs.Common.{◌≡◌, ◌∙◌, refl, sym, ap, arith, is_some}
 use Rattle.pm_disasm.specs.Chosen.{forced_with}
 use Rattle.pm_disasm.proofs.Readings.{given, is_reading}
 use Rattle.pm_disasm.proofs.counts.read_with.Goals as goal

@@ -1,4 +1,4 @@
-use Rattle.std.proofs.Common.{◌≡◌, ◌≤◌, ◌+◌, ◌-◌, ◌∙◌, ◌++◌, ◌∷◌, [], refl, sym, ap, arith, is_some, true, length, length-take-le}
+use Rattle.std.proofs.Common.{◌≡◌, ◌∙◌, ◌++◌, ◌∷◌, [], refl, sym, ap, arith, is_some, length, length-take-le}
 use Rattle.pm_disasm.specs.Chosen.{IsReading}
 use Rattle.pm_disasm.proofs.Readings.{count_fails, count_fits, given, is_reading, none_fits}
 use Rattle.pm_disasm.proofs.counts.shown_code.Goals as goal

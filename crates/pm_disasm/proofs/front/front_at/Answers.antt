@@ -1,9 +1,6 @@
-use Rattle.std.proofs.Common.{◌≡◌, ◌+◌, Bool, true, false, cond, refl, sym, ap, ◌∙◌, arith, Err, Ok, Some, None, drop}
+use Rattle.std.proofs.Common.{◌≡◌, refl, sym, ◌∙◌, arith, Ok}
 use Rattle.pm_opcode.specs.declared.instr.Instr.{Instr}
 use Rattle.pm_opcode.specs.Reading.{reading}
-use Rattle.pm_opcode.specs.Table.{form_of}
-use Rattle.pm_opcode.specs.Spelling.{is_odd, named_by}
-use Rattle.pm_disasm.specs.Split.{front, has_zero_padding, item_of}
 use Rattle.pm_disasm.proofs.FrontCode.{bounds, front_none, front_read}
 use Rattle.pm_disasm.proofs.front.front_at.Goals as goal
 

@@ -1,10 +1,9 @@
-use Rattle.std.proofs.Common.{◌≡◌, ◌+◌, ◌++◌, ◌∷◌, [], List, ℕ, ◌∙◌, drop, get_or, map, sym, ap, arith, refl, append_assoc, string_bytes}
+use Rattle.std.proofs.Common.{◌≡◌, ◌+◌, ◌++◌, ◌∷◌, [], List, ℕ, ◌∙◌, drop, get_or, map, sym, arith, refl, append_assoc, string_bytes}
 use Rattle.std.specs.Prelude.{codes}
 use Rattle.std.specs.Fmt.{decimal}
 use Rattle.std.proofs.lemmas.List.{at_drop_more}
-use Rattle.pm_disasm.specs.Item.{Item}
 use Rattle.pm_disasm.specs.Item.Item.{OneByte}
-use Rattle.pm_disasm.specs.Follow.{Items, code_lines_by, lines_at_by}
+use Rattle.pm_disasm.specs.Follow.{code_lines_by, lines_at_by}
 use Rattle.pm_disasm.specs.Shown.{joined}
 use Rattle.pm_disasm.specs.Views.{has}
 use Rattle.pm_disasm.proofs.Lined.{byte_joined}

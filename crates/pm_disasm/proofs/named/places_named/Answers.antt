@@ -1,5 +1,5 @@
-use Rattle.std.proofs.Common.{◌≡◌, ◌+◌, ◌∷◌, ◌∙◌, ℕ, Option, Some, None, drop, length, map, get_or, refl, sym, ap, arith, option_map}
-use Rattle.std.specs.Prelude.{◌||◌, Bool, false}
+use Rattle.std.proofs.Common.{◌+◌, ◌∙◌, ℕ, drop, length, map, get_or, sym, ap, arith, option_map}
+use Rattle.std.specs.Prelude.{◌||◌}
 use Rattle.std.proofs.lemmas.List.{at_drop_all, at_drop_more}
 use Rattle.pm_disasm.specs.Follow.{written_by}
 use Rattle.pm_disasm.specs.Program.{is_among}

@@ -5,7 +5,7 @@ use Rattle.pm_disasm.specs.Item.{IsByte}
 use Rattle.pm_disasm.specs.Follow.{Follow}
 use Rattle.pm_disasm.proofs.Fronts.{drop-bytes, from_bytes}
 use Rattle.std.proofs.lemmas.List.{drop_all, map-append}
-use Rattle.std.specs.Prelude.{◌||◌, ◌==◌}
+use Rattle.std.specs.Prelude.{◌||◌}
 use Rattle.pm_disasm.specs.Program.{is_among}
 use Rattle.pm_disasm.specs.Split.{Part, ends_of, parts}
 use Rattle.pm_disasm.specs.Views.{has, part_seen}

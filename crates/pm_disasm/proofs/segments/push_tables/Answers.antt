@@ -1,6 +1,6 @@
-use Rattle.std.proofs.Common.{◌≡◌, ◌<◌, ◌+◌, ◌-◌, ◌++◌, ◌∷◌, [], ◌∙◌, refl, sym, ap, arith, string_bytes}
-use Rattle.pm_codefile.specs.Segments.{attributes_in, procedures_in}
-use Rattle.pm_disasm.specs.Shown.{joined, missing_line, table_lines, table_lines_or, tables_lines}
+use Rattle.std.proofs.Common.{◌<◌, ◌+◌, ◌∙◌, sym, ap, arith, string_bytes}
+use Rattle.pm_codefile.specs.Segments.{procedures_in}
+use Rattle.pm_disasm.specs.Shown.{missing_line, table_lines, table_lines_or}
 use Rattle.pm_disasm.proofs.Tabled.{next_table, table_lies}
 use Rattle.pm_disasm.proofs.segments.push_tables.Goals as goal
 use Rattle.pm_disasm.proofs.segments.push_tables.Goals.{in-Some+in_ok-push_table-in-Some, in-None+in_ok-writeln-in-None}

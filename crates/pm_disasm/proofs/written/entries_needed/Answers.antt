@@ -1,4 +1,4 @@
-use Rattle.std.proofs.Common.{◌≡◌, ◌+◌, ◌∷◌, ◌∙◌, ℕ, List, Option, Some, None, drop, map, get_or, refl, sym, ap, arith, true, max, option_map}
+use Rattle.std.proofs.Common.{◌≡◌, ◌+◌, ◌∙◌, drop, map, get_or, sym, ap, arith, true, max, option_map}
 use Rattle.std.proofs.lemmas.List.{at_drop_more}
 use Rattle.pm_disasm.specs.Follow.{written_by}
 use Rattle.pm_disasm.specs.Program.{entries_needed}

@@ -5,7 +5,7 @@ use Rattle.std.proofs.KnownBytes.{Appends-nil}
 use Rattle.pm_machine.specs.State.{State}
 use Rattle.pm_tool.specs.declared.ending.Ending.{Ending}
 use Rattle.pm_tool.specs.declared.ending.Ending.TheVariants as endings
-use Rattle.pm_tool.specs.declared.fault.Fault.{Fault}
+use Rattle.pm_streams.specs.declared.fault.Fault.{Fault}
 use Rattle.pm_tool.specs.declared.outcome.Outcome.{Outcome}
 use Rattle.pm_tool.specs.declared.outcome.Refusal.{Refusal}
 use Rattle.pm_tool.specs.declared.steps.Show.{Show}
@@ -13,11 +13,11 @@ use Rattle.pm_tool.specs.declared.steps.Show.TheVariants.{Trace, Console}
 use Rattle.pm_tool.specs.Outcomes.{Said, exit_number, exit_of, refused, IsOutcome}
 use Rattle.pm_tool.specs.Run.{Run, end_text, ends, run_of, IsOver, IsBroken}
 use Rattle.pm_tool.specs.Said.{said_run, said_started, IsSound, IsDone, IsBrokenOff}
-use Rattle.pm_tool.specs.Streams.{IsFront, AppendsFront, IsCause}
+use Rattle.pm_streams.specs.Streams.{IsFront, AppendsFront, IsCause}
 use Rattle.pm_tool.proofs.Filing.{done_unread}
 use Rattle.pm_tool.proofs.Kept.{if_known, tells_known}
-use Rattle.pm_tool.proofs.Pages.{but_all, but_front, but_grown}
-use Rattle.pm_tool.proofs.Transfers.{cause_longer, front_trans}
+use Rattle.pm_streams.proofs.Pages.{but_all, but_front, but_grown}
+use Rattle.pm_streams.proofs.Transfers.{cause_longer, front_trans}
 
 said_written : (show : Show) (run : Run) → (said_run show run).written ≡ run.shown ++ end_text show run.ending run.machine.steps
 said_written Trace run = refl

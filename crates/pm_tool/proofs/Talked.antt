@@ -7,22 +7,22 @@ use Rattle.std.proofs.KnownBytes.{Consumes-trans, Consumes-nil, Consumes-kept, A
 use Rattle.pm_machine.specs.State.{State}
 use Rattle.pm_debug.specs.Session.{Session}
 use Rattle.pm_commands.specs.Commands.{command_of}
-use Rattle.pm_tool.specs.declared.fault.Fault.{Fault}
-use Rattle.pm_tool.specs.declared.fault.Fault.TheVariants as faults
+use Rattle.pm_streams.specs.declared.fault.Fault.{Fault}
+use Rattle.pm_streams.specs.declared.fault.Fault.TheVariants as faults
 use Rattle.pm_tool.specs.declared.outcome.Exit.TheVariants as exits
 use Rattle.pm_tool.specs.declared.outcome.Outcome.{Outcome}
 use Rattle.pm_tool.specs.declared.outcome.Refusal.{Refusal}
-use Rattle.pm_tool.specs.declared.source.TheConstants.{INPUT_LIMIT}
+use Rattle.pm_streams.specs.declared.source.TheConstants.{INPUT_LIMIT}
 use Rattle.pm_tool.specs.Answers.{after_line}
 use Rattle.pm_tool.specs.Outcomes.{IsOutcome, refused}
 use Rattle.pm_tool.specs.Said.{IsBrokenOff, IsDone, IsSound}
 use Rattle.pm_tool.specs.Sessions.{answer, debugged, is_quit, opened, said_debug}
-use Rattle.pm_tool.specs.Streams.{IsFront, AppendsFront, IsCause, ReadsByte}
+use Rattle.pm_streams.specs.Streams.{IsFront, AppendsFront, IsCause, ReadsByte}
 use Rattle.pm_tool.specs.Talks.{IsCutOff, IsTold, Told, told}
 use Rattle.pm_tool.proofs.Filing.{done_unread}
 use Rattle.pm_tool.proofs.Kept.{if_known, tells_known}
 use Rattle.pm_tool.proofs.SessionLaws.{after_telling, answer_quit, told_byte, told_from, told_last, told_line, told_none, told_quit, told_start}
-use Rattle.pm_tool.proofs.Transfers.{cause_longer, front_after, front_trans}
+use Rattle.pm_streams.proofs.Transfers.{cause_longer, front_after, front_trans}
 
 -- a session as far as it went: bytes were read, answers were written, and the last line has these bytes so far
 pub record IsTalking (had left held holds : Option (List ℕ)) (line : List ℕ) (taken : ℕ) (began d : Session) : Type 0 where

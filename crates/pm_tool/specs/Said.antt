@@ -4,14 +4,14 @@ use Rattle.std.specs.Io.KnownBytes.{Consumes, Appends, Keeps}
 use Rattle.pm_machine.specs.State.{State}
 use Rattle.pm_machine.specs.Start.{raw_start}
 use Rattle.pm_stdproc.specs.Devices.{ejected_image}
-use Rattle.pm_tool.specs.declared.fault.Fault.{Fault}
+use Rattle.pm_streams.specs.declared.fault.Fault.{Fault}
 use Rattle.pm_tool.specs.declared.outcome.Exit.TheVariants as exits
 use Rattle.pm_tool.specs.declared.outcome.Job.{Job}
 use Rattle.pm_tool.specs.declared.outcome.Job.TheVariants as jobs
 use Rattle.pm_tool.specs.declared.outcome.Outcome.{Outcome}
 use Rattle.pm_tool.specs.declared.outcome.Refusal.{Refusal}
 use Rattle.pm_tool.specs.declared.outcome.Refusal.TheVariants as refusals
-use Rattle.pm_tool.specs.declared.source.TheConstants.{INPUT_LIMIT}
+use Rattle.pm_streams.specs.declared.source.TheConstants.{INPUT_LIMIT}
 use Rattle.pm_filer.specs.Filed.{order_of}
 use Rattle.pm_volume.specs.Headers.{blank_fault}
 use Rattle.pm_tool.specs.Assembly.{said_asm}
@@ -24,7 +24,7 @@ use Rattle.pm_tool.specs.declared.steps.Show.{Show}
 use Rattle.pm_tool.specs.declared.steps.Show.TheVariants.{Trace, Console}
 use Rattle.pm_tool.specs.Run.{Run, end_text, last_line, run_of}
 use Rattle.pm_tool.specs.Sessions.{said_debug}
-use Rattle.pm_tool.specs.Streams.{IsFront, IsCause}
+use Rattle.pm_streams.specs.Streams.{IsFront, IsCause}
 
 -- ---- the jobs
 

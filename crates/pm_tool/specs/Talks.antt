@@ -3,10 +3,10 @@ use Rattle.std.specs.Prelude.{◌≡◌, ◌≤◌, ℕ, Bool, true, List, [], �
 use Rattle.std.specs.Io.KnownBytes.{Appends, Consumes, IsAtEnd}
 use Rattle.pm_debug.specs.Session.{Session}
 use Rattle.pm_commands.specs.Words.{lines_of}
-use Rattle.pm_tool.specs.declared.fault.Fault.{Fault}
-use Rattle.pm_tool.specs.declared.source.TheConstants.{INPUT_LIMIT}
+use Rattle.pm_streams.specs.declared.fault.Fault.{Fault}
+use Rattle.pm_streams.specs.declared.source.TheConstants.{INPUT_LIMIT}
 use Rattle.pm_tool.specs.Sessions.{answers, behind_quit}
-use Rattle.pm_tool.specs.Streams.{IsCause, IsFront}
+use Rattle.pm_streams.specs.Streams.{IsCause, IsFront}
 
 -- the answers to an input, and what of it is left unread
 pub record Told : Type 0 where

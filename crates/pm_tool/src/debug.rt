@@ -6,18 +6,16 @@ ghost use Rattle.pm_tool.specs.Answers.{after_line};
 ghost use Rattle.pm_tool.specs.Disks.{booted, images_of};
 ghost use Rattle.pm_tool.specs.Said.{IsBrokenOff, IsDone};
 ghost use Rattle.pm_tool.specs.Sessions.{answer, debugged, is_quit, said_debug};
-ghost use Rattle.pm_tool.specs.Streams.{AppendsFront, IsCause};
+ghost use Rattle.pm_streams.specs.Streams.{AppendsFront, IsCause};
 ghost use Rattle.pm_tool.specs.Talks.{IsCutOff, IsTold};
 
 use crate::answer::answer;
-use crate::fault::Fault;
 use crate::outcome::{Exit, Outcome, refuse};
 use crate::programs::boot;
-use crate::sink::{Sink, write_all};
-use crate::source::{INPUT_LIMIT, Source, read_byte};
 use pm_commands::{Command, command_of};
 use pm_debug::Debugger;
 use pm_machine::Machine;
+use pm_streams::{Fault, INPUT_LIMIT, Sink, Source, read_byte, write_all};
 use std::alloc::Global;
 
 fn is_quit(command: Option<Command>) -> bool

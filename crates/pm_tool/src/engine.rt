@@ -2,22 +2,20 @@
 ghost use Rattle.std.specs.Prelude.{◌≡◌, ◌≢◌, ◌≤◌, ◌⊎◌, ◌↔◌, false, [], List, ℕ, None, IfOk, IfErr, OnOk, IfSome, string_bytes, string_len, codes, if◌then◌else◌};
 ghost use Rattle.std.specs.String.{string_capacity};
 ghost use Rattle.pm_tool.specs.Hex.{spelled};
-ghost use Rattle.pm_tool.specs.Outcomes.{exit_number, fault_exit, fault_text};
+ghost use Rattle.pm_streams.specs.Faults.{fault_text};
+ghost use Rattle.pm_tool.specs.Outcomes.{exit_number, fault_exit};
 ghost use Rattle.pm_tool.specs.Said.{loaded, said, said_started, IsSound, IsCutShort, IsDone, IsBrokenOff, Tells, IsCut, FailsExactly};
 
 use crate::assembly::assemble;
 use crate::code::disassemble;
 use crate::debug::debug;
-use crate::fault::{Fault, MESSAGE_ROOM};
 use crate::files::{files, new_volume};
 use crate::hex;
-use crate::nothing::Nothing;
 use crate::outcome::{Exit, Job, Outcome, Refusal, refuse};
 use crate::programs::{play, program};
-use crate::sink::Sink;
-use crate::source::{Source, read_all};
 use crate::steps::Show;
 use pm_machine::{BootFault, Machine};
+use pm_streams::{Fault, MESSAGE_ROOM, Nothing, Sink, Source, read_all};
 use std::alloc::{AllocError, Global};
 
 /// The machine at its start on the program that the text spells, or why there is none.
@@ -119,7 +117,7 @@ fn broken_off(alloc: Global, fault: Fault, mut message: String) -> Outcome
     ensures printer { result.printer.items ≡ [] }
 {
     let _ = message.push_str(fault.text());
-    Outcome::plain(alloc, fault.exit(), message)
+    Outcome::plain(alloc, Exit::of_fault(fault), message)
 }
 
 /// Does a job: reads its input, writes its output, and answers what it comes to.

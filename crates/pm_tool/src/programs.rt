@@ -5,15 +5,13 @@ ghost use Rattle.std.specs.Io.KnownBytes.{Appends};
 ghost use Rattle.pm_tool.specs.Outcomes.{IsOutcome};
 ghost use Rattle.pm_tool.specs.Run.{end_text, ends, run_of};
 ghost use Rattle.pm_tool.specs.Said.{IsBrokenOff, IsDone, said_run, said_started};
-ghost use Rattle.pm_tool.specs.Streams.{AppendsFront, IsCause};
+ghost use Rattle.pm_streams.specs.Streams.{AppendsFront, IsCause};
 
 use crate::ending::{Ending, LastLine};
-use crate::fault::Fault;
 use crate::outcome::{Outcome, Refusal, refuse};
-use crate::sink::{Sink, write_all};
-use crate::source::Source;
 use crate::steps::{Show, drive};
 use pm_machine::{BootFault, Machine};
+use pm_streams::{Fault, Sink, Source, write_all};
 use pm_volume::{Disk, Volume, VolumeFault};
 use std::alloc::{AllocError, Global};
 

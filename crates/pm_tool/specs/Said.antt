@@ -76,6 +76,11 @@ said jobs.Dis input = said_dis input
 said (jobs.Files image command) input = said_files image.items (order_of command) input
 said (jobs.New name blocks) input = said_new (blank_fault (string_bytes name) blocks) (string_bytes name) blocks input
 
+-- what the steps of a machine that starts have shown once these console bytes are keyed and no more are there
+abbrev pub shown_started : Show → ℕ → Result State Refusal → List ℕ → List ℕ
+shown_started show limit (Ok machine) input = (run_of show limit input machine).shown
+shown_started show limit (Err refusal) input = []
+
 -- ---- keeping to it
 
 -- a job's outcome, what it wrote and what it left unread are what is said
@@ -116,3 +121,23 @@ pub record IsDone (had left held holds : Option (List ℕ)) (outcome : Outcome) 
 pub record IsBrokenOff (had left held holds : Option (List ℕ)) (fault : Fault) (source_failed sink_failed : Bool) (text : List ℕ → Said) : Type 0 where
   pub cut : IsCut had left held holds text
   pub cause : IsCause fault source_failed sink_failed cut.read
+
+-- what was written is all that was shown when these bytes were read and one more was wanted
+pub record WritesFirst (had left held holds : Option (List ℕ)) (shown : List ℕ → List ℕ) : Type 0 where
+  pub read : List ℕ
+  pub reads : Consumes had left read
+  pub writes : Appends held holds (shown read)
+
+-- Where a read failed: a program never waits for input before its output is written. The other jobs that write before they have read
+-- all are sessions of the debugger.
+abbrev pub IsPrompt : Job → Option (List ℕ) → Option (List ℕ) → Option (List ℕ) → Option (List ℕ) → Type 0
+IsPrompt (jobs.Raw limit) had left held holds = Unit {0}
+IsPrompt (jobs.Run disks name limit save) had left held holds =
+    WritesFirst had left held holds (shown_started (Console save) limit (booted (images_of disks) (string_bytes name)))
+IsPrompt (jobs.Trace disks name limit) had left held holds =
+    WritesFirst had left held holds (shown_started Trace limit (booted (images_of disks) (string_bytes name)))
+IsPrompt (jobs.Debug disks name) had left held holds = Unit {0}
+IsPrompt (jobs.Asm list) had left held holds = Unit {0}
+IsPrompt jobs.Dis had left held holds = Unit {0}
+IsPrompt (jobs.Files image command) had left held holds = Unit {0}
+IsPrompt (jobs.New name blocks) had left held holds = Unit {0}

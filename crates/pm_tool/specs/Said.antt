@@ -24,6 +24,7 @@ use Rattle.pm_tool.specs.declared.steps.Show.{Show}
 use Rattle.pm_tool.specs.declared.steps.Show.TheVariants.{Trace, Console}
 use Rattle.pm_tool.specs.Run.{Run, end_text, last_line, run_of}
 use Rattle.pm_tool.specs.Sessions.{said_debug}
+use Rattle.pm_tool.specs.Talks.{whole_lines}
 use Rattle.pm_streams.specs.Streams.{IsFront, IsCause}
 
 -- ---- the jobs
@@ -128,15 +129,16 @@ pub record WritesFirst (had left held holds : Option (List ℕ)) (shown : List �
   pub reads : Consumes had left read
   pub writes : Appends held holds (shown read)
 
--- Where a read failed: a program never waits for input before its output is written. The other jobs that write before they have read
--- all are sessions of the debugger.
+-- Where a read failed: a program never waits for input before its output is written, and no line of a session is read before the one
+-- before it is answered. The other jobs write nothing before they have read all.
 abbrev pub IsPrompt : Job → Option (List ℕ) → Option (List ℕ) → Option (List ℕ) → Option (List ℕ) → Type 0
 IsPrompt (jobs.Raw limit) had left held holds = Unit {0}
 IsPrompt (jobs.Run disks name limit save) had left held holds =
     WritesFirst had left held holds (shown_started (Console save) limit (booted (images_of disks) (string_bytes name)))
 IsPrompt (jobs.Trace disks name limit) had left held holds =
     WritesFirst had left held holds (shown_started Trace limit (booted (images_of disks) (string_bytes name)))
-IsPrompt (jobs.Debug disks name) had left held holds = Unit {0}
+IsPrompt (jobs.Debug disks name) had left held holds =
+    WritesFirst had left held holds (λ read. (said_debug (booted (images_of disks) (string_bytes name)) (whole_lines read)).written)
 IsPrompt (jobs.Asm list) had left held holds = Unit {0}
 IsPrompt jobs.Dis had left held holds = Unit {0}
 IsPrompt (jobs.Files image command) had left held holds = Unit {0}

@@ -2,12 +2,12 @@
 use Rattle.std.proofs.Common.{◌≡◌, ℕ, List, [], Option, Bool, false, sym, ap, arith, subst}
 use Rattle.std.specs.Io.KnownBytes.{Appends}
 use Rattle.std.proofs.KnownBytes.{Appends-nil}
-use Rattle.pm_tool.specs.declared.fault.Fault.{Fault}
+use Rattle.pm_streams.specs.declared.fault.Fault.{Fault}
 use Rattle.pm_tool.specs.declared.outcome.Outcome.{Outcome}
 use Rattle.pm_tool.specs.declared.outcome.Refusal.{Refusal}
 use Rattle.pm_tool.specs.Outcomes.{Said, refused, wrote, IsOutcome}
 use Rattle.pm_tool.specs.Said.{IsBrokenOff, IsDone, IsSound}
-use Rattle.pm_tool.specs.Streams.{AppendsFront, IsCause, ReadsAll}
+use Rattle.pm_streams.specs.Streams.{AppendsFront, IsCause, ReadsAll}
 use Rattle.pm_tool.proofs.Kept.{broken_writing, done_whole}
 
 module _ (had left : Option (List ℕ)) (input : List ℕ) (reads : ReadsAll had left input) (held : Option (List ℕ)) (said : List ℕ → Said) where

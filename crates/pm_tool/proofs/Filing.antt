@@ -8,13 +8,13 @@ use Rattle.pm_volume.specs.declared.fault.VolumeFault.{VolumeFault}
 use Rattle.pm_volume.specs.declared.fault.VolumeFault.TheVariants as volume
 use Rattle.pm_filer.specs.Filed.{Order, Filed, filed}
 use Rattle.pm_filer.specs.declared.fault.FilerFault.{FilerFault}
-use Rattle.pm_tool.specs.declared.fault.Fault.{Fault}
+use Rattle.pm_streams.specs.declared.fault.Fault.{Fault}
 use Rattle.pm_tool.specs.declared.outcome.Outcome.{Outcome}
 use Rattle.pm_tool.specs.declared.outcome.Refusal.TheVariants as refusals
 use Rattle.pm_tool.specs.Files.{said_filed, said_files, said_new, takes_input, with_input}
 use Rattle.pm_tool.specs.Outcomes.{Said, exit_number, refused, IsOutcome}
 use Rattle.pm_tool.specs.Said.{IsBrokenOff, IsDone, IsSound, Tells}
-use Rattle.pm_tool.specs.Streams.{AppendsFront, IsCause, IsFront, ReadsAll}
+use Rattle.pm_streams.specs.Streams.{AppendsFront, IsCause, IsFront, ReadsAll}
 use Rattle.pm_tool.proofs.Kept.{broken_writing, done_whole}
 
 -- ---- jobs that read nothing

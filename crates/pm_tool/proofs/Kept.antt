@@ -3,7 +3,7 @@ use Rattle.std.proofs.Common.{◌≡◌, ℕ, List, [], ◌∷◌, ◌++◌, Opt
 use Rattle.std.specs.Io.KnownBytes.{Consumes, Appends, Keeps, IsAtEnd}
 use Rattle.std.proofs.KnownBytes.{Appends-nil}
 use Rattle.pm_machine.specs.State.{State}
-use Rattle.pm_tool.specs.declared.fault.Fault.{Fault}
+use Rattle.pm_streams.specs.declared.fault.Fault.{Fault}
 use Rattle.pm_tool.specs.declared.outcome.Job.{Job}
 use Rattle.pm_tool.specs.declared.outcome.Outcome.{Outcome}
 use Rattle.pm_tool.specs.declared.outcome.Refusal.{Refusal}
@@ -11,9 +11,9 @@ use Rattle.pm_tool.specs.Hex.{spelled}
 use Rattle.pm_tool.specs.Outcomes.{Said, refused, IsOutcome}
 use Rattle.pm_tool.specs.declared.steps.Show.TheVariants.{Trace}
 use Rattle.pm_tool.specs.Run.{run_of}
-use Rattle.pm_tool.proofs.Transfers.{cause_longer}
+use Rattle.pm_streams.proofs.Transfers.{cause_longer}
 use Rattle.pm_tool.specs.Said.{loaded, said, said_run, said_started, IsSound, Tells, IsDone, IsBrokenOff}
-use Rattle.pm_tool.specs.Streams.{IsFront, AppendsFront, IsCause, ReadsAll}
+use Rattle.pm_streams.specs.Streams.{IsFront, AppendsFront, IsCause, ReadsAll}
 
 -- where the input is known, it is what was read and what is left
 pub tells_known : (had left held holds : Option (List ℕ)) (read : List ℕ) → Consumes had left read → (outcome : Outcome) (text : List ℕ → Said)

@@ -1,7 +1,5 @@
-pub mod Transfers
 pub mod Spelled
 pub mod Runs
-pub mod Pages
 pub mod Driven
 pub mod Kept
 pub mod Filing

@@ -5,19 +5,19 @@ use Rattle.std.proofs.KnownBytes.{Appends-nil}
 use Rattle.pm_machine.specs.State.{State}
 use Rattle.pm_tool.specs.declared.ending.Ending.{Ending}
 use Rattle.pm_tool.specs.declared.ending.Ending.TheVariants as endings
-use Rattle.pm_tool.specs.declared.fault.Fault.{Fault}
+use Rattle.pm_streams.specs.declared.fault.Fault.{Fault}
 use Rattle.pm_tool.specs.declared.outcome.Outcome.{Outcome}
 use Rattle.pm_tool.specs.declared.outcome.Refusal.{Refusal}
 use Rattle.pm_tool.specs.declared.steps.Show.{Show}
 use Rattle.pm_tool.specs.declared.steps.Show.TheVariants.{Trace, Console}
 use Rattle.pm_tool.specs.Outcomes.{Said, exit_number, exit_of, refused, IsOutcome}
 use Rattle.pm_tool.specs.Run.{Run, end_text, ends, run_of, IsOver, IsBroken}
-use Rattle.pm_tool.specs.Said.{said_run, said_started, IsSound, IsDone, IsBrokenOff}
-use Rattle.pm_tool.specs.Streams.{IsFront, AppendsFront, IsCause}
+use Rattle.pm_tool.specs.Said.{said_run, said_started, shown_started, IsSound, IsDone, IsBrokenOff, WritesFirst}
+use Rattle.pm_streams.specs.Streams.{IsFront, AppendsFront, IsCause}
 use Rattle.pm_tool.proofs.Filing.{done_unread}
 use Rattle.pm_tool.proofs.Kept.{if_known, tells_known}
-use Rattle.pm_tool.proofs.Pages.{but_all, but_front, but_grown}
-use Rattle.pm_tool.proofs.Transfers.{cause_longer, front_trans}
+use Rattle.pm_streams.proofs.Pages.{but_all, but_front, but_grown}
+use Rattle.pm_streams.proofs.Transfers.{cause_longer, front_trans}
 
 said_written : (show : Show) (run : Run) → (said_run show run).written ≡ run.shown ++ end_text show run.ending run.machine.steps
 said_written Trace run = refl
@@ -120,6 +120,10 @@ pub started_broken : (had left held holds : Option (List ℕ)) (show : Show) (li
     → IsBrokenOff had left held holds fault source_failed sink_failed (said_started show limit start)
 started_broken had left held holds show limit start m fault source_failed sink_failed e b =
     subst (λ s. IsBrokenOff had left held holds fault source_failed sink_failed (said_started show limit s)) e b
+
+pub started_first : (had left held holds : Option (List ℕ)) (show : Show) (limit : ℕ) (start : Result State Refusal) (m : State) → Ok m ≡ start
+    → WritesFirst had left held holds (λ input. (run_of show limit input m).shown) → WritesFirst had left held holds (shown_started show limit start)
+started_first had left held holds show limit start m e w = subst (λ s. WritesFirst had left held holds (shown_started show limit s)) e w
 
 -- the input is refused before it is read
 pub started_refused : (had held : Option (List ℕ)) (show : Show) (limit : ℕ) (start : Result State Refusal) (refusal : Refusal) (outcome : Outcome) → Err refusal ≡ start

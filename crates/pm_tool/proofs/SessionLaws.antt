@@ -1,5 +1,6 @@
 -- The answers to an input, byte by byte.
-use Rattle.std.proofs.Common.{◌≡◌, ◌∙◌, ◌+◌, ◌<◌, ap, sym, refl, arith, ℕ, Bool, true, false, List, [], ◌∷◌, ◌++◌, length, drop, append_assoc, append-nil}
+use Rattle.std.proofs.Common.{◌≡◌, ◌∙◌, ◌+◌, ◌<◌, ap, sym, refl, arith, ℕ, Bool, true, false, List, [], ◌∷◌, ◌++◌, length, drop, reverse, append_assoc, append-nil}
+use Rattle.std.proofs.lemmas.List.{reverse-append, reverse-reverse}
 use Rattle.std.specs.Prelude.{◌==◌, if◌then◌else◌}
 use Rattle.std.proofs.Math.Seq.{drop-append-add}
 use Rattle.pm_debug.specs.Session.{Session}
@@ -8,7 +9,7 @@ use Rattle.pm_commands.specs.Words.{lines_of, pieces, without_empty_end}
 use Rattle.pm_commands.proofs.WordLaws.{pieces_byte, pieces_mark, pieces_none, pieces_some, with_front, with_front-byte, with_front-none}
 use Rattle.pm_tool.specs.Answers.{after_line, line_text}
 use Rattle.pm_tool.specs.Sessions.{answer, answers, behind_quit, is_quit}
-use Rattle.pm_tool.specs.Talks.{Told, told}
+use Rattle.pm_tool.specs.Talks.{Told, from_feed, told, whole_lines}
 
 -- the answers to these lines of an input
 abbrev pub told_lines : List (List ℕ) → List ℕ → Session → Told
@@ -127,3 +128,23 @@ told_last line d h =
 
 pub answer_quit : (line : List ℕ) (d : Session) → is_quit (command_of line) ≡ true → answer (command_of line) d ≡ []
 answer_quit line d q = rw q refl
+
+-- ---- whole lines
+
+pub told_nothing : (d : Session) → (told [] d).text ≡ []
+told_nothing d = ap (λ t. t.text) (told_start [] d ∙ told_none d)
+
+pub whole_lines_none : whole_lines [] ≡ []
+unfolding whole_lines from_feed
+whole_lines_none = refl
+
+-- a line feed ends all lines so far
+pub whole_lines_feed : (text : List ℕ) (c : ℕ) → (c == 10) ≡ true → whole_lines (text ++ c ∷ []) ≡ text ++ c ∷ []
+unfolding whole_lines from_feed
+whole_lines_feed text c h =
+    ap (λ r. reverse (from_feed r)) (reverse-append text (c ∷ []))
+    ∙ rw h (ap reverse (sym (reverse-append text (c ∷ []))) ∙ reverse-reverse (text ++ c ∷ []))
+
+pub whole_lines_byte : (text : List ℕ) (c : ℕ) → (c == 10) ≡ false → whole_lines (text ++ c ∷ []) ≡ whole_lines text
+unfolding whole_lines from_feed
+whole_lines_byte text c h = ap (λ r. reverse (from_feed r)) (reverse-append text (c ∷ [])) ∙ rw h refl

@@ -7,22 +7,22 @@ use Rattle.std.proofs.KnownBytes.{Consumes-trans, Consumes-nil, Consumes-kept, A
 use Rattle.pm_machine.specs.State.{State}
 use Rattle.pm_debug.specs.Session.{Session}
 use Rattle.pm_commands.specs.Commands.{command_of}
-use Rattle.pm_tool.specs.declared.fault.Fault.{Fault}
-use Rattle.pm_tool.specs.declared.fault.Fault.TheVariants as faults
+use Rattle.pm_streams.specs.declared.fault.Fault.{Fault}
+use Rattle.pm_streams.specs.declared.fault.Fault.TheVariants as faults
 use Rattle.pm_tool.specs.declared.outcome.Exit.TheVariants as exits
 use Rattle.pm_tool.specs.declared.outcome.Outcome.{Outcome}
 use Rattle.pm_tool.specs.declared.outcome.Refusal.{Refusal}
-use Rattle.pm_tool.specs.declared.source.TheConstants.{INPUT_LIMIT}
+use Rattle.pm_streams.specs.declared.source.TheConstants.{INPUT_LIMIT}
 use Rattle.pm_tool.specs.Answers.{after_line}
 use Rattle.pm_tool.specs.Outcomes.{IsOutcome, refused}
-use Rattle.pm_tool.specs.Said.{IsBrokenOff, IsDone, IsSound}
+use Rattle.pm_tool.specs.Said.{IsBrokenOff, IsDone, IsSound, WritesFirst}
 use Rattle.pm_tool.specs.Sessions.{answer, debugged, is_quit, opened, said_debug}
-use Rattle.pm_tool.specs.Streams.{IsFront, AppendsFront, IsCause, ReadsByte}
-use Rattle.pm_tool.specs.Talks.{IsCutOff, IsTold, Told, told}
+use Rattle.pm_streams.specs.Streams.{IsFront, AppendsFront, IsCause, ReadsByte}
+use Rattle.pm_tool.specs.Talks.{IsCutOff, IsTold, Told, told, whole_lines}
 use Rattle.pm_tool.proofs.Filing.{done_unread}
 use Rattle.pm_tool.proofs.Kept.{if_known, tells_known}
-use Rattle.pm_tool.proofs.SessionLaws.{after_telling, answer_quit, told_byte, told_from, told_last, told_line, told_none, told_quit, told_start}
-use Rattle.pm_tool.proofs.Transfers.{cause_longer, front_after, front_trans}
+use Rattle.pm_tool.proofs.SessionLaws.{after_telling, answer_quit, told_byte, told_from, told_last, told_line, told_none, told_nothing, told_quit, told_start, whole_lines_byte, whole_lines_feed, whole_lines_none}
+use Rattle.pm_streams.proofs.Transfers.{cause_longer, front_after, front_trans}
 
 -- a session as far as it went: bytes were read, answers were written, and the last line has these bytes so far
 pub record IsTalking (had left held holds : Option (List ℕ)) (line : List ℕ) (taken : ℕ) (began d : Session) : Type 0 where
@@ -32,6 +32,11 @@ pub record IsTalking (had left held holds : Option (List ℕ)) (line : List ℕ)
   pub reads : Consumes had left read
   pub writes : Appends held holds shown
   pub run : (rest : List ℕ) → told (read ++ rest) began ≡ after_telling shown (told_from line rest d)
+  pub prompt : (told (whole_lines read) began).text ≡ shown
+
+not_failed : {A : Type 0} (failed : Bool) → failed ≡ false → failed ≡ true → A
+not_failed false well bad = cc
+not_failed true well bad = cc
 
 empty_is : (line : List ℕ) → length line ≡ 0 → line ≡ []
 empty_is [] h = refl
@@ -45,6 +50,7 @@ talking_none had held line began e = record {
   reads = Consumes-nil had;
   writes = Appends-nil held;
   run = λ rest. rw e (told_start rest began);
+  prompt = ap (λ lines. (told lines began).text) whole_lines_none ∙ told_nothing began;
 }
 
 module _ (had left held holds : Option (List ℕ)) (line : List ℕ) (taken : ℕ) (began d : Session) (u : IsTalking had left held holds line taken began d) where
@@ -67,12 +73,13 @@ module _ (had left held holds : Option (List ℕ)) (line : List ℕ) (taken : �
       reads = more_reads;
       writes = u.writes;
       run = λ rest. rw e (more_run rest ∙ ap (after_telling u.shown) (told_byte line c rest d h));
+      prompt = ap (λ lines. (told lines began).text) (whole_lines_byte u.read c h) ∙ u.prompt;
     }
 
     -- the session is broken off behind a byte
-    pub cut_behind : (fault : Fault) (source_failed sink_failed : Bool) → ((read : List ℕ) → length read ≡ taken + 1 → IsCause fault source_failed sink_failed read)
+    pub cut_behind : (fault : Fault) (source_failed sink_failed : Bool) → source_failed ≡ false → ((read : List ℕ) → length read ≡ taken + 1 → IsCause fault source_failed sink_failed read)
         → IsCutOff had left' held holds began fault source_failed sink_failed
-    cut_behind fault source_failed sink_failed cause = record {
+    cut_behind fault source_failed sink_failed well cause = record {
       read = u.read ++ c ∷ [];
       front = u.shown;
       ended = false;
@@ -80,6 +87,7 @@ module _ (had left held holds : Option (List ℕ)) (line : List ℕ) (taken : �
       writes = u.writes;
       begins = λ rest _. ((told_from line (c ∷ rest) d).text, ap (λ t. t.text) (more_run rest));
       drained = λ e. cc;
+      prompt = λ failed. not_failed source_failed well failed;
       cause = cause (u.read ++ c ∷ []) more_count;
     }
 
@@ -97,6 +105,9 @@ module _ (had left held holds : Option (List ℕ)) (line : List ℕ) (taken : �
             writes = Appends-trans held holds holds' u.shown text u.writes a;
             run = λ rest. rw (e, s) (more_run rest ∙ ap (after_telling u.shown) (told_line line c rest d feed q)
                 ∙ regroup u.shown text (told rest (after_line (command_of line) d)) ∙ ap (after_telling (u.shown ++ text)) (told_start rest (after_line (command_of line) d)));
+            prompt = ap (λ lines. (told lines began).text) (whole_lines_feed u.read c feed ∙ sym (append-nil (u.read ++ c ∷ [])))
+                ∙ ap (λ t. t.text) (more_run [] ∙ ap (after_telling u.shown) (told_line line c [] d feed q) ∙ regroup u.shown text (told [] (after_line (command_of line) d)))
+                ∙ ap (λ t. (u.shown ++ text) ++ t) (told_nothing (after_line (command_of line) d)) ∙ append-nil (u.shown ++ text);
           }
         where
           regroup : (a b : List ℕ) (t : Told) → after_telling a (after_telling b t) ≡ after_telling (a ++ b) t
@@ -126,6 +137,7 @@ module _ (had left held holds : Option (List ℕ)) (line : List ℕ) (taken : �
         writes = Appends-trans held holds holds' u.shown a.0 u.writes a.1;
         begins = λ rest _. rw (more_run rest) (front_after u.shown a.0 (told_from line (c ∷ rest) d).text (front_trans a.0 (answer (command_of line) d) (told_from line (c ∷ rest) d).text a.2 (answered rest (is_quit (command_of line)) refl)));
         drained = λ e. cc;
+        prompt = λ failed. not_failed source_failed well failed;
         cause = rw well (cause_longer fault sink_failed (u.read ++ c ∷ []) (rw more_count few) cause);
       }
         where
@@ -173,6 +185,7 @@ module _ (had left held holds : Option (List ℕ)) (line : List ℕ) (taken : �
         begins = λ rest none_left. let empty = none_left refl in
             rw empty (subst (IsFront (u.shown ++ a.0)) (sym (ap (λ t. t.text) (u.run [] ∙ ap (after_telling u.shown) (told_last line d some)))) (front_after u.shown a.0 (answer (command_of line) d) a.2));
         drained = λ _. none.1;
+        prompt = λ failed. not_failed source_failed well failed;
         cause = rw well (cause_longer fault sink_failed u.read (rw u.count few) cause);
       }
 
@@ -187,6 +200,7 @@ module _ (had left held holds : Option (List ℕ)) (line : List ℕ) (taken : �
     writes = u.writes;
     begins = λ rest _. ((told_from line rest d).text, ap (λ t. t.text) (u.run rest));
     drained = λ h. cc;
+    prompt = λ _. u.prompt;
     cause = rw e (well, inl failed);
   }
 
@@ -236,6 +250,15 @@ cut_told had left held holds began machine fault source_failed sink_failed o b =
     begins : (rest : List ℕ) → (o.ended ≡ true → rest ≡ []) → IsFront o.front (debugged machine (o.read ++ rest)).written
     begins rest none = rw (told_written machine (o.read ++ rest)) (rw b at (o.begins rest none))
 
+pub first_told : (had left held holds : Option (List ℕ)) (began : Session) (machine : State) (fault : Fault) (source_failed sink_failed : Bool)
+    → IsCutOff had left held holds began fault source_failed sink_failed → began ≡ opened machine → source_failed ≡ true
+    → WritesFirst had left held holds (λ read. (debugged machine (whole_lines read)).written)
+first_told had left held holds began machine fault source_failed sink_failed o b failed = record {
+  read = o.read;
+  reads = o.reads;
+  writes = subst (Appends held holds) (sym (told_written machine (whole_lines o.read) ∙ ap (λ d. (told (whole_lines o.read) d).text) (sym b) ∙ o.prompt failed)) o.writes;
+}
+
 -- ---- a machine that starts, or none
 
 pub opened_is : (d : Session) (machine : State) → d.machine ≡ machine → d.breaks ≡ [] → d ≡ opened machine
@@ -249,6 +272,10 @@ pub debug_broken : (had left held holds : Option (List ℕ)) (start : Result Sta
     → IsBrokenOff had left held holds fault source_failed sink_failed (debugged m) → IsBrokenOff had left held holds fault source_failed sink_failed (said_debug start)
 debug_broken had left held holds start m fault source_failed sink_failed e b =
     subst (λ s. IsBrokenOff had left held holds fault source_failed sink_failed (said_debug s)) e b
+
+pub debug_first : (had left held holds : Option (List ℕ)) (start : Result State Refusal) (m : State) → Ok m ≡ start
+    → WritesFirst had left held holds (λ read. (debugged m (whole_lines read)).written) → WritesFirst had left held holds (λ read. (said_debug start (whole_lines read)).written)
+debug_first had left held holds start m e w = subst (λ s. WritesFirst had left held holds (λ read. (said_debug s (whole_lines read)).written)) e w
 
 pub debug_refused : (had held : Option (List ℕ)) (start : Result State Refusal) (refusal : Refusal) (outcome : Outcome) → Err refusal ≡ start
     → ((unread : List ℕ) → IsOutcome outcome (refused refusal unread)) → IsDone had had held held outcome (said_debug start)

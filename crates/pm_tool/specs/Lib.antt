@@ -1,4 +1,3 @@
-pub mod Streams
 pub mod Hex
 pub mod Run
 pub mod Outcomes

@@ -15,8 +15,8 @@ use Rattle.pm_source.specs.FaultNumbers.{number_of as asm_number, place_of as as
 use Rattle.pm_source.specs.declared.fault.AsmFault.{AsmFault}
 use Rattle.pm_filer.specs.declared.fault.FilerFault.{FilerFault}
 use Rattle.pm_filer.specs.declared.fault.FilerFault.TheVariants as filer
-use Rattle.pm_tool.specs.declared.fault.Fault.{Fault}
-use Rattle.pm_tool.specs.declared.fault.Fault.TheVariants as faults
+use Rattle.pm_streams.specs.declared.fault.Fault.{Fault}
+use Rattle.pm_streams.specs.declared.fault.Fault.TheVariants as faults
 use Rattle.pm_tool.specs.declared.outcome.Exit.{Exit}
 use Rattle.pm_tool.specs.declared.outcome.Exit.TheVariants as exits
 use Rattle.pm_tool.specs.declared.outcome.Refusal.{Refusal}
@@ -46,11 +46,6 @@ abbrev pub fault_exit : Fault → Exit
 fault_exit faults.Read = exits.StreamFault
 fault_exit faults.Write = exits.StreamFault
 fault_exit faults.NoMemory = exits.NoMemory
-
-abbrev pub fault_text : Fault → List ℕ
-fault_text faults.Read = codes "read fault"
-fault_text faults.Write = codes "write fault"
-fault_text faults.NoMemory = codes "no memory"
 
 -- a space and the number of the execution error, where a start fails by one
 abbrev pub error_text : BootFault → List ℕ

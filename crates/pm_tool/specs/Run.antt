@@ -9,13 +9,13 @@ use Rattle.pm_machine.specs.Events.{Key, next}
 use Rattle.pm_machine.specs.declared.state.Stop.{Stop}
 use Rattle.pm_machine.specs.declared.state.Stop.TheVariants.{Went, Waiting, Ended, Halted}
 use Rattle.pm_debug.specs.Trace.{trace_line}
-use Rattle.pm_tool.specs.declared.fault.Fault.{Fault}
-use Rattle.pm_tool.specs.declared.source.TheConstants.{INPUT_LIMIT}
+use Rattle.pm_streams.specs.declared.fault.Fault.{Fault}
+use Rattle.pm_streams.specs.declared.source.TheConstants.{INPUT_LIMIT}
 use Rattle.pm_tool.specs.declared.ending.Ending.{Ending}
 use Rattle.pm_tool.specs.declared.ending.Ending.TheVariants as endings
 use Rattle.pm_tool.specs.declared.steps.Show.{Show}
 use Rattle.pm_tool.specs.declared.steps.Show.TheVariants.{Trace, Console}
-use Rattle.pm_tool.specs.Streams.{AppendsBut, IsCause, IsFront}
+use Rattle.pm_streams.specs.Streams.{AppendsBut, IsCause, IsFront}
 
 -- a run to where it ends: what its steps show, why it ends, the machine then, and the console bytes that are left unread
 pub record Run : Type 0 where

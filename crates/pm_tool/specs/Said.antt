@@ -4,14 +4,14 @@ use Rattle.std.specs.Io.KnownBytes.{Consumes, Appends, Keeps}
 use Rattle.pm_machine.specs.State.{State}
 use Rattle.pm_machine.specs.Start.{raw_start}
 use Rattle.pm_stdproc.specs.Devices.{ejected_image}
-use Rattle.pm_tool.specs.declared.fault.Fault.{Fault}
+use Rattle.pm_streams.specs.declared.fault.Fault.{Fault}
 use Rattle.pm_tool.specs.declared.outcome.Exit.TheVariants as exits
 use Rattle.pm_tool.specs.declared.outcome.Job.{Job}
 use Rattle.pm_tool.specs.declared.outcome.Job.TheVariants as jobs
 use Rattle.pm_tool.specs.declared.outcome.Outcome.{Outcome}
 use Rattle.pm_tool.specs.declared.outcome.Refusal.{Refusal}
 use Rattle.pm_tool.specs.declared.outcome.Refusal.TheVariants as refusals
-use Rattle.pm_tool.specs.declared.source.TheConstants.{INPUT_LIMIT}
+use Rattle.pm_streams.specs.declared.source.TheConstants.{INPUT_LIMIT}
 use Rattle.pm_filer.specs.Filed.{order_of}
 use Rattle.pm_volume.specs.Headers.{blank_fault}
 use Rattle.pm_tool.specs.Assembly.{said_asm}
@@ -24,7 +24,8 @@ use Rattle.pm_tool.specs.declared.steps.Show.{Show}
 use Rattle.pm_tool.specs.declared.steps.Show.TheVariants.{Trace, Console}
 use Rattle.pm_tool.specs.Run.{Run, end_text, last_line, run_of}
 use Rattle.pm_tool.specs.Sessions.{said_debug}
-use Rattle.pm_tool.specs.Streams.{IsFront, IsCause}
+use Rattle.pm_tool.specs.Talks.{whole_lines}
+use Rattle.pm_streams.specs.Streams.{IsFront, IsCause}
 
 -- ---- the jobs
 
@@ -76,6 +77,11 @@ said jobs.Dis input = said_dis input
 said (jobs.Files image command) input = said_files image.items (order_of command) input
 said (jobs.New name blocks) input = said_new (blank_fault (string_bytes name) blocks) (string_bytes name) blocks input
 
+-- what the steps of a machine that starts have shown once these console bytes are keyed and no more are there
+abbrev pub shown_started : Show → ℕ → Result State Refusal → List ℕ → List ℕ
+shown_started show limit (Ok machine) input = (run_of show limit input machine).shown
+shown_started show limit (Err refusal) input = []
+
 -- ---- keeping to it
 
 -- a job's outcome, what it wrote and what it left unread are what is said
@@ -116,3 +122,24 @@ pub record IsDone (had left held holds : Option (List ℕ)) (outcome : Outcome) 
 pub record IsBrokenOff (had left held holds : Option (List ℕ)) (fault : Fault) (source_failed sink_failed : Bool) (text : List ℕ → Said) : Type 0 where
   pub cut : IsCut had left held holds text
   pub cause : IsCause fault source_failed sink_failed cut.read
+
+-- what was written is all that was shown when these bytes were read and one more was wanted
+pub record WritesFirst (had left held holds : Option (List ℕ)) (shown : List ℕ → List ℕ) : Type 0 where
+  pub read : List ℕ
+  pub reads : Consumes had left read
+  pub writes : Appends held holds (shown read)
+
+-- Where a read failed: a program never waits for input before its output is written, and no line of a session is read before the one
+-- before it is answered. The other jobs write nothing before they have read all.
+abbrev pub IsPrompt : Job → Option (List ℕ) → Option (List ℕ) → Option (List ℕ) → Option (List ℕ) → Type 0
+IsPrompt (jobs.Raw limit) had left held holds = Unit {0}
+IsPrompt (jobs.Run disks name limit save) had left held holds =
+    WritesFirst had left held holds (shown_started (Console save) limit (booted (images_of disks) (string_bytes name)))
+IsPrompt (jobs.Trace disks name limit) had left held holds =
+    WritesFirst had left held holds (shown_started Trace limit (booted (images_of disks) (string_bytes name)))
+IsPrompt (jobs.Debug disks name) had left held holds =
+    WritesFirst had left held holds (λ read. (said_debug (booted (images_of disks) (string_bytes name)) (whole_lines read)).written)
+IsPrompt (jobs.Asm list) had left held holds = Unit {0}
+IsPrompt jobs.Dis had left held holds = Unit {0}
+IsPrompt (jobs.Files image command) had left held holds = Unit {0}
+IsPrompt (jobs.New name blocks) had left held holds = Unit {0}

@@ -1,12 +1,12 @@
 -- A session that is written as it goes.
-use Rattle.std.specs.Prelude.{◌≡◌, ◌≤◌, ℕ, Bool, true, List, [], ◌++◌, length, Option}
+use Rattle.std.specs.Prelude.{◌≡◌, ◌≤◌, ◌==◌, ℕ, Bool, true, List, [], ◌∷◌, ◌++◌, length, reverse, if◌then◌else◌, Option}
 use Rattle.std.specs.Io.KnownBytes.{Appends, Consumes, IsAtEnd}
 use Rattle.pm_debug.specs.Session.{Session}
 use Rattle.pm_commands.specs.Words.{lines_of}
-use Rattle.pm_tool.specs.declared.fault.Fault.{Fault}
-use Rattle.pm_tool.specs.declared.source.TheConstants.{INPUT_LIMIT}
+use Rattle.pm_streams.specs.declared.fault.Fault.{Fault}
+use Rattle.pm_streams.specs.declared.source.TheConstants.{INPUT_LIMIT}
 use Rattle.pm_tool.specs.Sessions.{answers, behind_quit}
-use Rattle.pm_tool.specs.Streams.{IsCause, IsFront}
+use Rattle.pm_streams.specs.Streams.{IsCause, IsFront}
 
 -- the answers to an input, and what of it is left unread
 pub record Told : Type 0 where
@@ -15,6 +15,15 @@ pub record Told : Type 0 where
 
 unfoldable pub told : List ℕ → Session → Told
 told input d = record { text = answers (lines_of input) d; unread = behind_quit (lines_of input) input }
+
+-- of a text from its end on: what it has from its last line feed on
+unfoldable pub from_feed : List ℕ → List ℕ
+from_feed [] = []
+from_feed (c ∷ text) = if c == 10 then c ∷ text else from_feed text
+
+-- a text without what stands behind its last line feed
+unfoldable pub whole_lines : List ℕ → List ℕ
+whole_lines text = reverse (from_feed (reverse text))
 
 -- The session is over: these bytes were read, and these were written. Where it ended with the input, none are left.
 pub record IsTold (had left held holds : Option (List ℕ)) (began : Session) : Type 0 where
@@ -27,7 +36,8 @@ pub record IsTold (had left held holds : Option (List ℕ)) (began : Session) : 
   pub all : (rest : List ℕ) → (ended ≡ true → rest ≡ []) → told (read ++ rest) began ≡ record { text = shown; unread = rest }
   pub drained : ended ≡ true → IsAtEnd left
 
--- the session was broken off: what was written is a front of the answers, whatever is left to read
+-- The session was broken off: what was written is a front of the answers, whatever is left to read. Where a read failed, it is the
+-- answers to all whole lines that were read: no line is wanted before the one before it is answered.
 pub record IsCutOff (had left held holds : Option (List ℕ)) (began : Session) (fault : Fault) (source_failed sink_failed : Bool) : Type 0 where
   pub read : List ℕ
   pub front : List ℕ
@@ -36,4 +46,5 @@ pub record IsCutOff (had left held holds : Option (List ℕ)) (began : Session) 
   pub writes : Appends held holds front
   pub begins : (rest : List ℕ) → (ended ≡ true → rest ≡ []) → IsFront front (told (read ++ rest) began).text
   pub drained : ended ≡ true → IsAtEnd left
+  pub prompt : source_failed ≡ true → (told (whole_lines read) began).text ≡ front
   pub cause : IsCause fault source_failed sink_failed read

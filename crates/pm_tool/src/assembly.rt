@@ -4,11 +4,9 @@ ghost use Rattle.pm_asm.specs.Assembled.{assembled};
 ghost use Rattle.pm_tool.specs.Assembly.{character_of, said_asm, text_of, wanted};
 ghost use Rattle.pm_tool.specs.Said.{IsBrokenOff, IsDone};
 
-use crate::fault::Fault;
 use crate::outcome::{Exit, Outcome, Refusal, refuse};
-use crate::sink::{Sink, write_all};
-use crate::source::{Source, read_all};
 use pm_asm::{AsmFault, Assembly};
+use pm_streams::{Fault, Sink, Source, read_all, write_all};
 use std::alloc::{AllocError, Global};
 
 /// The character of the text that a byte is: one above 127 is character 127.

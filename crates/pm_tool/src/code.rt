@@ -3,11 +3,9 @@ ghost use Rattle.std.specs.Prelude.{◌≡◌, false, IfOk, IfErr, OnOk};
 ghost use Rattle.pm_tool.specs.Code.{said_dis};
 ghost use Rattle.pm_tool.specs.Said.{IsBrokenOff, IsDone};
 
-use crate::fault::Fault;
 use crate::outcome::{Exit, Outcome, Refusal, refuse};
-use crate::sink::{Sink, write_all};
-use crate::source::{Source, read_all};
 use pm_codefile::CodeFile;
+use pm_streams::{Fault, Sink, Source, read_all, write_all};
 use std::alloc::Global;
 
 /// Writes the text of the code file that the input is.

@@ -4,20 +4,18 @@ ghost use Rattle.std.specs.Io.KnownBytes.{Appends};
 ghost use Rattle.pm_commands.specs.Commands.{command_of};
 ghost use Rattle.pm_tool.specs.Answers.{after_line};
 ghost use Rattle.pm_tool.specs.Disks.{booted, images_of};
-ghost use Rattle.pm_tool.specs.Said.{IsBrokenOff, IsDone};
+ghost use Rattle.pm_tool.specs.Said.{IsBrokenOff, IsDone, WritesFirst};
 ghost use Rattle.pm_tool.specs.Sessions.{answer, debugged, is_quit, said_debug};
-ghost use Rattle.pm_tool.specs.Streams.{AppendsFront, IsCause};
-ghost use Rattle.pm_tool.specs.Talks.{IsCutOff, IsTold};
+ghost use Rattle.pm_streams.specs.Streams.{AppendsFront, IsCause};
+ghost use Rattle.pm_tool.specs.Talks.{IsCutOff, IsTold, whole_lines};
 
 use crate::answer::answer;
-use crate::fault::Fault;
 use crate::outcome::{Exit, Outcome, refuse};
 use crate::programs::boot;
-use crate::sink::{Sink, write_all};
-use crate::source::{INPUT_LIMIT, Source, read_byte};
 use pm_commands::{Command, command_of};
 use pm_debug::Debugger;
 use pm_machine::Machine;
+use pm_streams::{Fault, INPUT_LIMIT, Sink, Source, read_byte, write_all};
 use std::alloc::Global;
 
 fn is_quit(command: Option<Command>) -> bool
@@ -104,6 +102,8 @@ fn session<R: Source, W: Sink>(
     ensures well { OnOk result ((R.has_failed source.new ≡ false) × (W.has_failed sink.new ≡ false)) }
     ensures broken { IfErr result (λ fault. IsBrokenOff (R.remaining source.old) (R.remaining source.new)
         (W.contents sink.old) (W.contents sink.new) fault (R.has_failed source.new) (W.has_failed sink.new) (debugged machine)) }
+    ensures prompt { OnErr result (R.has_failed source.new ≡ true → WritesFirst (R.remaining source.old) (R.remaining source.new)
+        (W.contents sink.old) (W.contents sink.new) (λ read. (debugged machine (whole_lines read)).written)) }
 {
     let mut debugger = Debugger::new(machine);
     talk(alloc, source, sink, &mut debugger)?;
@@ -125,6 +125,8 @@ pub(crate) fn debug<R: Source, W: Sink>(
     ensures well { OnOk result ((R.has_failed source.new ≡ false) × (W.has_failed sink.new ≡ false)) }
     ensures broken { IfErr result (λ fault. IsBrokenOff (R.remaining source.old) (R.remaining source.new)
         (W.contents sink.old) (W.contents sink.new) fault (R.has_failed source.new) (W.has_failed sink.new) (said_debug (booted (images_of disks) name.now))) }
+    ensures prompt { OnErr result (R.has_failed source.new ≡ true → WritesFirst (R.remaining source.old) (R.remaining source.new)
+        (W.contents sink.old) (W.contents sink.new) (λ read. (said_debug (booted (images_of disks) name.now) (whole_lines read)).written)) }
 {
     let machine = match boot(alloc, disks, name)? {
         Ok(machine) => machine,

@@ -1,23 +1,21 @@
 //! Jobs, from the bytes that are read to the bytes that are written.
-ghost use Rattle.std.specs.Prelude.{◌≡◌, ◌≢◌, ◌≤◌, ◌⊎◌, ◌↔◌, false, [], List, ℕ, None, IfOk, IfErr, OnOk, IfSome, string_bytes, string_len, codes, if◌then◌else◌};
+ghost use Rattle.std.specs.Prelude.{◌≡◌, ◌≢◌, ◌≤◌, ◌⊎◌, ◌↔◌, false, true, [], List, ℕ, None, IfOk, IfErr, OnOk, OnErr, IfSome, string_bytes, string_len, codes, if◌then◌else◌};
 ghost use Rattle.std.specs.String.{string_capacity};
 ghost use Rattle.pm_tool.specs.Hex.{spelled};
-ghost use Rattle.pm_tool.specs.Outcomes.{exit_number, fault_exit, fault_text};
-ghost use Rattle.pm_tool.specs.Said.{loaded, said, said_started, IsSound, IsCutShort, IsDone, IsBrokenOff, Tells, IsCut, FailsExactly};
+ghost use Rattle.pm_streams.specs.Faults.{fault_text};
+ghost use Rattle.pm_tool.specs.Outcomes.{exit_number, fault_exit};
+ghost use Rattle.pm_tool.specs.Said.{loaded, said, said_started, IsSound, IsCutShort, IsDone, IsBrokenOff, Tells, IsCut, IsPrompt, FailsExactly};
 
 use crate::assembly::assemble;
 use crate::code::disassemble;
 use crate::debug::debug;
-use crate::fault::{Fault, MESSAGE_ROOM};
 use crate::files::{files, new_volume};
 use crate::hex;
-use crate::nothing::Nothing;
 use crate::outcome::{Exit, Job, Outcome, Refusal, refuse};
 use crate::programs::{play, program};
-use crate::sink::Sink;
-use crate::source::{Source, read_all};
 use crate::steps::Show;
 use pm_machine::{BootFault, Machine};
+use pm_streams::{Fault, MESSAGE_ROOM, Nothing, Sink, Source, read_all};
 use std::alloc::{AllocError, Global};
 
 /// The machine at its start on the program that the text spells, or why there is none.
@@ -72,6 +70,8 @@ fn perform<R: Source, W: Sink>(
     ensures well { OnOk result ((R.has_failed source.new ≡ false) × (W.has_failed sink.new ≡ false)) }
     ensures broken { IfErr result (λ fault. IsBrokenOff (R.remaining source.old) (R.remaining source.new)
         (W.contents sink.old) (W.contents sink.new) fault (R.has_failed source.new) (W.has_failed sink.new) (said job)) }
+    ensures prompt { OnErr result (R.has_failed source.new ≡ true →
+        IsPrompt job (R.remaining source.old) (R.remaining source.new) (W.contents sink.old) (W.contents sink.new)) }
 {
     match job {
         Job::Raw { limit } => raw(alloc, source, sink, limit),
@@ -119,7 +119,7 @@ fn broken_off(alloc: Global, fault: Fault, mut message: String) -> Outcome
     ensures printer { result.printer.items ≡ [] }
 {
     let _ = message.push_str(fault.text());
-    Outcome::plain(alloc, fault.exit(), message)
+    Outcome::plain(alloc, Exit::of_fault(fault), message)
 }
 
 /// Does a job: reads its input, writes its output, and answers what it comes to.
@@ -137,6 +137,10 @@ pub fn run<R: Source, W: Sink>(alloc: Global, source: &mut R, sink: &mut W, job:
     // After a fault of a stream or want of memory, what was written is a front of that.
     ensures cut { IsCutShort result.status →
         IsCut (R.remaining source.old) (R.remaining source.new) (W.contents sink.old) (W.contents sink.new) (said job) }
+
+    // Where a read failed, all that the program had shown by then was written: it never waits for input before its output is written.
+    ensures prompt { R.has_failed source.new ≡ true →
+        IsPrompt job (R.remaining source.old) (R.remaining source.new) (W.contents sink.old) (W.contents sink.new) }
 
     // A fault of a stream is answered exactly where a read or a write failed or the input is too long.
     ensures fails { FailsExactly (R.remaining source.old) (R.remaining source.new) (R.has_failed source.new) (W.has_failed sink.new) result.status }

@@ -6,13 +6,11 @@ ghost use Rattle.pm_volume.specs.Headers.{blank_fault};
 ghost use Rattle.pm_tool.specs.Files.{said_new, answer_bytes, said_filed, said_files, said_order, takes_input, with_input};
 ghost use Rattle.pm_tool.specs.Outcomes.{IsOutcome};
 ghost use Rattle.pm_tool.specs.Said.{IsBrokenOff, IsDone, IsSound};
-ghost use Rattle.pm_tool.specs.Streams.{AppendsFront, IsCause};
+ghost use Rattle.pm_streams.specs.Streams.{AppendsFront, IsCause};
 
-use crate::fault::Fault;
 use crate::outcome::{Exit, Outcome, Refusal, refuse};
-use crate::sink::{Sink, write_all};
-use crate::source::{Source, read_all};
 use pm_filer::{Command, FilerFault, Reply, apply};
+use pm_streams::{Fault, Sink, Source, read_all, write_all};
 use pm_volume::{Volume, VolumeFault};
 use std::alloc::{AllocError, Global};
 

@@ -1,8 +1,5 @@
 //! Laws of runs. The functions do nothing.
-ghost use Rattle.std.specs.Prelude.{◌≡◌};
 ghost use Rattle.pm_tool.specs.Laws.{RunsAreEvents, RunsGoByTheMachine, ShowingChangesNothing};
-
-use crate::source::INPUT_LIMIT;
 
 /// A run leaves the machine as a list of steps and keys leaves it, and the bytes that are keyed are exactly those that are
 /// read.
@@ -22,9 +19,4 @@ pub fn showing_changes_nothing()
 #[tactic(auto, using(crate::proofs::MachineRuns::runs_go_by_the_machine))]
 pub fn runs_go_by_the_machine()
     ensures law { RunsGoByTheMachine }
-{}
-
-/// An input has at most 16,777,216 bytes.
-pub fn input_is_bounded()
-    ensures bound { INPUT_LIMIT ≡ 16777216 }
 {}

@@ -7,18 +7,12 @@ mod code;
 mod debug;
 mod ending;
 mod engine;
-mod fault;
 mod files;
 mod hex;
 pub mod laws;
-mod nothing;
 mod outcome;
 mod programs;
-mod sink;
-mod source;
 mod steps;
 
 pub use engine::run;
 pub use outcome::{Exit, Job, Outcome};
-pub use sink::{Sink, Writer};
-pub use source::{INPUT_LIMIT, Reader, Source};

@@ -1,11 +1,12 @@
 //! Jobs, and what they come to.
 ghost use Rattle.std.specs.Prelude.{◌≡◌, [], List, ℕ, Some, None, IfOk, option_map, string_bytes, vec_items};
-ghost use Rattle.pm_tool.specs.Outcomes.{asm_text, code_text, exit_number, refusal_text, text_fault_text, volume_text, IsOutcome, refused};
+ghost use Rattle.pm_tool.specs.Outcomes.{asm_text, code_text, exit_number, fault_exit, refusal_text, text_fault_text, volume_text, IsOutcome, refused};
 
 use pm_asm::AsmFault;
 use pm_codefile::CodeFault;
 use pm_filer::{Command, FilerFault};
 use pm_machine::BootFault;
+use pm_streams::Fault;
 use pm_textfile::TextFault;
 use pm_volume::VolumeFault;
 use std::alloc::{AllocError, Global};
@@ -103,6 +104,16 @@ impl Exit {
             Exit::StreamFault => 4,
             Exit::NoMemory => 5,
             Exit::Stopped => 6,
+        }
+    }
+
+    /// How a job ends that was broken off.
+    pub(crate) fn of_fault(fault: Fault) -> Exit
+        ensures value { result ≡ fault_exit fault }
+    {
+        match fault {
+            Fault::Read | Fault::Write => Exit::StreamFault,
+            Fault::NoMemory => Exit::NoMemory,
         }
     }
 }

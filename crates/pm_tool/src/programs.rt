@@ -1,19 +1,17 @@
 //! Programs, and what is told of their runs.
-ghost use Rattle.std.specs.Prelude.{◌≡◌, false, [], ◌++◌, List, ℕ, Some, None, IfOk, IfErr, OnOk, OnErr, option_map, vec_items};
+ghost use Rattle.std.specs.Prelude.{◌≡◌, false, true, [], ◌++◌, List, ℕ, Some, None, IfOk, IfErr, OnOk, OnErr, option_map, vec_items};
 ghost use Rattle.pm_tool.specs.Disks.{booted, disk_fault, first_fault, images_of};
 ghost use Rattle.std.specs.Io.KnownBytes.{Appends};
 ghost use Rattle.pm_tool.specs.Outcomes.{IsOutcome};
 ghost use Rattle.pm_tool.specs.Run.{end_text, ends, run_of};
-ghost use Rattle.pm_tool.specs.Said.{IsBrokenOff, IsDone, said_run, said_started};
-ghost use Rattle.pm_tool.specs.Streams.{AppendsFront, IsCause};
+ghost use Rattle.pm_tool.specs.Said.{IsBrokenOff, IsDone, WritesFirst, said_run, said_started, shown_started};
+ghost use Rattle.pm_streams.specs.Streams.{AppendsFront, IsCause};
 
 use crate::ending::{Ending, LastLine};
-use crate::fault::Fault;
 use crate::outcome::{Outcome, Refusal, refuse};
-use crate::sink::{Sink, write_all};
-use crate::source::Source;
 use crate::steps::{Show, drive};
 use pm_machine::{BootFault, Machine};
+use pm_streams::{Fault, Sink, Source, write_all};
 use pm_volume::{Disk, Volume, VolumeFault};
 use std::alloc::{AllocError, Global};
 
@@ -79,6 +77,8 @@ pub(crate) fn play<R: Source, W: Sink>(
     ensures well { OnOk result ((R.has_failed source.new ≡ false) × (W.has_failed sink.new ≡ false)) }
     ensures broken { IfErr result (λ fault. IsBrokenOff (R.remaining source.old) (R.remaining source.new)
         (W.contents sink.old) (W.contents sink.new) fault (R.has_failed source.new) (W.has_failed sink.new) (λ input. said_run show (run_of show limit input machine))) }
+    ensures prompt { OnErr result (R.has_failed source.new ≡ true → WritesFirst (R.remaining source.old) (R.remaining source.new)
+        (W.contents sink.old) (W.contents sink.new) (λ input. (run_of show limit input machine).shown)) }
 {
     let mut page = Vec::new(alloc);
     let ending = drive(alloc, source, sink, &mut machine, show, limit, &mut page)?;
@@ -152,6 +152,8 @@ pub(crate) fn program<R: Source, W: Sink>(
     ensures well { OnOk result ((R.has_failed source.new ≡ false) × (W.has_failed sink.new ≡ false)) }
     ensures broken { IfErr result (λ fault. IsBrokenOff (R.remaining source.old) (R.remaining source.new)
         (W.contents sink.old) (W.contents sink.new) fault (R.has_failed source.new) (W.has_failed sink.new) (said_started show limit (booted (images_of disks) name.now))) }
+    ensures prompt { OnErr result (R.has_failed source.new ≡ true → WritesFirst (R.remaining source.old) (R.remaining source.new)
+        (W.contents sink.old) (W.contents sink.new) (shown_started show limit (booted (images_of disks) name.now))) }
 {
     let machine = match boot(alloc, disks, name)? {
         Ok(machine) => machine,

@@ -3,14 +3,12 @@ ghost use Rattle.std.specs.Prelude.{◌≡◌, false, true, [], ◌++◌, drop, 
 ghost use Rattle.std.specs.Io.KnownBytes.{Appends};
 ghost use Rattle.pm_machine.specs.Steps.{stepped};
 ghost use Rattle.pm_tool.specs.Run.{IsBroken, IsOver, is_console, shown_by};
-ghost use Rattle.pm_tool.specs.Streams.{AppendsBut, AppendsFront, IsCause};
+ghost use Rattle.pm_streams.specs.Streams.{AppendsBut, AppendsFront, IsCause};
 
 use crate::ending::Ending;
-use crate::fault::Fault;
-use crate::sink::{Sink, write_all};
-use crate::source::{INPUT_LIMIT, Source, read_byte};
 use pm_debug::TraceLine;
 use pm_machine::{Machine, Stop};
+use pm_streams::{Fault, INPUT_LIMIT, Sink, Source, read_byte, write_all};
 use std::alloc::{AllocError, Global};
 
 /// What is shown of a run.

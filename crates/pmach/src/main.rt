@@ -8,7 +8,8 @@ mod words;
 
 use disks::{DiskFault, read_image, write_file};
 use file_words::{FilesPlan, Verb};
-use pm_tool::{Exit, Job, Outcome, Reader, Writer};
+use pm_streams::{Reader, Writer};
+use pm_tool::{Exit, Job, Outcome};
 use run_words::{Disks, Keeping, Program};
 use std::io;
 use std::process::ExitCode;

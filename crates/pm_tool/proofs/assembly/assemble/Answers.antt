@@ -4,7 +4,7 @@ use Rattle.std.specs.Io.KnownBytes.{Appends}
 use Rattle.pm_asm.specs.Assembled.{assembled}
 use Rattle.pm_tool.specs.declared.outcome.Refusal.TheVariants as refusals
 use Rattle.pm_tool.specs.Assembly.{said_asm, said_wanted, text_of, wanted}
-use Rattle.pm_tool.specs.Streams.{AppendsFront}
+use Rattle.pm_streams.specs.Streams.{AppendsFront}
 use Rattle.std.proofs.lemmas.Result.{err_from_is_err_and}
 use Rattle.pm_tool.proofs.Coded.{bytes_broken, bytes_written, input_refused}
 use Rattle.pm_tool.proofs.Kept.{broken_unwritten}

@@ -5,7 +5,7 @@ use Rattle.pm_codefile.specs.Dictionary.{file_fault}
 use Rattle.pm_disasm.specs.Shown.{file_text}
 use Rattle.pm_tool.specs.declared.outcome.Refusal.TheVariants as refusals
 use Rattle.pm_tool.specs.Code.{said_code, said_dis}
-use Rattle.pm_tool.specs.Streams.{AppendsFront}
+use Rattle.pm_streams.specs.Streams.{AppendsFront}
 use Rattle.std.proofs.lemmas.Result.{err_from_is_err_and}
 use Rattle.pm_tool.proofs.Coded.{bytes_broken, bytes_written, input_refused}
 use Rattle.pm_tool.proofs.Kept.{broken_unwritten}

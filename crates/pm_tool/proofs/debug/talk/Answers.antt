@@ -20,7 +20,7 @@ returns-in_err-byte-clause-cut g c =
 pub returns-then-taken-eq-INPUT_LIMIT-clause-cut :
     goal.returns-then-taken-eq-INPUT_LIMIT-clause-cut
 returns-then-taken-eq-INPUT_LIMIT-clause-cut g c =
-    cut_behind _ _ _ _ _ _ _ _ c.bytes.invariant.talking _ c.in-Some.byte (rw c.in-Some.is at c.in_ok-byte.ensures.byte) _ _ _
+    cut_behind _ _ _ _ _ _ _ _ c.bytes.invariant.talking _ c.in-Some.byte (rw c.in-Some.is at c.in_ok-byte.ensures.byte) _ _ _ c.in_ok-byte.ensures.failed
     (λ read e. (c.bytes.invariant.sink_well, inr (omega arith)))
 
 pub returns-in_err-turn-clause-cut : goal.returns-in_err-turn-clause-cut
@@ -54,7 +54,7 @@ bytes-preserved g c = record {
 
 pub returns-in_default-push-clause-cut : goal.returns-in_default-push-clause-cut
 returns-in_default-push-clause-cut g c =
-    cut_behind _ _ _ _ _ _ _ _ c.bytes.invariant.talking _ c.in-Some.byte (rw c.in-Some.is at c.in_ok-byte.ensures.byte) _ _ _
+    cut_behind _ _ _ _ _ _ _ _ c.bytes.invariant.talking _ c.in-Some.byte (rw c.in-Some.is at c.in_ok-byte.ensures.byte) _ _ _ c.in_ok-byte.ensures.failed
     (λ read e. (c.bytes.invariant.sink_well, c.in_ok-byte.ensures.failed, omega arith))
 
 pub returns-then-is_empty-clause-told : goal.returns-then-is_empty-clause-told

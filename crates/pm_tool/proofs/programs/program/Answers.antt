@@ -2,7 +2,7 @@ use Rattle.std.proofs.Common.{rules, [], arith}
 use Rattle.std.proofs.lemmas.Result.{err_from_is_err_and}
 use Rattle.pm_tool.proofs.Filing.{consumes_none}
 use Rattle.pm_tool.proofs.Kept.{broken_unwritten}
-use Rattle.pm_tool.proofs.Played.{started_done, started_broken, started_refused}
+use Rattle.pm_tool.proofs.Played.{started_done, started_broken, started_first, started_refused}
 use Rattle.pm_tool.proofs.programs.program.Goals as goal
 
 pub returns-in_err-machine-clause-broken : goal.returns-in_err-machine-clause-broken
@@ -24,6 +24,12 @@ returns-in_err-outcome-clause-broken g c =
     let r = c.from_residual-in_err-outcome in
     let p = err_from_is_err_and r.result r.ensures.1 in
     rw (p.1, p.2) (started_broken _ _ _ _ c.args.show c.args.limit _ c.in-Ok.machine _ _ _ (search rules) c.in_err-outcome.ensures.broken)
+
+pub returns-in_err-outcome-clause-prompt : goal.returns-in_err-outcome-clause-prompt
+returns-in_err-outcome-clause-prompt g c =
+    let r = c.from_residual-in_err-outcome in
+    let p = err_from_is_err_and r.result r.ensures.1 in
+    rw p.1 (λ failed. started_first _ _ _ _ c.args.show c.args.limit _ c.in-Ok.machine (search rules) (c.in_err-outcome.ensures.prompt failed))
 
 pub returns-clause-done : goal.returns-clause-done
 returns-clause-done g c = started_done _ _ _ _ c.args.show c.args.limit _ c.in-Ok.machine _ (search rules) c.in_ok-outcome.ensures.done

@@ -2,7 +2,7 @@
 ghost use Rattle.std.specs.Prelude.{◌≡◌, Bool, Option, false, ◌||◌, List, ℕ, is_err, OnOk, OnErr, IfErr, IfOk};
 ghost use Rattle.std.specs.Io.{ReadsAtMost};
 ghost use Rattle.std.specs.Io.KnownBytes.{ReadConsumes, Consumes, Keeps};
-ghost use Rattle.pm_tool.specs.Streams.{ReadsAll, ReadsByte, IsCause};
+ghost use Rattle.pm_streams.specs.Streams.{ReadsAll, ReadsByte, IsCause};
 
 use crate::fault::Fault;
 use std::alloc::Global;
@@ -67,7 +67,7 @@ impl<R: io::Read> Source for Reader<R> {
 pub const INPUT_LIMIT: usize = 16_777_216;
 
 /// Reads all that is left.
-pub(crate) fn read_all<R: Source>(alloc: Global, source: &mut R) -> Result<Vec<u8>, Fault>
+pub fn read_all<R: Source>(alloc: Global, source: &mut R) -> Result<Vec<u8>, Fault>
     requires well { R.has_failed source.old ≡ false }
     ensures all { IfOk result (λ input. ReadsAll (R.remaining source.old) (R.remaining source.new) input.items) }
     ensures well { OnOk result (R.has_failed source.new ≡ false) }
@@ -92,7 +92,7 @@ pub(crate) fn read_all<R: Source>(alloc: Global, source: &mut R) -> Result<Vec<u
 }
 
 /// Reads one byte, if one is left.
-pub(crate) fn read_byte<R: Source>(source: &mut R) -> Result<Option<u8>, Fault>
+pub fn read_byte<R: Source>(source: &mut R) -> Result<Option<u8>, Fault>
     requires well { R.has_failed source.old ≡ false }
     ensures byte { IfOk result (λ byte. ReadsByte (R.remaining source.old) (R.remaining source.new) byte) }
     ensures failed { R.has_failed source.new ≡ is_err result }

@@ -1,9 +1,9 @@
 -- What a source gave and a sink took.
 use Rattle.std.specs.Prelude.{◌≡◌, ℕ, ◌==◌, ◌<◌, ◌≤◌, ◌⊎◌, Bool, true, false, List, [], ◌∷◌, ◌++◌, length, Option, None, Some, Result, Ok, Err}
 use Rattle.std.specs.Io.KnownBytes.{Appends, Consumes, IsAtEnd, Keeps}
-use Rattle.pm_tool.specs.declared.fault.Fault.{Fault}
-use Rattle.pm_tool.specs.declared.fault.Fault.TheVariants as faults
-use Rattle.pm_tool.specs.declared.source.TheConstants.{INPUT_LIMIT}
+use Rattle.pm_streams.specs.declared.fault.Fault.{Fault}
+use Rattle.pm_streams.specs.declared.fault.Fault.TheVariants as faults
+use Rattle.pm_streams.specs.declared.source.TheConstants.{INPUT_LIMIT}
 
 -- a write that failed: it answered an error, or took no byte
 abbrev pub took_nothing : {E : Type 0} → Result ℕ E → Bool

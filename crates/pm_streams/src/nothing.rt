@@ -6,7 +6,7 @@ use std::io;
 
 /// A source with nothing in it.
 #[derive(Drop)]
-pub(crate) struct Nothing;
+pub struct Nothing;
 
 impl Source for Nothing {
     ghost remaining = { λ _. Some [] };

@@ -2,7 +2,7 @@
 ghost use Rattle.std.specs.Prelude.{◌≡◌, Bool, Option, false, ◌||◌, List, ℕ, is_err, OnOk, IfErr};
 ghost use Rattle.std.specs.Io.{WritesAtMost};
 ghost use Rattle.std.specs.Io.KnownBytes.{WriteAppends, Appends};
-ghost use Rattle.pm_tool.specs.Streams.{took_nothing, AppendsFront};
+ghost use Rattle.pm_streams.specs.Streams.{took_nothing, AppendsFront};
 
 use crate::fault::Fault;
 use std::io;
@@ -63,7 +63,7 @@ impl<W: io::Write> Sink for Writer<W> {
 }
 
 /// Writes all of `bytes`, by as many writes as it takes.
-pub(crate) fn write_all<W: Sink>(sink: &mut W, bytes: &[u8]) -> Result<(), Fault>
+pub fn write_all<W: Sink>(sink: &mut W, bytes: &[u8]) -> Result<(), Fault>
     requires well { W.has_failed sink.old ≡ false }
     ensures all { OnOk result (Appends (W.contents sink.old) (W.contents sink.new) bytes.now) }
     ensures fault { IfErr result (λ fault. fault ≡ Fault.Write) }

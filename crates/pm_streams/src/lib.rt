@@ -1,0 +1,13 @@
+//! The streams of a job: where its input comes from, where its output goes, and why it may be broken off.
+#![tactic(auto)]
+
+mod fault;
+pub mod laws;
+mod nothing;
+mod sink;
+mod source;
+
+pub use fault::{Fault, MESSAGE_ROOM};
+pub use nothing::Nothing;
+pub use sink::{Sink, Writer, write_all};
+pub use source::{INPUT_LIMIT, Reader, Source, read_all, read_byte};

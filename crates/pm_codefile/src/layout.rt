@@ -14,8 +14,8 @@ const BLANK: [u8; 8] = [b' '; 8];
 
 /// The code file whose slots have these names and lengths in bytes, in the canonical layout: the used slots in
 /// ascending order, each from the next block on, padded with zeros to a block; `segments` are their bytes, joined in
-/// the order of slots. A name has 8 bytes, with spaces at its end; a slot without a length gets block 0 and spaces.
-/// All kinds are 0. 16 slots without a length give the dictionary alone, 512 bytes.
+/// the order of slots: as many as the lengths add up to. A name has 8 bytes, with spaces at its end; a slot without a
+/// length gets block 0 and spaces. All kinds are 0. 16 slots without a length give the dictionary alone, 512 bytes.
 #[tactic(auto, unfolding(crate::specs::Layout::layout))]
 pub fn write(
     alloc: Global,

@@ -28,7 +28,7 @@ fn self_relative(segment: &[u8], place: u16) -> Option<u16>
 /// The table of procedure `procedure` of a segment. None for number 0 and above the segment's count, and unless the
 /// table lies in the segment at an even offset and both code places at most 8 bytes below it. Places are counted in
 /// whole numbers, so one below the segment's start is none. Nothing else is looked at: not the number in the table,
-/// the sizes or the jump entries.
+/// the sizes or the jump entries. The segment has to have an even number of bytes, at most 65,534.
 #[tactic(auto, unfolding(crate::specs::Segments::attributes_in))]
 pub fn attributes(segment: &[u8], procedure: u8) -> Option<Attributes>
     requires even { length segment.now % 2 ≡ 0 }

@@ -105,7 +105,8 @@ pub fn file(alloc: Global, file: &CodeFile<'_>) -> Result<String, AllocError>
 }
 
 /// The text of a procedure of a segment, by its table: its lines from `.PROC` to `.END`, each with a line feed. Where its exit code
-/// lies before its code it is a comment with the number in the table.
+/// lies before its code it is a comment with the number in the table. The table has to be that of a procedure of the segment, which
+/// has at most 65,534 bytes.
 #[tactic(auto, unfolding(crate::specs::Shown::procedure_text))]
 pub fn procedure(
     alloc: Global,
@@ -122,7 +123,8 @@ pub fn procedure(
 }
 
 /// The text of the instruction at an offset of a segment, without spaces before it and without a line feed. A short jump is shown
-/// with the label of its place or with its entry, as in the text of a procedure.
+/// with the label of its place or with its entry, as in the text of a procedure. An instruction that a text can spell has to stand
+/// there, and the segment to have fewer than 2^32 bytes.
 #[tactic(auto, unfolding(crate::specs::Laws::item_at))]
 pub fn item(alloc: Global, segment: &[u8], at: u16) -> Result<String, AllocError>
     requires short { length segment.now < 2 ^ 32 }

@@ -40,7 +40,7 @@ pub enum BootFault {
     /// 2: the file is no code file.
     #[error("not a code file")]
     NotCode,
-    /// 3: the code cannot be read, or is too long.
+    /// 3: the code file cannot be read or has no segment 1; bare code is too long.
     #[error("bad code file")]
     BadCode,
     /// 4: the call of the first procedure fails.

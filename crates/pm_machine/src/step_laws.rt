@@ -20,7 +20,7 @@ pub fn runs_are_one()
     ensures law { RunsAreOne }
 {}
 
-/// A machine that has ended or halted stays as it is.
+/// A step leaves a machine that has ended or halted as it is.
 #[tactic(auto, using(crate::proofs::StepLaws::rest_stays))]
 pub fn rest_stays()
     ensures law { RestStays }

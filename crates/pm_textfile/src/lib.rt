@@ -1,7 +1,7 @@
 //! Text files: 1,024 bytes for the editor, then pages of 1,024 bytes that hold whole lines.
 //!
 //! `decode` gives the text of a file, and `encode` the file of a text. What is encoded is decoded again, with a line
-//! feed at its end.
+//! feed at its end if it is not empty.
 #![tactic(auto)]
 
 mod copies;

@@ -14,14 +14,13 @@ ghost use Rattle.pm_source.specs.Source.{code_end, row_items};
 ghost use Rattle.pm_asm.specs.Found.{items_in, program_seen};
 ghost use Rattle.pm_asm.specs.Firsts.{places_in};
 ghost use Rattle.pm_asm.specs.Standing.{Stands};
-ghost use Rattle.pm_asm.specs.Views.{procedure_seen, segment_seen, segments_seen};
+ghost use Rattle.pm_reader.specs.Views.{procedure_seen, segment_seen, segments_seen};
 
 use crate::bytes::{entry_places, segment_bytes};
 use crate::labels::Code;
 use crate::lengths::segment_with;
-use crate::sizes::item_size;
-use crate::source::{Procedure, Segment};
 use pm_line::{Item, Row};
+use pm_reader::{Procedure, Segment, item_size};
 use std::alloc::{AllocError, Global};
 use std::fmt::{self, Write};
 

@@ -5,8 +5,8 @@ ghost use Rattle.pm_disasm.specs.Laws.{segment_numbered};
 ghost use Rattle.pm_disasm.specs.Program.{AreShort, IsProgram};
 ghost use Rattle.pm_source.specs.Image.{bytes_of_segment, file_of, name_of_segment};
 ghost use Rattle.pm_source.specs.Meaning.{segment_with};
-ghost use Rattle.pm_asm.specs.Found.{lent_seen, program_seen};
 ghost use Rattle.pm_reader.specs.Views.{segments_seen};
+ghost use Rattle.pm_asm.specs.Found.{lent_seen, program_seen};
 
 use crate::bytes::segment_bytes;
 use crate::lengths::segment_with;

@@ -20,8 +20,8 @@ ghost use Rattle.pm_source.specs.Faults.{
   place_of,
 };
 ghost use Rattle.pm_reader.specs.Firsts.{IsFirstOf};
-ghost use Rattle.pm_asm.specs.Firsts.{places_in, row_faults};
 ghost use Rattle.pm_reader.specs.Views.{entry_seen, procedure_seen, segments_seen};
+ghost use Rattle.pm_asm.specs.Firsts.{places_in, row_faults};
 
 use pm_line::{Item, Row, Target};
 use pm_reader::{Entry, Procedure, Segment, has_label, item_size, row_end, source_end};

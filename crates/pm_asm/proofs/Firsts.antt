@@ -1,16 +1,13 @@
 -- The first of what is wrong.
-use Rattle.std.proofs.Common.{◌≡◌, ℕ, List, [], ◌∷◌, ◌++◌, refl, Some}
+use Rattle.std.proofs.Common.{◌≡◌, ℕ, List, ◌∷◌, ◌++◌, refl, Some}
 use Rattle.pm_disasm.specs.Program.{end_of}
-use Rattle.pm_asm.specs.Firsts.{first_of, row_faults}
+use Rattle.pm_reader.proofs.Firsts.{first_front}
+use Rattle.pm_reader.specs.Firsts.{first_of}
+use Rattle.pm_asm.specs.Firsts.{row_faults}
 use Rattle.pm_source.specs.declared.fault.AsmFault.{AsmFault}
 use Rattle.pm_source.specs.Faults.{Places, code_faults, label_faults, label_faults_from, source_end}
 use Rattle.pm_source.specs.Source.{Row, Source, row_items}
 use Rattle.pm_source.specs.Source.Row.{Items, Exit}
-
--- the first of some is the first of these and more
-pub first_front : (fault : AsmFault) (xs ys : List AsmFault) → first_of xs ≡ Some fault → first_of (xs ++ ys) ≡ Some fault
-first_front fault [] ys h = absurd (cc)
-first_front fault (x ∷ xs) ys h = h
 
 -- the faults of code are those of its first row, and of the others
 pub row_first : (places : Places) (at : ℕ) (row : Row) (rows : List Row)

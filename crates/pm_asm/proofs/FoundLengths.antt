@@ -11,8 +11,8 @@ use Rattle.pm_source.specs.Meaning.{found_procedures, found_segment, segment_wit
 use Rattle.pm_source.specs.Source.{Source, SourceSegment}
 use Rattle.pm_source.proofs.Ends.{found_behind}
 use Rattle.pm_source.proofs.Labels.{map_length}
-use Rattle.pm_asm.specs.declared.source.Segment as code
-use Rattle.pm_asm.specs.Views.{procedure_seen, segment_seen}
+use Rattle.pm_reader.specs.declared.source.Segment as code
+use Rattle.pm_reader.specs.Views.{procedure_seen, segment_seen}
 use Rattle.pm_asm.specs.Lengths.{first_long, found_length, sources_end}
 
 length-dictionary : (at : ℕ) (ps : List Procedure) → length (dictionary_bytes at ps) ≡ 2 * length ps

@@ -1,11 +1,5 @@
-pub mod Closing
-pub mod Ends
-pub mod EntryCounts
 pub mod Firsts
 pub mod FoundLengths
-pub mod Numbering
-pub mod Seen
-pub mod Stepping
 pub mod Pushed
 pub mod Slotted
 pub mod Spelled

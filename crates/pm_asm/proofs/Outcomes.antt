@@ -10,8 +10,8 @@ use Rattle.pm_source.specs.Image.{file_of, listing}
 use Rattle.pm_source.specs.Meaning.{program_of}
 use Rattle.pm_source.proofs.Spelled.{faultless_is_spelled, spelled_is_faultless}
 use Rattle.pm_source.proofs.Programs.{spelled_is_program}
+use Rattle.pm_reader.specs.Firsts.{first_of}
 use Rattle.pm_asm.specs.Assembled.{AssembledIsSpelled, Assembles, RefusedSpellsNothing, SpellsNothing, assembled, outcome_by, outcome_of}
-use Rattle.pm_asm.specs.Firsts.{first_of}
 use Rattle.pm_asm.specs.Lengths.{IsTooLong, first_long}
 use Rattle.pm_asm.proofs.FoundLengths.{all_short}
 

@@ -9,11 +9,11 @@ use Rattle.pm_source.specs.Image.{file_of, listing}
 use Rattle.pm_source.specs.Meaning.{program_of}
 use Rattle.pm_source.specs.Source.{SourceSegment}
 use Rattle.pm_source.specs.Words.{is_empty}
-use Rattle.pm_asm.specs.declared.source.Segment as code
+use Rattle.pm_reader.specs.declared.source.Segment as code
+use Rattle.pm_reader.specs.Firsts.{IsFirstOf, first_of}
+use Rattle.pm_reader.specs.Views.{segments_seen}
 use Rattle.pm_asm.specs.Assembled.{Assembles, assembled}
-use Rattle.pm_asm.specs.Firsts.{IsFirstOf, first_of}
 use Rattle.pm_asm.specs.Lengths.{IsTooLong, found_program}
-use Rattle.pm_asm.specs.Views.{segments_seen}
 use Rattle.pm_asm.proofs.Outcomes.{fault_refused, faultless_is_program, is_assembled, is_spelled, long_refused}
 
 -- the faults of a text, those of its lines and of its labels

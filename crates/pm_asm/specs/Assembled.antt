@@ -6,7 +6,7 @@ use Rattle.pm_source.specs.declared.fault.AsmFault.TheVariants.{TooLong}
 use Rattle.pm_source.specs.Faults.{faults}
 use Rattle.pm_source.specs.Image.{file_of, listing}
 use Rattle.pm_source.specs.Meaning.{Spells, program_of}
-use Rattle.pm_asm.specs.Firsts.{first_of}
+use Rattle.pm_reader.specs.Firsts.{first_of}
 use Rattle.pm_asm.specs.Lengths.{first_long}
 
 -- A code file and a listing, or a fault.

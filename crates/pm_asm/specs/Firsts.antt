@@ -1,20 +1,11 @@
--- The first of what is wrong.
-use Rattle.std.specs.Prelude.{◌≡◌, ◌≢◌, ℕ, List, [], ◌∷◌, map, Option, Some, None}
+-- Where labels stand, and what is wrong with those of one line.
+use Rattle.std.specs.Prelude.{ℕ, List, [], map}
 use Rattle.pm_asm.specs.declared.labels.Code.{Code}
 use Rattle.pm_line.specs.Views.{row_seen}
 use Rattle.pm_source.specs.declared.fault.AsmFault.{AsmFault}
-use Rattle.pm_source.specs.declared.fault.AsmFault.TheVariants.{NoMemory}
 use Rattle.pm_source.specs.Faults.{Places, items_faults, place_of}
 use Rattle.pm_source.specs.Source.{Row}
 use Rattle.pm_source.specs.Source.Row.{Items, Exit}
-
-abbrev pub first_of : List AsmFault → Option AsmFault
-first_of [] = None
-first_of (fault ∷ faults) = Some fault
-
--- A fault is the first of these, if it is not that memory could not grow.
-abbrev pub IsFirstOf : AsmFault → List AsmFault → Type 0
-IsFirstOf fault faults = fault ≢ NoMemory → first_of faults ≡ Some fault
 
 -- where the labels of code stand
 abbrev pub places_in : Code → Places

@@ -8,7 +8,7 @@ use crate::image::code_file;
 use crate::labels::check_labels;
 use crate::lengths::check_lengths;
 use crate::listing::listing_of;
-use crate::reading::source_of;
+use pm_reader::source_of;
 use pm_source::AsmFault;
 use std::alloc::Global;
 

@@ -9,15 +9,15 @@ ghost use Rattle.pm_disasm.specs.Program.{AreItems, IsProcedure, IsSegment, back
 ghost use Rattle.pm_line.specs.Views.{item_seen, row_seen, target_seen, texts_seen};
 ghost use Rattle.pm_source.specs.Meaning.{found_item, found_label, found_procedure, found_procedures, found_segment, found_target};
 ghost use Rattle.pm_source.specs.Source.{row_items};
+ghost use Rattle.pm_reader.specs.Views.{entry_seen, procedure_seen, segment_seen};
 ghost use Rattle.pm_asm.specs.Found.{items_in};
 ghost use Rattle.pm_asm.specs.Firsts.{places_in};
-ghost use Rattle.pm_asm.specs.Views.{entry_seen, procedure_seen, segment_seen};
 
 use crate::found::{exit_place, found_label, jump_byte};
 use crate::labels::Code;
-use crate::source::{Entry, Procedure, Segment};
 use pm_line::{Item, Row, Target};
 use pm_opcode::{Encode, Instr, encode};
+use pm_reader::{Entry, Procedure, Segment};
 use std::alloc::{AllocError, Global};
 
 /// The opcode of XJP.

@@ -8,8 +8,8 @@ ghost use Rattle.pm_asm.specs.Found.{exit_in};
 ghost use Rattle.pm_asm.specs.Firsts.{places_in};
 
 use crate::labels::{Code, place_of};
-use crate::sizes::row_end;
 use pm_line::{Row, Target};
+use pm_reader::row_end;
 use std::alloc::AllocError;
 
 /// The place of a label, 0 for one that does not stand there. It fails only where the code is longer than memory can be.

@@ -5,13 +5,13 @@ ghost use Rattle.pm_disasm.specs.Laws.{segment_numbered};
 ghost use Rattle.pm_disasm.specs.Program.{AreShort, IsProgram};
 ghost use Rattle.pm_source.specs.Image.{bytes_of_segment, file_of, name_of_segment};
 ghost use Rattle.pm_source.specs.Meaning.{segment_with};
+ghost use Rattle.pm_reader.specs.Views.{segments_seen};
 ghost use Rattle.pm_asm.specs.Found.{lent_seen, program_seen};
-ghost use Rattle.pm_asm.specs.Views.{segments_seen};
 
 use crate::bytes::segment_bytes;
 use crate::lengths::segment_with;
-use crate::source::Segment;
 use pm_codefile::write;
+use pm_reader::Segment;
 use std::alloc::{AllocError, Global};
 
 /// A name with spaces at its end.

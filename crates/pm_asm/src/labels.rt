@@ -19,13 +19,12 @@ ghost use Rattle.pm_source.specs.Faults.{
   label_faults_from,
   place_of,
 };
-ghost use Rattle.pm_source.specs.Source.{has_label};
-ghost use Rattle.pm_asm.specs.Firsts.{IsFirstOf, places_in, row_faults};
-ghost use Rattle.pm_asm.specs.Views.{entry_seen, procedure_seen, segments_seen};
+ghost use Rattle.pm_reader.specs.Firsts.{IsFirstOf};
+ghost use Rattle.pm_reader.specs.Views.{entry_seen, procedure_seen, segments_seen};
+ghost use Rattle.pm_asm.specs.Firsts.{places_in, row_faults};
 
-use crate::sizes::{item_size, row_end, source_end};
-use crate::source::{Entry, Procedure, Segment};
 use pm_line::{Item, Row, Target};
+use pm_reader::{Entry, Procedure, Segment, has_label, item_size, row_end, source_end};
 use pm_source::AsmFault;
 
 /// The code of a procedure, in which labels are looked up.
@@ -35,19 +34,6 @@ pub(crate) struct Code<'r, 'a> {
     pub start: usize,
     /// Its lines.
     pub rows: &'r [Row<'a>],
-}
-
-/// Whether a label stands in a row.
-pub(crate) fn has_label(name: &[u8], row: &Row<'_>) -> bool
-    ensures label { result ≡ has_label name.now (row_seen row.now) }
-{
-    match row {
-        Row::Items {
-            label: Some(label),
-            ..
-        } => *label == name,
-        _ => false,
-    }
 }
 
 /// Where a label stands in code, if it does. Code longer than memory can hold is refused.
@@ -161,7 +147,7 @@ fn check_item(code: &Code<'_, '_>, line: usize, at: usize, item: &Item<'_>) -> R
 }
 
 /// Refuses the items of a line, which begin at an offset, by the first of their faults.
-#[tactic(auto, using(crate::proofs::Firsts::first_front))]
+#[tactic(auto, using(pm_reader::proofs::Firsts::first_front))]
 fn check_items(
     code: &Code<'_, '_>,
     line: usize,
@@ -192,7 +178,7 @@ fn check_row(code: &Code<'_, '_>, at: usize, row: &Row<'_>) -> Result<(), AsmFau
 }
 
 /// Refuses code by the first of the faults of its items.
-#[tactic(auto, using(crate::proofs::Firsts::first_front, crate::proofs::Firsts::row_first))]
+#[tactic(auto, using(pm_reader::proofs::Firsts::first_front, crate::proofs::Firsts::row_first))]
 fn check_code(code: &Code<'_, '_>) -> Result<(), AsmFault>
     ensures faultless { OnOk result (code_faults (places_in code.now) code.now.start (map row_seen code.now.rows.now) ≡ []) }
     ensures fault { IfErr result (λ fault. IsFirstOf fault (code_faults (places_in code.now) code.now.start (map row_seen code.now.rows.now))) }
@@ -206,7 +192,7 @@ fn check_code(code: &Code<'_, '_>) -> Result<(), AsmFault>
 }
 
 /// Refuses a jump table by the first of its entries whose label is unknown.
-#[tactic(auto, using(crate::proofs::Firsts::first_front))]
+#[tactic(auto, using(pm_reader::proofs::Firsts::first_front))]
 fn check_entries(code: &Code<'_, '_>, entries: &[Entry<'_>]) -> Result<(), AsmFault>
     ensures faultless { OnOk result (entries_faults (places_in code.now) (map entry_seen entries.now) ≡ []) }
     ensures fault { IfErr result (λ fault. IsFirstOf fault (entries_faults (places_in code.now) (map entry_seen entries.now))) }
@@ -220,7 +206,7 @@ fn check_entries(code: &Code<'_, '_>, entries: &[Entry<'_>]) -> Result<(), AsmFa
 }
 
 /// Refuses a procedure, which begins at an offset, by the first of its labels' faults.
-#[tactic(auto, using(crate::proofs::Firsts::first_front))]
+#[tactic(auto, using(pm_reader::proofs::Firsts::first_front))]
 fn check_procedure(at: usize, procedure: &Procedure<'_>) -> Result<(), AsmFault>
     ensures faultless { OnOk result (label_faults at (procedure_seen procedure.now) ≡ []) }
     ensures fault { IfErr result (λ fault. IsFirstOf fault (label_faults at (procedure_seen procedure.now))) }
@@ -249,7 +235,7 @@ fn check_procedures(procedures: &[Procedure<'_>]) -> Result<(), AsmFault>
 
 /// Refuses segments by the first of their labels' faults: the line of a label that does not stand in its procedure, or of a short jump that
 /// leads backward or more than 127 bytes forward. `NoMemory` is for code that is longer than memory can hold.
-#[tactic(auto, using(crate::proofs::Firsts::first_front))]
+#[tactic(auto, using(pm_reader::proofs::Firsts::first_front))]
 pub(crate) fn check_labels(segments: &[Segment<'_>]) -> Result<(), AsmFault>
     ensures faultless { OnOk result (all_label_faults (segments_seen segments.now) ≡ []) }
     ensures fault { IfErr result (λ fault. IsFirstOf fault (all_label_faults (segments_seen segments.now))) }

@@ -5,11 +5,10 @@ ghost use Rattle.std.specs.Option.{option_map};
 ghost use Rattle.pm_disasm.specs.Program.{AreShort};
 ghost use Rattle.pm_source.specs.declared.fault.AsmFault.TheVariants.{NoMemory};
 ghost use Rattle.pm_source.specs.Meaning.{segment_with};
+ghost use Rattle.pm_reader.specs.Views.{procedure_seen, segment_seen, segments_seen};
 ghost use Rattle.pm_asm.specs.Lengths.{IsTooLong, found_length, found_program, sources_end};
-ghost use Rattle.pm_asm.specs.Views.{procedure_seen, segment_seen, segments_seen};
 
-use crate::sizes::source_end;
-use crate::source::{Procedure, Segment};
+use pm_reader::{Procedure, Segment, source_end};
 use pm_source::AsmFault;
 
 /// How many bytes a segment may have.

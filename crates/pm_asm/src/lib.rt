@@ -3,17 +3,12 @@
 
 mod assembly;
 mod bytes;
-mod entries;
 mod found;
 mod image;
 mod labels;
 pub mod laws;
 mod lengths;
 mod listing;
-mod reader;
-mod reading;
-mod sizes;
-mod source;
 
 pub use assembly::{Assembly, assemble};
 pub use pm_source::AsmFault;

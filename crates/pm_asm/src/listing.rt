@@ -11,17 +11,16 @@ ghost use Rattle.pm_source.specs.Faults.{source_end};
 ghost use Rattle.pm_source.specs.Image.{Listed, listed_entries, listed_items, listed_line, listed_lines, listed_procedure, listed_procedures, listed_segment, listing, pairs_text, upper_digit};
 ghost use Rattle.pm_source.specs.Meaning.{found_item, found_procedure, found_procedures, found_segment, segment_with};
 ghost use Rattle.pm_source.specs.Source.{code_end, row_items};
+ghost use Rattle.pm_reader.specs.Views.{procedure_seen, segment_seen, segments_seen};
 ghost use Rattle.pm_asm.specs.Found.{items_in, program_seen};
 ghost use Rattle.pm_asm.specs.Firsts.{places_in};
 ghost use Rattle.pm_asm.specs.Standing.{Stands};
-ghost use Rattle.pm_asm.specs.Views.{procedure_seen, segment_seen, segments_seen};
 
 use crate::bytes::{entry_places, segment_bytes};
 use crate::labels::Code;
 use crate::lengths::segment_with;
-use crate::sizes::item_size;
-use crate::source::{Procedure, Segment};
 use pm_line::{Item, Row};
+use pm_reader::{Procedure, Segment, item_size};
 use std::alloc::{AllocError, Global};
 use std::fmt::{self, Write};
 

@@ -1,7 +1,7 @@
 use Rattle.std.proofs.Common.{◌≡◌, ◌++◌, drop, map}
 use Rattle.pm_source.specs.Meaning.{found_label}
+use Rattle.pm_reader.specs.Views.{entry_seen}
 use Rattle.pm_asm.specs.Firsts.{places_in}
-use Rattle.pm_asm.specs.Views.{entry_seen}
 use Rattle.pm_asm.proofs.bytes.entry_places.Given as goal
 
 abbrev pub invariant-loop-entry : goal.invariant-loop-entry

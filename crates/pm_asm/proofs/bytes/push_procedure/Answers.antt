@@ -1,7 +1,7 @@
 use Rattle.std.proofs.Common.{rules, ◌≡◌, ◌∙◌, ◌++◌, ℕ, List, ap, arith, map, reverse, length}
 use Rattle.pm_disasm.specs.Program.{entry_bytes}
 use Rattle.pm_line.specs.Views.{row_seen}
-use Rattle.pm_asm.specs.Views.{entry_seen, procedure_seen}
+use Rattle.pm_reader.specs.Views.{entry_seen, procedure_seen}
 use Rattle.pm_asm.proofs.Pushed.{Coded, coded, coded_room, on_ok_map, procedure_pushed, tables_room}
 use Rattle.pm_asm.proofs.bytes.push_procedure.Goals as goal
 

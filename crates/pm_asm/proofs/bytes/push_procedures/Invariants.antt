@@ -2,7 +2,7 @@ use Rattle.std.proofs.Common.{◌≡◌, ◌≤◌, ◌+◌, ◌++◌, drop, len
 use Rattle.std.specs.List.{AllByRecursion}
 use Rattle.pm_disasm.specs.Program.{IsProcedure, jtab_of, procedures_bytes, procedures_end}
 use Rattle.pm_source.specs.Meaning.{found_procedures}
-use Rattle.pm_asm.specs.Views.{procedure_seen}
+use Rattle.pm_reader.specs.Views.{procedure_seen}
 use Rattle.pm_asm.proofs.bytes.push_procedures.Given as goal
 
 abbrev pub invariant-loop-done : goal.invariant-loop-done

@@ -2,7 +2,7 @@ use Rattle.std.proofs.Common.{rules, ◌≡◌, ◌≤◌, ◌∙◌, ◌++◌, 
 use Rattle.pm_disasm.specs.Program.{entry_bytes, jtab_of, procedures_bytes, procedures_end}
 use Rattle.pm_source.specs.Meaning.{found_procedures}
 use Rattle.pm_source.proofs.Labels.{map_length}
-use Rattle.pm_asm.specs.Views.{procedure_seen, segment_seen}
+use Rattle.pm_reader.specs.Views.{procedure_seen, segment_seen}
 use Rattle.pm_asm.proofs.Pushed.{Headed, found_count, headed, headed_room, segment_ends, segment_pushed}
 use Rattle.pm_asm.proofs.bytes.segment_bytes.Goals as goal
 

@@ -2,8 +2,8 @@ use Rattle.std.proofs.Common.{◌≤◌, ◌∙◌, ap, length, subst, sym}
 use Rattle.pm_disasm.specs.Program.{IsSegment, segment_bytes}
 use Rattle.pm_source.specs.Image.{bytes_of_segment, name_of_segment}
 use Rattle.pm_source.specs.Meaning.{found_segment}
+use Rattle.pm_reader.specs.Views.{segment_seen, segments_seen}
 use Rattle.pm_asm.specs.Found.{program_seen}
-use Rattle.pm_asm.specs.Views.{segment_seen, segments_seen}
 use Rattle.pm_asm.proofs.Slotted.{name_short, numbered_all, slot_empty, slot_there}
 use Rattle.pm_asm.proofs.image.slot_of.Goals as goal
 

@@ -1,7 +1,7 @@
 use Rattle.std.proofs.Common.{◌≡◌, drop, map}
 use Rattle.pm_source.specs.Faults.{entries_faults}
+use Rattle.pm_reader.specs.Views.{entry_seen}
 use Rattle.pm_asm.specs.Firsts.{places_in}
-use Rattle.pm_asm.specs.Views.{entry_seen}
 use Rattle.pm_asm.proofs.labels.check_entries.Given as goal
 
 -- only the entries that are left have faults

@@ -1,6 +1,6 @@
 use Rattle.std.proofs.Common.{◌≡◌, drop}
 use Rattle.pm_source.specs.Faults.{all_label_faults}
-use Rattle.pm_asm.specs.Views.{segments_seen}
+use Rattle.pm_reader.specs.Views.{segments_seen}
 use Rattle.pm_asm.proofs.labels.check_labels.Given as goal
 
 -- only the segments that are left have faults

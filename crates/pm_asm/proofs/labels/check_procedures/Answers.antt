@@ -1,9 +1,9 @@
 use Rattle.std.proofs.Common.{◌≡◌, ◌<◌, ℕ, List, Some, drop, get_or, length, map, arith, drop-cons}
 use Rattle.std.specs.Prelude.{suc}
 use Rattle.std.proofs.lemmas.Result.{err_from_is_err_and}
-use Rattle.pm_asm.specs.Firsts.{first_of}
-use Rattle.pm_asm.specs.Views.{procedure_seen}
-use Rattle.pm_asm.specs.declared.source.Procedure.{Procedure}
+use Rattle.pm_reader.specs.Firsts.{first_of}
+use Rattle.pm_reader.specs.Views.{procedure_seen}
+use Rattle.pm_reader.specs.declared.source.Procedure.{Procedure}
 use Rattle.pm_asm.proofs.Firsts.{procedure_first}
 use Rattle.pm_source.specs.declared.fault.AsmFault.{AsmFault}
 use Rattle.pm_source.specs.Faults.{label_faults, label_faults_from}

@@ -1,6 +1,6 @@
 use Rattle.std.proofs.Common.{◌≡◌, drop, map}
 use Rattle.pm_source.specs.Faults.{label_faults_from}
-use Rattle.pm_asm.specs.Views.{procedure_seen}
+use Rattle.pm_reader.specs.Views.{procedure_seen}
 use Rattle.pm_asm.proofs.labels.check_procedures.Given as goal
 
 -- only the procedures that are left have faults

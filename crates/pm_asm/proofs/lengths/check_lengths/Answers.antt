@@ -1,5 +1,5 @@
 use Rattle.std.proofs.Common.{◌≡◌, ◌∙◌, sym, ap, arith}
-use Rattle.pm_asm.specs.Views.{segment_seen, segments_seen}
+use Rattle.pm_reader.specs.Views.{segment_seen, segments_seen}
 use Rattle.pm_asm.proofs.FoundLengths.{all_short, long_from, long_here, none_long, short_here}
 use Rattle.pm_asm.proofs.lengths.check_lengths.Goals.{in-Some+in_ok-is_long+else-branch, in_default}
 use Rattle.pm_asm.proofs.lengths.check_lengths.Goals as goal

@@ -1,6 +1,6 @@
 use Rattle.std.proofs.Common.{◌≡◌}
+use Rattle.pm_reader.specs.Views.{segments_seen}
 use Rattle.pm_asm.specs.Lengths.{first_long, found_program}
-use Rattle.pm_asm.specs.Views.{segments_seen}
 use Rattle.pm_asm.proofs.FoundLengths.{long_from}
 use Rattle.pm_asm.proofs.lengths.check_lengths.Given as goal
 

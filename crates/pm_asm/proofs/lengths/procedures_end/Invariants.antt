@@ -1,6 +1,6 @@
 use Rattle.std.proofs.Common.{◌≡◌, drop, map}
+use Rattle.pm_reader.specs.Views.{procedure_seen}
 use Rattle.pm_asm.specs.Lengths.{sources_end}
-use Rattle.pm_asm.specs.Views.{procedure_seen}
 use Rattle.pm_asm.proofs.lengths.procedures_end.Given as goal
 
 -- the procedures that are left end where all end

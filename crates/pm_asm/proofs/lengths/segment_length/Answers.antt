@@ -1,7 +1,7 @@
 use Rattle.std.proofs.Common.{◌≡◌, ◌∙◌, sym, ap, arith}
 use Rattle.std.specs.Prelude.{length, map}
+use Rattle.pm_reader.specs.Views.{procedure_seen}
 use Rattle.pm_asm.specs.Lengths.{sources_end}
-use Rattle.pm_asm.specs.Views.{procedure_seen}
 use Rattle.pm_asm.proofs.FoundLengths.{found_length-seen}
 use Rattle.pm_asm.proofs.lengths.segment_length.Goals as goal
 

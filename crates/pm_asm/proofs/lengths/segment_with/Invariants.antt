@@ -1,6 +1,6 @@
 use Rattle.std.proofs.Common.{◌≡◌, drop}
 use Rattle.pm_source.specs.Meaning.{segment_with}
-use Rattle.pm_asm.specs.Views.{segments_seen}
+use Rattle.pm_reader.specs.Views.{segments_seen}
 use Rattle.pm_asm.proofs.lengths.segment_with.Given as goal
 
 -- the segment stands among those that are left

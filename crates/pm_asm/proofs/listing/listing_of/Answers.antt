@@ -1,7 +1,7 @@
 use Rattle.std.proofs.Common.{◌≡◌, ◌-◌, ◌++◌, ◌∙◌, List, ℕ, ap, append-nil, arith, map, sym, string_bytes}
 use Rattle.pm_source.specs.Image.{listing}
 use Rattle.pm_source.specs.Meaning.{found_segment, segments_from}
-use Rattle.pm_asm.specs.Views.{segments_seen}
+use Rattle.pm_reader.specs.Views.{segments_seen}
 use Rattle.pm_asm.proofs.Outlines.{listing_more, listing_none}
 use Rattle.pm_asm.proofs.listing.listing_of.Goals as goal
 

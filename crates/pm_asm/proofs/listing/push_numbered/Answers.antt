@@ -3,8 +3,8 @@ use Rattle.std.specs.Option.{option_to_list}
 use Rattle.pm_disasm.specs.Program.{IsSegment, segment_bytes}
 use Rattle.pm_source.specs.Image.{listed_lines, listed_segment, listing}
 use Rattle.pm_source.specs.Meaning.{found_segment, segment_with}
+use Rattle.pm_reader.specs.Views.{segment_seen, segments_seen}
 use Rattle.pm_asm.specs.Found.{program_seen}
-use Rattle.pm_asm.specs.Views.{segment_seen, segments_seen}
 use Rattle.pm_asm.proofs.Outlines.{listing_none, listing_one}
 use Rattle.pm_asm.proofs.Pushed.{on_ok_map}
 use Rattle.pm_asm.proofs.Slotted.{numbered_all, slot_there}

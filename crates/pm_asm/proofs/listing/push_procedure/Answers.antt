@@ -6,8 +6,8 @@ use Rattle.pm_source.specs.Image.{listed_attributes, listed_entries, listed_item
 use Rattle.pm_source.specs.Meaning.{found_item, found_procedure}
 use Rattle.pm_source.specs.Source.{items_of}
 use Rattle.pm_source.proofs.Ends.{found_behind}
+use Rattle.pm_reader.specs.Views.{entry_seen, procedure_seen}
 use Rattle.pm_asm.specs.Standing.{Stands}
-use Rattle.pm_asm.specs.Views.{entry_seen, procedure_seen}
 use Rattle.pm_asm.proofs.Outlines.{Ended, ended, entries_stand, table_at, table_listed, table_stands, table_within}
 use Rattle.pm_asm.proofs.Standings.{line_more, stands_part}
 use Rattle.pm_asm.proofs.listing.push_procedure.Goals as goal

@@ -5,8 +5,8 @@ use Rattle.pm_source.specs.Faults.{source_end}
 use Rattle.pm_source.specs.Image.{listed_lines, listed_procedures}
 use Rattle.pm_source.specs.Meaning.{found_procedure, found_procedures}
 use Rattle.pm_source.proofs.Ends.{found_behind}
+use Rattle.pm_reader.specs.Views.{procedure_seen}
 use Rattle.pm_asm.specs.Standing.{Stands}
-use Rattle.pm_asm.specs.Views.{procedure_seen}
 use Rattle.pm_asm.proofs.Outlines.{procedure_size}
 use Rattle.pm_asm.proofs.Pushed.{there}
 use Rattle.pm_asm.proofs.Standings.{stands_first, stands_next}

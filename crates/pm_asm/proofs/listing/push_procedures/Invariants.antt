@@ -3,8 +3,8 @@ use Rattle.std.specs.List.{AllByRecursion}
 use Rattle.pm_disasm.specs.Program.{IsProcedure, procedures_bytes, procedures_end}
 use Rattle.pm_source.specs.Image.{Listed, listed_lines, listed_procedures}
 use Rattle.pm_source.specs.Meaning.{found_procedures}
+use Rattle.pm_reader.specs.Views.{procedure_seen}
 use Rattle.pm_asm.specs.Standing.{Stands}
-use Rattle.pm_asm.specs.Views.{procedure_seen}
 use Rattle.pm_asm.proofs.listing.push_procedures.Given as goal
 
 abbrev pub invariant-loop-done : goal.invariant-loop-done

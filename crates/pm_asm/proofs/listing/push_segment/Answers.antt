@@ -6,7 +6,7 @@ use Rattle.pm_source.specs.Image.{Listed, listed_dictionary, listed_line, listed
 use Rattle.pm_source.specs.Meaning.{found_procedures, found_segment}
 use Rattle.pm_source.proofs.Labels.{map_length}
 use Rattle.pm_source.proofs.Sizes.{end_within}
-use Rattle.pm_asm.specs.Views.{procedure_seen, segment_seen}
+use Rattle.pm_reader.specs.Views.{procedure_seen, segment_seen}
 use Rattle.pm_asm.proofs.Outlines.{dictionary_listed}
 use Rattle.pm_asm.proofs.Pushed.{found_count, on_ok_map}
 use Rattle.pm_asm.proofs.listing.push_segment.Goals as goal

@@ -1,8 +1,0 @@
-use Rattle.std.proofs.Common.{◌≡◌, drop, map, max}
-use Rattle.pm_line.specs.Views.{row_seen}
-use Rattle.pm_source.specs.Source.{entries_used}
-use Rattle.pm_asm.proofs.entries.rows_entries.Given as goal
-
--- the entries so far and those of what is left
-abbrev pub invariant-loop-row : goal.invariant-loop-row
-invariant-loop-row l = max l.most (entries_used (map row_seen (drop l.row-index l.rows))) ≡ entries_used (map row_seen l.rows)

@@ -1,0 +1,9 @@
+-- The first of what is wrong.
+use Rattle.std.proofs.Common.{◌≡◌, List, [], ◌∷◌, ◌++◌, Some}
+use Rattle.pm_reader.specs.Firsts.{first_of}
+use Rattle.pm_source.specs.declared.fault.AsmFault.{AsmFault}
+
+-- the first of some is the first of these and more
+pub first_front : (fault : AsmFault) (xs ys : List AsmFault) → first_of xs ≡ Some fault → first_of (xs ++ ys) ≡ Some fault
+first_front fault [] ys h = absurd (cc)
+first_front fault (x ∷ xs) ys h = h

@@ -1,0 +1,7 @@
+pub mod Closing
+pub mod Ends
+pub mod EntryCounts
+pub mod Firsts
+pub mod Numbering
+pub mod Seen
+pub mod Stepping

@@ -1,0 +1,12 @@
+-- The first of what is wrong.
+use Rattle.std.specs.Prelude.{◌≡◌, ◌≢◌, List, [], ◌∷◌, Option, Some, None}
+use Rattle.pm_source.specs.declared.fault.AsmFault.{AsmFault}
+use Rattle.pm_source.specs.declared.fault.AsmFault.TheVariants.{NoMemory}
+
+abbrev pub first_of : List AsmFault → Option AsmFault
+first_of [] = None
+first_of (fault ∷ faults) = Some fault
+
+-- A fault is the first of these, if it is not that memory could not grow.
+abbrev pub IsFirstOf : AsmFault → List AsmFault → Type 0
+IsFirstOf fault faults = fault ≢ NoMemory → first_of faults ≡ Some fault

@@ -1,0 +1,17 @@
+-- What the reader's values stand for, and which fault it answers.
+use Rattle.std.specs.Prelude.{◌≡◌, List, [], Option, Some, None}
+use Rattle.std.specs.Option.{option_map}
+use Rattle.pm_reader.specs.declared.reader.Reader.{Reader}
+use Rattle.pm_reader.specs.Firsts.{IsFirstOf}
+use Rattle.pm_reader.specs.Views.{procedure_seen, segments_seen}
+use Rattle.pm_source.specs.declared.fault.AsmFault.{AsmFault}
+use Rattle.pm_source.specs.Faults.{Reading}
+
+-- what the lines so far have said
+abbrev pub reader_seen : Reader → Reading
+reader_seen r = record { segments = segments_seen r.segments.items; current = option_map procedure_seen r.procedure }
+
+-- The answer to faults: none where there are none, and else the first of them, if memory does not end before.
+abbrev pub Answers : Option AsmFault → List AsmFault → Type 0
+Answers None faults = faults ≡ []
+Answers (Some fault) faults = IsFirstOf fault faults

@@ -1,0 +1,325 @@
+//! The reader: what the lines so far have said, and what is wrong in the next.
+
+ghost use Rattle.std.specs.Prelude.{◌≡◌, ◌==◌, ◌+◌, List, [], IfSome, IfErr, OnOk};
+ghost use Rattle.std.specs.List.{list_any};
+ghost use Rattle.pm_line.specs.Views.{row_seen, statement_seen, flaw_seen, line_seen};
+ghost use Rattle.pm_source.specs.Source.{is_exit, has_label, has_exit, has_label_in};
+ghost use Rattle.pm_source.specs.Line as text;
+ghost use Rattle.pm_source.specs.Line.Line.{Says};
+ghost use Rattle.pm_source.specs.Faults as faults;
+ghost use Rattle.pm_source.specs.Faults.{after, after_line, closed, ends, is_again, is_in_place, is_miscounted, is_uneven, line_faults, procedure_count, start};
+ghost use Rattle.pm_reader.specs.Views.{procedure_seen, segments_seen};
+ghost use Rattle.pm_reader.specs.Firsts.{IsFirstOf};
+ghost use Rattle.pm_reader.specs.Reader.{reader_seen, Answers};
+
+use crate::entries::rows_entries;
+use crate::labels::has_label;
+use crate::sizes::code_end;
+use crate::source::{Entry, Procedure, Segment};
+use pm_line::{Flaw, Line, Row, Statement};
+use pm_source::AsmFault;
+use std::alloc::{AllocError, Global};
+
+/// What the lines so far have said: the segments with their ended procedures, and the procedure that has not ended.
+#[derive(Debug, Drop)]
+pub(crate) struct Reader<'a> {
+    segments: Vec<Segment<'a>>,
+    procedure: Option<Procedure<'a>>,
+}
+
+/// Whether a line is the place of the exit code.
+fn row_is_exit(row: &Row<'_>) -> bool
+    ensures exit { result ≡ is_exit (row_seen row.now) }
+{
+    matches!(row, Row::Exit)
+}
+
+/// Whether the exit code stands in code.
+fn any_exit(rows: &[Row<'_>]) -> bool
+    ensures exit { result ≡ list_any (λ row. is_exit (row_seen row)) rows.now }
+{
+    rows.iter().any(|row| row_is_exit(row))
+}
+
+/// Whether a label stands in code.
+fn any_label(rows: &[Row<'_>], name: &[u8]) -> bool
+    ensures label { result ≡ list_any (λ row. has_label name.now (row_seen row)) rows.now }
+{
+    rows.iter().any(|row| has_label(name, row))
+}
+
+/// Whether a segment has a number.
+fn any_number(segments: &[Segment<'_>], number: u8) -> bool
+    ensures number { result ≡ list_any (λ s. s.number == number) segments.now }
+{
+    segments.iter().any(|segment| segment.number == number)
+}
+
+impl Procedure<'_> {
+    /// Whether the exit code stands in it.
+    #[tactic(auto, using(crate::proofs::Seen::any_of_views))]
+    fn has_exit(&self) -> bool
+        ensures exit { result ≡ has_exit (procedure_seen self.now) }
+    {
+        any_exit(&self.code)
+    }
+
+    /// Whether a label stands in it.
+    #[tactic(auto, using(crate::proofs::Seen::any_of_views))]
+    fn has_label(&self, name: &[u8]) -> bool
+        ensures label { result ≡ has_label_in name.now (procedure_seen self.now) }
+    {
+        any_label(&self.code, name)
+    }
+
+    /// Whether the code has an odd length, or takes other entries than there are; none where memory cannot hold the code.
+    fn is_uneven(&self) -> Option<bool>
+        ensures uneven { IfSome result (λ uneven. uneven ≡ is_uneven (procedure_seen self.now)) }
+    {
+        let end = code_end(0, &self.code)?;
+        Some(end % 2 != 0 || self.entries.len() != rows_entries(&self.code))
+    }
+}
+
+/// How many procedures the last segment has.
+fn last_count(segments: &[Segment<'_>]) -> usize
+    ensures count { result ≡ procedure_count (segments_seen segments.now) }
+{
+    match segments.last() {
+        Some(segment) => segment.procedures.len(),
+        None => 0,
+    }
+}
+
+/// Whether a procedure has the next number after so many.
+fn is_next(number: u8, count: usize) -> bool
+    ensures next { result ≡ (number == count + 1) }
+{
+    number > 0 && usize::from(number) - 1 == count
+}
+
+/// Whether a statement is the head of a procedure.
+fn is_begin(statement: &Statement<'_>) -> bool
+    ensures begin { result ≡ faults.is_begin (statement_seen statement.now) }
+{
+    matches!(statement, Statement::Begin { .. })
+}
+
+/// Whether a statement is the end of a procedure.
+pub(crate) fn is_end(statement: &Statement<'_>) -> bool
+    ensures end { result ≡ faults.is_end (statement_seen statement.now) }
+{
+    matches!(statement, Statement::End)
+}
+
+impl Reader<'_> {
+    /// Whether a statement may stand here.
+    fn is_in_place(&self, statement: &Statement<'_>) -> bool
+        ensures in_place { result ≡ is_in_place (reader_seen self.now) (statement_seen statement.now) }
+    {
+        match (statement, &self.procedure) {
+            (Statement::Segment { .. }, procedure) => procedure.is_none(),
+            (Statement::Begin { .. }, procedure) => {
+                procedure.is_none() && !self.segments.is_empty()
+            }
+            (_, None) => false,
+            (Statement::Code(_), Some(procedure)) => procedure.entries.is_empty(),
+            (Statement::Entry { .. }, Some(_)) => true,
+            (Statement::End, Some(procedure)) => procedure.has_exit(),
+        }
+    }
+
+    /// Whether a slot, a label of the procedure or its exit code comes again.
+    #[tactic(auto, using(crate::proofs::Seen::any_of_views))]
+    fn is_again(&self, statement: &Statement<'_>) -> bool
+        ensures again { result ≡ is_again (reader_seen self.now) (statement_seen statement.now) }
+    {
+        match (statement, &self.procedure) {
+            (Statement::Segment { number, .. }, _) => any_number(&self.segments, *number),
+            (
+                Statement::Code(
+                    Row::Items {
+                        label: Some(label),
+                        ..
+                    },
+                ),
+                Some(procedure),
+            ) => procedure.has_label(label),
+            (Statement::Code(Row::Exit), Some(procedure)) => procedure.has_exit(),
+            _ => false,
+        }
+    }
+
+    /// Whether a procedure has a number that is not the next one, or ends with an odd length or a wrong count of entries; none where
+    /// memory cannot hold its code.
+    fn is_miscounted(&self, statement: &Statement<'_>) -> Option<bool>
+        ensures miscounted { IfSome result (λ wrong. wrong ≡ is_miscounted (reader_seen self.now) (statement_seen statement.now)) }
+    {
+        match (statement, &self.procedure) {
+            (Statement::Begin { number, .. }, None) => {
+                Some(!is_next(*number, last_count(&self.segments)))
+            }
+            (Statement::End, Some(procedure)) => procedure.is_uneven(),
+            _ => Some(false),
+        }
+    }
+
+    /// The first of what is wrong in a statement, by whether a later line ends a procedure; no memory where it cannot hold the code.
+    fn said_fault(
+        &self,
+        number: usize,
+        said: &Statement<'_>,
+        flaw: Flaw,
+        ends_later: bool,
+    ) -> Option<AsmFault>
+        ensures fault { (rest : List text.Line) → ends_later ≡ list_any ends rest
+            → Answers result (line_faults number (reader_seen self.now) (Says (statement_seen said.now) (flaw_seen flaw)) rest) }
+    {
+        if !self.is_in_place(said) || is_begin(said) && !ends_later {
+            return Some(AsmFault::Syntax(number));
+        }
+        if flaw == Flaw::UnknownType {
+            return Some(AsmFault::Unknown(number));
+        }
+        if self.is_again(said) {
+            return Some(AsmFault::Twice(number));
+        }
+        if flaw == Flaw::OutOfRange {
+            return Some(AsmFault::Range(number));
+        }
+        match self.is_miscounted(said) {
+            None => Some(AsmFault::NoMemory),
+            Some(true) => Some(AsmFault::Range(number)),
+            Some(false) => None,
+        }
+    }
+
+    /// The first of what is wrong in a line, by whether a later line ends a procedure; no memory where it cannot hold the code.
+    fn line_fault(&self, number: usize, line: &Line<'_>, ends_later: bool) -> Option<AsmFault>
+        ensures fault { (rest : List text.Line) → ends_later ≡ list_any ends rest
+            → Answers result (line_faults number (reader_seen self.now) (line_seen line.now) rest) }
+    {
+        match line {
+            Line::Blank => None,
+            Line::Wrong { .. } => Some(AsmFault::Syntax(number)),
+            Line::Strange => Some(AsmFault::Unknown(number)),
+            Line::Says(said, flaw) => self.said_fault(number, said, *flaw, ends_later),
+        }
+    }
+}
+
+impl<'a> Reader<'a> {
+    /// One that has taken in no line.
+    pub(crate) fn new(alloc: Global) -> Reader<'a>
+        ensures start { reader_seen result ≡ start }
+    {
+        Reader {
+            segments: Vec::new(alloc),
+            procedure: None,
+        }
+    }
+
+    /// The segments, without a procedure that has not ended.
+    pub(crate) fn into_segments(self) -> Vec<Segment<'a>>
+        ensures segments { segments_seen result.items ≡ (reader_seen self.entry).segments }
+    {
+        self.segments
+    }
+
+    /// Ends the procedure that goes on, if one does.
+    fn close(&mut self) -> Result<(), AllocError>
+        ensures ok { OnOk result (reader_seen self.new
+            ≡ closed (reader_seen self.old).segments (reader_seen self.old).current) }
+    {
+        if let Some(procedure) = self.procedure.take() {
+            if let Some(mut segment) = self.segments.pop() {
+                segment.procedures.push(procedure)?;
+                self.segments.push(segment)?;
+            }
+        }
+        Ok(())
+    }
+
+    /// Takes in a statement.
+    fn say(&mut self, alloc: Global, statement: Statement<'a>) -> Result<(), AllocError>
+        ensures ok { OnOk result (reader_seen self.new
+            ≡ after (reader_seen self.old) (statement_seen statement.entry)) }
+    {
+        match statement {
+            Statement::Segment { number, name } => {
+                self.segments.push(Segment {
+                    number,
+                    name,
+                    procedures: Vec::new(alloc),
+                })?;
+            }
+            Statement::Begin {
+                level,
+                parameters,
+                locals,
+                ..
+            } => {
+                self.procedure = Some(Procedure {
+                    level,
+                    parameters,
+                    locals,
+                    code: Vec::new(alloc),
+                    entries: Vec::new(alloc),
+                });
+            }
+            Statement::Code(row) => {
+                if let Some(procedure) = &mut self.procedure {
+                    procedure.code.push(row)?;
+                }
+            }
+            Statement::Entry { line, label } => {
+                if let Some(procedure) = &mut self.procedure {
+                    procedure.entries.push(Entry { line, label })?;
+                }
+            }
+            Statement::End => self.close()?,
+        }
+        Ok(())
+    }
+
+    /// Takes in a line: a statement in its place; one that ends a procedure ends it wherever it stands.
+    fn take(&mut self, alloc: Global, line: Line<'a>) -> Result<(), AllocError>
+        ensures ok { OnOk result (reader_seen self.new
+            ≡ after_line (reader_seen self.old) (line_seen line.entry)) }
+    {
+        match line {
+            Line::Says(said, _) => {
+                if self.is_in_place(&said) {
+                    self.say(alloc, said)
+                } else if is_end(&said) {
+                    self.close()
+                } else {
+                    Ok(())
+                }
+            }
+            Line::Wrong { ends: true } => self.close(),
+            Line::Blank | Line::Wrong { ends: false } | Line::Strange => Ok(()),
+        }
+    }
+
+    /// Takes in a line without fault, by its number and whether a later line ends a procedure; its first fault is refused.
+    pub(crate) fn step(
+        &mut self,
+        alloc: Global,
+        number: usize,
+        line: Line<'a>,
+        ends_later: bool,
+    ) -> Result<(), AsmFault>
+        ensures faultless { (rest : List text.Line) → ends_later ≡ list_any ends rest
+            → OnOk result (line_faults number (reader_seen self.old) (line_seen line.entry) rest ≡ []) }
+        ensures taken { OnOk result (reader_seen self.new
+            ≡ after_line (reader_seen self.old) (line_seen line.entry)) }
+        ensures fault { (rest : List text.Line) → ends_later ≡ list_any ends rest
+            → IfErr result (λ fault. IsFirstOf fault (line_faults number (reader_seen self.old) (line_seen line.entry) rest)) }
+    {
+        if let Some(fault) = self.line_fault(number, &line, ends_later) {
+            return Err(fault);
+        }
+        self.take(alloc, line).map_err(|_| AsmFault::NoMemory)
+    }
+}

@@ -87,8 +87,8 @@ places_of p = boundaries p.start p.items
 abbrev pub code_end : Procedure → ℕ
 code_end p = end_of p.start p.items
 
--- What a procedure of a program is: its jumps, its exit code and its entries lead to boundaries of its items, it has the entries
--- that its jumps take and no more, and its code begins and ends at an even offset.
+-- What a procedure of a program is: its jumps, its exit code and its entries lead to boundaries of its items, it has entries up to
+-- the greatest that a jump takes and no more, and its code begins and ends at an even offset.
 pub record IsProcedure (p : Procedure) : Type 0 where
   pub level : p.level < 256
   pub parameters : (p.parameters < 65536) × (p.parameters % 2 ≡ 0)

@@ -18,7 +18,7 @@ use Rattle.pm_disasm.specs.Item.Target.{To, Through}
 use Rattle.pm_disasm.specs.Program.{Procedure, entries_needed, is_among, item_places}
 
 -- An instruction at the front of bytes: how many bytes it has, and the item that it is; none where a jump of it leads neither forward nor
--- through an entry.
+-- through an entry, or where the third word of an XJP holds no UJP.
 pub record Front : Type 0 where
   pub size : ℕ
   pub item : Option (Item ℕ)

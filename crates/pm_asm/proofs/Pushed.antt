@@ -1,8 +1,8 @@
 -- Bytes that are added one after another: those so far, with what the rest gives, are the whole.
-use Rattle.std.proofs.Common.{◌≡◌, ◌<◌, ◌≤◌, ℕ, ◌+◌, ◌-◌, ◌*◌, List, [], ◌∷◌, ◌++◌, length, map, reverse, drop, get_or, refl, sym, ap, subst, ◌∙◌, arith, append_assoc, length-append}
+use Rattle.std.proofs.Common.{◌≡◌, ◌≤◌, ℕ, ◌+◌, ◌-◌, ◌*◌, List, [], ◌∷◌, ◌++◌, length, map, reverse, refl, sym, ap, subst, ◌∙◌, arith, append_assoc, length-append}
 use Rattle.std.specs.Prelude.{suc, Result, Ok, Err, IfOk, OnOk}
 use Rattle.std.specs.List.{AllByRecursion}
-use Rattle.std.proofs.lemmas.List.{drop_more, length-reverse, map-append}
+use Rattle.std.proofs.lemmas.List.{length-reverse, map-append}
 use Rattle.pm_opcode.specs.Spelling.{word}
 use Rattle.pm_disasm.specs.Item.{Item, item_bytes, size}
 use Rattle.pm_disasm.specs.Program.{AreItems, IsProcedure, IsSegment, back_to, code_bytes, code_end, code_of, end_of, entry_bytes, jtab_of, procedure_bytes, procedures_bytes, procedures_end, segment_bytes}
@@ -15,10 +15,6 @@ use Rattle.pm_source.specs.Meaning.{exit_place, found_item, found_label, found_p
 use Rattle.pm_source.proofs.Ends.{found_behind}
 use Rattle.pm_source.proofs.Labels.{map_length}
 use Rattle.pm_source.proofs.Sizes.{end_within}
-
--- what is left of a list, one step on
-pub there : {X : Type 0} (xs : List X) (k : ℕ) (x : X) → k < length xs → x ≡ get_or xs k x → drop k xs ≡ x ∷ drop (k + 1) xs
-there xs k x h e = drop_more xs k x h ∙ ap (λ y. y ∷ drop (k + 1) xs) (sym e)
 
 -- one item more
 pub item_long : (before after : List ℕ) (item : Item ℕ) → after ≡ before ++ item_bytes (length before) item → length after ≡ length before + size (length before) item

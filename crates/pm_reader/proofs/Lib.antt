@@ -5,3 +5,4 @@ pub mod Firsts
 pub mod Numbering
 pub mod Seen
 pub mod Stepping
+pub mod Least

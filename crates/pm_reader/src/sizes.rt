@@ -1,6 +1,6 @@
 //! How many bytes code has. Each answer is `None` only where it would pass `usize::MAX`: memory cannot hold such code.
 
-ghost use Rattle.std.specs.Prelude.{◌≡◌, IfSome, length, map};
+ghost use Rattle.std.specs.Prelude.{◌≡◌, ◌<◌, None, IfSome, length, map};
 ghost use Rattle.pm_opcode.specs.Spelling.{is_odd, is_sized, number, padding, spelling};
 ghost use Rattle.pm_disasm.specs.Item.{size};
 ghost use Rattle.pm_disasm.specs.Program.{end_of};
@@ -37,6 +37,7 @@ fn has_size(operand_type: u16) -> bool
 /// How many bytes an instruction has at an offset, with the bytes that it names.
 fn spelling_size(at: usize, instr: &Instr, named: &[u8]) -> Option<usize>
     ensures size { IfSome result (λ n. n ≡ length (spelling (is_odd at) 0 instr.now named.now)) }
+    ensures too_long { result ≡ None → 18446744073709551615 < length (spelling (is_odd at) 0 instr.now named.now) }
 {
     let odd = at % 2 == 1;
     match form_at(instr.op) {
@@ -57,6 +58,7 @@ fn spelling_size(at: usize, instr: &Instr, named: &[u8]) -> Option<usize>
 /// padding. `None` only where it would pass `usize::MAX`.
 pub fn item_size(at: usize, item: &Item<'_>) -> Option<usize>
     ensures size { IfSome result (λ n. n ≡ size at (item_seen item.now)) }
+    ensures too_long { result ≡ None → 18446744073709551615 < size at (item_seen item.now) }
 {
     match item {
         Item::Plain(instr, named) => spelling_size(at, instr, named),
@@ -72,6 +74,7 @@ pub fn item_size(at: usize, item: &Item<'_>) -> Option<usize>
 /// Where items end that begin at an offset.
 fn items_end(at: usize, items: &[Item<'_>]) -> Option<usize>
     ensures end { IfSome result (λ n. n ≡ end_of at (map item_seen items.now)) }
+    ensures too_long { result ≡ None → 18446744073709551615 < end_of at (map item_seen items.now) }
 {
     let mut end = at;
     for item in items {
@@ -83,6 +86,7 @@ fn items_end(at: usize, items: &[Item<'_>]) -> Option<usize>
 /// The offset, in bytes, where a line of code ends that begins at an offset of its segment. `None` only where it would pass `usize::MAX`.
 pub fn row_end(at: usize, row: &Row<'_>) -> Option<usize>
     ensures end { IfSome result (λ n. n ≡ end_of at (row_items (row_seen row.now))) }
+    ensures too_long { result ≡ None → 18446744073709551615 < end_of at (row_items (row_seen row.now)) }
 {
     match row {
         Row::Items { items, .. } => items_end(at, items),
@@ -93,6 +97,7 @@ pub fn row_end(at: usize, row: &Row<'_>) -> Option<usize>
 /// Where code ends that begins at an offset.
 pub(crate) fn code_end(at: usize, rows: &[Row<'_>]) -> Option<usize>
     ensures end { IfSome result (λ n. n ≡ code_end at (map row_seen rows.now)) }
+    ensures too_long { result ≡ None → 18446744073709551615 < code_end at (map row_seen rows.now) }
 {
     let mut end = at;
     for row in rows {
@@ -105,6 +110,7 @@ pub(crate) fn code_end(at: usize, rows: &[Row<'_>]) -> Option<usize>
 /// jump table, and ten bytes of attributes. `None` only where it would pass `usize::MAX`.
 pub fn source_end(at: usize, procedure: &Procedure<'_>) -> Option<usize>
     ensures end { IfSome result (λ n. n ≡ source_end at (procedure_seen procedure.now)) }
+    ensures too_long { result ≡ None → 18446744073709551615 < source_end at (procedure_seen procedure.now) }
 {
     let code = code_end(at, &procedure.code)?;
     let entries = procedure.entries.len().checked_mul(2)?;

@@ -4,7 +4,8 @@ use Rattle.pm_line.specs.Views.{row_seen}
 use Rattle.pm_source.specs.Source.{items_of, row_items}
 use Rattle.pm_source.specs.Meaning.{found_item}
 use Rattle.pm_asm.specs.Firsts.{places_in}
-use Rattle.pm_asm.proofs.Pushed.{are_split, items_good, items_more, rows_split, there}
+use Rattle.pm_reader.proofs.Least.{there}
+use Rattle.pm_asm.proofs.Pushed.{are_split, items_good, items_more, rows_split}
 use Rattle.pm_asm.proofs.bytes.push_code.Goals as goal
 
 pub push_row-requires : goal.push_row-requires

@@ -3,7 +3,8 @@ use Rattle.pm_disasm.specs.Program.{AreItems, code_bytes}
 use Rattle.pm_line.specs.Views.{item_seen}
 use Rattle.pm_source.specs.Meaning.{found_item}
 use Rattle.pm_asm.specs.Firsts.{places_in}
-use Rattle.pm_asm.proofs.Pushed.{item_good, item_more, there}
+use Rattle.pm_reader.proofs.Least.{there}
+use Rattle.pm_asm.proofs.Pushed.{item_good, item_more}
 use Rattle.pm_asm.proofs.bytes.push_items.Goals as goal
 
 pub loop-item-preserved : goal.loop-item-preserved

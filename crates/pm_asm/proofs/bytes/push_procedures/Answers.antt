@@ -3,7 +3,8 @@ use Rattle.std.specs.List.{AllByRecursion}
 use Rattle.pm_disasm.specs.Program.{IsProcedure, jtab_of, procedures_bytes, procedures_end}
 use Rattle.pm_source.specs.Meaning.{found_procedures}
 use Rattle.pm_reader.specs.Views.{procedure_seen}
-use Rattle.pm_asm.proofs.Pushed.{procedure_ends, procedure_good, procedure_more, procedure_short, procedure_table, there}
+use Rattle.pm_reader.proofs.Least.{there}
+use Rattle.pm_asm.proofs.Pushed.{procedure_ends, procedure_good, procedure_more, procedure_short, procedure_table}
 use Rattle.pm_asm.proofs.bytes.push_procedures.Goals as goal
 
 pub push_procedure-requires-clause-procedure : goal.push_procedure-requires-clause-procedure

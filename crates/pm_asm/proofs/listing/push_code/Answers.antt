@@ -7,7 +7,8 @@ use Rattle.pm_source.specs.Meaning.{found_item}
 use Rattle.pm_source.specs.Source.{items_of, row_items}
 use Rattle.pm_asm.specs.Firsts.{places_in}
 use Rattle.pm_asm.specs.Standing.{Stands}
-use Rattle.pm_asm.proofs.Pushed.{are_split, rows_split, there}
+use Rattle.pm_reader.proofs.Least.{there}
+use Rattle.pm_asm.proofs.Pushed.{are_split, rows_split}
 use Rattle.pm_asm.proofs.Standings.{items_listed, parts_first, parts_next}
 use Rattle.pm_asm.proofs.listing.push_code.Goals as goal
 

@@ -9,7 +9,7 @@ use Rattle.pm_source.specs.Meaning.{found_item}
 use Rattle.pm_source.proofs.Labels.{found_size}
 use Rattle.pm_asm.specs.Firsts.{places_in}
 use Rattle.pm_asm.specs.Standing.{Stands}
-use Rattle.pm_asm.proofs.Pushed.{there}
+use Rattle.pm_reader.proofs.Least.{there}
 use Rattle.pm_asm.proofs.Standings.{line_more, stands_next}
 use Rattle.pm_asm.proofs.listing.push_items.Goals as goal
 

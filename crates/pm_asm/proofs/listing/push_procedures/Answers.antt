@@ -8,7 +8,7 @@ use Rattle.pm_source.proofs.Ends.{found_behind}
 use Rattle.pm_reader.specs.Views.{procedure_seen}
 use Rattle.pm_asm.specs.Standing.{Stands}
 use Rattle.pm_asm.proofs.Outlines.{procedure_size}
-use Rattle.pm_asm.proofs.Pushed.{there}
+use Rattle.pm_reader.proofs.Least.{there}
 use Rattle.pm_asm.proofs.Standings.{stands_first, stands_next}
 use Rattle.pm_asm.proofs.listing.push_procedures.Goals as goal
 

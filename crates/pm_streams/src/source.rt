@@ -66,7 +66,8 @@ impl<R: io::Read> Source for Reader<R> {
 /// The most bytes of input that a job reads. One more is a read fault.
 pub const INPUT_LIMIT: usize = 16_777_216;
 
-/// Reads all that is left.
+/// Reads all that is left. The source may not have failed before. `Read` where a read fails, or more than `INPUT_LIMIT` bytes come;
+/// `NoMemory` where memory is refused. What was read by then is lost.
 pub fn read_all<R: Source>(alloc: Global, source: &mut R) -> Result<Vec<u8>, Fault>
     requires well { R.has_failed source.old ≡ false }
     ensures all { IfOk result (λ input. ReadsAll (R.remaining source.old) (R.remaining source.new) input.items) }
@@ -91,7 +92,7 @@ pub fn read_all<R: Source>(alloc: Global, source: &mut R) -> Result<Vec<u8>, Fau
     Ok(input)
 }
 
-/// Reads one byte, if one is left.
+/// Reads one byte, if one is left. The source may not have failed before. `Read` where the read fails, and then no byte is taken.
 pub fn read_byte<R: Source>(source: &mut R) -> Result<Option<u8>, Fault>
     requires well { R.has_failed source.old ≡ false }
     ensures byte { IfOk result (λ byte. ReadsByte (R.remaining source.old) (R.remaining source.new) byte) }

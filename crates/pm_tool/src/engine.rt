@@ -138,7 +138,8 @@ pub fn run<R: Source, W: Sink>(alloc: Global, source: &mut R, sink: &mut W, job:
     ensures cut { IsCutShort result.status →
         IsCut (R.remaining source.old) (R.remaining source.new) (W.contents sink.old) (W.contents sink.new) (said job) }
 
-    // Where a read failed, all that the program had shown by then was written: it never waits for input before its output is written.
+    // Where a read failed, all that the program had shown by then was written, and every whole line of a session was answered: output
+    // is written before more input is wanted.
     ensures prompt { R.has_failed source.new ≡ true →
         IsPrompt job (R.remaining source.old) (R.remaining source.new) (W.contents sink.old) (W.contents sink.new) }
 

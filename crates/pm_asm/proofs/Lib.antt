@@ -4,6 +4,7 @@ pub mod Pushed
 pub mod Slotted
 pub mod Spelled
 pub mod Digits
+pub mod Countless
 pub mod Standings
 pub mod Outlines
 pub mod Outcomes

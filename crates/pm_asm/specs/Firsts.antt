@@ -4,12 +4,16 @@ use Rattle.pm_asm.specs.declared.labels.Code.{Code}
 use Rattle.pm_line.specs.Views.{row_seen}
 use Rattle.pm_source.specs.declared.fault.AsmFault.{AsmFault}
 use Rattle.pm_source.specs.Faults.{Places, items_faults, place_of}
-use Rattle.pm_source.specs.Source.{Row}
+use Rattle.pm_source.specs.Source.{Row, code_end}
 use Rattle.pm_source.specs.Source.Row.{Items, Exit}
 
 -- where the labels of code stand
 abbrev pub places_in : Code → Places
 places_in code = place_of code.start (map row_seen code.rows.now)
+
+-- where code ends
+abbrev pub end_in : Code → ℕ
+end_in code = code_end code.start (map row_seen code.rows.now)
 
 -- what is wrong with the labels of one line
 abbrev pub row_faults : Places → ℕ → Row → List AsmFault

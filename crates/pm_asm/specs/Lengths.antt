@@ -1,5 +1,5 @@
 -- How long segments are.
-use Rattle.std.specs.Prelude.{◌≡◌, ℕ, List, [], ◌∷◌, length, map, nat_lt, if◌then◌else◌, Option, Some, None}
+use Rattle.std.specs.Prelude.{◌≡◌, ℕ, List, [], ◌∷◌, Bool, length, map, nat_lt, if◌then◌else◌, Option, Some, None}
 use Rattle.pm_disasm.specs.Program.{Segment, segment_bytes}
 use Rattle.pm_source.specs.declared.fault.AsmFault.{AsmFault}
 use Rattle.pm_source.specs.declared.fault.AsmFault.TheVariants.{TooLong, NoMemory}
@@ -12,16 +12,24 @@ abbrev pub sources_end : ℕ → List Source → ℕ
 sources_end at [] = at
 sources_end at (p ∷ ps) = sources_end (source_end at p) ps
 
+-- whether a segment's procedures end at an offset that cannot be counted
+abbrev pub is_countless : SourceSegment → Bool
+is_countless s = nat_lt 18446744073709551615 (sources_end 0 s.procedures)
+
 -- the length of a segment in bytes, once its labels are found
 abbrev pub found_length : SourceSegment → ℕ
 found_length s = length (segment_bytes (found_segment s))
+
+-- whether the length of a segment cannot be counted
+abbrev pub is_countless_long : SourceSegment → Bool
+is_countless_long s = nat_lt 18446744073709551615 (found_length s)
 
 -- the number of the first segment that has more than 60,000 bytes
 abbrev pub first_long : List Segment → Option ℕ
 first_long [] = None
 first_long (s ∷ ss) = if nat_lt 60000 (length (segment_bytes s)) then Some s.number else first_long ss
 
--- A fault names the first segment that is too long, if it is not that memory could not grow.
+-- A fault names the first segment that is too long, if it is not that a length cannot be counted.
 abbrev pub IsTooLong : List Segment → AsmFault → Type 0
 IsTooLong ss (TooLong n) = first_long ss ≡ Some n
 IsTooLong ss NoMemory = Unit {0}

@@ -1,8 +1,12 @@
 //! Labels: where they stand, and what is wrong with them.
 
-ghost use Rattle.std.specs.Prelude.{◌≡◌, [], Some, OnOk, IfErr, IfOk, IfSome, map};
+ghost use Rattle.std.specs.Prelude.{◌≡◌, ◌+◌, ◌≤◌, [], Some, None, Err, OnOk, OnErr, IfErr, IfOk, IfSome, IsTrue, map};
 ghost use Rattle.std.specs.List.{list_any};
-ghost use Rattle.pm_disasm.specs.Item.{table_place};
+ghost use Rattle.pm_disasm.specs.Item.{size, table_place};
+ghost use Rattle.pm_disasm.specs.Program.{end_of};
+ghost use Rattle.pm_source.specs.Source.{row_items};
+ghost use Rattle.pm_reader.specs.Reader.{IsCountless};
+ghost use Rattle.pm_asm.specs.Lengths.{is_countless, sources_end};
 ghost use Rattle.pm_line.specs.Views.{item_seen, row_seen, target_seen, texts_seen};
 ghost use Rattle.pm_source.specs.declared.fault.AsmFault.TheVariants.{NoMemory};
 ghost use Rattle.pm_source.specs.Faults.{
@@ -18,10 +22,11 @@ ghost use Rattle.pm_source.specs.Faults.{
   label_faults,
   label_faults_from,
   place_of,
+  source_end,
 };
 ghost use Rattle.pm_reader.specs.Firsts.{IsFirstOf};
 ghost use Rattle.pm_reader.specs.Views.{entry_seen, procedure_seen, segments_seen};
-ghost use Rattle.pm_asm.specs.Firsts.{places_in, row_faults};
+ghost use Rattle.pm_asm.specs.Firsts.{end_in, places_in, row_faults};
 
 use pm_line::{Item, Row, Target};
 use pm_reader::{Entry, Procedure, Segment, has_label, item_size, row_end, source_end};
@@ -40,6 +45,7 @@ pub(crate) struct Code<'r, 'a> {
 pub(crate) fn place_of(code: &Code<'_, '_>, name: &[u8]) -> Result<Option<usize>, AsmFault>
     ensures place { IfOk result (λ place. place ≡ places_in code.now name.now) }
     ensures refused { IfErr result (λ fault. fault ≡ NoMemory) }
+    ensures too_long { OnErr result (IsCountless (end_in code.now)) }
 {
     let mut at = code.start;
     for row in code.rows {
@@ -55,6 +61,7 @@ pub(crate) fn place_of(code: &Code<'_, '_>, name: &[u8]) -> Result<Option<usize>
 fn is_unknown_label(code: &Code<'_, '_>, name: &[u8]) -> Result<bool, AsmFault>
     ensures value { IfOk result (λ unknown. unknown ≡ is_unknown_label (places_in code.now) name.now) }
     ensures refused { IfErr result (λ fault. fault ≡ NoMemory) }
+    ensures too_long { OnErr result (IsCountless (end_in code.now)) }
 {
     Ok(place_of(code, name)?.is_none())
 }
@@ -63,6 +70,7 @@ fn is_unknown_label(code: &Code<'_, '_>, name: &[u8]) -> Result<bool, AsmFault>
 fn has_unknown_label(code: &Code<'_, '_>, labels: &[&[u8]]) -> Result<bool, AsmFault>
     ensures value { IfOk result (λ unknown. unknown ≡ list_any (is_unknown_label (places_in code.now)) (texts_seen labels.now)) }
     ensures refused { IfErr result (λ fault. fault ≡ NoMemory) }
+    ensures too_long { OnErr result (IsCountless (end_in code.now)) }
 {
     for label in labels {
         if is_unknown_label(code, label)? {
@@ -76,6 +84,7 @@ fn has_unknown_label(code: &Code<'_, '_>, labels: &[&[u8]]) -> Result<bool, AsmF
 fn is_unknown_target(code: &Code<'_, '_>, target: Target<'_>) -> Result<bool, AsmFault>
     ensures value { IfOk result (λ unknown. unknown ≡ is_unknown_target (places_in code.now) (target_seen target.entry)) }
     ensures refused { IfErr result (λ fault. fault ≡ NoMemory) }
+    ensures too_long { OnErr result (IsCountless (end_in code.now)) }
 {
     match target {
         Target::To(name) => is_unknown_label(code, name),
@@ -94,6 +103,7 @@ fn is_far_place(next: usize, place: usize) -> bool
 fn is_far(code: &Code<'_, '_>, next: usize, target: Target<'_>) -> Result<bool, AsmFault>
     ensures value { IfOk result (λ far. far ≡ is_far (places_in code.now) next (target_seen target.entry)) }
     ensures refused { IfErr result (λ fault. fault ≡ NoMemory) }
+    ensures too_long { OnErr result (IsCountless (end_in code.now)) }
 {
     match target {
         Target::To(name) => match place_of(code, name)? {
@@ -107,6 +117,7 @@ fn is_far(code: &Code<'_, '_>, next: usize, target: Target<'_>) -> Result<bool, 
 /// Where the table of a case jump begins: behind the opcode, the padding and three words.
 fn table_place(at: usize) -> Option<usize>
     ensures place { IfSome result (λ place. place ≡ table_place at) }
+    ensures too_long { result ≡ None → IsCountless (table_place at) }
 {
     if at % 2 == 1 {
         at.checked_add(7)
@@ -119,6 +130,7 @@ fn table_place(at: usize) -> Option<usize>
 fn check_item(code: &Code<'_, '_>, line: usize, at: usize, item: &Item<'_>) -> Result<(), AsmFault>
     ensures faultless { OnOk result (item_faults (places_in code.now) line at (item_seen item.now) ≡ []) }
     ensures fault { IfErr result (λ fault. IsFirstOf fault (item_faults (places_in code.now) line at (item_seen item.now))) }
+    ensures too_long { at + size at (item_seen item.now) ≤ end_in code.now → result ≡ Err NoMemory → IsCountless (end_in code.now) }
 {
     let (unknown, next, target) = match item {
         Item::Jump(_, target) => (
@@ -156,6 +168,7 @@ fn check_items(
 ) -> Result<(), AsmFault>
     ensures faultless { OnOk result (items_faults (places_in code.now) line start (map item_seen items.now) ≡ []) }
     ensures fault { IfErr result (λ fault. IsFirstOf fault (items_faults (places_in code.now) line start (map item_seen items.now))) }
+    ensures too_long { end_of start (map item_seen items.now) ≤ end_in code.now → result ≡ Err NoMemory → IsCountless (end_in code.now) }
 {
     let mut at = start;
     for item in items {
@@ -170,6 +183,7 @@ fn check_items(
 fn check_row(code: &Code<'_, '_>, at: usize, row: &Row<'_>) -> Result<(), AsmFault>
     ensures faultless { OnOk result (row_faults (places_in code.now) at (row_seen row.now) ≡ []) }
     ensures fault { IfErr result (λ fault. IsFirstOf fault (row_faults (places_in code.now) at (row_seen row.now))) }
+    ensures too_long { end_of at (row_items (row_seen row.now)) ≤ end_in code.now → result ≡ Err NoMemory → IsCountless (end_in code.now) }
 {
     match row {
         Row::Items { line, items, .. } => check_items(code, *line, at, items),
@@ -182,6 +196,7 @@ fn check_row(code: &Code<'_, '_>, at: usize, row: &Row<'_>) -> Result<(), AsmFau
 fn check_code(code: &Code<'_, '_>) -> Result<(), AsmFault>
     ensures faultless { OnOk result (code_faults (places_in code.now) code.now.start (map row_seen code.now.rows.now) ≡ []) }
     ensures fault { IfErr result (λ fault. IsFirstOf fault (code_faults (places_in code.now) code.now.start (map row_seen code.now.rows.now))) }
+    ensures too_long { result ≡ Err NoMemory → IsCountless (end_in code.now) }
 {
     let mut at = code.start;
     for row in code.rows {
@@ -196,6 +211,7 @@ fn check_code(code: &Code<'_, '_>) -> Result<(), AsmFault>
 fn check_entries(code: &Code<'_, '_>, entries: &[Entry<'_>]) -> Result<(), AsmFault>
     ensures faultless { OnOk result (entries_faults (places_in code.now) (map entry_seen entries.now) ≡ []) }
     ensures fault { IfErr result (λ fault. IsFirstOf fault (entries_faults (places_in code.now) (map entry_seen entries.now))) }
+    ensures too_long { result ≡ Err NoMemory → IsCountless (end_in code.now) }
 {
     for entry in entries {
         if is_unknown_label(code, entry.label)? {
@@ -210,6 +226,7 @@ fn check_entries(code: &Code<'_, '_>, entries: &[Entry<'_>]) -> Result<(), AsmFa
 fn check_procedure(at: usize, procedure: &Procedure<'_>) -> Result<(), AsmFault>
     ensures faultless { OnOk result (label_faults at (procedure_seen procedure.now) ≡ []) }
     ensures fault { IfErr result (λ fault. IsFirstOf fault (label_faults at (procedure_seen procedure.now))) }
+    ensures too_long { result ≡ Err NoMemory → IsCountless (source_end at (procedure_seen procedure.now)) }
 {
     let code = Code {
         start: at,
@@ -224,6 +241,7 @@ fn check_procedure(at: usize, procedure: &Procedure<'_>) -> Result<(), AsmFault>
 fn check_procedures(procedures: &[Procedure<'_>]) -> Result<(), AsmFault>
     ensures faultless { OnOk result (label_faults_from 0 (map procedure_seen procedures.now) ≡ []) }
     ensures fault { IfErr result (λ fault. IsFirstOf fault (label_faults_from 0 (map procedure_seen procedures.now))) }
+    ensures too_long { result ≡ Err NoMemory → IsCountless (sources_end 0 (map procedure_seen procedures.now)) }
 {
     let mut at = 0;
     for procedure in procedures {
@@ -239,6 +257,7 @@ fn check_procedures(procedures: &[Procedure<'_>]) -> Result<(), AsmFault>
 pub(crate) fn check_labels(segments: &[Segment<'_>]) -> Result<(), AsmFault>
     ensures faultless { OnOk result (all_label_faults (segments_seen segments.now) ≡ []) }
     ensures fault { IfErr result (λ fault. IsFirstOf fault (all_label_faults (segments_seen segments.now))) }
+    ensures too_long { result ≡ Err NoMemory → IsTrue (list_any is_countless (segments_seen segments.now)) }
 {
     for segment in segments {
         check_procedures(&segment.procedures)?;

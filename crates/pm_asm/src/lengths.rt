@@ -1,12 +1,14 @@
 //! How long segments are.
 
-ghost use Rattle.std.specs.Prelude.{◌≡◌, IfErr, IfOk, IfSome, OnOk, map, nat_lt};
+ghost use Rattle.std.specs.Prelude.{◌≡◌, None, Err, IsTrue, IfErr, IfOk, IfSome, OnOk, OnErr, map, nat_lt};
+ghost use Rattle.std.specs.List.{list_any};
 ghost use Rattle.std.specs.Option.{option_map};
 ghost use Rattle.pm_disasm.specs.Program.{AreShort};
 ghost use Rattle.pm_source.specs.declared.fault.AsmFault.TheVariants.{NoMemory};
 ghost use Rattle.pm_source.specs.Meaning.{segment_with};
+ghost use Rattle.pm_reader.specs.Reader.{IsCountless};
 ghost use Rattle.pm_reader.specs.Views.{procedure_seen, segment_seen, segments_seen};
-ghost use Rattle.pm_asm.specs.Lengths.{IsTooLong, found_length, found_program, sources_end};
+ghost use Rattle.pm_asm.specs.Lengths.{IsTooLong, found_length, is_countless_long, found_program, sources_end};
 
 use pm_reader::{Procedure, Segment, source_end};
 use pm_source::AsmFault;
@@ -32,6 +34,7 @@ pub(crate) fn segment_with<'s, 'a>(
 /// Where the procedures of a segment end.
 fn procedures_end(procedures: &[Procedure<'_>]) -> Option<usize>
     ensures end { IfSome result (λ end. end ≡ sources_end 0 (map procedure_seen procedures.now)) }
+    ensures too_long { result ≡ None → IsCountless (sources_end 0 (map procedure_seen procedures.now)) }
 {
     let mut end = 0;
     for procedure in procedures {
@@ -43,6 +46,7 @@ fn procedures_end(procedures: &[Procedure<'_>]) -> Option<usize>
 /// How many bytes a segment has: its procedures, a word for each, and one more.
 fn segment_length(segment: &Segment<'_>) -> Option<usize>
     ensures size { IfSome result (λ length. length ≡ found_length (segment_seen segment.now)) }
+    ensures too_long { result ≡ None → IsCountless (found_length (segment_seen segment.now)) }
 {
     let end = procedures_end(&segment.procedures)?;
     let words = segment.procedures.len().checked_mul(2)?;
@@ -54,6 +58,7 @@ fn segment_length(segment: &Segment<'_>) -> Option<usize>
 fn is_long(segment: &Segment<'_>) -> Result<bool, AsmFault>
     ensures value { IfOk result (λ long. long ≡ nat_lt 60000 (found_length (segment_seen segment.now))) }
     ensures refused { IfErr result (λ fault. fault ≡ NoMemory) }
+    ensures too_long { OnErr result (IsCountless (found_length (segment_seen segment.now))) }
 {
     let length = segment_length(segment).ok_or(AsmFault::NoMemory)?;
     Ok(length > LONGEST)
@@ -64,6 +69,7 @@ fn is_long(segment: &Segment<'_>) -> Result<bool, AsmFault>
 pub(crate) fn check_lengths(segments: &[Segment<'_>]) -> Result<(), AsmFault>
     ensures short { OnOk result (AreShort (found_program (segments_seen segments.now))) }
     ensures fault { IfErr result (IsTooLong (found_program (segments_seen segments.now))) }
+    ensures too_long { result ≡ Err NoMemory → IsTrue (list_any is_countless_long (segments_seen segments.now)) }
 {
     for number in 0..16 {
         if let Some(segment) = segment_with(segments, number) {

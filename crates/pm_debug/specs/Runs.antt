@@ -1,11 +1,11 @@
 -- Runs to a breakpoint.
-use Rattle.std.specs.Prelude.{ℕ, zero, suc, ◌==◌, ◌&&◌, not, Bool, true, false, List, if◌then◌else◌, nat_lt}
+use Rattle.std.specs.Prelude.{ℕ, zero, suc, ◌≡◌, ◌<◌, ◌==◌, ◌&&◌, not, Bool, true, false, List, if◌then◌else◌, nat_lt}
 use Rattle.pm_machine.specs.declared.state.Status.{Status}
 use Rattle.pm_machine.specs.declared.state.Status.TheVariants as status
 use Rattle.pm_machine.specs.declared.state.Stop.{Stop}
 use Rattle.pm_machine.specs.declared.state.Stop.TheVariants as stop
-use Rattle.pm_machine.specs.State.{State}
-use Rattle.pm_machine.specs.Steps.{is_running, stepped}
+use Rattle.pm_machine.specs.State.{State, Whole}
+use Rattle.pm_machine.specs.Steps.{WantsMemory, is_running, stepped}
 use Rattle.pm_machine.specs.Runs.{after}
 use Rattle.pm_debug.specs.declared.breaks.Breakpoint.{Breakpoint}
 use Rattle.pm_debug.specs.declared.reason.Reason.{Reason}
@@ -83,3 +83,9 @@ gone_after breaks limit k s = let reason = reason_at breaks limit k (after k s) 
 -- the run of at most so many steps to a breakpoint
 unfoldable pub gone : List Breakpoint → ℕ → State → Gone
 gone breaks limit s = gone_after breaks limit (steps_made breaks s limit) s
+
+-- a run that was given up for want of memory, after some steps that can be made, and not at a breakpoint
+abbrev pub GaveUpUnbroken : List Breakpoint → ℕ → Whole → Whole → Type 0
+GaveUpUnbroken breaks limit m t =
+    (n : ℕ) × (n < limit) × (can_go breaks m.state n ≡ true) × (t.state ≡ after n m.state) × (breaks_after breaks n t.state ≡ false)
+    × WantsMemory t

@@ -72,7 +72,7 @@ pub(crate) fn clear(breaks: &mut Breaks, old: Breakpoint) -> Result<(), Refusal>
 /// Where a machine stands in the code; nowhere where SEG or JTAB is odd.
 #[tactic(auto, unfolding(crate::specs::Breaks::standing))]
 fn standing(machine: &Machine) -> Option<Breakpoint>
-    ensures place { result ≡ standing machine.now }
+    ensures place { result ≡ standing machine.now.state }
 {
     let registers = machine.registers();
     let memory = machine.memory();
@@ -89,7 +89,7 @@ fn standing(machine: &Machine) -> Option<Breakpoint>
 
 /// Whether a machine stands at a breakpoint.
 pub(crate) fn is_at_break(machine: &Machine, breaks: &[Breakpoint]) -> bool
-    ensures matches { result ≡ is_at_break breaks.now machine.now }
+    ensures matches { result ≡ is_at_break breaks.now machine.now.state }
 {
     match standing(machine) {
         Some(place) => is_set(breaks, place),

@@ -2,11 +2,10 @@
 
 ghost use Rattle.std.specs.Prelude.{◌≡◌, [], Ok, Err, IfOk, IfErr, OnOk, OnErr, string_bytes};
 ghost use Rattle.std.specs.Borrow.{sem};
-ghost use Rattle.pm_machine.specs.Runs.{GaveUp};
 ghost use Rattle.pm_debug.specs.Breaks.{break_at, with_break, without_break};
 ghost use Rattle.pm_debug.specs.Lending.{LendsMachine};
 ghost use Rattle.pm_debug.specs.Refusals.{or_refused};
-ghost use Rattle.pm_debug.specs.Runs.{gone};
+ghost use Rattle.pm_debug.specs.Runs.{GaveUpUnbroken, gone};
 ghost use Rattle.pm_debug.specs.Trace.{trace_line};
 ghost use Rattle.pm_debug.specs.Views.{ShowsChain, dynamic_chain, local, stack_words, static_chain};
 
@@ -31,9 +30,9 @@ pub struct Debugger {
 }
 
 impl Model for Debugger {
-    ghost use Rattle.pm_debug.specs.Session.{Session};
+    ghost use Rattle.pm_debug.specs.Session.{Debugged};
 
-    ghost Value = { Session };
+    ghost Value = { Debugged };
 
     ghost view = { λ d. record { machine = d.machine; breaks = d.breaks.items } };
 }
@@ -104,8 +103,8 @@ impl Debugger {
     /// of memory the machine stands after the steps that went.
     pub fn go(&mut self, limit: u64) -> Result<(u64, Reason), AllocError>
         ensures breaks { self.new.breaks ≡ self.old.breaks }
-        ensures gone { IfOk result (λ r. gone self.old.breaks limit self.old.machine ≡ record { steps = r.0; reason = r.1; machine = self.new.machine }) }
-        ensures err { OnErr result (GaveUp limit self.old.machine self.new.machine) }
+        ensures gone { IfOk result (λ r. gone self.old.breaks limit self.old.machine.state ≡ record { steps = r.0; reason = r.1; machine = self.new.machine.state }) }
+        ensures err { OnErr result (GaveUpUnbroken self.old.breaks limit self.old.machine self.new.machine) }
     {
         let gone = run(&mut self.machine, &self.breaks, limit)?;
         Ok(gone)
@@ -114,7 +113,7 @@ impl Debugger {
     /// The words on the stack from SP up, at most `n`, and none from 65,504 on.
     #[tactic(auto, unfolding(crate::specs::Views::stack_words))]
     pub fn stack(&self, alloc: Global, n: u16) -> Result<Vec<u16>, AllocError>
-        ensures words { IfOk result (λ words. words.items ≡ stack_words self.now.machine n) }
+        ensures words { IfOk result (λ words. words.items ≡ stack_words self.now.machine.state n) }
     {
         let sp = self.machine.registers().sp;
         let count = n.min((EMPTY_STACK - sp) / 2);
@@ -126,7 +125,7 @@ impl Debugger {
     /// is the last where it comes. `OddAddress` where the link of a frame at an odd address is asked
     /// for.
     pub fn static_chain(&self, alloc: Global, limit: u16) -> Result<Vec<u16>, Refusal>
-        ensures frames { ShowsChain (λ frames. frames.items) result (static_chain self.now.machine limit) }
+        ensures frames { ShowsChain (λ frames. frames.items) result (static_chain self.now.machine.state limit) }
     {
         let frame = self.machine.registers().mp;
         chain(alloc, self.machine.memory(), STATIC_LINK, limit, frame)
@@ -134,7 +133,7 @@ impl Debugger {
 
     /// The frames from MP on by their dynamic links, as the static chain.
     pub fn dynamic_chain(&self, alloc: Global, limit: u16) -> Result<Vec<u16>, Refusal>
-        ensures frames { ShowsChain (λ frames. frames.items) result (dynamic_chain self.now.machine limit) }
+        ensures frames { ShowsChain (λ frames. frames.items) result (dynamic_chain self.now.machine.state limit) }
     {
         let frame = self.machine.registers().mp;
         chain(alloc, self.machine.memory(), DYNAMIC_LINK, limit, frame)
@@ -145,7 +144,7 @@ impl Debugger {
     /// at an odd address. Nothing changes.
     #[tactic(auto, unfolding(crate::specs::Views::local))]
     pub fn local(&mut self, depth: u16, b: u16) -> Result<u16, Refusal>
-        ensures word { result ≡ or_refused (local self.old.machine depth b) }
+        ensures word { result ≡ or_refused (local self.old.machine.state depth b) }
         ensures same { self.new ≡ self.old }
     {
         let frame = match self.machine.link(depth) {
@@ -161,7 +160,7 @@ impl Debugger {
 
     /// The line of a trace for the step that the machine makes next, without a line feed.
     pub fn trace_line(&self, alloc: Global) -> Result<String, AllocError>
-        ensures text { IfOk result (λ text. string_bytes text ≡ trace_line self.now.machine) }
+        ensures text { IfOk result (λ text. string_bytes text ≡ trace_line self.now.machine.state) }
     {
         text::trace_line(alloc, &self.machine)
     }

@@ -1,8 +1,7 @@
 //! Runs to a breakpoint.
 
 ghost use Rattle.std.specs.Prelude.{◌≡◌, IfOk, OnErr};
-ghost use Rattle.pm_machine.specs.Runs.{GaveUp};
-ghost use Rattle.pm_debug.specs.Runs.{breaks_after, gone, has_ended};
+ghost use Rattle.pm_debug.specs.Runs.{GaveUpUnbroken, breaks_after, gone, has_ended};
 
 use crate::breaks::{Breakpoint, is_at_break};
 use crate::reason::Reason;
@@ -11,7 +10,7 @@ use std::alloc::AllocError;
 
 /// Whether a breakpoint stops a run after so many steps.
 fn breaks_after(machine: &Machine, breaks: &[Breakpoint], count: u64) -> bool
-    ensures breaks { result ≡ breaks_after breaks.now count machine.now }
+    ensures breaks { result ≡ breaks_after breaks.now count machine.now.state }
 {
     count != 0 && is_at_break(machine, breaks)
 }
@@ -28,8 +27,8 @@ pub(crate) fn run(
     breaks: &[Breakpoint],
     limit: u64,
 ) -> Result<(u64, Reason), AllocError>
-    ensures gone { IfOk result (λ r. gone breaks.now limit machine.old ≡ record { steps = r.0; reason = r.1; machine = machine.new }) }
-    ensures err { OnErr result (GaveUp limit machine.old machine.new) }
+    ensures gone { IfOk result (λ r. gone breaks.now limit machine.old.state ≡ record { steps = r.0; reason = r.1; machine = machine.new.state }) }
+    ensures err { OnErr result (GaveUpUnbroken breaks.now limit machine.old machine.new) }
 {
     if has_ended(machine.status()) {
         return Ok((0, Reason::Ended));

@@ -28,7 +28,7 @@ impl<'a> TraceLine<'a> {
 }
 
 impl fmt::Display for TraceLine<'_> {
-    ghost output = { λ l. Some (trace_line l.machine.now) };
+    ghost output = { λ l. Some (trace_line l.machine.now.state) };
 
     #[tactic(auto, unfolding(crate::specs::Trace::trace_line))]
     fn fmt<W: fmt::Write>(&self, f: &mut fmt::Formatter<W>) -> fmt::Result {

@@ -9,7 +9,7 @@ use std::alloc::{AllocError, Global};
 
 /// The line of a trace for the step that a machine makes next, without a line feed.
 pub fn trace_line(alloc: Global, machine: &Machine) -> Result<String, AllocError>
-    ensures text { IfOk result (λ text. string_bytes text ≡ trace_line machine.now) }
+    ensures text { IfOk result (λ text. string_bytes text ≡ trace_line machine.now.state) }
 {
     format!(in alloc; "{}", TraceLine::new(machine))
 }

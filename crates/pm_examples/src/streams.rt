@@ -1,8 +1,8 @@
-//! A reader and a writer that move one byte at a time and fail after a while.
+//! A reader and a writer that move one byte at a time and fail once.
 use std::io;
 use std::io::{ErrorKind, Read, Write};
 
-/// Gives its bytes one at a time, and an error at each read after the first `good`.
+/// Gives its bytes one at a time, but for one error: at the read after the first `good`. Reads behind it go on well.
 #[derive(Drop)]
 pub(crate) struct ShortReader<'a> {
     pub(crate) bytes: &'a [u8],
@@ -12,6 +12,7 @@ pub(crate) struct ShortReader<'a> {
 impl Read for ShortReader<'_> {
     fn read(&mut self, buf: &mut [u8]) -> io::Result<usize> {
         if self.good == 0 {
+            self.good = usize::MAX;
             return Err(io::Error::from(ErrorKind::Other));
         }
         self.good -= 1;
@@ -34,7 +35,7 @@ pub(crate) enum Full {
     TakesNothing,
 }
 
-/// Takes one byte at each write, and none after the first `good`.
+/// Takes one byte at each write, but for one: at the write after the first `good` it takes none. Writes behind it go on well.
 #[derive(Drop)]
 pub(crate) struct ShortWriter {
     pub(crate) bytes: Vec<u8>,
@@ -48,6 +49,7 @@ impl Write for ShortWriter {
             return Ok(0);
         };
         if self.good == 0 {
+            self.good = usize::MAX;
             return match self.full {
                 Full::Errs => Err(io::Error::from(ErrorKind::Other)),
                 Full::TakesNothing => Ok(0),

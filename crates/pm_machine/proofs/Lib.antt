@@ -4,3 +4,4 @@ pub mod WordLists
 pub mod RunLaws
 pub mod StepLaws
 pub mod Computed
+pub mod QuickLaws

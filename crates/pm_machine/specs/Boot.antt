@@ -16,7 +16,7 @@ use Rattle.pm_machine.specs.declared.state.BootFault.{BootFault}
 use Rattle.pm_machine.specs.declared.state.BootFault.TheVariants.{NoFile, NotCode, BadCode, Exec, NoMemory}
 use Rattle.pm_machine.specs.declared.state.SlotRow.{SlotRow}
 use Rattle.pm_machine.specs.declared.state.Status.TheVariants as status
-use Rattle.pm_machine.specs.State.{State}
+use Rattle.pm_machine.specs.State.{State, Whole}
 use Rattle.pm_machine.specs.Start.{devices_with, with_system_frame}
 
 -- what has to be there, and the fault where it is not
@@ -102,8 +102,8 @@ Begins (Err (Exec e)) found start = start ≡ Err (Exec e)
 Begins (Err NoMemory) found start = IsOk found
 
 -- a machine was booted, or refused; memory is missing only where the file of the program was found
-abbrev pub Boots : {A : Type 0} → Result State (BootFault × A) → Result (Entry × List ℕ) BootFault → Result State BootFault → Type 0
-Boots (Ok s) found start = start ≡ Ok s
+abbrev pub Boots : {A : Type 0} → Result Whole (BootFault × A) → Result (Entry × List ℕ) BootFault → Result State BootFault → Type 0
+Boots (Ok m) found start = start ≡ Ok m.state
 Boots (Err (NoFile, back)) found start = start ≡ Err NoFile
 Boots (Err (NotCode, back)) found start = start ≡ Err NotCode
 Boots (Err (BadCode, back)) found start = start ≡ Err BadCode

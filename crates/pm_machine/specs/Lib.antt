@@ -18,3 +18,4 @@ pub mod Runs
 pub mod Laws
 pub mod RunLaws
 pub mod Worked
+pub mod Quick

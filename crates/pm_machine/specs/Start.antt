@@ -6,7 +6,7 @@ use Rattle.pm_machine.specs.declared.state.BootFault.{BootFault}
 use Rattle.pm_machine.specs.declared.state.BootFault.TheVariants.{NoFile, NotCode, BadCode, Exec, NoMemory}
 use Rattle.pm_machine.specs.declared.state.SlotRow.{SlotRow}
 use Rattle.pm_machine.specs.declared.state.Status.TheVariants as status
-use Rattle.pm_machine.specs.State.{State}
+use Rattle.pm_machine.specs.State.{State, Whole}
 
 -- The frame of the system, at 65,492: its static and its dynamic link lead to itself, JTAB, SEG and IPC are 0, and its
 -- SP is 65,504.
@@ -49,8 +49,8 @@ raw_start bytes =
     }))
 
 -- a machine was made, or refused; memory is missing only where nothing else was wrong
-abbrev pub Starts : Result State BootFault → Result State BootFault → Type 0
-Starts (Ok m) start = start ≡ Ok m
+abbrev pub Starts : Result Whole BootFault → Result State BootFault → Type 0
+Starts (Ok m) start = start ≡ Ok m.state
 Starts (Err NoFile) start = start ≡ Err NoFile
 Starts (Err NotCode) start = start ≡ Err NotCode
 Starts (Err BadCode) start = start ≡ Err BadCode

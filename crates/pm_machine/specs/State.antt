@@ -2,7 +2,7 @@
 use Rattle.std.specs.Prelude.{ℕ, List, Option}
 use Rattle.pm_calls.specs.declared.registers.Registers.{Registers}
 use Rattle.pm_calls.specs.declared.frames.Place.{Place}
-use Rattle.pm_stdproc.specs.Devices.{Devices}
+use Rattle.pm_stdproc.specs.Devices.{Devices, Room}
 use Rattle.pm_machine.specs.declared.state.Status.{Status}
 use Rattle.pm_machine.specs.declared.state.SlotRow.{SlotRow}
 
@@ -22,3 +22,8 @@ pub record State : Type 0 where
 
 abbrev pub devices_of : State → Devices
 devices_of s = s.devices
+
+-- what a machine is seen as: its state, and the room for more input and output
+pub record Whole : Type 0 where
+  pub state : State
+  pub room : Room

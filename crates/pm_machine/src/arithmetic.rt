@@ -17,6 +17,7 @@ use pm_words::stack::{pop, push};
 use pm_words::{ExecError, Memory};
 
 // The word that an operation makes of one word.
+#[inline(always)]
 fn word_of_one(operation: Unary, a: u16) -> u16
     ensures word { result ≡ unary operation a }
 {
@@ -29,6 +30,7 @@ fn word_of_one(operation: Unary, a: u16) -> u16
 }
 
 // The word that an operation makes of two words.
+#[inline(always)]
 fn word_of_two(operation: Binary, a: u16, b: u16) -> Result<u16, ExecError>
     ensures word { result ≡ binary operation a b }
 {
@@ -66,6 +68,7 @@ fn remainder(a: u16, b: u16) -> Result<u16, ExecError>
 }
 
 // Whether two signed words compare so.
+#[inline(always)]
 fn holds(operation: Relation, a: u16, b: u16) -> bool
     ensures holds { result ≡ relation operation a b }
 {
@@ -81,6 +84,7 @@ fn holds(operation: Relation, a: u16, b: u16) -> bool
     }
 }
 
+#[inline(always)]
 #[tactic(auto, unfolding(crate::specs::Arithmetic::constant_row))]
 fn constant(memory: &mut Memory, sp: u16, np: u16, word: u16) -> Result<u16, ExecError>
     ensures row { Stacks result memory.old.words memory.new.words (constant_row word memory.old.words sp np) }
@@ -89,6 +93,7 @@ fn constant(memory: &mut Memory, sp: u16, np: u16, word: u16) -> Result<u16, Exe
     push(memory, sp, np, word)
 }
 
+#[inline(always)]
 #[tactic(auto, unfolding(crate::specs::Arithmetic::unary_row))]
 fn unary(memory: &mut Memory, sp: u16, np: u16, operation: Unary) -> Result<u16, ExecError>
     ensures row { Stacks result memory.old.words memory.new.words (unary_row operation memory.old.words sp np) }
@@ -98,6 +103,7 @@ fn unary(memory: &mut Memory, sp: u16, np: u16, operation: Unary) -> Result<u16,
     push(memory, sp, np, word_of_one(operation, a))
 }
 
+#[inline(always)]
 #[tactic(auto, unfolding(crate::specs::Arithmetic::binary_row))]
 fn binary(memory: &mut Memory, sp: u16, np: u16, operation: Binary) -> Result<u16, ExecError>
     ensures row { Stacks result memory.old.words memory.new.words (binary_row operation memory.old.words sp np) }
@@ -109,6 +115,7 @@ fn binary(memory: &mut Memory, sp: u16, np: u16, operation: Binary) -> Result<u1
     push(memory, sp, np, c)
 }
 
+#[inline(always)]
 #[tactic(auto, unfolding(crate::specs::Arithmetic::relation_row))]
 fn relation(memory: &mut Memory, sp: u16, np: u16, operation: Relation) -> Result<u16, ExecError>
     ensures row { Stacks result memory.old.words memory.new.words (relation_row operation memory.old.words sp np) }
@@ -135,6 +142,7 @@ fn check(memory: &mut Memory, sp: u16, np: u16) -> Result<u16, ExecError>
 }
 
 /// Does an operation on words as integers, and gives the new SP. An error changes nothing.
+#[inline(always)]
 #[tactic(auto, unfolding(crate::specs::Arithmetic::arithmetic_row))]
 pub fn perform(
     memory: &mut Memory,

@@ -11,6 +11,7 @@ use pm_words::stack::{load, pop};
 use pm_words::{ExecError, Memory};
 
 // Where a jump leads: forward from the next instruction, or by an entry of the jump table.
+#[inline(always)]
 #[tactic(auto, unfolding(crate::specs::Jumps::target))]
 fn target(memory: &Memory, registers: Registers, offset: u16) -> Result<u16, ExecError>
     ensures target { result ≡ target memory.now.words registers offset }
@@ -25,6 +26,7 @@ fn target(memory: &Memory, registers: Registers, offset: u16) -> Result<u16, Exe
 }
 
 // Where an entry of a jump table leads.
+#[inline(always)]
 fn entry_target(memory: &Memory, entry: u16) -> Result<u16, ExecError>
     ensures target { result ≡ entry_target memory.now.words entry }
 {
@@ -33,6 +35,7 @@ fn entry_target(memory: &Memory, entry: u16) -> Result<u16, ExecError>
 }
 
 // The registers after a jump, which may not be taken.
+#[inline(always)]
 fn jump_if(
     taken: bool,
     memory: &Memory,
@@ -50,6 +53,7 @@ fn jump_if(
 }
 
 // The registers after a jump of two bytes.
+#[inline(always)]
 #[tactic(auto, unfolding(crate::specs::Jumps::short_row))]
 fn short(
     memory: &Memory,
@@ -126,6 +130,7 @@ fn case(
 }
 
 /// The registers after a jump; IPC is the next instruction before it. An error changes nothing.
+#[inline(always)]
 #[tactic(auto, unfolding(crate::specs::Jumps::jump_row))]
 pub fn perform(
     memory: &Memory,

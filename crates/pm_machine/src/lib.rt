@@ -10,6 +10,8 @@ mod literals;
 mod machine;
 mod pointers;
 mod procedures;
+mod quick;
+mod quick_calls;
 mod state;
 pub mod step_laws;
 mod values;

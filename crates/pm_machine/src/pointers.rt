@@ -18,6 +18,7 @@ use pm_opcode::Pointer;
 use pm_words::stack::{load, pop, push, store};
 use pm_words::{ExecError, Memory};
 
+#[inline(always)]
 #[tactic(auto, unfolding(crate::specs::Pointers::increment_row))]
 fn increment(memory: &mut Memory, sp: u16, np: u16, by: u16) -> Result<u16, ExecError>
     ensures row { Stacks result memory.old.words memory.new.words (increment_row by memory.old.words sp np) }
@@ -27,6 +28,7 @@ fn increment(memory: &mut Memory, sp: u16, np: u16, by: u16) -> Result<u16, Exec
     push(memory, sp, np, a.wrapping_add(by.wrapping_mul(2)))
 }
 
+#[inline(always)]
 #[tactic(auto, unfolding(crate::specs::Pointers::indirect_row))]
 fn indirect(memory: &mut Memory, sp: u16, np: u16, by: u16) -> Result<u16, ExecError>
     ensures row { Stacks result memory.old.words memory.new.words (indirect_row by memory.old.words sp np) }
@@ -38,6 +40,7 @@ fn indirect(memory: &mut Memory, sp: u16, np: u16, by: u16) -> Result<u16, ExecE
 }
 
 // The address of item `i` of an array at `a`, whose items have `size` words.
+#[inline(always)]
 fn item_at(a: u16, size: u16, i: u16) -> u16
     ensures address { result ≡ (a + 2 * size * i) % 65536 }
 {
@@ -45,6 +48,7 @@ fn item_at(a: u16, size: u16, i: u16) -> u16
     ((u64::from(a) + bytes) % 65536) as u16
 }
 
+#[inline(always)]
 #[tactic(auto, unfolding(crate::specs::Pointers::index_row))]
 fn index(memory: &mut Memory, sp: u16, np: u16, size: u16) -> Result<u16, ExecError>
     ensures row { Stacks result memory.old.words memory.new.words (index_row size memory.old.words sp np) }
@@ -55,6 +59,7 @@ fn index(memory: &mut Memory, sp: u16, np: u16, size: u16) -> Result<u16, ExecEr
     push(memory, sp, np, item_at(a, size, i))
 }
 
+#[inline(always)]
 #[tactic(auto, unfolding(crate::specs::Pointers::store_indirect_row))]
 fn store_indirect(memory: &mut Memory, sp: u16, np: u16) -> Result<u16, ExecError>
     ensures row { Stacks result memory.old.words memory.new.words (store_indirect_row memory.old.words sp np) }
@@ -123,6 +128,7 @@ fn move_words(memory: &mut Memory, sp: u16, words: u16) -> Result<u16, ExecError
 
 /// Does an operation on an address that is on the stack, and gives the new SP. An error changes
 /// nothing.
+#[inline(always)]
 #[tactic(auto, unfolding(crate::specs::Pointers::pointer_row))]
 pub fn perform(memory: &mut Memory, sp: u16, np: u16, operation: Pointer) -> Result<u16, ExecError>
     ensures row { Stacks result memory.old.words memory.new.words (pointer_row operation memory.old.words sp np) }

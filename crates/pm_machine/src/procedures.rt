@@ -44,7 +44,7 @@ pub fn code_for<'a>(
     units: &'a Units,
 ) -> Result<Option<&'a [u8]>, ExecError>
     requires even { All (λ row. row.length % 2 ≡ 0) rows.now }
-    ensures code { code_lent result ≡ code_needed call frames.now.places rows.now units.now }
+    ensures code { code_lent result ≡ code_needed call frames.now.places rows.now units.now.devices }
     ensures even { IfOk result (λ code. IfSome code (λ bytes. length bytes.now % 2 ≡ 0)) }
 {
     let Call::Cxp(n, _) = call else {

@@ -68,6 +68,7 @@ fn field(memory: &mut Memory, sp: u16, np: u16, operation: Field) -> Result<u16,
 }
 
 /// Does an operation on values in memory, and gives the new SP. An error changes nothing.
+#[inline(always)]
 #[tactic(auto, unfolding(crate::specs::Values::value_row))]
 pub fn perform(memory: &mut Memory, sp: u16, np: u16, operation: Value) -> Result<u16, ExecError>
     ensures row { Stacks result memory.old.words memory.new.words (value_row operation memory.old.words sp np) }

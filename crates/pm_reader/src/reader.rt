@@ -1,16 +1,17 @@
 //! The reader: what the lines so far have said, and what is wrong in the next.
 
-ghost use Rattle.std.specs.Prelude.{◌≡◌, ◌==◌, ◌+◌, List, [], IfSome, IfErr, OnOk};
+ghost use Rattle.std.specs.Prelude.{◌≡◌, ◌==◌, ◌+◌, List, [], Some, None, IfSome, IfErr, OnOk};
 ghost use Rattle.std.specs.List.{list_any};
 ghost use Rattle.pm_line.specs.Views.{row_seen, statement_seen, flaw_seen, line_seen};
-ghost use Rattle.pm_source.specs.Source.{is_exit, has_label, has_exit, has_label_in};
+ghost use Rattle.pm_source.specs.Source.{code_end, is_exit, has_label, has_exit, has_label_in};
 ghost use Rattle.pm_source.specs.Line as text;
 ghost use Rattle.pm_source.specs.Line.Line.{Says};
 ghost use Rattle.pm_source.specs.Faults as faults;
 ghost use Rattle.pm_source.specs.Faults.{after, after_line, closed, ends, is_again, is_in_place, is_miscounted, is_uneven, line_faults, procedure_count, start};
 ghost use Rattle.pm_reader.specs.Views.{procedure_seen, segments_seen};
 ghost use Rattle.pm_reader.specs.Firsts.{IsFirstOf};
-ghost use Rattle.pm_reader.specs.Reader.{reader_seen, Answers};
+ghost use Rattle.pm_source.specs.declared.fault.AsmFault.TheVariants.{NoMemory};
+ghost use Rattle.pm_reader.specs.Reader.{reader_seen, Answers, IsCountless, open_end};
 
 use crate::entries::rows_entries;
 use crate::labels::has_label;
@@ -75,6 +76,7 @@ impl Procedure<'_> {
     /// Whether the code has an odd length, or takes other entries than there are; none where memory cannot hold the code.
     fn is_uneven(&self) -> Option<bool>
         ensures uneven { IfSome result (λ uneven. uneven ≡ is_uneven (procedure_seen self.now)) }
+        ensures too_long { result ≡ None → IsCountless (code_end 0 (procedure_seen self.now).code) }
     {
         let end = code_end(0, &self.code)?;
         Some(end % 2 != 0 || self.entries.len() != rows_entries(&self.code))
@@ -154,6 +156,7 @@ impl Reader<'_> {
     /// memory cannot hold its code.
     fn is_miscounted(&self, statement: &Statement<'_>) -> Option<bool>
         ensures miscounted { IfSome result (λ wrong. wrong ≡ is_miscounted (reader_seen self.now) (statement_seen statement.now)) }
+        ensures too_long { result ≡ None → IsCountless (open_end (reader_seen self.now).current) }
     {
         match (statement, &self.procedure) {
             (Statement::Begin { number, .. }, None) => {
@@ -174,6 +177,7 @@ impl Reader<'_> {
     ) -> Option<AsmFault>
         ensures fault { (rest : List text.Line) → ends_later ≡ list_any ends rest
             → Answers result (line_faults number (reader_seen self.now) (Says (statement_seen said.now) (flaw_seen flaw)) rest) }
+        ensures too_long { result ≡ Some NoMemory → IsCountless (open_end (reader_seen self.now).current) }
     {
         if !self.is_in_place(said) || is_begin(said) && !ends_later {
             return Some(AsmFault::Syntax(number));
@@ -198,6 +202,7 @@ impl Reader<'_> {
     fn line_fault(&self, number: usize, line: &Line<'_>, ends_later: bool) -> Option<AsmFault>
         ensures fault { (rest : List text.Line) → ends_later ≡ list_any ends rest
             → Answers result (line_faults number (reader_seen self.now) (line_seen line.now) rest) }
+        ensures too_long { result ≡ Some NoMemory → IsCountless (open_end (reader_seen self.now).current) }
     {
         match line {
             Line::Blank => None,

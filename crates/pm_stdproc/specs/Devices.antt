@@ -1,5 +1,5 @@
 -- What stands outside the memory, and the numbers of the units.
-use Rattle.std.specs.Prelude.{ℕ, ◌+◌, ◌*◌, ◌<◌, ◌||◌, List, [], length, slice_range, slice_set, slice_index_or, Option, Some, None, is_none, Result, Ok, Err, if◌then◌else◌, ◌==◌, nat_le, Bool}
+use Rattle.std.specs.Prelude.{ℕ, ◌+◌, ◌*◌, ◌<◌, ◌||◌, ◌&&◌, List, [], length, slice_range, slice_set, slice_index_or, Option, Some, None, is_none, Result, Ok, Err, if◌then◌else◌, ◌==◌, nat_le, Bool}
 use Rattle.pm_stdproc.specs.declared.ports.Port.{Port}
 use Rattle.pm_stdproc.specs.declared.ports.Port.TheVariants.{Console, Terminal, Absent, Printer, Disk, Unknown}
 use Rattle.pm_stdproc.specs.declared.ports.MountFault.{MountFault}
@@ -14,9 +14,22 @@ pub record Devices : Type 0 where
   pub printer : List ℕ
   pub clock : ℕ
 
--- how many bytes were written to the console and to the printer
-abbrev pub output_length : Devices → ℕ
-output_length d = length d.console + length d.printer
+-- for how many bytes more there is room, before there has to be more memory
+pub record Room : Type 0 where
+  pub queue : ℕ
+  pub console : ℕ
+  pub printer : ℕ
+
+-- what the units are seen as: what stands outside the memory, and the room for more
+pub record Held : Type 0 where
+  pub devices : Devices
+  pub room : Room
+
+-- whether there is room for what was written to the console and to the printer
+abbrev pub has_room : Room → Devices → Devices → Bool
+has_room r old new =
+    nat_le (length new.console) (length old.console + r.console)
+    && nat_le (length new.printer) (length old.printer + r.printer)
 
 abbrev pub mount_number : MountFault → ℕ
 mount_number NoUnit = 1

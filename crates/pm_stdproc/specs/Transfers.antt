@@ -3,8 +3,8 @@
 use Rattle.std.specs.Prelude.{ℕ, ◌*◌, ◌≡◌, Bool, true, false, ◌&&◌, List, ◌++◌, length, take, drop, slice_set, Option, Some, None, Result, Ok, Err, if◌then◌else◌, nat_lt}
 use Rattle.pm_words.specs.Words.{with_bytes, bytes_at}
 use Rattle.pm_volume.specs.Words as disk
-use Rattle.pm_stdproc.specs.Traps.{Pause, Fails, Waits, Writes}
-use Rattle.pm_stdproc.specs.Devices.{Devices, image_at, lies_on, part_of}
+use Rattle.pm_stdproc.specs.Traps.{Pause, Fails, Waits, Outgrows}
+use Rattle.pm_stdproc.specs.Devices.{Devices, Room, image_at, lies_on, part_of}
 use Rattle.pm_stdproc.specs.declared.ports.Port.{Port}
 use Rattle.pm_stdproc.specs.declared.ports.Port.TheVariants.{Console, Terminal, Absent, Printer, Disk, Unknown}
 use Rattle.pm_stdproc.specs.declared.transfers.Transfer.{Transfer}
@@ -85,9 +85,9 @@ abbrev pub devices_after : Moved → Devices
 devices_after t = t.devices
 
 -- a transfer was made: it gives the IORESULT and what is new, or it leaves all as it was; want of memory comes only
--- where it writes to the console or to the printer
-abbrev pub Transfers : Result ℕ Trap → List ℕ → Devices → List ℕ → Devices → Result Moved Pause → Type 0
-Transfers (Ok code) m d m2 d2 done = done ≡ Ok (record { memory = m2; devices = d2; ioresult = code })
-Transfers (Err (trap.Exec e)) m d m2 d2 done = (done ≡ Err (Fails e)) × (m2 ≡ m) × (d2 ≡ d)
-Transfers (Err trap.Waiting) m d m2 d2 done = (done ≡ Err Waits) × (m2 ≡ m) × (d2 ≡ d)
-Transfers (Err trap.NoMemory) m d m2 d2 done = (m2 ≡ m) × (d2 ≡ d) × Writes devices_after d done
+-- where it writes more to the console or to the printer than there is room for
+abbrev pub Transfers : Room → Result ℕ Trap → List ℕ → Devices → List ℕ → Devices → Result Moved Pause → Type 0
+Transfers room (Ok code) m d m2 d2 done = done ≡ Ok (record { memory = m2; devices = d2; ioresult = code })
+Transfers room (Err (trap.Exec e)) m d m2 d2 done = (done ≡ Err (Fails e)) × (m2 ≡ m) × (d2 ≡ d)
+Transfers room (Err trap.Waiting) m d m2 d2 done = (done ≡ Err Waits) × (m2 ≡ m) × (d2 ≡ d)
+Transfers room (Err trap.NoMemory) m d m2 d2 done = (m2 ≡ m) × (d2 ≡ d) × Outgrows devices_after room d done

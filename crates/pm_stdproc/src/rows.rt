@@ -45,8 +45,8 @@ fn order(memory: &Memory, sp: u16) -> Result<Order, ExecError>
 impl Units {
     /// Does the standard procedure of a number; IPC is the next instruction already. The answer is
     /// an execution error by the procedure's row; `Waiting` where a unit has too few bytes to be
-    /// read; `NoMemory` where there is no memory for bytes that are written or shown. After each of
-    /// these everything is as it was: the scratch memory keeps what EXIT puts back, and holds
+    /// read; `NoMemory` where there is no memory for bytes that are written or shown, and
+    /// no room is left for them. After each of these everything is as it was: the scratch memory keeps what EXIT puts back, and holds
     /// anything afterwards.
     #[tactic(auto, unfolding(crate::specs::Procedures::procedure_row, crate::specs::Procedures::exit_row))]
     pub fn perform(
@@ -58,10 +58,10 @@ impl Units {
         scratch: &mut Memory,
     ) -> Result<(), Trap>
         ensures stack { IsStack registers.old.sp registers.old.np → OnOk result (IsStack registers.new.sp registers.new.np) }
-        ensures row { Performs devices_reached result
-            (record { memory = memory.old.words; registers = registers.old; places = frames.old.places; devices = self.old })
-            (record { memory = memory.new.words; registers = registers.new; places = frames.new.places; devices = self.new })
-            (procedure_row (procedure_of n) (record { memory = memory.old.words; registers = registers.old; places = frames.old.places; devices = self.old })) }
+        ensures row { Performs devices_reached self.old.room result
+            (record { memory = memory.old.words; registers = registers.old; places = frames.old.places; devices = self.old.devices })
+            (record { memory = memory.new.words; registers = registers.new; places = frames.new.places; devices = self.new.devices })
+            (procedure_row (procedure_of n) (record { memory = memory.old.words; registers = registers.old; places = frames.old.places; devices = self.old.devices })) }
         ensures refused { OnErr result ((memory.new.words ≡ memory.old.words) × (registers.new ≡ registers.old) × (frames.new.places ≡ frames.old.places) × (self.new ≡ self.old)) }
     {
         match procedure_of(n) {
@@ -91,7 +91,8 @@ impl Units {
         procedure: OnUnits,
     ) -> Result<(), Trap>
         ensures stack { IsStack registers.old.sp registers.old.np → OnOk result (IsStack registers.new.sp registers.new.np) }
-        ensures row { Performs devices_served result (served memory.old.words registers.old self.old) (served memory.new.words registers.new self.new) (units_row procedure (served memory.old.words registers.old self.old)) }
+        ensures row { Performs devices_served self.old.room result (served memory.old.words registers.old self.old.devices) (served memory.new.words registers.new self.new.devices) (units_row procedure (served memory.old.words registers.old self.old.devices)) }
+        ensures room { OnErr result (self.new.room ≡ self.old.room) }
     {
         match procedure {
             OnUnits::Read => self.read_row(memory, registers),
@@ -106,7 +107,8 @@ impl Units {
     #[tactic(auto, unfolding(crate::specs::UnitRows::read_row))]
     fn read_row(&mut self, memory: &mut Memory, registers: &mut Registers) -> Result<(), Trap>
         ensures stack { IsStack registers.old.sp registers.old.np → OnOk result (IsStack registers.new.sp registers.new.np) }
-        ensures row { Performs devices_served result (served memory.old.words registers.old self.old) (served memory.new.words registers.new self.new) (read_row (served memory.old.words registers.old self.old)) }
+        ensures row { Performs devices_served self.old.room result (served memory.old.words registers.old self.old.devices) (served memory.new.words registers.new self.new.devices) (read_row (served memory.old.words registers.old self.old.devices)) }
+        ensures room { OnErr result (self.new.room ≡ self.old.room) }
     {
         let order = order(memory, registers.sp)?;
         registers.ioresult = self.read(memory, unit_of(order.unit), order.transfer)?;
@@ -117,7 +119,8 @@ impl Units {
     #[tactic(auto, unfolding(crate::specs::UnitRows::write_row))]
     fn write_row(&mut self, memory: &mut Memory, registers: &mut Registers) -> Result<(), Trap>
         ensures stack { IsStack registers.old.sp registers.old.np → OnOk result (IsStack registers.new.sp registers.new.np) }
-        ensures row { Performs devices_served result (served memory.old.words registers.old self.old) (served memory.new.words registers.new self.new) (write_row (served memory.old.words registers.old self.old)) }
+        ensures row { Performs devices_served self.old.room result (served memory.old.words registers.old self.old.devices) (served memory.new.words registers.new self.new.devices) (write_row (served memory.old.words registers.old self.old.devices)) }
+        ensures room { OnErr result (self.new.room ≡ self.old.room) }
     {
         let order = order(memory, registers.sp)?;
         registers.ioresult = self.write(memory, unit_of(order.unit), order.transfer)?;
@@ -128,7 +131,8 @@ impl Units {
     #[tactic(auto, unfolding(crate::specs::UnitRows::time_row))]
     fn time_row(&mut self, memory: &mut Memory, registers: &mut Registers) -> Result<(), Trap>
         ensures stack { IsStack registers.old.sp registers.old.np → OnOk result (IsStack registers.new.sp registers.new.np) }
-        ensures row { Performs devices_served result (served memory.old.words registers.old self.old) (served memory.new.words registers.new self.new) (or_fails (time_row (served memory.old.words registers.old self.old))) }
+        ensures row { Performs devices_served self.old.room result (served memory.old.words registers.old self.old.devices) (served memory.new.words registers.new self.new.devices) (or_fails (time_row (served memory.old.words registers.old self.old.devices))) }
+        ensures room { OnErr result (self.new.room ≡ self.old.room) }
     {
         let (low, sp) = pop(memory, registers.sp)?;
         let (high, sp) = pop(memory, sp)?;
@@ -144,7 +148,8 @@ impl Units {
     #[tactic(auto, unfolding(crate::specs::UnitRows::busy_row))]
     fn busy_row(&mut self, memory: &mut Memory, registers: &mut Registers) -> Result<(), Trap>
         ensures stack { IsStack registers.old.sp registers.old.np → OnOk result (IsStack registers.new.sp registers.new.np) }
-        ensures row { Performs devices_served result (served memory.old.words registers.old self.old) (served memory.new.words registers.new self.new) (or_fails (busy_row (served memory.old.words registers.old self.old))) }
+        ensures row { Performs devices_served self.old.room result (served memory.old.words registers.old self.old.devices) (served memory.new.words registers.new self.new.devices) (or_fails (busy_row (served memory.old.words registers.old self.old.devices))) }
+        ensures room { OnErr result (self.new.room ≡ self.old.room) }
     {
         let (unit, sp) = pop(memory, registers.sp)?;
         let sp = push(memory, sp, registers.np, 0)?;
@@ -156,7 +161,8 @@ impl Units {
     #[tactic(auto, unfolding(crate::specs::UnitRows::wait_row))]
     fn wait_row(&mut self, memory: &mut Memory, registers: &mut Registers) -> Result<(), Trap>
         ensures stack { IsStack registers.old.sp registers.old.np → OnOk result (IsStack registers.new.sp registers.new.np) }
-        ensures row { Performs devices_served result (served memory.old.words registers.old self.old) (served memory.new.words registers.new self.new) (or_fails (wait_row (served memory.old.words registers.old self.old))) }
+        ensures row { Performs devices_served self.old.room result (served memory.old.words registers.old self.old.devices) (served memory.new.words registers.new self.new.devices) (or_fails (wait_row (served memory.old.words registers.old self.old.devices))) }
+        ensures room { OnErr result (self.new.room ≡ self.old.room) }
     {
         let (unit, sp) = pop(memory, registers.sp)?;
         registers.sp = sp;
@@ -167,7 +173,8 @@ impl Units {
     #[tactic(auto, unfolding(crate::specs::UnitRows::clear_row))]
     fn clear_row(&mut self, memory: &mut Memory, registers: &mut Registers) -> Result<(), Trap>
         ensures stack { IsStack registers.old.sp registers.old.np → OnOk result (IsStack registers.new.sp registers.new.np) }
-        ensures row { Performs devices_served result (served memory.old.words registers.old self.old) (served memory.new.words registers.new self.new) (or_fails (clear_row (served memory.old.words registers.old self.old))) }
+        ensures row { Performs devices_served self.old.room result (served memory.old.words registers.old self.old.devices) (served memory.new.words registers.new self.new.devices) (or_fails (clear_row (served memory.old.words registers.old self.old.devices))) }
+        ensures room { OnErr result (self.new.room ≡ self.old.room) }
     {
         let (unit, sp) = pop(memory, registers.sp)?;
         registers.ioresult = self.clear(unit_of(unit));

@@ -1,6 +1,6 @@
 //! What the units give and take.
 
-ghost use Rattle.std.specs.Prelude.{◌≡◌, ◌+◌, ◌<◌, ◌≤◌, drop, length, Ok};
+ghost use Rattle.std.specs.Prelude.{◌≡◌, ◌+◌, ◌<◌, ◌≤◌, ◌++◌, drop, length, vec_capacity, vec_len, Ok, OnOk, OnErr};
 ghost use Rattle.pm_stdproc.specs.Devices.{HasPlace, cleared, image_at};
 ghost use Rattle.pm_stdproc.specs.Transfers.{Transfers, can_move, from_disk, from_queue, named_bytes, read, to_disk, written};
 
@@ -8,6 +8,7 @@ use crate::ports::Port;
 use crate::trap::Trap;
 use crate::units::{BLOCK, Units};
 use pm_words::Memory;
+use std::alloc::AllocError;
 
 /// A transfer between a unit and the memory.
 #[derive(Clone, Copy, Debug, PartialEq, Eq)]
@@ -29,6 +30,18 @@ pub struct Order {
     pub unit: u16,
     /// The SP above the operands.
     pub sp: u16,
+}
+
+// Puts bytes behind others. Want of memory comes only where there is no room for them, and leaves the bytes and the room.
+pub(crate) fn append(bytes: &mut Vec<u8>, more: &[u8]) -> Result<(), AllocError>
+    ensures appended { OnOk result (bytes.new.items ≡ bytes.old.items ++ more.now) }
+    ensures items { OnErr result (bytes.new.items ≡ bytes.old.items) }
+    ensures room { OnErr result ((vec_capacity bytes.new ≡ vec_capacity bytes.old) × (vec_len bytes.new ≡ vec_len bytes.old)) }
+    ensures full { OnErr result (vec_capacity bytes.old < vec_len bytes.old + length more.now) }
+{
+    bytes.reserve(more.len())?;
+    bytes.extend_from_slice(more)?;
+    Ok(())
 }
 
 // Takes the first items away.
@@ -71,7 +84,8 @@ impl Units {
     ) -> Result<u16, Trap>
         requires place { HasPlace unit }
         requires inside { transfer.address + transfer.count ≤ 65536 }
-        ensures read { Transfers result memory.old.words self.old memory.new.words self.new (read unit transfer memory.old.words self.old) }
+        ensures read { Transfers self.old.room result memory.old.words self.old.devices memory.new.words self.new.devices (read unit transfer memory.old.words self.old.devices) }
+        ensures room { OnErr result (self.new.room ≡ self.old.room) }
     {
         match unit {
             Port::Unknown => Ok(2),
@@ -91,14 +105,15 @@ impl Units {
         echo: bool,
     ) -> Result<u16, Trap>
         requires inside { transfer.address + transfer.count ≤ 65536 }
-        ensures read { Transfers result memory.old.words self.old memory.new.words self.new (from_queue echo transfer memory.old.words self.old) }
+        ensures read { Transfers self.old.room result memory.old.words self.old.devices memory.new.words self.new.devices (from_queue echo transfer memory.old.words self.old.devices) }
+        ensures room { OnErr result (self.new.room ≡ self.old.room) }
     {
         let count = usize::from(transfer.count);
         if self.queue.len() < count {
             return Err(Trap::Waiting);
         }
         if echo {
-            self.console.extend_from_slice(&self.queue[..count])?;
+            append(&mut self.console, &self.queue[..count])?;
         }
         memory.write(transfer.address, &self.queue[..count]);
         drop_front(&mut self.queue, count);
@@ -109,7 +124,7 @@ impl Units {
     fn read_disk(&mut self, memory: &mut Memory, k: usize, transfer: Transfer) -> u16
         requires place { k < 6 }
         requires inside { transfer.address + transfer.count ≤ 65536 }
-        ensures read { Transfers (Ok result) memory.old.words self.old memory.new.words self.new (Ok (from_disk (image_at self.old k) transfer memory.old.words self.old)) }
+        ensures read { Transfers self.old.room (Ok result) memory.old.words self.old.devices memory.new.words self.new.devices (Ok (from_disk (image_at self.old.devices k) transfer memory.old.words self.old.devices)) }
     {
         let Some(disk) = &self.disks[k] else {
             return 9;
@@ -136,19 +151,18 @@ impl Units {
     ) -> Result<u16, Trap>
         requires place { HasPlace unit }
         requires inside { transfer.address + transfer.count ≤ 65536 }
-        ensures written { Transfers result memory.old.words self.old memory.new.words self.new (Ok (written unit transfer memory.old.words self.old)) }
+        ensures written { Transfers self.old.room result memory.old.words self.old.devices memory.new.words self.new.devices (Ok (written unit transfer memory.old.words self.old.devices)) }
+        ensures room { OnErr result (self.new.room ≡ self.old.room) }
     {
         match unit {
             Port::Unknown => Ok(2),
             Port::Absent => Ok(9),
             Port::Printer => {
-                self.printer
-                    .extend_from_slice(named_bytes(memory, transfer))?;
+                append(&mut self.printer, named_bytes(memory, transfer))?;
                 Ok(0)
             }
             Port::Console | Port::Terminal => {
-                self.console
-                    .extend_from_slice(named_bytes(memory, transfer))?;
+                append(&mut self.console, named_bytes(memory, transfer))?;
                 Ok(0)
             }
             Port::Disk(k) => Ok(self.write_disk(memory, usize::from(k), transfer)),
@@ -159,7 +173,7 @@ impl Units {
     fn write_disk(&mut self, memory: &mut Memory, k: usize, transfer: Transfer) -> u16
         requires place { k < 6 }
         requires inside { transfer.address + transfer.count ≤ 65536 }
-        ensures written { Transfers (Ok result) memory.old.words self.old memory.new.words self.new (Ok (to_disk k (image_at self.old k) transfer memory.old.words self.old)) }
+        ensures written { Transfers self.old.room (Ok result) memory.old.words self.old.devices memory.new.words self.new.devices (Ok (to_disk k (image_at self.old.devices k) transfer memory.old.words self.old.devices)) }
     {
         let Some(disk) = &mut self.disks[k] else {
             return 9;
@@ -177,7 +191,7 @@ impl Units {
     /// Clears a unit, and gives the IORESULT.
     pub(crate) fn clear(&mut self, unit: Port) -> u16
         requires place { HasPlace unit }
-        ensures cleared { cleared unit self.old ≡ (result, self.new) }
+        ensures cleared { cleared unit self.old.devices ≡ (result, self.new.devices) }
     {
         match unit {
             Port::Unknown => 2,

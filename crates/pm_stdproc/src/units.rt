@@ -4,6 +4,7 @@ ghost use Rattle.std.specs.Prelude.{◌≡◌, ◌+◌, ◌++◌, [], ◌∷◌,
 ghost use Rattle.pm_stdproc.specs.Devices.{HasPlace, code_in, code_on, ejected, ejected_image, image_on, mounted};
 
 use crate::ports::{MountFault, Port, unit_of};
+use crate::transfers::append;
 use pm_volume::{Disk, Volume};
 use std::alloc::{AllocError, Global};
 use std::marker::Model;
@@ -25,11 +26,19 @@ pub struct Units {
 }
 
 impl Model for Units {
-    ghost use Rattle.pm_stdproc.specs.Devices.{Devices};
+    ghost use Rattle.std.specs.Prelude.{◌-◌, vec_capacity, vec_len};
+    ghost use Rattle.pm_stdproc.specs.Devices.{Held};
 
-    ghost Value = { Devices };
+    ghost Value = { Held };
 
-    ghost view = { λ u. record { disks = u.disks; queue = u.queue.items; console = u.console.items; printer = u.printer.items; clock = u.clock } };
+    ghost view = { λ u. record {
+      devices = record { disks = u.disks; queue = u.queue.items; console = u.console.items; printer = u.printer.items; clock = u.clock };
+      room = record {
+        queue = vec_capacity u.queue - vec_len u.queue;
+        console = vec_capacity u.console - vec_len u.console;
+        printer = vec_capacity u.printer - vec_len u.printer;
+      };
+    } };
 }
 
 // The disk of a volume, if there is one.
@@ -51,7 +60,7 @@ fn part(image: &[u8], block: u16, count: u16) -> Option<&[u8]>
 impl Units {
     /// Units without a disk, with no input waiting and nothing written. Takes no memory.
     pub fn new(alloc: Global, clock: u32) -> Units
-        ensures empty { result ≡ record { disks = replicate 6 None; queue = []; console = []; printer = []; clock = clock } }
+        ensures empty { result.devices ≡ record { disks = replicate 6 None; queue = []; console = []; printer = []; clock = clock } }
     {
         Units {
             disks: [None, None, None, None, None, None],
@@ -65,7 +74,7 @@ impl Units {
     /// Units with these volumes on the disk units 4, 5, 9, 10, 11 and 12, with no input waiting and
     /// nothing written. Takes no memory.
     pub fn with_volumes(alloc: Global, volumes: [Option<Volume>; 6], clock: u32) -> Units
-        ensures mounted { result ≡ record { disks = volumes; queue = []; console = []; printer = []; clock = clock } }
+        ensures mounted { result.devices ≡ record { disks = volumes; queue = []; console = []; printer = []; clock = clock } }
     {
         Units {
             disks: volumes.map(disk_of),
@@ -73,25 +82,27 @@ impl Units {
         }
     }
 
-    /// Lets one more byte of input wait. Want of memory changes nothing.
+    /// Lets one more byte of input wait. Want of memory changes nothing, and comes only where no room
+    /// is left for the byte.
     pub fn key(&mut self, byte: u8) -> Result<(), AllocError>
-        ensures waits { OnOk result (self.new ≡ record self.old { queue = self.old.queue ++ byte ∷ [] }) }
+        ensures waits { OnOk result (self.new.devices ≡ record self.old.devices { queue = self.old.devices.queue ++ byte ∷ [] }) }
         ensures refused { OnErr result (self.new ≡ self.old) }
+        ensures full { OnErr result (self.old.room.queue ≡ 0) }
     {
-        self.queue.push(byte)?;
+        append(&mut self.queue, &[byte])?;
         Ok(())
     }
 
     /// All bytes that were written to the console.
     pub fn console(&self) -> &[u8]
-        ensures bytes { result.now ≡ self.now.console }
+        ensures bytes { result.now ≡ self.now.devices.console }
     {
         &self.console
     }
 
     /// All bytes that were written to the printer.
     pub fn printer(&self) -> &[u8]
-        ensures bytes { result.now ≡ self.now.printer }
+        ensures bytes { result.now ≡ self.now.devices.printer }
     {
         &self.printer
     }
@@ -100,8 +111,8 @@ impl Units {
     /// there already; the volume then comes back, and nothing changes.
     #[tactic(auto, unfolding(crate::specs::Devices::mounted))]
     pub fn mount(&mut self, unit: u8, volume: Volume) -> Result<(), (MountFault, Volume)>
-        ensures mounted { OnOk result (mounted unit volume self.old ≡ Ok self.new) }
-        ensures fault { IfErr result (λ e. mounted unit volume self.old ≡ Err e.0) }
+        ensures mounted { OnOk result (mounted unit volume self.old.devices ≡ Ok self.new.devices) }
+        ensures fault { IfErr result (λ e. mounted unit volume self.old.devices ≡ Err e.0) }
         ensures returned { IfErr result (λ e. e.1 ≡ volume) }
         ensures refused { OnErr result (self.new ≡ self.old) }
     {
@@ -120,8 +131,8 @@ impl Units {
     /// unit.
     #[tactic(auto, unfolding(crate::specs::Devices::ejected, crate::specs::Devices::ejected_image))]
     pub fn eject(&mut self, unit: u8) -> Option<Disk>
-        ensures disk { result ≡ ejected_image unit self.old }
-        ensures ejected { self.new ≡ ejected unit self.old }
+        ensures disk { result ≡ ejected_image unit self.old.devices }
+        ensures ejected { self.new.devices ≡ ejected unit self.old.devices }
     {
         match unit_of(u16::from(unit)) {
             Port::Disk(k) => self.disks[usize::from(k)].take(),
@@ -133,7 +144,7 @@ impl Units {
     /// disk is there, or where they pass its end.
     #[tactic(auto, unfolding(crate::specs::Devices::code_on))]
     pub fn code(&self, unit: u8, block: u16, count: u16) -> Option<&[u8]>
-        ensures code { option_map (λ bytes. bytes.now) result ≡ code_on self.now unit block count }
+        ensures code { option_map (λ bytes. bytes.now) result ≡ code_on self.now.devices unit block count }
         ensures size { IfSome result (λ bytes. length bytes.now ≡ count) }
     {
         part(self.image(unit_of(u16::from(unit)))?, block, count)
@@ -142,7 +153,7 @@ impl Units {
     // The image of a disk unit.
     fn image(&self, unit: Port) -> Option<&[u8]>
         requires place { HasPlace unit }
-        ensures image { option_map (λ bytes. bytes.now) result ≡ image_on unit self.now }
+        ensures image { option_map (λ bytes. bytes.now) result ≡ image_on unit self.now.devices }
     {
         match unit {
             Port::Disk(k) => match &self.disks[usize::from(k)] {

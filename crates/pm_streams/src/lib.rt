@@ -9,5 +9,5 @@ mod source;
 
 pub use fault::{Fault, MESSAGE_ROOM};
 pub use nothing::Nothing;
-pub use sink::{Sink, Writer, write_all};
-pub use source::{INPUT_LIMIT, Reader, Source, read_all, read_byte};
+pub use sink::{Output, Sink, Writer, write_all};
+pub use source::{INPUT_LIMIT, Input, Reader, Source, read_all, read_byte};

@@ -1,5 +1,5 @@
 //! Where a job's output goes.
-ghost use Rattle.std.specs.Prelude.{◌≡◌, Bool, Option, false, ◌||◌, List, ℕ, is_err, OnOk, IfErr};
+ghost use Rattle.std.specs.Prelude.{◌≡◌, ⊤, Bool, Option, false, ◌||◌, List, ℕ, is_err, OnOk, IfErr};
 ghost use Rattle.std.specs.Io.{WritesAtMost};
 ghost use Rattle.std.specs.Io.KnownBytes.{WriteAppends, Appends};
 ghost use Rattle.pm_streams.specs.Streams.{took_nothing, AppendsFront};
@@ -26,6 +26,31 @@ pub trait Sink {
         ensures value { result ≡ has_failed self.now };
 }
 
+/// A writer, and what one call of it comes to. Each writer is one.
+pub trait Output {
+    /// The bytes that were written, where they are known.
+    ghost taken: { Self → Option (List ℕ) };
+
+    /// One call leads from the one to the other.
+    ghost one_write: { Self → Self → Type 0 };
+
+    /// Writes by one call.
+    fn write_once(&mut self, buf: &[u8]) -> io::Result<usize>
+        ensures bound { WritesAtMost result buf.now }
+        ensures bytes { WriteAppends (taken self.old) (taken self.new) result buf.now }
+        ensures once { one_write self.old self.new };
+}
+
+impl<W: io::Write> Output for W {
+    ghost taken = { W.contents };
+
+    ghost one_write = { λ _ _. ⊤ };
+
+    fn write_once(&mut self, buf: &[u8]) -> io::Result<usize> {
+        self.write(buf)
+    }
+}
+
 /// A sink over any writer.
 #[derive(Drop)]
 pub struct Writer<W> {
@@ -33,10 +58,10 @@ pub struct Writer<W> {
     failed: bool,
 }
 
-impl<W: io::Write> Writer<W> {
+impl<W: Output> Writer<W> {
     /// A sink that writes to `inner`, and has not failed.
     pub fn new(inner: W) -> Writer<W>
-        ensures contents { ⟦<Writer<W> as Sink>⟧.contents result ≡ W.contents inner }
+        ensures contents { ⟦<Writer<W> as Sink>⟧.contents result ≡ W.taken inner }
         ensures failed { ⟦<Writer<W> as Sink>⟧.has_failed result ≡ false }
     {
         Writer {
@@ -46,13 +71,18 @@ impl<W: io::Write> Writer<W> {
     }
 }
 
-impl<W: io::Write> Sink for Writer<W> {
-    ghost contents = { λ sink. W.contents sink.inner };
+impl<W: Output> Sink for Writer<W> {
+    ghost contents = { λ sink. W.taken sink.inner };
 
     ghost has_failed = { λ sink. sink.failed };
 
-    fn write(&mut self, buf: &[u8]) -> io::Result<usize> {
-        let outcome = self.inner.write(buf);
+    fn write(&mut self, buf: &[u8]) -> io::Result<usize>
+        ensures bound { WritesAtMost result buf.now }
+        ensures bytes { WriteAppends (W.taken self.old.inner) (W.taken self.new.inner) result buf.now }
+        ensures failed { self.new.failed ≡ (self.old.failed || took_nothing result) }
+        ensures once { W.one_write self.old.inner self.new.inner }
+    {
+        let outcome = self.inner.write_once(buf);
         self.failed |= !matches!(outcome, Ok(1..));
         outcome
     }

@@ -1,5 +1,5 @@
 //! Where a job's input comes from.
-ghost use Rattle.std.specs.Prelude.{◌≡◌, Bool, Option, false, ◌||◌, List, ℕ, is_err, OnOk, OnErr, IfErr, IfOk};
+ghost use Rattle.std.specs.Prelude.{◌≡◌, ⊤, Bool, Option, false, ◌||◌, List, ℕ, is_err, OnOk, OnErr, IfErr, IfOk};
 ghost use Rattle.std.specs.Io.{ReadsAtMost};
 ghost use Rattle.std.specs.Io.KnownBytes.{ReadConsumes, Consumes, Keeps};
 ghost use Rattle.pm_streams.specs.Streams.{ReadsAll, ReadsByte, IsCause};
@@ -27,6 +27,31 @@ pub trait Source {
         ensures value { result ≡ has_failed self.now };
 }
 
+/// A reader, and what one call of it comes to. Each reader is one.
+pub trait Input {
+    /// The bytes that are still to come, where they are known.
+    ghost coming: { Self → Option (List ℕ) };
+
+    /// One call leads from the one to the other.
+    ghost one_read: { Self → Self → Type 0 };
+
+    /// Reads by one call.
+    fn read_once(&mut self, buf: &mut [u8]) -> io::Result<usize>
+        ensures bound { ReadsAtMost result buf.new }
+        ensures bytes { ReadConsumes (coming self.old) (coming self.new) result buf.new }
+        ensures once { one_read self.old self.new };
+}
+
+impl<R: io::Read> Input for R {
+    ghost coming = { R.remaining };
+
+    ghost one_read = { λ _ _. ⊤ };
+
+    fn read_once(&mut self, buf: &mut [u8]) -> io::Result<usize> {
+        self.read(buf)
+    }
+}
+
 /// A source over any reader.
 #[derive(Drop)]
 pub struct Reader<R> {
@@ -34,10 +59,10 @@ pub struct Reader<R> {
     failed: bool,
 }
 
-impl<R: io::Read> Reader<R> {
+impl<R: Input> Reader<R> {
     /// A source of the bytes of `inner`, which has not failed.
     pub fn new(inner: R) -> Reader<R>
-        ensures remaining { ⟦<Reader<R> as Source>⟧.remaining result ≡ R.remaining inner }
+        ensures remaining { ⟦<Reader<R> as Source>⟧.remaining result ≡ R.coming inner }
         ensures failed { ⟦<Reader<R> as Source>⟧.has_failed result ≡ false }
     {
         Reader {
@@ -47,13 +72,18 @@ impl<R: io::Read> Reader<R> {
     }
 }
 
-impl<R: io::Read> Source for Reader<R> {
-    ghost remaining = { λ source. R.remaining source.inner };
+impl<R: Input> Source for Reader<R> {
+    ghost remaining = { λ source. R.coming source.inner };
 
     ghost has_failed = { λ source. source.failed };
 
-    fn read(&mut self, buf: &mut [u8]) -> io::Result<usize> {
-        let outcome = self.inner.read(buf);
+    fn read(&mut self, buf: &mut [u8]) -> io::Result<usize>
+        ensures bound { ReadsAtMost result buf.new }
+        ensures bytes { ReadConsumes (R.coming self.old.inner) (R.coming self.new.inner) result buf.new }
+        ensures failed { self.new.failed ≡ (self.old.failed || is_err result) }
+        ensures once { R.one_read self.old.inner self.new.inner }
+    {
+        let outcome = self.inner.read_once(buf);
         self.failed |= outcome.is_err();
         outcome
     }

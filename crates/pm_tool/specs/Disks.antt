@@ -2,7 +2,7 @@
 use Rattle.std.specs.Prelude.{ℕ, List, [], ◌∷◌, Option, Some, None, Result, Ok, Err, Vec, vec_items, option_map, map}
 use Rattle.pm_volume.specs.Directory.{image_fault}
 use Rattle.pm_volume.specs.declared.fault.VolumeFault.{VolumeFault}
-use Rattle.pm_machine.specs.State.{State}
+use Rattle.pm_machine.specs.State.{State, Whole}
 use Rattle.pm_machine.specs.Boot.{boot_start}
 use Rattle.pm_machine.specs.declared.state.BootFault.{BootFault}
 use Rattle.pm_tool.specs.declared.outcome.Refusal.{Refusal}
@@ -38,3 +38,8 @@ booted_unless (Some fault) images name = Err (refusals.Volume fault)
 
 abbrev pub booted : List (Option (List ℕ)) → List ℕ → Result State Refusal
 booted images name = booted_unless (first_fault images) images name
+
+-- the state of the machine that was started
+abbrev pub state_in : Result Whole Refusal → Result State Refusal
+state_in (Ok m) = Ok m.state
+state_in (Err refusal) = Err refusal

@@ -1,10 +1,11 @@
 -- A run of the machine and what is shown of it.
-use Rattle.std.specs.Prelude.{◌≡◌, ◌≤◌, ℕ, zero, suc, Bool, true, false, List, [], ◌∷◌, ◌++◌, drop, length, Option, if◌then◌else◌, codes}
+use Rattle.std.specs.Prelude.{◌≡◌, ◌≤◌, ◌<◌, ℕ, zero, suc, Bool, true, false, List, [], ◌∷◌, ◌++◌, drop, length, Option, if◌then◌else◌, codes}
 use Rattle.std.specs.Fmt.{decimal}
 use Rattle.std.specs.Io.KnownBytes.{Appends, Consumes, IsAtEnd}
 use Rattle.pm_words.specs.Errors.{number_of}
 use Rattle.pm_machine.specs.State.{State}
 use Rattle.pm_machine.specs.Steps.{stepped}
+use Rattle.pm_machine.specs.Runs.{AllWent, after}
 use Rattle.pm_machine.specs.Events.{Key, next}
 use Rattle.pm_machine.specs.declared.state.Stop.{Stop}
 use Rattle.pm_machine.specs.declared.state.Stop.TheVariants.{Went, Waiting, Ended, Halted}
@@ -44,6 +45,13 @@ is_waiting (Halted error) = false
 abbrev pub is_console : Show → Bool
 is_console Trace = false
 is_console (Console save) = true
+
+-- some steps, at most so many, each of which went and shows nothing
+pub record Unshown (show : Show) (limit : ℕ) (s : State) (count : ℕ) (t : State) : Type 0 where
+  pub within : count ≤ limit
+  pub went : AllWent count s
+  pub left : t ≡ after count s
+  pub blank : (k : ℕ) → k < count → shown_of show (after k s) (after (suc k) s) ≡ []
 
 -- a step that waits shows nothing
 abbrev pub shown_by : Show → State → State → Stop → List ℕ

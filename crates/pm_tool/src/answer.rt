@@ -1,5 +1,6 @@
 //! What the debugger answers to a command.
 ghost use Rattle.std.specs.Prelude.{◌≡◌, ◌++◌, ◌∷◌, [], IfOk, OnOk, Option, List, ℕ, string_bytes, codes, if◌then◌else◌};
+ghost use Rattle.pm_debug.specs.Session.{session_of};
 ghost use Rattle.pm_words.specs.Stack.{is_even};
 ghost use Rattle.pm_machine.specs.Events.{Key, Poke, next};
 ghost use Rattle.pm_debug.specs.Views.{ShowsChain};
@@ -101,7 +102,7 @@ fn registers(alloc: Global, registers: Registers) -> Result<String, AllocError>
 /// Writes a word of the memory, at an even address.
 fn poke(debugger: &mut Debugger, address: u16, word: u16) -> Result<(), Refusal>
     ensures text { done_text result ≡ (if is_even address then codes "ok" else refused_text Refusal.OddAddress) }
-    ensures session { debugger.new ≡ record debugger.old { machine = next debugger.old.machine (Poke address word) } }
+    ensures session { (session_of debugger.new) ≡ record (session_of debugger.old) { machine = next debugger.old.machine.state (Poke address word) } }
 {
     if debugger.machine().poke(address, word) {
         Ok(())
@@ -112,7 +113,7 @@ fn poke(debugger: &mut Debugger, address: u16, word: u16) -> Result<(), Refusal>
 
 /// Lets one more byte wait on the console.
 fn key(debugger: &mut Debugger, byte: u8) -> Result<(), AllocError>
-    ensures session { OnOk result (debugger.new ≡ record debugger.old { machine = next debugger.old.machine (Key byte) }) }
+    ensures session { OnOk result ((session_of debugger.new) ≡ record (session_of debugger.old) { machine = next debugger.old.machine.state (Key byte) }) }
 {
     debugger.machine().key(byte)?;
     Ok(())
@@ -121,8 +122,8 @@ fn key(debugger: &mut Debugger, byte: u8) -> Result<(), AllocError>
 /// Does a command, and gives its answer without a line feed.
 #[tactic(auto, unfolding(crate::specs::Answers::command_text, crate::specs::Answers::after_command))]
 fn perform(alloc: Global, debugger: &mut Debugger, command: Command) -> Result<String, AllocError>
-    ensures text { IfOk result (λ text. string_bytes text ≡ command_text command debugger.old) }
-    ensures session { OnOk result (debugger.new ≡ after_command command debugger.old) }
+    ensures text { IfOk result (λ text. string_bytes text ≡ command_text command (session_of debugger.old)) }
+    ensures session { OnOk result ((session_of debugger.new) ≡ after_command command (session_of debugger.old)) }
 {
     match command {
         Command::Break(segment, procedure, offset) => {
@@ -156,8 +157,8 @@ pub(crate) fn answer(
     debugger: &mut Debugger,
     command: Option<Command>,
 ) -> Result<String, AllocError>
-    ensures text { IfOk result (λ text. string_bytes text ≡ line_text command debugger.old ++ 10 ∷ []) }
-    ensures session { OnOk result (debugger.new ≡ after_line command debugger.old) }
+    ensures text { IfOk result (λ text. string_bytes text ≡ line_text command (session_of debugger.old) ++ 10 ∷ []) }
+    ensures session { OnOk result ((session_of debugger.new) ≡ after_line command (session_of debugger.old)) }
 {
     let mut text = match command {
         Some(command) => perform(alloc, debugger, command)?,

@@ -1,6 +1,7 @@
 //! The session of a debugger.
 ghost use Rattle.std.specs.Prelude.{◌≡◌, false, true, not, [], List, ℕ, IfOk, IfErr, OnOk, OnErr};
 ghost use Rattle.std.specs.Io.KnownBytes.{Appends};
+ghost use Rattle.pm_debug.specs.Session.{session_of};
 ghost use Rattle.pm_commands.specs.Commands.{command_of};
 ghost use Rattle.pm_tool.specs.Answers.{after_line};
 ghost use Rattle.pm_tool.specs.Disks.{booted, images_of};
@@ -33,10 +34,10 @@ fn turn<W: Sink>(
 ) -> Result<bool, Fault>
     requires well { W.has_failed sink.old ≡ false }
     ensures going { IfOk result (λ going. going ≡ not (is_quit (command_of line.now))) }
-    ensures written { OnOk result (Appends (W.contents sink.old) (W.contents sink.new) (answer (command_of line.now) debugger.old)) }
-    ensures session { IfOk result (λ going. going ≡ true → debugger.new ≡ after_line (command_of line.now) debugger.old) }
+    ensures written { OnOk result (Appends (W.contents sink.old) (W.contents sink.new) (answer (command_of line.now) (session_of debugger.old))) }
+    ensures session { IfOk result (λ going. going ≡ true → (session_of debugger.new) ≡ after_line (command_of line.now) (session_of debugger.old)) }
     ensures well { OnOk result (W.has_failed sink.new ≡ false) }
-    ensures front { OnErr result (AppendsFront (W.contents sink.old) (W.contents sink.new) (answer (command_of line.now) debugger.old)) }
+    ensures front { OnErr result (AppendsFront (W.contents sink.old) (W.contents sink.new) (answer (command_of line.now) (session_of debugger.old))) }
     ensures cause { IfErr result (λ fault. IsCause fault false (W.has_failed sink.new) []) }
 {
     let command = command_of(line);
@@ -58,10 +59,10 @@ fn talk<R: Source, W: Sink>(
     requires source_well { R.has_failed source.old ≡ false }
     requires sink_well { W.has_failed sink.old ≡ false }
     ensures told { OnOk result (IsTold (R.remaining source.old) (R.remaining source.new)
-        (W.contents sink.old) (W.contents sink.new) debugger.old) }
+        (W.contents sink.old) (W.contents sink.new) (session_of debugger.old)) }
     ensures well { OnOk result ((R.has_failed source.new ≡ false) × (W.has_failed sink.new ≡ false)) }
     ensures cut { IfErr result (λ fault. IsCutOff (R.remaining source.old) (R.remaining source.new)
-        (W.contents sink.old) (W.contents sink.new) debugger.old fault (R.has_failed source.new) (W.has_failed sink.new)) }
+        (W.contents sink.old) (W.contents sink.new) (session_of debugger.old) fault (R.has_failed source.new) (W.has_failed sink.new)) }
 {
     let mut line = Vec::new(alloc);
     let mut taken = 0;
@@ -98,12 +99,12 @@ fn session<R: Source, W: Sink>(
     requires source_well { R.has_failed source.old ≡ false }
     requires sink_well { W.has_failed sink.old ≡ false }
     ensures done { IfOk result (λ outcome. IsDone (R.remaining source.old) (R.remaining source.new)
-        (W.contents sink.old) (W.contents sink.new) outcome (debugged machine)) }
+        (W.contents sink.old) (W.contents sink.new) outcome (debugged machine.state)) }
     ensures well { OnOk result ((R.has_failed source.new ≡ false) × (W.has_failed sink.new ≡ false)) }
     ensures broken { IfErr result (λ fault. IsBrokenOff (R.remaining source.old) (R.remaining source.new)
-        (W.contents sink.old) (W.contents sink.new) fault (R.has_failed source.new) (W.has_failed sink.new) (debugged machine)) }
+        (W.contents sink.old) (W.contents sink.new) fault (R.has_failed source.new) (W.has_failed sink.new) (debugged machine.state)) }
     ensures prompt { OnErr result (R.has_failed source.new ≡ true → WritesFirst (R.remaining source.old) (R.remaining source.new)
-        (W.contents sink.old) (W.contents sink.new) (λ read. (debugged machine (whole_lines read)).written)) }
+        (W.contents sink.old) (W.contents sink.new) (λ read. (debugged machine.state (whole_lines read)).written)) }
 {
     let mut debugger = Debugger::new(machine);
     talk(alloc, source, sink, &mut debugger)?;

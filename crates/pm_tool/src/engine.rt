@@ -1,6 +1,7 @@
 //! Jobs, from the bytes that are read to the bytes that are written.
 ghost use Rattle.std.specs.Prelude.{◌≡◌, ◌≢◌, ◌≤◌, ◌⊎◌, ◌↔◌, false, true, [], List, ℕ, None, IfOk, IfErr, OnOk, OnErr, IfSome, string_bytes, string_len, codes, if◌then◌else◌};
 ghost use Rattle.std.specs.String.{string_capacity};
+ghost use Rattle.pm_tool.specs.Disks.{state_in};
 ghost use Rattle.pm_tool.specs.Hex.{spelled};
 ghost use Rattle.pm_streams.specs.Faults.{fault_text};
 ghost use Rattle.pm_tool.specs.Outcomes.{exit_number, fault_exit};
@@ -20,7 +21,7 @@ use std::alloc::{AllocError, Global};
 
 /// The machine at its start on the program that the text spells, or why there is none.
 fn load(alloc: Global, text: &[u8]) -> Result<Result<Machine, Refusal>, AllocError>
-    ensures machine { IfOk result (λ machine. machine ≡ loaded (spelled text.now)) }
+    ensures machine { IfOk result (λ machine. state_in machine ≡ loaded (spelled text.now)) }
 {
     let Some(program) = hex::decode(alloc, text)? else {
         return Ok(Err(Refusal::Hex));

@@ -1,6 +1,6 @@
 //! Programs, and what is told of their runs.
 ghost use Rattle.std.specs.Prelude.{◌≡◌, false, true, [], ◌++◌, List, ℕ, Some, None, IfOk, IfErr, OnOk, OnErr, option_map, vec_items};
-ghost use Rattle.pm_tool.specs.Disks.{booted, disk_fault, first_fault, images_of};
+ghost use Rattle.pm_tool.specs.Disks.{booted, state_in, disk_fault, first_fault, images_of};
 ghost use Rattle.std.specs.Io.KnownBytes.{Appends};
 ghost use Rattle.pm_tool.specs.Outcomes.{IsOutcome};
 ghost use Rattle.pm_tool.specs.Run.{end_text, ends, run_of};
@@ -25,10 +25,10 @@ fn tell<W: Sink>(
     mut page: Vec<u8>,
 ) -> Result<Outcome, Fault>
     requires well { W.has_failed sink.old ≡ false }
-    ensures written { OnOk result (Appends (W.contents sink.old) (W.contents sink.new) (page.items ++ end_text show ending machine.old.steps)) }
-    ensures outcome { IfOk result (λ outcome. (shown unread : List ℕ) → IsOutcome outcome (said_run show (ends shown ending machine.old unread))) }
+    ensures written { OnOk result (Appends (W.contents sink.old) (W.contents sink.new) (page.items ++ end_text show ending machine.old.state.steps)) }
+    ensures outcome { IfOk result (λ outcome. (shown unread : List ℕ) → IsOutcome outcome (said_run show (ends shown ending machine.old.state unread))) }
     ensures well { OnOk result (W.has_failed sink.new ≡ false) }
-    ensures front { OnErr result (AppendsFront (W.contents sink.old) (W.contents sink.new) (page.items ++ end_text show ending machine.old.steps)) }
+    ensures front { OnErr result (AppendsFront (W.contents sink.old) (W.contents sink.new) (page.items ++ end_text show ending machine.old.state.steps)) }
     ensures cause { IfErr result (λ fault. IsCause fault false (W.has_failed sink.new) []) }
 {
     let last = LastLine {
@@ -73,12 +73,12 @@ pub(crate) fn play<R: Source, W: Sink>(
     requires source_well { R.has_failed source.old ≡ false }
     requires sink_well { W.has_failed sink.old ≡ false }
     ensures done { IfOk result (λ outcome. IsDone (R.remaining source.old) (R.remaining source.new)
-        (W.contents sink.old) (W.contents sink.new) outcome (λ input. said_run show (run_of show limit input machine))) }
+        (W.contents sink.old) (W.contents sink.new) outcome (λ input. said_run show (run_of show limit input machine.state))) }
     ensures well { OnOk result ((R.has_failed source.new ≡ false) × (W.has_failed sink.new ≡ false)) }
     ensures broken { IfErr result (λ fault. IsBrokenOff (R.remaining source.old) (R.remaining source.new)
-        (W.contents sink.old) (W.contents sink.new) fault (R.has_failed source.new) (W.has_failed sink.new) (λ input. said_run show (run_of show limit input machine))) }
+        (W.contents sink.old) (W.contents sink.new) fault (R.has_failed source.new) (W.has_failed sink.new) (λ input. said_run show (run_of show limit input machine.state))) }
     ensures prompt { OnErr result (R.has_failed source.new ≡ true → WritesFirst (R.remaining source.old) (R.remaining source.new)
-        (W.contents sink.old) (W.contents sink.new) (λ input. (run_of show limit input machine).shown)) }
+        (W.contents sink.old) (W.contents sink.new) (λ input. (run_of show limit input machine.state).shown)) }
 {
     let mut page = Vec::new(alloc);
     let ending = drive(alloc, source, sink, &mut machine, show, limit, &mut page)?;
@@ -122,7 +122,7 @@ pub(crate) fn boot(
     disks: [Option<Vec<u8>>; 6],
     name: &str,
 ) -> Result<Result<Machine, Refusal>, AllocError>
-    ensures machine { IfOk result (λ machine. machine ≡ booted (images_of disks) name.now) }
+    ensures machine { IfOk result (λ machine. state_in machine ≡ booted (images_of disks) name.now) }
 {
     let volumes = match volumes_of(disks) {
         Ok(volumes) => volumes,

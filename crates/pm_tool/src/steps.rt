@@ -2,7 +2,7 @@
 ghost use Rattle.std.specs.Prelude.{◌≡◌, false, true, [], ◌++◌, drop, length, IfOk, IfErr, OnOk, OnErr};
 ghost use Rattle.std.specs.Io.KnownBytes.{Appends};
 ghost use Rattle.pm_machine.specs.Steps.{stepped};
-ghost use Rattle.pm_tool.specs.Run.{IsBroken, IsOver, is_console, shown_by};
+ghost use Rattle.pm_tool.specs.Run.{IsBroken, IsOver, Unshown, is_console, shown_by};
 ghost use Rattle.pm_streams.specs.Streams.{AppendsBut, AppendsFront, IsCause};
 
 use crate::ending::Ending;
@@ -27,8 +27,8 @@ fn traced_step(
     line: &mut String,
     page: &mut Vec<u8>,
 ) -> Result<Stop, AllocError>
-    ensures next { IfOk result (λ stop. stepped machine.old ≡ (machine.new, stop)) }
-    ensures page { IfOk result (λ stop. page.new.items ≡ page.old.items ++ shown_by Show.Trace machine.old machine.new stop) }
+    ensures next { IfOk result (λ stop. stepped machine.old.state ≡ (machine.new.state, stop)) }
+    ensures page { IfOk result (λ stop. page.new.items ≡ page.old.items ++ shown_by Show.Trace machine.old.state machine.new.state stop) }
 {
     line.clear();
     let before = TraceLine::new(machine);
@@ -42,8 +42,8 @@ fn traced_step(
 
 /// Makes one step. What it adds to the console goes onto the page, unless the step waits.
 fn console_step(machine: &mut Machine, page: &mut Vec<u8>) -> Result<Stop, AllocError>
-    ensures next { IfOk result (λ stop. stepped machine.old ≡ (machine.new, stop)) }
-    ensures page { IfOk result (λ stop. page.new.items ≡ page.old.items ++ shown_by (Show.Console false) machine.old machine.new stop) }
+    ensures next { IfOk result (λ stop. stepped machine.old.state ≡ (machine.new.state, stop)) }
+    ensures page { IfOk result (λ stop. page.new.items ≡ page.old.items ++ shown_by (Show.Console false) machine.old.state machine.new.state stop) }
 {
     let before = machine.console().len();
     let stop = machine.step()?;
@@ -61,12 +61,22 @@ fn step(
     line: &mut String,
     page: &mut Vec<u8>,
 ) -> Result<Stop, AllocError>
-    ensures next { IfOk result (λ stop. stepped machine.old ≡ (machine.new, stop)) }
-    ensures page { IfOk result (λ stop. page.new.items ≡ page.old.items ++ shown_by show machine.old machine.new stop) }
+    ensures next { IfOk result (λ stop. stepped machine.old.state ≡ (machine.new.state, stop)) }
+    ensures page { IfOk result (λ stop. page.new.items ≡ page.old.items ++ shown_by show machine.old.state machine.new.state stop) }
 {
     match show {
         Show::Trace => traced_step(machine, line, page),
         Show::Console { .. } => console_step(machine, page),
+    }
+}
+
+/// Makes some steps that show nothing, at most `limit` and perhaps none: how many.
+fn glide(machine: &mut Machine, show: Show, limit: u32) -> u32
+    ensures unshown { Unshown show limit machine.old.state result machine.new.state }
+{
+    match show {
+        Show::Trace => 0,
+        Show::Console { .. } => machine.glide(u64::from(limit)) as u32,
     }
 }
 
@@ -121,11 +131,11 @@ pub(crate) fn drive<R: Source, W: Sink>(
     requires sink_well { W.has_failed sink.old ≡ false }
     requires blank { page.old.items ≡ [] }
     ensures over { IfOk result (λ ending. IsOver (R.remaining source.old) (R.remaining source.new)
-        (W.contents sink.old) (W.contents sink.new) page.new.items show limit machine.old ending machine.new) }
+        (W.contents sink.old) (W.contents sink.new) page.new.items show limit machine.old.state ending machine.new.state) }
     ensures source_well { OnOk result (R.has_failed source.new ≡ false) }
     ensures sink_well { OnOk result (W.has_failed sink.new ≡ false) }
     ensures broken { IfErr result (λ fault. IsBroken (R.remaining source.old) (R.remaining source.new)
-        (W.contents sink.old) (W.contents sink.new) show limit machine.old fault (R.has_failed source.new) (W.has_failed sink.new)) }
+        (W.contents sink.old) (W.contents sink.new) show limit machine.old.state fault (R.has_failed source.new) (W.has_failed sink.new)) }
 {
     let mut line = String::new(alloc);
     let mut went = 0;
@@ -135,6 +145,7 @@ pub(crate) fn drive<R: Source, W: Sink>(
             Stop::Went => {
                 went += 1;
                 turn_page(sink, page, show)?;
+                went += glide(machine, show, limit - went);
             }
             Stop::Ended => return Ok(Ending::Ended),
             Stop::Halted(error) => return Ok(Ending::Error(error)),

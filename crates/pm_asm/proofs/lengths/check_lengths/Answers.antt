@@ -1,4 +1,7 @@
-use Rattle.std.proofs.Common.{◌≡◌, ◌∙◌, sym, ap, arith}
+use Rattle.std.proofs.Common.{rules, ◌≡◌, ◌∙◌, sym, ap, arith}
+use Rattle.std.proofs.lemmas.Bool.{lt-ltb}
+use Rattle.pm_asm.specs.Lengths.{is_countless_long}
+use Rattle.pm_asm.proofs.Countless.{any_with}
 use Rattle.pm_reader.specs.Views.{segment_seen, segments_seen}
 use Rattle.pm_asm.proofs.FoundLengths.{all_short, long_from, long_here, none_long, short_here}
 use Rattle.pm_asm.proofs.lengths.check_lengths.Goals.{in-Some+in_ok-is_long+else-branch, in_default}
@@ -24,3 +27,7 @@ pub returns-clause-short : goal.returns-clause-short
 returns-clause-short c =
     let last : c.loop-number.number ≡ 16 = omega arith in
     all_short _ (sym c.loop-number.invariant ∙ ap (λ n. long_from n (segments_seen c.args.segments.now)) last)
+
+pub returns-in_err-is_long-clause-too_long : goal.returns-in_err-is_long-clause-too_long
+returns-in_err-is_long-clause-too_long c =
+    λ want. any_with is_countless_long c.loop-number.number (segments_seen c.args.segments.now) (segment_seen c.in-Some.segment.now) (sym c.in-Some.ensures.segment) (lt-ltb _ _ c.in_err-is_long.ensures.too_long)

@@ -5,16 +5,16 @@ use Rattle.pm_tool.proofs.programs.play.Goals as goal
 pub returns-in_err-ending-clause-broken : goal.returns-in_err-ending-clause-broken
 returns-in_err-ending-clause-broken g c =
     let p = err_from_is_err_and c.from_residual.result c.from_residual.ensures.1 in
-    rw (p.1, p.2) (broken_run _ _ _ _ c.args.show c.args.limit c.args.machine _ _ _ c.in_err-ending.ensures.broken)
+    rw (p.1, p.2) (broken_run _ _ _ _ c.args.show c.args.limit c.args.machine.state _ _ _ c.in_err-ending.ensures.broken)
 
 pub returns-in_err-outcome-clause-broken : goal.returns-in_err-outcome-clause-broken
 returns-in_err-outcome-clause-broken g c =
     let r = c.from_residual-in_err-outcome in
     let p = err_from_is_err_and r.result r.ensures.1 in
-    rw (p.1, p.2) (broken_telling _ _ _ _ _ c.args.show c.args.limit c.args.machine c.in_ok-ending.ending c.drive.new.machine c.in_ok-ending.ensures.over
+    rw (p.1, p.2) (broken_telling _ _ _ _ _ c.args.show c.args.limit c.args.machine.state c.in_ok-ending.ending c.drive.new.machine.state c.in_ok-ending.ensures.over
     _ _ _ _ c.in_err-outcome.ensures.front c.in_ok-ending.ensures.source_well c.in_err-outcome.ensures.cause)
 
 pub returns-clause-done : goal.returns-clause-done
 returns-clause-done g c =
-    done_over _ _ _ _ _ c.args.show c.args.limit c.args.machine c.in_ok-ending.ending c.drive.new.machine c.in_ok-ending.ensures.over
+    done_over _ _ _ _ _ c.args.show c.args.limit c.args.machine.state c.in_ok-ending.ending c.drive.new.machine.state c.in_ok-ending.ensures.over
     _ _ c.in_ok-outcome.ensures.written c.in_ok-outcome.ensures.outcome

@@ -23,13 +23,13 @@ pub returns-in_err-outcome-clause-broken : goal.returns-in_err-outcome-clause-br
 returns-in_err-outcome-clause-broken g c =
     let r = c.from_residual-in_err-outcome in
     let p = err_from_is_err_and r.result r.ensures.1 in
-    rw (p.1, p.2) (started_broken _ _ _ _ c.args.show c.args.limit _ c.in-Ok.machine _ _ _ (search rules) c.in_err-outcome.ensures.broken)
+    rw (p.1, p.2) (started_broken _ _ _ _ c.args.show c.args.limit _ c.in-Ok.machine.state _ _ _ (search rules) c.in_err-outcome.ensures.broken)
 
 pub returns-in_err-outcome-clause-prompt : goal.returns-in_err-outcome-clause-prompt
 returns-in_err-outcome-clause-prompt g c =
     let r = c.from_residual-in_err-outcome in
     let p = err_from_is_err_and r.result r.ensures.1 in
-    rw p.1 (λ failed. started_first _ _ _ _ c.args.show c.args.limit _ c.in-Ok.machine (search rules) (c.in_err-outcome.ensures.prompt failed))
+    rw p.1 (λ failed. started_first _ _ _ _ c.args.show c.args.limit _ c.in-Ok.machine.state (search rules) (c.in_err-outcome.ensures.prompt failed))
 
 pub returns-clause-done : goal.returns-clause-done
-returns-clause-done g c = started_done _ _ _ _ c.args.show c.args.limit _ c.in-Ok.machine _ (search rules) c.in_ok-outcome.ensures.done
+returns-clause-done g c = started_done _ _ _ _ c.args.show c.args.limit _ c.in-Ok.machine.state _ (search rules) c.in_ok-outcome.ensures.done

@@ -6,7 +6,7 @@ use Rattle.pm_tool.proofs.steps.drive.Given as goal
 abbrev pub invariant-steps : goal.invariant-steps
 invariant-steps g l = record {
   under_way : IsUnderWay (g.R.Source.remaining l.fn.source) (g.R.Source.remaining l.source) (g.W.Sink.contents l.fn.sink) (g.W.Sink.contents l.sink)
-      l.page.items l.taken l.show l.limit l.fn.machine (l.limit - l.went) l.machine;
+      l.page.items l.taken l.show l.limit l.fn.machine.state (l.limit - l.went) l.machine.state;
   source_well : g.R.Source.has_failed l.source ≡ false;
   sink_well : g.W.Sink.has_failed l.sink ≡ false;
   few : l.taken ≤ INPUT_LIMIT;

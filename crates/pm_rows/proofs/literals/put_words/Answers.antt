@@ -1,8 +1,8 @@
 use Rattle.std.proofs.Common.{◌≡◌, ◌∙◌, ◌-◌, ◌+◌, ◌<◌, ◌%◌, sym, rules, arith, get_or, length}
 use Rattle.pm_words.specs.Words.{with_word}
 use Rattle.pm_words.proofs.Laws.{with_words-none}
-use Rattle.pm_machine.proofs.WordLists.{put_more}
-use Rattle.pm_machine.proofs.literals.put_words.Goals as goal
+use Rattle.pm_rows.proofs.WordLists.{put_more}
+use Rattle.pm_rows.proofs.literals.put_words.Goals as goal
 
 pub loop-word-init : goal.loop-word-init
 loop-word-init c = record { place = omega arith; written = sym (with_words-none _ _) }

@@ -2,7 +2,7 @@
 
 ghost use Rattle.std.specs.Prelude.{◌≡◌, IfOk};
 ghost use Rattle.pm_words.specs.Stack.{IsStack, Stacks};
-ghost use Rattle.pm_machine.specs.Values.{field_row, kind_of, relation_of, set_row, value_row};
+ghost use Rattle.pm_rows.specs.Values.{field_row, kind_of, relation_of, set_row, value_row};
 
 use pm_opcode as opcode;
 use pm_opcode::{Byte, Field, Set, Text, Value};

@@ -1,7 +1,7 @@
 use Rattle.std.proofs.Common.{◌≡◌, ◌∙◌, ◌+◌, ◌*◌, ◌<◌, ◌/◌, length, sym, rules, arith}
 use Rattle.pm_words.specs.Words.{word_at}
 use Rattle.pm_words.proofs.Laws.{words_at-none, words_at-more}
-use Rattle.pm_machine.proofs.literals.words_in.Goals as goal
+use Rattle.pm_rows.proofs.literals.words_in.Goals as goal
 
 pub loop-i-init : goal.loop-i-init
 loop-i-init c = record { words = search rules ∙ sym (words_at-none _ _); count = search rules }

@@ -2,7 +2,7 @@
 
 ghost use Rattle.std.specs.Prelude.{ℕ, ◌≡◌, ◌+◌, ◌*◌, ◌%◌, IfOk};
 ghost use Rattle.pm_words.specs.Stack.{IsStack, Stacks};
-ghost use Rattle.pm_machine.specs.Pointers.{
+ghost use Rattle.pm_rows.specs.Pointers.{
   increment_row,
   index_row,
   indirect_row,
@@ -13,10 +13,12 @@ ghost use Rattle.pm_machine.specs.Pointers.{
   store_words_row,
 };
 
-use crate::layout::HIGHEST_WORD;
 use pm_opcode::Pointer;
 use pm_words::stack::{load, pop, push, store};
 use pm_words::{ExecError, Memory};
+
+// The highest place of a word on the stack.
+const HIGHEST_WORD: u32 = 65_502;
 
 #[inline(always)]
 #[tactic(auto, unfolding(crate::specs::Pointers::increment_row))]

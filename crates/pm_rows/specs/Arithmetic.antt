@@ -10,7 +10,7 @@ use Rattle.pm_opcode.specs.declared.operation.Relation.{Relation}
 use Rattle.pm_opcode.specs.declared.operation.Arithmetic.{Arithmetic}
 use Rattle.pm_opcode.specs.declared.operation.Arithmetic.TheVariants.{Constant, Nil, OnOne, OnTwo, Compare, Check}
 use Rattle.pm_values.specs.Sets.{signed, truth}
-use Rattle.pm_machine.specs.Signed.{unary, binary, relation}
+use Rattle.pm_rows.specs.Signed.{unary, binary, relation}
 
 unfoldable pub constant_row : ℕ → StackRow
 constant_row w m sp np = push m sp np w

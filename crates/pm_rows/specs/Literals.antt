@@ -5,7 +5,7 @@ use Rattle.pm_words.specs.Words.{with_words, words_at}
 use Rattle.pm_words.specs.Stack.{◌>>=◌, StackRow, demand, is_even, minus, push}
 use Rattle.pm_opcode.specs.declared.operation.Literal.{Literal}
 use Rattle.pm_opcode.specs.declared.operation.Literal.TheVariants.{String, Characters, Words}
-use Rattle.pm_machine.specs.Pointers.{is_word_range}
+use Rattle.pm_rows.specs.Pointers.{is_word_range}
 
 unfoldable pub address_row : ℕ → StackRow
 address_row x m sp np = push m sp np x

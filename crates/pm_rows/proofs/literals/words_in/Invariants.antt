@@ -1,6 +1,6 @@
 use Rattle.std.proofs.Common.{◌≡◌, length}
 use Rattle.pm_words.specs.Words.{words_at}
-use Rattle.pm_machine.proofs.literals.words_in.Given as goal
+use Rattle.pm_rows.proofs.literals.words_in.Given as goal
 
 -- the words so far
 abbrev pub invariant-loop-i : goal.invariant-loop-i

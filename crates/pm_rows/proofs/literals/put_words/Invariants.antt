@@ -1,7 +1,7 @@
 use Rattle.std.proofs.Common.{◌≡◌, ◌+◌, ◌*◌, take}
 use Rattle.std.specs.Prelude.{reverse}
 use Rattle.pm_words.specs.Words.{with_words}
-use Rattle.pm_machine.proofs.literals.put_words.Given as goal
+use Rattle.pm_rows.proofs.literals.put_words.Given as goal
 
 -- the words so far stand from this place on
 abbrev pub invariant-loop-word : goal.invariant-loop-word

@@ -3,7 +3,7 @@
 ghost use Rattle.std.specs.Prelude.{◌≡◌, ◌+◌, ◌-◌, ◌*◌, ◌%◌, ◌≤◌, IfOk, length, reverse};
 ghost use Rattle.pm_words.specs.Stack.{IsStack, Stacks};
 ghost use Rattle.pm_words.specs.Words.{with_words, words_at};
-ghost use Rattle.pm_machine.specs.Literals.{address_row, literal_row, words_row};
+ghost use Rattle.pm_rows.specs.Literals.{address_row, literal_row, words_row};
 
 use arrayvec::ArrayVec;
 use pm_opcode::Literal;

@@ -2,8 +2,8 @@
 
 ghost use Rattle.std.specs.Prelude.{◌≡◌, IfOk};
 ghost use Rattle.pm_words.specs.Stack.{IsStack, Stacks};
-ghost use Rattle.pm_machine.specs.Signed.{unary, binary, relation};
-ghost use Rattle.pm_machine.specs.Arithmetic.{
+ghost use Rattle.pm_rows.specs.Signed.{unary, binary, relation};
+ghost use Rattle.pm_rows.specs.Arithmetic.{
   arithmetic_row,
   binary_row,
   check_row,

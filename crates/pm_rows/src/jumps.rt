@@ -3,7 +3,7 @@
 ghost use Rattle.std.specs.Prelude.{◌≡◌, IfOk};
 ghost use Rattle.pm_opcode.specs.Spelling.{rank};
 ghost use Rattle.pm_words.specs.Stack.{IsStack};
-ghost use Rattle.pm_machine.specs.Jumps.{case_row, case_target, entry_target, jump_row, jumped, short_row, target};
+ghost use Rattle.pm_rows.specs.Jumps.{case_row, case_target, entry_target, jump_row, jumped, short_row, target};
 
 use pm_calls::Registers;
 use pm_opcode::{Condition, Jump};

@@ -1,0 +1,4 @@
+pub mod ShapeLaws
+pub mod Bytes
+pub mod LoadLaws
+pub mod NumberLaws

@@ -348,7 +348,7 @@ pub bound : {A B E : Type 0} (r : Result A E) (rest : A → Result B E) (y : B) 
 bound (Ok x) rest y h = (x, refl, h)
 bound (Err e) rest y h = cc
 
-chosen : {A : Type 0} (b : Bool) (f : BootFault) (x y : A) → cond b (Err f) (ok x) ≡ Ok y → x ≡ y
+pub chosen : {A : Type 0} (b : Bool) (f : BootFault) (x y : A) → cond b (Err f) (ok x) ≡ Ok y → x ≡ y
 chosen true f x y h = cc
 chosen false f x y h = ok_same x y h
 

@@ -1,6 +1,6 @@
 //! Laws of what no event changes, and of what each machine holds.
 
-ghost use Rattle.pm_machine_laws.specs.Shapes.{EventsKeepShape, MachinesHaveShape};
+ghost use Rattle.pm_machine_laws.specs.Shapes.{EventsKeepShape, MachinesCountCalls, MachinesHaveShape};
 ghost use Rattle.pm_words.specs.Stack.{IsStack};
 ghost use Rattle.pm_words.specs.Words.{IsMemory};
 
@@ -17,6 +17,12 @@ pub fn events_keep_shape()
 #[tactic(auto, using(crate::proofs::ShapeLaws::machines_have_shape))]
 pub fn machines_have_shape()
     ensures law { MachinesHaveShape }
+{}
+
+/// No place of a machine is for no call, however it began and whatever happened since.
+#[tactic(auto, using(crate::proofs::CountLaws::machines_count_calls))]
+pub fn machines_count_calls()
+    ensures law { MachinesCountCalls }
 {}
 
 /// Each machine has 32,768 words of memory, all below 65,536; SP and NP are even, and

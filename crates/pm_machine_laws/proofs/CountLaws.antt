@@ -38,20 +38,20 @@ use Rattle.pm_machine.specs.declared.state.SlotRow.{SlotRow}
 use Rattle.pm_machine.specs.declared.state.Status.{Status}
 use Rattle.pm_machine.specs.declared.state.Status.TheVariants as status
 use Rattle.pm_machine.specs.State.{State}
-use Rattle.pm_machine.specs.Arithmetic.{arithmetic_row}
+use Rattle.pm_rows.specs.Arithmetic.{arithmetic_row}
 use Rattle.pm_machine.specs.Boot.{begun, boot_start, code_file, first_parts, or_exec}
 use Rattle.pm_machine.specs.Events.{Event, after_all, next, or_same}
 use Rattle.pm_machine.specs.Events.Event.{Step, Key, Poke, Mount, Eject}
-use Rattle.pm_machine.specs.Jumps.{jump_row}
-use Rattle.pm_machine.specs.Literals.{literal_row}
+use Rattle.pm_rows.specs.Jumps.{jump_row}
+use Rattle.pm_rows.specs.Literals.{literal_row}
 use Rattle.pm_machine.specs.Loads.{code_needed}
-use Rattle.pm_machine.specs.Pointers.{pointer_row}
+use Rattle.pm_rows.specs.Pointers.{pointer_row}
 use Rattle.pm_machine.specs.Procedures.{call_of, call_row, is_base_return, parts, reach, return_row, standard_row, words_of_return}
 use Rattle.pm_machine.specs.Rows.{fetched, on_registers, on_stack, past, performed, row}
 use Rattle.pm_machine.specs.Start.{raw_start}
 use Rattle.pm_machine.specs.Steps.{at_status, executed, settled, stepped}
-use Rattle.pm_machine.specs.Values.{value_row}
-use Rattle.pm_machine.specs.Variables.{variable_row}
+use Rattle.pm_rows.specs.Values.{value_row}
+use Rattle.pm_rows.specs.Variables.{variable_row}
 use Rattle.pm_machine_laws.specs.Shapes.{IsCounted, MachinesCountCalls}
 use Rattle.pm_machine_laws.proofs.ShapeLaws.{bound, chosen, ok_same, parts_there}
 

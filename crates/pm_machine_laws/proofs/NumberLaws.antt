@@ -9,8 +9,8 @@ use Rattle.std.proofs.lemmas.Int.{ints, of_z-to_z, quot-rem, rem_below}
 use Rattle.pm_words.specs.Stack.{minus}
 use Rattle.pm_opcode.specs.Spelling.{rank}
 use Rattle.pm_values.specs.Sets.{signed}
-use Rattle.pm_machine.specs.Jumps.{entry_target}
-use Rattle.pm_machine.specs.Signed.{divided, word}
+use Rattle.pm_rows.specs.Jumps.{entry_target}
+use Rattle.pm_rows.specs.Signed.{divided, word}
 use Rattle.pm_machine_laws.specs.Numbers.{CaseJumpsBySigned, DivisionIsWhole, RanksFollowSigned}
 
 -- ---- the two halves

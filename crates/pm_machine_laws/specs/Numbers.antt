@@ -4,8 +4,8 @@ use Rattle.pm_words.specs.Stack.{minus}
 use Rattle.pm_opcode.specs.declared.operation.Binary.TheVariants.{Divide, Modulo}
 use Rattle.pm_opcode.specs.Spelling.{jump_count, rank}
 use Rattle.pm_values.specs.Sets.{signed}
-use Rattle.pm_machine.specs.Jumps.{case_target, entry_target}
-use Rattle.pm_machine.specs.Signed.{binary, word}
+use Rattle.pm_rows.specs.Jumps.{case_target, entry_target}
+use Rattle.pm_rows.specs.Signed.{binary, word}
 
 -- What DVI and MODI give of a and b, as signed numbers: a is the quotient times b and the remainder, which is less than b
 -- and has the sign of a, or is 0. The words are those of the two numbers, and the remainder's word stands for it; so does

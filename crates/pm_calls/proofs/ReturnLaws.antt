@@ -24,28 +24,28 @@ use Rattle.pm_calls.specs.Laws.{GivesBack, IsCode, Reaches, ReachesSlot, ReturnG
 
 -- ---- chains that gave a value
 
-passed : {A : Type 0} (b : Bool) (e : ExecError) (rest : Result A ExecError) (y : A) → (demand b e >>= λ _. rest) ≡ Ok y → (b ≡ true) × (rest ≡ Ok y)
+pub passed : {A : Type 0} (b : Bool) (e : ExecError) (rest : Result A ExecError) (y : A) → (demand b e >>= λ _. rest) ≡ Ok y → (b ≡ true) × (rest ≡ Ok y)
 passed true e rest y h = (refl, h)
 passed false e rest y h = cc
 
-bound : {A B : Type 0} (r : Result A ExecError) (rest : A → Result B ExecError) (y : B) → (r >>= rest) ≡ Ok y → (x : A) × (r ≡ Ok x) × (rest x ≡ Ok y)
+pub bound : {A B : Type 0} (r : Result A ExecError) (rest : A → Result B ExecError) (y : B) → (r >>= rest) ≡ Ok y → (x : A) × (r ≡ Ok x) × (rest x ≡ Ok y)
 bound (Ok x) rest y h = (x, refl, h)
 bound (Err e) rest y h = cc
 
-abbrev ok : {A : Type 0} → A → Result A ExecError
+abbrev pub ok : {A : Type 0} → A → Result A ExecError
 ok x = Ok x
 
-ok_same : {A : Type 0} (x y : A) → ok x ≡ ok y → x ≡ y
+pub ok_same : {A : Type 0} (x y : A) → ok x ≡ ok y → x ≡ y
 ok_same x y h = cc
 
 -- ---- the control words of a frame
 
-size-with_word : (ws : List ℕ) (a w : ℕ) → length (with_word ws a w) ≡ length ws
+pub size-with_word : (ws : List ℕ) (a w : ℕ) → length (with_word ws a w) ≡ length ws
 unfolding with_word
 size-with_word ws a w = length-set ws (a / 2) w
 
 -- what stands in the control words at f
-record IsControl (m : List ℕ) (f : ℕ) (r : Registers) (above : ℕ) : Type 0 where
+pub record IsControl (m : List ℕ) (f : ℕ) (r : Registers) (above : ℕ) : Type 0 where
   pub mp : word_at m (f + 2) ≡ r.mp
   pub jtab : word_at m (f + 4) ≡ r.jtab
   pub seg : word_at m (f + 6) ≡ r.seg
@@ -59,10 +59,10 @@ written_at m a w size low = word_at-with_word m a a w refl (omega (arith, size, 
 other_at : (m : List ℕ) (a x w : ℕ) → a % 2 ≡ 0 → x % 2 ≡ 0 → x ≢ a → word_at (with_word m a w) x ≡ word_at m x
 other_at m a x w even here ne = word_at-with_word_other m a x w even here ne
 
-size_kept : (m : List ℕ) (a w : ℕ) → length m ≡ 32768 → length (with_word m a w) ≡ 32768
+pub size_kept : (m : List ℕ) (a w : ℕ) → length m ≡ 32768 → length (with_word m a w) ≡ 32768
 size_kept m a w h = size-with_word m a w ∙ h
 
-control_written : (m : List ℕ) (f static : ℕ) (r : Registers) (above : ℕ) → length m ≡ 32768 → f % 2 ≡ 0 → f + 12 ≤ 65536 → IsControl (with_control m f static r above) f r above
+pub control_written : (m : List ℕ) (f static : ℕ) (r : Registers) (above : ℕ) → length m ≡ 32768 → f % 2 ≡ 0 → f + 12 ≤ 65536 → IsControl (with_control m f static r above) f r above
 unfolding with_control
 control_written m f static r above size even room =
     let m1 = with_word m f static in
@@ -89,12 +89,12 @@ control_written m f static r above size even room =
     }
 
 -- the old BASE below the frame leaves the control words, and is read again
-size_of_control : (m : List ℕ) (f static : ℕ) (r : Registers) (above : ℕ) → length m ≡ 32768 → length (with_control m f static r above) ≡ 32768
+pub size_of_control : (m : List ℕ) (f static : ℕ) (r : Registers) (above : ℕ) → length m ≡ 32768 → length (with_control m f static r above) ≡ 32768
 unfolding with_control
 size_of_control m f static r above size =
     size_kept _ (f + 10) above (size_kept _ (f + 8) r.ipc (size_kept _ (f + 6) r.seg (size_kept _ (f + 4) r.jtab (size_kept _ (f + 2) r.mp (size_kept m f static size)))))
 
-control_kept : (base : Bool) (m : List ℕ) (f old : ℕ) (r : Registers) (above : ℕ) → f % 2 ≡ 0 → kept_below base ≤ f → IsControl m f r above → IsControl (with_old_base base m f old) f r above
+pub control_kept : (base : Bool) (m : List ℕ) (f old : ℕ) (r : Registers) (above : ℕ) → f % 2 ≡ 0 → kept_below base ≤ f → IsControl m f r above → IsControl (with_old_base base m f old) f r above
 control_kept false m f old r above even low h = h
 control_kept true m f old r above even low h =
     let e : (f - 2) % 2 ≡ 0 = omega arith in
@@ -116,9 +116,10 @@ base_back true m r f size low room =
 -- ---- a frame that was made
 
 -- what a frame at f was made of
-record IsFramed (m : List ℕ) (s loaded : ℕ) (r : Registers) (base : Bool) (t : Table) (static : ℕ) (n : List ℕ) (inner : Registers) (f : ℕ) : Type 0 where
+pub record IsFramed (m : List ℕ) (s loaded : ℕ) (r : Registers) (base : Bool) (t : Table) (static : ℕ) (n : List ℕ) (inner : Registers) (f : ℕ) : Type 0 where
   pub inside_memory : r.sp + t.parameters ≤ 65504
   pub room : f + 12 + t.parameters ≤ 65504
+  pub under : f + 12 + t.parameters ≤ frame_top loaded r.sp t.parameters
   pub below : kept_below base ≤ f
   pub memory : n ≡ with_old_base base (with_frame m f static r t.parameters) f r.base
   pub registers : inner ≡ inside base r s t f
@@ -126,7 +127,7 @@ record IsFramed (m : List ℕ) (s loaded : ℕ) (r : Registers) (base : Bool) (t
 top_inside : (loaded sp parameters : ℕ) → sp + parameters ≤ 65504 → frame_top loaded sp parameters ≤ 65504
 top_inside loaded sp parameters h = elim (cases_Bool (nat_lt 0 loaded)) [ inl e ↦ rw e (omega (arith, h)) | inr e ↦ rw e h ]
 
-frame_made : (m n : List ℕ) (s loaded static : ℕ) (r inner : Registers) (base : Bool) (t : Table) → framed m s loaded r base t static ≡ Ok (n, inner) → (f : ℕ) × IsFramed m s loaded r base t static n inner f
+pub frame_made : (m n : List ℕ) (s loaded static : ℕ) (r inner : Registers) (base : Bool) (t : Table) → framed m s loaded r base t static ≡ Ok (n, inner) → (f : ℕ) × IsFramed m s loaded r base t static n inner f
 unfolding framed
 frame_made m n s loaded static r inner base t h =
     let size = t.locals + t.parameters + 12 in
@@ -142,6 +143,7 @@ frame_made m n s loaded static r inner base t h =
       record {
         inside_memory = fits;
         room = omega (arith, room, low);
+        under = omega (arith, room);
         below = omega (arith, room, low);
         memory = sym (ap (λ (p : List ℕ × Registers). p.0) both);
         registers = sym (ap (λ (p : List ℕ × Registers). p.1) both);
@@ -151,12 +153,12 @@ frame_made m n s loaded static r inner base t h =
 -- ---- a return
 
 -- what a return from the frame at f reads
-record IsReturn (n : List ℕ) (inner : Registers) (words : ℕ) (base : Bool) (e : Parts) : Type 0 where
+pub record IsReturn (n : List ℕ) (inner : Registers) (words : ℕ) (base : Bool) (e : Parts) : Type 0 where
   pub even : inner.mp % 2 ≡ 0
   pub room : inner.mp + 12 ≤ 65536
   pub registers : e.registers ≡ left_to n inner inner.mp (word_at n (inner.mp + 10) - 2 * words) base
 
-return_read : (c e : Parts) (words : ℕ) (base : Bool) → returned c words base ≡ Ok e → IsReturn c.memory c.registers words base e
+pub return_read : (c e : Parts) (words : ℕ) (base : Bool) → returned c words base ≡ Ok e → IsReturn c.memory c.registers words base e
 unfolding returned
 return_read c e words base h =
     let f = c.registers.mp in
@@ -204,6 +206,17 @@ framed_returns m n s loaded static words r inner base t places e h made done =
 
 -- ---- a call in a segment that was reached
 
+-- the SP of a call that is made lies within the stack: the frame's own test asks for it
+pub low_before : (c d : Parts) (call : Call) (at : Reached) → called_at c call at ≡ Ok d → c.registers.sp ≤ 65504
+unfolding called_at entered
+low_before c d call at made =
+    let x = bound (entered at.memory at.place at.loaded c.registers call) _ _ made in
+    let t = bound (attributes at.memory at.place (procedure_of call)) _ _ x.1 in
+    let l = bound (static_link call at.memory c.registers t.0.level) _ _ t.2 in
+    let f = frame_made at.memory x.0.0 at.place at.loaded l.0 c.registers x.0.1 (is_base call t.0.level) t.0 l.2 in
+    let fits = f.1.inside_memory in
+    omega (arith, fits)
+
 at_gives_back : (c d e : Parts) (call : Call) (code : Option (List ℕ)) (at : Reached) (words : ℕ) (base : Bool) → Reaches c call code at → IsMemory at.memory →
     called_at c call at ≡ Ok d → returned d words base ≡ Ok e → GivesBack c call code words base e.registers
 unfolding called_at entered
@@ -220,7 +233,7 @@ at_gives_back c d e call code at words base is h made done =
       registers = λ kind. framed_returns at.memory x.0.0 at.place at.loaded l.0 words c.registers x.0.1 (is_base call t.0.level) t.0 at.places e h l.2 (rw (sym same, kind) at done);
     }
 
-standing_memory : (c : Parts) (n : ℕ) (p : Place) (at : Reached) → standing c n p ≡ Ok at → at.memory ≡ c.memory
+pub standing_memory : (c : Parts) (n : ℕ) (p : Place) (at : Reached) → standing c n p ≡ Ok at → at.memory ≡ c.memory
 unfolding standing
 standing_memory c n p at h = elim (cases_Bool (p.place == c.registers.seg)) [
   | inl e ↦ sym (ap (λ (x : Reached). x.memory) (ok_same (here c) at (rw e at h)))
@@ -229,7 +242,7 @@ standing_memory c n p at h = elim (cases_Bool (p.place == c.registers.seg)) [
       sym (ap (λ (x : Reached). x.memory) (ok_same _ at k.1))
 ]
 
-loading_memory : (c : Parts) (n : ℕ) (code : List ℕ) (at : Reached) → IsMemory c.memory → All (λ b. b < 256) code → c.registers.sp ≤ 65504 → loading c n code ≡ Ok at → IsMemory at.memory
+pub loading_memory : (c : Parts) (n : ℕ) (code : List ℕ) (at : Reached) → IsMemory c.memory → All (λ b. b < 256) code → c.registers.sp ≤ 65504 → loading c n code ≡ Ok at → IsMemory at.memory
 unfolding loading
 loading_memory c n code at m bytes low h =
     let first = passed (nat_lt 0 (length code)) NoSegment _ _ h in
@@ -240,23 +253,23 @@ loading_memory c n code at m bytes low h =
 
 slot_gives_back : (c d e : Parts) (call : Call) (n : ℕ) (code : Option (List ℕ)) (slot : Option (Option Place)) (words : ℕ) (base : Bool) →
     ((at : Reached) → ReachesSlot c n code slot at → Reaches c call code at) →
-    IsMemory c.memory → IsCode code → c.registers.sp ≤ 65504 →
+    IsMemory c.memory → IsCode code →
     called_slot c call n code slot ≡ Ok d → returned d words base ≡ Ok e → GivesBack c call code words base e.registers
 unfolding called_standing called_loading
-slot_gives_back c d e call n code None words base k m bytes low made done = absurd (cc)
-slot_gives_back c d e call n code (Some (Some p)) words base k m bytes low made done =
+slot_gives_back c d e call n code None words base k m bytes made done = absurd (cc)
+slot_gives_back c d e call n code (Some (Some p)) words base k m bytes made done =
     let x = bound (standing c n p) _ _ made in
     at_gives_back c d e call code x.0 words base (k x.0 x.1) (rw (standing_memory c n p x.0 x.1) m) x.2 done
-slot_gives_back c d e call n None (Some None) words base k m bytes low made done = absurd (cc)
-slot_gives_back c d e call n (Some code) (Some None) words base k m bytes low made done =
+slot_gives_back c d e call n None (Some None) words base k m bytes made done = absurd (cc)
+slot_gives_back c d e call n (Some code) (Some None) words base k m bytes made done =
     let x = bound (loading c n code) _ _ made in
-    at_gives_back c d e call (Some code) x.0 words base (k x.0 x.1) (loading_memory c n code x.0 m bytes low x.1) x.2 done
+    at_gives_back c d e call (Some code) x.0 words base (k x.0 x.1) (loading_memory c n code x.0 m bytes (low_before c d call x.0 x.2) x.1) x.2 done
 
 pub return_gives_back : ReturnGivesBack
 unfolding called
-return_gives_back c d e (Clp p) code words base m bytes low made done = at_gives_back c d e (Clp p) code (here c) words base refl m made done
-return_gives_back c d e (Cgp p) code words base m bytes low made done = at_gives_back c d e (Cgp p) code (here c) words base refl m made done
-return_gives_back c d e (Cbp p) code words base m bytes low made done = at_gives_back c d e (Cbp p) code (here c) words base refl m made done
-return_gives_back c d e (Cip p) code words base m bytes low made done = at_gives_back c d e (Cip p) code (here c) words base refl m made done
-return_gives_back c d e (Cxp n p) code words base m bytes low made done =
-    slot_gives_back c d e (Cxp n p) n code (slice_get c.places n) words base (λ at r. r) m bytes low made done
+return_gives_back c d e (Clp p) code words base m bytes made done = at_gives_back c d e (Clp p) code (here c) words base refl m made done
+return_gives_back c d e (Cgp p) code words base m bytes made done = at_gives_back c d e (Cgp p) code (here c) words base refl m made done
+return_gives_back c d e (Cbp p) code words base m bytes made done = at_gives_back c d e (Cbp p) code (here c) words base refl m made done
+return_gives_back c d e (Cip p) code words base m bytes made done = at_gives_back c d e (Cip p) code (here c) words base refl m made done
+return_gives_back c d e (Cxp n p) code words base m bytes made done =
+    slot_gives_back c d e (Cxp n p) n code (slice_get c.places n) words base (λ at r. r) m bytes made done

@@ -1,15 +1,16 @@
--- A law of calls and returns.
-use Rattle.std.specs.Prelude.{◌≡◌, ◌<◌, ◌≤◌, ℕ, ◌+◌, ◌-◌, ◌*◌, Bool, List, All, Option, Some, None, Ok, slice_get}
-use Rattle.pm_words.specs.Words.{IsMemory}
+-- Laws of calls and returns.
+use Rattle.std.specs.Prelude.{◌≡◌, ◌≢◌, ◌<◌, ℕ, ◌+◌, ◌-◌, ◌*◌, Bool, false, List, All, Option, Some, None, Ok, slice_get, slice_index_or, length}
+use Rattle.pm_words.specs.Words.{IsMemory, bytes_at}
+use Rattle.pm_words.specs.Stack.{minus}
 use Rattle.pm_calls.specs.declared.registers.Registers.{Registers}
 use Rattle.pm_calls.specs.declared.frames.Table.{Table}
 use Rattle.pm_calls.specs.declared.frames.Call.{Call}
 use Rattle.pm_calls.specs.declared.frames.Call.TheVariants.{Clp, Cgp, Cbp, Cip, Cxp}
 use Rattle.pm_calls.specs.declared.frames.Place.{Place}
-use Rattle.pm_calls.specs.Places.{Parts}
+use Rattle.pm_calls.specs.Places.{Parts, placed}
 use Rattle.pm_calls.specs.Tables.{attributes}
 use Rattle.pm_calls.specs.Calls.{Reached, called, here, is_base, loading, procedure_of, standing}
-use Rattle.pm_calls.specs.Returns.{returned}
+use Rattle.pm_calls.specs.Returns.{returned, stands_at}
 
 -- code that may be handed to a call is bytes
 abbrev pub IsCode : Option (List ℕ) → Type 0
@@ -47,5 +48,39 @@ pub record GivesBack (c : Parts) (call : Call) (code : Option (List ℕ)) (words
 abbrev pub ReturnGivesBack : Type 0
 ReturnGivesBack =
     (c d e : Parts) (call : Call) (code : Option (List ℕ)) (words : ℕ) (base : Bool) →
-    IsMemory c.memory → IsCode code → c.registers.sp ≤ 65504 →
+    IsMemory c.memory → IsCode code →
     called c call code ≡ Ok d → returned d words base ≡ Ok e → GivesBack c call code words base e.registers
+
+-- After a call that loads, the code stands below the SP that the call found, all of it: the frame lies under it.
+abbrev pub LoadedCodeStands : Type 0
+LoadedCodeStands =
+    (c d : Parts) (n p : ℕ) (code : List ℕ) →
+    IsMemory c.memory → IsCode (Some code) → placed c.places n ≡ None →
+    called c (Cxp n p) (Some code) ≡ Ok d → bytes_at d.memory (c.registers.sp - length code) (length code) ≡ code
+
+-- no slot before slot n stands at s, so that a return from the segment there counts slot n down
+abbrev pub IsFirstAt : ℕ → ℕ → List (Option Place) → Type 0
+IsFirstAt s n places = (k : ℕ) → k < n → stands_at s (slice_index_or places k None) ≡ false
+
+-- The return finds the slot that a CXP to slot n counted: the segment runs already, and then neither counts; or it stands
+-- for some call, and no slot before n stands there too; or it is loaded below SP, where no segment runs and no slot before n
+-- stands.
+abbrev pub IsFoundAgain : Parts → ℕ → Option (Option Place) → Type 0
+IsFoundAgain c n None = Unit {0}
+IsFoundAgain c n (Some (Some p)) = p.place ≢ c.registers.seg → (0 < p.count) × IsFirstAt p.place n c.places
+IsFoundAgain c n (Some None) = (c.registers.seg ≢ minus c.registers.sp 2) × IsFirstAt (minus c.registers.sp 2) n c.places
+
+-- of the calls only a CXP counts
+abbrev pub FindsAgain : Parts → Call → Type 0
+FindsAgain c (Cxp n p) = IsFoundAgain c n (slice_get c.places n)
+FindsAgain c (Clp p) = Unit {0}
+FindsAgain c (Cgp p) = Unit {0}
+FindsAgain c (Cbp p) = Unit {0}
+FindsAgain c (Cip p) = Unit {0}
+
+-- A return right after its call gives the places back: a segment that was loaded has none, and one that stood has its count.
+abbrev pub ReturnGivesPlacesBack : Type 0
+ReturnGivesPlacesBack =
+    (c d e : Parts) (call : Call) (code : Option (List ℕ)) (words : ℕ) (base : Bool) →
+    IsMemory c.memory → IsCode code → FindsAgain c call →
+    called c call code ≡ Ok d → returned d words base ≡ Ok e → e.places ≡ c.places

@@ -1,6 +1,6 @@
-//! A law of calls and returns. The function does nothing.
+//! Laws of calls and returns. The functions do nothing.
 
-ghost use Rattle.pm_calls.specs.Laws.{ReturnGivesBack};
+ghost use Rattle.pm_calls.specs.Laws.{LoadedCodeStands, ReturnGivesBack, ReturnGivesPlacesBack};
 
 /// A return of its call's kind, a base return after a base call and else a normal one, gives the
 /// caller's registers back right after the call: all but SP, which leaves the parameters behind and
@@ -8,4 +8,18 @@ ghost use Rattle.pm_calls.specs.Laws.{ReturnGivesBack};
 #[tactic(auto, using(crate::proofs::ReturnLaws::return_gives_back))]
 pub fn return_gives_back()
     ensures law { ReturnGivesBack }
+{}
+
+/// After a call that loads a segment its code stands whole below the SP of the call, with the
+/// frame under it.
+#[tactic(auto, using(crate::proofs::LoadLaws::loaded_code_stands))]
+pub fn loaded_code_stands()
+    ensures law { LoadedCodeStands }
+{}
+
+/// A return right after its call gives the places back: a segment that was loaded for the call
+/// stands nowhere again, and one that stood has its old count.
+#[tactic(auto, using(crate::proofs::PlaceLaws::return_gives_places_back))]
+pub fn return_gives_places_back()
+    ensures law { ReturnGivesPlacesBack }
 {}

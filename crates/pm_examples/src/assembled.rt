@@ -458,3 +458,55 @@ fn programs(rt: HostRuntime) -> Result<(), Fail> {
     let none = Stop::Halted(ExecError::NoProcedure);
     runs(&rt, rt.alloc(), LEAVES_NONE, 5, none)
 }
+
+/// Procedure 2 puts the SP of its caller above the segment that runs, by variable 0 of its frame,
+/// which is the SP that a return gives back; so the next call loads its segment over this one.
+const LOADS_OVER: &str = "\
+.SEG 1 MAIN
+.PROC 1 0 0 0
+ CLP 2
+ CXP 2, 1
+.EXIT
+ RBP 0
+ NOP
+.END
+.PROC 2 1 0 0
+ LDCI 65492
+ STL 0
+.EXIT
+ RNP 0
+ NOP
+.END
+.SEG 2 OVER
+.PROC 1 0 0 0
+.EXIT
+ RBP 0
+.END
+";
+
+/// A segment that is loaded where SEG stands keeps its place, since no return from it changes SEG;
+/// and the return that does change SEG forgets the lowest slot there, which is slot 1.
+#[test]
+fn loads_over_the_caller(rt: HostRuntime) -> Result<(), Fail> {
+    let mut machine = booted(rt.alloc(), LOADS_OVER)?;
+    machine.has_place(&rt, 1, Some((65490, 1)));
+    machine.runs_to(&rt, 4, 4, Stop::Went);
+    machine.has_sp(&rt, 65492);
+    machine.has_place(&rt, 2, None);
+    machine.steps_to(&rt, Stop::Went);
+    machine.has_mp(&rt, 65464);
+    machine.holds_bytes(
+        &rt,
+        65476,
+        &[0xC1, 0, 0, 0, 0, 0, 6, 0, 8, 0, 1, 0, 2, 0, 2, 1],
+    );
+    machine.has_place(&rt, 2, Some((65490, 1)));
+    machine.steps_to(&rt, Stop::Went);
+    machine.has_sp(&rt, 65492);
+    machine.has_mp(&rt, 65438);
+    machine.has_place(&rt, 2, Some((65490, 1)));
+    machine.steps_to(&rt, Stop::Ended);
+    machine.has_place(&rt, 1, None);
+    machine.has_place(&rt, 2, Some((65490, 1)));
+    Ok(())
+}

@@ -35,7 +35,7 @@ part-of_part xs a c b l within =
     rw (count, other, cut) (take-take l (c - (a + b)) (drop (a + b) xs) (omega arith))
 
 -- what holds of each entry holds of the one that is found
-found_all : (P : Entry → Type 0) (p : Entry → Bool) (xs : List Entry) (x : Entry) → All P xs → find p xs ≡ Some x → P x
+pub found_all : (P : Entry → Type 0) (p : Entry → Bool) (xs : List Entry) (x : Entry) → All P xs → find p xs ≡ Some x → P x
 found_all P p [] x all h = cc
 found_all P p (y ∷ ys) x all h = go (p y) h (λ is. found_all P p ys x (λ k d l. all (suc k) d (omega (arith, l))) is)
   where
@@ -60,7 +60,8 @@ no_fault (Some f) h = cc
 abbrev ok : Entry × List ℕ → Result (Entry × List ℕ) BootFault
 ok x = Ok x
 
-record IsFound (image name : List ℕ) (entry : Entry) (file : List ℕ) : Type 0 where
+-- a program that was found: its entry, and the bytes of its file, a sound one
+pub record IsFound (image name : List ℕ) (entry : Entry) (file : List ℕ) : Type 0 where
   pub named : file_named image name ≡ Some entry
   pub bytes : file_bytes image entry ≡ Some file
   pub sound : file_fault file ≡ None
@@ -80,7 +81,7 @@ joined image name e entry b file named bytes sound same =
       sound = ap file_fault (sym file_is) ∙ no_fault (file_fault b) sound;
     }
 
-found : (images : List (Option (List ℕ))) (image name file : List ℕ) (entry : Entry) (unit : ℕ) → image_of images unit ≡ Some image
+pub found : (images : List (Option (List ℕ))) (image name file : List ℕ) (entry : Entry) (unit : ℕ) → image_of images unit ≡ Some image
     → code_file images unit name ≡ Ok (entry, file) → IsFound image name entry file
 unfolding code_file
 found images image name file entry unit on h =
@@ -129,7 +130,7 @@ sound_file file h =
 
 -- ---- the rows
 
-length-rows : (unit first : ℕ) (file : List ℕ) (n : ℕ) → length (rows_below unit first file n) ≡ n
+pub length-rows : (unit first : ℕ) (file : List ℕ) (n : ℕ) → length (rows_below unit first file n) ≡ n
 unfolding rows_below
 length-rows unit first file zero = refl
 length-rows unit first file (suc n) = length-append (rows_below unit first file n) _ ∙ (let size = length-rows unit first file n in omega (arith, size))

@@ -62,7 +62,7 @@ rest_stays s other = at_rest s.status s other
 
 -- ---- disks
 
-abbrev Disks : Type 0
+abbrev pub Disks : Type 0
 Disks = List (Option (List ℕ))
 
 abbrev KeepsDevices : Disks → Result Devices Pause → Type 0
@@ -70,7 +70,7 @@ KeepsDevices d (Ok e) = e.disks ≡ d
 KeepsDevices d (Err e) = Unit {0}
 
 -- what a part of a row gives has the old disks
-abbrev Keeps : {A E : Type 0} → (A → Disks) → Disks → Result A E → Type 0
+abbrev pub Keeps : {A E : Type 0} → (A → Disks) → Disks → Result A E → Type 0
 Keeps disks d (Ok x) = disks x ≡ d
 Keeps disks d (Err e) = Unit {0}
 
@@ -93,7 +93,7 @@ of_state s = s.devices.disks
 abbrev of_reach : Reach → Disks
 of_reach s = s.devices.disks
 
-abbrev of_served : Served → Disks
+abbrev pub of_served : Served → Disks
 of_served s = s.devices.disks
 
 abbrev of_moved : Moved → Disks
@@ -117,22 +117,22 @@ read_keeps Console t m d = queue_keeps true t m d
 read_keeps Terminal t m d = queue_keeps false t m d
 read_keeps (Disk k) t m d = disk_keeps (image_at d k) t m d
 
-read_row_keeps : (s : Served) → Keeps of_served s.devices.disks (read_row s)
+pub read_row_keeps : (s : Served) → Keeps of_served s.devices.disks (read_row s)
 unfolding read_row
 read_row_keeps s = then of_served s.devices.disks (or_fails (ordered s.memory s.registers.sp)) _ (λ o.
     after of_moved of_served s.devices.disks (read (unit_of o.unit) o.transfer s.memory s.devices) _ (read_keeps (unit_of o.unit) o.transfer s.memory s.devices) (λ t e. e))
 
-time_keeps : (s : Served) → Keeps of_served s.devices.disks (time_row s)
+pub time_keeps : (s : Served) → Keeps of_served s.devices.disks (time_row s)
 unfolding time_row
 time_keeps s = then of_served s.devices.disks (pop s.memory s.registers.sp) _ (λ b.
     then of_served s.devices.disks (pop s.memory b.1) _ (λ a. then of_served s.devices.disks (demand (is_even a.0 && is_even b.0) InvalidMemory) _ (λ h. refl)))
 
-busy_keeps : (s : Served) → Keeps of_served s.devices.disks (busy_row s)
+pub busy_keeps : (s : Served) → Keeps of_served s.devices.disks (busy_row s)
 unfolding busy_row
 busy_keeps s = then of_served s.devices.disks (pop s.memory s.registers.sp) _ (λ unit.
     then of_served s.devices.disks (push s.memory unit.1 s.registers.np 0) _ (λ n. refl))
 
-wait_keeps : (s : Served) → Keeps of_served s.devices.disks (wait_row s)
+pub wait_keeps : (s : Served) → Keeps of_served s.devices.disks (wait_row s)
 unfolding wait_row
 wait_keeps s = then of_served s.devices.disks (pop s.memory s.registers.sp) _ (λ unit. refl)
 
@@ -144,7 +144,7 @@ cleared_keeps Console d = refl
 cleared_keeps Terminal d = refl
 cleared_keeps (Disk k) d = refl
 
-clear_keeps : (s : Served) → Keeps of_served s.devices.disks (clear_row s)
+pub clear_keeps : (s : Served) → Keeps of_served s.devices.disks (clear_row s)
 unfolding clear_row
 clear_keeps s = then of_served s.devices.disks (pop s.memory s.registers.sp) _ (λ unit. cleared_keeps (unit_of unit.0) s.devices)
 

@@ -18,7 +18,9 @@ use Rattle.pm_disasm.specs.Program.{Procedure, Segment, IsProcedure, IsSegment, 
 use Rattle.pm_disasm.specs.Shown.{name_of}
 use Rattle.pm_disasm.proofs.Laid.{length-segment}
 use Rattle.pm_source.specs.Image.{bytes_of_segment, file_of, joined_bytes, name_of_segment, slots_of}
-use Rattle.pm_source.specs.Laws.{FileHoldsProgram}
+use Rattle.pm_codefile.specs.Dictionary.{file_fault}
+use Rattle.pm_disasm.specs.Program.{IsProgram}
+use Rattle.pm_source.specs.Laws.{FileHoldsProgram, FileIsAccepted}
 
 -- a slot of a program: no segment, or a sound one that is not too long
 abbrev IsSlot : Option Segment → Type 0
@@ -133,6 +135,7 @@ named name n h = let t : (n == 0) ≡ false = not_zero n h in rw t refl
 slots_hold : (ss : List Segment) (slots : List (Option Segment)) → AllByRecursion IsSegment ss → length slots ≡ 16 → AllByRecursion IsSlot slots
     → ((i : ℕ) → i < 16 → get_or slots i None ≡ segment_numbered i ss)
     → Holds (layout (map name_of_segment slots) (map slot_length slots) (joined_bytes slots)) ss
+    × (file_fault (layout (map name_of_segment slots) (map slot_length slots) (joined_bytes slots)) ≡ None)
 slots_hold ss slots segments sixteen sound there =
     let names : List (List ℕ) = map name_of_segment slots in
     let ns : List ℕ = map slot_length slots in
@@ -145,30 +148,38 @@ slots_hold ss slots segments sixteen sound there =
     let each : (k : ℕ) → k < length names → length (get_or names k []) ≡ 8 = λ k l. ap length (name_is k (omega (arith, l, many))) ∙ name_eight (get_or slots k None) (slot_is k) in
     let small : (k : ℕ) → get_or ns k 0 < 65536 = λ k. subst (λ n. n < 65536) (sym (length_is k)) (length_small (get_or slots k None) (slot_is k)) in
     let even : All (λ n. n % 2 ≡ 0) ns = All-from_get_or (λ n. n % 2 ≡ 0) ns 0 (λ k l. subst (λ n. n % 2 ≡ 0) (sym (length_is k)) (length_even (get_or slots k None) (slot_is k))) in
-    let r : ReadsBack names ns bytes (layout names ns bytes) = layout-reads_back names ns bytes many count each small (lengths_joined slots) even in
-    record {
-      segments = λ n l. (
-          let slot : Option Segment = get_or slots n None in
-          let part : slice_range bytes (begin_of ns n) (begin_of ns n + get_or ns n 0) ≡ bytes_of_segment slot =
-          ap (λ k. slice_range bytes (begin_of ns n) (begin_of ns n + k)) (length_is n) ∙ joined_part slots n (omega (arith, l, sixteen)) in
-          r.parts n l ∙ chosen slot (get_or ns n 0) _ (slot_is n) (length_is n) part ∙ ap (option_map segment_bytes) (there n l)
-          );
-      names = λ n s e. (
-          let l : n < 16 = numbered_below n ss s segments e in
-          let here : get_or slots n None ≡ Some s = there n l ∙ e in
-          let slot : IsSlot (Some s) = subst IsSlot here (slot_is n) in
-          let long : get_or ns n 0 ≡ length (segment_bytes s) = length_is n ∙ ap slot_length here in
-          ap name_of (r.slots n l)
-          ∙ named (get_or names n []) (get_or ns n 0) (omega (arith, long, length_some s slot.0))
-          ∙ name_is n l
-          ∙ ap name_of_segment here
-          );
-    }
+    let r : ReadsBack names ns bytes (layout names ns bytes) = layout-reads_back names ns bytes many count each small (lengths_joined slots) even in (
+      record {
+        segments = λ n l. (
+            let slot : Option Segment = get_or slots n None in
+            let part : slice_range bytes (begin_of ns n) (begin_of ns n + get_or ns n 0) ≡ bytes_of_segment slot =
+            ap (λ k. slice_range bytes (begin_of ns n) (begin_of ns n + k)) (length_is n) ∙ joined_part slots n (omega (arith, l, sixteen)) in
+            r.parts n l ∙ chosen slot (get_or ns n 0) _ (slot_is n) (length_is n) part ∙ ap (option_map segment_bytes) (there n l)
+            );
+        names = λ n s e. (
+            let l : n < 16 = numbered_below n ss s segments e in
+            let here : get_or slots n None ≡ Some s = there n l ∙ e in
+            let slot : IsSlot (Some s) = subst IsSlot here (slot_is n) in
+            let long : get_or ns n 0 ≡ length (segment_bytes s) = length_is n ∙ ap slot_length here in
+            ap name_of (r.slots n l)
+            ∙ named (get_or names n []) (get_or ns n 0) (omega (arith, long, length_some s slot.0))
+            ∙ name_is n l
+            ∙ ap name_of_segment here
+            );
+      },
+      r.accepted,
+    )
 
-pub file_holds_program : FileHoldsProgram
+both : (ss : List Segment) → IsProgram ss → AreShort ss → Holds (file_of ss) ss × (file_fault (file_of ss) ≡ None)
 unfolding file_of
-file_holds_program ss h short =
+both ss h short =
     slots_hold ss (slots_of 0 16 ss) h.segments (slots_count 0 16 ss) (slots_sound 0 16 ss h.segments short) (λ i l. slot_there 0 16 i ss l ∙ zero_plus i)
   where
     zero_plus : (i : ℕ) → segment_numbered (0 + i) ss ≡ segment_numbered i ss
     zero_plus i = let e : 0 + i ≡ i = omega arith in ap (λ k. segment_numbered k ss) e
+
+pub file_holds_program : FileHoldsProgram
+file_holds_program ss h short = (both ss h short).0
+
+pub file_is_accepted : FileIsAccepted
+file_is_accepted ss h short = (both ss h short).1

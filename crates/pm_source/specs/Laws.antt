@@ -1,5 +1,6 @@
 -- Texts and what they spell.
-use Rattle.std.specs.Prelude.{◌≡◌, ℕ, List, []}
+use Rattle.std.specs.Prelude.{◌≡◌, ℕ, List, [], None}
+use Rattle.pm_codefile.specs.Dictionary.{file_fault}
 use Rattle.std.specs.List.{AllByRecursion, AllZip}
 use Rattle.pm_disasm.specs.Program.{Procedure, Segment, IsProgram, AreInstructions, AreShort}
 use Rattle.pm_disasm.specs.Laws.{Holds, IsSameSegment}
@@ -44,6 +45,10 @@ ShownIsSpelled = (ss : List Segment) → IsProgram ss → AreShort ss → Spells
 -- The code file of a program holds it: the segment of each number in its slot, with its name.
 abbrev pub FileHoldsProgram : Type 0
 FileHoldsProgram = (ss : List Segment) → IsProgram ss → AreShort ss → Holds (file_of ss) ss
+
+-- The code file of a program is a code file.
+abbrev pub FileIsAccepted : Type 0
+FileIsAccepted = (ss : List Segment) → IsProgram ss → AreShort ss → file_fault (file_of ss) ≡ None
 
 -- The text of a program's code file spells a program of the same code file: of the same segments in their bytes, and the same program
 -- where no item is a byte that is no instruction.

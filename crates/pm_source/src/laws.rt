@@ -1,6 +1,6 @@
 //! Laws of the assembler's text, of what it spells and of its listing. The functions do nothing.
 ghost use Rattle.pm_source.specs.Image.{ListingIsPlaced, ListingIsSegment};
-ghost use Rattle.pm_source.specs.Laws.{FaultlessIsSaid, FaultlessIsSpelled, FileHoldsProgram, FoundIsFaultless, LabelsFound, SaidIsFaultless, SpelledIsFaultless, SpelledIsProgram};
+ghost use Rattle.pm_source.specs.Laws.{FaultlessIsSaid, FaultlessIsSpelled, FileHoldsProgram, FileIsAccepted, FoundIsFaultless, LabelsFound, SaidIsFaultless, SpelledIsFaultless, SpelledIsProgram};
 
 /// The bytes of a segment's lines in a listing, joined, are the segment, and each line names the offset at which its bytes stand in it.
 #[tactic(auto, using(crate::proofs::Listed::listing_is_segment, crate::proofs::Listed::listing_is_placed))]
@@ -49,4 +49,5 @@ pub fn spelled_is_program()
 /// number, and its name with spaces at the end, or no segment.
 pub fn file_holds_program()
     ensures law { FileHoldsProgram }
+    ensures accepted { FileIsAccepted }
 {}

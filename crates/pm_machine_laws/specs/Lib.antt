@@ -1,0 +1,3 @@
+pub mod Shapes
+pub mod Loads
+pub mod Numbers

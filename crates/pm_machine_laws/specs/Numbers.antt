@@ -1,0 +1,45 @@
+-- Laws of words as signed numbers: division, and the order in which a case jump counts.
+use Rattle.std.specs.Prelude.{◌≡◌, ◌≢◌, ◌<◌, ◌⊎◌, ℕ, ◌+◌, ◌*◌, ◌%◌, ◌&&◌, List, true, Ok, if◌then◌else◌, ℤ, pos, ◌+ℤ◌, ◌-ℤ◌, ◌*ℤ◌, int_le, int_lt, nat_le, unsigned_abs}
+use Rattle.pm_words.specs.Stack.{minus}
+use Rattle.pm_opcode.specs.declared.operation.Binary.TheVariants.{Divide, Modulo}
+use Rattle.pm_opcode.specs.Spelling.{jump_count, rank}
+use Rattle.pm_values.specs.Sets.{signed}
+use Rattle.pm_rows.specs.Jumps.{case_target, entry_target}
+use Rattle.pm_rows.specs.Signed.{binary, word}
+
+-- What DVI and MODI give of a and b, as signed numbers: a is the quotient times b and the remainder, which is less than b
+-- and has the sign of a, or is 0. The words are those of the two numbers, and the remainder's word stands for it; so does
+-- the quotient's, if it is not that of -32,768 by -1.
+pub record Division (a b : ℕ) : Type 0 where
+  pub quotient : ℤ
+  pub remainder : ℤ
+  pub divide : binary Divide a b ≡ Ok (word quotient)
+  pub modulo : binary Modulo a b ≡ Ok (word remainder)
+  pub whole : quotient *ℤ signed b +ℤ remainder ≡ signed a
+  pub less : unsigned_abs remainder < unsigned_abs (signed b)
+  pub sign : (remainder ≡ pos 0) ⊎ (int_lt remainder (pos 0) ≡ int_lt (signed a) (pos 0))
+  pub remainder_fits : signed (word remainder) ≡ remainder
+  pub quotient_fits : (a ≢ 32768) ⊎ (b ≢ 65535) → signed (word quotient) ≡ quotient
+
+abbrev pub DivisionIsWhole : Type 0
+DivisionIsWhole = (a b : ℕ) → a < 65536 → b < 65536 → b ≢ 0 → Division a b
+
+-- The rank of a word is its signed number, counted from -32,768 on: so ranks stand in the order of signed numbers, and are as
+-- far apart.
+pub record RanksAreOrdered (a b : ℕ) : Type 0 where
+  pub number : pos (rank a) ≡ signed a +ℤ pos 32768
+  pub order : nat_le (rank a) (rank b) ≡ int_le (signed a) (signed b)
+  pub distance : int_le (signed a) (signed b) ≡ true → pos (jump_count a b) ≡ signed b -ℤ signed a +ℤ pos 1
+
+abbrev pub RanksFollowSigned : Type 0
+RanksFollowSigned = (a b : ℕ) → a < 65536 → b < 65536 → RanksAreOrdered a b
+
+-- XJP in signed numbers: for a value from low to high by the entry of its table whose number is the value less low, else to the
+-- jump before the table
+abbrev pub CaseJumpsBySigned : Type 0
+CaseJumpsBySigned =
+    (low high table value : ℕ) (m : List ℕ) → low < 65536 → high < 65536 → value < 65536 →
+    case_target low high table m value ≡
+    (if int_le (signed low) (signed value) && int_le (signed value) (signed high)
+    then entry_target m ((table + 2 * unsigned_abs (signed value -ℤ signed low)) % 65536)
+    else Ok (minus (table % 65536) 2))

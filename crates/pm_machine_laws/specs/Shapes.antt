@@ -1,0 +1,44 @@
+-- Laws of what no event changes.
+use Rattle.std.specs.Prelude.{◌≡◌, ◌<◌, ℕ, List, All, Option, Some, None, Ok, length}
+use Rattle.pm_calls.specs.declared.frames.Place.{Place}
+use Rattle.pm_calls.specs.Places.{placed}
+use Rattle.pm_machine.specs.Boot.{boot_start}
+use Rattle.pm_machine.specs.Events.{Event, after_all}
+use Rattle.pm_machine.specs.Start.{raw_start}
+use Rattle.pm_machine.specs.State.{State}
+
+-- the same rows of the dictionary, and as many places and disks
+pub record KeepsShape (s t : State) : Type 0 where
+  pub rows : t.rows ≡ s.rows
+  pub places : length t.places ≡ length s.places
+  pub disks : length t.devices.disks ≡ length s.devices.disks
+
+-- whatever happens, the rows of the dictionary stay, and how many places and disks there are
+abbrev pub EventsKeepShape : Type 0
+EventsKeepShape = (s : State) (es : List Event) → KeepsShape s (after_all s es)
+
+-- 16 rows and places, six disks, and no segment above slot 15
+pub record HasShape (s : State) : Type 0 where
+  pub rows : length s.rows ≡ 16
+  pub places : length s.places ≡ 16
+  pub disks : length s.devices.disks ≡ 6
+  pub none_above : (n : ℕ) → 15 < n → placed s.places n ≡ None
+
+-- a machine has that shape, however it began and whatever happened since
+pub record MachinesHaveShape : Type 0 where
+  pub raw : (bytes : List ℕ) (s : State) (es : List Event) → raw_start bytes ≡ Ok s → HasShape (after_all s es)
+  pub booted :
+      (images : List (Option (List ℕ))) (unit : ℕ) (name : List ℕ) (clock : ℕ) (s : State) (es : List Event) →
+      length images ≡ 6 → boot_start images unit name clock ≡ Ok s → HasShape (after_all s es)
+
+-- a slot has no place, or one for some call
+abbrev pub IsCounted : Option Place → Type 0
+IsCounted None = Unit {0}
+IsCounted (Some p) = 0 < p.count
+
+-- no place of a machine is for no call, however it began and whatever happened since
+pub record MachinesCountCalls : Type 0 where
+  pub raw : (bytes : List ℕ) (s : State) (es : List Event) → raw_start bytes ≡ Ok s → All IsCounted (after_all s es).places
+  pub booted :
+      (images : List (Option (List ℕ))) (unit : ℕ) (name : List ℕ) (clock : ℕ) (s : State) (es : List Event) →
+      boot_start images unit name clock ≡ Ok s → All IsCounted (after_all s es).places

@@ -5,6 +5,7 @@ pub mod Entries
 pub mod Directory
 pub mod Files
 pub mod Kept
+pub mod Copies
 pub mod Changes
 pub mod Headers
 pub mod Packing

@@ -2,6 +2,7 @@
 #![tactic(auto)]
 
 mod changes;
+mod copies;
 mod directory;
 mod disk;
 mod entry;
@@ -13,6 +14,7 @@ mod space;
 mod volume;
 mod words;
 
+pub use copies::Copies;
 pub use directory::Entries;
 pub use disk::Disk;
 pub use entry::Entry;

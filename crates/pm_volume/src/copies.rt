@@ -1,6 +1,7 @@
 //! The second copy of a directory.
 
-ghost use Rattle.std.specs.Prelude.{◌≡◌, ◌+◌, ◌≤◌, length, slice_range};
+ghost use Rattle.std.specs.Prelude.{◌≡◌, ◌↔◌, IsTrue, ◌+◌, ◌≤◌, length, slice_range};
+ghost use Rattle.std.specs.Bool.{OnTrue};
 ghost use Rattle.pm_volume.specs.Copies.{has_second, mirrored, restored};
 ghost use Rattle.pm_volume.specs.Directory.{is_second_good};
 ghost use Rattle.pm_volume.specs.Words.{written};
@@ -35,6 +36,7 @@ const COPY: usize = 4 * BLOCK;
 pub(crate) fn has_second(image: &[u8]) -> bool
     requires whole { 3072 ≤ length image.now }
     ensures second { result ≡ has_second image.now }
+    ensures room { OnTrue result (5120 ≤ length image.now) }
 {
     image.len() >= SECOND_END && word(&image[DIRECTORY..DIRECTORY_END], 2) == PAST_SECOND
 }
@@ -49,6 +51,13 @@ pub(crate) fn is_second_good(image: &[u8]) -> bool
     }
     let second = &image[SECOND..SECOND_END];
     word(second, 2) == PAST_SECOND && fault_of_directory(second, image.len() / BLOCK).is_none()
+}
+
+// Whether two copies have the same bytes.
+pub(crate) fn are_same(left: &[u8], right: &[u8]) -> bool
+    ensures same { IsTrue result ↔ (left.now ≡ right.now) }
+{
+    left == right
 }
 
 // Copies four blocks to another place.

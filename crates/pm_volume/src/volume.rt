@@ -10,7 +10,7 @@ use crate::changes::{
     renew_directory, take_file,
 };
 use crate::copies::{
-    Copies, PAST_SECOND, SECOND, SECOND_END, has_second, is_second_good, mirror, restore,
+    Copies, PAST_SECOND, SECOND, SECOND_END, are_same, has_second, is_second_good, mirror, restore,
 };
 use crate::directory::{
     DIRECTORY, DIRECTORY_END, Entries, MOST_FILES, fault_of_directory, is_named_beside, slot_named,
@@ -81,6 +81,7 @@ impl Volume {
     /// second copy of the directory takes the place of the first, and the volume is that of the
     /// second copy. The other refusals are those of `open`, and a refused image comes back
     /// unchanged.
+    #[tactic(auto, unfolding(crate::specs::Copies::repaired))]
     pub fn repair(bytes: Vec<u8>) -> Result<Volume, (VolumeFault, Vec<u8>)>
         ensures repaired { IfOk result (λ v. repaired bytes.items ≡ Ok v) }
         ensures volume { IfOk result (λ v. IsVolume v) }
@@ -162,7 +163,7 @@ impl Volume {
         if !has_second(image) {
             return Copies::Single;
         }
-        if image[DIRECTORY..DIRECTORY_END] == image[SECOND..SECOND_END] {
+        if are_same(&image[DIRECTORY..DIRECTORY_END], &image[SECOND..SECOND_END]) {
             Copies::Same
         } else {
             Copies::Differs
@@ -323,6 +324,7 @@ impl Volume {
         ensures refused { IfErr result (λ fault. fault ≡ VolumeFault.BadName) }
         ensures unchanged { OnErr result (self.new ≡ self.old) }
     {
+        let _ = &self.bytes;
         if !is_new_name(7, name.as_bytes()) {
             return Err(VolumeFault::BadName);
         }
@@ -338,6 +340,7 @@ impl Volume {
     /// copy that is there becomes the same as the first. The refusals in order: `BadHeader` for a
     /// volume of fewer than 10 blocks, `Occupied` where a file, also an empty one, begins below
     /// block 10. A refusal changes nothing.
+    #[tactic(auto, unfolding(crate::specs::Made::doubled))]
     pub fn add_duplicate(&mut self) -> Result<(), VolumeFault>
         ensures doubled { OnOk result (doubled self.old ≡ Ok self.new) }
         ensures volume { IsVolume self.new }

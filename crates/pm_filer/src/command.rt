@@ -1,7 +1,7 @@
 //! Commands, and what they answer.
 ghost use Rattle.std.specs.Prelude.{◌≡◌, ◌≢◌, Ok, Err, Some, None, IfOk, IfErr, IsErrOf, IsOk, OnErr, OnOk, if◌then◌else◌};
 ghost use Rattle.pm_volume.specs.Made.{added, renamed, zeroed};
-ghost use Rattle.pm_volume.specs.Directory.{directory_of};
+ghost use Rattle.pm_volume.specs.Directory.{IsVolume, directory_of};
 ghost use Rattle.pm_volume.specs.Headers.{last_date_of};
 ghost use Rattle.pm_textfile.specs.Writing.{text_fault};
 ghost use Rattle.pm_filer.specs.Filed.{Done, Filed, MayWantMemory, answer_of, bytes_of, date_word, filed, is_date, lent, order_of, read, written};
@@ -35,6 +35,10 @@ pub enum Command {
     Date(u8, u8, u8),
     /// Forgets all files and gives the volume this name.
     Zero(String),
+    /// Makes a second copy of the directory; a file that begins below block 10 stands in its way.
+    Duplicate,
+    /// Drops the second copy of the directory.
+    Single,
 }
 
 /// What a command answers.
@@ -171,6 +175,14 @@ pub fn apply(alloc: Global, volume: &mut Volume, command: Command) -> Result<Rep
         }
         Command::Zero(name) => {
             forget(volume, name.as_str())?;
+            Ok(Reply::Done)
+        }
+        Command::Duplicate => {
+            volume.add_duplicate()?;
+            Ok(Reply::Done)
+        }
+        Command::Single => {
+            volume.drop_duplicate();
             Ok(Reply::Done)
         }
     }

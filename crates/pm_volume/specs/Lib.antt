@@ -12,3 +12,4 @@ pub mod Packing
 pub mod Disks
 pub mod Space
 pub mod Made
+pub mod Laws

@@ -8,6 +8,7 @@ mod disk;
 mod entry;
 mod fault;
 mod gap;
+pub mod laws;
 mod packing;
 mod slots;
 mod space;

@@ -78,6 +78,7 @@ fn get_text(alloc: Global, volume: &Volume, name: &str) -> Result<Reply, FilerFa
 /// Adds the text file of a text.
 fn put_text(alloc: Global, volume: &mut Volume, name: &str, text: &[u8]) -> Result<(), FilerFault>
     ensures done { OnOk result (written volume.old name.now text.now (text_fault text.now) ≡ Ok (record { image = volume.new; answer = Done })) }
+    ensures volume { OnOk result (IsVolume volume.new) }
     ensures refused { IfErr result (λ fault. fault ≢ FilerFault.NoMemory → written volume.old name.now text.now (text_fault text.now) ≡ Err fault) }
     ensures unchanged { OnErr result (volume.new ≡ volume.old) }
 {
@@ -104,6 +105,7 @@ fn date_word(year: u8, month: u8, day: u8) -> Option<u16>
 #[tactic(auto, using(crate::proofs::Made::made))]
 fn forget(volume: &mut Volume, name: &str) -> Result<(), VolumeFault>
     ensures done { OnOk result (zeroed volume.old name.now ≡ Ok volume.new) }
+    ensures volume { OnOk result (IsVolume volume.new) }
     ensures refused { IfErr result (λ fault. zeroed volume.old name.now ≡ Err fault) }
     ensures unchanged { OnErr result (volume.new ≡ volume.old) }
 {
@@ -115,6 +117,7 @@ fn forget(volume: &mut Volume, name: &str) -> Result<(), VolumeFault>
 #[tactic(auto, using(crate::proofs::Made::made))]
 fn put(volume: &mut Volume, name: &str, kind: u8, bytes: &[u8]) -> Result<(), VolumeFault>
     ensures done { OnOk result (added volume.old name.now kind bytes.now (last_date_of (directory_of volume.old)) ≡ Ok volume.new) }
+    ensures volume { OnOk result (IsVolume volume.new) }
     ensures refused { IfErr result (λ fault. added volume.old name.now kind bytes.now (last_date_of (directory_of volume.old)) ≡ Err fault) }
     ensures unchanged { OnErr result (volume.new ≡ volume.old) }
 {
@@ -127,6 +130,7 @@ fn put(volume: &mut Volume, name: &str, kind: u8, bytes: &[u8]) -> Result<(), Vo
 #[tactic(auto, using(crate::proofs::Made::made))]
 fn change(volume: &mut Volume, old: &str, new: &str) -> Result<(), VolumeFault>
     ensures done { OnOk result (renamed volume.old old.now new.now ≡ Ok volume.new) }
+    ensures volume { OnOk result (IsVolume volume.new) }
     ensures refused { IfErr result (λ fault. renamed volume.old old.now new.now ≡ Err fault) }
     ensures unchanged { OnErr result (volume.new ≡ volume.old) }
 {
@@ -143,6 +147,7 @@ pub fn apply(alloc: Global, volume: &mut Volume, command: Command) -> Result<Rep
     ensures refused { IfErr result (λ fault. fault ≢ FilerFault.NoMemory → filed volume.old (order_of command) ≡ Err fault) }
     ensures memory { IsErrOf result FilerFault.NoMemory → MayWantMemory (order_of command) (filed volume.old (order_of command)) }
     ensures unchanged { OnErr result (volume.new ≡ volume.old) }
+    ensures volume { IsVolume volume.old → IsVolume volume.new }
 {
     match command {
         Command::List => Ok(Reply::Lines(list_text(alloc, volume)?)),

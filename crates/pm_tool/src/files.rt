@@ -122,7 +122,7 @@ pub(crate) fn repair_volume(alloc: Global, image: Vec<u8>) -> Result<Outcome, Al
     ensures sound { IfOk result (λ outcome. IsSound outcome.status) }
 {
     match Volume::repair(image) {
-        Ok(volume) => Ok(Outcome::keeping(alloc, volume.into_bytes())),
+        Ok(repaired) => Ok(Outcome::keeping(alloc, repaired.into_bytes())),
         Err((fault, _)) => Ok(refuse(alloc, Refusal::Volume(fault))?),
     }
 }

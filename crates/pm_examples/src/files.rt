@@ -6,24 +6,29 @@ use std::alloc::{AllocError, Global};
 use std::process::Abort;
 use std::test::Fail;
 
-fn text(alloc: Global, text: &str) -> Result<String, AllocError> {
+pub(crate) fn text(alloc: Global, text: &str) -> Result<String, AllocError> {
     String::from_str(alloc, text)
 }
 
 /// The image of a new volume.
-fn new_image(alloc: Global, name: &str, blocks: u16) -> Result<Vec<u8>, Fail> {
+pub(crate) fn new_image(alloc: Global, name: &str, blocks: u16) -> Result<Vec<u8>, Fail> {
     let name = text(alloc, name)?;
     let ran = job_run(alloc, Job::New { name, blocks }, b"");
     Ok(ran.into_image().ok_or("no image")?)
 }
 
 /// A command that is accepted and changes the volume: the image after it.
-fn changed(alloc: Global, image: Vec<u8>, command: Command, input: &[u8]) -> Result<Vec<u8>, Fail> {
+pub(crate) fn changed(
+    alloc: Global,
+    image: Vec<u8>,
+    command: Command,
+    input: &[u8],
+) -> Result<Vec<u8>, Fail> {
     let ran = job_run(alloc, Job::Files { image, command }, input);
     Ok(ran.into_image().ok_or("no image")?)
 }
 
-fn put(alloc: Global, name: &str) -> Result<Command, AllocError> {
+pub(crate) fn put(alloc: Global, name: &str) -> Result<Command, AllocError> {
     Ok(Command::Put(text(alloc, name)?, 5, Vec::new(alloc)))
 }
 
@@ -36,7 +41,7 @@ files 1 free 13 largest 13
 ";
 
 /// A command on an image comes to this.
-fn answers(
+pub(crate) fn answers(
     rt: &impl Abort,
     alloc: Global,
     image: &[u8],
@@ -50,12 +55,17 @@ fn answers(
 }
 
 /// The list of an image's volume.
-fn lists(rt: &impl Abort, alloc: Global, image: &[u8], list: &str) -> Result<(), AllocError> {
+pub(crate) fn lists(
+    rt: &impl Abort,
+    alloc: Global,
+    image: &[u8],
+    list: &str,
+) -> Result<(), AllocError> {
     answers(rt, alloc, image, Command::List, b"xyz", (0, "", list, 3))
 }
 
 /// A refused command.
-fn refuses(
+pub(crate) fn refuses(
     rt: &impl Abort,
     alloc: Global,
     image: &[u8],
@@ -67,7 +77,7 @@ fn refuses(
 }
 
 /// A volume with the file A of three bytes.
-fn one_file(alloc: Global) -> Result<Vec<u8>, Fail> {
+pub(crate) fn one_file(alloc: Global) -> Result<Vec<u8>, Fail> {
     let image = new_image(alloc, "work", 20)?;
     changed(alloc, image, put(alloc, "A")?, b"xyz")
 }
@@ -144,7 +154,7 @@ fn refuses_front(
     refuses(rt, alloc, front, put(alloc, "A")?, message, 3)
 }
 
-fn set(image: &mut [u8], place: usize, byte: u8) {
+pub(crate) fn set(image: &mut [u8], place: usize, byte: u8) {
     if let Some(there) = image.get_mut(place) {
         *there = byte;
     }
@@ -158,7 +168,7 @@ fn refused_images(rt: HostRuntime) -> Result<(), Fail> {
     refuses_front(&rt, alloc, &image, 2560, "refused volume 2")?;
     set(&mut image, 1040, 1);
     refuses(&rt, alloc, &image, Command::List, "refused volume 4 1", 3)?;
-    set(&mut image, 1026, 10);
+    set(&mut image, 1026, 7);
     refuses(&rt, alloc, &image, Command::List, "refused volume 3", 3)?;
     Ok(())
 }
@@ -196,7 +206,7 @@ A.TEXT          text     6     4 512 000-00-00
 files 1 free 10 largest 10
 ";
 
-fn put_text(alloc: Global, name: &str) -> Result<Command, AllocError> {
+pub(crate) fn put_text(alloc: Global, name: &str) -> Result<Command, AllocError> {
     Ok(Command::PutText(text(alloc, name)?, Vec::new(alloc)))
 }
 
@@ -272,6 +282,8 @@ fn other_commands(rt: HostRuntime) -> Result<(), Fail> {
     let alloc = rt.alloc();
     let image = dated(alloc)?;
     lists(&rt, alloc, &image, DATED)?;
+    let moved = Command::Get(text(alloc, "B")?);
+    answers(&rt, alloc, &image, moved, b"xyz", (0, "", "q", 3))?;
     let image = changed(alloc, image, Command::Zero(text(alloc, "new")?), b"")?;
     lists(&rt, alloc, &image, "NEW:\nfiles 0 free 14 largest 14\n")?;
     Ok(())

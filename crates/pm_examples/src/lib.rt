@@ -8,6 +8,8 @@ mod calls;
 #[cfg(test)]
 mod code;
 #[cfg(test)]
+mod copies;
+#[cfg(test)]
 mod debugger;
 #[cfg(test)]
 mod devices;

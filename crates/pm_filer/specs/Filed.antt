@@ -3,7 +3,7 @@ use Rattle.std.specs.Prelude.{ℕ, List, Option, Some, None, Result, Ok, Err, Is
 use Rattle.pm_volume.specs.Files.{file_bytes, file_named}
 use Rattle.pm_volume.specs.Directory.{directory_of}
 use Rattle.pm_volume.specs.Headers.{dated_image, last_date_of}
-use Rattle.pm_volume.specs.Made.{added, removed, renamed, zeroed}
+use Rattle.pm_volume.specs.Made.{added, doubled, removed, renamed, singled, zeroed}
 use Rattle.pm_volume.specs.Packing.{krunched_image}
 use Rattle.pm_textfile.specs.Reading.{text_of}
 use Rattle.pm_textfile.specs.Writing.{text_fault}
@@ -47,6 +47,8 @@ pub data Order : Type 0 where
   Krunch : Order
   Date : ℕ → ℕ → ℕ → Order
   Zero : List ℕ → Order
+  Duplicate : Order
+  Single : Order
 
 abbrev pub order_of : Command → Order
 order_of commands.List = ListFiles
@@ -59,6 +61,8 @@ order_of (commands.PutText name bytes) = PutText (string_bytes name) bytes.items
 order_of commands.Krunch = Krunch
 order_of (commands.Date year month day) = Date year month day
 order_of (commands.Zero name) = Zero (string_bytes name)
+order_of commands.Duplicate = Duplicate
+order_of commands.Single = Single
 
 -- what a command answers, by its bytes
 pub data Answer : Type 0 where
@@ -121,6 +125,8 @@ filed image Krunch = Ok (record { image = krunched_image image; answer = Done })
 filed image (Date year month day) =
     if is_date year month day then Ok (record { image = dated_image image (date_word year month day); answer = Done }) else Err faults.BadDate
 filed image (Zero name) = changed (zeroed image name)
+filed image Duplicate = changed (doubled image)
+filed image Single = Ok (record { image = singled image; answer = Done })
 
 -- a command may answer want of memory: one that gives bytes or text, where nothing else is wrong; and one that puts a text, whose file is
 -- made before anything is looked at
@@ -135,3 +141,5 @@ MayWantMemory (Change old new) outcome = ⊥
 MayWantMemory Krunch outcome = ⊥
 MayWantMemory (Date year month day) outcome = ⊥
 MayWantMemory (Zero name) outcome = ⊥
+MayWantMemory Duplicate outcome = ⊥
+MayWantMemory Single outcome = ⊥

@@ -1,7 +1,7 @@
 //! Commands, and what they answer.
 ghost use Rattle.std.specs.Prelude.{◌≡◌, ◌≢◌, Ok, Err, Some, None, IfOk, IfErr, IsErrOf, IsOk, OnErr, OnOk, if◌then◌else◌};
 ghost use Rattle.pm_volume.specs.Made.{added, renamed, zeroed};
-ghost use Rattle.pm_volume.specs.Directory.{directory_of};
+ghost use Rattle.pm_volume.specs.Directory.{IsVolume, directory_of};
 ghost use Rattle.pm_volume.specs.Headers.{last_date_of};
 ghost use Rattle.pm_textfile.specs.Writing.{text_fault};
 ghost use Rattle.pm_filer.specs.Filed.{Done, Filed, MayWantMemory, answer_of, bytes_of, date_word, filed, is_date, lent, order_of, read, written};
@@ -35,6 +35,10 @@ pub enum Command {
     Date(u8, u8, u8),
     /// Forgets all files and gives the volume this name.
     Zero(String),
+    /// Makes a second copy of the directory; a file that begins below block 10 stands in its way.
+    Duplicate,
+    /// Drops the second copy of the directory.
+    Single,
 }
 
 /// What a command answers.
@@ -74,6 +78,7 @@ fn get_text(alloc: Global, volume: &Volume, name: &str) -> Result<Reply, FilerFa
 /// Adds the text file of a text.
 fn put_text(alloc: Global, volume: &mut Volume, name: &str, text: &[u8]) -> Result<(), FilerFault>
     ensures done { OnOk result (written volume.old name.now text.now (text_fault text.now) ≡ Ok (record { image = volume.new; answer = Done })) }
+    ensures volume { OnOk result (IsVolume volume.new) }
     ensures refused { IfErr result (λ fault. fault ≢ FilerFault.NoMemory → written volume.old name.now text.now (text_fault text.now) ≡ Err fault) }
     ensures unchanged { OnErr result (volume.new ≡ volume.old) }
 {
@@ -100,6 +105,7 @@ fn date_word(year: u8, month: u8, day: u8) -> Option<u16>
 #[tactic(auto, using(crate::proofs::Made::made))]
 fn forget(volume: &mut Volume, name: &str) -> Result<(), VolumeFault>
     ensures done { OnOk result (zeroed volume.old name.now ≡ Ok volume.new) }
+    ensures volume { OnOk result (IsVolume volume.new) }
     ensures refused { IfErr result (λ fault. zeroed volume.old name.now ≡ Err fault) }
     ensures unchanged { OnErr result (volume.new ≡ volume.old) }
 {
@@ -111,6 +117,7 @@ fn forget(volume: &mut Volume, name: &str) -> Result<(), VolumeFault>
 #[tactic(auto, using(crate::proofs::Made::made))]
 fn put(volume: &mut Volume, name: &str, kind: u8, bytes: &[u8]) -> Result<(), VolumeFault>
     ensures done { OnOk result (added volume.old name.now kind bytes.now (last_date_of (directory_of volume.old)) ≡ Ok volume.new) }
+    ensures volume { OnOk result (IsVolume volume.new) }
     ensures refused { IfErr result (λ fault. added volume.old name.now kind bytes.now (last_date_of (directory_of volume.old)) ≡ Err fault) }
     ensures unchanged { OnErr result (volume.new ≡ volume.old) }
 {
@@ -123,6 +130,7 @@ fn put(volume: &mut Volume, name: &str, kind: u8, bytes: &[u8]) -> Result<(), Vo
 #[tactic(auto, using(crate::proofs::Made::made))]
 fn change(volume: &mut Volume, old: &str, new: &str) -> Result<(), VolumeFault>
     ensures done { OnOk result (renamed volume.old old.now new.now ≡ Ok volume.new) }
+    ensures volume { OnOk result (IsVolume volume.new) }
     ensures refused { IfErr result (λ fault. renamed volume.old old.now new.now ≡ Err fault) }
     ensures unchanged { OnErr result (volume.new ≡ volume.old) }
 {
@@ -139,6 +147,7 @@ pub fn apply(alloc: Global, volume: &mut Volume, command: Command) -> Result<Rep
     ensures refused { IfErr result (λ fault. fault ≢ FilerFault.NoMemory → filed volume.old (order_of command) ≡ Err fault) }
     ensures memory { IsErrOf result FilerFault.NoMemory → MayWantMemory (order_of command) (filed volume.old (order_of command)) }
     ensures unchanged { OnErr result (volume.new ≡ volume.old) }
+    ensures volume { IsVolume volume.old → IsVolume volume.new }
 {
     match command {
         Command::List => Ok(Reply::Lines(list_text(alloc, volume)?)),
@@ -171,6 +180,14 @@ pub fn apply(alloc: Global, volume: &mut Volume, command: Command) -> Result<Rep
         }
         Command::Zero(name) => {
             forget(volume, name.as_str())?;
+            Ok(Reply::Done)
+        }
+        Command::Duplicate => {
+            volume.add_duplicate()?;
+            Ok(Reply::Done)
+        }
+        Command::Single => {
+            volume.drop_duplicate();
             Ok(Reply::Done)
         }
     }

@@ -11,7 +11,7 @@ use Rattle.pm_filer.specs.declared.fault.FilerFault.{FilerFault}
 use Rattle.pm_streams.specs.declared.fault.Fault.{Fault}
 use Rattle.pm_tool.specs.declared.outcome.Outcome.{Outcome}
 use Rattle.pm_tool.specs.declared.outcome.Refusal.TheVariants as refusals
-use Rattle.pm_tool.specs.Files.{said_filed, said_files, said_new, takes_input, with_input}
+use Rattle.pm_tool.specs.Files.{said_filed, said_files, said_new, said_repaired, takes_input, with_input}
 use Rattle.pm_tool.specs.Outcomes.{Said, exit_number, refused, IsOutcome}
 use Rattle.pm_tool.specs.Said.{IsBrokenOff, IsDone, IsSound, Tells}
 use Rattle.pm_streams.specs.Streams.{AppendsFront, IsCause, IsFront, ReadsAll}
@@ -160,3 +160,22 @@ new_done name blocks had held outcome out sound = done_unread had held held outc
     left : (o : Option VolumeFault) (input : List ℕ) → (said_new o name blocks input).unread ≡ input
     left None input = refl
     left (Some fault) input = refl
+
+-- ---- repair
+
+module _ (r : Result (List ℕ) VolumeFault) where
+  pub repair_refused : (fault : VolumeFault) → r ≡ Err fault → (outcome : Outcome)
+      → ((unread : List ℕ) → IsOutcome outcome (refused (refusals.Volume fault) unread)) → (input : List ℕ) → IsOutcome outcome (said_repaired r input)
+  repair_refused fault e outcome out input = rw e (out input)
+
+pub repair_done : (r : Result (List ℕ) VolumeFault) (had held : Option (List ℕ)) (outcome : Outcome)
+    → ((input : List ℕ) → IsOutcome outcome (said_repaired r input)) → IsSound outcome.status → IsDone had had held held outcome (said_repaired r)
+repair_done r had held outcome out sound = done_unread had held held outcome (said_repaired r) (λ input. (told r input, out input, left r input)) sound
+  where
+    told : (o : Result (List ℕ) VolumeFault) (input : List ℕ) → Appends held held (said_repaired o input).written
+    told (Ok image) input = Appends-nil held
+    told (Err fault) input = Appends-nil held
+
+    left : (o : Result (List ℕ) VolumeFault) (input : List ℕ) → (said_repaired o input).unread ≡ input
+    left (Ok image) input = refl
+    left (Err fault) input = refl

@@ -1,9 +1,10 @@
 -- The jobs on volumes.
 use Rattle.std.specs.Prelude.{ℕ, Bool, true, false, List, [], Option, Some, None, Result, Ok, Err, if◌then◌else◌}
+use Rattle.pm_volume.specs.Copies.{repaired}
 use Rattle.pm_volume.specs.Directory.{image_fault}
 use Rattle.pm_volume.specs.Headers.{blank_image}
 use Rattle.pm_volume.specs.declared.fault.VolumeFault.{VolumeFault}
-use Rattle.pm_filer.specs.Filed.{Answer, Lines, Bytes, Done, Order, ListFiles, Get, Put, Remove, Change, GetText, PutText, Krunch, Date, Zero, Filed, filed}
+use Rattle.pm_filer.specs.Filed.{Answer, Lines, Bytes, Done, Order, ListFiles, Get, Put, Remove, Change, GetText, PutText, Krunch, Date, Zero, Duplicate, Single, Filed, filed}
 use Rattle.pm_filer.specs.declared.fault.FilerFault.{FilerFault}
 use Rattle.pm_tool.specs.declared.outcome.Exit.TheVariants as exits
 use Rattle.pm_tool.specs.declared.outcome.Refusal.TheVariants as refusals
@@ -38,6 +39,8 @@ takes_input (PutText name text) = true
 takes_input Krunch = false
 takes_input (Date year month day) = false
 takes_input (Zero name) = false
+takes_input Duplicate = false
+takes_input Single = false
 
 -- the command with the input's bytes in the place of its own
 abbrev pub with_input : Order → List ℕ → Order
@@ -51,6 +54,8 @@ with_input (PutText name text) input = PutText name input
 with_input Krunch input = Krunch
 with_input (Date year month day) input = Date year month day
 with_input (Zero name) input = Zero name
+with_input Duplicate input = Duplicate
+with_input Single input = Single
 
 -- a command on an image that is a volume: the input is read to its end where the command takes it, and else not at all
 abbrev pub said_order : List ℕ → Order → List ℕ → Said
@@ -70,3 +75,12 @@ said_files image order input = said_opened (image_fault image) image order input
 abbrev pub said_new : Option VolumeFault → List ℕ → ℕ → List ℕ → Said
 said_new None name blocks input = record { written = []; exit = exits.Ended; message = []; image = Some (blank_image name blocks); printer = []; unread = input }
 said_new (Some fault) name blocks input = refused (refusals.Volume fault) input
+
+-- a volume that was opened, or whose first copy was repaired, or why there is none; nothing is read
+abbrev pub said_repaired : Result (List ℕ) VolumeFault → List ℕ → Said
+said_repaired (Ok image) input = record { written = []; exit = exits.Ended; message = []; image = Some image; printer = []; unread = input }
+said_repaired (Err fault) input = refused (refusals.Volume fault) input
+
+-- the repair of an image
+abbrev pub said_repair : List ℕ → List ℕ → Said
+said_repair image input = said_repaired (repaired image) input

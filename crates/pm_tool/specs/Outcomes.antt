@@ -5,7 +5,7 @@ use Rattle.pm_words.specs.Errors.{number_of}
 use Rattle.pm_machine.specs.Faults.{boot_number}
 use Rattle.pm_machine.specs.declared.state.BootFault.{BootFault}
 use Rattle.pm_machine.specs.declared.state.BootFault.TheVariants as boot
-use Rattle.pm_volume.specs.Faults.{entry_in_fault, number_of as volume_number}
+use Rattle.pm_volume.specs.Faults.{detail_of, number_of as volume_number}
 use Rattle.pm_volume.specs.declared.fault.VolumeFault.{VolumeFault}
 use Rattle.pm_textfile.specs.Faults.{place_of, number_of as text_number}
 use Rattle.pm_textfile.specs.declared.fault.TextFault.{TextFault}
@@ -55,14 +55,14 @@ error_text boot.BadCode = []
 error_text (boot.Exec error) = 32 ∷ decimal (number_of error)
 error_text boot.NoMemory = []
 
--- a space and the entry of the directory, the slot, the line or the place, where a fault names one
+-- a space and the entry of the directory, the first copy's fault, the slot, the line or the place, where a fault names one
 abbrev pub entry_text : Option ℕ → List ℕ
 entry_text None = []
 entry_text (Some entry) = 32 ∷ decimal entry
 
--- the number of a volume's fault, and the entry that it names
+-- the number of a volume's fault, and the entry or the first copy's fault that it names
 abbrev pub volume_text : VolumeFault → List ℕ
-volume_text fault = decimal (volume_number fault) ++ entry_text (entry_in_fault fault)
+volume_text fault = decimal (volume_number fault) ++ entry_text (detail_of fault)
 
 -- the number of a text's fault, and the line or place that it names
 abbrev pub text_fault_text : TextFault → List ℕ

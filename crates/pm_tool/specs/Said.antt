@@ -17,7 +17,7 @@ use Rattle.pm_volume.specs.Headers.{blank_fault}
 use Rattle.pm_tool.specs.Assembly.{said_asm}
 use Rattle.pm_tool.specs.Code.{said_dis}
 use Rattle.pm_tool.specs.Disks.{booted, images_of, started}
-use Rattle.pm_tool.specs.Files.{said_files, said_new}
+use Rattle.pm_tool.specs.Files.{said_files, said_new, said_repair}
 use Rattle.pm_tool.specs.Hex.{spelled}
 use Rattle.pm_tool.specs.Outcomes.{Said, exit_number, exit_of, refused, IsOutcome}
 use Rattle.pm_tool.specs.declared.steps.Show.{Show}
@@ -76,6 +76,7 @@ said (jobs.Asm list) input = said_asm list input
 said jobs.Dis input = said_dis input
 said (jobs.Files image command) input = said_files image.items (order_of command) input
 said (jobs.New name blocks) input = said_new (blank_fault (string_bytes name) blocks) (string_bytes name) blocks input
+said (jobs.Repair image) input = said_repair image.items input
 
 -- what the steps of a machine that starts have shown once these console bytes are keyed and no more are there
 abbrev pub shown_started : Show → ℕ → Result State Refusal → List ℕ → List ℕ
@@ -143,3 +144,4 @@ IsPrompt (jobs.Asm list) had left held holds = Unit {0}
 IsPrompt jobs.Dis had left held holds = Unit {0}
 IsPrompt (jobs.Files image command) had left held holds = Unit {0}
 IsPrompt (jobs.New name blocks) had left held holds = Unit {0}
+IsPrompt (jobs.Repair image) had left held holds = Unit {0}

@@ -10,7 +10,7 @@ ghost use Rattle.pm_tool.specs.Said.{loaded, said, said_started, IsSound, IsCutS
 use crate::assembly::assemble;
 use crate::code::disassemble;
 use crate::debug::debug;
-use crate::files::{files, new_volume};
+use crate::files::{files, new_volume, repair_volume};
 use crate::hex;
 use crate::outcome::{Exit, Job, Outcome, Refusal, refuse};
 use crate::programs::{play, program};
@@ -106,6 +106,7 @@ fn perform<R: Source, W: Sink>(
         Job::Dis => disassemble(alloc, source, sink),
         Job::Files { image, command } => files(alloc, source, sink, image, command),
         Job::New { name, blocks } => Ok(new_volume(alloc, name.as_str(), blocks)?),
+        Job::Repair { image } => Ok(repair_volume(alloc, image)?),
     }
 }
 

@@ -3,7 +3,7 @@ ghost use Rattle.std.specs.Prelude.{◌≡◌, false, [], Ok, List, ℕ, IfOk, I
 ghost use Rattle.std.specs.Io.KnownBytes.{Appends};
 ghost use Rattle.pm_filer.specs.Filed.{answer_of, filed, order_of};
 ghost use Rattle.pm_volume.specs.Headers.{blank_fault};
-ghost use Rattle.pm_tool.specs.Files.{said_new, answer_bytes, said_filed, said_files, said_order, takes_input, with_input};
+ghost use Rattle.pm_tool.specs.Files.{said_new, answer_bytes, said_filed, said_files, said_order, said_repair, takes_input, with_input};
 ghost use Rattle.pm_tool.specs.Outcomes.{IsOutcome};
 ghost use Rattle.pm_tool.specs.Said.{IsBrokenOff, IsDone, IsSound};
 ghost use Rattle.pm_streams.specs.Streams.{AppendsFront, IsCause};
@@ -113,5 +113,16 @@ pub(crate) fn new_volume(alloc: Global, name: &str, blocks: u16) -> Result<Outco
         Ok(volume) => Ok(Outcome::keeping(alloc, volume.into_bytes())),
         Err(VolumeFault::NoMemory) => Err(AllocError),
         Err(fault) => Ok(refuse(alloc, Refusal::Volume(fault))?),
+    }
+}
+
+/// An image as a volume, its first copy repaired where it alone is damaged.
+pub(crate) fn repair_volume(alloc: Global, image: Vec<u8>) -> Result<Outcome, AllocError>
+    ensures outcome { IfOk result (λ outcome. (input : List ℕ) → IsOutcome outcome (said_repair image.items input)) }
+    ensures sound { IfOk result (λ outcome. IsSound outcome.status) }
+{
+    match Volume::repair(image) {
+        Ok(repaired) => Ok(Outcome::keeping(alloc, repaired.into_bytes())),
+        Err((fault, _)) => Ok(refuse(alloc, Refusal::Volume(fault))?),
     }
 }

@@ -70,6 +70,12 @@ pub enum Job {
         name: String,
         blocks: u16,
     },
+    /// An image whose first copy of the directory alone is damaged, with the good second copy in that place; an image that is
+    /// a volume stays as it is. The outcome has the image that is to be kept. The input is not read. Any other image is refused
+    /// by `refused volume N`.
+    Repair {
+        image: Vec<u8>,
+    },
 }
 
 /// How a job ended.
@@ -182,7 +188,7 @@ pub(crate) enum Refusal {
     Asm(AsmFault),
 }
 
-/// The number of a volume's fault, and the entry that it names.
+/// The number of a volume's fault, and the entry or the first copy's fault that it names.
 #[derive(Clone, Copy)]
 struct VolumeNumber(VolumeFault);
 
@@ -191,8 +197,8 @@ impl fmt::Display for VolumeNumber {
 
     fn fmt<W: fmt::Write>(&self, f: &mut fmt::Formatter<W>) -> fmt::Result {
         let number = self.0.number();
-        match self.0.entry() {
-            Some(entry) => write!(f, "{number} {entry}"),
+        match self.0.detail() {
+            Some(detail) => write!(f, "{number} {detail}"),
             None => write!(f, "{number}"),
         }
     }

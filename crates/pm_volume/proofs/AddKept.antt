@@ -1,17 +1,22 @@
 -- What an added file leaves as it was.
-use Rattle.std.proofs.Common.{◌≡◌, ◌<◌, ◌≤◌, ◌⊎◌, ℕ, ◌+◌, ◌-◌, ◌*◌, List, ◌∙◌, inl, inr, length, get_or, refl, arith}
-use Rattle.pm_volume.specs.Changes.{FitsSlot, added_spans, blocks_for, new_entry, slot_of, with_directory, with_file, with_slot}
+use Rattle.std.proofs.Common.{◌≡◌, ◌<◌, ◌≤◌, ◌⊎◌, ℕ, ◌+◌, ◌-◌, ◌*◌, ◌/◌, List, [], ◌∷◌, ◌∙◌, inl, inr, length, get_or, refl, arith}
+use Rattle.pm_volume.specs.Changes.{FitsSlot, blocks_for, new_entry, slot_of, with_directory, with_file, with_slot}
 use Rattle.pm_volume.specs.Directory.{IsVolume, directory_of, file_count}
 use Rattle.pm_volume.specs.Files.{files_of}
-use Rattle.pm_volume.specs.Kept.{ChangesOnly, KeepsFiles}
+use Rattle.pm_volume.specs.Kept.{ChangesOnly, KeepsFiles, Span, blocks_span, count_span, slots_span}
 use Rattle.pm_volume.specs.declared.entry.Entry.{Entry}
 use Rattle.pm_volume.specs.declared.gap.Gap.{Gap}
+use Rattle.pm_volume.proofs.DirectoryLaws.{past_directory}
 use Rattle.pm_volume.proofs.EntryLaws.{length-slot_of}
 use Rattle.pm_volume.proofs.FileLaws.{length-with_file, outside_file}
 use Rattle.pm_volume.proofs.KeptLaws.{KeepsFile-from_outside, files_within, with_directory_outside, with_directory_same}
 use Rattle.pm_volume.proofs.PlaceLaws.{IsPlaced, IsRoomFor, IsRoomFor-placed, gap_in}
 use Rattle.pm_volume.proofs.SlotChanges.{length-with_slot, with_slot_outside}
 use Rattle.pm_volume.proofs.WrittenLaws.{length-directory, shifted}
+
+-- what an added file changes but for the second copy
+abbrev pub added_first : List ℕ → Gap → Entry → List Span
+added_first directory g e = count_span ∷ slots_span g.place (file_count directory + 2) ∷ blocks_span e ∷ []
 
 module _ (image name bytes : List ℕ) (kind date : ℕ) (g : Gap) (v : IsVolume image)
     (p : IsPlaced image name (blocks_for (length bytes)) g) (fit : FitsSlot (new_entry g name kind (length bytes) date)) where
@@ -40,7 +45,7 @@ module _ (image name bytes : List ℕ) (kind date : ℕ) (g : Gap) (v : IsVolume
   unfolding d entry
   outside place out = outside_file image g.place entry bytes d v.long refl size r.past_directory room place out
 
-  pub ChangesOnly-added : ChangesOnly (added_spans (directory_of image) g (new_entry g name kind (length bytes) date)) image
+  pub ChangesOnly-added : ChangesOnly (added_first (directory_of image) g (new_entry g name kind (length bytes) date)) image
       (with_file image g.place (new_entry g name kind (length bytes) date) bytes)
   unfolding d entry
   ChangesOnly-added =
@@ -67,4 +72,4 @@ module _ (image name bytes : List ℕ) (kind date : ℕ) (g : Gap) (v : IsVolume
       let out = (gap_in image name (blocks_for (length bytes)) g v p).apart k e h in
       KeepsFile-from_outside image (with_file image g.place entry bytes) _ long (omega (arith, w.within, v.has_directory.within, v.whole)) w.ordered w.one_block
       (λ place from to. outside place (apart (get_or (files_of image) k e) place out from to)
-      ∙ with_directory_outside image d place v.long size (inr (omega (arith, w.after, v.has_directory.begins))))
+      ∙ with_directory_outside image d place v.long size (inr (omega (arith, w.after, past_directory (directory_of image) (length image / 512) v.has_directory))))

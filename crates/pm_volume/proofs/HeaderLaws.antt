@@ -1,10 +1,11 @@
 -- Directories with another header.
 use Rattle.byteorder.specs.Endian.{little_bytes}
-use Rattle.std.proofs.Common.{◌≡◌, ◌<◌, ◌≤◌, ℕ, ◌+◌, ◌-◌, ◌*◌, ◌/◌, ◌%◌, List, [], ◌∙◌, ap, refl, length, replicate, get_or, arith}
+use Rattle.std.proofs.Common.{◌≡◌, ◌<◌, ◌≤◌, ◌⊎◌, inl, ℕ, ◌+◌, ◌-◌, ◌*◌, ◌/◌, ◌%◌, List, [], ◌∙◌, ap, refl, length, replicate, get_or, arith}
 use Rattle.std.proofs.lemmas.List.{get_or-replicate, length-replicate}
+use Rattle.pm_volume.specs.Changes.{with_directory}
 use Rattle.pm_volume.specs.Directory.{IsDirectory, IsVolume, block_count, directory_of, entries_from, entry_in, file_count, files_begin, files_in}
 use Rattle.pm_volume.specs.Entries.{AreInOrder, entry_of}
-use Rattle.pm_volume.specs.Headers.{blank_image, dated_image, last_date_of, new_directory, zeroed_image, zeros}
+use Rattle.pm_volume.specs.Headers.{blank_image, last_date_of, new_directory, zeros}
 use Rattle.pm_volume.specs.Files.{files_of}
 use Rattle.pm_volume.specs.Names.{name_field}
 use Rattle.pm_volume.specs.Words.{with_word, word_in, written}
@@ -53,8 +54,8 @@ module _ (d : List ℕ) (date : ℕ) (whole : length d ≡ 2048) where
       record {
         named = omega (arith, name, old.named);
         short = omega (arith, name, old.short);
-        begins = begins ∙ old.begins;
-        holds_directory = omega (arith, total, old.holds_directory);
+        begins = rw begins old.begins;
+        holds_directory = omega (arith, total, begins, old.holds_directory);
         within = omega (arith, total, old.within);
         few = omega (arith, count, old.few);
         in_order = rw (total, begins, files-dated old.few) old.in_order;
@@ -143,6 +144,10 @@ module _ (past : ℕ) (name : List ℕ) (blocks date : ℕ) (short : length name
       ∙ word_in-below d1 6 field 2 r2 (omega arith)
       ∙ word_in-written (zeros 2048) 2 past (omega (arith, length-zeros 2048)) fits
 
+  pub begins-new : past < 65536 → files_begin (new_directory past name blocks date) ≡ past
+  unfolding new_directory d1 d2 d3 d4 field
+  begins-new fits = past_read fits
+
   blocks_read : blocks < 65536 → word_in d4 14 ≡ blocks
   unfolding d3 d4
   blocks_read fits =
@@ -162,43 +167,52 @@ module _ (past : ℕ) (name : List ℕ) (blocks date : ℕ) (short : length name
   unfolding new_directory d1 d2 d3 d4 field entries_from
   files-new_directory = ap (entries_from d4 1) count_read
 
-  pub IsDirectory-new : (total : ℕ) → past ≡ 6 → 1 ≤ length name → 6 ≤ blocks → blocks < 65536 → blocks ≤ total
+  pub IsDirectory-new : (total : ℕ) → (past ≡ 6) ⊎ (past ≡ 10) → 1 ≤ length name → past ≤ blocks → blocks < 65536 → blocks ≤ total
       → IsDirectory (new_directory past name blocks date) total
   unfolding new_directory d1 d2 d3 d4 field AreInOrder
   IsDirectory-new total begins named some fits within = record {
     named = omega (arith, name_read, named);
     short = omega (arith, name_read, short);
-    begins = past_read (omega arith) ∙ begins;
-    holds_directory = omega (arith, blocks_read fits);
+    begins = rw (past_read (omega arith)) begins;
+    holds_directory = omega (arith, past_read (omega arith), blocks_read fits);
     within = omega (arith, blocks_read fits);
     few = omega (arith, count_read);
     in_order = rw files-new_directory tt;
   }
 
+-- the images of a new date and of a new directory, before the second copy is made the same
+abbrev pub dated_first : List ℕ → ℕ → List ℕ
+dated_first image date = with_directory image (with_word (directory_of image) 20 date)
+
+abbrev pub zeroed_first : List ℕ → List ℕ → List ℕ
+zeroed_first image name =
+    let directory = directory_of image in
+    with_directory image (new_directory (files_begin directory) name (block_count directory) (last_date_of directory))
+
 module _ (image : List ℕ) (v : IsVolume image) where
   -- a volume with another date
-  pub IsVolume-dated : (date : ℕ) → IsVolume (dated_image image date)
+  pub IsVolume-dated : (date : ℕ) → IsVolume (dated_first image date)
   IsVolume-dated date =
       let d = directory_of image in
       let whole = length-directory image v.long in
       IsVolume-with image (with_word d 20 date) v (length-dated d date whole) (IsDirectory-dated d date whole (length image / 512) v.has_directory)
 
-  pub files-dated_image : (date : ℕ) → files_of (dated_image image date) ≡ files_of image
-  files-dated_image date =
+  pub files-dated_first : (date : ℕ) → files_of (dated_first image date) ≡ files_of image
+  files-dated_first date =
       let d = directory_of image in
       let whole = length-directory image v.long in
       ap files_in (directory-with image (with_word d 20 date) v.long (length-dated d date whole)) ∙ files-dated d date whole v.has_directory.few
 
   -- a volume without its files
   module _ (name : List ℕ) (some : 1 ≤ length name) (short : length name ≤ 7) where
-    pub IsVolume-zeroed : block_count (directory_of image) < 65536 → IsVolume (zeroed_image image name)
+    pub IsVolume-zeroed : block_count (directory_of image) < 65536 → IsVolume (zeroed_first image name)
     IsVolume-zeroed fits =
         let d = directory_of image in
         let h = v.has_directory in
         IsVolume-with image (new_directory (files_begin d) name (block_count d) (last_date_of d)) v (length-new_directory (files_begin d) name (block_count d) (last_date_of d) short)
         (IsDirectory-new (files_begin d) name (block_count d) (last_date_of d) short (length image / 512) h.begins some h.holds_directory fits h.within)
 
-    pub files-zeroed : files_of (zeroed_image image name) ≡ []
+    pub files-zeroed : files_of (zeroed_first image name) ≡ []
     files-zeroed =
         let d = directory_of image in
         ap files_in (directory-with image (new_directory (files_begin d) name (block_count d) (last_date_of d)) v.long (length-new_directory (files_begin d) name (block_count d) (last_date_of d) short))
@@ -214,9 +228,14 @@ module _ (name : List ℕ) (blocks : ℕ) (some : 1 ≤ length name) (short : le
       let whole : length (zeros (512 * blocks)) % 512 ≡ 0 = omega (arith, length-zeros (512 * blocks)) in
       let count : length (zeros (512 * blocks)) / 512 ≡ blocks = omega (arith, length-zeros (512 * blocks)) in
       IsVolume-from_directory (zeros (512 * blocks)) (new_directory 6 name blocks 0) whole long (length-new_directory 6 name blocks 0 short)
-      (IsDirectory-new 6 name blocks 0 short (length (zeros (512 * blocks)) / 512) refl some room fits (omega (arith, count)))
+      (IsDirectory-new 6 name blocks 0 short (length (zeros (512 * blocks)) / 512) (inl refl) some room fits (omega (arith, count)))
 
   pub files-blank : files_of (blank_image name blocks) ≡ []
   files-blank =
       ap files_in (directory-with (zeros (512 * blocks)) (new_directory 6 name blocks 0) long (length-new_directory 6 name blocks 0 short))
       ∙ files-new_directory 6 name blocks 0 short
+
+  pub begins-blank : files_begin (directory_of (blank_image name blocks)) ≡ 6
+  begins-blank =
+      ap files_begin (directory-with (zeros (512 * blocks)) (new_directory 6 name blocks 0) long (length-new_directory 6 name blocks 0 short))
+      ∙ begins-new 6 name blocks 0 short (omega arith)

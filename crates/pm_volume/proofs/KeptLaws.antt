@@ -1,19 +1,20 @@
 -- What a change leaves as it was.
 use Rattle.byteorder.specs.Endian.{little_bytes}
-use Rattle.std.proofs.Common.{◌≡◌, ◌<◌, ◌≤◌, ◌⊎◌, ℕ, ◌+◌, ◌-◌, ◌*◌, List, [], ◌∷◌, ◌∙◌, ap, refl, inl, inr, length, drop, get_or, arith, Some}
+use Rattle.std.proofs.Common.{◌≡◌, ◌<◌, ◌≤◌, ◌⊎◌, ℕ, ◌+◌, ◌-◌, ◌*◌, ◌/◌, List, [], ◌∷◌, ◌∙◌, ap, refl, inl, inr, length, drop, get_or, arith, Some}
 use Rattle.std.proofs.lemmas.Bool.{cases_lt, le-leb, lt-leb}
 use Rattle.std.proofs.lemmas.List.{get_or-drop, get_or-take}
 use Rattle.std.proofs.lemmas.List.Elements.{All-weaker}
 use Rattle.std.specs.List.{All}
-use Rattle.pm_volume.specs.Changes.{removed_spans, with_directory, with_name, without_file, without_slot}
+use Rattle.pm_volume.specs.Changes.{with_directory, with_name, without_file, without_slot}
 use Rattle.pm_volume.specs.Directory.{IsVolume, block_count, directory_of, file_count, files_begin}
 use Rattle.pm_volume.specs.Files.{file_bytes, files_of}
-use Rattle.pm_volume.specs.Headers.{dated_image, last_date_of, new_directory, zeroed_image}
-use Rattle.pm_volume.specs.Kept.{ChangesOnly, IsOutside, KeepsFile, KeepsFiles, Span, date_span, directory_span, name_span}
+use Rattle.pm_volume.specs.Headers.{last_date_of, new_directory}
+use Rattle.pm_volume.specs.Kept.{ChangesOnly, IsOutside, KeepsFile, KeepsFiles, Span, count_span, date_span, directory_span, name_span, slots_span}
 use Rattle.pm_volume.specs.Names.{name_field}
 use Rattle.pm_volume.specs.Words.{with_word, written}
 use Rattle.pm_volume.specs.declared.entry.Entry.{Entry}
-use Rattle.pm_volume.proofs.HeaderLaws.{length-dated, length-new_directory}
+use Rattle.pm_volume.proofs.DirectoryLaws.{past_directory}
+use Rattle.pm_volume.proofs.HeaderLaws.{dated_first, length-dated, length-new_directory, zeroed_first}
 use Rattle.pm_volume.proofs.NameLaws.{length-name_field}
 use Rattle.pm_volume.proofs.OrderLaws.{IsWithin, all_within}
 use Rattle.pm_volume.proofs.RenameLaws.{length-named}
@@ -80,7 +81,7 @@ KeepsFiles-with_directory image d v size =
     All-weaker (IsWithin (files_begin (directory_of image)) (block_count (directory_of image))) (KeepsFile image (with_directory image d))
     (λ e w. KeepsFile-from_outside image (with_directory image d) e (length-with_directory image d v.long size)
     (omega (arith, w.within, v.has_directory.within, v.whole)) w.ordered w.one_block
-    (λ place from to. with_directory_outside image d place v.long size (inr (omega (arith, w.after, v.has_directory.begins)))))
+    (λ place from to. with_directory_outside image d place v.long size (inr (omega (arith, w.after, past_directory (directory_of image) (length image / 512) v.has_directory)))))
     (files_of image) (files_within image v)
 
 -- what another directory changes, where the rest of the directory is the same
@@ -92,9 +93,13 @@ ChangesOnly-with_directory image d spans long size same = record {
   rest = λ place out. with_directory_same image d place long size (same place out);
 }
 
+-- what the removal of a file changes but for the second copy
+abbrev pub removed_first : List ℕ → ℕ → List Span
+removed_first directory n = count_span ∷ slots_span n (file_count directory + 1) ∷ []
+
 module _ (image : List ℕ) (v : IsVolume image) where
   -- a date
-  pub ChangesOnly-dated : (date : ℕ) → ChangesOnly (date_span ∷ []) image (dated_image image date)
+  pub ChangesOnly-dated : (date : ℕ) → ChangesOnly (date_span ∷ []) image (dated_first image date)
   ChangesOnly-dated date =
       let d = directory_of image in
       let whole = length-directory image v.long in
@@ -102,7 +107,7 @@ module _ (image : List ℕ) (v : IsVolume image) where
       (λ place out from to. get_written_outside d 20 (little_bytes 2 date) (place - 1024) (omega arith) (shifted 1024 20 22 place from out.0))
 
   -- a new directory
-  pub ChangesOnly-zeroed : (name : List ℕ) → length name ≤ 7 → ChangesOnly (directory_span ∷ []) image (zeroed_image image name)
+  pub ChangesOnly-zeroed : (name : List ℕ) → length name ≤ 7 → ChangesOnly (directory_span ∷ []) image (zeroed_first image name)
   ChangesOnly-zeroed name short =
       let d = directory_of image in
       ChangesOnly-with_directory image (new_directory (files_begin d) name (block_count d) (last_date_of d)) (directory_span ∷ []) v.long
@@ -134,12 +139,12 @@ module _ (image : List ℕ) (v : IsVolume image) where
       KeepsFiles-named = KeepsFiles-with_directory image (written (directory_of image) (26 * n + 6) (name_field 15 name)) v length-with_name
 
     -- a removed file
-    pub ChangesOnly-removed : ChangesOnly (removed_spans (directory_of image) n) image (without_file image n)
+    pub ChangesOnly-removed : ChangesOnly (removed_first (directory_of image) n) image (without_file image n)
     ChangesOnly-removed =
         let d = directory_of image in
         let whole = length-directory image v.long in
         let few = v.has_directory.few in
-        ChangesOnly-with_directory image (without_slot d n) (removed_spans d n) v.long (length-without_slot d n whole few from to)
+        ChangesOnly-with_directory image (without_slot d n) (removed_first d n) v.long (length-without_slot d n whole few from to)
         (λ place out after below. without_slot_outside d n whole few from to (place - 1024)
         (shifted 1024 16 18 place after out.0) (shifted 1024 (26 * n) (26 * (file_count d + 1)) place after out.1.0))
 

@@ -1,15 +1,18 @@
 -- A volume whose files were moved together.
-use Rattle.std.proofs.Common.{◌≡◌, ◌<◌, ◌≤◌, ℕ, ◌+◌, ◌-◌, ◌*◌, List, [], ◌∷◌, ◌∙◌, ap, sym, refl, inl, inr, length, drop, get_or, slice_range, Some, arith}
+use Rattle.std.proofs.Common.{◌≡◌, ◌<◌, ◌≤◌, ℕ, ◌+◌, ◌-◌, ◌*◌, ◌/◌, List, [], ◌∷◌, ◌∙◌, ap, sym, refl, inl, inr, length, drop, get_or, slice_range, Some, arith}
 use Rattle.std.proofs.lemmas.Bool.{cases_lt, le-leb, lt-leb}
 use Rattle.std.proofs.lemmas.List.{get_or-drop, get_or-take}
 use Rattle.std.specs.List.{AllZip}
+use Rattle.pm_volume.specs.Copies.{KeepsCopies}
 use Rattle.pm_volume.specs.Directory.{IsVolume, block_count, directory_of, entries_from, file_count, files_begin}
 use Rattle.pm_volume.specs.Entries.{AreInOrder}
 use Rattle.pm_volume.specs.Files.{file_bytes, files_of}
-use Rattle.pm_volume.specs.Kept.{blocks_of}
-use Rattle.pm_volume.specs.Packing.{Krunches, MovesFile, moved_entry, new_place, packed, packed_image}
+use Rattle.pm_volume.specs.Kept.{ChangesOnly, blocks_of}
+use Rattle.pm_volume.specs.Packing.{Krunches, MovesFile, krunched_image, moved_entry, new_place, packed, packed_image, packed_spans}
 use Rattle.pm_volume.specs.Words.{word_in}
 use Rattle.pm_volume.specs.declared.entry.Entry.{Entry}
+use Rattle.pm_volume.proofs.CopyLaws.{ChangesOnly-mirrored, IsVolume-mirrored, KeepsCopies-mirrored, KeepsFiles-own, files-mirrored, moved-mirrored}
+use Rattle.pm_volume.proofs.DirectoryLaws.{past_directory}
 use Rattle.pm_volume.proofs.KeptLaws.{directory_byte}
 use Rattle.pm_volume.proofs.PackedLaws.{Packs, SameBlocks, new_place-down, order-packed, packs, spans-outside}
 use Rattle.pm_volume.proofs.SlotChanges.{length-entries_from}
@@ -64,7 +67,7 @@ module _ (image : List ℕ) (v : IsVolume image) (fits : block_count (directory_
   new = packed_image image 1 (files_begin (directory_of image)) (file_count (directory_of image))
 
   begin : 6 ≤ files_begin (directory_of image)
-  begin = omega (arith, v.has_directory.begins)
+  begin = past_directory (directory_of image) (length image / 512) v.has_directory
 
   room : 512 * block_count (directory_of image) ≤ length image
   room = omega (arith, v.has_directory.within, v.whole)
@@ -89,16 +92,11 @@ module _ (image : List ℕ) (v : IsVolume image) (fits : block_count (directory_
   unfolding word_in
   word place below = rw (header place (omega arith), header (place + 1) (omega arith)) refl
 
+  begins : files_begin (directory_of new) ≡ files_begin (directory_of image)
+  begins = word 2 (omega arith)
+
   files : files_of new ≡ packed (files_begin (directory_of image)) (files_of image)
   files = ap (entries_from (directory_of new) 1) (word 16 (omega arith)) ∙ moved.entries
-
-  pub Krunches-packed : Krunches image (packed_image image 1 (files_begin (directory_of image)) (file_count (directory_of image)))
-  unfolding new
-  Krunches-packed = record {
-    files = files;
-    moved = rw files (moves image new (block_count (directory_of image)) (files_begin (directory_of image)) (files_of image) v.has_directory.in_order room size moved.blocks);
-    rest = rw files moved.rest;
-  }
 
   pub IsVolume-packed : IsVolume (packed_image image 1 (files_begin (directory_of image)) (file_count (directory_of image)))
   unfolding new
@@ -110,10 +108,39 @@ module _ (image : List ℕ) (v : IsVolume image) (fits : block_count (directory_
         has_directory = record {
           named = omega (arith, header 6 (omega arith), h.named);
           short = omega (arith, header 6 (omega arith), h.short);
-          begins = word 2 (omega arith) ∙ h.begins;
-          holds_directory = omega (arith, word 14 (omega arith), h.holds_directory);
+          begins = rw (word 2 (omega arith)) h.begins;
+          holds_directory = omega (arith, word 14 (omega arith), word 2 (omega arith), h.holds_directory);
           within = omega (arith, word 14 (omega arith), h.within, size);
           few = omega (arith, word 16 (omega arith), h.few);
           in_order = rw (word 14 (omega arith), word 2 (omega arith), files) (order-packed (block_count (directory_of image)) (files_begin (directory_of image)) (files_of image) h.in_order);
         };
       }
+
+  zip : AllZip (MovesFile image new) (files_of image) (files_of new)
+  zip = rw files (moves image new (block_count (directory_of image)) (files_begin (directory_of image)) (files_of image) v.has_directory.in_order room size moved.blocks)
+
+  only : ChangesOnly (packed_spans 1 (files_of new)) image new
+  only = rw files moved.rest
+
+  volume : IsVolume new
+  unfolding new
+  volume = IsVolume-packed
+
+  -- the files were moved, and the second copy was made the same
+  pub Krunches-krunched : Krunches image (krunched_image image)
+  unfolding new
+  Krunches-krunched =
+      let same = files-mirrored new volume in
+      record {
+        files = same ∙ files;
+        moved = rw same (moved-mirrored image new (files_of image) (files_of new) (KeepsFiles-own new volume) zip);
+        rest = rw same (ChangesOnly-mirrored (packed_spans 1 (files_of new)) image new v volume begins only);
+      }
+
+  pub KeepsCopies-krunched : KeepsCopies image (krunched_image image)
+  unfolding new
+  KeepsCopies-krunched = KeepsCopies-mirrored [] image new v volume begins
+
+  pub IsVolume-krunched : IsVolume (krunched_image image)
+  unfolding new
+  IsVolume-krunched = IsVolume-mirrored new volume

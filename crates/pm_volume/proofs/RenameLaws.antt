@@ -133,8 +133,8 @@ module _ (d name : List ℕ) (n : ℕ) (whole : length d ≡ 2048) (short : leng
         record {
           named = omega (arith, title, old.named);
           short = omega (arith, title, old.short);
-          begins = begins ∙ old.begins;
-          holds_directory = omega (arith, total, old.holds_directory);
+          begins = rw begins old.begins;
+          holds_directory = omega (arith, total, begins, old.holds_directory);
           within = omega (arith, total, old.within);
           few = omega (arith, count, old.few);
           in_order = rw (total, begins, split-named) (order-named (block_count d) (files_begin d) (entries_from d 1 (n - 1)) (entry_in d n) (record (entry_in d n) { name = field })

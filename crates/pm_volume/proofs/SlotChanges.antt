@@ -198,8 +198,8 @@ module _ (d slot : List ℕ) (n : ℕ) (whole : length d ≡ 2048) (size : lengt
       record {
         named = omega (arith, name, old.named);
         short = omega (arith, name, old.short);
-        begins = begins ∙ old.begins;
-        holds_directory = omega (arith, total, old.holds_directory);
+        begins = rw begins old.begins;
+        holds_directory = omega (arith, total, begins, old.holds_directory);
         within = omega (arith, total, old.within);
         few = omega (arith, count-with_slot, free);
         in_order = rw (total, begins, files) order;

@@ -37,6 +37,12 @@ unfolding written
 listed image directory size =
     ap (λ (xs : List ℕ). take 1024 image ++ (directory ++ xs)) (drop-drop 2048 1024 image ∙ ap (λ (n : ℕ). drop (1024 + n) image) (sym size))
 
+-- another second copy, as a write of its part of the image
+pub listed_second : (image directory : List ℕ) → length directory ≡ 2048 → put_mid 3072 2048 image directory ≡ written image 3072 directory
+unfolding written
+listed_second image directory size =
+    ap (λ (xs : List ℕ). take 3072 image ++ (directory ++ xs)) (drop-drop 2048 3072 image ∙ ap (λ (n : ℕ). drop (3072 + n) image) (sym size))
+
 -- a list written back in place of one as long
 pub written_back : (old new : List ℕ) (n : ℕ) → length new ≡ length old → n ≡ length old → take n (new ++ drop (length new) old) ≡ new
 written_back old new n same size = take_at new (drop (length new) old) n (same ∙ sym size)

@@ -154,8 +154,8 @@ module _ (d : List ℕ) (n : ℕ) (whole : length d ≡ 2048) (few : file_count 
       record {
         named = omega (arith, name, old.named);
         short = omega (arith, name, old.short);
-        begins = begins ∙ old.begins;
-        holds_directory = omega (arith, total, old.holds_directory);
+        begins = rw begins old.begins;
+        holds_directory = omega (arith, total, begins, old.holds_directory);
         within = omega (arith, total, old.within);
         few = omega (arith, count-without_slot, few);
         in_order = rw (total, begins, files-without_slot) (order-remove (block_count d) (files_begin d) (n - 1) (files_in d) old.in_order);

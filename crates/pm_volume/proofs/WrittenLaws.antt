@@ -1,7 +1,8 @@
 -- Bytes written in a list.
 use Rattle.byteorder.specs.Endian.{little_bytes}
 use Rattle.std.proofs.Math.Nat.{mod-eq_of_lt}
-use Rattle.std.proofs.Common.{◌≡◌, ◌<◌, ◌≤◌, ◌⊎◌, inl, inr, ℕ, ◌+◌, ◌-◌, ◌*◌, ◌/◌, ◌%◌, List, [], ◌∷◌, ◌++◌, ◌∙◌, ap, sym, refl, length, map, set, take, drop, get_or, arith, length-append, length-take, length-drop}
+use Rattle.std.proofs.Common.{◌≡◌, ◌<◌, ◌≤◌, ◌⊎◌, inl, inr, ℕ, ◌+◌, ◌-◌, ◌*◌, ◌/◌, ◌%◌, List, [], ◌∷◌, ◌++◌, ◌∙◌, ap, sym, refl, length, map, set, slice_range, take, drop, get_or, arith, length-append, length-take, length-drop}
+use Rattle.std.proofs.lemmas.Bool.{cases_lt}
 use Rattle.std.specs.Char.{to_ascii_uppercase}
 use Rattle.std.proofs.lemmas.List.{append_assoc, drop_more, length-map, map_more, set-append_right, get_or-append_right, get_or-drop, get_or-take, get_or_append_left, length-take-le, ext_get_or}
 use Rattle.pm_volume.specs.Words.{word_in, written}
@@ -108,3 +109,23 @@ raised_more name field i below room =
     let none : i - i ≡ 0 = omega arith in
     set-append_right front (drop i field) i i c long (omega arith)
     ∙ rw (none, drop_more field i 0 room, map_more to_ascii_uppercase name i 0 below) (sym (append_assoc front (c ∷ []) (drop (i + 1) field)))
+
+-- a part copied to another place, item by item
+pub copied_part : (xs ys : List ℕ) (from to n : ℕ) → length ys ≡ length xs → from + n ≤ length xs → to + n ≤ length xs
+    → ((k : ℕ) → to ≤ k → k < to + n → get_or ys k 0 ≡ get_or xs (from + (k - to)) 0)
+    → ((k : ℕ) → k < to → get_or ys k 0 ≡ get_or xs k 0) → ((k : ℕ) → to + n ≤ k → get_or ys k 0 ≡ get_or xs k 0)
+    → ys ≡ written xs to (take n (drop from xs))
+copied_part xs ys from to n size source target inside below above =
+    let part = take n (drop from xs) in
+    let long : length part ≡ n = omega (arith, length-take n (drop from xs), length-drop from xs) in
+    let room : to + length part ≤ length xs = omega arith in
+    ext_get_or 0 ys (written xs to part) (size ∙ sym (length-written xs to part room)) (λ k _. elim (cases_lt k to) [
+      | inl low ↦ below k low ∙ sym (get_written_below xs to part k room low)
+      | inr high ↦
+          elim (cases_lt k (to + n)) [
+            | inl within ↦
+                inside k high within ∙ sym (get_written_in xs to part k room high (omega arith)
+                ∙ get_or-take n (drop from xs) (k - to) 0 (omega arith) ∙ get_or-drop from xs (k - to) 0)
+            | inr past ↦ above k past ∙ sym (get_written_above xs to part k room (omega arith))
+          ]
+    ])

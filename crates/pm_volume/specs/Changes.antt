@@ -2,6 +2,7 @@
 use Rattle.std.specs.Prelude.{◌≡◌, ◌==◌, ◌<◌, Bool, not, nat_le, is_some, ℕ, ◌+◌, ◌-◌, ◌*◌, ◌/◌, ◌%◌, List, [], ◌∷◌, ◌++◌, length, replicate, slice_range, slice_set, Option, Some, None, Result, Ok, Err, if◌then◌else◌}
 use Rattle.std.specs.List.{find, insert, list_any, position_from, remove}
 use Rattle.std.specs.Option.{ok_or}
+use Rattle.pm_volume.specs.Copies.{and_second, mirrored}
 use Rattle.pm_volume.specs.Directory.{block_count, directory_of, entries_from, entry_in, file_count, files_begin, files_in}
 use Rattle.pm_volume.specs.Files.{file_named, files_of, is_named}
 use Rattle.pm_volume.specs.Kept.{Span, blocks_span, count_span, slots_span}
@@ -108,12 +109,13 @@ pub record AddsFile (old new name : List ℕ) (kind : ℕ) (bytes : List ℕ) (d
   pub gap : Gap
   pub placed : place_for old name (blocks_for (length bytes)) ≡ Ok gap
   pub entry : e ≡ new_entry gap name kind (length bytes) date
-  pub image : new ≡ with_file old gap.place e bytes
+  pub image : new ≡ mirrored (with_file old gap.place e bytes)
   pub files : files_of new ≡ insert (files_of old) (gap.place - 1) e
 
--- what an added file changes: the number of files, the slots from its own to that of the last file, and its blocks
+-- what an added file changes: the number of files, the slots from its own to that of the last file, its blocks, and the second copy
 abbrev pub added_spans : List ℕ → Gap → Entry → List Span
-added_spans directory g e = count_span ∷ slots_span g.place (file_count directory + 2) ∷ blocks_span e ∷ []
+added_spans directory g e =
+    and_second directory (count_span ∷ slots_span g.place (file_count directory + 2) ∷ blocks_span e ∷ [])
 
 -- the image without the file in slot n; its blocks keep their bytes
 abbrev pub without_file : List ℕ → ℕ → List ℕ
@@ -127,12 +129,12 @@ slot_named directory name = position_from (is_named name) 1 (files_in directory)
 pub record RemovesFile (old new name : List ℕ) : Type 0 where
   pub slot : ℕ
   pub found : slot_named (directory_of old) name ≡ Some slot
-  pub image : new ≡ without_file old slot
+  pub image : new ≡ mirrored (without_file old slot)
   pub files : files_of new ≡ remove (files_of old) (slot - 1)
 
--- what the removal of the file in slot n changes: the number of files, and the slots from n to that of the last file
+-- what the removal of the file in slot n changes: the number of files, the slots from n to that of the last file, and the second copy
 abbrev pub removed_spans : List ℕ → ℕ → List Span
-removed_spans directory n = count_span ∷ slots_span n (file_count directory + 1) ∷ []
+removed_spans directory n = and_second directory (count_span ∷ slots_span n (file_count directory + 1) ∷ [])
 
 -- the files in all slots but this one
 abbrev pub files_beside : List ℕ → ℕ → List Entry
@@ -160,5 +162,5 @@ with_name image n name = with_directory image (written (directory_of image) (26 
 pub record RenamesFile (old new from to : List ℕ) : Type 0 where
   pub slot : ℕ
   pub found : slot_to_rename (directory_of old) from to ≡ Ok slot
-  pub image : new ≡ with_name old slot to
+  pub image : new ≡ mirrored (with_name old slot to)
   pub files : files_of new ≡ slice_set (files_of old) (slot - 1) (record (entry_in (directory_of old) slot) { name = name_field 15 to })

@@ -1,7 +1,7 @@
 -- The numbers of the faults.
 use Rattle.std.specs.Prelude.{ℕ, Option, Some, None}
 use Rattle.pm_volume.specs.declared.fault.VolumeFault.{VolumeFault}
-use Rattle.pm_volume.specs.declared.fault.VolumeFault.TheVariants.{NotBlocks, TooShort, BadHeader, BadEntry, TooManyFiles, PastEnd, NoRoom, DirectoryFull, Duplicate, BadName, NoFile, NoMemory}
+use Rattle.pm_volume.specs.declared.fault.VolumeFault.TheVariants.{NotBlocks, TooShort, BadHeader, BadEntry, TooManyFiles, PastEnd, NoRoom, DirectoryFull, Duplicate, BadName, NoFile, NoMemory, FirstCopyBad, Occupied}
 
 -- the number of a fault
 abbrev pub number_of : VolumeFault → ℕ
@@ -17,18 +17,22 @@ number_of Duplicate = 9
 number_of BadName = 10
 number_of NoFile = 11
 number_of NoMemory = 12
+number_of (FirstCopyBad n) = 13
+number_of Occupied = 14
 
--- the entry that a fault names
-abbrev pub entry_in_fault : VolumeFault → Option ℕ
-entry_in_fault NotBlocks = None
-entry_in_fault TooShort = None
-entry_in_fault BadHeader = None
-entry_in_fault (BadEntry n) = Some n
-entry_in_fault TooManyFiles = None
-entry_in_fault PastEnd = None
-entry_in_fault NoRoom = None
-entry_in_fault DirectoryFull = None
-entry_in_fault Duplicate = None
-entry_in_fault BadName = None
-entry_in_fault NoFile = None
-entry_in_fault NoMemory = None
+-- the number of its own that a fault has: an entry's, or the fault of the first copy
+abbrev pub detail_of : VolumeFault → Option ℕ
+detail_of NotBlocks = None
+detail_of TooShort = None
+detail_of BadHeader = None
+detail_of (BadEntry n) = Some n
+detail_of TooManyFiles = None
+detail_of PastEnd = None
+detail_of NoRoom = None
+detail_of DirectoryFull = None
+detail_of Duplicate = None
+detail_of BadName = None
+detail_of NoFile = None
+detail_of NoMemory = None
+detail_of (FirstCopyBad n) = Some n
+detail_of Occupied = None

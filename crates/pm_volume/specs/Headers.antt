@@ -2,6 +2,7 @@
 use Rattle.std.specs.Prelude.{not, nat_lt, ℕ, ◌*◌, List, replicate, Option, Some, None, if◌then◌else◌}
 use Rattle.pm_volume.specs.Directory.{block_count, directory_of, files_begin}
 use Rattle.pm_volume.specs.Changes.{with_directory}
+use Rattle.pm_volume.specs.Copies.{mirrored}
 use Rattle.pm_volume.specs.Names.{is_new_name, name_field}
 use Rattle.pm_volume.specs.Words.{with_word, word_in, written}
 use Rattle.pm_volume.specs.declared.fault.VolumeFault.{VolumeFault}
@@ -34,8 +35,8 @@ blank_fault name blocks =
 abbrev pub zeroed_image : List ℕ → List ℕ → List ℕ
 zeroed_image image name =
     let directory = directory_of image in
-    with_directory image (new_directory (files_begin directory) name (block_count directory) (last_date_of directory))
+    mirrored (with_directory image (new_directory (files_begin directory) name (block_count directory) (last_date_of directory)))
 
 -- the image with another last date
 abbrev pub dated_image : List ℕ → ℕ → List ℕ
-dated_image image date = with_directory image (with_word (directory_of image) 20 date)
+dated_image image date = mirrored (with_directory image (with_word (directory_of image) 20 date))

@@ -32,6 +32,10 @@ pub record ChangesOnly (spans : List Span) (old new : List ℕ) : Type 0 where
   pub size : length new ≡ length old
   pub rest : (place : ℕ) → IsOutside place spans → slice_index new place ≡ slice_index old place
 
+-- the word with the block where files begin
+abbrev pub past_span : Span
+past_span = record { begin = 1026; end = 1028 }
+
 -- the word with the number of files
 abbrev pub count_span : Span
 count_span = record { begin = 1040; end = 1042 }
@@ -43,6 +47,10 @@ date_span = record { begin = 1044; end = 1046 }
 -- the whole directory
 abbrev pub directory_span : Span
 directory_span = record { begin = 1024; end = 3072 }
+
+-- the second copy of the directory
+abbrev pub second_span : Span
+second_span = record { begin = 3072; end = 5120 }
 
 -- the slots of the directory from n up to m
 abbrev pub slots_span : ℕ → ℕ → Span

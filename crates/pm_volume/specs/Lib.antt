@@ -5,9 +5,11 @@ pub mod Entries
 pub mod Directory
 pub mod Files
 pub mod Kept
+pub mod Copies
 pub mod Changes
 pub mod Headers
 pub mod Packing
 pub mod Disks
 pub mod Space
 pub mod Made
+pub mod Laws

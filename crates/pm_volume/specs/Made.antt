@@ -1,16 +1,22 @@
 -- The image that a change makes, or why it is refused.
-use Rattle.std.specs.Prelude.{ℕ, List, length, Option, Some, None, Result, Ok, Err, if◌then◌else◌}
-use Rattle.pm_volume.specs.Changes.{blocks_for, new_entry, place_for, slot_named, slot_to_rename, with_file, with_name, without_file}
-use Rattle.pm_volume.specs.Directory.{directory_of}
-use Rattle.pm_volume.specs.Headers.{zeroed_image}
+use Rattle.std.specs.Prelude.{Bool, nat_lt, ℕ, List, length, Option, Some, None, Result, Ok, Err, if◌then◌else◌}
+use Rattle.std.specs.List.{list_any}
+use Rattle.pm_volume.specs.Changes.{blocks_for, new_entry, place_for, slot_named, slot_to_rename, with_directory, with_file, with_name, without_file}
+use Rattle.pm_volume.specs.Copies.{has_second, mirrored}
+use Rattle.pm_volume.specs.Directory.{block_count, directory_of}
+use Rattle.pm_volume.specs.Files.{files_of}
+use Rattle.pm_volume.specs.Headers.{zeroed_image, zeros}
+use Rattle.pm_volume.specs.Words.{with_word, written}
+use Rattle.pm_volume.specs.declared.entry.Entry.{Entry}
 use Rattle.pm_volume.specs.Names.{is_new_name}
 use Rattle.pm_volume.specs.declared.fault.VolumeFault.{VolumeFault}
-use Rattle.pm_volume.specs.declared.fault.VolumeFault.TheVariants.{BadName, NoFile}
+use Rattle.pm_volume.specs.declared.fault.VolumeFault.TheVariants.{BadHeader, BadName, NoFile, Occupied}
 use Rattle.pm_volume.specs.declared.gap.Gap.{Gap}
 
 -- a new file in a gap
 abbrev pub added_in : List ℕ → List ℕ → ℕ → List ℕ → ℕ → Result Gap VolumeFault → Result (List ℕ) VolumeFault
-added_in image name kind bytes date (Ok gap) = Ok (with_file image gap.place (new_entry gap name kind (length bytes) date) bytes)
+added_in image name kind bytes date (Ok gap) =
+    Ok (mirrored (with_file image gap.place (new_entry gap name kind (length bytes) date) bytes))
 added_in image name kind bytes date (Err fault) = Err fault
 
 -- the image with a new file of this name, kind, bytes and date
@@ -18,7 +24,7 @@ unfoldable pub added : List ℕ → List ℕ → ℕ → List ℕ → ℕ → Re
 added image name kind bytes date = added_in image name kind bytes date (place_for image name (blocks_for (length bytes)))
 
 abbrev pub removed_at : List ℕ → Option ℕ → Result (List ℕ) VolumeFault
-removed_at image (Some slot) = Ok (without_file image slot)
+removed_at image (Some slot) = Ok (mirrored (without_file image slot))
 removed_at image None = Err NoFile
 
 -- the image without the first file of this name
@@ -26,7 +32,7 @@ unfoldable pub removed : List ℕ → List ℕ → Result (List ℕ) VolumeFault
 removed image name = removed_at image (slot_named (directory_of image) name)
 
 abbrev pub renamed_at : List ℕ → List ℕ → Result ℕ VolumeFault → Result (List ℕ) VolumeFault
-renamed_at image name (Ok slot) = Ok (with_name image slot name)
+renamed_at image name (Ok slot) = Ok (mirrored (with_name image slot name))
 renamed_at image name (Err fault) = Err fault
 
 -- the image with another name for the first file of this name
@@ -36,3 +42,21 @@ renamed image old new = renamed_at image new (slot_to_rename (directory_of image
 -- the image with a new directory of this name
 unfoldable pub zeroed : List ℕ → List ℕ → Result (List ℕ) VolumeFault
 zeroed image name = if is_new_name 7 name then Ok (zeroed_image image name) else Err BadName
+
+-- an image whose files begin at another block
+abbrev pub begun_at : List ℕ → ℕ → List ℕ
+begun_at image past = with_directory image (with_word (directory_of image) 2 past)
+
+-- whether a file begins below block 10, where a second copy ends
+abbrev pub is_occupied : List ℕ → Bool
+is_occupied image = list_any (λ (e : Entry). nat_lt e.first 10) (files_of image)
+
+-- the image with a second copy of its directory
+unfoldable pub doubled : List ℕ → Result (List ℕ) VolumeFault
+doubled image =
+    if nat_lt (block_count (directory_of image)) 10 then Err BadHeader
+    else (if is_occupied image then Err Occupied else Ok (mirrored (begun_at image 10)))
+
+-- the image without its second copy, whose blocks become zero; one that has none stays
+unfoldable pub singled : List ℕ → List ℕ
+singled image = if has_second image then written (begun_at image 6) 3072 (zeros 2048) else image

@@ -1,7 +1,8 @@
--- The files of a volume moved together, so that its free blocks are one gap.
+-- The files of a volume moved together, so that its free blocks are one gap, but for bad blocks, which stay.
 use Rattle.std.specs.Prelude.{◌≡◌, ◌==◌, ℕ, zero, suc, ◌+◌, ◌-◌, ◌*◌, List, [], ◌∷◌, if◌then◌else◌}
 use Rattle.std.specs.List.{AllZip}
 use Rattle.pm_volume.specs.Changes.{with_directory}
+use Rattle.pm_volume.specs.Copies.{and_second, mirrored}
 use Rattle.pm_volume.specs.Directory.{directory_of, entry_in, file_count, files_begin}
 use Rattle.pm_volume.specs.Files.{file_bytes, files_of}
 use Rattle.pm_volume.specs.Kept.{ChangesOnly, Span, blocks_of, blocks_span, places_span}
@@ -37,7 +38,7 @@ pub record MovesFile (old new : List ℕ) (e f : Entry) : Type 0 where
 pub record Krunches (old new : List ℕ) : Type 0 where
   pub files : files_of new ≡ packed (files_begin (directory_of old)) (files_of old)
   pub moved : AllZip (MovesFile old new) (files_of old) (files_of new)
-  pub rest : ChangesOnly (packed_spans 1 (files_of new)) old new
+  pub rest : ChangesOnly (and_second (directory_of old) (packed_spans 1 (files_of new))) old new
 
 -- What follows is how the files are moved, one after the other. What that means is said above.
 
@@ -58,6 +59,7 @@ packed_image image n from (suc left) =
     let to = new_place from e in
     packed_image (with_moved image n e to) (n + 1) (to + (e.end - e.first)) left
 
--- the image after all files were moved
+-- the image after all files were moved, its second copy the same as the first
 abbrev pub krunched_image : List ℕ → List ℕ
-krunched_image image = packed_image image 1 (files_begin (directory_of image)) (file_count (directory_of image))
+krunched_image image =
+    mirrored (packed_image image 1 (files_begin (directory_of image)) (file_count (directory_of image)))

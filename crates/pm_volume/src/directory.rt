@@ -38,7 +38,8 @@ fn is_header(directory: &[u8]) -> bool
     requires whole { length directory.now ≡ 2048 }
     ensures header { result ≡ is_header directory.now }
 {
-    matches!(directory[6], 1..=7) && word(directory, 2) == 6 && word(directory, 14) >= 6
+    let past = word(directory, 2);
+    matches!(directory[6], 1..=7) && (past == 6 || past == 10) && past <= word(directory, 14)
 }
 
 // The first fault of a directory in an image of so many blocks.

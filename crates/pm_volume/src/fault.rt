@@ -1,7 +1,7 @@
 //! The faults of volumes and their numbers.
 
 ghost use Rattle.std.specs.Prelude.{◌≡◌};
-ghost use Rattle.pm_volume.specs.Faults.{entry_in_fault, number_of};
+ghost use Rattle.pm_volume.specs.Faults.{detail_of, number_of};
 
 use thiserror::Error;
 
@@ -14,8 +14,8 @@ pub enum VolumeFault {
     /// 2: the image has fewer than 6 blocks, so no room for a directory.
     #[error("the image has no room for a directory")]
     TooShort,
-    /// 3: a volume's name without 1 to 7 characters, a directory that does not end at block 6, or
-    /// fewer than 6 blocks.
+    /// 3: a volume's name without 1 to 7 characters, files that begin neither at block 6 nor at
+    /// block 10, or fewer blocks than that.
     #[error("the directory's header is damaged")]
     BadHeader,
     /// 4: this entry has a name without 1 to 15 characters, blocks before the previous entry's
@@ -46,6 +46,13 @@ pub enum VolumeFault {
     /// 12: memory was refused.
     #[error("out of memory")]
     NoMemory,
+    /// 13: the first copy of the directory has the fault of this number, 3 to 6, and the second
+    /// copy is good.
+    #[error("the first copy of the directory is damaged, the second is good")]
+    FirstCopyBad(u8),
+    /// 14: a file begins below block 10, where a second copy of the directory would stand.
+    #[error("a file stands where the second copy would")]
+    Occupied,
 }
 
 impl VolumeFault {
@@ -66,15 +73,19 @@ impl VolumeFault {
             VolumeFault::BadName => 10,
             VolumeFault::NoFile => 11,
             VolumeFault::NoMemory => 12,
+            VolumeFault::FirstCopyBad(_) => 13,
+            VolumeFault::Occupied => 14,
         }
     }
 
-    /// The entry that the fault names, counted from 1; none for every fault but `BadEntry`.
-    pub fn entry(self) -> Option<u16>
-        ensures named { result ≡ entry_in_fault self }
+    /// The number of its own that the fault has: of `BadEntry` the entry, counted from 1, of
+    /// `FirstCopyBad` the number of the first copy's fault.
+    pub fn detail(self) -> Option<u16>
+        ensures named { result ≡ detail_of self }
     {
         match self {
             VolumeFault::BadEntry(n) => Some(n),
+            VolumeFault::FirstCopyBad(number) => Some(u16::from(number)),
             _ => None,
         }
     }

@@ -2,17 +2,20 @@
 #![tactic(auto)]
 
 mod changes;
+mod copies;
 mod directory;
 mod disk;
 mod entry;
 mod fault;
 mod gap;
+pub mod laws;
 mod packing;
 mod slots;
 mod space;
 mod volume;
 mod words;
 
+pub use copies::Copies;
 pub use directory::Entries;
 pub use disk::Disk;
 pub use entry::Entry;

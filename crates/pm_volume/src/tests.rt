@@ -1,6 +1,6 @@
 //! Examples of volumes.
 
-use crate::{Volume, VolumeFault};
+use crate::{Copies, Volume, VolumeFault};
 use std::alloc::{AllocError, Global};
 use std::test::Fail;
 
@@ -40,7 +40,8 @@ fn refused_images(rt: HostRuntime) -> Result<(), Fail> {
     assert_eq!(rt; fault_after(rt.alloc(), 0, b"\x00"), None);
     assert_eq!(rt; fault_after(rt.alloc(), 1030, b"\x00"), header);
     assert_eq!(rt; fault_after(rt.alloc(), 1030, b"\x08"), header);
-    assert_eq!(rt; fault_after(rt.alloc(), 1026, b"\x0a"), header);
+    assert_eq!(rt; fault_after(rt.alloc(), 1026, b"\x07"), header);
+    assert_eq!(rt; fault_after(rt.alloc(), 1026, b"\x0a"), None);
     assert_eq!(rt; fault_after(rt.alloc(), 1038, b"\x05"), header);
     let past = Some(VolumeFault::PastEnd);
     assert_eq!(rt; fault_after(rt.alloc(), 1038, b"\x15"), past);
@@ -62,7 +63,7 @@ fn refused_images(rt: HostRuntime) -> Result<(), Fail> {
     let short = Some(VolumeFault::TooShort);
     assert_eq!(rt; fault_of_zeros(rt.alloc(), 2560)?, short);
     assert_eq!(rt; fault_of_zeros(rt.alloc(), 0)?, short);
-    assert_eq!(rt; VolumeFault::BadEntry(7).entry(), Some(7));
+    assert_eq!(rt; VolumeFault::BadEntry(7).detail(), Some(7));
     assert_eq!(rt; VolumeFault::NoMemory.number(), 12);
     Ok(())
 }
@@ -198,5 +199,103 @@ fn unread_bytes_stay(rt: HostRuntime) -> Result<(), Fail> {
     assert_eq!(rt; image.get(3072).copied(), Some(b'b'));
     assert!(rt; are_all(&image, 3073, 3584, 0));
     assert!(rt; are_all(&image, 3584, 10240, 165));
+    Ok(())
+}
+
+// The image of a volume of 20 blocks with a second copy of its directory and a file A of 3 bytes.
+fn doubled(alloc: Global) -> Result<Vec<u8>, VolumeFault> {
+    let mut volume = Volume::blank(alloc, "work", 20)?;
+    volume.add_duplicate()?;
+    volume.add("A", 5, b"abc", 0)?;
+    Ok(volume.into_bytes())
+}
+
+// The fault of that image, cut to so many bytes, with other bytes from two places on.
+fn fault_of_doubled(
+    alloc: Global,
+    size: usize,
+    first: u8,
+    at: usize,
+    second: &[u8],
+) -> Option<VolumeFault> {
+    let Ok(mut image) = doubled(alloc) else {
+        return Some(VolumeFault::NoMemory);
+    };
+    write(&mut image, 1030, &[first]);
+    write(&mut image, at, second);
+    image.truncate(size);
+    Volume::open(image).err().map(|e| e.0)
+}
+
+#[test]
+fn copies_are_kept_the_same(rt: HostRuntime) -> Result<(), Fail> {
+    let mut image = work(rt.alloc())?;
+    write(&mut image, 1026, b"\x0a");
+    let mut volume = Volume::open(image).map_err(|e| e.0)?;
+    assert_eq!(rt; volume.duplicate(), Copies::Differs);
+    let a = volume.add("A", 5, b"abc", 0)?;
+    assert_eq!(rt; (a.first, volume.duplicate()), (10, Copies::Same));
+    let space = volume.space();
+    assert_eq!(rt; (space.free, space.largest), (9, 9));
+    volume.remove("A")?;
+    let b = volume.add("B", 5, b"b", 0)?;
+    assert_eq!(rt; b.first, 10);
+    volume.rename("b", "C")?;
+    volume.krunch();
+    volume.set_date(9);
+    assert_eq!(rt; volume.duplicate(), Copies::Same);
+    volume.zero("NEW")?;
+    assert_eq!(rt; volume.duplicate(), Copies::Same);
+    volume.drop_duplicate();
+    assert_eq!(rt; volume.duplicate(), Copies::Single);
+    let image = volume.into_bytes();
+    assert!(rt; are_all(&image, 3072, 5120, 0));
+    Ok(())
+}
+
+#[test]
+fn second_copy_repairs(rt: HostRuntime) -> Result<(), Fail> {
+    let bad = Some(VolumeFault::FirstCopyBad(3));
+    let header = Some(VolumeFault::BadHeader);
+    assert_eq!(rt; fault_of_doubled(rt.alloc(), 10240, 4, 0, b""), None);
+    assert_eq!(rt; fault_of_doubled(rt.alloc(), 10240, 4, 5000, b"x"), None);
+    assert_eq!(rt; fault_of_doubled(rt.alloc(), 10240, 0, 0, b""), bad);
+    assert_eq!(rt;
+        fault_of_doubled(rt.alloc(), 10240, 0, 3078, b"\x00"),
+        header
+    );
+    assert_eq!(rt;
+        fault_of_doubled(rt.alloc(), 10240, 0, 3074, b"\x06"),
+        header
+    );
+    assert_eq!(rt; fault_of_doubled(rt.alloc(), 4608, 0, 0, b""), header);
+    let past = Some(VolumeFault::PastEnd);
+    assert_eq!(rt; fault_of_doubled(rt.alloc(), 4608, 4, 0, b""), past);
+    let mut image = doubled(rt.alloc())?;
+    write(&mut image, 1024, &[255; 2048]);
+    let volume = Volume::repair(image).map_err(|e| e.0)?;
+    assert_eq!(rt; volume.duplicate(), Copies::Same);
+    assert_eq!(rt;
+        (volume.entries().count(), volume.name()),
+        (1, b"WORK".as_slice())
+    );
+    if let Some(a) = volume.find("a") {
+        assert_eq!(rt; volume.file(&a), Some(b"abc".as_slice()));
+    }
+    Ok(())
+}
+
+#[test]
+fn room_for_a_second_copy(rt: HostRuntime) -> Result<(), Fail> {
+    let mut small = Volume::blank(rt.alloc(), "WORK", 8)?;
+    assert_eq!(rt; small.add_duplicate().err(), Some(VolumeFault::BadHeader));
+    let mut volume = Volume::blank(rt.alloc(), "WORK", 20)?;
+    volume.add("A", 5, b"", 0)?;
+    assert_eq!(rt; volume.add_duplicate().err(), Some(VolumeFault::Occupied));
+    volume.drop_duplicate();
+    assert_eq!(rt;
+        (volume.duplicate(), volume.entries().count()),
+        (Copies::Single, 1)
+    );
     Ok(())
 }

@@ -1,12 +1,16 @@
 //! Volumes: images whose directory is sound.
 
-ghost use Rattle.std.specs.Prelude.{◌≡◌, ◌↔◌, ◌+◌, ◌≤◌, [], ◌∷◌, length, slice_index, slice_range, unwrap_or, Err, None, Some, IfErr, IfOk, IfSome, IsOk, IsTrue, OnOk, OnErr, true, false, ℕ};
+ghost use Rattle.std.specs.Prelude.{◌≡◌, ◌≢◌, ◌↔◌, ◌+◌, ◌≤◌, [], ◌∷◌, length, slice_index, slice_range, unwrap_or, Err, None, Ok, Some, IfErr, IfOk, IfSome, IsOk, IsTrue, OnOk, OnErr, true, false, ℕ};
 ghost use Rattle.pm_volume.specs.Changes.{blocks_for};
 ghost use Rattle.pm_volume.specs.Directory.{directory_of, file_count, image_fault};
 ghost use Rattle.pm_volume.specs.Headers.{zeros};
 
 use crate::changes::{
-    blocks_for, date_volume, name_file, new_entry, put_file, renew_directory, take_file,
+    add_second, blocks_for, date_volume, drop_second, name_file, new_entry, put_file,
+    renew_directory, take_file,
+};
+use crate::copies::{
+    Copies, PAST_SECOND, SECOND, SECOND_END, are_same, has_second, is_second_good, mirror, restore,
 };
 use crate::directory::{
     DIRECTORY, DIRECTORY_END, Entries, MOST_FILES, fault_of_directory, is_named_beside, slot_named,
@@ -40,8 +44,11 @@ impl Model for Volume {
 
 impl Volume {
     ghost use Rattle.pm_volume.specs.Changes.{added_spans, removed_spans, AddsFile, RemovesFile, RenamesFile, place_for, slot_named, slot_to_rename};
+    ghost use Rattle.pm_volume.specs.Copies.{HasCopies, KeepsCopies, and_second, repaired};
+    ghost use Rattle.pm_volume.specs.declared.copies.Copies.TheVariants as copies;
+    ghost use Rattle.pm_volume.specs.Made.{doubled, is_occupied, singled};
     ghost use Rattle.pm_volume.specs.Headers.{blank_fault, blank_image, dated_image, zeroed_image};
-    ghost use Rattle.pm_volume.specs.Kept.{ChangesOnly, KeepsFiles, date_span, directory_span, name_span};
+    ghost use Rattle.pm_volume.specs.Kept.{ChangesOnly, KeepsFiles, date_span, directory_span, name_span, past_span, second_span};
     ghost use Rattle.pm_volume.specs.Packing.{Krunches, krunched_image};
     ghost use Rattle.pm_volume.specs.Names.{is_new_name};
     ghost use Rattle.pm_volume.specs.Directory.{IsVolume, block_count};
@@ -53,8 +60,10 @@ impl Volume {
     ghost use Rattle.pm_volume.specs.Space.{free_blocks, largest_gap};
 
     /// The volume that an image is. The refusals in order: `NotBlocks`, `TooShort`, `BadHeader`,
-    /// `PastEnd` of the volume, `TooManyFiles`, then entry by entry `BadEntry` and `PastEnd`. A
-    /// refused image comes back unchanged.
+    /// `PastEnd` of the volume, `TooManyFiles`, then entry by entry `BadEntry` and `PastEnd`; from
+    /// `BadHeader` on `FirstCopyBad` in their place where blocks 6 to 9 are a good second copy of
+    /// the directory. A first copy without a fault counts, whatever the second one holds. A refused
+    /// image comes back unchanged.
     pub fn open(bytes: Vec<u8>) -> Result<Volume, (VolumeFault, Vec<u8>)>
         ensures accepted { IsOk result ↔ IsVolume bytes.items }
         ensures opened { IfOk result (λ v. v ≡ bytes.items) }
@@ -68,12 +77,36 @@ impl Volume {
         }
     }
 
+    /// The volume that an image is, as `open` gives it; but where the answer is `FirstCopyBad`, the
+    /// second copy of the directory takes the place of the first, and the volume is that of the
+    /// second copy. The other refusals are those of `open`, and a refused image comes back
+    /// unchanged.
+    #[tactic(auto, unfolding(crate::specs::Copies::repaired))]
+    pub fn repair(bytes: Vec<u8>) -> Result<Volume, (VolumeFault, Vec<u8>)>
+        ensures repaired { IfOk result (λ v. repaired bytes.items ≡ Ok v) }
+        ensures volume { IfOk result (λ v. IsVolume v) }
+        ensures refused { IfErr result (λ e. repaired bytes.items ≡ Err e.0) }
+        ensures returned { IfErr result (λ e. e.1 ≡ bytes) }
+    {
+        match fault_of_image(&bytes) {
+            Some(VolumeFault::FirstCopyBad(_)) => {
+                let mut bytes = bytes;
+                restore(&mut bytes);
+                Ok(Volume { bytes })
+            }
+            Some(fault) => Err((fault, bytes)),
+            None => Ok(Volume { bytes }),
+        }
+    }
+
     /// A new volume of so many blocks without files, with last date 0: all bytes are zero but those
     /// of the header. The refusals in order: `BadName` for a text that is no name of 1 to 7
     /// characters, `BadHeader` for fewer than 6 blocks, `NoMemory`.
     #[tactic(auto, unfolding(crate::specs::Headers::blank_fault))]
     pub fn blank(alloc: Global, name: &str, blocks: u16) -> Result<Volume, VolumeFault>
         ensures made { IfOk result (λ v. v ≡ blank_image name.now blocks) }
+        ensures volume { IfOk result (λ v. IsVolume v) }
+        ensures copies { IfOk result (λ v. HasCopies v copies.Single) }
         ensures empty { IfOk result (λ v. files_of v ≡ []) }
         ensures sound { OnOk result (blank_fault name.now blocks ≡ None) }
         ensures refused { IfErr result (λ fault. fault ≡ unwrap_or (blank_fault name.now blocks) VolumeFault.NoMemory) }
@@ -94,6 +127,7 @@ impl Volume {
     /// The image.
     pub fn into_bytes(self) -> Vec<u8>
         ensures image { result.items ≡ self }
+        ensures volume { IsVolume result.items }
     {
         let Volume { bytes } = self;
         bytes
@@ -119,6 +153,21 @@ impl Volume {
         ensures date { result ≡ word_in (directory_of self.now) 20 }
     {
         word(self.directory(), 20)
+    }
+
+    /// Whether the volume has a second copy of its directory, and whether that has the same bytes.
+    pub fn duplicate(&self) -> Copies
+        ensures copies { HasCopies self.now result }
+    {
+        let image = &self.bytes;
+        if !has_second(image) {
+            return Copies::Single;
+        }
+        if are_same(&image[DIRECTORY..DIRECTORY_END], &image[SECOND..SECOND_END]) {
+            Copies::Same
+        } else {
+            Copies::Differs
+        }
     }
 
     /// The free space: the blocks of all gaps, and of the largest one.
@@ -182,6 +231,8 @@ impl Volume {
         ensures added { IfOk result (λ e. AddsFile self.old self.new name.now kind bytes.now date e) }
         ensures files { IfOk result (λ e. (k : ℕ) × (files_of self.new ≡ insert (files_of self.old) k e)) }
         ensures contents { IfOk result (λ e. file_bytes self.new e ≡ Some bytes.now) }
+        ensures volume { IsVolume self.new }
+        ensures copies { OnOk result (KeepsCopies self.old self.new) }
         ensures kept { OnOk result (KeepsFiles self.old self.new) }
         ensures rest { IfOk result (λ e. IfOk (place_for self.old name.now (blocks_for (length bytes.now)))
             (λ gap. ChangesOnly (added_spans (directory_of self.old) gap e) self.old self.new)) }
@@ -200,6 +251,8 @@ impl Volume {
     /// there is none.
     pub fn remove(&mut self, name: &str) -> Result<(), VolumeFault>
         ensures removed { OnOk result (RemovesFile self.old self.new name.now) }
+        ensures volume { IsVolume self.new }
+        ensures copies { OnOk result (KeepsCopies self.old self.new) }
         ensures kept { OnOk result (KeepsFiles self.old self.new) }
         ensures rest { IfSome (slot_named (directory_of self.old) name.now)
             (λ slot. ChangesOnly (removed_spans (directory_of self.old) slot) self.old self.new) }
@@ -219,9 +272,11 @@ impl Volume {
     /// another file of the new name (the file's own name is allowed). A refusal changes nothing.
     pub fn rename(&mut self, old: &str, new: &str) -> Result<(), VolumeFault>
         ensures renamed { OnOk result (RenamesFile self.old self.new old.now new.now) }
+        ensures volume { IsVolume self.new }
+        ensures copies { OnOk result (KeepsCopies self.old self.new) }
         ensures kept { OnOk result (KeepsFiles self.old self.new) }
         ensures rest { IfOk (slot_to_rename (directory_of self.old) old.now new.now)
-            (λ slot. ChangesOnly (name_span slot ∷ []) self.old self.new) }
+            (λ slot. ChangesOnly (and_second (directory_of self.old) (name_span slot ∷ [])) self.old self.new) }
         ensures refused { IfErr result (λ fault. slot_to_rename (directory_of self.old) old.now new.now ≡ Err fault) }
         ensures unchanged { OnErr result (self.new ≡ self.old) }
     {
@@ -236,15 +291,20 @@ impl Volume {
     pub fn krunch(&mut self)
         ensures krunched { Krunches self.old self.new }
         ensures exact { self.new ≡ krunched_image self.old }
+        ensures volume { IsVolume self.new }
+        ensures copies { KeepsCopies self.old self.new }
     {
         pack_files(&mut self.bytes);
+        mirror(&mut self.bytes);
     }
 
     /// Sets the volume's last date; nothing else changes.
     pub fn set_date(&mut self, date: u16)
         ensures dated { self.new ≡ dated_image self.old date }
+        ensures volume { IsVolume self.new }
+        ensures copies { KeepsCopies self.old self.new }
         ensures files { files_of self.new ≡ files_of self.old }
-        ensures rest { ChangesOnly (date_span ∷ []) self.old self.new }
+        ensures rest { ChangesOnly (and_second (directory_of self.old) (date_span ∷ [])) self.old self.new }
     {
         date_volume(&mut self.bytes, date);
     }
@@ -258,10 +318,13 @@ impl Volume {
         ensures bad { OnErr result (is_new_name 7 name.now ≡ false) }
         ensures zeroed { OnOk result (self.new ≡ zeroed_image self.old name.now) }
         ensures empty { OnOk result (files_of self.new ≡ []) }
-        ensures rest { OnOk result (ChangesOnly (directory_span ∷ []) self.old self.new) }
+        ensures volume { IsVolume self.new }
+        ensures copies { OnOk result (KeepsCopies self.old self.new) }
+        ensures rest { OnOk result (ChangesOnly (and_second (directory_of self.old) (directory_span ∷ [])) self.old self.new) }
         ensures refused { IfErr result (λ fault. fault ≡ VolumeFault.BadName) }
         ensures unchanged { OnErr result (self.new ≡ self.old) }
     {
+        let _ = &self.bytes;
         if !is_new_name(7, name.as_bytes()) {
             return Err(VolumeFault::BadName);
         }
@@ -273,9 +336,55 @@ impl Volume {
         Ok(())
     }
 
+    /// Makes a second copy of the directory in blocks 6 to 9, so that files begin at block 10; a
+    /// copy that is there becomes the same as the first. The refusals in order: `BadHeader` for a
+    /// volume of fewer than 10 blocks, `Occupied` where a file, also an empty one, begins below
+    /// block 10. A refusal changes nothing.
+    #[tactic(auto, unfolding(crate::specs::Made::doubled))]
+    pub fn add_duplicate(&mut self) -> Result<(), VolumeFault>
+        ensures doubled { OnOk result (doubled self.old ≡ Ok self.new) }
+        ensures volume { IsVolume self.new }
+        ensures copies { OnOk result (HasCopies self.new copies.Same) }
+        ensures files { OnOk result (files_of self.new ≡ files_of self.old) }
+        ensures kept { OnOk result (KeepsFiles self.old self.new) }
+        ensures rest { OnOk result (ChangesOnly (past_span ∷ second_span ∷ []) self.old self.new) }
+        ensures refused { IfErr result (λ fault. doubled self.old ≡ Err fault) }
+        ensures unchanged { OnErr result (self.new ≡ self.old) }
+    {
+        if self.blocks() < PAST_SECOND {
+            return Err(VolumeFault::BadHeader);
+        }
+        if self.is_occupied() {
+            return Err(VolumeFault::Occupied);
+        }
+        add_second(&mut self.bytes);
+        Ok(())
+    }
+
+    /// Drops the second copy of the directory: files begin at block 6, and the blocks of the copy
+    /// become zero. A volume without one stays as it is.
+    pub fn drop_duplicate(&mut self)
+        ensures singled { self.new ≡ singled self.old }
+        ensures volume { IsVolume self.new }
+        ensures copies { HasCopies self.new copies.Single }
+        ensures files { files_of self.new ≡ files_of self.old }
+        ensures kept { KeepsFiles self.old self.new }
+        ensures rest { ChangesOnly (past_span ∷ second_span ∷ []) self.old self.new }
+    {
+        drop_second(&mut self.bytes);
+    }
+
+    // Whether a file begins below block 10.
+    fn is_occupied(&self) -> bool
+        ensures occupied { result ≡ is_occupied self.now }
+    {
+        self.entries().any(|entry| entry.first < PAST_SECOND)
+    }
+
     /// The image alone, as a disk: what is written to it may be anything, also in the directory.
     pub fn into_disk(self) -> Disk
         ensures image { result ≡ self }
+        ensures volume { IsVolume result }
     {
         let Volume { bytes } = self;
         Disk::new(bytes)
@@ -343,7 +452,11 @@ fn fault_of_image(image: &[u8]) -> Option<VolumeFault>
     if image.len() < DIRECTORY_END {
         return Some(VolumeFault::TooShort);
     }
-    fault_of_directory(&image[DIRECTORY..DIRECTORY_END], image.len() / BLOCK)
+    let fault = fault_of_directory(&image[DIRECTORY..DIRECTORY_END], image.len() / BLOCK)?;
+    if is_second_good(image) {
+        return Some(VolumeFault::FirstCopyBad(fault.number()));
+    }
+    Some(fault)
 }
 
 // So many bytes of zero.

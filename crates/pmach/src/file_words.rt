@@ -20,6 +20,8 @@ pub enum Verb {
     Command(pm_filer::Command),
     /// A new volume of this name and so many blocks.
     New(String, u16),
+    /// The image with its first copy of the directory repaired.
+    Repair,
 }
 
 fn name<'a>(alloc: Global, id: &'a str, help: &'a str) -> Arg<'a> {
@@ -70,7 +72,7 @@ const VERBS: &[VerbRow] = &[
     ),
     (
         "krunch",
-        "Moves the files together, so that the free blocks are one gap",
+        "Moves the files together, so that the free blocks are one gap; bad blocks stay",
         &[],
     ),
     (
@@ -97,6 +99,21 @@ const VERBS: &[VerbRow] = &[
         "new",
         "Makes a new volume without files",
         &[("NAME", VOLUME), ("BLOCKS", BLOCKS)],
+    ),
+    (
+        "duplicate",
+        "Makes a second copy of the directory in blocks 6 to 9, which must be free",
+        &[],
+    ),
+    (
+        "single",
+        "Drops the second copy of the directory, so that blocks 6 to 9 are free",
+        &[],
+    ),
+    (
+        "repair",
+        "Puts the second copy of the directory in the place of a damaged first (refused volume 13)",
+        &[],
     ),
 ];
 
@@ -174,6 +191,9 @@ fn verb_of(alloc: Global, verb: &str, words: &ArgMatches<'_>) -> Result<Verb, Wo
         "krunch" => Command::Krunch,
         "zero" => Command::Zero(word(alloc, words, "NAME")?),
         "date" => Command::Date(part(words, "Y")?, part(words, "M")?, part(words, "D")?),
+        "duplicate" => Command::Duplicate,
+        "single" => Command::Single,
+        "repair" => return Ok(Verb::Repair),
         "put" => return put(alloc, words),
         _ => return new(alloc, words),
     };

@@ -79,6 +79,9 @@ fn do_files(rt: &HostRuntime, plan: FilesPlan) -> Result<End, DiskFault> {
             Job::Files { image, command }
         }
         Verb::New(name, blocks) => Job::New { name, blocks },
+        Verb::Repair => Job::Repair {
+            image: read_image(rt, rt.alloc(), path.as_str())?,
+        },
     };
     let outcome = perform(rt, job);
     if let Some(image) = &outcome.image {

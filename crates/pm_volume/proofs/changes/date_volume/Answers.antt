@@ -1,5 +1,6 @@
 use Rattle.std.proofs.Common.{◌∙◌, ap}
 use borrow.Rule.Slice.PartMut.{put_mid}
+use Rattle.pm_volume.specs.Copies.{mirrored}
 use Rattle.pm_volume.specs.Directory.{directory_of}
 use Rattle.pm_volume.specs.Words.{with_word}
 use Rattle.pm_volume.proofs.HeaderLaws.{length-dated}
@@ -13,6 +14,7 @@ returns c =
     let d = directory_of image in
     record {
       image =
-          ap (put_mid 1024 2048 image) c.set_word.ensures.written
-          ∙ listed image (with_word d 20 c.args.date) (length-dated d c.args.date (length-directory image c.requires.whole));
+          c.mirror.ensures.mirrored
+          ∙ ap mirrored (ap (put_mid 1024 2048 image) c.set_word.ensures.written
+          ∙ listed image (with_word d 20 c.args.date) (length-dated d c.args.date (length-directory image c.requires.whole)));
     }

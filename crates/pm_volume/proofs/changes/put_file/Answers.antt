@@ -1,4 +1,5 @@
 use Rattle.std.proofs.Common.{◌≡◌, ◌+◌, ◌-◌, ◌*◌, ◌∙◌, ap, sym, ℕ, List, length, replicate, refl, arith}
+use Rattle.pm_volume.specs.Copies.{mirrored}
 use Rattle.pm_volume.specs.Changes.{blocks_for, slot_of, with_file, with_slot}
 use Rattle.pm_volume.specs.Words.{written}
 use Rattle.pm_volume.specs.Directory.{directory_of}
@@ -26,5 +27,5 @@ returns c =
           let size : length (slot_of e) ≡ 26 = ap length (sym c.slot-slot.ensures.fields) ∙ c.slot-slot.ensures.size in
           let new = length-with_slot d (slot_of e) c.args.n (length-directory image c.requires.whole) size c.requires.few c.requires.from c.requires.to in
           let left : (begin + 512 * blocks_for (length bytes)) - (begin + length bytes) ≡ 512 * blocks_for (length bytes) - length bytes = omega arith in
-          filed image (with_slot d c.args.n (slot_of e)) bytes _ _ begin _ _ wrote (listed image (with_slot d c.args.n (slot_of e)) new) left;
+          c.mirror.ensures.mirrored ∙ ap mirrored (filed image (with_slot d c.args.n (slot_of e)) bytes _ _ begin _ _ wrote (listed image (with_slot d c.args.n (slot_of e)) new) left);
     }

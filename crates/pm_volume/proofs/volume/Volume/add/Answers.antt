@@ -1,9 +1,9 @@
 use Rattle.std.proofs.Common.{◌≡◌, ◌-◌, ◌∙◌, ap, sym, List, ℕ, ◌++◌, take, drop, length, Ok, arith}
 use Rattle.std.proofs.lemmas.Result.{err_from_is_err_and}
 use Rattle.pm_volume.specs.Changes.{blocks_for, place_for, with_file}
-use Rattle.pm_volume.proofs.AddKept.{ChangesOnly-added, KeepsFiles-added}
-use Rattle.pm_volume.proofs.AddLaws.{bytes-added, files-added}
-use Rattle.pm_volume.proofs.PlaceLaws.{IsPlaced, IsRoomFor, IsPlaced-from_ok, IsRoomFor-placed, IsVolume-added}
+use Rattle.pm_volume.specs.Copies.{mirrored}
+use Rattle.pm_volume.proofs.SecondLaws.{Changed-added, bytes-added_second}
+use Rattle.pm_volume.proofs.PlaceLaws.{IsPlaced, IsRoomFor, IsPlaced-from_ok, IsRoomFor-placed}
 use Rattle.pm_volume.proofs.NameLaws.{length-new_name}
 use Rattle.pm_volume.proofs.volume.Volume.add.Goals as goal
 use Rattle.pm_volume.proofs.volume.Volume.add.Goals.{After-put_file, In_ok-gap}
@@ -49,18 +49,18 @@ put_file-requires-clause-room c =
 
 -- what the image becomes
 image_after : (c : After-put_file) → take c.self.inside.bytes.len (c.put_file.new.image ++ drop (length c.put_file.new.image) c.self.inside.bytes.items)
-    ≡ with_file c.args.self.now c.in_ok-gap.gap.place c.new_entry-entry.result c.args.bytes.now
+    ≡ mirrored (with_file c.args.self.now c.in_ok-gap.gap.place c.new_entry-entry.result c.args.bytes.now)
 image_after c =
     let same = c.deref_mut.ensures.value ∙ c.self.view_is in
     written_back c.self.inside.bytes.items c.put_file.new.image c.self.inside.bytes.len (c.put_file.auto.image ∙ ap length c.deref_mut.ensures.value) c.self.inside.bytes.ok.0
-    ∙ c.put_file.ensures.image ∙ ap (λ (image : List ℕ). with_file image c.in_ok-gap.gap.place c.new_entry-entry.result c.args.bytes.now) same
+    ∙ c.put_file.ensures.image ∙ ap (λ (image : List ℕ). mirrored (with_file image c.in_ok-gap.gap.place c.new_entry-entry.result c.args.bytes.now)) same
 
 pub invariant_of-self : goal.invariant_of-self
 invariant_of-self c =
     let fit = rw c.new_entry-entry.ensures.entry at c.new_entry-entry.ensures.fits in
     let p = placed (goal.at.invariant_of-self c).In_ok-gap in
     rw (image_after (goal.at.invariant_of-self c).After-put_file, c.new_entry-entry.ensures.entry)
-    (IsVolume-added c.args.self.now c.args.name.now c.args.bytes.now c.args.kind c.args.date c.in_ok-gap.gap c.place.ensures.volume p fit)
+    ((Changed-added c.args.self.now c.args.name.now c.args.bytes.now c.args.kind c.args.date c.in_ok-gap.gap c.place.ensures.volume p fit).volume)
 
 pub returns-clause-added : goal.returns-clause-added
 returns-clause-added c =
@@ -73,7 +73,7 @@ returns-clause-added c =
       entry = c.new_entry-entry.ensures.entry;
       image = image_after w;
       files = rw (image_after w, c.new_entry-entry.ensures.entry)
-          (files-added c.args.self.now c.args.name.now c.args.bytes.now c.args.kind c.args.date c.in_ok-gap.gap c.place.ensures.volume p fit);
+          ((Changed-added c.args.self.now c.args.name.now c.args.bytes.now c.args.kind c.args.date c.in_ok-gap.gap c.place.ensures.volume p fit).files);
     }
 
 pub returns-in_err-gap-clause-refused : goal.returns-in_err-gap-clause-refused
@@ -90,7 +90,7 @@ returns-clause-files c =
     let p = placed (goal.at.returns-clause-files c).In_ok-gap in (
       c.in_ok-gap.gap.place - 1,
       rw (image_after w, c.new_entry-entry.ensures.entry)
-          (files-added c.args.self.now c.args.name.now c.args.bytes.now c.args.kind c.args.date c.in_ok-gap.gap c.place.ensures.volume p fit),
+          ((Changed-added c.args.self.now c.args.name.now c.args.bytes.now c.args.kind c.args.date c.in_ok-gap.gap c.place.ensures.volume p fit).files),
     )
 
 pub returns-clause-contents : goal.returns-clause-contents
@@ -99,7 +99,7 @@ returns-clause-contents c =
     let fit = rw c.new_entry-entry.ensures.entry at c.new_entry-entry.ensures.fits in
     let p = placed (goal.at.returns-clause-contents c).In_ok-gap in
     rw (image_after w, c.new_entry-entry.ensures.entry)
-    (bytes-added c.args.self.now c.args.name.now c.args.bytes.now c.args.kind c.args.date c.in_ok-gap.gap c.place.ensures.volume p fit)
+    (bytes-added_second c.args.self.now c.args.name.now c.args.bytes.now c.args.kind c.args.date c.in_ok-gap.gap c.place.ensures.volume p fit)
 
 pub returns-clause-kept : goal.returns-clause-kept
 returns-clause-kept c =
@@ -107,7 +107,7 @@ returns-clause-kept c =
     let fit = rw c.new_entry-entry.ensures.entry at c.new_entry-entry.ensures.fits in
     let p = placed (goal.at.returns-clause-kept c).In_ok-gap in
     rw (image_after w, c.new_entry-entry.ensures.entry)
-    (KeepsFiles-added c.args.self.now c.args.name.now c.args.bytes.now c.args.kind c.args.date c.in_ok-gap.gap c.place.ensures.volume p fit)
+    ((Changed-added c.args.self.now c.args.name.now c.args.bytes.now c.args.kind c.args.date c.in_ok-gap.gap c.place.ensures.volume p fit).kept)
 
 pub returns-clause-rest : goal.returns-clause-rest
 returns-clause-rest c =
@@ -116,4 +116,20 @@ returns-clause-rest c =
     let p = placed (goal.at.returns-clause-rest c).In_ok-gap in
     let found = found (goal.at.returns-clause-rest c).In_ok-gap in
     rw (found, image_after w, c.new_entry-entry.ensures.entry)
-    (ChangesOnly-added c.args.self.now c.args.name.now c.args.bytes.now c.args.kind c.args.date c.in_ok-gap.gap c.place.ensures.volume p fit)
+    ((Changed-added c.args.self.now c.args.name.now c.args.bytes.now c.args.kind c.args.date c.in_ok-gap.gap c.place.ensures.volume p fit).only)
+
+pub returns-clause-volume : goal.returns-clause-volume
+returns-clause-volume c =
+    let w = (goal.at.returns-clause-volume c).After-put_file in
+    let fit = rw c.new_entry-entry.ensures.entry at c.new_entry-entry.ensures.fits in
+    let p = placed (goal.at.returns-clause-volume c).In_ok-gap in
+    rw (image_after w, c.new_entry-entry.ensures.entry)
+    ((Changed-added c.args.self.now c.args.name.now c.args.bytes.now c.args.kind c.args.date c.in_ok-gap.gap c.place.ensures.volume p fit).volume)
+
+pub returns-clause-copies : goal.returns-clause-copies
+returns-clause-copies c =
+    let w = (goal.at.returns-clause-copies c).After-put_file in
+    let fit = rw c.new_entry-entry.ensures.entry at c.new_entry-entry.ensures.fits in
+    let p = placed (goal.at.returns-clause-copies c).In_ok-gap in
+    rw (image_after w, c.new_entry-entry.ensures.entry)
+    ((Changed-added c.args.self.now c.args.name.now c.args.bytes.now c.args.kind c.args.date c.in_ok-gap.gap c.place.ensures.volume p fit).copies)

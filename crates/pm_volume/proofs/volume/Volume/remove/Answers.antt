@@ -1,9 +1,9 @@
 use Rattle.std.proofs.Common.{◌≡◌, ◌≤◌, ◌∙◌, ap, sym, ◌++◌, take, drop, List, ℕ, length}
 use Rattle.pm_volume.specs.Changes.{without_file}
 use Rattle.pm_volume.specs.Directory.{directory_of, file_count}
-use Rattle.pm_volume.proofs.KeptLaws.{ChangesOnly-removed, KeepsFiles-removed}
+use Rattle.pm_volume.specs.Copies.{mirrored}
+use Rattle.pm_volume.proofs.SecondLaws.{Changed-removed}
 use Rattle.pm_volume.proofs.SlotLaws.{written_back}
-use Rattle.pm_volume.proofs.SlotRemoval.{IsVolume-removed, files-removed}
 use Rattle.pm_volume.proofs.volume.Volume.remove.Goals as goal
 use Rattle.pm_volume.proofs.volume.Volume.remove.Goals.{After-take_file}
 
@@ -13,17 +13,17 @@ within c = rw c.directory.ensures.bytes at c.in-Some.ensures.within
 
 -- what the image becomes
 image_after : (c : After-take_file) → take c.self.inside.bytes.len (c.take_file.new.image ++ drop (length c.take_file.new.image) c.self.inside.bytes.items)
-    ≡ without_file c.args.self.now c.in-Some.slot
+    ≡ mirrored (without_file c.args.self.now c.in-Some.slot)
 image_after c =
     let same = c.deref_mut.ensures.value ∙ c.self.view_is in
     written_back c.self.inside.bytes.items c.take_file.new.image c.self.inside.bytes.len (c.take_file.auto.image ∙ ap length c.deref_mut.ensures.value) c.self.inside.bytes.ok.0
-    ∙ c.take_file.ensures.image ∙ ap (λ (image : List ℕ). without_file image c.in-Some.slot) same
+    ∙ c.take_file.ensures.image ∙ ap (λ (image : List ℕ). mirrored (without_file image c.in-Some.slot)) same
 
 pub invariant_of-self : goal.invariant_of-self
 invariant_of-self c =
     let w = (goal.at.invariant_of-self c).After-take_file in
     let slot = within w in
-    rw (image_after w) (IsVolume-removed c.args.self.now c.in-Some.slot c.directory.ensures.volume slot.0 slot.1)
+    rw (image_after w) ((Changed-removed c.args.self.now c.directory.ensures.volume c.in-Some.slot slot.0 slot.1).volume)
 
 pub returns-clause-removed : goal.returns-clause-removed
 returns-clause-removed c =
@@ -33,18 +33,30 @@ returns-clause-removed c =
       slot = c.in-Some.slot;
       found = rw c.directory.ensures.bytes at (sym c.in-Some.ensures.first);
       image = image_after w;
-      files = rw (image_after w) (files-removed c.args.self.now c.in-Some.slot c.directory.ensures.volume slot.0 slot.1);
+      files = rw (image_after w) ((Changed-removed c.args.self.now c.directory.ensures.volume c.in-Some.slot slot.0 slot.1).files);
     }
 
 pub returns-clause-kept : goal.returns-clause-kept
 returns-clause-kept c =
     let w = (goal.at.returns-clause-kept c).After-take_file in
     let slot = within w in
-    rw (image_after w) (KeepsFiles-removed c.args.self.now c.directory.ensures.volume c.in-Some.slot slot.0 slot.1)
+    rw (image_after w) ((Changed-removed c.args.self.now c.directory.ensures.volume c.in-Some.slot slot.0 slot.1).kept)
 
 pub returns-clause-rest : goal.returns-clause-rest
 returns-clause-rest c =
     let w = (goal.at.returns-clause-rest c).After-take_file in
     let slot = within w in
     let found = rw c.directory.ensures.bytes at (sym c.in-Some.ensures.first) in
-    rw (found, image_after w) (ChangesOnly-removed c.args.self.now c.directory.ensures.volume c.in-Some.slot slot.0 slot.1)
+    rw (found, image_after w) ((Changed-removed c.args.self.now c.directory.ensures.volume c.in-Some.slot slot.0 slot.1).only)
+
+pub returns-clause-volume : goal.returns-clause-volume
+returns-clause-volume c =
+    let w = (goal.at.returns-clause-volume c).After-take_file in
+    let slot = within w in
+    rw (image_after w) ((Changed-removed c.args.self.now c.directory.ensures.volume c.in-Some.slot slot.0 slot.1).volume)
+
+pub returns-clause-copies : goal.returns-clause-copies
+returns-clause-copies c =
+    let w = (goal.at.returns-clause-copies c).After-take_file in
+    let slot = within w in
+    rw (image_after w) ((Changed-removed c.args.self.now c.directory.ensures.volume c.in-Some.slot slot.0 slot.1).copies)

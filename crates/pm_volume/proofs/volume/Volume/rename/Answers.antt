@@ -1,14 +1,14 @@
 use Rattle.std.proofs.Common.{◌≡◌, ◌∙◌, ap, sym, ◌++◌, take, drop, length}
 use Rattle.pm_volume.specs.Changes.{with_name}
-use Rattle.pm_volume.proofs.KeptLaws.{ChangesOnly-named, KeepsFiles-named}
+use Rattle.pm_volume.specs.Copies.{mirrored}
+use Rattle.pm_volume.proofs.SecondLaws.{Changed-named}
 use Rattle.pm_volume.proofs.SlotLaws.{written_back}
-use Rattle.pm_volume.proofs.RenameLaws.{IsVolume-named, files-renamed}
 use Rattle.pm_volume.proofs.volume.Volume.rename.Goals as goal
 use Rattle.pm_volume.proofs.volume.Volume.rename.Goals.{After-name_file}
 
 -- what the image becomes
 image_after : (c : After-name_file) → take c.self.inside.bytes.len (c.name_file.new.image ++ drop (length c.name_file.new.image) c.self.inside.bytes.items)
-    ≡ with_name c.args.self.now c.in_ok-slot.slot c.args.new.now
+    ≡ mirrored (with_name c.args.self.now c.in_ok-slot.slot c.args.new.now)
 image_after c =
     let same = c.deref_mut.ensures.value ∙ c.self.view_is in
     let wrote = rw (c.as_bytes.ensures.value, same) at c.name_file.ensures.image in
@@ -20,7 +20,7 @@ invariant_of-self c =
     let w = (goal.at.invariant_of-self c).After-name_file in
     let new = c.in_ok-slot.ensures.named in
     let slot = c.in_ok-slot.ensures.within in
-    rw (image_after w) (IsVolume-named c.args.self.now c.args.new.now c.in_ok-slot.slot c.slot_to_rename.ensures.volume new.0 new.1 slot.0 slot.1)
+    rw (image_after w) ((Changed-named c.args.self.now c.slot_to_rename.ensures.volume c.args.new.now c.in_ok-slot.slot new.0 new.1 slot.0 slot.1).volume)
 
 pub returns-clause-renamed : goal.returns-clause-renamed
 returns-clause-renamed c =
@@ -31,18 +31,34 @@ returns-clause-renamed c =
       slot = c.in_ok-slot.slot;
       found = sym c.slot_to_rename.ensures.found ∙ c.in_ok-slot.was;
       image = image_after w;
-      files = rw (image_after w) (files-renamed c.args.self.now c.args.new.now c.in_ok-slot.slot c.slot_to_rename.ensures.volume new.0 new.1 slot.0 slot.1);
+      files = rw (image_after w) ((Changed-named c.args.self.now c.slot_to_rename.ensures.volume c.args.new.now c.in_ok-slot.slot new.0 new.1 slot.0 slot.1).files);
     }
 
 pub returns-clause-kept : goal.returns-clause-kept
 returns-clause-kept c =
     let w = (goal.at.returns-clause-kept c).After-name_file in
     let slot = c.in_ok-slot.ensures.within in
-    rw (image_after w) (KeepsFiles-named c.args.self.now c.slot_to_rename.ensures.volume c.in_ok-slot.slot slot.0 slot.1 c.args.new.now c.in_ok-slot.ensures.named.1)
+    let new = c.in_ok-slot.ensures.named in
+    rw (image_after w) ((Changed-named c.args.self.now c.slot_to_rename.ensures.volume c.args.new.now c.in_ok-slot.slot new.0 new.1 slot.0 slot.1).kept)
 
 pub returns-clause-rest : goal.returns-clause-rest
 returns-clause-rest c =
     let w = (goal.at.returns-clause-rest c).After-name_file in
     let slot = c.in_ok-slot.ensures.within in
     let found = sym c.slot_to_rename.ensures.found ∙ c.in_ok-slot.was in
-    rw (found, image_after w) (ChangesOnly-named c.args.self.now c.slot_to_rename.ensures.volume c.in_ok-slot.slot slot.0 slot.1 c.args.new.now c.in_ok-slot.ensures.named.1)
+    let new = c.in_ok-slot.ensures.named in
+    rw (found, image_after w) ((Changed-named c.args.self.now c.slot_to_rename.ensures.volume c.args.new.now c.in_ok-slot.slot new.0 new.1 slot.0 slot.1).only)
+
+pub returns-clause-volume : goal.returns-clause-volume
+returns-clause-volume c =
+    let w = (goal.at.returns-clause-volume c).After-name_file in
+    let new = c.in_ok-slot.ensures.named in
+    let slot = c.in_ok-slot.ensures.within in
+    rw (image_after w) ((Changed-named c.args.self.now c.slot_to_rename.ensures.volume c.args.new.now c.in_ok-slot.slot new.0 new.1 slot.0 slot.1).volume)
+
+pub returns-clause-copies : goal.returns-clause-copies
+returns-clause-copies c =
+    let w = (goal.at.returns-clause-copies c).After-name_file in
+    let new = c.in_ok-slot.ensures.named in
+    let slot = c.in_ok-slot.ensures.within in
+    rw (image_after w) ((Changed-named c.args.self.now c.slot_to_rename.ensures.volume c.args.new.now c.in_ok-slot.slot new.0 new.1 slot.0 slot.1).copies)

@@ -1,8 +1,7 @@
 use Rattle.std.proofs.Common.{◌≡◌, ◌∙◌, ap, ◌++◌, take, drop, List, ℕ, length, subst}
 use Rattle.pm_volume.specs.Directory.{IsVolume}
 use Rattle.pm_volume.specs.Headers.{dated_image}
-use Rattle.pm_volume.proofs.KeptLaws.{ChangesOnly-dated}
-use Rattle.pm_volume.proofs.HeaderLaws.{IsVolume-dated, files-dated_image}
+use Rattle.pm_volume.proofs.SecondLaws.{Changed-dated}
 use Rattle.pm_volume.proofs.SlotLaws.{written_back}
 use Rattle.pm_volume.proofs.volume.Volume.set_date.Goals as goal
 use Rattle.pm_volume.proofs.volume.Volume.set_date.Goals.{After-date_volume}
@@ -21,14 +20,24 @@ volume c = subst IsVolume c.self.view_is c.self.invariant
 pub invariant_of-self : goal.invariant_of-self
 invariant_of-self c =
     let w = (goal.at.invariant_of-self c).After-date_volume in
-    rw (image_after w) (IsVolume-dated c.args.self.now (volume w) c.args.date)
+    rw (image_after w) ((Changed-dated c.args.self.now (volume w) c.args.date).volume)
 
 pub returns-clause-files : goal.returns-clause-files
 returns-clause-files c =
     let w = (goal.at.returns-clause-files c).After-date_volume in
-    rw (image_after w) (files-dated_image c.args.self.now (volume w) c.args.date)
+    rw (image_after w) ((Changed-dated c.args.self.now (volume w) c.args.date).files)
 
 pub returns-clause-rest : goal.returns-clause-rest
 returns-clause-rest c =
     let w = (goal.at.returns-clause-rest c).After-date_volume in
-    rw (image_after w) (ChangesOnly-dated c.args.self.now (volume w) c.args.date)
+    rw (image_after w) ((Changed-dated c.args.self.now (volume w) c.args.date).only)
+
+pub returns-clause-volume : goal.returns-clause-volume
+returns-clause-volume c =
+    let w = (goal.at.returns-clause-volume c).After-date_volume in
+    rw (image_after w) ((Changed-dated c.args.self.now (volume w) c.args.date).volume)
+
+pub returns-clause-copies : goal.returns-clause-copies
+returns-clause-copies c =
+    let w = (goal.at.returns-clause-copies c).After-date_volume in
+    rw (image_after w) ((Changed-dated c.args.self.now (volume w) c.args.date).copies)

@@ -2,8 +2,7 @@ use Rattle.std.proofs.Common.{◌≡◌, ◌<◌, ◌≤◌, ◌∙◌, ap, ◌+
 use Rattle.pm_volume.specs.Directory.{block_count, directory_of}
 use Rattle.pm_volume.specs.Headers.{zeroed_image}
 use Rattle.pm_volume.specs.Names.{is_new_name}
-use Rattle.pm_volume.proofs.KeptLaws.{ChangesOnly-zeroed}
-use Rattle.pm_volume.proofs.HeaderLaws.{IsVolume-zeroed, files-zeroed}
+use Rattle.pm_volume.proofs.SecondLaws.{Changed-zeroed}
 use Rattle.pm_volume.proofs.NameLaws.{length-new_name}
 use Rattle.pm_volume.proofs.SlotLaws.{written_back}
 use Rattle.pm_volume.proofs.volume.Volume.zero.Goals as goal
@@ -31,16 +30,32 @@ invariant_of-self c =
     let w = (goal.at.invariant_of-self c).After-renew_directory in
     let n = name_length (goal.at.invariant_of-self c).After-as_bytes-2 in
     let fits : block_count (directory_of c.args.self.now) < 65536 = rw (c.word-blocks.ensures.word, c.directory-directory.ensures.bytes) at c.word-blocks.type_inv in
-    rw (image_after w) (IsVolume-zeroed c.args.self.now c.directory-directory.ensures.volume c.args.name.now n.0 n.1 fits)
+    rw (image_after w) ((Changed-zeroed c.args.self.now c.directory-directory.ensures.volume c.args.name.now n.0 n.1 fits).volume)
 
 pub returns-clause-empty : goal.returns-clause-empty
 returns-clause-empty c =
     let w = (goal.at.returns-clause-empty c).After-renew_directory in
     let n = name_length (goal.at.returns-clause-empty c).After-as_bytes-2 in
-    rw (image_after w) (files-zeroed c.args.self.now c.directory-directory.ensures.volume c.args.name.now n.0 n.1)
+    let fits : block_count (directory_of c.args.self.now) < 65536 = rw (c.word-blocks.ensures.word, c.directory-directory.ensures.bytes) at c.word-blocks.type_inv in
+    rw (image_after w) ((Changed-zeroed c.args.self.now c.directory-directory.ensures.volume c.args.name.now n.0 n.1 fits).files)
 
 pub returns-clause-rest : goal.returns-clause-rest
 returns-clause-rest c =
     let w = (goal.at.returns-clause-rest c).After-renew_directory in
     let n = name_length (goal.at.returns-clause-rest c).After-as_bytes-2 in
-    rw (image_after w) (ChangesOnly-zeroed c.args.self.now c.directory-directory.ensures.volume c.args.name.now n.1)
+    let fits : block_count (directory_of c.args.self.now) < 65536 = rw (c.word-blocks.ensures.word, c.directory-directory.ensures.bytes) at c.word-blocks.type_inv in
+    rw (image_after w) ((Changed-zeroed c.args.self.now c.directory-directory.ensures.volume c.args.name.now n.0 n.1 fits).only)
+
+pub returns-clause-volume : goal.returns-clause-volume
+returns-clause-volume c =
+    let w = (goal.at.returns-clause-volume c).After-renew_directory in
+    let n = name_length (goal.at.returns-clause-volume c).After-as_bytes-2 in
+    let fits : block_count (directory_of c.args.self.now) < 65536 = rw (c.word-blocks.ensures.word, c.directory-directory.ensures.bytes) at c.word-blocks.type_inv in
+    rw (image_after w) ((Changed-zeroed c.args.self.now c.directory-directory.ensures.volume c.args.name.now n.0 n.1 fits).volume)
+
+pub returns-clause-copies : goal.returns-clause-copies
+returns-clause-copies c =
+    let w = (goal.at.returns-clause-copies c).After-renew_directory in
+    let n = name_length (goal.at.returns-clause-copies c).After-as_bytes-2 in
+    let fits : block_count (directory_of c.args.self.now) < 65536 = rw (c.word-blocks.ensures.word, c.directory-directory.ensures.bytes) at c.word-blocks.type_inv in
+    rw (image_after w) ((Changed-zeroed c.args.self.now c.directory-directory.ensures.volume c.args.name.now n.0 n.1 fits).copies)

@@ -1,0 +1,180 @@
+//! Volumes with a second copy of their directory.
+use crate::files::{
+    answers, changed, lists, new_image, one_file, put, put_text, refuses, set, text,
+};
+use crate::jobs::{job_run, tells};
+use pm_filer::Command;
+use pm_tool::Job;
+use std::alloc::{AllocError, Global};
+use std::process::Abort;
+use std::test::Fail;
+
+const ONE_FILE: &str = "\
+WORK:
+A               data    10     1   3 000-00-00
+files 1 free 9 largest 9
+";
+
+/// A volume that says that files begin at block 10, and then the file A of three bytes.
+fn doubled(alloc: Global) -> Result<Vec<u8>, Fail> {
+    let mut image = new_image(alloc, "work", 20)?;
+    set(&mut image, 1026, 10);
+    changed(alloc, image, put(alloc, "A")?, b"xyz")
+}
+
+/// Blocks 2 to 5 and blocks 6 to 9 have the same bytes.
+fn has_same_copies(rt: &impl Abort, image: &[u8]) {
+    let first = image.get(1024..3072).unwrap_or(b"first");
+    let second = image.get(3072..5120).unwrap_or(b"second");
+    assert_eq!(rt; first, second);
+}
+
+/// The first copy damaged, and repaired.
+#[test]
+fn second_copies(rt: HostRuntime) -> Result<(), Fail> {
+    let alloc = rt.alloc();
+    let mut image = doubled(alloc)?;
+    has_same_copies(&rt, &image);
+    lists(&rt, alloc, &image, ONE_FILE)?;
+    set(&mut image, 1030, 0);
+    refuses(&rt, alloc, &image, Command::List, "refused volume 13 3", 3)?;
+    let ran = job_run(alloc, Job::Repair { image }, b"xyz");
+    assert_eq!(rt; ran.left, 3);
+    let image = ran.into_image().ok_or("no image")?;
+    has_same_copies(&rt, &image);
+    lists(&rt, alloc, &image, ONE_FILE)?;
+    Ok(())
+}
+
+/// An image cannot be repaired.
+fn no_repair(
+    rt: &impl Abort,
+    alloc: Global,
+    image: &[u8],
+    message: &str,
+) -> Result<(), AllocError> {
+    let image = image.to_vec(alloc)?;
+    tells(
+        rt,
+        alloc,
+        Job::Repair { image },
+        b"xyz",
+        (2, message, "", 3),
+    );
+    Ok(())
+}
+
+/// The first copy and one byte of the second are damaged.
+fn both_bad(rt: &impl Abort, alloc: Global, place: usize, byte: u8) -> Result<(), Fail> {
+    let mut image = doubled(alloc)?;
+    set(&mut image, 1030, 0);
+    set(&mut image, place, byte);
+    refuses(rt, alloc, &image, Command::List, "refused volume 3", 3)?;
+    Ok(no_repair(rt, alloc, &image, "refused volume 3")?)
+}
+
+/// A second copy that is none: a bad name, and one that says that files begin at block 6; and an image of 9 blocks.
+#[test]
+fn bad_second_copies(rt: HostRuntime) -> Result<(), Fail> {
+    let alloc = rt.alloc();
+    both_bad(&rt, alloc, 3078, 0)?;
+    both_bad(&rt, alloc, 3074, 6)?;
+    let mut image = doubled(alloc)?;
+    image.truncate(4608);
+    no_repair(&rt, alloc, &image, "refused volume 6")?;
+    set(&mut image, 1030, 0);
+    no_repair(&rt, alloc, &image, "refused volume 3")?;
+    Ok(())
+}
+
+/// A good first copy counts, whatever the second one holds; `repair` changes nothing, and a change makes the copies the same.
+#[test]
+fn differing_copies(rt: HostRuntime) -> Result<(), Fail> {
+    let alloc = rt.alloc();
+    let mut image = doubled(alloc)?;
+    set(&mut image, 3078, 0);
+    lists(&rt, alloc, &image, ONE_FILE)?;
+    let ran = job_run(alloc, Job::Repair { image }, b"");
+    let image = ran.into_image().ok_or("no image")?;
+    assert_eq!(rt; image.get(3078).copied(), Some(0));
+    let image = changed(alloc, image, Command::Date(0, 1, 1), b"")?;
+    has_same_copies(&rt, &image);
+    Ok(())
+}
+
+#[test]
+fn refused_copies(rt: HostRuntime) -> Result<(), Fail> {
+    let alloc = rt.alloc();
+    let image = one_file(alloc)?;
+    refuses(
+        &rt,
+        alloc,
+        &image,
+        Command::Duplicate,
+        "refused filer 1 14",
+        3,
+    )?;
+    let image = new_image(alloc, "WORK", 8)?;
+    refuses(
+        &rt,
+        alloc,
+        &image,
+        Command::Duplicate,
+        "refused filer 1 3",
+        3,
+    )?;
+    Ok(())
+}
+
+const MOVED: &str = "\
+WORK:
+B               data    10     1   3 000-00-00
+BAD             badb    12     1   3 000-00-00
+C               text    13     4 512 000-00-00
+files 3 free 4 largest 3
+";
+
+/// A file taken away below one that moves, bad blocks and a text.
+fn moved(alloc: Global) -> Result<Vec<u8>, Fail> {
+    let image = changed(alloc, doubled(alloc)?, put(alloc, "X")?, b"two")?;
+    let bad = Command::Put(text(alloc, "BAD")?, 1, Vec::new(alloc));
+    let image = changed(alloc, image, bad, b"bad")?;
+    let image = changed(alloc, image, put_text(alloc, "C")?, b"c\n")?;
+    let change = Command::Change(text(alloc, "X")?, text(alloc, "b")?);
+    let image = changed(alloc, image, change, b"")?;
+    let image = changed(alloc, image, Command::Remove(text(alloc, "A")?), b"")?;
+    changed(alloc, image, Command::Krunch, b"")
+}
+
+/// Each change keeps the copies the same; bad blocks stay, and a file that was moved has its bytes.
+#[test]
+fn kept_copies(rt: HostRuntime) -> Result<(), Fail> {
+    let alloc = rt.alloc();
+    let image = moved(alloc)?;
+    has_same_copies(&rt, &image);
+    lists(&rt, alloc, &image, MOVED)?;
+    let get = Command::Get(text(alloc, "b")?);
+    answers(&rt, alloc, &image, get, b"xyz", (0, "", "two", 3))?;
+    let image = changed(alloc, image, Command::Zero(text(alloc, "new")?), b"")?;
+    has_same_copies(&rt, &image);
+    lists(&rt, alloc, &image, "NEW:\nfiles 0 free 10 largest 10\n")?;
+    Ok(())
+}
+
+/// A copy made and dropped.
+#[test]
+fn copies_made_and_dropped(rt: HostRuntime) -> Result<(), Fail> {
+    let alloc = rt.alloc();
+    let image = changed(
+        alloc,
+        new_image(alloc, "work", 20)?,
+        Command::Duplicate,
+        b"",
+    )?;
+    has_same_copies(&rt, &image);
+    lists(&rt, alloc, &image, "WORK:\nfiles 0 free 10 largest 10\n")?;
+    let image = changed(alloc, image, Command::Single, b"")?;
+    lists(&rt, alloc, &image, "WORK:\nfiles 0 free 14 largest 14\n")?;
+    assert!(rt; image.iter().skip(3072).all(|byte| *byte == 0));
+    Ok(())
+}

@@ -3,27 +3,56 @@ use crate::words::{WordsError, given, limit, limit_of};
 use clap::{Arg, ArgAction, ArgMatches, Command};
 use std::alloc::{AllocError, Global};
 
-/// The files that have the images of the disks, in the order of the units 4, 5, 9, 10, 11 and 12.
-pub type Disks = [Option<String>; 6];
+/// The files that have the images of the disks on the other units.
+#[derive(Drop)]
+pub struct Others {
+    pub d5: Option<String>,
+    pub d9: Option<String>,
+    pub d10: Option<String>,
+    pub d11: Option<String>,
+    pub d12: Option<String>,
+}
 
 /// A program to be run.
 #[derive(Drop)]
 pub struct Program {
-    /// The images' files.
-    pub disks: Disks,
+    /// The file that has the image of the disk on unit 4.
+    pub disk: String,
+    /// Those of the other disks.
+    pub others: Others,
     /// The name of the code file on unit 4.
     pub name: String,
     /// The most steps that are made.
     pub limit: u32,
 }
 
-/// What `run` does beside running.
+/// What the words of `run` say beside the program.
 #[derive(Drop)]
 pub struct Keeping {
     /// Whether unit 4's image is written back.
     pub save: bool,
-    /// The file that gets the printer's bytes.
+    /// The path that gets the printer's bytes.
     pub printer: Option<String>,
+}
+
+/// Where the printer's bytes go.
+#[derive(Drop)]
+pub enum Printing {
+    /// They are not wanted.
+    Nowhere,
+    /// To standard output, behind the console's bytes.
+    Output,
+    /// To a file.
+    File(String),
+}
+
+/// What is kept of a run.
+#[derive(Drop)]
+pub struct Kept {
+    /// Whether unit 4's image is written back.
+    pub save: bool,
+    /// Where the printer's bytes go.
+    pub printing: Printing,
 }
 
 fn disk<'a>(alloc: Global, id: &'a str, help: &'a str) -> Arg<'a> {
@@ -50,11 +79,13 @@ pub fn run<'a>(alloc: Global) -> Result<Command<'a>, AllocError> {
     let save = Arg::new(alloc, "save")
         .long("save")
         .action(ArgAction::SetTrue)
-        .help("Writes the image of unit 4 back");
+        .help(
+            "Writes the image of unit 4 back to its file; nothing else that is written to a disk is kept",
+        );
     let printer = Arg::new(alloc, "printer")
         .long("printer")
         .value_name("PATH")
-        .help("The file that gets the printer's bytes");
+        .help("The file that gets the printer's bytes, in the place of what it has");
     let command = Command::new(alloc, "run").about(
         "Runs a code file of the disk on unit 4, with the standard streams as its console",
     );
@@ -79,18 +110,23 @@ pub fn debug<'a>(alloc: Global) -> Result<Command<'a>, AllocError> {
 
 /// The program that the words name.
 pub fn program_of(alloc: Global, matches: &ArgMatches<'_>) -> Result<Program, WordsError> {
-    let disks = [
-        given(alloc, matches, "d4")?,
-        given(alloc, matches, "d5")?,
-        given(alloc, matches, "d9")?,
-        given(alloc, matches, "d10")?,
-        given(alloc, matches, "d11")?,
-        given(alloc, matches, "d12")?,
-    ];
+    let disk = given(alloc, matches, "d4")?.ok_or(WordsError::NoCommand)?;
+    let others = Others {
+        d5: given(alloc, matches, "d5")?,
+        d9: given(alloc, matches, "d9")?,
+        d10: given(alloc, matches, "d10")?,
+        d11: given(alloc, matches, "d11")?,
+        d12: given(alloc, matches, "d12")?,
+    };
     let name = matches.get_str("NAME").ok_or(WordsError::NoCommand)?;
     let name = String::from_str(alloc, name)?;
     let limit = limit_of(matches)?;
-    Ok(Program { disks, name, limit })
+    Ok(Program {
+        disk,
+        others,
+        name,
+        limit,
+    })
 }
 
 /// What the words of `run` say beside the program.

@@ -22,8 +22,8 @@ pub struct FakeFile<'a> {
 pub struct FakeRuntime<'a> {
     pub disk: &'a RefCell<Disk>,
     pub alloc: Global,
-    /// The words of the command line, the program's name before them.
-    pub words: &'a [&'a str],
+    /// The words of the command line, the program's name before them, with a blank between each two.
+    pub line: &'a str,
     /// Standard input.
     pub typed: &'a [u8],
     /// Whether the standard streams are a terminal.

@@ -97,7 +97,7 @@ impl Eprint for FakeRuntime<'_> {
 
 impl Env for FakeRuntime<'_> {
     fn arg(&self, i: usize, buf: &mut [u8]) -> Result<usize, FillError> {
-        let Some(word) = self.words.get(i) else {
+        let Some(word) = self.line.split(' ').nth(i) else {
             return Err(FillError::NotPresent);
         };
         let word = word.as_bytes();

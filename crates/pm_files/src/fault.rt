@@ -1,4 +1,7 @@
 //! Why a file could not be read or written.
+ghost use Rattle.std.specs.Prelude.{◌≡◌};
+ghost use Rattle.pm_files.specs.Faults.{fault_of};
+
 use pm_streams::Fault;
 use std::alloc::AllocError;
 use std::io;
@@ -36,7 +39,9 @@ impl DiskFault {
     }
 
     /// What a job would say of it: `read fault`, `write fault` or `no memory`.
-    pub fn fault(self) -> Fault {
+    pub fn fault(self) -> Fault
+        ensures value { result ≡ fault_of self }
+    {
         match self {
             DiskFault::Read(_) | DiskFault::TooLong | DiskFault::Busy => Fault::Read,
             DiskFault::Write(_) | DiskFault::Replaced => Fault::Write,

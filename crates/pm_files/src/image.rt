@@ -27,7 +27,11 @@ fn read_file<F: Read>(alloc: Global, file: &mut F) -> Result<Vec<u8>, DiskFault>
 
 /// Reads the image of a file, with no lock: a file that is replaced meanwhile is the old one or the new one, and never a mixture.
 /// `TooLong` for more than `IMAGE_LIMIT` bytes.
-pub fn read_image<R: Files>(rt: &R, alloc: Global, path: &str) -> Result<Vec<u8>, DiskFault> {
+pub(crate) fn read_image<R: Files>(
+    rt: &R,
+    alloc: Global,
+    path: &str,
+) -> Result<Vec<u8>, DiskFault> {
     let mut file = File::open(rt, path).map_err(DiskFault::of_read)?;
     read_file(alloc, &mut file)
 }

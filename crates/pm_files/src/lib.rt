@@ -10,7 +10,5 @@ mod store;
 
 pub use fault::DiskFault;
 pub use host::{Host, Stream};
-pub use image::{IMAGE_LIMIT, read_image};
-pub use place::Place;
-pub use replacing::replace;
+pub use image::IMAGE_LIMIT;
 pub use store::{HostStore, Store};

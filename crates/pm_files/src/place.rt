@@ -10,7 +10,7 @@ pub(crate) const TRIES: u8 = 100;
 
 /// A path to which bytes are going to be written. All memory that this takes is had here, so that none is wanted later.
 #[derive(Drop)]
-pub struct Place<F> {
+pub(crate) struct Place<F> {
     /// The path as it was given.
     pub(crate) name: String,
     /// The path behind all links. `None`: nothing but the file itself can be written, as where a link leads to nothing.
@@ -53,7 +53,10 @@ fn locked<R: Host>(rt: &R, path: &str) -> Result<Option<R::File>, DiskFault> {
 
 impl<F> Place<F> {
     /// Makes ready to write to a path. `NoMemory` is the only refusal: what else is wrong is met where it is written.
-    pub fn new<R: Host<File = F> + AllocGlobal>(rt: &R, name: &str) -> Result<Place<F>, DiskFault> {
+    pub(crate) fn new<R: Host<File = F> + AllocGlobal>(
+        rt: &R,
+        name: &str,
+    ) -> Result<Place<F>, DiskFault> {
         let path = resolved(rt, name)?;
         let whole = match &path {
             Some(path) => path.as_str(),
@@ -73,7 +76,7 @@ impl<F> Place<F> {
 
     /// Locks the file, if it is a regular one, until this is dropped. `Busy` where another program has it; a fault of reading where
     /// it cannot be opened.
-    pub fn hold<R: Host<File = F>>(&mut self, rt: &R) -> Result<(), DiskFault> {
+    pub(crate) fn hold<R: Host<File = F>>(&mut self, rt: &R) -> Result<(), DiskFault> {
         if let Some(path) = &self.path {
             self.held = locked(rt, path.as_str())?;
         }

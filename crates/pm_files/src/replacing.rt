@@ -171,7 +171,11 @@ fn is_replaced<R: Host>(rt: &R, place: &Place<R::File>) -> io::Result<bool> {
 /// Makes the bytes those of a file: at each moment it has its old bytes or these. But they are written over the old ones where the file
 /// is no regular one, has other names, or stands in a folder that takes no new name; where that fails half way it is a mixture.
 /// No memory is wanted. `Replaced` where the file was held, and another one has its name now.
-pub fn replace<R: Host>(rt: &R, place: &Place<R::File>, bytes: &[u8]) -> Result<(), DiskFault> {
+pub(crate) fn replace<R: Host>(
+    rt: &R,
+    place: &Place<R::File>,
+    bytes: &[u8],
+) -> Result<(), DiskFault> {
     let old = found(rt, place.name.as_str()).map_err(DiskFault::of_write)?;
     if old.is_some() && is_replaced(rt, place).map_err(DiskFault::of_write)? {
         return Err(DiskFault::Replaced);

@@ -24,7 +24,7 @@ pub enum Verb {
 
 impl Verb {
     /// Whether the image is written back where the command is accepted.
-    pub fn changes(&self) -> bool {
+    pub(crate) fn changes(&self) -> bool {
         use pm_filer::Command;
         !matches!(
             self,
@@ -33,7 +33,7 @@ impl Verb {
     }
 
     /// Whether the command reads standard input.
-    pub fn reads(&self) -> bool {
+    pub(crate) fn reads(&self) -> bool {
         use pm_filer::Command;
         matches!(self, Verb::Command(Command::Put(..) | Command::PutText(..)))
     }

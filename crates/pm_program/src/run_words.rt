@@ -100,11 +100,31 @@ pub fn trace<'a>(alloc: Global) -> Result<Command<'a>, AllocError> {
     with_program(alloc, command)
 }
 
+/// The commands of the debugger.
+const DEBUG_HELP: &str = "\
+Commands, one a line, numbers in decimal:
+  break S P O    sets a breakpoint: segment, procedure, distance in bytes from its entry
+  clear S P O    takes it away
+  go N           makes at most N steps
+  poke A W       writes a word at an even address
+  key B          lets a byte wait on the console
+  stack N        the words on the stack, at most N
+  static N       the frames by their static links, at most N
+  dynamic N      the frames by their dynamic links, at most N
+  local D B      variable B of the procedure D static links up
+  regs           the registers
+  trace          the line of a trace for the next step
+  quit           ends the session
+Answers: ok, numbers, ended K, error N K, limit K, waiting K, break K; `?` is no command, and refused N:
+  1 beside 64 breakpoints, 2 no such breakpoint, 3 an odd address, 5 a depth above 127
+`--limit` has no effect here.
+";
+
 /// The command `debug`, whose limit has no effect.
 pub fn debug<'a>(alloc: Global) -> Result<Command<'a>, AllocError> {
-    let command = Command::new(alloc, "debug").about(
-        "Debugs a code file of the disk on unit 4, by the commands of standard input",
-    );
+    let command = Command::new(alloc, "debug")
+        .about("Debugs a code file of the disk on unit 4, by the commands of standard input")
+        .after_help(DEBUG_HELP);
     with_program(alloc, command)
 }
 

@@ -15,15 +15,15 @@ fn message(end: &End) -> &str {
     }
 }
 
-/// Says which file it was about, and why.
+/// Says more of an end: which file it was about and why, or where the numbers are told.
 fn explain<R: Eprint>(rt: &R, end: &End) {
-    let End::File(fault, path) = end else {
-        return;
-    };
-    let reason = fault.reason();
-    let _ = match path {
-        Some(path) => eprintln!(rt; "pmach: {path}: {reason}"),
-        None => eprintln!(rt; "pmach: {reason}"),
+    let _ = match end {
+        End::File(fault, Some(path)) => eprintln!(rt; "pmach: {path}: {}", fault.reason()),
+        End::File(fault, None) => eprintln!(rt; "pmach: {}", fault.reason()),
+        End::Outcome(outcome) if outcome.status == Exit::Refused.number() => {
+            eprintln!(rt; "pmach: docs/COMMANDS.md tells what the numbers mean")
+        }
+        _ => Ok(()),
     };
 }
 

@@ -38,41 +38,36 @@ fn each(rt: &impl Abort, alloc: Global, line: Line<'_>) -> Result<usize, Fail> {
     Ok(count)
 }
 
+/// Each call of a verb that changes the image, and of one that lists it, fails once.
+fn fails(rt: &impl Abort, alloc: Global, words: &str, typed: &[u8]) -> Result<(), Fail> {
+    let count = each(rt, alloc, Line { words, typed })?;
+    assert!(rt; count > 6, "at {words}");
+    Ok(())
+}
+
 #[test]
 fn each_call_of_files(rt: HostRuntime) -> Result<(), Fail> {
-    let put = ["pmach", "files", "--image", IMAGE, "put", "A", "data"];
-    let new = ["pmach", "files", "--image", IMAGE, "new", "LESS", "20"];
-    let krunch = ["pmach", "files", "--image", IMAGE, "krunch"];
-    let list = ["pmach", "files", "--image", IMAGE, "list"];
-    for (words, typed) in [
-        (put.as_slice(), b"xyz".as_slice()),
-        (new.as_slice(), b""),
-        (krunch.as_slice(), b""),
-        (list.as_slice(), b""),
-    ] {
-        let count = each(&rt, rt.alloc(), Line { words, typed })?;
-        assert!(rt; count > 6);
-    }
-    Ok(())
+    fails(
+        &rt,
+        rt.alloc(),
+        "pmach files --image w.img put A data",
+        b"xyz",
+    )?;
+    fails(
+        &rt,
+        rt.alloc(),
+        "pmach files --image w.img new LESS 20",
+        b"",
+    )?;
+    fails(&rt, rt.alloc(), "pmach files --image w.img krunch", b"")?;
+    fails(&rt, rt.alloc(), "pmach files --image w.img list", b"")
 }
 
 /// Each call of a run that is saved fails once: the image is old or new, and the printer's file is written only behind a new image.
 #[test]
 fn each_call_of_run(rt: HostRuntime) -> Result<(), Fail> {
-    let words = [
-        "pmach",
-        "run",
-        "--d4",
-        IMAGE,
-        "--save",
-        "--printer",
-        "p",
-        "--limit",
-        "40",
-        "KEEPS",
-    ];
     let line = Line {
-        words: &words,
+        words: "pmach run --d4 w.img --save --printer p --limit 40 KEEPS",
         typed: b"",
     };
     let disk = keeps(rt.alloc(), ROUND)?;
@@ -95,11 +90,11 @@ fn each_call_of_run(rt: HostRuntime) -> Result<(), Fail> {
     Ok(())
 }
 
-/// Each call of a debugger's session fails once: what was written is a front of the answers, and no further line is read.
+/// Each call of a run of bare code fails once: what was written is a front of the trace, and nothing is tried again.
 #[test]
 fn each_call_of_raw(rt: HostRuntime) -> Result<(), Fail> {
     let line = Line {
-        words: &["pmach", "raw"],
+        words: "pmach raw",
         typed: b"02 03 82 D6",
     };
     let (status, good) = failing(rt.alloc(), Disk::new(rt.alloc()), line, None);

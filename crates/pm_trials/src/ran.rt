@@ -12,7 +12,7 @@ pub(crate) const IMAGE: &str = "w.img";
 /// A command line, and what standard input is.
 #[derive(Clone, Copy)]
 pub(crate) struct Line<'a> {
-    pub(crate) words: &'a [&'a str],
+    pub(crate) words: &'a str,
     pub(crate) typed: &'a [u8],
 }
 
@@ -22,7 +22,7 @@ pub(crate) fn on(alloc: Global, disk: Disk, line: Line<'_>, on_terminal: bool) -
     let status = program(&FakeRuntime {
         disk: &cell,
         alloc,
-        words: line.words,
+        line: line.words,
         typed: line.typed,
         on_terminal,
     });
@@ -42,14 +42,19 @@ pub(crate) fn failing(
 }
 
 /// Does a command line.
-pub(crate) fn ran(alloc: Global, disk: Disk, words: &[&str], typed: &[u8]) -> (u8, Disk) {
+pub(crate) fn ran(alloc: Global, disk: Disk, words: &str, typed: &[u8]) -> (u8, Disk) {
     failing(alloc, disk, Line { words, typed }, None)
 }
 
 /// A disk with a new volume WORK of 40 blocks.
 pub(crate) fn work(alloc: Global) -> Disk {
-    let words = ["pmach", "files", "--image", IMAGE, "new", "WORK", "40"];
-    ran(alloc, Disk::new(alloc), &words, b"").1
+    ran(
+        alloc,
+        Disk::new(alloc),
+        "pmach files --image w.img new WORK 40",
+        b"",
+    )
+    .1
 }
 
 /// A disk with one file of these bytes.
@@ -59,12 +64,11 @@ pub(crate) fn with_file(alloc: Global, bytes: &[u8]) -> Result<Disk, Fail> {
     Ok(disk)
 }
 
-/// Assembles a program and puts it into the volume.
-pub(crate) fn with_program(alloc: Global, disk: Disk, name: &str, text: &str) -> Disk {
-    let (_, mut disk) = ran(alloc, disk, &["pmach", "asm"], text.as_bytes());
+/// Assembles a program, and puts it into the volume by a command line.
+pub(crate) fn with_program(alloc: Global, disk: Disk, put: &str, text: &str) -> Disk {
+    let (_, mut disk) = ran(alloc, disk, "pmach asm", text.as_bytes());
     let code = std::mem::replace(&mut disk.out, Vec::new(alloc));
-    let words = ["pmach", "files", "--image", IMAGE, "put", name, "code"];
-    ran(alloc, disk, &words, code.as_slice()).1
+    ran(alloc, disk, put, code.as_slice()).1
 }
 
 /// A copy of the bytes that a path names.
@@ -76,17 +80,22 @@ pub(crate) fn bytes_of(alloc: Global, disk: &Disk, path: &str) -> Result<Vec<u8>
 }
 
 /// What is asserted of a command line: its words and input, its status, and what the two streams took.
-pub(crate) type Row<'a> = (&'a [&'a str], &'a str, u8, &'a str, &'a str);
+pub(crate) type Row<'a> = (&'a str, &'a str, u8, &'a str, &'a str);
+
+/// Does a command line, which comes to what stands beside it.
+fn row(rt: &impl Abort, alloc: Global, disk: Disk, row: Row<'_>) -> Disk {
+    let (words, typed, status, out, err) = row;
+    let (got, after) = ran(alloc, disk, words, typed.as_bytes());
+    assert_eq!(rt; got, status, "at {words}");
+    assert_eq!(rt; after.out.as_slice(), out.as_bytes(), "at {words}");
+    assert_eq!(rt; after.err.as_str(), err, "at {words}");
+    after
+}
 
 /// Does the command lines one after another, each of which comes to what stands beside it.
 pub(crate) fn rows(rt: &impl Abort, alloc: Global, mut disk: Disk, rows: &[Row<'_>]) -> Disk {
-    for (words, typed, status, out, err) in rows {
-        let (got, after) = ran(alloc, disk, words, typed.as_bytes());
-        let verb = words.last().copied().unwrap_or("");
-        assert_eq!(rt; got, *status, "at {verb}");
-        assert_eq!(rt; after.out.as_slice(), out.as_bytes(), "at {verb}");
-        assert_eq!(rt; after.err.as_str(), *err, "at {verb}");
-        disk = after;
+    for line in rows {
+        disk = row(rt, alloc, disk, *line);
     }
     disk
 }

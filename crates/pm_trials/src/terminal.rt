@@ -1,33 +1,37 @@
 //! What is different where the standard streams are a terminal.
-use crate::ran::{IMAGE, Line, on, work};
+use crate::ran::{Line, on, work};
 use pm_fake::Disk;
 use std::alloc::Global;
+use std::process::Abort;
 
-fn typed(alloc: Global, mut disk: Disk, words: &[&str], typed: &[u8]) -> (u8, Disk) {
+/// Does a command line on a terminal: its status, and what standard error took.
+fn says(rt: &impl Abort, alloc: Global, mut disk: Disk, line: Line<'_>, told: (u8, &str)) {
     disk.rewind();
-    on(alloc, disk, Line { words, typed }, true)
+    let (status, after) = on(alloc, disk, line, true);
+    assert_eq!(rt; (status, after.err.as_str()), told);
 }
+
+const RAW: Line<'static> = Line {
+    words: "pmach raw",
+    typed: b"D6",
+};
+
+const NO_FILE: Line<'static> = Line {
+    words: "pmach files --image none.img list",
+    typed: b"",
+};
+
+const PUT: Line<'static> = Line {
+    words: "pmach files --image w.img put A data",
+    typed: b"xyz",
+};
 
 #[test]
 fn says_more(rt: HostRuntime) {
-    let (status, disk) = typed(rt.alloc(), Disk::new(rt.alloc()), &["pmach", "raw"], b"D6");
-    assert_eq!(rt; status, 0);
-    assert_eq!(rt;
-        disk.err.as_str(),
-        "pmach: reads hexadecimal digits; Ctrl-D ends them\n"
-    );
-    let words = ["pmach", "files", "--image", "none.img", "list"];
-    let (status, disk) = typed(rt.alloc(), disk, &words, b"");
-    assert_eq!(rt; status, 4);
-    assert_eq!(rt;
-        disk.err.as_str(),
-        "read fault\npmach: none.img: no such file or folder\n"
-    );
-    let words = ["pmach", "files", "--image", IMAGE, "put", "A", "data"];
-    let (status, disk) = typed(rt.alloc(), work(rt.alloc()), &words, b"xyz");
-    assert_eq!(rt; status, 0);
-    assert_eq!(rt;
-        disk.err.as_str(),
-        "pmach: reads the file; Ctrl-D ends it\n"
-    );
+    let told = (0, "pmach: reads hexadecimal digits; Ctrl-D ends them\n");
+    says(&rt, rt.alloc(), Disk::new(rt.alloc()), RAW, told);
+    let told = (4, "read fault\npmach: none.img: no such file or folder\n");
+    says(&rt, rt.alloc(), Disk::new(rt.alloc()), NO_FILE, told);
+    let told = (0, "pmach: reads the file; Ctrl-D ends it\n");
+    says(&rt, rt.alloc(), work(rt.alloc()), PUT, told);
 }

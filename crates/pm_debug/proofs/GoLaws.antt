@@ -1,5 +1,5 @@
 -- Runs to a breakpoint, from what was found on the way.
-use Rattle.std.proofs.Common.{◌≡◌, ◌∙◌, ◌<◌, ◌≤◌, ◌+◌, ◌⊎◌, inl, inr, ap, sym, refl, arith, add-one, below_more, ℕ, zero, suc, Bool, true, false, not, ◌&&◌, List, subst}
+use Rattle.std.proofs.Common.{◌≡◌, ◌∙◌, ◌<◌, ◌≤◌, ◌+◌, ◌⊎◌, inl, inr, ap, sym, refl, arith, add-one, below_more, ℕ, zero, suc, Bool, true, false, not, ◌&&◌, List, [], Option, Some, None, subst}
 use Rattle.std.specs.Prelude.{nat_lt, ◌==◌}
 use Rattle.std.proofs.lemmas.Bool.{ltb-false}
 use Rattle.std.proofs.lemmas.Bool.Decides.{nat_tests}
@@ -8,10 +8,12 @@ use Rattle.pm_machine.specs.declared.state.Stop.TheVariants as stop
 use Rattle.pm_machine.specs.State.{State}
 use Rattle.pm_machine.specs.Steps.{is_running, stepped}
 use Rattle.pm_machine.specs.Runs.{after, AllWent}
+use Rattle.pm_machine.specs.Quick.{QuickSteps}
 use Rattle.pm_debug.specs.declared.breaks.Breakpoint.{Breakpoint}
+use Rattle.pm_debug.specs.Breaks.{is_at_break, is_one_of, standing}
 use Rattle.pm_debug.specs.declared.reason.Reason.{Reason}
 use Rattle.pm_debug.specs.declared.reason.Reason.TheVariants as reasons
-use Rattle.pm_debug.specs.Runs.{Gone, breaks_after, can_go, can_step, gone, gone_after, greatest, has_ended, held_up, is_made, left_by, reason_at, steps_made}
+use Rattle.pm_debug.specs.Runs.{Gone, UnbrokenSteps, breaks_after, can_go, can_step, gone, gone_after, greatest, has_ended, held_up, is_made, left_by, reason_at, steps_made}
 use Rattle.pm_debug.proofs.StepLaws.{ended_stands, step_ended, step_went}
 
 and_false : (b : Bool) → b && false ≡ false
@@ -207,3 +209,42 @@ module _ (breaks : List Breakpoint) (s : State) (limit : ℕ) where
               going = goes.1;
               went = below_more _ _ u.went (ap (λ (p : State × Stop). p.1) (rw u.left at h));
             }
+
+-- ---- steps without breakpoints
+
+none_matches : (p : Option Breakpoint) → is_one_of p [] ≡ false
+none_matches None = refl
+none_matches (Some b) = refl
+
+-- the machine's own quick steps, where there is no breakpoint
+pub quick_unbroken : (breaks : List Breakpoint) (limit : ℕ) (s : State) (count : ℕ) (t : State) → breaks ≡ [] → QuickSteps limit s count t
+    → UnbrokenSteps breaks limit s count t
+quick_unbroken breaks limit s count t e q = record {
+  within = q.within;
+  went = q.went;
+  left = q.left;
+  unbroken = λ k h. ap (λ bs. is_at_break bs (after k s)) e ∙ none_matches (standing (after k s));
+}
+
+pub unbroken_none : (breaks : List Breakpoint) (limit : ℕ) (s : State) → UnbrokenSteps breaks limit s 0 s
+unbroken_none breaks limit s = record {
+  within = omega arith;
+  went = λ k h. absurd (omega arith);
+  left = sym (after_none s);
+  unbroken = λ k h. absurd (omega arith);
+}
+
+module _ (breaks : List Breakpoint) (s : State) (n : ℕ) (m : State) (u : IsUnderWay breaks s n m) where
+  under_way_after : (count : ℕ) → AllWent count m → ((k : ℕ) → k < count → is_at_break breaks (after k m) ≡ false)
+      → IsUnderWay breaks s (n + count) (after count m)
+  unfolding after
+  under_way_after zero went free = let e : n + 0 ≡ n = omega arith in rw e u
+  under_way_after (suc k) went free =
+      let before = under_way_after k (λ i h. went i (omega (arith, h))) (λ i h. free i (omega (arith, h))) in
+      let b : breaks_after breaks (n + k) (after k m) ≡ false = rw (free k (omega arith)) (and_false (not (n + k == 0))) in
+      let step : stepped (after k m) ≡ ((stepped (after k m)).0, stop.Went) = ap (λ a. ((stepped (after k m)).0, a)) (went k (omega arith)) in
+      let e : n + suc k ≡ n + k + 1 = omega arith in
+      rw e (under_way_went breaks s (n + suc k) (n + k) (after k m) before (omega arith) b (stepped (after k m)).0 step)
+
+  pub under_way_unbroken : (limit count : ℕ) (t : State) → UnbrokenSteps breaks limit m count t → IsUnderWay breaks s (n + count) t
+  under_way_unbroken limit count t h = subst (IsUnderWay breaks s (n + count)) (sym h.left) (under_way_after count h.went h.unbroken)

@@ -1,12 +1,12 @@
 -- Runs to a breakpoint.
-use Rattle.std.specs.Prelude.{ℕ, zero, suc, ◌≡◌, ◌<◌, ◌==◌, ◌&&◌, not, Bool, true, false, List, if◌then◌else◌, nat_lt}
+use Rattle.std.specs.Prelude.{ℕ, zero, suc, ◌≡◌, ◌<◌, ◌≤◌, ◌==◌, ◌&&◌, not, Bool, true, false, List, if◌then◌else◌, nat_lt}
 use Rattle.pm_machine.specs.declared.state.Status.{Status}
 use Rattle.pm_machine.specs.declared.state.Status.TheVariants as status
 use Rattle.pm_machine.specs.declared.state.Stop.{Stop}
 use Rattle.pm_machine.specs.declared.state.Stop.TheVariants as stop
 use Rattle.pm_machine.specs.State.{State, Whole}
 use Rattle.pm_machine.specs.Steps.{WantsMemory, is_running, stepped}
-use Rattle.pm_machine.specs.Runs.{after}
+use Rattle.pm_machine.specs.Runs.{AllWent, after}
 use Rattle.pm_debug.specs.declared.breaks.Breakpoint.{Breakpoint}
 use Rattle.pm_debug.specs.declared.reason.Reason.{Reason}
 use Rattle.pm_debug.specs.declared.reason.Reason.TheVariants as reasons
@@ -89,3 +89,10 @@ abbrev pub GaveUpUnbroken : List Breakpoint → ℕ → Whole → Whole → Type
 GaveUpUnbroken breaks limit m t =
     (n : ℕ) × (n < limit) × (can_go breaks m.state n ≡ true) × (t.state ≡ after n m.state) × (breaks_after breaks n t.state ≡ false)
     × WantsMemory t
+
+-- some steps, at most so many: each went, and no breakpoint matches before any of them
+pub record UnbrokenSteps (breaks : List Breakpoint) (limit : ℕ) (s : State) (count : ℕ) (t : State) : Type 0 where
+  pub within : count ≤ limit
+  pub went : AllWent count s
+  pub left : t ≡ after count s
+  pub unbroken : (k : ℕ) → k < count → is_at_break breaks (after k s) ≡ false

@@ -1,7 +1,7 @@
 //! Runs to a breakpoint.
 
 ghost use Rattle.std.specs.Prelude.{◌≡◌, IfOk, OnErr};
-ghost use Rattle.pm_debug.specs.Runs.{GaveUpUnbroken, breaks_after, gone, has_ended};
+ghost use Rattle.pm_debug.specs.Runs.{GaveUpUnbroken, UnbrokenSteps, breaks_after, gone, has_ended};
 
 use crate::breaks::{Breakpoint, is_at_break};
 use crate::reason::Reason;
@@ -21,6 +21,17 @@ fn has_ended(status: Status) -> bool
     matches!(status, Status::Ended)
 }
 
+/// Makes some steps before which no breakpoint matches, at most `limit` and perhaps none: how many.
+fn unbroken_steps(machine: &mut Machine, breaks: &[Breakpoint], limit: u64) -> u64
+    ensures steps { UnbrokenSteps breaks.now limit machine.old.state result machine.new.state }
+{
+    if breaks.is_empty() {
+        machine.quick_steps(limit)
+    } else {
+        0
+    }
+}
+
 /// Makes at most `limit` steps, and stops before that at a breakpoint.
 pub(crate) fn run(
     machine: &mut Machine,
@@ -33,12 +44,16 @@ pub(crate) fn run(
     if has_ended(machine.status()) {
         return Ok((0, Reason::Ended));
     }
-    for count in 0..limit {
+    let mut count = 0;
+    'steps: while count < limit {
         if breaks_after(machine, breaks, count) {
             return Ok((count, Reason::Break));
         }
         match machine.step()? {
-            Stop::Went => {}
+            Stop::Went => {
+                count += 1;
+                count += unbroken_steps(machine, breaks, limit - count);
+            }
             Stop::Ended => return Ok((count + 1, Reason::Ended)),
             Stop::Waiting => return Ok((count, Reason::Waiting)),
             Stop::Halted(error) => return Ok((count, Reason::Halted(error))),

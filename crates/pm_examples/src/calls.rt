@@ -9,14 +9,14 @@ use std::test::Fail;
 /// Two procedures, each with a table behind its code: number 1 of level 1 calls number 2 of level 2
 /// twice. The dictionary word of number 1, at 1,056, ends the code; the segment's highest word comes
 /// after it, at 1,058, and is written by the operator.
-const CALLS: [u8; 34] = [
+pub(crate) const CALLS: [u8; 34] = [
     0xCE, 0x01, 0xCE, 0x02, 0xCE, 0x02, 0xAD, 0x00, 0x00, 0x00, 0x00, 0x00, 0x06, 0x00, 0x0C, 0x00,
     0x01, 0x01, 0xAD, 0x00, 0x00, 0x00, 0x00, 0x00, 0x06, 0x00, 0x08, 0x00, 0x02, 0x02, 0x02, 0x00,
     0x10, 0x00,
 ];
 
 /// The segment's highest word: number 1 and two procedures.
-const TOP: (u16, u16) = (1058, 513);
+pub(crate) const TOP: (u16, u16) = (1058, 513);
 
 /// SP before each step but the last.
 const STACK_POINTERS: [u16; 5] = [65492, 65480, 65468, 65480, 65468];

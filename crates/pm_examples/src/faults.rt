@@ -1,8 +1,7 @@
 //! Streams that fail at each of their calls in turn.
 use crate::raw::{ADDITION, ADDITION_TRACE};
 use crate::streams::{Full, ShortReader, ShortWriter};
-use pm_streams::{Reader, Sink, Source, Writer};
-use pm_tool::{Job, Outcome, run};
+use pm_tool::{Job, Outcome, Reader, Sink, Source, Writer, run};
 use std::alloc::Global;
 use std::process::Abort;
 

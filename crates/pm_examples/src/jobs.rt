@@ -1,6 +1,5 @@
 //! A job, run over streams in memory, and what is asserted of it.
-use pm_streams::{Reader, Writer};
-use pm_tool::{Job, Outcome, run};
+use pm_tool::{Job, Outcome, Reader, Writer, run};
 use std::alloc::Global;
 use std::process::Abort;
 

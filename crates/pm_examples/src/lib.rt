@@ -28,7 +28,11 @@ mod orders;
 #[cfg(test)]
 mod procedures;
 #[cfg(test)]
+mod quick;
+#[cfg(test)]
 mod raw;
+#[cfg(test)]
+mod room;
 #[cfg(test)]
 mod rows;
 #[cfg(test)]

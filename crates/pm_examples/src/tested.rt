@@ -86,6 +86,11 @@ impl Tested {
         assert_eq!(rt; self.machine.run(limit), Ok((count, stop)));
     }
 
+    /// So many of at most `limit` steps are quick ones.
+    pub(crate) fn makes_quick(&mut self, rt: &impl Abort, limit: u64, count: u64) {
+        assert_eq!(rt; self.machine.quick_steps(limit), count);
+    }
+
     /// What a step comes to, and whether registers, memory and the count of steps are as they were.
     pub(crate) fn step(&mut self, alloc: Global) -> Result<(Stop, bool), AllocError> {
         let registers = self.machine.registers();
@@ -150,6 +155,12 @@ impl Tested {
 
     pub(crate) fn has_shown(&self, rt: &impl Abort, bytes: &[u8]) {
         assert_eq!(rt; self.machine.console(), bytes);
+    }
+
+    /// So many bytes were written to the console, and so many to the printer.
+    pub(crate) fn has_written(&self, rt: &impl Abort, console: usize, printer: usize) {
+        assert_eq!(rt; self.machine.console().len(), console);
+        assert_eq!(rt; self.machine.printer().len(), printer);
     }
 
     pub(crate) fn has_printed(&self, rt: &impl Abort, bytes: &[u8]) {

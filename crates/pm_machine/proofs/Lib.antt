@@ -1,6 +1,5 @@
 pub mod EventLaws
 pub mod LoadLaws
-pub mod WordLists
 pub mod RunLaws
 pub mod StepLaws
 pub mod Computed

@@ -9,7 +9,7 @@ use Rattle.pm_machine.specs.Runs.{after, AllWent, Ran, WentAll, StoppedAfter, la
 use Rattle.pm_machine.specs.RunLaws.{RunsGoOn, RunsStay, RunsAreOne, SameOutcome}
 
 -- steps after others
-after_both : (k m : ℕ) (s : State) → after (m + k) s ≡ after k (after m s)
+pub after_both : (k m : ℕ) (s : State) → after (m + k) s ≡ after k (after m s)
 unfolding after
 after_both zero m s = let e : m + zero ≡ m = omega arith in rw e refl
 after_both (suc k) m s =
@@ -18,7 +18,7 @@ after_both (suc k) m s =
 
 -- ---- a run that goes on
 
-went_both : (m n : ℕ) (s t : State) → t ≡ after m s → AllWent m s → AllWent n t → AllWent (m + n) s
+pub went_both : (m n : ℕ) (s t : State) → t ≡ after m s → AllWent m s → AllWent n t → AllWent (m + n) s
 went_both m n s t left first second k below = elim (cases_lt k m) [
   | inl early ↦ first k early
   | inr late ↦

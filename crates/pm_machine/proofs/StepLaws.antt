@@ -36,16 +36,16 @@ use Rattle.pm_stdproc.specs.declared.procedures.Procedure.TheVariants as procedu
 use Rattle.pm_machine.specs.declared.state.Status.{Status}
 use Rattle.pm_machine.specs.declared.state.Status.TheVariants as status
 use Rattle.pm_machine.specs.State.{State}
-use Rattle.pm_machine.specs.Arithmetic.{arithmetic_row, binary_row, check_row, constant_row, relation_row, unary_row}
-use Rattle.pm_machine.specs.Jumps.{jump_row}
-use Rattle.pm_machine.specs.Literals.{literal_row}
-use Rattle.pm_machine.specs.Pointers.{increment_row, indirect_row, index_row, pointer_row}
-use Rattle.pm_machine.specs.Values.{value_row}
-use Rattle.pm_machine.specs.Variables.{address_row, load_row, variable_at, variable_row}
+use Rattle.pm_rows.specs.Arithmetic.{arithmetic_row, binary_row, check_row, constant_row, relation_row, unary_row}
+use Rattle.pm_rows.specs.Jumps.{jump_row}
+use Rattle.pm_rows.specs.Literals.{literal_row}
+use Rattle.pm_rows.specs.Pointers.{increment_row, indirect_row, index_row, pointer_row}
+use Rattle.pm_rows.specs.Values.{value_row}
+use Rattle.pm_rows.specs.Variables.{address_row, load_row, variable_at, variable_row}
 use Rattle.pm_machine.specs.Loads.{code_needed}
 use Rattle.pm_machine.specs.Procedures.{call_of, call_row, is_base_return, parts, reach, return_row, standard_row, words_of_return}
 use Rattle.pm_machine.specs.Rows.{fetched, on_registers, on_stack, past, performed, row}
-use Rattle.pm_machine.specs.Signed.{binary}
+use Rattle.pm_rows.specs.Signed.{binary}
 use Rattle.pm_machine.specs.Steps.{at_status, executed, settled, stepped}
 use Rattle.pm_machine.specs.RunLaws.{RowsKeepBelow, IsUnitWrite, KeepsBelow, RestStays, StepsKeepDisks}
 

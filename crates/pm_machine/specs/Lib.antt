@@ -1,12 +1,5 @@
 pub mod Faults
-pub mod Signed
-pub mod Arithmetic
 pub mod State
-pub mod Variables
-pub mod Pointers
-pub mod Values
-pub mod Literals
-pub mod Jumps
 pub mod Loads
 pub mod Procedures
 pub mod Rows

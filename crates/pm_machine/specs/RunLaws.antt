@@ -15,12 +15,12 @@ use Rattle.pm_machine.specs.declared.state.Status.TheVariants as status
 use Rattle.pm_machine.specs.declared.state.Stop.{Stop}
 use Rattle.pm_machine.specs.declared.state.Stop.TheVariants as stop
 use Rattle.pm_machine.specs.State.{State}
-use Rattle.pm_machine.specs.Arithmetic.{arithmetic_row}
-use Rattle.pm_machine.specs.Pointers.{increment_row, indirect_row, index_row}
+use Rattle.pm_rows.specs.Arithmetic.{arithmetic_row}
+use Rattle.pm_rows.specs.Pointers.{increment_row, indirect_row, index_row}
 use Rattle.pm_machine.specs.Rows.{fetched}
 use Rattle.pm_machine.specs.Runs.{Ran}
 use Rattle.pm_machine.specs.Steps.{stepped}
-use Rattle.pm_machine.specs.Variables.{address_row, load_row}
+use Rattle.pm_rows.specs.Variables.{address_row, load_row}
 
 -- ---- runs
 

@@ -8,6 +8,3 @@ pub const EMPTY_STACK: u16 = 65_504;
 
 /// Where the heap begins, and bare code.
 pub const HEAP: u16 = 1024;
-
-/// The highest place of a word on the stack.
-pub const HIGHEST_WORD: u32 = 65_502;

@@ -1,7 +1,7 @@
 pub mod Spelled
 pub mod Runs
 pub mod Driven
-pub mod Gliding
+pub mod QuickSteps
 pub mod Kept
 pub mod Filing
 pub mod Coded

@@ -16,3 +16,4 @@ mod steps;
 
 pub use engine::run;
 pub use outcome::{Exit, Job, Outcome};
+pub use pm_streams::{Reader, Sink, Source, Writer};

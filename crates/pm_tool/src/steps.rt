@@ -71,12 +71,12 @@ fn step(
 }
 
 /// Makes some steps that show nothing, at most `limit` and perhaps none: how many.
-fn glide(machine: &mut Machine, show: Show, limit: u32) -> u32
+fn unshown_steps(machine: &mut Machine, show: Show, limit: u32) -> u32
     ensures unshown { Unshown show limit machine.old.state result machine.new.state }
 {
     match show {
         Show::Trace => 0,
-        Show::Console { .. } => machine.glide(u64::from(limit)) as u32,
+        Show::Console { .. } => machine.quick_steps(u64::from(limit)) as u32,
     }
 }
 
@@ -145,7 +145,7 @@ pub(crate) fn drive<R: Source, W: Sink>(
             Stop::Went => {
                 went += 1;
                 turn_page(sink, page, show)?;
-                went += glide(machine, show, limit - went);
+                went += unshown_steps(machine, show, limit - went);
             }
             Stop::Ended => return Ok(Ending::Ended),
             Stop::Halted(error) => return Ok(Ending::Error(error)),

@@ -1,7 +1,7 @@
 use Rattle.std.proofs.Common.{rules, arith, inr, refl, ◌-◌, ◌+◌}
 use Rattle.std.proofs.lemmas.Result.{err_from_is_err_and}
 use Rattle.pm_tool.proofs.Driven.{under_way_none, under_way_turned, under_way_cleared, under_way_went, under_way_waited, under_way_key, over_limit, over_ended, over_halted, over_waiting, broken_between, broken_writing, broken_reading}
-use Rattle.pm_tool.proofs.Gliding.{under_way_unshown}
+use Rattle.pm_tool.proofs.QuickSteps.{under_way_unshown}
 use Rattle.pm_tool.proofs.steps.drive.Goals as goal
 
 pub steps-init : goal.steps-init
@@ -35,11 +35,11 @@ steps-preserved-in-Went g c = record {
       (under_way_turned _ _ _ _ _ _ _ _ _ _ _
       (under_way_went _ _ _ _ _ _ _ _ _ _ _ c.steps.invariant.under_way c.step.new.page.items c.step.new.machine.state (omega arith) (c.args.limit - (c.steps.went + 1)) (search rules) (search rules) (omega arith))
       _ _ c.in_ok-turn_page-in-Went.ensures.written)
-      _ _ _ c.glide-went.ensures.unshown (omega arith);
+      _ _ _ c.unshown_steps-went.ensures.unshown (omega arith);
   source_well = c.steps.invariant.source_well;
   sink_well = c.in_ok-turn_page-in-Went.ensures.well;
   few = c.steps.invariant.few;
-  within = omega (arith, c.glide-went.ensures.unshown.within);
+  within = omega (arith, c.unshown_steps-went.ensures.unshown.within);
 }
 
 pub returns-in_err-turn_page-in-Went-clause-broken :

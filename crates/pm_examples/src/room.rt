@@ -1,0 +1,81 @@
+//! Much of what takes memory: keys that wait, output, and long programs. A body that gives up at a bound of its own fails here.
+use crate::tested::Tested;
+use pm_machine::{BootFault, Machine, Stop};
+use pm_volume::Volume;
+use std::alloc::Global;
+use std::process::Abort;
+use std::test::Fail;
+
+/// 70,000 keys wait, more than the memory has bytes.
+#[test]
+fn keys_wait(rt: HostRuntime) -> Result<(), BootFault> {
+    let mut machine = Tested::raw(rt.alloc(), &[0xD6])?;
+    for _ in 0..70_000 {
+        machine.keys(&rt, 65);
+    }
+    Ok(())
+}
+
+/// Writes the bytes 0 to 32,767 of the memory to a unit, again and again: eight steps each time.
+const WRITING: [u8; 16] = [
+    0x01, 0x00, 0x00, 0xC7, 0x00, 0x80, 0x00, 0x00, 0x9E, 0x06, 0xB9, 0xFE, 0xD7, 0xD7, 0x0E, 0x00,
+];
+
+/// 1 MiB of output to this unit.
+fn writes_much(rt: &impl Abort, alloc: Global, unit: u8) -> Result<Tested, BootFault> {
+    let mut code = WRITING;
+    code[0] = unit;
+    let mut machine = Tested::raw(alloc, &code)?;
+    machine.runs_to(rt, 256, 256, Stop::Went);
+    Ok(machine)
+}
+
+#[test]
+fn output_has_memory(rt: HostRuntime) -> Result<(), BootFault> {
+    let machine = writes_much(&rt, rt.alloc(), 1)?;
+    machine.has_written(&rt, 1_048_576, 0);
+    let machine = writes_much(&rt, rt.alloc(), 6)?;
+    machine.has_written(&rt, 0, 1_048_576);
+    Ok(())
+}
+
+/// 59,999 NOPs and an XIT: 60,000 bytes, the most that there may be.
+#[test]
+fn bare_code_of_the_greatest_length(rt: HostRuntime) -> Result<(), Fail> {
+    let mut code = vec![in rt.alloc(); 0xD7; 60_000]?;
+    code[59_999] = 0xD6;
+    let mut machine = Tested::raw(rt.alloc(), &code)?;
+    machine.runs_to(&rt, 100_000, 60_000, Stop::Ended);
+    Ok(())
+}
+
+/// What stands behind the NOPs of a segment of 60,000 bytes: RBP, the table of attributes, and the dictionary.
+const END: [u8; 16] = [
+    0xC1, 0x00, 0x00, 0x00, 0x00, 0x00, 0x06, 0x00, 0x58, 0xEA, 0x01, 0x00, 0x02, 0x00, 0x01, 0x01,
+];
+
+/// A code file `P` with a segment of 60,000 bytes, on a volume.
+fn long_segment(alloc: Global) -> Result<Volume, Fail> {
+    let mut segment = vec![in alloc; 0xD7; 59_984]?;
+    segment.extend_from_slice(&END)?;
+    let lengths = [0, 60_000, 0, 0, 0, 0, 0, 0, 0, 0, 0, 0, 0, 0, 0, 0];
+    let file = pm_codefile::write(alloc, &[[32; 8]; 16], &lengths, &segment)?;
+    let mut volume = Volume::blank(alloc, "WORK", 140)?;
+    volume.add("P", 2, &file, 0)?;
+    Ok(volume)
+}
+
+/// A machine boots from each disk unit, and ends after 59,984 NOPs and the return.
+#[test]
+fn boots_from_each_unit(rt: HostRuntime) -> Result<(), Fail> {
+    let alloc = rt.alloc();
+    for (place, unit) in [4, 5, 9, 10, 11, 12].into_iter().enumerate() {
+        let mut volumes = [None, None, None, None, None, None];
+        volumes[place] = Some(long_segment(alloc)?);
+        let Ok(mut machine) = Machine::boot(alloc, volumes, unit, "P", 0) else {
+            return Err(Fail::new("a unit did not boot"));
+        };
+        assert_eq!(&rt; machine.run(100_000), Ok((59_985, Stop::Ended)));
+    }
+    Ok(())
+}

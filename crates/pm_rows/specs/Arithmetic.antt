@@ -1,0 +1,51 @@
+-- The rows on words as integers. The lines of a row stand in the order of its faults: the words that it pops, the top
+-- one first (error 7 where there are too few), then what it checks itself, then the word that it pushes (error 4
+-- where SP would be below NP).
+use Rattle.std.specs.Prelude.{ℕ, ◌&&◌, int_le}
+use Rattle.pm_words.specs.declared.error.ExecError.TheVariants.{InvalidIndex}
+use Rattle.pm_words.specs.Stack.{◌>>=◌, StackRow, demand, pop, push}
+use Rattle.pm_opcode.specs.declared.operation.Unary.{Unary}
+use Rattle.pm_opcode.specs.declared.operation.Binary.{Binary}
+use Rattle.pm_opcode.specs.declared.operation.Relation.{Relation}
+use Rattle.pm_opcode.specs.declared.operation.Arithmetic.{Arithmetic}
+use Rattle.pm_opcode.specs.declared.operation.Arithmetic.TheVariants.{Constant, Nil, OnOne, OnTwo, Compare, Check}
+use Rattle.pm_values.specs.Sets.{signed, truth}
+use Rattle.pm_rows.specs.Signed.{unary, binary, relation}
+
+unfoldable pub constant_row : ℕ → StackRow
+constant_row w m sp np = push m sp np w
+
+unfoldable pub unary_row : Unary → StackRow
+unary_row o m sp np = do
+  a ← pop m sp
+  push m a.1 np (unary o a.0)
+
+unfoldable pub binary_row : Binary → StackRow
+binary_row o m sp np = do
+  b ← pop m sp
+  a ← pop m b.1
+  c ← binary o a.0 b.0
+  push m a.1 np c
+
+unfoldable pub relation_row : Relation → StackRow
+relation_row o m sp np = do
+  b ← pop m sp
+  a ← pop m b.1
+  push m a.1 np (truth (relation o a.0 b.0))
+
+-- the third word stays, if it lies between the two above it
+unfoldable pub check_row : StackRow
+check_row m sp np = do
+  c ← pop m sp
+  b ← pop m c.1
+  a ← pop m b.1
+  _ ← demand (int_le (signed b.0) (signed a.0) && int_le (signed a.0) (signed c.0)) InvalidIndex
+  push m a.1 np a.0
+
+unfoldable pub arithmetic_row : Arithmetic → StackRow
+arithmetic_row (Constant w) m sp np = constant_row w m sp np
+arithmetic_row Nil m sp np = constant_row 0 m sp np
+arithmetic_row (OnOne o) m sp np = unary_row o m sp np
+arithmetic_row (OnTwo o) m sp np = binary_row o m sp np
+arithmetic_row (Compare o) m sp np = relation_row o m sp np
+arithmetic_row Check m sp np = check_row m sp np

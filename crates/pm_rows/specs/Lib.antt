@@ -1,0 +1,7 @@
+pub mod Signed
+pub mod Arithmetic
+pub mod Variables
+pub mod Pointers
+pub mod Values
+pub mod Literals
+pub mod Jumps

@@ -1,0 +1,147 @@
+//! Jumps.
+
+ghost use Rattle.std.specs.Prelude.{◌≡◌, IfOk};
+ghost use Rattle.pm_opcode.specs.Spelling.{rank};
+ghost use Rattle.pm_words.specs.Stack.{IsStack};
+ghost use Rattle.pm_rows.specs.Jumps.{case_row, case_target, entry_target, jump_row, jumped, short_row, target};
+
+use pm_calls::Registers;
+use pm_opcode::{Condition, Jump};
+use pm_words::stack::{load, pop};
+use pm_words::{ExecError, Memory};
+
+// Where a jump leads: forward from the next instruction, or by an entry of the jump table.
+#[inline(always)]
+#[tactic(auto, unfolding(crate::specs::Jumps::target))]
+fn target(memory: &Memory, registers: Registers, offset: u16) -> Result<u16, ExecError>
+    ensures target { result ≡ target memory.now.words registers offset }
+{
+    if offset < 32768 {
+        return Ok(registers.ipc.wrapping_add(offset));
+    }
+    if offset % 2 != 0 {
+        return Err(ExecError::InvalidMemory);
+    }
+    entry_target(memory, registers.jtab.wrapping_add(offset))
+}
+
+// Where an entry of a jump table leads.
+#[inline(always)]
+fn entry_target(memory: &Memory, entry: u16) -> Result<u16, ExecError>
+    ensures target { result ≡ entry_target memory.now.words entry }
+{
+    let distance = load(memory, entry)?;
+    Ok(entry.wrapping_sub(distance))
+}
+
+// The registers after a jump, which may not be taken.
+#[inline(always)]
+fn jump_if(
+    taken: bool,
+    memory: &Memory,
+    registers: Registers,
+    offset: u16,
+) -> Result<Registers, ExecError>
+    ensures row { result ≡ jumped taken memory.now.words registers offset }
+    ensures stack { IsStack registers.sp registers.np → IfOk result (λ r. IsStack r.sp r.np) }
+{
+    if !taken {
+        return Ok(registers);
+    }
+    let ipc = target(memory, registers, offset)?;
+    Ok(Registers { ipc, ..registers })
+}
+
+// The registers after a jump of two bytes.
+#[inline(always)]
+#[tactic(auto, unfolding(crate::specs::Jumps::short_row))]
+fn short(
+    memory: &Memory,
+    registers: Registers,
+    condition: Condition,
+    offset: u16,
+) -> Result<Registers, ExecError>
+    ensures row { result ≡ short_row condition memory.now.words registers offset }
+    ensures stack { IsStack registers.sp registers.np → IfOk result (λ r. IsStack r.sp r.np) }
+{
+    match condition {
+        Condition::Always => jump_if(true, memory, registers, offset),
+        Condition::IfFalse => {
+            let (a, sp) = pop(memory, registers.sp)?;
+            jump_if(a % 2 == 0, memory, Registers { sp, ..registers }, offset)
+        }
+        Condition::IfDifferent => {
+            let (b, sp) = pop(memory, registers.sp)?;
+            let (a, sp) = pop(memory, sp)?;
+            jump_if(a != b, memory, Registers { sp, ..registers }, offset)
+        }
+        Condition::IfEqual => {
+            let (b, sp) = pop(memory, registers.sp)?;
+            let (a, sp) = pop(memory, sp)?;
+            jump_if(a == b, memory, Registers { sp, ..registers }, offset)
+        }
+    }
+}
+
+// The place of a word in the order of signed words.
+fn rank(word: u16) -> u16
+    ensures rank { result ≡ rank word }
+{
+    word.wrapping_add(32768)
+}
+
+// Where a case jump leads for a value.
+fn case_target(
+    memory: &Memory,
+    low: u16,
+    high: u16,
+    table: u32,
+    value: u16,
+) -> Result<u16, ExecError>
+    ensures target { result ≡ case_target low high table memory.now.words value }
+{
+    let table = (table % 65536) as u16;
+    let place = rank(value);
+    if rank(low) > place || place > rank(high) {
+        return Ok(table.wrapping_sub(2));
+    }
+    let further = place - rank(low);
+    entry_target(memory, table.wrapping_add(further.wrapping_mul(2)))
+}
+
+#[tactic(auto, unfolding(crate::specs::Jumps::case_row))]
+fn case(
+    memory: &Memory,
+    registers: Registers,
+    low: u16,
+    high: u16,
+    table: u32,
+) -> Result<Registers, ExecError>
+    ensures row { result ≡ case_row low high table memory.now.words registers }
+    ensures stack { IsStack registers.sp registers.np → IfOk result (λ r. IsStack r.sp r.np) }
+{
+    let (value, sp) = pop(memory, registers.sp)?;
+    let ipc = case_target(memory, low, high, table, value)?;
+    Ok(Registers {
+        sp,
+        ipc,
+        ..registers
+    })
+}
+
+/// The registers after a jump; IPC is the next instruction before it. An error changes nothing.
+#[inline(always)]
+#[tactic(auto, unfolding(crate::specs::Jumps::jump_row))]
+pub fn perform(
+    memory: &Memory,
+    registers: Registers,
+    operation: Jump,
+) -> Result<Registers, ExecError>
+    ensures row { result ≡ jump_row operation memory.now.words registers }
+    ensures stack { IsStack registers.sp registers.np → IfOk result (λ r. IsStack r.sp r.np) }
+{
+    match operation {
+        Jump::Short(condition, offset) => short(memory, registers, condition, offset),
+        Jump::Case { low, high, table } => case(memory, registers, low, high, table),
+    }
+}

@@ -1,0 +1,81 @@
+//! The rows on what stands in the code.
+
+ghost use Rattle.std.specs.Prelude.{◌≡◌, ◌+◌, ◌-◌, ◌*◌, ◌%◌, ◌≤◌, IfOk, length, reverse};
+ghost use Rattle.pm_words.specs.Stack.{IsStack, Stacks};
+ghost use Rattle.pm_words.specs.Words.{with_words, words_at};
+ghost use Rattle.pm_rows.specs.Literals.{address_row, literal_row, words_row};
+
+use arrayvec::ArrayVec;
+use pm_opcode::Literal;
+use pm_words::stack::push;
+use pm_words::{ExecError, Memory};
+
+// The words from an even address on.
+fn words_in(memory: &Memory, start: u32, count: u8) -> ArrayVec<u16, 255>
+    requires even { start % 2 ≡ 0 }
+    requires inside { start + 2 * count ≤ 65536 }
+    ensures words { result.items ≡ words_at memory.now.words start count }
+    ensures count { length result.items ≡ count }
+{
+    let mut words = ArrayVec::new();
+    for i in 0..count {
+        let address = (start + 2 * u32::from(i)) as u16;
+        words.push(memory.word(address).unwrap_or(0));
+    }
+    words
+}
+
+// Writes words below an even SP, the first one highest.
+fn put_words(memory: &mut Memory, sp: u16, words: &[u16])
+    requires even { sp % 2 ≡ 0 }
+    requires room { 2 * length words.now ≤ sp }
+    ensures written { memory.new.words ≡ with_words memory.old.words (sp - 2 * length words.now) (reverse words.now) }
+{
+    let _ = memory.bytes(); // for the size of the memory
+    let mut at = sp;
+    for word in words {
+        at -= 2;
+        memory.set_word(at, *word);
+    }
+}
+
+#[tactic(auto, unfolding(crate::specs::Literals::words_row))]
+fn words(memory: &mut Memory, sp: u16, np: u16, start: u32, count: u8) -> Result<u16, ExecError>
+    ensures row { Stacks result memory.old.words memory.new.words (words_row start count memory.old.words sp np) }
+    ensures stack { IsStack sp np → IfOk result (λ sp. IsStack sp np) }
+{
+    let size = 2 * u16::from(count);
+    if start % 2 != 0 || u64::from(start) + u64::from(size) > 65536 || sp % 2 != 0 {
+        return Err(ExecError::InvalidMemory);
+    }
+    if u32::from(np) + u32::from(size) > u32::from(sp) {
+        return Err(ExecError::StackOverflow);
+    }
+    let words = words_in(memory, start, count);
+    put_words(memory, sp, &words);
+    Ok(sp - size)
+}
+
+#[tactic(auto, unfolding(crate::specs::Literals::address_row))]
+fn address(memory: &mut Memory, sp: u16, np: u16, address: u16) -> Result<u16, ExecError>
+    ensures row { Stacks result memory.old.words memory.new.words (address_row address memory.old.words sp np) }
+    ensures stack { IsStack sp np → IfOk result (λ sp. IsStack sp np) }
+{
+    push(memory, sp, np, address)
+}
+
+/// Pushes what stands in the code, and gives the new SP. An error changes nothing.
+#[tactic(auto, unfolding(crate::specs::Literals::literal_row))]
+pub fn perform(memory: &mut Memory, sp: u16, np: u16, operation: Literal) -> Result<u16, ExecError>
+    ensures row { Stacks result memory.old.words memory.new.words (literal_row operation memory.old.words sp np) }
+    ensures stack { IsStack sp np → IfOk result (λ sp. IsStack sp np) }
+{
+    match operation {
+        Literal::String(start) => {
+            let characters = (start % 65536) as u16;
+            address(memory, sp, np, characters.wrapping_sub(1))
+        }
+        Literal::Characters(start) => address(memory, sp, np, (start % 65536) as u16),
+        Literal::Words { start, count } => { words(memory, sp, np, start, (count / 2 % 256) as u8) }
+    }
+}

@@ -1,0 +1,48 @@
+-- A run goes on over steps that show nothing.
+use Rattle.std.proofs.Common.{◌≡◌, ◌<◌, ◌≤◌, ℕ, zero, suc, ◌-◌, ◌++◌, List, [], Option, Bool, drop, length, refl, sym, ap, ◌∙◌, append-nil, arith, subst}
+use Rattle.std.proofs.lemmas.List.{drop_all}
+use Rattle.pm_machine.specs.State.{State}
+use Rattle.pm_machine.specs.Steps.{stepped}
+use Rattle.pm_machine.specs.Runs.{AllWent, after}
+use Rattle.pm_machine.specs.Quick.{QuickSteps}
+use Rattle.pm_machine.specs.declared.state.Stop.TheVariants.{Went}
+use Rattle.pm_tool.specs.declared.steps.Show.{Show}
+use Rattle.pm_tool.specs.declared.steps.Show.TheVariants.{Trace, Console}
+use Rattle.pm_tool.specs.Run.{Unshown, shown_of}
+use Rattle.pm_tool.proofs.Driven.{IsUnderWay, under_way_went}
+
+-- nothing of a list is left behind its end
+drop_whole : (xs : List ℕ) → drop (length xs) xs ≡ []
+drop_whole xs = drop_all (length xs) xs (omega arith)
+
+pub quick_steps_unshown : (save : Bool) (limit : ℕ) (s : State) (count : ℕ) (t : State) → QuickSteps limit s count t → Unshown (Console save) limit s count t
+quick_steps_unshown save limit s count t g = record {
+  within = g.within;
+  went = g.went;
+  left = g.left;
+  blank = λ k h.
+      ap (λ d. drop (length d.console) (after (suc k) s).devices.console) (g.devices k (omega (arith, h)))
+      ∙ ap (λ d. drop (length s.devices.console) d.console) (g.devices (suc k) (omega (arith, h)))
+      ∙ drop_whole s.devices.console;
+}
+
+pub unshown_none : (limit : ℕ) (s : State) → Unshown Trace limit s 0 s
+unfolding after
+unshown_none limit s = record { within = omega arith; went = λ k h. absurd (omega arith); left = refl; blank = λ k h. absurd (omega arith) }
+
+module _ (had left held holds : Option (List ℕ)) (page : List ℕ) (taken : ℕ) (show : Show) (limit : ℕ) (began : State) (n : ℕ) (m : State)
+    (u : IsUnderWay had left held holds page taken show limit began n m) where
+  under_way_after : (count : ℕ) → count ≤ n → AllWent count m → ((k : ℕ) → k < count → shown_of show (after k m) (after (suc k) m) ≡ [])
+      → IsUnderWay had left held holds page taken show limit began (n - count) (after count m)
+  unfolding after
+  under_way_after zero within went blank = let e : n - 0 ≡ n = omega arith in rw e u
+  under_way_after (suc k) within went blank =
+      let before = under_way_after k (omega (arith, within)) (λ i h. went i (omega (arith, h))) (λ i h. blank i (omega (arith, h))) in
+      let some : 0 < n - k = omega (arith, within) in
+      let step : stepped (after k m) ≡ ((stepped (after k m)).0, Went) = ap (λ a. ((stepped (after k m)).0, a)) (went k (omega arith)) in
+      let grown : page ≡ page ++ shown_of show (after k m) (after (suc k) m) = rw (blank k (omega arith)) (sym (append-nil page)) in
+      under_way_went had left held holds page taken show limit began (n - k) (after k m) before page (stepped (after k m)).0 some (n - suc k) step grown (omega arith)
+
+  pub under_way_unshown : (count j : ℕ) (t : State) → Unshown show n m count t → j ≡ n - count → IsUnderWay had left held holds page taken show limit began j t
+  under_way_unshown count j t h e = subst (λ i. IsUnderWay had left held holds page taken show limit began i t) (sym e)
+      (subst (IsUnderWay had left held holds page taken show limit began (n - count)) (sym h.left) (under_way_after count h.within h.went h.blank))

@@ -1,0 +1,6 @@
+use Rattle.pm_tool.specs.declared.steps.Show.TheVariants.{Trace}
+use Rattle.pm_tool.proofs.QuickSteps.{quick_steps_unshown, unshown_none}
+use Rattle.pm_tool.proofs.steps.unshown_steps.Goals as goal
+
+pub returns-in-Trace : goal.returns-in-Trace
+returns-in-Trace c = record { unshown = rw c.in-Trace.is (unshown_none c.args.limit c.args.machine.now.state) }

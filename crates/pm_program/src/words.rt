@@ -3,6 +3,7 @@ use crate::file_words::{FilesPlan, files, files_plan};
 use crate::run_words::{Keeping, Program, debug, keeping_of, program_of, run, trace};
 use clap::error::ErrorKind;
 use clap::{Arg, ArgAction, ArgMatches, Command};
+use pm_streams::Fault;
 use pm_tool::{Exit, Job};
 use std::alloc::{AllocError, Global};
 use std::env::Args;
@@ -10,6 +11,9 @@ use std::{fmt, io};
 
 /// The most steps of a run where no limit is given.
 const LIMIT: u32 = 10_000_000;
+
+/// The version that `--version` names.
+const VERSION: &str = "0.1";
 
 /// What the words ask for.
 #[derive(Drop)]
@@ -35,8 +39,10 @@ pub enum WordsError {
     NoCommand,
     /// An option has no value, as in `--image=`.
     NoValue,
-    /// A number is not made of decimal digits alone, or too large.
-    BadNumber(&'static str),
+    /// A word is not what it has to be, or an option is missing or given twice: which.
+    Wrong(&'static str),
+    /// They ask for the version.
+    Version(clap::Error),
     /// A word is not UTF-8, or the words cannot be read.
     NotText,
     NoMemory,
@@ -46,6 +52,7 @@ impl WordsError {
     pub fn exit(&self) -> Exit {
         match self {
             WordsError::NoMemory => Exit::NoMemory,
+            WordsError::Version(_) => Exit::Ended,
             _ => Exit::Usage,
         }
     }
@@ -59,12 +66,13 @@ impl fmt::Display for WordsError {
             WordsError::NoCommand => f.write_str(
                 "error: no command among the words; --help lists them\n",
             ),
-            WordsError::BadNumber(range) => write!(f, "error: {range}\n"),
+            WordsError::Wrong(text) => write!(f, "error: {text}\n"),
+            WordsError::Version(error) => write!(f, "{error}"),
             WordsError::NoValue => f.write_str(
                 "error: an option has no value; --help tells what it takes\n",
             ),
             WordsError::NotText => f.write_str("error: a word is not UTF-8\n"),
-            WordsError::NoMemory => f.write_str("no memory\n"),
+            WordsError::NoMemory => writeln!(f, "{}", Fault::NoMemory.text()),
         }
     }
 }
@@ -73,6 +81,7 @@ impl From<clap::Error> for WordsError {
     fn from(error: clap::Error) -> WordsError {
         match error.kind() {
             ErrorKind::OutOfMemory => WordsError::NoMemory,
+            ErrorKind::DisplayVersion => WordsError::Version(error),
             _ => WordsError::Usage(error),
         }
     }
@@ -98,7 +107,7 @@ pub fn limit<'a>(alloc: Global) -> Arg<'a> {
     Arg::new(alloc, "limit")
         .long("limit")
         .value_name("N")
-        .help("The most steps that are made, 10000000 if not given")
+        .help("The most steps that are made [default: 10000000]")
 }
 
 fn raw<'a>(alloc: Global) -> Result<Command<'a>, AllocError> {
@@ -127,7 +136,9 @@ fn dis<'a>(alloc: Global) -> Command<'a> {
 
 fn command<'a>(alloc: Global) -> Result<Command<'a>, AllocError> {
     Command::new(alloc, "pmach")
+        .version(VERSION)
         .about("The p-machine of UCSD Pascal version II. With no words it does `raw`")
+        .after_help("docs/COMMANDS.md has all commands, messages and numbers.\n")
         .subcommand(raw(alloc)?)?
         .subcommand(files(alloc)?)?
         .subcommand(run(alloc)?)?
@@ -161,7 +172,7 @@ pub fn given(
 /// The limit that the words give.
 pub fn limit_of(matches: &ArgMatches<'_>) -> Result<u32, WordsError> {
     match matches.get_str("limit") {
-        Some(text) => number(text).ok_or(WordsError::BadNumber(
+        Some(text) => number(text).ok_or(WordsError::Wrong(
             "the limit is a number of decimal digits, at most 4294967295",
         )),
         None => Ok(LIMIT),

@@ -3,27 +3,56 @@ use crate::words::{WordsError, given, limit, limit_of};
 use clap::{Arg, ArgAction, ArgMatches, Command};
 use std::alloc::{AllocError, Global};
 
-/// The files that have the images of the disks, in the order of the units 4, 5, 9, 10, 11 and 12.
-pub type Disks = [Option<String>; 6];
+/// The files that have the images of the disks on the other units.
+#[derive(Drop)]
+pub struct Others {
+    pub d5: Option<String>,
+    pub d9: Option<String>,
+    pub d10: Option<String>,
+    pub d11: Option<String>,
+    pub d12: Option<String>,
+}
 
 /// A program to be run.
 #[derive(Drop)]
 pub struct Program {
-    /// The images' files.
-    pub disks: Disks,
+    /// The file that has the image of the disk on unit 4.
+    pub disk: String,
+    /// Those of the other disks.
+    pub others: Others,
     /// The name of the code file on unit 4.
     pub name: String,
     /// The most steps that are made.
     pub limit: u32,
 }
 
-/// What `run` does beside running.
+/// What the words of `run` say beside the program.
 #[derive(Drop)]
 pub struct Keeping {
     /// Whether unit 4's image is written back.
     pub save: bool,
-    /// The file that gets the printer's bytes.
+    /// The path that gets the printer's bytes.
     pub printer: Option<String>,
+}
+
+/// Where the printer's bytes go.
+#[derive(Drop)]
+pub enum Printing {
+    /// They are not wanted.
+    Nowhere,
+    /// To standard output, behind the console's bytes.
+    Output,
+    /// To a file.
+    File(String),
+}
+
+/// What is kept of a run.
+#[derive(Drop)]
+pub struct Kept {
+    /// Whether unit 4's image is written back.
+    pub save: bool,
+    /// Where the printer's bytes go.
+    pub printing: Printing,
 }
 
 fn disk<'a>(alloc: Global, id: &'a str, help: &'a str) -> Arg<'a> {
@@ -50,11 +79,13 @@ pub fn run<'a>(alloc: Global) -> Result<Command<'a>, AllocError> {
     let save = Arg::new(alloc, "save")
         .long("save")
         .action(ArgAction::SetTrue)
-        .help("Writes the image of unit 4 back");
+        .help(
+            "Writes the image of unit 4 back to its file; nothing else that is written to a disk is kept",
+        );
     let printer = Arg::new(alloc, "printer")
         .long("printer")
         .value_name("PATH")
-        .help("The file that gets the printer's bytes");
+        .help("The file that gets the printer's bytes, in the place of what it has");
     let command = Command::new(alloc, "run").about(
         "Runs a code file of the disk on unit 4, with the standard streams as its console",
     );
@@ -69,28 +100,53 @@ pub fn trace<'a>(alloc: Global) -> Result<Command<'a>, AllocError> {
     with_program(alloc, command)
 }
 
+/// The commands of the debugger.
+const DEBUG_HELP: &str = "\
+Commands, one a line, numbers in decimal:
+  break S P O    sets a breakpoint: segment, procedure, distance in bytes from its entry
+  clear S P O    takes it away
+  go N           makes at most N steps
+  poke A W       writes a word at an even address
+  key B          lets a byte wait on the console
+  stack N        the words on the stack, at most N
+  static N       the frames by their static links, at most N
+  dynamic N      the frames by their dynamic links, at most N
+  local D B      variable B of the procedure D static links up
+  regs           the registers
+  trace          the line of a trace for the next step
+  quit           ends the session
+Answers: ok, numbers, ended K, error N K, limit K, waiting K, break K; `?` is no command, and refused N:
+  1 beside 64 breakpoints, 2 no such breakpoint, 3 an odd address, 5 a depth above 127
+`--limit` has no effect here.
+";
+
 /// The command `debug`, whose limit has no effect.
 pub fn debug<'a>(alloc: Global) -> Result<Command<'a>, AllocError> {
-    let command = Command::new(alloc, "debug").about(
-        "Debugs a code file of the disk on unit 4, by the commands of standard input",
-    );
+    let command = Command::new(alloc, "debug")
+        .about("Debugs a code file of the disk on unit 4, by the commands of standard input")
+        .after_help(DEBUG_HELP);
     with_program(alloc, command)
 }
 
 /// The program that the words name.
 pub fn program_of(alloc: Global, matches: &ArgMatches<'_>) -> Result<Program, WordsError> {
-    let disks = [
-        given(alloc, matches, "d4")?,
-        given(alloc, matches, "d5")?,
-        given(alloc, matches, "d9")?,
-        given(alloc, matches, "d10")?,
-        given(alloc, matches, "d11")?,
-        given(alloc, matches, "d12")?,
-    ];
+    let disk = given(alloc, matches, "d4")?.ok_or(WordsError::NoCommand)?;
+    let others = Others {
+        d5: given(alloc, matches, "d5")?,
+        d9: given(alloc, matches, "d9")?,
+        d10: given(alloc, matches, "d10")?,
+        d11: given(alloc, matches, "d11")?,
+        d12: given(alloc, matches, "d12")?,
+    };
     let name = matches.get_str("NAME").ok_or(WordsError::NoCommand)?;
     let name = String::from_str(alloc, name)?;
     let limit = limit_of(matches)?;
-    Ok(Program { disks, name, limit })
+    Ok(Program {
+        disk,
+        others,
+        name,
+        limit,
+    })
 }
 
 /// What the words of `run` say beside the program.

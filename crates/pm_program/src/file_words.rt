@@ -24,6 +24,23 @@ pub enum Verb {
     Repair,
 }
 
+impl Verb {
+    /// Whether the image is written back where the command is accepted.
+    pub(crate) fn changes(&self) -> bool {
+        use pm_filer::Command;
+        !matches!(
+            self,
+            Verb::Command(Command::List | Command::Get(_) | Command::GetText(_))
+        )
+    }
+
+    /// Whether the command reads standard input.
+    pub(crate) fn reads(&self) -> bool {
+        use pm_filer::Command;
+        matches!(self, Verb::Command(Command::Put(..) | Command::PutText(..)))
+    }
+}
+
 fn name<'a>(alloc: Global, id: &'a str, help: &'a str) -> Arg<'a> {
     Arg::new(alloc, id).value_name(id).required(true).help(help)
 }
@@ -31,9 +48,17 @@ fn name<'a>(alloc: Global, id: &'a str, help: &'a str) -> Arg<'a> {
 /// A verb, what it does, and the words after it with their meanings.
 type VerbRow<'a> = (&'a str, &'a str, &'a [(&'a str, &'a str)]);
 
+/// The option `--image`, which stands before a verb or behind it.
+fn image<'a>(alloc: Global) -> Arg<'a> {
+    Arg::new(alloc, "image")
+        .long("image")
+        .value_name("PATH")
+        .help("The file that has the volume's image")
+}
+
 fn verb_command<'a>(alloc: Global, row: VerbRow<'a>) -> Result<Command<'a>, AllocError> {
     let (word, about, words) = row;
-    let mut command = Command::new(alloc, word).about(about);
+    let mut command = Command::new(alloc, word).about(about).arg(image(alloc))?;
     for (id, help) in words {
         command = command.arg(name(alloc, id, help))?;
     }
@@ -72,7 +97,7 @@ const VERBS: &[VerbRow] = &[
     ),
     (
         "krunch",
-        "Moves the files together, so that the free blocks are one gap; bad blocks stay",
+        "Moves the files together; bad blocks stay where they are, and between them gaps may stay too",
         &[],
     ),
     (
@@ -97,7 +122,7 @@ const VERBS: &[VerbRow] = &[
     ),
     (
         "new",
-        "Makes a new volume without files",
+        "Makes a new volume without files, in the place of what the file has",
         &[("NAME", VOLUME), ("BLOCKS", BLOCKS)],
     ),
     (
@@ -119,14 +144,10 @@ const VERBS: &[VerbRow] = &[
 
 /// The command `files` and its verbs.
 pub fn files<'a>(alloc: Global) -> Result<Command<'a>, AllocError> {
-    let image = Arg::new(alloc, "image")
-        .long("image")
-        .value_name("PATH")
-        .required(true)
-        .help("The file that has the volume's image");
     let mut command = Command::new(alloc, "files")
         .about("Lists, gets and changes the files of a volume")
-        .arg(image)?;
+        .subcommand_required(true)
+        .arg(image(alloc))?;
     for row in VERBS {
         command = command.subcommand(verb_command(alloc, *row)?)?;
     }
@@ -159,21 +180,21 @@ fn part(matches: &ArgMatches<'_>, id: &str) -> Result<u8, WordsError> {
     let number = number(matches.get_str(id).unwrap_or(""));
     match number {
         Some(part @ 0..=255) => Ok(part as u8),
-        _ => Err(WordsError::BadNumber("Y, M and D are numbers of decimal digits, at most 255")),
+        _ => Err(WordsError::Wrong("Y, M and D are numbers of decimal digits, at most 255")),
     }
 }
 
 fn put(alloc: Global, matches: &ArgMatches<'_>) -> Result<Verb, WordsError> {
     let name = word(alloc, matches, "NAME")?;
-    let kind = kind(matches.get_str("KIND").unwrap_or("")).ok_or(WordsError::BadNumber(
-        "KIND is a word of the list's column or a number 0 to 15",
+    let kind = kind(matches.get_str("KIND").unwrap_or("")).ok_or(WordsError::Wrong(
+        "KIND is none, badb, code, text, info, data, graf, foto, secd, or a number 0 to 15",
     ))?;
     Ok(Verb::Command(pm_filer::Command::Put(name, kind, Vec::new(alloc))))
 }
 
 fn new(alloc: Global, matches: &ArgMatches<'_>) -> Result<Verb, WordsError> {
     let name = word(alloc, matches, "NAME")?;
-    let blocks = blocks(matches.get_str("BLOCKS").unwrap_or("")).ok_or(WordsError::BadNumber(
+    let blocks = blocks(matches.get_str("BLOCKS").unwrap_or("")).ok_or(WordsError::Wrong(
         "BLOCKS is a number of decimal digits, at most 65535",
     ))?;
     Ok(Verb::New(name, blocks))
@@ -195,16 +216,24 @@ fn verb_of(alloc: Global, verb: &str, words: &ArgMatches<'_>) -> Result<Verb, Wo
         "single" => Command::Single,
         "repair" => return Ok(Verb::Repair),
         "put" => return put(alloc, words),
-        _ => return new(alloc, words),
+        "new" => return new(alloc, words),
+        _ => return Err(WordsError::NoCommand),
     };
     Ok(Verb::Command(command))
 }
 
 /// What the words of `files` ask for.
 pub fn files_plan(alloc: Global, matches: &ArgMatches<'_>) -> Result<FilesPlan, WordsError> {
-    let path = given(alloc, matches, "image")?.ok_or(WordsError::NoCommand)?;
     let Some((verb, words)) = matches.subcommand() else {
         return Err(WordsError::NoCommand);
+    };
+    let path = match (
+        given(alloc, matches, "image")?,
+        given(alloc, words, "image")?,
+    ) {
+        (Some(path), None) | (None, Some(path)) => path,
+        (Some(_), Some(_)) => return Err(WordsError::Wrong("the option --image is given twice")),
+        (None, None) => return Err(WordsError::Wrong("the option --image is wanted")),
     };
     let verb = verb_of(alloc, verb, words)?;
     Ok(FilesPlan { path, verb })

@@ -1,0 +1,61 @@
+"""terminal.py PMACH IMAGE: runs ECHO of examples/programs.sh on a pseudo terminal: keys, echo, Return, ends, and the terminal afterwards."""
+import os
+import pty
+import select
+import sys
+import termios
+import time
+
+program, image = sys.argv[1], sys.argv[2]
+failed = 0
+
+
+def run(words, keys, wait=0.4):
+    """What is shown, how it ends, and whether the terminal's modes are as before. Each key is typed after what came before it was shown."""
+    child, terminal = pty.fork()
+    if child == 0:
+        os.execvp("sh", ["sh", "-c", 'before=$(stty -g); trap : INT; "$@"; status=$?; [ "$before" = "$(stty -g)" ] && echo "[$status same]" || echo "[$status other]"', "sh"] + words)
+    shown = b""
+    seen = []
+    due = time.time() + 1.5
+    keys = list(keys)
+    end = time.time() + 20
+    while time.time() < end:
+        ready, _, _ = select.select([terminal], [], [], 0.05)
+        if ready:
+            try:
+                got = os.read(terminal, 65536)
+            except OSError:
+                break
+            if not got:
+                break
+            shown += got
+        if keys and time.time() >= due:
+            seen.append(shown)
+            os.write(terminal, keys.pop(0))
+            due = time.time() + wait
+    os.waitpid(child, 0)
+    seen.append(shown)
+    return shown, seen
+
+
+def check(name, holds, shown):
+    global failed
+    print(("  passed: " if holds else "  FAILED: ") + name + ("" if holds else " %r" % shown))
+    failed += 0 if holds else 1
+
+
+shown, seen = run([program, "run", "--d4", image, "ECHO"], [b"a", b"b", b"."])
+check("each key comes back at once, and once", [len(x) for x in seen] == [0, 1, 2, len(shown)] and shown.startswith(b"ab."), (shown, seen))
+check("the message has a line of its own, and the terminal is as before", shown == b"ab.\r\nended 41\r\n[0 same]\r\n", shown)
+shown, _ = run([program, "run", "--d4", image, "ECHO"], [b"a", b"\r", b"."])
+check("Return is 13, shown as a new line", shown.startswith(b"a\r\r\n.") or shown.startswith(b"a\r\n."), shown)
+shown, _ = run([program, "run", "--d4", image, "ECHO"], [b"a", b"\x04"])
+check("Ctrl-D ends the input", b"waiting" in shown and shown.endswith(b"[6 same]\r\n"), shown)
+shown, _ = run([program, "run", "--d4", image, "ECHO"], [b"a", b"\x03"])
+check("Ctrl-C ends with 130", shown.endswith(b"[130 same]\r\n"), shown)
+shown, _ = run([program, "debug", "--d4", image, "LOADS"], [b"go 1\n", b"quit\n"])
+check("the debugger prompts", b"> go 1\r\nlimit 1\r\n> quit\r\n" in shown, shown)
+shown, _ = run([program, "files", "--image", image + ".none", "list"], [])
+check("a second line says which file and why", b"read fault\r\npmach: " in shown and b"no such file" in shown, shown)
+sys.exit(1 if failed else 0)

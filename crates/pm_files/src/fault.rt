@@ -1,0 +1,83 @@
+//! Why a file could not be read or written.
+ghost use Rattle.std.specs.Prelude.{◌≡◌};
+ghost use Rattle.pm_files.specs.Faults.{fault_of};
+
+use pm_streams::Fault;
+use std::alloc::AllocError;
+use std::io;
+use std::io::ErrorKind;
+
+/// Why an image, or the printer's bytes, could not be read or written.
+#[derive(Clone, Copy, Debug, PartialEq, Eq)]
+pub enum DiskFault {
+    /// The file cannot be read.
+    Read(ErrorKind),
+    /// The file has more than `IMAGE_LIMIT` bytes.
+    TooLong,
+    /// Another program has the file, and is going to write it.
+    Busy,
+    /// The file cannot be written.
+    Write(ErrorKind),
+    /// Another file has taken its place since it was read.
+    Replaced,
+    /// Memory was refused.
+    NoMemory,
+}
+
+impl DiskFault {
+    /// The fault of a read that failed.
+    pub(crate) fn of_read(error: io::Error) -> DiskFault {
+        match error.kind() {
+            ErrorKind::OutOfMemory => DiskFault::NoMemory,
+            kind => DiskFault::Read(kind),
+        }
+    }
+
+    /// The fault of a write that failed, whatever the reason is.
+    pub(crate) fn of_write(error: io::Error) -> DiskFault {
+        DiskFault::Write(error.kind())
+    }
+
+    /// What a job would say of it: `read fault`, `write fault` or `no memory`.
+    pub fn fault(self) -> Fault
+        ensures value { result ≡ fault_of self }
+    {
+        match self {
+            DiskFault::Read(_) | DiskFault::TooLong | DiskFault::Busy => Fault::Read,
+            DiskFault::Write(_) | DiskFault::Replaced => Fault::Write,
+            DiskFault::NoMemory => Fault::NoMemory,
+        }
+    }
+
+    /// The reason in words.
+    pub fn reason(self) -> &'static str {
+        match self {
+            DiskFault::Read(kind) | DiskFault::Write(kind) => words(kind),
+            DiskFault::TooLong => "more than 33554432 bytes",
+            DiskFault::Busy => "another program is about to write it",
+            DiskFault::Replaced => "another program has replaced it",
+            DiskFault::NoMemory => "no memory",
+        }
+    }
+}
+
+/// What went wrong, in words.
+fn words(kind: ErrorKind) -> &'static str {
+    match kind {
+        ErrorKind::NotFound => "no such file or folder",
+        ErrorKind::PermissionDenied => "no permission",
+        ErrorKind::IsADirectory => "it is a folder",
+        ErrorKind::NotADirectory => "a part of the path is no folder",
+        ErrorKind::StorageFull => "no room on the device",
+        ErrorKind::FileTooLarge => "too large a file for the system or its limits",
+        ErrorKind::ReadOnlyFilesystem => "the device is read only",
+        ErrorKind::WouldBlock => "another program writes it",
+        _ => "the system refuses it",
+    }
+}
+
+impl From<AllocError> for DiskFault {
+    fn from(_: AllocError) -> DiskFault {
+        DiskFault::NoMemory
+    }
+}

@@ -1,0 +1,14 @@
+//! Images in files: read whole, held by a lock, and replaced whole.
+#![tactic(auto)]
+
+mod fault;
+mod host;
+mod image;
+mod place;
+mod replacing;
+mod store;
+
+pub use fault::DiskFault;
+pub use host::{Host, Stream};
+pub use image::IMAGE_LIMIT;
+pub use store::{HostStore, Store};

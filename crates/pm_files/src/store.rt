@@ -1,0 +1,127 @@
+//! Files as the program sees them: which bytes stand under which path.
+ghost use Rattle.std.specs.Prelude.{◌≡◌, ℕ, List, Option, None, IfOk, OnOk, OnErr};
+ghost use Rattle.pm_files.specs.Held.{Holds, Puts};
+
+use crate::fault::DiskFault;
+use crate::host::Host;
+use crate::image::read_image;
+use crate::place::Place;
+use crate::replacing::replace;
+use std::alloc::Global;
+use std::fs;
+
+/// Files, each read whole and written whole.
+pub trait Store {
+    /// What each path holds, where it is known.
+    ghost files: { Self → Option (List ℕ → Option (List ℕ)) };
+
+    /// Reads a file of at most `IMAGE_LIMIT` bytes.
+    fn read(&mut self, alloc: Global, path: &str) -> Result<Vec<u8>, DiskFault>
+        ensures stays { files self.new ≡ files self.old }
+        ensures value { IfOk result (λ image. Holds (files self.old) path.now image.items) };
+
+    /// Takes all memory that writing a file wants.
+    fn prepare(&mut self, path: &str) -> Result<(), DiskFault>
+        ensures stays { files self.new ≡ files self.old };
+
+    /// Prepares a file, and keeps all other programs from writing it as long as the store is there. `Busy` where another one has it.
+    fn hold(&mut self, path: &str) -> Result<(), DiskFault>
+        ensures stays { files self.new ≡ files self.old };
+
+    /// Makes the bytes those of a file. Where that fails, no file has changed.
+    fn put(&mut self, path: &str, bytes: &[u8]) -> Result<(), DiskFault>
+        ensures puts { OnOk result (Puts (files self.old) (files self.new) path.now bytes.now) }
+        ensures stays { OnErr result (files self.new ≡ files self.old) };
+
+    /// Whether two paths name one file.
+    fn is_same(&self, one: &str, other: &str) -> bool;
+
+    /// Whether a path names a folder.
+    fn is_folder(&self, path: &str) -> bool;
+}
+
+/// The files of a system. Nothing is known of what they hold, since other programs have them too.
+#[derive(Drop)]
+pub struct HostStore<'a, R: Host> {
+    rt: &'a R,
+    places: Vec<Place<R::File>>,
+    /// The path with which a call failed last.
+    refused: Option<String>,
+}
+
+impl<'a, R: Host + AllocGlobal> HostStore<'a, R> {
+    /// The files of the system, none of them prepared.
+    pub fn new(rt: &'a R) -> HostStore<'a, R> {
+        HostStore {
+            rt,
+            places: Vec::new(rt.alloc()),
+            refused: None,
+        }
+    }
+
+    /// The path with which a call failed last, if its text could be kept.
+    pub fn into_refused(self) -> Option<String> {
+        self.refused
+    }
+
+    /// Keeps the path of a call that failed.
+    fn note<T>(&mut self, path: &str, done: Result<T, DiskFault>) -> Result<T, DiskFault> {
+        if done.is_err() {
+            self.refused = String::from_str(self.rt.alloc(), path).ok();
+        }
+        done
+    }
+
+    fn add(&mut self, path: &str, holds: bool) -> Result<(), DiskFault> {
+        let mut place = Place::new(self.rt, path)?;
+        if holds {
+            place.hold(self.rt)?;
+        }
+        match self.places.push(place) {
+            Ok(()) => Ok(()),
+            Err(_) => Err(DiskFault::NoMemory),
+        }
+    }
+
+    fn write(&self, path: &str, bytes: &[u8]) -> Result<(), DiskFault> {
+        for place in self.places.iter() {
+            if place.name.as_str() == path {
+                return replace(self.rt, place, bytes);
+            }
+        }
+        let place = Place::new(self.rt, path)?;
+        replace(self.rt, &place, bytes)
+    }
+}
+
+impl<R: Host + AllocGlobal> Store for HostStore<'_, R> {
+    ghost files = { λ _. None };
+
+    fn read(&mut self, alloc: Global, path: &str) -> Result<Vec<u8>, DiskFault> {
+        let done = read_image(self.rt, alloc, path);
+        self.note(path, done)
+    }
+
+    fn prepare(&mut self, path: &str) -> Result<(), DiskFault> {
+        let done = self.add(path, false);
+        self.note(path, done)
+    }
+
+    fn hold(&mut self, path: &str) -> Result<(), DiskFault> {
+        let done = self.add(path, true);
+        self.note(path, done)
+    }
+
+    fn put(&mut self, path: &str, bytes: &[u8]) -> Result<(), DiskFault> {
+        let done = self.write(path, bytes);
+        self.note(path, done)
+    }
+
+    fn is_same(&self, one: &str, other: &str) -> bool {
+        self.rt.is_same(one, other)
+    }
+
+    fn is_folder(&self, path: &str) -> bool {
+        fs::metadata(self.rt, path).is_ok_and(|file| file.is_dir())
+    }
+}

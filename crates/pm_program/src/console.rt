@@ -1,0 +1,155 @@
+//! Standard input and output as they are on a terminal.
+ghost use Rattle.std.specs.Io.{ReadsAtMost, WritesAtMost};
+
+use std::io;
+use std::io::{Read, Write};
+
+/// The byte that ends the input of a terminal whose keys come at once: Ctrl-D.
+const END: u8 = 4;
+
+/// A reader that says something on standard error before it reads: before the first byte of each line, or once.
+#[derive(Drop)]
+pub struct Prompted<'a, E, R> {
+    rt: &'a E,
+    inner: R,
+    prompt: &'a str,
+    /// Whether a prompt stands before each line.
+    repeats: bool,
+    /// Whether one is due.
+    due: bool,
+}
+
+impl<'a, E: Eprint, R: Read> Prompted<'a, E, R> {
+    /// A reader that prompts before each line.
+    pub fn each_line(rt: &'a E, inner: R, prompt: &'a str) -> Prompted<'a, E, R> {
+        Prompted {
+            rt,
+            inner,
+            prompt,
+            repeats: true,
+            due: true,
+        }
+    }
+
+    /// A reader that prompts once, if the prompt has a text.
+    pub fn once(rt: &'a E, inner: R, prompt: &'a str) -> Prompted<'a, E, R> {
+        Prompted {
+            rt,
+            inner,
+            prompt,
+            repeats: false,
+            due: !prompt.is_empty(),
+        }
+    }
+}
+
+impl<E: Eprint, R: Read> Read for Prompted<'_, E, R> {
+    ghost remaining = { λ s. R.remaining s.inner };
+
+    fn read(&mut self, buf: &mut [u8]) -> io::Result<usize> {
+        if self.due {
+            let _ = self.rt.eprint(self.prompt);
+            self.due = false;
+        }
+        let count = self.inner.read(buf)?;
+        if let Some(last) = buf[..count].last() {
+            self.due = self.repeats && *last == b'\n';
+        }
+        Ok(count)
+    }
+}
+
+/// A reader that ends at Ctrl-D where it is a terminal, and again gives bytes after it.
+#[derive(Drop)]
+pub struct Keys<R> {
+    inner: R,
+    is_terminal: bool,
+}
+
+impl<R: Read> Keys<R> {
+    pub fn new(inner: R, is_terminal: bool) -> Keys<R> {
+        Keys { inner, is_terminal }
+    }
+
+    /// Reads one byte of a terminal, so that none behind the end is read.
+    fn key(&mut self, buf: &mut [u8]) -> io::Result<usize>
+        ensures bound { ReadsAtMost result buf.new }
+    {
+        let Some(place) = buf.first_mut() else {
+            return Ok(0);
+        };
+        let mut byte = [0; 1];
+        let count = self.inner.read(&mut byte)?;
+        if count == 0 || byte[0] == END {
+            return Ok(0);
+        }
+        *place = byte[0];
+        Ok(1)
+    }
+}
+
+impl<R: Read> Read for Keys<R> {
+    fn read(&mut self, buf: &mut [u8]) -> io::Result<usize> {
+        if self.is_terminal {
+            self.key(buf)
+        } else {
+            self.inner.read(buf)
+        }
+    }
+}
+
+/// A writer that knows whether a line has begun, and on a terminal adds a line feed to each carriage return.
+#[derive(Drop)]
+pub struct Lined<W> {
+    inner: W,
+    adds: bool,
+    begun: bool,
+}
+
+impl<W: Write> Lined<W> {
+    /// A writer that adds line feeds or not.
+    pub fn new(inner: W, adds: bool) -> Lined<W> {
+        Lined {
+            inner,
+            adds,
+            begun: false,
+        }
+    }
+
+    /// Whether the last byte that was written is no line feed.
+    pub fn has_begun(&self) -> bool {
+        self.begun
+    }
+
+    /// Writes up to the first carriage return, and a line feed behind it.
+    fn write_lines(&mut self, buf: &[u8]) -> io::Result<usize>
+        ensures bound { WritesAtMost result buf.now }
+    {
+        let Some(place) = buf.iter().position(|byte| *byte == b'\r') else {
+            return self.inner.write(buf);
+        };
+        if place > 0 {
+            return self.inner.write(&buf[..place]);
+        }
+        self.inner.write_all(b"\r\n")?;
+        Ok(1)
+    }
+}
+
+impl<W: Write> Write for Lined<W> {
+    fn write(&mut self, buf: &[u8]) -> io::Result<usize> {
+        let count = if self.adds {
+            self.write_lines(buf)?
+        } else {
+            self.inner.write(buf)?
+        };
+        if let Some(last) = buf[..count].last() {
+            self.begun = *last != b'\n' && !(self.adds && *last == b'\r');
+        }
+        Ok(count)
+    }
+
+    fn flush(&mut self) -> io::Result<()> {
+        self.inner.flush()
+    }
+}

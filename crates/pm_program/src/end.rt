@@ -1,0 +1,51 @@
+//! How the program ends.
+use pm_files::DiskFault;
+use pm_streams::Fault;
+use pm_tool::{Exit, Outcome};
+
+/// What is wrong with paths that do not go together.
+#[derive(Clone, Copy, Debug, PartialEq, Eq)]
+pub enum Conflict {
+    /// The image that is to be saved is also that of another unit.
+    SavedTwice,
+    /// The printer's bytes would be written over an image of the run.
+    PrinterIsImage,
+    /// The printer's bytes would go to a folder.
+    PrinterIsFolder,
+}
+
+impl Conflict {
+    /// What is said of it.
+    pub fn text(self) -> &'static str {
+        match self {
+            Conflict::SavedTwice => "error: the image that --save writes is that of two units",
+            Conflict::PrinterIsImage => "error: the path behind --printer is that of an image",
+            Conflict::PrinterIsFolder => "error: the path behind --printer is that of a folder",
+        }
+    }
+}
+
+/// How the program ends: its status, and what it says on standard error.
+#[derive(Drop)]
+pub enum End {
+    /// A job was done, and came to this.
+    Outcome(Outcome),
+    /// A file could not be read or written: why, and which, where that is known.
+    File(DiskFault, Option<String>),
+    /// The words do not go together: what is wrong with them.
+    Words(Conflict),
+}
+
+impl End {
+    /// The exit status.
+    pub fn status(&self) -> u8 {
+        match self {
+            End::Outcome(outcome) => outcome.status,
+            End::File(fault, _) => match fault.fault() {
+                Fault::Read | Fault::Write => Exit::StreamFault.number(),
+                Fault::NoMemory => Exit::NoMemory.number(),
+            },
+            End::Words(_) => Exit::Usage.number(),
+        }
+    }
+}

@@ -1,0 +1,46 @@
+//! The whole program, over any runtime.
+use crate::end::End;
+use crate::follow::follow;
+use crate::say::{Manner, say};
+use crate::words::{WordsError, plan_of};
+use pm_files::{DiskFault, Host, Stream};
+use pm_tool::Exit;
+use std::env::Env;
+use std::io::{ErrorKind, Input};
+
+/// Says why the words are no job, or the version. The status.
+fn refuse<R: Host + Print + Eprint>(rt: &R, error: WordsError) -> u8 {
+    if let WordsError::Version(_) = error {
+        return match print!(rt; "{error}") {
+            Ok(()) => Exit::Ended.number(),
+            Err(_) => {
+                let end = End::File(DiskFault::Write(ErrorKind::Other), None);
+                let manner = Manner {
+                    explains: false,
+                    begun: false,
+                };
+                say(rt, &end, manner);
+                end.status()
+            }
+        };
+    }
+    let _ = eprint!(rt; "{error}");
+    error.exit().number()
+}
+
+/// Does what the words of the command line ask for, and answers the exit status.
+///
+/// Nothing is read or written where the words are wrong: the text says why, and the status is 1.
+pub fn program<R: Host + Env + Input + Print + Eprint + AllocGlobal>(rt: &R) -> u8 {
+    let plan = match plan_of(rt.alloc(), std::env::args(rt)) {
+        Ok(plan) => plan,
+        Err(error) => return refuse(rt, error),
+    };
+    let done = follow(rt, plan);
+    let manner = Manner {
+        explains: rt.is_terminal(Stream::Error),
+        begun: done.begun,
+    };
+    say(rt, &done.end, manner);
+    done.end.status()
+}

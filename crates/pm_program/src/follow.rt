@@ -1,0 +1,179 @@
+//! A plan is followed: its streams, its files, its job.
+ghost use Rattle.std.specs.Prelude.{◌≡◌, false};
+
+use crate::console::{Keys, Lined, Prompted};
+use crate::end::{Conflict, End};
+use crate::file_words::FilesPlan;
+use crate::kept::{do_debug, do_files, do_run, do_trace};
+use crate::run_words::{Keeping, Kept, Printing, Program};
+use crate::words::Plan;
+use pm_files::{DiskFault, Host, HostStore, Store, Stream};
+use pm_streams::{Reader, Sink, Source, Writer};
+use pm_tool::{Job, Outcome};
+use std::alloc::Global;
+use std::io;
+use std::io::Input;
+
+/// The name of standard output's file.
+const OUTPUT: &str = "/dev/stdout";
+
+/// Which streams are terminals.
+#[derive(Clone, Copy)]
+struct Terminals {
+    input: bool,
+    output: bool,
+    error: bool,
+}
+
+impl Terminals {
+    fn of<R: Host>(rt: &R) -> Terminals {
+        Terminals {
+            input: rt.is_terminal(Stream::Input),
+            output: rt.is_terminal(Stream::Output),
+            error: rt.is_terminal(Stream::Error),
+        }
+    }
+}
+
+/// What is said before input is read from a terminal.
+#[derive(Clone, Copy)]
+enum Prompt {
+    Once(&'static str),
+    EachLine(&'static str),
+}
+
+fn prompt_of(plan: &Plan) -> Prompt {
+    match plan {
+        Plan::Job(Job::Raw { .. }) => Prompt::Once(
+            "pmach: reads hexadecimal digits; Ctrl-D ends them\n",
+        ),
+        Plan::Job(Job::Asm { .. }) => Prompt::Once(
+            "pmach: reads a text of the assembler; Ctrl-D ends it\n",
+        ),
+        Plan::Job(Job::Dis) => Prompt::Once("pmach: reads a code file; Ctrl-D ends it\n"),
+        Plan::Files(plan) if plan.verb.reads() => Prompt::Once(
+            "pmach: reads the file; Ctrl-D ends it\n",
+        ),
+        Plan::Debug(_) => Prompt::EachLine("> "),
+        _ => Prompt::Once(""),
+    }
+}
+
+/// What is done, and whether the last line that was written has not ended.
+#[derive(Drop)]
+pub struct Done {
+    pub end: End,
+    pub begun: bool,
+}
+
+/// Does the job of a plan on its streams and files.
+fn act<S: Store, I: Source, O: Sink>(
+    alloc: Global,
+    store: &mut S,
+    source: &mut I,
+    sink: &mut O,
+    plan: Plan,
+) -> Result<Outcome, DiskFault>
+    requires source_well { I.has_failed source.old ≡ false }
+    requires sink_well { O.has_failed sink.old ≡ false }
+{
+    match plan {
+        Plan::Job(job) => Ok(pm_tool::run(alloc, source, sink, job)),
+        Plan::Files(FilesPlan { path, verb }) => {
+            do_files(alloc, store, source, sink, path.as_str(), verb)
+        }
+        Plan::Run(program, keeping) => {
+            let kept = kept_of(store, keeping);
+            do_run(alloc, store, source, sink, program, kept)
+        }
+        Plan::Trace(program) => do_trace(alloc, store, source, sink, program),
+        Plan::Debug(program) => do_debug(alloc, store, source, sink, program),
+    }
+}
+
+/// Where the printer's bytes go: a path of standard output's file is standard output.
+fn kept_of<S: Store>(store: &S, keeping: Keeping) -> Kept {
+    let Keeping { save, printer } = keeping;
+    let is_output = match &printer {
+        Some(path) => store.is_same(path.as_str(), OUTPUT),
+        None => false,
+    };
+    let printing = match (printer, is_output) {
+        (Some(path), false) => Printing::File(path),
+        (Some(_), true) => Printing::Output,
+        (None, _) => Printing::Nowhere,
+    };
+    Kept { save, printing }
+}
+
+/// Whether a path names the file of an image on another unit than 4.
+fn is_other<S: Store>(store: &S, program: &Program, path: &str) -> bool {
+    let others = &program.others;
+    for other in [
+        &others.d5,
+        &others.d9,
+        &others.d10,
+        &others.d11,
+        &others.d12,
+    ] {
+        if let Some(other) = other {
+            if store.is_same(path, other.as_str()) {
+                return true;
+            }
+        }
+    }
+    false
+}
+
+/// What is wrong with the paths of `run`, if something is.
+fn conflict<S: Store>(store: &S, program: &Program, keeping: &Keeping) -> Option<Conflict> {
+    let disk = program.disk.as_str();
+    if keeping.save && is_other(store, program, disk) {
+        return Some(Conflict::SavedTwice);
+    }
+    let printer = match &keeping.printer {
+        Some(printer) => printer.as_str(),
+        None => return None,
+    };
+    if store.is_same(printer, disk) || is_other(store, program, printer) {
+        return Some(Conflict::PrinterIsImage);
+    }
+    if store.is_folder(printer) {
+        return Some(Conflict::PrinterIsFolder);
+    }
+    None
+}
+
+/// Does the job of a plan, with the standard streams and the files of the system.
+pub fn follow<R: Host + Input + Print + Eprint + AllocGlobal>(rt: &R, plan: Plan) -> Done {
+    let at = Terminals::of(rt);
+    let mut store = HostStore::new(rt);
+    let mut is_console = false;
+    if let Plan::Run(program, keeping) = &plan {
+        is_console = true;
+        if let Some(conflict) = conflict(&store, program, keeping) {
+            return Done {
+                end: End::Words(conflict),
+                begun: false,
+            };
+        }
+    }
+    let keys = Keys::new(rt.reader(), is_console && at.input);
+    let reader = match prompt_of(&plan) {
+        _ if !at.input || !at.error => Prompted::once(rt, keys, ""),
+        Prompt::Once(text) => Prompted::once(rt, keys, text),
+        Prompt::EachLine(text) => Prompted::each_line(rt, keys, text),
+    };
+    let mut lined = Lined::new(io::writer(rt), is_console && at.output);
+    let mut source = Reader::new(reader);
+    let mut sink = Writer::new(&mut lined);
+    let end = match act(rt.alloc(), &mut store, &mut source, &mut sink, plan) {
+        Ok(outcome) => End::Outcome(outcome),
+        Err(fault) => End::File(fault, store.into_refused()),
+    };
+    drop(sink);
+    Done {
+        end,
+        begun: lined.has_begun() && at.output && at.error,
+    }
+}

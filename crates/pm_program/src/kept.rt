@@ -1,0 +1,239 @@
+//! Jobs with files: what is read before them, and what is written behind them.
+ghost use Rattle.std.specs.Prelude.{◌≡◌, false, IfOk, OnErr, OnOk, string_bytes, option_map, vec_items};
+ghost use Rattle.pm_files.specs.Held.{Keeps};
+ghost use Rattle.pm_program.specs.Kept.{KeepsRun, KeepsFront, PrintsIf, has_run};
+
+use crate::file_words::Verb;
+use crate::run_words::{Kept, Others, Printing, Program};
+use pm_files::{DiskFault, Store};
+use pm_streams::{Sink, Source, write_all};
+use pm_tool::{Exit, Job, Outcome};
+use std::alloc::Global;
+use std::io::ErrorKind;
+
+/// The job of a verb. Its file is held from here on where it is going to be written, and read.
+fn files_job<S: Store>(
+    alloc: Global,
+    store: &mut S,
+    path: &str,
+    verb: Verb,
+) -> Result<Job, DiskFault>
+    ensures stays { S.files store.new ≡ S.files store.old }
+{
+    if verb.changes() {
+        store.hold(path)?;
+    }
+    match verb {
+        Verb::Command(command) => {
+            let image = store.read(alloc, path)?;
+            Ok(Job::Files { image, command })
+        }
+        Verb::New(name, blocks) => Ok(Job::New { name, blocks }),
+        Verb::Repair => {
+            let image = store.read(alloc, path)?;
+            Ok(Job::Repair { image })
+        }
+    }
+}
+
+/// Does a command on the image of a file, and writes the image back where the outcome has one: then it is the file, and no other file
+/// has changed. Neither stream may have failed before. Where a file cannot be read, held or written, no file has changed.
+pub fn do_files<S: Store, I: Source, O: Sink>(
+    alloc: Global,
+    store: &mut S,
+    source: &mut I,
+    sink: &mut O,
+    path: &str,
+    verb: Verb,
+) -> Result<Outcome, DiskFault>
+    requires source_well { I.has_failed source.old ≡ false }
+    requires sink_well { O.has_failed sink.old ≡ false }
+    ensures kept { IfOk result (λ outcome.
+        Keeps (S.files store.old) (S.files store.new) path.now (option_map vec_items outcome.image)) }
+    ensures stays { OnErr result (S.files store.new ≡ S.files store.old) }
+{
+    let job = files_job(alloc, store, path, verb)?;
+    let outcome = pm_tool::run(alloc, source, sink, job);
+    if let Some(image) = &outcome.image {
+        store.put(path, image.as_slice())?;
+    }
+    Ok(outcome)
+}
+
+/// Reads the image of a disk, where there is one.
+fn image<S: Store>(
+    alloc: Global,
+    store: &mut S,
+    path: &Option<String>,
+) -> Result<Option<Vec<u8>>, DiskFault>
+    ensures stays { S.files store.new ≡ S.files store.old }
+{
+    match path {
+        Some(path) => Ok(Some(store.read(alloc, path.as_str())?)),
+        None => Ok(None),
+    }
+}
+
+/// The images of the disks in the order of their units.
+type Images = [Option<Vec<u8>>; 6];
+
+/// Reads the images of the disks in the order of their units.
+fn images<S: Store>(
+    alloc: Global,
+    store: &mut S,
+    disk: &str,
+    others: &Others,
+) -> Result<Images, DiskFault>
+    ensures stays { S.files store.new ≡ S.files store.old }
+{
+    Ok([
+        Some(store.read(alloc, disk)?),
+        image(alloc, store, &others.d5)?,
+        image(alloc, store, &others.d9)?,
+        image(alloc, store, &others.d10)?,
+        image(alloc, store, &others.d11)?,
+        image(alloc, store, &others.d12)?,
+    ])
+}
+
+/// Whether a program came to an end of its own, of its steps or of its input.
+fn has_run(status: u8) -> bool
+    ensures value { result ≡ has_run status }
+{
+    status == Exit::Ended.number()
+        || status == Exit::ExecutionError.number()
+        || status == Exit::Stopped.number()
+}
+
+/// Writes the printer's bytes behind the console's.
+fn print_out<O: Sink>(sink: &mut O, bytes: &[u8]) -> Result<(), DiskFault> {
+    if sink.failed() || write_all(sink, bytes).is_err() {
+        return Err(DiskFault::Write(ErrorKind::Other));
+    }
+    Ok(())
+}
+
+/// Writes an image, where there is one.
+fn keep_image<S: Store>(store: &mut S, path: &str, image: &Option<Vec<u8>>) -> Result<(), DiskFault>
+    ensures kept { OnOk result (Keeps (S.files store.old) (S.files store.new) path.now (option_map vec_items image.now)) }
+    ensures stays { OnErr result (S.files store.new ≡ S.files store.old) }
+{
+    match image {
+        Some(image) => store.put(path, image.as_slice()),
+        None => Ok(()),
+    }
+}
+
+/// Writes the printer's bytes where they are wanted, if the program has run.
+fn keep_printer<S: Store, O: Sink>(
+    store: &mut S,
+    sink: &mut O,
+    printing: &Printing,
+    outcome: &Outcome,
+) -> Result<(), DiskFault>
+    ensures kept { OnOk result (PrintsIf (has_run outcome.now.status) (S.files store.old) (S.files store.new) printing.now
+        outcome.now.printer.items) }
+    ensures stays { OnErr result (S.files store.new ≡ S.files store.old) }
+{
+    if !has_run(outcome.status) {
+        return Ok(());
+    }
+    match printing {
+        Printing::Nowhere => Ok(()),
+        Printing::Output => print_out(sink, outcome.printer.as_slice()),
+        Printing::File(path) => store.put(path.as_str(), outcome.printer.as_slice()),
+    }
+}
+
+/// Keeps what a run leaves: the image first, then the printer's bytes.
+fn keep<S: Store, O: Sink>(
+    store: &mut S,
+    sink: &mut O,
+    path: &str,
+    printing: &Printing,
+    outcome: &Outcome,
+) -> Result<(), DiskFault>
+    ensures kept { OnOk result (KeepsRun (S.files store.old) (S.files store.new) path.now printing.now outcome.now) }
+    ensures front { OnErr result (KeepsFront (S.files store.old) (S.files store.new) path.now) }
+{
+    keep_image(store, path, &outcome.image)?;
+    keep_printer(store, sink, printing, outcome)
+}
+
+/// Runs a program, and then writes the image of unit 4, where the outcome has it, and the printer's bytes, where the program has run and
+/// they are wanted. No other file changes. Neither stream may have failed before. Where a file cannot be read, held or written, nothing
+/// has changed but that the image may be written.
+pub fn do_run<S: Store, I: Source, O: Sink>(
+    alloc: Global,
+    store: &mut S,
+    source: &mut I,
+    sink: &mut O,
+    program: Program,
+    kept: Kept,
+) -> Result<Outcome, DiskFault>
+    requires source_well { I.has_failed source.old ≡ false }
+    requires sink_well { O.has_failed sink.old ≡ false }
+    ensures kept { IfOk result (λ outcome.
+        KeepsRun (S.files store.old) (S.files store.new) (string_bytes program.disk) kept.printing outcome) }
+    ensures front { OnErr result (KeepsFront (S.files store.old) (S.files store.new) (string_bytes program.disk)) }
+{
+    let Program {
+        disk,
+        others,
+        name,
+        limit,
+    } = program;
+    let Kept { save, printing } = kept;
+    if save {
+        store.hold(disk.as_str())?;
+    }
+    if let Printing::File(path) = &printing {
+        store.prepare(path.as_str())?;
+    }
+    let disks = images(alloc, store, disk.as_str(), &others)?;
+    let job = Job::Run {
+        disks,
+        name,
+        limit,
+        save,
+    };
+    let outcome = pm_tool::run(alloc, source, sink, job);
+    keep(store, sink, disk.as_str(), &printing, &outcome)?;
+    Ok(outcome)
+}
+
+/// Writes the trace of a program. No file changes. Neither stream may have failed before.
+pub fn do_trace<S: Store, I: Source, O: Sink>(
+    alloc: Global,
+    store: &mut S,
+    source: &mut I,
+    sink: &mut O,
+    program: Program,
+) -> Result<Outcome, DiskFault>
+    requires source_well { I.has_failed source.old ≡ false }
+    requires sink_well { O.has_failed sink.old ≡ false }
+    ensures stays { S.files store.new ≡ S.files store.old }
+{
+    let disks = images(alloc, store, program.disk.as_str(), &program.others)?;
+    let Program { name, limit, .. } = program;
+    let job = Job::Trace { disks, name, limit };
+    Ok(pm_tool::run(alloc, source, sink, job))
+}
+
+/// Debugs a program, by the commands of the source. No file changes. Neither stream may have failed before.
+pub fn do_debug<S: Store, I: Source, O: Sink>(
+    alloc: Global,
+    store: &mut S,
+    source: &mut I,
+    sink: &mut O,
+    program: Program,
+) -> Result<Outcome, DiskFault>
+    requires source_well { I.has_failed source.old ≡ false }
+    requires sink_well { O.has_failed sink.old ≡ false }
+    ensures stays { S.files store.new ≡ S.files store.old }
+{
+    let disks = images(alloc, store, program.disk.as_str(), &program.others)?;
+    let Program { name, .. } = program;
+    let job = Job::Debug { disks, name };
+    Ok(pm_tool::run(alloc, source, sink, job))
+}

@@ -1,0 +1,18 @@
+#!/bin/sh
+# Brings an image of a 140 KB disk from DOS order (.dsk, .do) into block order, or back: examples/dos-order.sh <OLD >NEW
+# Each track has 16 sectors of 256 bytes. In DOS order the sectors of its eight blocks stand as 0 14 13 12 11 10 9 8 7 6 5 4 3 2 1 15.
+set -e
+scratch=$(mktemp)
+trap 'rm -f "$scratch"' EXIT
+cat >"$scratch"
+[ "$(wc -c <"$scratch")" -eq 143360 ] || {
+    echo "dos-order.sh: the image has not 143360 bytes" >&2
+    exit 1
+}
+track=0
+while [ $track -lt 35 ]; do
+    for sector in 0 14 13 12 11 10 9 8 7 6 5 4 3 2 1 15; do
+        dd if="$scratch" bs=256 skip=$((track * 16 + sector)) count=1 2>/dev/null
+    done
+    track=$((track + 1))
+done

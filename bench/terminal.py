@@ -10,16 +10,26 @@ program, image = sys.argv[1], sys.argv[2]
 failed = 0
 
 
-def run(words, keys, wait=0.4):
-    """What is shown, how it ends, and whether the terminal's modes are as before. Each key is typed after what came before it was shown."""
+def is_raw(terminal):
+    try:
+        return not termios.tcgetattr(terminal)[3] & termios.ICANON
+    except termios.error:
+        return False
+
+
+def run(words, keys):
+    """What is shown, what was shown before each key, how it ends, and whether the terminal's modes are as before. A key is typed once the terminal
+    is set or something new is shown, and at the latest after four seconds."""
     child, terminal = pty.fork()
     if child == 0:
-        os.execvp("sh", ["sh", "-c", 'before=$(stty -g); trap : INT; "$@"; status=$?; [ "$before" = "$(stty -g)" ] && echo "[$status same]" || echo "[$status other]"', "sh"] + words)
+        script = 'before=$(stty -g); trap : INT; "$@"; status=$?; [ "$before" = "$(stty -g)" ] && echo "[$status same]" || echo "[$status other]"'
+        os.execvp("sh", ["sh", "-c", script, "sh"] + words)
     shown = b""
     seen = []
-    due = time.time() + 1.5
     keys = list(keys)
-    end = time.time() + 20
+    length = 0
+    since = time.time()
+    end = since + 40
     while time.time() < end:
         ready, _, _ = select.select([terminal], [], [], 0.05)
         if ready:
@@ -30,10 +40,13 @@ def run(words, keys, wait=0.4):
             if not got:
                 break
             shown += got
-        if keys and time.time() >= due:
+            continue
+        now = time.time()
+        if keys and (len(shown) > length or not seen and is_raw(terminal) or now > since + 4):
             seen.append(shown)
+            length = len(shown)
+            since = now
             os.write(terminal, keys.pop(0))
-            due = time.time() + wait
     os.waitpid(child, 0)
     seen.append(shown)
     return shown, seen
@@ -41,7 +54,7 @@ def run(words, keys, wait=0.4):
 
 def check(name, holds, shown):
     global failed
-    print(("  passed: " if holds else "  FAILED: ") + name + ("" if holds else " %r" % shown))
+    print(("  passed: " if holds else "  FAILED: ") + name + ("" if holds else " " + repr(shown)))
     failed += 0 if holds else 1
 
 

@@ -1,3 +1,6 @@
 pub mod Widths
 pub mod Columns
 pub mod Made
+pub mod SameNames
+pub mod FoundFiles
+pub mod GivenLaws

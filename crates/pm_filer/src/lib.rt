@@ -3,6 +3,7 @@
 
 mod command;
 mod fault;
+pub mod laws;
 mod listing;
 
 pub use command::{Command, Reply, apply};

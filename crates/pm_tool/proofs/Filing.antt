@@ -164,6 +164,10 @@ new_done name blocks had held outcome out sound = done_unread had held held outc
 -- ---- repair
 
 module _ (r : Result (List ℕ) VolumeFault) where
+  pub repair_kept : (image : List ℕ) → r ≡ Ok image → (outcome : Outcome)
+      → ((unread : List ℕ) → IsOutcome outcome (said_repaired (Ok image) unread)) → (input : List ℕ) → IsOutcome outcome (said_repaired r input)
+  repair_kept image e outcome out input = rw e (out input)
+
   pub repair_refused : (fault : VolumeFault) → r ≡ Err fault → (outcome : Outcome)
       → ((unread : List ℕ) → IsOutcome outcome (refused (refusals.Volume fault) unread)) → (input : List ℕ) → IsOutcome outcome (said_repaired r input)
   repair_refused fault e outcome out input = rw e (out input)

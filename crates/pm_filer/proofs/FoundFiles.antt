@@ -1,0 +1,90 @@
+-- What is found in changed lists of files.
+use Rattle.std.proofs.Common.{◌≡◌, ◌<◌, ◌≤◌, ℕ, zero, suc, ◌+◌, ◌-◌, ◌*◌, Bool, true, false, List, [], ◌∷◌, ◌++◌, ◌∙◌, ap, sym, refl, inl, inr, length, take, drop, get_or, Option, Some, None, arith, subst}
+use Rattle.std.proofs.lemmas.Bool.{cases_Bool}
+use Rattle.std.proofs.lemmas.List.Elements.{All-head, All-tail}
+use Rattle.std.specs.List.{All, AllZip, find, insert, position_from, remove}
+use Rattle.pm_volume.specs.Files.{file_bytes, files_of, is_named}
+use Rattle.pm_volume.specs.Kept.{KeepsFile, KeepsFiles}
+use Rattle.pm_volume.specs.Packing.{MovesFile, moved_entry, new_place, packed}
+use Rattle.pm_volume.specs.declared.entry.Entry.{Entry}
+use Rattle.pm_filer.specs.Filed.{bytes_of}
+use Rattle.pm_filer.specs.Laws.{given}
+
+-- the same files with the same bytes
+pub found_kept : (p : Entry → Bool) (old new : List ℕ) (es : List Entry) → All (KeepsFile old new) es → bytes_of new (find p es) ≡ bytes_of old (find p es)
+found_kept p old new [] kept = refl
+found_kept p old new (e ∷ es) kept = elim (cases_Bool (p e)) [
+  | inl here ↦ rw here (All-head (KeepsFile old new) e es kept).bytes
+  | inr on ↦ rw on (found_kept p old new es (All-tail (KeepsFile old new) e es kept))
+]
+
+pub given_kept : (old new : List ℕ) → files_of new ≡ files_of old → KeepsFiles old new → (name : List ℕ) → given new name ≡ given old name
+given_kept old new files kept name = rw files (found_kept (is_named name) old new (files_of old) kept)
+
+-- files moved, each with its bytes
+pub found_moved : (name old new : List ℕ) (from : ℕ) (es : List Entry) → AllZip (MovesFile old new) es (packed from es)
+    → bytes_of new (find (is_named name) (packed from es)) ≡ bytes_of old (find (is_named name) es)
+unfolding packed
+found_moved name old new from [] zip = refl
+found_moved name old new from (e ∷ es) zip = elim (cases_Bool (is_named name e)) [
+  | inl here ↦ rw here zip.0.bytes
+  | inr on ↦ rw on (found_moved name old new (new_place from e + (e.end - e.first)) es zip.1)
+]
+
+-- a file put in the list
+pub found_new : (p : Entry → Bool) (es : List Entry) (k : ℕ) (e : Entry) → p e ≡ true → find p es ≡ None → find p (insert es k e) ≡ Some e
+found_new p es zero e here none = rw here refl
+found_new p [] (suc k) e here none = rw here refl
+found_new p (x ∷ es) (suc k) e here none = elim (cases_Bool (p x)) [
+  | inl found ↦ let some : Some x ≡ None = rw found at none in cc
+  | inr on ↦ let rest : find p es ≡ None = rw on at none in rw on (found_new p es k e here rest)
+]
+
+pub found_beside : (p : Entry → Bool) (es : List Entry) (k : ℕ) (e : Entry) → p e ≡ false → find p (insert es k e) ≡ find p es
+found_beside p es zero e on = rw on refl
+found_beside p [] (suc k) e on = rw on refl
+found_beside p (x ∷ es) (suc k) e on = elim (cases_Bool (p x)) [
+  | inl found ↦ rw found refl
+  | inr next ↦ rw next (found_beside p es k e on)
+]
+
+-- a file taken from the list, that of a name, which another test does not find
+pub found_left : (p q : Entry → Bool) (es : List Entry) (n slot : ℕ) → position_from q n es ≡ Some slot → ((e : Entry) → q e ≡ true → p e ≡ false)
+    → find p (remove es (slot - n)) ≡ find p es
+found_left p q [] n slot found unlike = cc
+found_left p q (e ∷ es) n slot found unlike = elim (cases_Bool (q e)) [
+  | inl here ↦
+      let same : n ≡ slot = some_same n slot (rw here at found) in
+      let none : slot - n ≡ 0 = omega arith in
+      let on = unlike e here in
+      rw (none, on) refl
+  | inr on ↦
+      let rest : position_from q (n + 1) es ≡ Some slot = rw on at found in
+      let after = position-after q (n + 1) es slot rest in
+      let step : slot - n ≡ suc (slot - (n + 1)) = omega arith in
+      elim (cases_Bool (p e)) [
+        | inl found ↦ rw (step, found) refl
+        | inr next ↦ rw (step, next) (found_left p q es (n + 1) slot rest unlike)
+      ]
+]
+  where
+    some_same : (a b : ℕ) → Some a ≡ Some b → a ≡ b
+    some_same a b h = cc
+
+    position-after : (q : Entry → Bool) (n : ℕ) (es : List Entry) (slot : ℕ) → position_from q n es ≡ Some slot → n ≤ slot
+    position-after q n [] slot found = cc
+    position-after q n (e ∷ es) slot found = elim (cases_Bool (q e)) [
+      | inl here ↦ let same : n ≡ slot = some_same n slot (rw here at found) in omega arith
+      | inr on ↦ let rest : position_from q (n + 1) es ≡ Some slot = rw on at found in omega (arith, position-after q (n + 1) es slot rest)
+    ]
+
+-- where the first file that passes stands
+pub position-within : (q : Entry → Bool) (n : ℕ) (es : List Entry) (slot : ℕ) → position_from q n es ≡ Some slot → (n ≤ slot) × (slot < n + length es)
+position-within q n [] slot found = cc
+position-within q n (e ∷ es) slot found = elim (cases_Bool (q e)) [
+  | inl here ↦ let same : Some n ≡ Some slot = rw here at found in let at : n ≡ slot = cc in (omega arith, omega arith)
+  | inr on ↦
+      let rest : position_from q (n + 1) es ≡ Some slot = rw on at found in
+      let later = position-within q (n + 1) es slot rest in
+      (omega (arith, later.0), omega (arith, later.1))
+]

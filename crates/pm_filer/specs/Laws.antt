@@ -1,0 +1,41 @@
+-- What the names of a volume give, before a command and after it.
+use Rattle.std.specs.Prelude.{◌≡◌, ◌<◌, ℕ, Bool, false, List, Option, Some, Ok, if◌then◌else◌}
+use Rattle.std.specs.List.{All}
+use Rattle.pm_volume.specs.Directory.{IsVolume}
+use Rattle.pm_volume.specs.Files.{file_named}
+use Rattle.pm_volume.specs.Names.{is_same_name}
+use Rattle.pm_filer.specs.Filed.{Filed, Order, Put, Remove, Change, Krunch, Date, Duplicate, Single, bytes_of, filed}
+
+-- what a name gives: the bytes of the first file of that name, none where there is no such file
+abbrev pub given : List ℕ → List ℕ → Option (List ℕ)
+given image name = bytes_of image (file_named image name)
+
+-- a volume whose image is a list of bytes
+pub record IsVolumeOfBytes (image : List ℕ) : Type 0 where
+  pub volume : IsVolume image
+  pub bytes : All (λ b. b < 256) image
+
+-- what is put under a name is got under it, in either case of letters, and every other name gives what it gave
+abbrev pub PutIsGot : Type 0
+PutIsGot =
+    (image name : List ℕ) (kind : ℕ) (bytes : List ℕ) (f : Filed) → IsVolumeOfBytes image → filed image (Put name kind bytes) ≡ Ok f
+    → (other : List ℕ) → given f.image other ≡ (if is_same_name name other then Some bytes else given image other)
+
+-- after a removal every other name gives what it gave
+abbrev pub RemovalKeepsOthers : Type 0
+RemovalKeepsOthers =
+    (image name : List ℕ) (f : Filed) → IsVolume image → filed image (Remove name) ≡ Ok f
+    → (other : List ℕ) → is_same_name name other ≡ false → given f.image other ≡ given image other
+
+-- moving the files together, a date, and a second copy of the directory made or dropped change nothing of what names give
+pub data KeepsNames : Order → Type 0 where
+  krunch : KeepsNames Krunch
+  date : (year month day : ℕ) → KeepsNames (Date year month day)
+  duplicate : KeepsNames Duplicate
+  single : KeepsNames Single
+
+-- after such a command every name gives what it gave
+abbrev pub NamesAreKept : Type 0
+NamesAreKept =
+    (image : List ℕ) (order : Order) (f : Filed) → IsVolumeOfBytes image → KeepsNames order → filed image order ≡ Ok f
+    → (name : List ℕ) → given f.image name ≡ given image name

@@ -21,8 +21,8 @@ use Rattle.pm_machine_laws.specs.Loads.{IsAtCall, IsBootedFrom, IsImage}
 abbrev pub listed : Segment → List ℕ
 listed s = listed_bytes (listed_segment s)
 
--- The text spells a program, the listing is that program's, and its segment n stands in a memory, below an address, by the
--- joined bytes of its lines.
+-- The text spells a program, the listing is that program's, and its segment n stands in a memory, below an address, by
+-- the joined bytes of its lines.
 pub record StandsAsListed (text shown : List ℕ) (n below : ℕ) (memory : List ℕ) : Type 0 where
   pub program : List Segment
   pub spelled : Spells text program
@@ -31,9 +31,9 @@ pub record StandsAsListed (text shown : List ℕ) (n below : ℕ) (memory : List
   pub numbered : segment_numbered n program ≡ Some segment
   pub stands : bytes_at memory (below - length (listed segment)) (length (listed segment)) ≡ listed segment
 
--- A text is assembled to a file and a listing; a machine was booted from the file on a volume, and whatever happened since,
--- its unit has that disk. Then a step that goes and calls a procedure of slot n, which has no place, leaves the segment as
--- it is listed in memory, below the SP before it.
+-- A text is assembled to a file and a listing; a machine was booted from the file on a volume, and whatever happened
+-- since, its unit has that disk. Then a step that goes and calls a procedure of slot n, which has no place, leaves the
+-- segment as it is listed in memory, below the SP before it.
 abbrev pub AssembledLoadsListed : State → Type 0
 AssembledLoadsListed s =
     (text shown file image : List ℕ) (unit n p : ℕ) →
@@ -45,7 +45,8 @@ AssembledLoadsListed s =
 -- A machine that is booted from the file of a text begins with segment 1 as it is listed, below 65,492.
 abbrev pub AssembledBootsListed : Type 0
 AssembledBootsListed =
-    (text shown file : List ℕ) (images : List (Option (List ℕ))) (image name : List ℕ) (entry : Entry) (unit clock : ℕ) (s : State) →
+    (text shown file : List ℕ) (images : List (Option (List ℕ))) (image name : List ℕ) (entry : Entry)
+    (unit clock : ℕ) (s : State) →
     assembled text ≡ Ok (file, shown) →
     IsImage image → image_of images unit ≡ Some image → code_file images unit name ≡ Ok (entry, file) →
     boot_start images unit name clock ≡ Ok s → StandsAsListed text shown 1 65492 s.memory
@@ -57,7 +58,9 @@ AssembledIsAccepted = (text shown file : List ℕ) → assembled text ≡ Ok (fi
 -- Where the text has a segment 1, a boot finds its file, under any name, on any volume that has it as a file of kind 2.
 abbrev pub AssembledIsFound : Type 0
 AssembledIsFound =
-    (text shown file : List ℕ) (program : List Segment) (segment : Segment) (images : List (Option (List ℕ))) (image name : List ℕ) (entry : Entry) (unit : ℕ) →
+    (text shown file : List ℕ) (program : List Segment) (segment : Segment) (images : List (Option (List ℕ)))
+    (image name : List ℕ) (entry : Entry) (unit : ℕ) →
     assembled text ≡ Ok (file, shown) → Spells text program → segment_numbered 1 program ≡ Some segment →
-    image_of images unit ≡ Some image → file_named image name ≡ Some entry → entry.kind ≡ 2 → file_bytes image entry ≡ Some file →
+    image_of images unit ≡ Some image → file_named image name ≡ Some entry →
+    entry.kind ≡ 2 → file_bytes image entry ≡ Some file →
     code_file images unit name ≡ Ok (entry, file)

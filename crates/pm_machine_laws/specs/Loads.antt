@@ -49,13 +49,15 @@ pub record StandsBelow (file : List ℕ) (n below : ℕ) (memory : List ℕ) : T
   pub segment : segment_in file n ≡ Some code
   pub stands : bytes_at memory (below - length code) (length code) ≡ code
 
--- Of a machine, whatever happened since it was booted: while the disk of its unit is the volume, a step that goes and calls
--- a procedure of a slot without a place leaves the segment of that slot of the code file in memory, below the SP before it.
+-- Of a machine, whatever happened since it was booted: while the disk of its unit is the volume, a step that goes and
+-- calls a procedure of a slot without a place leaves the segment of that slot of the code file in memory, below the SP
+-- before it.
 abbrev pub StepsLoadSegments : State → Type 0
 StepsLoadSegments s =
     (image file : List ℕ) (unit n p : ℕ) →
     IsImage image → IsBootedFrom image file unit s → image_on (unit_of unit) s.devices ≡ Some image →
-    placed s.places n ≡ None → IsAtCall n p s → (stepped s).1 ≡ Went → StandsBelow file n s.registers.sp (stepped s).0.memory
+    placed s.places n ≡ None → IsAtCall n p s → (stepped s).1 ≡ Went →
+    StandsBelow file n s.registers.sp (stepped s).0.memory
 
 -- A machine begins with the segment of slot 1 of the code file below 65,492.
 abbrev pub BootsLoadSegment : Type 0

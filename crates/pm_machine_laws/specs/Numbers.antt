@@ -7,9 +7,9 @@ use Rattle.pm_values.specs.Sets.{signed}
 use Rattle.pm_rows.specs.Jumps.{case_target, entry_target}
 use Rattle.pm_rows.specs.Signed.{binary, word}
 
--- What DVI and MODI give of a and b, as signed numbers: a is the quotient times b and the remainder, which is less than b
--- and has the sign of a, or is 0. The words are those of the two numbers, and the remainder's word stands for it; so does
--- the quotient's, if it is not that of -32,768 by -1.
+-- What DVI and MODI give of a and b, as signed numbers: a is the quotient times b and the remainder, which is less
+-- than b and has the sign of a, or is 0. The words are those of the two numbers, and the remainder's word stands for
+-- it; so does the quotient's, if it is not that of -32,768 by -1.
 pub record Division (a b : ℕ) : Type 0 where
   pub quotient : ℤ
   pub remainder : ℤ
@@ -24,8 +24,8 @@ pub record Division (a b : ℕ) : Type 0 where
 abbrev pub DivisionIsWhole : Type 0
 DivisionIsWhole = (a b : ℕ) → a < 65536 → b < 65536 → b ≢ 0 → Division a b
 
--- The rank of a word is its signed number, counted from -32,768 on: so ranks stand in the order of signed numbers, and are as
--- far apart.
+-- The rank of a word is its signed number, counted from -32,768 on: so ranks stand in the order of signed numbers, and
+-- are as far apart.
 pub record RanksAreOrdered (a b : ℕ) : Type 0 where
   pub number : pos (rank a) ≡ signed a +ℤ pos 32768
   pub order : nat_le (rank a) (rank b) ≡ int_le (signed a) (signed b)
@@ -34,8 +34,8 @@ pub record RanksAreOrdered (a b : ℕ) : Type 0 where
 abbrev pub RanksFollowSigned : Type 0
 RanksFollowSigned = (a b : ℕ) → a < 65536 → b < 65536 → RanksAreOrdered a b
 
--- XJP in signed numbers: for a value from low to high by the entry of its table whose number is the value less low, else to the
--- jump before the table
+-- XJP in signed numbers: for a value from low to high by the entry of its table whose number is the value less low,
+-- else to the jump before the table
 abbrev pub CaseJumpsBySigned : Type 0
 CaseJumpsBySigned =
     (low high table value : ℕ) (m : List ℕ) → low < 65536 → high < 65536 → value < 65536 →

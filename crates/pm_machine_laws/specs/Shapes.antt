@@ -38,7 +38,9 @@ IsCounted (Some p) = 0 < p.count
 
 -- no place of a machine is for no call, however it began and whatever happened since
 pub record MachinesCountCalls : Type 0 where
-  pub raw : (bytes : List ℕ) (s : State) (es : List Event) → raw_start bytes ≡ Ok s → All IsCounted (after_all s es).places
+  pub raw :
+      (bytes : List ℕ) (s : State) (es : List Event) →
+      raw_start bytes ≡ Ok s → All IsCounted (after_all s es).places
   pub booted :
       (images : List (Option (List ℕ))) (unit : ℕ) (name : List ℕ) (clock : ℕ) (s : State) (es : List Event) →
       boot_start images unit name clock ≡ Ok s → All IsCounted (after_all s es).places

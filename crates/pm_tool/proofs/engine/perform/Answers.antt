@@ -31,3 +31,9 @@ returns-in_err-new_volume-in-New-clause-broken g c =
     let r = c.from_residual in
     let p = err_from_is_err_and r.result r.ensures.1 in
     rw (p.1, p.2) (broken_unwritten _ _ _ _ _ _ _ [] (consumes_none _) (c.requires.sink_well, c.requires.source_well, omega arith))
+
+pub returns-in_err-repair_volume-in-Repair-clause-broken : goal.returns-in_err-repair_volume-in-Repair-clause-broken
+returns-in_err-repair_volume-in-Repair-clause-broken g c =
+    let r = c.from_residual-in_err-repair_volume-in-Repair in
+    let p = err_from_is_err_and r.result r.ensures.1 in
+    rw (p.1, p.2) (broken_unwritten _ _ _ _ _ _ _ [] (consumes_none _) (c.requires.sink_well, c.requires.source_well, omega arith))

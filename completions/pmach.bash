@@ -13,7 +13,7 @@ _pmach() {
     trace | debug) words="--d4 --d5 --d9 --d10 --d11 --d12 --limit --help" ;;
     asm) words="--list --help" ;;
     dis) words="--help" ;;
-    files) words="--image list get put gettext puttext remove change krunch date zero new --help" ;;
+    files) words="--image list get put gettext puttext remove change krunch date zero new duplicate single repair --help" ;;
     *) words="raw run trace debug asm dis files --help --version" ;;
     esac
     [ "$COMP_CWORD" = 1 ] && words="raw run trace debug asm dis files --help --version"

@@ -14,4 +14,6 @@ cp "$here/../HANDLES" "$scratch/"
 for crate in "$here"/../crates/*/ "$here"/trials/*/; do
     (cd "$crate/.." && tar cf - --exclude=out "$(basename "$crate")") | tar xf - -C "$scratch/crates"
 done
+# rt reads each file .rt of a repository, so the sources of these two crates bear another name where they are kept
+find "$scratch/crates" -name '*.rt.txt' -exec sh -c 'mv "$1" "${1%.txt}"' _ {} \;
 cd "$scratch/crates/pm_trials" && rt try --test

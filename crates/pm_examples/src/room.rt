@@ -1,4 +1,6 @@
 //! Much of what takes memory: keys that wait, output, and long programs. A body that gives up at a bound of its own fails here.
+ghost use Rattle.std.specs.Prelude.{◌<◌};
+
 use crate::tested::Tested;
 use pm_machine::{BootFault, Machine, Stop};
 use pm_volume::Volume;
@@ -65,17 +67,26 @@ fn long_segment(alloc: Global) -> Result<Volume, Fail> {
     Ok(volume)
 }
 
-/// A machine boots from each disk unit, and ends after 59,984 NOPs and the return.
+/// The disk units, in the order of the volumes.
+const UNITS: [u8; 6] = [4, 5, 9, 10, 11, 12];
+
+/// A machine boots from a disk unit, and ends after 59,984 NOPs and the return.
+fn boots(rt: &impl Abort, alloc: Global, place: usize) -> Result<(), Fail>
+    requires place { place < 6 }
+{
+    let mut volumes = [None, None, None, None, None, None];
+    volumes[place] = Some(long_segment(alloc)?);
+    let Ok(mut machine) = Machine::boot(alloc, volumes, UNITS[place], "P", 0) else {
+        return Err(Fail::new("a unit did not boot"));
+    };
+    assert_eq!(rt; machine.run(100_000), Ok((59_985, Stop::Ended)));
+    Ok(())
+}
+
 #[test]
 fn boots_from_each_unit(rt: HostRuntime) -> Result<(), Fail> {
-    let alloc = rt.alloc();
-    for (place, unit) in [4, 5, 9, 10, 11, 12].into_iter().enumerate() {
-        let mut volumes = [None, None, None, None, None, None];
-        volumes[place] = Some(long_segment(alloc)?);
-        let Ok(mut machine) = Machine::boot(alloc, volumes, unit, "P", 0) else {
-            return Err(Fail::new("a unit did not boot"));
-        };
-        assert_eq!(&rt; machine.run(100_000), Ok((59_985, Stop::Ended)));
+    for place in 0..6 {
+        boots(&rt, rt.alloc(), place)?;
     }
     Ok(())
 }

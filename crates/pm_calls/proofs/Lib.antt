@@ -1,4 +1,8 @@
 pub mod LinkLaws
+pub mod TableLaws
+pub mod WatchedLaws
+pub mod FrameLaws
+pub mod CallLaws
 pub mod WalkLaws
 pub mod ReturnLaws
 pub mod LoadLaws

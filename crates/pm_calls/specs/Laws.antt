@@ -1,13 +1,15 @@
 -- Laws of calls and returns.
-use Rattle.std.specs.Prelude.{◌≡◌, ◌≢◌, ◌<◌, ℕ, ◌+◌, ◌-◌, ◌*◌, Bool, false, List, All, Option, Some, None, Ok, slice_get, slice_index_or, length}
-use Rattle.pm_words.specs.Words.{IsMemory, bytes_at}
+use Rattle.std.specs.Prelude.{◌≡◌, ◌≢◌, ◌<◌, ℕ, ◌+◌, ◌-◌, ◌*◌, Bool, false, IsTrue, List, All, Option, Some, None, Ok, slice_get, slice_index, slice_index_or, length}
+use Rattle.pm_words.specs.Words.{Contents, IsMemory, bytes_at}
+use Rattle.pm_words.specs.Watch.{is_watched}
 use Rattle.pm_words.specs.Stack.{minus}
 use Rattle.pm_calls.specs.declared.registers.Registers.{Registers}
 use Rattle.pm_calls.specs.declared.frames.Table.{Table}
 use Rattle.pm_calls.specs.declared.frames.Call.{Call}
 use Rattle.pm_calls.specs.declared.frames.Call.TheVariants.{Clp, Cgp, Cbp, Cip, Cxp}
 use Rattle.pm_calls.specs.declared.frames.Place.{Place}
-use Rattle.pm_calls.specs.Places.{Parts, placed}
+use Rattle.pm_calls.specs.Places.{Parts, Standing, placed}
+use Rattle.pm_calls.specs.Kept.{Agrees, table_words}
 use Rattle.pm_calls.specs.Tables.{attributes}
 use Rattle.pm_calls.specs.Calls.{Reached, called, here, is_base, loading, procedure_of, standing}
 use Rattle.pm_calls.specs.Returns.{returned, stands_at}
@@ -84,3 +86,10 @@ ReturnGivesPlacesBack =
     (c d e : Parts) (call : Call) (code : Option (List ℕ)) (words : ℕ) (base : Bool) →
     IsMemory c.memory → IsCode code → FindsAgain c call →
     called c call code ≡ Ok d → returned d words base ≡ Ok e → e.places ≡ c.places
+
+-- Where what is kept agrees with a memory in which no watched word was written, each word by which a base or a table
+-- was read is watched: the word at each base but the last, and the seven words of each table.
+abbrev pub KeptWordsAreWatched : Type 0
+KeptWordsAreWatched = (memory : Contents) (frames : Standing) (mp : ℕ) → Agrees memory frames mp → memory.touched ≡ false
+    → ((n : ℕ) → n + 1 < length frames.bases → IsTrue (is_watched memory.watched (slice_index frames.bases n)))
+    × All (λ k. All (λ a. IsTrue (is_watched memory.watched a)) (table_words k)) frames.kept

@@ -1,11 +1,15 @@
 -- Where segments stand.
 use Rattle.std.specs.Prelude.{ℕ, List, Option, Some, None, slice_get}
 use Rattle.pm_calls.specs.declared.registers.Registers.{Registers}
+use Rattle.pm_calls.specs.declared.frames.Kept.{Kept}
 use Rattle.pm_calls.specs.declared.frames.Place.{Place}
 
--- what contracts see of the frames: the place of each of the 16 slots, with its count
+-- what contracts see of the frames: the place of each of the 16 slots, with its count, and what is kept of links and
+-- tables
 pub record Standing : Type 0 where
   pub places : List (Option Place)
+  pub bases : List ℕ
+  pub kept : List Kept
 
 -- what calls and returns see of the machine
 pub record Parts : Type 0 where

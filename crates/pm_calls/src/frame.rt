@@ -1,34 +1,61 @@
 //! A frame on the stack.
 
-ghost use Rattle.std.specs.Prelude.{◌≡◌, ◌+◌, ◌%◌, ◌≤◌, IfOk, OnErr};
+ghost use Rattle.std.specs.Prelude.{◌≡◌, ◌+◌, ◌%◌, ◌≤◌, IfOk, IsTrue, OnErr};
+ghost use Rattle.pm_words.specs.Watch.{KeepsWatch};
+ghost use Rattle.pm_words.specs.Words.{word_at};
 ghost use Rattle.pm_words.specs.Stack.{IsStack};
 ghost use Rattle.pm_calls.specs.Tables.{IsEvenTable};
-ghost use Rattle.pm_calls.specs.Calls.{Enters, framed, with_frame};
+ghost use Rattle.pm_calls.specs.Calls.{Enters, framed, with_control, with_frame, with_old_base};
 
 use crate::frames::Table;
 use crate::registers::Registers;
 use pm_words::{ExecError, Memory};
 
-// Writes a frame: the parameters, then the six control words.
-#[tactic(auto, unfolding(crate::specs::Calls::with_control))]
-fn put_frame(memory: &mut Memory, frame: u16, link: u16, registers: Registers, parameters: u16)
+// Writes the six control words of a frame.
+#[tactic(auto, unfolding(crate::specs::Calls::with_control), using(pm_words::proofs::WatchLaws::keeps))]
+fn put_control(memory: &mut Memory, frame: u16, link: u16, registers: Registers, above: u16)
     requires even { frame % 2 ≡ 0 }
-    requires above { frame + 12 + parameters ≤ 65504 }
-    requires within { registers.sp + parameters ≤ 65504 }
-    ensures frame { memory.new.words ≡ with_frame memory.old.words frame link registers parameters }
+    requires room { frame + 12 ≤ 65504 }
+    ensures words { memory.new.words ≡ with_control memory.old.words frame link registers above }
+    ensures link { word_at memory.new.words frame ≡ link }
+    ensures keeps { KeepsWatch memory.old memory.new }
 {
-    memory.copy(registers.sp, frame + 12, parameters);
     memory.set_word(frame, link);
     memory.set_word(frame + 2, registers.mp);
     memory.set_word(frame + 4, registers.jtab);
     memory.set_word(frame + 6, registers.seg);
     memory.set_word(frame + 8, registers.ipc);
-    memory.set_word(frame + 10, registers.sp + parameters);
+    memory.set_word(frame + 10, above);
+}
+
+// Writes a frame: the parameters, then the six control words, and for a base call the old BASE below them.
+#[tactic(auto, using(pm_words::proofs::WatchLaws::keeps))]
+fn put_frame(
+    memory: &mut Memory,
+    frame: u16,
+    link: u16,
+    registers: Registers,
+    parameters: u16,
+    base: bool,
+)
+    requires even { frame % 2 ≡ 0 }
+    requires above { frame + 12 + parameters ≤ 65504 }
+    requires below { IsTrue base → 2 ≤ frame }
+    requires within { registers.sp + parameters ≤ 65504 }
+    ensures words { memory.new.words ≡ with_old_base base (with_frame memory.old.words frame link registers parameters) frame registers.base }
+    ensures link { word_at memory.new.words frame ≡ link }
+    ensures keeps { KeepsWatch memory.old memory.new }
+{
+    memory.copy(registers.sp, frame + 12, parameters);
+    put_control(memory, frame, link, registers, registers.sp + parameters);
+    if base {
+        memory.set_word(frame - 2, registers.base);
+    }
 }
 
 /// Enters a procedure of the segment at `place`, of which `loaded` bytes were loaded for it, once
 /// its table and its static link are known: writes its frame, and gives the registers in it.
-#[tactic(auto, unfolding(crate::specs::Calls::framed))]
+#[tactic(auto, unfolding(crate::specs::Calls::framed), using(pm_words::proofs::WatchLaws::keeps))]
 pub fn enter(
     memory: &mut Memory,
     place: u16,
@@ -44,7 +71,11 @@ pub fn enter(
     requires room { loaded ≤ registers.sp }
     ensures framed { Enters result memory.old.words memory.new.words (framed memory.old.words place loaded registers base table link) }
     ensures stack { IfOk result (λ r. IsStack r.sp r.np) }
+    ensures keeps { KeepsWatch memory.old memory.new }
     ensures refused { OnErr result (memory.new ≡ memory.old) }
+    ensures even { IfOk result (λ r. r.mp % 2 ≡ 0) }
+    ensures linked { IfOk result (λ r. word_at memory.new.words r.mp ≡ link) }
+    ensures table { IfOk result (λ r. (r.jtab ≡ table.jtab) × (r.ipc ≡ table.enter)) }
 {
     let sp = u32::from(registers.sp);
     let parameters = u32::from(table.parameters);
@@ -62,10 +93,7 @@ pub fn enter(
         return Err(ExecError::StackOverflow);
     }
     let mp = (top - size) as u16;
-    put_frame(memory, mp, link, registers, table.parameters);
-    if base {
-        memory.set_word(mp - 2, registers.base);
-    }
+    put_frame(memory, mp, link, registers, table.parameters, base);
     Ok(Registers {
         sp: mp - kept as u16,
         ipc: table.enter,

@@ -1,6 +1,11 @@
 //! Laws of calls and returns. The functions do nothing.
 
-ghost use Rattle.pm_calls.specs.Laws.{LoadedCodeStands, ReturnGivesBack, ReturnGivesPlacesBack};
+ghost use Rattle.pm_calls.specs.Laws.{
+  KeptWordsAreWatched,
+  LoadedCodeStands,
+  ReturnGivesBack,
+  ReturnGivesPlacesBack,
+};
 
 /// A return of its call's kind, a base return after a base call and else a normal one, gives the
 /// caller's registers back right after the call: all but SP, which leaves the parameters behind and
@@ -22,4 +27,10 @@ pub fn loaded_code_stands()
 #[tactic(auto, using(crate::proofs::PlaceLaws::return_gives_places_back))]
 pub fn return_gives_places_back()
     ensures law { ReturnGivesPlacesBack }
+{}
+
+/// While what is kept of links and tables agrees with the memory, every word by which it was read is watched.
+#[tactic(auto, using(crate::proofs::TableLaws::kept_words_are_watched))]
+pub fn kept_words_are_watched()
+    ensures law { KeptWordsAreWatched }
 {}

@@ -1,6 +1,7 @@
 //! Frames: static links, attribute tables, calls, returns, EXIT, and where segments stand.
 #![tactic(auto)]
 
+mod bases;
 mod calls;
 mod exits;
 mod frame;
@@ -11,5 +12,8 @@ mod registers;
 mod returns;
 mod tables;
 
-pub use frames::{Call, Frames, Place, Table};
+pub use frames::{Call, Frames, Kept, Place, Table};
 pub use registers::Registers;
+
+#[cfg(test)]
+mod tests;

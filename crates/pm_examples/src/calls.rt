@@ -206,3 +206,30 @@ fn stored_link(rt: HostRuntime) -> Result<(), Fail> {
     machine.holds(&rt, 65490, 0);
     Ok(())
 }
+
+/// The same two procedures; the first stores 4 as the size of the second's variables between its two calls of it. The
+/// segment's highest word is at 1,064.
+const STORED_SIZE: [u8; 40] = [
+    0xCE, 0x01, 0xCE, 0x02, 0xC7, 0x1A, 0x04, 0x04, 0x9A, 0xCE, 0x02, 0xAD, 0x00, 0x00, 0x00, 0x00,
+    0x00, 0x00, 0x07, 0x00, 0x12, 0x00, 0x01, 0x01, 0xAD, 0x00, 0x00, 0x00, 0x00, 0x00, 0x06, 0x00,
+    0x08, 0x00, 0x02, 0x02, 0x02, 0x00, 0x10, 0x00,
+];
+
+/// An attribute table is read as the memory has it now: the second call of a procedure makes room for variables whose
+/// size was written after the first, by the operator or by the program.
+#[test]
+fn written_table(rt: HostRuntime) -> Result<(), Fail> {
+    let mut machine = Tested::raw(rt.alloc(), &CALLS)?;
+    machine.pokes(&rt, TOP.0, TOP.1);
+    machine.runs_to(&rt, 3, 3, Stop::Went);
+    machine.pokes(&rt, 1044, 4);
+    machine.steps_to(&rt, Stop::Went);
+    machine.has_mp(&rt, 65464);
+    let mut machine = Tested::raw(rt.alloc(), &STORED_SIZE)?;
+    machine.pokes(&rt, 1064, TOP.1);
+    machine.runs_to(&rt, 6, 6, Stop::Went);
+    machine.has_sp(&rt, 65480);
+    machine.steps_to(&rt, Stop::Went);
+    machine.has_mp(&rt, 65464);
+    Ok(())
+}

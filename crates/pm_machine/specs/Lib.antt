@@ -1,3 +1,4 @@
+pub mod Agreeing
 pub mod Faults
 pub mod State
 pub mod Loads

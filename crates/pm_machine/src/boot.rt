@@ -3,6 +3,7 @@
 ghost use Rattle.std.specs.Prelude.{◌≡◌, ◌<◌, ◌%◌, All, IfOk, IfErr, IfSome, OnOk, length, option_map};
 ghost use Rattle.pm_words.specs.Stack.{IsStack};
 ghost use Rattle.pm_calls.specs.Calls.{Leaves, called};
+ghost use Rattle.pm_machine.specs.Agreeing.{InStep};
 ghost use Rattle.pm_calls.specs.declared.frames.Call.TheVariants.{Cxp};
 ghost use Rattle.pm_codefile.specs.Dictionary.{slot_in};
 ghost use Rattle.pm_machine.specs.Faults.{boot_number};
@@ -106,10 +107,11 @@ fn rows_of(unit: u8, first: u16, file: &CodeFile<'_>) -> [SlotRow; 16]
 }
 
 // What a machine has before its first call.
-#[tactic(auto, unfolding(crate::specs::Boot::first_parts))]
+#[tactic(auto, unfolding(crate::specs::Boot::first_parts, crate::specs::Agreeing::InStep), using(pm_calls::proofs::TableLaws::carry))]
 fn start(alloc: Global) -> Result<Begun, AllocError>
     ensures parts { IfOk result (λ b. parts_of b ≡ first_parts) }
     ensures stack { IfOk result (λ b. IsStack b.registers.sp b.registers.np) }
+    ensures agrees { IfOk result (λ b. InStep b.memory b.frames b.registers.mp) }
 {
     let mut memory = Memory::new(alloc)?;
     put_system_frame(&mut memory);
@@ -134,9 +136,12 @@ fn start(alloc: Global) -> Result<Begun, AllocError>
 }
 
 // Calls procedure 1 of slot 1.
+#[tactic(auto, unfolding(crate::specs::Agreeing::InStep))]
 fn first_call(start: &mut Begun, code: Option<&[u8]>) -> Result<(), ExecError>
     requires stack { IsStack start.old.registers.sp start.old.registers.np }
     requires even_code { IfSome code (λ c. length c.now % 2 ≡ 0) }
+    requires agrees { InStep start.old.memory start.old.frames start.old.registers.mp }
+    ensures agrees { InStep start.new.memory start.new.frames start.new.registers.mp }
     ensures stack { OnOk result (IsStack start.new.registers.sp start.new.registers.np) }
     ensures done { Leaves result (parts_of start.old) (parts_of start.new) (called (parts_of start.old) (Cxp 1 1) (option_map (λ c. c.now) code.entry)) }
 {
@@ -159,6 +164,7 @@ pub fn begin(
 ) -> Result<Begun, BootFault>
     ensures begins { Begins result (code_file volumes.now unit name.now) (begun volumes.now unit name.now) }
     ensures stack { IfOk result (λ b. IsStack b.registers.sp b.registers.np) }
+    ensures agrees { IfOk result (λ b. InStep b.memory b.frames b.registers.mp) }
     ensures rows { IfOk result (λ b. All (λ row. row.length % 2 ≡ 0) b.rows) }
 {
     let (entry, file) = code_file(volumes, unit, name)?;

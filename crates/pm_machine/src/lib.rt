@@ -1,6 +1,7 @@
 //! The machine: its whole state, and one call for each event that can happen to it.
 #![tactic(auto)]
 
+mod agreeing;
 mod boot;
 pub mod laws;
 mod layout;

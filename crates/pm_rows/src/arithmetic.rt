@@ -1,6 +1,7 @@
 //! The rows on words as integers.
 
 ghost use Rattle.std.specs.Prelude.{◌≡◌, IfOk};
+ghost use Rattle.pm_words.specs.Watch.{KeepsWatch};
 ghost use Rattle.pm_words.specs.Stack.{IsStack, Stacks};
 ghost use Rattle.pm_rows.specs.Signed.{unary, binary, relation};
 ghost use Rattle.pm_rows.specs.Arithmetic.{
@@ -85,29 +86,32 @@ fn holds(operation: Relation, a: u16, b: u16) -> bool
 }
 
 #[inline(always)]
-#[tactic(auto, unfolding(crate::specs::Arithmetic::constant_row))]
+#[tactic(auto, unfolding(crate::specs::Arithmetic::constant_row), using(pm_words::proofs::WatchLaws::keeps))]
 fn constant(memory: &mut Memory, sp: u16, np: u16, word: u16) -> Result<u16, ExecError>
     ensures row { Stacks result memory.old.words memory.new.words (constant_row word memory.old.words sp np) }
     ensures stack { IsStack sp np → IfOk result (λ sp. IsStack sp np) }
+    ensures keeps { KeepsWatch memory.old memory.new }
 {
     push(memory, sp, np, word)
 }
 
 #[inline(always)]
-#[tactic(auto, unfolding(crate::specs::Arithmetic::unary_row))]
+#[tactic(auto, unfolding(crate::specs::Arithmetic::unary_row), using(pm_words::proofs::WatchLaws::keeps))]
 fn unary(memory: &mut Memory, sp: u16, np: u16, operation: Unary) -> Result<u16, ExecError>
     ensures row { Stacks result memory.old.words memory.new.words (unary_row operation memory.old.words sp np) }
     ensures stack { IsStack sp np → IfOk result (λ sp. IsStack sp np) }
+    ensures keeps { KeepsWatch memory.old memory.new }
 {
     let (a, sp) = pop(memory, sp)?;
     push(memory, sp, np, word_of_one(operation, a))
 }
 
 #[inline(always)]
-#[tactic(auto, unfolding(crate::specs::Arithmetic::binary_row))]
+#[tactic(auto, unfolding(crate::specs::Arithmetic::binary_row), using(pm_words::proofs::WatchLaws::keeps))]
 fn binary(memory: &mut Memory, sp: u16, np: u16, operation: Binary) -> Result<u16, ExecError>
     ensures row { Stacks result memory.old.words memory.new.words (binary_row operation memory.old.words sp np) }
     ensures stack { IsStack sp np → IfOk result (λ sp. IsStack sp np) }
+    ensures keeps { KeepsWatch memory.old memory.new }
 {
     let (b, sp) = pop(memory, sp)?;
     let (a, sp) = pop(memory, sp)?;
@@ -116,20 +120,22 @@ fn binary(memory: &mut Memory, sp: u16, np: u16, operation: Binary) -> Result<u1
 }
 
 #[inline(always)]
-#[tactic(auto, unfolding(crate::specs::Arithmetic::relation_row))]
+#[tactic(auto, unfolding(crate::specs::Arithmetic::relation_row), using(pm_words::proofs::WatchLaws::keeps))]
 fn relation(memory: &mut Memory, sp: u16, np: u16, operation: Relation) -> Result<u16, ExecError>
     ensures row { Stacks result memory.old.words memory.new.words (relation_row operation memory.old.words sp np) }
     ensures stack { IsStack sp np → IfOk result (λ sp. IsStack sp np) }
+    ensures keeps { KeepsWatch memory.old memory.new }
 {
     let (b, sp) = pop(memory, sp)?;
     let (a, sp) = pop(memory, sp)?;
     push(memory, sp, np, u16::from(holds(operation, a, b)))
 }
 
-#[tactic(auto, unfolding(crate::specs::Arithmetic::check_row))]
+#[tactic(auto, unfolding(crate::specs::Arithmetic::check_row), using(pm_words::proofs::WatchLaws::keeps))]
 fn check(memory: &mut Memory, sp: u16, np: u16) -> Result<u16, ExecError>
     ensures row { Stacks result memory.old.words memory.new.words (check_row memory.old.words sp np) }
     ensures stack { IsStack sp np → IfOk result (λ sp. IsStack sp np) }
+    ensures keeps { KeepsWatch memory.old memory.new }
 {
     let (c, sp) = pop(memory, sp)?;
     let (b, sp) = pop(memory, sp)?;
@@ -143,7 +149,7 @@ fn check(memory: &mut Memory, sp: u16, np: u16) -> Result<u16, ExecError>
 
 /// Does an operation on words as integers, and gives the new SP. An error changes nothing.
 #[inline(always)]
-#[tactic(auto, unfolding(crate::specs::Arithmetic::arithmetic_row))]
+#[tactic(auto, unfolding(crate::specs::Arithmetic::arithmetic_row), using(pm_words::proofs::WatchLaws::keeps))]
 pub fn perform(
     memory: &mut Memory,
     sp: u16,
@@ -152,6 +158,7 @@ pub fn perform(
 ) -> Result<u16, ExecError>
     ensures row { Stacks result memory.old.words memory.new.words (arithmetic_row operation memory.old.words sp np) }
     ensures stack { IsStack sp np → IfOk result (λ sp. IsStack sp np) }
+    ensures keeps { KeepsWatch memory.old memory.new }
 {
     match operation {
         Arithmetic::Constant(word) => constant(memory, sp, np, word),

@@ -44,6 +44,7 @@ fn jump_if(
 ) -> Result<Registers, ExecError>
     ensures row { result ≡ jumped taken memory.now.words registers offset }
     ensures stack { IsStack registers.sp registers.np → IfOk result (λ r. IsStack r.sp r.np) }
+    ensures mp { IfOk result (λ r. r.mp ≡ registers.mp) }
 {
     if !taken {
         return Ok(registers);
@@ -63,6 +64,7 @@ fn short(
 ) -> Result<Registers, ExecError>
     ensures row { result ≡ short_row condition memory.now.words registers offset }
     ensures stack { IsStack registers.sp registers.np → IfOk result (λ r. IsStack r.sp r.np) }
+    ensures mp { IfOk result (λ r. r.mp ≡ registers.mp) }
 {
     match condition {
         Condition::Always => jump_if(true, memory, registers, offset),
@@ -119,6 +121,7 @@ fn case(
 ) -> Result<Registers, ExecError>
     ensures row { result ≡ case_row low high table memory.now.words registers }
     ensures stack { IsStack registers.sp registers.np → IfOk result (λ r. IsStack r.sp r.np) }
+    ensures mp { IfOk result (λ r. r.mp ≡ registers.mp) }
 {
     let (value, sp) = pop(memory, registers.sp)?;
     let ipc = case_target(memory, low, high, table, value)?;
@@ -139,6 +142,7 @@ pub fn perform(
 ) -> Result<Registers, ExecError>
     ensures row { result ≡ jump_row operation memory.now.words registers }
     ensures stack { IsStack registers.sp registers.np → IfOk result (λ r. IsStack r.sp r.np) }
+    ensures mp { IfOk result (λ r. r.mp ≡ registers.mp) }
 {
     match operation {
         Jump::Short(condition, offset) => short(memory, registers, condition, offset),

@@ -1,6 +1,7 @@
 //! The rows on what stands in the code.
 
 ghost use Rattle.std.specs.Prelude.{◌≡◌, ◌+◌, ◌-◌, ◌*◌, ◌%◌, ◌≤◌, IfOk, length, reverse};
+ghost use Rattle.pm_words.specs.Watch.{KeepsWatch};
 ghost use Rattle.pm_words.specs.Stack.{IsStack, Stacks};
 ghost use Rattle.pm_words.specs.Words.{with_words, words_at};
 ghost use Rattle.pm_rows.specs.Literals.{address_row, literal_row, words_row};
@@ -26,10 +27,12 @@ fn words_in(memory: &Memory, start: u32, count: u8) -> ArrayVec<u16, 255>
 }
 
 // Writes words below an even SP, the first one highest.
+#[tactic(auto, using(pm_words::proofs::WatchLaws::keeps))]
 fn put_words(memory: &mut Memory, sp: u16, words: &[u16])
     requires even { sp % 2 ≡ 0 }
     requires room { 2 * length words.now ≤ sp }
     ensures written { memory.new.words ≡ with_words memory.old.words (sp - 2 * length words.now) (reverse words.now) }
+    ensures keeps { KeepsWatch memory.old memory.new }
 {
     let _ = memory.bytes(); // for the size of the memory
     let mut at = sp;
@@ -39,10 +42,11 @@ fn put_words(memory: &mut Memory, sp: u16, words: &[u16])
     }
 }
 
-#[tactic(auto, unfolding(crate::specs::Literals::words_row))]
+#[tactic(auto, unfolding(crate::specs::Literals::words_row), using(pm_words::proofs::WatchLaws::keeps))]
 fn words(memory: &mut Memory, sp: u16, np: u16, start: u32, count: u8) -> Result<u16, ExecError>
     ensures row { Stacks result memory.old.words memory.new.words (words_row start count memory.old.words sp np) }
     ensures stack { IsStack sp np → IfOk result (λ sp. IsStack sp np) }
+    ensures keeps { KeepsWatch memory.old memory.new }
 {
     let size = 2 * u16::from(count);
     if start % 2 != 0 || u64::from(start) + u64::from(size) > 65536 || sp % 2 != 0 {
@@ -56,19 +60,21 @@ fn words(memory: &mut Memory, sp: u16, np: u16, start: u32, count: u8) -> Result
     Ok(sp - size)
 }
 
-#[tactic(auto, unfolding(crate::specs::Literals::address_row))]
+#[tactic(auto, unfolding(crate::specs::Literals::address_row), using(pm_words::proofs::WatchLaws::keeps))]
 fn address(memory: &mut Memory, sp: u16, np: u16, address: u16) -> Result<u16, ExecError>
     ensures row { Stacks result memory.old.words memory.new.words (address_row address memory.old.words sp np) }
     ensures stack { IsStack sp np → IfOk result (λ sp. IsStack sp np) }
+    ensures keeps { KeepsWatch memory.old memory.new }
 {
     push(memory, sp, np, address)
 }
 
 /// Pushes what stands in the code, and gives the new SP. An error changes nothing.
-#[tactic(auto, unfolding(crate::specs::Literals::literal_row))]
+#[tactic(auto, unfolding(crate::specs::Literals::literal_row), using(pm_words::proofs::WatchLaws::keeps))]
 pub fn perform(memory: &mut Memory, sp: u16, np: u16, operation: Literal) -> Result<u16, ExecError>
     ensures row { Stacks result memory.old.words memory.new.words (literal_row operation memory.old.words sp np) }
     ensures stack { IsStack sp np → IfOk result (λ sp. IsStack sp np) }
+    ensures keeps { KeepsWatch memory.old memory.new }
 {
     match operation {
         Literal::String(start) => {

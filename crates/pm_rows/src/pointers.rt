@@ -1,6 +1,7 @@
 //! The rows on addresses that are on the stack.
 
 ghost use Rattle.std.specs.Prelude.{ℕ, ◌≡◌, ◌+◌, ◌*◌, ◌%◌, IfOk};
+ghost use Rattle.pm_words.specs.Watch.{KeepsWatch};
 ghost use Rattle.pm_words.specs.Stack.{IsStack, Stacks};
 ghost use Rattle.pm_rows.specs.Pointers.{
   increment_row,
@@ -19,22 +20,23 @@ use pm_words::{ExecError, Memory};
 
 // The highest place of a word on the stack.
 const HIGHEST_WORD: u32 = 65_502;
-
 #[inline(always)]
-#[tactic(auto, unfolding(crate::specs::Pointers::increment_row))]
+#[tactic(auto, unfolding(crate::specs::Pointers::increment_row), using(pm_words::proofs::WatchLaws::keeps))]
 fn increment(memory: &mut Memory, sp: u16, np: u16, by: u16) -> Result<u16, ExecError>
     ensures row { Stacks result memory.old.words memory.new.words (increment_row by memory.old.words sp np) }
     ensures stack { IsStack sp np → IfOk result (λ sp. IsStack sp np) }
+    ensures keeps { KeepsWatch memory.old memory.new }
 {
     let (a, sp) = pop(memory, sp)?;
     push(memory, sp, np, a.wrapping_add(by.wrapping_mul(2)))
 }
 
 #[inline(always)]
-#[tactic(auto, unfolding(crate::specs::Pointers::indirect_row))]
+#[tactic(auto, unfolding(crate::specs::Pointers::indirect_row), using(pm_words::proofs::WatchLaws::keeps))]
 fn indirect(memory: &mut Memory, sp: u16, np: u16, by: u16) -> Result<u16, ExecError>
     ensures row { Stacks result memory.old.words memory.new.words (indirect_row by memory.old.words sp np) }
     ensures stack { IsStack sp np → IfOk result (λ sp. IsStack sp np) }
+    ensures keeps { KeepsWatch memory.old memory.new }
 {
     let (a, sp) = pop(memory, sp)?;
     let word = load(memory, a.wrapping_add(by.wrapping_mul(2)))?;
@@ -51,10 +53,11 @@ fn item_at(a: u16, size: u16, i: u16) -> u16
 }
 
 #[inline(always)]
-#[tactic(auto, unfolding(crate::specs::Pointers::index_row))]
+#[tactic(auto, unfolding(crate::specs::Pointers::index_row), using(pm_words::proofs::WatchLaws::keeps))]
 fn index(memory: &mut Memory, sp: u16, np: u16, size: u16) -> Result<u16, ExecError>
     ensures row { Stacks result memory.old.words memory.new.words (index_row size memory.old.words sp np) }
     ensures stack { IsStack sp np → IfOk result (λ sp. IsStack sp np) }
+    ensures keeps { KeepsWatch memory.old memory.new }
 {
     let (i, sp) = pop(memory, sp)?;
     let (a, sp) = pop(memory, sp)?;
@@ -62,10 +65,11 @@ fn index(memory: &mut Memory, sp: u16, np: u16, size: u16) -> Result<u16, ExecEr
 }
 
 #[inline(always)]
-#[tactic(auto, unfolding(crate::specs::Pointers::store_indirect_row))]
+#[tactic(auto, unfolding(crate::specs::Pointers::store_indirect_row), using(pm_words::proofs::WatchLaws::keeps))]
 fn store_indirect(memory: &mut Memory, sp: u16, np: u16) -> Result<u16, ExecError>
     ensures row { Stacks result memory.old.words memory.new.words (store_indirect_row memory.old.words sp np) }
     ensures stack { IsStack sp np → IfOk result (λ sp. IsStack sp np) }
+    ensures keeps { KeepsWatch memory.old memory.new }
 {
     let (v, sp) = pop(memory, sp)?;
     let (a, sp) = pop(memory, sp)?;
@@ -73,10 +77,11 @@ fn store_indirect(memory: &mut Memory, sp: u16, np: u16) -> Result<u16, ExecErro
     Ok(sp)
 }
 
-#[tactic(auto, unfolding(crate::specs::Pointers::load_words_row))]
+#[tactic(auto, unfolding(crate::specs::Pointers::load_words_row), using(pm_words::proofs::WatchLaws::keeps))]
 fn load_words(memory: &mut Memory, sp: u16, np: u16, words: u8) -> Result<u16, ExecError>
     ensures row { Stacks result memory.old.words memory.new.words (load_words_row words memory.old.words sp np) }
     ensures stack { IsStack sp np → IfOk result (λ sp. IsStack sp np) }
+    ensures keeps { KeepsWatch memory.old memory.new }
 {
     let size = 2 * u16::from(words);
     let (a, sp) = pop(memory, sp)?;
@@ -90,10 +95,11 @@ fn load_words(memory: &mut Memory, sp: u16, np: u16, words: u8) -> Result<u16, E
     Ok(sp - size)
 }
 
-#[tactic(auto, unfolding(crate::specs::Pointers::store_words_row))]
+#[tactic(auto, unfolding(crate::specs::Pointers::store_words_row), using(pm_words::proofs::WatchLaws::keeps))]
 fn store_words(memory: &mut Memory, sp: u16, np: u16, words: u8) -> Result<u16, ExecError>
     ensures row { Stacks result memory.old.words memory.new.words (store_words_row words memory.old.words sp np) }
     ensures stack { IsStack sp np → IfOk result (λ sp. IsStack sp np) }
+    ensures keeps { KeepsWatch memory.old memory.new }
 {
     let size = 2 * u16::from(words);
     if u32::from(sp) + u32::from(size) > HIGHEST_WORD {
@@ -107,10 +113,11 @@ fn store_words(memory: &mut Memory, sp: u16, np: u16, words: u8) -> Result<u16, 
     Ok(above)
 }
 
-#[tactic(auto, unfolding(crate::specs::Pointers::move_row))]
+#[tactic(auto, unfolding(crate::specs::Pointers::move_row), using(pm_words::proofs::WatchLaws::keeps))]
 fn move_words(memory: &mut Memory, sp: u16, words: u16) -> Result<u16, ExecError>
     ensures row { (np : ℕ) → Stacks result memory.old.words memory.new.words (move_row words memory.old.words sp np) }
     ensures stack { (np : ℕ) → IsStack sp np → IfOk result (λ sp. IsStack sp np) }
+    ensures keeps { KeepsWatch memory.old memory.new }
 {
     let (from, sp) = pop(memory, sp)?;
     let (to, sp) = pop(memory, sp)?;
@@ -131,10 +138,11 @@ fn move_words(memory: &mut Memory, sp: u16, words: u16) -> Result<u16, ExecError
 /// Does an operation on an address that is on the stack, and gives the new SP. An error changes
 /// nothing.
 #[inline(always)]
-#[tactic(auto, unfolding(crate::specs::Pointers::pointer_row))]
+#[tactic(auto, unfolding(crate::specs::Pointers::pointer_row), using(pm_words::proofs::WatchLaws::keeps))]
 pub fn perform(memory: &mut Memory, sp: u16, np: u16, operation: Pointer) -> Result<u16, ExecError>
     ensures row { Stacks result memory.old.words memory.new.words (pointer_row operation memory.old.words sp np) }
     ensures stack { IsStack sp np → IfOk result (λ sp. IsStack sp np) }
+    ensures keeps { KeepsWatch memory.old memory.new }
 {
     match operation {
         Pointer::Increment(by) => increment(memory, sp, np, by),

@@ -1,6 +1,7 @@
 //! The rows on bytes, sets, strings and fields, and the typed comparisons.
 
 ghost use Rattle.std.specs.Prelude.{◌≡◌, IfOk};
+ghost use Rattle.pm_words.specs.Watch.{KeepsWatch};
 ghost use Rattle.pm_words.specs.Stack.{IsStack, Stacks};
 ghost use Rattle.pm_rows.specs.Values.{field_row, kind_of, relation_of, set_row, value_row};
 
@@ -37,10 +38,11 @@ fn kind_of(kind: opcode::Kind) -> Kind
     }
 }
 
-#[tactic(auto, unfolding(crate::specs::Values::set_row))]
+#[tactic(auto, unfolding(crate::specs::Values::set_row), using(pm_words::proofs::WatchLaws::keeps))]
 fn set(memory: &mut Memory, sp: u16, np: u16, operation: Set) -> Result<u16, ExecError>
     ensures row { Stacks result memory.old.words memory.new.words (set_row operation memory.old.words sp np) }
     ensures stack { IsStack sp np → IfOk result (λ sp. IsStack sp np) }
+    ensures keeps { KeepsWatch memory.old memory.new }
 {
     match operation {
         Set::Member => pm_values::in_set(memory, sp, np),
@@ -53,10 +55,11 @@ fn set(memory: &mut Memory, sp: u16, np: u16, operation: Set) -> Result<u16, Exe
     }
 }
 
-#[tactic(auto, unfolding(crate::specs::Values::field_row))]
+#[tactic(auto, unfolding(crate::specs::Values::field_row), using(pm_words::proofs::WatchLaws::keeps))]
 fn field(memory: &mut Memory, sp: u16, np: u16, operation: Field) -> Result<u16, ExecError>
     ensures row { Stacks result memory.old.words memory.new.words (field_row operation memory.old.words sp np) }
     ensures stack { IsStack sp np → IfOk result (λ sp. IsStack sp np) }
+    ensures keeps { KeepsWatch memory.old memory.new }
 {
     match operation {
         Field::Index { per_word, width } => {
@@ -69,10 +72,11 @@ fn field(memory: &mut Memory, sp: u16, np: u16, operation: Field) -> Result<u16,
 
 /// Does an operation on values in memory, and gives the new SP. An error changes nothing.
 #[inline(always)]
-#[tactic(auto, unfolding(crate::specs::Values::value_row))]
+#[tactic(auto, unfolding(crate::specs::Values::value_row), using(pm_words::proofs::WatchLaws::keeps))]
 pub fn perform(memory: &mut Memory, sp: u16, np: u16, operation: Value) -> Result<u16, ExecError>
     ensures row { Stacks result memory.old.words memory.new.words (value_row operation memory.old.words sp np) }
     ensures stack { IsStack sp np → IfOk result (λ sp. IsStack sp np) }
+    ensures keeps { KeepsWatch memory.old memory.new }
 {
     match operation {
         Value::Byte(Byte::Load) => pm_values::load_byte(memory, sp, np),

@@ -1,6 +1,7 @@
 //! The standard procedures that work on the stack, the heap and the memory alone.
 
 ghost use Rattle.std.specs.Prelude.{◌≡◌, IfOk, ℕ};
+ghost use Rattle.pm_words.specs.Watch.{KeepsWatch};
 ghost use Rattle.pm_words.specs.Stack.{IsStack, Stores};
 ghost use Rattle.pm_words.specs.Words.{moved_up, moved_down};
 ghost use Rattle.pm_stdproc.specs.MemoryRows.{
@@ -43,10 +44,12 @@ fn is_positive(word: u16) -> bool
     word > 0 && word < 32768
 }
 
-#[tactic(auto, unfolding(crate::specs::MemoryRows::check_io_row))]
+#[tactic(auto, unfolding(crate::specs::MemoryRows::check_io_row), using(pm_words::proofs::WatchLaws::keeps))]
 fn check_io(memory: &mut Memory, registers: Registers) -> Result<Registers, ExecError>
     ensures row { Changes result memory.old.words memory.new.words (check_io_row memory.old.words registers) }
     ensures stack { IsStack registers.sp registers.np → IfOk result (λ r. IsStack r.sp r.np) }
+    ensures keeps { KeepsWatch memory.old memory.new }
+    ensures mp { IfOk result (λ r. r.mp ≡ registers.mp) }
 {
     if registers.ioresult != 0 {
         return Err(ExecError::UserIo);
@@ -54,10 +57,12 @@ fn check_io(memory: &mut Memory, registers: Registers) -> Result<Registers, Exec
     Ok(registers)
 }
 
-#[tactic(auto, unfolding(crate::specs::MemoryRows::new_row))]
+#[tactic(auto, unfolding(crate::specs::MemoryRows::new_row), using(pm_words::proofs::WatchLaws::keeps))]
 fn new(memory: &mut Memory, registers: Registers) -> Result<Registers, ExecError>
     ensures row { Changes result memory.old.words memory.new.words (new_row memory.old.words registers) }
     ensures stack { IsStack registers.sp registers.np → IfOk result (λ r. IsStack r.sp r.np) }
+    ensures keeps { KeepsWatch memory.old memory.new }
+    ensures mp { IfOk result (λ r. r.mp ≡ registers.mp) }
 {
     let Registers { sp, np, .. } = registers;
     let (count, sp) = pop(memory, sp)?;
@@ -78,8 +83,10 @@ fn new(memory: &mut Memory, registers: Registers) -> Result<Registers, ExecError
 }
 
 // Moves bytes one by one, the lowest first.
+#[tactic(auto, using(pm_words::proofs::WatchLaws::keeps))]
 fn move_up(memory: &mut Memory, from: u16, to: u16, count: u16) -> Result<(), ExecError>
     ensures moved { Stores result memory.old.words memory.new.words (moved moved_up memory.old.words from to count) }
+    ensures keeps { KeepsWatch memory.old memory.new }
 {
     if !is_positive(count) || memory.copy_up(from, to, count) {
         Ok(())
@@ -89,8 +96,10 @@ fn move_up(memory: &mut Memory, from: u16, to: u16, count: u16) -> Result<(), Ex
 }
 
 // Moves bytes one by one, the highest first.
+#[tactic(auto, using(pm_words::proofs::WatchLaws::keeps))]
 fn move_down(memory: &mut Memory, from: u16, to: u16, count: u16) -> Result<(), ExecError>
     ensures moved { Stores result memory.old.words memory.new.words (moved moved_down memory.old.words from to count) }
+    ensures keeps { KeepsWatch memory.old memory.new }
 {
     if !is_positive(count) || memory.copy_down(from, to, count) {
         Ok(())
@@ -99,10 +108,12 @@ fn move_down(memory: &mut Memory, from: u16, to: u16, count: u16) -> Result<(), 
     }
 }
 
-#[tactic(auto, unfolding(crate::specs::MemoryRows::move_row))]
+#[tactic(auto, unfolding(crate::specs::MemoryRows::move_row), using(pm_words::proofs::WatchLaws::keeps))]
 fn move_left(memory: &mut Memory, registers: Registers) -> Result<Registers, ExecError>
     ensures row { Changes result memory.old.words memory.new.words (move_row moved_up memory.old.words registers) }
     ensures stack { IsStack registers.sp registers.np → IfOk result (λ r. IsStack r.sp r.np) }
+    ensures keeps { KeepsWatch memory.old memory.new }
+    ensures mp { IfOk result (λ r. r.mp ≡ registers.mp) }
 {
     let (count, sp) = pop(memory, registers.sp)?;
     let (to, sp) = pop_place(memory, sp)?;
@@ -111,10 +122,12 @@ fn move_left(memory: &mut Memory, registers: Registers) -> Result<Registers, Exe
     Ok(Registers { sp, ..registers })
 }
 
-#[tactic(auto, unfolding(crate::specs::MemoryRows::move_row))]
+#[tactic(auto, unfolding(crate::specs::MemoryRows::move_row), using(pm_words::proofs::WatchLaws::keeps))]
 fn move_right(memory: &mut Memory, registers: Registers) -> Result<Registers, ExecError>
     ensures row { Changes result memory.old.words memory.new.words (move_row moved_down memory.old.words registers) }
     ensures stack { IsStack registers.sp registers.np → IfOk result (λ r. IsStack r.sp r.np) }
+    ensures keeps { KeepsWatch memory.old memory.new }
+    ensures mp { IfOk result (λ r. r.mp ≡ registers.mp) }
 {
     let (count, sp) = pop(memory, registers.sp)?;
     let (to, sp) = pop_place(memory, sp)?;
@@ -124,8 +137,10 @@ fn move_right(memory: &mut Memory, registers: Registers) -> Result<Registers, Ex
 }
 
 // Fills a range with one byte.
+#[tactic(auto, using(pm_words::proofs::WatchLaws::keeps))]
 fn fill_with(memory: &mut Memory, at: u16, count: u16, byte: u8) -> Result<(), ExecError>
     ensures filled { Stores result memory.old.words memory.new.words (filled_with memory.old.words at count byte) }
+    ensures keeps { KeepsWatch memory.old memory.new }
 {
     if !is_positive(count) || memory.fill(at, count, byte) {
         Ok(())
@@ -134,10 +149,12 @@ fn fill_with(memory: &mut Memory, at: u16, count: u16, byte: u8) -> Result<(), E
     }
 }
 
-#[tactic(auto, unfolding(crate::specs::MemoryRows::fill_row))]
+#[tactic(auto, unfolding(crate::specs::MemoryRows::fill_row), using(pm_words::proofs::WatchLaws::keeps))]
 fn fill(memory: &mut Memory, registers: Registers) -> Result<Registers, ExecError>
     ensures row { Changes result memory.old.words memory.new.words (fill_row memory.old.words registers) }
     ensures stack { IsStack registers.sp registers.np → IfOk result (λ r. IsStack r.sp r.np) }
+    ensures keeps { KeepsWatch memory.old memory.new }
+    ensures mp { IfOk result (λ r. r.mp ≡ registers.mp) }
 {
     let (character, sp) = pop(memory, registers.sp)?;
     let (count, sp) = pop(memory, sp)?;
@@ -154,10 +171,12 @@ fn passed_by(memory: &Memory, at: u16, limit: u16, byte: u8, equal: bool) -> Res
     Ok(passed.ok_or(ExecError::InvalidMemory)?.cast_unsigned())
 }
 
-#[tactic(auto, unfolding(crate::specs::MemoryRows::scan_row))]
+#[tactic(auto, unfolding(crate::specs::MemoryRows::scan_row), using(pm_words::proofs::WatchLaws::keeps))]
 fn scan(memory: &mut Memory, registers: Registers) -> Result<Registers, ExecError>
     ensures row { Changes result memory.old.words memory.new.words (scan_row memory.old.words registers) }
     ensures stack { IsStack registers.sp registers.np → IfOk result (λ r. IsStack r.sp r.np) }
+    ensures keeps { KeepsWatch memory.old memory.new }
+    ensures mp { IfOk result (λ r. r.mp ≡ registers.mp) }
 {
     let (_mask, sp) = pop(memory, registers.sp)?;
     let (at, sp) = pop_place(memory, sp)?;
@@ -169,20 +188,24 @@ fn scan(memory: &mut Memory, registers: Registers) -> Result<Registers, ExecErro
     Ok(Registers { sp, ..registers })
 }
 
-#[tactic(auto, unfolding(crate::specs::MemoryRows::mark_row))]
+#[tactic(auto, unfolding(crate::specs::MemoryRows::mark_row), using(pm_words::proofs::WatchLaws::keeps))]
 fn mark(memory: &mut Memory, registers: Registers) -> Result<Registers, ExecError>
     ensures row { Changes result memory.old.words memory.new.words (mark_row memory.old.words registers) }
     ensures stack { IsStack registers.sp registers.np → IfOk result (λ r. IsStack r.sp r.np) }
+    ensures keeps { KeepsWatch memory.old memory.new }
+    ensures mp { IfOk result (λ r. r.mp ≡ registers.mp) }
 {
     let (address, sp) = pop(memory, registers.sp)?;
     store(memory, address, registers.np)?;
     Ok(Registers { sp, ..registers })
 }
 
-#[tactic(auto, unfolding(crate::specs::MemoryRows::release_row))]
+#[tactic(auto, unfolding(crate::specs::MemoryRows::release_row), using(pm_words::proofs::WatchLaws::keeps))]
 fn release(memory: &mut Memory, registers: Registers) -> Result<Registers, ExecError>
     ensures row { Changes result memory.old.words memory.new.words (release_row memory.old.words registers) }
     ensures stack { IsStack registers.sp registers.np → IfOk result (λ r. IsStack r.sp r.np) }
+    ensures keeps { KeepsWatch memory.old memory.new }
+    ensures mp { IfOk result (λ r. r.mp ≡ registers.mp) }
 {
     let (address, sp) = pop(memory, registers.sp)?;
     let np = load(memory, address)?;
@@ -200,17 +223,19 @@ fn release(memory: &mut Memory, registers: Registers) -> Result<Registers, ExecE
 }
 
 // Puts a word on the stack.
-#[tactic(auto, unfolding(crate::specs::MemoryRows::push_row))]
+#[tactic(auto, unfolding(crate::specs::MemoryRows::push_row), using(pm_words::proofs::WatchLaws::keeps))]
 fn put(memory: &mut Memory, registers: Registers, word: u16) -> Result<Registers, ExecError>
     ensures row { Changes result memory.old.words memory.new.words (push_row word memory.old.words registers) }
     ensures stack { IsStack registers.sp registers.np → IfOk result (λ r. IsStack r.sp r.np) }
+    ensures keeps { KeepsWatch memory.old memory.new }
+    ensures mp { IfOk result (λ r. r.mp ≡ registers.mp) }
 {
     let sp = push(memory, registers.sp, registers.np, word)?;
     Ok(Registers { sp, ..registers })
 }
 
 /// One of these procedures: it gives the registers after it; an error leaves the memory as it was.
-#[tactic(auto, unfolding(crate::specs::MemoryRows::memory_row))]
+#[tactic(auto, unfolding(crate::specs::MemoryRows::memory_row), using(pm_words::proofs::WatchLaws::keeps))]
 pub fn perform(
     memory: &mut Memory,
     registers: Registers,
@@ -218,6 +243,8 @@ pub fn perform(
 ) -> Result<Registers, ExecError>
     ensures row { Changes result memory.old.words memory.new.words (memory_row procedure memory.old.words registers) }
     ensures stack { IsStack registers.sp registers.np → IfOk result (λ r. IsStack r.sp r.np) }
+    ensures keeps { KeepsWatch memory.old memory.new }
+    ensures mp { IfOk result (λ r. r.mp ≡ registers.mp) }
 {
     match procedure {
         OnMemory::CheckIo => check_io(memory, registers),

@@ -1,7 +1,9 @@
 //! The standard procedures, by their numbers.
 
 ghost use Rattle.std.specs.Prelude.{◌≡◌, ◌+◌, ◌≤◌, ℕ, IfOk, OnOk, OnErr};
+ghost use Rattle.pm_words.specs.Watch.{KeepsWatch};
 ghost use Rattle.pm_words.specs.Stack.{IsStack};
+ghost use Rattle.pm_calls.specs.Kept.{Agrees};
 ghost use Rattle.pm_stdproc.specs.Traps.{Performs, or_fails};
 ghost use Rattle.pm_stdproc.specs.Procedures.{devices_reached, procedure_of, procedure_row};
 ghost use Rattle.pm_stdproc.specs.UnitRows.{busy_row, clear_row, devices_served, ordered, read_row, served, time_row, units_row, wait_row, write_row};
@@ -48,7 +50,7 @@ impl Units {
     /// read; `NoMemory` where there is no memory for bytes that are written or shown, and
     /// no room is left for them. After each of these everything is as it was: the scratch memory keeps what EXIT puts back, and holds
     /// anything afterwards.
-    #[tactic(auto, unfolding(crate::specs::Procedures::procedure_row, crate::specs::Procedures::exit_row))]
+    #[tactic(auto, unfolding(crate::specs::Procedures::procedure_row, crate::specs::Procedures::exit_row), using(pm_words::proofs::WatchLaws::keeps, pm_calls::proofs::TableLaws::carry))]
     pub fn perform(
         &mut self,
         n: u8,
@@ -63,6 +65,9 @@ impl Units {
             (record { memory = memory.new.words; registers = registers.new; places = frames.new.places; devices = self.new.devices })
             (procedure_row (procedure_of n) (record { memory = memory.old.words; registers = registers.old; places = frames.old.places; devices = self.old.devices })) }
         ensures refused { OnErr result ((memory.new.words ≡ memory.old.words) × (registers.new ≡ registers.old) × (frames.new.places ≡ frames.old.places) × (self.new ≡ self.old)) }
+        ensures agrees { Agrees memory.old frames.old registers.old.mp → Agrees memory.new frames.new registers.new.mp }
+        ensures keeps { KeepsWatch memory.old memory.new }
+        ensures mp { registers.new.mp ≡ registers.old.mp }
     {
         match procedure_of(n) {
             Procedure::OnMemory(procedure) => {
@@ -83,7 +88,7 @@ impl Units {
     }
 
     // A standard procedure that works with the units or the clock.
-    #[tactic(auto, unfolding(crate::specs::UnitRows::units_row))]
+    #[tactic(auto, unfolding(crate::specs::UnitRows::units_row), using(pm_words::proofs::WatchLaws::keeps))]
     fn on_units(
         &mut self,
         memory: &mut Memory,
@@ -93,6 +98,8 @@ impl Units {
         ensures stack { IsStack registers.old.sp registers.old.np → OnOk result (IsStack registers.new.sp registers.new.np) }
         ensures row { Performs devices_served self.old.room result (served memory.old.words registers.old self.old.devices) (served memory.new.words registers.new self.new.devices) (units_row procedure (served memory.old.words registers.old self.old.devices)) }
         ensures room { OnErr result (self.new.room ≡ self.old.room) }
+        ensures keeps { KeepsWatch memory.old memory.new }
+        ensures mp { registers.new.mp ≡ registers.old.mp }
     {
         match procedure {
             OnUnits::Read => self.read_row(memory, registers),
@@ -104,11 +111,13 @@ impl Units {
         }
     }
 
-    #[tactic(auto, unfolding(crate::specs::UnitRows::read_row))]
+    #[tactic(auto, unfolding(crate::specs::UnitRows::read_row), using(pm_words::proofs::WatchLaws::keeps))]
     fn read_row(&mut self, memory: &mut Memory, registers: &mut Registers) -> Result<(), Trap>
         ensures stack { IsStack registers.old.sp registers.old.np → OnOk result (IsStack registers.new.sp registers.new.np) }
         ensures row { Performs devices_served self.old.room result (served memory.old.words registers.old self.old.devices) (served memory.new.words registers.new self.new.devices) (read_row (served memory.old.words registers.old self.old.devices)) }
         ensures room { OnErr result (self.new.room ≡ self.old.room) }
+        ensures keeps { KeepsWatch memory.old memory.new }
+        ensures mp { registers.new.mp ≡ registers.old.mp }
     {
         let order = order(memory, registers.sp)?;
         registers.ioresult = self.read(memory, unit_of(order.unit), order.transfer)?;
@@ -116,11 +125,13 @@ impl Units {
         Ok(())
     }
 
-    #[tactic(auto, unfolding(crate::specs::UnitRows::write_row))]
+    #[tactic(auto, unfolding(crate::specs::UnitRows::write_row), using(pm_words::proofs::WatchLaws::keeps))]
     fn write_row(&mut self, memory: &mut Memory, registers: &mut Registers) -> Result<(), Trap>
         ensures stack { IsStack registers.old.sp registers.old.np → OnOk result (IsStack registers.new.sp registers.new.np) }
         ensures row { Performs devices_served self.old.room result (served memory.old.words registers.old self.old.devices) (served memory.new.words registers.new self.new.devices) (write_row (served memory.old.words registers.old self.old.devices)) }
         ensures room { OnErr result (self.new.room ≡ self.old.room) }
+        ensures keeps { KeepsWatch memory.old memory.new }
+        ensures mp { registers.new.mp ≡ registers.old.mp }
     {
         let order = order(memory, registers.sp)?;
         registers.ioresult = self.write(memory, unit_of(order.unit), order.transfer)?;
@@ -128,11 +139,13 @@ impl Units {
         Ok(())
     }
 
-    #[tactic(auto, unfolding(crate::specs::UnitRows::time_row))]
+    #[tactic(auto, unfolding(crate::specs::UnitRows::time_row), using(pm_words::proofs::WatchLaws::keeps))]
     fn time_row(&mut self, memory: &mut Memory, registers: &mut Registers) -> Result<(), Trap>
         ensures stack { IsStack registers.old.sp registers.old.np → OnOk result (IsStack registers.new.sp registers.new.np) }
         ensures row { Performs devices_served self.old.room result (served memory.old.words registers.old self.old.devices) (served memory.new.words registers.new self.new.devices) (or_fails (time_row (served memory.old.words registers.old self.old.devices))) }
         ensures room { OnErr result (self.new.room ≡ self.old.room) }
+        ensures keeps { KeepsWatch memory.old memory.new }
+        ensures mp { registers.new.mp ≡ registers.old.mp }
     {
         let (low, sp) = pop(memory, registers.sp)?;
         let (high, sp) = pop(memory, sp)?;
@@ -145,11 +158,13 @@ impl Units {
         Ok(())
     }
 
-    #[tactic(auto, unfolding(crate::specs::UnitRows::busy_row))]
+    #[tactic(auto, unfolding(crate::specs::UnitRows::busy_row), using(pm_words::proofs::WatchLaws::keeps))]
     fn busy_row(&mut self, memory: &mut Memory, registers: &mut Registers) -> Result<(), Trap>
         ensures stack { IsStack registers.old.sp registers.old.np → OnOk result (IsStack registers.new.sp registers.new.np) }
         ensures row { Performs devices_served self.old.room result (served memory.old.words registers.old self.old.devices) (served memory.new.words registers.new self.new.devices) (or_fails (busy_row (served memory.old.words registers.old self.old.devices))) }
         ensures room { OnErr result (self.new.room ≡ self.old.room) }
+        ensures keeps { KeepsWatch memory.old memory.new }
+        ensures mp { registers.new.mp ≡ registers.old.mp }
     {
         let (unit, sp) = pop(memory, registers.sp)?;
         let sp = push(memory, sp, registers.np, 0)?;
@@ -158,11 +173,13 @@ impl Units {
         Ok(())
     }
 
-    #[tactic(auto, unfolding(crate::specs::UnitRows::wait_row))]
+    #[tactic(auto, unfolding(crate::specs::UnitRows::wait_row), using(pm_words::proofs::WatchLaws::keeps))]
     fn wait_row(&mut self, memory: &mut Memory, registers: &mut Registers) -> Result<(), Trap>
         ensures stack { IsStack registers.old.sp registers.old.np → OnOk result (IsStack registers.new.sp registers.new.np) }
         ensures row { Performs devices_served self.old.room result (served memory.old.words registers.old self.old.devices) (served memory.new.words registers.new self.new.devices) (or_fails (wait_row (served memory.old.words registers.old self.old.devices))) }
         ensures room { OnErr result (self.new.room ≡ self.old.room) }
+        ensures keeps { KeepsWatch memory.old memory.new }
+        ensures mp { registers.new.mp ≡ registers.old.mp }
     {
         let (unit, sp) = pop(memory, registers.sp)?;
         registers.sp = sp;
@@ -170,11 +187,13 @@ impl Units {
         Ok(())
     }
 
-    #[tactic(auto, unfolding(crate::specs::UnitRows::clear_row))]
+    #[tactic(auto, unfolding(crate::specs::UnitRows::clear_row), using(pm_words::proofs::WatchLaws::keeps))]
     fn clear_row(&mut self, memory: &mut Memory, registers: &mut Registers) -> Result<(), Trap>
         ensures stack { IsStack registers.old.sp registers.old.np → OnOk result (IsStack registers.new.sp registers.new.np) }
         ensures row { Performs devices_served self.old.room result (served memory.old.words registers.old self.old.devices) (served memory.new.words registers.new self.new.devices) (or_fails (clear_row (served memory.old.words registers.old self.old.devices))) }
         ensures room { OnErr result (self.new.room ≡ self.old.room) }
+        ensures keeps { KeepsWatch memory.old memory.new }
+        ensures mp { registers.new.mp ≡ registers.old.mp }
     {
         let (unit, sp) = pop(memory, registers.sp)?;
         registers.ioresult = self.clear(unit_of(unit));

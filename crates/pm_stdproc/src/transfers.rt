@@ -1,6 +1,7 @@
 //! What the units give and take.
 
 ghost use Rattle.std.specs.Prelude.{◌≡◌, ◌+◌, ◌<◌, ◌≤◌, ◌++◌, drop, length, vec_capacity, vec_len, Ok, OnOk, OnErr};
+ghost use Rattle.pm_words.specs.Watch.{KeepsWatch};
 ghost use Rattle.pm_stdproc.specs.Devices.{HasPlace, cleared, image_at};
 ghost use Rattle.pm_stdproc.specs.Transfers.{Transfers, can_move, from_disk, from_queue, named_bytes, read, to_disk, written};
 
@@ -75,7 +76,7 @@ fn can_move(image: &[u8], transfer: Transfer) -> bool
 
 impl Units {
     /// Reads from a unit into the memory, and gives the IORESULT.
-    #[tactic(auto, unfolding(crate::specs::Transfers::read))]
+    #[tactic(auto, unfolding(crate::specs::Transfers::read), using(pm_words::proofs::WatchLaws::keeps))]
     pub(crate) fn read(
         &mut self,
         memory: &mut Memory,
@@ -86,6 +87,7 @@ impl Units {
         requires inside { transfer.address + transfer.count ≤ 65536 }
         ensures read { Transfers self.old.room result memory.old.words self.old.devices memory.new.words self.new.devices (read unit transfer memory.old.words self.old.devices) }
         ensures room { OnErr result (self.new.room ≡ self.old.room) }
+        ensures keeps { KeepsWatch memory.old memory.new }
     {
         match unit {
             Port::Unknown => Ok(2),
@@ -98,6 +100,7 @@ impl Units {
     }
 
     // Reads the first bytes that wait, and perhaps shows them on the console.
+    #[tactic(auto, using(pm_words::proofs::WatchLaws::keeps))]
     fn read_queue(
         &mut self,
         memory: &mut Memory,
@@ -107,6 +110,7 @@ impl Units {
         requires inside { transfer.address + transfer.count ≤ 65536 }
         ensures read { Transfers self.old.room result memory.old.words self.old.devices memory.new.words self.new.devices (from_queue echo transfer memory.old.words self.old.devices) }
         ensures room { OnErr result (self.new.room ≡ self.old.room) }
+        ensures keeps { KeepsWatch memory.old memory.new }
     {
         let count = usize::from(transfer.count);
         if self.queue.len() < count {
@@ -121,10 +125,12 @@ impl Units {
     }
 
     // Reads from a disk, and gives the IORESULT.
+    #[tactic(auto, using(pm_words::proofs::WatchLaws::keeps))]
     fn read_disk(&mut self, memory: &mut Memory, k: usize, transfer: Transfer) -> u16
         requires place { k < 6 }
         requires inside { transfer.address + transfer.count ≤ 65536 }
         ensures read { Transfers self.old.room (Ok result) memory.old.words self.old.devices memory.new.words self.new.devices (Ok (from_disk (image_at self.old.devices k) transfer memory.old.words self.old.devices)) }
+        ensures keeps { KeepsWatch memory.old memory.new }
     {
         let Some(disk) = &self.disks[k] else {
             return 9;
@@ -142,7 +148,7 @@ impl Units {
     }
 
     /// Writes from the memory to a unit, and gives the IORESULT.
-    #[tactic(auto, unfolding(crate::specs::Transfers::written))]
+    #[tactic(auto, unfolding(crate::specs::Transfers::written), using(pm_words::proofs::WatchLaws::keeps))]
     pub(crate) fn write(
         &mut self,
         memory: &mut Memory,
@@ -153,6 +159,7 @@ impl Units {
         requires inside { transfer.address + transfer.count ≤ 65536 }
         ensures written { Transfers self.old.room result memory.old.words self.old.devices memory.new.words self.new.devices (Ok (written unit transfer memory.old.words self.old.devices)) }
         ensures room { OnErr result (self.new.room ≡ self.old.room) }
+        ensures keeps { KeepsWatch memory.old memory.new }
     {
         match unit {
             Port::Unknown => Ok(2),
@@ -170,10 +177,12 @@ impl Units {
     }
 
     // Writes to a disk, and gives the IORESULT.
+    #[tactic(auto, using(pm_words::proofs::WatchLaws::keeps))]
     fn write_disk(&mut self, memory: &mut Memory, k: usize, transfer: Transfer) -> u16
         requires place { k < 6 }
         requires inside { transfer.address + transfer.count ≤ 65536 }
         ensures written { Transfers self.old.room (Ok result) memory.old.words self.old.devices memory.new.words self.new.devices (Ok (to_disk k (image_at self.old.devices k) transfer memory.old.words self.old.devices)) }
+        ensures keeps { KeepsWatch memory.old memory.new }
     {
         let Some(disk) = &mut self.disks[k] else {
             return 9;

@@ -1,6 +1,7 @@
 //! The typed comparisons.
 
 ghost use Rattle.std.specs.Prelude.{◌≡◌, IfOk};
+ghost use Rattle.pm_words.specs.Watch.{KeepsWatch};
 ghost use Rattle.pm_words.specs.Stack.{IsStack, Stacks};
 ghost use Rattle.pm_values.specs.Comparisons.{
   compare_booleans_row,
@@ -63,7 +64,7 @@ pub enum Kind {
 /// `InvalidMemory` where there are too few words, or an operand passes the end of memory, or words
 /// begin at an odd address; `InvalidIndex` for a set of more than 255 words. An error changes
 /// nothing.
-#[tactic(auto, unfolding(crate::specs::Comparisons::compare_row))]
+#[tactic(auto, unfolding(crate::specs::Comparisons::compare_row), using(pm_words::proofs::WatchLaws::keeps))]
 pub fn compare(
     memory: &mut Memory,
     sp: u16,
@@ -73,6 +74,7 @@ pub fn compare(
 ) -> Result<u16, ExecError>
     ensures row { Stacks result memory.old.words memory.new.words (compare_row relation kind memory.old.words sp np) }
     ensures stack { IsStack sp np → IfOk result (λ sp. IsStack sp np) }
+    ensures keeps { KeepsWatch memory.old memory.new }
 {
     match kind {
         Kind::Real => Err(ExecError::Unimplemented),
@@ -85,7 +87,7 @@ pub fn compare(
 }
 
 // Two strings, by their characters.
-#[tactic(auto, unfolding(crate::specs::Comparisons::compare_strings_row))]
+#[tactic(auto, unfolding(crate::specs::Comparisons::compare_strings_row), using(pm_words::proofs::WatchLaws::keeps))]
 fn compare_strings(
     memory: &mut Memory,
     sp: u16,
@@ -94,6 +96,7 @@ fn compare_strings(
 ) -> Result<u16, ExecError>
     ensures row { Stacks result memory.old.words memory.new.words (compare_strings_row relation memory.old.words sp np) }
     ensures stack { IsStack sp np → IfOk result (λ sp. IsStack sp np) }
+    ensures keeps { KeepsWatch memory.old memory.new }
 {
     let (right, sp) = pop(memory, sp)?;
     let (left, sp) = pop(memory, sp)?;
@@ -104,7 +107,7 @@ fn compare_strings(
 }
 
 // Two truth values, by bit 0 alone.
-#[tactic(auto, unfolding(crate::specs::Comparisons::compare_booleans_row))]
+#[tactic(auto, unfolding(crate::specs::Comparisons::compare_booleans_row), using(pm_words::proofs::WatchLaws::keeps))]
 fn compare_booleans(
     memory: &mut Memory,
     sp: u16,
@@ -113,6 +116,7 @@ fn compare_booleans(
 ) -> Result<u16, ExecError>
     ensures row { Stacks result memory.old.words memory.new.words (compare_booleans_row relation memory.old.words sp np) }
     ensures stack { IsStack sp np → IfOk result (λ sp. IsStack sp np) }
+    ensures keeps { KeepsWatch memory.old memory.new }
 {
     let (right, sp) = pop(memory, sp)?;
     let (left, sp) = pop(memory, sp)?;
@@ -122,7 +126,7 @@ fn compare_booleans(
 }
 
 // Two ranges of bytes.
-#[tactic(auto, unfolding(crate::specs::Comparisons::compare_bytes_row))]
+#[tactic(auto, unfolding(crate::specs::Comparisons::compare_bytes_row), using(pm_words::proofs::WatchLaws::keeps))]
 fn compare_bytes(
     memory: &mut Memory,
     sp: u16,
@@ -132,6 +136,7 @@ fn compare_bytes(
 ) -> Result<u16, ExecError>
     ensures row { Stacks result memory.old.words memory.new.words (compare_bytes_row count relation memory.old.words sp np) }
     ensures stack { IsStack sp np → IfOk result (λ sp. IsStack sp np) }
+    ensures keeps { KeepsWatch memory.old memory.new }
 {
     let (right, sp) = pop(memory, sp)?;
     let (left, sp) = pop(memory, sp)?;
@@ -142,7 +147,7 @@ fn compare_bytes(
 }
 
 // Two ranges of words.
-#[tactic(auto, unfolding(crate::specs::Comparisons::compare_words_row))]
+#[tactic(auto, unfolding(crate::specs::Comparisons::compare_words_row), using(pm_words::proofs::WatchLaws::keeps))]
 fn compare_words(
     memory: &mut Memory,
     sp: u16,
@@ -152,6 +157,7 @@ fn compare_words(
 ) -> Result<u16, ExecError>
     ensures row { Stacks result memory.old.words memory.new.words (compare_words_row count relation memory.old.words sp np) }
     ensures stack { IsStack sp np → IfOk result (λ sp. IsStack sp np) }
+    ensures keeps { KeepsWatch memory.old memory.new }
 {
     if !is_equality(relation) {
         return Err(ExecError::Unimplemented);
@@ -168,10 +174,11 @@ fn compare_words(
 }
 
 // Two sets, as sets of numbers.
-#[tactic(auto, unfolding(crate::specs::Comparisons::compare_sets_row))]
+#[tactic(auto, unfolding(crate::specs::Comparisons::compare_sets_row), using(pm_words::proofs::WatchLaws::keeps))]
 fn compare_sets(memory: &mut Memory, sp: u16, np: u16, relation: Relation) -> Result<u16, ExecError>
     ensures row { Stacks result memory.old.words memory.new.words (compare_sets_row relation memory.old.words sp np) }
     ensures stack { IsStack sp np → IfOk result (λ sp. IsStack sp np) }
+    ensures keeps { KeepsWatch memory.old memory.new }
 {
     if !is_of_sets(relation) {
         return Err(ExecError::Unimplemented);

@@ -1,6 +1,7 @@
 //! Bytes, and fields of words.
 
 ghost use Rattle.std.specs.Prelude.{◌≡◌, ◌+◌, ◌≤◌, IfOk, Err};
+ghost use Rattle.pm_words.specs.Watch.{KeepsWatch};
 ghost use Rattle.pm_words.specs.Stack.{IsStack, Stacks, demand};
 ghost use Rattle.pm_words.specs.declared.error.ExecError.TheVariants.{InvalidIndex};
 ghost use Rattle.pm_values.specs.Fields.{
@@ -20,10 +21,11 @@ use pm_words::{ExecError, Memory};
 
 /// Replaces a base and an index in bytes by the byte at their sum, and gives the new SP;
 /// `InvalidMemory` where there are too few words. An error changes nothing.
-#[tactic(auto, unfolding(crate::specs::Fields::load_byte_row))]
+#[tactic(auto, unfolding(crate::specs::Fields::load_byte_row), using(pm_words::proofs::WatchLaws::keeps))]
 pub fn load_byte(memory: &mut Memory, sp: u16, np: u16) -> Result<u16, ExecError>
     ensures row { Stacks result memory.old.words memory.new.words (load_byte_row memory.old.words sp np) }
     ensures stack { IsStack sp np → IfOk result (λ sp. IsStack sp np) }
+    ensures keeps { KeepsWatch memory.old memory.new }
 {
     let (index, sp) = pop(memory, sp)?;
     let (base, sp) = pop(memory, sp)?;
@@ -34,10 +36,11 @@ pub fn load_byte(memory: &mut Memory, sp: u16, np: u16) -> Result<u16, ExecError
 /// Takes a base, an index in bytes and a value from the stack, writes the value's low byte at their
 /// sum, and gives the new SP; `InvalidMemory` where there are too few words. An error changes
 /// nothing.
-#[tactic(auto, unfolding(crate::specs::Fields::store_byte_row))]
+#[tactic(auto, unfolding(crate::specs::Fields::store_byte_row), using(pm_words::proofs::WatchLaws::keeps))]
 pub fn store_byte(memory: &mut Memory, sp: u16, np: u16) -> Result<u16, ExecError>
     ensures row { Stacks result memory.old.words memory.new.words (store_byte_row memory.old.words sp np) }
     ensures stack { IsStack sp np → IfOk result (λ sp. IsStack sp np) }
+    ensures keeps { KeepsWatch memory.old memory.new }
 {
     let (value, sp) = pop(memory, sp)?;
     let (index, sp) = pop(memory, sp)?;
@@ -51,7 +54,7 @@ pub fn store_byte(memory: &mut Memory, sp: u16, np: u16) -> Result<u16, ExecErro
 /// `per_word` fields of `width` bits in each word, the first in the lowest bits. `InvalidMemory`
 /// where there are too few words; `InvalidIndex` for a negative index, for no fields a word, and
 /// for bits that are no field of a word; `StackOverflow`. An error changes nothing.
-#[tactic(auto, unfolding(crate::specs::Fields::index_field_row))]
+#[tactic(auto, unfolding(crate::specs::Fields::index_field_row), using(pm_words::proofs::WatchLaws::keeps))]
 pub fn index_field(
     memory: &mut Memory,
     sp: u16,
@@ -61,6 +64,7 @@ pub fn index_field(
 ) -> Result<u16, ExecError>
     ensures row { Stacks result memory.old.words memory.new.words (index_field_row per_word width memory.old.words sp np) }
     ensures stack { IsStack sp np → IfOk result (λ sp. IsStack sp np) }
+    ensures keeps { KeepsWatch memory.old memory.new }
 {
     let (index, sp) = pop(memory, sp)?;
     let (base, sp) = pop(memory, sp)?;
@@ -77,10 +81,11 @@ pub fn index_field(
 /// Replaces the place of a field by the field, and gives the new SP. `InvalidMemory` where there are
 /// too few words; `InvalidIndex` for bits that are no field of a word; `InvalidMemory` for an odd
 /// address. An error changes nothing.
-#[tactic(auto, unfolding(crate::specs::Fields::load_field_row))]
+#[tactic(auto, unfolding(crate::specs::Fields::load_field_row), using(pm_words::proofs::WatchLaws::keeps))]
 pub fn load_field(memory: &mut Memory, sp: u16, np: u16) -> Result<u16, ExecError>
     ensures row { Stacks result memory.old.words memory.new.words (load_field_row memory.old.words sp np) }
     ensures stack { IsStack sp np → IfOk result (λ sp. IsStack sp np) }
+    ensures keeps { KeepsWatch memory.old memory.new }
 {
     let (lowest, sp) = pop(memory, sp)?;
     let (width, sp) = pop(memory, sp)?;
@@ -93,10 +98,11 @@ pub fn load_field(memory: &mut Memory, sp: u16, np: u16) -> Result<u16, ExecErro
 /// Takes the place of a field and a value from the stack, writes the value's low bits into the
 /// field, and gives the new SP. `InvalidMemory` where there are too few words; `InvalidIndex` for
 /// bits that are no field of a word; `InvalidMemory` for an odd address. An error changes nothing.
-#[tactic(auto, unfolding(crate::specs::Fields::store_field_row))]
+#[tactic(auto, unfolding(crate::specs::Fields::store_field_row), using(pm_words::proofs::WatchLaws::keeps))]
 pub fn store_field(memory: &mut Memory, sp: u16, np: u16) -> Result<u16, ExecError>
     ensures row { Stacks result memory.old.words memory.new.words (store_field_row memory.old.words sp np) }
     ensures stack { IsStack sp np → IfOk result (λ sp. IsStack sp np) }
+    ensures keeps { KeepsWatch memory.old memory.new }
 {
     let (value, sp) = pop(memory, sp)?;
     let (lowest, sp) = pop(memory, sp)?;

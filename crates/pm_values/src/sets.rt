@@ -1,6 +1,7 @@
 //! Sets on the stack.
 
 ghost use Rattle.std.specs.Prelude.{◌≡◌, ◌%◌, ◌≤◌, ◌+◌, ◌*◌, ◌&&◌, ℕ, IfOk, IsOk, MatchResult, Ok, Err, length, nat_le, slice_index};
+ghost use Rattle.pm_words.specs.Watch.{KeepsWatch};
 ghost use Rattle.pm_words.specs.Stack.{IsStack, Stacks};
 ghost use Rattle.pm_words.specs.Words.{words_at};
 ghost use Rattle.pm_values.specs.Combinations.{count_of, test_of, word_of};
@@ -50,10 +51,11 @@ pub struct StackSet {
 /// Replaces a value and a set by 1 or 0, whether the signed value is an element, and gives the new
 /// SP. `InvalidMemory` where there are too few words; `InvalidIndex` for a set of more than 255
 /// words. An error changes nothing.
-#[tactic(auto, unfolding(crate::specs::Sets::in_set_row))]
+#[tactic(auto, unfolding(crate::specs::Sets::in_set_row), using(pm_words::proofs::WatchLaws::keeps))]
 pub fn in_set(memory: &mut Memory, sp: u16, np: u16) -> Result<u16, ExecError>
     ensures row { Stacks result memory.old.words memory.new.words (in_set_row memory.old.words sp np) }
     ensures stack { IsStack sp np → IfOk result (λ sp. IsStack sp np) }
+    ensures keeps { KeepsWatch memory.old memory.new }
 {
     let set = take_set(memory, sp)?;
     let (value, sp) = pop(memory, set.above)?;
@@ -65,20 +67,22 @@ pub fn in_set(memory: &mut Memory, sp: u16, np: u16) -> Result<u16, ExecError>
 /// gives the new SP. For each operand, the top one first: `InvalidMemory` where there are too few
 /// words, `InvalidIndex` for a set of more than 255 words; then `StackOverflow`. An error changes
 /// nothing.
-#[tactic(auto, unfolding(crate::specs::Sets::intersect_row))]
+#[tactic(auto, unfolding(crate::specs::Sets::intersect_row), using(pm_words::proofs::WatchLaws::keeps))]
 pub fn intersect(memory: &mut Memory, sp: u16, np: u16) -> Result<u16, ExecError>
     ensures row { Stacks result memory.old.words memory.new.words (intersect_row memory.old.words sp np) }
     ensures stack { IsStack sp np → IfOk result (λ sp. IsStack sp np) }
+    ensures keeps { KeepsWatch memory.old memory.new }
 {
     combine(memory, sp, np, Combination::Intersection)
 }
 
 /// Replaces two sets by the set of the numbers in either, in as many words as the larger has, and
 /// gives the new SP. Errors as in `intersect`; an error changes nothing.
-#[tactic(auto, unfolding(crate::specs::Sets::union_row))]
+#[tactic(auto, unfolding(crate::specs::Sets::union_row), using(pm_words::proofs::WatchLaws::keeps))]
 pub fn union(memory: &mut Memory, sp: u16, np: u16) -> Result<u16, ExecError>
     ensures row { Stacks result memory.old.words memory.new.words (union_row memory.old.words sp np) }
     ensures stack { IsStack sp np → IfOk result (λ sp. IsStack sp np) }
+    ensures keeps { KeepsWatch memory.old memory.new }
 {
     combine(memory, sp, np, Combination::Union)
 }
@@ -86,10 +90,11 @@ pub fn union(memory: &mut Memory, sp: u16, np: u16) -> Result<u16, ExecError>
 /// Replaces two sets by the set of the numbers in the lower and not in the upper one, in as many
 /// words as the lower set has, and gives the new SP. Errors as in `intersect`; an error changes
 /// nothing.
-#[tactic(auto, unfolding(crate::specs::Sets::difference_row))]
+#[tactic(auto, unfolding(crate::specs::Sets::difference_row), using(pm_words::proofs::WatchLaws::keeps))]
 pub fn difference(memory: &mut Memory, sp: u16, np: u16) -> Result<u16, ExecError>
     ensures row { Stacks result memory.old.words memory.new.words (difference_row memory.old.words sp np) }
     ensures stack { IsStack sp np → IfOk result (λ sp. IsStack sp np) }
+    ensures keeps { KeepsWatch memory.old memory.new }
 {
     combine(memory, sp, np, Combination::Difference)
 }
@@ -97,10 +102,11 @@ pub fn difference(memory: &mut Memory, sp: u16, np: u16) -> Result<u16, ExecErro
 /// Replaces a value by the set of that number alone, and gives the new SP. `InvalidMemory` where
 /// there are too few words; `InvalidIndex` for a value that is not 0 to 4,079; `StackOverflow`. An
 /// error changes nothing.
-#[tactic(auto, unfolding(crate::specs::Sets::singleton_row))]
+#[tactic(auto, unfolding(crate::specs::Sets::singleton_row), using(pm_words::proofs::WatchLaws::keeps))]
 pub fn singleton(memory: &mut Memory, sp: u16, np: u16) -> Result<u16, ExecError>
     ensures row { Stacks result memory.old.words memory.new.words (singleton_row memory.old.words sp np) }
     ensures stack { IsStack sp np → IfOk result (λ sp. IsStack sp np) }
+    ensures keeps { KeepsWatch memory.old memory.new }
 {
     let (value, sp) = pop(memory, sp)?;
     if value > LAST_MEMBER {
@@ -113,10 +119,11 @@ pub fn singleton(memory: &mut Memory, sp: u16, np: u16) -> Result<u16, ExecError
 /// the set of no words if the first is the greater, and gives the new SP. `InvalidMemory` where
 /// there are too few words; `InvalidIndex` for a bound that is not 0 to 4,079; `StackOverflow`. An
 /// error changes nothing.
-#[tactic(auto, unfolding(crate::specs::Sets::subrange_row))]
+#[tactic(auto, unfolding(crate::specs::Sets::subrange_row), using(pm_words::proofs::WatchLaws::keeps))]
 pub fn subrange(memory: &mut Memory, sp: u16, np: u16) -> Result<u16, ExecError>
     ensures row { Stacks result memory.old.words memory.new.words (subrange_row memory.old.words sp np) }
     ensures stack { IsStack sp np → IfOk result (λ sp. IsStack sp np) }
+    ensures keeps { KeepsWatch memory.old memory.new }
 {
     let (high, sp) = pop(memory, sp)?;
     let (low, sp) = pop(memory, sp)?;
@@ -132,10 +139,11 @@ pub fn subrange(memory: &mut Memory, sp: u16, np: u16) -> Result<u16, ExecError>
 /// Replaces a set by `words` words without a count, cut or filled up by zeros at the end of the
 /// greatest elements, and gives the new SP. `InvalidMemory` where there are too few words;
 /// `InvalidIndex` for a set of more than 255 words; `StackOverflow`. An error changes nothing.
-#[tactic(auto, unfolding(crate::specs::Sets::adjust_row))]
+#[tactic(auto, unfolding(crate::specs::Sets::adjust_row), using(pm_words::proofs::WatchLaws::keeps))]
 pub fn adjust(memory: &mut Memory, sp: u16, np: u16, words: u8) -> Result<u16, ExecError>
     ensures row { Stacks result memory.old.words memory.new.words (adjust_row words memory.old.words sp np) }
     ensures stack { IsStack sp np → IfOk result (λ sp. IsStack sp np) }
+    ensures keeps { KeepsWatch memory.old memory.new }
 {
     let set = take_set(memory, sp)?;
     let members = resized(&set.words, usize::from(words));
@@ -143,6 +151,7 @@ pub fn adjust(memory: &mut Memory, sp: u16, np: u16, words: u8) -> Result<u16, E
 }
 
 // Replaces two sets by the one that they make.
+#[tactic(auto, using(pm_words::proofs::WatchLaws::keeps))]
 fn combine(
     memory: &mut Memory,
     sp: u16,
@@ -151,6 +160,7 @@ fn combine(
 ) -> Result<u16, ExecError>
     ensures row { Stacks result memory.old.words memory.new.words (two_sets_row (count_of combination) (test_of combination) memory.old.words sp np) }
     ensures stack { IsStack sp np → IfOk result (λ sp. IsStack sp np) }
+    ensures keeps { KeepsWatch memory.old memory.new }
 {
     let upper = take_set(memory, sp)?;
     let lower = take_set(memory, upper.above)?;

@@ -1,6 +1,7 @@
 //! Strings in memory.
 
 ghost use Rattle.std.specs.Prelude.{◌≡◌, ◌≤◌, IfOk, MatchResult, Ok, Err, length};
+ghost use Rattle.pm_words.specs.Watch.{KeepsWatch};
 ghost use Rattle.pm_words.specs.Stack.{IsStack, Stacks};
 ghost use Rattle.pm_words.specs.Words.{IsMemory, byte_at};
 ghost use Rattle.pm_values.specs.Strings.{assign_row, index_string_row, string_at};
@@ -11,10 +12,11 @@ use pm_words::{ExecError, Memory};
 /// Checks an index against the string whose address stands below it, leaves both, and gives the SP
 /// as it was. `InvalidMemory` where there are too few words; `InvalidIndex` for an index above the
 /// string's length, both unsigned. It changes nothing.
-#[tactic(auto, unfolding(crate::specs::Strings::index_string_row))]
+#[tactic(auto, unfolding(crate::specs::Strings::index_string_row), using(pm_words::proofs::WatchLaws::keeps))]
 pub fn index_string(memory: &mut Memory, sp: u16, np: u16) -> Result<u16, ExecError>
     ensures row { Stacks result memory.old.words memory.new.words (index_string_row memory.old.words sp np) }
     ensures stack { IsStack sp np → IfOk result (λ sp. IsStack sp np) }
+    ensures keeps { KeepsWatch memory.old memory.new }
 {
     let (index, above) = pop(memory, sp)?;
     let (string, _) = pop(memory, above)?;
@@ -29,10 +31,11 @@ pub fn index_string(memory: &mut Memory, sp: u16, np: u16) -> Result<u16, ExecEr
 /// of a string. `InvalidMemory` where there are too few words, or the string passes the end of
 /// memory; `StringTooLong` for more than `limit` characters; `InvalidMemory` where the destination
 /// passes the end. An error changes nothing.
-#[tactic(auto, unfolding(crate::specs::Strings::assign_row), using(crate::proofs::StringLaws::strings))]
+#[tactic(auto, unfolding(crate::specs::Strings::assign_row), using(pm_words::proofs::WatchLaws::keeps, crate::proofs::StringLaws::strings))]
 pub fn assign(memory: &mut Memory, sp: u16, np: u16, limit: u8) -> Result<u16, ExecError>
     ensures row { Stacks result memory.old.words memory.new.words (assign_row limit memory.old.words sp np) }
     ensures stack { IsStack sp np → IfOk result (λ sp. IsStack sp np) }
+    ensures keeps { KeepsWatch memory.old memory.new }
 {
     let (source, sp) = pop(memory, sp)?;
     let (place, sp) = pop(memory, sp)?;

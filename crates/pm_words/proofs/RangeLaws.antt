@@ -1,10 +1,12 @@
 -- The laws of ranges: what a word or a byte is after a copy, and when two moves are one.
-use Rattle.std.proofs.Common.{◌≡◌, ◌≢◌, ℕ, zero, suc, ◌+◌, ◌-◌, ◌*◌, ◌/◌, ◌%◌, ◌<◌, ◌≤◌, ◌⊎◌, List, [], ◌∷◌, length, drop, get_or, refl, sym, ap, ◌∙◌, arith, inl, inr, ⊎_elim}
+use Rattle.std.proofs.Common.{◌≡◌, ◌≢◌, ℕ, zero, suc, ◌+◌, ◌-◌, ◌*◌, ◌/◌, ◌%◌, ◌<◌, ◌≤◌, ◌⊎◌, false, List, [], ◌∷◌, length, drop, get_or, replicate, refl, sym, ap, ◌∙◌, subst, arith, inl, inr, ⊎_elim, nat_lt}
+use Rattle.std.specs.Prelude.{IsTrue, ◌↔◌}
 use Rattle.std.specs.List.{All}
-use Rattle.std.proofs.lemmas.Bool.{cases_lt, cases_eq}
-use Rattle.std.proofs.lemmas.List.{append-nil, ext_get_or, get_or-take, get_or-drop, length-take-le, length-drop, take-append-drop}
-use Rattle.std.proofs.lemmas.List.Elements.{All-take, All-drop, All-cons, All-nil}
-use Rattle.pm_words.specs.Words.{IsMemory, byte_at, bytes_at, bytes_of, copied, moved_down, moved_up, with_byte, with_bytes, with_word, word_at}
+use Rattle.std.proofs.lemmas.Bool.{cases_lt, cases_eq, false≢true}
+use Rattle.std.proofs.lemmas.List.{append-nil, ext_get_or, get_or-take, get_or-drop, length-take-le, length-drop, length-replicate, take-append-drop}
+use Rattle.std.proofs.lemmas.List.Elements.{All-take, All-drop, All-cons, All-nil, All-replicate}
+use Rattle.pm_words.specs.Watch.{IsSomeWatched, KeepsWatch, is_watched, times}
+use Rattle.pm_words.specs.Words.{Contents, filled, IsMemory, byte_at, bytes_at, bytes_of, copied, moved_down, moved_up, with_byte, with_bytes, with_word, word_at}
 use Rattle.pm_words.proofs.Pairs.{words_of-bytes_of}
 use Rattle.pm_words.proofs.Laws.{AreMemoryBytes-bytes_of, IsMemory-with_bytes, byte_at-even, byte_at-odd, byte_at-with_bytes, byte_at-with_bytes_other, word_at-bytes, word_at-with_word, word_at-with_word_other}
 
@@ -218,3 +220,48 @@ moved_down-copied (suc n) ws from to h source room apart =
 pub ruleset byte_laws = (byte_at-with_byte, byte_at-with_byte_other, byte_at-with_word_low, byte_at-with_word_high, byte_at-with_word_other)
 
 pub ruleset copy_laws = (word_at-copied, word_at-copied_other, byte_at-copied, byte_at-copied_other, IsMemory-copied)
+
+-- ---- the watch
+
+word_at-half : (ws : List ℕ) (x : ℕ) → word_at ws (2 * (x / 2)) ≡ word_at ws x
+unfolding word_at
+word_at-half ws x = let half : 2 * (x / 2) / 2 ≡ x / 2 = omega arith in rw half refl
+
+-- a word of which no byte is written keeps its value
+watched_word_stays : (ws ys : List ℕ) (a x : ℕ) → IsMemory ws → a + length ys ≤ 65536 → All (λ b. b < 256) ys → ((y : ℕ) → a ≤ y → y < a + length ys → y / 2 ≡ x / 2 → ⊥) → word_at (with_bytes ws a ys) x ≡ word_at ws x
+watched_word_stays ws ys a x h room fit none =
+    let half : 2 * (x / 2) / 2 ≡ x / 2 = omega arith in
+    let next : (2 * (x / 2) + 1) / 2 ≡ x / 2 = omega arith in
+    let even : 2 * (x / 2) % 2 ≡ 0 = omega arith in
+    let first = byte_at-with_bytes_other ws ys a (2 * (x / 2)) h room fit (away (2 * (x / 2)) half) in
+    let second = byte_at-with_bytes_other ws ys a (2 * (x / 2) + 1) h room fit (away (2 * (x / 2) + 1) next) in
+    sym (word_at-half (with_bytes ws a ys) x) ∙ (same_word (with_bytes ws a ys) ws (2 * (x / 2)) even first second ∙ word_at-half ws x)
+  where
+    away : (y : ℕ) → y / 2 ≡ x / 2 → (y < a) ⊎ (a + length ys ≤ y)
+    away y e =
+        ⊎_elim (λ less. inl less)
+        (λ more. ⊎_elim (λ inside. absurd (none y more inside e)) (λ past. inr past) (cases_lt y (a + length ys)))
+        (cases_lt y a)
+
+pub KeepsWatch-with_bytes : (m n : Contents) (a : ℕ) (ys : List ℕ) → IsMemory m.words → a + length ys ≤ 65536 → All (λ b. b < 256) ys → n.words ≡ with_bytes m.words a ys → n.watched ≡ m.watched → IsTrue n.touched ↔ (IsTrue m.touched ⊎ IsSomeWatched m.watched a (length ys)) → KeepsWatch m n
+KeepsWatch-with_bytes m n a ys h room fit words watched touched = record {
+  watched = watched;
+  touched = λ t. touched.1 (inl t);
+  values = λ no x set.
+      rw words (watched_word_stays m.words ys a x h room fit
+      (λ y low high e. false≢true (sym no ∙ touched.1 (inr (y, low, high, subst (λ k. IsTrue (nat_lt 0 (times m.watched k))) (sym e) set)))));
+}
+
+-- a copy keeps the watch
+pub KeepsWatch-copied : (m n : Contents) (from to k : ℕ) → IsMemory m.words → from + k ≤ 65536 → to + k ≤ 65536 → n.words ≡ copied m.words from to k → n.watched ≡ m.watched → IsTrue n.touched ↔ (IsTrue m.touched ⊎ IsSomeWatched m.watched to k) → KeepsWatch m n
+unfolding copied
+KeepsWatch-copied m n from to k h source room words watched touched =
+    let size = length-bytes_at m.words from k h source in
+    KeepsWatch-with_bytes m n to (bytes_at m.words from k) h (omega arith) (All-bytes_at m.words from k h) words watched (rw size touched)
+
+-- and so does a fill
+pub KeepsWatch-filled : (m n : Contents) (a k b : ℕ) → IsMemory m.words → a + k ≤ 65536 → b < 256 → n.words ≡ filled m.words a k b → n.watched ≡ m.watched → IsTrue n.touched ↔ (IsTrue m.touched ⊎ IsSomeWatched m.watched a k) → KeepsWatch m n
+unfolding filled
+KeepsWatch-filled m n a k b h room fit words watched touched =
+    let size = length-replicate k b in
+    KeepsWatch-with_bytes m n a (replicate k b) h (omega arith) (All-replicate (λ x. x < 256) k b fit) words watched (rw size touched)

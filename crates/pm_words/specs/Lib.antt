@@ -1,3 +1,4 @@
 pub mod Words
+pub mod Watch
 pub mod Errors
 pub mod Stack

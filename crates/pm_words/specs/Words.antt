@@ -12,6 +12,9 @@ pub record AreMemoryBytes (bs : List ℕ) : Type 0 where
 -- what a memory holds
 pub record Contents : Type 0 where
   pub words : List ℕ
+  -- a bit for each word that is watched, and whether a watched word was written
+  pub watched : List ℕ
+  pub touched : Bool
 
 -- the bytes of a list of words
 unfoldable pub bytes_of : List ℕ → List ℕ

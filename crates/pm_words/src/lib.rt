@@ -5,6 +5,7 @@ mod error;
 mod memory;
 mod ranges;
 pub mod stack;
+mod watch;
 
 pub use error::ExecError;
 pub use memory::Memory;

@@ -1,8 +1,9 @@
 //! Ranges of bytes.
 
-ghost use Rattle.std.specs.Prelude.{◌≡◌, ◌+◌, ◌⊎◌, ◌<◌, ◌≤◌, ◌↔◌, All, IfOk, IfSome, IsTrue, length, position, replicate, reverse};
+ghost use Rattle.std.specs.Prelude.{◌≡◌, ◌+◌, ◌/◌, ◌%◌, ◌∷◌, [], ◌⊎◌, ◌<◌, ◌≤◌, ◌↔◌, All, IfOk, IfSome, IsTrue, length, position, replicate, reverse};
 ghost use Rattle.pm_words.specs.Words.{IsInMemory, overwritten, passed, stops};
 
+use byteorder::{ByteOrder, LittleEndian};
 use std::alloc::{AllocError, Global};
 
 // So many zero bytes.
@@ -19,7 +20,8 @@ pub fn is_in_memory(address: u16, count: u16) -> bool
     usize::from(address) + usize::from(count) <= 65536
 }
 
-// Whether bytes that are copied one by one upward are the old ones: none is read that was written.
+// Whether bytes that are copied one by one upward are the old ones: none is read that was written. Downward they are
+// where it is so with the two ranges exchanged.
 pub fn is_apart(from: u16, to: u16, count: u16) -> bool
     ensures apart { IsTrue result ↔ ((to ≤ from) ⊎ (from + count ≤ to)) }
 {
@@ -33,6 +35,16 @@ pub fn overwrite(bytes: &mut [u8], at: usize, source: &[u8])
     ensures fit { All (λ b. b < 256) bytes.old → All (λ b. b < 256) bytes.new }
 {
     bytes[at..at + source.len()].copy_from_slice(source);
+}
+
+// Writes a word over two bytes, its low byte first.
+#[inline(always)]
+pub fn put_word(bytes: &mut [u8], at: usize, word: u16)
+    requires inside { at + 2 ≤ length bytes.old }
+    ensures written { bytes.new ≡ overwritten bytes.old at (word % 256 ∷ word / 256 ∷ []) }
+    ensures fit { All (λ b. b < 256) bytes.old → All (λ b. b < 256) bytes.new }
+{
+    LittleEndian::write_u16(&mut bytes[at..at + 2], word);
 }
 
 // Writes one byte over each byte of a range.

@@ -2,11 +2,13 @@
 //! word on its top, and NP, the top of the heap, bounds it below.
 
 ghost use Rattle.std.specs.Prelude.{◌≡◌, ℕ, IfOk};
+ghost use Rattle.pm_words.specs.Watch.{KeepsWatch};
 ghost use Rattle.pm_words.specs.Stack.{IsStack, Stacks, Stores, load, pop, push, store};
 
 use crate::{ExecError, Memory};
 
 /// The word at an address; `InvalidMemory` where that is odd.
+#[inline(always)]
 pub fn load(memory: &Memory, address: u16) -> Result<u16, ExecError>
     ensures word { result ≡ load memory.now.words address }
 {
@@ -14,8 +16,10 @@ pub fn load(memory: &Memory, address: u16) -> Result<u16, ExecError>
 }
 
 /// Writes a word at an address; `InvalidMemory`, and nothing changed, where that is odd.
+#[inline(always)]
 pub fn store(memory: &mut Memory, address: u16, word: u16) -> Result<(), ExecError>
     ensures stored { Stores result memory.old.words memory.new.words (store memory.old.words address word) }
+    ensures keeps { KeepsWatch memory.old memory.new }
 {
     if memory.set_word(address, word) {
         Ok(())
@@ -25,6 +29,7 @@ pub fn store(memory: &mut Memory, address: u16, word: u16) -> Result<(), ExecErr
 }
 
 /// The word on the stack, and the SP above it; `InvalidMemory` where that would pass 65,504.
+#[inline(always)]
 pub fn pop(memory: &Memory, sp: u16) -> Result<(u16, u16), ExecError>
     ensures row { result ≡ pop memory.now.words sp }
     ensures stack { (np : ℕ) → IsStack sp np → IfOk result (λ r. IsStack r.1 np) }
@@ -38,8 +43,10 @@ pub fn pop(memory: &Memory, sp: u16) -> Result<(u16, u16), ExecError>
 
 /// Puts a word on the stack, and gives the new SP; `StackOverflow`, and nothing changed, where that
 /// would be below NP.
+#[inline(always)]
 pub fn push(memory: &mut Memory, sp: u16, np: u16, word: u16) -> Result<u16, ExecError>
     ensures row { Stacks result memory.old.words memory.new.words (push memory.old.words sp np word) }
+    ensures keeps { KeepsWatch memory.old memory.new }
     ensures stack { IsStack sp np → IfOk result (λ sp. IsStack sp np) }
 {
     if u32::from(sp) < u32::from(np) + 2 {

@@ -31,3 +31,4 @@ pub mod ShownProcedures
 pub mod ShownPrograms
 pub mod Held
 pub mod Round
+pub mod Computed

@@ -14,3 +14,6 @@ mod table;
 
 pub use assembly::{Assembly, assemble};
 pub use pm_source::AsmFault;
+
+#[cfg(test)]
+mod tests;

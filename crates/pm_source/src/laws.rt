@@ -40,12 +40,12 @@ pub fn spelled_is_faultless()
     ensures law { SpelledIsFaultless }
 {}
 
-/// What a text spells is a program, where no segment has more than 60,000 bytes.
+/// What a text spells is a program, where no segment has more than 65,534 bytes.
 pub fn spelled_is_program()
     ensures law { SpelledIsProgram }
 {}
 
-/// The code file of a program holds it, where no segment has more than 60,000 bytes: each slot has the bytes of the segment of its
+/// The code file of a program holds it, where no segment has more than 65,534 bytes: each slot has the bytes of the segment of its
 /// number, and its name with spaces at the end, or no segment.
 pub fn file_holds_program()
     ensures law { FileHoldsProgram }

@@ -32,3 +32,5 @@ pub mod ShownPrograms
 pub mod Held
 pub mod Round
 pub mod Computed
+pub mod SameLines
+pub mod Ascending

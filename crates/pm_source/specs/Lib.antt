@@ -7,3 +7,4 @@ pub mod Meaning
 pub mod Image
 pub mod Laws
 pub mod Worked
+pub mod Same

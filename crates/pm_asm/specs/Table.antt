@@ -10,4 +10,5 @@ use Rattle.pm_source.specs.Faults.{place_of}
 
 -- A table says where each label stands in code that begins at an offset.
 abbrev pub IsTable : BTreeMap (Bor (List ℕ)) ℕ → ℕ → List Row → Type 0
-IsTable table start rows = (name : List ℕ) → get_by (λ key. slice_cmp nat_cmp name key.now) table ≡ place_of start (map row_seen rows) name
+IsTable table start rows = (name : List ℕ)
+    → get_by (λ key. slice_cmp nat_cmp name key.now) table ≡ place_of start (map row_seen rows) name

@@ -17,7 +17,8 @@ has_in name rows = list_any (has_label name) (map row_seen rows)
 one_more : (name : List ℕ) (rows more : List Row) (row : Row) → more ≡ rows ++ row ∷ []
     → has_in name more ≡ (has_in name rows || (has_label name (row_seen row) || false))
 one_more name rows more row e =
-    ap (has_in name) e ∙ (ap (list_any (has_label name)) (map-append row_seen rows (row ∷ [])) ∙ list_any-append (has_label name) (map row_seen rows) (row_seen row ∷ []))
+    ap (has_in name) e ∙ (ap (list_any (has_label name)) (map-append row_seen rows (row ∷ []))
+    ∙ list_any-append (has_label name) (map row_seen rows) (row_seen row ∷ []))
 
 entered : (b has : Bool) (had : Option ℕ) (line : ℕ) → is_some had ≡ has → is_some (if b then Some line else had) ≡ (has || (b || false))
 entered true has had line was = sym (or-true has)
@@ -28,7 +29,8 @@ pub with_label : (name label : List ℕ) (rows more : List Row) (row : Row) (had
     → has_label name (row_seen row) ≡ bytes_eq label name → is_some had ≡ has_in name rows → now ≡ (if bytes_eq label name then Some line else had)
     → is_some now ≡ has_in name more
 with_label name label rows more row had now line e labelled was is =
-    ap is_some is ∙ (entered (bytes_eq label name) (has_in name rows) had line was ∙ (ap (λ b. has_in name rows || (b || false)) (sym labelled) ∙ sym (one_more name rows more row e)))
+    ap is_some is ∙ (entered (bytes_eq label name) (has_in name rows) had line was
+    ∙ (ap (λ b. has_in name rows || (b || false)) (sym labelled) ∙ sym (one_more name rows more row e)))
 
 -- and where it has none
 pub without_label : (name : List ℕ) (rows more : List Row) (row : Row) (had : Option ℕ) → more ≡ rows ++ row ∷ []

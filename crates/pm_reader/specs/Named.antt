@@ -16,4 +16,5 @@ is_name name (Some label) = bytes_eq label.now name
 
 -- A table has the labels of a procedure's code, and no other.
 abbrev pub HasLabelsOf : Procedure → BTreeMap (Bor (List ℕ)) ℕ → Type 0
-HasLabelsOf p labels = (name : List ℕ) → is_some (get_by (λ key. slice_cmp nat_cmp name key.now) labels) ≡ has_label_in name (procedure_seen p)
+HasLabelsOf p labels = (name : List ℕ)
+    → is_some (get_by (λ key. slice_cmp nat_cmp name key.now) labels) ≡ has_label_in name (procedure_seen p)

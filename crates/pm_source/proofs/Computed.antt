@@ -49,7 +49,19 @@ worked_lines = record {
 
 pub worked_faults : WorkedFaults
 unfolding faults line_of cut keyword_of directives mnemonic_of form_of groups implied
-worked_faults = record { none = refl; ended = refl; not_ended = refl; closed = refl; unknown = refl; odd = refl; twice = refl; far = refl; no_label = refl; later = refl; both = refl }
+worked_faults = record {
+  none = refl;
+  ended = refl;
+  not_ended = refl;
+  closed = refl;
+  unknown = refl;
+  odd = refl;
+  twice = refl;
+  far = refl;
+  no_label = refl;
+  later = refl;
+  both = refl;
+}
 
 pub worked_listing : WorkedListing
 unfolding listing digits padded shown_item item_text mnemonic_of form_of groups implied

@@ -23,7 +23,8 @@ BlankSaysNothing = (n c : ℕ) (line : List ℕ) → is_blank c ≡ true → lin
 
 -- A zero in front of decimal digits changes nothing of their number.
 abbrev pub ZeroSaysNothing : Type 0
-ZeroSaysNothing = (negative : Bool) (c : ℕ) (digits : List ℕ) → decimal_number negative (48 ∷ c ∷ digits) ≡ decimal_number negative (c ∷ digits)
+ZeroSaysNothing = (negative : Bool) (c : ℕ) (digits : List ℕ)
+    → decimal_number negative (48 ∷ c ∷ digits) ≡ decimal_number negative (c ∷ digits)
 
 -- Faults that name lines from one on, none a line before that of the fault before it.
 abbrev pub AscendFrom : ℕ → List AsmFault → Type 0

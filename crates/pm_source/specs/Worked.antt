@@ -71,8 +71,10 @@ pub record WorkedLines : Type 0 where
   -- jumps
   pub jump : line_of 7 (codes "UJP L1") ≡ item_line (Jump 185 (To (codes "L1"))) NoFlaw
   pub through : line_of 7 (codes "UJP ^3") ≡ item_line (Jump 185 (Through 3)) NoFlaw
-  pub case : line_of 7 (codes "XJP 1, 2, OUT, A, B") ≡ item_line (Case 1 2 (To (codes "OUT")) (codes "A" ∷ codes "B" ∷ [])) NoFlaw
-  pub few_labels : line_of 7 (codes "XJP 1, 2, OUT, A") ≡ item_line (Case 1 2 (To (codes "OUT")) (codes "A" ∷ [])) OutOfRange
+  pub case : line_of 7 (codes "XJP 1, 2, OUT, A, B")
+      ≡ item_line (Case 1 2 (To (codes "OUT")) (codes "A" ∷ codes "B" ∷ [])) NoFlaw
+  pub few_labels : line_of 7 (codes "XJP 1, 2, OUT, A")
+      ≡ item_line (Case 1 2 (To (codes "OUT")) (codes "A" ∷ [])) OutOfRange
   -- a byte, and the heads of a segment and of a procedure
   pub byte : line_of 7 (codes ".BYTE 255") ≡ item_line (OneByte 255) NoFlaw
   pub segment : line_of 7 (codes ".SEG 15 MAIN") ≡ Says (Segment 15 (codes "MAIN")) NoFlaw
@@ -91,26 +93,38 @@ pub record WorkedFaults : Type 0 where
   pub ended : faults (in_procedure (codes ".EXIT" ∷ codes ".END 1" ∷ [])) ≡ Syntax 4 ∷ []
   pub not_ended : faults (in_procedure (codes ".EXIT" ∷ [])) ≡ Syntax 2 ∷ []
   -- a faulty `.END` has ended its procedure: the next one begins where it may
-  pub closed : faults (in_procedure (codes ".EXIT" ∷ codes ".END 1" ∷ codes ".PROC 2 0 0 0" ∷ codes ".EXIT" ∷ codes ".END" ∷ [])) ≡ Syntax 4 ∷ []
+  pub closed :
+      faults (in_procedure (codes ".EXIT" ∷ codes ".END 1" ∷ codes ".PROC 2 0 0 0" ∷ codes ".EXIT" ∷ codes ".END" ∷ []))
+      ≡ Syntax 4 ∷ []
   pub unknown : faults (in_procedure (codes "SPAM 3" ∷ codes ".EXIT" ∷ codes ".END" ∷ [])) ≡ Unknown 3 ∷ []
   -- a procedure of odd length, at its end
   pub odd : faults (in_procedure (codes "NOP" ∷ codes ".EXIT" ∷ codes ".END" ∷ [])) ≡ Range 5 ∷ []
   -- a label again, before its number is out of range
-  pub twice : faults (in_procedure (codes "L: NOP" ∷ codes "L: SLDC 128" ∷ codes ".EXIT" ∷ codes ".END" ∷ [])) ≡ Twice 4 ∷ Range 4 ∷ []
+  pub twice : faults (in_procedure (codes "L: NOP" ∷ codes "L: SLDC 128" ∷ codes ".EXIT" ∷ codes ".END" ∷ []))
+      ≡ Twice 4 ∷ Range 4 ∷ []
   -- a short jump backward, and one to a label that stands nowhere
   pub far : faults (in_procedure (codes "L: UJP L" ∷ codes ".EXIT" ∷ codes ".END" ∷ [])) ≡ Far 3 ∷ []
   pub no_label : faults (in_procedure (codes "UJP M" ∷ codes ".EXIT" ∷ codes ".END" ∷ [])) ≡ NoLabel 3 ∷ []
   -- labels are looked at only where no line has a fault
   pub later : faults (in_procedure (codes "UJP M" ∷ codes "NOP" ∷ codes ".EXIT" ∷ codes ".END" ∷ [])) ≡ Range 6 ∷ []
   -- a case jump with a label that stands nowhere, whose other jump leads backward
-  pub both : faults (in_procedure (codes "L: XJP 1, 1, L, M" ∷ codes ".EXIT" ∷ codes ".END" ∷ [])) ≡ NoLabel 3 ∷ Far 3 ∷ []
+  pub both : faults (in_procedure (codes "L: XJP 1, 1, L, M" ∷ codes ".EXIT" ∷ codes ".END" ∷ []))
+      ≡ NoLabel 3 ∷ Far 3 ∷ []
 
 -- a segment of one procedure with one instruction, RBP 0, at its exit code
 abbrev pub least_segment : Shown
 least_segment = record {
   number = 1;
   name = codes "A";
-  procedures = record { level = 0; parameters = 0; locals = 0; start = 0; items = Plain (bare 193) [] ∷ []; exit = 0; entries = [] } ∷ [];
+  procedures = record {
+    level = 0;
+    parameters = 0;
+    locals = 0;
+    start = 0;
+    items = Plain (bare 193) [] ∷ [];
+    exit = 0;
+    entries = [];
+  } ∷ [];
 }
 
 -- A listing, each byte worked out from the format of a segment.

@@ -1,6 +1,6 @@
 -- What ends too late to be counted.
-use Rattle.std.proofs.Common.{◌≡◌, ◌+◌, ◌<◌, ◌≤◌, ℕ, zero, suc, Bool, true, false, length, get_or, List, [], ◌∷◌, ◌∙◌, map, refl, ap, sym, arith, Option, Some, None, Result, Ok, Err}
-use Rattle.std.specs.Prelude.{OnErr, ◌==◌, ◌||◌, if◌then◌else◌}
+use Rattle.std.proofs.Common.{◌≡◌, ◌+◌, ◌≤◌, ℕ, Bool, true, false, List, [], ◌∷◌, ◌∙◌, map, ap, arith, Option, Some, None}
+use Rattle.std.specs.Prelude.{◌==◌, ◌||◌, if◌then◌else◌}
 use Rattle.std.specs.List.{list_any}
 use Rattle.std.proofs.Math.Bool.{or-true}
 use Rattle.pm_disasm.specs.Item.{Item, size}
@@ -10,10 +10,6 @@ use Rattle.pm_source.specs.Faults.{source_end}
 use Rattle.pm_source.specs.Meaning.{segment_with}
 use Rattle.pm_reader.proofs.Least.{code_after, end_after}
 use Rattle.pm_asm.specs.Lengths.{sources_end}
-
-pub on_err : {A B : Type 0} (r : Result A B) (P : Type 0) → P → OnErr r P
-on_err (Ok x) P p = tt
-on_err (Err e) P p = p
 
 -- an item lies before the end of all
 pub item_inside : {A P : Type 0} (f : A → Item P) (at end : ℕ) (items : List A) (item : A) (rest : List A) → items ≡ item ∷ rest → end_of at (map f items) ≡ end
@@ -45,12 +41,6 @@ source_inside f at end ps p rest e all =
     let after = sources_after (source_end at (f p)) (map f rest) in
     let whole = rw e at all in
     omega arith
-
--- what is true of one is true of some
-pub any_at : {A B : Type 0} (f : A → B) (p : B → Bool) (xs : List A) (k : ℕ) (x : A) → k < length xs → x ≡ get_or xs k x → p (f x) ≡ true → list_any p (map f xs) ≡ true
-any_at f p [] k x l e h = absurd (omega (arith, l))
-any_at f p (y ∷ ys) zero x l e h = ap (λ b. b || list_any p (map f ys)) (ap (λ z. p (f z)) (sym e) ∙ h)
-any_at f p (y ∷ ys) (suc k) x l e h = ap (λ b. p (f y) || b) (any_at f p ys k x (omega (arith, l)) e h) ∙ or-true (p (f y))
 
 abbrev segment_or : SourceSegment → Option SourceSegment → SourceSegment
 segment_or d None = d

@@ -9,3 +9,4 @@ pub mod Standings
 pub mod Outlines
 pub mod Outcomes
 pub mod Stages
+pub mod Tables

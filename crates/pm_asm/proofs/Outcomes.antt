@@ -9,6 +9,7 @@ use Rattle.pm_source.specs.Faults.{faults}
 use Rattle.pm_source.specs.Image.{file_of, listing}
 use Rattle.pm_source.specs.Meaning.{program_of}
 use Rattle.pm_source.proofs.Spelled.{faultless_is_spelled, spelled_is_faultless}
+use Rattle.pm_disasm.proofs.Fitting.{short_fits}
 use Rattle.pm_source.proofs.Programs.{spelled_is_program}
 use Rattle.pm_reader.specs.Firsts.{first_of}
 use Rattle.pm_asm.specs.Assembled.{AssembledIsSpelled, Assembles, RefusedSpellsNothing, SpellsNothing, assembled, outcome_by, outcome_of}
@@ -99,4 +100,4 @@ assembled_is_spelled text file shown = (assembled_spelled text file shown, spell
 
 -- A text without faults whose segments are short is of a program.
 pub faultless_is_program : (text : List ℕ) → faults text ≡ [] → AreShort (program_of text) → IsProgram (program_of text)
-faultless_is_program text none short = spelled_is_program text (program_of text) (faultless_is_spelled text none) short
+faultless_is_program text none short = spelled_is_program text (program_of text) (faultless_is_spelled text none) (short_fits (program_of text) short)

@@ -1,6 +1,6 @@
 -- Where labels stand, and what is wrong with those of one line.
 use Rattle.std.specs.Prelude.{ℕ, List, [], map}
-use Rattle.pm_asm.specs.declared.labels.Code.{Code}
+use Rattle.pm_asm.specs.declared.code.Code.{Code}
 use Rattle.pm_line.specs.Views.{row_seen}
 use Rattle.pm_source.specs.declared.fault.AsmFault.{AsmFault}
 use Rattle.pm_source.specs.Faults.{Places, items_faults, place_of}

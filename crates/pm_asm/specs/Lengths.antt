@@ -12,10 +12,6 @@ abbrev pub sources_end : ℕ → List Source → ℕ
 sources_end at [] = at
 sources_end at (p ∷ ps) = sources_end (source_end at p) ps
 
--- whether a segment's procedures end at an offset that cannot be counted
-abbrev pub is_countless : SourceSegment → Bool
-is_countless s = nat_lt 18446744073709551615 (sources_end 0 s.procedures)
-
 -- the length of a segment in bytes, once its labels are found
 abbrev pub found_length : SourceSegment → ℕ
 found_length s = length (segment_bytes (found_segment s))

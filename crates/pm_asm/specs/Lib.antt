@@ -1,3 +1,4 @@
+pub mod Table
 pub mod Firsts
 pub mod Lengths
 pub mod Found

@@ -35,7 +35,7 @@ pub fn assemble(alloc: Global, text: &str) -> Result<Assembly, AsmFault>
     ensures unspelled { IfErr result (λ fault. fault ≢ NoMemory → SpellsNothing text.now) }
 {
     let segments = source_of(alloc, text)?;
-    check_labels(&segments)?;
+    check_labels(alloc, &segments)?;
     check_lengths(&segments)?;
     let file = code_file(alloc, &segments).map_err(|_| AsmFault::NoMemory)?;
     let listing = listing_of(alloc, &segments).map_err(|_| AsmFault::NoMemory)?;

@@ -13,8 +13,9 @@ ghost use Rattle.pm_reader.specs.Views.{entry_seen, procedure_seen, segment_seen
 ghost use Rattle.pm_asm.specs.Found.{items_in};
 ghost use Rattle.pm_asm.specs.Firsts.{places_in};
 
+use crate::code::Code;
 use crate::found::{exit_place, found_label, jump_byte};
-use crate::labels::Code;
+use crate::table::table_of;
 use pm_line::{Item, Row, Target};
 use pm_opcode::{Encode, Instr, encode};
 use pm_reader::{Entry, Procedure, Segment};
@@ -46,12 +47,16 @@ fn push_padding(out: &mut Vec<u8>, at: usize) -> Result<(), AllocError>
 }
 
 /// Adds the table of a case jump: each word says how far its place lies below it, modulo 65,536.
-fn push_table(out: &mut Vec<u8>, labels: Code<'_, '_>, names: &[&[u8]]) -> Result<(), AllocError>
+fn push_table<'a>(
+    out: &mut Vec<u8>,
+    labels: Code<'_, 'a>,
+    names: &[&'a [u8]],
+) -> Result<(), AllocError>
     requires within { AllByRecursion (λ place. place < 65536) (map (found_label (places_in labels)) (texts_seen names.now)) }
     ensures bytes { OnOk result (out.new.items ≡ out.old.items ++ table_words (length out.old.items) (map (found_label (places_in labels.entry)) (texts_seen names.now))) }
 {
     for name in names {
-        let place = found_label(labels, name)?;
+        let place = found_label(labels, name);
         let distance = (out.len() + 65536 - place) % 65536;
         push_word(out, distance as u16)?;
     }
@@ -59,12 +64,12 @@ fn push_table(out: &mut Vec<u8>, labels: Code<'_, '_>, names: &[&[u8]]) -> Resul
 }
 
 /// Adds a case jump with its bounds, its jump out of them and its table.
-fn push_case(
+fn push_case<'a>(
     out: &mut Vec<u8>,
-    labels: Code<'_, '_>,
+    labels: Code<'_, 'a>,
     bounds: (u16, u16),
-    otherwise: Target<'_>,
-    names: &[&[u8]],
+    otherwise: Target<'a>,
+    names: &[&'a [u8]],
 ) -> Result<(), AllocError>
     requires case { IsCase (length out.old.items) bounds.0 bounds.1 (found_target (places_in labels) (target_seen otherwise)) (map (found_label (places_in labels)) (texts_seen names.now)) }
     ensures bytes { OnOk result (out.new.items ≡ out.old.items ++ item_bytes (length out.old.items)
@@ -75,7 +80,7 @@ fn push_case(
     push_padding(out, at)?;
     push_word(out, bounds.0)?;
     push_word(out, bounds.1)?;
-    let byte = jump_byte(labels, out.len() + 2, otherwise)?;
+    let byte = jump_byte(labels, out.len() + 2, otherwise);
     out.push(JUMP)?;
     out.push(byte)?;
     push_table(out, labels, names)
@@ -96,7 +101,7 @@ fn push_plain(out: &mut Vec<u8>, instr: &Instr, named: &[u8]) -> Result<(), Allo
 }
 
 /// Adds an item.
-fn push_item(out: &mut Vec<u8>, labels: Code<'_, '_>, item: &Item<'_>) -> Result<(), AllocError>
+fn push_item<'a>(out: &mut Vec<u8>, labels: Code<'_, 'a>, item: &Item<'a>) -> Result<(), AllocError>
     requires item { IsItem (length out.old.items) (found_item (places_in labels) (item_seen item.now)) }
     ensures bytes { OnOk result (out.new.items ≡ out.old.items ++ item_bytes (length out.old.items) (found_item (places_in labels.entry) (item_seen item.now))) }
 {
@@ -104,7 +109,7 @@ fn push_item(out: &mut Vec<u8>, labels: Code<'_, '_>, item: &Item<'_>) -> Result
     match item {
         Item::Plain(instr, named) => push_plain(out, instr, named),
         Item::Jump(opcode, target) => {
-            let byte = jump_byte(labels, at + 2, *target)?;
+            let byte = jump_byte(labels, at + 2, *target);
             out.push(*opcode)?;
             out.push(byte)?;
             Ok(())
@@ -120,7 +125,11 @@ fn push_item(out: &mut Vec<u8>, labels: Code<'_, '_>, item: &Item<'_>) -> Result
 }
 
 /// Adds items.
-fn push_items(out: &mut Vec<u8>, labels: Code<'_, '_>, items: &[Item<'_>]) -> Result<(), AllocError>
+fn push_items<'a>(
+    out: &mut Vec<u8>,
+    labels: Code<'_, 'a>,
+    items: &[Item<'a>],
+) -> Result<(), AllocError>
     requires items { AreItems (length out.old.items) (map (found_item (places_in labels)) (map item_seen items.now)) }
     ensures bytes { OnOk result (out.new.items ≡ out.old.items ++ code_bytes (length out.old.items) (map (found_item (places_in labels.entry)) (map item_seen items.now))) }
 {
@@ -131,7 +140,7 @@ fn push_items(out: &mut Vec<u8>, labels: Code<'_, '_>, items: &[Item<'_>]) -> Re
 }
 
 /// Adds the items of a line.
-fn push_row(out: &mut Vec<u8>, labels: Code<'_, '_>, row: &Row<'_>) -> Result<(), AllocError>
+fn push_row<'a>(out: &mut Vec<u8>, labels: Code<'_, 'a>, row: &Row<'a>) -> Result<(), AllocError>
     requires items { AreItems (length out.old.items) (map (found_item (places_in labels)) (row_items (row_seen row.now))) }
     ensures bytes { OnOk result (out.new.items ≡ out.old.items ++ code_bytes (length out.old.items) (map (found_item (places_in labels.entry)) (row_items (row_seen row.now)))) }
 {
@@ -174,16 +183,16 @@ fn push_distances(out: &mut Vec<u8>, places: &[usize]) -> Result<(), AllocError>
 }
 
 /// The places that entries name, from entry 0 on.
-pub(crate) fn entry_places(
+pub(crate) fn entry_places<'a>(
     alloc: Global,
-    labels: Code<'_, '_>,
-    entries: &[Entry<'_>],
+    labels: Code<'_, 'a>,
+    entries: &[Entry<'a>],
 ) -> Result<Vec<usize>, AllocError>
     ensures places { IfOk result (λ places. places.items ≡ map (λ e. found_label (places_in labels.entry) e.1) (map entry_seen entries.now)) }
 {
     let mut places = Vec::new(alloc);
     for entry in entries {
-        let place = found_label(labels, entry.label)?;
+        let place = found_label(labels, entry.label);
         places.push(place)?;
     }
     Ok(places)
@@ -222,9 +231,12 @@ fn push_procedure(
     ensures bytes { OnOk result (out.new.items ≡ out.old.items ++ procedure_bytes number (found_procedure (length out.old.items) (procedure_seen procedure.now))) }
 {
     let start = out.len();
+    let rows: &[Row<'_>] = &procedure.code;
+    let table = table_of(alloc, start, rows)?;
     let labels = Code {
         start,
-        rows: &procedure.code,
+        rows,
+        table: &table,
     };
     push_code(out, labels)?;
     let places = entry_places(alloc, labels, &procedure.entries)?;

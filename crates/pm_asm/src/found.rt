@@ -7,17 +7,17 @@ ghost use Rattle.pm_source.specs.Meaning.{found_label, found_target};
 ghost use Rattle.pm_asm.specs.Found.{exit_in};
 ghost use Rattle.pm_asm.specs.Firsts.{places_in};
 
-use crate::labels::{Code, place_of};
+use crate::code::Code;
+use crate::table::place_of;
 use pm_line::{Row, Target};
 use pm_reader::row_end;
 use std::alloc::AllocError;
 
-/// The place of a label, 0 for one that does not stand there. It fails only where the code is longer than memory can be.
-pub(crate) fn found_label(labels: Code<'_, '_>, name: &[u8]) -> Result<usize, AllocError>
-    ensures place { IfOk result (λ place. place ≡ found_label (places_in labels.entry) name.now) }
+/// The place of a label, 0 for one that does not stand there.
+pub(crate) fn found_label<'a>(labels: Code<'_, 'a>, name: &'a [u8]) -> usize
+    ensures place { result ≡ found_label (places_in labels.entry) name.now }
 {
-    let place = place_of(&labels, name).map_err(|_| AllocError)?;
-    Ok(place.unwrap_or(0))
+    place_of(&labels, name).unwrap_or(0)
 }
 
 /// The place of the exit code. It fails only where the code is longer than memory can be.
@@ -35,19 +35,15 @@ pub(crate) fn exit_place(labels: Code<'_, '_>) -> Result<usize, AllocError>
 }
 
 /// The byte of a short jump that counts from an offset.
-pub(crate) fn jump_byte(
-    labels: Code<'_, '_>,
-    next: usize,
-    target: Target<'_>,
-) -> Result<u8, AllocError>
+pub(crate) fn jump_byte<'a>(labels: Code<'_, 'a>, next: usize, target: Target<'a>) -> u8
     requires near { IsNear next (found_target (places_in labels) (target_seen target)) }
-    ensures byte { IfOk result (λ byte. byte ≡ jump_byte next (found_target (places_in labels.entry) (target_seen target.entry))) }
+    ensures byte { result ≡ jump_byte next (found_target (places_in labels.entry) (target_seen target.entry)) }
 {
     match target {
         Target::To(name) => {
-            let place = found_label(labels, name)?;
-            Ok((place - next) as u8)
+            let place = found_label(labels, name);
+            (place - next) as u8
         }
-        Target::Through(entry) => Ok(246 - 2 * entry),
+        Target::Through(entry) => 246 - 2 * entry,
     }
 }

@@ -3,12 +3,17 @@
 
 mod assembly;
 mod bytes;
+mod code;
 mod found;
 mod image;
 mod labels;
 pub mod laws;
 mod lengths;
 mod listing;
+mod table;
 
 pub use assembly::{Assembly, assemble};
 pub use pm_source::AsmFault;
+
+#[cfg(test)]
+mod tests;

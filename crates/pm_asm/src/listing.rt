@@ -17,8 +17,9 @@ ghost use Rattle.pm_asm.specs.Firsts.{places_in};
 ghost use Rattle.pm_asm.specs.Standing.{Stands};
 
 use crate::bytes::{entry_places, segment_bytes};
-use crate::labels::Code;
+use crate::code::Code;
 use crate::lengths::segment_with;
+use crate::table::table_of;
 use pm_line::{Item, Row};
 use pm_reader::{Procedure, Segment, item_size};
 use std::alloc::{AllocError, Global};
@@ -122,7 +123,7 @@ fn push_line(text: &mut String, place: Place, bytes: &[u8], what: &str) -> Resul
 
 /// A procedure that is listed.
 #[derive(Clone, Copy)]
-struct CodeLines<'a, 'b> {
+struct CodeLines<'b, 'r, 'a> {
     /// The number of its segment.
     segment: u8,
     /// Its number.
@@ -130,14 +131,14 @@ struct CodeLines<'a, 'b> {
     /// The bytes of its segment.
     bytes: &'b [u8],
     /// Its code.
-    labels: Code<'b, 'a>,
+    labels: Code<'r, 'a>,
 }
 
 /// What an item is that stands at an offset.
 #[tactic(auto, using(crate::proofs::Digits::one_byte))]
 fn item_text(
     alloc: Global,
-    code: CodeLines<'_, '_>,
+    code: CodeLines<'_, '_, '_>,
     at: usize,
     item: &Item<'_>,
 ) -> Result<String, AllocError>
@@ -156,7 +157,7 @@ fn item_text(
 fn push_item(
     alloc: Global,
     text: &mut String,
-    code: CodeLines<'_, '_>,
+    code: CodeLines<'_, '_, '_>,
     at: usize,
     item: &Item<'_>,
 ) -> Result<usize, AllocError>
@@ -186,7 +187,7 @@ fn push_item(
 fn push_items(
     alloc: Global,
     text: &mut String,
-    code: CodeLines<'_, '_>,
+    code: CodeLines<'_, '_, '_>,
     at: usize,
     items: &[Item<'_>],
 ) -> Result<usize, AllocError>
@@ -208,7 +209,7 @@ fn push_items(
 fn push_row(
     alloc: Global,
     text: &mut String,
-    code: CodeLines<'_, '_>,
+    code: CodeLines<'_, '_, '_>,
     at: usize,
     row: &Row<'_>,
 ) -> Result<usize, AllocError>
@@ -226,7 +227,11 @@ fn push_row(
 }
 
 /// Adds the lines of code, and answers where it ends.
-fn push_code(alloc: Global, text: &mut String, code: CodeLines<'_, '_>) -> Result<usize, AllocError>
+fn push_code(
+    alloc: Global,
+    text: &mut String,
+    code: CodeLines<'_, '_, '_>,
+) -> Result<usize, AllocError>
     requires items { AreItems code.labels.start (items_in code.labels) }
     requires stand { Stands code.bytes.now code.labels.start (code_bytes code.labels.start (items_in code.labels)) }
     requires short { length code.bytes.now ≤ 60000 }
@@ -298,9 +303,12 @@ fn push_procedure(
     ensures text { OnOk result ((rest : List Listed) → string_bytes text.new ++ listed_lines place.segment rest
         ≡ string_bytes text.old ++ listed_lines place.segment (listed_procedure place.procedure (found_procedure place.at (procedure_seen procedure.now)) rest)) }
 {
+    let rows: &[Row<'_>] = &procedure.code;
+    let table = table_of(alloc, place.at, rows)?;
     let labels = Code {
         start: place.at,
-        rows: &procedure.code,
+        rows,
+        table: &table,
     };
     let code = CodeLines {
         segment: place.segment,

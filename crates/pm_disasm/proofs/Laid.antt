@@ -109,7 +109,7 @@ length-segment s h =
     )
 
 -- The bytes of a short segment are bytes.
-pub are_segment_bytes : (s : Segment) → IsSegment s → length (segment_bytes s) ≤ 60000 → AreBytes (segment_bytes s)
+pub are_segment_bytes : (s : Segment) → IsSegment s → length (segment_bytes s) ≤ 65534 → AreBytes (segment_bytes s)
 are_segment_bytes s h short =
     let end = procedures_end 0 s.procedures in
     let entries : List ℕ = entry_bytes end (reverse (map jtab_of s.procedures)) in

@@ -6,7 +6,7 @@ use Rattle.std.proofs.lemmas.List.{reverse-append, reverse-reverse}
 use Rattle.std.proofs.lemmas.Bool.{and_parts, cases_lt, eq-eqb, leb-true}
 use Rattle.std.proofs.lemmas.Bool.Decides.{nat_tests}
 use Rattle.pm_codefile.specs.Dictionary.{segment_in, slot_in}
-use Rattle.pm_disasm.specs.Program.{Segment, IsSegment, AreShort, AscendFrom, is_name_character, is_segment_name, segment_bytes}
+use Rattle.pm_disasm.specs.Program.{Segment, IsSegment, FitSlots, AscendFrom, is_name_character, is_segment_name, segment_bytes}
 use Rattle.pm_disasm.specs.Shown.{cut, file_text, joined, name_of, or_mark, procedures_lines, program_text, segment_line, segment_lines, segments_lines, shown_name, slot_lines, slots_lines}
 use Rattle.pm_disasm.specs.Laws.{Holds, IsSameSegment, ProgramIsShown, segment_numbered}
 use Rattle.pm_disasm.proofs.Boundaries.{all-append}
@@ -103,7 +103,7 @@ slots_shown file ss h (s ∷ left) n (suc count) e k = elim (cases_lt n s.number
       )
 ]
 
-all_well : (ss : List Segment) → AllByRecursion IsSegment ss → AreShort ss → AllByRecursion ShownWell ss
+all_well : (ss : List Segment) → AllByRecursion IsSegment ss → FitSlots ss → AllByRecursion ShownWell ss
 all_well [] h k = tt
 all_well (s ∷ ss) h k = (shown_well s h.0 k.0, all_well ss h.1 k.1)
 

@@ -94,7 +94,7 @@ pub record ShownWell (s : Segment) : Type 0 where
   pub same : IsSameSegment s (shown_segment s)
   pub lines : tables_lines (segment_bytes s) 1 (procedures_in (segment_bytes s)) ≡ procedures_lines 1 (shown_segment s).procedures
 
-pub shown_well : (s : Segment) → IsSegment s → length (segment_bytes s) ≤ 60000 → ShownWell s
+pub shown_well : (s : Segment) → IsSegment s → length (segment_bytes s) ≤ 65534 → ShownWell s
 shown_well s h short =
     let bytes : List ℕ = segment_bytes s in
     let ps : List Procedure = s.procedures in

@@ -5,7 +5,7 @@ use Rattle.std.specs.List.{AllByRecursion, AllZip}
 use Rattle.pm_codefile.specs.declared.table.Attributes.{Attributes}
 use Rattle.pm_codefile.specs.Dictionary.{segment_in, slot_in}
 use Rattle.pm_disasm.specs.Item.{Item, IsItem, IsByte, item_bytes, size, is_instruction}
-use Rattle.pm_disasm.specs.Program.{Procedure, Segment, AreItems, AreInstructions, AreShort, IsIn, IsProcedure, IsProgram, NamesWithin, boundaries, code_bytes, jtab_of, procedure_bytes, segment_bytes}
+use Rattle.pm_disasm.specs.Program.{Procedure, Segment, AreItems, AreInstructions, FitSlots, IsIn, IsProcedure, IsProgram, NamesWithin, boundaries, code_bytes, jtab_of, procedure_bytes, segment_bytes}
 use Rattle.pm_disasm.specs.Split.{Front, fits, front, items_in, procedure_of, procedure_with}
 use Rattle.pm_disasm.specs.Shown.{file_text, name_of, program_text}
 
@@ -85,5 +85,5 @@ pub record IsSameSegment (s t : Segment) : Type 0 where
 
 -- The text of a code file that holds a program is that of a program with the same bytes.
 abbrev pub ProgramIsShown : Type 0
-ProgramIsShown = (file : List ℕ) (ss : List Segment) → IsProgram ss → AreShort ss → Holds file ss
+ProgramIsShown = (file : List ℕ) (ss : List Segment) → IsProgram ss → FitSlots ss → Holds file ss
     → (ts : List Segment) × IsProgram ts × AllZip IsSameSegment ss ts × (file_text file ≡ program_text ts)

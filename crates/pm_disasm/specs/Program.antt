@@ -174,7 +174,11 @@ pub record IsProgram (ss : List Segment) : Type 0 where
   pub segments : AllByRecursion IsSegment ss
   pub ascend : AscendFrom 0 ss
 
--- a segment has at most 60,000 bytes
+-- no segment has more than 65,534 bytes, the most that a slot of a code file holds
+abbrev pub FitSlots : List Segment → Type 0
+FitSlots ss = AllByRecursion (λ s. length (segment_bytes s) ≤ 65534) ss
+
+-- no segment has more than 60,000 bytes, the most that are assembled
 abbrev pub AreShort : List Segment → Type 0
 AreShort ss = AllByRecursion (λ s. length (segment_bytes s) ≤ 60000) ss
 

@@ -30,7 +30,7 @@ pub fn procedure_is_shown()
     ensures law { ProcedureIsShown }
 {}
 
-/// The text of a code file that holds a program of which no segment has more than 60,000 bytes is that of a program with the same
+/// The text of a code file that holds a program of which no segment has more than 65,534 bytes is that of a program with the same
 /// bytes: of the same one, segment by segment, where all items are instructions.
 pub fn program_is_shown()
     ensures law { ProgramIsShown }

@@ -5,6 +5,7 @@ use Rattle.std.proofs.lemmas.Bool.Decides.{nat_tests}
 use Rattle.pm_codefile.specs.Dictionary.{file_fault, segment_in}
 use Rattle.pm_disasm.specs.Laws.{segment_numbered}
 use Rattle.pm_disasm.specs.Program.{segment_bytes}
+use Rattle.pm_disasm.proofs.Fitting.{short_fits}
 use Rattle.pm_source.proofs.Held.{file_holds_program, file_is_accepted}
 use Rattle.pm_source.proofs.Programs.{spelled_is_program}
 use Rattle.pm_asm.specs.Assembled.{Assembles, assembled}
@@ -18,10 +19,11 @@ pub record IsAssembled (text file shown : List ℕ) : Type 0 where
 pub is_assembled : (text file shown : List ℕ) → assembled text ≡ Ok (file, shown) → IsAssembled text file shown
 is_assembled text file shown h =
     let made = (assembled_is_spelled text file shown).0 h in
-    let program = spelled_is_program text made.program made.spelled made.short in
-    let holds = file_holds_program made.program program made.short in
+    let fits = short_fits made.program made.short in
+    let program = spelled_is_program text made.program made.spelled fits in
+    let holds = file_holds_program made.program program fits in
     record {
       made = made;
       slots = λ n low. ap (λ k. segment_in k n) made.image ∙ holds.segments n (grind (arith, nat_tests, low));
-      sound = ap file_fault made.image ∙ file_is_accepted made.program program made.short;
+      sound = ap file_fault made.image ∙ file_is_accepted made.program program fits;
     }

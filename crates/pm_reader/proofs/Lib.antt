@@ -6,3 +6,4 @@ pub mod Numbering
 pub mod Seen
 pub mod Stepping
 pub mod Least
+pub mod Labelled

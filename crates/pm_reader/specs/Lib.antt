@@ -1,3 +1,4 @@
 pub mod Firsts
 pub mod Views
+pub mod Named
 pub mod Reader

@@ -1,20 +1,21 @@
 //! Labels of lines.
 
-ghost use Rattle.std.specs.Prelude.{◌≡◌};
+ghost use Rattle.std.specs.Prelude.{◌≡◌, ℕ, List};
 ghost use Rattle.pm_line.specs.Views.{row_seen};
 ghost use Rattle.pm_source.specs.Source.{has_label};
+ghost use Rattle.pm_reader.specs.Named.{is_name};
 
 use pm_line::Row;
 
-/// Whether a line of code begins with this label, byte for byte. The place of the exit code has none.
-pub fn has_label(name: &[u8], row: &Row<'_>) -> bool
-    ensures label { result ≡ has_label name.now (row_seen row.now) }
+/// The label before the items of a line of code, if one stands there. The place of the exit code has none.
+pub fn label_of<'a>(row: &Row<'a>) -> Option<&'a [u8]>
+    ensures label { (name : List ℕ) → has_label name (row_seen row.now) ≡ is_name name result }
 {
     match row {
         Row::Items {
             label: Some(label),
             ..
-        } => *label == name,
-        _ => false,
+        } => Some(*label),
+        Row::Items { label: None, .. } | Row::Exit => None,
     }
 }

@@ -4,14 +4,16 @@
 //! `source_end` tell how many bytes its parts will have.
 #![tactic(auto)]
 
+mod current;
 mod entries;
 mod labels;
+mod procedure;
 mod reader;
 mod reading;
 mod sizes;
 mod source;
 
-pub use labels::has_label;
+pub use labels::label_of;
 pub use reading::source_of;
 pub use sizes::{item_size, row_end, source_end};
 pub use source::{Entry, Procedure, Segment};

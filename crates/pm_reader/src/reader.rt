@@ -2,21 +2,18 @@
 
 ghost use Rattle.std.specs.Prelude.{◌≡◌, ◌==◌, ◌+◌, List, [], Some, None, IfSome, IfErr, OnOk};
 ghost use Rattle.std.specs.List.{list_any};
-ghost use Rattle.pm_line.specs.Views.{row_seen, statement_seen, flaw_seen, line_seen};
-ghost use Rattle.pm_source.specs.Source.{code_end, is_exit, has_label, has_exit, has_label_in};
+ghost use Rattle.pm_line.specs.Views.{statement_seen, flaw_seen, line_seen};
 ghost use Rattle.pm_source.specs.Line as text;
 ghost use Rattle.pm_source.specs.Line.Line.{Says};
 ghost use Rattle.pm_source.specs.Faults as faults;
-ghost use Rattle.pm_source.specs.Faults.{after, after_line, closed, ends, is_again, is_in_place, is_miscounted, is_uneven, line_faults, procedure_count, start};
-ghost use Rattle.pm_reader.specs.Views.{procedure_seen, segments_seen};
+ghost use Rattle.pm_source.specs.Faults.{after, after_line, closed, ends, is_again, is_in_place, is_miscounted, line_faults, procedure_count, start};
+ghost use Rattle.pm_reader.specs.Views.{segments_seen};
 ghost use Rattle.pm_reader.specs.Firsts.{IsFirstOf};
 ghost use Rattle.pm_source.specs.declared.fault.AsmFault.TheVariants.{NoMemory};
 ghost use Rattle.pm_reader.specs.Reader.{reader_seen, Answers, IsCountless, open_end};
 
-use crate::entries::rows_entries;
-use crate::labels::has_label;
-use crate::sizes::code_end;
-use crate::source::{Entry, Procedure, Segment};
+use crate::current::Current;
+use crate::source::{Entry, Segment};
 use pm_line::{Flaw, Line, Row, Statement};
 use pm_source::AsmFault;
 use std::alloc::{AllocError, Global};
@@ -25,28 +22,7 @@ use std::alloc::{AllocError, Global};
 #[derive(Debug, Drop)]
 pub(crate) struct Reader<'a> {
     segments: Vec<Segment<'a>>,
-    procedure: Option<Procedure<'a>>,
-}
-
-/// Whether a line is the place of the exit code.
-fn row_is_exit(row: &Row<'_>) -> bool
-    ensures exit { result ≡ is_exit (row_seen row.now) }
-{
-    matches!(row, Row::Exit)
-}
-
-/// Whether the exit code stands in code.
-fn any_exit(rows: &[Row<'_>]) -> bool
-    ensures exit { result ≡ list_any (λ row. is_exit (row_seen row)) rows.now }
-{
-    rows.iter().any(|row| row_is_exit(row))
-}
-
-/// Whether a label stands in code.
-fn any_label(rows: &[Row<'_>], name: &[u8]) -> bool
-    ensures label { result ≡ list_any (λ row. has_label name.now (row_seen row)) rows.now }
-{
-    rows.iter().any(|row| has_label(name, row))
+    current: Option<Current<'a>>,
 }
 
 /// Whether a segment has a number.
@@ -54,33 +30,6 @@ fn any_number(segments: &[Segment<'_>], number: u8) -> bool
     ensures number { result ≡ list_any (λ s. s.number == number) segments.now }
 {
     segments.iter().any(|segment| segment.number == number)
-}
-
-impl Procedure<'_> {
-    /// Whether the exit code stands in it.
-    #[tactic(auto, using(crate::proofs::Seen::any_of_views))]
-    fn has_exit(&self) -> bool
-        ensures exit { result ≡ has_exit (procedure_seen self.now) }
-    {
-        any_exit(&self.code)
-    }
-
-    /// Whether a label stands in it.
-    #[tactic(auto, using(crate::proofs::Seen::any_of_views))]
-    fn has_label(&self, name: &[u8]) -> bool
-        ensures label { result ≡ has_label_in name.now (procedure_seen self.now) }
-    {
-        any_label(&self.code, name)
-    }
-
-    /// Whether the code has an odd length, or takes other entries than there are; none where memory cannot hold the code.
-    fn is_uneven(&self) -> Option<bool>
-        ensures uneven { IfSome result (λ uneven. uneven ≡ is_uneven (procedure_seen self.now)) }
-        ensures too_long { result ≡ None → IsCountless (code_end 0 (procedure_seen self.now).code) }
-    {
-        let end = code_end(0, &self.code)?;
-        Some(end % 2 != 0 || self.entries.len() != rows_entries(&self.code))
-    }
 }
 
 /// How many procedures the last segment has.
@@ -114,29 +63,27 @@ pub(crate) fn is_end(statement: &Statement<'_>) -> bool
     matches!(statement, Statement::End)
 }
 
-impl Reader<'_> {
+impl<'a> Reader<'a> {
     /// Whether a statement may stand here.
-    fn is_in_place(&self, statement: &Statement<'_>) -> bool
+    fn is_in_place(&self, statement: &Statement<'a>) -> bool
         ensures in_place { result ≡ is_in_place (reader_seen self.now) (statement_seen statement.now) }
     {
-        match (statement, &self.procedure) {
-            (Statement::Segment { .. }, procedure) => procedure.is_none(),
-            (Statement::Begin { .. }, procedure) => {
-                procedure.is_none() && !self.segments.is_empty()
-            }
+        match (statement, &self.current) {
+            (Statement::Segment { .. }, current) => current.is_none(),
+            (Statement::Begin { .. }, current) => current.is_none() && !self.segments.is_empty(),
             (_, None) => false,
-            (Statement::Code(_), Some(procedure)) => procedure.entries.is_empty(),
+            (Statement::Code(_), Some(current)) => current.procedure.entries.is_empty(),
             (Statement::Entry { .. }, Some(_)) => true,
-            (Statement::End, Some(procedure)) => procedure.has_exit(),
+            (Statement::End, Some(current)) => current.procedure.has_exit(),
         }
     }
 
     /// Whether a slot, a label of the procedure or its exit code comes again.
     #[tactic(auto, using(crate::proofs::Seen::any_of_views))]
-    fn is_again(&self, statement: &Statement<'_>) -> bool
+    fn is_again(&self, statement: &Statement<'a>) -> bool
         ensures again { result ≡ is_again (reader_seen self.now) (statement_seen statement.now) }
     {
-        match (statement, &self.procedure) {
+        match (statement, &self.current) {
             (Statement::Segment { number, .. }, _) => any_number(&self.segments, *number),
             (
                 Statement::Code(
@@ -145,24 +92,24 @@ impl Reader<'_> {
                         ..
                     },
                 ),
-                Some(procedure),
-            ) => procedure.has_label(label),
-            (Statement::Code(Row::Exit), Some(procedure)) => procedure.has_exit(),
+                Some(current),
+            ) => current.has_label(label),
+            (Statement::Code(Row::Exit), Some(current)) => current.procedure.has_exit(),
             _ => false,
         }
     }
 
     /// Whether a procedure has a number that is not the next one, or ends with an odd length or a wrong count of entries; none where
     /// memory cannot hold its code.
-    fn is_miscounted(&self, statement: &Statement<'_>) -> Option<bool>
+    fn is_miscounted(&self, statement: &Statement<'a>) -> Option<bool>
         ensures miscounted { IfSome result (λ wrong. wrong ≡ is_miscounted (reader_seen self.now) (statement_seen statement.now)) }
         ensures too_long { result ≡ None → IsCountless (open_end (reader_seen self.now).current) }
     {
-        match (statement, &self.procedure) {
+        match (statement, &self.current) {
             (Statement::Begin { number, .. }, None) => {
                 Some(!is_next(*number, last_count(&self.segments)))
             }
-            (Statement::End, Some(procedure)) => procedure.is_uneven(),
+            (Statement::End, Some(current)) => current.procedure.is_uneven(),
             _ => Some(false),
         }
     }
@@ -171,7 +118,7 @@ impl Reader<'_> {
     fn said_fault(
         &self,
         number: usize,
-        said: &Statement<'_>,
+        said: &Statement<'a>,
         flaw: Flaw,
         ends_later: bool,
     ) -> Option<AsmFault>
@@ -199,7 +146,7 @@ impl Reader<'_> {
     }
 
     /// The first of what is wrong in a line, by whether a later line ends a procedure; no memory where it cannot hold the code.
-    fn line_fault(&self, number: usize, line: &Line<'_>, ends_later: bool) -> Option<AsmFault>
+    fn line_fault(&self, number: usize, line: &Line<'a>, ends_later: bool) -> Option<AsmFault>
         ensures fault { (rest : List text.Line) → ends_later ≡ list_any ends rest
             → Answers result (line_faults number (reader_seen self.now) (line_seen line.now) rest) }
         ensures too_long { result ≡ Some NoMemory → IsCountless (open_end (reader_seen self.now).current) }
@@ -220,7 +167,7 @@ impl<'a> Reader<'a> {
     {
         Reader {
             segments: Vec::new(alloc),
-            procedure: None,
+            current: None,
         }
     }
 
@@ -236,9 +183,9 @@ impl<'a> Reader<'a> {
         ensures ok { OnOk result (reader_seen self.new
             ≡ closed (reader_seen self.old).segments (reader_seen self.old).current) }
     {
-        if let Some(procedure) = self.procedure.take() {
+        if let Some(current) = self.current.take() {
             if let Some(mut segment) = self.segments.pop() {
-                segment.procedures.push(procedure)?;
+                segment.procedures.push(current.procedure)?;
                 self.segments.push(segment)?;
             }
         }
@@ -264,22 +211,16 @@ impl<'a> Reader<'a> {
                 locals,
                 ..
             } => {
-                self.procedure = Some(Procedure {
-                    level,
-                    parameters,
-                    locals,
-                    code: Vec::new(alloc),
-                    entries: Vec::new(alloc),
-                });
+                self.current = Some(Current::new(alloc, level, parameters, locals));
             }
             Statement::Code(row) => {
-                if let Some(procedure) = &mut self.procedure {
-                    procedure.code.push(row)?;
+                if let Some(current) = self.current.take() {
+                    self.current = Some(current.with_row(row)?);
                 }
             }
             Statement::Entry { line, label } => {
-                if let Some(procedure) = &mut self.procedure {
-                    procedure.entries.push(Entry { line, label })?;
+                if let Some(current) = &mut self.current {
+                    current.procedure.entries.push(Entry { line, label })?;
                 }
             }
             Statement::End => self.close()?,

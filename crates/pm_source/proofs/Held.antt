@@ -14,7 +14,7 @@ use Rattle.pm_codefile.specs.ReadBack.{ReadsBack, begin_of}
 use Rattle.pm_codefile.proofs.ReadBack.{layout-reads_back}
 use Rattle.pm_codefile.proofs.Written.{slice_range-right}
 use Rattle.pm_disasm.specs.Laws.{Holds, segment_numbered}
-use Rattle.pm_disasm.specs.Program.{Procedure, Segment, IsProcedure, IsSegment, AreShort, is_name_character, jtab_of, procedures_end, segment_bytes}
+use Rattle.pm_disasm.specs.Program.{Procedure, Segment, IsProcedure, IsSegment, FitSlots, is_name_character, jtab_of, procedures_end, segment_bytes}
 use Rattle.pm_disasm.specs.Shown.{name_of}
 use Rattle.pm_disasm.proofs.Laid.{length-segment}
 use Rattle.pm_source.specs.Image.{bytes_of_segment, file_of, joined_bytes, name_of_segment, slots_of}
@@ -25,9 +25,9 @@ use Rattle.pm_source.specs.Laws.{FileHoldsProgram, FileIsAccepted}
 -- a slot of a program: no segment, or a sound one that is not too long
 abbrev IsSlot : Option Segment → Type 0
 IsSlot None = Unit {0}
-IsSlot (Some s) = IsSegment s × (length (segment_bytes s) ≤ 60000)
+IsSlot (Some s) = IsSegment s × (length (segment_bytes s) ≤ 65534)
 
-numbered_slot : (n : ℕ) (ss : List Segment) → AllByRecursion IsSegment ss → AreShort ss → IsSlot (segment_numbered n ss)
+numbered_slot : (n : ℕ) (ss : List Segment) → AllByRecursion IsSegment ss → FitSlots ss → IsSlot (segment_numbered n ss)
 numbered_slot n [] h short = tt
 numbered_slot n (s ∷ ss) h short = by (s.number == n) (numbered_slot n ss h.1 short.1)
   where
@@ -35,7 +35,7 @@ numbered_slot n (s ∷ ss) h short = by (s.number == n) (numbered_slot n ss h.1 
     by true more = (h.0, short.0)
     by false more = more
 
-slots_sound : (n count : ℕ) (ss : List Segment) → AllByRecursion IsSegment ss → AreShort ss → AllByRecursion IsSlot (slots_of n count ss)
+slots_sound : (n count : ℕ) (ss : List Segment) → AllByRecursion IsSegment ss → FitSlots ss → AllByRecursion IsSlot (slots_of n count ss)
 slots_sound n zero ss h short = tt
 slots_sound n (suc count) ss h short = (numbered_slot n ss h short, slots_sound (n + 1) count ss h short)
 
@@ -170,7 +170,7 @@ slots_hold ss slots segments sixteen sound there =
       r.accepted,
     )
 
-both : (ss : List Segment) → IsProgram ss → AreShort ss → Holds (file_of ss) ss × (file_fault (file_of ss) ≡ None)
+both : (ss : List Segment) → IsProgram ss → FitSlots ss → Holds (file_of ss) ss × (file_fault (file_of ss) ≡ None)
 unfolding file_of
 both ss h short =
     slots_hold ss (slots_of 0 16 ss) h.segments (slots_count 0 16 ss) (slots_sound 0 16 ss h.segments short) (λ i l. slot_there 0 16 i ss l ∙ zero_plus i)

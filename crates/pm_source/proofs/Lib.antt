@@ -31,3 +31,6 @@ pub mod ShownProcedures
 pub mod ShownPrograms
 pub mod Held
 pub mod Round
+pub mod Computed
+pub mod SameLines
+pub mod Ascending

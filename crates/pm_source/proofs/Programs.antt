@@ -4,7 +4,7 @@ use Rattle.std.specs.Prelude.{zero, suc, ◌==◌, if◌then◌else◌}
 use Rattle.std.specs.List.{AllByRecursion}
 use Rattle.std.specs.Option.{option_to_list}
 use Rattle.std.proofs.lemmas.Bool.{eqb-true}
-use Rattle.pm_disasm.specs.Program.{AreShort, AscendFrom, IsProcedure, IsProgram, IsSegment, is_segment_name, jtab_of, procedures_end, segment_bytes}
+use Rattle.pm_disasm.specs.Program.{FitSlots, AscendFrom, IsProcedure, IsProgram, IsSegment, is_segment_name, jtab_of, procedures_end, segment_bytes}
 use Rattle.pm_source.specs.Source.{Row, Source, SourceSegment, IsSource, code_end, entry_statement, head_statements, items_of, segment_statements, statements, statements_from}
 use Rattle.pm_source.specs.Source.Row.{Items, Exit}
 use Rattle.pm_source.specs.Source.Statement.{Code, End}
@@ -65,14 +65,14 @@ segments_good (s ∷ ss) h =
     (record { number = first.0; name = first.1; sources = good.sources; few = omega (arith, good.few) }, segments_good ss parts.1)
 
 -- The procedures of a segment that is not too long.
-procedures_are : (at : ℕ) (ps : List Source) → label_faults_from at ps ≡ [] → AllByRecursion IsSource ps → AllByRecursion IsGoodSource ps → at % 2 ≡ 0 → procedures_end at (found_procedures at ps) ≤ 60000
+procedures_are : (at : ℕ) (ps : List Source) → label_faults_from at ps ≡ [] → AllByRecursion IsSource ps → AllByRecursion IsGoodSource ps → at % 2 ≡ 0 → procedures_end at (found_procedures at ps) ≤ 65534
     → AllByRecursion IsProcedure (found_procedures at ps)
 procedures_are at [] h s g e b = tt
 procedures_are at (p ∷ ps) h s g e b =
     let next : ℕ = source_end at p in
     let parts = both_empty (label_faults at p) (label_faults_from next ps) h in
     let behind : jtab_of (found_procedure at p) + 2 ≡ next = found_behind at p in
-    let rest : procedures_end next (found_procedures next ps) ≤ 60000 = subst (λ k. procedures_end k (found_procedures next ps) ≤ 60000) behind b in
+    let rest : procedures_end next (found_procedures next ps) ≤ 65534 = subst (λ k. procedures_end k (found_procedures next ps) ≤ 65534) behind b in
     let more : MeanFrom next ps = procedures_found next ps parts.1 in
     let last : next ≤ procedures_end next (found_procedures next ps) = end_later next (found_procedures next ps) more.follow in
     let zero_even : at % 2 ≡ 0 % 2 = e in
@@ -85,7 +85,7 @@ found_count : (at : ℕ) (ps : List Source) → length (found_procedures at ps) 
 found_count at [] = refl
 found_count at (p ∷ ps) = ap suc (found_count (source_end at p) ps)
 
-segment_is : (s : SourceSegment) → IsClean s → AllByRecursion IsSource s.procedures → IsGoodSegment s → length (segment_bytes (found_segment s)) ≤ 60000 → IsSegment (found_segment s)
+segment_is : (s : SourceSegment) → IsClean s → AllByRecursion IsSource s.procedures → IsGoodSegment s → length (segment_bytes (found_segment s)) ≤ 65534 → IsSegment (found_segment s)
 segment_is s c h g b =
     let m : MeanFrom 0 s.procedures = procedures_found 0 s.procedures c in
     let last : procedures_end 0 (found_procedures 0 s.procedures) ≤ length (segment_bytes (found_segment s)) = end_within (found_segment s) m.follow in
@@ -97,7 +97,7 @@ segment_is s c h g b =
       follow = m.follow;
     }
 
-segments_are : (ss : List SourceSegment) → AllByRecursion IsClean ss → AllByRecursion (λ s. AllByRecursion IsSource s.procedures) ss → AllByRecursion IsGoodSegment ss → AreShort (map found_segment ss)
+segments_are : (ss : List SourceSegment) → AllByRecursion IsClean ss → AllByRecursion (λ s. AllByRecursion IsSource s.procedures) ss → AllByRecursion IsGoodSegment ss → FitSlots (map found_segment ss)
     → AllByRecursion IsSegment (map found_segment ss)
 segments_are [] c h g b = tt
 segments_are (s ∷ ss) c h g b = (segment_is s c.0 h.0 g.0 b.0, segments_are ss c.1 h.1 g.1 b.1)
@@ -129,7 +129,7 @@ spelled_is_program text ts h b =
     let same : map found_segment (ascending ss) ≡ ts = come.1 in
     let good : AllByRecursion IsGoodSegment (ascending ss) = all_ascending IsGoodSegment ss (segments_good ss (said_ranges text (statements ss) h.said)) in
     let whole = all_ascending (λ s. AllByRecursion IsSource s.procedures) ss h.sound.1 in
-    let short : AreShort (map found_segment (ascending ss)) = subst AreShort (sym same) b in
+    let short : FitSlots (map found_segment (ascending ss)) = subst FitSlots (sym same) b in
     let program : IsProgram (map found_segment (ascending ss)) = record {
       segments = segments_are (ascending ss) come.0 whole good short;
       ascend = ascends 0 16 0 ss (omega arith);

@@ -22,7 +22,7 @@ use Rattle.pm_source.specs.Line.Line.{Blank, Wrong, Strange, Says}
 use Rattle.pm_source.specs.Line.Keyword.{OfSegment, OfProcedure, OfExit, OfJump, OfEnd, OfBytes, Mnemonic}
 use Rattle.pm_source.specs.Faults.{lines_from, lines_of}
 use Rattle.pm_source.specs.Meaning.{AreSaid}
-use Rattle.pm_source.proofs.Numerals.{some_is, Bound, bound, both, pair_is, numeral_small, numeral_below, slot_small}
+use Rattle.pm_source.proofs.Numerals.{some_is, Bound, bound, both, pair_is, numeral_below, slot_small}
 
 abbrev pub IsSize : ℕ → Type 0
 IsSize n = (n < 65536) × (n % 2 ≡ 0)

@@ -4,7 +4,7 @@ use Rattle.std.specs.Prelude.{◌==◌, if◌then◌else◌}
 use Rattle.std.specs.List.{AllByRecursion, AllZip}
 use Rattle.pm_codefile.specs.Layout.{layout}
 use Rattle.pm_disasm.specs.Laws.{IsSameSegment, segment_numbered}
-use Rattle.pm_disasm.specs.Program.{Procedure, Segment, AreInstructions, AreShort}
+use Rattle.pm_disasm.specs.Program.{Procedure, Segment, AreInstructions, FitSlots}
 use Rattle.pm_disasm.proofs.ShownFile.{program_is_shown}
 use Rattle.pm_source.specs.Image.{bytes_of_segment, file_of, joined_bytes, name_of_segment, slots_of}
 use Rattle.pm_source.specs.Laws.{ShownFileIsSpelled}
@@ -66,11 +66,11 @@ pub same_program_file : (ss ts : List Segment) → AllZip IsSameSegment ss ts �
 unfolding file_of
 same_program_file ss ts h = same_file (slots_of 0 16 ss) (slots_of 0 16 ts) (same_slots 0 16 ss ts h)
 
-same_short : (ss ts : List Segment) → AllZip IsSameSegment ss ts → AreShort ss → AreShort ts
+same_short : (ss ts : List Segment) → AllZip IsSameSegment ss ts → FitSlots ss → FitSlots ts
 same_short [] [] h short = tt
 same_short [] (t ∷ ts) h short = absurd h
 same_short (s ∷ ss) [] h short = absurd h
-same_short (s ∷ ss) (t ∷ ts) h short = (subst (λ bs. length bs ≤ 60000) (sym h.0.bytes) short.0, same_short ss ts h.1 short.1)
+same_short (s ∷ ss) (t ∷ ts) h short = (subst (λ bs. length bs ≤ 65534) (sym h.0.bytes) short.0, same_short ss ts h.1 short.1)
 
 same_segments : (ss ts : List Segment) → AllZip IsSameSegment ss ts → AllByRecursion (λ s. AllByRecursion (λ (p : Procedure). AreInstructions p.items) s.procedures) ss → ts ≡ ss
 same_segments [] [] h i = refl

@@ -9,7 +9,7 @@ use Rattle.std.proofs.lemmas.List.{length-append}
 use Rattle.std.proofs.lemmas.Bool.{eqb-true}
 use Rattle.std.proofs.lemmas.Bool.Decides.{nat_tests}
 use Rattle.pm_disasm.specs.Program as program
-use Rattle.pm_disasm.specs.Program.{Procedure, IsProcedure, IsSegment, IsProgram, AreShort, AscendFrom, FollowFrom, code_end, dictionary_bytes, procedures_bytes, procedures_end, segment_bytes}
+use Rattle.pm_disasm.specs.Program.{Procedure, IsProcedure, IsSegment, IsProgram, FitSlots, AscendFrom, FollowFrom, code_end, dictionary_bytes, procedures_bytes, procedures_end, segment_bytes}
 use Rattle.pm_disasm.specs.Shown.{joined, procedure_lines, procedures_lines, segment_line, segments_lines, program_text}
 use Rattle.pm_source.specs.Words.{cut}
 use Rattle.pm_source.specs.Source.{Source, SourceSegment, Statement, IsSource, head_statements, statements_from, statements}
@@ -225,15 +225,15 @@ wholes : (ps : List Procedure) (last : ℕ) → last < 100000 → AllByRecursion
 wholes [] last l h e = tt
 wholes (p ∷ ps) last l h e = (record { procedure = h.0; short = omega (arith, l, e.0) }, wholes ps last l h.1 e.1)
 
-whole_segment : (s : program.Segment) → IsSegment s → length (segment_bytes s) ≤ 60000 → IsWholeSegment s
+whole_segment : (s : program.Segment) → IsSegment s → length (segment_bytes s) ≤ 65534 → IsWholeSegment s
 whole_segment s h l =
     let parts = length-append (procedures_bytes 1 s.procedures) (dictionary_bytes (procedures_end 0 s.procedures) (reverse s.procedures) ++ s.number ∷ length s.procedures ∷ []) in
     record {
       segment = h;
-      procedures = wholes s.procedures 60000 (omega arith) h.procedures (ends_within 0 1 60000 s.procedures h.follow (omega (arith, parts, l)));
+      procedures = wholes s.procedures 65534 (omega arith) h.procedures (ends_within 0 1 65534 s.procedures h.follow (omega (arith, parts, l)));
     }
 
-whole_segments : (ss : List program.Segment) → AllByRecursion IsSegment ss → AreShort ss → AllByRecursion IsWholeSegment ss
+whole_segments : (ss : List program.Segment) → AllByRecursion IsSegment ss → FitSlots ss → AllByRecursion IsWholeSegment ss
 whole_segments [] h l = tt
 whole_segments (s ∷ ss) h l = (whole_segment s h.0 l.0, whole_segments ss h.1 l.1)
 

@@ -2,7 +2,7 @@
 use Rattle.std.specs.Prelude.{◌≡◌, ℕ, List, [], None}
 use Rattle.pm_codefile.specs.Dictionary.{file_fault}
 use Rattle.std.specs.List.{AllByRecursion, AllZip}
-use Rattle.pm_disasm.specs.Program.{Procedure, Segment, IsProgram, AreInstructions, AreShort}
+use Rattle.pm_disasm.specs.Program.{Procedure, Segment, IsProgram, AreInstructions, FitSlots}
 use Rattle.pm_disasm.specs.Laws.{Holds, IsSameSegment}
 use Rattle.pm_disasm.specs.Shown.{file_text, program_text}
 use Rattle.pm_source.specs.Source.{Source, SourceSegment, statements, AreSources}
@@ -30,9 +30,9 @@ FoundIsFaultless = (p : Source) (q : Procedure) → MeansProcedure p q → (labe
 abbrev pub FaultlessIsSpelled : Type 0
 FaultlessIsSpelled = (text : List ℕ) → faults text ≡ [] → Spells text (program_of text)
 
--- What a text spells is a program, where no segment is too long.
+-- What a text spells is a program, where each segment fits a slot.
 abbrev pub SpelledIsProgram : Type 0
-SpelledIsProgram = (text : List ℕ) (ss : List Segment) → Spells text ss → AreShort ss → IsProgram ss
+SpelledIsProgram = (text : List ℕ) (ss : List Segment) → Spells text ss → FitSlots ss → IsProgram ss
 
 -- A text that spells a program has no faults, and spells no other.
 abbrev pub SpelledIsFaultless : Type 0
@@ -40,15 +40,15 @@ SpelledIsFaultless = (text : List ℕ) (ss : List Segment) → Spells text ss �
 
 -- The text that is shown for a program spells that program.
 abbrev pub ShownIsSpelled : Type 0
-ShownIsSpelled = (ss : List Segment) → IsProgram ss → AreShort ss → Spells (program_text ss) ss
+ShownIsSpelled = (ss : List Segment) → IsProgram ss → FitSlots ss → Spells (program_text ss) ss
 
 -- The code file of a program holds it: the segment of each number in its slot, with its name.
 abbrev pub FileHoldsProgram : Type 0
-FileHoldsProgram = (ss : List Segment) → IsProgram ss → AreShort ss → Holds (file_of ss) ss
+FileHoldsProgram = (ss : List Segment) → IsProgram ss → FitSlots ss → Holds (file_of ss) ss
 
 -- The code file of a program is a code file.
 abbrev pub FileIsAccepted : Type 0
-FileIsAccepted = (ss : List Segment) → IsProgram ss → AreShort ss → file_fault (file_of ss) ≡ None
+FileIsAccepted = (ss : List Segment) → IsProgram ss → FitSlots ss → file_fault (file_of ss) ≡ None
 
 -- The text of a program's code file spells a program of the same code file: of the same segments in their bytes, and the same program
 -- where no item is a byte that is no instruction.
@@ -59,4 +59,4 @@ pub record IsShownAgain (ss ts : List Segment) : Type 0 where
   pub same : AllByRecursion (λ s. AllByRecursion (λ (p : Procedure). AreInstructions p.items) s.procedures) ss → ts ≡ ss
 
 abbrev pub ShownFileIsSpelled : Type 0
-ShownFileIsSpelled = (ss : List Segment) → IsProgram ss → AreShort ss → (ts : List Segment) × IsShownAgain ss ts
+ShownFileIsSpelled = (ss : List Segment) → IsProgram ss → FitSlots ss → (ts : List Segment) × IsShownAgain ss ts

@@ -6,3 +6,5 @@ pub mod FaultNumbers
 pub mod Meaning
 pub mod Image
 pub mod Laws
+pub mod Worked
+pub mod Same

@@ -12,22 +12,22 @@ pub enum AsmFault {
     #[error("line {0} is ill-formed or out of place")]
     Syntax(usize),
     /// 2: a mnemonic, directive or type word is unknown.
-    #[error("line {0} has an unknown word")]
+    #[error("line {0} has an unknown mnemonic, directive or type word")]
     Unknown(usize),
     /// 3: a number is out of its range, or a count or length is wrong.
-    #[error("line {0} has a number out of range")]
+    #[error("line {0} has a number out of range, or ends code of an odd length or with a wrong number of jump entries")]
     Range(usize),
     /// 4: a label does not stand in the procedure.
-    #[error("line {0} names an unknown label")]
+    #[error("line {0} names a label that its procedure does not have")]
     NoLabel(usize),
     /// 5: a slot, a label of the procedure or the exit code is there already.
-    #[error("line {0} says something again")]
+    #[error("line {0} says a segment, a label or the exit code again")]
     Twice(usize),
     /// 6: a short jump leads backward or more than 127 bytes forward.
-    #[error("line {0} jumps too far")]
+    #[error("line {0} jumps backward, or more than 127 bytes forward")]
     Far(usize),
     /// 7: a segment has more than 60,000 bytes.
-    #[error("segment {0} is too long")]
+    #[error("segment {0} has more than 60,000 bytes")]
     TooLong(u8),
     /// 8: memory could not grow.
     #[error("no memory")]

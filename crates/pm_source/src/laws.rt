@@ -1,5 +1,6 @@
 //! Laws of the assembler's text, of what it spells and of its listing. The functions do nothing.
 ghost use Rattle.pm_source.specs.Image.{ListingIsPlaced, ListingIsSegment};
+ghost use Rattle.pm_source.specs.Same.{BlankSaysNothing, CommentSaysNothing, LineFaultsAscend, ZeroSaysNothing};
 ghost use Rattle.pm_source.specs.Laws.{FaultlessIsSaid, FaultlessIsSpelled, FileHoldsProgram, FileIsAccepted, FoundIsFaultless, LabelsFound, SaidIsFaultless, SpelledIsFaultless, SpelledIsProgram};
 
 /// The bytes of a segment's lines in a listing, joined, are the segment, and each line names the offset at which its bytes stand in it.
@@ -40,14 +41,29 @@ pub fn spelled_is_faultless()
     ensures law { SpelledIsFaultless }
 {}
 
-/// What a text spells is a program, where no segment has more than 60,000 bytes.
+/// What a text spells is a program, where no segment has more than 65,534 bytes.
 pub fn spelled_is_program()
     ensures law { SpelledIsProgram }
 {}
 
-/// The code file of a program holds it, where no segment has more than 60,000 bytes: each slot has the bytes of the segment of its
+/// The code file of a program holds it, where no segment has more than 65,534 bytes: each slot has the bytes of the segment of its
 /// number, and its name with spaces at the end, or no segment.
 pub fn file_holds_program()
     ensures law { FileHoldsProgram }
     ensures accepted { FileIsAccepted }
+{}
+
+/// A comment behind a line whose quotes are closed, and a blank in front of a line, change nothing of what it says; nor does a zero in
+/// front of decimal digits of their number.
+#[tactic(auto, using(crate::proofs::SameLines::comment_says_nothing, crate::proofs::SameLines::blank_says_nothing, crate::proofs::SameLines::zero_says_nothing))]
+pub fn comments_blanks_zeros_say_nothing()
+    ensures comment { CommentSaysNothing }
+    ensures blank { BlankSaysNothing }
+    ensures zero { ZeroSaysNothing }
+{}
+
+/// The faults of a text's lines ascend: none is of a line before that of the fault before it.
+#[tactic(auto, using(crate::proofs::Ascending::line_faults_ascend))]
+pub fn line_faults_ascend()
+    ensures law { LineFaultsAscend }
 {}

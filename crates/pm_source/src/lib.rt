@@ -5,6 +5,7 @@ mod fault;
 pub mod laws;
 mod number;
 pub mod shown;
+pub mod worked;
 
 pub use fault::AsmFault;
 pub use number::Numeral;

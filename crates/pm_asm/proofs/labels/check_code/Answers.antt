@@ -1,4 +1,4 @@
-use Rattle.std.proofs.Common.{rules, refl}
+use Rattle.std.proofs.Common.{rules}
 use Rattle.pm_line.specs.Views.{row_seen}
 use Rattle.pm_reader.proofs.Least.{there, too_long_row}
 use Rattle.pm_asm.proofs.Countless.{row_inside}

@@ -1,4 +1,4 @@
-use Rattle.std.proofs.Common.{rules, arith, refl, ◌≡◌, ◌<◌, ◌+◌}
+use Rattle.std.proofs.Common.{rules, arith, ◌≡◌, ◌<◌, ◌+◌}
 use Rattle.pm_disasm.specs.Item.{size}
 use Rattle.pm_line.specs.Views.{item_seen}
 use Rattle.pm_reader.proofs.Least.{there}

@@ -1,11 +1,9 @@
-use Rattle.std.proofs.Common.{rules, ◌≡◌, ◌<◌, ℕ, List, Some, drop, get_or, length, map, arith, drop-cons}
+use Rattle.std.proofs.Common.{◌≡◌, ◌<◌, ℕ, List, Some, drop, get_or, length, map, arith, drop-cons}
 use Rattle.std.specs.Prelude.{suc}
 use Rattle.std.proofs.lemmas.Result.{err_from_is_err_and}
 use Rattle.pm_reader.specs.Firsts.{first_of}
 use Rattle.pm_reader.specs.Views.{procedure_seen}
 use Rattle.pm_reader.specs.declared.source.Procedure.{Procedure}
-use Rattle.pm_reader.proofs.Least.{there}
-use Rattle.pm_asm.proofs.Countless.{source_inside}
 use Rattle.pm_asm.proofs.Firsts.{procedure_first}
 use Rattle.pm_source.specs.declared.fault.AsmFault.{AsmFault}
 use Rattle.pm_source.specs.Faults.{label_faults, label_faults_from}
@@ -21,16 +19,4 @@ first_left fault at i ps p whole l e w h =
 pub returns-in_err-check_procedure-clause-fault : goal.returns-in_err-check_procedure-clause-fault
 returns-in_err-check_procedure-clause-fault c =
     let p = err_from_is_err_and c.from_residual.result c.from_residual.ensures.1 in
-    rw (p.1, p.2) (λ known. first_left _ c.loop-procedure.at c.loop-procedure.procedure-index c.args.procedures.now c.procedure-item.result _ (omega arith) c.procedure-item.is c.loop-procedure.invariant.faults (c.in_err-check_procedure.ensures.fault known))
-
-pub returns-in_err-check_procedure-clause-too_long : goal.returns-in_err-check_procedure-clause-too_long
-returns-in_err-check_procedure-clause-too_long c =
-    let next = there c.args.procedures.now c.loop-procedure.procedure-index c.procedure-item.result c.loop-procedure-test.true c.procedure-item.is in
-    let inside = source_inside procedure_seen c.loop-procedure.at _ _ c.procedure-item.result _ next c.loop-procedure.invariant.ends in
-    λ want. let long = c.in_err-check_procedure.ensures.too_long (search rules) in omega (arith, inside, long)
-
-pub returns-in_err-at-clause-too_long : goal.returns-in_err-at-clause-too_long
-returns-in_err-at-clause-too_long c =
-    let next = there c.args.procedures.now c.loop-procedure.procedure-index c.procedure-item.result c.loop-procedure-test.true c.procedure-item.is in
-    let inside = source_inside procedure_seen c.loop-procedure.at _ _ c.procedure-item.result _ next c.loop-procedure.invariant.ends in
-    λ want. let long = c.source_end.ensures.too_long (search rules) in omega (arith, inside, long)
+    rw (p.1, p.2) (λ known. first_left _ c.loop-procedure.at c.loop-procedure.procedure-index c.args.procedures.now c.procedure-item.result _ (omega arith) c.procedure-item.is c.loop-procedure.invariant (c.in_err-check_procedure.ensures.fault known))

@@ -1,4 +1,4 @@
-use Rattle.std.proofs.Common.{rules, arith, refl}
+use Rattle.std.proofs.Common.{arith, refl}
 use Rattle.pm_reader.specs.Views.{procedure_seen}
 use Rattle.pm_reader.proofs.Least.{there}
 use Rattle.pm_asm.proofs.Countless.{source_inside}

@@ -1,0 +1,12 @@
+use Rattle.std.proofs.Common.{◌≡◌, ℕ, List, map}
+use Rattle.std.specs.BTreeMap.{get_by}
+use Rattle.std.specs.Cmp.Lexicographic.{slice_cmp}
+use Rattle.std.specs.Ordering.{nat_cmp}
+use Rattle.pm_line.specs.Views.{row_seen}
+use Rattle.pm_source.specs.Faults.{place_of}
+use Rattle.pm_asm.proofs.Tables.{left, or_else}
+use Rattle.pm_asm.proofs.table.table_of.Given as goal
+
+-- a label stands where the table says, or else in the lines that are left
+abbrev pub invariant-loop-row : goal.invariant-loop-row
+invariant-loop-row l = (name : List ℕ) → or_else (get_by (λ key. slice_cmp nat_cmp name key.now) l.table) (left l.at l.row-index l.rows name) ≡ place_of l.start (map row_seen l.rows) name

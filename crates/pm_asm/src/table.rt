@@ -1,0 +1,39 @@
+//! The table of a procedure's labels: made once for its code, so that a label is not sought line by line.
+
+ghost use Rattle.std.specs.Prelude.{◌≡◌, IfOk};
+ghost use Rattle.pm_asm.specs.Firsts.{places_in};
+ghost use Rattle.pm_asm.specs.Table.{IsTable};
+
+use crate::code::Code;
+use pm_line::Row;
+use pm_reader::{label_of, row_end};
+use std::alloc::{AllocError, Global};
+use std::collections::BTreeMap;
+
+/// Where the labels of code stand that begins at an offset: of labels with one name the first.
+pub(crate) fn table_of<'a>(
+    alloc: Global,
+    start: usize,
+    rows: &[Row<'a>],
+) -> Result<BTreeMap<&'a [u8], usize>, AllocError>
+    ensures table { IfOk result (λ table. IsTable table start rows.now) }
+{
+    let mut table = BTreeMap::new(alloc);
+    let mut at = start;
+    for row in rows {
+        if let Some(label) = label_of(row) {
+            if !table.contains_key(&label) {
+                table.insert(label, at)?;
+            }
+        }
+        at = row_end(at, row).ok_or(AllocError)?;
+    }
+    Ok(table)
+}
+
+/// Where a label stands in code, if it does.
+pub(crate) fn place_of<'a>(code: &Code<'_, 'a>, name: &'a [u8]) -> Option<usize>
+    ensures place { result ≡ places_in code.now name.now }
+{
+    code.table.get(&name).copied()
+}

@@ -1,0 +1,20 @@
+-- The labels of a procedure.
+use Rattle.std.specs.Prelude.{◌≡◌, ℕ, List, Bool, false, Option, Some, None, is_some}
+use Rattle.std.specs.Borrow.{Bor}
+use Rattle.std.specs.BTreeMap.{BTreeMap, get_by}
+use Rattle.std.specs.Cmp.Lexicographic.{slice_cmp}
+use Rattle.std.specs.Ordering.{nat_cmp}
+use Rattle.std.specs.Str.{bytes_eq}
+use Rattle.pm_reader.specs.declared.source.Procedure.{Procedure}
+use Rattle.pm_reader.specs.Views.{procedure_seen}
+use Rattle.pm_source.specs.Source.{Name, has_label_in}
+
+-- whether a label is this name, byte for byte
+abbrev pub is_name : Name → Option (Bor (List ℕ)) → Bool
+is_name name None = false
+is_name name (Some label) = bytes_eq label.now name
+
+-- A table has the labels of a procedure's code, and no other.
+abbrev pub HasLabelsOf : Procedure → BTreeMap (Bor (List ℕ)) ℕ → Type 0
+HasLabelsOf p labels = (name : List ℕ)
+    → is_some (get_by (λ key. slice_cmp nat_cmp name key.now) labels) ≡ has_label_in name (procedure_seen p)

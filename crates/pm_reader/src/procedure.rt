@@ -1,0 +1,91 @@
+//! What is asked of a procedure that has not ended, and how it goes on.
+
+ghost use Rattle.std.specs.Prelude.{◌≡◌, [], None, IfOk, IfSome, map};
+ghost use Rattle.std.specs.List.{list_any};
+ghost use Rattle.pm_line.specs.Views.{row_seen};
+ghost use Rattle.pm_source.specs.Source.{code_end, has_exit, has_label_in, is_exit};
+ghost use Rattle.pm_source.specs.Faults.{after_code, is_uneven, new_procedure};
+ghost use Rattle.pm_reader.specs.Views.{procedure_seen};
+ghost use Rattle.pm_reader.specs.Reader.{IsCountless, current_seen};
+
+use crate::current::Current;
+use crate::entries::rows_entries;
+use crate::labels::label_of;
+use crate::sizes::code_end;
+use crate::source::Procedure;
+use pm_line::Row;
+use std::alloc::{AllocError, Global};
+use std::collections::BTreeMap;
+
+/// Whether a line is the place of the exit code.
+fn row_is_exit(row: &Row<'_>) -> bool
+    ensures exit { result ≡ is_exit (row_seen row.now) }
+{
+    matches!(row, Row::Exit)
+}
+
+/// Whether the exit code stands in code.
+fn any_exit(rows: &[Row<'_>]) -> bool
+    ensures exit { result ≡ list_any (λ row. is_exit (row_seen row)) rows.now }
+{
+    rows.iter().any(|row| row_is_exit(row))
+}
+
+impl Procedure<'_> {
+    /// Whether the exit code stands in it.
+    #[tactic(auto, using(crate::proofs::Seen::any_of_views))]
+    pub(crate) fn has_exit(&self) -> bool
+        ensures exit { result ≡ has_exit (procedure_seen self.now) }
+    {
+        any_exit(&self.code)
+    }
+
+    /// Whether the code has an odd length, or takes other entries than there are; none where memory cannot hold the code.
+    pub(crate) fn is_uneven(&self) -> Option<bool>
+        ensures uneven { IfSome result (λ uneven. uneven ≡ is_uneven (procedure_seen self.now)) }
+        ensures too_long { result ≡ None → IsCountless (code_end 0 (procedure_seen self.now).code) }
+    {
+        let end = code_end(0, &self.code)?;
+        Some(end % 2 != 0 || self.entries.len() != rows_entries(&self.code))
+    }
+}
+
+impl<'a> Current<'a> {
+    /// One of which only the head has been said.
+    pub(crate) fn new(alloc: Global, level: u8, parameters: u16, locals: u16) -> Current<'a>
+        ensures new { current_seen result ≡ new_procedure level parameters locals }
+    {
+        Current {
+            procedure: Procedure {
+                level,
+                parameters,
+                locals,
+                code: Vec::new(alloc),
+                entries: Vec::new(alloc),
+            },
+            labels: BTreeMap::new(alloc),
+        }
+    }
+
+    /// Whether a label stands in it.
+    pub(crate) fn has_label(&self, name: &'a [u8]) -> bool
+        ensures label { result ≡ has_label_in name.now (current_seen self.now) }
+    {
+        self.labels.contains_key(&name)
+    }
+
+    /// It with one line of code more.
+    pub(crate) fn with_row(self, row: Row<'a>) -> Result<Current<'a>, AllocError>
+        ensures row { IfOk result (λ current. current_seen current ≡ after_code (row_seen row.entry) (current_seen self.entry)) }
+    {
+        let Current {
+            mut procedure,
+            mut labels,
+        } = self;
+        if let Some(label) = label_of(&row) {
+            labels.insert(label, procedure.code.len())?;
+        }
+        procedure.code.push(row)?;
+        Ok(Current { procedure, labels })
+    }
+}

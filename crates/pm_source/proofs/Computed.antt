@@ -1,0 +1,68 @@
+-- The lines, the faults and the listing are computed.
+use Rattle.std.proofs.Common.{refl}
+use Rattle.std.specs.Fmt.{digits}
+use Rattle.pm_opcode.specs.Table.{form_of, groups, implied, mnemonic_of}
+use Rattle.pm_disasm.specs.Shown.{padded, shown_item}
+use Rattle.pm_disasm.specs.Text.{item_text}
+use Rattle.pm_source.specs.Faults.{faults}
+use Rattle.pm_source.specs.Image.{listing}
+use Rattle.pm_source.specs.Line.{directives, keyword_of, line_of}
+use Rattle.pm_source.specs.Words.{cut}
+use Rattle.pm_source.specs.Worked.{WorkedFaults, WorkedLines, WorkedListing}
+
+pub worked_lines : WorkedLines
+unfolding line_of cut keyword_of directives mnemonic_of form_of groups implied
+worked_lines = record {
+  blank = refl;
+  commented = refl;
+  tabbed = refl;
+  label = refl;
+  glued = refl;
+  mnemonic = refl;
+  directive = refl;
+  operand = refl;
+  comma = refl;
+  ends = refl;
+  ends_not = refl;
+  hexadecimal = refl;
+  negative = refl;
+  zeros = refl;
+  five_digits = refl;
+  too_low = refl;
+  too_high = refl;
+  one_byte = refl;
+  marked = refl;
+  marked_large = refl;
+  type = refl;
+  sized = refl;
+  no_type = refl;
+  jump = refl;
+  through = refl;
+  case = refl;
+  few_labels = refl;
+  byte = refl;
+  segment = refl;
+  slot = refl;
+  procedure = refl;
+  odd_size = refl;
+}
+
+pub worked_faults : WorkedFaults
+unfolding faults line_of cut keyword_of directives mnemonic_of form_of groups implied
+worked_faults = record {
+  none = refl;
+  ended = refl;
+  not_ended = refl;
+  closed = refl;
+  unknown = refl;
+  odd = refl;
+  twice = refl;
+  far = refl;
+  no_label = refl;
+  later = refl;
+  both = refl;
+}
+
+pub worked_listing : WorkedListing
+unfolding listing digits padded shown_item item_text mnemonic_of form_of groups implied
+worked_listing = record { lines = refl }

@@ -42,7 +42,8 @@ fn put_frame(
     requires above { frame + 12 + parameters ≤ 65504 }
     requires below { IsTrue base → 2 ≤ frame }
     requires within { registers.sp + parameters ≤ 65504 }
-    ensures words { memory.new.words ≡ with_old_base base (with_frame memory.old.words frame link registers parameters) frame registers.base }
+    ensures words { memory.new.words
+        ≡ with_old_base base (with_frame memory.old.words frame link registers parameters) frame registers.base }
     ensures link { word_at memory.new.words frame ≡ link }
     ensures keeps { KeepsWatch memory.old memory.new }
 {

@@ -15,8 +15,7 @@ fn put_segment(memory: &mut Memory) {
     memory.set_word(65492, 65492);
 }
 
-fn registers() -> Registers
-{
+fn registers() -> Registers {
     Registers {
         sp: 60000,
         ipc: 0,
@@ -42,8 +41,7 @@ fn call(
     memory: &mut Memory,
     registers: &mut Registers,
     scratch: &mut Memory,
-) -> Result<(), ExecError>
-{
+) -> Result<(), ExecError> {
     if !is_stack(registers) {
         return Err(ExecError::InvalidMemory);
     }
@@ -56,8 +54,7 @@ fn call_and_return(
     memory: &mut Memory,
     registers: &mut Registers,
     scratch: &mut Memory,
-) -> Result<(), ExecError>
-{
+) -> Result<(), ExecError> {
     call(frames, memory, registers, scratch)?;
     frames.ret(memory, registers, 0, false)
 }
@@ -152,8 +149,7 @@ fn call_segment(
     memory: &mut Memory,
     registers: &mut Registers,
     scratch: &mut Memory,
-) -> Result<(), ExecError>
-{
+) -> Result<(), ExecError> {
     if !is_stack(registers) {
         return Err(ExecError::InvalidMemory);
     }

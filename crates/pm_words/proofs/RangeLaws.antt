@@ -1,11 +1,11 @@
 -- The laws of ranges: what a word or a byte is after a copy, and when two moves are one.
-use Rattle.std.proofs.Common.{◌≡◌, ◌≢◌, ℕ, zero, suc, ◌+◌, ◌-◌, ◌*◌, ◌/◌, ◌%◌, ◌<◌, ◌≤◌, ◌⊎◌, false, List, [], ◌∷◌, length, drop, get_or, replicate, refl, sym, ap, ◌∙◌, subst, arith, inl, inr, ⊎_elim, nat_lt}
+use Rattle.std.proofs.Common.{◌≡◌, ◌≢◌, ℕ, zero, suc, ◌+◌, ◌-◌, ◌*◌, ◌/◌, ◌%◌, ◌<◌, ◌≤◌, ◌⊎◌, List, [], ◌∷◌, length, drop, get_or, replicate, refl, sym, ap, ◌∙◌, subst, arith, inl, inr, ⊎_elim, nat_lt}
 use Rattle.std.specs.Prelude.{IsTrue, ◌↔◌}
 use Rattle.std.specs.List.{All}
 use Rattle.std.proofs.lemmas.Bool.{cases_lt, cases_eq, false≢true}
 use Rattle.std.proofs.lemmas.List.{append-nil, ext_get_or, get_or-take, get_or-drop, length-take-le, length-drop, length-replicate, take-append-drop}
 use Rattle.std.proofs.lemmas.List.Elements.{All-take, All-drop, All-cons, All-nil, All-replicate}
-use Rattle.pm_words.specs.Watch.{IsSomeWatched, KeepsWatch, is_watched, times}
+use Rattle.pm_words.specs.Watch.{IsSomeWatched, KeepsWatch, times}
 use Rattle.pm_words.specs.Words.{Contents, filled, IsMemory, byte_at, bytes_at, bytes_of, copied, moved_down, moved_up, with_byte, with_bytes, with_word, word_at}
 use Rattle.pm_words.proofs.Pairs.{words_of-bytes_of}
 use Rattle.pm_words.proofs.Laws.{AreMemoryBytes-bytes_of, IsMemory-with_bytes, byte_at-even, byte_at-odd, byte_at-with_bytes, byte_at-with_bytes_other, word_at-bytes, word_at-with_word, word_at-with_word_other}

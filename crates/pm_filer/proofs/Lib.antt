@@ -4,3 +4,5 @@ pub mod Made
 pub mod SameNames
 pub mod FoundFiles
 pub mod GivenLaws
+pub mod TextLaws
+pub mod ChangeLaws

@@ -1,10 +1,11 @@
 -- What the names of a volume give, before a command and after it.
-use Rattle.std.specs.Prelude.{◌≡◌, ◌<◌, ℕ, Bool, false, List, Option, Some, Ok, if◌then◌else◌}
+use Rattle.std.specs.Prelude.{◌≡◌, ◌<◌, ℕ, true, false, List, Option, Some, Ok, if◌then◌else◌}
 use Rattle.std.specs.List.{All}
 use Rattle.pm_volume.specs.Directory.{IsVolume}
 use Rattle.pm_volume.specs.Files.{file_named}
 use Rattle.pm_volume.specs.Names.{is_same_name}
-use Rattle.pm_filer.specs.Filed.{Filed, Order, Put, Remove, Change, Krunch, Date, Duplicate, Single, bytes_of, filed}
+use Rattle.pm_textfile.specs.Writing.{completed}
+use Rattle.pm_filer.specs.Filed.{Bytes, Filed, Order, Put, Remove, Change, GetText, PutText, Krunch, Date, Duplicate, Single, bytes_of, filed}
 
 -- what a name gives: the bytes of the first file of that name, none where there is no such file
 abbrev pub given : List ℕ → List ℕ → Option (List ℕ)
@@ -20,6 +21,32 @@ abbrev pub PutIsGot : Type 0
 PutIsGot =
     (image name : List ℕ) (kind : ℕ) (bytes : List ℕ) (f : Filed) → IsVolumeOfBytes image → filed image (Put name kind bytes) ≡ Ok f
     → (other : List ℕ) → given f.image other ≡ (if is_same_name name other then Some bytes else given image other)
+
+-- a text that is put under a name is got under it, in either case of letters, with its last line ended
+abbrev pub TextIsGot : Type 0
+TextIsGot =
+    (image name text : List ℕ) (f : Filed) → IsVolumeOfBytes image → filed image (PutText name text) ≡ Ok f
+    → (other : List ℕ) → is_same_name name other ≡ true
+    → filed f.image (GetText other) ≡ Ok (record { image = f.image; answer = Bytes (completed text) })
+
+-- and every other name gives what it gave
+abbrev pub TextKeepsOthers : Type 0
+TextKeepsOthers =
+    (image name text : List ℕ) (f : Filed) → IsVolumeOfBytes image → filed image (PutText name text) ≡ Ok f
+    → (other : List ℕ) → is_same_name name other ≡ false → given f.image other ≡ given image other
+
+-- after a change the new name, in either case of letters, gives what the old one gave
+abbrev pub NewNameGives : Type 0
+NewNameGives =
+    (image old new : List ℕ) (f : Filed) → IsVolume image → filed image (Change old new) ≡ Ok f
+    → (other : List ℕ) → is_same_name new other ≡ true → given f.image other ≡ given image old
+
+-- and every name that is neither of them gives what it gave
+abbrev pub ChangeKeepsOthers : Type 0
+ChangeKeepsOthers =
+    (image old new : List ℕ) (f : Filed) → IsVolume image → filed image (Change old new) ≡ Ok f
+    → (other : List ℕ) → is_same_name new other ≡ false → is_same_name old other ≡ false
+    → given f.image other ≡ given image other
 
 -- after a removal every other name gives what it gave
 abbrev pub RemovalKeepsOthers : Type 0

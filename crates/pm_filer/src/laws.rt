@@ -1,9 +1,30 @@
 //! Laws of commands. The functions do nothing.
-ghost use Rattle.pm_filer.specs.Laws.{NamesAreKept, PutIsGot, RemovalKeepsOthers};
+ghost use Rattle.pm_filer.specs.Laws.{
+  ChangeKeepsOthers,
+  NamesAreKept,
+  NewNameGives,
+  PutIsGot,
+  RemovalKeepsOthers,
+  TextIsGot,
+  TextKeepsOthers,
+};
 
 /// What is put under a name is got under it, in either case of letters, and every other name gives what it gave.
 pub fn put_is_got()
     ensures law { PutIsGot }
+{}
+
+/// A text that is put under a name is got under it, in either case of letters, with its last line ended; every other
+/// name gives what it gave.
+pub fn text_is_got()
+    ensures law { TextIsGot }
+    ensures others { TextKeepsOthers }
+{}
+
+/// After `Change` the new name gives what the old one gave, and every name that is neither of them gives what it gave.
+pub fn change_moves_the_name()
+    ensures law { NewNameGives }
+    ensures others { ChangeKeepsOthers }
 {}
 
 /// After the removal of a file every other name gives what it gave.

@@ -27,7 +27,7 @@ use Rattle.pm_filer.proofs.FoundFiles.{found_beside, found_kept, found_left, fou
 use Rattle.pm_filer.proofs.SameNames.{named-new, same-from_upper, same-right, upper-from_same}
 
 -- a word of a directory of bytes
-word_fits : (image : List ℕ) → IsVolumeOfBytes image → (place : ℕ) → place + 2 ≤ 2048 → word_in (directory_of image) place < 65536
+pub word_fits : (image : List ℕ) → IsVolumeOfBytes image → (place : ℕ) → place + 2 ≤ 2048 → word_in (directory_of image) place < 65536
 unfolding word_in
 word_fits image b place room =
     let low : get_or image (1024 + place) 0 < 256 = b.bytes (1024 + place) 0 (omega (arith, b.volume.long)) in
@@ -38,7 +38,7 @@ pub changed-ok : (r : Result (List ℕ) VolumeFault) (f : Filed) → changed r �
 changed-ok (Ok image) f h = cc
 changed-ok (Err fault) f h = cc
 
-added-ok : (image name : List ℕ) (kind : ℕ) (bytes : List ℕ) (day : ℕ) (r : Result _ VolumeFault) (new : List ℕ) → added_in image name kind bytes day r ≡ Ok new
+pub added-ok : (image name : List ℕ) (kind : ℕ) (bytes : List ℕ) (day : ℕ) (r : Result _ VolumeFault) (new : List ℕ) → added_in image name kind bytes day r ≡ Ok new
     → (g : _) × (r ≡ Ok g) × (mirrored (with_file image g.place (new_entry g name kind (length bytes) day) bytes) ≡ new)
 added-ok image name kind bytes day (Ok g) new h = (g, refl, cc)
 added-ok image name kind bytes day (Err fault) new h = cc
@@ -88,6 +88,20 @@ module _ (image name : List ℕ) (kind : ℕ) (bytes : List ℕ) (g : _) (b : Is
         date = word_fits image b 20 (omega arith);
       }
 
+  -- the file is found by its name
+  pub put_found : (other : List ℕ) → is_same_name name other ≡ true
+      → file_named (mirrored (with_file image g.place (new_entry g name kind (length bytes) (last_date_of (directory_of image))) bytes)) other
+      ≡ Some (new_entry g name kind (length bytes) (last_date_of (directory_of image)))
+  put_found other same =
+      let day = last_date_of (directory_of image) in
+      let e = new_entry g name kind (length bytes) day in
+      let c = Changed-added image name bytes kind day g b.volume p fit in
+      let own : is_named other e ≡ is_same_name name other = named-new 15 name other in
+      let none : find (is_named other) (files_of image) ≡ None =
+      find_same (is_named other) (is_named name) (files_of image) (λ x. same-right _ other name (sym (upper-from_same name other same)))
+      ∙ not_there image name (blocks_for (length bytes)) g found in
+      rw c.files (found_new (is_named other) (files_of image) (g.place - 1) e (own ∙ same) none)
+
   put_given : (other : List ℕ)
       → given (mirrored (with_file image g.place (new_entry g name kind (length bytes) (last_date_of (directory_of image))) bytes)) other
       ≡ cond (is_same_name name other) (Some bytes) (given image other)
@@ -98,11 +112,7 @@ module _ (image name : List ℕ) (kind : ℕ) (bytes : List ℕ) (g : _) (b : Is
       let c = Changed-added image name bytes kind day g b.volume p fit in
       let own : is_named other e ≡ is_same_name name other = named-new 15 name other in
       elim (cases_Bool (is_same_name name other)) [
-        | inl same ↦
-            let none : find (is_named other) (files_of image) ≡ None =
-            find_same (is_named other) (is_named name) (files_of image) (λ x. same-right _ other name (sym (upper-from_same name other same))) ∙ not_there image name (blocks_for (length bytes)) g found in
-            let at = found_new (is_named other) (files_of image) (g.place - 1) e (own ∙ same) none in
-            rw (same, c.files, at) (bytes-added_second image name bytes kind day g b.volume p fit)
+        | inl same ↦ rw (same, put_found other same) (bytes-added_second image name bytes kind day g b.volume p fit)
         | inr unlike ↦
             let at = found_beside (is_named other) (files_of image) (g.place - 1) e (own ∙ unlike) in
             rw (unlike, c.files, at) (found_kept (is_named other) image new (files_of image) c.kept)

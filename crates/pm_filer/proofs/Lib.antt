@@ -6,3 +6,5 @@ pub mod FoundFiles
 pub mod GivenLaws
 pub mod TextLaws
 pub mod ChangeLaws
+pub mod FreeLaws
+pub mod LowestLaws

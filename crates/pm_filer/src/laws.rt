@@ -1,9 +1,12 @@
 //! Laws of commands. The functions do nothing.
 ghost use Rattle.pm_filer.specs.Laws.{
   ChangeKeepsOthers,
+  KrunchKeepsFree,
+  KrunchLeavesOneGap,
   NamesAreKept,
   NewNameGives,
   PutIsGot,
+  PutIsLowest,
   RemovalKeepsOthers,
   TextIsGot,
   TextKeepsOthers,
@@ -35,4 +38,15 @@ pub fn removal_keeps_others()
 /// After `Krunch`, `Date`, `Duplicate` and `Single` every name gives what it gave.
 pub fn names_are_kept()
     ensures law { NamesAreKept }
+{}
+
+/// A file with bytes is put in the lowest free blocks that hold them.
+pub fn put_is_lowest()
+    ensures law { PutIsLowest }
+{}
+
+/// After `Krunch` as many blocks are free as before, and where no file is bad blocks they are one gap.
+pub fn krunch_joins_free_blocks()
+    ensures law { KrunchKeepsFree }
+    ensures gap { KrunchLeavesOneGap }
 {}

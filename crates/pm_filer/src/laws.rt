@@ -1,4 +1,4 @@
-//! Laws of commands. The functions do nothing.
+//! Laws of commands, and of what a second copy of the directory is good for. The functions do nothing.
 ghost use Rattle.pm_filer.specs.Laws.{
   ChangeKeepsOthers,
   KrunchKeepsFree,
@@ -11,6 +11,7 @@ ghost use Rattle.pm_filer.specs.Laws.{
   TextIsGot,
   TextKeepsOthers,
 };
+ghost use Rattle.pm_volume.specs.Laws.{DamageIsUndone, GoodImagesStay, SecondCopySaves};
 
 /// What is put under a name is got under it, in either case of letters, and every other name gives what it gave.
 pub fn put_is_got()
@@ -49,4 +50,22 @@ pub fn put_is_lowest()
 pub fn krunch_joins_free_blocks()
     ensures law { KrunchKeepsFree }
     ensures gap { KrunchLeavesOneGap }
+{}
+
+/// Whatever bytes stand in blocks 2 to 5 of an image whose second copy of the directory is good, `Volume::open` opens it
+/// by the first copy or answers `FirstCopyBad`, and then `Volume::repair` gives a volume with the files of the second
+/// copy, each with its bytes.
+pub fn second_copy_saves()
+    ensures law { SecondCopySaves }
+{}
+
+/// A volume with two equal copies of its directory whose first copy is overwritten opens by what was written, or
+/// `Volume::repair` gives back the volume that it was.
+pub fn damage_is_undone()
+    ensures law { DamageIsUndone }
+{}
+
+/// `Volume::repair` leaves an image that opens as it is, also where its copies differ.
+pub fn good_images_stay()
+    ensures law { GoodImagesStay }
 {}

@@ -1,5 +1,5 @@
 -- What the names of a volume give, before a command and after it.
-use Rattle.std.specs.Prelude.{◌≡◌, ◌≢◌, ◌⊎◌, ◌<◌, ◌≤◌, ◌+◌, ℕ, length, true, false, List, Option, Some, Ok, if◌then◌else◌}
+use Rattle.std.specs.Prelude.{◌≡◌, ◌≢◌, ◌⊎◌, ◌<◌, ◌≤◌, ◌+◌, ℕ, length, true, false, List, Option, Some, Ok, Err, if◌then◌else◌}
 use Rattle.std.specs.List.{All}
 use Rattle.pm_volume.specs.Changes.{blocks_for}
 use Rattle.pm_volume.specs.Directory.{IsVolume, block_count, directory_of, files_begin, files_in}
@@ -7,6 +7,8 @@ use Rattle.pm_volume.specs.Files.{file_named, files_of}
 use Rattle.pm_volume.specs.Names.{is_same_name}
 use Rattle.pm_volume.specs.Space.{free_blocks, largest_gap}
 use Rattle.pm_volume.specs.declared.entry.Entry.{Entry}
+use Rattle.pm_volume.specs.declared.fault.VolumeFault.TheVariants.{NoRoom}
+use Rattle.pm_filer.specs.declared.fault.FilerFault.TheVariants.{Volume}
 use Rattle.pm_textfile.specs.Writing.{completed}
 use Rattle.pm_filer.specs.Filed.{Bytes, Filed, Order, Put, Remove, Change, GetText, PutText, Krunch, Date, Duplicate, Single, bytes_of, filed}
 
@@ -88,6 +90,13 @@ PutIsLowest =
     (image name : List ℕ) (kind : ℕ) (bytes : List ℕ) (f : Filed) → IsVolumeOfBytes image
     → filed image (Put name kind bytes) ≡ Ok f → 1 ≤ length bytes
     → (e : Entry) → file_named f.image name ≡ Some e → IsLowest (directory_of image) (blocks_for (length bytes)) e
+
+-- and where it is refused for want of room, no free blocks hold them
+abbrev pub PutFindsRoom : Type 0
+PutFindsRoom =
+    (image name : List ℕ) (kind : ℕ) (bytes : List ℕ) → filed image (Put name kind bytes) ≡ Err (Volume NoRoom)
+    → 1 ≤ length bytes
+    → (begin : ℕ) → AreFree (directory_of image) begin (begin + blocks_for (length bytes)) → ⊥
 
 -- after Krunch as many blocks are free as before
 abbrev pub KrunchKeepsFree : Type 0

@@ -5,6 +5,7 @@ ghost use Rattle.pm_filer.specs.Laws.{
   KrunchLeavesOneGap,
   NamesAreKept,
   NewNameGives,
+  PutFindsRoom,
   PutIsGot,
   PutIsLowest,
   RemovalKeepsOthers,
@@ -41,9 +42,11 @@ pub fn names_are_kept()
     ensures law { NamesAreKept }
 {}
 
-/// A file with bytes is put in the lowest free blocks that hold them.
+/// A file with bytes is put in the lowest free blocks that hold them, and `NoRoom` is answered only where there are
+/// none.
 pub fn put_is_lowest()
     ensures law { PutIsLowest }
+    ensures room { PutFindsRoom }
 {}
 
 /// After `Krunch` as many blocks are free as before, and where no file is bad blocks they are one gap.
@@ -52,9 +55,9 @@ pub fn krunch_joins_free_blocks()
     ensures gap { KrunchLeavesOneGap }
 {}
 
-/// Whatever bytes stand in blocks 2 to 5 of an image whose second copy of the directory is good, `Volume::open` opens it
-/// by the first copy or answers `FirstCopyBad`, and then `Volume::repair` gives a volume with the files of the second
-/// copy, each with its bytes.
+/// Whatever bytes stand in blocks 2 to 5 of an image whose second copy of the directory is good, `Volume::open` opens
+/// it by the first copy or answers `FirstCopyBad`, and then `Volume::repair` gives a volume with the files of the
+/// second copy, each with its bytes.
 pub fn second_copy_saves()
     ensures law { SecondCopySaves }
 {}

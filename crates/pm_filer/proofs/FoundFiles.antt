@@ -1,11 +1,11 @@
 -- What is found in changed lists of files.
-use Rattle.std.proofs.Common.{◌≡◌, ◌<◌, ◌≤◌, ℕ, zero, suc, ◌+◌, ◌-◌, ◌*◌, Bool, true, false, List, [], ◌∷◌, ◌++◌, ◌∙◌, ap, sym, refl, inl, inr, length, take, drop, get_or, Option, Some, None, arith, subst}
+use Rattle.std.proofs.Common.{◌≡◌, ◌<◌, ◌≤◌, ℕ, zero, suc, ◌+◌, ◌-◌, Bool, true, false, List, [], ◌∷◌, refl, inl, inr, length, Some, None, arith}
 use Rattle.std.proofs.lemmas.Bool.{cases_Bool}
 use Rattle.std.proofs.lemmas.List.Elements.{All-head, All-tail}
 use Rattle.std.specs.List.{All, AllZip, find, insert, position_from, remove}
-use Rattle.pm_volume.specs.Files.{file_bytes, files_of, is_named}
+use Rattle.pm_volume.specs.Files.{files_of, is_named}
 use Rattle.pm_volume.specs.Kept.{KeepsFile, KeepsFiles}
-use Rattle.pm_volume.specs.Packing.{MovesFile, moved_entry, new_place, packed}
+use Rattle.pm_volume.specs.Packing.{MovesFile, new_place, packed}
 use Rattle.pm_volume.specs.declared.entry.Entry.{Entry}
 use Rattle.pm_filer.specs.Filed.{bytes_of}
 use Rattle.pm_filer.specs.Laws.{given}

@@ -1,12 +1,11 @@
 -- What names give after a command.
-use Rattle.std.proofs.Common.{◌≡◌, ◌<◌, ◌≤◌, ℕ, ◌+◌, ◌-◌, ◌*◌, ◌%◌, ◌/◌, Bool, true, false, cond, not, leb, ltb, List, [], ◌∷◌, ◌∙◌, ap, sym, refl, inl, inr, length, get_or, Option, Some, None, is_some, Result, Ok, Err, arith, subst}
+use Rattle.std.proofs.Common.{◌≡◌, ◌<◌, ◌≤◌, ℕ, ◌+◌, ◌-◌, Bool, true, false, cond, not, ltb, List, [], ◌∷◌, ◌∙◌, sym, refl, inl, inr, length, get_or, Option, Some, None, is_some, Result, Ok, Err, arith, subst}
 use Rattle.std.proofs.lemmas.Bool.{cases_Bool, ltb-false}
-use Rattle.std.specs.List.{All, find, insert, position_from}
-use Rattle.std.specs.Option.{ok_or}
-use Rattle.pm_volume.specs.Changes.{FitsSlot, blocks_for, gap_for, new_entry, place_for, slot_named, with_file, without_file}
+use Rattle.std.specs.List.{find}
+use Rattle.pm_volume.specs.Changes.{FitsSlot, blocks_for, new_entry, place_for, slot_named, with_file, without_file}
 use Rattle.pm_volume.specs.Copies.{mirrored}
 use Rattle.pm_volume.specs.Directory.{IsVolume, block_count, directory_of, file_count, files_begin}
-use Rattle.pm_volume.specs.Files.{file_bytes, file_named, files_of, is_named}
+use Rattle.pm_volume.specs.Files.{file_named, files_of, is_named}
 use Rattle.pm_volume.specs.Headers.{dated_image, last_date_of}
 use Rattle.pm_volume.specs.Made.{added, added_in, begun_at, doubled, singled, is_occupied, removed, removed_at}
 use Rattle.pm_volume.specs.Packing.{krunched_image}
@@ -22,26 +21,24 @@ use Rattle.pm_volume.proofs.PlaceLaws.{IsPlaced, IsPlaced-from_ok, IsRoomFor-pla
 use Rattle.pm_volume.proofs.SecondLaws.{Changed-added, Changed-dated, Changed-removed, bytes-added_second}
 use Rattle.pm_volume.proofs.SingledLaws.{Recopied-singled}
 use Rattle.pm_volume.proofs.SlotChanges.{length-entries_from}
-use Rattle.pm_filer.specs.Filed.{Filed, Order, bytes_of, changed, date_word, filed, is_date}
-use Rattle.pm_filer.specs.Laws.{IsVolumeOfBytes, KeepsNames, NamesAreKept, PutIsGot, RemovalKeepsOthers, duplicate, date, given, krunch, single}
-use Rattle.pm_filer.specs.declared.fault.FilerFault.{FilerFault}
-use Rattle.pm_filer.specs.declared.fault.FilerFault.TheVariants as faults
+use Rattle.pm_filer.specs.Filed.{Filed, changed, date_word, filed, is_date}
+use Rattle.pm_filer.specs.Laws.{IsVolumeOfBytes, NamesAreKept, PutIsGot, RemovalKeepsOthers, duplicate, date, given, krunch, single}
 use Rattle.pm_filer.proofs.FoundFiles.{found_beside, found_kept, found_left, found_moved, found_new, given_kept, position-within}
-use Rattle.pm_filer.proofs.SameNames.{named-new, same-from_upper, same-left, same-right, upper, upper-from_same}
+use Rattle.pm_filer.proofs.SameNames.{named-new, same-from_upper, same-right, upper-from_same}
 
 -- a word of a directory of bytes
-word_fits : (image : List ℕ) → IsVolumeOfBytes image → (place : ℕ) → place + 2 ≤ 2048 → word_in (directory_of image) place < 65536
+pub word_fits : (image : List ℕ) → IsVolumeOfBytes image → (place : ℕ) → place + 2 ≤ 2048 → word_in (directory_of image) place < 65536
 unfolding word_in
 word_fits image b place room =
     let low : get_or image (1024 + place) 0 < 256 = b.bytes (1024 + place) 0 (omega (arith, b.volume.long)) in
     let high : get_or image (1024 + (place + 1)) 0 < 256 = b.bytes (1024 + (place + 1)) 0 (omega (arith, b.volume.long)) in
     rw (directory_byte image place (omega arith), directory_byte image (place + 1) (omega arith)) (omega arith)
 
-changed-ok : (r : Result (List ℕ) VolumeFault) (f : Filed) → changed r ≡ Ok f → r ≡ Ok f.image
+pub changed-ok : (r : Result (List ℕ) VolumeFault) (f : Filed) → changed r ≡ Ok f → r ≡ Ok f.image
 changed-ok (Ok image) f h = cc
 changed-ok (Err fault) f h = cc
 
-added-ok : (image name : List ℕ) (kind : ℕ) (bytes : List ℕ) (day : ℕ) (r : Result _ VolumeFault) (new : List ℕ) → added_in image name kind bytes day r ≡ Ok new
+pub added-ok : (image name : List ℕ) (kind : ℕ) (bytes : List ℕ) (day : ℕ) (r : Result _ VolumeFault) (new : List ℕ) → added_in image name kind bytes day r ≡ Ok new
     → (g : _) × (r ≡ Ok g) × (mirrored (with_file image g.place (new_entry g name kind (length bytes) day) bytes) ≡ new)
 added-ok image name kind bytes day (Ok g) new h = (g, refl, cc)
 added-ok image name kind bytes day (Err fault) new h = cc
@@ -50,11 +47,11 @@ removed-ok : (image : List ℕ) (o : Option ℕ) (new : List ℕ) → removed_at
 removed-ok image (Some slot) new h = (slot, refl, cc)
 removed-ok image None new h = cc
 
-passed : {A : Type 0} (b : Bool) (f : VolumeFault) (rest : Result A VolumeFault) (y : A) → cond (not b) (Err f) rest ≡ Ok y → rest ≡ Ok y
+pub passed : {A : Type 0} (b : Bool) (f : VolumeFault) (rest : Result A VolumeFault) (y : A) → cond (not b) (Err f) rest ≡ Ok y → rest ≡ Ok y
 passed true f rest y h = h
 passed false f rest y h = cc
 
-missed : {A : Type 0} (b : Bool) (f : VolumeFault) (rest : Result A VolumeFault) (y : A) → cond b (Err f) rest ≡ Ok y → (b ≡ false) × (rest ≡ Ok y)
+pub missed : {A : Type 0} (b : Bool) (f : VolumeFault) (rest : Result A VolumeFault) (y : A) → cond b (Err f) rest ≡ Ok y → (b ≡ false) × (rest ≡ Ok y)
 missed true f rest y h = cc
 missed false f rest y h = (refl, h)
 
@@ -91,6 +88,20 @@ module _ (image name : List ℕ) (kind : ℕ) (bytes : List ℕ) (g : _) (b : Is
         date = word_fits image b 20 (omega arith);
       }
 
+  -- the file is found by its name
+  pub put_found : (other : List ℕ) → is_same_name name other ≡ true
+      → file_named (mirrored (with_file image g.place (new_entry g name kind (length bytes) (last_date_of (directory_of image))) bytes)) other
+      ≡ Some (new_entry g name kind (length bytes) (last_date_of (directory_of image)))
+  put_found other same =
+      let day = last_date_of (directory_of image) in
+      let e = new_entry g name kind (length bytes) day in
+      let c = Changed-added image name bytes kind day g b.volume p fit in
+      let own : is_named other e ≡ is_same_name name other = named-new 15 name other in
+      let none : find (is_named other) (files_of image) ≡ None =
+      find_same (is_named other) (is_named name) (files_of image) (λ x. same-right _ other name (sym (upper-from_same name other same)))
+      ∙ not_there image name (blocks_for (length bytes)) g found in
+      rw c.files (found_new (is_named other) (files_of image) (g.place - 1) e (own ∙ same) none)
+
   put_given : (other : List ℕ)
       → given (mirrored (with_file image g.place (new_entry g name kind (length bytes) (last_date_of (directory_of image))) bytes)) other
       ≡ cond (is_same_name name other) (Some bytes) (given image other)
@@ -101,11 +112,7 @@ module _ (image name : List ℕ) (kind : ℕ) (bytes : List ℕ) (g : _) (b : Is
       let c = Changed-added image name bytes kind day g b.volume p fit in
       let own : is_named other e ≡ is_same_name name other = named-new 15 name other in
       elim (cases_Bool (is_same_name name other)) [
-        | inl same ↦
-            let none : find (is_named other) (files_of image) ≡ None =
-            find_same (is_named other) (is_named name) (files_of image) (λ x. same-right _ other name (sym (upper-from_same name other same))) ∙ not_there image name (blocks_for (length bytes)) g found in
-            let at = found_new (is_named other) (files_of image) (g.place - 1) e (own ∙ same) none in
-            rw (same, c.files, at) (bytes-added_second image name bytes kind day g b.volume p fit)
+        | inl same ↦ rw (same, put_found other same) (bytes-added_second image name bytes kind day g b.volume p fit)
         | inr unlike ↦
             let at = found_beside (is_named other) (files_of image) (g.place - 1) e (own ∙ unlike) in
             rw (unlike, c.files, at) (found_kept (is_named other) image new (files_of image) c.kept)

@@ -4,3 +4,7 @@ pub mod Made
 pub mod SameNames
 pub mod FoundFiles
 pub mod GivenLaws
+pub mod TextLaws
+pub mod ChangeLaws
+pub mod FreeLaws
+pub mod LowestLaws

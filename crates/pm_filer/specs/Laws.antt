@@ -1,10 +1,16 @@
 -- What the names of a volume give, before a command and after it.
-use Rattle.std.specs.Prelude.{◌≡◌, ◌<◌, ℕ, Bool, false, List, Option, Some, Ok, if◌then◌else◌}
+use Rattle.std.specs.Prelude.{◌≡◌, ◌≢◌, ◌⊎◌, ◌<◌, ◌≤◌, ◌+◌, ℕ, length, true, false, List, Option, Some, Ok, Err, if◌then◌else◌}
 use Rattle.std.specs.List.{All}
-use Rattle.pm_volume.specs.Directory.{IsVolume}
-use Rattle.pm_volume.specs.Files.{file_named}
+use Rattle.pm_volume.specs.Changes.{blocks_for}
+use Rattle.pm_volume.specs.Directory.{IsVolume, block_count, directory_of, files_begin, files_in}
+use Rattle.pm_volume.specs.Files.{file_named, files_of}
 use Rattle.pm_volume.specs.Names.{is_same_name}
-use Rattle.pm_filer.specs.Filed.{Filed, Order, Put, Remove, Change, Krunch, Date, Duplicate, Single, bytes_of, filed}
+use Rattle.pm_volume.specs.Space.{free_blocks, largest_gap}
+use Rattle.pm_volume.specs.declared.entry.Entry.{Entry}
+use Rattle.pm_volume.specs.declared.fault.VolumeFault.TheVariants.{NoRoom}
+use Rattle.pm_filer.specs.declared.fault.FilerFault.TheVariants.{Volume}
+use Rattle.pm_textfile.specs.Writing.{completed}
+use Rattle.pm_filer.specs.Filed.{Bytes, Filed, Order, Put, Remove, Change, GetText, PutText, Krunch, Date, Duplicate, Single, bytes_of, filed}
 
 -- what a name gives: the bytes of the first file of that name, none where there is no such file
 abbrev pub given : List ℕ → List ℕ → Option (List ℕ)
@@ -20,6 +26,32 @@ abbrev pub PutIsGot : Type 0
 PutIsGot =
     (image name : List ℕ) (kind : ℕ) (bytes : List ℕ) (f : Filed) → IsVolumeOfBytes image → filed image (Put name kind bytes) ≡ Ok f
     → (other : List ℕ) → given f.image other ≡ (if is_same_name name other then Some bytes else given image other)
+
+-- a text that is put under a name is got under it, in either case of letters, with its last line ended
+abbrev pub TextIsGot : Type 0
+TextIsGot =
+    (image name text : List ℕ) (f : Filed) → IsVolumeOfBytes image → filed image (PutText name text) ≡ Ok f
+    → (other : List ℕ) → is_same_name name other ≡ true
+    → filed f.image (GetText other) ≡ Ok (record { image = f.image; answer = Bytes (completed text) })
+
+-- and every other name gives what it gave
+abbrev pub TextKeepsOthers : Type 0
+TextKeepsOthers =
+    (image name text : List ℕ) (f : Filed) → IsVolumeOfBytes image → filed image (PutText name text) ≡ Ok f
+    → (other : List ℕ) → is_same_name name other ≡ false → given f.image other ≡ given image other
+
+-- after a change the new name, in either case of letters, gives what the old one gave
+abbrev pub NewNameGives : Type 0
+NewNameGives =
+    (image old new : List ℕ) (f : Filed) → IsVolume image → filed image (Change old new) ≡ Ok f
+    → (other : List ℕ) → is_same_name new other ≡ true → given f.image other ≡ given image old
+
+-- and every name that is neither of them gives what it gave
+abbrev pub ChangeKeepsOthers : Type 0
+ChangeKeepsOthers =
+    (image old new : List ℕ) (f : Filed) → IsVolume image → filed image (Change old new) ≡ Ok f
+    → (other : List ℕ) → is_same_name new other ≡ false → is_same_name old other ≡ false
+    → given f.image other ≡ given image other
 
 -- after a removal every other name gives what it gave
 abbrev pub RemovalKeepsOthers : Type 0
@@ -39,3 +71,41 @@ abbrev pub NamesAreKept : Type 0
 NamesAreKept =
     (image : List ℕ) (order : Order) (f : Filed) → IsVolumeOfBytes image → KeepsNames order → filed image order ≡ Ok f
     → (name : List ℕ) → given f.image name ≡ given image name
+
+-- the blocks from one up to another are free: they lie where files may, and each file ends before or begins behind them
+pub record AreFree (directory : List ℕ) (begin end : ℕ) : Type 0 where
+  pub after : files_begin directory ≤ begin
+  pub within : end ≤ block_count directory
+  pub apart : All (λ e. (e.end ≤ begin) ⊎ (end ≤ e.first)) (files_in directory)
+
+-- a file stands in the lowest so many blocks that were free
+pub record IsLowest (directory : List ℕ) (count : ℕ) (e : Entry) : Type 0 where
+  pub blocks : e.end ≡ e.first + count
+  pub free : AreFree directory e.first e.end
+  pub lowest : (begin : ℕ) → AreFree directory begin (begin + count) → e.first ≤ begin
+
+-- a file with bytes is put in the lowest free blocks that hold them
+abbrev pub PutIsLowest : Type 0
+PutIsLowest =
+    (image name : List ℕ) (kind : ℕ) (bytes : List ℕ) (f : Filed) → IsVolumeOfBytes image
+    → filed image (Put name kind bytes) ≡ Ok f → 1 ≤ length bytes
+    → (e : Entry) → file_named f.image name ≡ Some e → IsLowest (directory_of image) (blocks_for (length bytes)) e
+
+-- and where it is refused for want of room, no free blocks hold them
+abbrev pub PutFindsRoom : Type 0
+PutFindsRoom =
+    (image name : List ℕ) (kind : ℕ) (bytes : List ℕ) → filed image (Put name kind bytes) ≡ Err (Volume NoRoom)
+    → 1 ≤ length bytes
+    → (begin : ℕ) → AreFree (directory_of image) begin (begin + blocks_for (length bytes)) → ⊥
+
+-- after Krunch as many blocks are free as before
+abbrev pub KrunchKeepsFree : Type 0
+KrunchKeepsFree =
+    (image : List ℕ) (f : Filed) → IsVolumeOfBytes image → filed image Krunch ≡ Ok f
+    → free_blocks f.image ≡ free_blocks image
+
+-- and where no file is bad blocks, they are one gap
+abbrev pub KrunchLeavesOneGap : Type 0
+KrunchLeavesOneGap =
+    (image : List ℕ) (f : Filed) → IsVolumeOfBytes image → filed image Krunch ≡ Ok f
+    → All (λ (e : Entry). e.kind ≢ 1) (files_of image) → largest_gap f.image ≡ free_blocks f.image

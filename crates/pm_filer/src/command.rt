@@ -29,7 +29,8 @@ pub enum Command {
     GetText(String),
     /// Adds a file of this name and kind 3, the text file of this text, with the volume's last date.
     PutText(String, Vec<u8>),
-    /// Moves the files together; bad blocks stay.
+    /// Moves the files together; bad blocks stay. As many blocks are free as before, in one gap where there are no bad
+    /// blocks.
     Krunch,
     /// Sets the volume's last date: year 0 to 127, month 1 to 12, day 1 to 31.
     Date(u8, u8, u8),

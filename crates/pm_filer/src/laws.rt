@@ -1,9 +1,35 @@
-//! Laws of commands. The functions do nothing.
-ghost use Rattle.pm_filer.specs.Laws.{NamesAreKept, PutIsGot, RemovalKeepsOthers};
+//! Laws of commands, and of what a second copy of the directory is good for. The functions do nothing.
+ghost use Rattle.pm_filer.specs.Laws.{
+  ChangeKeepsOthers,
+  KrunchKeepsFree,
+  KrunchLeavesOneGap,
+  NamesAreKept,
+  NewNameGives,
+  PutFindsRoom,
+  PutIsGot,
+  PutIsLowest,
+  RemovalKeepsOthers,
+  TextIsGot,
+  TextKeepsOthers,
+};
+ghost use Rattle.pm_volume.specs.Laws.{DamageIsUndone, GoodImagesStay, SecondCopySaves};
 
 /// What is put under a name is got under it, in either case of letters, and every other name gives what it gave.
 pub fn put_is_got()
     ensures law { PutIsGot }
+{}
+
+/// A text that is put under a name is got under it, in either case of letters, with its last line ended; every other
+/// name gives what it gave.
+pub fn text_is_got()
+    ensures law { TextIsGot }
+    ensures others { TextKeepsOthers }
+{}
+
+/// After `Change` the new name gives what the old one gave, and every name that is neither of them gives what it gave.
+pub fn change_moves_the_name()
+    ensures law { NewNameGives }
+    ensures others { ChangeKeepsOthers }
 {}
 
 /// After the removal of a file every other name gives what it gave.
@@ -14,4 +40,35 @@ pub fn removal_keeps_others()
 /// After `Krunch`, `Date`, `Duplicate` and `Single` every name gives what it gave.
 pub fn names_are_kept()
     ensures law { NamesAreKept }
+{}
+
+/// A file with bytes is put in the lowest free blocks that hold them, and `NoRoom` is answered only where there are
+/// none.
+pub fn put_is_lowest()
+    ensures law { PutIsLowest }
+    ensures room { PutFindsRoom }
+{}
+
+/// After `Krunch` as many blocks are free as before, and where no file is bad blocks they are one gap.
+pub fn krunch_joins_free_blocks()
+    ensures law { KrunchKeepsFree }
+    ensures gap { KrunchLeavesOneGap }
+{}
+
+/// Whatever bytes stand in blocks 2 to 5 of an image whose second copy of the directory is good, `Volume::open` opens
+/// it by the first copy or answers `FirstCopyBad`, and then `Volume::repair` gives a volume with the files of the
+/// second copy, each with its bytes.
+pub fn second_copy_saves()
+    ensures law { SecondCopySaves }
+{}
+
+/// A volume with two equal copies of its directory whose first copy is overwritten opens by what was written, or
+/// `Volume::repair` gives back the volume that it was.
+pub fn damage_is_undone()
+    ensures law { DamageIsUndone }
+{}
+
+/// `Volume::repair` leaves an image that opens as it is, also where its copies differ.
+pub fn good_images_stay()
+    ensures law { GoodImagesStay }
 {}

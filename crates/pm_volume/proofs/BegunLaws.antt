@@ -1,6 +1,6 @@
 -- Directories whose files begin at another block.
 use Rattle.byteorder.specs.Endian.{little_bytes}
-use Rattle.std.proofs.Common.{◌≡◌, ◌<◌, ◌≤◌, ◌⊎◌, ltb, false, true, ℕ, ◌+◌, ◌-◌, ◌*◌, ◌/◌, ◌%◌, List, [], ◌∷◌, ◌∙◌, ◌==◌, ◌&&◌, leb, ap, inl, inr, length, arith}
+use Rattle.std.proofs.Common.{◌≡◌, ◌<◌, ◌≤◌, ◌⊎◌, ltb, false, true, ℕ, ◌+◌, ◌-◌, ◌/◌, List, [], ◌∷◌, ◌∙◌, ◌==◌, leb, ap, inl, inr, length, arith}
 use Rattle.std.proofs.lemmas.Bool.{and_parts, eqb-true, ltb-false, or_parts}
 use Rattle.std.proofs.lemmas.Bool.Decides.{nat_tests}
 use Rattle.std.specs.List.{All, list_any}

@@ -1,14 +1,13 @@
 -- Images whose second copy was made the same as the first.
-use Rattle.std.proofs.Common.{◌≡◌, ◌==◌, ◌<◌, ◌≤◌, ◌⊎◌, ◌&&◌, Bool, true, false, eqb, leb, ℕ, ◌+◌, ◌-◌, ◌*◌, ◌/◌, ◌%◌, List, [], ◌∷◌, ◌∙◌, ap, sym, refl, inl, inr, length, get_or, arith}
-use Rattle.std.proofs.lemmas.Bool.{cases_lt, le-leb, eqb-true}
+use Rattle.std.proofs.Common.{◌≡◌, ◌==◌, ◌<◌, ◌≤◌, ◌⊎◌, ◌&&◌, true, false, leb, ℕ, ◌+◌, ◌-◌, ◌*◌, ◌/◌, List, [], ◌∷◌, ◌∙◌, ap, sym, refl, inl, inr, length, get_or, arith}
 use Rattle.std.proofs.lemmas.Bool.Decides.{nat_tests}
 use Rattle.std.proofs.lemmas.List.{take_all}
 use Rattle.std.proofs.lemmas.List.Elements.{All-head, All-tail, All-weaker}
 use Rattle.std.specs.List.{All, AllZip}
 use Rattle.pm_volume.specs.Copies.{HasCopies, KeepsCopies, and_second, has_second, mirrored}
-use Rattle.pm_volume.specs.Directory.{IsDirectory, IsVolume, block_count, directory_of, files_begin, second_of}
-use Rattle.pm_volume.specs.Files.{file_bytes, files_of}
-use Rattle.pm_volume.specs.Kept.{ChangesOnly, IsOutside, KeepsFile, KeepsFiles, Span, second_span}
+use Rattle.pm_volume.specs.Directory.{IsVolume, block_count, directory_of, files_begin, second_of}
+use Rattle.pm_volume.specs.Files.{files_of}
+use Rattle.pm_volume.specs.Kept.{ChangesOnly, IsOutside, KeepsFile, KeepsFiles, Span}
 use Rattle.pm_volume.specs.Packing.{MovesFile}
 use Rattle.pm_volume.specs.Words.{word_in, written}
 use Rattle.pm_volume.specs.declared.copies.Copies.TheVariants.{Single, Same}
@@ -73,10 +72,6 @@ module _ (m : List ℕ) (v : IsVolume m) where
 
   ten_long : files_begin (directory_of m) ≡ 10 → 5120 ≤ length m
   ten_long ten = omega (arith, room, ten)
-
-  module _ (six : files_begin (directory_of m) ≡ 6) where
-    same-six : mirrored m ≡ m
-    same-six = mirrored-six m six
 
   -- each fact in the two cases
   pub length-mirrored : length (mirrored m) ≡ length m

@@ -1,5 +1,5 @@
 -- A second copy that is made.
-use Rattle.std.proofs.Common.{◌≡◌, ◌<◌, ◌≤◌, ◌⊎◌, false, ℕ, ◌*◌, List, [], ◌∷◌, ◌∙◌, inl, inr, refl, length, arith, subst}
+use Rattle.std.proofs.Common.{◌≡◌, ◌<◌, ◌≤◌, ◌⊎◌, false, ℕ, ◌*◌, List, [], ◌∷◌, ◌∙◌, inl, inr, refl, arith, subst}
 use Rattle.std.specs.List.{All}
 use Rattle.pm_volume.specs.Copies.{HasCopies, mirrored}
 use Rattle.pm_volume.specs.Directory.{IsVolume, block_count, directory_of, files_begin}

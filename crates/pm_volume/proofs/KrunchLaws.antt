@@ -3,15 +3,17 @@ use Rattle.std.proofs.Common.{◌≡◌, ◌<◌, ◌≤◌, ℕ, ◌+◌, ◌-�
 use Rattle.std.proofs.lemmas.Bool.{cases_lt, le-leb, lt-leb}
 use Rattle.std.proofs.lemmas.List.{get_or-drop, get_or-take}
 use Rattle.std.specs.List.{AllZip}
+use Rattle.pm_volume.specs.Changes.{gaps}
 use Rattle.pm_volume.specs.Copies.{KeepsCopies}
 use Rattle.pm_volume.specs.Directory.{IsVolume, block_count, directory_of, entries_from, file_count, files_begin}
 use Rattle.pm_volume.specs.Entries.{AreInOrder}
 use Rattle.pm_volume.specs.Files.{file_bytes, files_of}
 use Rattle.pm_volume.specs.Kept.{ChangesOnly, blocks_of}
 use Rattle.pm_volume.specs.Packing.{Krunches, MovesFile, krunched_image, moved_entry, new_place, packed, packed_image, packed_spans}
+use Rattle.pm_volume.specs.Space.{gaps_in}
 use Rattle.pm_volume.specs.Words.{word_in}
 use Rattle.pm_volume.specs.declared.entry.Entry.{Entry}
-use Rattle.pm_volume.proofs.CopyLaws.{ChangesOnly-mirrored, IsVolume-mirrored, KeepsCopies-mirrored, KeepsFiles-own, files-mirrored, moved-mirrored}
+use Rattle.pm_volume.proofs.CopyLaws.{ChangesOnly-mirrored, IsVolume-mirrored, KeepsCopies-mirrored, KeepsFiles-own, directory-mirrored, files-mirrored, moved-mirrored}
 use Rattle.pm_volume.proofs.DirectoryLaws.{past_directory}
 use Rattle.pm_volume.proofs.KeptLaws.{directory_byte}
 use Rattle.pm_volume.proofs.PackedLaws.{Packs, SameBlocks, new_place-down, order-packed, packs, spans-outside}
@@ -136,6 +138,12 @@ module _ (image : List ℕ) (v : IsVolume image) (fits : block_count (directory_
         moved = rw same (moved-mirrored image new (files_of image) (files_of new) (KeepsFiles-own new volume) zip);
         rest = rw same (ChangesOnly-mirrored (packed_spans 1 (files_of new)) image new v volume begins only);
       }
+
+  -- where the gaps are then
+  pub gaps-krunched : gaps_in (directory_of (krunched_image image))
+      ≡ gaps (block_count (directory_of image)) 1 (files_begin (directory_of image)) (packed (files_begin (directory_of image)) (files_of image))
+  unfolding new
+  gaps-krunched = rw (directory-mirrored new volume, word 14 (omega arith), begins, files) refl
 
   pub KeepsCopies-krunched : KeepsCopies image (krunched_image image)
   unfolding new

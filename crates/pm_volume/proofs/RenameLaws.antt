@@ -34,6 +34,16 @@ unfolding AreInOrder
 order-named blocks from [] e e' ys sound end order = (sound from order.0, omega (arith, end, order.1), rw end order.2)
 order-named blocks from (x ∷ xs) e e' ys sound end order = (order.0, order.1, order-named blocks x.end xs e e' ys sound end order.2)
 
+-- the file in a slot, those before it and those behind it
+pub files-split : (d : List ℕ) (n : ℕ) → 1 ≤ n → n ≤ file_count d
+    → files_in d ≡ entries_from d 1 (n - 1) ++ entry_in d n ∷ entries_from d (n + 1) (file_count d - n)
+files-split d n from within =
+    let count : file_count d ≡ (n - 1) + (1 + (file_count d - n)) = omega arith in
+    let mid : 1 + (n - 1) ≡ n = omega arith in
+    ap (entries_from d 1) count ∙ entries_from-add d (n - 1) (1 + (file_count d - n)) 1
+    ∙ ap (λ (i : ℕ). entries_from d 1 (n - 1) ++ entries_from d i (1 + (file_count d - n))) mid
+    ∙ ap (λ (es : List Entry). entries_from d 1 (n - 1) ++ es) (first_entry d n (file_count d - n))
+
 module _ (d name : List ℕ) (n : ℕ) (whole : length d ≡ 2048) (short : length name ≤ 15) (from : 1 ≤ n) (to : n ≤ 77) where
   field : List ℕ
   field = name_field 15 name
@@ -90,14 +100,6 @@ module _ (d name : List ℕ) (n : ℕ) (whole : length d ≡ 2048) (short : leng
   word_kept p below = word_in-below d (26 * n + 6) field p room (omega (arith, from))
 
   module _ (within : n ≤ file_count d) (few : file_count d ≤ 77) where
-    split : files_in d ≡ entries_from d 1 (n - 1) ++ entry_in d n ∷ entries_from d (n + 1) (file_count d - n)
-    split =
-        let count : file_count d ≡ (n - 1) + (1 + (file_count d - n)) = omega arith in
-        let mid : 1 + (n - 1) ≡ n = omega arith in
-        ap (entries_from d 1) count ∙ entries_from-add d (n - 1) (1 + (file_count d - n)) 1
-        ∙ ap (λ (i : ℕ). entries_from d 1 (n - 1) ++ entries_from d i (1 + (file_count d - n))) mid
-        ∙ ap (λ (es : List Entry). entries_from d 1 (n - 1) ++ es) (first_entry d n (file_count d - n))
-
     split-named : files_in named ≡ entries_from d 1 (n - 1) ++ (record (entry_in d n) { name = field }) ∷ entries_from d (n + 1) (file_count d - n)
     unfolding named
     split-named =
@@ -118,7 +120,7 @@ module _ (d name : List ℕ) (n : ℕ) (whole : length d ≡ 2048) (short : leng
     files-named =
         let front = entries_from d 1 (n - 1) in
         let size : length front ≡ n - 1 = length-entries_from d (n - 1) 1 in
-        split-named ∙ sym (ap (λ (es : List Entry). slice_set es (n - 1) (record (entry_in d n) { name = field })) split
+        split-named ∙ sym (ap (λ (es : List Entry). slice_set es (n - 1) (record (entry_in d n) { name = field })) (files-split d n from within)
         ∙ ap (λ (i : ℕ). slice_set (front ++ entry_in d n ∷ entries_from d (n + 1) (file_count d - n)) i (record (entry_in d n) { name = field })) (sym size)
         ∙ set-append_seam front (entry_in d n) (entries_from d (n + 1) (file_count d - n)) (record (entry_in d n) { name = field }))
 
@@ -129,7 +131,7 @@ module _ (d name : List ℕ) (n : ℕ) (whole : length d ≡ 2048) (short : leng
         let begins = word_kept 2 (omega arith) in
         let total = word_kept 14 (omega arith) in
         let count = word_kept 16 (omega arith) in
-        let order = rw split at old.in_order in
+        let order = rw (files-split d n from within) at old.in_order in
         record {
           named = omega (arith, title, old.named);
           short = omega (arith, title, old.short);

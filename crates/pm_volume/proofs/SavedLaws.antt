@@ -1,5 +1,5 @@
 -- What a second copy of the directory is good for.
-use Rattle.std.proofs.Common.{◌≡◌, ◌<◌, ◌≤◌, ◌⊎◌, ◌&&◌, ◌==◌, Bool, true, false, leb, eqb, ltb, cond, not, ℕ, ◌+◌, ◌-◌, ◌*◌, ◌/◌, ◌%◌, List, ◌∙◌, ap, sym, subst, refl, inl, inr, length, get_or, drop, Option, Some, None, Ok, arith, length-take, length-drop}
+use Rattle.std.proofs.Common.{◌≡◌, ◌<◌, ◌≤◌, ◌⊎◌, ◌&&◌, ◌==◌, true, leb, ℕ, ◌+◌, ◌-◌, ◌/◌, ◌%◌, List, ◌∙◌, ap, refl, inl, inr, length, get_or, drop, Option, Some, None, Ok, arith, length-take, length-drop}
 use Rattle.std.proofs.lemmas.Bool.{and_parts, cases_lt, eqb-true, le-ltb, leb-true}
 use Rattle.std.proofs.lemmas.Bool.Decides.{nat_tests}
 use Rattle.std.proofs.lemmas.List.{ext_get_or}
@@ -8,9 +8,8 @@ use Rattle.std.specs.List.{All}
 use Rattle.std.specs.Option.{is_none}
 use Rattle.pm_volume.specs.Changes.{with_directory}
 use Rattle.pm_volume.specs.Copies.{HasCopies, repaired, restored}
-use Rattle.pm_volume.specs.Directory.{IsDirectory, IsVolume, block_count, directory_fault, directory_of, fault_beside, files_begin, files_in, image_fault, is_second_good, second_of}
+use Rattle.pm_volume.specs.Directory.{IsVolume, block_count, directory_fault, directory_of, fault_beside, files_begin, files_in, image_fault, is_second_good, second_of}
 use Rattle.pm_volume.specs.Faults.{number_of}
-use Rattle.pm_volume.specs.Files.{files_of}
 use Rattle.pm_volume.specs.Kept.{KeepsFile}
 use Rattle.pm_volume.specs.Laws.{DamageIsUndone, GoodImagesStay, IsSaved, SecondCopySaves}
 use Rattle.pm_volume.specs.Words.{written}

@@ -1,7 +1,7 @@
 -- Each change of a volume with the second copy made the same.
-use Rattle.std.proofs.Common.{◌≡◌, ◌<◌, ◌≤◌, ℕ, ◌+◌, ◌-◌, ◌*◌, List, [], ◌∷◌, ◌∙◌, ap, inl, length, slice_set, Some, arith}
+use Rattle.std.proofs.Common.{◌≡◌, ◌<◌, ◌≤◌, ℕ, ◌-◌, List, [], ◌∷◌, ◌∙◌, ap, inl, length, slice_set, Some, arith}
 use Rattle.std.specs.List.{insert, remove}
-use Rattle.pm_volume.specs.Changes.{FitsSlot, blocks_for, new_entry, with_directory, with_file, with_name, without_file}
+use Rattle.pm_volume.specs.Changes.{FitsSlot, blocks_for, new_entry, with_file, with_name, without_file}
 use Rattle.pm_volume.specs.Copies.{mirrored}
 use Rattle.pm_volume.specs.Directory.{IsVolume, block_count, directory_of, entry_in, file_count, files_begin}
 use Rattle.pm_volume.specs.Files.{file_bytes, files_of}

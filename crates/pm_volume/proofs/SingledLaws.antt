@@ -1,5 +1,5 @@
 -- A second copy that is dropped, or put in the place of the first.
-use Rattle.std.proofs.Common.{◌≡◌, ◌<◌, ◌≤◌, ◌⊎◌, false, true, ℕ, ◌+◌, ◌*◌, List, [], ◌∷◌, ◌∙◌, inl, inr, refl, length, drop, get_or, arith, length-take, length-drop}
+use Rattle.std.proofs.Common.{◌≡◌, ◌<◌, ◌≤◌, ◌⊎◌, false, true, ℕ, ◌+◌, List, [], ◌∷◌, ◌∙◌, inl, inr, refl, length, drop, get_or, arith, length-take, length-drop}
 use Rattle.std.proofs.lemmas.Bool.{cases_Bool}
 use Rattle.std.proofs.lemmas.List.Elements.{All-weaker}
 use Rattle.std.specs.List.{All}

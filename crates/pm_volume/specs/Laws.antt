@@ -1,5 +1,5 @@
 -- What a second copy of the directory is good for.
-use Rattle.std.specs.Prelude.{◌≡◌, ◌⊎◌, ℕ, ◌/◌, ◌%◌, true, List, length, Some, None, Ok}
+use Rattle.std.specs.Prelude.{◌≡◌, ◌⊎◌, ℕ, ◌%◌, true, List, length, Some, None, Ok}
 use Rattle.std.specs.List.{All}
 use Rattle.pm_volume.specs.Copies.{HasCopies, repaired}
 use Rattle.pm_volume.specs.Directory.{IsVolume, image_fault, files_in, is_second_good, second_of}

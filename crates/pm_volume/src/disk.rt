@@ -14,7 +14,7 @@ pub(crate) const BLOCK: usize = 512;
 /// A disk: an image of whole blocks of 512 bytes, seen as the list of its bytes.
 #[derive(Drop)]
 pub struct Disk {
-    bytes: Vec<u8>,
+    pub(crate) bytes: Vec<u8>,
 }
 
 impl Model for Disk {
@@ -30,14 +30,6 @@ impl Model for Disk {
 }
 
 impl Disk {
-    // The disk of an image.
-    pub(crate) fn new(bytes: Vec<u8>) -> Disk
-        requires whole { length bytes.items % 512 ≡ 0 }
-        ensures image { result ≡ bytes.items }
-    {
-        Disk { bytes }
-    }
-
     /// The number of blocks of the whole image.
     pub fn blocks(&self) -> usize
         ensures whole { length self.now % 512 ≡ 0 }

@@ -2,9 +2,8 @@
 
 ghost use Rattle.std.specs.Prelude.{◌≡◌, ◌≤◌, ◌++◌, drop, length};
 ghost use Rattle.std.specs.Str.{str_to_ascii_uppercase};
-ghost use Rattle.std.specs.List.{list_all};
 ghost use Rattle.pm_volume.specs.Entries.{entry_of, is_sound};
-ghost use Rattle.pm_volume.specs.Names.{characters_of, is_name_character, is_new_name, is_same_name, name_field};
+ghost use Rattle.pm_volume.specs.Names.{characters_of, is_new_name, is_same_name, name_field};
 
 use crate::words::{set_bytes, set_word, word};
 
@@ -108,21 +107,9 @@ fn is_same_name(left: &[u8], right: &[u8]) -> bool
 pub(crate) fn is_new_name(most: usize, name: &[u8]) -> bool
     ensures accepted { result ≡ is_new_name most name.now }
 {
-    1 <= name.len() && name.len() <= most && are_name_characters(name)
-}
-
-// Whether each character can stand in a name.
-fn are_name_characters(name: &[u8]) -> bool
-    ensures all { result ≡ list_all is_name_character name.now }
-{
-    name.iter().all(|c| is_name_character(*c))
-}
-
-// A character of a new name.
-fn is_name_character(c: u8) -> bool
-    ensures accepted { result ≡ is_name_character c }
-{
-    33 <= c && c <= 126 && c != b':'
+    1 <= name.len()
+        && name.len() <= most
+        && name.iter().all(|c| 33 <= *c && *c <= 126 && *c != b':')
 }
 
 // A new name in its field, raised.

@@ -7,7 +7,7 @@ use crate::directory::entry_at;
 use crate::words::word;
 
 /// Free blocks, and the slot that a file in them gets.
-#[derive(Clone, Copy, Debug, PartialEq, Eq)]
+#[derive(Clone, Copy)]
 pub(crate) struct Gap {
     pub(crate) place: u16,
     pub(crate) begin: u16,

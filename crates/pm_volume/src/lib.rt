@@ -8,7 +8,6 @@ mod disk;
 mod entry;
 mod fault;
 mod gap;
-pub mod laws;
 mod packing;
 mod slots;
 mod space;

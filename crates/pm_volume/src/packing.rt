@@ -84,19 +84,8 @@ fn place_file(image: &mut [u8], n: u16, first: u16, end: u16)
     requires slot { n ≤ 77 }
     ensures placed { image.new ≡ with_directory image.old (with_places (directory_of image.old) n first end) }
 {
-    set_places(
-        &mut image[DIRECTORY..DIRECTORY_END],
-        SLOT * usize::from(n),
-        first,
-        end,
-    );
-}
-
-// Writes two words, one behind the other.
-fn set_places(directory: &mut [u8], place: usize, first: u16, end: u16)
-    requires room { place + 4 ≤ length directory.old }
-    ensures placed { directory.new ≡ with_word (with_word directory.old place first) (place + 2) end }
-{
+    let directory = &mut image[DIRECTORY..DIRECTORY_END];
+    let place = SLOT * usize::from(n);
     set_word(directory, place, first);
     set_word(directory, place + 2, end);
 }

@@ -3,7 +3,6 @@
 ghost use Rattle.std.specs.Prelude.{◌≡◌, ◌≢◌, ◌↔◌, ◌+◌, ◌≤◌, [], ◌∷◌, length, slice_index, slice_range, unwrap_or, Err, None, Ok, Some, IfErr, IfOk, IfSome, IsOk, IsTrue, OnOk, OnErr, true, false, ℕ};
 ghost use Rattle.pm_volume.specs.Changes.{blocks_for};
 ghost use Rattle.pm_volume.specs.Directory.{directory_of, file_count, image_fault};
-ghost use Rattle.pm_volume.specs.Headers.{zeros};
 
 use crate::changes::{
     add_second, blocks_for, date_volume, drop_second, name_file, new_entry, put_file,
@@ -22,7 +21,7 @@ use crate::gap::Gap;
 use crate::packing::pack_files;
 use crate::space::{Space, space_of};
 use crate::words::word;
-use std::alloc::{AllocError, Global};
+use std::alloc::Global;
 use std::marker::Model;
 
 /// A volume: an image whose directory is sound, seen as the image's bytes.
@@ -117,7 +116,7 @@ impl Volume {
         if blocks < 6 {
             return Err(VolumeFault::BadHeader);
         }
-        let Ok(mut bytes) = zeros(alloc, BLOCK * usize::from(blocks)) else {
+        let Ok(mut bytes) = vec![in alloc; 0; BLOCK * usize::from(blocks)] else {
             return Err(VolumeFault::NoMemory);
         };
         renew_directory(&mut bytes, 6, name.as_bytes(), blocks, 0);
@@ -387,7 +386,7 @@ impl Volume {
         ensures volume { IsVolume result }
     {
         let Volume { bytes } = self;
-        Disk::new(bytes)
+        Disk { bytes }
     }
 
     // Where a new file of so many blocks goes, or why there is no place.
@@ -457,12 +456,4 @@ fn fault_of_image(image: &[u8]) -> Option<VolumeFault>
         return Some(VolumeFault::FirstCopyBad(fault.number()));
     }
     Some(fault)
-}
-
-// So many bytes of zero.
-#[tactic(auto, unfolding(crate::specs::Headers::zeros))]
-fn zeros(alloc: Global, count: usize) -> Result<Vec<u8>, AllocError>
-    ensures zeros { IfOk result (λ bytes. bytes.items ≡ zeros count) }
-{
-    vec![in alloc; 0; count]
 }

@@ -1,8 +1,7 @@
-use Rattle.std.proofs.Common.{◌≤◌, ◌∙◌, ◌+◌, ◌*◌, ℕ, List, sym, length, arith}
-use Rattle.pm_volume.specs.Directory.{block_count, directory_of}
+use Rattle.std.proofs.Common.{◌≡◌, ◌≤◌, ◌∙◌, ◌+◌, ◌*◌, ℕ, List, sym, length, arith}
+use Rattle.pm_volume.specs.Directory.{IsVolume, block_count, directory_of, file_count}
 use Rattle.pm_volume.proofs.PackedLaws.{file-after, file-ordered, file-within, next-order, next-past, next-size, packed_image-done, packed_image-more}
 use Rattle.pm_volume.proofs.packing.pack_files.Goals as goal
-use Rattle.pm_volume.proofs.packing.pack_files.Goals.{After-pack_file-arg-1}
 
 -- the sizes that hold in each turn
 record Sizes (image : List ℕ) (blocks end : ℕ) : Type 0 where
@@ -10,38 +9,39 @@ record Sizes (image : List ℕ) (blocks end : ℕ) : Type 0 where
   room : 512 * blocks ≤ length image
   few : end ≤ 78
 
-sizes : (c : After-pack_file-arg-1) → Sizes c.loop-n.image.items (block_count (directory_of c.args.image.now.items)) (c.word-count.result + 1)
-sizes c =
-    let v = c.requires.volume in
-    let size = c.loop-n.invariant.size in
-    let count = rw c.deref.ensures.value at c.word-count.ensures.word in
-    record {
-      long = omega (arith, v.long);
-      room = omega (arith, v.has_directory.within, v.whole);
-      few = omega (arith, v.has_directory.few);
-    }
+sizes : (image old : List ℕ) (count : ℕ) → IsVolume old → length image ≡ length old → count ≡ file_count (directory_of old)
+    → Sizes image (block_count (directory_of old)) (count + 1)
+sizes image old count v size same = record {
+  long = omega (arith, v.long, size);
+  room = omega (arith, v.has_directory.within, v.whole, size);
+  few = omega (arith, v.has_directory.few, same);
+}
 
 pub pack_file-from-requires-clause-after : goal.pack_file-from-requires-clause-after
 pack_file-from-requires-clause-after c =
-    let s = sizes (goal.at.pack_file-from-requires-clause-after c).After-pack_file-arg-1 in
+    let s = sizes c.loop-n.image.items c.args.image.now.items c.word-count.result c.requires.volume c.loop-n.invariant.size
+    (rw c.deref.ensures.value at c.word-count.ensures.word) in
     let i = c.loop-n.invariant in
     file-after c.loop-n.image.items _ c.loop-n.n c.loop-n.from (c.word-count.result + 1) s.long s.room s.few c.loop-n-test.true i.past i.order
 
 pub pack_file-from-requires-clause-ordered : goal.pack_file-from-requires-clause-ordered
 pack_file-from-requires-clause-ordered c =
-    let s = sizes (goal.at.pack_file-from-requires-clause-ordered c).After-pack_file-arg-1 in
+    let s = sizes c.loop-n.image.items c.args.image.now.items c.word-count.result c.requires.volume c.loop-n.invariant.size
+    (rw c.deref.ensures.value at c.word-count.ensures.word) in
     let i = c.loop-n.invariant in
     file-ordered c.loop-n.image.items _ c.loop-n.n c.loop-n.from (c.word-count.result + 1) s.long s.room s.few c.loop-n-test.true i.past i.order
 
 pub pack_file-from-requires-clause-within : goal.pack_file-from-requires-clause-within
 pack_file-from-requires-clause-within c =
-    let s = sizes (goal.at.pack_file-from-requires-clause-within c).After-pack_file-arg-1 in
+    let s = sizes c.loop-n.image.items c.args.image.now.items c.word-count.result c.requires.volume c.loop-n.invariant.size
+    (rw c.deref.ensures.value at c.word-count.ensures.word) in
     let i = c.loop-n.invariant in
     file-within c.loop-n.image.items _ c.loop-n.n c.loop-n.from (c.word-count.result + 1) s.long s.room s.few c.loop-n-test.true i.past i.order
 
 pub loop-n-preserved : goal.loop-n-preserved
 loop-n-preserved c =
-    let s = sizes (goal.at.loop-n-preserved c).After-pack_file-arg-1 in
+    let s = sizes c.loop-n.image.items c.args.image.now.items c.word-count.result c.requires.volume c.loop-n.invariant.size
+    (rw c.deref.ensures.value at c.word-count.ensures.word) in
     let i = c.loop-n.invariant in
     let image = c.loop-n.image.items in
     let end = c.word-count.result + 1 in

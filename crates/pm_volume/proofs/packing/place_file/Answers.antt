@@ -15,6 +15,6 @@ returns c =
     let a = c.args in
     record {
       placed =
-          ap (put_mid 1024 2048 image) (rw c.from.ensures at c.set_places.ensures.placed)
+          ap (put_mid 1024 2048 image) (rw (c.set_word.ensures.written, c.from-place.ensures) at c.set_word-2.ensures.written)
           ∙ listed image (with_places d a.n a.first a.end) (length-with_places d a.n a.first a.end (length-directory image c.requires.whole) c.requires.slot);
     }

@@ -1,4 +1,4 @@
-use Rattle.std.proofs.Common.{◌≡◌, ◌≤◌, ◌∙◌, ap, sym, ◌++◌, take, drop, List, ℕ, length, subst, false, arith}
+use Rattle.std.proofs.Common.{◌≡◌, ◌≤◌, ◌∙◌, ap, ◌++◌, take, drop, List, ℕ, length, subst, false, arith}
 use Rattle.pm_volume.specs.Copies.{mirrored}
 use Rattle.pm_volume.specs.Directory.{IsVolume, block_count, directory_of}
 use Rattle.pm_volume.specs.Made.{begun_at, is_occupied}

@@ -16,7 +16,8 @@ name_length c =
 
 -- the bytes before the directory is written
 made : (c : After-as_bytes-2) → c.in-Ok.bytes.items ≡ zeros (512 * c.args.blocks)
-made c = rw c.from.ensures at c.in-Ok.ensures.zeros
+unfolding zeros
+made c = rw c.from.ensures at (c.in-Ok.ensures.items_if_clones_equal (λ y same. same))
 
 -- what the image becomes
 image_after : (c : After-renew_directory) → c.in-Ok.bytes.items ≡ zeros (512 * c.args.blocks)

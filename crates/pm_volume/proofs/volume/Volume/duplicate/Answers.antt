@@ -1,4 +1,4 @@
-use Rattle.std.proofs.Common.{◌≡◌, ◌∙◌, sym, subst, ap, true, false, slice_range}
+use Rattle.std.proofs.Common.{◌≡◌, ◌∙◌, sym, subst, true, false, slice_range}
 use Rattle.pm_volume.specs.Copies.{has_second}
 use Rattle.pm_volume.specs.Directory.{IsVolume, directory_of, second_of}
 use Rattle.pm_volume.proofs.BegunLaws.{second_said, second_unsaid}

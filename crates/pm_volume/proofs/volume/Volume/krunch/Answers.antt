@@ -1,4 +1,4 @@
-use Rattle.std.proofs.Common.{◌≡◌, ◌<◌, ◌≤◌, ◌∙◌, ap, subst, ℕ, List, ◌++◌, take, drop, length, arith}
+use Rattle.std.proofs.Common.{◌≡◌, ◌<◌, ◌∙◌, ap, subst, ℕ, List, ◌++◌, take, drop, length}
 use Rattle.pm_volume.specs.Copies.{mirrored}
 use Rattle.pm_volume.specs.Directory.{IsVolume, block_count, directory_of, file_count, files_begin}
 use Rattle.pm_volume.specs.Packing.{krunched_image, packed_image}

@@ -1,4 +1,4 @@
-use Rattle.std.proofs.Common.{◌≡◌, ◌∙◌, ap, Some, sym, ◌++◌, take, drop, length, refl}
+use Rattle.std.proofs.Common.{◌≡◌, ◌∙◌, ap, Some, ◌++◌, take, drop, length, refl}
 use Rattle.pm_volume.specs.Copies.{repaired, restored}
 use Rattle.pm_volume.specs.Directory.{image_fault}
 use Rattle.pm_volume.specs.declared.fault.VolumeFault.TheVariants.{FirstCopyBad}

@@ -1,6 +1,7 @@
 -- Which files a run leaves behind.
-use Rattle.std.specs.Prelude.{◌≡◌, ◌⊎◌, ◌||◌, ◌==◌, ℕ, Bool, true, false, List, Option, option_map, vec_items, string_bytes}
-use Rattle.pm_files.specs.Held.{Keeps, Puts}
+use Rattle.std.specs.Prelude.{◌≡◌, ◌⊎◌, ◌||◌, ◌==◌, ℕ, Bool, true, false, List}
+use Rattle.std.specs.Prelude.{option_map, vec_items, string_bytes}
+use Rattle.pm_files.specs.Held.{Files, Keeps, Puts}
 use Rattle.pm_tool.specs.declared.outcome.Outcome.{Outcome}
 use Rattle.pm_program.specs.declared.run_words.Printing.{Printing}
 use Rattle.pm_program.specs.declared.run_words.Printing.TheVariants as printings
@@ -10,23 +11,23 @@ abbrev pub has_run : ℕ → Bool
 has_run status = (status == 0) || ((status == 3) || (status == 6))
 
 -- the printer's bytes stand where they are wanted, and all else is as it was
-abbrev pub Prints : Option (List ℕ → Option (List ℕ)) → Option (List ℕ → Option (List ℕ)) → Printing → List ℕ → Type 0
+abbrev pub Prints : Files → Files → Printing → List ℕ → Type 0
 Prints old new printings.Nowhere bytes = new ≡ old
 Prints old new printings.Output bytes = new ≡ old
 Prints old new (printings.File path) bytes = Puts old new (string_bytes path) bytes
 
 -- the same where the program has run; else all is as it was
-abbrev pub PrintsIf : Bool → Option (List ℕ → Option (List ℕ)) → Option (List ℕ → Option (List ℕ)) → Printing → List ℕ → Type 0
+abbrev pub PrintsIf : Bool → Files → Files → Printing → List ℕ → Type 0
 PrintsIf true old new printing bytes = Prints old new printing bytes
 PrintsIf false old new printing bytes = new ≡ old
 
--- First the image of unit 4, if the outcome has it, and then the printer's bytes, if the program has run: these stand under their paths, and
--- nothing else has changed.
-abbrev pub KeepsRun : Option (List ℕ → Option (List ℕ)) → Option (List ℕ → Option (List ℕ)) → List ℕ → Printing → Outcome → Type 0
-KeepsRun old new disk printing outcome = (between : Option (List ℕ → Option (List ℕ)))
+-- First the image of unit 4, if the outcome has it, and then the printer's bytes, if the program has run: these stand
+-- under their paths, and nothing else has changed.
+abbrev pub KeepsRun : Files → Files → List ℕ → Printing → Outcome → Type 0
+KeepsRun old new disk printing outcome = (between : Files)
     × Keeps old between disk (option_map vec_items outcome.image)
     × PrintsIf (has_run outcome.status) between new printing outcome.printer.items
 
 -- nothing has changed, or the image of unit 4 alone
-abbrev pub KeepsFront : Option (List ℕ → Option (List ℕ)) → Option (List ℕ → Option (List ℕ)) → List ℕ → Type 0
+abbrev pub KeepsFront : Files → Files → List ℕ → Type 0
 KeepsFront old new disk = (new ≡ old) ⊎ ((image : List ℕ) × Puts old new disk image)

@@ -36,8 +36,9 @@ fn files_job<S: Store>(
     }
 }
 
-/// Does a command on the image of a file, and writes the image back where the outcome has one: then it is the file, and no other file
-/// has changed. Neither stream may have failed before. Where a file cannot be read, held or written, no file has changed.
+/// Does a command on the image of a file, and writes the image back where the outcome has one: then it is the file,
+/// and no other file has changed. Neither stream may have failed before. Where a file cannot be read, held or
+/// written, no file has changed.
 pub fn do_files<S: Store, I: Source, O: Sink>(
     alloc: Global,
     store: &mut S,
@@ -115,7 +116,8 @@ fn print_out<O: Sink>(sink: &mut O, bytes: &[u8]) -> Result<(), DiskFault> {
 
 /// Writes an image, where there is one.
 fn keep_image<S: Store>(store: &mut S, path: &str, image: &Option<Vec<u8>>) -> Result<(), DiskFault>
-    ensures kept { OnOk result (Keeps (S.files store.old) (S.files store.new) path.now (option_map vec_items image.now)) }
+    ensures kept { OnOk result (
+        Keeps (S.files store.old) (S.files store.new) path.now (option_map vec_items image.now)) }
     ensures stays { OnErr result (S.files store.new ≡ S.files store.old) }
 {
     match image {
@@ -131,8 +133,9 @@ fn keep_printer<S: Store, O: Sink>(
     printing: &Printing,
     outcome: &Outcome,
 ) -> Result<(), DiskFault>
-    ensures kept { OnOk result (PrintsIf (has_run outcome.now.status) (S.files store.old) (S.files store.new) printing.now
-        outcome.now.printer.items) }
+    ensures kept { OnOk result (
+        PrintsIf (has_run outcome.now.status) (S.files store.old) (S.files store.new) printing.now
+            outcome.now.printer.items) }
     ensures stays { OnErr result (S.files store.new ≡ S.files store.old) }
 {
     if !has_run(outcome.status) {
@@ -160,9 +163,9 @@ fn keep<S: Store, O: Sink>(
     keep_printer(store, sink, printing, outcome)
 }
 
-/// Runs a program, and then writes the image of unit 4, where the outcome has it, and the printer's bytes, where the program has run and
-/// they are wanted. No other file changes. Neither stream may have failed before. Where a file cannot be read, held or written, nothing
-/// has changed but that the image may be written.
+/// Runs a program, and then writes the image of unit 4, where the outcome has it, and the printer's bytes, where
+/// the program has run and they are wanted. No other file changes. Neither stream may have failed before. Where a
+/// file cannot be read, held or written, nothing has changed but that the image may be written.
 pub fn do_run<S: Store, I: Source, O: Sink>(
     alloc: Global,
     store: &mut S,

@@ -1,8 +1,15 @@
 -- Which files a run leaves behind.
 use Rattle.std.specs.Prelude.{◌≡◌, ◌⊎◌, ◌||◌, ◌==◌, ℕ, Bool, true, false, List}
 use Rattle.std.specs.Prelude.{option_map, vec_items, string_bytes}
-use Rattle.pm_files.specs.Held.{Files, Keeps, Puts}
+use Rattle.pm_files.specs.Held.{Files, Holds, Keeps, Puts}
+use Rattle.pm_filer.specs.Filed.{order_of}
+use Rattle.pm_volume.specs.Headers.{blank_fault}
+use Rattle.pm_tool.specs.Files.{said_files, said_new, said_repair}
+use Rattle.pm_tool.specs.Said.{said}
+use Rattle.pm_tool.specs.declared.outcome.Job.{Job}
 use Rattle.pm_tool.specs.declared.outcome.Outcome.{Outcome}
+use Rattle.pm_program.specs.declared.file_words.Verb.{Verb}
+use Rattle.pm_program.specs.declared.file_words.Verb.TheVariants as verbs
 use Rattle.pm_program.specs.declared.run_words.Printing.{Printing}
 use Rattle.pm_program.specs.declared.run_words.Printing.TheVariants as printings
 
@@ -31,3 +38,22 @@ KeepsRun old new disk printing outcome = (between : Files)
 -- nothing has changed, or the image of unit 4 alone
 abbrev pub KeepsFront : Files → Files → List ℕ → Type 0
 KeepsFront old new disk = (new ≡ old) ⊎ ((image : List ℕ) × Puts old new disk image)
+
+-- A verb of `files` is told to the image that the path holds and to the input: then the file keeps the image that is said of them,
+-- if one is, and nothing else has changed. A new volume is told to the input alone.
+abbrev pub KeepsSaid : Files → Files → List ℕ → Verb → List ℕ → Type 0
+KeepsSaid old new path (verbs.Command command) input = (image : List ℕ)
+    × Holds old path image × Keeps old new path (said_files image (order_of command) input).image
+KeepsSaid old new path (verbs.New name blocks) input =
+    Keeps old new path (said_new (blank_fault (string_bytes name) blocks) (string_bytes name) blocks input).image
+KeepsSaid old new path verbs.Repair input = (image : List ℕ)
+    × Holds old path image × Keeps old new path (said_repair image input).image
+
+-- the job of a verb says to each input what the verb does of the image that the path holds
+abbrev pub SaysOf : Files → List ℕ → Verb → Job → Type 0
+SaysOf files path (verbs.Command command) job = (image : List ℕ) × Holds files path image
+    × ((input : List ℕ) → said job input ≡ said_files image (order_of command) input)
+SaysOf files path (verbs.New name blocks) job =
+    (input : List ℕ) → said job input ≡ said_new (blank_fault (string_bytes name) blocks) (string_bytes name) blocks input
+SaysOf files path verbs.Repair job = (image : List ℕ) × Holds files path image
+    × ((input : List ℕ) → said job input ≡ said_repair image input)

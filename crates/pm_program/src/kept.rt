@@ -1,7 +1,8 @@
 //! Jobs with files: what is read before them, and what is written behind them.
-ghost use Rattle.std.specs.Prelude.{◌≡◌, false, IfOk, OnErr, OnOk, string_bytes, option_map, vec_items};
+ghost use Rattle.std.specs.Prelude.{◌≡◌, false, IfOk, IfSome, OnErr, OnOk, string_bytes, option_map, vec_items};
+ghost use Rattle.pm_tool.specs.Said.{IsSound};
 ghost use Rattle.pm_files.specs.Held.{Keeps};
-ghost use Rattle.pm_program.specs.Kept.{KeepsRun, KeepsFront, PrintsIf, has_run};
+ghost use Rattle.pm_program.specs.Kept.{KeepsRun, KeepsFront, KeepsSaid, PrintsIf, SaysOf, has_run};
 
 use crate::file_words::Verb;
 use crate::run_words::{Kept, Others, Printing, Program};
@@ -19,6 +20,7 @@ fn files_job<S: Store>(
     verb: Verb,
 ) -> Result<Job, DiskFault>
     ensures stays { S.files store.new ≡ S.files store.old }
+    ensures job { IfOk result (λ job. SaysOf (S.files store.old) path.now verb job) }
 {
     if verb.changes() {
         store.hold(path)?;
@@ -36,9 +38,10 @@ fn files_job<S: Store>(
     }
 }
 
-/// Does a command on the image of a file, and writes the image back where the outcome has one: then it is the file,
-/// and no other file has changed. Neither stream may have failed before. Where a file cannot be read, held or
-/// written, no file has changed.
+/// Does a command on the image of a file, and writes the image back where the outcome has one: then it is the file, and
+/// no other file has changed. Neither stream may have failed before. Where a file cannot be read, held or written, no file
+/// has changed. Where the input is known, the image that is kept is the one that is said of the input and of the image
+/// that the file had.
 pub fn do_files<S: Store, I: Source, O: Sink>(
     alloc: Global,
     store: &mut S,
@@ -51,13 +54,13 @@ pub fn do_files<S: Store, I: Source, O: Sink>(
     requires sink_well { O.has_failed sink.old ≡ false }
     ensures kept { IfOk result (λ outcome.
         Keeps (S.files store.old) (S.files store.new) path.now (option_map vec_items outcome.image)) }
+    ensures said { IfOk result (λ outcome. IsSound outcome.status → IfSome (I.remaining source.old) (λ input.
+        KeepsSaid (S.files store.old) (S.files store.new) path.now verb input)) }
     ensures stays { OnErr result (S.files store.new ≡ S.files store.old) }
 {
     let job = files_job(alloc, store, path, verb)?;
     let outcome = pm_tool::run(alloc, source, sink, job);
-    if let Some(image) = &outcome.image {
-        store.put(path, image.as_slice())?;
-    }
+    keep_image(store, path, &outcome.image)?;
     Ok(outcome)
 }
 
@@ -135,7 +138,7 @@ fn keep_printer<S: Store, O: Sink>(
 ) -> Result<(), DiskFault>
     ensures kept { OnOk result (
         PrintsIf (has_run outcome.now.status) (S.files store.old) (S.files store.new) printing.now
-            outcome.now.printer.items) }
+        outcome.now.printer.items) }
     ensures stays { OnErr result (S.files store.new ≡ S.files store.old) }
 {
     if !has_run(outcome.status) {
@@ -152,14 +155,14 @@ fn keep_printer<S: Store, O: Sink>(
 fn keep<S: Store, O: Sink>(
     store: &mut S,
     sink: &mut O,
-    path: &str,
+    disk: &str,
     printing: &Printing,
     outcome: &Outcome,
 ) -> Result<(), DiskFault>
-    ensures kept { OnOk result (KeepsRun (S.files store.old) (S.files store.new) path.now printing.now outcome.now) }
-    ensures front { OnErr result (KeepsFront (S.files store.old) (S.files store.new) path.now) }
+    ensures kept { OnOk result (KeepsRun (S.files store.old) (S.files store.new) disk.now printing.now outcome.now) }
+    ensures front { OnErr result (KeepsFront (S.files store.old) (S.files store.new) disk.now) }
 {
-    keep_image(store, path, &outcome.image)?;
+    keep_image(store, disk, &outcome.image)?;
     keep_printer(store, sink, printing, outcome)
 }
 

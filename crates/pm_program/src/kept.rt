@@ -3,6 +3,8 @@ ghost use Rattle.std.specs.Prelude.{◌≡◌, false, IfOk, IfSome, OnErr, OnOk,
 ghost use Rattle.pm_tool.specs.Said.{IsSound};
 ghost use Rattle.pm_files.specs.Held.{Keeps};
 ghost use Rattle.pm_program.specs.Kept.{KeepsRun, KeepsFront, KeepsSaid, PrintsIf, SaysOf, has_run};
+ghost use Rattle.pm_program.specs.Kept.{KeepsRunSaid, Reads, ReadsEach, paths_of};
+ghost use Rattle.pm_tool.specs.Disks.{images_of};
 
 use crate::file_words::Verb;
 use crate::run_words::{Kept, Others, Printing, Program};
@@ -39,9 +41,9 @@ fn files_job<S: Store>(
 }
 
 /// Does a command on the image of a file, and writes the image back where the outcome has one: then it is the file, and
-/// no other file has changed. Neither stream may have failed before. Where a file cannot be read, held or written, no file
-/// has changed. Where the input is known, the image that is kept is the one that is said of the input and of the image
-/// that the file had.
+/// no other file has changed. Neither stream may have failed before. Where a file cannot be read, held or written,
+/// no file has changed. Where the input is known, the image that is kept is the one that is said of the input and
+/// of the image that the file had.
 pub fn do_files<S: Store, I: Source, O: Sink>(
     alloc: Global,
     store: &mut S,
@@ -71,6 +73,8 @@ fn image<S: Store>(
     path: &Option<String>,
 ) -> Result<Option<Vec<u8>>, DiskFault>
     ensures stays { S.files store.new ≡ S.files store.old }
+    ensures value { IfOk result (λ image.
+        Reads (S.files store.old) (option_map string_bytes path.now) (option_map vec_items image)) }
 {
     match path {
         Some(path) => Ok(Some(store.read(alloc, path.as_str())?)),
@@ -89,6 +93,8 @@ fn images<S: Store>(
     others: &Others,
 ) -> Result<Images, DiskFault>
     ensures stays { S.files store.new ≡ S.files store.old }
+    ensures values { IfOk result (λ images.
+        ReadsEach (S.files store.old) (paths_of disk.now others.now) (images_of images)) }
 {
     Ok([
         Some(store.read(alloc, disk)?),
@@ -166,9 +172,23 @@ fn keep<S: Store, O: Sink>(
     keep_printer(store, sink, printing, outcome)
 }
 
+/// Holds the file of the image that is going to be saved, and makes ready for the printer's file.
+fn make_ready<S: Store>(store: &mut S, disk: &str, kept: &Kept) -> Result<(), DiskFault>
+    ensures stays { S.files store.new ≡ S.files store.old }
+{
+    if kept.save {
+        store.hold(disk)?;
+    }
+    if let Printing::File(path) = &kept.printing {
+        store.prepare(path.as_str())?;
+    }
+    Ok(())
+}
+
 /// Runs a program, and then writes the image of unit 4, where the outcome has it, and the printer's bytes, where
 /// the program has run and they are wanted. No other file changes. Neither stream may have failed before. Where a
-/// file cannot be read, held or written, nothing has changed but that the image may be written.
+/// file cannot be read, held or written, nothing has changed but that the image may be written. Where the input is
+/// known, what is kept is what is said of it and of the images that the files had, each on its unit.
 pub fn do_run<S: Store, I: Source, O: Sink>(
     alloc: Global,
     store: &mut S,
@@ -181,6 +201,8 @@ pub fn do_run<S: Store, I: Source, O: Sink>(
     requires sink_well { O.has_failed sink.old ≡ false }
     ensures kept { IfOk result (λ outcome.
         KeepsRun (S.files store.old) (S.files store.new) (string_bytes program.disk) kept.printing outcome) }
+    ensures said { IfOk result (λ outcome. IsSound outcome.status → IfSome (I.remaining source.old) (λ input.
+        KeepsRunSaid (S.files store.old) (S.files store.new) program kept input)) }
     ensures front { OnErr result (KeepsFront (S.files store.old) (S.files store.new) (string_bytes program.disk)) }
 {
     let Program {
@@ -189,13 +211,8 @@ pub fn do_run<S: Store, I: Source, O: Sink>(
         name,
         limit,
     } = program;
+    make_ready(store, disk.as_str(), &kept)?;
     let Kept { save, printing } = kept;
-    if save {
-        store.hold(disk.as_str())?;
-    }
-    if let Printing::File(path) = &printing {
-        store.prepare(path.as_str())?;
-    }
     let disks = images(alloc, store, disk.as_str(), &others)?;
     let job = Job::Run {
         disks,

@@ -15,8 +15,8 @@ pub enum Stream {
 
 /// What `Files` has no call for. A runtime in memory stands in for it in tests, as for `Files`.
 pub trait Host: Files {
-    /// Takes the lock of an open file, without waiting. `false`: another open of it has the lock. A system without such locks answers
-    /// `true`.
+    /// Takes the lock of an open file, without waiting. `false`: another open of it has the lock. A system without such
+    /// locks answers `true`.
     fn try_lock(&self, file: &Self::File) -> io::Result<bool>;
 
     /// Whether a path names an open file, and not by a symbolic link.

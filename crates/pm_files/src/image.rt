@@ -25,8 +25,8 @@ fn read_file<F: Read>(alloc: Global, file: &mut F) -> Result<Vec<u8>, DiskFault>
     Err(DiskFault::TooLong)
 }
 
-/// Reads the image of a file, with no lock: a file that is replaced meanwhile is the old one or the new one, and never a mixture.
-/// `TooLong` for more than `IMAGE_LIMIT` bytes.
+/// Reads the image of a file, with no lock: a file that is replaced meanwhile is the old one or the new one, and
+/// never a mixture. `TooLong` for more than `IMAGE_LIMIT` bytes.
 pub(crate) fn read_image<R: Files>(
     rt: &R,
     alloc: Global,

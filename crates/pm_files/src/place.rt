@@ -1,9 +1,9 @@
 //! A file that is going to be written: its paths, and its lock.
 use crate::fault::DiskFault;
 use crate::host::Host;
-use std::fs;
-use std::fs::File;
+use std::fs::{File, OpenOptions};
 use std::io::ErrorKind;
+use std::{fs, io};
 
 /// How often a file is opened anew that was replaced before its lock was had.
 pub(crate) const TRIES: u8 = 100;
@@ -34,13 +34,27 @@ fn resolved<R: Host + AllocGlobal>(rt: &R, name: &str) -> Result<Option<String>,
     }
 }
 
-/// Opens and locks a file, if there is a regular one. `Busy` where another program has it.
+/// Opens a file that is going to be locked: for reading, or for writing where it may not be read.
+fn opened<R: Host>(rt: &R, path: &str) -> io::Result<R::File> {
+    match File::open(rt, path) {
+        Err(error) if error.kind() == ErrorKind::PermissionDenied => {
+            OpenOptions::new().write(true).open(rt, path)
+        }
+        done => done,
+    }
+}
+
+/// Opens and locks a file, if there is a regular one that may be read or written. `Busy` where another program has it.
 fn locked<R: Host>(rt: &R, path: &str) -> Result<Option<R::File>, DiskFault> {
     if !fs::metadata(rt, path).is_ok_and(|old| old.is_file()) {
         return Ok(None);
     }
     for _ in 0..TRIES {
-        let file = File::open(rt, path).map_err(DiskFault::of_read)?;
+        let file = match opened(rt, path) {
+            Ok(file) => file,
+            Err(error) if error.kind() == ErrorKind::PermissionDenied => return Ok(None),
+            Err(error) => return Err(DiskFault::of_read(error)),
+        };
         if !rt.try_lock(&file).map_err(DiskFault::of_read)? {
             return Err(DiskFault::Busy);
         }
@@ -74,8 +88,8 @@ impl<F> Place<F> {
         })
     }
 
-    /// Locks the file, if it is a regular one, until this is dropped. `Busy` where another program has it; a fault of reading where
-    /// it cannot be opened.
+    /// Locks the file, if it is a regular one, until this is dropped. `Busy` where another program has it. One that
+    /// may be neither read nor written is not locked: what is done with it says why.
     pub(crate) fn hold<R: Host<File = F>>(&mut self, rt: &R) -> Result<(), DiskFault> {
         if let Some(path) = &self.path {
             self.held = locked(rt, path.as_str())?;

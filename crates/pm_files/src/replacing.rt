@@ -9,8 +9,8 @@ use std::os::unix::fs::MetadataExt;
 use std::rt::Files;
 use std::{fs, io};
 
-/// Writes bytes over those of a file, which is made where there is none. No byte is cut off before the new ones stand there, and what
-/// is no regular file keeps its length.
+/// Writes bytes over those of a file, which is made where there is none. No byte is cut off before the new ones stand
+/// there, and what is no regular file keeps its length.
 fn overwrite<R: Files>(rt: &R, path: &str, bytes: &[u8]) -> io::Result<()> {
     let mut file = OpenOptions::new()
         .write(true)
@@ -74,7 +74,8 @@ fn open_beside<R: Host>(rt: &R, path: &str) -> io::Result<R::File> {
         if is_named && rt.names(&file)? == 1 {
             return Ok(file);
         }
-        // The name is this program's own: a link that stands there for another file is taken away, and that file is not touched.
+        // The name is this program's own: a link that stands there for another file is taken away, and that file is not
+        // touched.
         if is_named
             || rt
                 .symlink_metadata(path)
@@ -120,7 +121,8 @@ fn put_beside<R: Host>(
     done
 }
 
-/// Whether no other file can stand in the place of one: it is no regular file, or has other names. An error where it may not be written.
+/// Whether no other file can stand in the place of one: it is no regular file, or has other names. An error where
+/// it may not be written.
 fn is_fixed<R: Host>(rt: &R, path: &str, old: &Metadata) -> io::Result<bool> {
     if !old.is_file() {
         return Ok(true);
@@ -168,9 +170,10 @@ fn is_replaced<R: Host>(rt: &R, place: &Place<R::File>) -> io::Result<bool> {
     }
 }
 
-/// Makes the bytes those of a file: at each moment it has its old bytes or these. But they are written over the old ones where the file
-/// is no regular one, has other names, or stands in a folder that takes no new name; where that fails half way it is a mixture.
-/// No memory is wanted. `Replaced` where the file was held, and another one has its name now.
+/// Makes the bytes those of a file: at each moment it has its old bytes or these. But they are written over the old
+/// ones where the file is no regular one, has other names, or stands in a folder that takes no new name; where that
+/// fails half way it is a mixture. No memory is wanted. `Replaced` where the file was held, and another one has its
+/// name now.
 pub(crate) fn replace<R: Host>(
     rt: &R,
     place: &Place<R::File>,

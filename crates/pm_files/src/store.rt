@@ -24,7 +24,8 @@ pub trait Store {
     fn prepare(&mut self, path: &str) -> Result<(), DiskFault>
         ensures stays { files self.new ≡ files self.old };
 
-    /// Prepares a file, and keeps all other programs from writing it as long as the store is there. `Busy` where another one has it.
+    /// Prepares a file, and keeps all other programs from writing it as long as the store is there. `Busy` where
+    /// another one has it.
     fn hold(&mut self, path: &str) -> Result<(), DiskFault>
         ensures stays { files self.new ≡ files self.old };
 

@@ -1,8 +1,23 @@
 -- Which files a run leaves behind.
-use Rattle.std.specs.Prelude.{◌≡◌, ◌⊎◌, ◌||◌, ◌==◌, ℕ, Bool, true, false, List, Option, option_map, vec_items, string_bytes}
-use Rattle.pm_files.specs.Held.{Keeps, Puts}
+use Rattle.std.specs.Prelude.{◌≡◌, ◌⊎◌, ◌||◌, ◌==◌, ⊤, ℕ, Bool, true, false, List, [], ◌∷◌}
+use Rattle.std.specs.Prelude.{Option, None, Some, Vec, option_map, vec_items, string_bytes}
+use Rattle.std.specs.declared.alloc.Global.{Global}
+use Rattle.pm_files.specs.Held.{Files, Holds, Keeps, Puts}
+use Rattle.pm_filer.specs.Filed.{order_of}
+use Rattle.pm_volume.specs.Headers.{blank_fault}
+use Rattle.pm_tool.specs.Files.{said_files, said_new, said_repair}
+use Rattle.pm_tool.specs.Disks.{images_of}
+use Rattle.pm_tool.specs.Outcomes.{Said, exit_number}
+use Rattle.pm_tool.specs.Said.{said}
+use Rattle.pm_tool.specs.declared.outcome.Job.{Job}
+use Rattle.pm_tool.specs.declared.outcome.Job.TheVariants as jobs
 use Rattle.pm_tool.specs.declared.outcome.Outcome.{Outcome}
+use Rattle.pm_program.specs.declared.file_words.Verb.{Verb}
+use Rattle.pm_program.specs.declared.file_words.Verb.TheVariants as verbs
+use Rattle.pm_program.specs.declared.run_words.Kept.{Kept}
+use Rattle.pm_program.specs.declared.run_words.Others.{Others}
 use Rattle.pm_program.specs.declared.run_words.Printing.{Printing}
+use Rattle.pm_program.specs.declared.run_words.Program.{Program}
 use Rattle.pm_program.specs.declared.run_words.Printing.TheVariants as printings
 
 -- a program came to an end of its own, of its steps or of its input
@@ -10,23 +25,76 @@ abbrev pub has_run : ℕ → Bool
 has_run status = (status == 0) || ((status == 3) || (status == 6))
 
 -- the printer's bytes stand where they are wanted, and all else is as it was
-abbrev pub Prints : Option (List ℕ → Option (List ℕ)) → Option (List ℕ → Option (List ℕ)) → Printing → List ℕ → Type 0
+abbrev pub Prints : Files → Files → Printing → List ℕ → Type 0
 Prints old new printings.Nowhere bytes = new ≡ old
 Prints old new printings.Output bytes = new ≡ old
 Prints old new (printings.File path) bytes = Puts old new (string_bytes path) bytes
 
 -- the same where the program has run; else all is as it was
-abbrev pub PrintsIf : Bool → Option (List ℕ → Option (List ℕ)) → Option (List ℕ → Option (List ℕ)) → Printing → List ℕ → Type 0
+abbrev pub PrintsIf : Bool → Files → Files → Printing → List ℕ → Type 0
 PrintsIf true old new printing bytes = Prints old new printing bytes
 PrintsIf false old new printing bytes = new ≡ old
 
--- First the image of unit 4, if the outcome has it, and then the printer's bytes, if the program has run: these stand under their paths, and
--- nothing else has changed.
-abbrev pub KeepsRun : Option (List ℕ → Option (List ℕ)) → Option (List ℕ → Option (List ℕ)) → List ℕ → Printing → Outcome → Type 0
-KeepsRun old new disk printing outcome = (between : Option (List ℕ → Option (List ℕ)))
+-- First the image of unit 4, if the outcome has it, and then the printer's bytes, if the program has run: these stand
+-- under their paths, and nothing else has changed.
+abbrev pub KeepsRun : Files → Files → List ℕ → Printing → Outcome → Type 0
+KeepsRun old new disk printing outcome = (between : Files)
     × Keeps old between disk (option_map vec_items outcome.image)
     × PrintsIf (has_run outcome.status) between new printing outcome.printer.items
 
 -- nothing has changed, or the image of unit 4 alone
-abbrev pub KeepsFront : Option (List ℕ → Option (List ℕ)) → Option (List ℕ → Option (List ℕ)) → List ℕ → Type 0
+abbrev pub KeepsFront : Files → Files → List ℕ → Type 0
 KeepsFront old new disk = (new ≡ old) ⊎ ((image : List ℕ) × Puts old new disk image)
+
+-- A verb of `files` is told to the image that the path holds and to the input: then the file keeps the image that is
+-- said of them, if one is, and nothing else has changed. A new volume is told to the input alone.
+abbrev pub KeepsSaid : Files → Files → List ℕ → Verb → List ℕ → Type 0
+KeepsSaid old new path (verbs.Command command) input = (image : List ℕ)
+    × Holds old path image × Keeps old new path (said_files image (order_of command) input).image
+KeepsSaid old new path (verbs.New name blocks) input =
+    Keeps old new path (said_new (blank_fault (string_bytes name) blocks) (string_bytes name) blocks input).image
+KeepsSaid old new path verbs.Repair input = (image : List ℕ)
+    × Holds old path image × Keeps old new path (said_repair image input).image
+
+-- the job of a verb says to each input what the verb does of the image that the path holds
+abbrev pub SaysOf : Files → List ℕ → Verb → Job → Type 0
+SaysOf files path (verbs.Command command) job = (image : List ℕ) × Holds files path image
+    × ((input : List ℕ) → said job input ≡ said_files image (order_of command) input)
+SaysOf files path (verbs.New name blocks) job = (input : List ℕ)
+    → said job input ≡ said_new (blank_fault (string_bytes name) blocks) (string_bytes name) blocks input
+SaysOf files path verbs.Repair job = (image : List ℕ) × Holds files path image
+    × ((input : List ℕ) → said job input ≡ said_repair image input)
+
+-- the paths of a program's disks, in the order of the units 4, 5, 9, 10, 11 and 12
+abbrev pub paths_of : List ℕ → Others → List (Option (List ℕ))
+paths_of disk others = Some disk ∷ option_map string_bytes others.d5 ∷ option_map string_bytes others.d9
+    ∷ option_map string_bytes others.d10 ∷ option_map string_bytes others.d11 ∷ option_map string_bytes others.d12 ∷ []
+
+-- the image that a path holds, or none where there is no path
+abbrev pub Reads : Files → Option (List ℕ) → Option (List ℕ) → Type 0
+Reads files None None = ⊤
+Reads files None (Some image) = ⊥
+Reads files (Some path) None = ⊥
+Reads files (Some path) (Some image) = Holds files path image
+
+-- the images of the paths, in their order
+abbrev pub ReadsEach : Files → List (Option (List ℕ)) → List (Option (List ℕ)) → Type 0
+ReadsEach files [] [] = ⊤
+ReadsEach files [] (image ∷ images) = ⊥
+ReadsEach files (path ∷ paths) [] = ⊥
+ReadsEach files (path ∷ paths) (image ∷ images) = Reads files path image × ReadsEach files paths images
+
+-- first the image that is said, if one is, under a path, and then the printer's bytes, if the program has run; nothing
+-- else has changed
+abbrev pub KeepsTold : Files → Files → List ℕ → Printing → Said → Type 0
+KeepsTold old new disk printing told = (between : Files)
+    × Keeps old between disk told.image
+    × PrintsIf (has_run (exit_number told.exit)) between new printing told.printer
+
+-- A program is run on the images that its paths hold, each on its unit: what is kept is what is said of them and of the
+-- input.
+abbrev pub KeepsRunSaid : Files → Files → Program → Kept → List ℕ → Type 0
+KeepsRunSaid old new program kept input = (disks : List (Option (Vec ℕ Global)))
+    × ReadsEach old (paths_of (string_bytes program.disk) program.others) (images_of disks)
+    × KeepsTold old new (string_bytes program.disk) kept.printing
+    (said (jobs.Run disks program.name program.limit kept.save) input)

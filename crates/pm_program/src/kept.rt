@@ -1,7 +1,10 @@
 //! Jobs with files: what is read before them, and what is written behind them.
-ghost use Rattle.std.specs.Prelude.{◌≡◌, false, IfOk, OnErr, OnOk, string_bytes, option_map, vec_items};
+ghost use Rattle.std.specs.Prelude.{◌≡◌, false, IfOk, IfSome, OnErr, OnOk, string_bytes, option_map, vec_items};
+ghost use Rattle.pm_tool.specs.Said.{IsSound};
 ghost use Rattle.pm_files.specs.Held.{Keeps};
-ghost use Rattle.pm_program.specs.Kept.{KeepsRun, KeepsFront, PrintsIf, has_run};
+ghost use Rattle.pm_program.specs.Kept.{KeepsRun, KeepsFront, KeepsSaid, PrintsIf, SaysOf, has_run};
+ghost use Rattle.pm_program.specs.Kept.{KeepsRunSaid, Reads, ReadsEach, paths_of};
+ghost use Rattle.pm_tool.specs.Disks.{images_of};
 
 use crate::file_words::Verb;
 use crate::run_words::{Kept, Others, Printing, Program};
@@ -19,6 +22,7 @@ fn files_job<S: Store>(
     verb: Verb,
 ) -> Result<Job, DiskFault>
     ensures stays { S.files store.new ≡ S.files store.old }
+    ensures job { IfOk result (λ job. SaysOf (S.files store.old) path.now verb job) }
 {
     if verb.changes() {
         store.hold(path)?;
@@ -36,8 +40,10 @@ fn files_job<S: Store>(
     }
 }
 
-/// Does a command on the image of a file, and writes the image back where the outcome has one: then it is the file, and no other file
-/// has changed. Neither stream may have failed before. Where a file cannot be read, held or written, no file has changed.
+/// Does a command on the image of a file, and writes the image back where the outcome has one: then it is the file, and
+/// no other file has changed. Neither stream may have failed before. Where a file cannot be read, held or written,
+/// no file has changed. Where the input is known, the image that is kept is the one that is said of the input and
+/// of the image that the file had.
 pub fn do_files<S: Store, I: Source, O: Sink>(
     alloc: Global,
     store: &mut S,
@@ -50,13 +56,13 @@ pub fn do_files<S: Store, I: Source, O: Sink>(
     requires sink_well { O.has_failed sink.old ≡ false }
     ensures kept { IfOk result (λ outcome.
         Keeps (S.files store.old) (S.files store.new) path.now (option_map vec_items outcome.image)) }
+    ensures said { IfOk result (λ outcome. IsSound outcome.status → IfSome (I.remaining source.old) (λ input.
+        KeepsSaid (S.files store.old) (S.files store.new) path.now verb input)) }
     ensures stays { OnErr result (S.files store.new ≡ S.files store.old) }
 {
     let job = files_job(alloc, store, path, verb)?;
     let outcome = pm_tool::run(alloc, source, sink, job);
-    if let Some(image) = &outcome.image {
-        store.put(path, image.as_slice())?;
-    }
+    keep_image(store, path, &outcome.image)?;
     Ok(outcome)
 }
 
@@ -67,6 +73,8 @@ fn image<S: Store>(
     path: &Option<String>,
 ) -> Result<Option<Vec<u8>>, DiskFault>
     ensures stays { S.files store.new ≡ S.files store.old }
+    ensures value { IfOk result (λ image.
+        Reads (S.files store.old) (option_map string_bytes path.now) (option_map vec_items image)) }
 {
     match path {
         Some(path) => Ok(Some(store.read(alloc, path.as_str())?)),
@@ -85,6 +93,8 @@ fn images<S: Store>(
     others: &Others,
 ) -> Result<Images, DiskFault>
     ensures stays { S.files store.new ≡ S.files store.old }
+    ensures values { IfOk result (λ images.
+        ReadsEach (S.files store.old) (paths_of disk.now others.now) (images_of images)) }
 {
     Ok([
         Some(store.read(alloc, disk)?),
@@ -115,7 +125,8 @@ fn print_out<O: Sink>(sink: &mut O, bytes: &[u8]) -> Result<(), DiskFault> {
 
 /// Writes an image, where there is one.
 fn keep_image<S: Store>(store: &mut S, path: &str, image: &Option<Vec<u8>>) -> Result<(), DiskFault>
-    ensures kept { OnOk result (Keeps (S.files store.old) (S.files store.new) path.now (option_map vec_items image.now)) }
+    ensures kept { OnOk result (
+        Keeps (S.files store.old) (S.files store.new) path.now (option_map vec_items image.now)) }
     ensures stays { OnErr result (S.files store.new ≡ S.files store.old) }
 {
     match image {
@@ -131,7 +142,8 @@ fn keep_printer<S: Store, O: Sink>(
     printing: &Printing,
     outcome: &Outcome,
 ) -> Result<(), DiskFault>
-    ensures kept { OnOk result (PrintsIf (has_run outcome.now.status) (S.files store.old) (S.files store.new) printing.now
+    ensures kept { OnOk result (
+        PrintsIf (has_run outcome.now.status) (S.files store.old) (S.files store.new) printing.now
         outcome.now.printer.items) }
     ensures stays { OnErr result (S.files store.new ≡ S.files store.old) }
 {
@@ -149,20 +161,34 @@ fn keep_printer<S: Store, O: Sink>(
 fn keep<S: Store, O: Sink>(
     store: &mut S,
     sink: &mut O,
-    path: &str,
+    disk: &str,
     printing: &Printing,
     outcome: &Outcome,
 ) -> Result<(), DiskFault>
-    ensures kept { OnOk result (KeepsRun (S.files store.old) (S.files store.new) path.now printing.now outcome.now) }
-    ensures front { OnErr result (KeepsFront (S.files store.old) (S.files store.new) path.now) }
+    ensures kept { OnOk result (KeepsRun (S.files store.old) (S.files store.new) disk.now printing.now outcome.now) }
+    ensures front { OnErr result (KeepsFront (S.files store.old) (S.files store.new) disk.now) }
 {
-    keep_image(store, path, &outcome.image)?;
+    keep_image(store, disk, &outcome.image)?;
     keep_printer(store, sink, printing, outcome)
 }
 
-/// Runs a program, and then writes the image of unit 4, where the outcome has it, and the printer's bytes, where the program has run and
-/// they are wanted. No other file changes. Neither stream may have failed before. Where a file cannot be read, held or written, nothing
-/// has changed but that the image may be written.
+/// Holds the file of the image that is going to be saved, and makes ready for the printer's file.
+fn make_ready<S: Store>(store: &mut S, disk: &str, kept: &Kept) -> Result<(), DiskFault>
+    ensures stays { S.files store.new ≡ S.files store.old }
+{
+    if kept.save {
+        store.hold(disk)?;
+    }
+    if let Printing::File(path) = &kept.printing {
+        store.prepare(path.as_str())?;
+    }
+    Ok(())
+}
+
+/// Runs a program, and then writes the image of unit 4, where the outcome has it, and the printer's bytes, where
+/// the program has run and they are wanted. No other file changes. Neither stream may have failed before. Where a
+/// file cannot be read, held or written, nothing has changed but that the image may be written. Where the input is
+/// known, what is kept is what is said of it and of the images that the files had, each on its unit.
 pub fn do_run<S: Store, I: Source, O: Sink>(
     alloc: Global,
     store: &mut S,
@@ -175,6 +201,8 @@ pub fn do_run<S: Store, I: Source, O: Sink>(
     requires sink_well { O.has_failed sink.old ≡ false }
     ensures kept { IfOk result (λ outcome.
         KeepsRun (S.files store.old) (S.files store.new) (string_bytes program.disk) kept.printing outcome) }
+    ensures said { IfOk result (λ outcome. IsSound outcome.status → IfSome (I.remaining source.old) (λ input.
+        KeepsRunSaid (S.files store.old) (S.files store.new) program kept input)) }
     ensures front { OnErr result (KeepsFront (S.files store.old) (S.files store.new) (string_bytes program.disk)) }
 {
     let Program {
@@ -183,13 +211,8 @@ pub fn do_run<S: Store, I: Source, O: Sink>(
         name,
         limit,
     } = program;
+    make_ready(store, disk.as_str(), &kept)?;
     let Kept { save, printing } = kept;
-    if save {
-        store.hold(disk.as_str())?;
-    }
-    if let Printing::File(path) = &printing {
-        store.prepare(path.as_str())?;
-    }
     let disks = images(alloc, store, disk.as_str(), &others)?;
     let job = Job::Run {
         disks,

@@ -155,8 +155,11 @@ impl<'a> Files for FakeRuntime<'a> {
             None if how.asks_create() || how.asks_create_new() => disk.add(self.alloc, path)?,
             None => return Err(missing()),
         };
-        if how.asks_truncate() {
-            if let Some(inode) = disk.inodes.get_mut(inode) {
+        if let Some(inode) = disk.inodes.get_mut(inode) {
+            if how.asks_read() && inode.is_private || how.asks_write() && inode.is_read_only {
+                return Err(closed());
+            }
+            if how.asks_truncate() {
                 inode.bytes.clear();
             }
         }

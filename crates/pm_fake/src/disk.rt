@@ -9,6 +9,10 @@ pub struct Inode {
     pub bytes: Vec<u8>,
     /// Whether a program holds it.
     pub locked: bool,
+    /// Whether it may not be read.
+    pub is_private: bool,
+    /// Whether it may not be written.
+    pub is_read_only: bool,
     /// Whether it is a folder.
     pub is_folder: bool,
 }
@@ -101,6 +105,8 @@ impl Disk {
         let made = self.inodes.push(Inode {
             bytes,
             locked: false,
+            is_private: false,
+            is_read_only: false,
             is_folder: false,
         });
         if made.is_err() {
@@ -146,6 +152,23 @@ impl Disk {
         }
     }
 
+    /// Writes bytes over those of a file from an offset on. Whether there were as many.
+    pub fn write_at(&mut self, path: &str, place: usize, bytes: &[u8]) -> bool {
+        let Some(number) = self.find(path) else {
+            return false;
+        };
+        let Some(inode) = self.inodes.get_mut(number) else {
+            return false;
+        };
+        for (offset, byte) in bytes.iter().enumerate() {
+            match inode.bytes.get_mut(place.saturating_add(offset)) {
+                Some(old) => *old = *byte,
+                None => return false,
+            }
+        }
+        true
+    }
+
     /// Gives a file another name.
     pub fn link(&mut self, alloc: Global, path: &str, other: &str) -> io::Result<()> {
         let inode = self.find(path).ok_or(missing())?;
@@ -156,13 +179,17 @@ impl Disk {
         }
     }
 
-    /// Begins anew: no calls, no log, nothing read, written or locked. The files stay.
+    /// Begins anew: no calls, no log, nothing read or written. The files stay.
     pub fn rewind(&mut self) {
         self.calls = 0;
         self.log.clear();
         self.read = 0;
         self.out.clear();
         self.err.clear();
+    }
+
+    /// Ends a program: no file is locked.
+    pub fn release(&mut self) {
         for inode in self.inodes.iter_mut() {
             inode.locked = false;
         }

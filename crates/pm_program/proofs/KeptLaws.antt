@@ -1,0 +1,65 @@
+-- What a verb of `files` keeps is what its job says.
+use Rattle.std.proofs.Common.{◌≡◌, ℕ, List, Option, None, Some, subst, IfSome, option_map, vec_items, string_bytes, Vec}
+use Rattle.std.specs.declared.alloc.Global.{Global}
+use Rattle.pm_files.specs.Held.{Files, Keeps}
+use Rattle.pm_tool.specs.Outcomes.{Said, IsOutcome, exit_number}
+use Rattle.pm_tool.specs.Said.{said, Tells}
+use Rattle.pm_tool.specs.declared.outcome.Job.{Job}
+use Rattle.pm_tool.specs.declared.outcome.Outcome.{Outcome}
+use Rattle.pm_program.specs.Kept.{KeepsRun, KeepsRunSaid, KeepsSaid, KeepsTold, PrintsIf, ReadsEach, SaysOf, has_run, paths_of}
+use Rattle.pm_program.specs.declared.run_words.Kept.{Kept}
+use Rattle.pm_program.specs.declared.run_words.Program.{Program}
+use Rattle.pm_tool.specs.Disks.{images_of}
+use Rattle.pm_tool.specs.declared.outcome.Job.TheVariants as jobs
+use Rattle.pm_program.specs.declared.run_words.Printing.{Printing}
+use Rattle.pm_program.specs.declared.file_words.Verb.{Verb}
+use Rattle.pm_program.specs.declared.file_words.Verb.TheVariants as verbs
+
+keeps_said : (old new : Files) (path : List ℕ) (verb : Verb) (job : Job) (input : List ℕ) → SaysOf old path verb job
+    → Keeps old new path (said job input).image → KeepsSaid old new path verb input
+keeps_said old new path (verbs.Command command) job input says keeps =
+    (says.0, says.1, subst (λ told. Keeps old new path told.image) (says.2 input) keeps)
+keeps_said old new path (verbs.New name blocks) job input says keeps =
+    subst (λ told. Keeps old new path told.image) (says input) keeps
+keeps_said old new path verbs.Repair job input says keeps =
+    (says.0, says.1, subst (λ told. Keeps old new path told.image) (says.2 input) keeps)
+
+-- where the input is known, the file keeps what is said to it
+pub known_keeps_said : (had left held holds : Option (List ℕ)) (old read new : Files) (path : List ℕ) (verb : Verb) (job : Job)
+    (outcome : Outcome) → IfSome had (λ input. Tells left held holds outcome (said job input)) → SaysOf old path verb job
+    → read ≡ old → Keeps read new path (option_map vec_items outcome.image)
+    → IfSome had (λ input. KeepsSaid old new path verb input)
+known_keeps_said None left held holds old read new path verb job outcome tells says same keeps = tt
+known_keeps_said (Some input) left held holds old read new path verb job outcome tells says same keeps =
+    keeps_said old new path verb job input says
+    (subst (Keeps old new path) tells.comes_to.image
+    (subst (λ files. Keeps files new path (option_map vec_items outcome.image)) same keeps))
+
+-- what a run keeps of its outcome is what it keeps of what is said
+run_told : (old new : Files) (disk : List ℕ) (printing : Printing) (outcome : Outcome) (told : Said) → IsOutcome outcome told
+    → KeepsRun old new disk printing outcome → KeepsTold old new disk printing told
+run_told old new disk printing outcome told is keeps = (
+  keeps.0,
+  subst (Keeps old keeps.0 disk) is.image keeps.1,
+  subst (PrintsIf (has_run (exit_number told.exit)) keeps.0 new printing) is.printer
+      (subst (λ status. PrintsIf (has_run status) keeps.0 new printing outcome.printer.items) is.status keeps.2),
+)
+
+-- where the input is known, a run keeps what is said to it of the images that were read
+pub known_run_said : (had left held holds : Option (List ℕ)) (old ready read new : Files) (program : Program) (kept : Kept)
+    (disks : List (Option (Vec ℕ Global))) (outcome : Outcome) (from to : List ℕ)
+    → from ≡ string_bytes program.disk → to ≡ string_bytes program.disk
+    → IfSome had (λ input. Tells left held holds outcome (said (jobs.Run disks program.name program.limit kept.save) input))
+    → ready ≡ old → read ≡ ready → ReadsEach ready (paths_of from program.others) (images_of disks)
+    → KeepsRun read new to kept.printing outcome
+    → IfSome had (λ input. KeepsRunSaid old new program kept input)
+known_run_said None left held holds old ready read new program kept disks outcome from to is_from is_to tells same also reads keeps = tt
+known_run_said (Some input) left held holds old ready read new program kept disks outcome from to is_from is_to tells same also reads keeps = (
+  disks,
+  subst (λ files. ReadsEach files (paths_of (string_bytes program.disk) program.others) (images_of disks)) same
+      (subst (λ path. ReadsEach ready (paths_of path program.others) (images_of disks)) is_from reads),
+  run_told old new (string_bytes program.disk) kept.printing outcome _ tells.comes_to
+      (subst (λ files. KeepsRun files new (string_bytes program.disk) kept.printing outcome) same
+      (subst (λ files. KeepsRun files new (string_bytes program.disk) kept.printing outcome) also
+      (subst (λ path. KeepsRun read new path kept.printing outcome) is_to keeps))),
+)

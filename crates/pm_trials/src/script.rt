@@ -1,0 +1,249 @@
+//! The lines of a script.
+use crate::command::{Came, Command, come, copy};
+use crate::sweep::sweep;
+use pm_fake::Disk;
+use std::alloc::Global;
+use std::{fmt, io};
+
+/// How far a script is: what stands on the disk, and what the last command line came to.
+#[derive(Drop)]
+pub struct Trials {
+    alloc: Global,
+    /// What the last command line came to, on the disk that the next one finds.
+    came: Came,
+    /// Standard input of the next one.
+    typed: Vec<u8>,
+    /// What standard output, and standard error, have to have taken.
+    out: Vec<u8>,
+    err: Vec<u8>,
+    /// Whether the standard streams are a terminal.
+    on_terminal: bool,
+    count: u32,
+}
+
+fn add(bytes: &mut Vec<u8>, text: &str, ends: bool) -> io::Result<()> {
+    bytes.extend_from_slice(text.as_bytes())?;
+    if ends {
+        bytes.extend_from_slice(b"\n")?;
+    }
+    Ok(())
+}
+
+/// The number that a word spells.
+fn number(word: &str) -> usize {
+    word.parse().unwrap_or(usize::MAX)
+}
+
+impl Trials {
+    /// No files, and nothing done.
+    pub fn new(alloc: Global) -> Trials {
+        Trials {
+            alloc,
+            came: Came {
+                status: 0,
+                disk: Disk::new(alloc),
+            },
+            typed: Vec::new(alloc),
+            out: Vec::new(alloc),
+            err: Vec::new(alloc),
+            on_terminal: false,
+            count: 0,
+        }
+    }
+
+    /// How many command lines were done, those with a failing call not counted.
+    pub fn count(&self) -> u32 {
+        self.count
+    }
+
+    /// Keeps what a command line came to.
+    fn keep(&mut self, came: Came) {
+        self.came = came;
+        self.typed.clear();
+        self.out.clear();
+        self.err.clear();
+        self.count = self.count.wrapping_add(1);
+    }
+
+    /// Does a command line.
+    fn run(&mut self, words: &str) -> io::Result<bool> {
+        let command = Command {
+            words,
+            typed: self.typed.as_slice(),
+            on_terminal: self.on_terminal,
+        };
+        let mut disk = std::mem::replace(&mut self.came.disk, Disk::new(self.alloc));
+        disk.rewind();
+        let came = come(self.alloc, disk, command, None);
+        self.keep(came);
+        Ok(true)
+    }
+
+    /// Does a command line, and once more for each of its calls, which fails. `paths`: the files that it writes, in
+    /// this order.
+    fn run_each(&mut self, words: &str, paths: &str) -> io::Result<bool> {
+        let command = Command {
+            words,
+            typed: self.typed.as_slice(),
+            on_terminal: self.on_terminal,
+        };
+        let (holds, came) = sweep(self.alloc, &self.came.disk, command, paths)?;
+        self.keep(came);
+        Ok(holds)
+    }
+
+    /// Does a command line of wrong words. Whether it came to status 1 and a text on standard error, and did no more.
+    fn run_wrong(&mut self, words: &str) -> io::Result<bool> {
+        self.run(words)?;
+        let disk = &self.came.disk;
+        Ok(self.came.status == 1 && !disk.err.is_empty() && disk.log.as_str() == "E")
+    }
+
+    /// Whether the last command line came to this status, and its streams took what the lines above say.
+    fn is(&self, status: &str) -> bool {
+        let disk = &self.came.disk;
+        usize::from(self.came.status) == number(status)
+            && disk.out.as_slice() == self.out.as_slice()
+            && disk.err.as_bytes() == self.err.as_slice()
+    }
+
+    /// The word at a place of a line that standard output took.
+    fn field(&self, line: &str, place: &str) -> Option<&str> {
+        let text = std::str::from_utf8(self.came.disk.out.as_slice()).ok()?;
+        text.lines()
+            .nth(number(line))?
+            .split(' ')
+            .nth(number(place))
+    }
+
+    /// A line that says how the next command line finds the files and the streams.
+    fn set(&mut self, word: &str, rest: &str) -> io::Result<bool> {
+        let disk = &mut self.came.disk;
+        match word {
+            "disk" => *disk = Disk::new(self.alloc),
+            "closed" => disk.is_closed = true,
+            "terminal" => self.on_terminal = rest == "on",
+            "<" => add(&mut self.typed, rest, true)?,
+            "<<" => {
+                self.typed = std::mem::replace(&mut disk.out, Vec::new(self.alloc));
+            }
+            "hold" | "private" | "read-only" => {
+                for inode in disk.inodes.iter_mut() {
+                    inode.locked = word == "hold";
+                    inode.is_private = word == "private";
+                    inode.is_read_only = word == "read-only";
+                }
+            }
+            _ => return Ok(false),
+        }
+        Ok(true)
+    }
+
+    /// A line that makes or changes a file.
+    fn change(&mut self, word: &str, path: &str, rest: &str) -> io::Result<bool> {
+        match word {
+            "copy" => self.copy(path, rest),
+            "poke" => Ok(self.poke(path, rest)),
+            "store" => {
+                let out = std::mem::replace(&mut self.came.disk.out, Vec::new(self.alloc));
+                self.came.disk.put(self.alloc, path, out.as_slice())?;
+                self.came.disk.out = out;
+                Ok(true)
+            }
+            "link" => {
+                self.came.disk.link(self.alloc, path, rest)?;
+                Ok(true)
+            }
+            _ => Ok(false),
+        }
+    }
+
+    /// Puts the bytes of a file under another path too.
+    fn copy(&mut self, from: &str, to: &str) -> io::Result<bool> {
+        let mut bytes = Vec::new(self.alloc);
+        let Some(old) = self.came.disk.bytes(from) else {
+            return Ok(false);
+        };
+        bytes.extend_from_slice(old)?;
+        self.came.disk.put(self.alloc, to, bytes.as_slice())?;
+        Ok(true)
+    }
+
+    /// Writes a text into a file at an offset.
+    fn poke(&mut self, path: &str, rest: &str) -> bool {
+        match rest.split_once(' ') {
+            Some((place, text)) => {
+                self.came
+                    .disk
+                    .write_at(path, number(place), text.as_bytes())
+            }
+            None => false,
+        }
+    }
+
+    /// Whether a line is true of the last command line and the files.
+    fn holds(&self, word: &str, first: &str, second: &str) -> bool {
+        let disk = &self.came.disk;
+        match word {
+            "=" => self.is(first),
+            "status" => usize::from(self.came.status) == number(first),
+            "same" => disk.bytes(first).is_some() && disk.bytes(first) == disk.bytes(second),
+            "text" => disk.bytes(first) == Some(second.as_bytes()),
+            "size" => disk.bytes(first).map(|bytes| bytes.len()) == Some(number(second)),
+            "names" => disk.names.len() == number(first),
+            "field" => match second.split_once(' ') {
+                Some((place, text)) => self.field(first, place) == Some(text),
+                None => self.field(first, second).is_none(),
+            },
+            _ => false,
+        }
+    }
+
+    /// Does a line of the script. Whether it is one, and true. `#` begins a comment. The words that do something:
+    ///
+    /// - `$ WORDS`, `$$ FILES WORDS`: a command line; the same with each call failing in turn, FILES with commas
+    /// between them; `usage WORDS`: one of wrong words; - `< TEXT`: a line of its standard input; `<<`: what
+    /// standard output took is its standard input; - `> TEXT`, `] TEXT`, `! TEXT`: what standard output, the same
+    /// without a line feed, and standard error took; - `disk`: no files; `closed`: the folder takes no new name;
+    /// `hold`, `private`, `read-only`: another program holds all files, they may not be read, or not be written;
+    /// `terminal on`, `terminal off`; - `copy FROM TO`, `poke FILE PLACE TEXT`, `link FILE NAME`, `store FILE`,
+    /// which keeps what standard output took.
+    ///
+    /// Those that are true or not: `= STATUS`, beside which both streams took what stands above; `status STATUS` alone;
+    /// `same FILE FILE`, `text FILE TEXT`, `size FILE BYTES`, `names COUNT`; `field LINE PLACE WORD` of standard
+    /// output, counted from 0, or `field LINE PLACE` where there is none.
+    pub fn line(&mut self, line: &str) -> io::Result<bool> {
+        let (word, rest) = line.split_once(' ').unwrap_or((line, ""));
+        let (first, second) = rest.split_once(' ').unwrap_or((rest, ""));
+        match word {
+            "" | "#" => Ok(true),
+            "$" => self.run(rest),
+            "$$" => self.run_each(second, first),
+            "usage" => self.run_wrong(rest),
+            ">" => add(&mut self.out, rest, true).map(|_| true),
+            "]" => add(&mut self.out, rest, false).map(|_| true),
+            "!" => add(&mut self.err, rest, true).map(|_| true),
+            "disk" | "closed" | "terminal" | "<" | "<<" | "hold" | "private" | "read-only" => {
+                self.set(word, rest)
+            }
+            "copy" | "poke" | "link" | "store" => self.change(word, first, second),
+            _ => Ok(self.holds(word, first, second)),
+        }
+    }
+}
+
+/// What the last command line came to, for one who looks for what is wrong.
+impl fmt::Display for Trials {
+    fn fmt<W: fmt::Write>(&self, f: &mut fmt::Formatter<W>) -> fmt::Result {
+        let disk = &self.came.disk;
+        let out = std::str::from_utf8(disk.out.as_slice()).unwrap_or("");
+        write!(
+            f,
+            "status {}, files {}, calls {}\n{out}{}",
+            self.came.status,
+            disk.names.len(),
+            disk.log,
+            disk.err
+        )
+    }
+}

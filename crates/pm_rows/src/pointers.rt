@@ -20,6 +20,7 @@ use pm_words::{ExecError, Memory};
 
 // The highest place of a word on the stack.
 const HIGHEST_WORD: u32 = 65_502;
+
 #[inline(always)]
 #[tactic(auto, unfolding(crate::specs::Pointers::increment_row), using(pm_words::proofs::WatchLaws::keeps))]
 fn increment(memory: &mut Memory, sp: u16, np: u16, by: u16) -> Result<u16, ExecError>

@@ -1,8 +1,10 @@
 #!/bin/bash
 # Times `dis` on code files with one segment of up to 60,000 bytes. Run by hand; no part of the gate.
 #   plain   one procedure of NOPs
-#   counts  one procedure whose jump table has 60 entries, so that 61 counts of entries are tried
-#   tables  255 dictionary words that lead to that one table, so that its procedure is shown 255 times
+#   counts  one procedure whose jump table has 60 entries, the last of which is taken by a jump
+#   jumps   the same, each entry being taken by a jump, so that 61 counts of entries are tried
+#   tables  255 dictionary words that lead to the one table of `counts`, so that its procedure is shown 255 times
+#   worst   255 that lead to the one table of `jumps`
 here=$(dirname "$(readlink -f "$0")")/..
 pmach=$here/pmach
 scratch=$(mktemp -d)
@@ -22,6 +24,12 @@ times() {
 # nops N: so many instructions that do nothing
 nops() {
     head -c "$1" /dev/zero | tr '\0' '\327'
+}
+
+# jumps: a jump by each of 60 entries
+jumps() {
+    local k
+    for ((k = 0; k < 60; k++)); do printf "\\xa1\\x$(printf %02x $((246 - 2 * k)))"; done
 }
 
 # table SIZE PROCEDURES: what stands behind code of a size: a table with exit code at 0, and its dictionary
@@ -64,6 +72,12 @@ for size in 15000 30000 59980; do
     { printf '\xa1\x80' && nops $((size - 122)) && times 60 '\x00\x01' && table $size 1; } >"$scratch/segment"
     timed counts
 done
+for size in 15000 30000 59860; do
+    { jumps && nops $((size - 240)) && times 60 '\x00\x01' && table $size 1; } >"$scratch/segment"
+    timed jumps
+done
 size=59460
 { printf '\xa1\x80' && nops $((size - 122)) && times 60 '\x00\x01' && table $size 255; } >"$scratch/segment"
 timed tables
+{ jumps && nops $((size - 240)) && times 60 '\x00\x01' && table $size 255; } >"$scratch/segment"
+timed worst

@@ -4,7 +4,9 @@
     functions       of more than 40 lines with their signature, and crates of more than 100 functions
     lines           over 120 characters in code, definitions and docs (tables apart), over 160 in proofs
     numbers         that have a name: ends of the stack, the most bytes of bare code, the bases of compact loads
-    the map         crates of crates.txt that docs/ARCHITECTURE.md does not name
+    the page        of the instructions, of which crates/pm_page/stdin is a copy
+    names           that docs/PROMISES.md and the tables of definitions have and the source has not
+    the map         of docs/ARCHITECTURE.md: floors and edges beside crates.txt, and a row for each crate
 The status is 1 where anything is found."""
 import collections
 import glob
@@ -86,10 +88,63 @@ for path in sorted(glob.glob("crates/*/src/**/*.rt", recursive=True)):
         if re.search(NUMBERS, line.split("//")[0]) and not re.match(r"\s*(const|pub const|pub\(crate\) const)", line):
             tell("number", "%s:%d %s" % (path, number + 1, line.strip()[:80]))
 
-page = "\n".join(lines("docs/ARCHITECTURE.md"))
+# The map: each crate on its floor, and in brackets the nearest crates below, without pm_.
+stands = {}
 for line in lines("crates.txt"):
-    if line and not line.startswith("#") and line.split(":")[0] not in page:
-        tell("map", line.split(":")[0])
+    if line and not line.startswith("#"):
+        name, _, below = line.partition(":")
+        stands[name.split()[0]] = set(below.split())
+stands = {name: below & set(stands) for name, below in stands.items()}
+
+
+def all_below(name):
+    return stands[name].union(*map(all_below, stands[name]))
+
+
+def floor_of(name):
+    return 1 + max(map(floor_of, stands[name]), default=-1)
+
+
+page = "\n".join(lines("docs/ARCHITECTURE.md"))
+drawn, floor = {}, None
+for line in re.search(r"```\nfloor.*?\n(.*?)```", page, re.S).group(1).split("\n"):
+    floor = int(line[:7]) if line[:7].strip() else floor
+    for name, below in re.findall(r"(pm\w+)(?: \(([^)]*)\))?", line[7:]):
+        drawn[name] = (floor, set("pm_" + word for word in below.split()))
+for name in sorted(set(stands) | set(drawn)):
+    if name not in drawn or name not in stands:
+        tell("map", "%s stands in %s alone" % (name, "crates.txt" if name in stands else "the map"))
+        continue
+    nearest = {low for low in stands[name] if not any(low in all_below(other) for other in stands[name])}
+    if drawn[name] != (floor_of(name), nearest):
+        tell("map", "%s: floor %d, on %s" % (name, floor_of(name), ", ".join(sorted(nearest)) or "none"))
+for name in stands:
+    if "| %s |" % name not in page:
+        tell("map", "%s has no row in the table of crates" % name)
+
+if lines("crates/pm_page/stdin") != lines("docs/INSTRUCTIONS.md"):
+    tell("page", "crates/pm_page/stdin is not docs/INSTRUCTIONS.md")
+
+known = set()
+for path in glob.glob("crates/*/src/**/*.rt", recursive=True):
+    source = "\n".join(lines(path))
+    known |= set(re.findall(r"(?:ensures\*?|requires|fn|struct|enum|trait|const|static|mod|returns) (\w+)", source))
+    known |= set(re.findall(r"^\s+(\w+)(?: :|\(|,|\s*\{)", source, re.M))
+for path in glob.glob("crates/*/specs/**/*.antt", recursive=True):
+    known |= set(re.findall(r"^ *(?:(?:abbrev|unfoldable) )?pub (?:record |data )?([^\s:()]+)", "\n".join(lines(path)), re.M))
+known |= {path.split("/")[1] for path in glob.glob("crates/*/")}
+known |= {os.path.basename(path)[:-5] for path in glob.glob("crates/*/must-fail/*.edit")}
+pages = [("docs/PROMISES.md", "\n".join(lines("docs/PROMISES.md")))]
+for page in ("docs/MACHINE.md", "docs/PROCEDURES.md"):
+    pages.append((page, re.search(r"## Definitions\n(.*?)(?=\n## |\Z)", "\n".join(lines(page)), re.S).group(1)))
+for page, text in pages:
+    for word in sorted(set(re.findall(r"`([A-Za-z_][\w:-]*)`", text))):
+        for name in word.split("::"):
+            if name not in known and name not in ("Display", "clap"):
+                tell("name", "%s: %s" % (page, word))
+    for path in re.findall(r"`(pm_\w+/specs/\w+\.antt)`", text):
+        if not os.path.exists("crates/" + path):
+            tell("name", "%s: %s" % (page, path))
 
 print(", ".join("%d %s" % (count, kind) for kind, count in sorted(found.items())) or "nothing")
 sys.exit(1 if found else 0)

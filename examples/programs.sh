@@ -5,6 +5,7 @@
 #   LOADS   calls two segments, one loaded where the other stood
 #   CASES   writes a word for each of three numbers, by a table jump
 #   NESTED  has a procedure in a procedure, which changes a variable of the outer one
+#   KEEPS   calls a segment three times and keeps it meanwhile, so that it is loaded once
 #   PRIMES  writes the primes below 100, by a sieve
 #   HANOI   moves a tower of disks, by a procedure that calls itself and one inside it
 set -e
@@ -18,7 +19,7 @@ image=$1
 scratch=$(mktemp -d)
 trap 'rm -rf "$scratch"' EXIT
 "$pmach" files --image "$image" new WORK 40
-for name in ok echo loads cases nested primes hanoi; do
+for name in ok echo loads cases nested keeps primes hanoi; do
     "$pmach" asm <"$here/$name.text" >"$scratch/code"
     "$pmach" files --image "$image" put "${name^^}" code <"$scratch/code"
 done

@@ -9,4 +9,5 @@ pub mod Standings
 pub mod Outlines
 pub mod Outcomes
 pub mod Stages
+pub mod ShownAgain
 pub mod Tables

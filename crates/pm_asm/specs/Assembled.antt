@@ -1,6 +1,7 @@
 -- What assembling a text gives.
 use Rattle.std.specs.Prelude.{◌≡◌, ◌↔◌, ℕ, List, Option, Some, None, Result, Ok, Err}
 use Rattle.pm_disasm.specs.Program.{Segment, AreShort}
+use Rattle.pm_disasm.specs.Shown.{file_text}
 use Rattle.pm_source.specs.declared.fault.AsmFault.{AsmFault}
 use Rattle.pm_source.specs.declared.fault.AsmFault.TheVariants.{TooLong}
 use Rattle.pm_source.specs.Faults.{faults}
@@ -45,3 +46,8 @@ AssembledIsSpelled = (text file shown : List ℕ) → (assembled text ≡ Ok (fi
 -- A text that is refused spells no program without a segment that is too long.
 abbrev pub RefusedSpellsNothing : Type 0
 RefusedSpellsNothing = (text : List ℕ) (fault : AsmFault) → assembled text ≡ Err fault → SpellsNothing text
+
+-- The text that is shown for an assembled code file is assembled to the same code file.
+abbrev pub AssembledIsShownAgain : Type 0
+AssembledIsShownAgain = (text file shown : List ℕ) → assembled text ≡ Ok (file, shown)
+    → (again : List ℕ) × (assembled (file_text file) ≡ Ok (file, again))

@@ -1,5 +1,5 @@
 //! Laws of what assembling gives. The functions do nothing.
-ghost use Rattle.pm_asm.specs.Assembled.{AssembledIsSpelled, RefusedSpellsNothing};
+ghost use Rattle.pm_asm.specs.Assembled.{AssembledIsShownAgain, AssembledIsSpelled, RefusedSpellsNothing};
 
 /// A text is assembled exactly where it spells a program of which no segment has more than 60,000 bytes: what it gives is the code
 /// file and the listing of such a program, and where they are those of one, it gives them.
@@ -10,4 +10,9 @@ pub fn assembled_is_spelled()
 /// A text that is refused spells no program of which no segment has more than 60,000 bytes.
 pub fn refused_spells_nothing()
     ensures law { RefusedSpellsNothing }
+{}
+
+/// The text that the disassembler shows for an assembled code file is assembled to the same code file.
+pub fn assembled_is_shown_again()
+    ensures law { AssembledIsShownAgain }
 {}

@@ -27,7 +27,7 @@ unfolding entered
 entered-framed m s p loaded r call t link is h l = rw (← is, ← h, ← l) refl
 
 -- a call in a segment that was loaded for it
-pub called_loading-entered : (c : Parts) (call : Call) (n : ℕ) (code m : List ℕ) (r : Registers) → 0 < length code → c.registers.np + length code ≤ c.registers.sp → entered (with_bytes c.memory (c.registers.sp - length code) code) (minus c.registers.sp 2) (length code) c.registers call ≡ Ok (m, r) → called_loading c call n code ≡ Ok (record { memory = m; registers = r; places = slice_set c.places n (Some (record { place = minus c.registers.sp 2; count = 1 })) })
+pub called_loading-entered : (c : Parts) (call : Call) (n : ℕ) (code m : List ℕ) (r : Registers) → 0 < length code → c.registers.np + length code ≤ c.registers.sp → entered (with_bytes c.memory (c.registers.sp - length code) code) (minus c.registers.sp 2) (length code) c.registers call ≡ Ok (m, r) → called_loading c call n code ≡ Ok (record { memory = m; registers = r; places = slice_set c.places n (Some (record { place = minus c.registers.sp 2; count = 1; keeps = 0 })) })
 unfolding called_loading loading called_at
 called_loading-entered c call n code m r some room h =
     let first : nat_lt 0 (length code) ≡ true = grind (arith, nat_tests) in

@@ -7,3 +7,5 @@ pub mod WalkLaws
 pub mod ReturnLaws
 pub mod LoadLaws
 pub mod PlaceLaws
+pub mod LowLaws
+pub mod KeepLaws

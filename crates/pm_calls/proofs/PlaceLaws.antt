@@ -1,5 +1,5 @@
 -- The places after a return right after its call.
-use Rattle.std.proofs.Common.{◌≡◌, ◌≢◌, ◌<◌, ◌≤◌, inl, inr, ℕ, ◌+◌, ◌-◌, ◌*◌, ◌==◌, ◌&&◌, Bool, true, false, cond, nat_lt, nat_le, List, length, get_or, Option, Some, None, Ok, refl, sym, ap, ◌∙◌, arith}
+use Rattle.std.proofs.Common.{◌≡◌, ◌≢◌, ◌<◌, ◌≤◌, inl, inr, ℕ, ◌+◌, ◌-◌, ◌*◌, ◌==◌, ◌&&◌, ◌||◌, Bool, true, false, cond, nat_lt, nat_le, List, length, get_or, Option, Some, None, Ok, refl, sym, ap, ◌∙◌, arith}
 use Rattle.std.specs.Prelude.{slice_get, slice_set, slice_index_or, position, option_and_then}
 use Rattle.std.specs.List.{position_or_len}
 use Rattle.std.proofs.lemmas.Bool.{cases_Bool}
@@ -26,38 +26,38 @@ use Rattle.pm_calls.proofs.ReturnLaws.{IsFramed, bound, control_kept, control_wr
 
 -- ---- the slot that a return finds
 
-stands_there : (s count : ℕ) → 0 < count → stands_at s (Some (record { place = s; count = count })) ≡ true
-stands_there s count h = grind (arith, nat_tests)
+stands_there : (s count keeps : ℕ) → 0 < count → stands_at s (Some (record { place = s; count = count; keeps = keeps })) ≡ true
+stands_there s count keeps h = grind (arith, nat_tests)
 
-found_again : (places : List (Option Place)) (s n count : ℕ) → n < length places → 0 < count → IsFirstAt s n places →
-    position (stands_at s) (slice_set places n (Some (record { place = s; count = count }))) ≡ Some n
-found_again places s n count low some first =
-    let new = slice_set places n (Some (record { place = s; count = count })) in
-    let size : length new ≡ length places = length-set places n (Some (record { place = s; count = count })) in
+found_again : (places : List (Option Place)) (s n count keeps : ℕ) → n < length places → 0 < count → IsFirstAt s n places →
+    position (stands_at s) (slice_set places n (Some (record { place = s; count = count; keeps = keeps }))) ≡ Some n
+found_again places s n count keeps low some first =
+    let new = slice_set places n (Some (record { place = s; count = count; keeps = keeps })) in
+    let size : length new ≡ length places = length-set places n (Some (record { place = s; count = count; keeps = keeps })) in
     let inside : n < length new = omega (arith, low, size) in
     let is : position_or_len (stands_at s) new ≡ n = position_or_len_is (stands_at s) new n None (omega (arith, inside))
-    (λ k l. ap (stands_at s) (get_or-set_other places n k (Some (record { place = s; count = count })) None (λ e. omega (arith, e, l))) ∙ first k l)
-    (λ l. ap (stands_at s) (get_or-set_same places n (Some (record { place = s; count = count })) None low) ∙ stands_there s count some) in
+    (λ k l. ap (stands_at s) (get_or-set_other places n k (Some (record { place = s; count = count; keeps = keeps })) None (λ e. omega (arith, e, l))) ∙ first k l)
+    (λ l. ap (stands_at s) (get_or-set_same places n (Some (record { place = s; count = count; keeps = keeps })) None low) ∙ stands_there s count keeps some) in
     let test : nat_lt (position_or_len (stands_at s) new) (length new) ≡ true = grind (arith, nat_tests, is, inside) in
     rw test (ap Some is)
 
 -- a slot that has one call more and then one less is the slot before
-slot_back : (places : List (Option Place)) (s n count : ℕ) (old : Option Place) → n < length places → 0 < count → IsFirstAt s n places → get_or places n None ≡ old →
-    less (record { place = s; count = count }) ≡ old → released s (slice_set places n (Some (record { place = s; count = count }))) ≡ places
+slot_back : (places : List (Option Place)) (s n count keeps : ℕ) (old : Option Place) → n < length places → 0 < count → IsFirstAt s n places → get_or places n None ≡ old →
+    less (record { place = s; count = count; keeps = keeps }) ≡ old → released s (slice_set places n (Some (record { place = s; count = count; keeps = keeps }))) ≡ places
 unfolding released
-slot_back places s n count old low some first was gives =
-    let new = Some (record { place = s; count = count }) in
-    let there = found_again places s n count low some first in
+slot_back places s n count keeps old low some first was gives =
+    let new = Some (record { place = s; count = count; keeps = keeps }) in
+    let there = found_again places s n count keeps low some first in
     let here : slice_index_or (slice_set places n new) n None ≡ new = get_or-set_same places n new None low in
     ap (λ k. lessened k (slice_set places n new)) there
     ∙ ap (λ k. slice_set (slice_set places n new) n (option_and_then less k)) here
-    ∙ set-set places n new (less (record { place = s; count = count }))
+    ∙ set-set places n new (less (record { place = s; count = count; keeps = keeps }))
     ∙ ap (λ k. slice_set places n k) (gives ∙ sym was)
     ∙ set-get_or places n None
 
 -- ---- a return
 
-return_places : (c e : Parts) (words : ℕ) (base : Bool) → returned c words base ≡ Ok e →
+pub return_places : (c e : Parts) (words : ℕ) (base : Bool) → returned c words base ≡ Ok e →
     e.places ≡ cond (e.registers.seg == c.registers.seg) c.places (released c.registers.seg c.places)
 unfolding returned
 return_places c e words base h =
@@ -118,9 +118,9 @@ here_places c d e call words base h made done =
 is_other : (a b : ℕ) → a ≢ b → (a == b) ≡ false
 is_other a b h = grind (arith, nat_tests)
 
-one_less : (p : Place) → 0 < p.count → less (record { place = p.place; count = p.count + 1 }) ≡ Some p
+one_less : (p : Place) → 0 < p.count + p.keeps → less (record { place = p.place; count = p.count + 1; keeps = p.keeps }) ≡ Some p
 one_less p h =
-    let test : nat_lt 1 (p.count + 1) ≡ true = grind (arith, nat_tests) in
+    let test : (nat_lt 1 (p.count + 1) || nat_lt 0 p.keeps) ≡ true = grind (arith, nat_tests) in
     let count : p.count + 1 - 1 ≡ p.count = omega arith in
     rw (test, count) refl
 
@@ -140,7 +140,7 @@ standing_places c d e call n p at words base h low was again is made done = elim
       let new : List (Option Place) = slice_set c.places n (Some (record p { count = p.count + 1 })) in
       at_places c d e call (record { memory = c.memory; places = new; place = p.place; loaded = 0 }) words base h (rw (sym same) at made) done
       ∙ ap (λ b. cond b new (released p.place new)) (is_other c.registers.seg p.place (λ e. differ (sym e)))
-      ∙ slot_back c.places p.place n (p.count + 1) (Some p) low (omega arith) found.1 was (one_less p found.0)
+      ∙ slot_back c.places p.place n (p.count + 1) p.keeps (Some p) low (omega arith) found.1 was (one_less p found.0)
 ]
 
 loading_places : (c d e : Parts) (call : Call) (n : ℕ) (code : List ℕ) (at : Reached) (words : ℕ) (base : Bool) → IsMemory at.memory →
@@ -152,14 +152,14 @@ loading_places c d e call n code at words base h low was again is made done =
     let second = passed (nat_le (c.registers.np + length code) c.registers.sp) StackOverflow _ _ first.1 in
     let same = ok_same _ at second.1 in
     let s = minus c.registers.sp 2 in
-    let new : List (Option Place) = slice_set c.places n (Some (record { place = s; count = 1 })) in
+    let new : List (Option Place) = slice_set c.places n (Some (record { place = s; count = 1; keeps = 0 })) in
     let place : at.place ≡ s = sym (ap (λ (x : Reached). x.place) same) in
     let places : at.places ≡ new = sym (ap (λ (x : Reached). x.places) same) in
     at_places c d e call at words base h made done
     ∙ ap (λ k. cond (c.registers.seg == k) at.places (released k at.places)) place
     ∙ ap (λ k. cond (c.registers.seg == s) k (released s k)) places
     ∙ ap (λ b. cond b new (released s new)) (is_other c.registers.seg s again.0)
-    ∙ slot_back c.places s n 1 None low (omega arith) again.1 was refl
+    ∙ slot_back c.places s n 1 0 None low (omega arith) again.1 was refl
 
 slot_places : (c d e : Parts) (call : Call) (n : ℕ) (code : Option (List ℕ)) (slot : Option (Option Place)) (words : ℕ) (base : Bool) →
     slice_get c.places n ≡ slot → IsFoundAgain c n slot → IsMemory c.memory → IsCode code →

@@ -49,7 +49,7 @@ loading c n code = do
   _ ← demand (nat_le (c.registers.np + length code) sp) StackOverflow
   Ok (record {
     memory = with_bytes c.memory (sp - length code) code;
-    places = slice_set c.places n (Some (record { place = minus sp 2; count = 1 }));
+    places = slice_set c.places n (Some (record { place = minus sp 2; count = 1; keeps = 0 }));
     place = minus sp 2;
     loaded = length code;
   })

@@ -1,5 +1,5 @@
--- Laws of calls and returns.
-use Rattle.std.specs.Prelude.{◌≡◌, ◌≢◌, ◌<◌, ℕ, ◌+◌, ◌-◌, ◌*◌, Bool, false, IsTrue, List, All, Option, Some, None, Ok, slice_get, slice_index, slice_index_or, length}
+-- Laws of calls, returns and keeps.
+use Rattle.std.specs.Prelude.{◌≡◌, ◌≢◌, ◌<◌, ◌≤◌, ℕ, ◌+◌, ◌-◌, ◌*◌, ◌%◌, Bool, false, IsTrue, List, All, Option, Some, None, Ok, slice_get, slice_index, slice_index_or, length}
 use Rattle.pm_words.specs.Words.{Contents, IsMemory, bytes_at}
 use Rattle.pm_words.specs.Watch.{is_watched}
 use Rattle.pm_words.specs.Stack.{minus}
@@ -10,6 +10,7 @@ use Rattle.pm_calls.specs.declared.frames.Call.TheVariants.{Clp, Cgp, Cbp, Cip, 
 use Rattle.pm_calls.specs.declared.frames.Place.{Place}
 use Rattle.pm_calls.specs.Places.{Parts, Standing, placed}
 use Rattle.pm_calls.specs.Kept.{Agrees, table_words}
+use Rattle.pm_calls.specs.Keeps.{segment_kept, segment_unkept}
 use Rattle.pm_calls.specs.Tables.{attributes}
 use Rattle.pm_calls.specs.Calls.{Reached, called, here, is_base, loading, procedure_of, standing}
 use Rattle.pm_calls.specs.Returns.{returned, stands_at}
@@ -65,11 +66,11 @@ abbrev pub IsFirstAt : ℕ → ℕ → List (Option Place) → Type 0
 IsFirstAt s n places = (k : ℕ) → k < n → stands_at s (slice_index_or places k None) ≡ false
 
 -- The return finds the slot that a CXP to slot n counted: the segment runs already, and then neither counts; or it stands
--- for some call, and no slot before n stands there too; or it is loaded below SP, where no segment runs and no slot before n
--- stands.
+-- for some call or is kept, and no slot before n stands there for a call; or it is loaded below SP, where no segment runs and
+-- no slot before n stands for a call.
 abbrev pub IsFoundAgain : Parts → ℕ → Option (Option Place) → Type 0
 IsFoundAgain c n None = Unit {0}
-IsFoundAgain c n (Some (Some p)) = p.place ≢ c.registers.seg → (0 < p.count) × IsFirstAt p.place n c.places
+IsFoundAgain c n (Some (Some p)) = p.place ≢ c.registers.seg → (0 < p.count + p.keeps) × IsFirstAt p.place n c.places
 IsFoundAgain c n (Some None) = (c.registers.seg ≢ minus c.registers.sp 2) × IsFirstAt (minus c.registers.sp 2) n c.places
 
 -- of the calls only a CXP counts
@@ -93,3 +94,17 @@ abbrev pub KeptWordsAreWatched : Type 0
 KeptWordsAreWatched = (memory : Contents) (frames : Standing) (mp : ℕ) → Agrees memory frames mp → memory.touched ≡ false
     → ((n : ℕ) → n + 1 < length frames.bases → IsTrue (is_watched memory.watched (slice_index frames.bases n)))
     × All (λ k. All (λ a. IsTrue (is_watched memory.watched a)) (table_words k)) frames.kept
+
+-- a slot has no place, or one for some call or some keep
+abbrev pub IsUsed : Option (Option Place) → Type 0
+IsUsed None = Unit {0}
+IsUsed (Some None) = Unit {0}
+IsUsed (Some (Some p)) = 0 < p.count + p.keeps
+
+-- A segment that is given up right after it was kept stands as before, and SP is what it was: one that was loaded is off
+-- the stack again. Its code is still in memory.
+abbrev pub UnkeepGivesBack : Type 0
+UnkeepGivesBack =
+    (c d : Parts) (n : ℕ) (code : List ℕ) →
+    c.registers.sp % 2 ≡ 0 → c.registers.sp ≤ 65504 → IsUsed (slice_get c.places n) →
+    segment_kept c n (Some code) ≡ Ok d → segment_unkept d n (length code) ≡ Ok (record c { memory = d.memory })

@@ -4,5 +4,6 @@ pub mod Tables
 pub mod Kept
 pub mod Calls
 pub mod Returns
+pub mod Keeps
 pub mod Exits
 pub mod Laws

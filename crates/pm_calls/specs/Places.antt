@@ -1,11 +1,11 @@
 -- Where segments stand.
-use Rattle.std.specs.Prelude.{ℕ, List, Option, Some, None, slice_get}
+use Rattle.std.specs.Prelude.{ℕ, ◌≤◌, List, Option, Some, None, slice_get}
 use Rattle.pm_calls.specs.declared.registers.Registers.{Registers}
 use Rattle.pm_calls.specs.declared.frames.Kept.{Kept}
 use Rattle.pm_calls.specs.declared.frames.Place.{Place}
 
--- what contracts see of the frames: the place of each of the 16 slots, with its count, and what is kept of links and
--- tables
+-- what contracts see of the frames: the place of each of the 16 slots, with its count and its keeps, and what is kept of
+-- links and tables
 pub record Standing : Type 0 where
   pub places : List (Option Place)
   pub bases : List ℕ
@@ -25,3 +25,17 @@ place_in (Some (Some p)) = Some (p.place, p.count)
 -- the place and the count of a slot's segment; none above 15
 abbrev pub placed : List (Option Place) → ℕ → Option (ℕ × ℕ)
 placed places n = place_in (slice_get places n)
+
+abbrev pub keeps_in : Option (Option Place) → Option ℕ
+keeps_in None = None
+keeps_in (Some None) = Some 0
+keeps_in (Some (Some p)) = Some p.keeps
+
+-- how many times the program keeps a slot's segment, 0 where that stands nowhere; none above 15
+abbrev pub keeps_of : List (Option Place) → ℕ → Option ℕ
+keeps_of places n = keeps_in (slice_get places n)
+
+-- a segment stands below the top of the stack
+abbrev pub IsLow : Option Place → Type 0
+IsLow None = Unit {0}
+IsLow (Some p) = p.place ≤ 65502

@@ -1,5 +1,5 @@
 -- Returns.
-use Rattle.std.specs.Prelude.{ℕ, ◌+◌, ◌-◌, ◌*◌, ◌%◌, Bool, false, ◌&&◌, List, Option, Some, None, Result, Ok, if◌then◌else◌, ◌==◌, nat_lt, nat_le, slice_set, slice_index_or, option_and_then, position}
+use Rattle.std.specs.Prelude.{ℕ, ◌+◌, ◌-◌, ◌*◌, ◌%◌, Bool, false, ◌&&◌, ◌||◌, List, Option, Some, None, Result, Ok, if◌then◌else◌, ◌==◌, nat_lt, nat_le, slice_set, slice_index_or, option_and_then, position}
 use Rattle.pm_words.specs.declared.error.ExecError.{ExecError}
 use Rattle.pm_words.specs.declared.error.ExecError.TheVariants.{InvalidMemory, StackOverflow}
 use Rattle.pm_words.specs.Words.{word_at, copied}
@@ -8,9 +8,14 @@ use Rattle.pm_calls.specs.declared.registers.Registers.{Registers}
 use Rattle.pm_calls.specs.declared.frames.Place.{Place}
 use Rattle.pm_calls.specs.Places.{Parts}
 
--- a slot with one call less, or with no place after the last
+-- a slot with one call less, or with no place after the last, if the program does not keep its segment
 abbrev pub less : Place → Option Place
-less p = if nat_lt 1 p.count then Some (record p { count = p.count - 1 }) else None
+less p = if nat_lt 1 p.count || nat_lt 0 p.keeps then Some (record p { count = p.count - 1 }) else None
+
+-- a slot whose segment stands at s
+abbrev pub is_at : ℕ → Option Place → Bool
+is_at s None = false
+is_at s (Some p) = p.place == s
 
 -- a slot that stands at s, for some call
 abbrev pub stands_at : ℕ → Option Place → Bool

@@ -1,10 +1,11 @@
-//! Laws of calls and returns. The functions do nothing.
+//! Laws of calls, returns and keeps. The functions do nothing.
 
 ghost use Rattle.pm_calls.specs.Laws.{
   KeptWordsAreWatched,
   LoadedCodeStands,
   ReturnGivesBack,
   ReturnGivesPlacesBack,
+  UnkeepGivesBack,
 };
 
 /// A return of its call's kind, a base return after a base call and else a normal one, gives the
@@ -33,4 +34,10 @@ pub fn return_gives_places_back()
 #[tactic(auto, using(crate::proofs::TableLaws::kept_words_are_watched))]
 pub fn kept_words_are_watched()
     ensures law { KeptWordsAreWatched }
+{}
+
+/// A segment that is given up right after it was kept stands as before, and SP is what it was.
+#[tactic(auto, using(crate::proofs::KeepLaws::unkeep_gives_back))]
+pub fn unkeep_gives_back()
+    ensures law { UnkeepGivesBack }
 {}

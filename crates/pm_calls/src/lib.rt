@@ -6,6 +6,7 @@ mod calls;
 mod exits;
 mod frame;
 mod frames;
+mod keeps;
 pub mod laws;
 mod links;
 mod registers;

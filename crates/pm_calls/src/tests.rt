@@ -196,6 +196,44 @@ fn calls_of_a_segment_that_stays_touch_nothing(rt: HostRuntime) -> Result<(), Fa
     Ok(())
 }
 
+// Keeps slot 3, whose code is lent.
+fn keep_segment(
+    frames: &mut Frames,
+    memory: &mut Memory,
+    registers: &mut Registers,
+) -> Result<(), ExecError> {
+    if registers.sp % 2 != 0 || registers.sp > 65504 {
+        return Err(ExecError::InvalidMemory);
+    }
+    frames.keep(memory, registers, 3, Some(&CODE))
+}
+
+// A kept segment keeps its table too, and given up it leaves no word watched.
+#[test]
+fn calls_of_a_kept_segment_keep_its_table(rt: HostRuntime) -> Result<(), Fail> {
+    let mut memory = Memory::new(rt.alloc())?;
+    let mut scratch = Memory::new(rt.alloc())?;
+    put_segment(&mut memory);
+    let mut frames = Frames::new();
+    let mut registers = registers();
+    call(&mut frames, &mut memory, &mut registers, &mut scratch)?;
+    let sp = registers.sp;
+    keep_segment(&mut frames, &mut memory, &mut registers)?;
+    for _i in 0..100 {
+        call_segment(&mut frames, &mut memory, &mut registers, &mut scratch)?;
+        frames.ret(&mut memory, &mut registers, 0, true)?;
+        assert!(rt; frames.kept().len() == 2);
+        assert!(rt; !memory.touched());
+    }
+    assert!(rt; registers.sp == sp.wrapping_sub(16));
+    frames.unkeep(&mut memory, &mut registers, 3, 16)?;
+    assert!(rt; registers.sp == sp);
+    assert!(rt; frames.kept().len() == 1);
+    memory.set_word(sp.wrapping_sub(2), 7);
+    assert!(rt; !memory.touched());
+    Ok(())
+}
+
 #[test]
 fn exit_touches_nothing(rt: HostRuntime) -> Result<(), Fail> {
     let mut memory = Memory::new(rt.alloc())?;

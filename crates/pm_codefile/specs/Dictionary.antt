@@ -4,14 +4,12 @@
 --   192 to 223    16 kinds, each a word
 --   224 to 511    nothing that is read
 -- Slot n has the n-th pair, name and kind, counted from 0, and holds the segment of number n. A word has its low byte first.
-use Rattle.std.specs.Prelude.{◌≡◌, ◌==◌, ◌≤◌, ◌<◌, ◌&&◌, not, nat_lt, ℕ, zero, suc, ◌+◌, ◌*◌, ◌%◌, List, length, slice_index, slice_range, Option, Some, None, if◌then◌else◌}
+use Rattle.std.specs.Prelude.{◌≡◌, ◌==◌, ◌≤◌, ◌<◌, ◌&&◌, not, nat_lt, ℕ, zero, suc, ◌+◌, ◌*◌, ◌%◌, List, length, slice_range, Option, Some, None, if◌then◌else◌}
 use Rattle.pm_codefile.specs.declared.fault.CodeFault.{CodeFault}
 use Rattle.pm_codefile.specs.declared.fault.CodeFault.TheVariants.{NoDictionary, SlotPastEnd, OddLength}
 use Rattle.pm_codefile.specs.declared.file.Slot.{Slot}
-
--- The word at a place, its low byte first.
-unfoldable pub word_in : List ℕ → ℕ → ℕ
-word_in bytes place = slice_index bytes place + 256 * slice_index bytes (place + 1)
+use Rattle.pm_base.specs.declared.blocks.TheConstants.{BLOCK}
+unfoldable pub use Rattle.pm_base.specs.Words.{word_in}
 
 -- The block of slot n.
 abbrev pub block_in : List ℕ → ℕ → ℕ
@@ -25,7 +23,7 @@ length_in file n = word_in file (4 * n + 2)
 unfoldable pub slot_fault : List ℕ → ℕ → Option CodeFault
 slot_fault file n =
     if not (length_in file n % 2 == 0) then Some (OddLength n)
-    else (if nat_lt 0 (length_in file n) && nat_lt (length file) (512 * block_in file n + length_in file n) then Some (SlotPastEnd n)
+    else (if nat_lt 0 (length_in file n) && nat_lt (length file) (BLOCK * block_in file n + length_in file n) then Some (SlotPastEnd n)
     else None)
 
 -- A fault, or else what else may be one.
@@ -40,24 +38,24 @@ first_fault file n (suc left) = or_else (slot_fault file n) (first_fault file (n
 
 -- Why a file is refused.
 unfoldable pub file_fault : List ℕ → Option CodeFault
-file_fault file = if nat_lt (length file) 512 then Some NoDictionary else first_fault file 0 16
+file_fault file = if nat_lt (length file) BLOCK then Some NoDictionary else first_fault file 0 16
 
 -- No slot below slot n has a fault, and slot n has this one.
 pub record IsFaultOfSlot (file : List ℕ) (n : ℕ) (fault : CodeFault) : Type 0 where
-  pub dictionary : 512 ≤ length file
+  pub dictionary : BLOCK ≤ length file
   pub slot : n < 16
   pub before : (k : ℕ) → k < n → slot_fault file k ≡ None
   pub there : slot_fault file n ≡ Some fault
 
 -- The fault is the first one of the file.
 abbrev pub IsFirstFault : List ℕ → CodeFault → Type 0
-IsFirstFault file NoDictionary = length file < 512
+IsFirstFault file NoDictionary = length file < BLOCK
 IsFirstFault file (SlotPastEnd n) = IsFaultOfSlot file n (SlotPastEnd n)
 IsFirstFault file (OddLength n) = IsFaultOfSlot file n (OddLength n)
 
 -- The bytes of a code file: it has a dictionary, and no slot is refused.
 pub record IsCodeFile (file : List ℕ) : Type 0 where
-  pub dictionary : 512 ≤ length file
+  pub dictionary : BLOCK ≤ length file
   pub sound : (n : ℕ) → n < 16 → slot_fault file n ≡ None
 
 -- What slot n says.
@@ -76,4 +74,4 @@ unfoldable pub segment_in : List ℕ → ℕ → Option (List ℕ)
 segment_in file n =
     if nat_lt 15 n then None
     else (if length_in file n == 0 then None
-    else Some (slice_range file (512 * block_in file n) (512 * block_in file n + length_in file n)))
+    else Some (slice_range file (BLOCK * block_in file n) (BLOCK * block_in file n + length_in file n)))

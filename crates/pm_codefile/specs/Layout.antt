@@ -1,11 +1,9 @@
 -- The canonical layout of a code file: first the dictionary, with all kinds 0, then the segments of the slots in ascending
 -- order, each from the next block on and filled up to a block with zeros.
 use Rattle.byteorder.specs.Endian.{little_bytes}
-use Rattle.std.specs.Prelude.{◌==◌, ℕ, ◌+◌, ◌-◌, ◌*◌, ◌/◌, List, [], ◌∷◌, ◌++◌, drop, replicate, take, if◌then◌else◌}
-
--- How many blocks hold so many bytes.
-abbrev pub blocks_for : ℕ → ℕ
-blocks_for n = (n + 511) / 512
+pub use Rattle.pm_base.specs.Blocks.{blocks_for}
+use Rattle.pm_base.specs.declared.blocks.TheConstants.{BLOCK}
+use Rattle.std.specs.Prelude.{◌==◌, ℕ, ◌+◌, ◌-◌, ◌*◌, List, [], ◌∷◌, ◌++◌, drop, replicate, take, if◌then◌else◌}
 
 -- The block and the length of a slot, as bytes. A slot without a length has block 0.
 abbrev pub pair : ℕ → ℕ → List ℕ
@@ -28,7 +26,7 @@ names_for (name ∷ names) (n ∷ ns) = name_for name n ++ names_for names ns
 
 -- The zeros that fill the last block.
 abbrev pub padding : ℕ → List ℕ
-padding n = replicate (512 * blocks_for n - n) 0
+padding n = replicate (BLOCK * blocks_for n - n) 0
 
 -- Segments of these lengths, one after another, each filled up to a block.
 unfoldable pub padded : List ℕ → List ℕ → List ℕ

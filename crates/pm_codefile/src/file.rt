@@ -29,12 +29,11 @@ ghost use Rattle.pm_codefile.specs.Dictionary.{
   slot_fault,
   slot_in,
 };
+ghost use Rattle.pm_base.specs.declared.blocks.TheConstants.{BLOCK};
 
 use crate::fault::CodeFault;
-use crate::words::word;
+use pm_base::{BLOCK, word};
 use std::marker::Model;
-
-const BLOCK: usize = 512;
 
 /// A slot of the dictionary.
 #[derive(Clone, Copy, Debug, PartialEq, Eq)]
@@ -69,7 +68,7 @@ impl<'a> Model for CodeFile<'a> {
 // Why slot n is refused.
 #[tactic(auto, unfolding(crate::specs::Dictionary::slot_fault))]
 fn slot_fault(bytes: &[u8], n: u8) -> Option<CodeFault>
-    requires dictionary { 512 ≤ length bytes.now }
+    requires dictionary { BLOCK ≤ length bytes.now }
     requires slot { n < 16 }
     ensures fault { result ≡ slot_fault bytes.now n }
 {
@@ -86,7 +85,7 @@ fn slot_fault(bytes: &[u8], n: u8) -> Option<CodeFault>
 
 // The first fault of a slot.
 fn first_fault(bytes: &[u8]) -> Option<CodeFault>
-    requires dictionary { 512 ≤ length bytes.now }
+    requires dictionary { BLOCK ≤ length bytes.now }
     ensures fault { result ≡ first_fault bytes.now 0 16 }
     ensures sound { result ≡ None → (n : ℕ) → n < 16 → slot_fault bytes.now n ≡ None }
     ensures first { IfSome result (λ fault. IsFirstFault bytes.now fault) }
@@ -144,7 +143,7 @@ impl<'a> CodeFile<'a> {
     pub fn slot(&self, n: u8) -> Option<Slot>
         ensures slot { result ≡ slot_in self.now n }
         ensures even { IfSome result (λ slot. slot.length % 2 ≡ 0) }
-        ensures within { IfSome result (λ slot. 0 < slot.length → 512 * slot.block + slot.length ≤ length self.now) }
+        ensures within { IfSome result (λ slot. 0 < slot.length → BLOCK * slot.block + slot.length ≤ length self.now) }
     {
         if n > 15 {
             return None;

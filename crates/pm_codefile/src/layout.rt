@@ -6,9 +6,8 @@ ghost use Rattle.pm_codefile.specs.Layout.{blocks_for, layout, name_for, names_f
 ghost use Rattle.pm_codefile.specs.ReadBack.{ReadsBack};
 
 use byteorder::{ByteOrder, LittleEndian};
+use pm_base::BLOCK;
 use std::alloc::{AllocError, Global};
-
-const BLOCK: usize = 512;
 
 const BLANK: [u8; 8] = [b' '; 8];
 
@@ -59,7 +58,7 @@ fn blocks_for(count: u16) -> u16
     ensures blocks { result ≡ blocks_for count }
     ensures few { result ≤ 128 }
 {
-    count.div_ceil(512)
+    pm_base::blocks_for(usize::from(count)) as u16
 }
 
 // Adds the block and the length of a slot.
@@ -113,7 +112,7 @@ fn put_segment(file: &mut Vec<u8>, segment: &[u8]) -> Result<(), AllocError>
 {
     file.extend_from_slice(segment)?;
     let count = segment.len();
-    put_zeros(file, BLOCK * count.div_ceil(BLOCK) - count)
+    put_zeros(file, BLOCK * pm_base::blocks_for(count) - count)
 }
 
 // Adds segments, each filled up to a block.

@@ -8,7 +8,6 @@ mod file;
 mod layout;
 mod segments;
 mod table;
-mod words;
 
 pub use fault::CodeFault;
 pub use file::{CodeFile, Slot};

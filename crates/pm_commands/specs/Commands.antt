@@ -51,17 +51,18 @@ verb_of word =
     else if bytes_eq word (codes "dynamic") then Some verbs.Dynamic
     else if bytes_eq word (codes "local") then Some verbs.Local
     else if bytes_eq word (codes "regs") then Some verbs.Registers
+    else if bytes_eq word (codes "place") then Some verbs.Place
     else if bytes_eq word (codes "trace") then Some verbs.Trace
     else if bytes_eq word (codes "quit") then Some verbs.Quit
     else None
 
 -- a segment, a procedure and an offset
-abbrev pub place : List ℕ → Option (ℕ × ℕ × ℕ)
-place [] = None
-place (s ∷ []) = None
-place (s ∷ p ∷ []) = None
-place (s ∷ p ∷ o ∷ []) = if nat_le s 255 && (nat_le p 255 && nat_le o 65535) then Some (s, p, o) else None
-place (s ∷ p ∷ o ∷ n ∷ more) = None
+abbrev pub point : List ℕ → Option (ℕ × ℕ × ℕ)
+point [] = None
+point (s ∷ []) = None
+point (s ∷ p ∷ []) = None
+point (s ∷ p ∷ o ∷ []) = if nat_le s 255 && (nat_le p 255 && nat_le o 65535) then Some (s, p, o) else None
+point (s ∷ p ∷ o ∷ n ∷ more) = None
 
 -- two words of 16 bits
 abbrev pub pair : List ℕ → Option (ℕ × ℕ)
@@ -83,8 +84,8 @@ alone command (n ∷ more) = None
 
 -- what a verb and its numbers ask for
 unfoldable pub asked : Verb → List ℕ → Option Command
-asked verbs.Break ns = option_map (λ (t : ℕ × ℕ × ℕ). commands.Break t.0 t.1 t.2) (place ns)
-asked verbs.Clear ns = option_map (λ (t : ℕ × ℕ × ℕ). commands.Clear t.0 t.1 t.2) (place ns)
+asked verbs.Break ns = option_map (λ (t : ℕ × ℕ × ℕ). commands.Break t.0 t.1 t.2) (point ns)
+asked verbs.Clear ns = option_map (λ (t : ℕ × ℕ × ℕ). commands.Clear t.0 t.1 t.2) (point ns)
 asked verbs.Poke ns = option_map (λ (t : ℕ × ℕ). commands.Poke t.0 t.1) (pair ns)
 asked verbs.Key ns = option_map commands.Key (one 255 ns)
 asked verbs.Go ns = option_map commands.Go (one 4294967295 ns)
@@ -93,6 +94,7 @@ asked verbs.Static ns = option_map commands.Static (one 65535 ns)
 asked verbs.Dynamic ns = option_map commands.Dynamic (one 65535 ns)
 asked verbs.Local ns = option_map (λ (t : ℕ × ℕ). commands.Local t.0 t.1) (pair ns)
 asked verbs.Registers ns = alone commands.Registers ns
+asked verbs.Place ns = option_map commands.Place (one 15 ns)
 asked verbs.Trace ns = alone commands.Trace ns
 asked verbs.Quit ns = alone commands.Quit ns
 

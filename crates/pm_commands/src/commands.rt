@@ -1,6 +1,6 @@
 //! The commands of a debugger's line.
 ghost use Rattle.std.specs.Prelude.{◌≡◌, ◌<◌, ◌≤◌, ◌⊎◌, true, [], ◌∷◌, Some, None, IfSome, IfNone, length};
-ghost use Rattle.pm_commands.specs.Commands.{alone, asked, command_of, is_digit, number, numbers, one, pair, place, up_to, verb_of};
+ghost use Rattle.pm_commands.specs.Commands.{alone, asked, command_of, is_digit, number, numbers, one, pair, point, up_to, verb_of};
 ghost use Rattle.std.specs.Str.{bytes_eq};
 ghost use Rattle.pm_commands.specs.Words.{begins_word, words, without_return};
 
@@ -29,6 +29,8 @@ pub enum Command {
     Local(u16, u16),
     /// Shows the registers.
     Registers,
+    /// Shows where the segment of a slot stands.
+    Place(u8),
     /// Shows the line of a trace.
     Trace,
     /// Ends the session.
@@ -48,6 +50,7 @@ enum Verb {
     Dynamic,
     Local,
     Registers,
+    Place,
     Trace,
     Quit,
 }
@@ -84,6 +87,8 @@ fn verb_of(word: &[u8]) -> Option<Verb>
         Verb::Local
     } else if is_text(word, "regs") {
         Verb::Registers
+    } else if is_text(word, "place") {
+        Verb::Place
     } else if is_text(word, "trace") {
         Verb::Trace
     } else if is_text(word, "quit") {
@@ -209,8 +214,8 @@ fn word(n: u32) -> Option<u16>
 }
 
 /// A segment, a procedure and an offset.
-fn place(numbers: &[u32]) -> Option<(u8, u8, u16)>
-    ensures place { result ≡ place numbers.now }
+fn point(numbers: &[u32]) -> Option<(u8, u8, u16)>
+    ensures point { result ≡ point numbers.now }
 {
     match numbers {
         [segment, procedure, offset] => {
@@ -256,6 +261,15 @@ fn one_byte(numbers: &[u32]) -> Option<u8>
     }
 }
 
+fn one_slot(numbers: &[u32]) -> Option<u8>
+    ensures one { result ≡ one 15 numbers.now }
+{
+    match numbers {
+        [number] if *number <= 15 => Some(*number as u8),
+        _ => None,
+    }
+}
+
 fn one_word(numbers: &[u32]) -> Option<u16>
     ensures one { result ≡ one 65535 numbers.now }
 {
@@ -282,11 +296,11 @@ fn asked(verb: Verb, numbers: &[u32]) -> Option<Command>
 {
     match verb {
         Verb::Break => {
-            let (segment, procedure, offset) = place(numbers)?;
+            let (segment, procedure, offset) = point(numbers)?;
             Some(Command::Break(segment, procedure, offset))
         }
         Verb::Clear => {
-            let (segment, procedure, offset) = place(numbers)?;
+            let (segment, procedure, offset) = point(numbers)?;
             Some(Command::Clear(segment, procedure, offset))
         }
         Verb::Poke => {
@@ -303,6 +317,7 @@ fn asked(verb: Verb, numbers: &[u32]) -> Option<Command>
             Some(Command::Local(depth, b))
         }
         Verb::Registers => alone(Command::Registers, numbers),
+        Verb::Place => Some(Command::Place(one_slot(numbers)?)),
         Verb::Trace => alone(Command::Trace, numbers),
         Verb::Quit => alone(Command::Quit, numbers),
     }

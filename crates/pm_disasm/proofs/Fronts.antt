@@ -22,7 +22,7 @@ use Rattle.pm_disasm.specs.Item.{Item, Target, IsItem, IsNear, IsByte, item_byte
 use Rattle.pm_disasm.specs.Item.Item.{Plain, Case}
 use Rattle.pm_disasm.specs.Item.Target.{Through}
 use Rattle.pm_disasm.specs.Split.{Front, front, front_by, item_of, has_zero_padding, standing_at, target_of, jump_item, case_item, table_places, by_operands}
-use Rattle.pm_disasm.proofs.Read.{drop-standing, no_count}
+use Rattle.pm_disasm.proofs.Read.{IsClear, drop-standing, no_count}
 use Rattle.pm_disasm.proofs.Sizes.{length-item}
 
 -- bytes of one library's word and of the other's
@@ -271,3 +271,32 @@ front_read at bytes (Ok i) h s = elim (cases_Bool (has_zero_padding (form_of i.o
 pub fronts : (at : ℕ) (bytes : List ℕ) → AllByRecursion IsByte bytes → IfSome (front at bytes) (Fronts at bytes)
 unfolding front
 fronts at bytes h = front_read at bytes (reading (standing_at at bytes) at) h (reading_takes (standing_at at bytes) at (as_bytes (standing_at at bytes) (standing-bytes at bytes h)))
+
+-- The bytes begin with an instruction, by the fields of its form alone.
+pub record IsRead (at : ℕ) (bytes : List ℕ) : Type 0 where
+  pub instr : Instr
+  pub named : List ℕ
+  pub rest : List ℕ
+  pub whole : bytes ≡ spelling (is_odd at) 0 instr named ++ rest
+  pub clear : IsClear instr named
+
+known_read : (at : ℕ) (bytes : List ℕ) (i : Instr) (named : List ℕ) → Known at bytes i named → IsRead at bytes
+known_read at bytes i named k = record {
+  instr = by_operands i;
+  named = named;
+  rest = k.rest;
+  whole = k.whole ∙ ap (λ bs. i.op ∷ (bs ++ k.rest)) (sym (alike (form_of i.op) (is_odd at) i named));
+  clear = record { ranges = ranges_alike (form_of i.op) i ∙ k.ranges; fields = k.fields; count = k.count };
+}
+
+is_read : (at : ℕ) (bytes : List ℕ) (r : Result Instr Decode) → AllByRecursion IsByte bytes → IfOk r (Stands (standing_at at bytes) at) → IfSome (front_by at bytes r) (λ f. IsRead at bytes)
+is_read at bytes (Err e) h s = tt
+is_read at bytes (Ok i) h s = elim (cases_Bool (has_zero_padding (form_of i.op) (is_odd at) bytes)) [
+  | inl z ↦ rw z (known_read at bytes i (named_by i (standing_at at bytes)) (read_known at bytes i h s z))
+  | inr z ↦ rw z tt
+]
+
+-- Where something is read, the bytes begin with an instruction.
+pub reads : (at : ℕ) (bytes : List ℕ) → AllByRecursion IsByte bytes → IfSome (front at bytes) (λ f. IsRead at bytes)
+unfolding front
+reads at bytes h = is_read at bytes (reading (standing_at at bytes) at) h (reading_takes (standing_at at bytes) at (as_bytes (standing_at at bytes) (standing-bytes at bytes h)))

@@ -3,8 +3,10 @@
 ghost use Rattle.std.specs.Prelude.{◌≡◌, ◌<◌, ◌≤◌, ◌^◌, ◌+◌, ◌-◌, ◌*◌, ◌∷◌, [], ◌&&◌, ℕ, nat_le, true, is_some, length, IfOk, IfSome};
 ghost use Rattle.pm_codefile.specs.Dictionary.{word_in};
 ghost use Rattle.pm_disasm.specs.Chosen.{IsReading, IsTable, are_inside, can_read, forced_with};
+ghost use Rattle.pm_disasm.specs.Offsets.{IsDecoded};
 ghost use Rattle.pm_disasm.specs.Split.{end_with, fits, procedure_of, procedure_with};
 
+use crate::decoded::Decoded;
 use crate::parts::{Code, split};
 use crate::written::entries_needed;
 use byteorder::{ByteOrder, LittleEndian};
@@ -69,10 +71,12 @@ fn forced_places(
 fn read_with<'a>(
     alloc: Global,
     segment: &'a [u8],
+    decoded: &Decoded<'a>,
     a: &Attributes,
     count: u16,
 ) -> Result<Option<Reading<'a>>, AllocError>
     requires table { IsTable segment.now a.now }
+    requires decoded { IsDecoded decoded.now segment.now }
     requires short { length segment.now ≤ 65534 }
     requires order { a.now.enter ≤ a.now.exit }
     ensures reading { IfOk result (λ r. IfSome r (λ r. IsReading segment.now a.now count r)) }
@@ -89,7 +93,8 @@ fn read_with<'a>(
         return Ok(None);
     };
     let end = usize::from(end);
-    let code = split(alloc, &segment[..end], usize::from(a.enter), &forced)?;
+    let enter = usize::from(a.enter);
+    let code = split(alloc, &segment[..end], &decoded.fronts, enter, &forced)?;
     Ok(Some(Reading { forced, end, code }))
 }
 
@@ -97,16 +102,22 @@ fn read_with<'a>(
 fn fitting<'a>(
     alloc: Global,
     segment: &'a [u8],
+    decoded: &Decoded<'a>,
     a: &Attributes,
     count: u16,
 ) -> Result<Option<Reading<'a>>, AllocError>
     requires table { IsTable segment.now a.now }
+    requires decoded { IsDecoded decoded.now segment.now }
     requires short { length segment.now ≤ 65534 }
     requires order { a.now.enter ≤ a.now.exit }
+    requires few { count ≤ 60 }
     ensures reading { IfOk result (λ r. IfSome r (λ r. IsReading segment.now a.now count r)) }
     ensures fits { IfOk result (λ r. is_some r ≡ fits segment.now a.now count) }
 {
-    let Some(reading) = read_with(alloc, segment, a, count)? else {
+    if !decoded.counts.contains(usize::from(count)) {
+        return Ok(None);
+    }
+    let Some(reading) = read_with(alloc, segment, decoded, a, count)? else {
         return Ok(None);
     };
     let needed = entries_needed(&reading.code.parts, &reading.code.boundaries);
@@ -130,15 +141,17 @@ pub(crate) struct Shown<'a> {
 pub(crate) fn shown_code<'a>(
     alloc: Global,
     segment: &'a [u8],
+    decoded: &Decoded<'a>,
     a: &Attributes,
 ) -> Result<Shown<'a>, AllocError>
     requires table { IsTable segment.now a.now }
+    requires decoded { IsDecoded decoded.now segment.now }
     requires short { length segment.now ≤ 65534 }
     requires order { a.now.enter ≤ a.now.exit }
     ensures shown { IfOk result (λ shown. (t : ℕ) × (procedure_of segment.now a.now ≡ procedure_with segment.now a.now shown.allowed t) × IsReading segment.now a.now t shown.reading) }
 {
     for count in 0..61 {
-        if let Some(reading) = fitting(alloc, segment, a, count)? {
+        if let Some(reading) = fitting(alloc, segment, decoded, a, count)? {
             let allowed = true;
             return Ok(Shown { reading, allowed });
         }
@@ -146,7 +159,8 @@ pub(crate) fn shown_code<'a>(
     let mut forced = Vec::new(alloc);
     forced.push(a.exit)?;
     let end = usize::from(a.jtab - 8);
-    let code = split(alloc, &segment[..end], usize::from(a.enter), &forced)?;
+    let enter = usize::from(a.enter);
+    let code = split(alloc, &segment[..end], &decoded.fronts, enter, &forced)?;
     let reading = Reading { forced, end, code };
     Ok(Shown {
         reading,

@@ -2,6 +2,8 @@
 #![tactic(auto)]
 
 mod counts;
+mod cuts;
+mod decoded;
 mod front;
 mod instruction;
 mod items;

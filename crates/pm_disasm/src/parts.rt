@@ -1,12 +1,14 @@
 //! Code as parts.
 
-ghost use Rattle.std.specs.Prelude.{◌≡◌, ◌<◌, ◌≤◌, ◌^◌, ◌+◌, ◌-◌, ◌&&◌, nat_lt, drop, length, map, option_map, IfOk, IfSome};
-ghost use Rattle.std.specs.List.{list_any};
+ghost use Rattle.std.specs.Prelude.{◌≡◌, ◌<◌, ◌≤◌, ◌^◌, ◌+◌, ◌-◌, drop, length, map, option_map, IfOk, IfSome};
 ghost use Rattle.pm_disasm.specs.Follow.{Follow};
+ghost use Rattle.pm_disasm.specs.Offsets.{IsNextCut, TellFronts};
 ghost use Rattle.pm_disasm.specs.Split.{bytes_after_first, ends_of, part_of, parts, taken};
 ghost use Rattle.pm_disasm.specs.Views.{IsSetOf, front_seen, part_seen};
 
-use crate::front::{Front, front_at};
+use crate::cuts::Cuts;
+use crate::decoded::front_in;
+use crate::front::Front;
 use crate::items::Item;
 use crate::places::PlaceSet;
 use std::alloc::{AllocError, Global};
@@ -22,35 +24,38 @@ pub(crate) struct Part<'a> {
     pub item: Option<Item<'a>>,
 }
 
-/// Whether a forced place lies strictly between two places.
-fn is_cut(forced: &[u16], begin: usize, end: usize) -> bool
-    ensures cut { result ≡ list_any (λ place. nat_lt begin place && nat_lt place end) forced.now }
-{
-    forced.iter().any(|place| begin < usize::from(*place) && usize::from(*place) < end)
-}
-
 /// The instruction at a place, unless a forced place lies strictly inside.
-fn taken<'a>(bytes: &'a [u8], at: usize, forced: &[u16]) -> Option<Front<'a>>
+fn taken<'a>(
+    bytes: &'a [u8],
+    fronts: &[Option<Front<'a>>],
+    at: usize,
+    cuts: Cuts<'_>,
+) -> Option<Front<'a>>
     requires short { length bytes.now < 2 ^ 32 }
-    ensures taken { option_map front_seen result ≡ taken forced.now at (drop at bytes.now) }
+    requires fronts { TellFronts fronts.now bytes.now }
+    requires inside { at < length bytes.now }
+    requires next { IsNextCut cuts.forced.now at cuts.next }
+    ensures taken { option_map front_seen result ≡ taken cuts.entry.forced.now at (drop at bytes.now) }
     ensures within { IfSome result (λ f. (0 < f.size) × (at + f.size ≤ length bytes.now)) }
 {
-    let front = front_at(bytes, at)?;
-    if is_cut(forced, at, at + front.size) {
+    let front = front_in(bytes, fronts, at)?;
+    if cuts.next < at + front.size {
         return None;
     }
     Some(front)
 }
 
 /// The part at a place: the instruction that is taken, else one byte.
-fn part_at<'a>(bytes: &'a [u8], at: usize, forced: &[u16]) -> Part<'a>
+fn part_at<'a>(bytes: &'a [u8], fronts: &[Option<Front<'a>>], at: usize, cuts: Cuts<'_>) -> Part<'a>
     requires short { length bytes.now < 2 ^ 32 }
+    requires fronts { TellFronts fronts.now bytes.now }
     requires inside { at < length bytes.now }
-    ensures part { part_seen result ≡ part_of at (drop at bytes.now) (taken forced.now at (drop at bytes.now)) }
-    ensures size { bytes_after_first (taken forced.now at (drop at bytes.now)) + 1 ≡ length result.bytes.now }
+    requires next { IsNextCut cuts.forced.now at cuts.next }
+    ensures part { part_seen result ≡ part_of at (drop at bytes.now) (taken cuts.entry.forced.now at (drop at bytes.now)) }
+    ensures size { bytes_after_first (taken cuts.entry.forced.now at (drop at bytes.now)) + 1 ≡ length result.bytes.now }
     ensures within { at + length result.bytes.now ≤ length bytes.now }
 {
-    match taken(bytes, at, forced) {
+    match taken(bytes, fronts, at, cuts) {
         Some(front) => Part {
             at,
             bytes: &bytes[at..at + front.size],
@@ -73,13 +78,15 @@ pub(crate) struct Code<'a> {
     pub boundaries: PlaceSet,
 }
 
-/// The parts of code that begins at a place and ends with these bytes.
+/// The parts of code that begins at a place and ends with these bytes, by what was read at each offset.
 pub(crate) fn split<'a>(
     alloc: Global,
     bytes: &'a [u8],
+    fronts: &[Option<Front<'a>>],
     begin: usize,
     forced: &[u16],
 ) -> Result<Code<'a>, AllocError>
+    requires fronts { TellFronts fronts.now bytes.now }
     requires short { length bytes.now < 2 ^ 32 - 1 }
     requires inside { begin ≤ length bytes.now }
     ensures parts { IfOk result (λ code. map part_seen code.parts.items ≡ parts forced.now 0 begin (drop begin bytes.now)) }
@@ -90,11 +97,13 @@ pub(crate) fn split<'a>(
 {
     let mut parts = Vec::new(alloc);
     let mut boundaries = PlaceSet::new(alloc, begin, bytes.len())?;
+    let mut cuts = Cuts::new(forced, begin);
     let mut at = begin;
     'parts: while at < bytes.len() {
-        let part = part_at(bytes, at, forced);
+        let part = part_at(bytes, fronts, at, cuts);
         boundaries.add(at);
         at += part.bytes.len();
+        cuts = cuts.moved(at);
         parts.push(part)?;
     }
     boundaries.add(at);

@@ -4,12 +4,14 @@ ghost use Rattle.std.specs.Prelude.{◌≡◌, ◌<◌, ◌≤◌, ◌+◌, ◌+
 ghost use Rattle.std.specs.Fmt.{decimal};
 ghost use Rattle.pm_codefile.specs.Segments.{attributes_in};
 ghost use Rattle.pm_disasm.specs.Chosen.{IsReading, IsTable};
+ghost use Rattle.pm_disasm.specs.Offsets.{IsDecoded};
 ghost use Rattle.pm_disasm.specs.Program.{is_among};
 ghost use Rattle.pm_disasm.specs.Shown.{entry_line, joined, level_text, missing_line, named_places, procedure_lines, table_lines, words_text};
 ghost use Rattle.pm_disasm.specs.Split.{entry_places, procedure_of, procedure_with};
 ghost use Rattle.pm_disasm.specs.Views.{IsSetOf};
 
 use crate::counts::{Shown, shown_code};
+use crate::decoded::Decoded;
 use crate::items::Label;
 use crate::lines::{Marks, push_code};
 use crate::named::{add_entries, places_named};
@@ -99,13 +101,15 @@ fn places_shown(
 }
 
 /// Adds a procedure whose exit code does not lie before its code.
-fn push_shown(
+fn push_shown<'a>(
     alloc: Global,
     text: &mut String,
-    segment: &[u8],
+    segment: &'a [u8],
+    decoded: &Decoded<'a>,
     a: Attributes,
 ) -> Result<(), AllocError>
     requires table { IsTable segment.now a }
+    requires decoded { IsDecoded decoded.now segment.now }
     requires short { length segment.now ≤ 65534 }
     requires order { a.enter ≤ a.exit }
     ensures text { OnOk result (string_bytes text.new ≡ string_bytes text.old ++ joined (procedure_lines a.procedure (procedure_of segment.now a))) }
@@ -117,7 +121,7 @@ fn push_shown(
         locals: a.locals,
     };
     writeln!(text, "{header}")?;
-    let shown = shown_code(alloc, segment, &a)?;
+    let shown = shown_code(alloc, segment, decoded, &a)?;
     let named = places_shown(alloc, segment, &a, &shown)?;
     let marks = Marks {
         named: &named,
@@ -138,14 +142,16 @@ fn push_shown(
     Ok(())
 }
 
-/// Adds what is shown for a procedure by its table: one whose exit code lies before its code by its number alone.
-pub(crate) fn push_table(
+/// Adds what is shown for a procedure by its table in a segment as it was decoded: one whose exit code lies before its code by its number alone.
+pub(crate) fn push_table<'a>(
     alloc: Global,
     text: &mut String,
-    segment: &[u8],
+    segment: &'a [u8],
+    decoded: &Decoded<'a>,
     a: &Attributes,
 ) -> Result<(), AllocError>
     requires table { IsTable segment.now a.now }
+    requires decoded { IsDecoded decoded.now segment.now }
     requires short { length segment.now ≤ 65534 }
     ensures text { OnOk result (string_bytes text.new ≡ string_bytes text.old ++ joined (table_lines segment.now a.now)) }
 {
@@ -154,6 +160,6 @@ pub(crate) fn push_table(
         writeln!(text, "; procedure {number}")?;
         return Ok(());
     }
-    push_shown(alloc, text, segment, *a)?;
+    push_shown(alloc, text, segment, decoded, *a)?;
     Ok(())
 }

@@ -7,6 +7,7 @@ ghost use Rattle.pm_disasm.specs.Program.{is_name_character};
 ghost use Rattle.pm_disasm.specs.Laws.{item_at};
 ghost use Rattle.pm_disasm.specs.Shown.{cut, file_text, joined, name_of, procedure_text, shown_item, shown_name, slot_lines, slots_lines, tables_lines};
 
+use crate::decoded::decode_segment;
 use crate::front::{Front, front_at};
 use crate::procedures::push_table;
 use pm_codefile::{Attributes, CodeFile, attributes, procedures};
@@ -63,10 +64,11 @@ fn push_tables(alloc: Global, text: &mut String, segment: &[u8]) -> Result<(), A
     requires short { length segment.now ≤ 65534 }
     ensures text { OnOk result (string_bytes text.new ≡ string_bytes text.old ++ joined (tables_lines segment.now 1 (procedures_in segment.now))) }
 {
+    let decoded = decode_segment(alloc, segment)?;
     for done in 0..procedures(segment) {
         let number = done + 1;
         match attributes(segment, number) {
-            Some(a) => push_table(alloc, text, segment, &a)?,
+            Some(a) => push_table(alloc, text, segment, &decoded, &a)?,
             None => writeln!(text, "; procedure {number}")?,
         }
     }
@@ -118,7 +120,8 @@ pub fn procedure(
     ensures text { IfOk result (λ text. string_bytes text ≡ procedure_text segment.now attributes.now) }
 {
     let mut text = String::new(alloc);
-    push_table(alloc, &mut text, segment, attributes)?;
+    let decoded = decode_segment(alloc, segment)?;
+    push_table(alloc, &mut text, segment, &decoded, attributes)?;
     Ok(text)
 }
 

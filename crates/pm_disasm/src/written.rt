@@ -64,7 +64,7 @@ pub(crate) fn item_led<'a>(part: Part<'a>, boundaries: &PlaceSet, allowed: bool)
 }
 
 /// How many entries a jump table has to have for an item.
-fn entries_used(item: Item<'_>) -> usize
+pub(crate) fn entries_used(item: Item<'_>) -> usize
     ensures entries { result ≡ entries_used (item_seen item.entry) }
 {
     match item {

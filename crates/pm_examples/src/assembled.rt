@@ -438,7 +438,7 @@ const LEAVES_NONE: &str = "\
 ";
 
 /// The machine that the code file of a text boots.
-fn booted(alloc: Global, text: &str) -> Result<Tested, Fail> {
+pub(crate) fn booted(alloc: Global, text: &str) -> Result<Tested, Fail> {
     let made = assemble(alloc, text)?;
     let mut volume = Volume::blank(alloc, "WORK", 83)?;
     volume.add("P", 2, &made.file, 0)?;

@@ -4,6 +4,10 @@
 #[cfg(test)]
 mod assembled;
 #[cfg(test)]
+mod bounds;
+#[cfg(test)]
+mod broken;
+#[cfg(test)]
 mod calls;
 #[cfg(test)]
 mod code;
@@ -22,6 +26,8 @@ mod files;
 #[cfg(test)]
 mod jobs;
 #[cfg(test)]
+mod keeps;
+#[cfg(test)]
 mod lines;
 #[cfg(test)]
 mod machine;
@@ -33,6 +39,10 @@ mod procedures;
 mod quick;
 #[cfg(test)]
 mod raw;
+#[cfg(test)]
+mod recorder;
+#[cfg(test)]
+mod refused;
 #[cfg(test)]
 mod room;
 #[cfg(test)]
@@ -54,4 +64,8 @@ mod tested;
 #[cfg(test)]
 mod tour;
 #[cfg(test)]
+mod twice;
+#[cfg(test)]
 mod values;
+#[cfg(test)]
+mod written;

@@ -1,12 +1,19 @@
 //! Standard procedures, by number, by unit and at their limits.
 use pm_calls::{Frames, Registers};
-use pm_stdproc::{Trap, Units};
+use pm_stdproc::{SlotRow, Trap, Units};
 use pm_volume::Volume;
 use pm_words::stack::push;
 use pm_words::{ExecError, Memory};
 use std::alloc::{AllocError, Global};
 use std::process::Abort;
 use std::test::Fail;
+
+/// The row of a slot without code.
+const NO_ROW: SlotRow = SlotRow {
+    unit: 0,
+    block: 0,
+    length: 0,
+};
 
 /// The parts of a machine, its stack empty and its heap at 1,024. The clock is 70,000.
 #[derive(Drop)]
@@ -58,6 +65,7 @@ impl Bench {
             &mut self.memory,
             &mut self.registers,
             &mut self.frames,
+            &[NO_ROW; 16],
             &mut self.scratch,
         )
     }
@@ -116,7 +124,7 @@ fn on_empty_stack(n: u8) -> Result<(), Trap> {
     match n {
         0 | 34 | 40 => DONE,
         39 => Err(Trap::Exec(ExecError::Halt)),
-        1..=6 | 9..=11 | 32 | 33 | 35 | 37 | 38 => MEMORY,
+        1..=6 | 9..=11 | 21 | 22 | 32 | 33 | 35 | 37 | 38 => MEMORY,
         _ => UNIMPLEMENTED,
     }
 }

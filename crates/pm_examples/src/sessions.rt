@@ -50,6 +50,9 @@ go 4294967296
 go 0001
 quit 1
 place 2
+place 3
+place 16
+place
 key 256
 key 65
 stack\t1
@@ -70,6 +73,9 @@ IPC 65470 SP 65456 SEG 65490 JTAB 65486 MP 65458 BASE 65458 NP 1024 IO 0
 ?
 ?
 limit 1
+?
+65454 1 0
+none
 ?
 ?
 ?

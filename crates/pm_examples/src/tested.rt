@@ -132,6 +132,18 @@ impl Tested {
         assert_eq!(rt; self.machine.place(segment), place);
     }
 
+    /// Where the segment of a slot stands, for how many calls, and how many times it is kept.
+    pub(crate) fn has_keeps(
+        &self,
+        rt: &impl Abort,
+        segment: u8,
+        place: Option<(u16, u16)>,
+        keeps: Option<u16>,
+    ) {
+        assert_eq!(rt; self.machine.place(segment), place);
+        assert_eq!(rt; self.machine.keeps(segment), keeps);
+    }
+
     pub(crate) fn holds(&self, rt: &impl Abort, address: u16, word: u16) {
         assert_eq!(rt; self.machine.memory().word(address), Some(word));
     }

@@ -21,7 +21,8 @@ use Rattle.pm_volume.proofs.PlaceLaws.{IsPlaced, IsPlaced-from_ok, IsRoomFor-pla
 use Rattle.pm_volume.proofs.SecondLaws.{Changed-added, Changed-dated, Changed-removed, bytes-added_second}
 use Rattle.pm_volume.proofs.SingledLaws.{Recopied-singled}
 use Rattle.pm_volume.proofs.SlotChanges.{length-entries_from}
-use Rattle.pm_filer.specs.Filed.{Filed, changed, date_word, filed, is_date}
+use Rattle.pm_filer.specs.Filed.{Filed, changed, filed}
+use Rattle.pm_volume.specs.Dates.{date_word, is_date}
 use Rattle.pm_filer.specs.Laws.{IsVolumeOfBytes, NamesAreKept, PutIsGot, RemovalKeepsOthers, duplicate, date, given, krunch, single}
 use Rattle.pm_filer.proofs.FoundFiles.{found_beside, found_kept, found_left, found_moved, found_new, given_kept, position-within}
 use Rattle.pm_filer.proofs.SameNames.{named-new, same-from_upper, same-right, upper-from_same}

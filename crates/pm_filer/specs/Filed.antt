@@ -1,5 +1,7 @@
 -- What a command makes of a volume, and what it answers.
-use Rattle.std.specs.Prelude.{ℕ, List, Option, Some, None, Result, Ok, Err, IsOk, ⊤, string_bytes, Bool, ◌+◌, ◌*◌, ◌&&◌, nat_le, nat_lt, length, if◌then◌else◌}
+use Rattle.std.specs.Prelude.{ℕ, List, Option, Some, None, Result, Ok, Err, IsOk, ⊤, string_bytes, nat_lt, length, if◌then◌else◌}
+use Rattle.pm_volume.specs.Dates.{date_word, is_date}
+use Rattle.pm_volume.specs.declared.kinds.TheConstants.{TEXT}
 use Rattle.pm_volume.specs.Files.{file_bytes, file_named}
 use Rattle.pm_volume.specs.Directory.{directory_of}
 use Rattle.pm_volume.specs.Headers.{dated_image, last_date_of}
@@ -99,18 +101,10 @@ abbrev pub read : List ℕ → Option (List ℕ) → Result Filed FilerFault
 read image (Some bytes) = if nat_lt (length bytes) 1024 then Err (faults.Text NoHeader) else Ok (record { image = image; answer = Bytes (text_of bytes) })
 read image None = Err (faults.Volume NoFile)
 
--- a text that was written as a file of kind 3, unless it has a fault, which comes before the volume's
+-- a text that was written as a text file, unless it has a fault, which comes before the volume's
 abbrev pub written : List ℕ → List ℕ → List ℕ → Option TextFault → Result Filed FilerFault
-written image name text None = changed (added image name 3 (text_file text) (last_date_of (directory_of image)))
+written image name text None = changed (added image name TEXT (text_file text) (last_date_of (directory_of image)))
 written image name text (Some fault) = Err (faults.Text fault)
-
--- a date: a year of two digits and more, a month and a day, without a calendar
-abbrev pub is_date : ℕ → ℕ → ℕ → Bool
-is_date year month day = nat_le year 127 && nat_le 1 month && nat_le month 12 && nat_le 1 day && nat_le day 31
-
--- the word of a date
-abbrev pub date_word : ℕ → ℕ → ℕ → ℕ
-date_word year month day = 512 * year + 16 * day + month
 
 -- what a command comes to; a refused one leaves the volume
 unfoldable pub filed : List ℕ → Order → Result Filed FilerFault

@@ -1,11 +1,14 @@
 -- The list of a volume's files, as text.
-use Rattle.std.specs.Prelude.{ℕ, ◌-◌, ◌/◌, ◌%◌, ◌==◌, ◌&&◌, nat_le, List, [], ◌∷◌, ◌++◌, length, replicate, map, codes, Option, Some, None, if◌then◌else◌}
+use Rattle.std.specs.Prelude.{ℕ, ◌-◌, ◌==◌, ◌&&◌, nat_le, List, [], ◌∷◌, ◌++◌, length, replicate, map, codes, Option, Some, None, if◌then◌else◌}
 use Rattle.std.specs.Fmt.{decimal}
 use Rattle.std.specs.List.{flat_map}
+use Rattle.pm_volume.specs.Dates.{date_of}
 use Rattle.pm_volume.specs.Files.{files_of}
 use Rattle.pm_volume.specs.Names.{characters_of}
 use Rattle.pm_volume.specs.Space.{free_blocks, largest_gap, name_of}
 use Rattle.pm_volume.specs.declared.entry.Entry.{Entry}
+use Rattle.pm_volume.specs.declared.kinds.TheConstants.{BAD_BLOCKS, CODE, DATA, FOTO, GRAF, INFO, SECURE, TEXT, UNTYPED}
+use Rattle.pm_volume.specs.declared.fields.TheConstants.{LONGEST_NAME}
 
 -- a byte of a name as it is shown: a question mark for one that does not print
 abbrev pub shown_byte : ℕ → ℕ
@@ -32,15 +35,15 @@ padded width n = replicate (width - length (decimal n)) 48 ++ decimal n
 -- the words for kinds of files; kinds from 9 on have none
 unfoldable pub kind_word : ℕ → Option (List ℕ)
 kind_word kind =
-    if kind == 0 then Some (codes "none")
-    else (if kind == 1 then Some (codes "badb")
-    else (if kind == 2 then Some (codes "code")
-    else (if kind == 3 then Some (codes "text")
-    else (if kind == 4 then Some (codes "info")
-    else (if kind == 5 then Some (codes "data")
-    else (if kind == 6 then Some (codes "graf")
-    else (if kind == 7 then Some (codes "foto")
-    else (if kind == 8 then Some (codes "secd") else None))))))))
+    if kind == UNTYPED then Some (codes "none")
+    else (if kind == BAD_BLOCKS then Some (codes "badb")
+    else (if kind == CODE then Some (codes "code")
+    else (if kind == TEXT then Some (codes "text")
+    else (if kind == INFO then Some (codes "info")
+    else (if kind == DATA then Some (codes "data")
+    else (if kind == GRAF then Some (codes "graf")
+    else (if kind == FOTO then Some (codes "foto")
+    else (if kind == SECURE then Some (codes "secd") else None))))))))
 
 abbrev pub word_or_number : Option (List ℕ) → ℕ → List ℕ
 word_or_number (Some word) kind = word
@@ -50,9 +53,11 @@ word_or_number None kind = at_right 4 kind
 unfoldable pub kind_text : ℕ → List ℕ
 kind_text kind = word_or_number (kind_word kind) kind
 
--- a date as year, month and day; its word has the month in bits 0 to 3, the day in bits 4 to 8 and the year above
+-- a date as year, month and day
 unfoldable pub date_text : ℕ → List ℕ
-date_text date = padded 3 (date / 512) ++ (45 ∷ (padded 2 (date % 16) ++ (45 ∷ padded 2 (date / 16 % 32))))
+date_text word =
+    let date = date_of word in
+    padded 3 date.year ++ (45 ∷ (padded 2 date.month ++ (45 ∷ padded 2 date.day)))
 
 -- what the line of a file says behind its name: kind, first block, number of blocks, bytes in the last block, date
 unfoldable pub entry_details : Entry → List ℕ
@@ -62,7 +67,7 @@ entry_details e =
 
 -- the line of a file
 unfoldable pub entry_line : Entry → List ℕ
-entry_line e = at_left 15 (shown_name (characters_of e.name)) ++ (32 ∷ (entry_details e ++ 10 ∷ []))
+entry_line e = at_left LONGEST_NAME (shown_name (characters_of e.name)) ++ (32 ∷ (entry_details e ++ 10 ∷ []))
 
 -- the last line: the number of files, the free blocks, and the largest gap
 unfoldable pub space_line : List ℕ → List ℕ

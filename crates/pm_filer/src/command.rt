@@ -4,12 +4,13 @@ ghost use Rattle.pm_volume.specs.Made.{added, renamed, zeroed};
 ghost use Rattle.pm_volume.specs.Directory.{IsVolume, directory_of};
 ghost use Rattle.pm_volume.specs.Headers.{last_date_of};
 ghost use Rattle.pm_textfile.specs.Writing.{text_fault};
-ghost use Rattle.pm_filer.specs.Filed.{Done, Filed, MayWantMemory, answer_of, bytes_of, date_word, filed, is_date, lent, order_of, read, written};
+ghost use Rattle.pm_filer.specs.Filed.{Done, Filed, MayWantMemory, answer_of, bytes_of, filed, lent, order_of, read, written};
 ghost use Rattle.pm_volume.specs.Files.{file_named};
 
 use crate::fault::FilerFault;
 use crate::listing::list_text;
-use pm_volume::{Volume, VolumeFault};
+use pm_volume::kinds::TEXT;
+use pm_volume::{Date, Volume, VolumeFault};
 use std::alloc::Global;
 
 /// What is to be done with a volume.
@@ -27,7 +28,7 @@ pub enum Command {
     Change(String, String),
     /// Gives the text of the first file of this name, which is a text file.
     GetText(String),
-    /// Adds a file of this name and kind 3, the text file of this text, with the volume's last date.
+    /// Adds a file of this name, the text file of this text, with the volume's last date.
     PutText(String, Vec<u8>),
     /// Moves the files together; bad blocks stay. As many blocks are free as before, in one gap where there are no bad
     /// blocks.
@@ -53,7 +54,7 @@ pub enum Reply {
     Done,
 }
 
-/// The bytes of the first file of a name.
+// The bytes of the first file of a name.
 fn get(alloc: Global, volume: &Volume, name: &str) -> Result<Reply, FilerFault>
     ensures done { IfOk result (λ reply. lent volume.now (bytes_of volume.now (file_named volume.now name.now)) ≡ Ok (record { image = volume.now; answer = answer_of reply })) }
     ensures refused { IfErr result (λ fault. fault ≢ FilerFault.NoMemory → lent volume.now (bytes_of volume.now (file_named volume.now name.now)) ≡ Err fault) }
@@ -64,7 +65,7 @@ fn get(alloc: Global, volume: &Volume, name: &str) -> Result<Reply, FilerFault>
     Ok(Reply::Bytes(bytes.to_vec(alloc)?))
 }
 
-/// The text of the first file of a name.
+// The text of the first file of a name.
 fn get_text(alloc: Global, volume: &Volume, name: &str) -> Result<Reply, FilerFault>
     ensures done { IfOk result (λ reply. read volume.now (bytes_of volume.now (file_named volume.now name.now)) ≡ Ok (record { image = volume.now; answer = answer_of reply })) }
     ensures refused { IfErr result (λ fault. fault ≢ FilerFault.NoMemory → read volume.now (bytes_of volume.now (file_named volume.now name.now)) ≡ Err fault) }
@@ -76,7 +77,7 @@ fn get_text(alloc: Global, volume: &Volume, name: &str) -> Result<Reply, FilerFa
     Ok(Reply::Bytes(text))
 }
 
-/// Adds the text file of a text.
+// Adds the text file of a text.
 fn put_text(alloc: Global, volume: &mut Volume, name: &str, text: &[u8]) -> Result<(), FilerFault>
     ensures done { OnOk result (written volume.old name.now text.now (text_fault text.now) ≡ Ok (record { image = volume.new; answer = Done })) }
     ensures volume { OnOk result (IsVolume volume.new) }
@@ -88,21 +89,7 @@ fn put_text(alloc: Global, volume: &mut Volume, name: &str, text: &[u8]) -> Resu
     Ok(())
 }
 
-/// The kind of a text file.
-const TEXT: u8 = 3;
-
-/// The word of a date, if it is one.
-fn date_word(year: u8, month: u8, day: u8) -> Option<u16>
-    ensures word { result ≡ (if is_date year month day then Some (date_word year month day) else None) }
-{
-    if year <= 127 && (1..=12).contains(&month) && (1..=31).contains(&day) {
-        Some(512 * u16::from(year) + 16 * u16::from(day) + u16::from(month))
-    } else {
-        None
-    }
-}
-
-/// Forgets all files.
+// Forgets all files.
 #[tactic(auto, using(crate::proofs::Made::made))]
 fn forget(volume: &mut Volume, name: &str) -> Result<(), VolumeFault>
     ensures done { OnOk result (zeroed volume.old name.now ≡ Ok volume.new) }
@@ -114,7 +101,7 @@ fn forget(volume: &mut Volume, name: &str) -> Result<(), VolumeFault>
     Ok(())
 }
 
-/// Adds a file with the volume's last date.
+// Adds a file with the volume's last date.
 #[tactic(auto, using(crate::proofs::Made::made))]
 fn put(volume: &mut Volume, name: &str, kind: u8, bytes: &[u8]) -> Result<(), VolumeFault>
     ensures done { OnOk result (added volume.old name.now kind bytes.now (last_date_of (directory_of volume.old)) ≡ Ok volume.new) }
@@ -127,7 +114,7 @@ fn put(volume: &mut Volume, name: &str, kind: u8, bytes: &[u8]) -> Result<(), Vo
     Ok(())
 }
 
-/// Gives a file another name.
+// Gives a file another name.
 #[tactic(auto, using(crate::proofs::Made::made))]
 fn change(volume: &mut Volume, old: &str, new: &str) -> Result<(), VolumeFault>
     ensures done { OnOk result (renamed volume.old old.now new.now ≡ Ok volume.new) }
@@ -137,6 +124,13 @@ fn change(volume: &mut Volume, old: &str, new: &str) -> Result<(), VolumeFault>
 {
     volume.rename(old, new)?;
     Ok(())
+}
+
+// The answer to a command that has changed the volume.
+fn done(_changed: ()) -> Reply
+    ensures done { result ≡ Reply.Done }
+{
+    Reply::Done
 }
 
 /// Does a command on a volume. A refused command leaves the volume as it was.
@@ -153,43 +147,19 @@ pub fn apply(alloc: Global, volume: &mut Volume, command: Command) -> Result<Rep
     match command {
         Command::List => Ok(Reply::Lines(list_text(alloc, volume)?)),
         Command::Get(name) => get(alloc, volume, name.as_str()),
-        Command::Put(name, kind, bytes) => {
-            put(volume, name.as_str(), kind, &bytes)?;
-            Ok(Reply::Done)
-        }
-        Command::Remove(name) => {
-            volume.remove(name.as_str())?;
-            Ok(Reply::Done)
-        }
-        Command::Change(old, new) => {
-            change(volume, old.as_str(), new.as_str())?;
-            Ok(Reply::Done)
-        }
+        Command::Put(name, kind, bytes) => Ok(done(put(volume, name.as_str(), kind, &bytes)?)),
+        Command::Remove(name) => Ok(done(volume.remove(name.as_str())?)),
+        Command::Change(old, new) => Ok(done(change(volume, old.as_str(), new.as_str())?)),
         Command::GetText(name) => get_text(alloc, volume, name.as_str()),
-        Command::PutText(name, text) => {
-            put_text(alloc, volume, name.as_str(), &text)?;
-            Ok(Reply::Done)
-        }
-        Command::Krunch => {
-            volume.krunch();
-            Ok(Reply::Done)
-        }
+        Command::PutText(name, text) => Ok(done(put_text(alloc, volume, name.as_str(), &text)?)),
+        Command::Krunch => Ok(done(volume.krunch())),
         Command::Date(year, month, day) => {
-            let date = date_word(year, month, day).ok_or(FilerFault::BadDate)?;
-            volume.set_date(date);
-            Ok(Reply::Done)
+            let date = Date { year, month, day };
+            let word = date.word().ok_or(FilerFault::BadDate)?;
+            Ok(done(volume.set_date(word)))
         }
-        Command::Zero(name) => {
-            forget(volume, name.as_str())?;
-            Ok(Reply::Done)
-        }
-        Command::Duplicate => {
-            volume.add_duplicate()?;
-            Ok(Reply::Done)
-        }
-        Command::Single => {
-            volume.drop_duplicate();
-            Ok(Reply::Done)
-        }
+        Command::Zero(name) => Ok(done(forget(volume, name.as_str())?)),
+        Command::Duplicate => Ok(done(volume.add_duplicate()?)),
+        Command::Single => Ok(done(volume.drop_duplicate())),
     }
 }

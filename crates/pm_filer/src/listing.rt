@@ -5,7 +5,8 @@ ghost use Rattle.pm_filer.specs.Listing.{at_right, date_text, entry_details, ent
 ghost use Rattle.pm_volume.specs.Files.{files_of};
 ghost use Rattle.std.specs.List.{flat_map};
 
-use pm_volume::{Entry, Space, Volume};
+use pm_volume::fields::LONGEST_NAME;
+use pm_volume::{Date, Entry, Space, Volume, kinds};
 use std::alloc::{AllocError, Global};
 use std::fmt;
 
@@ -16,15 +17,15 @@ pub fn kind_word(kind: u8) -> Option<&'static str>
     ensures word { option_map (λ word. word.now) result ≡ kind_word kind }
 {
     match kind {
-        0 => Some("none"),
-        1 => Some("badb"),
-        2 => Some("code"),
-        3 => Some("text"),
-        4 => Some("info"),
-        5 => Some("data"),
-        6 => Some("graf"),
-        7 => Some("foto"),
-        8 => Some("secd"),
+        kinds::UNTYPED => Some("none"),
+        kinds::BAD_BLOCKS => Some("badb"),
+        kinds::CODE => Some("code"),
+        kinds::TEXT => Some("text"),
+        kinds::INFO => Some("info"),
+        kinds::DATA => Some("data"),
+        kinds::GRAF => Some("graf"),
+        kinds::FOTO => Some("foto"),
+        kinds::SECURE => Some("secd"),
         _ => None,
     }
 }
@@ -46,18 +47,16 @@ impl fmt::Display for Kind {
     }
 }
 
-/// A date as year, month and day.
+/// A date by its word, shown as year, month and day.
 #[derive(Clone, Copy)]
-struct Date(u16);
+struct DateWord(u16);
 
-impl fmt::Display for Date {
+impl fmt::Display for DateWord {
     ghost output = { λ date. Some (date_text date.0) };
 
     #[tactic(auto, unfolding(crate::specs::Listing::date_text), using(crate::proofs::Widths::date_digits))]
     fn fmt<W: fmt::Write>(&self, f: &mut fmt::Formatter<W>) -> fmt::Result {
-        let year = self.0 / 512;
-        let month = self.0 % 16;
-        let day = self.0 / 16 % 32;
+        let Date { year, month, day } = Date::of(self.0);
         write!(f, "{year:03}-{month:02}-{day:02}")
     }
 }
@@ -134,7 +133,7 @@ impl fmt::Display for Details {
         let first = Five(self.0.first);
         let blocks = Five(self.0.end.saturating_sub(self.0.first));
         let last_bytes = Three(self.0.last_bytes);
-        let date = Date(self.0.date);
+        let date = DateWord(self.0.date);
         write!(f, "{kind} {first} {blocks} {last_bytes} {date}")
     }
 }
@@ -146,7 +145,7 @@ fn push_entry(text: &mut String, entry: Entry) -> Result<(), AllocError>
 {
     let name = entry.characters();
     push_name(text, name)?;
-    push_spaces(text, 15_usize.saturating_sub(name.len()))?;
+    push_spaces(text, LONGEST_NAME.saturating_sub(name.len()))?;
     let details = Details(entry);
     writeln!(text, " {details}")?;
     Ok(())

@@ -19,9 +19,9 @@ use Rattle.pm_codefile.specs.Dictionary.{block_in, file_fault, first_fault, leng
 use Rattle.pm_stdproc.specs.Devices.{Devices, code_on, image_on, unit_of}
 use Rattle.pm_machine.specs.declared.state.BootFault.{BootFault}
 use Rattle.pm_machine.specs.declared.state.BootFault.TheVariants.{NoFile, NotCode, BadCode}
-use Rattle.pm_machine.specs.declared.state.SlotRow.{SlotRow}
+use Rattle.pm_stdproc.specs.declared.loads.SlotRow.{SlotRow}
 use Rattle.pm_machine.specs.Boot.{code_file, image_of, row_of, rows_below, some_or}
-use Rattle.pm_machine.specs.Loads.{code_needed, code_of}
+use Rattle.pm_stdproc.specs.Loads.{code_needed, code_of}
 use Rattle.pm_machine.specs.Laws.{LoadsGiveSegments}
 
 -- a part of a part

@@ -1,4 +1,5 @@
 -- What a step and a row leave as it is.
+use Rattle.std.specs.Prelude.{slice_get}
 use Rattle.std.proofs.Common.{◌≡◌, ◌≢◌, ℕ, ◌+◌, ◌-◌, ◌*◌, ◌%◌, ◌&&◌, inl, inr, Some, None, length, Bool, true, false, nat_lt, List, Option, Result, Ok, Err, refl, ap, arith}
 use Rattle.std.proofs.lemmas.Bool.{cases_Bool}
 use Rattle.std.proofs.lemmas.Bool.Decides.{nat_tests}
@@ -18,12 +19,14 @@ use Rattle.pm_opcode.specs.Operations.{operation_of}
 use Rattle.pm_calls.specs.declared.registers.Registers.{Registers}
 use Rattle.pm_calls.specs.Calls.{called}
 use Rattle.pm_calls.specs.Exits.{exited}
+use Rattle.pm_calls.specs.Keeps.{segment_kept, segment_unkept}
+use Rattle.pm_stdproc.specs.Loads.{length_of, slot_code}
 use Rattle.pm_calls.specs.Returns.{returned}
 use Rattle.pm_stdproc.specs.Traps.{Pause, Fails, Waits, or_fails}
 use Rattle.pm_stdproc.specs.Devices.{Devices, cleared, image_at, unit_of}
 use Rattle.pm_stdproc.specs.Transfers.{Moved, can_move, from_disk, from_queue, read}
 use Rattle.pm_stdproc.specs.UnitRows.{Served, busy_row, clear_row, ordered, read_row, served, time_row, units_row, wait_row}
-use Rattle.pm_stdproc.specs.Procedures.{Reach, exit_row, on_memory, on_units, procedure_of, procedure_row}
+use Rattle.pm_stdproc.specs.Procedures.{Reach, exit_row, keep_row, on_memory, on_units, procedure_of, procedure_row, unkeep_row}
 use Rattle.pm_stdproc.specs.Procedures as standard
 use Rattle.pm_stdproc.specs.MemoryRows.{memory_row}
 use Rattle.pm_stdproc.specs.declared.ports.Port.{Port}
@@ -42,7 +45,7 @@ use Rattle.pm_rows.specs.Literals.{literal_row}
 use Rattle.pm_rows.specs.Pointers.{increment_row, indirect_row, index_row, pointer_row}
 use Rattle.pm_rows.specs.Values.{value_row}
 use Rattle.pm_rows.specs.Variables.{address_row, load_row, variable_at, variable_row}
-use Rattle.pm_machine.specs.Loads.{code_needed}
+use Rattle.pm_stdproc.specs.Loads.{code_needed}
 use Rattle.pm_machine.specs.Procedures.{call_of, call_row, is_base_return, parts, reach, return_row, standard_row, words_of_return}
 use Rattle.pm_machine.specs.Rows.{fetched, on_registers, on_stack, past, performed, row}
 use Rattle.pm_rows.specs.Signed.{binary}
@@ -163,6 +166,17 @@ exit_keeps s = then of_reach s.devices.disks (pop s.memory s.registers.sp) _ (λ
     then of_reach s.devices.disks (pop s.memory p.1) _ (λ n.
     then of_reach s.devices.disks (exited (standard.parts s (record s.registers { sp = n.1 })) (record { segment = n.0; procedure = p.0 })) _ (λ left. refl)))
 
+keep_keeps : (s : Reach) → Keeps of_reach s.devices.disks (keep_row s)
+unfolding keep_row
+keep_keeps s = then of_reach s.devices.disks (pop s.memory s.registers.sp) _ (λ n.
+    then of_reach s.devices.disks (slot_code n.0 s.places s.rows s.devices) _ (λ code.
+    then of_reach s.devices.disks (segment_kept (standard.parts s (record s.registers { sp = n.1 })) n.0 code) _ (λ kept. refl)))
+
+unkeep_keeps : (s : Reach) → Keeps of_reach s.devices.disks (unkeep_row s)
+unfolding unkeep_row
+unkeep_keeps s = then of_reach s.devices.disks (pop s.memory s.registers.sp) _ (λ n.
+    then of_reach s.devices.disks (segment_unkept (standard.parts s (record s.registers { sp = n.1 })) n.0 (length_of (slice_get s.rows n.0))) _ (λ left. refl))
+
 procedure_keeps : (p : Procedure) (s : Reach) → p ≢ procedure.OnUnits units.Write → Keeps of_reach s.devices.disks (procedure_row p s)
 unfolding procedure_row
 procedure_keeps (procedure.OnMemory o) s other = lifted of_reach s.devices.disks (on_memory s (memory_row o s.memory s.registers)) (
@@ -171,6 +185,8 @@ procedure_keeps (procedure.OnUnits o) s other =
     after of_served of_reach s.devices.disks (units_row o (served s.memory s.registers s.devices)) _ (
     units_keep o (served s.memory s.registers s.devices) (λ e. other (ap procedure.OnUnits e))) (λ t e. e)
 procedure_keeps procedure.Exit s other = lifted of_reach s.devices.disks (exit_row s) (exit_keeps s)
+procedure_keeps procedure.Keep s other = lifted of_reach s.devices.disks (keep_row s) (keep_keeps s)
+procedure_keeps procedure.Unkeep s other = lifted of_reach s.devices.disks (unkeep_row s) (unkeep_keeps s)
 procedure_keeps procedure.Unimplemented s other = tt
 
 -- ---- the rows

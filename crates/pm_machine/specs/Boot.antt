@@ -7,6 +7,7 @@ use Rattle.pm_calls.specs.declared.frames.Call.TheVariants.{Cxp}
 use Rattle.pm_calls.specs.Places.{Parts}
 use Rattle.pm_calls.specs.Calls.{called}
 use Rattle.pm_volume.specs.declared.entry.Entry.{Entry}
+use Rattle.pm_volume.specs.declared.kinds.TheConstants.{CODE}
 use Rattle.pm_volume.specs.Files.{file_bytes, file_named}
 use Rattle.pm_codefile.specs.declared.file.Slot.{Slot}
 use Rattle.pm_codefile.specs.Dictionary.{file_fault, segment_in, slot_in}
@@ -14,7 +15,7 @@ use Rattle.pm_stdproc.specs.Devices.{image_on, unit_of}
 use Rattle.pm_machine.specs.declared.boot.Begun.{Begun}
 use Rattle.pm_machine.specs.declared.state.BootFault.{BootFault}
 use Rattle.pm_machine.specs.declared.state.BootFault.TheVariants.{NoFile, NotCode, BadCode, Exec, NoMemory}
-use Rattle.pm_machine.specs.declared.state.SlotRow.{SlotRow}
+use Rattle.pm_stdproc.specs.declared.loads.SlotRow.{SlotRow}
 use Rattle.pm_machine.specs.declared.state.Status.TheVariants as status
 use Rattle.pm_machine.specs.State.{State, Whole}
 use Rattle.pm_machine.specs.Start.{devices_with, with_system_frame}
@@ -28,13 +29,13 @@ some_or fault None = Err fault
 unfoldable pub image_of : List (Option (List ℕ)) → ℕ → Option (List ℕ)
 image_of images unit = image_on (unit_of unit) (devices_with images 0)
 
--- The code file of a name on the volume of a unit: a file of kind 2 that is readable and has a segment in slot 1. Its
+-- The code file of a name on the volume of a unit: a code file by its kind that is readable and has a segment in slot 1. Its
 -- entry, and its bytes.
 unfoldable pub code_file : List (Option (List ℕ)) → ℕ → List ℕ → Result (Entry × List ℕ) BootFault
 code_file images unit name = do
   image ← some_or NoFile (image_of images unit)
   entry ← some_or NoFile (file_named image name)
-  _ ← demand (entry.kind == 2) NotCode
+  _ ← demand (entry.kind == CODE) NotCode
   file ← some_or BadCode (file_bytes image entry)
   _ ← demand (is_none (file_fault file)) BadCode
   _ ← demand (is_some (segment_in file 1)) BadCode

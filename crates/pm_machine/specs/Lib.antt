@@ -1,7 +1,6 @@
 pub mod Agreeing
 pub mod Faults
 pub mod State
-pub mod Loads
 pub mod Procedures
 pub mod Rows
 pub mod Steps

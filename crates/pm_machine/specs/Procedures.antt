@@ -16,7 +16,7 @@ use Rattle.pm_machine.specs.declared.state.Status.TheVariants as status
 use Rattle.pm_stdproc.specs.Traps.{Pause}
 use Rattle.pm_stdproc.specs.Procedures.{Reach, procedure_of, procedure_row}
 use Rattle.pm_machine.specs.State.{State}
-use Rattle.pm_machine.specs.Loads.{code_needed}
+use Rattle.pm_stdproc.specs.Loads.{code_needed}
 
 -- a call as the frames take it
 abbrev pub call_of : codes.Call → Call
@@ -59,7 +59,7 @@ return_row r s =
 
 -- what a standard procedure sees of the state, and the state with that part new
 abbrev pub reach : State → Reach
-reach s = record { memory = s.memory; registers = s.registers; places = s.places; devices = s.devices }
+reach s = record { memory = s.memory; registers = s.registers; places = s.places; rows = s.rows; devices = s.devices }
 
 abbrev pub with_reach : Reach → State → State
 with_reach t s = record s { memory = t.memory; registers = t.registers; places = t.places; devices = t.devices }

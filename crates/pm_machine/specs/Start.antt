@@ -4,7 +4,7 @@ use Rattle.pm_words.specs.Words.{zero_words, with_word, with_bytes}
 use Rattle.pm_stdproc.specs.Devices.{Devices}
 use Rattle.pm_machine.specs.declared.state.BootFault.{BootFault}
 use Rattle.pm_machine.specs.declared.state.BootFault.TheVariants.{NoFile, NotCode, BadCode, Exec, NoMemory}
-use Rattle.pm_machine.specs.declared.state.SlotRow.{SlotRow}
+use Rattle.pm_stdproc.specs.declared.loads.SlotRow.{SlotRow}
 use Rattle.pm_machine.specs.declared.state.Status.TheVariants as status
 use Rattle.pm_machine.specs.State.{State, Whole}
 

@@ -4,7 +4,7 @@ use Rattle.pm_calls.specs.declared.registers.Registers.{Registers}
 use Rattle.pm_calls.specs.declared.frames.Place.{Place}
 use Rattle.pm_stdproc.specs.Devices.{Devices, Room}
 use Rattle.pm_machine.specs.declared.state.Status.{Status}
-use Rattle.pm_machine.specs.declared.state.SlotRow.{SlotRow}
+use Rattle.pm_stdproc.specs.declared.loads.SlotRow.{SlotRow}
 
 pub record State : Type 0 where
   -- the 32,768 words
@@ -13,7 +13,7 @@ pub record State : Type 0 where
   -- how many steps went or ended the program, up to the greatest u64
   pub steps : ℕ
   pub status : Status
-  -- for each of the 16 slots, where its segment stands, and for how many calls
+  -- for each of the 16 slots, where its segment stands, for how many calls, and how many times the program keeps it
   pub places : List (Option Place)
   -- for each of the 16 slots, where its code stands on a disk; these never change
   pub rows : List SlotRow

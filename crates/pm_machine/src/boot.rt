@@ -11,9 +11,11 @@ ghost use Rattle.pm_machine.specs.Boot.{Begins, begun, code_file, first_parts, i
 
 use crate::layout::{HEAP, SYSTEM_FRAME};
 use crate::machine::{NO_ROW, put_system_frame};
-use crate::state::{BootFault, SlotRow};
+use crate::state::BootFault;
 use pm_calls::{Call, Frames, Registers};
 use pm_codefile::CodeFile;
+use pm_stdproc::SlotRow;
+use pm_volume::kinds::CODE;
 use pm_volume::{Entry, Volume};
 use pm_words::{ExecError, Memory};
 use std::alloc::{AllocError, Global};
@@ -60,7 +62,7 @@ fn code_file<'a>(
     let Some(entry) = volume.find(name) else {
         return Err(BootFault::NoFile);
     };
-    if entry.kind != 2 {
+    if entry.kind != CODE {
         return Err(BootFault::NotCode);
     }
     let Some(bytes) = volume.file(&entry) else {

@@ -16,4 +16,5 @@ pub mod worked;
 
 pub use machine::Machine;
 pub use pm_calls::Registers;
-pub use state::{BootFault, SlotRow, Status, Stop};
+pub use pm_stdproc::SlotRow;
+pub use state::{BootFault, Status, Stop};

@@ -85,14 +85,3 @@ impl From<ExecError> for BootFault {
         BootFault::Exec(error)
     }
 }
-
-/// Where the code of a slot stands on a disk.
-#[derive(Clone, Copy, Debug, PartialEq, Eq)]
-pub struct SlotRow {
-    /// The unit of the disk.
-    pub unit: u8,
-    /// The block of the disk at which the code begins; 0 for a slot without a length.
-    pub block: u16,
-    /// How many bytes the code has.
-    pub length: u16,
-}

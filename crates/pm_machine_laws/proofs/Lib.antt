@@ -1,5 +1,7 @@
 pub mod ShapeLaws
+pub mod Places
 pub mod CountLaws
 pub mod Bytes
 pub mod LoadLaws
 pub mod NumberLaws
+pub mod KeepLaws

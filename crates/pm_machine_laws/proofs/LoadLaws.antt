@@ -23,13 +23,13 @@ use Rattle.pm_volume.specs.declared.entry.Entry.{Entry}
 use Rattle.pm_codefile.specs.Dictionary.{segment_in}
 use Rattle.pm_stdproc.specs.Traps.{or_fails}
 use Rattle.pm_machine.specs.declared.state.BootFault.{BootFault}
-use Rattle.pm_machine.specs.declared.state.SlotRow.{SlotRow}
+use Rattle.pm_stdproc.specs.declared.loads.SlotRow.{SlotRow}
 use Rattle.pm_machine.specs.declared.state.Status.TheVariants.{Running}
 use Rattle.pm_machine.specs.declared.state.Stop.TheVariants.{Went}
 use Rattle.pm_machine.specs.State.{State}
 use Rattle.pm_machine.specs.Boot.{begun, boot_start, code_file, first_parts, or_exec, rows_below}
 use Rattle.pm_machine.specs.Events.{Event, after_all}
-use Rattle.pm_machine.specs.Loads.{code_needed}
+use Rattle.pm_stdproc.specs.Loads.{code_needed}
 use Rattle.pm_machine.specs.Procedures.{call_row, parts, with_parts}
 use Rattle.pm_machine.specs.Rows.{fetched, past, performed, row}
 use Rattle.pm_machine.specs.Start.{with_system_frame}

@@ -1,6 +1,6 @@
 -- What no event changes.
 use Rattle.std.proofs.Common.{◌≡◌, inl, inr, ℕ, ◌+◌, ◌*◌, ◌==◌, ◌&&◌, Bool, true, false, cond, nat_lt, nat_le, List, [], ◌∷◌, length, Option, Some, None, is_none, Result, Ok, Err, refl, sym, ap, ◌∙◌, subst, arith, length-set}
-use Rattle.std.specs.Prelude.{position}
+use Rattle.std.specs.Prelude.{position, slice_get}
 use Rattle.std.proofs.lemmas.Bool.{cases_Bool}
 use Rattle.std.proofs.lemmas.Option.{slice_get_past}
 use Rattle.pm_words.specs.declared.error.ExecError.{ExecError}
@@ -21,12 +21,14 @@ use Rattle.pm_calls.specs.declared.frames.Call.TheVariants.{Clp, Cgp, Cbp, Cip, 
 use Rattle.pm_calls.specs.Places.{Parts, place_in}
 use Rattle.pm_calls.specs.Calls.{Reached, called, called_at, called_loading, called_slot, called_standing, entered, here, loading, standing}
 use Rattle.pm_calls.specs.Exits.{exited, is_wanted, walked_unless}
+use Rattle.pm_calls.specs.Keeps.{keep_loading, keep_slot, keep_standing, less_kept, segment_kept, segment_unkept, unkeep_slot, unkeep_standing}
+use Rattle.pm_stdproc.specs.Loads.{length_of, slot_code}
 use Rattle.pm_calls.specs.Returns.{lessened, released, returned, stands_at}
 use Rattle.pm_stdproc.specs.Traps.{Pause, Fails, Waits, or_fails}
 use Rattle.pm_stdproc.specs.Devices.{Devices, ejected, ejected_at, image_at, mounted, mounted_at, unit_of}
 use Rattle.pm_stdproc.specs.Transfers.{can_move, to_disk, written}
 use Rattle.pm_stdproc.specs.UnitRows.{Served, busy_row, clear_row, ordered, read_row, served, time_row, units_row, wait_row, write_row}
-use Rattle.pm_stdproc.specs.Procedures.{Reach, exit_row, on_memory, procedure_of, procedure_row}
+use Rattle.pm_stdproc.specs.Procedures.{Reach, exit_row, keep_row, on_memory, procedure_of, procedure_row, unkeep_row}
 use Rattle.pm_stdproc.specs.Procedures as standard
 use Rattle.pm_stdproc.specs.MemoryRows.{memory_row}
 use Rattle.pm_stdproc.specs.declared.ports.Port.{Port}
@@ -39,7 +41,7 @@ use Rattle.pm_stdproc.specs.declared.procedures.Procedure.TheVariants as procedu
 use Rattle.pm_volume.specs.declared.entry.Entry.{Entry}
 use Rattle.pm_codefile.specs.Dictionary.{segment_in}
 use Rattle.pm_machine.specs.declared.state.BootFault.{BootFault}
-use Rattle.pm_machine.specs.declared.state.SlotRow.{SlotRow}
+use Rattle.pm_stdproc.specs.declared.loads.SlotRow.{SlotRow}
 use Rattle.pm_machine.specs.declared.state.Status.{Status}
 use Rattle.pm_machine.specs.declared.state.Status.TheVariants as status
 use Rattle.pm_machine.specs.State.{State}
@@ -49,7 +51,7 @@ use Rattle.pm_machine.specs.Events.{Event, after_all, next, or_same}
 use Rattle.pm_machine.specs.Events.Event.{Step, Key, Poke, Mount, Eject}
 use Rattle.pm_rows.specs.Jumps.{jump_row}
 use Rattle.pm_rows.specs.Literals.{literal_row}
-use Rattle.pm_machine.specs.Loads.{code_needed}
+use Rattle.pm_stdproc.specs.Loads.{code_needed}
 use Rattle.pm_rows.specs.Pointers.{pointer_row}
 use Rattle.pm_machine.specs.Procedures.{call_of, call_row, is_base_return, parts, reach, return_row, standard_row, words_of_return}
 use Rattle.pm_machine.specs.Rows.{fetched, on_registers, on_stack, past, performed, row}
@@ -145,6 +147,29 @@ exited_keeps c p =
     then of_parts (length c.places) (is_wanted c.memory p c.registers.seg c.registers.jtab) _ (λ h.
     then of_parts (length c.places) (walked_unless h c.memory p c.registers.mp) _ (λ m. refl))
 
+keep_slot_keeps : (c : Parts) (n : ℕ) (code : Option (List ℕ)) (slot : Option (Option Place)) → Keeps of_parts (length c.places) (keep_slot c n code slot)
+unfolding keep_standing keep_loading
+keep_slot_keeps c n code None = tt
+keep_slot_keeps c n code (Some (Some p)) = then of_parts (length c.places) (demand (nat_lt p.keeps 65535) StackOverflow) _ (λ h. length-set c.places n _)
+keep_slot_keeps c n None (Some None) = tt
+keep_slot_keeps c n (Some code) (Some None) =
+    then of_parts (length c.places) (demand (nat_lt 0 (length code)) NoSegment) _ (λ h.
+    then of_parts (length c.places) (demand (nat_le (c.registers.np + length code) c.registers.sp) StackOverflow) _ (λ k. length-set c.places n _))
+
+kept_keeps : (c : Parts) (n : ℕ) (code : Option (List ℕ)) → Keeps of_parts (length c.places) (segment_kept c n code)
+unfolding segment_kept
+kept_keeps c n code = keep_slot_keeps c n code (slice_get c.places n)
+
+unkeep_slot_keeps : (c : Parts) (n size : ℕ) (slot : Option (Option Place)) → Keeps of_parts (length c.places) (unkeep_slot c n size slot)
+unfolding unkeep_standing
+unkeep_slot_keeps c n size None = tt
+unkeep_slot_keeps c n size (Some None) = tt
+unkeep_slot_keeps c n size (Some (Some p)) = then of_parts (length c.places) (demand (nat_lt 0 p.keeps) NoSegment) _ (λ h. length-set c.places n (less_kept p))
+
+unkept_keeps : (c : Parts) (n size : ℕ) → Keeps of_parts (length c.places) (segment_unkept c n size)
+unfolding segment_unkept
+unkept_keeps c n size = unkeep_slot_keeps c n size (slice_get c.places n)
+
 -- ---- disks
 
 abbrev of_served : Served → ℕ
@@ -201,6 +226,22 @@ exit_keeps s = then of_reach (of_reach s) (pop s.memory s.registers.sp) _ (λ p.
     (exited_keeps (standard.parts s (record s.registers { sp = n.1 })) (record { segment = n.0; procedure = p.0 }))
     (λ left e. ap (λ k. record { places = k; disks = length s.devices.disks }) e)))
 
+keep_keeps : (s : Reach) → Keeps of_reach (of_reach s) (keep_row s)
+unfolding keep_row
+keep_keeps s = then of_reach (of_reach s) (pop s.memory s.registers.sp) _ (λ n.
+    then of_reach (of_reach s) (slot_code n.0 s.places s.rows s.devices) _ (λ code.
+    after of_parts (length s.places) of_reach (of_reach s) (segment_kept (standard.parts s (record s.registers { sp = n.1 })) n.0 code) _
+    (kept_keeps (standard.parts s (record s.registers { sp = n.1 })) n.0 code)
+    (λ left e. ap (λ k. record { places = k; disks = length s.devices.disks }) e)))
+
+unkeep_keeps : (s : Reach) → Keeps of_reach (of_reach s) (unkeep_row s)
+unfolding unkeep_row
+unkeep_keeps s = then of_reach (of_reach s) (pop s.memory s.registers.sp) _ (λ n.
+    let size = length_of (slice_get s.rows n.0) in
+    after of_parts (length s.places) of_reach (of_reach s) (segment_unkept (standard.parts s (record s.registers { sp = n.1 })) n.0 size) _
+    (unkept_keeps (standard.parts s (record s.registers { sp = n.1 })) n.0 size)
+    (λ left e. ap (λ k. record { places = k; disks = length s.devices.disks }) e))
+
 procedure_keeps : (p : Procedure) (s : Reach) → Keeps of_reach (of_reach s) (procedure_row p s)
 unfolding procedure_row
 procedure_keeps (procedure.OnMemory o) s = lifted of_reach (of_reach s) (on_memory s (memory_row o s.memory s.registers)) (
@@ -209,6 +250,8 @@ procedure_keeps (procedure.OnUnits o) s =
     after of_served (length s.devices.disks) of_reach (of_reach s) (units_row o (served s.memory s.registers s.devices)) _
     (units_keep o (served s.memory s.registers s.devices)) (λ t e. ap (λ k. record { places = length s.places; disks = k }) e)
 procedure_keeps procedure.Exit s = lifted of_reach (of_reach s) (exit_row s) (exit_keeps s)
+procedure_keeps procedure.Keep s = lifted of_reach (of_reach s) (keep_row s) (keep_keeps s)
+procedure_keeps procedure.Unkeep s = lifted of_reach (of_reach s) (unkeep_row s) (unkeep_keeps s)
 procedure_keeps procedure.Unimplemented s = tt
 
 -- ---- the rows of the table

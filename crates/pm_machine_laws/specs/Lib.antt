@@ -1,3 +1,4 @@
 pub mod Shapes
 pub mod Loads
 pub mod Numbers
+pub mod Keeping

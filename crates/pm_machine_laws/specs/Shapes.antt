@@ -1,5 +1,5 @@
 -- Laws of what no event changes.
-use Rattle.std.specs.Prelude.{◌≡◌, ◌<◌, ℕ, List, All, Option, Some, None, Ok, length}
+use Rattle.std.specs.Prelude.{◌≡◌, ◌<◌, ℕ, ◌+◌, List, All, Option, Some, None, Ok, length}
 use Rattle.pm_calls.specs.declared.frames.Place.{Place}
 use Rattle.pm_calls.specs.Places.{placed}
 use Rattle.pm_machine.specs.Boot.{boot_start}
@@ -31,12 +31,12 @@ pub record MachinesHaveShape : Type 0 where
       (images : List (Option (List ℕ))) (unit : ℕ) (name : List ℕ) (clock : ℕ) (s : State) (es : List Event) →
       length images ≡ 6 → boot_start images unit name clock ≡ Ok s → HasShape (after_all s es)
 
--- a slot has no place, or one for some call
+-- a slot has no place, or one for some call or some keep
 abbrev pub IsCounted : Option Place → Type 0
 IsCounted None = Unit {0}
-IsCounted (Some p) = 0 < p.count
+IsCounted (Some p) = 0 < p.count + p.keeps
 
--- no place of a machine is for no call, however it began and whatever happened since
+-- no place of a machine is for no call and no keep, however it began and whatever happened since
 pub record MachinesCountCalls : Type 0 where
   pub raw :
       (bytes : List ℕ) (s : State) (es : List Event) →

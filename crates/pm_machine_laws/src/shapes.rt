@@ -19,7 +19,7 @@ pub fn machines_have_shape()
     ensures law { MachinesHaveShape }
 {}
 
-/// No place of a machine is for no call, however it began and whatever happened since.
+/// No place of a machine is for no call and no keep, however it began and whatever happened since.
 #[tactic(auto, using(crate::proofs::CountLaws::machines_count_calls))]
 pub fn machines_count_calls()
     ensures law { MachinesCountCalls }

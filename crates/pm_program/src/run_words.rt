@@ -113,6 +113,7 @@ Commands, one a line, numbers in decimal:
   dynamic N      the frames by their dynamic links, at most N
   local D B      variable B of the procedure D static links up
   regs           the registers
+  place N        where the segment of slot N stands, for how many calls and keeps
   trace          the line of a trace for the next step
   quit           ends the session
 Answers: ok, numbers, ended K, error N K, limit K, waiting K, break K; `?` is no command, and refused N:

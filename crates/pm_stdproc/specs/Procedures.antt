@@ -1,5 +1,5 @@
 -- The standard procedures.
-use Rattle.std.specs.Prelude.{ℕ, List, Option, Result, Ok, Err, if◌then◌else◌, ◌==◌}
+use Rattle.std.specs.Prelude.{ℕ, List, Option, Result, Ok, Err, if◌then◌else◌, ◌==◌, slice_get}
 use Rattle.pm_words.specs.declared.error.ExecError.{ExecError}
 use Rattle.pm_words.specs.declared.error.ExecError.TheVariants as error
 use Rattle.pm_words.specs.Stack.{◌>>=◌, pop}
@@ -7,20 +7,24 @@ use Rattle.pm_calls.specs.declared.registers.Registers.{Registers}
 use Rattle.pm_calls.specs.declared.frames.Place.{Place}
 use Rattle.pm_calls.specs.Places.{Parts}
 use Rattle.pm_calls.specs.Exits.{exited}
+use Rattle.pm_calls.specs.Keeps.{segment_kept, segment_unkept}
 use Rattle.pm_stdproc.specs.Traps.{Pause, Fails, or_fails}
 use Rattle.pm_stdproc.specs.Devices.{Devices}
+use Rattle.pm_stdproc.specs.Loads.{length_of, slot_code}
+use Rattle.pm_stdproc.specs.declared.loads.SlotRow.{SlotRow}
 use Rattle.pm_stdproc.specs.MemoryRows.{memory_row}
 use Rattle.pm_stdproc.specs.UnitRows.{Served, served, units_row}
 use Rattle.pm_stdproc.specs.declared.procedures.OnMemory.TheVariants as memory
 use Rattle.pm_stdproc.specs.declared.procedures.OnUnits.TheVariants as units
 use Rattle.pm_stdproc.specs.declared.procedures.Procedure.{Procedure}
-use Rattle.pm_stdproc.specs.declared.procedures.Procedure.TheVariants.{OnMemory, OnUnits, Exit, Unimplemented}
+use Rattle.pm_stdproc.specs.declared.procedures.Procedure.TheVariants.{OnMemory, OnUnits, Exit, Keep, Unkeep, Unimplemented}
 
 -- what the standard procedures see of the machine
 pub record Reach : Type 0 where
   pub memory : List ℕ
   pub registers : Registers
   pub places : List (Option Place)
+  pub rows : List SlotRow
   pub devices : Devices
 
 abbrev pub devices_reached : Reach → Devices
@@ -39,6 +43,8 @@ procedure_of n =
     else (if n == 9 then OnUnits units.Time
     else (if n == 10 then OnMemory memory.Fill
     else (if n == 11 then OnMemory memory.Scan
+    else (if n == 21 then Keep
+    else (if n == 22 then Unkeep
     else (if n == 32 then OnMemory memory.Mark
     else (if n == 33 then OnMemory memory.Release
     else (if n == 34 then OnMemory memory.IoResult
@@ -47,7 +53,7 @@ procedure_of n =
     else (if n == 38 then OnUnits units.Clear
     else (if n == 39 then OnMemory memory.Halt
     else (if n == 40 then OnMemory memory.FreeMemory
-    else Unimplemented)))))))))))))))))
+    else Unimplemented)))))))))))))))))))
 
 abbrev pub parts : Reach → Registers → Parts
 parts s r = record { memory = s.memory; registers = r; places = s.places }
@@ -60,6 +66,27 @@ exit_row s = do
   left ← exited (parts s (record s.registers { sp = segment.1 })) (record { segment = segment.0; procedure = procedure.0 })
   Ok (record s { memory = left.memory; registers = left.registers; places = left.places })
 
+-- what is new of the memory, the registers and the places
+abbrev pub with_parts : Reach → Parts → Reach
+with_parts s p = record s { memory = p.memory; registers = p.registers; places = p.places }
+
+-- Load a segment: the program keeps that of a slot once more. Segment: where it stands nowhere, it is loaded from the
+-- disk as that is now.
+unfoldable pub keep_row : Reach → Result Reach ExecError
+keep_row s = do
+  segment ← pop s.memory s.registers.sp
+  code ← slot_code segment.0 s.places s.rows s.devices
+  kept ← segment_kept (parts s (record s.registers { sp = segment.1 })) segment.0 code
+  Ok (with_parts s kept)
+
+-- Unload a segment: the program keeps that of a slot once less. Segment
+unfoldable pub unkeep_row : Reach → Result Reach ExecError
+unkeep_row s = do
+  segment ← pop s.memory s.registers.sp
+  let size = length_of (slice_get s.rows segment.0)
+  left ← segment_unkept (parts s (record s.registers { sp = segment.1 })) segment.0 size
+  Ok (with_parts s left)
+
 abbrev pub on_memory : Reach → Result (List ℕ × Registers) ExecError → Result Reach ExecError
 on_memory s row = row >>= λ t. Ok (record s { memory = t.0; registers = t.1 })
 
@@ -71,4 +98,6 @@ unfoldable pub procedure_row : Procedure → Reach → Result Reach Pause
 procedure_row (OnMemory o) s = or_fails (on_memory s (memory_row o s.memory s.registers))
 procedure_row (OnUnits o) s = on_units s (units_row o (served s.memory s.registers s.devices))
 procedure_row Exit s = or_fails (exit_row s)
+procedure_row Keep s = or_fails (keep_row s)
+procedure_row Unkeep s = or_fails (unkeep_row s)
 procedure_row Unimplemented s = Err (Fails error.Unimplemented)

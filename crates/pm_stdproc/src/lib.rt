@@ -2,6 +2,7 @@
 #![tactic(auto)]
 
 pub mod laws;
+mod loads;
 mod memory_rows;
 mod ports;
 mod procedures;
@@ -11,6 +12,7 @@ mod trap;
 mod units;
 pub mod worked;
 
+pub use loads::{SlotRow, code_for};
 pub use ports::MountFault;
 pub use trap::Trap;
 pub use units::Units;

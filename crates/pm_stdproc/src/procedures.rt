@@ -56,6 +56,10 @@ pub enum Procedure {
     OnUnits(OnUnits),
     /// EXIT.
     Exit,
+    /// Load a segment, which the program then keeps.
+    Keep,
+    /// Unload a segment that the program keeps.
+    Unkeep,
     /// One that this machine does not have.
     Unimplemented,
 }
@@ -76,6 +80,8 @@ pub fn procedure_of(n: u8) -> Procedure
         9 => Procedure::OnUnits(OnUnits::Time),
         10 => Procedure::OnMemory(OnMemory::Fill),
         11 => Procedure::OnMemory(OnMemory::Scan),
+        21 => Procedure::Keep,
+        22 => Procedure::Unkeep,
         32 => Procedure::OnMemory(OnMemory::Mark),
         33 => Procedure::OnMemory(OnMemory::Release),
         34 => Procedure::OnMemory(OnMemory::IoResult),

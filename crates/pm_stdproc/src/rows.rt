@@ -1,13 +1,16 @@
 //! The standard procedures, by their numbers.
 
-ghost use Rattle.std.specs.Prelude.{◌≡◌, ◌+◌, ◌≤◌, ℕ, IfOk, OnOk, OnErr};
+ghost use Rattle.std.specs.Prelude.{◌≡◌, ◌≢◌, ◌+◌, ◌%◌, ◌≤◌, ℕ, All, IfOk, OnOk, OnErr};
 ghost use Rattle.pm_words.specs.Watch.{KeepsWatch};
 ghost use Rattle.pm_words.specs.Stack.{IsStack};
 ghost use Rattle.pm_calls.specs.Kept.{Agrees};
 ghost use Rattle.pm_stdproc.specs.Traps.{Performs, or_fails};
-ghost use Rattle.pm_stdproc.specs.Procedures.{devices_reached, procedure_of, procedure_row};
+ghost use Rattle.pm_stdproc.specs.Devices.{Devices, Room};
+ghost use Rattle.pm_stdproc.specs.Procedures.{devices_reached, keep_row, procedure_of, procedure_row, unkeep_row};
+ghost use Rattle.pm_stdproc.specs.declared.procedures.Procedure.TheVariants.{Unkeep};
 ghost use Rattle.pm_stdproc.specs.UnitRows.{busy_row, clear_row, devices_served, ordered, read_row, served, time_row, units_row, wait_row, write_row};
 
+use crate::loads::{SlotRow, length_of, slot_code};
 use crate::memory_rows::{self, pop_place};
 use crate::ports::{known, unit_of};
 use crate::procedures::{OnUnits, Procedure, procedure_of};
@@ -44,12 +47,40 @@ fn order(memory: &Memory, sp: u16) -> Result<Order, ExecError>
     })
 }
 
+// Unload a segment.
+#[tactic(auto, unfolding(crate::specs::Procedures::unkeep_row))]
+fn unkeep_row(
+    memory: &mut Memory,
+    registers: &mut Registers,
+    frames: &mut Frames,
+    rows: &[SlotRow; 16],
+) -> Result<(), Trap>
+    ensures stack { All (λ row. row.length % 2 ≡ 0) rows.now → IsStack registers.old.sp registers.old.np
+        → OnOk result (IsStack registers.new.sp registers.new.np) }
+    ensures row { (devices : Devices) (room : Room) → Performs devices_reached room result
+        (record { memory = memory.old.words; registers = registers.old; places = frames.old.places; rows = rows.now; devices = devices })
+        (record { memory = memory.new.words; registers = registers.new; places = frames.new.places; rows = rows.now; devices = devices })
+        (or_fails (unkeep_row
+        (record { memory = memory.old.words; registers = registers.old; places = frames.old.places; rows = rows.now; devices = devices }))) }
+    ensures refused { OnErr result ((memory.new ≡ memory.old) × (registers.new ≡ registers.old)
+        × (frames.new.places ≡ frames.old.places)) }
+    ensures agrees { Agrees memory.old frames.old registers.old.mp → Agrees memory.new frames.new registers.new.mp }
+    ensures mp { registers.new.mp ≡ registers.old.mp }
+{
+    let (segment, sp) = pop(memory, registers.sp)?;
+    let mut inside = Registers { sp, ..*registers };
+    frames.unkeep(memory, &mut inside, segment, length_of(segment, rows))?;
+    *registers = inside;
+    Ok(())
+}
+
 impl Units {
-    /// Does the standard procedure of a number; IPC is the next instruction already. The answer is
-    /// an execution error by the procedure's row; `Waiting` where a unit has too few bytes to be
-    /// read; `NoMemory` where there is no memory for bytes that are written or shown, and
-    /// no room is left for them. After each of these everything is as it was: the scratch memory keeps what EXIT puts back, and holds
-    /// anything afterwards.
+    /// Does the standard procedure of a number; IPC is the next instruction already, and `rows` says
+    /// where the code of each slot stands on a disk. The answer is an execution error by the
+    /// procedure's row; `Waiting` where a unit has too few bytes to be read; `NoMemory` where there is
+    /// no memory for bytes that are written or shown, and no room is left for them. After each of these
+    /// everything is as it was: the scratch memory keeps what EXIT puts back, and holds anything
+    /// afterwards. SP stays even where the length in each row is.
     #[tactic(auto, unfolding(crate::specs::Procedures::procedure_row, crate::specs::Procedures::exit_row), using(pm_words::proofs::WatchLaws::keeps, pm_calls::proofs::TableLaws::carry))]
     pub fn perform(
         &mut self,
@@ -57,16 +88,19 @@ impl Units {
         memory: &mut Memory,
         registers: &mut Registers,
         frames: &mut Frames,
+        rows: &[SlotRow; 16],
         scratch: &mut Memory,
     ) -> Result<(), Trap>
-        ensures stack { IsStack registers.old.sp registers.old.np → OnOk result (IsStack registers.new.sp registers.new.np) }
+        ensures stack { All (λ row. row.length % 2 ≡ 0) rows.now → IsStack registers.old.sp registers.old.np
+            → OnOk result (IsStack registers.new.sp registers.new.np) }
         ensures row { Performs devices_reached self.old.room result
-            (record { memory = memory.old.words; registers = registers.old; places = frames.old.places; devices = self.old.devices })
-            (record { memory = memory.new.words; registers = registers.new; places = frames.new.places; devices = self.new.devices })
-            (procedure_row (procedure_of n) (record { memory = memory.old.words; registers = registers.old; places = frames.old.places; devices = self.old.devices })) }
+            (record { memory = memory.old.words; registers = registers.old; places = frames.old.places; rows = rows.now; devices = self.old.devices })
+            (record { memory = memory.new.words; registers = registers.new; places = frames.new.places; rows = rows.now; devices = self.new.devices })
+            (procedure_row (procedure_of n)
+            (record { memory = memory.old.words; registers = registers.old; places = frames.old.places; rows = rows.now; devices = self.old.devices })) }
         ensures refused { OnErr result ((memory.new.words ≡ memory.old.words) × (registers.new ≡ registers.old) × (frames.new.places ≡ frames.old.places) × (self.new ≡ self.old)) }
         ensures agrees { Agrees memory.old frames.old registers.old.mp → Agrees memory.new frames.new registers.new.mp }
-        ensures keeps { KeepsWatch memory.old memory.new }
+        ensures keeps { procedure_of n ≢ Unkeep → KeepsWatch memory.old memory.new }
         ensures mp { registers.new.mp ≡ registers.old.mp }
     {
         match procedure_of(n) {
@@ -83,8 +117,40 @@ impl Units {
                 *registers = inside;
                 Ok(())
             }
+            Procedure::Keep => self.keep_row(memory, registers, frames, rows),
+            Procedure::Unkeep => unkeep_row(memory, registers, frames, rows),
             Procedure::Unimplemented => Err(Trap::Exec(ExecError::Unimplemented)),
         }
+    }
+
+    // Load a segment.
+    #[tactic(auto, unfolding(crate::specs::Procedures::keep_row), using(pm_words::proofs::WatchLaws::keeps))]
+    fn keep_row(
+        &self,
+        memory: &mut Memory,
+        registers: &mut Registers,
+        frames: &mut Frames,
+        rows: &[SlotRow; 16],
+    ) -> Result<(), Trap>
+        ensures stack { All (λ row. row.length % 2 ≡ 0) rows.now → IsStack registers.old.sp registers.old.np
+            → OnOk result (IsStack registers.new.sp registers.new.np) }
+        ensures row { Performs devices_reached self.now.room result
+            (record { memory = memory.old.words; registers = registers.old; places = frames.old.places; rows = rows.now; devices = self.now.devices })
+            (record { memory = memory.new.words; registers = registers.new; places = frames.new.places; rows = rows.now; devices = self.now.devices })
+            (or_fails (keep_row
+            (record { memory = memory.old.words; registers = registers.old; places = frames.old.places; rows = rows.now; devices = self.now.devices }))) }
+        ensures refused { OnErr result ((memory.new.words ≡ memory.old.words) × (registers.new ≡ registers.old)
+            × (frames.new.places ≡ frames.old.places)) }
+        ensures agrees { Agrees memory.old frames.old registers.old.mp → Agrees memory.new frames.new registers.new.mp }
+        ensures keeps { KeepsWatch memory.old memory.new }
+        ensures mp { registers.new.mp ≡ registers.old.mp }
+    {
+        let (segment, sp) = pop(memory, registers.sp)?;
+        let code = slot_code(segment, frames, rows, self)?;
+        let mut inside = Registers { sp, ..*registers };
+        frames.keep(memory, &mut inside, segment, code)?;
+        *registers = inside;
+        Ok(())
     }
 
     // A standard procedure that works with the units or the clock.

@@ -1,12 +1,19 @@
 //! Each procedure on the units once, and each public call.
 
-use crate::{MountFault, Trap, Units};
+use crate::{MountFault, SlotRow, Trap, Units};
 use pm_calls::{Frames, Registers};
 use pm_volume::Volume;
 use pm_words::stack::push;
 use pm_words::{ExecError, Memory};
 use std::alloc::{AllocError, Global};
 use std::test::Fail;
+
+// The row of a slot without code.
+const NO_ROW: SlotRow = SlotRow {
+    unit: 0,
+    block: 0,
+    length: 0,
+};
 
 // The parts of a machine with an empty stack, and bytes at 2000.
 #[derive(Drop)]
@@ -15,6 +22,7 @@ struct Bench {
     scratch: Memory,
     registers: Registers,
     frames: Frames,
+    rows: [SlotRow; 16],
     units: Units,
 }
 
@@ -36,6 +44,7 @@ impl Bench {
                 ioresult: 0,
             },
             frames: Frames::new(),
+            rows: [NO_ROW; 16],
             units: Units::new(alloc, 70000),
         })
     }
@@ -51,6 +60,7 @@ impl Bench {
             &mut self.memory,
             &mut self.registers,
             &mut self.frames,
+            &self.rows,
             &mut self.scratch,
         )
     }
@@ -156,5 +166,77 @@ fn disks(rt: HostRuntime) -> Result<(), Fail> {
     let disk = bench.units.eject(4);
     assert_eq!(rt; disk.and_then(|d| d.bytes().get(4610).copied()), Some(67));
     assert_eq!(rt; bench.units.code(4, 9, 4), None);
+    Ok(())
+}
+
+// The first 16 bytes of a disk are kept as segment 2, twice, and given up.
+#[test]
+fn keeps_a_segment(rt: HostRuntime) -> Result<(), Fail> {
+    let mut bench = Bench::new(rt.alloc(), &[])?;
+    bench.rows[2] = SlotRow {
+        unit: 4,
+        block: 2,
+        length: 16,
+    };
+    let volume = Volume::blank(rt.alloc(), "WORK", 20)?;
+    bench.units.mount(4, volume).map_err(|e| e.0)?;
+    bench.perform(21, &[2])?;
+    assert_eq!(rt; bench.registers.sp, 65488);
+    assert_eq!(rt; bench.frames.place(2), Some((65502, 0)));
+    assert_eq!(rt;
+        &bench.memory.bytes()[65494..65499],
+        [4, b'W', b'O', b'R', b'K'].as_slice()
+    );
+    bench.perform(21, &[2])?;
+    bench.perform(22, &[2])?;
+    assert_eq!(rt;
+        (bench.registers.sp, bench.frames.keeps(2)),
+        (65488, Some(1))
+    );
+    bench.perform(22, &[2])?;
+    assert_eq!(rt;
+        (bench.registers.sp, bench.frames.keeps(2)),
+        (65504, Some(0))
+    );
+    assert_eq!(rt; bench.frames.place(2), None);
+    Ok(())
+}
+
+// What 21 and 22 refuse, in their order: the stack, the number, the length, the disk, the room.
+#[test]
+fn refuses_segments(rt: HostRuntime) -> Result<(), Fail> {
+    let mut bench = Bench::new(rt.alloc(), &[])?;
+    bench.rows[2] = SlotRow {
+        unit: 4,
+        block: 2,
+        length: 16,
+    };
+    bench.rows[3].unit = 5;
+    bench.registers.np = 65490;
+    for (words, fault) in [
+        (&[][..], ExecError::InvalidMemory),
+        (&[16], ExecError::NoSegment),
+        (&[258], ExecError::NoSegment),
+        (&[3], ExecError::NoSegment),
+        (&[2], ExecError::SystemIo),
+    ] {
+        bench.registers.sp = 65504;
+        assert_eq!(rt; bench.perform(21, words), Err(Trap::Exec(fault)));
+    }
+    let volume = Volume::blank(rt.alloc(), "WORK", 20)?;
+    bench.units.mount(4, volume).map_err(|e| e.0)?;
+    bench.registers.sp = 65504;
+    assert_eq!(rt;
+        bench.perform(21, &[2]),
+        Err(Trap::Exec(ExecError::StackOverflow))
+    );
+    for (words, fault) in [
+        (&[][..], ExecError::InvalidMemory),
+        (&[16], ExecError::NoSegment),
+        (&[2], ExecError::NoSegment),
+    ] {
+        bench.registers.sp = 65504;
+        assert_eq!(rt; bench.perform(22, words), Err(Trap::Exec(fault)));
+    }
     Ok(())
 }

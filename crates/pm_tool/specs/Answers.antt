@@ -3,6 +3,7 @@ use Rattle.std.specs.Prelude.{ℕ, List, [], ◌∷◌, ◌++◌, Option, Some, 
 use Rattle.std.specs.Fmt.{decimal}
 use Rattle.pm_words.specs.Stack.{is_even}
 use Rattle.pm_calls.specs.declared.registers.Registers.{Registers}
+use Rattle.pm_calls.specs.Places.{keeps_of, placed}
 use Rattle.pm_machine.specs.Events.{Key, Poke, next}
 use Rattle.pm_debug.specs.Breaks.{break_at, with_break, without_break}
 use Rattle.pm_debug.specs.Refusals.{number_of, or_refused}
@@ -46,6 +47,13 @@ abbrev pub word_text : Result ℕ Refusal → List ℕ
 word_text (Ok word) = decimal word
 word_text (Err refusal) = refused_text refusal
 
+-- where the segment of a slot stands, for how many calls, and how many times the program keeps it; `none` where it stands
+-- nowhere
+abbrev pub place_text : Option (ℕ × ℕ) → Option ℕ → List ℕ
+place_text (Some at) (Some keeps) = numbers_text (at.0 ∷ at.1 ∷ keeps ∷ [])
+place_text (Some at) None = codes "none"
+place_text None keeps = codes "none"
+
 -- as the last line of a trace, of the steps of this run alone
 abbrev pub gone_text : Reason → ℕ → List ℕ
 gone_text reasons.Break steps = codes "break " ++ decimal steps
@@ -71,6 +79,7 @@ command_text (commands.Static n) d = chain_text (static_chain d.machine n)
 command_text (commands.Dynamic n) d = chain_text (dynamic_chain d.machine n)
 command_text (commands.Local depth b) d = word_text (or_refused (local d.machine depth b))
 command_text commands.Registers d = registers_text d.machine.registers
+command_text (commands.Place n) d = place_text (placed d.machine.places n) (keeps_of d.machine.places n)
 command_text commands.Trace d = trace_line d.machine
 command_text commands.Quit d = []
 
@@ -91,6 +100,7 @@ after_command (commands.Static n) d = d
 after_command (commands.Dynamic n) d = d
 after_command (commands.Local depth b) d = d
 after_command commands.Registers d = d
+after_command (commands.Place n) d = d
 after_command commands.Trace d = d
 after_command commands.Quit d = d
 

@@ -23,6 +23,7 @@ is_quit (Some (commands.Static n)) = false
 is_quit (Some (commands.Dynamic n)) = false
 is_quit (Some (commands.Local depth b)) = false
 is_quit (Some commands.Registers) = false
+is_quit (Some (commands.Place n)) = false
 is_quit (Some commands.Trace) = false
 is_quit (Some commands.Quit) = true
 

@@ -4,7 +4,7 @@ ghost use Rattle.pm_debug.specs.Session.{session_of};
 ghost use Rattle.pm_words.specs.Stack.{is_even};
 ghost use Rattle.pm_machine.specs.Events.{Key, Poke, next};
 ghost use Rattle.pm_debug.specs.Views.{ShowsChain};
-ghost use Rattle.pm_tool.specs.Answers.{after_command, after_line, chain_text, command_text, done_text, gone_text, line_text, numbers_text, refused_text, registers_text, word_text};
+ghost use Rattle.pm_tool.specs.Answers.{after_command, after_line, chain_text, command_text, done_text, gone_text, line_text, numbers_text, place_text, refused_text, registers_text, word_text};
 
 use crate::ending::{Ending, LastLine};
 use pm_commands::Command;
@@ -79,6 +79,16 @@ fn gone(alloc: Global, steps: u64, reason: Reason) -> Result<String, AllocError>
     format!(in alloc; "{last}")
 }
 
+/// Where a segment stands, for how many calls, and how many times the program keeps it.
+fn place(alloc: Global, place: Option<(u16, u16)>, keeps: Option<u16>) -> Result<String, AllocError>
+    ensures text { IfOk result (λ text. string_bytes text ≡ place_text place keeps) }
+{
+    match (place, keeps) {
+        (Some((at, count)), Some(keeps)) => numbers(alloc, &[at, count, keeps]),
+        _ => format!(in alloc; "none"),
+    }
+}
+
 /// The registers, each behind its name.
 #[tactic(auto, unfolding(crate::specs::Answers::registers_text))]
 fn registers(alloc: Global, registers: Registers) -> Result<String, AllocError>
@@ -146,6 +156,10 @@ fn perform(alloc: Global, debugger: &mut Debugger, command: Command) -> Result<S
         Command::Dynamic(limit) => chain(alloc, debugger.dynamic_chain(alloc, limit)),
         Command::Local(depth, b) => word(alloc, debugger.local(depth, b)),
         Command::Registers => registers(alloc, debugger.machine().registers()),
+        Command::Place(n) => {
+            let machine = debugger.machine();
+            place(alloc, machine.place(n), machine.keeps(n))
+        }
         Command::Trace => debugger.trace_line(alloc),
         Command::Quit => Ok(String::new(alloc)),
     }

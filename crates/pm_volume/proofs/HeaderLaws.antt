@@ -5,10 +5,10 @@ use Rattle.std.proofs.lemmas.List.{get_or-replicate, length-replicate}
 use Rattle.pm_volume.specs.Changes.{with_directory}
 use Rattle.pm_volume.specs.Directory.{IsDirectory, IsVolume, block_count, directory_of, entries_from, entry_in, file_count, files_begin, files_in}
 use Rattle.pm_volume.specs.Entries.{AreInOrder, entry_of}
-use Rattle.pm_volume.specs.Headers.{blank_image, last_date_of, new_directory, zeros}
+use Rattle.pm_volume.specs.Headers.{blank_image, last_date_of, new_directory}
 use Rattle.pm_volume.specs.Files.{files_of}
 use Rattle.pm_volume.specs.Names.{name_field}
-use Rattle.pm_volume.specs.Words.{with_word, word_in, written}
+use Rattle.pm_volume.specs.Words.{with_word, word_in, written, zeros}
 use Rattle.pm_volume.proofs.ImageLaws.{IsVolume-from_directory, IsVolume-with, directory-with}
 use Rattle.pm_volume.proofs.NameLaws.{length-name_field}
 use Rattle.pm_volume.proofs.SlotChanges.{entries_from-same}

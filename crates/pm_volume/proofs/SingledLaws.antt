@@ -7,10 +7,9 @@ use Rattle.pm_volume.specs.Copies.{HasCopies, has_second, restored}
 use Rattle.pm_volume.specs.Directory.{IsVolume, block_count, directory_of, files_begin, second_of}
 use Rattle.pm_volume.specs.Entries.{AreInOrder}
 use Rattle.pm_volume.specs.Files.{files_of}
-use Rattle.pm_volume.specs.Headers.{zeros}
 use Rattle.pm_volume.specs.Kept.{ChangesOnly, KeepsFile, KeepsFiles, past_span}
 use Rattle.pm_volume.specs.Made.{begun_at, singled}
-use Rattle.pm_volume.specs.Words.{written}
+use Rattle.pm_volume.specs.Words.{written, zeros}
 use Rattle.pm_volume.specs.declared.copies.Copies.TheVariants.{Single}
 use Rattle.pm_volume.proofs.BegunLaws.{ChangesOnly-begun, IsVolume-begun, KeepsFiles-begun, Recopied, begins-image, files-image, kept_both, second_said, second_unsaid}
 use Rattle.pm_volume.proofs.Faults.{IsFirstBad}

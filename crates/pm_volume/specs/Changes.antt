@@ -1,7 +1,8 @@
 -- What a change makes of a volume.
-use Rattle.std.specs.Prelude.{◌≡◌, ◌==◌, ◌<◌, Bool, not, nat_le, is_some, ℕ, ◌+◌, ◌-◌, ◌*◌, ◌/◌, ◌%◌, List, [], ◌∷◌, ◌++◌, length, replicate, slice_range, slice_set, Option, Some, None, Result, Ok, Err, if◌then◌else◌}
+use Rattle.std.specs.Prelude.{◌≡◌, ◌==◌, ◌<◌, Bool, not, nat_le, is_some, ℕ, ◌+◌, ◌-◌, ◌*◌, ◌%◌, List, [], ◌∷◌, ◌++◌, length, replicate, slice_range, slice_set, Option, Some, None, Result, Ok, Err, if◌then◌else◌}
 use Rattle.std.specs.List.{find, insert, list_any, position_from, remove}
 use Rattle.std.specs.Option.{ok_or}
+pub use Rattle.pm_base.specs.Blocks.{blocks_for}
 use Rattle.pm_volume.specs.Copies.{and_second, mirrored}
 use Rattle.pm_volume.specs.Directory.{block_count, directory_of, entries_from, entry_in, file_count, files_begin, files_in}
 use Rattle.pm_volume.specs.Files.{file_named, files_of, is_named}
@@ -12,40 +13,42 @@ use Rattle.pm_volume.specs.declared.entry.Entry.{Entry}
 use Rattle.pm_volume.specs.declared.fault.VolumeFault.{VolumeFault}
 use Rattle.pm_volume.specs.declared.fault.VolumeFault.TheVariants.{BadName, DirectoryFull, Duplicate, NoFile, NoRoom}
 use Rattle.pm_volume.specs.declared.gap.Gap.{Gap}
+use Rattle.pm_volume.specs.declared.fields.TheConstants.{DIRECTORY, ENTRY_DATE, ENTRY_END, ENTRY_FIRST, ENTRY_KIND, ENTRY_LAST_BYTES, ENTRY_NAME, HEADER_FILES, LONGEST_NAME, MOST_FILES, SLOT}
+use Rattle.pm_base.specs.declared.blocks.TheConstants.{BLOCK}
 
 -- an image with another directory
 abbrev pub with_directory : List ℕ → List ℕ → List ℕ
-with_directory image directory = written image 1024 directory
+with_directory image directory = written image DIRECTORY directory
 
 -- the slots of a directory from n up to m
 abbrev pub slots : List ℕ → ℕ → ℕ → List ℕ
-slots directory n m = slice_range directory (26 * n) (26 * m)
+slots directory n m = slice_range directory (SLOT * n) (SLOT * m)
 
 -- the directory with another number of files
 abbrev pub with_count : List ℕ → ℕ → List ℕ
-with_count directory count = with_word directory 16 count
+with_count directory count = with_word directory HEADER_FILES count
 
 -- a slot without an entry
 unfoldable pub no_slot : List ℕ
-no_slot = replicate 26 0
+no_slot = replicate SLOT 0
 
 -- the directory with a slot put in at n
 unfoldable pub with_slot : List ℕ → ℕ → List ℕ → List ℕ
 with_slot directory n slot =
     let count = file_count directory in
-    with_count (written directory (26 * n) (slot ++ slots directory n (count + 1))) (count + 1)
+    with_count (written directory (SLOT * n) (slot ++ slots directory n (count + 1))) (count + 1)
 
 -- the directory with slot n taken out, the slot that falls free being zero
 unfoldable pub without_slot : List ℕ → ℕ → List ℕ
 without_slot directory n =
     let count = file_count directory in
-    with_count (written directory (26 * n) (slots directory (n + 1) (count + 1) ++ no_slot)) (count - 1)
+    with_count (written directory (SLOT * n) (slots directory (n + 1) (count + 1) ++ no_slot)) (count - 1)
 
 -- the slot of an entry
 unfoldable pub slot_of : Entry → List ℕ
 slot_of e =
-    let begun = with_word (with_word (with_word no_slot 0 e.first) 2 e.end) 4 e.kind in
-    with_word (with_word (written begun 6 e.name) 22 e.last_bytes) 24 e.date
+    let begun = with_word (with_word (with_word no_slot ENTRY_FIRST e.first) ENTRY_END e.end) ENTRY_KIND e.kind in
+    with_word (with_word (written begun ENTRY_NAME e.name) ENTRY_LAST_BYTES e.last_bytes) ENTRY_DATE e.date
 
 -- an entry whose fields fit in a slot
 pub record FitsSlot (e : Entry) : Type 0 where
@@ -71,16 +74,12 @@ abbrev pub gap_for : List ℕ → ℕ → Option Gap
 gap_for directory need =
     find (serves need (file_count directory)) (gaps (block_count directory) 1 (files_begin directory) (files_in directory))
 
--- how many blocks hold so many bytes
-abbrev pub blocks_for : ℕ → ℕ
-blocks_for size = (size + 511) / 512
-
 -- where a new file goes, or why there is none
 unfoldable pub place_for : List ℕ → List ℕ → ℕ → Result Gap VolumeFault
 place_for image name need =
-    if not (is_new_name 15 name) then Err BadName
+    if not (is_new_name LONGEST_NAME name) then Err BadName
     else (if is_some (file_named image name) then Err Duplicate
-    else (if nat_le 77 (file_count (directory_of image)) then Err DirectoryFull
+    else (if nat_le MOST_FILES (file_count (directory_of image)) then Err DirectoryFull
     else ok_or (gap_for (directory_of image) need) NoRoom))
 
 -- the entry of a new file in a gap
@@ -88,20 +87,20 @@ abbrev pub new_entry : Gap → List ℕ → ℕ → ℕ → ℕ → Entry
 new_entry g name kind size date =
     let need = blocks_for size in
     record {
-      name = name_field 15 name;
+      name = name_field LONGEST_NAME name;
       kind = kind % 16;
       first = g.begin;
       end = g.begin + need;
-      last_bytes = 512 - (512 * need - size);
+      last_bytes = BLOCK - (BLOCK * need - size);
       date = date;
     }
 
 -- the image with a new file: its entry, its bytes, and zeros to the end of its last block
 unfoldable pub with_file : List ℕ → ℕ → Entry → List ℕ → List ℕ
 with_file image n e bytes =
-    let begin = 512 * e.first in
+    let begin = BLOCK * e.first in
     let listed = with_directory image (with_slot (directory_of image) n (slot_of e)) in
-    written (written listed begin bytes) (begin + length bytes) (replicate (512 * blocks_for (length bytes) - length bytes) 0)
+    written (written listed begin bytes) (begin + length bytes) (replicate (BLOCK * blocks_for (length bytes) - length bytes) 0)
 
 -- a file was added: its entry stands in the lowest gap that serves, and its bytes in the entry's blocks; it comes into the list
 -- of files at that gap's place
@@ -150,17 +149,17 @@ unfoldable pub slot_to_rename : List ℕ → List ℕ → List ℕ → Result �
 slot_to_rename directory old new = elim (slot_named directory old) [
   | None ↦ Err NoFile
   | Some slot ↦
-      if not (is_new_name 15 new) then Err BadName
+      if not (is_new_name LONGEST_NAME new) then Err BadName
       else (if is_named_beside directory slot new then Err Duplicate else Ok slot)
 ]
 
 -- the image with another name for the file in slot n: the 16 bytes of the name alone
 abbrev pub with_name : List ℕ → ℕ → List ℕ → List ℕ
-with_name image n name = with_directory image (written (directory_of image) (26 * n + 6) (name_field 15 name))
+with_name image n name = with_directory image (written (directory_of image) (SLOT * n + ENTRY_NAME) (name_field LONGEST_NAME name))
 
 -- the first file of a name got another one
 pub record RenamesFile (old new from to : List ℕ) : Type 0 where
   pub slot : ℕ
   pub found : slot_to_rename (directory_of old) from to ≡ Ok slot
   pub image : new ≡ mirrored (with_name old slot to)
-  pub files : files_of new ≡ slice_set (files_of old) (slot - 1) (record (entry_in (directory_of old) slot) { name = name_field 15 to })
+  pub files : files_of new ≡ slice_set (files_of old) (slot - 1) (record (entry_in (directory_of old) slot) { name = name_field LONGEST_NAME to })

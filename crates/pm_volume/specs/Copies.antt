@@ -7,33 +7,34 @@ use Rattle.pm_volume.specs.declared.copies.Copies.{Copies}
 use Rattle.pm_volume.specs.declared.copies.Copies.TheVariants.{Single, Same, Differs}
 use Rattle.pm_volume.specs.declared.fault.VolumeFault.{VolumeFault}
 use Rattle.pm_volume.specs.declared.fault.VolumeFault.TheVariants.{FirstCopyBad}
+use Rattle.pm_volume.specs.declared.fields.TheConstants.{DIRECTORY, PAST_DIRECTORY, PAST_SECOND, SECOND, SECOND_END}
 
 -- whether an image has a second copy of its directory
 unfoldable pub has_second : List ℕ → Bool
-has_second image = nat_le 5120 (length image) && (files_begin (directory_of image) == 10)
+has_second image = nat_le SECOND_END (length image) && (files_begin (directory_of image) == PAST_SECOND)
 
 -- what an image has of its directory: one copy, two that are the same, or two that differ
 abbrev pub HasCopies : List ℕ → Copies → Type 0
-HasCopies image Single = files_begin (directory_of image) ≡ 6
-HasCopies image Same = (files_begin (directory_of image) ≡ 10) × (second_of image ≡ directory_of image)
-HasCopies image Differs = (files_begin (directory_of image) ≡ 10) × (second_of image ≢ directory_of image)
+HasCopies image Single = files_begin (directory_of image) ≡ PAST_DIRECTORY
+HasCopies image Same = (files_begin (directory_of image) ≡ PAST_SECOND) × (second_of image ≡ directory_of image)
+HasCopies image Differs = (files_begin (directory_of image) ≡ PAST_SECOND) × (second_of image ≢ directory_of image)
 
 -- after a change there are as many copies as before, and two are the same
 pub record KeepsCopies (old new : List ℕ) : Type 0 where
-  pub single : files_begin (directory_of old) ≡ 6 → HasCopies new Single
-  pub same : files_begin (directory_of old) ≡ 10 → HasCopies new Same
+  pub single : files_begin (directory_of old) ≡ PAST_DIRECTORY → HasCopies new Single
+  pub same : files_begin (directory_of old) ≡ PAST_SECOND → HasCopies new Same
 
 -- an image with blocks 2 to 5 copied to blocks 6 to 9, where it has a second copy
 unfoldable pub mirrored : List ℕ → List ℕ
-mirrored image = if has_second image then written image 3072 (directory_of image) else image
+mirrored image = if has_second image then written image SECOND (directory_of image) else image
 
 -- these spans, and the second copy where a directory has one
 abbrev pub and_second : List ℕ → List Span → List Span
-and_second directory spans = if files_begin directory == 10 then second_span ∷ spans else spans
+and_second directory spans = if files_begin directory == PAST_SECOND then second_span ∷ spans else spans
 
 -- an image with its second copy in the place of the first
 unfoldable pub restored : List ℕ → List ℕ
-restored image = written image 1024 (second_of image)
+restored image = written image DIRECTORY (second_of image)
 
 -- the volume that an image with this fault or none is or becomes, or why there is none
 abbrev pub repaired_from : List ℕ → Option VolumeFault → Result (List ℕ) VolumeFault

@@ -4,6 +4,7 @@ use Rattle.std.specs.List.{find}
 use Rattle.pm_volume.specs.Directory.{directory_of, files_in}
 use Rattle.pm_volume.specs.Names.{characters_of, is_same_name}
 use Rattle.pm_volume.specs.declared.entry.Entry.{Entry}
+use Rattle.pm_base.specs.declared.blocks.TheConstants.{BLOCK}
 
 -- the files of an image in block order
 abbrev pub files_of : List ℕ → List Entry
@@ -20,6 +21,6 @@ file_named image name = find (is_named name) (files_of image)
 -- the bytes of a file: its blocks with the last one cut, none if they leave the image; a file without blocks is empty
 unfoldable pub file_bytes : List ℕ → Entry → Option (List ℕ)
 file_bytes image e =
-    let end = 512 * (e.end - 1) + e.last_bytes in
+    let end = BLOCK * (e.end - 1) + e.last_bytes in
     if nat_le e.end e.first then Some []
-    else (if nat_le end (length image) then Some (slice_range image (512 * e.first) end) else None)
+    else (if nat_le end (length image) then Some (slice_range image (BLOCK * e.first) end) else None)

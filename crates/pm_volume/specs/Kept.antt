@@ -3,10 +3,12 @@ use Rattle.std.specs.Prelude.{◌≡◌, ◌<◌, ◌≤◌, ◌⊎◌, ℕ, ◌
 use Rattle.std.specs.List.{All}
 use Rattle.pm_volume.specs.Files.{file_bytes, files_of}
 use Rattle.pm_volume.specs.declared.entry.Entry.{Entry}
+use Rattle.pm_volume.specs.declared.fields.TheConstants.{DIRECTORY, DIRECTORY_END, ENTRY_KIND, ENTRY_LAST_BYTES, ENTRY_NAME, HEADER_DATE, HEADER_FILES, HEADER_FILES_BEGIN, SECOND, SECOND_END, SLOT}
+use Rattle.pm_base.specs.declared.blocks.TheConstants.{BLOCK}
 
 -- the bytes of all blocks of a file
 abbrev pub blocks_of : List ℕ → Entry → List ℕ
-blocks_of image e = slice_range image (512 * e.first) (512 * e.end)
+blocks_of image e = slice_range image (BLOCK * e.first) (BLOCK * e.end)
 
 -- a file has the same bytes in two images, those of its last block behind the file's end too
 pub record KeepsFile (old new : List ℕ) (e : Entry) : Type 0 where
@@ -34,36 +36,36 @@ pub record ChangesOnly (spans : List Span) (old new : List ℕ) : Type 0 where
 
 -- the word with the block where files begin
 abbrev pub past_span : Span
-past_span = record { begin = 1026; end = 1028 }
+past_span = record { begin = DIRECTORY + HEADER_FILES_BEGIN; end = DIRECTORY + HEADER_FILES_BEGIN + 2 }
 
 -- the word with the number of files
 abbrev pub count_span : Span
-count_span = record { begin = 1040; end = 1042 }
+count_span = record { begin = DIRECTORY + HEADER_FILES; end = DIRECTORY + HEADER_FILES + 2 }
 
 -- the word with the last date
 abbrev pub date_span : Span
-date_span = record { begin = 1044; end = 1046 }
+date_span = record { begin = DIRECTORY + HEADER_DATE; end = DIRECTORY + HEADER_DATE + 2 }
 
 -- the whole directory
 abbrev pub directory_span : Span
-directory_span = record { begin = 1024; end = 3072 }
+directory_span = record { begin = DIRECTORY; end = DIRECTORY_END }
 
 -- the second copy of the directory
 abbrev pub second_span : Span
-second_span = record { begin = 3072; end = 5120 }
+second_span = record { begin = SECOND; end = SECOND_END }
 
 -- the slots of the directory from n up to m
 abbrev pub slots_span : ℕ → ℕ → Span
-slots_span n m = record { begin = 1024 + 26 * n; end = 1024 + 26 * m }
+slots_span n m = record { begin = DIRECTORY + SLOT * n; end = DIRECTORY + SLOT * m }
 
 -- the name in slot n
 abbrev pub name_span : ℕ → Span
-name_span n = record { begin = 1024 + (26 * n + 6); end = 1024 + (26 * n + 22) }
+name_span n = record { begin = DIRECTORY + (SLOT * n + ENTRY_NAME); end = DIRECTORY + (SLOT * n + ENTRY_LAST_BYTES) }
 
 -- the two block numbers in slot n
 abbrev pub places_span : ℕ → Span
-places_span n = record { begin = 1024 + 26 * n; end = 1024 + (26 * n + 4) }
+places_span n = record { begin = DIRECTORY + SLOT * n; end = DIRECTORY + (SLOT * n + ENTRY_KIND) }
 
 -- the blocks of a file
 abbrev pub blocks_span : Entry → Span
-blocks_span e = record { begin = 512 * e.first; end = 512 * e.end }
+blocks_span e = record { begin = BLOCK * e.first; end = BLOCK * e.end }

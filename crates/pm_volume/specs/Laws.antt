@@ -8,6 +8,8 @@ use Rattle.pm_volume.specs.Kept.{KeepsFile}
 use Rattle.pm_volume.specs.Words.{written}
 use Rattle.pm_volume.specs.declared.copies.Copies.TheVariants.{Same}
 use Rattle.pm_volume.specs.declared.fault.VolumeFault.TheVariants.{FirstCopyBad}
+use Rattle.pm_volume.specs.declared.fields.TheConstants.{DIRECTORY, DIRECTORY_SIZE}
+use Rattle.pm_base.specs.declared.blocks.TheConstants.{BLOCK}
 
 -- an image is refused for its first copy alone, and repaired it is a volume with the files of the second copy, each with its bytes
 pub record IsSaved (image : List ℕ) : Type 0 where
@@ -23,13 +25,13 @@ pub record IsSaved (image : List ℕ) : Type 0 where
 -- bytes stand in the first
 abbrev pub SecondCopySaves : Type 0
 SecondCopySaves =
-    (image : List ℕ) → length image % 512 ≡ 0 → is_second_good image ≡ true → (image_fault image ≡ None) ⊎ IsSaved image
+    (image : List ℕ) → length image % BLOCK ≡ 0 → is_second_good image ≡ true → (image_fault image ≡ None) ⊎ IsSaved image
 
 -- a volume with two equal copies whose first is overwritten opens by what was written, or is repaired to what it was
 abbrev pub DamageIsUndone : Type 0
 DamageIsUndone =
-    (image bytes : List ℕ) → IsVolume image → HasCopies image Same → length bytes ≡ 2048
-    → (image_fault (written image 1024 bytes) ≡ None) ⊎ (repaired (written image 1024 bytes) ≡ Ok image)
+    (image bytes : List ℕ) → IsVolume image → HasCopies image Same → length bytes ≡ DIRECTORY_SIZE
+    → (image_fault (written image DIRECTORY bytes) ≡ None) ⊎ (repaired (written image DIRECTORY bytes) ≡ Ok image)
 
 -- an image that opens is left as it is
 abbrev pub GoodImagesStay : Type 0

@@ -1,4 +1,5 @@
 pub mod Words
+pub mod Dates
 pub mod Faults
 pub mod Names
 pub mod Entries

@@ -5,13 +5,14 @@ use Rattle.pm_volume.specs.Changes.{blocks_for, new_entry, place_for, slot_named
 use Rattle.pm_volume.specs.Copies.{has_second, mirrored}
 use Rattle.pm_volume.specs.Directory.{block_count, directory_of}
 use Rattle.pm_volume.specs.Files.{files_of}
-use Rattle.pm_volume.specs.Headers.{zeroed_image, zeros}
-use Rattle.pm_volume.specs.Words.{with_word, written}
+use Rattle.pm_volume.specs.Headers.{zeroed_image}
+use Rattle.pm_volume.specs.Words.{with_word, written, zeros}
 use Rattle.pm_volume.specs.declared.entry.Entry.{Entry}
 use Rattle.pm_volume.specs.Names.{is_new_name}
 use Rattle.pm_volume.specs.declared.fault.VolumeFault.{VolumeFault}
 use Rattle.pm_volume.specs.declared.fault.VolumeFault.TheVariants.{BadHeader, BadName, NoFile, Occupied}
 use Rattle.pm_volume.specs.declared.gap.Gap.{Gap}
+use Rattle.pm_volume.specs.declared.fields.TheConstants.{DIRECTORY_SIZE, HEADER_FILES_BEGIN, LONGEST_VOLUME_NAME, PAST_DIRECTORY, PAST_SECOND, SECOND}
 
 -- a new file in a gap
 abbrev pub added_in : List ℕ → List ℕ → ℕ → List ℕ → ℕ → Result Gap VolumeFault → Result (List ℕ) VolumeFault
@@ -41,22 +42,22 @@ renamed image old new = renamed_at image new (slot_to_rename (directory_of image
 
 -- the image with a new directory of this name
 unfoldable pub zeroed : List ℕ → List ℕ → Result (List ℕ) VolumeFault
-zeroed image name = if is_new_name 7 name then Ok (zeroed_image image name) else Err BadName
+zeroed image name = if is_new_name LONGEST_VOLUME_NAME name then Ok (zeroed_image image name) else Err BadName
 
 -- an image whose files begin at another block
 abbrev pub begun_at : List ℕ → ℕ → List ℕ
-begun_at image past = with_directory image (with_word (directory_of image) 2 past)
+begun_at image past = with_directory image (with_word (directory_of image) HEADER_FILES_BEGIN past)
 
 -- whether a file begins below block 10, where a second copy ends
 abbrev pub is_occupied : List ℕ → Bool
-is_occupied image = list_any (λ (e : Entry). nat_lt e.first 10) (files_of image)
+is_occupied image = list_any (λ (e : Entry). nat_lt e.first PAST_SECOND) (files_of image)
 
 -- the image with a second copy of its directory
 unfoldable pub doubled : List ℕ → Result (List ℕ) VolumeFault
 doubled image =
-    if nat_lt (block_count (directory_of image)) 10 then Err BadHeader
-    else (if is_occupied image then Err Occupied else Ok (mirrored (begun_at image 10)))
+    if nat_lt (block_count (directory_of image)) PAST_SECOND then Err BadHeader
+    else (if is_occupied image then Err Occupied else Ok (mirrored (begun_at image PAST_SECOND)))
 
 -- the image without its second copy, whose blocks become zero; one that has none stays
 unfoldable pub singled : List ℕ → List ℕ
-singled image = if has_second image then written (begun_at image 6) 3072 (zeros 2048) else image
+singled image = if has_second image then written (begun_at image PAST_DIRECTORY) SECOND (zeros DIRECTORY_SIZE) else image

@@ -8,6 +8,9 @@ use Rattle.pm_volume.specs.Files.{file_bytes, files_of}
 use Rattle.pm_volume.specs.Kept.{ChangesOnly, Span, blocks_of, blocks_span, places_span}
 use Rattle.pm_volume.specs.Words.{with_word, written}
 use Rattle.pm_volume.specs.declared.entry.Entry.{Entry}
+use Rattle.pm_volume.specs.declared.fields.TheConstants.{ENTRY_END, SLOT}
+use Rattle.pm_base.specs.declared.blocks.TheConstants.{BLOCK}
+use Rattle.pm_volume.specs.declared.kinds.TheConstants.{BAD_BLOCKS}
 
 -- a file's entry where its blocks begin at another one
 abbrev pub moved_entry : Entry → ℕ → Entry
@@ -15,7 +18,7 @@ moved_entry e to = record e { first = to; end = to + (e.end - e.first) }
 
 -- where a file goes, the one before it ending at a block: there; bad blocks stay
 abbrev pub new_place : ℕ → Entry → ℕ
-new_place from e = if e.kind == 1 then e.first else from
+new_place from e = if e.kind == BAD_BLOCKS then e.first else from
 
 -- files moved together: each to the end of the one before, the first to a block
 unfoldable pub packed : ℕ → List Entry → List Entry
@@ -44,12 +47,12 @@ pub record Krunches (old new : List ℕ) : Type 0 where
 
 -- a directory with other block numbers in slot n
 unfoldable pub with_places : List ℕ → ℕ → ℕ → ℕ → List ℕ
-with_places directory n first end = with_word (with_word directory (26 * n) first) (26 * n + 2) end
+with_places directory n first end = with_word (with_word directory (SLOT * n) first) (SLOT * n + ENTRY_END) end
 
 -- the image with the blocks of the file in slot n at another place
 unfoldable pub with_moved : List ℕ → ℕ → Entry → ℕ → List ℕ
 with_moved image n e to =
-    with_directory (written image (512 * to) (blocks_of image e)) (with_places (directory_of image) n to (to + (e.end - e.first)))
+    with_directory (written image (BLOCK * to) (blocks_of image e)) (with_places (directory_of image) n to (to + (e.end - e.first)))
 
 -- the image after the files of so many slots from slot n on were moved, the one before them ending at a block
 unfoldable pub packed_image : List ℕ → ℕ → ℕ → ℕ → List ℕ

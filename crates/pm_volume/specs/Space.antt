@@ -4,10 +4,11 @@ use Rattle.std.specs.List.{fold, sum_by}
 use Rattle.pm_volume.specs.Changes.{gaps}
 use Rattle.pm_volume.specs.Directory.{block_count, directory_of, files_begin, files_in}
 use Rattle.pm_volume.specs.declared.gap.Gap.{Gap}
+use Rattle.pm_volume.specs.declared.fields.TheConstants.{HEADER_NAME}
 
 -- the characters of the volume's name
 abbrev pub name_of : List ℕ → List ℕ
-name_of image = slice_range (directory_of image) 7 (7 + slice_index (directory_of image) 6)
+name_of image = slice_range (directory_of image) (HEADER_NAME + 1) (HEADER_NAME + 1 + slice_index (directory_of image) HEADER_NAME)
 
 -- the blocks of a gap
 abbrev pub gap_size : Gap → ℕ

@@ -1,15 +1,3 @@
--- Words and bytes in a list of bytes.
-use Rattle.byteorder.specs.Endian.{little_bytes}
-use Rattle.std.specs.Prelude.{ℕ, ◌+◌, ◌*◌, ◌++◌, List, drop, length, slice_index, take}
-
--- the word at a place, its low byte first
-unfoldable pub word_in : List ℕ → ℕ → ℕ
-word_in bytes place = slice_index bytes place + 256 * slice_index bytes (place + 1)
-
--- a list with ys in the place of its items from i on
-unfoldable pub written : List ℕ → ℕ → List ℕ → List ℕ
-written xs i ys = take i xs ++ (ys ++ drop (i + length ys) xs)
-
--- a list with another word at a place, its low byte first
-abbrev pub with_word : List ℕ → ℕ → ℕ → List ℕ
-with_word xs place w = written xs place (little_bytes 2 w)
+-- Words and bytes in a list of bytes, as pm_base has them.
+unfoldable pub use Rattle.pm_base.specs.Words.{word_in, written, zeros}
+pub use Rattle.pm_base.specs.Words.{with_word}

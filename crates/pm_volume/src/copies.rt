@@ -5,10 +5,13 @@ ghost use Rattle.std.specs.Bool.{OnTrue};
 ghost use Rattle.pm_volume.specs.Copies.{has_second, mirrored, restored};
 ghost use Rattle.pm_volume.specs.Directory.{is_second_good};
 ghost use Rattle.pm_volume.specs.Words.{written};
+ghost use Rattle.pm_volume.specs.declared.fields.TheConstants.{DIRECTORY_END, DIRECTORY_SIZE, SECOND_END};
 
-use crate::directory::{DIRECTORY, DIRECTORY_END, fault_of_directory};
-use crate::disk::BLOCK;
-use crate::words::word;
+use crate::directory::fault_of_directory;
+use crate::fields::{
+    DIRECTORY, DIRECTORY_END, DIRECTORY_SIZE, HEADER_FILES_BEGIN, PAST_SECOND, SECOND, SECOND_END,
+};
+use pm_base::{BLOCK, word};
 
 /// What a volume has of its directory, in four blocks each: one copy, or two.
 #[derive(Clone, Copy, Debug, PartialEq, Eq)]
@@ -21,24 +24,15 @@ pub enum Copies {
     Differs,
 }
 
-// The second copy is blocks 6 to 9 of the image.
-pub(crate) const SECOND: usize = 6 * BLOCK;
-
-pub(crate) const SECOND_END: usize = 10 * BLOCK;
-
-// Where files begin behind a second copy.
-pub(crate) const PAST_SECOND: u16 = 10;
-
-const COPY: usize = 4 * BLOCK;
-
 // Whether an image has a second copy.
 #[tactic(auto, unfolding(crate::specs::Copies::has_second))]
 pub(crate) fn has_second(image: &[u8]) -> bool
-    requires whole { 3072 ≤ length image.now }
+    requires whole { DIRECTORY_END ≤ length image.now }
     ensures second { result ≡ has_second image.now }
-    ensures room { OnTrue result (5120 ≤ length image.now) }
+    ensures room { OnTrue result (SECOND_END ≤ length image.now) }
 {
-    image.len() >= SECOND_END && word(&image[DIRECTORY..DIRECTORY_END], 2) == PAST_SECOND
+    image.len() >= SECOND_END
+        && word(&image[DIRECTORY..DIRECTORY_END], HEADER_FILES_BEGIN) == PAST_SECOND
 }
 
 // Whether the second copy is good.
@@ -50,7 +44,8 @@ pub(crate) fn is_second_good(image: &[u8]) -> bool
         return false;
     }
     let second = &image[SECOND..SECOND_END];
-    word(second, 2) == PAST_SECOND && fault_of_directory(second, image.len() / BLOCK).is_none()
+    word(second, HEADER_FILES_BEGIN) == PAST_SECOND
+        && fault_of_directory(second, image.len() / BLOCK).is_none()
 }
 
 // Whether two copies have the same bytes.
@@ -62,17 +57,17 @@ pub(crate) fn are_same(left: &[u8], right: &[u8]) -> bool
 
 // Copies four blocks to another place.
 fn copy_directory(image: &mut [u8], from: usize, to: usize)
-    requires source { from + 2048 ≤ length image.old }
-    requires target { to + 2048 ≤ length image.old }
-    ensures copied { image.new ≡ written image.old to (slice_range image.old from (from + 2048)) }
+    requires source { from + DIRECTORY_SIZE ≤ length image.old }
+    requires target { to + DIRECTORY_SIZE ≤ length image.old }
+    ensures copied { image.new ≡ written image.old to (slice_range image.old from (from + DIRECTORY_SIZE)) }
 {
-    image.copy_within(from..from + COPY, to);
+    image.copy_within(from..from + DIRECTORY_SIZE, to);
 }
 
 // Makes the second copy, if there is one, the same as the first.
 #[tactic(auto, unfolding(crate::specs::Copies::mirrored))]
 pub(crate) fn mirror(image: &mut [u8])
-    requires whole { 3072 ≤ length image.old }
+    requires whole { DIRECTORY_END ≤ length image.old }
     ensures mirrored { image.new ≡ mirrored image.old }
 {
     if has_second(image) {
@@ -83,7 +78,7 @@ pub(crate) fn mirror(image: &mut [u8])
 // Makes the first copy the same as the second.
 #[tactic(auto, unfolding(crate::specs::Copies::restored))]
 pub(crate) fn restore(image: &mut [u8])
-    requires whole { 5120 ≤ length image.old }
+    requires whole { SECOND_END ≤ length image.old }
     ensures restored { image.new ≡ restored image.old }
 {
     copy_directory(image, SECOND, DIRECTORY);

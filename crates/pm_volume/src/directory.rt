@@ -7,26 +7,21 @@ ghost use Rattle.pm_volume.specs.Files.{is_named};
 ghost use Rattle.pm_volume.specs.Headers.{new_directory};
 ghost use Rattle.pm_volume.specs.Directory.{block_count, directory_fault, entries_from, entry_in, file_count, files_begin, files_in, is_header};
 ghost use Rattle.pm_volume.specs.Entries.{entries_fault};
+ghost use Rattle.pm_volume.specs.declared.fields.TheConstants.{DIRECTORY_SIZE, LONGEST_VOLUME_NAME, MOST_FILES};
 
-use crate::disk::BLOCK;
 use crate::entry::{Entry, volume_name_field};
 use crate::fault::VolumeFault;
-use crate::words::{clear_all, set_bytes, set_word, word};
+use crate::fields::{
+    HEADER_BLOCKS, HEADER_DATE, HEADER_FILES, HEADER_FILES_BEGIN, HEADER_NAME, LONGEST_VOLUME_NAME,
+    MOST_FILES, PAST_DIRECTORY, PAST_SECOND, SLOT,
+};
+use pm_base::{clear_all, set_bytes, set_word, word};
 use std::marker::Model;
-
-pub(crate) const SLOT: usize = 26;
-
-pub(crate) const MOST_FILES: u16 = 77;
-
-// The directory is blocks 2 to 5 of the image.
-pub(crate) const DIRECTORY: usize = 2 * BLOCK;
-
-pub(crate) const DIRECTORY_END: usize = 6 * BLOCK;
 
 // The entry in a slot of a directory.
 pub(crate) fn entry_at(directory: &[u8], n: u16) -> Entry
-    requires whole { length directory.now ≡ 2048 }
-    requires slot { n ≤ 77 }
+    requires whole { length directory.now ≡ DIRECTORY_SIZE }
+    requires slot { n ≤ MOST_FILES }
     ensures entry { result ≡ entry_in directory.now n }
 {
     let at = SLOT * usize::from(n);
@@ -35,26 +30,30 @@ pub(crate) fn entry_at(directory: &[u8], n: u16) -> Entry
 
 // Whether the header is sound.
 fn is_header(directory: &[u8]) -> bool
-    requires whole { length directory.now ≡ 2048 }
+    requires whole { length directory.now ≡ DIRECTORY_SIZE }
     ensures header { result ≡ is_header directory.now }
 {
-    let past = word(directory, 2);
-    matches!(directory[6], 1..=7) && (past == 6 || past == 10) && past <= word(directory, 14)
+    let past = word(directory, HEADER_FILES_BEGIN);
+    let length = usize::from(directory[HEADER_NAME]);
+    1 <= length
+        && length <= LONGEST_VOLUME_NAME
+        && (past == PAST_DIRECTORY || past == PAST_SECOND)
+        && past <= word(directory, HEADER_BLOCKS)
 }
 
 // The first fault of a directory in an image of so many blocks.
 #[tactic(auto, unfolding(crate::specs::Directory::directory_fault))]
 pub(crate) fn fault_of_directory(directory: &[u8], blocks: usize) -> Option<VolumeFault>
-    requires whole { length directory.now ≡ 2048 }
+    requires whole { length directory.now ≡ DIRECTORY_SIZE }
     ensures first { result ≡ directory_fault directory.now blocks }
 {
     if !is_header(directory) {
         return Some(VolumeFault::BadHeader);
     }
-    if blocks < usize::from(word(directory, 14)) {
+    if blocks < usize::from(word(directory, HEADER_BLOCKS)) {
         return Some(VolumeFault::PastEnd);
     }
-    if word(directory, 16) > MOST_FILES {
+    if word(directory, HEADER_FILES) > MOST_FILES {
         return Some(VolumeFault::TooManyFiles);
     }
     fault_of_entries(directory)
@@ -63,13 +62,13 @@ pub(crate) fn fault_of_directory(directory: &[u8], blocks: usize) -> Option<Volu
 // The first fault of the files' entries.
 #[tactic(auto, using(crate::proofs::DirectoryLaws::fault_steps))]
 fn fault_of_entries(directory: &[u8]) -> Option<VolumeFault>
-    requires whole { length directory.now ≡ 2048 }
-    requires few { file_count directory.now ≤ 77 }
+    requires whole { length directory.now ≡ DIRECTORY_SIZE }
+    requires few { file_count directory.now ≤ MOST_FILES }
     ensures first { result ≡ entries_fault (block_count directory.now) 1 (files_begin directory.now) (files_in directory.now) }
 {
-    let blocks = word(directory, 14);
-    let mut from = word(directory, 2);
-    for n in 1..word(directory, 16) + 1 {
+    let blocks = word(directory, HEADER_BLOCKS);
+    let mut from = word(directory, HEADER_FILES_BEGIN);
+    for n in 1..word(directory, HEADER_FILES) + 1 {
         let entry = entry_at(directory, n);
         if !entry.is_sound(from) {
             return Some(VolumeFault::BadEntry(n));
@@ -85,12 +84,12 @@ fn fault_of_entries(directory: &[u8]) -> Option<VolumeFault>
 // The slot of the first file of a name.
 #[tactic(auto, using(crate::proofs::GapLaws::slot_steps))]
 pub(crate) fn slot_named(directory: &[u8], name: &str) -> Option<u16>
-    requires whole { length directory.now ≡ 2048 }
-    requires few { file_count directory.now ≤ 77 }
+    requires whole { length directory.now ≡ DIRECTORY_SIZE }
+    requires few { file_count directory.now ≤ MOST_FILES }
     ensures first { result ≡ slot_named directory.now name.now }
     ensures within { IfSome result (λ n. (1 ≤ n) × (n ≤ file_count directory.now)) }
 {
-    for n in 1..word(directory, 16) + 1 {
+    for n in 1..word(directory, HEADER_FILES) + 1 {
         if entry_at(directory, n).is_named(name) {
             return Some(n);
         }
@@ -100,21 +99,21 @@ pub(crate) fn slot_named(directory: &[u8], name: &str) -> Option<u16>
 
 // Whether a file in another slot has this name.
 pub(crate) fn is_named_beside(directory: &[u8], slot: u16, name: &str) -> bool
-    requires whole { length directory.now ≡ 2048 }
-    requires few { file_count directory.now ≤ 77 }
+    requires whole { length directory.now ≡ DIRECTORY_SIZE }
+    requires few { file_count directory.now ≤ MOST_FILES }
     requires from { 1 ≤ slot }
     requires to { slot ≤ file_count directory.now }
     ensures named { result ≡ is_named_beside directory.now slot name.now }
 {
     has_name(directory, 1, slot, name)
-        || has_name(directory, slot + 1, word(directory, 16) + 1, name)
+        || has_name(directory, slot + 1, word(directory, HEADER_FILES) + 1, name)
 }
 
 // Whether a file in the slots from one on, up to another, has this name.
 #[tactic(auto, using(crate::proofs::GapLaws::any_steps))]
 fn has_name(directory: &[u8], from: u16, to: u16, name: &str) -> bool
-    requires whole { length directory.now ≡ 2048 }
-    requires slots { to ≤ 78 }
+    requires whole { length directory.now ≡ DIRECTORY_SIZE }
+    requires slots { to ≤ MOST_FILES + 1 }
     ensures named { result ≡ list_any (is_named name.now) (entries_from directory.now from (to - from)) }
 {
     for n in from..to {
@@ -127,16 +126,16 @@ fn has_name(directory: &[u8], from: u16, to: u16, name: &str) -> bool
 
 // Writes a directory without files.
 pub(crate) fn write_directory(directory: &mut [u8], past: u16, name: &[u8], blocks: u16, date: u16)
-    requires whole { length directory.old ≡ 2048 }
-    requires short { length name.now ≤ 7 }
+    requires whole { length directory.old ≡ DIRECTORY_SIZE }
+    requires short { length name.now ≤ LONGEST_VOLUME_NAME }
     ensures directory { directory.new ≡ new_directory past name.now blocks date }
 {
     let field = volume_name_field(name);
     clear_all(directory);
-    set_word(directory, 2, past);
-    set_bytes(directory, 6, &field);
-    set_word(directory, 14, blocks);
-    set_word(directory, 20, date);
+    set_word(directory, HEADER_FILES_BEGIN, past);
+    set_bytes(directory, HEADER_NAME, &field);
+    set_word(directory, HEADER_BLOCKS, blocks);
+    set_word(directory, HEADER_DATE, date);
 }
 
 /// The entries of a volume, in block order: the list of those that are left.
@@ -151,27 +150,28 @@ impl<'a> Model for Entries<'a> {
     ghost use Rattle.std.specs.Prelude.{◌≡◌, ◌≤◌, ◌+◌, List, length};
     ghost use Rattle.pm_volume.specs.declared.entry.Entry.{Entry};
     ghost use Rattle.pm_volume.specs.Directory.{entries_from};
+    ghost use Rattle.pm_volume.specs.declared.fields.TheConstants.{DIRECTORY_SIZE, MOST_FILES};
 
     ghost Value = { List Entry };
 
     ghost view = { λ s. entries_from s.directory.now s.next s.left };
 
-    ghost invariant = { λ s. (length s.directory.now ≡ 2048) × (s.next + s.left ≤ 78) };
+    ghost invariant = { λ s. (length s.directory.now ≡ DIRECTORY_SIZE) × (s.next + s.left ≤ MOST_FILES + 1) };
 }
 
 impl<'a> Entries<'a> {
     // The files of a directory.
     #[tactic(auto, using(crate::proofs::SlotChanges::entry_counts))]
     pub(crate) fn new(directory: &'a [u8]) -> Entries<'a>
-        requires whole { length directory.now ≡ 2048 }
-        requires few { file_count directory.now ≤ 77 }
+        requires whole { length directory.now ≡ DIRECTORY_SIZE }
+        requires few { file_count directory.now ≤ MOST_FILES }
         ensures files { result ≡ files_in directory.now }
         ensures count { length result ≡ file_count directory.now }
     {
         Entries {
             directory,
             next: 1,
-            left: word(directory, 16),
+            left: word(directory, HEADER_FILES),
         }
     }
 }

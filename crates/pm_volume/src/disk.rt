@@ -5,11 +5,10 @@ ghost use Rattle.std.specs.Bool.{OnFalse, OnTrue};
 ghost use Rattle.std.specs.Option.{option_map};
 ghost use Rattle.pm_volume.specs.Disks.{IsInImage, block_of};
 ghost use Rattle.pm_volume.specs.Words.{written};
+ghost use Rattle.pm_base.specs.declared.blocks.TheConstants.{BLOCK};
 
-use crate::words::set_bytes;
+use pm_base::{BLOCK, set_bytes};
 use std::marker::Model;
-
-pub(crate) const BLOCK: usize = 512;
 
 /// A disk: an image of whole blocks of 512 bytes, seen as the list of its bytes.
 #[derive(Drop)]
@@ -19,21 +18,22 @@ pub struct Disk {
 
 impl Model for Disk {
     ghost use Rattle.std.specs.Prelude.{◌≡◌, ◌%◌, ℕ, List, length};
+    ghost use Rattle.pm_base.specs.declared.blocks.TheConstants.{BLOCK};
 
     ghost Value = { List ℕ };
 
     ghost view = { λ d. d.bytes.items };
 
     ghost invariant = { λ d. record {
-      whole : length d.bytes.items % 512 ≡ 0;
+      whole : length d.bytes.items % BLOCK ≡ 0;
     } };
 }
 
 impl Disk {
     /// The number of blocks of the whole image.
     pub fn blocks(&self) -> usize
-        ensures whole { length self.now % 512 ≡ 0 }
-        ensures count { result ≡ length self.now / 512 }
+        ensures whole { length self.now % BLOCK ≡ 0 }
+        ensures count { result ≡ length self.now / BLOCK }
     {
         self.bytes.len() / BLOCK
     }
@@ -48,7 +48,7 @@ impl Disk {
     /// Block n, 512 bytes; `None` past the image's end.
     pub fn block(&self, n: u16) -> Option<&[u8]>
         ensures bytes { option_map (λ bytes. bytes.now) result ≡ block_of self.now n }
-        ensures size { IfSome result (λ bytes. length bytes.now ≡ 512) }
+        ensures size { IfSome result (λ bytes. length bytes.now ≡ BLOCK) }
     {
         block_in(&self.bytes, n)
     }
@@ -80,7 +80,7 @@ impl Disk {
 #[tactic(auto, unfolding(crate::specs::Disks::block_of))]
 pub(crate) fn block_in(image: &[u8], n: u16) -> Option<&[u8]>
     ensures bytes { option_map (λ bytes. bytes.now) result ≡ block_of image.now n }
-    ensures size { IfSome result (λ bytes. length bytes.now ≡ 512) }
+    ensures size { IfSome result (λ bytes. length bytes.now ≡ BLOCK) }
 {
     let begin = BLOCK * usize::from(n);
     image.get(begin..begin + BLOCK)

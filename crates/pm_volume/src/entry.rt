@@ -4,16 +4,20 @@ ghost use Rattle.std.specs.Prelude.{◌≡◌, ◌≤◌, ◌++◌, drop, length
 ghost use Rattle.std.specs.Str.{str_to_ascii_uppercase};
 ghost use Rattle.pm_volume.specs.Entries.{entry_of, is_sound};
 ghost use Rattle.pm_volume.specs.Names.{characters_of, is_new_name, is_same_name, name_field};
+ghost use Rattle.pm_volume.specs.declared.fields.TheConstants.{LONGEST_NAME, LONGEST_VOLUME_NAME, SLOT};
 
-use crate::words::{set_bytes, set_word, word};
+use crate::fields::{
+    ENTRY_DATE, ENTRY_END, ENTRY_FIRST, ENTRY_KIND, ENTRY_LAST_BYTES, ENTRY_NAME, LONGEST_NAME,
+    SLOT,
+};
+use pm_base::{BLOCK, set_bytes, set_word, word};
 
 /// A file's entry in the directory.
 #[derive(Clone, Copy, Debug, PartialEq, Eq)]
 pub struct Entry {
     /// The name as the directory has it: a length byte, then up to 15 characters.
     pub name: [u8; 16],
-    /// 0 untyped, 1 bad blocks, 2 code, 3 text, 4 info, 5 data, 6 graf, 7 foto, 8 secure
-    /// directory; 9 to 15 have no meaning.
+    /// One of `kinds`; 9 to 15 have no meaning.
     pub kind: u8,
     /// The file's first block.
     pub first: u16,
@@ -21,7 +25,7 @@ pub struct Entry {
     pub end: u16,
     /// How many bytes the last block has: 1 to 512 where the file has blocks.
     pub last_bytes: u16,
-    /// The month in bits 0 to 3, the day in bits 4 to 8, the year in bits 9 to 15.
+    /// Its date; `Date::of` takes it apart.
     pub date: u16,
 }
 
@@ -31,18 +35,18 @@ impl Entry {
     // The entry that the 26 bytes of a directory's slot hold.
     #[tactic(auto, unfolding(crate::specs::Entries::entry_of))]
     pub(crate) fn read(slot: &[u8]) -> Entry
-        requires size { length slot.now ≡ 26 }
+        requires size { length slot.now ≡ SLOT }
         ensures entry { result ≡ entry_of slot.now }
     {
         let mut name = [0; 16];
-        name.copy_from_slice(&slot[6..22]);
+        name.copy_from_slice(&slot[ENTRY_NAME..ENTRY_LAST_BYTES]);
         Entry {
             name,
-            kind: (word(slot, 4) % 16) as u8,
-            first: word(slot, 0),
-            end: word(slot, 2),
-            last_bytes: word(slot, 22),
-            date: word(slot, 24),
+            kind: (word(slot, ENTRY_KIND) % 16) as u8,
+            first: word(slot, ENTRY_FIRST),
+            end: word(slot, ENTRY_END),
+            last_bytes: word(slot, ENTRY_LAST_BYTES),
+            date: word(slot, ENTRY_DATE),
         }
     }
 
@@ -50,15 +54,15 @@ impl Entry {
     #[tactic(auto, unfolding(crate::specs::Changes::slot_of))]
     pub(crate) fn slot(&self) -> [u8; 26]
         ensures fields { result ≡ slot_of self.now }
-        ensures size { length result ≡ 26 }
+        ensures size { length result ≡ SLOT }
     {
-        let mut slot = [0; 26];
-        set_word(&mut slot, 0, self.first);
-        set_word(&mut slot, 2, self.end);
-        set_word(&mut slot, 4, u16::from(self.kind));
-        set_bytes(&mut slot, 6, &self.name);
-        set_word(&mut slot, 22, self.last_bytes);
-        set_word(&mut slot, 24, self.date);
+        let mut slot = [0; SLOT];
+        set_word(&mut slot, ENTRY_FIRST, self.first);
+        set_word(&mut slot, ENTRY_END, self.end);
+        set_word(&mut slot, ENTRY_KIND, u16::from(self.kind));
+        set_bytes(&mut slot, ENTRY_NAME, &self.name);
+        set_word(&mut slot, ENTRY_LAST_BYTES, self.last_bytes);
+        set_word(&mut slot, ENTRY_DATE, self.date);
         slot
     }
 
@@ -78,7 +82,7 @@ impl Entry {
     pub fn characters(&self) -> &[u8]
         ensures characters { result.now ≡ characters_of self.now.name }
     {
-        let length = usize::from(self.name[0]).min(15);
+        let length = usize::from(self.name[0]).min(LONGEST_NAME);
         &self.name[1..1 + length]
     }
 
@@ -115,8 +119,8 @@ pub(crate) fn is_new_name(most: usize, name: &[u8]) -> bool
 // A new name in its field, raised.
 #[tactic(auto, unfolding(crate::specs::Names::name_field))]
 pub(crate) fn name_field(name: &[u8]) -> [u8; 16]
-    requires short { length name.now ≤ 15 }
-    ensures field { result ≡ name_field 15 name.now }
+    requires short { length name.now ≤ LONGEST_NAME }
+    ensures field { result ≡ name_field LONGEST_NAME name.now }
 {
     let mut field = [0; 16];
     field[0] = name.len() as u8;
@@ -127,8 +131,8 @@ pub(crate) fn name_field(name: &[u8]) -> [u8; 16]
 // A new name of a volume in its field, raised.
 #[tactic(auto, unfolding(crate::specs::Names::name_field))]
 pub(crate) fn volume_name_field(name: &[u8]) -> [u8; 8]
-    requires short { length name.now ≤ 7 }
-    ensures field { result ≡ name_field 7 name.now }
+    requires short { length name.now ≤ LONGEST_VOLUME_NAME }
+    ensures field { result ≡ name_field LONGEST_VOLUME_NAME name.now }
 {
     let mut field = [0; 8];
     field[0] = name.len() as u8;

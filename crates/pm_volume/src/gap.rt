@@ -2,9 +2,11 @@
 
 ghost use Rattle.std.specs.Prelude.{◌≡◌, ◌+◌, ◌≤◌, length};
 ghost use Rattle.pm_volume.specs.Directory.{file_count};
+ghost use Rattle.pm_volume.specs.declared.fields.TheConstants.{DIRECTORY_SIZE, MOST_FILES};
 
 use crate::directory::entry_at;
-use crate::words::word;
+use crate::fields::{HEADER_BLOCKS, HEADER_FILES, HEADER_FILES_BEGIN};
+use pm_base::word;
 
 /// Free blocks, and the slot that a file in them gets.
 #[derive(Clone, Copy)]
@@ -30,12 +32,12 @@ impl Gap {
     // The lowest gap for a file of so many blocks.
     #[tactic(auto, using(crate::proofs::GapLaws::gap_steps))]
     pub(crate) fn lowest(directory: &[u8], need: usize) -> Option<Gap>
-        requires whole { length directory.now ≡ 2048 }
-        requires few { file_count directory.now ≤ 77 }
+        requires whole { length directory.now ≡ DIRECTORY_SIZE }
+        requires few { file_count directory.now ≤ MOST_FILES }
         ensures lowest { result ≡ gap_for directory.now need }
     {
-        let count = word(directory, 16);
-        let mut from = word(directory, 2);
+        let count = word(directory, HEADER_FILES);
+        let mut from = word(directory, HEADER_FILES_BEGIN);
         for n in 1..count + 1 {
             let entry = entry_at(directory, n);
             let gap = Gap {
@@ -51,7 +53,7 @@ impl Gap {
         let last = Gap {
             place: count + 1,
             begin: from,
-            end: word(directory, 14),
+            end: word(directory, HEADER_BLOCKS),
         };
         if last.serves(need, count) {
             return Some(last);

@@ -3,18 +3,21 @@
 
 mod changes;
 mod copies;
+mod date;
 mod directory;
 mod disk;
 mod entry;
 mod fault;
+pub mod fields;
 mod gap;
+pub mod kinds;
 mod packing;
 mod slots;
 mod space;
 mod volume;
-mod words;
 
 pub use copies::Copies;
+pub use date::Date;
 pub use directory::Entries;
 pub use disk::Disk;
 pub use entry::Entry;

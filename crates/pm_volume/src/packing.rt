@@ -5,14 +5,16 @@ ghost use Rattle.pm_volume.specs.Changes.{with_directory};
 ghost use Rattle.pm_volume.specs.Directory.{IsVolume, block_count, directory_of, entry_in, file_count, files_begin};
 ghost use Rattle.pm_volume.specs.Packing.{new_place, packed_image, with_moved, with_places};
 ghost use Rattle.pm_volume.specs.Words.{with_word, written};
+ghost use Rattle.pm_volume.specs.declared.fields.TheConstants.{DIRECTORY_END, MOST_FILES, PAST_DIRECTORY};
+ghost use Rattle.pm_base.specs.declared.blocks.TheConstants.{BLOCK};
 
-use crate::directory::{DIRECTORY, DIRECTORY_END, SLOT, entry_at};
-use crate::disk::BLOCK;
+use crate::directory::entry_at;
 use crate::entry::Entry;
-use crate::words::{set_word, word};
-
-// The kind of a file of bad blocks, which stays where it is.
-const BAD_BLOCKS: u8 = 1;
+use crate::fields::{
+    DIRECTORY, DIRECTORY_END, ENTRY_END, HEADER_BLOCKS, HEADER_FILES, HEADER_FILES_BEGIN, SLOT,
+};
+use crate::kinds::BAD_BLOCKS;
+use pm_base::{BLOCK, set_word, word};
 
 // Moves each file to the end of the one before.
 pub(crate) fn pack_files(image: &mut Vec<u8>)
@@ -22,9 +24,9 @@ pub(crate) fn pack_files(image: &mut Vec<u8>)
     ensures blocks { block_count (directory_of image.old.items) < 65536 }
 {
     let directory = &image[DIRECTORY..DIRECTORY_END];
-    let _blocks = word(directory, 14); // for the second clause
-    let count = word(directory, 16);
-    let mut from = word(directory, 2);
+    let _blocks = word(directory, HEADER_BLOCKS); // for the second clause
+    let count = word(directory, HEADER_FILES);
+    let mut from = word(directory, HEADER_FILES_BEGIN);
     for n in 1..count + 1 {
         from = pack_file(image, n, from);
     }
@@ -33,12 +35,12 @@ pub(crate) fn pack_files(image: &mut Vec<u8>)
 // Moves the file in a slot to a block, where the one before it ends; bad blocks stay. Returns where
 // the file ends now.
 fn pack_file(image: &mut Vec<u8>, n: u16, from: u16) -> u16
-    requires whole { 3072 ≤ length image.old.items }
-    requires slot { n ≤ 77 }
-    requires past { 6 ≤ from }
+    requires whole { DIRECTORY_END ≤ length image.old.items }
+    requires slot { n ≤ MOST_FILES }
+    requires past { PAST_DIRECTORY ≤ from }
     requires after { from ≤ (entry_in (directory_of image.old.items) n).first }
     requires ordered { (entry_in (directory_of image.old.items) n).first ≤ (entry_in (directory_of image.old.items) n).end }
-    requires within { 512 * (entry_in (directory_of image.old.items) n).end ≤ length image.old.items }
+    requires within { BLOCK * (entry_in (directory_of image.old.items) n).end ≤ length image.old.items }
     ensures moved { image.new.items ≡ with_moved image.old.items n (entry_in (directory_of image.old.items) n)
         (new_place from (entry_in (directory_of image.old.items) n)) }
     ensures end { result ≡ new_place from (entry_in (directory_of image.old.items) n)
@@ -80,12 +82,12 @@ fn move_part(bytes: &mut Vec<u8>, begin: usize, end: usize, to: usize)
 
 // Writes the block numbers of the file in a slot.
 fn place_file(image: &mut [u8], n: u16, first: u16, end: u16)
-    requires whole { 3072 ≤ length image.old }
-    requires slot { n ≤ 77 }
+    requires whole { DIRECTORY_END ≤ length image.old }
+    requires slot { n ≤ MOST_FILES }
     ensures placed { image.new ≡ with_directory image.old (with_places (directory_of image.old) n first end) }
 {
     let directory = &mut image[DIRECTORY..DIRECTORY_END];
     let place = SLOT * usize::from(n);
     set_word(directory, place, first);
-    set_word(directory, place + 2, end);
+    set_word(directory, place + ENTRY_END, end);
 }

@@ -3,39 +3,40 @@
 ghost use Rattle.std.specs.Prelude.{◌≡◌, ◌+◌, ◌-◌, ◌++◌, ◌<◌, ◌≤◌, drop, length, replicate, take};
 ghost use Rattle.pm_volume.specs.Changes.{with_slot, without_slot};
 ghost use Rattle.pm_volume.specs.Directory.{file_count};
+ghost use Rattle.pm_volume.specs.declared.fields.TheConstants.{DIRECTORY_SIZE, MOST_FILES, SLOT};
 
-use crate::directory::SLOT;
-use crate::words::{set_word, word};
+use crate::fields::{HEADER_FILES, SLOT};
+use pm_base::{set_word, word};
 
 // Puts a slot in at n, and moves those behind it up.
 pub(crate) fn insert_slot(directory: &mut [u8], n: u16, slot: &[u8])
-    requires whole { length directory.old ≡ 2048 }
-    requires size { length slot.now ≡ 26 }
-    requires free { file_count directory.old < 77 }
+    requires whole { length directory.old ≡ DIRECTORY_SIZE }
+    requires size { length slot.now ≡ SLOT }
+    requires free { file_count directory.old < MOST_FILES }
     requires from { 1 ≤ n }
     requires to { n ≤ file_count directory.old + 1 }
     ensures inserted { directory.new ≡ with_slot directory.old n slot.now }
 {
-    let count = word(directory, 16);
+    let count = word(directory, HEADER_FILES);
     let begin = SLOT * usize::from(n);
     let end = SLOT * (usize::from(count) + 2);
     push_front(&mut directory[begin..end], slot);
-    set_word(directory, 16, count + 1);
+    set_word(directory, HEADER_FILES, count + 1);
 }
 
 // Takes slot n out, and moves those behind it down.
 pub(crate) fn remove_slot(directory: &mut [u8], n: u16)
-    requires whole { length directory.old ≡ 2048 }
-    requires few { file_count directory.old ≤ 77 }
+    requires whole { length directory.old ≡ DIRECTORY_SIZE }
+    requires few { file_count directory.old ≤ MOST_FILES }
     requires from { 1 ≤ n }
     requires to { n ≤ file_count directory.old }
     ensures removed { directory.new ≡ without_slot directory.old n }
 {
-    let count = word(directory, 16);
+    let count = word(directory, HEADER_FILES);
     let begin = SLOT * usize::from(n);
     let end = SLOT * (usize::from(count) + 1);
     pop_front(&mut directory[begin..end], SLOT);
-    set_word(directory, 16, count - 1);
+    set_word(directory, HEADER_FILES, count - 1);
 }
 
 // Moves all up by the bytes of a slot and puts it in front; the last ones fall off.

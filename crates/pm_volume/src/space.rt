@@ -2,9 +2,11 @@
 ghost use Rattle.std.specs.Prelude.{◌≡◌, ◌≤◌, ◌+◌, max, length};
 ghost use Rattle.pm_volume.specs.Directory.{file_count};
 ghost use Rattle.pm_volume.specs.Space.{free_in, largest_in};
+ghost use Rattle.pm_volume.specs.declared.fields.TheConstants.{DIRECTORY_SIZE, MOST_FILES};
 
 use crate::directory::entry_at;
-use crate::words::word;
+use crate::fields::{HEADER_BLOCKS, HEADER_FILES, HEADER_FILES_BEGIN};
+use pm_base::word;
 
 /// The free space of a volume.
 #[derive(Clone, Copy, Debug, PartialEq, Eq)]
@@ -32,8 +34,8 @@ impl Space {
 // The gaps of a directory, in blocks.
 #[tactic(auto, using(crate::proofs::SpaceLaws::space_steps))]
 pub(crate) fn space_of(directory: &[u8]) -> Space
-    requires whole { length directory.now ≡ 2048 }
-    requires few { file_count directory.now ≤ 77 }
+    requires whole { length directory.now ≡ DIRECTORY_SIZE }
+    requires few { file_count directory.now ≤ MOST_FILES }
     ensures free { result.free ≡ free_in directory.now }
     ensures largest { result.largest ≡ largest_in directory.now }
 {
@@ -41,11 +43,11 @@ pub(crate) fn space_of(directory: &[u8]) -> Space
         free: 0,
         largest: 0,
     };
-    let mut from = word(directory, 2);
-    for n in 1..word(directory, 16) + 1 {
+    let mut from = word(directory, HEADER_FILES_BEGIN);
+    for n in 1..word(directory, HEADER_FILES) + 1 {
         let entry = entry_at(directory, n);
         space = space.with(entry.first.saturating_sub(from));
         from = entry.end;
     }
-    space.with(word(directory, 14).saturating_sub(from))
+    space.with(word(directory, HEADER_BLOCKS).saturating_sub(from))
 }

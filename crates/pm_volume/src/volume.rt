@@ -3,24 +3,27 @@
 ghost use Rattle.std.specs.Prelude.{◌≡◌, ◌≢◌, ◌↔◌, ◌+◌, ◌≤◌, [], ◌∷◌, length, slice_index, slice_range, unwrap_or, Err, None, Ok, Some, IfErr, IfOk, IfSome, IsOk, IsTrue, OnOk, OnErr, true, false, ℕ};
 ghost use Rattle.pm_volume.specs.Changes.{blocks_for};
 ghost use Rattle.pm_volume.specs.Directory.{directory_of, file_count, image_fault};
+ghost use Rattle.pm_volume.specs.declared.fields.TheConstants.{DIRECTORY_SIZE, HEADER_DATE, HEADER_NAME, LONGEST_NAME, LONGEST_VOLUME_NAME, MOST_FILES};
+ghost use Rattle.pm_base.specs.declared.blocks.TheConstants.{BLOCK};
 
 use crate::changes::{
-    add_second, blocks_for, date_volume, drop_second, name_file, new_entry, put_file,
-    renew_directory, take_file,
+    add_second, date_volume, drop_second, name_file, new_entry, put_file, renew_directory,
+    take_file,
 };
-use crate::copies::{
-    Copies, PAST_SECOND, SECOND, SECOND_END, are_same, has_second, is_second_good, mirror, restore,
-};
-use crate::directory::{
-    DIRECTORY, DIRECTORY_END, Entries, MOST_FILES, fault_of_directory, is_named_beside, slot_named,
-};
-use crate::disk::{BLOCK, Disk, block_in};
+use crate::copies::{Copies, are_same, has_second, is_second_good, mirror, restore};
+use crate::directory::{Entries, fault_of_directory, is_named_beside, slot_named};
+use crate::disk::{Disk, block_in};
 use crate::entry::{Entry, is_new_name};
 use crate::fault::VolumeFault;
+use crate::fields::{
+    DIRECTORY, DIRECTORY_END, HEADER_BLOCKS, HEADER_DATE, HEADER_FILES, HEADER_FILES_BEGIN,
+    HEADER_NAME, LONGEST_NAME, LONGEST_VOLUME_NAME, MOST_FILES, PAST_DIRECTORY, PAST_SECOND,
+    SECOND, SECOND_END,
+};
 use crate::gap::Gap;
 use crate::packing::pack_files;
 use crate::space::{Space, space_of};
-use crate::words::word;
+use pm_base::{BLOCK, blocks_for, word};
 use std::alloc::Global;
 use std::marker::Model;
 
@@ -110,16 +113,16 @@ impl Volume {
         ensures sound { OnOk result (blank_fault name.now blocks ≡ None) }
         ensures refused { IfErr result (λ fault. fault ≡ unwrap_or (blank_fault name.now blocks) VolumeFault.NoMemory) }
     {
-        if !is_new_name(7, name.as_bytes()) {
+        if !is_new_name(LONGEST_VOLUME_NAME, name.as_bytes()) {
             return Err(VolumeFault::BadName);
         }
-        if blocks < 6 {
+        if blocks < PAST_DIRECTORY {
             return Err(VolumeFault::BadHeader);
         }
         let Ok(mut bytes) = vec![in alloc; 0; BLOCK * usize::from(blocks)] else {
             return Err(VolumeFault::NoMemory);
         };
-        renew_directory(&mut bytes, 6, name.as_bytes(), blocks, 0);
+        renew_directory(&mut bytes, PAST_DIRECTORY, name.as_bytes(), blocks, 0);
         Ok(Volume { bytes })
     }
 
@@ -134,24 +137,25 @@ impl Volume {
 
     /// The volume's name.
     pub fn name(&self) -> &[u8]
-        ensures characters { result.now ≡ slice_range (directory_of self.now) 7 (7 + slice_index (directory_of self.now) 6) }
+        ensures characters { result.now ≡ slice_range (directory_of self.now) (HEADER_NAME + 1) (HEADER_NAME + 1 + slice_index (directory_of self.now) HEADER_NAME) }
     {
         let directory = self.directory();
-        &directory[7..7 + usize::from(directory[6])]
+        let begin = HEADER_NAME + 1;
+        &directory[begin..begin + usize::from(directory[HEADER_NAME])]
     }
 
     /// The number of blocks.
     pub fn blocks(&self) -> u16
         ensures count { result ≡ block_count (directory_of self.now) }
     {
-        word(self.directory(), 14)
+        word(self.directory(), HEADER_BLOCKS)
     }
 
     /// The date that the volume was last set to.
     pub fn last_date(&self) -> u16
-        ensures date { result ≡ word_in (directory_of self.now) 20 }
+        ensures date { result ≡ word_in (directory_of self.now) HEADER_DATE }
     {
-        word(self.directory(), 20)
+        word(self.directory(), HEADER_DATE)
     }
 
     /// Whether the volume has a second copy of its directory, and whether that has the same bytes.
@@ -181,7 +185,7 @@ impl Volume {
     /// The files in block order.
     pub fn entries(&self) -> Entries<'_>
         ensures files { result ≡ files_of self.now }
-        ensures few { length result ≤ 77 }
+        ensures few { length result ≤ MOST_FILES }
     {
         Entries::new(self.directory())
     }
@@ -210,7 +214,7 @@ impl Volume {
     /// Block n of the image, 512 bytes; `None` past the image's end.
     pub fn block(&self, n: u16) -> Option<&[u8]>
         ensures bytes { option_map (λ bytes. bytes.now) result ≡ block_of self.now n }
-        ensures size { IfSome result (λ bytes. length bytes.now ≡ 512) }
+        ensures size { IfSome result (λ bytes. length bytes.now ≡ BLOCK) }
     {
         block_in(&self.bytes, n)
     }
@@ -312,9 +316,9 @@ impl Volume {
     /// that the volume had. All blocks past the directory keep their bytes. `BadName` for a text
     /// that is no name of 1 to 7 characters.
     pub fn zero(&mut self, name: &str) -> Result<(), VolumeFault>
-        ensures accepted { IsOk result ↔ IsTrue (is_new_name 7 name.now) }
-        ensures good { OnOk result (is_new_name 7 name.now ≡ true) }
-        ensures bad { OnErr result (is_new_name 7 name.now ≡ false) }
+        ensures accepted { IsOk result ↔ IsTrue (is_new_name LONGEST_VOLUME_NAME name.now) }
+        ensures good { OnOk result (is_new_name LONGEST_VOLUME_NAME name.now ≡ true) }
+        ensures bad { OnErr result (is_new_name LONGEST_VOLUME_NAME name.now ≡ false) }
         ensures zeroed { OnOk result (self.new ≡ zeroed_image self.old name.now) }
         ensures empty { OnOk result (files_of self.new ≡ []) }
         ensures volume { IsVolume self.new }
@@ -324,13 +328,13 @@ impl Volume {
         ensures unchanged { OnErr result (self.new ≡ self.old) }
     {
         let _ = &self.bytes;
-        if !is_new_name(7, name.as_bytes()) {
+        if !is_new_name(LONGEST_VOLUME_NAME, name.as_bytes()) {
             return Err(VolumeFault::BadName);
         }
         let directory = self.directory();
-        let past = word(directory, 2);
-        let blocks = word(directory, 14);
-        let date = word(directory, 20);
+        let past = word(directory, HEADER_FILES_BEGIN);
+        let blocks = word(directory, HEADER_BLOCKS);
+        let date = word(directory, HEADER_DATE);
         renew_directory(&mut self.bytes, past, name.as_bytes(), blocks, date);
         Ok(())
     }
@@ -396,14 +400,14 @@ impl Volume {
         ensures placed { result ≡ place_for self.now name.now need }
     {
         let _ = &self.bytes;
-        if !is_new_name(15, name.as_bytes()) {
+        if !is_new_name(LONGEST_NAME, name.as_bytes()) {
             return Err(VolumeFault::BadName);
         }
         if self.find(name).is_some() {
             return Err(VolumeFault::Duplicate);
         }
         let directory = self.directory();
-        if word(directory, 16) >= MOST_FILES {
+        if word(directory, HEADER_FILES) >= MOST_FILES {
             return Err(VolumeFault::DirectoryFull);
         }
         Gap::lowest(directory, need).ok_or(VolumeFault::NoRoom)
@@ -415,13 +419,13 @@ impl Volume {
         ensures volume { IsVolume self.now }
         ensures found { result ≡ slot_to_rename (directory_of self.now) old.now new.now }
         ensures within { IfOk result (λ slot. (1 ≤ slot) × (slot ≤ file_count (directory_of self.now))) }
-        ensures named { OnOk result ((1 ≤ length new.now) × (length new.now ≤ 15)) }
+        ensures named { OnOk result ((1 ≤ length new.now) × (length new.now ≤ LONGEST_NAME)) }
     {
         let directory = self.directory();
         let Some(slot) = slot_named(directory, old) else {
             return Err(VolumeFault::NoFile);
         };
-        if !is_new_name(15, new.as_bytes()) {
+        if !is_new_name(LONGEST_NAME, new.as_bytes()) {
             return Err(VolumeFault::BadName);
         }
         if is_named_beside(directory, slot, new) {
@@ -434,7 +438,7 @@ impl Volume {
     fn directory(&self) -> &[u8]
         ensures volume { IsVolume self.now }
         ensures bytes { result.now ≡ directory_of self.now }
-        ensures size { length result.now ≡ 2048 }
+        ensures size { length result.now ≡ DIRECTORY_SIZE }
     {
         &self.bytes[DIRECTORY..DIRECTORY_END]
     }

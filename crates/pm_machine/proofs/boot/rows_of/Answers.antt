@@ -1,4 +1,4 @@
-use Rattle.pm_machine.specs.declared.state.SlotRow.{SlotRow}
+use Rattle.pm_stdproc.specs.declared.loads.SlotRow.{SlotRow}
 use Rattle.std.proofs.Common.{◌≡◌, ◌%◌, length, refl, sym, ◌∙◌, arith, add-one, take_all}
 use Rattle.std.proofs.lemmas.List.{length-set, take_more_set}
 use Rattle.std.proofs.lemmas.List.Elements.{All-push}

@@ -1,9 +1,8 @@
 use Rattle.std.proofs.Common.{◌≡◌, ◌∙◌, ap, true, length, ℕ, List, ◌≤◌, rules, tests, arith, length-take, length-drop, drop, slice_range}
 use borrow.Rule.Slice.PartMut.{put_mid}
 use Rattle.pm_volume.specs.Copies.{has_second}
-use Rattle.pm_volume.specs.Headers.{zeros}
 use Rattle.pm_volume.specs.Made.{singled}
-use Rattle.pm_volume.specs.Words.{written}
+use Rattle.pm_volume.specs.Words.{written, zeros}
 use Rattle.pm_volume.proofs.HeaderLaws.{length-zeros}
 use Rattle.pm_volume.proofs.SlotLaws.{listed_second}
 use Rattle.pm_volume.proofs.changes.drop_second.Goals as goal

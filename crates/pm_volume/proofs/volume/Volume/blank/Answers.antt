@@ -1,6 +1,7 @@
 use Rattle.std.proofs.Common.{◌≡◌, ◌≤◌, ◌∙◌, ap, ◌++◌, ◌*◌, take, drop, length, true, rules, tests, arith}
 use Rattle.pm_volume.specs.Directory.{directory_of, files_begin}
-use Rattle.pm_volume.specs.Headers.{blank_image, zeros}
+use Rattle.pm_volume.specs.Headers.{blank_image}
+use Rattle.pm_volume.specs.Words.{zeros}
 use Rattle.pm_volume.specs.Names.{is_new_name}
 use Rattle.pm_volume.proofs.CopyLaws.{mirrored-six}
 use Rattle.pm_volume.proofs.HeaderLaws.{IsVolume-blank, begins-blank, files-blank, length-zeros}

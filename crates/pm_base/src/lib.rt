@@ -1,0 +1,8 @@
+//! Words and blocks: how bytes of disks, volumes and code files are read and written.
+#![tactic(auto)]
+
+mod blocks;
+mod words;
+
+pub use blocks::{BLOCK, blocks_for};
+pub use words::{clear, clear_all, set_bytes, set_word, word};

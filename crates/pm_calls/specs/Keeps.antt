@@ -1,0 +1,65 @@
+-- Segments that the program keeps. A segment that is kept stands where it is, whatever calls of it return.
+use Rattle.std.specs.Prelude.{ℕ, ◌+◌, ◌-◌, ◌&&◌, ◌||◌, List, Option, Some, None, is_none, Result, Ok, Err, if◌then◌else◌, ◌==◌, nat_lt, nat_le, slice_get, slice_set, length}
+use Rattle.pm_words.specs.declared.error.ExecError.{ExecError}
+use Rattle.pm_words.specs.declared.error.ExecError.TheVariants.{NoSegment, StackOverflow}
+use Rattle.pm_words.specs.Words.{with_bytes}
+use Rattle.pm_words.specs.Stack.{◌>>=◌, demand, minus}
+use Rattle.pm_calls.specs.declared.frames.Place.{Place}
+use Rattle.pm_calls.specs.Places.{Parts}
+
+-- ---- one keep more
+
+-- a segment that stands already has one keep more, up to 65,535
+unfoldable pub keep_standing : Parts → ℕ → Place → Result Parts ExecError
+keep_standing c n p = do
+  _ ← demand (nat_lt p.keeps 65535) StackOverflow
+  Ok (record c { places = slice_set c.places n (Some (record p { keeps = p.keeps + 1 })) })
+
+-- a segment that stands nowhere is loaded: its code ends at SP, its highest word is the word below, and SP goes below
+-- the code
+unfoldable pub keep_loading : Parts → ℕ → List ℕ → Result Parts ExecError
+keep_loading c n code = do
+  let sp = c.registers.sp
+  _ ← demand (nat_lt 0 (length code)) NoSegment
+  _ ← demand (nat_le (c.registers.np + length code) sp) StackOverflow
+  Ok (record {
+    memory = with_bytes c.memory (sp - length code) code;
+    registers = record c.registers { sp = sp - length code };
+    places = slice_set c.places n (Some (record { place = minus sp 2; count = 0; keeps = 1 }));
+  })
+
+-- the segment of slot n, which may have a place; without one its code is needed
+abbrev pub keep_slot : Parts → ℕ → Option (List ℕ) → Option (Option Place) → Result Parts ExecError
+keep_slot c n code None = Err NoSegment
+keep_slot c n code (Some (Some p)) = keep_standing c n p
+keep_slot c n None (Some None) = Err NoSegment
+keep_slot c n (Some code) (Some None) = keep_loading c n code
+
+unfoldable pub segment_kept : Parts → ℕ → Option (List ℕ) → Result Parts ExecError
+segment_kept c n code = keep_slot c n code (slice_get c.places n)
+
+-- ---- one keep less
+
+-- a slot with one keep less, or with no place after the last, if no call of its segment runs
+abbrev pub less_kept : Place → Option Place
+less_kept p = if nat_lt 1 p.keeps || nat_lt 0 p.count then Some (record p { keeps = p.keeps - 1 }) else None
+
+-- SP after a segment of so many bytes, which stood at a place, is forgotten: it goes above the code that it stands on
+abbrev pub above_code : ℕ → ℕ → ℕ → ℕ
+above_code sp place size = if sp + size == place + 2 then place + 2 else sp
+
+unfoldable pub unkeep_standing : Parts → ℕ → ℕ → Place → Result Parts ExecError
+unkeep_standing c n size p = do
+  _ ← demand (nat_lt 0 p.keeps) NoSegment
+  let sp = if is_none (less_kept p) then above_code c.registers.sp p.place size else c.registers.sp
+  Ok (record c { registers = record c.registers { sp = sp }; places = slice_set c.places n (less_kept p) })
+
+abbrev pub unkeep_slot : Parts → ℕ → ℕ → Option (Option Place) → Result Parts ExecError
+unkeep_slot c n size None = Err NoSegment
+unkeep_slot c n size (Some None) = Err NoSegment
+unkeep_slot c n size (Some (Some p)) = unkeep_standing c n size p
+
+-- The segment of slot n, of so many bytes, is kept once less. Where no keep and no call is left its place is forgotten,
+-- and its code is taken off the stack if it is on top.
+unfoldable pub segment_unkept : Parts → ℕ → ℕ → Result Parts ExecError
+segment_unkept c n size = unkeep_slot c n size (slice_get c.places n)

@@ -1,0 +1,93 @@
+//! What is read at each offset of a segment.
+
+ghost use Rattle.std.specs.Prelude.{◌≡◌, ◌<◌, ◌≤◌, ◌+◌, true, drop, length, option_map, IfOk, IfSome};
+ghost use Rattle.pm_disasm.specs.Offsets.{AreFronts, HasCounts, IsDecoded, TellFronts, front_count};
+ghost use Rattle.pm_disasm.specs.Split.{front};
+ghost use Rattle.pm_disasm.specs.Views.{front_seen, has};
+
+use crate::front::{Front, front_at};
+use crate::places::PlaceSet;
+use crate::written::entries_used;
+use std::alloc::{AllocError, Global};
+
+/// A segment as it is decoded.
+#[derive(Drop)]
+pub(crate) struct Decoded<'a> {
+    /// What is read at each offset, be there code or not.
+    pub fronts: Vec<Option<Front<'a>>>,
+    /// The counts of jump entries that this takes, and 0: no other count fits a procedure.
+    pub counts: PlaceSet,
+}
+
+/// What is read at each offset of a segment.
+fn fronts_of(alloc: Global, segment: &[u8]) -> Result<Vec<Option<Front<'_>>>, AllocError>
+    requires short { length segment.now ≤ 65534 }
+    ensures fronts { IfOk result (λ fronts. AreFronts fronts.items segment.now) }
+{
+    let mut fronts = Vec::with_capacity(alloc, segment.len())?;
+    for at in 0..segment.len() {
+        fronts.push(front_at(segment, at))?;
+    }
+    Ok(fronts)
+}
+
+/// How many entries a jump table has to have for what is read at an offset.
+fn front_count(front: Option<Front<'_>>) -> usize
+    ensures count { result ≡ front_count (option_map front_seen front.entry) }
+{
+    match front {
+        Some(
+            Front {
+                item: Some(item),
+                ..
+            },
+        ) => entries_used(item),
+        _ => 0,
+    }
+}
+
+/// The counts up to 60 that are taken by what is read at each offset, and 0.
+fn counts_of(alloc: Global, fronts: &[Option<Front<'_>>]) -> Result<PlaceSet, AllocError>
+    ensures counts { IfOk result (λ counts. HasCounts counts fronts.now (length fronts.now)) }
+    ensures none { IfOk result (λ counts. has counts 0 ≡ true) }
+{
+    let mut counts = PlaceSet::new(alloc, 0, 60)?;
+    counts.add(0);
+    for front in fronts {
+        let count = front_count(*front);
+        if count <= 60 {
+            counts.add(count);
+        }
+    }
+    Ok(counts)
+}
+
+/// What is read at each offset of a segment, and the counts of entries that this takes.
+pub(crate) fn decode_segment(alloc: Global, segment: &[u8]) -> Result<Decoded<'_>, AllocError>
+    requires short { length segment.now ≤ 65534 }
+    ensures decoded { IfOk result (λ decoded. IsDecoded decoded segment.now) }
+{
+    let fronts = fronts_of(alloc, segment)?;
+    let counts = counts_of(alloc, &fronts)?;
+    Ok(Decoded { fronts, counts })
+}
+
+/// The instruction at a place of code that ends with these bytes, if one stands there, by what was read at each offset.
+pub(crate) fn front_in<'a>(
+    bytes: &[u8],
+    fronts: &[Option<Front<'a>>],
+    at: usize,
+) -> Option<Front<'a>>
+    requires fronts { TellFronts fronts.now bytes.now }
+    requires inside { at < length bytes.now }
+    ensures front { option_map front_seen result ≡ front at (drop at bytes.now) }
+    ensures within { IfSome result (λ f. (0 < f.size) × (at + f.size ≤ length bytes.now)) }
+{
+    let Some(front) = fronts[at] else {
+        return None;
+    };
+    if front.size > bytes.len() - at {
+        return None;
+    }
+    Some(front)
+}

@@ -1,0 +1,124 @@
+//! The most that a job takes, and a program with all of its devices.
+use crate::broken::image;
+use crate::jobs::job_run;
+use pm_tool::{Job, Reader, Writer, run};
+use pm_volume::Volume;
+use std::alloc::Global;
+use std::io;
+use std::io::Read;
+use std::process::Abort;
+use std::test::Fail;
+
+/// So many blanks.
+#[derive(Drop)]
+struct Blanks {
+    left: usize,
+}
+
+impl Read for Blanks {
+    fn read(&mut self, buf: &mut [u8]) -> io::Result<usize> {
+        let count = buf.len().min(self.left);
+        buf[..count].fill(b' ');
+        self.left -= count;
+        Ok(count)
+    }
+}
+
+/// Bare code whose text is so many blanks, and which is not run.
+fn reads_blanks(rt: &impl Abort, alloc: Global, count: usize, told: (u8, &str, &str)) {
+    let (status, message, text) = told;
+    let mut written = Vec::new(alloc);
+    let mut source = Reader::new(Blanks { left: count });
+    let mut sink = Writer::new(&mut written);
+    let outcome = run(alloc, &mut source, &mut sink, Job::Raw { limit: 0 });
+    assert_eq!(rt; outcome.status, status);
+    assert_eq!(rt; outcome.message.as_str(), message);
+    assert_eq!(rt; written.as_slice(), text.as_bytes());
+}
+
+/// 16,777,216 bytes are the most, and one more is a read fault.
+#[test]
+fn input(rt: HostRuntime) {
+    reads_blanks(&rt, rt.alloc(), 16_777_216, (6, "", "limit 0\n"));
+    reads_blanks(&rt, rt.alloc(), 16_777_217, (4, "read fault", ""));
+}
+
+/// Reads the names of the volumes on the units 5, 9, 10, 11 and 12 and shows two letters of each; then writes OK on the
+/// printer, and on block 82 of unit 4.
+const PROGRAM: [u8; 138] = [
+    0x05, 0xC7, 0xD0, 0x07, 0x00, 0x0E, 0x02, 0x00, 0x9E, 0x05, // shown
+    0x01, 0xC7, 0xD0, 0x07, 0x07, 0x02, 0x00, 0x00, 0x9E, 0x06, // unit 9
+    0x09, 0xC7, 0xD0, 0x07, 0x00, 0x0E, 0x02, 0x00, 0x9E, 0x05, // shown
+    0x01, 0xC7, 0xD0, 0x07, 0x07, 0x02, 0x00, 0x00, 0x9E, 0x06, // unit 10
+    0x0A, 0xC7, 0xD0, 0x07, 0x00, 0x0E, 0x02, 0x00, 0x9E, 0x05, // shown
+    0x01, 0xC7, 0xD0, 0x07, 0x07, 0x02, 0x00, 0x00, 0x9E, 0x06, // unit 11
+    0x0B, 0xC7, 0xD0, 0x07, 0x00, 0x0E, 0x02, 0x00, 0x9E, 0x05, // shown
+    0x01, 0xC7, 0xD0, 0x07, 0x07, 0x02, 0x00, 0x00, 0x9E, 0x06, // unit 12
+    0x0C, 0xC7, 0xD0, 0x07, 0x00, 0x0E, 0x02, 0x00, 0x9E, 0x05, // shown
+    0x01, 0xC7, 0xD0, 0x07, 0x07, 0x02, 0x00, 0x00, 0x9E, 0x06, // the printer
+    0x06, 0xD0, 0x02, 0x4F, 0x4B, 0x00, 0x02, 0x00, 0x00, 0x9E, 0x06, // the disk
+    0x04, 0xD0, 0x02, 0x4F, 0x4B, 0x00, 0x02, 0x52, 0x00, 0x9E, 0x06, // the end
+    0xC1, 0x00, 0x00, 0x00, 0x00, 0x00, 0x06, 0x00, 0x82, 0x00, 0x01, 0x00, 0x02, 0x00, 0x01, 0x01,
+];
+
+/// The image of a new volume of this name.
+fn named(alloc: Global, name: &str) -> Result<Option<Vec<u8>>, Fail> {
+    Ok(Some(Volume::blank(alloc, name, 6)?.into_bytes()))
+}
+
+/// The job that runs the program on this image, with five other disks.
+fn six_disks(alloc: Global, image: Vec<u8>, save: bool) -> Result<Job, Fail> {
+    Ok(Job::Run {
+        disks: [
+            Some(image),
+            named(alloc, "V5")?,
+            named(alloc, "V9")?,
+            named(alloc, "VA")?,
+            named(alloc, "VB")?,
+            named(alloc, "VC")?,
+        ],
+        name: String::from_str(alloc, "P")?,
+        limit: 100,
+        save,
+    })
+}
+
+/// The image with which a run begins, and the one that it leaves.
+fn images(alloc: Global) -> Result<(Vec<u8>, Vec<u8>), Fail> {
+    let image = image(alloc, [138, 0, 0], &PROGRAM)?;
+    let mut left = image.clone()?;
+    if let Some(place) = left.as_mut_slice().get_mut(41984..41986) {
+        place.copy_from_slice(b"OK");
+    }
+    Ok((image, left))
+}
+
+/// Each disk is on its own unit, the printer's bytes are in the outcome, and the image that is saved is the one that
+/// the program left, byte for byte.
+#[test]
+fn all_devices(rt: HostRuntime) -> Result<(), Fail> {
+    let alloc = rt.alloc();
+    let (image, left) = images(alloc)?;
+    assert!(rt; image != left);
+    let ran = job_run(alloc, six_disks(alloc, image, true)?, b"");
+    assert_eq!(rt;
+        (ran.outcome.status, ran.outcome.message.as_str()),
+        (0, "ended 85")
+    );
+    assert_eq!(rt; ran.written.as_slice(), b"V5V9VAVBVC".as_slice());
+    assert_eq!(rt; ran.outcome.printer.as_slice(), b"OK".as_slice());
+    assert!(rt; ran.into_image() == Some(left));
+    Ok(())
+}
+
+/// What is printed is in the outcome also where no image is.
+#[test]
+fn no_image_unless_asked_for(rt: HostRuntime) -> Result<(), Fail> {
+    let alloc = rt.alloc();
+    let (image, _) = images(alloc)?;
+    let ran = job_run(alloc, six_disks(alloc, image, false)?, b"");
+    assert_eq!(rt; ran.outcome.status, 0);
+    assert_eq!(rt; ran.outcome.printer.as_slice(), b"OK".as_slice());
+    assert!(rt; ran.into_image().is_none());
+    Ok(())
+}

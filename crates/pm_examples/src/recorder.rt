@@ -1,0 +1,205 @@
+//! A source and a sink that write down each call of either, of which one fails, and no other.
+ghost use Rattle.std.specs.Prelude.{◌≡◌, None, false};
+ghost use Rattle.std.specs.Io.{ReadsAtMost, WritesAtMost};
+
+use pm_tool::{Job, Outcome, Sink, Source, run};
+use std::alloc::Global;
+use std::cell::RefCell;
+use std::io;
+use std::io::ErrorKind;
+
+/// What was called.
+#[derive(Clone, Copy, Debug, PartialEq, Eq)]
+pub(crate) enum Kind {
+    Read,
+    /// A write that was offered so many bytes.
+    Write(usize),
+}
+
+/// A call, and how many bytes had been written before it.
+#[derive(Clone, Copy, Debug, PartialEq, Eq)]
+pub(crate) struct Call {
+    pub(crate) kind: Kind,
+    pub(crate) before: usize,
+}
+
+/// How the streams do what they are called for.
+#[derive(Clone, Copy)]
+pub(crate) struct Manner {
+    /// The most bytes that one call moves.
+    pub(crate) most: usize,
+    /// The number of the call that fails, of the source or of the sink, from 0 on. Calls behind it go on well.
+    pub(crate) fails_at: Option<usize>,
+    /// Whether a write that fails takes no byte. Else it answers an error, as a read does.
+    pub(crate) takes_nothing: bool,
+}
+
+/// The calls so far, and the bytes that were written.
+#[derive(Drop)]
+struct Record {
+    manner: Manner,
+    calls: Vec<Call>,
+    written: Vec<u8>,
+}
+
+fn failure() -> io::Error {
+    io::Error::from(ErrorKind::Other)
+}
+
+impl Record {
+    /// Writes a call down. Whether it is the one that fails.
+    fn fails(&mut self, kind: Kind) -> io::Result<bool> {
+        let number = self.calls.len();
+        let before = self.written.len();
+        self.calls.push(Call { kind, before })?;
+        Ok(self.manner.fails_at == Some(number))
+    }
+
+    /// Some bytes of the front of `rest` go to the front of `buf`: how many.
+    fn give(&mut self, rest: &[u8], buf: &mut [u8]) -> io::Result<usize>
+        ensures bound { ReadsAtMost result buf.new }
+    {
+        if self.fails(Kind::Read)? {
+            return Err(failure());
+        }
+        let count = rest.len().min(buf.len()).min(self.manner.most);
+        buf[..count].copy_from_slice(&rest[..count]);
+        Ok(count)
+    }
+
+    /// Some bytes of the front of `buf` are written: how many.
+    fn take(&mut self, buf: &[u8]) -> io::Result<usize>
+        ensures bound { WritesAtMost result buf.now }
+    {
+        if self.fails(Kind::Write(buf.len()))? {
+            return if self.manner.takes_nothing {
+                Ok(0)
+            } else {
+                Err(failure())
+            };
+        }
+        let count = buf.len().min(self.manner.most);
+        self.written.extend_from_slice(&buf[..count])?;
+        Ok(count)
+    }
+}
+
+/// The source.
+#[derive(Drop)]
+struct Given<'a> {
+    record: &'a RefCell<Record>,
+    rest: &'a [u8],
+    failed: bool,
+}
+
+impl<'a> Given<'a> {
+    fn new(record: &'a RefCell<Record>, rest: &'a [u8]) -> Given<'a>
+        ensures well { result.failed ≡ false }
+    {
+        Given {
+            record,
+            rest,
+            failed: false,
+        }
+    }
+
+    fn give(&mut self, buf: &mut [u8]) -> io::Result<usize>
+        ensures bound { ReadsAtMost result buf.new }
+        ensures failed { self.new.failed ≡ self.old.failed }
+    {
+        let Ok(mut record) = self.record.try_borrow_mut() else {
+            return Err(failure());
+        };
+        let count = record.give(self.rest, buf)?;
+        self.rest = self.rest.get(count..).unwrap_or(&[]);
+        Ok(count)
+    }
+}
+
+impl Source for Given<'_> {
+    ghost remaining = { λ _. None };
+
+    ghost has_failed = { λ source. source.failed };
+
+    fn read(&mut self, buf: &mut [u8]) -> io::Result<usize> {
+        let outcome = self.give(buf);
+        self.failed |= outcome.is_err();
+        outcome
+    }
+
+    fn failed(&self) -> bool {
+        self.failed
+    }
+}
+
+/// The sink.
+#[derive(Drop)]
+struct Taken<'a> {
+    record: &'a RefCell<Record>,
+    failed: bool,
+}
+
+impl<'a> Taken<'a> {
+    fn new(record: &'a RefCell<Record>) -> Taken<'a>
+        ensures well { result.failed ≡ false }
+    {
+        Taken {
+            record,
+            failed: false,
+        }
+    }
+
+    fn take(&self, buf: &[u8]) -> io::Result<usize>
+        ensures bound { WritesAtMost result buf.now }
+    {
+        match self.record.try_borrow_mut() {
+            Ok(mut record) => record.take(buf),
+            Err(_) => Err(failure()),
+        }
+    }
+}
+
+impl Sink for Taken<'_> {
+    ghost contents = { λ _. None };
+
+    ghost has_failed = { λ sink. sink.failed };
+
+    fn write(&mut self, buf: &[u8]) -> io::Result<usize> {
+        let outcome = self.take(buf);
+        self.failed |= !matches!(outcome, Ok(1..));
+        outcome
+    }
+
+    fn failed(&self) -> bool {
+        self.failed
+    }
+}
+
+/// What a job came to, whether its source failed and whether its sink did, the calls of both, and what was written.
+#[derive(Drop)]
+pub(crate) struct Recorded {
+    pub(crate) outcome: Outcome,
+    pub(crate) failed: (bool, bool),
+    pub(crate) calls: Vec<Call>,
+    pub(crate) written: Vec<u8>,
+}
+
+/// Runs a job.
+pub(crate) fn recorded_run(alloc: Global, job: Job, input: &[u8], manner: Manner) -> Recorded {
+    let record = RefCell::new(Record {
+        manner,
+        calls: Vec::new(alloc),
+        written: Vec::new(alloc),
+    });
+    let mut source = Given::new(&record, input);
+    let mut sink = Taken::new(&record);
+    let outcome = run(alloc, &mut source, &mut sink, job);
+    let failed = (source.failed(), sink.failed());
+    let Record { calls, written, .. } = record.into_inner();
+    Recorded {
+        outcome,
+        failed,
+        calls,
+        written,
+    }
+}

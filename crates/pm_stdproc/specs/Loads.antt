@@ -1,0 +1,44 @@
+-- The code of segments on disks.
+use Rattle.std.specs.Prelude.{ℕ, List, Option, Some, None, is_none, Result, Ok, Err, option_map, slice_get, if◌then◌else◌, ◌==◌}
+use Rattle.std.specs.Borrow.{Bor}
+use Rattle.pm_words.specs.declared.error.ExecError.{ExecError}
+use Rattle.pm_words.specs.declared.error.ExecError.TheVariants.{SystemIo}
+use Rattle.pm_calls.specs.declared.frames.Place.{Place}
+use Rattle.pm_calls.specs.declared.frames.Call.{Call}
+use Rattle.pm_calls.specs.declared.frames.Call.TheVariants.{Clp, Cgp, Cbp, Cip, Cxp}
+use Rattle.pm_calls.specs.Places.{placed}
+use Rattle.pm_stdproc.specs.Devices.{Devices, code_on}
+use Rattle.pm_stdproc.specs.declared.loads.SlotRow.{SlotRow}
+
+-- the bytes that a disk has; without them the instruction fails
+abbrev pub found_code : Option (List ℕ) → Result (Option (List ℕ)) ExecError
+found_code None = Err SystemIo
+found_code (Some code) = Ok (Some code)
+
+-- The code of a slot, from the disk of its unit as that is now: none above 15 and at length 0, for which the call has
+-- its own error. Where no disk is there, or the bytes pass its end, that is an error.
+abbrev pub code_of : Option SlotRow → Devices → Result (Option (List ℕ)) ExecError
+code_of None d = Ok None
+code_of (Some row) d = if row.length == 0 then Ok None else found_code (code_on d row.unit row.block row.length)
+
+-- the code that a slot wants: that of its row, where it has no place
+abbrev pub slot_code : ℕ → List (Option Place) → List SlotRow → Devices → Result (Option (List ℕ)) ExecError
+slot_code n places rows d = if is_none (placed places n) then code_of (slice_get rows n) d else Ok None
+
+-- how many bytes the code of a slot has, 0 without a row
+abbrev pub length_of : Option SlotRow → ℕ
+length_of None = 0
+length_of (Some row) = row.length
+
+-- the code that a call loads: that which the slot of a CXP wants; no other call loads
+unfoldable pub code_needed : Call → List (Option Place) → List SlotRow → Devices → Result (Option (List ℕ)) ExecError
+code_needed (Cxp n p) places rows d = slot_code n places rows d
+code_needed (Clp p) places rows d = Ok None
+code_needed (Cgp p) places rows d = Ok None
+code_needed (Cbp p) places rows d = Ok None
+code_needed (Cip p) places rows d = Ok None
+
+-- code that was lent, by its bytes
+abbrev pub code_lent : Result (Option (Bor (List ℕ))) ExecError → Result (Option (List ℕ)) ExecError
+code_lent (Ok code) = Ok (option_map (λ c. c.now) code)
+code_lent (Err e) = Err e

@@ -1,0 +1,42 @@
+//! Dates, as a directory has them.
+
+ghost use Rattle.std.specs.Prelude.{◌≡◌, IfSome, None, Some, if◌then◌else◌};
+ghost use Rattle.pm_volume.specs.Dates.{date_of, date_word, is_date};
+
+/// A date, which a directory has in one word: the month in bits 0 to 3, the day in bits 4 to 8, the year in bits 9 to 15.
+#[derive(Clone, Copy, Debug, PartialEq, Eq)]
+pub struct Date {
+    /// The year of the century, 0 to 127.
+    pub year: u8,
+    /// The month, 1 to 12; a word may hold 0 to 15.
+    pub month: u8,
+    /// The day, 1 to 31; a word may hold 0.
+    pub day: u8,
+}
+
+impl Date {
+    /// The year, the month and the day that a word holds.
+    pub fn of(word: u16) -> Date
+        ensures date { result ≡ date_of word }
+    {
+        Date {
+            year: (word / 512) as u8,
+            month: (word % 16) as u8,
+            day: (word / 16 % 32) as u8,
+        }
+    }
+
+    /// The word of the date; `None` unless the year is 0 to 127, the month 1 to 12 and the day 1 to 31.
+    pub fn word(self) -> Option<u16>
+        ensures word { result ≡ (if is_date self.year self.month self.day
+            then Some (date_word self.year self.month self.day) else None) }
+        ensures again { IfSome result (λ word. date_of word ≡ self) }
+    {
+        let Date { year, month, day } = self;
+        if year <= 127 && (1..=12).contains(&month) && (1..=31).contains(&day) {
+            Some(512 * u16::from(year) + 16 * u16::from(day) + u16::from(month))
+        } else {
+            None
+        }
+    }
+}

@@ -1,5 +1,7 @@
 //! The rows of the page's table.
 
+ghost use Rattle.std.specs.Prelude.{◌≤◌, ℕ};
+
 use pm_opcode::row_at;
 use std::alloc::{AllocError, Global};
 use std::marker::Model;
@@ -14,8 +16,6 @@ pub struct Page {
 }
 
 impl Model for Page {
-    ghost use Rattle.std.specs.Prelude.{ℕ, ◌≤◌};
-
     ghost Value = { ℕ };
 
     ghost view = { λ p. p.next };

@@ -1,60 +1,93 @@
 #!/bin/bash
-# Times `asm` and `asm --list` on texts of one segment of up to 60,000 bytes. Run by hand; no part of the gate.
-#   plain    one procedure of NOPs
-#   labels   one procedure of short jumps, each to a label behind it
+# Times `asm` on texts of a size and of twice that size, and says how much longer the larger one takes: 2 means in proportion. Least
+# processor time of RUNS runs, and the most memory where GNU time is there. Run by hand; no part of the gate.
+#     asm.sh [PMACH]          RUNS=3 by default
+#   nops     one procedure of NOPs; from 60,000 bytes on it is too long
+#   listing  the same, its listing
+#   labels   one procedure of labels alone
+#   tables   NOPs, and XJPs with tables of 2,000 labels, one label, which stands at the end
+#   jumps    one procedure of short jumps, each to a label of its own behind it
 #   cases    one procedure of XJPs with tables of 50 labels, at its first and its last item
-#   short    255 procedures of one item
-#   comments lines of comments alone, up to the largest input
+#   short    procedures of one item
+#   comments lines of comments alone
 here=$(dirname "$(readlink -f "$0")")/..
-pmach=$here/pmach
+pmach=${1:-$here/pmach}
+runs=${RUNS:-3}
 scratch=$(mktemp -d)
 trap 'rm -rf "$scratch"' EXIT
 
-# procedure: a segment with one procedure, the items of standard input before its exit code
+# procedure ENTRY..: a segment with one procedure, the items of standard input before its exit code, with these jump entries
 procedure() {
     printf '.SEG 1 BENCH\n.PROC 1 0 0 0\n'
     cat
-    printf '.EXIT\n  RBP 0\n.END\n'
+    printf '.EXIT\n  RBP 0\n'
+    (($# == 0)) || printf '.JUMP %s\n' "$@"
+    echo .END
 }
 
-# timed NAME OPTIONS..: seconds of processor time, and the size of what is written
-timed() {
-    local name=$1 seconds
-    shift
-    seconds=$({ TIMEFORMAT=%U; time "$pmach" asm "$@" <"$scratch/text" >"$scratch/out" 2>"$scratch/err"; } 2>&1)
-    echo "$name${*:+ $*}: text of $(wc -c <"$scratch/text") bytes, ${seconds} s, $(wc -c <"$scratch/out") bytes $(cat "$scratch/err")"
+nops() { yes NOP | head -n "$1" | procedure; }
+labels() { seq "$1" | sed 's/.*/L&:/' | procedure; }
+tables() {
+    {
+        yes NOP | head -n "$1"
+        yes "XJP 1, 2000, ^0$(printf ',z%.0s' $(seq 2000))" | head -n $(($1 / 500))
+        printf 'z: NOP\nNOP\n'
+    } | procedure z
 }
-
-"$pmach" raw --limit 0 </dev/null >/dev/null # builds it where it is not built yet
-for count in 15000 30000 59984; do
-    yes '  NOP' | head -n "$count" | procedure >"$scratch/text"
-    timed plain
-    timed plain --list
-done
-for count in 5000 10000 19994; do
-    # three bytes for each label: a short jump to it, and the NOP that it stands at
-    seq "$count" | awk '{ printf "  UJP L%d\nL%d: NOP\n", $1, $1 }' | procedure >"$scratch/text"
-    timed labels
-done
-for count in 100 300 545; do
-    # 110 bytes each: opcode and padding, bounds, a jump over the table of 100 bytes, the table, two NOPs
+# three bytes for each label: a short jump to it, and the NOP that it stands at
+jumps() { seq "$1" | awk '{ printf "  UJP L%d\nL%d: NOP\n", $1, $1 }' | procedure; }
+# 110 bytes each: opcode and padding, bounds, a jump over the table of 100 bytes, the table, two NOPs
+cases() {
     {
         printf 'FIRST: NOP\n  NOP\n'
-        seq "$count" | awk '{
+        seq "$1" | awk '{
             line = sprintf("  XJP 1, 50, N%d", $1)
             for (k = 0; k < 50; k++) line = line (k % 2 ? ", FIRST" : ", LAST")
             printf "%s\nN%d: NOP\n  NOP\n", line, $1
         }'
         printf 'LAST: NOP\n  NOP\n'
-    } | procedure >"$scratch/text"
-    timed cases
-done
-{
+    } | procedure
+}
+short() {
     echo '.SEG 1 BENCH'
-    for number in $(seq 255); do printf '.PROC %d 0 0 0\n.EXIT\n  RBP 0\n.END\n' "$number"; done
-} >"$scratch/text"
-timed short
-timed short --list
-yes '; a line that says nothing to the assembler' | head -c 16777190 >"$scratch/text"
-echo >>"$scratch/text"
-timed comments
+    for number in $(seq "$1"); do printf '.PROC %d 0 0 0\n.EXIT\n  RBP 0\n.END\n' "$number"; done
+}
+comments() { yes '; a line that says nothing to the assembler' | head -n "$1"; }
+
+# timed OPTIONS..: the least seconds of processor time, of the text in the scratch folder
+timed() {
+    local k
+    for k in $(seq "$runs"); do
+        { TIMEFORMAT='%U %S'; time "$pmach" asm "$@" <"$scratch/text" >"$scratch/out" 2>"$scratch/err"; } 2>&1
+    done | awk '{ s = $1 + $2; if (NR == 1 || s < least) least = s } END { printf "%.3f", least }'
+}
+
+# memory OPTIONS..: the most memory, where GNU time tells it
+memory() {
+    command time -q -f '%M' "$pmach" asm "$@" <"$scratch/text" 2>&1 >/dev/null | tail -n 1 | awk '/^[0-9]+$/ { printf "%d MB", $1 / 1000 }'
+}
+
+# doubled NAME TEXT N OPTIONS..: texts of N and of 2 N parts
+doubled() {
+    local name=$1 text=$2 n=$3 first second size
+    shift 3
+    "$text" "$n" >"$scratch/text"
+    size=$(wc -c <"$scratch/text")
+    first="$(timed "$@") s$(sed 's/^/ /' "$scratch/err")"
+    "$text" $((2 * n)) >"$scratch/text"
+    second="$(timed "$@") s$(sed 's/^/ /' "$scratch/err")"
+    echo "$name: $n, $size bytes, $first; $((2 * n)), $(wc -c <"$scratch/text") bytes, $second, $(memory "$@")," \
+        "ratio $(awk "BEGIN { if (${first%% *} > 0) printf \"%.1f\", ${second%% *} / ${first%% *} }")"
+}
+
+"$pmach" raw --limit 0 </dev/null >/dev/null # builds it where it is not built yet
+doubled nops nops 29992
+doubled listing nops 29992 --list
+doubled nops nops 2000000
+doubled labels labels 890000
+doubled tables tables 15000
+doubled tables tables 500000
+doubled jumps jumps 9996
+doubled cases cases 272
+doubled short short 127
+doubled comments comments 190000

@@ -1,12 +1,16 @@
 #!/bin/bash
-# Times `dis` on code files with one segment of up to 60,000 bytes. Run by hand; no part of the gate.
+# Times `dis` on code files of a size and of twice that size, and says how much longer the larger one takes: 2 means in proportion. Least
+# processor time of RUNS runs, and the most memory where GNU time is there. Run by hand; no part of the gate.
+#     dis.sh [PMACH]          RUNS=3 by default
 #   plain   one procedure of NOPs
 #   counts  one procedure whose jump table has 60 entries, the last of which is taken by a jump
 #   jumps   the same, each entry being taken by a jump, so that 61 counts of entries are tried
 #   tables  255 dictionary words that lead to the one table of `counts`, so that its procedure is shown 255 times
 #   worst   255 that lead to the one table of `jumps`
+#   shared  16 slots that share the segment of `tables`
 here=$(dirname "$(readlink -f "$0")")/..
-pmach=$here/pmach
+pmach=${1:-$here/pmach}
+runs=${RUNS:-3}
 scratch=$(mktemp -d)
 trap 'rm -rf "$scratch"' EXIT
 
@@ -44,40 +48,59 @@ table() {
     printf "\\x01\\x$(printf %02x "$2")"
 }
 
-# file SEGMENT: a code file with the segment in slot 1
+# file SLOTS: a code file with the segment in so many slots, from slot 0 on
 file() {
-    word 0
-    word 0
-    word 1
-    word "$(wc -c <"$1")"
-    head -c 504 /dev/zero
-    cat "$1"
+    local slot
+    for ((slot = 0; slot < 16; slot++)); do
+        if ((slot < $1)); then
+            word 1
+            word "$(wc -c <"$scratch/segment")"
+        else
+            word 0
+            word 0
+        fi
+    done
+    head -c 448 /dev/zero
+    cat "$scratch/segment"
 }
 
-# timed NAME: seconds of processor time, and the size of the text
+plain() { nops "$1" && table "$1" 1; }
+# a jump by entry 59, NOPs, and 120 bytes that are words of 256
+counts() { printf '\xa1\x80' && nops $(($1 - 122)) && times 60 '\x00\x01' && table "$1" "${2:-1}"; }
+jumping() { jumps && nops $(($1 - 240)) && times 60 '\x00\x01' && table "$1" "${2:-1}"; }
+tables() { counts "$1" 255; }
+worst() { jumping "$1" 255; }
+
+# timed: the least seconds of processor time
 timed() {
-    file "$scratch/segment" >"$scratch/code"
-    local seconds
-    seconds=$({ TIMEFORMAT=%U; time "$pmach" dis <"$scratch/code" >"$scratch/text"; } 2>&1)
-    echo "$1: $(wc -c <"$scratch/segment") bytes, ${seconds} s, text of $(wc -c <"$scratch/text") bytes"
+    local k
+    for k in $(seq "$runs"); do
+        { TIMEFORMAT='%U %S'; time "$pmach" dis <"$scratch/code" >/dev/null 2>&1; } 2>&1
+    done | awk '{ s = $1 + $2; if (NR == 1 || s < least) least = s } END { printf "%.3f", least }'
+}
+
+# memory: the most memory, where GNU time tells it
+memory() {
+    command time -q -f '%M' "$pmach" dis <"$scratch/code" 2>&1 >/dev/null | tail -n 1 | awk '/^[0-9]+$/ { printf "%d MB", $1 / 1000 }'
+}
+
+# doubled NAME SEGMENT SIZE SLOTS: code of a size and of twice that
+doubled() {
+    local first second
+    "$2" "$3" >"$scratch/segment"
+    file "$4" >"$scratch/code"
+    first=$(timed)
+    "$2" $((2 * $3)) >"$scratch/segment"
+    file "$4" >"$scratch/code"
+    second=$(timed)
+    echo "$1: code of $3 bytes, $first s; $((2 * $3)), $second s, text of $("$pmach" dis <"$scratch/code" | wc -c) bytes, $(memory)" \
+        "ratio $(awk "BEGIN { if ($first > 0) printf \"%.1f\", $second / $first }")"
 }
 
 "$pmach" raw --limit 0 </dev/null >/dev/null # builds it where it is not built yet
-for size in 15000 30000 59980; do
-    { nops $size && table $size 1; } >"$scratch/segment"
-    timed plain
-done
-for size in 15000 30000 59980; do
-    # a jump by entry 59, NOPs, and 120 bytes that are words of 256
-    { printf '\xa1\x80' && nops $((size - 122)) && times 60 '\x00\x01' && table $size 1; } >"$scratch/segment"
-    timed counts
-done
-for size in 15000 30000 59860; do
-    { jumps && nops $((size - 240)) && times 60 '\x00\x01' && table $size 1; } >"$scratch/segment"
-    timed jumps
-done
-size=59460
-{ printf '\xa1\x80' && nops $((size - 122)) && times 60 '\x00\x01' && table $size 255; } >"$scratch/segment"
-timed tables
-{ jumps && nops $((size - 240)) && times 60 '\x00\x01' && table $size 255; } >"$scratch/segment"
-timed worst
+doubled plain plain 29990 1
+doubled counts counts 29990 1
+doubled jumps jumping 29930 1
+doubled tables tables 29730 1
+doubled worst worst 14866 1
+doubled shared tables 7434 16

@@ -3,9 +3,10 @@
     definitions     of the same text in specs/ of two crates
     functions       of more than 40 lines with their signature, and crates of more than 100 functions
     lines           over 120 characters in code, definitions and docs (tables apart), over 160 in proofs
-    numbers         that have a name: ends of the stack, the most bytes of bare code, the bases of compact loads
+    numbers         that have a name: ends of the stack, the most bytes of bare code, opcodes of jumps (tables of
+                    opcodes, table.rt and quick.rt, have their own)
     the page        of the instructions, of which crates/pm_page/stdin is a copy
-    names           that docs/PROMISES.md and the tables of definitions have and the source has not
+    names           that docs/PROMISES.md and the tables of definitions have and the source, or the file beside, has not
     the map         of docs/ARCHITECTURE.md: floors and edges beside crates.txt, and a row for each crate
 The status is 1 where anything is found."""
 import collections
@@ -82,7 +83,7 @@ for pattern, most in (("crates/*/src/**/*.rt", 120), ("crates/*/specs/**/*.antt"
 
 NUMBERS = r"\b(65_?492|65_?502|65_?504|60_?000|172|185)\b"
 for path in sorted(glob.glob("crates/*/src/**/*.rt", recursive=True)):
-    if re.search(r"(layout|fields|worked|tests)\.rt$", path) or "/pm_examples/" in path:
+    if re.search(r"(layout|fields|worked|tests|table|quick)\.rt$", path) or "/pm_examples/" in path:
         continue
     for number, line in enumerate(lines(path)):
         if re.search(NUMBERS, line.split("//")[0]) and not re.match(r"\s*(const|pub const|pub\(crate\) const)", line):
@@ -134,10 +135,15 @@ for path in glob.glob("crates/*/specs/**/*.antt", recursive=True):
     known |= set(re.findall(r"^ *(?:(?:abbrev|unfoldable) )?pub (?:record |data )?([^\s:()]+)", "\n".join(lines(path)), re.M))
 known |= {path.split("/")[1] for path in glob.glob("crates/*/")}
 known |= {os.path.basename(path)[:-5] for path in glob.glob("crates/*/must-fail/*.edit")}
-pages = [("docs/PROMISES.md", "\n".join(lines("docs/PROMISES.md")))]
-for page in ("docs/MACHINE.md", "docs/PROCEDURES.md"):
-    pages.append((page, re.search(r"## Definitions\n(.*?)(?=\n## |\Z)", "\n".join(lines(page)), re.S).group(1)))
-for page, text in pages:
+pages = {"docs/PROMISES.md": "\n".join(lines("docs/PROMISES.md"))}
+RULES = ("MACHINE", "INSTRUCTIONS", "PROCEDURES", "FILES", "ASSEMBLY")
+for page in ["docs/%s.md" % name for name in RULES]:
+    section = re.search(r"## Definitions\n(.*?)(?=\n## |\Z)", "\n".join(lines(page)), re.S)
+    if section:
+        pages[page] = section.group(1)
+    else:
+        tell("name", "%s: no section with the definitions of its rules" % page)
+for page, text in pages.items():
     for word in sorted(set(re.findall(r"`([A-Za-z_][\w:-]*)`", text))):
         for name in word.split("::"):
             if name not in known and name not in ("Display", "clap"):
@@ -145,6 +151,24 @@ for page, text in pages:
     for path in re.findall(r"`(pm_\w+/specs/\w+\.antt)`", text):
         if not os.path.exists("crates/" + path):
             tell("name", "%s: %s" % (page, path))
+
+# In a table of definitions each row names files, and each name of the row is defined in one of them. A file without a
+# folder stands in that of the one before it, or in the folder that the text above the table names.
+for page, text in pages.items():
+    if page == "docs/PROMISES.md":
+        continue
+    folder = re.search(r"`(pm_\w+/specs)`", text)
+    for row in re.findall(r"^\| (?!Section|Procedure|---)(.*) \|$", text, re.M):
+        names, files = re.findall(r"`([\w-]+)`", row), re.findall(r"`((?:pm_\w+/(?:specs|src)/)?\w+\.(?:antt|rt))`", row)
+        below, source = folder.group(1) if folder else "", ""
+        for path in files:
+            below, path = (os.path.dirname(path) or below), os.path.basename(path)
+            path = "crates/%s/%s" % (below, path)
+            source += "\n".join(lines(path)) + "\n" if os.path.exists(path) else ""
+        defined = set(re.findall(r"^ *(?:(?:abbrev|unfoldable) )?pub (?:record |data |struct |enum )?([^\s:()]+)", source, re.M))
+        for name in names:
+            if name not in defined:
+                tell("name", "%s: %s is not in %s" % (page, name, ", ".join(files) or "no file"))
 
 print(", ".join("%d %s" % (count, kind) for kind, count in sorted(found.items())) or "nothing")
 sys.exit(1 if found else 0)

@@ -175,24 +175,24 @@ echo "write fault" >"$message"
 case_of "printer bytes that cannot be written" 4 "$scratch/text" "$message" run --d4 "$programs" --printer "$scratch/absent/x" OK </dev/null
 
 # what a program leaves behind: it writes OK on unit 4 and on the printer, and then goes round without an end
-printf '%s\n' ".SEG 1 KEEPS" ".PROC 1 0 0 0" \
+printf '%s\n' ".SEG 1 MARKS" ".PROC 1 0 0 0" \
     "SLDC 4" 'LPA "OK"' "SLDC 0" "SLDC 2" "SLDC 39" "SLDC 0" "CSP 6" \
     "SLDC 6" 'LPA "OK"' "SLDC 0" "SLDC 2" "SLDC 0" "SLDC 0" "CSP 6" \
     "again: UJP ^0" ".EXIT" "RBP 0" ".JUMP again" ".END" >"$scratch/source"
 "$pmach" asm <"$scratch/source" >"$scratch/code"
 cp "$programs" "$scratch/keeps.img"
-case_of "a program is put" 0 "$nothing" "$nothing" files --image "$scratch/keeps.img" put KEEPS code <"$scratch/code"
+case_of "a program is put" 0 "$nothing" "$nothing" files --image "$scratch/keeps.img" put MARKS code <"$scratch/code"
 cp "$scratch/keeps.img" "$scratch/before"
 echo "limit 100" >"$message"
-case_of "nothing is saved unasked" 6 "$nothing" "$message" run --d4 "$scratch/keeps.img" --limit 100 KEEPS </dev/null
+case_of "nothing is saved unasked" 6 "$nothing" "$message" run --d4 "$scratch/keeps.img" --limit 100 MARKS </dev/null
 cmp -s "$scratch/keeps.img" "$scratch/before"
 result "the image is as it was" $?
 case_of "a changed image is saved at the limit" 6 "$nothing" "$message" \
-    run --d4 "$scratch/keeps.img" --d5 "$programs" --save --printer "$scratch/printed" --limit 100 KEEPS </dev/null
+    run --d4 "$scratch/keeps.img" --d5 "$programs" --save --printer "$scratch/printed" --limit 100 MARKS </dev/null
 [ "$(tail -c +19969 "$scratch/keeps.img" | head -c 2)" = OK ] && [ "$(cat "$scratch/printed")" = OK ]
 result "the image and the printer have OK" $?
 echo "limit 10000000" >"$message"
-case_of "the limit that is not given" 6 "$nothing" "$message" run --d4 "$scratch/keeps.img" KEEPS </dev/null
+case_of "the limit that is not given" 6 "$nothing" "$message" run --d4 "$scratch/keeps.img" MARKS </dev/null
 
 # which disk is on which unit: the program writes the name of unit 9's volume
 printf '%s\n' ".SEG 1 NAMES" ".PROC 1 0 0 0" \
@@ -267,7 +267,7 @@ usage "a word behind dis" dis code
 
 # the debugger
 printf '%s\n' ok "break 1" "65424 65458 65492" "65458 65492 65458" "?" >"$scratch/text"
-case_of "a session" 0 "$scratch/text" "$nothing" debug --d4 "$programs" LOADS < <(printf 'break 2 1 0\ngo 100\ndynamic 10\nstack 3\nplace 2\nquit\nregs\n')
+case_of "a session" 0 "$scratch/text" "$nothing" debug --d4 "$programs" LOADS < <(printf 'break 2 1 0\ngo 100\ndynamic 10\nstack 3\nlist 2\nquit\nregs\n')
 printf 'ended 5\n' >"$scratch/text"
 case_of "a session without quit, and a limit" 0 "$scratch/text" "$nothing" debug --d4 "$programs" --limit 2 LOADS < <(printf 'go 100')
 echo "refused boot 1" >"$message"

@@ -2,6 +2,7 @@
 import os
 import pty
 import select
+import signal
 import sys
 import termios
 import time
@@ -22,6 +23,7 @@ def run(words, keys):
     is set or something new is shown, and at the latest after four seconds."""
     child, terminal = pty.fork()
     if child == 0:
+        signal.signal(signal.SIGINT, signal.SIG_DFL)
         script = 'before=$(stty -g); trap : INT; "$@"; status=$?; [ "$before" = "$(stty -g)" ] && echo "[$status same]" || echo "[$status other]"'
         os.execvp("sh", ["sh", "-c", script, "sh"] + words)
     shown = b""

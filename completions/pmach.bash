@@ -16,6 +16,8 @@ _pmach() {
     files) words="--image list get put gettext puttext remove change krunch date zero new duplicate single repair --help" ;;
     *) words="raw run trace debug asm dis files --help --version" ;;
     esac
+    [ "$COMP_CWORD" -gt 3 ] && [ "${COMP_WORDS[COMP_CWORD - 2]}" = put ] &&
+        words="none badb code text info data graf foto secd"
     [ "$COMP_CWORD" = 1 ] && words="raw run trace debug asm dis files --help --version"
     mapfile -t COMPREPLY < <(compgen -W "$words" -- "$word")
 }

@@ -1,6 +1,7 @@
 #!/bin/sh
 # Brings an image of a 140 KB disk from DOS order (.dsk, .do) into block order, or back: examples/dos-order.sh <OLD >NEW
-# Each track has 16 sectors of 256 bytes. In DOS order the sectors of its eight blocks stand as 0 14 13 12 11 10 9 8 7 6 5 4 3 2 1 15.
+# Each track has 16 sectors of 256 bytes. In DOS order the sectors of its eight blocks stand as 0 14 13 12 11 10 9 8 7
+# 6 5 4 3 2 1 15.
 set -e
 scratch=$(mktemp)
 trap 'rm -f "$scratch"' EXIT

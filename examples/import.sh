@@ -1,7 +1,8 @@
 #!/bin/bash
 # Puts a folder that export.sh made into a volume: examples/import.sh FOLDER IMAGE
-# The image has to be there (pmach files --image IMAGE new NAME BLOCKS). Files with a date come first to last as FOLDER/LIST has them, those
-# without one before all others, since a file gets the volume's last date. That date is the last file's afterwards.
+# The image has to be there (pmach files --image IMAGE new NAME BLOCKS). Files with a date come first to last as
+# FOLDER/LIST has them, those without one before all others, since a file gets the volume's last date. That date is
+# the last file's afterwards.
 set -e
 [ $# = 2 ] || {
     echo "usage: import.sh FOLDER IMAGE" >&2

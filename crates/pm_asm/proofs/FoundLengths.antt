@@ -4,7 +4,7 @@ use Rattle.std.specs.Prelude.{suc, nat_lt, if◌then◌else◌}
 use Rattle.std.specs.Option.{option_to_list}
 use Rattle.std.proofs.lemmas.Bool.{ltb-false}
 use Rattle.std.proofs.lemmas.List.{length-reverse}
-use Rattle.pm_disasm.specs.Program.{AreShort, FollowFrom, Procedure, Segment, dictionary_bytes, procedures_bytes, procedures_end, segment_bytes}
+use Rattle.pm_disasm.specs.Program.{FollowFrom, Procedure, Segment, dictionary_bytes, procedures_bytes, procedures_end, segment_bytes}
 use Rattle.pm_disasm.proofs.Laid.{length-procedures}
 use Rattle.pm_source.specs.Faults.{source_end}
 use Rattle.pm_source.specs.Meaning.{found_procedures, found_segment, segment_with, segments_from}
@@ -13,7 +13,8 @@ use Rattle.pm_source.proofs.Ends.{found_behind}
 use Rattle.pm_source.proofs.Labels.{map_length}
 use Rattle.pm_reader.specs.declared.source.Segment as code
 use Rattle.pm_reader.specs.Views.{procedure_seen, segment_seen}
-use Rattle.pm_asm.specs.Lengths.{first_long, found_length, sources_end}
+use Rattle.pm_asm.specs.Lengths.{AreShort, first_long, found_length, sources_end}
+use Rattle.pm_asm.specs.declared.lengths.TheConstants.{LONGEST}
 
 length-dictionary : (at : ℕ) (ps : List Procedure) → length (dictionary_bytes at ps) ≡ 2 * length ps
 length-dictionary at [] = refl
@@ -56,9 +57,9 @@ found_length-seen s = omega (arith, found_length_is (segment_seen s), map_length
 -- where none is long, all are short
 pub all_short : (ss : List Segment) → first_long ss ≡ None → AreShort ss
 all_short [] h = tt
-all_short (s ∷ ss) h = by (nat_lt 60000 (length (segment_bytes s))) refl h (λ more. all_short ss more)
+all_short (s ∷ ss) h = by (nat_lt LONGEST (length (segment_bytes s))) refl h (λ more. all_short ss more)
   where
-    by : (b : Bool) → nat_lt 60000 (length (segment_bytes s)) ≡ b → (if b then Some s.number else first_long ss) ≡ None
+    by : (b : Bool) → nat_lt LONGEST (length (segment_bytes s)) ≡ b → (if b then Some s.number else first_long ss) ≡ None
         → (first_long ss ≡ None → AreShort ss) → AreShort (s ∷ ss)
     by true e h more = absurd (cc)
     by false e h more = (ltb-false _ _ e, more h)
@@ -79,10 +80,10 @@ next_long n ss found h e =
 pub none_long : (n : ℕ) (ss : List SourceSegment) → n < 16 → segment_with n ss ≡ None → long_from n ss ≡ long_from (n + 1) ss
 none_long n ss h e = next_long n ss None h e
 
-pub short_here : (n : ℕ) (ss : List SourceSegment) (s : SourceSegment) → n < 16 → segment_with n ss ≡ Some s → nat_lt 60000 (found_length s) ≡ false → long_from n ss ≡ long_from (n + 1) ss
+pub short_here : (n : ℕ) (ss : List SourceSegment) (s : SourceSegment) → n < 16 → segment_with n ss ≡ Some s → nat_lt LONGEST (found_length s) ≡ false → long_from n ss ≡ long_from (n + 1) ss
 short_here n ss s h e l =
     next_long n ss (Some s) h e ∙ ap (λ b. if b then Some s.number else long_from (n + 1) ss) l
 
-pub long_here : (n : ℕ) (ss : List SourceSegment) (s : SourceSegment) → n < 16 → segment_with n ss ≡ Some s → nat_lt 60000 (found_length s) ≡ true → long_from n ss ≡ Some s.number
+pub long_here : (n : ℕ) (ss : List SourceSegment) (s : SourceSegment) → n < 16 → segment_with n ss ≡ Some s → nat_lt LONGEST (found_length s) ≡ true → long_from n ss ≡ Some s.number
 long_here n ss s h e l =
     next_long n ss (Some s) h e ∙ ap (λ b. if b then Some s.number else long_from (n + 1) ss) l

@@ -10,4 +10,5 @@ pub mod Outlines
 pub mod Outcomes
 pub mod Stages
 pub mod ShownAgain
+pub mod ListedFile
 pub mod Tables

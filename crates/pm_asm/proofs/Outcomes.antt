@@ -2,7 +2,7 @@
 use Rattle.std.proofs.Common.{◌≡◌, ◌≢◌, ℕ, false, List, [], ◌∷◌, length, refl, sym, ap, ◌∙◌, subst, Option, Some, None}
 use Rattle.std.specs.Prelude.{nat_lt, if◌then◌else◌, Ok, Err}
 use Rattle.std.proofs.lemmas.Bool.{le-ltb}
-use Rattle.pm_disasm.specs.Program.{Segment, AreShort, IsProgram, segment_bytes}
+use Rattle.pm_disasm.specs.Program.{Segment, IsProgram, segment_bytes}
 use Rattle.pm_source.specs.declared.fault.AsmFault.{AsmFault}
 use Rattle.pm_source.specs.declared.fault.AsmFault.TheVariants.{TooLong, NoMemory}
 use Rattle.pm_source.specs.Faults.{faults}
@@ -13,14 +13,15 @@ use Rattle.pm_disasm.proofs.Fitting.{short_fits}
 use Rattle.pm_source.proofs.Programs.{spelled_is_program}
 use Rattle.pm_reader.specs.Firsts.{first_of}
 use Rattle.pm_asm.specs.Assembled.{AssembledIsSpelled, Assembles, RefusedSpellsNothing, SpellsNothing, assembled, outcome_by, outcome_of}
-use Rattle.pm_asm.specs.Lengths.{IsTooLong, first_long}
+use Rattle.pm_asm.specs.Lengths.{AreShort, IsTooLong, first_long}
 use Rattle.pm_asm.proofs.FoundLengths.{all_short}
+use Rattle.pm_asm.specs.declared.lengths.TheConstants.{LONGEST}
 
 -- where all are short, none is long
 pub none_too_long : (ss : List Segment) → AreShort ss → first_long ss ≡ None
 none_too_long [] h = refl
 none_too_long (s ∷ ss) h =
-    let short : nat_lt 60000 (length (segment_bytes s)) ≡ false = le-ltb 60000 (length (segment_bytes s)) h.0 in
+    let short : nat_lt LONGEST (length (segment_bytes s)) ≡ false = le-ltb LONGEST (length (segment_bytes s)) h.0 in
     ap (λ b. if b then Some s.number else first_long ss) short ∙ none_too_long ss h.1
 
 first_none : (fs : List AsmFault) → first_of fs ≡ None → fs ≡ []

@@ -15,6 +15,7 @@ use Rattle.pm_source.specs.Meaning.{exit_place, found_item, found_label, found_p
 use Rattle.pm_source.proofs.Ends.{found_behind}
 use Rattle.pm_source.proofs.Labels.{map_length}
 use Rattle.pm_source.proofs.Sizes.{end_within}
+use Rattle.pm_asm.specs.declared.lengths.TheConstants.{LONGEST}
 
 -- one item more
 pub item_long : (before after : List ℕ) (item : Item ℕ) → after ≡ before ++ item_bytes (length before) item → length after ≡ length before + size (length before) item
@@ -158,7 +159,7 @@ found_later at (p ∷ ps) =
     let grows : at ≤ source_end at p = omega (arith, length-code at (found_procedure at p).items, behind) in
     omega (arith, same, grows, found_later (source_end at p) ps)
 
-pub procedure_short : (at : ℕ) (p : Source) (ps : List Source) → procedures_end at (found_procedures at (p ∷ ps)) ≤ 60000 → jtab_of (found_procedure at p) ≤ 60000
+pub procedure_short : (at : ℕ) (p : Source) (ps : List Source) → procedures_end at (found_procedures at (p ∷ ps)) ≤ LONGEST → jtab_of (found_procedure at p) ≤ LONGEST
 procedure_short at p ps h =
     let same : procedures_end (jtab_of (found_procedure at p) + 2) (found_procedures (source_end at p) ps) ≡ procedures_end (source_end at p) (found_procedures (source_end at p) ps) = ap (λ n. procedures_end n (found_procedures (source_end at p) ps)) (found_behind at p) in
     omega (arith, h, same, found_behind at p, found_later (source_end at p) ps)
@@ -168,9 +169,9 @@ pub found_count : (at : ℕ) (ps : List Source) → length (found_procedures at 
 found_count at [] = refl
 found_count at (p ∷ ps) = ap suc (found_count (source_end at p) ps)
 
-pub segment_ends : (s : SourceSegment) (start : List ℕ) → start ≡ [] → IsSegment (found_segment s) → length (segment_bytes (found_segment s)) ≤ 60000
-    → procedures_end (length start) (found_procedures (length start) s.procedures) ≤ 60000
-segment_ends s start e h short = subst (λ bs. procedures_end (length bs) (found_procedures (length bs) s.procedures) ≤ 60000) (sym e) (omega (arith, short, end_within (found_segment s) h.follow))
+pub segment_ends : (s : SourceSegment) (start : List ℕ) → start ≡ [] → IsSegment (found_segment s) → length (segment_bytes (found_segment s)) ≤ LONGEST
+    → procedures_end (length start) (found_procedures (length start) s.procedures) ≤ LONGEST
+segment_ends s start e h short = subst (λ bs. procedures_end (length bs) (found_procedures (length bs) s.procedures) ≤ LONGEST) (sym e) (omega (arith, short, end_within (found_segment s) h.follow))
 
 pub segment_good : (s : SourceSegment) (start : List ℕ) → start ≡ [] → IsSegment (found_segment s) → AllByRecursion IsProcedure (found_procedures (length start) s.procedures)
 segment_good s start e h = subst (λ bs. AllByRecursion IsProcedure (found_procedures (length bs) s.procedures)) (sym e) h.procedures
@@ -190,7 +191,7 @@ headed s start first tables e f t = record {
 headed_end : (s : SourceSegment) (first tables : List ℕ) → IsSegment (found_segment s) → Headed s first tables → length first ≡ procedures_end 0 (found_procedures 0 s.procedures)
 headed_end s first tables h f = omega (arith, ap length f.first, length-procedures 0 1 (found_procedures 0 s.procedures) h.follow)
 
-pub headed_room : (s : SourceSegment) (first tables : List ℕ) → IsSegment (found_segment s) → length (segment_bytes (found_segment s)) ≤ 60000 → Headed s first tables → length first + 2 * length tables ≤ 65536
+pub headed_room : (s : SourceSegment) (first tables : List ℕ) → IsSegment (found_segment s) → length (segment_bytes (found_segment s)) ≤ LONGEST → Headed s first tables → length first + 2 * length tables ≤ 65536
 headed_room s first tables h short f =
     let ends : length first ≡ procedures_end 0 (found_procedures 0 s.procedures) = headed_end s first tables h f in
     let count : length tables ≡ length (found_procedures 0 s.procedures) = ap length f.tables ∙ map_length jtab_of (found_procedures 0 s.procedures) in

@@ -2,7 +2,7 @@
 use Rattle.std.proofs.Common.{◌≡◌, ◌≤◌, ℕ, List, [], ◌∷◌, length, refl, sym, ap, ◌∙◌, subst, Ok}
 use Rattle.std.specs.List.{AllZip}
 use Rattle.pm_disasm.specs.Laws.{IsSameSegment}
-use Rattle.pm_disasm.specs.Program.{AreShort, Segment, segment_bytes}
+use Rattle.pm_disasm.specs.Program.{Segment, segment_bytes}
 use Rattle.pm_disasm.specs.Shown.{file_text}
 use Rattle.pm_disasm.proofs.Fitting.{short_fits}
 use Rattle.pm_source.specs.Image.{file_of, listing}
@@ -12,11 +12,13 @@ use Rattle.pm_source.proofs.Programs.{spelled_is_program}
 use Rattle.pm_source.proofs.Round.{shown_file_is_spelled}
 use Rattle.pm_asm.specs.Assembled.{AssembledIsShownAgain, Assembles, assembled}
 use Rattle.pm_asm.proofs.Outcomes.{assembled_is_spelled}
+use Rattle.pm_asm.specs.Lengths.{AreShort}
+use Rattle.pm_asm.specs.declared.lengths.TheConstants.{LONGEST}
 
 -- segments with the same bytes are as short
 same_short : (ss ts : List Segment) → AllZip IsSameSegment ss ts → AreShort ss → AreShort ts
 same_short [] [] z h = tt
-same_short (s ∷ ss) (t ∷ ts) z h = (subst (λ bs. length bs ≤ 60000) (sym z.0.bytes) h.0, same_short ss ts z.1 h.1)
+same_short (s ∷ ss) (t ∷ ts) z h = (subst (λ bs. length bs ≤ LONGEST) (sym z.0.bytes) h.0, same_short ss ts z.1 h.1)
 same_short [] (t ∷ ts) z h = absurd z
 same_short (s ∷ ss) [] z h = absurd z
 

@@ -1,7 +1,7 @@
 -- The stages of assembling: what is read, its labels, and its lengths.
 use Rattle.std.proofs.Common.{◌≡◌, ◌≢◌, ℕ, List, [], ◌∷◌, sym, ap, subst, ◌∙◌, Some}
 use Rattle.std.specs.Prelude.{if◌then◌else◌, Ok, Err}
-use Rattle.pm_disasm.specs.Program.{AreShort, IsProgram}
+use Rattle.pm_disasm.specs.Program.{IsProgram}
 use Rattle.pm_source.specs.declared.fault.AsmFault.{AsmFault}
 use Rattle.pm_source.specs.declared.fault.AsmFault.TheVariants.{NoMemory}
 use Rattle.pm_source.specs.Faults.{all_label_faults, faults, faults_of_lines, source_of}
@@ -13,7 +13,7 @@ use Rattle.pm_reader.specs.declared.source.Segment as code
 use Rattle.pm_reader.specs.Firsts.{IsFirstOf, first_of}
 use Rattle.pm_reader.specs.Views.{segments_seen}
 use Rattle.pm_asm.specs.Assembled.{Assembles, assembled}
-use Rattle.pm_asm.specs.Lengths.{IsTooLong, found_program}
+use Rattle.pm_asm.specs.Lengths.{AreShort, IsTooLong, found_program}
 use Rattle.pm_asm.proofs.Outcomes.{fault_refused, faultless_is_program, is_assembled, is_spelled, long_refused}
 
 -- the faults of a text, those of its lines and of its labels

@@ -1,14 +1,17 @@
 -- What assembling a text gives.
-use Rattle.std.specs.Prelude.{◌≡◌, ◌↔◌, ℕ, List, Option, Some, None, Result, Ok, Err}
-use Rattle.pm_disasm.specs.Program.{Segment, AreShort}
+use Rattle.std.specs.Prelude.{◌≡◌, ◌↔◌, ◌<◌, ℕ, List, [], Option, Some, None, Result, Ok, Err}
+use Rattle.std.specs.Option.{unwrap_or}
+use Rattle.pm_codefile.specs.Dictionary.{segment_in}
+use Rattle.pm_disasm.specs.Program.{Segment}
 use Rattle.pm_disasm.specs.Shown.{file_text}
 use Rattle.pm_source.specs.declared.fault.AsmFault.{AsmFault}
 use Rattle.pm_source.specs.declared.fault.AsmFault.TheVariants.{TooLong}
+use Rattle.pm_source.specs.Denoted.{ArePlacedFrom, denoted, denoted_bytes, of_segment}
 use Rattle.pm_source.specs.Faults.{faults}
 use Rattle.pm_source.specs.Image.{file_of, listing}
 use Rattle.pm_source.specs.Meaning.{Spells, program_of}
 use Rattle.pm_reader.specs.Firsts.{first_of}
-use Rattle.pm_asm.specs.Lengths.{first_long}
+use Rattle.pm_asm.specs.Lengths.{AreShort, first_long}
 
 -- A code file and a listing, or a fault.
 abbrev pub Outcome : Type 0
@@ -46,6 +49,12 @@ AssembledIsSpelled = (text file shown : List ℕ) → (assembled text ≡ Ok (fi
 -- A text that is refused spells no program without a segment that is too long.
 abbrev pub RefusedSpellsNothing : Type 0
 RefusedSpellsNothing = (text : List ℕ) (fault : AsmFault) → assembled text ≡ Err fault → SpellsNothing text
+
+-- What the characters of a listing denote for segment n is the segment of slot n of the code file, none where it has
+-- no such segment; and each of its lines names the offset at which its bytes stand in the segment.
+abbrev pub AssembledIsListed : Type 0
+AssembledIsListed = (text file shown : List ℕ) (n : ℕ) → n < 16 → assembled text ≡ Ok (file, shown)
+    → (denoted_bytes n shown ≡ unwrap_or (segment_in file n) []) × ArePlacedFrom 0 (of_segment n (denoted shown))
 
 -- The text that is shown for an assembled code file is assembled to the same code file.
 abbrev pub AssembledIsShownAgain : Type 0

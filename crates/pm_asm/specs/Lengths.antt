@@ -1,11 +1,13 @@
 -- How long segments are.
-use Rattle.std.specs.Prelude.{◌≡◌, ℕ, List, [], ◌∷◌, Bool, length, map, nat_lt, if◌then◌else◌, Option, Some, None}
+use Rattle.std.specs.Prelude.{◌≡◌, ◌≤◌, ℕ, List, [], ◌∷◌, Bool, length, map, nat_lt, if◌then◌else◌, Option, Some, None}
+use Rattle.std.specs.List.{AllByRecursion}
 use Rattle.pm_disasm.specs.Program.{Segment, segment_bytes}
 use Rattle.pm_source.specs.declared.fault.AsmFault.{AsmFault}
 use Rattle.pm_source.specs.declared.fault.AsmFault.TheVariants.{TooLong, NoMemory}
 use Rattle.pm_source.specs.Faults.{source_end}
 use Rattle.pm_source.specs.Meaning.{ascending, found_segment}
 use Rattle.pm_source.specs.Source.{Source, SourceSegment}
+use Rattle.pm_asm.specs.declared.lengths.TheConstants.{LONGEST}
 
 -- where procedures end, of which the first begins at an offset
 abbrev pub sources_end : ℕ → List Source → ℕ
@@ -20,10 +22,14 @@ found_length s = length (segment_bytes (found_segment s))
 abbrev pub is_countless_long : SourceSegment → Bool
 is_countless_long s = nat_lt 18446744073709551615 (found_length s)
 
+-- no segment has more than 60,000 bytes, the most that are assembled
+abbrev pub AreShort : List Segment → Type 0
+AreShort ss = AllByRecursion (λ s. length (segment_bytes s) ≤ LONGEST) ss
+
 -- the number of the first segment that has more than 60,000 bytes
 abbrev pub first_long : List Segment → Option ℕ
 first_long [] = None
-first_long (s ∷ ss) = if nat_lt 60000 (length (segment_bytes s)) then Some s.number else first_long ss
+first_long (s ∷ ss) = if nat_lt LONGEST (length (segment_bytes s)) then Some s.number else first_long ss
 
 -- A fault names the first segment that is too long, if it is not that a length cannot be counted.
 abbrev pub IsTooLong : List Segment → AsmFault → Type 0

@@ -12,20 +12,16 @@ ghost use Rattle.pm_source.specs.Source.{row_items};
 ghost use Rattle.pm_reader.specs.Views.{entry_seen, procedure_seen, segment_seen};
 ghost use Rattle.pm_asm.specs.Found.{items_in};
 ghost use Rattle.pm_asm.specs.Firsts.{places_in};
+ghost use Rattle.pm_asm.specs.declared.lengths.TheConstants.{LONGEST};
 
 use crate::code::Code;
 use crate::found::{exit_place, found_label, jump_byte};
 use crate::table::table_of;
+use pm_disasm::{CASE_JUMP, JUMP};
 use pm_line::{Item, Row, Target};
 use pm_opcode::{Encode, Instr, encode};
 use pm_reader::{Entry, Procedure, Segment};
 use std::alloc::{AllocError, Global};
-
-/// The opcode of XJP.
-const CASE_JUMP: u8 = 172;
-
-/// The opcode of UJP, the jump in an XJP.
-const JUMP: u8 = 185;
 
 /// Adds a word, its low byte first.
 fn push_word(out: &mut Vec<u8>, value: u16) -> Result<(), AllocError>
@@ -227,7 +223,7 @@ fn push_procedure(
     procedure: &Procedure<'_>,
 ) -> Result<(), AllocError>
     requires procedure { IsProcedure (found_procedure (length out.old.items) (procedure_seen procedure.now)) }
-    requires short { jtab_of (found_procedure (length out.old.items) (procedure_seen procedure.now)) ≤ 60000 }
+    requires short { jtab_of (found_procedure (length out.old.items) (procedure_seen procedure.now)) ≤ LONGEST }
     ensures bytes { OnOk result (out.new.items ≡ out.old.items ++ procedure_bytes number (found_procedure (length out.old.items) (procedure_seen procedure.now))) }
 {
     let start = out.len();
@@ -252,7 +248,7 @@ fn push_procedures(
     procedures: &[Procedure<'_>],
 ) -> Result<Vec<usize>, AllocError>
     requires procedures { AllByRecursion IsProcedure (found_procedures (length out.old.items) (map procedure_seen procedures.now)) }
-    requires short { procedures_end (length out.old.items) (found_procedures (length out.old.items) (map procedure_seen procedures.now)) ≤ 60000 }
+    requires short { procedures_end (length out.old.items) (found_procedures (length out.old.items) (map procedure_seen procedures.now)) ≤ LONGEST }
     requires few { length procedures.now < 256 }
     ensures bytes { OnOk result (out.new.items ≡ out.old.items ++ procedures_bytes 1 (found_procedures (length out.old.items) (map procedure_seen procedures.now))) }
     ensures tables { IfOk result (λ tables. tables.items ≡ map jtab_of (found_procedures (length out.old.items) (map procedure_seen procedures.now))) }
@@ -268,7 +264,7 @@ fn push_procedures(
 /// The bytes of a segment: its procedures, its dictionary, and the word with its number and the count of its procedures.
 pub(crate) fn segment_bytes(alloc: Global, segment: &Segment<'_>) -> Result<Vec<u8>, AllocError>
     requires segment { IsSegment (found_segment (segment_seen segment.now)) }
-    requires short { length (segment_bytes (found_segment (segment_seen segment.now))) ≤ 60000 }
+    requires short { length (segment_bytes (found_segment (segment_seen segment.now))) ≤ LONGEST }
     ensures bytes { IfOk result (λ bytes. bytes.items ≡ segment_bytes (found_segment (segment_seen segment.now))) }
 {
     let mut bytes = Vec::new(alloc);

@@ -2,11 +2,13 @@
 
 ghost use Rattle.std.specs.Prelude.{◌≡◌, ◌<◌, ◌≤◌, ◌-◌, ◌++◌, length, option_map, replicate, IfOk};
 ghost use Rattle.pm_disasm.specs.Laws.{segment_numbered};
-ghost use Rattle.pm_disasm.specs.Program.{AreShort, IsProgram};
+ghost use Rattle.pm_disasm.specs.Program.{IsProgram};
 ghost use Rattle.pm_source.specs.Image.{bytes_of_segment, file_of, name_of_segment};
 ghost use Rattle.pm_source.specs.Meaning.{segment_with};
 ghost use Rattle.pm_reader.specs.Views.{segments_seen};
 ghost use Rattle.pm_asm.specs.Found.{lent_seen, program_seen};
+ghost use Rattle.pm_asm.specs.Lengths.{AreShort};
+ghost use Rattle.pm_asm.specs.declared.lengths.TheConstants.{LONGEST};
 
 use crate::bytes::segment_bytes;
 use crate::lengths::segment_with;
@@ -40,7 +42,7 @@ fn slot_of(alloc: Global, segments: &[Segment<'_>], number: u8) -> Result<Slot, 
     requires short { AreShort (program_seen segments.now) }
     ensures name { IfOk result (λ slot. slot.name ≡ name_of_segment (segment_numbered number (program_seen segments.now))) }
     ensures bytes { IfOk result (λ slot. slot.bytes.items ≡ bytes_of_segment (segment_numbered number (program_seen segments.now))) }
-    ensures short { IfOk result (λ slot. length slot.bytes.items ≤ 60000) }
+    ensures short { IfOk result (λ slot. length slot.bytes.items ≤ LONGEST) }
 {
     let Some(segment) = segment_with(segments, number) else {
         return Ok(Slot {

@@ -1,5 +1,5 @@
 //! Laws of what assembling gives. The functions do nothing.
-ghost use Rattle.pm_asm.specs.Assembled.{AssembledIsShownAgain, AssembledIsSpelled, RefusedSpellsNothing};
+ghost use Rattle.pm_asm.specs.Assembled.{AssembledIsListed, AssembledIsShownAgain, AssembledIsSpelled, RefusedSpellsNothing};
 
 /// A text is assembled exactly where it spells a program of which no segment has more than 60,000 bytes: what it gives is the code
 /// file and the listing of such a program, and where they are those of one, it gives them.
@@ -10,6 +10,12 @@ pub fn assembled_is_spelled()
 /// A text that is refused spells no program of which no segment has more than 60,000 bytes.
 pub fn refused_spells_nothing()
     ensures law { RefusedSpellsNothing }
+{}
+
+/// What the characters of a listing denote for segment n is the segment of slot n of the code file, and each of its
+/// lines names the offset at which its bytes stand in it.
+pub fn assembled_is_listed()
+    ensures law { AssembledIsListed }
 {}
 
 /// The text that the disassembler shows for an assembled code file is assembled to the same code file.

@@ -3,18 +3,18 @@
 ghost use Rattle.std.specs.Prelude.{◌≡◌, None, Err, IsTrue, IfErr, IfOk, IfSome, OnOk, OnErr, map, nat_lt};
 ghost use Rattle.std.specs.List.{list_any};
 ghost use Rattle.std.specs.Option.{option_map};
-ghost use Rattle.pm_disasm.specs.Program.{AreShort};
 ghost use Rattle.pm_source.specs.declared.fault.AsmFault.TheVariants.{NoMemory};
 ghost use Rattle.pm_source.specs.Meaning.{segment_with};
 ghost use Rattle.pm_reader.specs.Reader.{IsCountless};
 ghost use Rattle.pm_reader.specs.Views.{procedure_seen, segment_seen, segments_seen};
-ghost use Rattle.pm_asm.specs.Lengths.{IsTooLong, found_length, is_countless_long, found_program, sources_end};
+ghost use Rattle.pm_asm.specs.Lengths.{AreShort, IsTooLong, found_length, found_program, is_countless_long, sources_end};
+ghost use Rattle.pm_asm.specs.declared.lengths.TheConstants.{LONGEST};
 
 use pm_reader::{Procedure, Segment, source_end};
 use pm_source::AsmFault;
 
-/// How many bytes a segment may have.
-const LONGEST: usize = 60_000;
+/// How many bytes a segment may have to be assembled.
+pub const LONGEST: usize = 60_000;
 
 /// The segment of a number.
 pub(crate) fn segment_with<'s, 'a>(
@@ -56,7 +56,7 @@ fn segment_length(segment: &Segment<'_>) -> Option<usize>
 
 /// Whether a segment has more than 60,000 bytes.
 fn is_long(segment: &Segment<'_>) -> Result<bool, AsmFault>
-    ensures value { IfOk result (λ long. long ≡ nat_lt 60000 (found_length (segment_seen segment.now))) }
+    ensures value { IfOk result (λ long. long ≡ nat_lt LONGEST (found_length (segment_seen segment.now))) }
     ensures refused { IfErr result (λ fault. fault ≡ NoMemory) }
     ensures too_long { OnErr result (IsCountless (found_length (segment_seen segment.now))) }
 {

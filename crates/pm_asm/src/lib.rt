@@ -13,6 +13,7 @@ mod listing;
 mod table;
 
 pub use assembly::{Assembly, assemble};
+pub use lengths::LONGEST;
 pub use pm_source::AsmFault;
 
 #[cfg(test)]

@@ -4,7 +4,7 @@ ghost use Rattle.std.specs.Prelude.{◌≡◌, ◌<◌, ◌≤◌, ◌+◌, ◌*
 ghost use Rattle.std.specs.List.{AllByRecursion};
 ghost use Rattle.std.specs.Option.{option_to_list};
 ghost use Rattle.pm_disasm.specs.Item.{IsItem, item_bytes, size};
-ghost use Rattle.pm_disasm.specs.Program.{AreItems, AreShort, IsProcedure, IsProgram, IsSegment, code_bytes, end_of, entry_bytes, procedure_bytes, procedures_bytes, procedures_end, segment_bytes};
+ghost use Rattle.pm_disasm.specs.Program.{AreItems, IsProcedure, IsProgram, IsSegment, code_bytes, end_of, entry_bytes, procedure_bytes, procedures_bytes, procedures_end, segment_bytes};
 ghost use Rattle.pm_disasm.specs.Shown.{padded, shown_item};
 ghost use Rattle.pm_line.specs.Views.{item_seen, row_seen};
 ghost use Rattle.pm_source.specs.Faults.{source_end};
@@ -15,6 +15,8 @@ ghost use Rattle.pm_reader.specs.Views.{procedure_seen, segment_seen, segments_s
 ghost use Rattle.pm_asm.specs.Found.{items_in, program_seen};
 ghost use Rattle.pm_asm.specs.Firsts.{places_in};
 ghost use Rattle.pm_asm.specs.Standing.{Stands};
+ghost use Rattle.pm_asm.specs.Lengths.{AreShort};
+ghost use Rattle.pm_asm.specs.declared.lengths.TheConstants.{LONGEST};
 
 use crate::bytes::{entry_places, segment_bytes};
 use crate::code::Code;
@@ -144,7 +146,7 @@ fn item_text(
 ) -> Result<String, AllocError>
     requires item { IsItem at (found_item (places_in code.labels) (item_seen item.now)) }
     requires stands { Stands code.bytes.now at (item_bytes at (found_item (places_in code.labels) (item_seen item.now))) }
-    requires short { length code.bytes.now ≤ 60000 }
+    requires short { length code.bytes.now ≤ LONGEST }
     ensures text { IfOk result (λ text. string_bytes text ≡ shown_item (found_item (places_in code.entry.labels) (item_seen item.now))) }
 {
     match item {
@@ -163,7 +165,7 @@ fn push_item(
 ) -> Result<usize, AllocError>
     requires item { IsItem at (found_item (places_in code.labels) (item_seen item.now)) }
     requires stands { Stands code.bytes.now at (item_bytes at (found_item (places_in code.labels) (item_seen item.now))) }
-    requires short { length code.bytes.now ≤ 60000 }
+    requires short { length code.bytes.now ≤ LONGEST }
     ensures end { IfOk result (λ end. end ≡ at + size at (item_seen item.now)) }
     ensures text { OnOk result (string_bytes text.new ≡ string_bytes text.old ++ listed_line code.entry.segment (record {
       procedure = code.entry.procedure;
@@ -193,7 +195,7 @@ fn push_items(
 ) -> Result<usize, AllocError>
     requires items { AreItems at (map (found_item (places_in code.labels)) (map item_seen items.now)) }
     requires stand { Stands code.bytes.now at (code_bytes at (map (found_item (places_in code.labels)) (map item_seen items.now))) }
-    requires short { length code.bytes.now ≤ 60000 }
+    requires short { length code.bytes.now ≤ LONGEST }
     ensures end { IfOk result (λ end. end ≡ end_of at (map (found_item (places_in code.entry.labels)) (map item_seen items.now))) }
     ensures text { OnOk result ((rest : List Listed) → string_bytes text.new ++ listed_lines code.entry.segment rest
         ≡ string_bytes text.old ++ listed_lines code.entry.segment (listed_items code.entry.procedure at (map (found_item (places_in code.entry.labels)) (map item_seen items.now)) ++ rest)) }
@@ -215,7 +217,7 @@ fn push_row(
 ) -> Result<usize, AllocError>
     requires items { AreItems at (map (found_item (places_in code.labels)) (row_items (row_seen row.now))) }
     requires stand { Stands code.bytes.now at (code_bytes at (map (found_item (places_in code.labels)) (row_items (row_seen row.now)))) }
-    requires short { length code.bytes.now ≤ 60000 }
+    requires short { length code.bytes.now ≤ LONGEST }
     ensures end { IfOk result (λ end. end ≡ end_of at (map (found_item (places_in code.entry.labels)) (row_items (row_seen row.now)))) }
     ensures text { OnOk result ((rest : List Listed) → string_bytes text.new ++ listed_lines code.entry.segment rest
         ≡ string_bytes text.old ++ listed_lines code.entry.segment (listed_items code.entry.procedure at (map (found_item (places_in code.entry.labels)) (row_items (row_seen row.now))) ++ rest)) }
@@ -234,7 +236,7 @@ fn push_code(
 ) -> Result<usize, AllocError>
     requires items { AreItems code.labels.start (items_in code.labels) }
     requires stand { Stands code.bytes.now code.labels.start (code_bytes code.labels.start (items_in code.labels)) }
-    requires short { length code.bytes.now ≤ 60000 }
+    requires short { length code.bytes.now ≤ LONGEST }
     ensures end { IfOk result (λ end. end ≡ end_of code.entry.labels.start (items_in code.entry.labels)) }
     ensures text { OnOk result ((rest : List Listed) → string_bytes text.new ++ listed_lines code.entry.segment rest
         ≡ string_bytes text.old ++ listed_lines code.entry.segment (listed_items code.entry.procedure code.entry.labels.start (items_in code.entry.labels) ++ rest)) }
@@ -273,7 +275,7 @@ fn push_entries(
     entries: &[usize],
 ) -> Result<(), AllocError>
     requires stand { Stands bytes.now place.at (entry_bytes place.at (reverse entries.now)) }
-    requires short { length bytes.now ≤ 60000 }
+    requires short { length bytes.now ≤ LONGEST }
     ensures text { OnOk result ((rest : List Listed) → string_bytes text.new ++ listed_lines place.segment rest
         ≡ string_bytes text.old ++ listed_lines place.segment (listed_entries place.procedure place.at (reverse entries.now) ++ rest)) }
 {
@@ -298,7 +300,7 @@ fn push_procedure(
 ) -> Result<usize, AllocError>
     requires procedure { IsProcedure (found_procedure place.at (procedure_seen procedure.now)) }
     requires stands { Stands bytes.now place.at (procedure_bytes place.procedure (found_procedure place.at (procedure_seen procedure.now))) }
-    requires short { length bytes.now ≤ 60000 }
+    requires short { length bytes.now ≤ LONGEST }
     ensures end { IfOk result (λ end. end ≡ source_end place.at (procedure_seen procedure.now)) }
     ensures text { OnOk result ((rest : List Listed) → string_bytes text.new ++ listed_lines place.segment rest
         ≡ string_bytes text.old ++ listed_lines place.segment (listed_procedure place.procedure (found_procedure place.at (procedure_seen procedure.now)) rest)) }
@@ -335,7 +337,7 @@ fn push_procedures(
     requires procedures { AllByRecursion IsProcedure (found_procedures 0 (map procedure_seen procedures.now)) }
     requires stand { Stands bytes.now 0 (procedures_bytes 1 (found_procedures 0 (map procedure_seen procedures.now))) }
     requires few { length procedures.now < 256 }
-    requires short { length bytes.now ≤ 60000 }
+    requires short { length bytes.now ≤ LONGEST }
     ensures end { IfOk result (λ end. end ≡ procedures_end 0 (found_procedures 0 (map procedure_seen procedures.now))) }
     ensures text { OnOk result ((rest : List Listed) → string_bytes text.new ++ listed_lines segment rest
         ≡ string_bytes text.old ++ listed_lines segment (listed_procedures 1 (found_procedures 0 (map procedure_seen procedures.now)) rest)) }
@@ -355,7 +357,7 @@ fn push_procedures(
 /// Adds the lines of a segment.
 fn push_segment(alloc: Global, text: &mut String, segment: &Segment<'_>) -> Result<(), AllocError>
     requires segment { IsSegment (found_segment (segment_seen segment.now)) }
-    requires short { length (segment_bytes (found_segment (segment_seen segment.now))) ≤ 60000 }
+    requires short { length (segment_bytes (found_segment (segment_seen segment.now))) ≤ LONGEST }
     ensures text { OnOk result (string_bytes text.new ≡ string_bytes text.old ++ listed_lines segment.now.number (listed_segment (found_segment (segment_seen segment.now)))) }
 {
     let bytes = segment_bytes(alloc, segment)?;

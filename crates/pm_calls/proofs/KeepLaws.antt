@@ -11,7 +11,7 @@ use Rattle.pm_calls.specs.declared.frames.Place.{Place}
 use Rattle.pm_calls.specs.Places.{Parts}
 use Rattle.pm_calls.specs.Keeps.{above_code, keep_loading, keep_slot, keep_standing, less_kept, segment_kept, segment_unkept, unkeep_slot, unkeep_standing}
 use Rattle.pm_calls.specs.Laws.{IsUsed, UnkeepGivesBack}
-use Rattle.pm_calls.proofs.ReturnLaws.{ok_same, passed}
+use Rattle.pm_calls.proofs.ReturnLaws.{has_room, ok_same, passed}
 
 -- the slot that was set
 set_slot : (places : List (Option Place)) (n : ℕ) (x : Option Place) → n < length places → slice_get (slice_set places n x) n ≡ Some x
@@ -43,13 +43,13 @@ loading_back : (c d : Parts) (n : ℕ) (code : List ℕ) → slice_get c.places 
 unfolding keep_loading segment_unkept unkeep_standing
 loading_back c d n code is even top kept =
     let sp = c.registers.sp in
-    let first = passed (nat_lt 0 (length code)) NoSegment _ d kept in
-    let second = passed (nat_le (c.registers.np + length code) sp) StackOverflow _ d first.1 in
-    let same = ok_same _ d second.1 in
+    let has = has_room c.registers code _ d kept in
+    let room = has.room in
+    let same = ok_same _ d has.made in
     let new : Option Place = Some (record { place = minus sp 2; count = 0; keeps = 1 }) in
     let there : slice_get (slice_set c.places n new) n ≡ Some new = set_slot c.places n new (slice_get_within c.places n None is) in
-    let some : 0 < length code = grind (arith, nat_tests, first.0) in
-    let fits : length code ≤ sp = grind (arith, nat_tests, second.0) in
+    let some = has.some in
+    let fits : length code ≤ sp = omega (arith, room) in
     let below : minus sp 2 + 2 ≡ sp = omega arith in
     let whole : sp - length code + length code ≡ sp = omega arith in
     let test : (sp - length code + length code == minus sp 2 + 2) ≡ true = grind (arith, nat_tests, below, whole) in

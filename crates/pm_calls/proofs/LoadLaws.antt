@@ -12,14 +12,14 @@ use Rattle.pm_words.proofs.RangeLaws.{byte_at-copied_other, byte_at-with_word_ot
 use Rattle.pm_calls.specs.declared.registers.Registers.{Registers}
 use Rattle.pm_calls.specs.declared.frames.Table.{Table}
 use Rattle.pm_calls.specs.declared.frames.Place.{Place}
-use Rattle.pm_calls.specs.declared.frames.Call.{Call}
-use Rattle.pm_calls.specs.declared.frames.Call.TheVariants.{Cxp}
+use Rattle.pm_opcode.specs.declared.operation.Call.{Call}
+use Rattle.pm_opcode.specs.declared.operation.Call.TheVariants.{Cxp}
 use Rattle.pm_calls.specs.Places.{Parts, place_in}
 use Rattle.pm_calls.specs.Links.{static_link}
 use Rattle.pm_calls.specs.Tables.{attributes}
 use Rattle.pm_calls.specs.Calls.{Reached, called, called_at, called_loading, called_slot, entered, frame_top, is_base, kept_below, loading, procedure_of, with_control, with_frame, with_old_base}
 use Rattle.pm_calls.specs.Laws.{LoadedCodeStands}
-use Rattle.pm_calls.proofs.ReturnLaws.{IsFramed, bound, frame_made, loading_memory, low_before, ok_same, passed, size_kept, size_of_control}
+use Rattle.pm_calls.proofs.ReturnLaws.{IsFramed, bound, frame_made, has_room, loading_memory, low_before, ok_same, size_kept, size_of_control}
 
 -- ---- ranges of bytes
 
@@ -90,14 +90,13 @@ record IsLoaded (c : Parts) (code : List ℕ) (at : Reached) : Type 0 where
 loaded_there : (c : Parts) (n : ℕ) (code : List ℕ) (at : Reached) → loading c n code ≡ Ok at → IsLoaded c code at
 unfolding loading
 loaded_there c n code at h =
-    let first = passed (nat_lt 0 (length code)) NoSegment _ _ h in
-    let second = passed (nat_le (c.registers.np + length code) c.registers.sp) StackOverflow _ _ first.1 in
-    let same = ok_same _ at second.1 in
-    let room : c.registers.np + length code ≤ c.registers.sp = grind (arith, nat_tests, second.0) in
+    let has = has_room c.registers code _ at h in
+    let same = ok_same _ at has.made in
+    let room = has.room in
     record {
       memory = sym (ap (λ (x : Reached). x.memory) same);
       loaded = sym (ap (λ (x : Reached). x.loaded) same);
-      some = grind (arith, nat_tests, first.0);
+      some = has.some;
       room = omega (arith, room);
     }
 

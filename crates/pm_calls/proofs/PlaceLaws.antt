@@ -13,8 +13,8 @@ use Rattle.pm_words.specs.Stack.{is_even, minus}
 use Rattle.pm_words.proofs.RangeLaws.{IsMemory-copied}
 use Rattle.pm_calls.specs.declared.registers.Registers.{Registers}
 use Rattle.pm_calls.specs.declared.frames.Table.{Table}
-use Rattle.pm_calls.specs.declared.frames.Call.{Call}
-use Rattle.pm_calls.specs.declared.frames.Call.TheVariants.{Clp, Cgp, Cbp, Cip, Cxp}
+use Rattle.pm_opcode.specs.declared.operation.Call.{Call}
+use Rattle.pm_opcode.specs.declared.operation.Call.TheVariants.{Clp, Cgp, Cbp, Cip, Cxp}
 use Rattle.pm_calls.specs.Links.{static_link}
 use Rattle.pm_calls.specs.Tables.{attributes}
 use Rattle.pm_calls.specs.Calls.{Reached, called, called_at, called_loading, called_slot, called_standing, entered, here, inside, is_base, kept_below, loading, procedure_of, standing, with_frame, with_old_base}
@@ -22,7 +22,7 @@ use Rattle.pm_calls.specs.declared.frames.Place.{Place}
 use Rattle.pm_calls.specs.Places.{Parts}
 use Rattle.pm_calls.specs.Returns.{less, lessened, released, returned, stands_at}
 use Rattle.pm_calls.specs.Laws.{IsCode, IsFirstAt, IsFoundAgain, ReturnGivesPlacesBack}
-use Rattle.pm_calls.proofs.ReturnLaws.{IsFramed, bound, control_kept, control_written, frame_made, loading_memory, low_before, ok_same, passed, return_read}
+use Rattle.pm_calls.proofs.ReturnLaws.{IsFramed, bound, control_kept, control_written, frame_made, has_room, loading_memory, low_before, ok_same, passed, return_read}
 
 -- ---- the slot that a return finds
 
@@ -148,9 +148,7 @@ loading_places : (c d e : Parts) (call : Call) (n : ℕ) (code : List ℕ) (at :
     loading c n code ≡ Ok at → called_at c call at ≡ Ok d → returned d words base ≡ Ok e → e.places ≡ c.places
 unfolding loading
 loading_places c d e call n code at words base h low was again is made done =
-    let first = passed (nat_lt 0 (length code)) NoSegment _ _ is in
-    let second = passed (nat_le (c.registers.np + length code) c.registers.sp) StackOverflow _ _ first.1 in
-    let same = ok_same _ at second.1 in
+    let same = ok_same _ at (has_room c.registers code _ at is).made in
     let s = minus c.registers.sp 2 in
     let new : List (Option Place) = slice_set c.places n (Some (record { place = s; count = 1; keeps = 0 })) in
     let place : at.place ≡ s = sym (ap (λ (x : Reached). x.place) same) in

@@ -13,12 +13,12 @@ use Rattle.pm_words.proofs.RangeLaws.{IsMemory-copied}
 use Rattle.pm_calls.specs.declared.registers.Registers.{Registers}
 use Rattle.pm_calls.specs.declared.frames.Table.{Table}
 use Rattle.pm_calls.specs.declared.frames.Place.{Place}
-use Rattle.pm_calls.specs.declared.frames.Call.{Call}
-use Rattle.pm_calls.specs.declared.frames.Call.TheVariants.{Clp, Cgp, Cbp, Cip, Cxp}
+use Rattle.pm_opcode.specs.declared.operation.Call.{Call}
+use Rattle.pm_opcode.specs.declared.operation.Call.TheVariants.{Clp, Cgp, Cbp, Cip, Cxp}
 use Rattle.pm_calls.specs.Places.{Parts}
 use Rattle.pm_calls.specs.Links.{static_link}
 use Rattle.pm_calls.specs.Tables.{attributes}
-use Rattle.pm_calls.specs.Calls.{Reached, called, called_at, called_loading, called_slot, called_standing, entered, framed, frame_top, here, inside, is_base, kept_below, loading, procedure_of, standing, with_control, with_frame, with_old_base}
+use Rattle.pm_calls.specs.Calls.{Reached, called, called_at, called_loading, called_slot, called_standing, code_fits, entered, framed, frame_top, here, inside, is_base, kept_below, loading, procedure_of, standing, with_control, with_frame, with_old_base}
 use Rattle.pm_calls.specs.Returns.{left_to, returned}
 use Rattle.pm_calls.specs.Laws.{GivesBack, IsCode, Reaches, ReachesSlot, ReturnGivesBack}
 
@@ -31,6 +31,27 @@ passed false e rest y h = cc
 pub bound : {A B : Type 0} (r : Result A ExecError) (rest : A → Result B ExecError) (y : B) → (r >>= rest) ≡ Ok y → (x : A) × (r ≡ Ok x) × (rest x ≡ Ok y)
 bound (Ok x) rest y h = (x, refl, h)
 bound (Err e) rest y h = cc
+
+held : (b : Bool) (e : ExecError) (x : Unit {0}) → demand b e ≡ Ok x → b ≡ true
+held true e x h = refl
+held false e x h = cc
+
+-- code that was loaded: there is some, it fits between NP and SP, and the rest was made
+pub record HasRoom {A : Type 0} (r : Registers) (code : List ℕ) (rest : Result A ExecError) (y : A) : Type 0 where
+  pub some : 0 < length code
+  pub room : r.np + length code ≤ r.sp
+  pub made : rest ≡ Ok y
+
+pub has_room : {A : Type 0} (r : Registers) (code : List ℕ) (rest : Result A ExecError) (y : A) → (code_fits r code >>= λ _. rest) ≡ Ok y → HasRoom r code rest y
+has_room r code rest y h =
+    let k = bound (code_fits r code) (λ _. rest) y h in
+    let first = passed (nat_lt 0 (length code)) NoSegment (demand (nat_le (r.np + length code) r.sp) StackOverflow) k.0 k.1 in
+    let second = held (nat_le (r.np + length code) r.sp) StackOverflow k.0 first.1 in
+    record {
+      some = grind (arith, nat_tests, first.0);
+      room = grind (arith, nat_tests, second);
+      made = k.2;
+    }
 
 abbrev pub ok : {A : Type 0} → A → Result A ExecError
 ok x = Ok x
@@ -245,10 +266,9 @@ standing_memory c n p at h = elim (cases_Bool (p.place == c.registers.seg)) [
 pub loading_memory : (c : Parts) (n : ℕ) (code : List ℕ) (at : Reached) → IsMemory c.memory → All (λ b. b < 256) code → c.registers.sp ≤ 65504 → loading c n code ≡ Ok at → IsMemory at.memory
 unfolding loading
 loading_memory c n code at m bytes low h =
-    let first = passed (nat_lt 0 (length code)) NoSegment _ _ h in
-    let second = passed (nat_le (c.registers.np + length code) c.registers.sp) StackOverflow _ _ first.1 in
-    let room : c.registers.np + length code ≤ c.registers.sp = grind (arith, nat_tests, second.0) in
-    let is : with_bytes c.memory (c.registers.sp - length code) code ≡ at.memory = ap (λ (x : Reached). x.memory) (ok_same _ at second.1) in
+    let has = has_room c.registers code _ at h in
+    let room = has.room in
+    let is : with_bytes c.memory (c.registers.sp - length code) code ≡ at.memory = ap (λ (x : Reached). x.memory) (ok_same _ at has.made) in
     subst IsMemory is (IsMemory-with_bytes c.memory code (c.registers.sp - length code) m (omega (arith, room, low)) bytes)
 
 slot_gives_back : (c d e : Parts) (call : Call) (n : ℕ) (code : Option (List ℕ)) (slot : Option (Option Place)) (words : ℕ) (base : Bool) →

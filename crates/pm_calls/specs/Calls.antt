@@ -7,11 +7,12 @@ use Rattle.pm_words.specs.Stack.{◌>>=◌, demand, minus}
 use Rattle.pm_calls.specs.declared.registers.Registers.{Registers}
 use Rattle.pm_calls.specs.declared.frames.Table.{Table}
 use Rattle.pm_calls.specs.declared.frames.Place.{Place}
-use Rattle.pm_calls.specs.declared.frames.Call.{Call}
-use Rattle.pm_calls.specs.declared.frames.Call.TheVariants.{Clp, Cgp, Cbp, Cip, Cxp}
+use Rattle.pm_opcode.specs.declared.operation.Call.{Call}
+use Rattle.pm_opcode.specs.declared.operation.Call.TheVariants.{Clp, Cgp, Cbp, Cip, Cxp}
 use Rattle.pm_calls.specs.Places.{Parts}
 use Rattle.pm_calls.specs.Links.{static_link}
 use Rattle.pm_calls.specs.Tables.{attributes}
+use Rattle.pm_words.specs.declared.layout.TheConstants.{STACK_END}
 
 -- a call that is linked as that of a main procedure, and keeps the old BASE
 abbrev pub is_base : Call → ℤ → Bool
@@ -41,12 +42,17 @@ pub record Reached : Type 0 where
 abbrev pub here : Parts → Reached
 here c = record { memory = c.memory; places = c.places; place = c.registers.seg; loaded = 0 }
 
+-- code is loaded where there is some, and it fits between NP and SP
+abbrev pub code_fits : Registers → List ℕ → Result (Unit {0}) ExecError
+code_fits r code = do
+  _ ← demand (nat_lt 0 (length code)) NoSegment
+  demand (nat_le (r.np + length code) r.sp) StackOverflow
+
 -- a segment that is loaded now: its code ends at SP, and its highest word is the word below
 unfoldable pub loading : Parts → ℕ → List ℕ → Result Reached ExecError
 loading c n code = do
   let sp = c.registers.sp
-  _ ← demand (nat_lt 0 (length code)) NoSegment
-  _ ← demand (nat_le (c.registers.np + length code) sp) StackOverflow
+  _ ← code_fits c.registers code
   Ok (record {
     memory = with_bytes c.memory (sp - length code) code;
     places = slice_set c.places n (Some (record { place = minus sp 2; count = 1; keeps = 0 }));
@@ -111,7 +117,7 @@ inside base r s t f = record r {
 -- from the top down. Sums are whole numbers.
 unfoldable pub framed : List ℕ → ℕ → ℕ → Registers → Bool → Table → ℕ → Result (List ℕ × Registers) ExecError
 framed m s loaded r base t static = do
-  _ ← demand (nat_le (r.sp + t.parameters) 65504) InvalidMemory
+  _ ← demand (nat_le (r.sp + t.parameters) STACK_END) InvalidMemory
   let top = frame_top loaded r.sp t.parameters
   let size = t.locals + t.parameters + 12
   _ ← demand (nat_le (r.np + kept_below base + size) top) StackOverflow
@@ -153,11 +159,6 @@ called c (Clp p) code = called_at c (Clp p) (here c)
 called c (Cgp p) code = called_at c (Cgp p) (here c)
 called c (Cbp p) code = called_at c (Cbp p) (here c)
 called c (Cip p) code = called_at c (Cip p) (here c)
-
--- a call was entered: it gives the memory and the registers, or an error with the memory as it was
-abbrev pub Enters : Result Registers ExecError → List ℕ → List ℕ → Result (List ℕ × Registers) ExecError → Type 0
-Enters (Ok r) old new entering = entering ≡ Ok (new, r)
-Enters (Err e) old new entering = (entering ≡ Err e) × (new ≡ old)
 
 -- a call or a return gives the new parts, or an error with the parts as they were
 abbrev pub Leaves : {A : Type 0} → Result A ExecError → Parts → Parts → Result Parts ExecError → Type 0

@@ -8,6 +8,7 @@ use Rattle.pm_words.specs.Stack.{◌>>=◌, demand, load, minus}
 use Rattle.pm_calls.specs.declared.exits.Wanted.{Wanted}
 use Rattle.pm_calls.specs.Places.{Parts}
 use Rattle.pm_calls.specs.Tables.{self_relative}
+use Rattle.pm_words.specs.declared.layout.TheConstants.{SYSTEM_FRAME}
 
 -- Whether the procedure with its segment's highest word at s and its table at j is the wanted one: the low bytes there
 -- are the two numbers. Both words are read always.
@@ -30,7 +31,7 @@ control m f n = word_at m ((f + n) % 65536)
 unfoldable pub met : List ℕ → Wanted → ℕ → Result Bool ExecError
 met m p f = do
   caller ← load m ((f + 2) % 65536)
-  _ ← demand (not (f == 65492 || caller == 65492)) NoProcedure
+  _ ← demand (not (f == SYSTEM_FRAME || caller == SYSTEM_FRAME)) NoProcedure
   jtab ← load m ((f + 4) % 65536)
   seg ← load m ((f + 6) % 65536)
   is_wanted m p seg jtab

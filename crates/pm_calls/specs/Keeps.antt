@@ -6,6 +6,7 @@ use Rattle.pm_words.specs.Words.{with_bytes}
 use Rattle.pm_words.specs.Stack.{◌>>=◌, demand, minus}
 use Rattle.pm_calls.specs.declared.frames.Place.{Place}
 use Rattle.pm_calls.specs.Places.{Parts}
+use Rattle.pm_calls.specs.Calls.{code_fits}
 
 -- ---- one keep more
 
@@ -20,8 +21,7 @@ keep_standing c n p = do
 unfoldable pub keep_loading : Parts → ℕ → List ℕ → Result Parts ExecError
 keep_loading c n code = do
   let sp = c.registers.sp
-  _ ← demand (nat_lt 0 (length code)) NoSegment
-  _ ← demand (nat_le (c.registers.np + length code) sp) StackOverflow
+  _ ← code_fits c.registers code
   Ok (record {
     memory = with_bytes c.memory (sp - length code) code;
     registers = record c.registers { sp = sp - length code };

@@ -5,8 +5,8 @@ use Rattle.pm_words.specs.Watch.{is_watched}
 use Rattle.pm_words.specs.Stack.{minus}
 use Rattle.pm_calls.specs.declared.registers.Registers.{Registers}
 use Rattle.pm_calls.specs.declared.frames.Table.{Table}
-use Rattle.pm_calls.specs.declared.frames.Call.{Call}
-use Rattle.pm_calls.specs.declared.frames.Call.TheVariants.{Clp, Cgp, Cbp, Cip, Cxp}
+use Rattle.pm_opcode.specs.declared.operation.Call.{Call}
+use Rattle.pm_opcode.specs.declared.operation.Call.TheVariants.{Clp, Cgp, Cbp, Cip, Cxp}
 use Rattle.pm_calls.specs.declared.frames.Place.{Place}
 use Rattle.pm_calls.specs.Places.{Parts, Standing, placed}
 use Rattle.pm_calls.specs.Kept.{Agrees, table_words}
@@ -14,6 +14,7 @@ use Rattle.pm_calls.specs.Keeps.{segment_kept, segment_unkept}
 use Rattle.pm_calls.specs.Tables.{attributes}
 use Rattle.pm_calls.specs.Calls.{Reached, called, here, is_base, loading, procedure_of, standing}
 use Rattle.pm_calls.specs.Returns.{returned, stands_at}
+use Rattle.pm_words.specs.declared.layout.TheConstants.{STACK_END}
 
 -- code that may be handed to a call is bytes
 abbrev pub IsCode : Option (List ℕ) → Type 0
@@ -106,5 +107,5 @@ IsUsed (Some (Some p)) = 0 < p.count + p.keeps
 abbrev pub UnkeepGivesBack : Type 0
 UnkeepGivesBack =
     (c d : Parts) (n : ℕ) (code : List ℕ) →
-    c.registers.sp % 2 ≡ 0 → c.registers.sp ≤ 65504 → IsUsed (slice_get c.places n) →
+    c.registers.sp % 2 ≡ 0 → c.registers.sp ≤ STACK_END → IsUsed (slice_get c.places n) →
     segment_kept c n (Some code) ≡ Ok d → segment_unkept d n (length code) ≡ Ok (record c { memory = d.memory })

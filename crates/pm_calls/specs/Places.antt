@@ -3,6 +3,7 @@ use Rattle.std.specs.Prelude.{ℕ, ◌≤◌, List, Option, Some, None, slice_ge
 use Rattle.pm_calls.specs.declared.registers.Registers.{Registers}
 use Rattle.pm_calls.specs.declared.frames.Kept.{Kept}
 use Rattle.pm_calls.specs.declared.frames.Place.{Place}
+use Rattle.pm_words.specs.declared.layout.TheConstants.{HIGHEST_WORD}
 
 -- what contracts see of the frames: the place of each of the 16 slots, with its count and its keeps, and what is kept of
 -- links and tables
@@ -16,6 +17,10 @@ pub record Parts : Type 0 where
   pub memory : List ℕ
   pub registers : Registers
   pub places : List (Option Place)
+
+-- a memory, registers and places as calls and returns see them
+abbrev pub seen : List ℕ → Registers → List (Option Place) → Parts
+seen memory registers places = record { memory = memory; registers = registers; places = places }
 
 abbrev pub place_in : Option (Option Place) → Option (ℕ × ℕ)
 place_in None = None
@@ -38,4 +43,4 @@ keeps_of places n = keeps_in (slice_get places n)
 -- a segment stands below the top of the stack
 abbrev pub IsLow : Option Place → Type 0
 IsLow None = Unit {0}
-IsLow (Some p) = p.place ≤ 65502
+IsLow (Some p) = p.place ≤ HIGHEST_WORD

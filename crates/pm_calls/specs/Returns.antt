@@ -7,6 +7,7 @@ use Rattle.pm_words.specs.Stack.{◌>>=◌, demand, is_even, minus}
 use Rattle.pm_calls.specs.declared.registers.Registers.{Registers}
 use Rattle.pm_calls.specs.declared.frames.Place.{Place}
 use Rattle.pm_calls.specs.Places.{Parts}
+use Rattle.pm_words.specs.declared.layout.TheConstants.{STACK_END}
 
 -- a slot with one call less, or with no place after the last, if the program does not keep its segment
 abbrev pub less : Place → Option Place
@@ -49,7 +50,7 @@ returned c words base = do
   let f = c.registers.mp
   _ ← demand (is_even f && nat_le (f + 12 + 2 * words) 65536) InvalidMemory
   let above = word_at c.memory (f + 10)
-  _ ← demand (is_even above && nat_le above 65504) InvalidMemory
+  _ ← demand (is_even above && nat_le above STACK_END) InvalidMemory
   _ ← demand (nat_le (c.registers.np + 2 * words) above) StackOverflow
   let r = left_to c.memory c.registers f (above - 2 * words) base
   Ok (record {

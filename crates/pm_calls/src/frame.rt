@@ -3,19 +3,21 @@
 ghost use Rattle.std.specs.Prelude.{◌≡◌, ◌+◌, ◌%◌, ◌≤◌, IfOk, IsTrue, OnErr};
 ghost use Rattle.pm_words.specs.Watch.{KeepsWatch};
 ghost use Rattle.pm_words.specs.Words.{word_at};
-ghost use Rattle.pm_words.specs.Stack.{IsStack};
+ghost use Rattle.pm_words.specs.Stack.{Changes, IsStack};
 ghost use Rattle.pm_calls.specs.Tables.{IsEvenTable};
-ghost use Rattle.pm_calls.specs.Calls.{Enters, framed, with_control, with_frame, with_old_base};
+ghost use Rattle.pm_calls.specs.Calls.{frame_top, framed, inside, kept_below, with_control, with_frame, with_old_base};
+ghost use Rattle.pm_words.specs.declared.layout.TheConstants.{STACK_END};
 
 use crate::frames::Table;
 use crate::registers::Registers;
+use pm_words::layout::STACK_END;
 use pm_words::{ExecError, Memory};
 
 // Writes the six control words of a frame.
 #[tactic(auto, unfolding(crate::specs::Calls::with_control), using(pm_words::proofs::WatchLaws::keeps))]
 fn put_control(memory: &mut Memory, frame: u16, link: u16, registers: Registers, above: u16)
     requires even { frame % 2 ≡ 0 }
-    requires room { frame + 12 ≤ 65504 }
+    requires room { frame + 12 ≤ STACK_END }
     ensures words { memory.new.words ≡ with_control memory.old.words frame link registers above }
     ensures link { word_at memory.new.words frame ≡ link }
     ensures keeps { KeepsWatch memory.old memory.new }
@@ -39,9 +41,9 @@ fn put_frame(
     base: bool,
 )
     requires even { frame % 2 ≡ 0 }
-    requires above { frame + 12 + parameters ≤ 65504 }
+    requires above { frame + 12 + parameters ≤ STACK_END }
     requires below { IsTrue base → 2 ≤ frame }
-    requires within { registers.sp + parameters ≤ 65504 }
+    requires within { registers.sp + parameters ≤ STACK_END }
     ensures words { memory.new.words
         ≡ with_old_base base (with_frame memory.old.words frame link registers parameters) frame registers.base }
     ensures link { word_at memory.new.words frame ≡ link }
@@ -51,6 +53,34 @@ fn put_frame(
     put_control(memory, frame, link, registers, registers.sp + parameters);
     if base {
         memory.set_word(frame - 2, registers.base);
+    }
+}
+
+// Where a frame ends: below the code that was loaded for its call, or above its parameters.
+fn frame_top(loaded: u16, sp: u16, parameters: u16) -> u32
+    requires room { loaded ≤ sp }
+    ensures top { result ≡ frame_top loaded sp parameters }
+{
+    if loaded > 0 {
+        u32::from(sp - loaded)
+    } else {
+        u32::from(sp) + u32::from(parameters)
+    }
+}
+
+// The registers in the procedure with this table, whose frame is at `mp`, of the segment at `place`.
+fn inside(base: bool, registers: Registers, place: u16, table: Table, mp: u16) -> Registers
+    requires below { kept_below base ≤ mp }
+    ensures inside { result ≡ inside base registers place table mp }
+{
+    Registers {
+        sp: if base { mp - 2 } else { mp },
+        ipc: table.enter,
+        seg: place,
+        jtab: table.jtab,
+        mp,
+        base: if base { mp } else { registers.base },
+        ..registers
     }
 }
 
@@ -70,7 +100,7 @@ pub fn enter(
     requires even { IsEvenTable table }
     requires even_code { loaded % 2 ≡ 0 }
     requires room { loaded ≤ registers.sp }
-    ensures framed { Enters result memory.old.words memory.new.words (framed memory.old.words place loaded registers base table link) }
+    ensures framed { Changes result memory.old.words memory.new.words (framed memory.old.words place loaded registers base table link) }
     ensures stack { IfOk result (λ r. IsStack r.sp r.np) }
     ensures keeps { KeepsWatch memory.old memory.new }
     ensures refused { OnErr result (memory.new ≡ memory.old) }
@@ -78,16 +108,11 @@ pub fn enter(
     ensures linked { IfOk result (λ r. word_at memory.new.words r.mp ≡ link) }
     ensures table { IfOk result (λ r. (r.jtab ≡ table.jtab) × (r.ipc ≡ table.enter)) }
 {
-    let sp = u32::from(registers.sp);
     let parameters = u32::from(table.parameters);
-    if sp + parameters > 65504 {
+    if u32::from(registers.sp) + parameters > u32::from(STACK_END) {
         return Err(ExecError::InvalidMemory);
     }
-    let top = if loaded > 0 {
-        sp - u32::from(loaded)
-    } else {
-        sp + parameters
-    };
+    let top = frame_top(loaded, registers.sp, table.parameters);
     let kept = if base { 2 } else { 0 };
     let size = u32::from(table.locals) + parameters + 12;
     if u32::from(registers.np) + kept + size > top {
@@ -95,13 +120,5 @@ pub fn enter(
     }
     let mp = (top - size) as u16;
     put_frame(memory, mp, link, registers, table.parameters, base);
-    Ok(Registers {
-        sp: mp - kept as u16,
-        ipc: table.enter,
-        seg: place,
-        jtab: table.jtab,
-        mp,
-        base: if base { mp } else { registers.base },
-        ..registers
-    })
+    Ok(inside(base, registers, place, table, mp))
 }

@@ -13,7 +13,7 @@ mod registers;
 mod returns;
 mod tables;
 
-pub use frames::{Call, Frames, Kept, Place, Table};
+pub use frames::{Frames, Kept, Place, Table};
 pub use registers::Registers;
 
 #[cfg(test)]

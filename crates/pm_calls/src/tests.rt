@@ -1,7 +1,8 @@
 ghost use Rattle.std.specs.Bool.{OnTrue};
 ghost use Rattle.pm_words.specs.Stack.{IsStack};
 
-use crate::{Call, Frames, Registers};
+use crate::{Frames, Registers};
+use pm_opcode::Call;
 use pm_words::{ExecError, Memory};
 use std::test::Fail;
 

@@ -4,7 +4,8 @@ use Rattle.pm_codefile.specs.declared.fault.CodeFault.{CodeFault}
 use Rattle.pm_codefile.specs.declared.fault.CodeFault.TheVariants.{SlotPastEnd, OddLength}
 use Rattle.pm_codefile.specs.Dictionary.{IsFirstFault, first_fault, slot_fault}
 
-pub first_fault-more : (file : List ℕ) (n left : ℕ) → n < left → slot_fault file n ≡ None → first_fault file n (left - n) ≡ first_fault file (n + 1) (left - (n + 1))
+pub first_fault-more : (file : List ℕ) (n left : ℕ) → n < left → slot_fault file n ≡ None →
+    first_fault file n (left - n) ≡ first_fault file (n + 1) (left - (n + 1))
 unfolding first_fault
 first_fault-more file n left l e =
     let step : left - n ≡ suc (left - (n + 1)) = omega arith in

@@ -1,5 +1,6 @@
 -- A written file is read as it was written.
-use Rattle.std.proofs.Common.{◌≡◌, ◌<◌, ◌≤◌, ℕ, zero, suc, ◌+◌, ◌*◌, ◌%◌, Bool, ◌&&◌, List, [], ◌++◌, All, None, Some, length, take, replicate, get_or, ◌∙◌, sym, cond, eqb, ltb, true, false, refl, inl, inr, arith, length-append}
+use Rattle.std.proofs.Common.{◌≡◌, ◌<◌, ◌≤◌, ℕ, zero, suc, ◌+◌, ◌*◌, ◌%◌, Bool, ◌&&◌, List, [], ◌++◌, All, None, Some, length, take, replicate, get_or, ◌∙◌}
+use Rattle.std.proofs.Common.{sym, cond, eqb, ltb, true, false, refl, inl, inr, arith, length-append}
 use Rattle.std.specs.Prelude.{slice_range, sum}
 use Rattle.std.specs.List.{sum_by}
 use Rattle.std.proofs.lemmas.Bool.{cases_Bool, eqb-true, le-ltb}
@@ -8,7 +9,8 @@ use Rattle.std.proofs.lemmas.List.Sums.{sum_by-le}
 use Rattle.pm_codefile.specs.Dictionary.{block_in, file_fault, first_fault, length_in, segment_in, slot_fault, slot_in, word_in}
 use Rattle.pm_codefile.specs.Layout.{blocks_for, layout, name_for, names_for, padded, pairs}
 use Rattle.pm_codefile.specs.ReadBack.{ReadsBack, begin_of, block_of}
-use Rattle.pm_codefile.proofs.Written.{length-names, length-padded, length-pairs, names-name, padded-part, pairs-block, pairs-length, part-within, slice_range-left, slice_range-right, word_in-left, word_in-right}
+use Rattle.pm_codefile.proofs.Written.{length-names, length-padded, length-pairs, names-name, padded-part, pairs-block, pairs-length, part-within}
+use Rattle.pm_codefile.proofs.Written.{slice_range-left, slice_range-right, word_in-left, word_in-right}
 
 -- a word of a list of zeros
 zero-word : (n p : ℕ) → p + 2 ≤ n → word_in (replicate n 0) p ≡ 0
@@ -23,7 +25,8 @@ none-first file (suc left) n none = rw (none n (omega arith)) (none-first file l
 
 few-blocks : (ns : List ℕ) → length ns ≡ 16 → ((k : ℕ) → get_or ns k 0 < 65536) → sum_by blocks_for ns ≤ 2048
 few-blocks ns sixteen small =
-    let most : sum_by blocks_for ns ≤ length ns * 128 = sum_by-le blocks_for 128 ns (λ k d l. let s = small k in let e = get_or_default ns k d 0 l in omega arith) in
+    let most : sum_by blocks_for ns ≤ length ns * 128 =
+    sum_by-le blocks_for 128 ns (λ k d l. let s = small k in let e = get_or_default ns k d 0 l in omega arith) in
     omega arith
 
 neither : (a b : Bool) → b ≡ false → (a && b) ≡ false
@@ -97,7 +100,8 @@ module _ (names : List (List ℕ)) (ns segments : List ℕ) (named : length name
       let m = get_or ns n 0 in
       let e : 512 * (1 + b) ≡ 512 + 512 * b = omega arith in
       let f : (512 + 512 * b) + m ≡ 512 + (512 * b + m) = omega arith in
-      rw (some, e, f) (slice_range-right ((pairs 1 ns ++ names_for names ns) ++ replicate 320 0) (padded ns segments) 512 (512 * b) (512 * b + m) length-dictionary
+      rw (some, e, f)
+      (slice_range-right ((pairs 1 ns ++ names_for names ns) ++ replicate 320 0) (padded ns segments) 512 (512 * b) (512 * b + m) length-dictionary
       ∙ padded-part ns segments n (omega arith) (omega arith))
 
   slot_of_file : (n : ℕ) → n < 16 → slot_in (layout names ns segments) n ≡ Some (record {
@@ -144,7 +148,8 @@ pub layout-reads_back : (names : List (List ℕ)) (ns segments : List ℕ) → l
 unfolding file_fault
 layout-reads_back names ns segments named sixteen each small joined even =
     let few = few-blocks ns sixteen small in
-    let long : ltb (length (layout names ns segments)) 512 ≡ false = le-ltb _ 512 (omega (arith, length-file names ns segments named sixteen each small few joined)) in
+    let long : ltb (length (layout names ns segments)) 512 ≡ false =
+    le-ltb _ 512 (omega (arith, length-file names ns segments named sixteen each small few joined)) in
     record {
       accepted = rw long (none-first (layout names ns segments) 16 0
           (λ n l. fault_of_slot names ns segments named sixteen each small few joined n l (even n 0 (omega arith))));

@@ -1,9 +1,11 @@
 -- Words and parts of lists that are joined, and of the parts of a written file.
-use Rattle.std.proofs.Common.{◌≡◌, ◌<◌, ◌≤◌, ℕ, zero, suc, ◌+◌, ◌-◌, ◌*◌, List, [], ◌∷◌, ◌++◌, length, take, drop, get_or, ◌∙◌, cond, eqb, refl, inl, inr, arith, append_assoc, length-append}
+use Rattle.std.proofs.Common.{◌≡◌, ◌<◌, ◌≤◌, ℕ, zero, suc, ◌+◌, ◌-◌, ◌*◌, List, [], ◌∷◌, ◌++◌, length, take, drop, get_or, ◌∙◌, cond, eqb, refl, inl, inr}
+use Rattle.std.proofs.Common.{arith, append_assoc, length-append}
 use Rattle.std.specs.Prelude.{slice_range, sum}
 use Rattle.std.specs.List.{sum_by}
 use Rattle.std.proofs.lemmas.Bool.{cases_Bool}
-use Rattle.std.proofs.lemmas.List.{drop-drop, drop_at, drop-append-le, get_or-append_right, get_or_append_left, length-drop, length-replicate, length-take-le, take_at, take-append-le}
+use Rattle.std.proofs.lemmas.List.{drop-drop, drop_at, drop-append-le, get_or-append_right, get_or_append_left, length-drop, length-replicate, length-take-le}
+use Rattle.std.proofs.lemmas.List.{take_at, take-append-le}
 use Rattle.std.proofs.lemmas.List.Sums.{sum_by-cons}
 use Rattle.byteorder.specs.Endian.{little_bytes}
 use Rattle.byteorder.specs.Numbers.{little_number-reads_back}
@@ -160,5 +162,6 @@ padded-part (n ∷ ns) segments (suc i) l h =
     let g : sum (n ∷ take i ns) ≡ n + s = sum' in
     let k : ((n + s) + m) - (n + s) ≡ (s + m) - s = omega arith in
     rw (e, f, g, k, ← drop-drop s n segments)
-    (slice_range-right (take n segments ++ padding n) (padded ns (drop n segments)) (512 * blocks_for n) (512 * b) (512 * b + m) (length-filled n segments (omega (arith, total)))
+    (slice_range-right (take n segments ++ padding n) (padded ns (drop n segments)) (512 * blocks_for n) (512 * b) (512 * b + m)
+    (length-filled n segments (omega (arith, total)))
     ∙ padded-part ns (drop n segments) i (omega arith) (omega (arith, total, length-drop n segments)))

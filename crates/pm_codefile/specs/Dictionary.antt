@@ -3,8 +3,10 @@
 --    64 to 191    16 names of 8 bytes, with spaces at the end
 --   192 to 223    16 kinds, each a word
 --   224 to 511    nothing that is read
--- Slot n has the n-th pair, name and kind, counted from 0, and holds the segment of number n. A word has its low byte first.
-use Rattle.std.specs.Prelude.{◌≡◌, ◌==◌, ◌≤◌, ◌<◌, ◌&&◌, not, nat_lt, ℕ, zero, suc, ◌+◌, ◌*◌, ◌%◌, List, length, slice_range, Option, Some, None, if◌then◌else◌}
+-- Slot n has the n-th pair, name and kind, counted from 0, and holds the segment of number n. A word has its low byte
+-- first.
+use Rattle.std.specs.Prelude.{◌≡◌, ◌==◌, ◌≤◌, ◌<◌, ◌&&◌, not, nat_lt, ℕ, zero, suc, ◌+◌, ◌*◌, ◌%◌, List, length}
+use Rattle.std.specs.Prelude.{slice_range, Option, Some, None, if◌then◌else◌}
 use Rattle.pm_codefile.specs.declared.fault.CodeFault.{CodeFault}
 use Rattle.pm_codefile.specs.declared.fault.CodeFault.TheVariants.{NoDictionary, SlotPastEnd, OddLength}
 use Rattle.pm_codefile.specs.declared.file.Slot.{Slot}
@@ -19,11 +21,13 @@ block_in file n = word_in file (4 * n)
 abbrev pub length_in : List ℕ → ℕ → ℕ
 length_in file n = word_in file (4 * n + 2)
 
--- Why slot n is refused: its length is odd; or it has one, and its segment, which begins at its block, passes the file's end.
+-- Why slot n is refused: its length is odd; or it has one, and its segment, which begins at its block, passes the
+-- file's end.
 unfoldable pub slot_fault : List ℕ → ℕ → Option CodeFault
 slot_fault file n =
     if not (length_in file n % 2 == 0) then Some (OddLength n)
-    else (if nat_lt 0 (length_in file n) && nat_lt (length file) (BLOCK * block_in file n + length_in file n) then Some (SlotPastEnd n)
+    else (if nat_lt 0 (length_in file n) && nat_lt (length file) (BLOCK * block_in file n + length_in file n)
+    then Some (SlotPastEnd n)
     else None)
 
 -- A fault, or else what else may be one.

@@ -1,5 +1,5 @@
--- The canonical layout of a code file: first the dictionary, with all kinds 0, then the segments of the slots in ascending
--- order, each from the next block on and filled up to a block with zeros.
+-- The canonical layout of a code file: first the dictionary, with all kinds 0, then the segments of the slots in
+-- ascending order, each from the next block on and filled up to a block with zeros.
 use Rattle.byteorder.specs.Endian.{little_bytes}
 pub use Rattle.pm_base.specs.Blocks.{blocks_for}
 use Rattle.pm_base.specs.declared.blocks.TheConstants.{BLOCK}
@@ -35,4 +35,5 @@ padded (n ∷ ns) segments = (take n segments ++ padding n) ++ padded ns (drop n
 
 -- A whole file: 64 bytes of pairs, 128 of names, 32 of kinds and 288 more in the dictionary, and the segments.
 unfoldable pub layout : List (List ℕ) → List ℕ → List ℕ → List ℕ
-layout names lengths segments = ((pairs 1 lengths ++ names_for names lengths) ++ replicate 320 0) ++ padded lengths segments
+layout names lengths segments =
+    ((pairs 1 lengths ++ names_for names lengths) ++ replicate 320 0) ++ padded lengths segments

@@ -1,5 +1,6 @@
 -- What is read in a written file.
-use Rattle.std.specs.Prelude.{◌≡◌, ◌==◌, ◌<◌, ℕ, ◌+◌, List, [], slice_index, slice_index_or, slice_range, sum, take, None, Some, if◌then◌else◌}
+use Rattle.std.specs.Prelude.{◌≡◌, ◌==◌, ◌<◌, ℕ, ◌+◌, List, [], slice_index, slice_index_or, slice_range, sum, take}
+use Rattle.std.specs.Prelude.{None, Some, if◌then◌else◌}
 use Rattle.std.specs.List.{sum_by}
 use Rattle.pm_codefile.specs.Dictionary.{file_fault, segment_in, slot_in}
 use Rattle.pm_codefile.specs.Layout.{blocks_for, name_for}
@@ -12,8 +13,8 @@ begin_of lengths n = sum (take n lengths)
 abbrev pub block_of : List ℕ → ℕ → ℕ
 block_of lengths n = if slice_index lengths n == 0 then 0 else 1 + sum_by blocks_for (take n lengths)
 
--- A file is read as it was written: it is accepted, each slot has its length and name and kind 0, and each segment is its part of
--- the joined bytes, none without a length.
+-- A file is read as it was written: it is accepted, each slot has its length and name and kind 0, and each segment is
+-- its part of the joined bytes, none without a length.
 pub record ReadsBack (names : List (List ℕ)) (lengths segments file : List ℕ) : Type 0 where
   pub accepted : file_fault file ≡ None
   pub slots : (n : ℕ) → n < 16 → slot_in file n ≡ Some (record {

@@ -1,11 +1,12 @@
--- Segments. The last byte is the number of procedures. The word at length - 2 - 2 p says how far below itself the table of
--- procedure p stands. A table goes down from its place j:
+-- Segments. The last byte is the number of procedures. The word at length - 2 - 2 p says how far below itself the table
+-- of procedure p stands. A table goes down from its place j:
 --   j        procedure number (low byte) and lex level (high byte, signed)
 --   j - 2    how far below itself the first instruction stands
 --   j - 4    how far below itself the exit code stands
 --   j - 6    size of the parameters in bytes
 --   j - 8    size of the local variables in bytes
-use Rattle.std.specs.Prelude.{◌==◌, ◌&&◌, Bool, nat_le, ℕ, ◌+◌, ◌-◌, ◌*◌, ◌%◌, List, length, slice_index, Option, Some, None, if◌then◌else◌}
+use Rattle.std.specs.Prelude.{◌==◌, ◌&&◌, Bool, nat_le, ℕ, ◌+◌, ◌-◌, ◌*◌, ◌%◌, List, length, slice_index, Option, Some}
+use Rattle.std.specs.Prelude.{None, if◌then◌else◌}
 use Rattle.std.specs.Int.{w8, cast_signed}
 use Rattle.pm_codefile.specs.declared.table.Attributes.{Attributes}
 use Rattle.pm_codefile.specs.Dictionary.{word_in}
@@ -28,8 +29,8 @@ less a b = if nat_le b a then Some (a - b) else None
 abbrev pub procedures_in : List ℕ → ℕ
 procedures_in segment = slice_index segment (length segment - 1)
 
--- What the table of procedure p of a segment says: p is one of its procedures; the table, j - 8 to j + 1, lies in the segment, at
--- an even place; and neither code place is above j - 8.
+-- What the table of procedure p of a segment says: p is one of its procedures; the table, j - 8 to j + 1, lies in the
+-- segment, at an even place; and neither code place is above j - 8.
 unfoldable pub attributes_in : List ℕ → ℕ → Option Attributes
 attributes_in segment p = do
   _ ← given (nat_le 1 p && nat_le p (procedures_in segment))

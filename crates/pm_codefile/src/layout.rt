@@ -1,6 +1,24 @@
 //! Writing code files.
 
-ghost use Rattle.std.specs.Prelude.{All, ◌≡◌, ◌+◌, ◌-◌, ◌*◌, ◌%◌, ◌<◌, ◌≤◌, ◌++◌, length, replicate, slice_index_or, sum, ℕ, [], IfOk, OnOk};
+ghost use Rattle.std.specs.Prelude.{
+  All,
+  ◌≡◌,
+  ◌+◌,
+  ◌-◌,
+  ◌*◌,
+  ◌%◌,
+  ◌<◌,
+  ◌≤◌,
+  ◌++◌,
+  length,
+  replicate,
+  slice_index_or,
+  sum,
+  ℕ,
+  [],
+  IfOk,
+  OnOk,
+};
 ghost use Rattle.byteorder.specs.Endian.{little_bytes};
 ghost use Rattle.pm_codefile.specs.Layout.{blocks_for, layout, name_for, names_for, padded, padding, pair, pairs};
 ghost use Rattle.pm_codefile.specs.ReadBack.{ReadsBack};
@@ -24,7 +42,8 @@ pub fn write(
 ) -> Result<Vec<u8>, AllocError>
     requires joined { sum lengths.now ≡ length segments.now }
     ensures layout { IfOk result (λ file. file.items ≡ layout names.now lengths.now segments.now) }
-    ensures reads_back { All (λ n. n % 2 ≡ 0) lengths.now → IfOk result (λ file. ReadsBack names.now lengths.now segments.now file.items) }
+    ensures reads_back { All (λ n. n % 2 ≡ 0) lengths.now →
+        IfOk result (λ file. ReadsBack names.now lengths.now segments.now file.items) }
 {
     let mut file = Vec::new(alloc);
     put_pairs(&mut file, lengths)?;

@@ -1,5 +1,6 @@
 -- Numbers of a line, digit by digit and word by word.
-use Rattle.std.proofs.Common.{◌≡◌, ◌∙◌, ◌+◌, ◌-◌, ◌*◌, ◌^◌, ◌≤◌, ◌<◌, ap, sym, refl, arith, ℕ, zero, suc, Bool, true, false, List, [], ◌∷◌, ◌++◌, length, append_assoc, append-nil, Option, Some, None}
+use Rattle.std.proofs.Common.{◌≡◌, ◌∙◌, ◌+◌, ◌-◌, ◌*◌, ◌^◌, ◌≤◌, ◌<◌, ap, sym, refl, arith, ℕ, zero, suc, Bool, true, false, List, [], ◌∷◌, ◌++◌, length}
+use Rattle.std.proofs.Common.{append_assoc, append-nil, Option, Some, None}
 use Rattle.std.specs.Prelude.{nat_lt, if◌then◌else◌}
 use Rattle.std.proofs.lemmas.Bool.Decides.{nat_tests}
 use Rattle.pm_commands.specs.Commands.{is_digit, joined, number, number_behind, numbers}
@@ -87,7 +88,8 @@ module _ (whole : Option (List ℕ)) (front : List ℕ) (k : ℕ) (words : List 
 
   module _ (word : List ℕ) (rest : List (List ℕ)) (e : words ≡ word ∷ rest) where
     pub numbers_too_many : k ≡ 0 → whole ≡ None
-    numbers_too_many none = h ∙ ap (λ ws. behind front (numbers k ws)) e ∙ ap (λ n. behind front (numbers n (word ∷ rest))) none ∙ ap (behind front) (numbers_full word rest)
+    numbers_too_many none =
+        h ∙ ap (λ ws. behind front (numbers k ws)) e ∙ ap (λ n. behind front (numbers n (word ∷ rest))) none ∙ ap (behind front) (numbers_full word rest)
 
     pub numbers_none : number word ≡ None → whole ≡ None
     numbers_none none = h ∙ ap (λ ws. behind front (numbers k ws)) e ∙ ap (behind front) (at k)

@@ -1,5 +1,6 @@
 -- Words of a line, byte by byte.
-use Rattle.std.proofs.Common.{◌≡◌, ◌∙◌, ◌+◌, ◌<◌, ap, sym, refl, arith, ℕ, zero, suc, Bool, true, false, not, List, [], ◌∷◌, ◌++◌, length, take, drop, get_or, add-one, append_assoc, append-nil}
+use Rattle.std.proofs.Common.{◌≡◌, ◌∙◌, ◌+◌, ◌<◌, ap, sym, refl, arith, ℕ, zero, suc, Bool, true, false, not, List, [], ◌∷◌, ◌++◌, length, take, drop, get_or}
+use Rattle.std.proofs.Common.{add-one, append_assoc, append-nil}
 use Rattle.std.proofs.Math.Seq.{drop-cons, take-suc}
 use Rattle.std.specs.Prelude.{◌==◌, if◌then◌else◌}
 use Rattle.pm_commands.specs.Words.{begins_word, filled, pieces, with_byte, without_return, words}
@@ -75,17 +76,22 @@ pub record IsInWord (line : List ℕ) (end : ℕ) (rest : List ℕ) : Type 0 whe
 pub in_word_none : (line : List ℕ) → IsInWord line 0 line
 in_word_none line = record { pieces = with_front-none (pieces 32 line) (pieces_some 32 line); left = refl }
 
-pub in_word_more : (line : List ℕ) (end : ℕ) (rest : List ℕ) (c : ℕ) (tail : List ℕ) → IsInWord line end rest → rest ≡ c ∷ tail → begins_word rest ≡ true → end < length line → IsInWord line (end + 1) tail
+pub in_word_more : (line : List ℕ) (end : ℕ) (rest : List ℕ) (c : ℕ) (tail : List ℕ) → IsInWord line end rest → rest ≡ c ∷ tail → begins_word rest ≡ true →
+    end < length line → IsInWord line (end + 1) tail
 in_word_more line end rest c tail u e b h =
     let byte : (c == 32) ≡ false = not_false (c == 32) (rw e at b) in
     let next : c ∷ tail ≡ get_or line end 0 ∷ drop (suc end) line = sym e ∙ u.left ∙ drop-cons line end 0 h in
-    let taken : take (suc end) line ≡ take end line ++ c ∷ [] = take-suc line end 0 h ∙ ap (λ x. take end line ++ x ∷ []) (sym (ap (λ xs. get_or xs 0 0) next)) in
+    let taken : take (suc end) line ≡ take end line ++ c ∷ [] =
+    take-suc line end 0 h ∙ ap (λ x. take end line ++ x ∷ []) (sym (ap (λ xs. get_or xs 0 0) next)) in
     record {
-      pieces = rw (add-one, taken) (u.pieces ∙ ap (λ r. with_front (take end line) (pieces 32 r)) e ∙ ap (with_front (take end line)) (pieces_byte 32 c tail byte) ∙ with_front-byte (take end line) c (pieces 32 tail));
+      pieces = rw (add-one, taken)
+          (u.pieces ∙ ap (λ r. with_front (take end line) (pieces 32 r)) e ∙ ap (with_front (take end line)) (pieces_byte 32 c tail byte) ∙ with_front-byte
+          (take end line) c (pieces 32 tail));
       left = rw add-one (ap (drop 1) next);
     }
 
-word_ends : (front rest line : List ℕ) → pieces 32 line ≡ with_front front (pieces 32 rest) → 0 < length front → begins_word rest ≡ false → words line ≡ front ∷ words rest
+word_ends : (front rest line : List ℕ) → pieces 32 line ≡ with_front front (pieces 32 rest) → 0 < length front → begins_word rest ≡ false →
+    words line ≡ front ∷ words rest
 unfolding words filled
 word_ends front [] line u some b =
     ap filled (u ∙ ap (with_front front) (pieces_none 32) ∙ ap (λ w. w ∷ []) (append-nil front))
@@ -96,7 +102,8 @@ word_ends front (c ∷ rest) line u some b =
     ∙ filled_one front (pieces 32 rest) some ∙ ap (λ ws. front ∷ ws) (sym (words_space c rest b))
 
 -- the word ends at a space or at the end of the line
-pub words_at_end : (line : List ℕ) (end : ℕ) (rest : List ℕ) → IsInWord line end rest → begins_word line ≡ true → begins_word rest ≡ false → words line ≡ take end line ∷ words rest
+pub words_at_end : (line : List ℕ) (end : ℕ) (rest : List ℕ) → IsInWord line end rest → begins_word line ≡ true → begins_word rest ≡ false →
+    words line ≡ take end line ∷ words rest
 words_at_end line zero rest u first b = absurd (both (sym first ∙ ap begins_word (sym u.left) ∙ b))
   where
     both : true ≡ false → ⊥

@@ -1,6 +1,18 @@
 //! The commands of a debugger's line.
 ghost use Rattle.std.specs.Prelude.{◌≡◌, ◌<◌, ◌≤◌, ◌⊎◌, true, [], ◌∷◌, Some, None, IfSome, IfNone, length};
-ghost use Rattle.pm_commands.specs.Commands.{alone, asked, command_of, is_digit, number, numbers, one, pair, point, up_to, verb_of};
+ghost use Rattle.pm_commands.specs.Commands.{
+  alone,
+  asked,
+  command_of,
+  is_digit,
+  number,
+  numbers,
+  one,
+  pair,
+  point,
+  up_to,
+  verb_of,
+};
 ghost use Rattle.std.specs.Str.{bytes_eq};
 ghost use Rattle.pm_commands.specs.Words.{begins_word, words, without_return};
 

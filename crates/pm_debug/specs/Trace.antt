@@ -4,10 +4,11 @@ use Rattle.pm_words.specs.Words.{word_at}
 use Rattle.pm_machine.specs.State.{State}
 use Rattle.pm_disasm.specs.Shown.{padded}
 use Rattle.pm_disasm.specs.Text.{line_text}
+use Rattle.pm_words.specs.declared.layout.TheConstants.{STACK_END}
 
 -- the word at the top of the stack; there is none where SP is 65,504
 unfoldable pub top_word : List ℕ → ℕ → Option ℕ
-top_word words sp = if sp == 65504 then None else Some (word_at words sp)
+top_word words sp = if sp == STACK_END then None else Some (word_at words sp)
 
 abbrev pub top_text : Option ℕ → List ℕ
 top_text None = codes "-----"

@@ -7,10 +7,11 @@ use Rattle.pm_machine.specs.State.{State}
 use Rattle.pm_words.specs.declared.error.ExecError.{ExecError}
 use Rattle.pm_debug.specs.declared.refusal.Refusal.{Refusal}
 use Rattle.pm_debug.specs.declared.refusal.Refusal.TheVariants.{Full, NoBreak, OddAddress, NoMemory, TooDeep}
+use Rattle.pm_words.specs.declared.layout.TheConstants.{STACK_END, SYSTEM_FRAME}
 
 -- the words on the stack from SP up, below 65,504, at most n of them
 unfoldable pub stack_words : State → ℕ → List ℕ
-stack_words s n = words_at s.memory s.registers.sp (min n ((65504 - s.registers.sp) / 2))
+stack_words s n = words_at s.memory s.registers.sp (min n ((STACK_END - s.registers.sp) / 2))
 
 abbrev pub before_frames : ℕ → Option (List ℕ) → Option (List ℕ)
 before_frames a (Some frames) = Some (a ∷ frames)
@@ -21,7 +22,7 @@ before_frames a None = None
 unfoldable pub chain : List ℕ → ℕ → ℕ → ℕ → Option (List ℕ)
 chain m distance zero a = Some []
 chain m distance (suc n) a =
-    if n == 0 || a == 65492 then Some (a ∷ [])
+    if n == 0 || a == SYSTEM_FRAME then Some (a ∷ [])
     else if is_even a then before_frames a (chain m distance n (word_at m ((a + distance) % 65536)))
     else None
 

@@ -1,6 +1,6 @@
 //! The debugger.
 
-ghost use Rattle.std.specs.Prelude.{◌≡◌, [], Ok, Err, IfOk, IfErr, OnOk, OnErr, string_bytes};
+ghost use Rattle.std.specs.Prelude.{◌≡◌, ◌<◌, [], Ok, Err, IfOk, IfErr, OnOk, OnErr, string_bytes};
 ghost use Rattle.std.specs.Borrow.{sem};
 ghost use Rattle.pm_debug.specs.Breaks.{break_at, with_break, without_break};
 ghost use Rattle.pm_debug.specs.Lending.{LendsMachine};
@@ -13,10 +13,11 @@ use crate::breaks::{Breakpoint, Breaks};
 use crate::reason::Reason;
 use crate::refusal::{Refusal, refusal_of};
 use crate::run::run;
-use crate::views::{DYNAMIC_LINK, EMPTY_STACK, STATIC_LINK, chain, words_at};
+use crate::views::{DYNAMIC_LINK, STATIC_LINK, chain, words_at};
 use crate::{breaks, text};
 use arrayvec::ArrayVec;
 use pm_machine::Machine;
+use pm_words::layout::STACK_END;
 use std::alloc::{AllocError, Global};
 use std::marker::Model;
 
@@ -110,22 +111,24 @@ impl Debugger {
         Ok(gone)
     }
 
-    /// The words on the stack from SP up, at most `n`, and none from 65,504 on.
+    /// The words on the stack from SP up, at most `n`, and none from 65,504 on. None of them want no memory.
     #[tactic(auto, unfolding(crate::specs::Views::stack_words))]
     pub fn stack(&self, alloc: Global, n: u16) -> Result<Vec<u16>, AllocError>
         ensures words { IfOk result (λ words. words.items ≡ stack_words self.now.machine.state n) }
+        ensures wanted { OnErr result (0 < n) }
     {
         let sp = self.machine.registers().sp;
-        let count = n.min((EMPTY_STACK - sp) / 2);
+        let count = n.min((STACK_END - sp) / 2);
         let words = words_at(alloc, self.machine.memory(), sp, count)?;
         Ok(words)
     }
 
     /// The frames from MP on by their static links, at most `limit`; the frame of the system, 65,492,
     /// is the last where it comes. `OddAddress` where the link of a frame at an odd address is asked
-    /// for.
+    /// for. A chain of none wants no memory.
     pub fn static_chain(&self, alloc: Global, limit: u16) -> Result<Vec<u16>, Refusal>
         ensures frames { ShowsChain (λ frames. frames.items) result (static_chain self.now.machine.state limit) }
+        ensures wanted { OnErr result (0 < limit) }
     {
         let frame = self.machine.registers().mp;
         chain(alloc, self.machine.memory(), STATIC_LINK, limit, frame)
@@ -134,6 +137,7 @@ impl Debugger {
     /// The frames from MP on by their dynamic links, as the static chain.
     pub fn dynamic_chain(&self, alloc: Global, limit: u16) -> Result<Vec<u16>, Refusal>
         ensures frames { ShowsChain (λ frames. frames.items) result (dynamic_chain self.now.machine.state limit) }
+        ensures wanted { OnErr result (0 < limit) }
     {
         let frame = self.machine.registers().mp;
         chain(alloc, self.machine.memory(), DYNAMIC_LINK, limit, frame)

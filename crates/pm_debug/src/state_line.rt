@@ -7,6 +7,7 @@ use crate::digits::{Count, column, column_or_dashes, joined};
 use pm_disasm::Line;
 use pm_machine::Machine;
 use pm_words::Memory;
+use pm_words::layout::STACK_END;
 use std::fmt;
 
 /// The line of a trace for the step that a machine makes next, without a line feed: the steps so
@@ -55,5 +56,9 @@ fn top(memory: &Memory, sp: u16) -> Option<u16>
     requires even { sp % 2 ≡ 0 }
     ensures word { result ≡ top_word memory.now.words sp }
 {
-    if sp == 65504 { None } else { memory.word(sp) }
+    if sp == STACK_END {
+        None
+    } else {
+        memory.word(sp)
+    }
 }

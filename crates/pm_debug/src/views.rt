@@ -1,25 +1,21 @@
 //! The stack and the chains of frames.
 
-ghost use Rattle.std.specs.Prelude.{◌≡◌, ◌==◌, ◌||◌, ◌+◌, ◌*◌, ◌%◌, ◌≤◌, Some, None, IfOk, if◌then◌else◌};
+ghost use Rattle.std.specs.Prelude.{◌≡◌, ◌==◌, ◌||◌, ◌+◌, ◌*◌, ◌%◌, ◌<◌, ◌≤◌, Some, None, IfOk, OnErr, if◌then◌else◌};
 ghost use Rattle.pm_words.specs.Words.{word_at, words_at};
 ghost use Rattle.pm_words.specs.Stack.{is_even};
 ghost use Rattle.pm_debug.specs.Views.{ShowsChain, chain};
+ghost use Rattle.pm_words.specs.declared.layout.TheConstants.{SYSTEM_FRAME};
 
 use crate::refusal::Refusal;
 use pm_words::Memory;
+use pm_words::layout::SYSTEM_FRAME;
 use std::alloc::{AllocError, Global};
-
-/// Where nothing stands on the stack.
-pub(crate) const EMPTY_STACK: u16 = 65_504;
 
 /// Where MSSTAT, the static link, stands in a frame.
 pub(crate) const STATIC_LINK: u16 = 0;
 
 /// Where MSDYN, the dynamic link, stands in a frame.
 pub(crate) const DYNAMIC_LINK: u16 = 2;
-
-/// The frame of the system, where every chain ends.
-const SYSTEM_FRAME: u16 = 65_492;
 
 /// The words from an even address on.
 pub(crate) fn words_at(
@@ -31,6 +27,7 @@ pub(crate) fn words_at(
     requires even { start % 2 ≡ 0 }
     requires inside { start + 2 * count ≤ 65536 }
     ensures words { IfOk result (λ words. words.items ≡ words_at memory.now.words start count) }
+    ensures wanted { OnErr result (0 < count) }
 {
     let mut words = Vec::new(alloc);
     for i in 0..count {
@@ -41,7 +38,7 @@ pub(crate) fn words_at(
 
 // Whether a frame is the last of a chain of which so many more are wanted.
 fn is_last(frame: u16, more: u16) -> bool
-    ensures last { result ≡ (more == 0 || frame == 65492) }
+    ensures last { result ≡ (more == 0 || frame == SYSTEM_FRAME) }
 {
     more == 0 || frame == SYSTEM_FRAME
 }
@@ -68,6 +65,7 @@ pub(crate) fn chain(
 ) -> Result<Vec<u16>, Refusal>
     requires even { distance % 2 ≡ 0 }
     ensures frames { ShowsChain (λ frames. frames.items) result (chain memory.now.words distance limit first) }
+    ensures wanted { OnErr result (0 < limit) }
 {
     let mut frames = Vec::new(alloc);
     let mut frame = first;

@@ -10,7 +10,7 @@ use Rattle.pm_disasm.specs.declared.decoded.Decoded.{Decoded}
 use Rattle.pm_disasm.specs.Item.{IsByte, Item}
 use Rattle.pm_disasm.specs.Item.Item.{OneByte}
 use Rattle.pm_disasm.specs.Chosen.{IsTable}
-use Rattle.pm_disasm.specs.Offsets.{IsDecoded, front_count, fronts_of, item_count, up_to}
+use Rattle.pm_disasm.specs.Offsets.{IsDecoded, front_count, item_count, up_to}
 use Rattle.pm_disasm.specs.Program.{entries_needed, entries_used}
 use Rattle.pm_disasm.specs.Split.{Front, Part, are_after, bytes_after_first, code_with, end_with, ends_of, entry_places, fits, front, leads, part_of, parts, procedure_with, taken, uncut, written, written_as}
 use Rattle.pm_disasm.specs.Views.{front_seen, has}

@@ -178,10 +178,6 @@ pub record IsProgram (ss : List Segment) : Type 0 where
 abbrev pub FitSlots : List Segment → Type 0
 FitSlots ss = AllByRecursion (λ s. length (segment_bytes s) ≤ 65534) ss
 
--- no segment has more than 60,000 bytes, the most that are assembled
-abbrev pub AreShort : List Segment → Type 0
-AreShort ss = AllByRecursion (λ s. length (segment_bytes s) ≤ 60000) ss
-
 -- no item is a byte that is no instruction
 abbrev pub AreInstructions : List (Item ℕ) → Type 0
 AreInstructions items = AllByRecursion (λ item. is_instruction item ≡ true) items

@@ -9,6 +9,7 @@ ghost use Rattle.pm_disasm.specs.Split.{front, has_zero_padding, item_of, target
 ghost use Rattle.pm_disasm.specs.Views.{front_seen, item_seen, target_seen};
 
 use crate::items::{Item, Table, Target};
+use crate::opcodes::JUMP;
 use crate::place::named_bytes;
 use pm_opcode::{Form, Instr, decode, form_at};
 
@@ -62,7 +63,7 @@ fn case_of<'a>(instr: Instr, named: &'a [u8], end: usize) -> Option<Item<'a>>
     ensures item { option_map item_seen result ≡ item_of forms.Jumps instr named.now end }
 {
     let distance = (instr.c / 256) as u8;
-    if instr.c % 256 != 185 {
+    if instr.c % 256 != u16::from(JUMP) {
         return None;
     }
     let at = end - instr.count as usize;

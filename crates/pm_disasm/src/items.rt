@@ -8,6 +8,7 @@ ghost use Rattle.pm_disasm.specs.Text.{more_operands};
 ghost use Rattle.pm_disasm.specs.Views.{item_seen, target_seen};
 
 use crate::instruction::Instruction;
+use crate::opcodes::CASE_JUMP;
 use crate::operands::Signed;
 use pm_opcode::{Instr, row_at};
 use std::fmt;
@@ -108,7 +109,7 @@ impl fmt::Display for Item<'_> {
                 write!(f, "{name} {target}")
             }
             Item::Case(low, high, otherwise, table) => {
-                let name = row_at(172).mnemonic;
+                let name = row_at(CASE_JUMP).mnemonic;
                 let (low, high) = (Signed(low), Signed(high));
                 let places = Places(table);
                 write!(f, "{name} {low}, {high}, {otherwise}{places}")

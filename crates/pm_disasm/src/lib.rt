@@ -10,6 +10,7 @@ mod items;
 pub mod laws;
 mod lines;
 mod named;
+mod opcodes;
 mod operands;
 mod parts;
 mod place;
@@ -20,6 +21,7 @@ mod text;
 mod written;
 
 pub use instruction::Instruction;
+pub use opcodes::{CASE_JUMP, JUMP};
 pub use place::Line;
 pub use segments::{file, is_name_character, item, procedure};
 pub use text::line;

@@ -296,6 +296,12 @@ fn faults_of_texts(rt: HostRuntime) -> Result<(), Fail> {
         AsmFault::Range(2),
     );
     is(&rt, alloc, ".SEG 1 A\n.PROC 2 0 0 0\n", AsmFault::Syntax(2));
+    Ok(())
+}
+
+#[test]
+fn faults_behind_a_procedure_line(rt: HostRuntime) -> Result<(), Fail> {
+    let alloc = rt.alloc();
     is(
         &rt,
         alloc,

@@ -31,8 +31,8 @@ fn reads_blanks(rt: &impl Abort, alloc: Global, count: usize, told: (u8, &str, &
     let mut source = Reader::new(Blanks { left: count });
     let mut sink = Writer::new(&mut written);
     let outcome = run(alloc, &mut source, &mut sink, Job::Raw { limit: 0 });
-    assert_eq!(rt; outcome.status, status);
-    assert_eq!(rt; outcome.message.as_str(), message);
+    assert_eq!(rt; outcome.exit.number(), status);
+    assert_eq!(rt; outcome.text(), message);
     assert_eq!(rt; written.as_slice(), text.as_bytes());
 }
 
@@ -102,7 +102,7 @@ fn all_devices(rt: HostRuntime) -> Result<(), Fail> {
     assert!(rt; image != left);
     let ran = job_run(alloc, six_disks(alloc, image, true)?, b"");
     assert_eq!(rt;
-        (ran.outcome.status, ran.outcome.message.as_str()),
+        (ran.outcome.exit.number(), ran.outcome.text()),
         (0, "ended 85")
     );
     assert_eq!(rt; ran.written.as_slice(), b"V5V9VAVBVC".as_slice());
@@ -117,7 +117,7 @@ fn no_image_unless_asked_for(rt: HostRuntime) -> Result<(), Fail> {
     let alloc = rt.alloc();
     let (image, _) = images(alloc)?;
     let ran = job_run(alloc, six_disks(alloc, image, false)?, b"");
-    assert_eq!(rt; ran.outcome.status, 0);
+    assert_eq!(rt; ran.outcome.exit.number(), 0);
     assert_eq!(rt; ran.outcome.printer.as_slice(), b"OK".as_slice());
     assert!(rt; ran.into_image().is_none());
     Ok(())

@@ -135,8 +135,8 @@ impl Tried {
 
 impl Recorded {
     pub(crate) fn is(&self, rt: &impl Abort, status: u8, message: &str, failed: (bool, bool)) {
-        assert_eq!(rt; (self.outcome.status, self.failed), (status, failed));
-        assert_eq!(rt; self.outcome.message.as_str(), message);
+        assert_eq!(rt; (self.outcome.exit.number(), self.failed), (status, failed));
+        assert_eq!(rt; self.outcome.text(), message);
     }
 
     pub(crate) fn has_written(&self, rt: &impl Abort, bytes: Option<&[u8]>) {

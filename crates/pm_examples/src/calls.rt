@@ -190,7 +190,7 @@ fn faults_of_returns(rt: HostRuntime) {
 }
 
 /// Loads a variable by a static link, stores over the link, and loads again.
-const STORED_LINK: [u8; 14] = [
+pub(crate) const STORED_LINK: [u8; 14] = [
     0xB6, 0x01, 0x01, 0xC7, 0xD4, 0xFF, 0xC7, 0xB8, 0x0B, 0x9A, 0xB6, 0x01, 0x01, 0xD6,
 ];
 

@@ -87,7 +87,8 @@ fn bad_second_copies(rt: HostRuntime) -> Result<(), Fail> {
     Ok(())
 }
 
-/// A good first copy counts, whatever the second one holds; `repair` changes nothing, and a change makes the copies the same.
+/// A good first copy counts, whatever the second one holds; `repair` changes nothing, and a change makes the copies the
+/// same.
 #[test]
 fn differing_copies(rt: HostRuntime) -> Result<(), Fail> {
     let alloc = rt.alloc();

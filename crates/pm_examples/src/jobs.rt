@@ -31,7 +31,7 @@ pub(crate) type Told<'a> = (u8, &'a str, &'a str, usize);
 
 impl Ran {
     fn has_message(&self, rt: &impl Abort, message: &str) {
-        assert_eq!(rt; self.outcome.message.as_str(), message);
+        assert_eq!(rt; self.outcome.text(), message);
     }
 
     fn has_written(&self, rt: &impl Abort, written: &str) {
@@ -46,7 +46,7 @@ impl Ran {
 
     fn is(&self, rt: &impl Abort, told: Told<'_>) {
         let (status, message, written, left) = told;
-        assert_eq!(rt; (self.outcome.status, self.left), (status, left));
+        assert_eq!(rt; (self.outcome.exit.number(), self.left), (status, left));
         self.has_message(rt, message);
         self.has_written(rt, written);
         self.keeps_nothing(rt);

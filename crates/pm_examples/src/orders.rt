@@ -1,7 +1,7 @@
 //! Comparisons of strings, bytes, words, booleans and sets.
 use crate::sets::{NO_TWO_SETS, leave};
 use crate::values::{Bytes, Left, MEMORY, NOT_HERE, NP, Row, check};
-use pm_values::{Kind, Relation};
+use pm_opcode::{Kind, Relation};
 use pm_words::ExecError;
 use std::alloc::{AllocError, Global};
 use std::cmp::Ordering;

@@ -1,5 +1,5 @@
-//! Steps that go the quick way: each opcode that has one goes it, and so does a whole program. No contract says so, since a
-//! machine that makes none of its steps so makes the same steps.
+//! Steps that go the quick way: each opcode that has one goes it, and so does a whole program. No contract says so,
+//! since a machine that makes none of its steps so makes the same steps.
 use crate::calls::{CALLS, TOP};
 use crate::tested::Tested;
 use pm_machine::{BootFault, Stop};
@@ -98,7 +98,8 @@ fn constants_go_quickly(rt: HostRuntime) -> Result<(), BootFault> {
     goes_quickly(&rt, rt.alloc(), &code, 128)
 }
 
-/// CLP, then a call of procedure 2 by each kind of call within a segment, and RNP; the return to the system is not quick.
+/// CLP, then a call of procedure 2 by each kind of call within a segment, and RNP; the return to the system is not
+/// quick.
 #[test]
 fn calls_go_quickly(rt: HostRuntime) -> Result<(), BootFault> {
     for opcode in [0xCE, 0xCF, 0xAE] {

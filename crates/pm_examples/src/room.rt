@@ -1,4 +1,5 @@
-//! Much of what takes memory: keys that wait, output, and long programs. A body that gives up at a bound of its own fails here.
+//! Much of what takes memory: keys that wait, output, and long programs. A body that gives up at a bound of its own
+//! fails here.
 ghost use Rattle.std.specs.Prelude.{◌<◌};
 
 use crate::tested::Tested;

@@ -79,7 +79,7 @@ fn writes(rt: HostRuntime) -> Result<(), Fail> {
 /// How a job ends, and the length of the image that it keeps.
 fn kept(alloc: Global, job: Job) -> (u8, Option<usize>) {
     let ran = job_run(alloc, job, b"");
-    let status = ran.outcome.status;
+    let status = ran.outcome.exit.number();
     (status, ran.into_image().map(|image| image.len()))
 }
 

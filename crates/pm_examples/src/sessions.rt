@@ -174,8 +174,8 @@ fn read_fails(rt: &impl Abort, alloc: Global, good: usize) -> Result<(), Fail> {
     });
     let mut sink = Writer::new(&mut written);
     let outcome = run(alloc, &mut source, &mut sink, job);
-    assert_eq!(rt; outcome.status, 4, "after {good} reads");
-    assert_eq!(rt; outcome.message.as_str(), "read fault");
+    assert_eq!(rt; outcome.exit.number(), 4, "after {good} reads");
+    assert_eq!(rt; outcome.text(), "read fault");
     assert!(rt; ANSWERS.as_bytes().starts_with(&written));
     Ok(())
 }
@@ -200,8 +200,8 @@ fn write_fails(rt: &impl Abort, alloc: Global, good: usize, full: Full) -> Resul
     let mut source = Reader::new(COMMANDS.as_bytes());
     let mut sink = Writer::new(&mut written);
     let outcome = run(alloc, &mut source, &mut sink, job);
-    assert_eq!(rt; outcome.status, 4, "after {good} bytes");
-    assert_eq!(rt; outcome.message.as_str(), "write fault");
+    assert_eq!(rt; outcome.exit.number(), 4, "after {good} bytes");
+    assert_eq!(rt; outcome.text(), "write fault");
     assert_eq!(rt; written.bytes.len(), good);
     assert!(rt; ANSWERS.as_bytes().starts_with(&written.bytes));
     Ok(())

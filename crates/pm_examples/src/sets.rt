@@ -1,6 +1,6 @@
 //! Rows on sets, and rows without room on the stack.
 use crate::values::{INDEX, Left, MEMORY, NP, Row, STACK, check};
-use pm_values::{Kind, Relation};
+use pm_opcode::{Kind, Relation};
 use pm_words::ExecError;
 use std::alloc::{AllocError, Global};
 use std::process::Abort;

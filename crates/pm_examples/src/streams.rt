@@ -35,7 +35,8 @@ pub(crate) enum Full {
     TakesNothing,
 }
 
-/// Takes one byte at each write, but for one: at the write after the first `good` it takes none. Writes behind it go on well.
+/// Takes one byte at each write, but for one: at the write after the first `good` it takes none. Writes behind it go on
+/// well.
 #[derive(Drop)]
 pub(crate) struct ShortWriter {
     pub(crate) bytes: Vec<u8>,

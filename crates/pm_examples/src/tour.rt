@@ -1,4 +1,4 @@
-//! The README's commands, as jobs: what they write is what the README says.
+//! Commands of a first hour, as jobs: traces of bare code, files of a volume, programs, and what each writes.
 use crate::jobs::{Told, job_run, tells};
 use pm_filer::Command;
 use pm_tool::Job;

@@ -2,7 +2,7 @@
 //! own values before each step. That drops what is kept of links and tables, and nothing that is seen may differ.
 ghost use Rattle.std.specs.Prelude.{◌≡◌, length, sum};
 
-use crate::calls::{CALLS, TOP};
+use crate::calls::{CALLS, STORED_LINK, TOP};
 use crate::code::{EXITS, KEEPS, SEGMENTS, volume};
 use pm_calls::Registers;
 use pm_debug::{Debugger, Refusal};
@@ -145,11 +145,6 @@ impl Twice {
         Ok(self.plain.machine().registers())
     }
 }
-
-/// Loads a variable by a static link, stores over the link, and loads again.
-const STORED_LINK: [u8; 14] = [
-    0xB6, 0x01, 0x01, 0xC7, 0xD4, 0xFF, 0xC7, 0xB8, 0x0B, 0x9A, 0xB6, 0x01, 0x01, 0xD6,
-];
 
 #[test]
 fn stored_link(rt: HostRuntime) -> Result<(), Fail> {

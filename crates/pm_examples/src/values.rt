@@ -1,9 +1,10 @@
 //! Rows on bytes, fields, strings and sets, and comparisons, called one by one: what each test of
 //! them needs. Stacks are written from the top down and end at 65,504; a set is its count and its
 //! words, the least elements first.
+use pm_opcode::{Kind, Relation};
 use pm_values::{
-    Kind, Relation, adjust, assign, compare, difference, in_set, index_field, index_string,
-    intersect, load_byte, load_field, singleton, store_byte, store_field, subrange, union,
+    adjust, assign, compare, difference, in_set, index_field, index_string, intersect, load_byte,
+    load_field, singleton, store_byte, store_field, subrange, union,
 };
 use pm_words::{ExecError, Memory};
 use std::alloc::{AllocError, Global};

@@ -1,5 +1,6 @@
 -- What names give after a file has got another one.
-use Rattle.std.proofs.Common.{◌≡◌, ◌<◌, ◌≤◌, ℕ, ◌+◌, ◌-◌, Bool, true, false, cond, not, List, [], ◌∷◌, ◌++◌, ◌∙◌, ap, sym, refl, inl, inr, length, slice_set, Option, Some, None, Result, Ok, Err, arith, subst}
+use Rattle.std.proofs.Common.{◌≡◌, ◌<◌, ◌≤◌, ℕ, ◌+◌, ◌-◌, Bool, true, false, cond, not, List, [], ◌∷◌, ◌++◌, ◌∙◌, ap, sym, refl, inl, inr, length, slice_set}
+use Rattle.std.proofs.Common.{Option, Some, None, Result, Ok, Err, arith, subst}
 use Rattle.std.proofs.lemmas.Bool.{cases_Bool}
 use Rattle.std.proofs.Math.Seq.{set-append_seam}
 use Rattle.std.specs.List.{find, list_any, position_from}

@@ -1,5 +1,6 @@
 -- What names give after a command.
-use Rattle.std.proofs.Common.{◌≡◌, ◌<◌, ◌≤◌, ℕ, ◌+◌, ◌-◌, Bool, true, false, cond, not, ltb, List, [], ◌∷◌, ◌∙◌, sym, refl, inl, inr, length, get_or, Option, Some, None, is_some, Result, Ok, Err, arith, subst}
+use Rattle.std.proofs.Common.{◌≡◌, ◌<◌, ◌≤◌, ℕ, ◌+◌, ◌-◌, Bool, true, false, cond, not, ltb, List, [], ◌∷◌, ◌∙◌, sym, refl, inl, inr, length, get_or, Option}
+use Rattle.std.proofs.Common.{Some, None, is_some, Result, Ok, Err, arith, subst}
 use Rattle.std.proofs.lemmas.Bool.{cases_Bool, ltb-false}
 use Rattle.std.specs.List.{find}
 use Rattle.pm_volume.specs.Changes.{FitsSlot, blocks_for, new_entry, place_for, slot_named, with_file, without_file}
@@ -39,12 +40,14 @@ pub changed-ok : (r : Result (List ℕ) VolumeFault) (f : Filed) → changed r �
 changed-ok (Ok image) f h = cc
 changed-ok (Err fault) f h = cc
 
-pub added-ok : (image name : List ℕ) (kind : ℕ) (bytes : List ℕ) (day : ℕ) (r : Result _ VolumeFault) (new : List ℕ) → added_in image name kind bytes day r ≡ Ok new
+pub added-ok : (image name : List ℕ) (kind : ℕ) (bytes : List ℕ) (day : ℕ) (r : Result _ VolumeFault) (new : List ℕ) →
+    added_in image name kind bytes day r ≡ Ok new
     → (g : _) × (r ≡ Ok g) × (mirrored (with_file image g.place (new_entry g name kind (length bytes) day) bytes) ≡ new)
 added-ok image name kind bytes day (Ok g) new h = (g, refl, cc)
 added-ok image name kind bytes day (Err fault) new h = cc
 
-removed-ok : (image : List ℕ) (o : Option ℕ) (new : List ℕ) → removed_at image o ≡ Ok new → (slot : ℕ) × (o ≡ Some slot) × (mirrored (without_file image slot) ≡ new)
+removed-ok : (image : List ℕ) (o : Option ℕ) (new : List ℕ) → removed_at image o ≡ Ok new → (slot : ℕ) × (o ≡ Some slot) ×
+    (mirrored (without_file image slot) ≡ new)
 removed-ok image (Some slot) new h = (slot, refl, cc)
 removed-ok image None new h = cc
 
@@ -71,60 +74,62 @@ find_same : (p q : Entry → Bool) (es : List Entry) → ((e : Entry) → p e �
 find_same p q [] same = refl
 find_same p q (e ∷ es) same = rw (same e, find_same p q es same) refl
 
-module _ (image name : List ℕ) (kind : ℕ) (bytes : List ℕ) (g : _) (b : IsVolumeOfBytes image) (found : place_for image name (blocks_for (length bytes)) ≡ Ok g) where
-  p : IsPlaced image name (blocks_for (length bytes)) g
-  p = IsPlaced-from_ok image name (blocks_for (length bytes)) g found
+module _ (image name : List ℕ) (kind : ℕ) (bytes : List ℕ) (g : _) (b : IsVolumeOfBytes image) (found : place_for image name (blocks_for (length bytes)) ≡ Ok g)
+  where
+    p : IsPlaced image name (blocks_for (length bytes)) g
+    p = IsPlaced-from_ok image name (blocks_for (length bytes)) g found
 
-  fit : FitsSlot (new_entry g name kind (length bytes) (last_date_of (directory_of image)))
-  fit =
-      let k = gap_in image name (blocks_for (length bytes)) g b.volume p in
-      let r = IsRoomFor-placed image name (blocks_for (length bytes)) g b.volume p in
-      let blocks = word_fits image b 14 (omega arith) in
-      record {
-        name = length-name_field 15 name (length-new_name 15 name p.named).1;
-        kind = omega arith;
-        first = omega (arith, k.within, k.ordered, blocks);
-        end = omega (arith, k.within, r.fits, blocks);
-        last_bytes = omega arith;
-        date = word_fits image b 20 (omega arith);
-      }
+    fit : FitsSlot (new_entry g name kind (length bytes) (last_date_of (directory_of image)))
+    fit =
+        let k = gap_in image name (blocks_for (length bytes)) g b.volume p in
+        let r = IsRoomFor-placed image name (blocks_for (length bytes)) g b.volume p in
+        let blocks = word_fits image b 14 (omega arith) in
+        record {
+          name = length-name_field 15 name (length-new_name 15 name p.named).1;
+          kind = omega arith;
+          first = omega (arith, k.within, k.ordered, blocks);
+          end = omega (arith, k.within, r.fits, blocks);
+          last_bytes = omega arith;
+          date = word_fits image b 20 (omega arith);
+        }
 
-  -- the file is found by its name
-  pub put_found : (other : List ℕ) → is_same_name name other ≡ true
-      → file_named (mirrored (with_file image g.place (new_entry g name kind (length bytes) (last_date_of (directory_of image))) bytes)) other
-      ≡ Some (new_entry g name kind (length bytes) (last_date_of (directory_of image)))
-  put_found other same =
-      let day = last_date_of (directory_of image) in
-      let e = new_entry g name kind (length bytes) day in
-      let c = Changed-added image name bytes kind day g b.volume p fit in
-      let own : is_named other e ≡ is_same_name name other = named-new 15 name other in
-      let none : find (is_named other) (files_of image) ≡ None =
-      find_same (is_named other) (is_named name) (files_of image) (λ x. same-right _ other name (sym (upper-from_same name other same)))
-      ∙ not_there image name (blocks_for (length bytes)) g found in
-      rw c.files (found_new (is_named other) (files_of image) (g.place - 1) e (own ∙ same) none)
+    -- the file is found by its name
+    pub put_found : (other : List ℕ) → is_same_name name other ≡ true
+        → file_named (mirrored (with_file image g.place (new_entry g name kind (length bytes) (last_date_of (directory_of image))) bytes)) other
+        ≡ Some (new_entry g name kind (length bytes) (last_date_of (directory_of image)))
+    put_found other same =
+        let day = last_date_of (directory_of image) in
+        let e = new_entry g name kind (length bytes) day in
+        let c = Changed-added image name bytes kind day g b.volume p fit in
+        let own : is_named other e ≡ is_same_name name other = named-new 15 name other in
+        let none : find (is_named other) (files_of image) ≡ None =
+        find_same (is_named other) (is_named name) (files_of image) (λ x. same-right _ other name (sym (upper-from_same name other same)))
+        ∙ not_there image name (blocks_for (length bytes)) g found in
+        rw c.files (found_new (is_named other) (files_of image) (g.place - 1) e (own ∙ same) none)
 
-  put_given : (other : List ℕ)
-      → given (mirrored (with_file image g.place (new_entry g name kind (length bytes) (last_date_of (directory_of image))) bytes)) other
-      ≡ cond (is_same_name name other) (Some bytes) (given image other)
-  put_given other =
-      let day = last_date_of (directory_of image) in
-      let e = new_entry g name kind (length bytes) day in
-      let new = mirrored (with_file image g.place e bytes) in
-      let c = Changed-added image name bytes kind day g b.volume p fit in
-      let own : is_named other e ≡ is_same_name name other = named-new 15 name other in
-      elim (cases_Bool (is_same_name name other)) [
-        | inl same ↦ rw (same, put_found other same) (bytes-added_second image name bytes kind day g b.volume p fit)
-        | inr unlike ↦
-            let at = found_beside (is_named other) (files_of image) (g.place - 1) e (own ∙ unlike) in
-            rw (unlike, c.files, at) (found_kept (is_named other) image new (files_of image) c.kept)
-      ]
+    put_given : (other : List ℕ)
+        → given (mirrored (with_file image g.place (new_entry g name kind (length bytes) (last_date_of (directory_of image))) bytes)) other
+        ≡ cond (is_same_name name other) (Some bytes) (given image other)
+    put_given other =
+        let day = last_date_of (directory_of image) in
+        let e = new_entry g name kind (length bytes) day in
+        let new = mirrored (with_file image g.place e bytes) in
+        let c = Changed-added image name bytes kind day g b.volume p fit in
+        let own : is_named other e ≡ is_same_name name other = named-new 15 name other in
+        elim (cases_Bool (is_same_name name other)) [
+          | inl same ↦ rw (same, put_found other same) (bytes-added_second image name bytes kind day g b.volume p fit)
+          | inr unlike ↦
+              let at = found_beside (is_named other) (files_of image) (g.place - 1) e (own ∙ unlike) in
+              rw (unlike, c.files, at) (found_kept (is_named other) image new (files_of image) c.kept)
+        ]
 
 pub put_is_got : PutIsGot
 unfolding filed added
 put_is_got image name kind bytes f b done other =
     let made = changed-ok _ f done in
     let parts = added-ok image name kind bytes (last_date_of (directory_of image)) (place_for image name (blocks_for (length bytes))) f.image made in
-    subst (λ new. given new other ≡ cond (is_same_name name other) (Some bytes) (given image other)) parts.2 (put_given image name kind bytes parts.0 b parts.1 other)
+    subst (λ new. given new other ≡ cond (is_same_name name other) (Some bytes) (given image other)) parts.2
+    (put_given image name kind bytes parts.0 b parts.1 other)
 
 removed_given : (image name other : List ℕ) (slot : ℕ) → IsVolume image → slot_named (directory_of image) name ≡ Some slot → is_same_name name other ≡ false
     → given (mirrored (without_file image slot)) other ≡ given image other
@@ -153,7 +158,8 @@ missed_test false f rest y h = (refl, h)
 ok_same : (a b : List ℕ) (r : Result (List ℕ) VolumeFault) → r ≡ Ok a → r ≡ Ok b → a ≡ b
 ok_same a b r h h' = cc
 
-doubled-ok : (image new : List ℕ) → doubled image ≡ Ok new → (10 ≤ block_count (directory_of image)) × (is_occupied image ≡ false) × (mirrored (begun_at image 10) ≡ new)
+doubled-ok : (image new : List ℕ) → doubled image ≡ Ok new → (10 ≤ block_count (directory_of image)) × (is_occupied image ≡ false) ×
+    (mirrored (begun_at image 10) ≡ new)
 unfolding doubled
 doubled-ok image new h =
     let large = missed_test (ltb (block_count (directory_of image)) 10) _ _ new h in

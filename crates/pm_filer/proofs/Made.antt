@@ -9,7 +9,8 @@ use Rattle.pm_volume.specs.declared.entry.Entry.{Entry}
 use Rattle.pm_volume.specs.declared.fault.VolumeFault.{VolumeFault}
 use Rattle.pm_volume.specs.declared.fault.VolumeFault.TheVariants.{BadName, NoFile}
 
-pub made-added : (old new name : List ℕ) (kind : ℕ) (bytes : List ℕ) (date : ℕ) (e : Entry) → AddsFile old new name kind bytes date e → added old name kind bytes date ≡ Ok new
+pub made-added : (old new name : List ℕ) (kind : ℕ) (bytes : List ℕ) (date : ℕ) (e : Entry) → AddsFile old new name kind bytes date e →
+    added old name kind bytes date ≡ Ok new
 unfolding added
 made-added old new name kind bytes date e a = rw (a.placed, a.image, a.entry) refl
 
@@ -17,7 +18,8 @@ pub made-removed : (old new name : List ℕ) → RemovesFile old new name → re
 unfolding removed
 made-removed old new name a = rw (a.found, a.image) refl
 
-pub made-unadded : (image name : List ℕ) (kind : ℕ) (bytes : List ℕ) (date : ℕ) (fault : VolumeFault) → place_for image name (blocks_for (length bytes)) ≡ Err fault → added image name kind bytes date ≡ Err fault
+pub made-unadded : (image name : List ℕ) (kind : ℕ) (bytes : List ℕ) (date : ℕ) (fault : VolumeFault) →
+    place_for image name (blocks_for (length bytes)) ≡ Err fault → added image name kind bytes date ≡ Err fault
 unfolding added
 made-unadded image name kind bytes date fault e = rw e refl
 
@@ -29,7 +31,8 @@ pub made-renamed : (old new from to : List ℕ) → RenamesFile old new from to 
 unfolding renamed
 made-renamed old new from to a = rw (a.found, a.image) refl
 
-pub made-unrenamed : (image from to : List ℕ) (fault : VolumeFault) → slot_to_rename (directory_of image) from to ≡ Err fault → renamed image from to ≡ Err fault
+pub made-unrenamed : (image from to : List ℕ) (fault : VolumeFault) → slot_to_rename (directory_of image) from to ≡ Err fault →
+    renamed image from to ≡ Err fault
 unfolding renamed
 made-unrenamed image from to fault e = rw e refl
 

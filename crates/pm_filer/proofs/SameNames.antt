@@ -11,13 +11,15 @@ use Rattle.pm_volume.specs.Names.{characters_of, is_same_name, name_field}
 pub upper : List ℕ → List ℕ
 upper name = map to_ascii_uppercase name
 
-pairs_same : (a b : List ℕ) → length a ≡ length b → list_all (λ (p : ℕ × ℕ). to_ascii_uppercase p.0 == to_ascii_uppercase p.1) (zip a b) ≡ true → upper a ≡ upper b
+pairs_same : (a b : List ℕ) → length a ≡ length b → list_all (λ (p : ℕ × ℕ). to_ascii_uppercase p.0 == to_ascii_uppercase p.1) (zip a b) ≡ true →
+    upper a ≡ upper b
 unfolding upper
 pairs_same [] [] size all = refl
 pairs_same [] (y ∷ b) size all = absurd (omega arith)
 pairs_same (x ∷ a) [] size all = absurd (omega arith)
 pairs_same (x ∷ a) (y ∷ b) size all =
-    let parts = and_parts (to_ascii_uppercase x == to_ascii_uppercase y) (list_all (λ (p : ℕ × ℕ). to_ascii_uppercase p.0 == to_ascii_uppercase p.1) (zip a b)) all in
+    let parts =
+    and_parts (to_ascii_uppercase x == to_ascii_uppercase y) (list_all (λ (p : ℕ × ℕ). to_ascii_uppercase p.0 == to_ascii_uppercase p.1) (zip a b)) all in
     let first : to_ascii_uppercase x ≡ to_ascii_uppercase y = eqb-true _ _ parts.0 in
     let rest : upper a ≡ upper b = pairs_same a b (omega arith) parts.1 in
     rw (first, rest) refl

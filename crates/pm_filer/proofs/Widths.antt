@@ -13,7 +13,8 @@ repeat_one c (suc n) = ap (λ t. c ∷ t) (repeat_one c n)
 repeat_space : (n : ℕ) → repeat n (encode 32) ≡ replicate n 32
 repeat_space n = rw (encode_ascii 32 (omega arith)) (repeat_one 32 n)
 
-filled : (padding width : ℕ) (numeral : List ℕ) → padding ≡ width → repeat padding (encode 32) ++ (numeral ++ repeat (padding - padding) (encode 32)) ≡ replicate width 32 ++ numeral
+filled : (padding width : ℕ) (numeral : List ℕ) → padding ≡ width →
+    repeat padding (encode 32) ++ (numeral ++ repeat (padding - padding) (encode 32)) ≡ replicate width 32 ++ numeral
 filled padding width numeral e =
     let none : padding - padding ≡ 0 = omega arith in
     rw (none, append-nil, repeat_space, e) refl

@@ -1,5 +1,6 @@
 -- What a command makes of a volume, and what it answers.
-use Rattle.std.specs.Prelude.{ℕ, List, Option, Some, None, Result, Ok, Err, IsOk, ⊤, string_bytes, nat_lt, length, if◌then◌else◌}
+use Rattle.std.specs.Prelude.{ℕ, List, Option, Some, None, Result, Ok, Err, IsOk, ⊤, string_bytes, nat_lt, length}
+use Rattle.std.specs.Prelude.{if◌then◌else◌}
 use Rattle.pm_volume.specs.Dates.{date_word, is_date}
 use Rattle.pm_volume.specs.declared.kinds.TheConstants.{TEXT}
 use Rattle.pm_volume.specs.Files.{file_bytes, file_named}
@@ -98,7 +99,9 @@ bytes_of image (Some entry) = file_bytes image entry
 
 -- the text of a text file, if there is one
 abbrev pub read : List ℕ → Option (List ℕ) → Result Filed FilerFault
-read image (Some bytes) = if nat_lt (length bytes) 1024 then Err (faults.Text NoHeader) else Ok (record { image = image; answer = Bytes (text_of bytes) })
+read image (Some bytes) =
+    if nat_lt (length bytes) 1024 then Err (faults.Text NoHeader)
+    else Ok (record { image = image; answer = Bytes (text_of bytes) })
 read image None = Err (faults.Volume NoFile)
 
 -- a text that was written as a text file, unless it has a fault, which comes before the volume's
@@ -117,13 +120,14 @@ filed image (GetText name) = read image (bytes_of image (file_named image name))
 filed image (PutText name text) = written image name text (text_fault text)
 filed image Krunch = Ok (record { image = krunched_image image; answer = Done })
 filed image (Date year month day) =
-    if is_date year month day then Ok (record { image = dated_image image (date_word year month day); answer = Done }) else Err faults.BadDate
+    if is_date year month day then Ok (record { image = dated_image image (date_word year month day); answer = Done })
+    else Err faults.BadDate
 filed image (Zero name) = changed (zeroed image name)
 filed image Duplicate = changed (doubled image)
 filed image Single = Ok (record { image = singled image; answer = Done })
 
--- a command may answer want of memory: one that gives bytes or text, where nothing else is wrong; and one that puts a text, whose file is
--- made before anything is looked at
+-- a command may answer want of memory: one that gives bytes or text, where nothing else is wrong; and one that puts a
+-- text, whose file is made before anything is looked at
 abbrev pub MayWantMemory : Order → Result Filed FilerFault → Type 0
 MayWantMemory ListFiles outcome = IsOk outcome
 MayWantMemory (Get name) outcome = IsOk outcome

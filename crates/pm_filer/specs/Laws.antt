@@ -1,5 +1,6 @@
 -- What the names of a volume give, before a command and after it.
-use Rattle.std.specs.Prelude.{◌≡◌, ◌≢◌, ◌⊎◌, ◌<◌, ◌≤◌, ◌+◌, ℕ, length, true, false, List, Option, Some, Ok, Err, if◌then◌else◌}
+use Rattle.std.specs.Prelude.{◌≡◌, ◌≢◌, ◌⊎◌, ◌<◌, ◌≤◌, ◌+◌, ℕ, length, true, false, List, Option, Some, Ok, Err}
+use Rattle.std.specs.Prelude.{if◌then◌else◌}
 use Rattle.std.specs.List.{All}
 use Rattle.pm_volume.specs.Changes.{blocks_for}
 use Rattle.pm_volume.specs.Directory.{IsVolume, block_count, directory_of, files_begin, files_in}
@@ -10,7 +11,8 @@ use Rattle.pm_volume.specs.declared.entry.Entry.{Entry}
 use Rattle.pm_volume.specs.declared.fault.VolumeFault.TheVariants.{NoRoom}
 use Rattle.pm_filer.specs.declared.fault.FilerFault.TheVariants.{Volume}
 use Rattle.pm_textfile.specs.Writing.{completed}
-use Rattle.pm_filer.specs.Filed.{Bytes, Filed, Order, Put, Remove, Change, GetText, PutText, Krunch, Date, Duplicate, Single, bytes_of, filed}
+use Rattle.pm_filer.specs.Filed.{Bytes, Filed, Order, Put, Remove, Change, GetText, PutText, Krunch, Date, Duplicate}
+use Rattle.pm_filer.specs.Filed.{Single, bytes_of, filed}
 
 -- what a name gives: the bytes of the first file of that name, none where there is no such file
 abbrev pub given : List ℕ → List ℕ → Option (List ℕ)
@@ -24,7 +26,8 @@ pub record IsVolumeOfBytes (image : List ℕ) : Type 0 where
 -- what is put under a name is got under it, in either case of letters, and every other name gives what it gave
 abbrev pub PutIsGot : Type 0
 PutIsGot =
-    (image name : List ℕ) (kind : ℕ) (bytes : List ℕ) (f : Filed) → IsVolumeOfBytes image → filed image (Put name kind bytes) ≡ Ok f
+    (image name : List ℕ) (kind : ℕ) (bytes : List ℕ) (f : Filed) → IsVolumeOfBytes image →
+    filed image (Put name kind bytes) ≡ Ok f
     → (other : List ℕ) → given f.image other ≡ (if is_same_name name other then Some bytes else given image other)
 
 -- a text that is put under a name is got under it, in either case of letters, with its last line ended
@@ -59,7 +62,8 @@ RemovalKeepsOthers =
     (image name : List ℕ) (f : Filed) → IsVolume image → filed image (Remove name) ≡ Ok f
     → (other : List ℕ) → is_same_name name other ≡ false → given f.image other ≡ given image other
 
--- moving the files together, a date, and a second copy of the directory made or dropped change nothing of what names give
+-- moving the files together, a date, and a second copy of the directory made or dropped change nothing of what names
+-- give
 pub data KeepsNames : Order → Type 0 where
   krunch : KeepsNames Krunch
   date : (year month day : ℕ) → KeepsNames (Date year month day)

@@ -1,10 +1,35 @@
 //! Commands, and what they answer.
-ghost use Rattle.std.specs.Prelude.{◌≡◌, ◌≢◌, Ok, Err, Some, None, IfOk, IfErr, IsErrOf, IsOk, OnErr, OnOk, if◌then◌else◌};
+ghost use Rattle.std.specs.Prelude.{
+  ◌≡◌,
+  ◌≢◌,
+  Ok,
+  Err,
+  Some,
+  None,
+  IfOk,
+  IfErr,
+  IsErrOf,
+  IsOk,
+  OnErr,
+  OnOk,
+  if◌then◌else◌,
+};
 ghost use Rattle.pm_volume.specs.Made.{added, renamed, zeroed};
 ghost use Rattle.pm_volume.specs.Directory.{IsVolume, directory_of};
 ghost use Rattle.pm_volume.specs.Headers.{last_date_of};
 ghost use Rattle.pm_textfile.specs.Writing.{text_fault};
-ghost use Rattle.pm_filer.specs.Filed.{Done, Filed, MayWantMemory, answer_of, bytes_of, filed, lent, order_of, read, written};
+ghost use Rattle.pm_filer.specs.Filed.{
+  Done,
+  Filed,
+  MayWantMemory,
+  answer_of,
+  bytes_of,
+  filed,
+  lent,
+  order_of,
+  read,
+  written,
+};
 ghost use Rattle.pm_volume.specs.Files.{file_named};
 
 use crate::fault::FilerFault;
@@ -56,9 +81,14 @@ pub enum Reply {
 
 // The bytes of the first file of a name.
 fn get(alloc: Global, volume: &Volume, name: &str) -> Result<Reply, FilerFault>
-    ensures done { IfOk result (λ reply. lent volume.now (bytes_of volume.now (file_named volume.now name.now)) ≡ Ok (record { image = volume.now; answer = answer_of reply })) }
-    ensures refused { IfErr result (λ fault. fault ≢ FilerFault.NoMemory → lent volume.now (bytes_of volume.now (file_named volume.now name.now)) ≡ Err fault) }
-    ensures memory { IsErrOf result FilerFault.NoMemory → IsOk (lent volume.now (bytes_of volume.now (file_named volume.now name.now))) }
+    ensures done { IfOk result
+        (λ reply. lent volume.now (bytes_of volume.now (file_named volume.now name.now))
+        ≡ Ok (record { image = volume.now; answer = answer_of reply })) }
+    ensures refused { IfErr result
+        (λ fault. fault ≢ FilerFault.NoMemory →
+        lent volume.now (bytes_of volume.now (file_named volume.now name.now)) ≡ Err fault) }
+    ensures memory { IsErrOf result FilerFault.NoMemory →
+        IsOk (lent volume.now (bytes_of volume.now (file_named volume.now name.now))) }
 {
     let entry = volume.find(name).ok_or(VolumeFault::NoFile)?;
     let bytes = volume.file(&entry).ok_or(VolumeFault::NoFile)?;
@@ -67,9 +97,14 @@ fn get(alloc: Global, volume: &Volume, name: &str) -> Result<Reply, FilerFault>
 
 // The text of the first file of a name.
 fn get_text(alloc: Global, volume: &Volume, name: &str) -> Result<Reply, FilerFault>
-    ensures done { IfOk result (λ reply. read volume.now (bytes_of volume.now (file_named volume.now name.now)) ≡ Ok (record { image = volume.now; answer = answer_of reply })) }
-    ensures refused { IfErr result (λ fault. fault ≢ FilerFault.NoMemory → read volume.now (bytes_of volume.now (file_named volume.now name.now)) ≡ Err fault) }
-    ensures memory { IsErrOf result FilerFault.NoMemory → IsOk (read volume.now (bytes_of volume.now (file_named volume.now name.now))) }
+    ensures done { IfOk result
+        (λ reply. read volume.now (bytes_of volume.now (file_named volume.now name.now))
+        ≡ Ok (record { image = volume.now; answer = answer_of reply })) }
+    ensures refused { IfErr result
+        (λ fault. fault ≢ FilerFault.NoMemory →
+        read volume.now (bytes_of volume.now (file_named volume.now name.now)) ≡ Err fault) }
+    ensures memory { IsErrOf result FilerFault.NoMemory →
+        IsOk (read volume.now (bytes_of volume.now (file_named volume.now name.now))) }
 {
     let entry = volume.find(name).ok_or(VolumeFault::NoFile)?;
     let bytes = volume.file(&entry).ok_or(VolumeFault::NoFile)?;
@@ -79,9 +114,13 @@ fn get_text(alloc: Global, volume: &Volume, name: &str) -> Result<Reply, FilerFa
 
 // Adds the text file of a text.
 fn put_text(alloc: Global, volume: &mut Volume, name: &str, text: &[u8]) -> Result<(), FilerFault>
-    ensures done { OnOk result (written volume.old name.now text.now (text_fault text.now) ≡ Ok (record { image = volume.new; answer = Done })) }
+    ensures done { OnOk result
+        (written volume.old name.now text.now (text_fault text.now)
+        ≡ Ok (record { image = volume.new; answer = Done })) }
     ensures volume { OnOk result (IsVolume volume.new) }
-    ensures refused { IfErr result (λ fault. fault ≢ FilerFault.NoMemory → written volume.old name.now text.now (text_fault text.now) ≡ Err fault) }
+    ensures refused { IfErr result
+        (λ fault. fault ≢ FilerFault.NoMemory →
+        written volume.old name.now text.now (text_fault text.now) ≡ Err fault) }
     ensures unchanged { OnErr result (volume.new ≡ volume.old) }
 {
     let bytes = pm_textfile::encode(alloc, text)?;
@@ -104,9 +143,11 @@ fn forget(volume: &mut Volume, name: &str) -> Result<(), VolumeFault>
 // Adds a file with the volume's last date.
 #[tactic(auto, using(crate::proofs::Made::made))]
 fn put(volume: &mut Volume, name: &str, kind: u8, bytes: &[u8]) -> Result<(), VolumeFault>
-    ensures done { OnOk result (added volume.old name.now kind bytes.now (last_date_of (directory_of volume.old)) ≡ Ok volume.new) }
+    ensures done { OnOk result
+        (added volume.old name.now kind bytes.now (last_date_of (directory_of volume.old)) ≡ Ok volume.new) }
     ensures volume { OnOk result (IsVolume volume.new) }
-    ensures refused { IfErr result (λ fault. added volume.old name.now kind bytes.now (last_date_of (directory_of volume.old)) ≡ Err fault) }
+    ensures refused { IfErr result
+        (λ fault. added volume.old name.now kind bytes.now (last_date_of (directory_of volume.old)) ≡ Err fault) }
     ensures unchanged { OnErr result (volume.new ≡ volume.old) }
 {
     let date = volume.last_date();
@@ -138,9 +179,13 @@ fn done(_changed: ()) -> Reply
 /// Only the list, the bytes and the text of a file, and a text to be put take memory.
 #[tactic(auto, unfolding(crate::specs::Filed::filed), using(crate::proofs::Made::made))]
 pub fn apply(alloc: Global, volume: &mut Volume, command: Command) -> Result<Reply, FilerFault>
-    ensures done { IfOk result (λ reply. filed volume.old (order_of command) ≡ Ok (record { image = volume.new; answer = answer_of reply })) }
-    ensures refused { IfErr result (λ fault. fault ≢ FilerFault.NoMemory → filed volume.old (order_of command) ≡ Err fault) }
-    ensures memory { IsErrOf result FilerFault.NoMemory → MayWantMemory (order_of command) (filed volume.old (order_of command)) }
+    ensures done { IfOk result
+        (λ reply. filed volume.old (order_of command)
+        ≡ Ok (record { image = volume.new; answer = answer_of reply })) }
+    ensures refused { IfErr result
+        (λ fault. fault ≢ FilerFault.NoMemory → filed volume.old (order_of command) ≡ Err fault) }
+    ensures memory { IsErrOf result FilerFault.NoMemory →
+        MayWantMemory (order_of command) (filed volume.old (order_of command)) }
     ensures unchanged { OnErr result (volume.new ≡ volume.old) }
     ensures volume { IsVolume volume.old → IsVolume volume.new }
 {

@@ -1,7 +1,19 @@
 //! The list of a volume's files, as text.
 ghost use Rattle.std.specs.Prelude.{◌≡◌, ◌++◌, Some, IfOk, OnOk, string_bytes};
 ghost use Rattle.std.specs.Option.{option_map};
-ghost use Rattle.pm_filer.specs.Listing.{at_right, date_text, entry_details, entry_line, kind_text, kind_word, list_text, shown_byte, shown_name, space_line, spaces};
+ghost use Rattle.pm_filer.specs.Listing.{
+  at_right,
+  date_text,
+  entry_details,
+  entry_line,
+  kind_text,
+  kind_word,
+  list_text,
+  shown_byte,
+  shown_name,
+  space_line,
+  spaces,
+};
 ghost use Rattle.pm_volume.specs.Files.{files_of};
 ghost use Rattle.std.specs.List.{flat_map};
 
@@ -153,7 +165,8 @@ fn push_entry(text: &mut String, entry: Entry) -> Result<(), AllocError>
 
 /// Adds the lines of the files.
 fn push_files(text: &mut String, volume: &Volume) -> Result<(), AllocError>
-    ensures text { OnOk result (string_bytes text.new ≡ string_bytes text.old ++ flat_map entry_line (files_of volume.now)) }
+    ensures text { OnOk result
+        (string_bytes text.new ≡ string_bytes text.old ++ flat_map entry_line (files_of volume.now)) }
 {
     let mut entries = volume.entries();
     'files: while let Some(entry) = entries.next() {
@@ -173,8 +186,8 @@ fn push_space(text: &mut String, volume: &Volume) -> Result<(), AllocError>
     Ok(())
 }
 
-/// The list of a volume's files: its name and a colon; a line for each file; the number of files, the free blocks and the
-/// largest gap.
+/// The list of a volume's files: its name and a colon; a line for each file; the number of files, the free blocks and
+/// the largest gap.
 #[tactic(auto, unfolding(crate::specs::Listing::list_text))]
 pub(crate) fn list_text(alloc: Global, volume: &Volume) -> Result<String, AllocError>
     ensures text { IfOk result (λ text. string_bytes text ≡ list_text volume.now) }

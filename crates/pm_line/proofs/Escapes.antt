@@ -3,7 +3,8 @@ use Rattle.std.proofs.Common.{◌≡◌, ◌<◌, ◌≤◌, ◌-◌, ◌+◌, �
 use Rattle.std.specs.Prelude.{◌==◌}
 use Rattle.std.proofs.lemmas.Bool.Decides.{nat_tests}
 use Rattle.std.proofs.lemmas.List.{append_assoc, reverse-append, reverse-reverse, take_all, take_more}
-use Rattle.pm_source.specs.Line.{◌>>=◌, is_plain, text_operand, unescaped, unquoted}
+use Rattle.pm_codefile.specs.Segments.{◌>>=◌}
+use Rattle.pm_source.specs.Line.{is_plain, text_operand, unescaped, unquoted}
 use Rattle.pm_line.specs.Views.{onto_bytes}
 
 plain_is_no_escape : (c : ℕ) → is_plain c ≡ true → (c == 92) ≡ false

@@ -3,7 +3,8 @@ use Rattle.std.proofs.Common.{◌≡◌, ℕ, Bool, true, false, List, [], ◌�
 use Rattle.std.specs.Prelude.{◌&&◌}
 use Rattle.std.specs.List.{onto_first}
 use Rattle.std.proofs.lemmas.List.{append_assoc}
-use Rattle.pm_source.specs.Line.{Operand, ◌>>=◌, all_operands}
+use Rattle.pm_codefile.specs.Segments.{◌>>=◌}
+use Rattle.pm_source.specs.Line.{Operand, all_operands}
 use Rattle.pm_line.specs.Views.{onto_operands, onto_piece}
 
 and_assoc : (a b c : Bool) → ((a && b) && c) ≡ (a && (b && c))

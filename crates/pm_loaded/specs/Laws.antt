@@ -16,6 +16,7 @@ use Rattle.pm_machine.specs.Boot.{boot_start, code_file, image_of}
 use Rattle.pm_machine.specs.State.{State}
 use Rattle.pm_machine.specs.Steps.{stepped}
 use Rattle.pm_machine_laws.specs.Loads.{IsAtCall, IsBootedFrom, IsImage}
+use Rattle.pm_words.specs.declared.layout.TheConstants.{SYSTEM_FRAME}
 
 -- the bytes that the listing's lines of a segment give, joined
 abbrev pub listed : Segment → List ℕ
@@ -49,7 +50,7 @@ AssembledBootsListed =
     (unit clock : ℕ) (s : State) →
     assembled text ≡ Ok (file, shown) →
     IsImage image → image_of images unit ≡ Some image → code_file images unit name ≡ Ok (entry, file) →
-    boot_start images unit name clock ≡ Ok s → StandsAsListed text shown 1 65492 s.memory
+    boot_start images unit name clock ≡ Ok s → StandsAsListed text shown 1 SYSTEM_FRAME s.memory
 
 -- What a text is assembled to is a code file.
 abbrev pub AssembledIsAccepted : Type 0

@@ -1,5 +1,50 @@
 -- The code that is loaded is the segment of the code file.
-use Rattle.std.proofs.Common.{◌≡◌, inl, inr, ◌≤◌, ◌<◌, ◌==◌, ℕ, zero, suc, ◌+◌, ◌-◌, ◌*◌, ◌%◌, Bool, true, false, cond, not, nat_lt, nat_le, ◌&&◌, List, [], ◌∷◌, length, take, drop, get_or, slice_range, Option, Some, None, is_none, is_some, Result, Ok, refl, sym, ◌∙◌, ap, subst, arith, take-take, drop-drop}
+use Rattle.std.proofs.Common.{
+  ◌≡◌,
+  inl,
+  inr,
+  ◌≤◌,
+  ◌<◌,
+  ◌==◌,
+  ℕ,
+  zero,
+  suc,
+  ◌+◌,
+  ◌-◌,
+  ◌*◌,
+  ◌%◌,
+  Bool,
+  true,
+  false,
+  cond,
+  not,
+  nat_lt,
+  nat_le,
+  ◌&&◌,
+  List,
+  [],
+  ◌∷◌,
+  length,
+  take,
+  drop,
+  get_or,
+  slice_range,
+  Option,
+  Some,
+  None,
+  is_none,
+  is_some,
+  Result,
+  Ok,
+  refl,
+  sym,
+  ◌∙◌,
+  ap,
+  subst,
+  arith,
+  take-take,
+  drop-drop,
+}
 use Rattle.std.specs.Prelude.{slice_get}
 use Rattle.std.specs.List.{All, find}
 use Rattle.std.proofs.lemmas.Bool.{cases_Bool}
@@ -49,7 +94,8 @@ passed : {A : Type 0} (b : Bool) (f : BootFault) (rest : Result A BootFault) (y 
 passed true f rest y h = (refl, h)
 passed false f rest y h = cc
 
-there : {A B : Type 0} (o : Option A) (f : BootFault) (rest : A → Result B BootFault) (y : B) → (some_or f o >>= rest) ≡ Ok y → (x : A) × (o ≡ Some x) × (rest x ≡ Ok y)
+there : {A B : Type 0} (o : Option A) (f : BootFault) (rest : A → Result B BootFault) (y : B) → (some_or f o >>= rest) ≡ Ok y
+    → (x : A) × (o ≡ Some x) × (rest x ≡ Ok y)
 there None f rest y h = cc
 there (Some x) f rest y h = (x, refl, h)
 
@@ -187,7 +233,8 @@ record IsPlaced (image file : List ℕ) (e : Entry) (n : ℕ) : Type 0 where
 slot_placed : (image file : List ℕ) (e : Entry) (n : ℕ) → IsPartOf image e file → e.last_bytes ≤ 512 → e.end < 65536 → 0 < length_in file n
     → 512 * block_in file n + length_in file n ≤ length file → IsPlaced image file e n
 slot_placed image file e n part one_block word has inside =
-    let size : length file ≤ 512 * (e.end - 1) + e.last_bytes - 512 * e.first = rw part.bytes (length-part image (512 * e.first) (512 * (e.end - 1) + e.last_bytes)) in
+    let size : length file ≤ 512 * (e.end - 1) + e.last_bytes - 512 * e.first = rw part.bytes
+    (length-part image (512 * e.first) (512 * (e.end - 1) + e.last_bytes)) in
     let blocks = part.blocks in
     let within = part.within in
     let room : 512 * e.first + 512 * block_in file n + length_in file n ≤ 512 * (e.end - 1) + e.last_bytes = omega arith in
@@ -211,7 +258,8 @@ slot_loads image file e d unit n low part one_block word sound on = elim (cases_
   | inr some ↦
       let has : 0 < length_in file n = grind (arith, nat_tests, some) in
       let p = slot_placed image file e n part one_block word has (sound.slots n (grind (arith, nat_tests, low)) has) in
-      let row : row_of unit e.first (slot_in file n) ≡ record { unit = unit; block = e.first + block_in file n; length = length_in file n } = rw (low, some, p.fits) refl in
+      let row : row_of unit e.first (slot_in file n) ≡ record { unit = unit; block = e.first + block_in file n; length = length_in file n } = rw
+      (low, some, p.fits) refl in
       rw (row, some, on, p.lies, low) (ap (λ xs. Ok (Some xs)) p.bytes)
 ]
 
@@ -225,11 +273,13 @@ loads_give_segments images image name file entry d places unit n p v on h word t
     let f = found images image name file entry unit on h in
     let sound = sound_file file f.sound in
     let part = part_there image file entry f.bytes sound.dictionary in
-    let lies = found_all (IsWithin (files_begin (directory_of image)) (block_count (directory_of image))) (is_named name) (files_of image) entry (files_within image v) f.named in
+    let lies = found_all (IsWithin (files_begin (directory_of image)) (block_count (directory_of image))) (is_named name) (files_of image) entry
+    (files_within image v) f.named in
     let size = length-rows unit entry.first file 16 in
     rw none (elim (cases_Bool (nat_lt 15 n)) [
       | inl high ↦
-          let past : slice_get (rows_below unit entry.first file 16) n ≡ None = slice_get_past (rows_below unit entry.first file 16) n (grind (arith, nat_tests, high, size)) in
+          let past : slice_get (rows_below unit entry.first file 16) n ≡ None = slice_get_past (rows_below unit entry.first file 16) n
+          (grind (arith, nat_tests, high, size)) in
           rw past (ap Ok (sym (no_segment file n high)))
       | inr low ↦
           let below : n < 16 = grind (arith, nat_tests, low) in

@@ -85,7 +85,8 @@ same_place n k limit c d s t u a b h j e =
       state = ap (λ (p : State × Stop). p.0) both;
     }
 
-both_stopped : (n k limit c d : ℕ) (s t u : State) (a b : Stop) → StoppedAfter n limit s c a t → StoppedAfter k limit s d b u → a ≢ stop.Went → b ≢ stop.Went → SameOutcome c d a b t u
+both_stopped : (n k limit c d : ℕ) (s t u : State) (a b : Stop) → StoppedAfter n limit s c a t → StoppedAfter k limit s d b u → a ≢ stop.Went → b ≢ stop.Went
+    → SameOutcome c d a b t u
 both_stopped n k limit c d s t u a b h j first second = elim (cases_order n k) [
   | inl e ↦ same_place n k limit c d s t u a b h j e
   | inr (inl below) ↦ absurd (not_went n limit c k s t a h first j.went below)

@@ -1,6 +1,32 @@
 -- What a step and a row leave as it is.
 use Rattle.std.specs.Prelude.{slice_get}
-use Rattle.std.proofs.Common.{◌≡◌, ◌≢◌, ℕ, ◌+◌, ◌-◌, ◌*◌, ◌%◌, ◌&&◌, inl, inr, Some, None, length, Bool, true, false, nat_lt, List, Option, Result, Ok, Err, refl, ap, arith}
+use Rattle.std.proofs.Common.{
+  ◌≡◌,
+  ◌≢◌,
+  ℕ,
+  ◌+◌,
+  ◌-◌,
+  ◌*◌,
+  ◌%◌,
+  ◌&&◌,
+  inl,
+  inr,
+  Some,
+  None,
+  length,
+  Bool,
+  true,
+  false,
+  nat_lt,
+  List,
+  Option,
+  Result,
+  Ok,
+  Err,
+  refl,
+  ap,
+  arith,
+}
 use Rattle.std.proofs.lemmas.Bool.{cases_Bool}
 use Rattle.std.proofs.lemmas.Bool.Decides.{nat_tests}
 use Rattle.pm_words.specs.declared.error.ExecError.{ExecError}
@@ -13,7 +39,7 @@ use Rattle.pm_opcode.specs.declared.operation.Operation.TheVariants as operation
 use Rattle.pm_opcode.specs.declared.operation.Arithmetic.{Arithmetic}
 use Rattle.pm_opcode.specs.declared.operation.Arithmetic.TheVariants.{Constant, Nil, OnOne, OnTwo, Compare, Check}
 use Rattle.pm_opcode.specs.declared.operation.Scope.{Scope}
-use Rattle.pm_opcode.specs.declared.operation.Call as codes
+use Rattle.pm_opcode.specs.declared.operation.Call.{Call}
 use Rattle.pm_opcode.specs.declared.operation.Return.{Return}
 use Rattle.pm_opcode.specs.Operations.{operation_of}
 use Rattle.pm_calls.specs.declared.registers.Registers.{Registers}
@@ -46,9 +72,9 @@ use Rattle.pm_rows.specs.Pointers.{increment_row, indirect_row, index_row, point
 use Rattle.pm_rows.specs.Values.{value_row}
 use Rattle.pm_rows.specs.Variables.{address_row, load_row, variable_at, variable_row}
 use Rattle.pm_stdproc.specs.Loads.{code_needed}
-use Rattle.pm_machine.specs.Procedures.{call_of, call_row, is_base_return, parts, reach, return_row, standard_row, words_of_return}
+use Rattle.pm_machine.specs.Procedures.{call_row, is_base_return, parts, reach, return_row, standard_row, words_of_return}
 use Rattle.pm_machine.specs.Rows.{fetched, on_registers, on_stack, past, performed, row}
-use Rattle.pm_rows.specs.Signed.{binary}
+use Rattle.pm_rows.specs.Integers.{binary}
 use Rattle.pm_machine.specs.Steps.{at_status, executed, settled, stepped}
 use Rattle.pm_machine.specs.RunLaws.{RowsKeepBelow, IsUnitWrite, KeepsBelow, RestStays, StepsKeepDisks}
 
@@ -82,7 +108,8 @@ then disks d (Ok x) f h = h x
 then disks d (Err e) f h = tt
 
 -- the same where the first part has the old disks itself
-after : {A B E : Type 0} (first : A → Disks) (disks : B → Disks) (d : Disks) (r : Result A E) (f : A → Result B E) → Keeps first d r → ((x : A) → first x ≡ d → Keeps disks d (f x)) → Keeps disks d (r >>= f)
+after : {A B E : Type 0} (first : A → Disks) (disks : B → Disks) (d : Disks) (r : Result A E) (f : A → Result B E) → Keeps first d r
+    → ((x : A) → first x ≡ d → Keeps disks d (f x)) → Keeps disks d (r >>= f)
 after first disks d (Ok x) f k h = h x k
 after first disks d (Err e) f k h = tt
 
@@ -123,17 +150,19 @@ read_keeps (Disk k) t m d = disk_keeps (image_at d k) t m d
 pub read_row_keeps : (s : Served) → Keeps of_served s.devices.disks (read_row s)
 unfolding read_row
 read_row_keeps s = then of_served s.devices.disks (or_fails (ordered s.memory s.registers.sp)) _ (λ o.
-    after of_moved of_served s.devices.disks (read (unit_of o.unit) o.transfer s.memory s.devices) _ (read_keeps (unit_of o.unit) o.transfer s.memory s.devices) (λ t e. e))
+    after of_moved of_served s.devices.disks (read (unit_of o.unit) o.transfer s.memory s.devices) _ (read_keeps (unit_of o.unit) o.transfer s.memory s.devices)
+    (λ t e. e))
 
 pub time_keeps : (s : Served) → Keeps of_served s.devices.disks (time_row s)
 unfolding time_row
 time_keeps s = then of_served s.devices.disks (pop s.memory s.registers.sp) _ (λ b.
-    then of_served s.devices.disks (pop s.memory b.1) _ (λ a. then of_served s.devices.disks (demand (is_even a.0 && is_even b.0) InvalidMemory) _ (λ h. refl)))
+    then of_served s.devices.disks (pop s.memory b.above) _ (λ a. then of_served s.devices.disks (demand (is_even a.word && is_even b.word) InvalidMemory) _
+    (λ h. refl)))
 
 pub busy_keeps : (s : Served) → Keeps of_served s.devices.disks (busy_row s)
 unfolding busy_row
 busy_keeps s = then of_served s.devices.disks (pop s.memory s.registers.sp) _ (λ unit.
-    then of_served s.devices.disks (push s.memory unit.1 s.registers.np 0) _ (λ n. refl))
+    then of_served s.devices.disks (push s.memory unit.above s.registers.np 0) _ (λ n. refl))
 
 pub wait_keeps : (s : Served) → Keeps of_served s.devices.disks (wait_row s)
 unfolding wait_row
@@ -149,7 +178,7 @@ cleared_keeps (Disk k) d = refl
 
 pub clear_keeps : (s : Served) → Keeps of_served s.devices.disks (clear_row s)
 unfolding clear_row
-clear_keeps s = then of_served s.devices.disks (pop s.memory s.registers.sp) _ (λ unit. cleared_keeps (unit_of unit.0) s.devices)
+clear_keeps s = then of_served s.devices.disks (pop s.memory s.registers.sp) _ (λ unit. cleared_keeps (unit_of unit.word) s.devices)
 
 units_keep : (o : OnUnits) (s : Served) → o ≢ units.Write → Keeps of_served s.devices.disks (units_row o s)
 unfolding units_row
@@ -163,19 +192,21 @@ units_keep units.Clear s other = lifted of_served s.devices.disks (clear_row s) 
 exit_keeps : (s : Reach) → Keeps of_reach s.devices.disks (exit_row s)
 unfolding exit_row
 exit_keeps s = then of_reach s.devices.disks (pop s.memory s.registers.sp) _ (λ p.
-    then of_reach s.devices.disks (pop s.memory p.1) _ (λ n.
-    then of_reach s.devices.disks (exited (standard.parts s (record s.registers { sp = n.1 })) (record { segment = n.0; procedure = p.0 })) _ (λ left. refl)))
+    then of_reach s.devices.disks (pop s.memory p.above) _ (λ n.
+    then of_reach s.devices.disks (exited (standard.parts s (record s.registers { sp = n.above })) (record { segment = n.word; procedure = p.word })) _
+    (λ left. refl)))
 
 keep_keeps : (s : Reach) → Keeps of_reach s.devices.disks (keep_row s)
 unfolding keep_row
 keep_keeps s = then of_reach s.devices.disks (pop s.memory s.registers.sp) _ (λ n.
-    then of_reach s.devices.disks (slot_code n.0 s.places s.rows s.devices) _ (λ code.
-    then of_reach s.devices.disks (segment_kept (standard.parts s (record s.registers { sp = n.1 })) n.0 code) _ (λ kept. refl)))
+    then of_reach s.devices.disks (slot_code n.word s.places s.rows s.devices) _ (λ code.
+    then of_reach s.devices.disks (segment_kept (standard.parts s (record s.registers { sp = n.above })) n.word code) _ (λ kept. refl)))
 
 unkeep_keeps : (s : Reach) → Keeps of_reach s.devices.disks (unkeep_row s)
 unfolding unkeep_row
 unkeep_keeps s = then of_reach s.devices.disks (pop s.memory s.registers.sp) _ (λ n.
-    then of_reach s.devices.disks (segment_unkept (standard.parts s (record s.registers { sp = n.1 })) n.0 (length_of (slice_get s.rows n.0))) _ (λ left. refl))
+    then of_reach s.devices.disks (segment_unkept (standard.parts s (record s.registers { sp = n.above })) n.word (length_of (slice_get s.rows n.word))) _
+    (λ left. refl))
 
 procedure_keeps : (p : Procedure) (s : Reach) → p ≢ procedure.OnUnits units.Write → Keeps of_reach s.devices.disks (procedure_row p s)
 unfolding procedure_row
@@ -201,10 +232,10 @@ stack_keeps s r = lifted of_state s.devices.disks (on_stack s r) (then of_state 
 registers_keep : (s : State) (r : Result Registers ExecError) → Keeps of_state s.devices.disks (or_fails (on_registers s r))
 registers_keep s r = lifted of_state s.devices.disks (on_registers s r) (then of_state s.devices.disks r _ (λ t. refl))
 
-call_keeps : (c : codes.Call) (s : State) → Keeps of_state s.devices.disks (call_row c s)
+call_keeps : (c : Call) (s : State) → Keeps of_state s.devices.disks (call_row c s)
 unfolding call_row
-call_keeps c s = then of_state s.devices.disks (code_needed (call_of c) s.places s.rows s.devices) _ (λ code.
-    then of_state s.devices.disks (called (parts s) (call_of c) code) _ (λ p. refl))
+call_keeps c s = then of_state s.devices.disks (code_needed c s.places s.rows s.devices) _ (λ code.
+    then of_state s.devices.disks (called (parts s) c code) _ (λ p. refl))
 
 return_keeps : (r : Return) (s : State) → Keeps of_state s.devices.disks (return_row r s)
 return_keeps r s = then of_state s.devices.disks (returned (parts s) (words_of_return r) (is_base_return r)) _ (λ p. refl)
@@ -270,22 +301,24 @@ arithmetic_keeps : (o : Arithmetic) (m : List ℕ) (sp np : ℕ) → KeepsBelow 
 unfolding arithmetic_row constant_row unary_row binary_row relation_row check_row
 arithmetic_keeps (Constant w) m sp np = pushed_below m sp np w
 arithmetic_keeps Nil m sp np = pushed_below m sp np 0
-arithmetic_keeps (OnOne o) m sp np = bound m (pop m sp) _ (λ a. pushed_below m a.1 np _)
-arithmetic_keeps (OnTwo o) m sp np = bound m (pop m sp) _ (λ b. bound m (pop m b.1) _ (λ a. bound m (binary o a.0 b.0) _ (λ c. pushed_below m a.1 np c)))
-arithmetic_keeps (Compare o) m sp np = bound m (pop m sp) _ (λ b. bound m (pop m b.1) _ (λ a. pushed_below m a.1 np _))
-arithmetic_keeps Check m sp np = bound m (pop m sp) _ (λ c. bound m (pop m c.1) _ (λ b. bound m (pop m b.1) _ (λ a. bound m _ _ (λ h. pushed_below m a.1 np a.0))))
+arithmetic_keeps (OnOne o) m sp np = bound m (pop m sp) _ (λ a. pushed_below m a.above np _)
+arithmetic_keeps (OnTwo o) m sp np = bound m (pop m sp) _ (λ b. bound m (pop m b.above) _
+    (λ a. bound m (binary o a.word b.word) _ (λ c. pushed_below m a.above np c)))
+arithmetic_keeps (Compare o) m sp np = bound m (pop m sp) _ (λ b. bound m (pop m b.above) _ (λ a. pushed_below m a.above np _))
+arithmetic_keeps Check m sp np = bound m (pop m sp) _ (λ c. bound m (pop m c.above) _ (λ b. bound m (pop m b.above) _
+    (λ a. bound m _ _ (λ h. pushed_below m a.above np a.word))))
 
 increment_keeps : (b : ℕ) (m : List ℕ) (sp np : ℕ) → KeepsBelow m (increment_row b m sp np)
 unfolding increment_row
-increment_keeps b m sp np = bound m (pop m sp) _ (λ a. pushed_below m a.1 np _)
+increment_keeps b m sp np = bound m (pop m sp) _ (λ a. pushed_below m a.above np _)
 
 indirect_keeps : (b : ℕ) (m : List ℕ) (sp np : ℕ) → KeepsBelow m (indirect_row b m sp np)
 unfolding indirect_row
-indirect_keeps b m sp np = bound m (pop m sp) _ (λ a. bound m (load m ((a.0 + 2 * b) % 65536)) _ (λ w. pushed_below m a.1 np w))
+indirect_keeps b m sp np = bound m (pop m sp) _ (λ a. bound m (load m ((a.word + 2 * b) % 65536)) _ (λ w. pushed_below m a.above np w))
 
 index_keeps : (b : ℕ) (m : List ℕ) (sp np : ℕ) → KeepsBelow m (index_row b m sp np)
 unfolding index_row
-index_keeps b m sp np = bound m (pop m sp) _ (λ i. bound m (pop m i.1) _ (λ a. pushed_below m a.1 np _))
+index_keeps b m sp np = bound m (pop m sp) _ (λ i. bound m (pop m i.above) _ (λ a. pushed_below m a.above np _))
 
 address_keeps : (scope : Scope) (b : ℕ) (m : List ℕ) (r : Registers) → KeepsBelow m (address_row scope b m r)
 unfolding address_row

@@ -1,9 +1,32 @@
 -- The start of a program from a code file on a volume.
-use Rattle.std.specs.Prelude.{ℕ, zero, suc, ◌+◌, ◌%◌, ◌==◌, ◌≡◌, List, [], ◌∷◌, ◌++◌, Option, Some, None, is_none, is_some, replicate, Result, Ok, Err, IsOk, if◌then◌else◌}
+use Rattle.std.specs.Prelude.{
+  ℕ,
+  zero,
+  suc,
+  ◌+◌,
+  ◌%◌,
+  ◌==◌,
+  ◌≡◌,
+  List,
+  [],
+  ◌∷◌,
+  ◌++◌,
+  Option,
+  Some,
+  None,
+  is_none,
+  is_some,
+  replicate,
+  Result,
+  Ok,
+  Err,
+  IsOk,
+  if◌then◌else◌,
+}
 use Rattle.pm_words.specs.declared.error.ExecError.{ExecError}
 use Rattle.pm_words.specs.Words.{zero_words}
 use Rattle.pm_words.specs.Stack.{◌>>=◌, demand}
-use Rattle.pm_calls.specs.declared.frames.Call.TheVariants.{Cxp}
+use Rattle.pm_opcode.specs.declared.operation.Call.TheVariants.{Cxp}
 use Rattle.pm_calls.specs.Places.{Parts}
 use Rattle.pm_calls.specs.Calls.{called}
 use Rattle.pm_volume.specs.declared.entry.Entry.{Entry}
@@ -19,6 +42,7 @@ use Rattle.pm_stdproc.specs.declared.loads.SlotRow.{SlotRow}
 use Rattle.pm_machine.specs.declared.state.Status.TheVariants as status
 use Rattle.pm_machine.specs.State.{State, Whole}
 use Rattle.pm_machine.specs.Start.{devices_with, with_system_frame}
+use Rattle.pm_words.specs.declared.layout.TheConstants.{HEAP, SYSTEM_FRAME}
 
 -- what has to be there, and the fault where it is not
 abbrev pub some_or : {A : Type 0} → BootFault → Option A → Result A BootFault
@@ -29,8 +53,8 @@ some_or fault None = Err fault
 unfoldable pub image_of : List (Option (List ℕ)) → ℕ → Option (List ℕ)
 image_of images unit = image_on (unit_of unit) (devices_with images 0)
 
--- The code file of a name on the volume of a unit: a code file by its kind that is readable and has a segment in slot 1. Its
--- entry, and its bytes.
+-- The code file of a name on the volume of a unit: a code file by its kind that is readable and has a segment in slot
+-- 1. Its entry, and its bytes.
 unfoldable pub code_file : List (Option (List ℕ)) → ℕ → List ℕ → Result (Entry × List ℕ) BootFault
 code_file images unit name = do
   image ← some_or NoFile (image_of images unit)
@@ -58,7 +82,16 @@ rows_below unit first file (suc n) = rows_below unit first file n ++ row_of unit
 unfoldable pub first_parts : Parts
 first_parts = record {
   memory = with_system_frame zero_words;
-  registers = record { sp = 65492; ipc = 0; seg = 0; jtab = 0; mp = 65492; base = 65492; np = 1024; ioresult = 0 };
+  registers = record {
+    sp = SYSTEM_FRAME;
+    ipc = 0;
+    seg = 0;
+    jtab = 0;
+    mp = SYSTEM_FRAME;
+    base = SYSTEM_FRAME;
+    np = HEAP;
+    ioresult = 0;
+  };
   places = replicate 16 None;
 }
 
@@ -67,8 +100,8 @@ abbrev pub or_exec : {A : Type 0} → Result A ExecError → Result A BootFault
 or_exec (Ok x) = Ok x
 or_exec (Err e) = Err (Exec e)
 
--- A program begins by a call of procedure 1 of slot 1, whose segment is loaded: the machine in it, and the rows of its 16
--- slots.
+-- A program begins by a call of procedure 1 of slot 1, whose segment is loaded: the machine in it, and the rows of its
+-- 16 slots.
 unfoldable pub begun : List (Option (List ℕ)) → ℕ → List ℕ → Result (Parts × List SlotRow) BootFault
 begun images unit name = do
   found ← code_file images unit name
@@ -94,7 +127,8 @@ abbrev pub parts_of : Begun → Parts
 parts_of b = record { memory = b.memory.words; registers = b.registers; places = b.frames.places }
 
 -- a program began, or was refused; memory is missing only where its file was found
-abbrev pub Begins : Result Begun BootFault → Result (Entry × List ℕ) BootFault → Result (Parts × List SlotRow) BootFault → Type 0
+abbrev pub Begins : Result Begun BootFault → Result (Entry × List ℕ) BootFault → Result (Parts × List SlotRow) BootFault
+    → Type 0
 Begins (Ok b) found start = start ≡ Ok (parts_of b, b.rows)
 Begins (Err NoFile) found start = start ≡ Err NoFile
 Begins (Err NotCode) found start = start ≡ Err NotCode
@@ -103,7 +137,8 @@ Begins (Err (Exec e)) found start = start ≡ Err (Exec e)
 Begins (Err NoMemory) found start = IsOk found
 
 -- a machine was booted, or refused; memory is missing only where the file of the program was found
-abbrev pub Boots : {A : Type 0} → Result Whole (BootFault × A) → Result (Entry × List ℕ) BootFault → Result State BootFault → Type 0
+abbrev pub Boots : {A : Type 0} → Result Whole (BootFault × A) → Result (Entry × List ℕ) BootFault
+    → Result State BootFault → Type 0
 Boots (Ok m) found start = start ≡ Ok m.state
 Boots (Err (NoFile, back)) found start = start ≡ Err NoFile
 Boots (Err (NotCode, back)) found start = start ≡ Err NotCode

@@ -2,12 +2,9 @@
 use Rattle.std.specs.Prelude.{ℕ, Bool, true, false, Result, Ok, if◌then◌else◌, ◌==◌}
 use Rattle.pm_words.specs.declared.error.ExecError.{ExecError}
 use Rattle.pm_words.specs.Stack.{◌>>=◌}
-use Rattle.pm_opcode.specs.declared.operation.Call as codes
-use Rattle.pm_opcode.specs.declared.operation.Call.TheVariants.{Local, Global, Base, Intermediate, External}
 use Rattle.pm_opcode.specs.declared.operation.Return.{Return}
 use Rattle.pm_opcode.specs.declared.operation.Return.TheVariants as return
-use Rattle.pm_calls.specs.declared.frames.Call.{Call}
-use Rattle.pm_calls.specs.declared.frames.Call.TheVariants.{Clp, Cgp, Cbp, Cip, Cxp}
+use Rattle.pm_opcode.specs.declared.operation.Call.{Call}
 use Rattle.pm_calls.specs.Places.{Parts}
 use Rattle.pm_calls.specs.Calls.{called}
 use Rattle.pm_calls.specs.Returns.{returned}
@@ -17,14 +14,7 @@ use Rattle.pm_stdproc.specs.Traps.{Pause}
 use Rattle.pm_stdproc.specs.Procedures.{Reach, procedure_of, procedure_row}
 use Rattle.pm_machine.specs.State.{State}
 use Rattle.pm_stdproc.specs.Loads.{code_needed}
-
--- a call as the frames take it
-abbrev pub call_of : codes.Call → Call
-call_of (Local p) = Clp p
-call_of (Global p) = Cgp p
-call_of (Base p) = Cbp p
-call_of (Intermediate p) = Cip p
-call_of (External s p) = Cxp s p
+use Rattle.pm_words.specs.declared.layout.TheConstants.{SYSTEM_FRAME}
 
 -- what calls and returns see of the state, and the state with that part new
 abbrev pub parts : State → Parts
@@ -33,11 +23,11 @@ parts s = record { memory = s.memory; registers = s.registers; places = s.places
 abbrev pub with_parts : Parts → State → State
 with_parts p s = record s { memory = p.memory; registers = p.registers; places = p.places }
 
--- a call, with the code that it has to load
-unfoldable pub call_row : codes.Call → State → Result State ExecError
+-- CLP, CGP, CBP, CIP and CXP. .., parameters -> the frame of the procedure: a call, with the code that it has to load
+unfoldable pub call_row : Call → State → Result State ExecError
 call_row c s = do
-  code ← code_needed (call_of c) s.places s.rows s.devices
-  p ← called (parts s) (call_of c) code
+  code ← code_needed c s.places s.rows s.devices
+  p ← called (parts s) c code
   Ok (with_parts p s)
 
 abbrev pub words_of_return : Return → ℕ
@@ -50,8 +40,9 @@ is_base_return (return.Base n) = true
 
 -- a return to the frame of the system ends the program
 abbrev pub status_after : ℕ → Status → Status
-status_after mp now = if mp == 65492 then status.Ended else now
+status_after mp now = if mp == SYSTEM_FRAME then status.Ended else now
 
+-- RNP and RBP. the frame of the procedure -> .., n words: n words of a result go with it
 abbrev pub return_row : Return → State → Result State ExecError
 return_row r s =
     returned (parts s) (words_of_return r) (is_base_return r) >>= λ p.
@@ -64,5 +55,6 @@ reach s = record { memory = s.memory; registers = s.registers; places = s.places
 abbrev pub with_reach : Reach → State → State
 with_reach t s = record s { memory = t.memory; registers = t.registers; places = t.places; devices = t.devices }
 
+-- CSP. As the row of the standard procedure says.
 abbrev pub standard_row : ℕ → State → Result State Pause
 standard_row n s = procedure_row (procedure_of n) (reach s) >>= λ t. Ok (with_reach t s)

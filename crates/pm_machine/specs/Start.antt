@@ -1,5 +1,22 @@
 -- The machine at its start.
-use Rattle.std.specs.Prelude.{ℕ, ◌+◌, ◌%◌, ◌≡◌, List, [], Option, Result, Ok, Err, IsOk, if◌then◌else◌, nat_lt, length, replicate, None}
+use Rattle.std.specs.Prelude.{
+  ℕ,
+  ◌+◌,
+  ◌%◌,
+  ◌≡◌,
+  List,
+  [],
+  Option,
+  Result,
+  Ok,
+  Err,
+  IsOk,
+  if◌then◌else◌,
+  nat_lt,
+  length,
+  replicate,
+  None,
+}
 use Rattle.pm_words.specs.Words.{zero_words, with_word, with_bytes}
 use Rattle.pm_stdproc.specs.Devices.{Devices}
 use Rattle.pm_machine.specs.declared.state.BootFault.{BootFault}
@@ -7,17 +24,18 @@ use Rattle.pm_machine.specs.declared.state.BootFault.TheVariants.{NoFile, NotCod
 use Rattle.pm_stdproc.specs.declared.loads.SlotRow.{SlotRow}
 use Rattle.pm_machine.specs.declared.state.Status.TheVariants as status
 use Rattle.pm_machine.specs.State.{State, Whole}
+use Rattle.pm_words.specs.declared.layout.TheConstants.{HEAP, LONGEST_CODE, STACK_END, SYSTEM_FRAME}
 
 -- The frame of the system, at 65,492: its static and its dynamic link lead to itself, JTAB, SEG and IPC are 0, and its
 -- SP is 65,504.
 unfoldable pub with_system_frame : List ℕ → List ℕ
 with_system_frame m =
-    let static = with_word m 65492 65492 in
-    let dynamic = with_word static 65494 65492 in
-    let jtab = with_word dynamic 65496 0 in
-    let seg = with_word jtab 65498 0 in
-    let ipc = with_word seg 65500 0 in
-    with_word ipc 65502 65504
+    let static = with_word m SYSTEM_FRAME SYSTEM_FRAME in
+    let dynamic = with_word static (SYSTEM_FRAME + 2) SYSTEM_FRAME in
+    let jtab = with_word dynamic (SYSTEM_FRAME + 4) 0 in
+    let seg = with_word jtab (SYSTEM_FRAME + 6) 0 in
+    let ipc = with_word seg (SYSTEM_FRAME + 8) 0 in
+    with_word ipc (SYSTEM_FRAME + 10) STACK_END
 
 -- the row of a slot without a length
 abbrev pub no_row : SlotRow
@@ -29,18 +47,28 @@ devices_with images clock = record { disks = images; queue = []; console = []; p
 
 -- the end of code that stands from 1,024 on, made even upward
 abbrev pub code_end : List ℕ → ℕ
-code_end bytes = 1024 + length bytes + length bytes % 2
+code_end bytes = HEAP + length bytes + length bytes % 2
 
 -- The start on bare code: its bytes stand from 1,024 on, and the rest of the memory is zero but for the frame of the
 -- system. No slot has a length, no segment stands anywhere, no disk is there, and the clock is 0. More than 60,000
 -- bytes are refused.
 unfoldable pub raw_start : List ℕ → Result State BootFault
 raw_start bytes =
-    if nat_lt 60000 (length bytes) then Err BadCode
+    if nat_lt LONGEST_CODE (length bytes) then Err BadCode
     else (let e = code_end bytes in
     Ok (record {
-      memory = with_system_frame (with_bytes zero_words 1024 bytes);
-      registers = record { sp = 65492; ipc = 1024; seg = e; jtab = e; mp = 65492; base = 65492; np = e; ioresult = 0 };
+      memory = with_system_frame (with_bytes zero_words HEAP bytes);
+      registers = record {
+        sp = SYSTEM_FRAME;
+        ipc = HEAP;
+        seg = e;
+        jtab = e;
+        mp = SYSTEM_FRAME;
+        base = SYSTEM_FRAME;
+        np
+            = e;
+        ioresult = 0;
+      };
       steps = 0;
       status = status.Running;
       places = replicate 16 None;

@@ -4,7 +4,7 @@ use Rattle.pm_words.specs.declared.error.ExecError.TheVariants.{DivideByZero}
 use Rattle.pm_opcode.specs.declared.operation.Unary.TheVariants.{Absolute, Negate, Square, Complement}
 use Rattle.pm_opcode.specs.declared.operation.Binary.TheVariants.{Add, Subtract, Multiply, Divide, Modulo}
 use Rattle.pm_opcode.specs.declared.operation.Relation.TheVariants.{Less}
-use Rattle.pm_rows.specs.Signed.{binary, relation, unary}
+use Rattle.pm_rows.specs.Integers.{binary, relation, unary}
 
 pub record WorkedResults : Type 0 where
   -- sums and products wrap: 32,767 + 1 is the word 32,768

@@ -4,19 +4,20 @@ ghost use Rattle.std.specs.Prelude.{◌≡◌, ◌<◌, ◌%◌, All, IfOk, IfEr
 ghost use Rattle.pm_words.specs.Stack.{IsStack};
 ghost use Rattle.pm_calls.specs.Calls.{Leaves, called};
 ghost use Rattle.pm_machine.specs.Agreeing.{InStep};
-ghost use Rattle.pm_calls.specs.declared.frames.Call.TheVariants.{Cxp};
+ghost use Rattle.pm_opcode.specs.declared.operation.Call.TheVariants.{Cxp};
 ghost use Rattle.pm_codefile.specs.Dictionary.{slot_in};
 ghost use Rattle.pm_machine.specs.Faults.{boot_number};
 ghost use Rattle.pm_machine.specs.Boot.{Begins, begun, code_file, first_parts, image_of, parts_of, row_of, rows_below};
 
-use crate::layout::{HEAP, SYSTEM_FRAME};
 use crate::machine::{NO_ROW, put_system_frame};
 use crate::state::BootFault;
-use pm_calls::{Call, Frames, Registers};
+use pm_calls::{Frames, Registers};
 use pm_codefile::CodeFile;
-use pm_stdproc::SlotRow;
+use pm_opcode::Call;
+use pm_stdproc::{Port, SlotRow, unit_of};
 use pm_volume::kinds::CODE;
 use pm_volume::{Entry, Volume};
+use pm_words::layout::{HEAP, SYSTEM_FRAME};
 use pm_words::{ExecError, Memory};
 use std::alloc::{AllocError, Global};
 
@@ -31,17 +32,12 @@ pub struct Begun {
 }
 
 // The volume on a disk unit.
-#[tactic(auto, unfolding(crate::specs::Boot::image_of, pm_stdproc::specs::Devices::unit_of))]
+#[tactic(auto, unfolding(crate::specs::Boot::image_of))]
 fn volume_on(volumes: &[Option<Volume>; 6], unit: u8) -> Option<&Volume>
     ensures volume { option_map (λ volume. volume.now) result ≡ image_of volumes.now unit }
 {
-    match unit {
-        4 => volumes[0].as_ref(),
-        5 => volumes[1].as_ref(),
-        9 => volumes[2].as_ref(),
-        10 => volumes[3].as_ref(),
-        11 => volumes[4].as_ref(),
-        12 => volumes[5].as_ref(),
+    match unit_of(u16::from(unit)) {
+        Port::Disk(place) => volumes[usize::from(place)].as_ref(),
         _ => None,
     }
 }
@@ -145,7 +141,8 @@ fn first_call(start: &mut Begun, code: Option<&[u8]>) -> Result<(), ExecError>
     requires agrees { InStep start.old.memory start.old.frames start.old.registers.mp }
     ensures agrees { InStep start.new.memory start.new.frames start.new.registers.mp }
     ensures stack { OnOk result (IsStack start.new.registers.sp start.new.registers.np) }
-    ensures done { Leaves result (parts_of start.old) (parts_of start.new) (called (parts_of start.old) (Cxp 1 1) (option_map (λ c. c.now) code.entry)) }
+    ensures done { Leaves result (parts_of start.old) (parts_of start.new)
+        (called (parts_of start.old) (Cxp 1 1) (option_map (λ c. c.now) code.entry)) }
 {
     start.frames.call(
         &mut start.memory,

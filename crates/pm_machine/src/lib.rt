@@ -4,7 +4,6 @@
 mod agreeing;
 mod boot;
 pub mod laws;
-mod layout;
 mod machine;
 mod procedures;
 mod quick;

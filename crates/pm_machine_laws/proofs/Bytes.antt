@@ -1,5 +1,30 @@
 -- The parts of an image of bytes are bytes, and its numbers are words.
-use Rattle.std.proofs.Common.{◌≡◌, ◌<◌, ℕ, ◌+◌, ◌-◌, ◌*◌, Bool, true, false, cond, nat_lt, nat_le, List, [], length, get_or, slice_range, slice_index, Some, None, inl, inr, subst, arith}
+use Rattle.std.proofs.Common.{
+  ◌≡◌,
+  ◌<◌,
+  ℕ,
+  ◌+◌,
+  ◌-◌,
+  ◌*◌,
+  Bool,
+  true,
+  false,
+  cond,
+  nat_lt,
+  nat_le,
+  List,
+  [],
+  length,
+  get_or,
+  slice_range,
+  slice_index,
+  Some,
+  None,
+  inl,
+  inr,
+  subst,
+  arith,
+}
 use Rattle.std.specs.List.{All}
 use Rattle.std.proofs.lemmas.Bool.{cases_Bool}
 use Rattle.std.proofs.lemmas.Bool.Decides.{nat_tests}
@@ -35,7 +60,8 @@ word_fits bs k h = let low = byte_fits bs k h in let high = byte_fits bs (k + 1)
 -- an entry that is found ends at a block whose number is a word
 pub end_fits : (image name : List ℕ) (entry : Entry) (file : List ℕ) → IsImage image → IsFound image name entry file → entry.end < 65536
 end_fits image name entry file is f =
-    let lies = found_all (IsWithin (files_begin (directory_of image)) (block_count (directory_of image))) (is_named name) (files_of image) entry (files_within image is.volume) f.named in
+    let lies = found_all (IsWithin (files_begin (directory_of image)) (block_count (directory_of image))) (is_named name) (files_of image) entry
+    (files_within image is.volume) f.named in
     let within = lies.within in
     let count = word_fits (directory_of image) 14 (range_fits image 1024 3072 is.bytes) in
     omega (arith, within, count)

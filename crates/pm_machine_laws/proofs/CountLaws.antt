@@ -1,5 +1,38 @@
 -- No place is for no call and no keep.
-use Rattle.std.proofs.Common.{◌≡◌, ◌<◌, inl, inr, ℕ, ◌+◌, ◌-◌, ◌*◌, ◌==◌, ◌&&◌, ◌||◌, Bool, true, false, cond, nat_lt, nat_le, List, [], ◌∷◌, length, replicate, Option, Some, None, Result, Ok, Err, ap, ◌∙◌, subst, arith}
+use Rattle.std.proofs.Common.{
+  ◌≡◌,
+  ◌<◌,
+  inl,
+  inr,
+  ℕ,
+  ◌+◌,
+  ◌-◌,
+  ◌*◌,
+  ◌==◌,
+  ◌&&◌,
+  ◌||◌,
+  Bool,
+  true,
+  false,
+  cond,
+  nat_lt,
+  nat_le,
+  List,
+  [],
+  ◌∷◌,
+  length,
+  replicate,
+  Option,
+  Some,
+  None,
+  Result,
+  Ok,
+  Err,
+  ap,
+  ◌∙◌,
+  subst,
+  arith,
+}
 use Rattle.std.specs.Prelude.{slice_get, slice_set, slice_index_or, option_and_then, position}
 use Rattle.std.specs.List.{All}
 use Rattle.std.proofs.lemmas.Bool.Decides.{nat_tests}
@@ -12,16 +45,15 @@ use Rattle.pm_words.specs.Stack.{◌>>=◌, demand, is_even, minus, pop}
 use Rattle.pm_opcode.specs.declared.instr.Instr.{Instr}
 use Rattle.pm_opcode.specs.declared.operation.Operation.{Operation}
 use Rattle.pm_opcode.specs.declared.operation.Operation.TheVariants as operation
-use Rattle.pm_opcode.specs.declared.operation.Call as codes
 use Rattle.pm_opcode.specs.declared.operation.Return.{Return}
 use Rattle.pm_opcode.specs.Operations.{operation_of}
 use Rattle.pm_calls.specs.declared.registers.Registers.{Registers}
 use Rattle.pm_calls.specs.declared.exits.Wanted.{Wanted}
 use Rattle.pm_calls.specs.declared.frames.Place.{Place}
-use Rattle.pm_calls.specs.declared.frames.Call.{Call}
-use Rattle.pm_calls.specs.declared.frames.Call.TheVariants.{Clp, Cgp, Cbp, Cip, Cxp}
+use Rattle.pm_opcode.specs.declared.operation.Call.{Call}
+use Rattle.pm_opcode.specs.declared.operation.Call.TheVariants.{Clp, Cgp, Cbp, Cip, Cxp}
 use Rattle.pm_calls.specs.Places.{Parts}
-use Rattle.pm_calls.specs.Calls.{Reached, called, called_at, called_loading, called_slot, called_standing, entered, here, loading, standing}
+use Rattle.pm_calls.specs.Calls.{Reached, called, called_at, called_loading, called_slot, called_standing, entered, here, loading, standing, code_fits}
 use Rattle.pm_calls.specs.Keeps.{keep_loading, keep_slot, keep_standing, less_kept, segment_kept, segment_unkept, unkeep_slot, unkeep_standing}
 use Rattle.pm_stdproc.specs.Loads.{length_of, slot_code}
 use Rattle.pm_calls.specs.Exits.{exited, is_wanted, walked_unless}
@@ -48,7 +80,7 @@ use Rattle.pm_rows.specs.Jumps.{jump_row}
 use Rattle.pm_rows.specs.Literals.{literal_row}
 use Rattle.pm_stdproc.specs.Loads.{code_needed}
 use Rattle.pm_rows.specs.Pointers.{pointer_row}
-use Rattle.pm_machine.specs.Procedures.{call_of, call_row, is_base_return, parts, reach, return_row, standard_row, words_of_return}
+use Rattle.pm_machine.specs.Procedures.{call_row, is_base_return, parts, reach, return_row, standard_row, words_of_return}
 use Rattle.pm_machine.specs.Rows.{fetched, on_registers, on_stack, past, performed, row}
 use Rattle.pm_machine.specs.Start.{raw_start}
 use Rattle.pm_machine.specs.Steps.{at_status, executed, settled, stepped}
@@ -56,7 +88,21 @@ use Rattle.pm_rows.specs.Values.{value_row}
 use Rattle.pm_rows.specs.Variables.{variable_row}
 use Rattle.pm_machine_laws.specs.Shapes.{IsCounted, MachinesCountCalls}
 use Rattle.pm_machine_laws.proofs.ShapeLaws.{bound, chosen, ok_same, parts_there}
-use Rattle.pm_machine_laws.proofs.Places.{Holds, Places, after, boot_holds, raw_holds, lifted, next_holds, of_parts, of_reach, of_state, procedure_holds, standard_holds, then}
+use Rattle.pm_machine_laws.proofs.Places.{
+  Holds,
+  Places,
+  after,
+  boot_holds,
+  raw_holds,
+  lifted,
+  next_holds,
+  of_parts,
+  of_reach,
+  of_state,
+  procedure_holds,
+  standard_holds,
+  then,
+}
 
 abbrev AreCounted : Places → Type 0
 AreCounted places = All IsCounted places
@@ -66,13 +112,15 @@ AreCounted places = All IsCounted places
 one_more : (p : Place) → IsCounted (Some (record p { count = p.count + 1 }))
 one_more p = omega arith
 
-more_counts : (places : Places) (n : ℕ) (p : Place) → slice_get places n ≡ Some (Some p) → AreCounted places → AreCounted (slice_set places n (Some (record p { count = p.count + 1 })))
+more_counts : (places : Places) (n : ℕ) (p : Place) → slice_get places n ≡ Some (Some p) → AreCounted places
+    → AreCounted (slice_set places n (Some (record p { count = p.count + 1 })))
 more_counts places n p is h = All-set IsCounted places n (Some (record p { count = p.count + 1 })) (one_more p) h
 
 first_one : (s : ℕ) → IsCounted (Some (record { place = s; count = 1; keeps = 0 }))
 first_one s = omega arith
 
-load_counts : (places : Places) (n s : ℕ) → slice_get places n ≡ Some None → AreCounted places → AreCounted (slice_set places n (Some (record { place = s; count = 1; keeps = 0 })))
+load_counts : (places : Places) (n s : ℕ) → slice_get places n ≡ Some None → AreCounted places
+    → AreCounted (slice_set places n (Some (record { place = s; count = 1; keeps = 0 })))
 load_counts places n s is h = All-set IsCounted places n (Some (record { place = s; count = 1; keeps = 0 })) (first_one s) h
 
 -- a place that has one call less is for some call still
@@ -85,7 +133,8 @@ less_counts (Some p) = elim (cases_Bool (nat_lt 1 p.count || nat_lt 0 p.keeps)) 
 
 lessened_counts : (o : Option ℕ) (places : Places) → AreCounted places → AreCounted (lessened o places)
 lessened_counts None places h = h
-lessened_counts (Some n) places h = All-set IsCounted places n (option_and_then less (slice_index_or places n None)) (less_counts (slice_index_or places n None)) h
+lessened_counts (Some n) places h = All-set IsCounted places n (option_and_then less (slice_index_or places n None))
+    (less_counts (slice_index_or places n None)) h
 
 released_counts : (s : ℕ) (places : Places) → AreCounted places → AreCounted (released s places)
 unfolding released
@@ -99,16 +148,17 @@ one_kept p = omega arith
 first_kept : (s : ℕ) → IsCounted (Some (record { place = s; count = 0; keeps = 1 }))
 first_kept s = omega arith
 
-keep_slot_counts : (c : Parts) (n : ℕ) (code : Option (List ℕ)) (slot : Option (Option Place)) → AreCounted c.places → Holds AreCounted of_parts (keep_slot c n code slot)
+keep_slot_counts : (c : Parts) (n : ℕ) (code : Option (List ℕ)) (slot : Option (Option Place)) → AreCounted c.places
+    → Holds AreCounted of_parts (keep_slot c n code slot)
 unfolding keep_standing keep_loading
 keep_slot_counts c n code None h = tt
 keep_slot_counts c n code (Some (Some p)) h =
-    then AreCounted of_parts (demand (nat_lt p.keeps 65535) StackOverflow) _ (λ d. All-set IsCounted c.places n (Some (record p { keeps = p.keeps + 1 })) (one_kept p) h)
+    then AreCounted of_parts (demand (nat_lt p.keeps 65535) StackOverflow) _ (λ d. All-set IsCounted c.places n (Some (record p { keeps = p.keeps + 1 }))
+    (one_kept p) h)
 keep_slot_counts c n None (Some None) h = tt
 keep_slot_counts c n (Some code) (Some None) h =
-    then AreCounted of_parts (demand (nat_lt 0 (length code)) NoSegment) _ (λ d.
-    then AreCounted of_parts (demand (nat_le (c.registers.np + length code) c.registers.sp) StackOverflow) _ (λ k.
-    All-set IsCounted c.places n (Some (record { place = minus c.registers.sp 2; count = 0; keeps = 1 })) (first_kept (minus c.registers.sp 2)) h))
+    then AreCounted of_parts (code_fits c.registers code) _ (λ d.
+    All-set IsCounted c.places n (Some (record { place = minus c.registers.sp 2; count = 0; keeps = 1 })) (first_kept (minus c.registers.sp 2)) h)
 
 kept_counts : (c : Parts) (n : ℕ) (code : Option (List ℕ)) → AreCounted c.places → Holds AreCounted of_parts (segment_kept c n code)
 unfolding segment_kept
@@ -135,16 +185,16 @@ unkept_counts c n size h = unkeep_slot_counts c n size (slice_get c.places n) h
 keep_counts : (s : Reach) → AreCounted s.places → Holds AreCounted of_reach (keep_row s)
 unfolding keep_row
 keep_counts s h = then AreCounted of_reach (pop s.memory s.registers.sp) _ (λ n.
-    then AreCounted of_reach (slot_code n.0 s.places s.rows s.devices) _ (λ code.
-    after AreCounted of_parts of_reach (segment_kept (standard.parts s (record s.registers { sp = n.1 })) n.0 code) _
-    (kept_counts (standard.parts s (record s.registers { sp = n.1 })) n.0 code h) (λ left k. k)))
+    then AreCounted of_reach (slot_code n.word s.places s.rows s.devices) _ (λ code.
+    after AreCounted of_parts of_reach (segment_kept (standard.parts s (record s.registers { sp = n.above })) n.word code) _
+    (kept_counts (standard.parts s (record s.registers { sp = n.above })) n.word code h) (λ left k. k)))
 
 unkeep_counts : (s : Reach) → AreCounted s.places → Holds AreCounted of_reach (unkeep_row s)
 unfolding unkeep_row
 unkeep_counts s h = then AreCounted of_reach (pop s.memory s.registers.sp) _ (λ n.
-    let size = length_of (slice_get s.rows n.0) in
-    after AreCounted of_parts of_reach (segment_unkept (standard.parts s (record s.registers { sp = n.1 })) n.0 size) _
-    (unkept_counts (standard.parts s (record s.registers { sp = n.1 })) n.0 size h) (λ left k. k))
+    let size = length_of (slice_get s.rows n.word) in
+    after AreCounted of_parts of_reach (segment_unkept (standard.parts s (record s.registers { sp = n.above })) n.word size) _
+    (unkept_counts (standard.parts s (record s.registers { sp = n.above })) n.word size h) (λ left k. k))
 
 procedure_counts : (p : Procedure) (s : Reach) → AreCounted s.places → Holds AreCounted of_reach (procedure_row p s)
 unfolding procedure_row

@@ -1,5 +1,41 @@
 -- Segments that the program keeps.
-use Rattle.std.proofs.Common.{◌≡◌, ◌≢◌, ◌<◌, ◌≤◌, inl, inr, ℕ, ◌+◌, ◌-◌, ◌==◌, ◌||◌, Bool, true, false, cond, nat_lt, nat_le, List, [], ◌∷◌, length, replicate, Option, Some, None, Result, Ok, Err, refl, sym, ap, ◌∙◌, subst, arith, get_or}
+use Rattle.std.proofs.Common.{
+  ◌≡◌,
+  ◌≢◌,
+  ◌<◌,
+  ◌≤◌,
+  inl,
+  inr,
+  ℕ,
+  ◌+◌,
+  ◌-◌,
+  ◌==◌,
+  ◌||◌,
+  Bool,
+  true,
+  false,
+  cond,
+  nat_lt,
+  nat_le,
+  List,
+  [],
+  ◌∷◌,
+  length,
+  replicate,
+  Option,
+  Some,
+  None,
+  Result,
+  Ok,
+  Err,
+  refl,
+  sym,
+  ap,
+  ◌∙◌,
+  subst,
+  arith,
+  get_or,
+}
 use Rattle.std.specs.Prelude.{slice_get, slice_set, slice_index_or, option_and_then, position}
 use Rattle.std.specs.List.{All}
 use Rattle.std.proofs.lemmas.Bool.{cases_Bool}
@@ -17,6 +53,7 @@ use Rattle.pm_opcode.specs.declared.operation.Return.{Return}
 use Rattle.pm_opcode.specs.Operations.{operation_of}
 use Rattle.pm_calls.specs.declared.frames.Place.{Place}
 use Rattle.pm_calls.specs.Places.{Parts}
+use Rattle.pm_calls.specs.Calls.{code_fits}
 use Rattle.pm_calls.specs.Keeps.{keep_loading, keep_slot, keep_standing, segment_kept}
 use Rattle.pm_calls.specs.Returns.{less, lessened, released, returned, stands_at}
 use Rattle.pm_calls.proofs.PlaceLaws.{return_places}
@@ -34,8 +71,42 @@ use Rattle.pm_machine.specs.Events.Event.{Step, Key, Poke, Mount, Eject}
 use Rattle.pm_machine.specs.Procedures.{is_base_return, parts, reach, return_row, standard_row, status_after, with_parts, words_of_return}
 use Rattle.pm_machine.specs.Rows.{fetched, past, performed, row}
 use Rattle.pm_machine.specs.Steps.{at_status, executed, settled, stepped}
-use Rattle.pm_machine_laws.specs.Keeping.{IsAtProcedure, IsNeverAt, IsPlain, IsUnkept, KeptSegmentsStand, StandsAs, UnkeptMachinesArePlain, plain_after_all, plain_at_status, plain_executed, plain_less, plain_lessened, plain_next, plain_performed, plain_released, plain_returned, plain_return_row}
-use Rattle.pm_machine_laws.proofs.Places.{Holds, Places, after, boot_holds, lifted, next_holds, not_unkeep, of_parts, of_reach, of_state, other_holds, procedure_holds, raw_holds, standard_holds, then}
+use Rattle.pm_machine_laws.specs.Keeping.{
+  IsAtProcedure,
+  IsNeverAt,
+  IsPlain,
+  IsUnkept,
+  KeptSegmentsStand,
+  StandsAs,
+  UnkeptMachinesArePlain,
+  plain_after_all,
+  plain_at_status,
+  plain_executed,
+  plain_less,
+  plain_lessened,
+  plain_next,
+  plain_performed,
+  plain_released,
+  plain_returned,
+  plain_return_row,
+}
+use Rattle.pm_machine_laws.proofs.Places.{
+  Holds,
+  Places,
+  after,
+  boot_holds,
+  lifted,
+  next_holds,
+  not_unkeep,
+  of_parts,
+  of_reach,
+  of_state,
+  other_holds,
+  procedure_holds,
+  raw_holds,
+  standard_holds,
+  then,
+}
 
 -- ---- a kept segment stands where it is
 
@@ -49,7 +120,8 @@ inside places n p is = elim (cases_Bool (nat_lt n (length places))) [
 ]
 
 -- the places after one slot is set
-set_at : (places : Places) (m n : ℕ) (x : Option Place) (p : Place) → StandsAs p (get_or places n None) → (m ≡ n → StandsAs p x) → StandsAs p (get_or (slice_set places m x) n None)
+set_at : (places : Places) (m n : ℕ) (x : Option Place) (p : Place) → StandsAs p (get_or places n None) → (m ≡ n → StandsAs p x)
+    → StandsAs p (get_or (slice_set places m x) n None)
 set_at places m n x p h k = elim (cases_Bool (m == n)) [
   | inl e ↦
       let same : m ≡ n = grind (arith, nat_tests, e) in
@@ -71,12 +143,24 @@ some_same p q h = cc
 counted : (p q : Place) (count : ℕ) → StandsAs p (Some q) → StandsAs p (Some (record q { count = count }))
 counted p q count h =
     let same : q ≡ h.now = some_same q h.now h.there in
-    record { now = record q { count = count }; there = refl; place = ap (λ (x : Place). x.place) same ∙ h.place; keeps = (let keeps : q.keeps ≡ h.now.keeps = ap (λ (x : Place). x.keeps) same in let few = h.keeps in omega (arith, keeps, few)) }
+    record {
+      now = record q { count = count };
+      there = refl;
+      place = ap (λ (x : Place). x.place) same
+          ∙ h.place;
+      keeps = (let keeps : q.keeps ≡ h.now.keeps = ap (λ (x : Place). x.keeps) same in let few = h.keeps in omega (arith, keeps, few));
+    }
 
 kept_more : (p q : Place) → StandsAs p (Some q) → StandsAs p (Some (record q { keeps = q.keeps + 1 }))
 kept_more p q h =
     let same : q ≡ h.now = some_same q h.now h.there in
-    record { now = record q { keeps = q.keeps + 1 }; there = refl; place = ap (λ (x : Place). x.place) same ∙ h.place; keeps = (let keeps : q.keeps ≡ h.now.keeps = ap (λ (x : Place). x.keeps) same in let few = h.keeps in omega (arith, keeps, few)) }
+    record {
+      now = record q { keeps = q.keeps + 1 };
+      there = refl;
+      place = ap (λ (x : Place). x.place) same
+          ∙ h.place;
+      keeps = (let keeps : q.keeps ≡ h.now.keeps = ap (λ (x : Place). x.keeps) same in let few = h.keeps in omega (arith, keeps, few));
+    }
 
 -- a slot without a place is another
 apart : (places : Places) (m n : ℕ) (p : Place) → get_or places m None ≡ None → StandsAs p (get_or places n None) → m ≡ n → ⊥
@@ -87,12 +171,14 @@ module _ (n : ℕ) (p : Place) (kept : 0 < p.keeps) where
   abbrev Stands : Places → Type 0
   Stands places = StandsAs p (get_or places n None)
 
-  more_stands : (places : Places) (m : ℕ) (q : Place) → slice_get places m ≡ Some (Some q) → Stands places → Stands (slice_set places m (Some (record q { count = q.count + 1 })))
+  more_stands : (places : Places) (m : ℕ) (q : Place) → slice_get places m ≡ Some (Some q) → Stands places
+      → Stands (slice_set places m (Some (record q { count = q.count + 1 })))
   more_stands places m q is h =
       let there = get_or_from_slice_get places m (Some q) None is in
       set_at places m n (Some (record q { count = q.count + 1 })) p h (λ same. counted p q (q.count + 1) (at_slot places m n q p there h same))
 
-  load_stands : (places : Places) (m s : ℕ) → slice_get places m ≡ Some None → Stands places → Stands (slice_set places m (Some (record { place = s; count = 1; keeps = 0 })))
+  load_stands : (places : Places) (m s : ℕ) → slice_get places m ≡ Some None → Stands places
+      → Stands (slice_set places m (Some (record { place = s; count = 1; keeps = 0 })))
   load_stands places m s is h =
       let there = get_or_from_slice_get places m None None is in
       set_at places m n (Some (record { place = s; count = 1; keeps = 0 })) p h (λ same. absurd (apart places m n p there h same))
@@ -115,18 +201,19 @@ module _ (n : ℕ) (p : Place) (kept : 0 < p.keeps) where
   unfolding released
   released_stands s places h = lessened_stands (position (stands_at s) places) places h
 
-  keep_slot_stands : (c : Parts) (m : ℕ) (code : Option (List ℕ)) (slot : Option (Option Place)) → slice_get c.places m ≡ slot → Stands c.places → Holds Stands of_parts (keep_slot c m code slot)
+  keep_slot_stands : (c : Parts) (m : ℕ) (code : Option (List ℕ)) (slot : Option (Option Place)) → slice_get c.places m ≡ slot → Stands c.places
+      → Holds Stands of_parts (keep_slot c m code slot)
   unfolding keep_standing keep_loading
   keep_slot_stands c m code None is h = tt
   keep_slot_stands c m code (Some (Some q)) is h =
       let there = get_or_from_slice_get c.places m (Some q) None is in
-      then Stands of_parts (demand (nat_lt q.keeps 65535) StackOverflow) _ (λ d. set_at c.places m n (Some (record q { keeps = q.keeps + 1 })) p h (λ same. kept_more p q (at_slot c.places m n q p there h same)))
+      then Stands of_parts (demand (nat_lt q.keeps 65535) StackOverflow) _ (λ d. set_at c.places m n (Some (record q { keeps = q.keeps + 1 })) p h
+      (λ same. kept_more p q (at_slot c.places m n q p there h same)))
   keep_slot_stands c m None (Some None) is h = tt
   keep_slot_stands c m (Some code) (Some None) is h =
       let there = get_or_from_slice_get c.places m None None is in
-      then Stands of_parts (demand (nat_lt 0 (length code)) NoSegment) _ (λ d.
-      then Stands of_parts (demand (nat_le (c.registers.np + length code) c.registers.sp) StackOverflow) _ (λ k.
-      set_at c.places m n (Some (record { place = minus c.registers.sp 2; count = 0; keeps = 1 })) p h (λ same. absurd (apart c.places m n p there h same))))
+      then Stands of_parts (code_fits c.registers code) _ (λ d.
+      set_at c.places m n (Some (record { place = minus c.registers.sp 2; count = 0; keeps = 1 })) p h (λ same. absurd (apart c.places m n p there h same)))
 
   kept_stands : (c : Parts) (m : ℕ) (code : Option (List ℕ)) → Stands c.places → Holds Stands of_parts (segment_kept c m code)
   unfolding segment_kept
@@ -135,9 +222,9 @@ module _ (n : ℕ) (p : Place) (kept : 0 < p.keeps) where
   keep_row_stands : (s : Reach) → Stands s.places → Holds Stands of_reach (keep_row s)
   unfolding keep_row
   keep_row_stands s h = then Stands of_reach (pop s.memory s.registers.sp) _ (λ m.
-      then Stands of_reach (slot_code m.0 s.places s.rows s.devices) _ (λ code.
-      after Stands of_parts of_reach (segment_kept (standard.parts s (record s.registers { sp = m.1 })) m.0 code) _
-      (kept_stands (standard.parts s (record s.registers { sp = m.1 })) m.0 code h) (λ left k. k)))
+      then Stands of_reach (slot_code m.word s.places s.rows s.devices) _ (λ code.
+      after Stands of_parts of_reach (segment_kept (standard.parts s (record s.registers { sp = m.above })) m.word code) _
+      (kept_stands (standard.parts s (record s.registers { sp = m.above })) m.word code h) (λ left k. k)))
 
   procedure_stands : (o : Procedure) (s : Reach) → o ≢ procedure.Unkeep → Stands s.places → Holds Stands of_reach (procedure_row o s)
   unfolding procedure_row
@@ -176,12 +263,14 @@ slot_unkept places n h = elim (cases_Bool (nat_lt n (length places))) [
       rw none tt
 ]
 
-more_unkept : (places : Places) (n : ℕ) (p : Place) → slice_get places n ≡ Some (Some p) → AreUnkept places → AreUnkept (slice_set places n (Some (record p { count = p.count + 1 })))
+more_unkept : (places : Places) (n : ℕ) (p : Place) → slice_get places n ≡ Some (Some p) → AreUnkept places
+    → AreUnkept (slice_set places n (Some (record p { count = p.count + 1 })))
 more_unkept places n p is h =
     let there = get_or_from_slice_get places n (Some p) None is in
     All-set IsUnkept places n (Some (record p { count = p.count + 1 })) (subst IsUnkept there (slot_unkept places n h)) h
 
-load_unkept : (places : Places) (n s : ℕ) → slice_get places n ≡ Some None → AreUnkept places → AreUnkept (slice_set places n (Some (record { place = s; count = 1; keeps = 0 })))
+load_unkept : (places : Places) (n s : ℕ) → slice_get places n ≡ Some None → AreUnkept places
+    → AreUnkept (slice_set places n (Some (record { place = s; count = 1; keeps = 0 })))
 load_unkept places n s is h = All-set IsUnkept places n (Some (record { place = s; count = 1; keeps = 0 })) refl h
 
 less_unkept : (o : Option Place) → IsUnkept o → IsUnkept (option_and_then less o)
@@ -190,7 +279,8 @@ less_unkept (Some p) h = elim (cases_Bool (nat_lt 1 p.count || nat_lt 0 p.keeps)
 
 lessened_unkept : (o : Option ℕ) (places : Places) → AreUnkept places → AreUnkept (lessened o places)
 lessened_unkept None places h = h
-lessened_unkept (Some n) places h = All-set IsUnkept places n (option_and_then less (slice_index_or places n None)) (less_unkept (slice_index_or places n None) (slot_unkept places n h)) h
+lessened_unkept (Some n) places h = All-set IsUnkept places n (option_and_then less (slice_index_or places n None))
+    (less_unkept (slice_index_or places n None) (slot_unkept places n h)) h
 
 released_unkept : (s : ℕ) (places : Places) → AreUnkept places → AreUnkept (released s places)
 unfolding released
@@ -228,7 +318,8 @@ returned_same c words base h = by (returned c words base) refl
 
 return_same : (r : Return) (s : State) → AreUnkept s.places → return_row r s ≡ plain_return_row r s
 return_same r s h =
-    ap (λ k. k >>= λ p. Ok (record (with_parts p s) { status = status_after p.registers.mp s.status })) (returned_same (parts s) (words_of_return r) (is_base_return r) h)
+    ap (λ k. k >>= λ p. Ok (record (with_parts p s) { status = status_after p.registers.mp s.status }))
+    (returned_same (parts s) (words_of_return r) (is_base_return r) h)
 
 performed_same : (o : Operation) (s : State) → AreUnkept s.places → o ≢ operation.Standard 21 → o ≢ operation.Standard 22 → performed o s ≡ plain_performed o s
 performed_same (operation.Arithmetic o) s h a b = refl
@@ -275,7 +366,8 @@ next_same s (Poke address w) h a b = refl
 next_same s (Mount unit image) h a b = refl
 next_same s (Eject unit) h a b = refl
 
-next_unkept : (s : State) (e : Event) → AreUnkept s.places → (e ≡ Step → IsAtProcedure 21 s → ⊥) → (e ≡ Step → IsAtProcedure 22 s → ⊥) → AreUnkept (next s e).places
+next_unkept : (s : State) (e : Event) → AreUnkept s.places → (e ≡ Step → IsAtProcedure 21 s → ⊥) → (e ≡ Step → IsAtProcedure 22 s → ⊥)
+    → AreUnkept (next s e).places
 next_unkept s e h a b = next_holds AreUnkept more_unkept load_unkept released_unkept s e h
     (λ step running i n there is. other_holds AreUnkept n (past i s)
     (λ k. a step (record { running = running; instr = i; there = there; calls = is ∙ ap operation.Standard k }))

@@ -10,10 +10,9 @@ use Rattle.pm_words.proofs.Laws.{IsMemory-with_word}
 use Rattle.pm_opcode.specs.declared.instr.Instr.{Instr}
 use Rattle.pm_opcode.specs.declared.operation.Operation.{Operation}
 use Rattle.pm_opcode.specs.declared.operation.Operation.TheVariants.{Call}
-use Rattle.pm_opcode.specs.declared.operation.Call.TheVariants.{External}
 use Rattle.pm_opcode.specs.Operations.{operation_of}
-use Rattle.pm_calls.specs.declared.frames.Call as calls
-use Rattle.pm_calls.specs.declared.frames.Call.TheVariants.{Cxp}
+use Rattle.pm_opcode.specs.declared.operation.Call as calls
+use Rattle.pm_opcode.specs.declared.operation.Call.TheVariants.{Cxp}
 use Rattle.pm_calls.specs.declared.frames.Place.{Place}
 use Rattle.pm_calls.specs.Places.{Parts, place_in, placed}
 use Rattle.pm_calls.specs.Calls.{called, called_slot}
@@ -62,11 +61,16 @@ none_fails c d call n None none h = cc
 none_fails c d call n (Some (Some p)) none h = cc
 none_fails c d call n (Some None) none h = cc
 
-stands_below : (c d : Parts) (n p : ℕ) (file : List ℕ) (segment : Option (List ℕ)) → segment_in file n ≡ segment → IsMemory c.memory → IsCode segment → placed c.places n ≡ None →
+stands_below : (c d : Parts) (n p : ℕ) (file : List ℕ) (segment : Option (List ℕ)) → segment_in file n ≡ segment → IsMemory c.memory → IsCode segment
+    → placed c.places n ≡ None →
     called c (Cxp n p) segment ≡ Ok d → StandsBelow file n c.registers.sp d.memory
 unfolding called
 stands_below c d n p file None is memory bytes none h = absurd (none_fails c d (Cxp n p) n (slice_get c.places n) none h)
-stands_below c d n p file (Some code) is memory bytes none h = record { code = code; segment = is; stands = loaded_code_stands c d n p code memory bytes none h }
+stands_below c d n p file (Some code) is memory bytes none h = record {
+  code = code;
+  segment = is;
+  stands = loaded_code_stands c d n p code memory bytes none h;
+}
 
 -- ---- a step
 
@@ -78,7 +82,7 @@ after_same d t u h = let same : with_parts d t ≡ u = cc h in ap (λ (k : State
 
 -- the row of a CXP, where the code that it needs is the segment
 row_loads : (file : List ℕ) (n p : ℕ) (t u : State) → IsMemory t.memory → IsCode (segment_in file n) → placed t.places n ≡ None →
-    code_needed (Cxp n p) t.places t.rows t.devices ≡ Ok (segment_in file n) → call_row (External n p) t ≡ Ok u → StandsBelow file n t.registers.sp u.memory
+    code_needed (Cxp n p) t.places t.rows t.devices ≡ Ok (segment_in file n) → call_row (Cxp n p) t ≡ Ok u → StandsBelow file n t.registers.sp u.memory
 unfolding call_row
 row_loads file n p t u memory code none needed made =
     let x = bound (code_needed (Cxp n p) t.places t.rows t.devices) _ u made in
@@ -88,7 +92,8 @@ row_loads file n p t u memory code none needed made =
     subst (StandsBelow file n t.registers.sp) (after_same y.0 t u y.2) (stands_below (parts t) y.0 n p file (segment_in file n) refl memory code none call)
 
 -- a step that went has the memory that its row gave
-went : (s : State) (r : Result State ExecError) (P : List ℕ → Type 0) → (settled s (or_fails r)).1 ≡ Went → ((u : State) → r ≡ Ok u → P u.memory) → P (settled s (or_fails r)).0.memory
+went : (s : State) (r : Result State ExecError) (P : List ℕ → Type 0) → (settled s (or_fails r)).1 ≡ Went → ((u : State) → r ≡ Ok u → P u.memory)
+    → P (settled s (or_fails r)).0.memory
 went s (Ok u) P h k = k u refl
 went s (Err e) P h k = cc
 
@@ -106,11 +111,12 @@ steps_load s memory image file unit n p is from there none at goes =
     let rows = booted_rows from.images unit from.name from.clock from.start s from.events from.entry file from.booted from.found from.now in
     let needed : code_needed (Cxp n p) s.places s.rows s.devices ≡ Ok (segment_in file n) =
     ap (λ k. code_needed (Cxp n p) s.places k s.devices) rows
-    ∙ loads_give_segments from.images image from.name file from.entry s.devices s.places unit n p is.volume from.mounted from.found (end_fits image from.name from.entry file is f) there none in
+    ∙ loads_give_segments from.images image from.name file from.entry s.devices s.places unit n p is.volume from.mounted from.found
+    (end_fits image from.name from.entry file is f) there none in
     let code = segment_fits file n (file_fits image file from.entry is.bytes f.bytes) in
-    let same : stepped s ≡ settled s (or_fails (call_row (External n p) (past at.instr s))) =
-    stepped_runs s at.running ∙ ap (settled s) (executes s at.instr (Call (External n p)) at.there at.calls) in
-    rw same (went s (call_row (External n p) (past at.instr s)) (StandsBelow file n s.registers.sp) (rw same at goes)
+    let same : stepped s ≡ settled s (or_fails (call_row (Cxp n p) (past at.instr s))) =
+    stepped_runs s at.running ∙ ap (settled s) (executes s at.instr (Call (Cxp n p)) at.there at.calls) in
+    rw same (went s (call_row (Cxp n p) (past at.instr s)) (StandsBelow file n s.registers.sp) (rw same at goes)
     (λ u made. row_loads file n p (past at.instr s) u memory code none needed made))
 
 -- ---- the first call
@@ -123,9 +129,11 @@ system_frame_is : (m : List ℕ) → IsMemory m → IsMemory (with_system_frame 
 unfolding with_system_frame
 system_frame_is m h =
     IsMemory-with_word _ 65502 65504 (IsMemory-with_word _ 65500 0 (IsMemory-with_word _ 65498 0 (IsMemory-with_word _ 65496 0 (
-    IsMemory-with_word _ 65494 65492 (IsMemory-with_word m 65492 65492 h (omega arith)) (omega arith)) (omega arith)) (omega arith)) (omega arith)) (omega arith)
+    IsMemory-with_word _ 65494 65492 (IsMemory-with_word m 65492 65492 h (omega arith)) (omega arith)) (omega arith)) (omega arith)) (omega arith))
+    (omega arith)
 
-first_stands : (d : Parts) (file : List ℕ) → IsCode (segment_in file 1) → called first_parts (Cxp 1 1) (segment_in file 1) ≡ Ok d → StandsBelow file 1 65492 d.memory
+first_stands : (d : Parts) (file : List ℕ) → IsCode (segment_in file 1) → called first_parts (Cxp 1 1) (segment_in file 1) ≡ Ok d
+    → StandsBelow file 1 65492 d.memory
 unfolding first_parts
 first_stands d file code h = stands_below first_parts d 1 1 file (segment_in file 1) refl (system_frame_is zero_words zeros_are) code refl h
 

@@ -1,5 +1,36 @@
 -- Words as signed numbers.
-use Rattle.std.proofs.Common.{◌≡◌, ◌≢◌, ◌<◌, ◌≤◌, ◌⊎◌, inl, inr, ℕ, zero, suc, ◌+◌, ◌-◌, ◌*◌, ◌%◌, ◌/◌, ◌==◌, ◌&&◌, Bool, true, false, cond, nat_lt, nat_le, List, Ok, refl, sym, ap, ◌∙◌, arith}
+use Rattle.std.proofs.Common.{
+  ◌≡◌,
+  ◌≢◌,
+  ◌<◌,
+  ◌≤◌,
+  ◌⊎◌,
+  inl,
+  inr,
+  ℕ,
+  zero,
+  suc,
+  ◌+◌,
+  ◌-◌,
+  ◌*◌,
+  ◌%◌,
+  ◌/◌,
+  ◌==◌,
+  ◌&&◌,
+  Bool,
+  true,
+  false,
+  cond,
+  nat_lt,
+  nat_le,
+  List,
+  Ok,
+  refl,
+  sym,
+  ap,
+  ◌∙◌,
+  arith,
+}
 use Rattle.std.specs.Prelude.{ℤ, pos, negsuc, ◌+ℤ◌, ◌-ℤ◌, neg_ℤ, int_le, int_lt, int_div, int_rem, unsigned_abs}
 use Rattle.std.specs.Int.{w16, cast_unsigned}
 use Rattle.std.proofs.lemmas.Bool.{cases_eq, cases_lt}
@@ -8,9 +39,9 @@ use Rattle.std.proofs.Math.Nat.{div-le_of_le-mul, div-le_self}
 use Rattle.std.proofs.lemmas.Int.{ints, of_z-to_z, quot-rem, rem_below}
 use Rattle.pm_words.specs.Stack.{minus}
 use Rattle.pm_opcode.specs.Spelling.{rank}
-use Rattle.pm_values.specs.Sets.{signed}
+use Rattle.pm_words.specs.Signed.{signed, word}
 use Rattle.pm_rows.specs.Jumps.{entry_target}
-use Rattle.pm_rows.specs.Signed.{divided, word}
+use Rattle.pm_rows.specs.Integers.{divided}
 use Rattle.pm_machine_laws.specs.Numbers.{CaseJumpsBySigned, DivisionIsWhole, RanksFollowSigned}
 
 -- ---- the two halves
@@ -59,7 +90,8 @@ number_is x y a b h k l =
 
 case_by : (b : Bool) (low value high table : ℕ) (m : List ℕ) → nat_le (rank low) (rank value) ≡ b → low < 65536 → value < 65536 →
     cond (b && nat_le (rank value) (rank high)) (entry_target m ((table + 2 * (rank value - rank low)) % 65536)) (Ok (minus (table % 65536) 2))
-    ≡ cond (b && nat_le (rank value) (rank high)) (entry_target m ((table + 2 * unsigned_abs (signed value -ℤ signed low)) % 65536)) (Ok (minus (table % 65536) 2))
+    ≡ cond (b && nat_le (rank value) (rank high)) (entry_target m ((table + 2 * unsigned_abs (signed value -ℤ signed low)) % 65536))
+    (Ok (minus (table % 65536) 2))
 case_by false low value high table m is h k = refl
 case_by true low value high table m is h k =
     ap (λ n. cond (nat_le (rank value) (rank high)) (entry_target m ((table + 2 * n) % 65536)) (Ok (minus (table % 65536) 2)))
@@ -70,8 +102,10 @@ case_jumps_by_signed low high table value m h k l =
     let first = (ranks_follow_signed low value h l).order in
     let second = (ranks_follow_signed value high l k).order in
     case_by (nat_le (rank low) (rank value)) low value high table m refl h l
-    ∙ ap (λ b. cond (b && nat_le (rank value) (rank high)) (entry_target m ((table + 2 * unsigned_abs (signed value -ℤ signed low)) % 65536)) (Ok (minus (table % 65536) 2))) first
-    ∙ ap (λ b. cond (int_le (signed low) (signed value) && b) (entry_target m ((table + 2 * unsigned_abs (signed value -ℤ signed low)) % 65536)) (Ok (minus (table % 65536) 2))) second
+    ∙ ap (λ b. cond (b && nat_le (rank value) (rank high)) (entry_target m ((table + 2 * unsigned_abs (signed value -ℤ signed low)) % 65536))
+    (Ok (minus (table % 65536) 2))) first
+    ∙ ap (λ b. cond (int_le (signed low) (signed value) && b) (entry_target m ((table + 2 * unsigned_abs (signed value -ℤ signed low)) % 65536))
+    (Ok (minus (table % 65536) 2))) second
 
 -- ---- division
 
@@ -118,7 +152,8 @@ word_within (negsuc n) h = word_down (suc n) (omega (arith, h))
 
 -- a quotient lies in the range, if it is not that of -32,768 by -1
 quotient_both : (a b : ℕ) → suc a ≤ 32768 → (a ≡ 32767 → b ≡ 0 → ⊥) → suc a / suc b < 32768
-quotient_both a zero h other = let whole : suc a / 1 ≡ suc a = omega arith in rw whole (elim (cases_eq a 32767) [ inl e ↦ absurd (other e refl) | inr n ↦ omega (arith, h, n) ])
+quotient_both a zero h other = let whole : suc a / 1 ≡ suc a = omega arith in rw whole (elim (cases_eq a 32767)
+    [ inl e ↦ absurd (other e refl) | inr n ↦ omega (arith, h, n) ])
 quotient_both a (suc b) h other = let less : suc a / suc (suc b) ≤ 16384 = div-le_of_le-mul (suc (suc b)) (omega (arith, h)) in omega (arith, less)
 
 quotient_within : (x y : ℤ) → unsigned_abs x ≤ 32768 → (x ≢ pos 32768) → (x ≡ negsuc 32767 → y ≡ negsuc 0 → ⊥) → signed (word (int_div x y)) ≡ int_div x y

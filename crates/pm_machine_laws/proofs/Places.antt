@@ -1,5 +1,40 @@
 -- What holds of the places of a state, and of what a row does to them.
-use Rattle.std.proofs.Common.{◌≡◌, ◌≢◌, ◌<◌, refl, inl, inr, ℕ, ◌+◌, ◌-◌, ◌*◌, ◌==◌, ◌&&◌, ◌||◌, Bool, true, false, cond, nat_lt, nat_le, List, [], ◌∷◌, length, replicate, Option, Some, None, Result, Ok, Err, ap, ◌∙◌, subst, arith}
+use Rattle.std.proofs.Common.{
+  ◌≡◌,
+  ◌≢◌,
+  ◌<◌,
+  refl,
+  inl,
+  inr,
+  ℕ,
+  ◌+◌,
+  ◌-◌,
+  ◌*◌,
+  ◌==◌,
+  ◌&&◌,
+  ◌||◌,
+  Bool,
+  true,
+  false,
+  cond,
+  nat_lt,
+  nat_le,
+  List,
+  [],
+  ◌∷◌,
+  length,
+  replicate,
+  Option,
+  Some,
+  None,
+  Result,
+  Ok,
+  Err,
+  ap,
+  ◌∙◌,
+  subst,
+  arith,
+}
 use Rattle.std.specs.Prelude.{slice_get, slice_set, slice_index_or, option_and_then, position}
 use Rattle.std.specs.List.{All}
 use Rattle.std.proofs.lemmas.Bool.Decides.{nat_tests}
@@ -12,16 +47,15 @@ use Rattle.pm_words.specs.Stack.{◌>>=◌, demand, is_even, minus, pop}
 use Rattle.pm_opcode.specs.declared.instr.Instr.{Instr}
 use Rattle.pm_opcode.specs.declared.operation.Operation.{Operation}
 use Rattle.pm_opcode.specs.declared.operation.Operation.TheVariants as operation
-use Rattle.pm_opcode.specs.declared.operation.Call as codes
 use Rattle.pm_opcode.specs.declared.operation.Return.{Return}
 use Rattle.pm_opcode.specs.Operations.{operation_of}
 use Rattle.pm_calls.specs.declared.registers.Registers.{Registers}
 use Rattle.pm_calls.specs.declared.exits.Wanted.{Wanted}
 use Rattle.pm_calls.specs.declared.frames.Place.{Place}
-use Rattle.pm_calls.specs.declared.frames.Call.{Call}
-use Rattle.pm_calls.specs.declared.frames.Call.TheVariants.{Clp, Cgp, Cbp, Cip, Cxp}
+use Rattle.pm_opcode.specs.declared.operation.Call.{Call}
+use Rattle.pm_opcode.specs.declared.operation.Call.TheVariants.{Clp, Cgp, Cbp, Cip, Cxp}
 use Rattle.pm_calls.specs.Places.{Parts}
-use Rattle.pm_calls.specs.Calls.{Reached, called, called_at, called_loading, called_slot, called_standing, entered, here, loading, standing}
+use Rattle.pm_calls.specs.Calls.{Reached, called, called_at, called_loading, called_slot, called_standing, entered, here, loading, standing, code_fits}
 use Rattle.pm_calls.specs.Keeps.{keep_loading, keep_slot, keep_standing, less_kept, segment_kept, segment_unkept, unkeep_slot, unkeep_standing}
 use Rattle.pm_stdproc.specs.Loads.{length_of, slot_code}
 use Rattle.pm_calls.specs.Exits.{exited, is_wanted, walked_unless}
@@ -48,7 +82,7 @@ use Rattle.pm_rows.specs.Jumps.{jump_row}
 use Rattle.pm_rows.specs.Literals.{literal_row}
 use Rattle.pm_stdproc.specs.Loads.{code_needed}
 use Rattle.pm_rows.specs.Pointers.{pointer_row}
-use Rattle.pm_machine.specs.Procedures.{call_of, call_row, is_base_return, parts, reach, return_row, standard_row, words_of_return}
+use Rattle.pm_machine.specs.Procedures.{call_row, is_base_return, parts, reach, return_row, standard_row, words_of_return}
 use Rattle.pm_machine.specs.Rows.{fetched, on_registers, on_stack, past, performed, row}
 use Rattle.pm_machine.specs.Start.{raw_start}
 use Rattle.pm_machine.specs.Steps.{at_status, executed, settled, stepped}
@@ -69,7 +103,8 @@ pub then : {A B E : Type 0} (P : Places → Type 0) (of : B → Places) (r : Res
 then P of (Ok x) f h = h x
 then P of (Err e) f h = tt
 
-pub after : {A B E : Type 0} (P : Places → Type 0) (first : A → Places) (of : B → Places) (r : Result A E) (f : A → Result B E) → Holds P first r → ((x : A) → P (first x) → Holds P of (f x)) → Holds P of (r >>= f)
+pub after : {A B E : Type 0} (P : Places → Type 0) (first : A → Places) (of : B → Places) (r : Result A E) (f : A → Result B E) → Holds P first r
+    → ((x : A) → P (first x) → Holds P of (f x)) → Holds P of (r >>= f)
 after P first of (Ok x) f k h = h x k
 after P first of (Err e) f k h = tt
 
@@ -98,16 +133,18 @@ of_state s = s.places
 exit_holds : (P : Places → Type 0) (s : Reach) → P s.places → Holds P of_reach (exit_row s)
 unfolding exit_row exited
 exit_holds P s h = then P of_reach (pop s.memory s.registers.sp) _ (λ p.
-    then P of_reach (pop s.memory p.1) _ (λ n.
-    let c = standard.parts s (record s.registers { sp = n.1 }) in
-    let w : Wanted = record { segment = n.0; procedure = p.0 } in
+    then P of_reach (pop s.memory p.above) _ (λ n.
+    let c = standard.parts s (record s.registers { sp = n.above }) in
+    let w : Wanted = record { segment = n.word; procedure = p.word } in
     after P of_parts of_reach (exited c w) _
     (then P of_parts (is_wanted c.memory w c.registers.seg c.registers.jtab) _ (λ d.
     then P of_parts (walked_unless d c.memory w c.registers.mp) _ (λ m. h))) (λ left k. k)))
 
-pub procedure_holds : (P : Places → Type 0) (p : Procedure) (s : Reach) → p ≢ procedure.Keep → p ≢ procedure.Unkeep → P s.places → Holds P of_reach (procedure_row p s)
+pub procedure_holds : (P : Places → Type 0) (p : Procedure) (s : Reach) → p ≢ procedure.Keep → p ≢ procedure.Unkeep → P s.places
+    → Holds P of_reach (procedure_row p s)
 unfolding procedure_row
-procedure_holds P (procedure.OnMemory o) s a b h = lifted P of_reach (on_memory s (memory_row o s.memory s.registers)) (then P of_reach (memory_row o s.memory s.registers) _ (λ t. h))
+procedure_holds P (procedure.OnMemory o) s a b h = lifted P of_reach (on_memory s (memory_row o s.memory s.registers))
+    (then P of_reach (memory_row o s.memory s.registers) _ (λ t. h))
 procedure_holds P (procedure.OnUnits o) s a b h = then P of_reach (units_row o (served s.memory s.registers s.devices)) _ (λ t. h)
 procedure_holds P procedure.Exit s a b h = lifted P of_reach (exit_row s) (exit_holds P s h)
 procedure_holds P procedure.Keep s a b h = absurd (a refl)
@@ -115,7 +152,8 @@ procedure_holds P procedure.Unkeep s a b h = absurd (b refl)
 procedure_holds P procedure.Unimplemented s a b h = tt
 
 -- a standard procedure, by what its row gives
-pub standard_holds : (P : Places → Type 0) (n : ℕ) (s : State) → Holds P of_reach (procedure_row (procedure_of n) (reach s)) → Holds P of_state (standard_row n s)
+pub standard_holds : (P : Places → Type 0) (n : ℕ) (s : State) → Holds P of_reach (procedure_row (procedure_of n) (reach s))
+    → Holds P of_state (standard_row n s)
 standard_holds P n s h = after P of_reach of_state (procedure_row (procedure_of n) (reach s)) _ h (λ t k. k)
 
 -- one that keeps no segment
@@ -192,8 +230,10 @@ registers_hold P s r h = lifted P of_state (on_registers s r) (then P of_state r
 -- ---- the rows that change places: what a call, a load and a return do to them
 
 module _ (P : Places → Type 0)
-    (more : (places : Places) (n : ℕ) (p : Place) → slice_get places n ≡ Some (Some p) → P places → P (slice_set places n (Some (record p { count = p.count + 1 }))))
-    (load : (places : Places) (n s : ℕ) → slice_get places n ≡ Some None → P places → P (slice_set places n (Some (record { place = s; count = 1; keeps = 0 }))))
+    (more : (places : Places) (n : ℕ) (p : Place) → slice_get places n ≡ Some (Some p) → P places
+    → P (slice_set places n (Some (record p { count = p.count + 1 }))))
+    (load : (places : Places) (n s : ℕ) → slice_get places n ≡ Some None → P places → P (slice_set places n
+    (Some (record { place = s; count = 1; keeps = 0 }))))
     (release : (s : ℕ) (places : Places) → P places → P (released s places)) where
   at_holds : (c : Parts) (call : Call) (at : Reached) → P at.places → Holds P of_parts (called_at c call at)
   unfolding called_at
@@ -209,16 +249,16 @@ module _ (P : Places → Type 0)
   loading_holds : (c : Parts) (n : ℕ) (code : List ℕ) → slice_get c.places n ≡ Some None → P c.places → Holds P of_reached (loading c n code)
   unfolding loading
   loading_holds c n code is h =
-      then P of_reached (demand (nat_lt 0 (length code)) NoSegment) _ (λ d.
-      then P of_reached (demand (nat_le (c.registers.np + length code) c.registers.sp) StackOverflow) _ (λ k.
-      load c.places n (minus c.registers.sp 2) is h))
+      then P of_reached (code_fits c.registers code) _ (λ d. load c.places n (minus c.registers.sp 2) is h)
 
-  slot_holds : (c : Parts) (call : Call) (n : ℕ) (code : Option (List ℕ)) (slot : Option (Option Place)) → slice_get c.places n ≡ slot → P c.places → Holds P of_parts (called_slot c call n code slot)
+  slot_holds : (c : Parts) (call : Call) (n : ℕ) (code : Option (List ℕ)) (slot : Option (Option Place)) → slice_get c.places n ≡ slot → P c.places
+      → Holds P of_parts (called_slot c call n code slot)
   unfolding called_standing called_loading
   slot_holds c call n code None is h = tt
   slot_holds c call n code (Some (Some p)) is h = after P of_reached of_parts (standing c n p) _ (standing_holds c n p is h) (λ at k. at_holds c call at k)
   slot_holds c call n None (Some None) is h = tt
-  slot_holds c call n (Some code) (Some None) is h = after P of_reached of_parts (loading c n code) _ (loading_holds c n code is h) (λ at k. at_holds c call at k)
+  slot_holds c call n (Some code) (Some None) is h = after P of_reached of_parts (loading c n code) _ (loading_holds c n code is h)
+      (λ at k. at_holds c call at k)
 
   pub called_holds : (c : Parts) (call : Call) (code : Option (List ℕ)) → P c.places → Holds P of_parts (called c call code)
   unfolding called
@@ -236,17 +276,19 @@ module _ (P : Places → Type 0)
       then P of_parts (demand (nat_le (c.registers.np + 2 * words) (word_at c.memory (c.registers.mp + 10))) StackOverflow) _ (λ l.
       either P _ c.places (released c.registers.seg c.places) h (release c.registers.seg c.places h))))
 
-  call_holds : (c : codes.Call) (s : State) → P s.places → Holds P of_state (call_row c s)
+  call_holds : (c : Call) (s : State) → P s.places → Holds P of_state (call_row c s)
   unfolding call_row
-  call_holds c s h = then P of_state (code_needed (call_of c) s.places s.rows s.devices) _ (λ code.
-      after P of_parts of_state (called (parts s) (call_of c) code) _ (called_holds (parts s) (call_of c) code h) (λ p k. k))
+  call_holds c s h = then P of_state (code_needed c s.places s.rows s.devices) _ (λ code.
+      after P of_parts of_state (called (parts s) c code) _ (called_holds (parts s) c code h) (λ p k. k))
 
   return_holds : (r : Return) (s : State) → P s.places → Holds P of_state (return_row r s)
   return_holds r s h =
-      after P of_parts of_state (returned (parts s) (words_of_return r) (is_base_return r)) _ (returned_holds (parts s) (words_of_return r) (is_base_return r) h) (λ p k. k)
+      after P of_parts of_state (returned (parts s) (words_of_return r) (is_base_return r)) _
+      (returned_holds (parts s) (words_of_return r) (is_base_return r) h) (λ p k. k)
 
   -- an operation, by what its standard procedure does
-  performed_holds : (o : Operation) (s : State) → P s.places → ((n : ℕ) → o ≡ operation.Standard n → Holds P of_state (standard_row n s)) → Holds P of_state (performed o s)
+  performed_holds : (o : Operation) (s : State) → P s.places → ((n : ℕ) → o ≡ operation.Standard n → Holds P of_state (standard_row n s))
+      → Holds P of_state (performed o s)
   performed_holds (operation.Arithmetic o) s h k = stack_holds P s (arithmetic_row o s.memory s.registers.sp s.registers.np) h
   performed_holds (operation.Variable o) s h k = stack_holds P s (variable_row o s.memory s.registers) h
   performed_holds (operation.Pointer o) s h k = stack_holds P s (pointer_row o s.memory s.registers.sp s.registers.np) h
@@ -288,7 +330,8 @@ module _ (P : Places → Type 0)
   mount_holds (Ok d) s h = h
   mount_holds (Err e) s h = h
 
-  pub next_holds : (s : State) (e : Event) → P s.places → (e ≡ Step → s.status ≡ status.Running → StandardHolds s (fetched s.memory s.registers.ipc)) → P (next s e).places
+  pub next_holds : (s : State) (e : Event) → P s.places → (e ≡ Step → s.status ≡ status.Running → StandardHolds s (fetched s.memory s.registers.ipc))
+      → P (next s e).places
   next_holds s Step h k = step_holds s h (k refl)
   next_holds s (Key b) h k = h
   next_holds s (Poke a w) h k = elim (cases_Bool (is_even a)) [ inl e ↦ rw e h | inr e ↦ rw e h ]
@@ -309,7 +352,8 @@ module _ (P : Places → Type 0)
   unfolding first_parts
   first_holds none = none
 
-  pub boot_holds : (images : List (Option (List ℕ))) (unit : ℕ) (name : List ℕ) (clock : ℕ) (s : State) → P (replicate 16 None) → boot_start images unit name clock ≡ Ok s → P s.places
+  pub boot_holds : (images : List (Option (List ℕ))) (unit : ℕ) (name : List ℕ) (clock : ℕ) (s : State) → P (replicate 16 None)
+      → boot_start images unit name clock ≡ Ok s → P s.places
   unfolding boot_start begun
   boot_holds images unit name clock s none h =
       let b = bound (begun images unit name) _ s h in
@@ -319,4 +363,5 @@ module _ (P : Places → Type 0)
       let same = ok_same _ s b.2 in
       let start = parts_there p.0 (called first_parts (Cxp 1 1) (segment_in f.0.1 1)) p.1 in
       let places : p.0.places ≡ s.places = ap (λ (k : Parts × List SlotRow). k.0.places) pair ∙ ap (λ (k : State). k.places) same in
-      subst P places (held_by (called first_parts (Cxp 1 1) (segment_in f.0.1 1)) p.0 (called_holds first_parts (Cxp 1 1) (segment_in f.0.1 1) (first_holds none)) start)
+      subst P places (held_by (called first_parts (Cxp 1 1) (segment_in f.0.1 1)) p.0 (called_holds first_parts (Cxp 1 1) (segment_in f.0.1 1)
+      (first_holds none)) start)

@@ -1,5 +1,38 @@
 -- What no event changes.
-use Rattle.std.proofs.Common.{◌≡◌, inl, inr, ℕ, ◌+◌, ◌*◌, ◌==◌, ◌&&◌, Bool, true, false, cond, nat_lt, nat_le, List, [], ◌∷◌, length, Option, Some, None, is_none, Result, Ok, Err, refl, sym, ap, ◌∙◌, subst, arith, length-set}
+use Rattle.std.proofs.Common.{
+  ◌≡◌,
+  inl,
+  inr,
+  ℕ,
+  ◌+◌,
+  ◌*◌,
+  ◌==◌,
+  ◌&&◌,
+  Bool,
+  true,
+  false,
+  cond,
+  nat_lt,
+  nat_le,
+  List,
+  [],
+  ◌∷◌,
+  length,
+  Option,
+  Some,
+  None,
+  is_none,
+  Result,
+  Ok,
+  Err,
+  refl,
+  sym,
+  ap,
+  ◌∙◌,
+  subst,
+  arith,
+  length-set,
+}
 use Rattle.std.specs.Prelude.{position, slice_get}
 use Rattle.std.proofs.lemmas.Bool.{cases_Bool}
 use Rattle.std.proofs.lemmas.Option.{slice_get_past}
@@ -10,16 +43,15 @@ use Rattle.pm_words.specs.Stack.{◌>>=◌, demand, is_even, pop}
 use Rattle.pm_opcode.specs.declared.instr.Instr.{Instr}
 use Rattle.pm_opcode.specs.declared.operation.Operation.{Operation}
 use Rattle.pm_opcode.specs.declared.operation.Operation.TheVariants as operation
-use Rattle.pm_opcode.specs.declared.operation.Call as codes
 use Rattle.pm_opcode.specs.declared.operation.Return.{Return}
 use Rattle.pm_opcode.specs.Operations.{operation_of}
 use Rattle.pm_calls.specs.declared.registers.Registers.{Registers}
 use Rattle.pm_calls.specs.declared.exits.Wanted.{Wanted}
 use Rattle.pm_calls.specs.declared.frames.Place.{Place}
-use Rattle.pm_calls.specs.declared.frames.Call.{Call}
-use Rattle.pm_calls.specs.declared.frames.Call.TheVariants.{Clp, Cgp, Cbp, Cip, Cxp}
+use Rattle.pm_opcode.specs.declared.operation.Call.{Call}
+use Rattle.pm_opcode.specs.declared.operation.Call.TheVariants.{Clp, Cgp, Cbp, Cip, Cxp}
 use Rattle.pm_calls.specs.Places.{Parts, place_in}
-use Rattle.pm_calls.specs.Calls.{Reached, called, called_at, called_loading, called_slot, called_standing, entered, here, loading, standing}
+use Rattle.pm_calls.specs.Calls.{Reached, called, called_at, called_loading, called_slot, called_standing, entered, here, loading, standing, code_fits}
 use Rattle.pm_calls.specs.Exits.{exited, is_wanted, walked_unless}
 use Rattle.pm_calls.specs.Keeps.{keep_loading, keep_slot, keep_standing, less_kept, segment_kept, segment_unkept, unkeep_slot, unkeep_standing}
 use Rattle.pm_stdproc.specs.Loads.{length_of, slot_code}
@@ -53,7 +85,7 @@ use Rattle.pm_rows.specs.Jumps.{jump_row}
 use Rattle.pm_rows.specs.Literals.{literal_row}
 use Rattle.pm_stdproc.specs.Loads.{code_needed}
 use Rattle.pm_rows.specs.Pointers.{pointer_row}
-use Rattle.pm_machine.specs.Procedures.{call_of, call_row, is_base_return, parts, reach, return_row, standard_row, words_of_return}
+use Rattle.pm_machine.specs.Procedures.{call_row, is_base_return, parts, reach, return_row, standard_row, words_of_return}
 use Rattle.pm_machine.specs.Rows.{fetched, on_registers, on_stack, past, performed, row}
 use Rattle.pm_machine.specs.Start.{raw_start}
 use Rattle.pm_machine.specs.Steps.{at_status, executed, settled, stepped}
@@ -73,7 +105,8 @@ then : {A B E V : Type 0} (of : B → V) (v : V) (r : Result A E) (f : A → Res
 then of v (Ok x) f h = h x
 then of v (Err e) f h = tt
 
-after : {A B E V W : Type 0} (first : A → W) (w : W) (of : B → V) (v : V) (r : Result A E) (f : A → Result B E) → Keeps first w r → ((x : A) → first x ≡ w → Keeps of v (f x)) → Keeps of v (r >>= f)
+after : {A B E V W : Type 0} (first : A → W) (w : W) (of : B → V) (v : V) (r : Result A E) (f : A → Result B E) → Keeps first w r
+    → ((x : A) → first x ≡ w → Keeps of v (f x)) → Keeps of v (r >>= f)
 after first w of v (Ok x) f k h = h x k
 after first w of v (Err e) f k h = tt
 
@@ -107,15 +140,17 @@ standing_keeps c n p = elim (cases_Bool (p.place == c.registers.seg)) [
 loading_keeps : (c : Parts) (n : ℕ) (code : List ℕ) → Keeps of_reached (length c.places) (loading c n code)
 unfolding loading
 loading_keeps c n code =
-    then of_reached (length c.places) (demand (nat_lt 0 (length code)) NoSegment) _ (λ h.
-    then of_reached (length c.places) (demand (nat_le (c.registers.np + length code) c.registers.sp) StackOverflow) _ (λ k. length-set c.places n _))
+    then of_reached (length c.places) (code_fits c.registers code) _ (λ k. length-set c.places n _)
 
-slot_keeps : (c : Parts) (call : Call) (n : ℕ) (code : Option (List ℕ)) (slot : Option (Option Place)) → Keeps of_parts (length c.places) (called_slot c call n code slot)
+slot_keeps : (c : Parts) (call : Call) (n : ℕ) (code : Option (List ℕ)) (slot : Option (Option Place))
+    → Keeps of_parts (length c.places) (called_slot c call n code slot)
 unfolding called_standing called_loading
 slot_keeps c call n code None = tt
-slot_keeps c call n code (Some (Some p)) = after of_reached (length c.places) of_parts (length c.places) (standing c n p) _ (standing_keeps c n p) (λ at h. at_keeps c call at (length c.places) h)
+slot_keeps c call n code (Some (Some p)) = after of_reached (length c.places) of_parts (length c.places) (standing c n p) _ (standing_keeps c n p)
+    (λ at h. at_keeps c call at (length c.places) h)
 slot_keeps c call n None (Some None) = tt
-slot_keeps c call n (Some code) (Some None) = after of_reached (length c.places) of_parts (length c.places) (loading c n code) _ (loading_keeps c n code) (λ at h. at_keeps c call at (length c.places) h)
+slot_keeps c call n (Some code) (Some None) = after of_reached (length c.places) of_parts (length c.places) (loading c n code) _ (loading_keeps c n code)
+    (λ at h. at_keeps c call at (length c.places) h)
 
 called_keeps : (c : Parts) (call : Call) (code : Option (List ℕ)) → Keeps of_parts (length c.places) (called c call code)
 unfolding called
@@ -137,7 +172,8 @@ returned_keeps : (c : Parts) (words : ℕ) (base : Bool) → Keeps of_parts (len
 unfolding returned
 returned_keeps c words base =
     then of_parts (length c.places) (demand (is_even c.registers.mp && nat_le (c.registers.mp + 12 + 2 * words) 65536) InvalidMemory) _ (λ h.
-    then of_parts (length c.places) (demand (is_even (word_at c.memory (c.registers.mp + 10)) && nat_le (word_at c.memory (c.registers.mp + 10)) 65504) InvalidMemory) _ (λ k.
+    then of_parts (length c.places) (demand (is_even (word_at c.memory (c.registers.mp + 10)) && nat_le (word_at c.memory (c.registers.mp + 10)) 65504)
+    InvalidMemory) _ (λ k.
     then of_parts (length c.places) (demand (nat_le (c.registers.np + 2 * words) (word_at c.memory (c.registers.mp + 10))) StackOverflow) _ (λ l.
     either _ c.places (released c.registers.seg c.places) (length c.places) refl (released_size c.registers.seg c.places))))
 
@@ -153,8 +189,7 @@ keep_slot_keeps c n code None = tt
 keep_slot_keeps c n code (Some (Some p)) = then of_parts (length c.places) (demand (nat_lt p.keeps 65535) StackOverflow) _ (λ h. length-set c.places n _)
 keep_slot_keeps c n None (Some None) = tt
 keep_slot_keeps c n (Some code) (Some None) =
-    then of_parts (length c.places) (demand (nat_lt 0 (length code)) NoSegment) _ (λ h.
-    then of_parts (length c.places) (demand (nat_le (c.registers.np + length code) c.registers.sp) StackOverflow) _ (λ k. length-set c.places n _))
+    then of_parts (length c.places) (code_fits c.registers code) _ (λ k. length-set c.places n _)
 
 kept_keeps : (c : Parts) (n : ℕ) (code : Option (List ℕ)) → Keeps of_parts (length c.places) (segment_kept c n code)
 unfolding segment_kept
@@ -198,7 +233,8 @@ written_size (Disk k) t m d = to_disk_size k (image_at d k) t m d
 
 write_keeps : (s : Served) → Keeps of_served (length s.devices.disks) (write_row s)
 unfolding write_row
-write_keeps s = then of_served (length s.devices.disks) (or_fails (ordered s.memory s.registers.sp)) _ (λ o. written_size (unit_of o.unit) o.transfer s.memory s.devices)
+write_keeps s = then of_served (length s.devices.disks) (or_fails (ordered s.memory s.registers.sp)) _
+    (λ o. written_size (unit_of o.unit) o.transfer s.memory s.devices)
 
 units_keep : (o : OnUnits) (s : Served) → Keeps of_served (length s.devices.disks) (units_row o s)
 unfolding units_row
@@ -221,25 +257,26 @@ of_reach s = record { places = length s.places; disks = length s.devices.disks }
 exit_keeps : (s : Reach) → Keeps of_reach (of_reach s) (exit_row s)
 unfolding exit_row
 exit_keeps s = then of_reach (of_reach s) (pop s.memory s.registers.sp) _ (λ p.
-    then of_reach (of_reach s) (pop s.memory p.1) _ (λ n.
-    after of_parts (length s.places) of_reach (of_reach s) (exited (standard.parts s (record s.registers { sp = n.1 })) (record { segment = n.0; procedure = p.0 })) _
-    (exited_keeps (standard.parts s (record s.registers { sp = n.1 })) (record { segment = n.0; procedure = p.0 }))
+    then of_reach (of_reach s) (pop s.memory p.above) _ (λ n.
+    after of_parts (length s.places) of_reach (of_reach s) (exited (standard.parts s (record s.registers { sp = n.above }))
+    (record { segment = n.word; procedure = p.word })) _
+    (exited_keeps (standard.parts s (record s.registers { sp = n.above })) (record { segment = n.word; procedure = p.word }))
     (λ left e. ap (λ k. record { places = k; disks = length s.devices.disks }) e)))
 
 keep_keeps : (s : Reach) → Keeps of_reach (of_reach s) (keep_row s)
 unfolding keep_row
 keep_keeps s = then of_reach (of_reach s) (pop s.memory s.registers.sp) _ (λ n.
-    then of_reach (of_reach s) (slot_code n.0 s.places s.rows s.devices) _ (λ code.
-    after of_parts (length s.places) of_reach (of_reach s) (segment_kept (standard.parts s (record s.registers { sp = n.1 })) n.0 code) _
-    (kept_keeps (standard.parts s (record s.registers { sp = n.1 })) n.0 code)
+    then of_reach (of_reach s) (slot_code n.word s.places s.rows s.devices) _ (λ code.
+    after of_parts (length s.places) of_reach (of_reach s) (segment_kept (standard.parts s (record s.registers { sp = n.above })) n.word code) _
+    (kept_keeps (standard.parts s (record s.registers { sp = n.above })) n.word code)
     (λ left e. ap (λ k. record { places = k; disks = length s.devices.disks }) e)))
 
 unkeep_keeps : (s : Reach) → Keeps of_reach (of_reach s) (unkeep_row s)
 unfolding unkeep_row
 unkeep_keeps s = then of_reach (of_reach s) (pop s.memory s.registers.sp) _ (λ n.
-    let size = length_of (slice_get s.rows n.0) in
-    after of_parts (length s.places) of_reach (of_reach s) (segment_unkept (standard.parts s (record s.registers { sp = n.1 })) n.0 size) _
-    (unkept_keeps (standard.parts s (record s.registers { sp = n.1 })) n.0 size)
+    let size = length_of (slice_get s.rows n.word) in
+    after of_parts (length s.places) of_reach (of_reach s) (segment_unkept (standard.parts s (record s.registers { sp = n.above })) n.word size) _
+    (unkept_keeps (standard.parts s (record s.registers { sp = n.above })) n.word size)
     (λ left e. ap (λ k. record { places = k; disks = length s.devices.disks }) e))
 
 procedure_keeps : (p : Procedure) (s : Reach) → Keeps of_reach (of_reach s) (procedure_row p s)
@@ -273,10 +310,10 @@ registers_keep s r = lifted shape (shape s) (on_registers s r) (then shape (shap
 with_places : (s : State) (n : ℕ) → n ≡ length s.places → record { rows = s.rows; places = n; disks = length s.devices.disks } ≡ shape s
 with_places s n h = ap (λ k. record { rows = s.rows; places = k; disks = length s.devices.disks }) h
 
-call_keeps : (c : codes.Call) (s : State) → Keeps shape (shape s) (call_row c s)
+call_keeps : (c : Call) (s : State) → Keeps shape (shape s) (call_row c s)
 unfolding call_row
-call_keeps c s = then shape (shape s) (code_needed (call_of c) s.places s.rows s.devices) _ (λ code.
-    after of_parts (length s.places) shape (shape s) (called (parts s) (call_of c) code) _ (called_keeps (parts s) (call_of c) code) (λ p e. with_places s (length p.places) e))
+call_keeps c s = then shape (shape s) (code_needed c s.places s.rows s.devices) _ (λ code.
+    after of_parts (length s.places) shape (shape s) (called (parts s) c code) _ (called_keeps (parts s) c code) (λ p e. with_places s (length p.places) e))
 
 return_keeps : (r : Return) (s : State) → Keeps shape (shape s) (return_row r s)
 return_keeps r s =
@@ -417,7 +454,8 @@ kept_by : (r : Result Parts ExecError) (p : Parts) (n : ℕ) → Keeps of_parts 
 kept_by (Ok q) p n k h = let same : q ≡ p = cc in ap of_parts (sym same) ∙ k
 kept_by (Err e) p n k h = cc
 
-pub booted : (images : List (Option (List ℕ))) (unit : ℕ) (name : List ℕ) (clock : ℕ) (s : State) → boot_start images unit name clock ≡ Ok s → IsBooted images unit name s
+pub booted : (images : List (Option (List ℕ))) (unit : ℕ) (name : List ℕ) (clock : ℕ) (s : State) → boot_start images unit name clock ≡ Ok s
+    → IsBooted images unit name s
 unfolding boot_start begun first_parts
 booted images unit name clock s h =
     let b = bound (begun images unit name) _ s h in

@@ -1,5 +1,30 @@
 -- Laws of segments that the program keeps.
-use Rattle.std.specs.Prelude.{◌≡◌, ◌<◌, ◌≤◌, ℕ, ◌-◌, ◌||◌, ◌==◌, Bool, List, [], ◌∷◌, All, Option, Some, None, Result, Ok, Err, if◌then◌else◌, nat_lt, option_and_then, position, slice_index_or, slice_set}
+use Rattle.std.specs.Prelude.{
+  ◌≡◌,
+  ◌<◌,
+  ◌≤◌,
+  ℕ,
+  ◌-◌,
+  ◌||◌,
+  ◌==◌,
+  Bool,
+  List,
+  [],
+  ◌∷◌,
+  All,
+  Option,
+  Some,
+  None,
+  Result,
+  Ok,
+  Err,
+  if◌then◌else◌,
+  nat_lt,
+  option_and_then,
+  position,
+  slice_index_or,
+  slice_set,
+}
 use Rattle.pm_words.specs.declared.error.ExecError.{ExecError}
 use Rattle.pm_words.specs.declared.error.ExecError.TheVariants as errors
 use Rattle.pm_words.specs.Stack.{◌>>=◌}
@@ -70,7 +95,10 @@ plain_released s places = plain_lessened (position (stands_at s) places) places
 abbrev pub plain_returned : Parts → ℕ → Bool → Result Parts ExecError
 plain_returned c words base =
     returned c words base >>= λ p.
-    Ok (record p { places = if p.registers.seg == c.registers.seg then c.places else plain_released c.registers.seg c.places })
+    Ok (record p {
+      places = if p.registers.seg == c.registers.seg then c.places else plain_released c.registers.seg
+          c.places;
+    })
 
 abbrev pub plain_return_row : Return → State → Result State ExecError
 plain_return_row r s =
@@ -135,4 +163,5 @@ pub record UnkeptMachinesArePlain : Type 0 where
       (images : List (Option (List ℕ))) (unit : ℕ) (name : List ℕ) (clock : ℕ) (s : State) (es : List Event) →
       boot_start images unit name clock ≡ Ok s → IsNeverAt 21 s es → IsNeverAt 22 s es → IsPlain s es
   -- and so from any state in which no segment is kept
-  pub later : (s : State) (es : List Event) → All IsUnkept s.places → IsNeverAt 21 s es → IsNeverAt 22 s es → IsPlain s es
+  pub later : (s : State) (es : List Event) → All IsUnkept s.places → IsNeverAt 21 s es → IsNeverAt 22 s es
+      → IsPlain s es

@@ -2,7 +2,7 @@
 use Rattle.std.specs.Prelude.{◌≡◌, ◌<◌, ℕ, ◌-◌, List, All, Option, Some, None, Ok, length}
 use Rattle.pm_words.specs.Words.{bytes_at}
 use Rattle.pm_opcode.specs.declared.instr.Instr.{Instr}
-use Rattle.pm_opcode.specs.declared.operation.Call.TheVariants.{External}
+use Rattle.pm_opcode.specs.declared.operation.Call.TheVariants.{Cxp}
 use Rattle.pm_opcode.specs.declared.operation.Operation.TheVariants.{Call}
 use Rattle.pm_opcode.specs.Operations.{operation_of}
 use Rattle.pm_calls.specs.Places.{placed}
@@ -17,6 +17,7 @@ use Rattle.pm_machine.specs.Events.{Event, after_all}
 use Rattle.pm_machine.specs.Rows.{fetched}
 use Rattle.pm_machine.specs.State.{State}
 use Rattle.pm_machine.specs.Steps.{stepped}
+use Rattle.pm_words.specs.declared.layout.TheConstants.{SYSTEM_FRAME}
 
 -- an image of bytes, on which a volume is
 pub record IsImage (image : List ℕ) : Type 0 where
@@ -41,7 +42,7 @@ pub record IsAtCall (n p : ℕ) (s : State) : Type 0 where
   pub running : s.status ≡ Running
   pub instr : Instr
   pub there : fetched s.memory s.registers.ipc ≡ Ok instr
-  pub calls : operation_of instr ≡ Call (External n p)
+  pub calls : operation_of instr ≡ Call (Cxp n p)
 
 -- the segment of slot n of a file stands in a memory below an address
 pub record StandsBelow (file : List ℕ) (n below : ℕ) (memory : List ℕ) : Type 0 where
@@ -64,4 +65,4 @@ abbrev pub BootsLoadSegment : Type 0
 BootsLoadSegment =
     (images : List (Option (List ℕ))) (image name file : List ℕ) (entry : Entry) (unit clock : ℕ) (s : State) →
     IsImage image → image_of images unit ≡ Some image → code_file images unit name ≡ Ok (entry, file) →
-    boot_start images unit name clock ≡ Ok s → StandsBelow file 1 65492 s.memory
+    boot_start images unit name clock ≡ Ok s → StandsBelow file 1 SYSTEM_FRAME s.memory

@@ -1,11 +1,34 @@
 -- Laws of words as signed numbers: division, and the order in which a case jump counts.
-use Rattle.std.specs.Prelude.{◌≡◌, ◌≢◌, ◌<◌, ◌⊎◌, ℕ, ◌+◌, ◌*◌, ◌%◌, ◌&&◌, List, true, Ok, if◌then◌else◌, ℤ, pos, ◌+ℤ◌, ◌-ℤ◌, ◌*ℤ◌, int_le, int_lt, nat_le, unsigned_abs}
+use Rattle.std.specs.Prelude.{
+  ◌≡◌,
+  ◌≢◌,
+  ◌<◌,
+  ◌⊎◌,
+  ℕ,
+  ◌+◌,
+  ◌*◌,
+  ◌%◌,
+  ◌&&◌,
+  List,
+  true,
+  Ok,
+  if◌then◌else◌,
+  ℤ,
+  pos,
+  ◌+ℤ◌,
+  ◌-ℤ◌,
+  ◌*ℤ◌,
+  int_le,
+  int_lt,
+  nat_le,
+  unsigned_abs,
+}
 use Rattle.pm_words.specs.Stack.{minus}
 use Rattle.pm_opcode.specs.declared.operation.Binary.TheVariants.{Divide, Modulo}
 use Rattle.pm_opcode.specs.Spelling.{jump_count, rank}
-use Rattle.pm_values.specs.Sets.{signed}
+use Rattle.pm_words.specs.Signed.{signed, word}
 use Rattle.pm_rows.specs.Jumps.{case_target, entry_target}
-use Rattle.pm_rows.specs.Signed.{binary, word}
+use Rattle.pm_rows.specs.Integers.{binary}
 
 -- What DVI and MODI give of a and b, as signed numbers: a is the quotient times b and the remainder, which is less
 -- than b and has the sign of a, or is 0. The words are those of the two numbers, and the remainder's word stands for

@@ -1,5 +1,5 @@
-//! Laws of the machine as a whole: what no event changes, what each machine holds, where loaded and kept code stands, and words
-//! as signed numbers. The functions do nothing.
+//! Laws of the machine as a whole: what no event changes, what each machine holds, where loaded and kept code stands,
+//! and words as signed numbers. The functions do nothing.
 #![tactic(auto)]
 
 pub mod keeping;

@@ -2,11 +2,11 @@
 use Rattle.std.proofs.Common.{◌≡◌, ℕ, List, Option, None, Some, subst, IfSome, option_map, vec_items, string_bytes, Vec}
 use Rattle.std.specs.declared.alloc.Global.{Global}
 use Rattle.pm_files.specs.Held.{Files, Keeps}
-use Rattle.pm_tool.specs.Outcomes.{Said, IsOutcome, exit_number}
+use Rattle.pm_tool.specs.Outcomes.{Said, IsOutcome}
 use Rattle.pm_tool.specs.Said.{said, Tells}
 use Rattle.pm_tool.specs.declared.outcome.Job.{Job}
 use Rattle.pm_tool.specs.declared.outcome.Outcome.{Outcome}
-use Rattle.pm_program.specs.Kept.{KeepsRun, KeepsRunSaid, KeepsSaid, KeepsTold, PrintsIf, ReadsEach, SaysOf, has_run, paths_of}
+use Rattle.pm_program.specs.Kept.{KeepsRun, KeepsRunSaid, KeepsSaid, KeepsTold, PrintsIf, ReadsEach, SaysOf, TellsOf, has_run, paths_of}
 use Rattle.pm_program.specs.declared.run_words.Kept.{Kept}
 use Rattle.pm_program.specs.declared.run_words.Program.{Program}
 use Rattle.pm_tool.specs.Disks.{images_of}
@@ -41,8 +41,8 @@ run_told : (old new : Files) (disk : List ℕ) (printing : Printing) (outcome : 
 run_told old new disk printing outcome told is keeps = (
   keeps.0,
   subst (Keeps old keeps.0 disk) is.image keeps.1,
-  subst (PrintsIf (has_run (exit_number told.exit)) keeps.0 new printing) is.printer
-      (subst (λ status. PrintsIf (has_run status) keeps.0 new printing outcome.printer.items) is.status keeps.2),
+  subst (PrintsIf (has_run told.exit) keeps.0 new printing) is.printer
+      (subst (λ exit. PrintsIf (has_run exit) keeps.0 new printing outcome.printer.items) is.exit keeps.2),
 )
 
 -- where the input is known, a run keeps what is said to it of the images that were read
@@ -63,3 +63,14 @@ known_run_said (Some input) left held holds old ready read new program kept disk
       (subst (λ files. KeepsRun files new (string_bytes program.disk) kept.printing outcome) also
       (subst (λ path. KeepsRun read new path kept.printing outcome) is_to keeps))),
 )
+
+-- where the input is known, a job tells what is said to it of the images that were read
+pub known_tells : (job : List (Option (Vec ℕ Global)) → Job) (had left held holds : Option (List ℕ)) (files : Files)
+    (program : Program) (disks : List (Option (Vec ℕ Global))) (outcome : Outcome) (from : List ℕ)
+    → from ≡ string_bytes program.disk
+    → IfSome had (λ input. Tells left held holds outcome (said (job disks) input))
+    → ReadsEach files (paths_of from program.others) (images_of disks)
+    → IfSome had (λ input. TellsOf job files left held holds outcome program input)
+known_tells job None left held holds files program disks outcome from is_from tells reads = tt
+known_tells job (Some input) left held holds files program disks outcome from is_from tells reads =
+    (disks, subst (λ path. ReadsEach files (paths_of path program.others) (images_of disks)) is_from reads, tells)

@@ -1,5 +1,5 @@
 -- Which files a run leaves behind.
-use Rattle.std.specs.Prelude.{◌≡◌, ◌⊎◌, ◌||◌, ◌==◌, ⊤, ℕ, Bool, true, false, List, [], ◌∷◌}
+use Rattle.std.specs.Prelude.{◌≡◌, ◌⊎◌, ⊤, ℕ, Bool, true, false, List, [], ◌∷◌}
 use Rattle.std.specs.Prelude.{Option, None, Some, Vec, option_map, vec_items, string_bytes}
 use Rattle.std.specs.declared.alloc.Global.{Global}
 use Rattle.pm_files.specs.Held.{Files, Holds, Keeps, Puts}
@@ -7,8 +7,10 @@ use Rattle.pm_filer.specs.Filed.{order_of}
 use Rattle.pm_volume.specs.Headers.{blank_fault}
 use Rattle.pm_tool.specs.Files.{said_files, said_new, said_repair}
 use Rattle.pm_tool.specs.Disks.{images_of}
-use Rattle.pm_tool.specs.Outcomes.{Said, exit_number}
-use Rattle.pm_tool.specs.Said.{said}
+use Rattle.pm_tool.specs.Outcomes.{Said}
+use Rattle.pm_tool.specs.Said.{Tells, said}
+use Rattle.pm_tool.specs.declared.outcome.Exit.{Exit}
+use Rattle.pm_tool.specs.declared.outcome.Exit.TheVariants as exits
 use Rattle.pm_tool.specs.declared.outcome.Job.{Job}
 use Rattle.pm_tool.specs.declared.outcome.Job.TheVariants as jobs
 use Rattle.pm_tool.specs.declared.outcome.Outcome.{Outcome}
@@ -21,8 +23,15 @@ use Rattle.pm_program.specs.declared.run_words.Program.{Program}
 use Rattle.pm_program.specs.declared.run_words.Printing.TheVariants as printings
 
 -- a program came to an end of its own, of its steps or of its input
-abbrev pub has_run : ℕ → Bool
-has_run status = (status == 0) || ((status == 3) || (status == 6))
+abbrev pub has_run : Exit → Bool
+has_run exits.Ended = true
+has_run exits.Usage = false
+has_run exits.Refused = false
+has_run exits.ExecutionError = true
+has_run exits.ReadFault = false
+has_run exits.WriteFault = false
+has_run exits.NoMemory = false
+has_run exits.Stopped = true
 
 -- the printer's bytes stand where they are wanted, and all else is as it was
 abbrev pub Prints : Files → Files → Printing → List ℕ → Type 0
@@ -40,7 +49,7 @@ PrintsIf false old new printing bytes = new ≡ old
 abbrev pub KeepsRun : Files → Files → List ℕ → Printing → Outcome → Type 0
 KeepsRun old new disk printing outcome = (between : Files)
     × Keeps old between disk (option_map vec_items outcome.image)
-    × PrintsIf (has_run outcome.status) between new printing outcome.printer.items
+    × PrintsIf (has_run outcome.exit) between new printing outcome.printer.items
 
 -- nothing has changed, or the image of unit 4 alone
 abbrev pub KeepsFront : Files → Files → List ℕ → Type 0
@@ -89,7 +98,7 @@ ReadsEach files (path ∷ paths) (image ∷ images) = Reads files path image × 
 abbrev pub KeepsTold : Files → Files → List ℕ → Printing → Said → Type 0
 KeepsTold old new disk printing told = (between : Files)
     × Keeps old between disk told.image
-    × PrintsIf (has_run (exit_number told.exit)) between new printing told.printer
+    × PrintsIf (has_run told.exit) between new printing told.printer
 
 -- A program is run on the images that its paths hold, each on its unit: what is kept is what is said of them and of the
 -- input.
@@ -98,3 +107,19 @@ KeepsRunSaid old new program kept input = (disks : List (Option (Vec ℕ Global)
     × ReadsEach old (paths_of (string_bytes program.disk) program.others) (images_of disks)
     × KeepsTold old new (string_bytes program.disk) kept.printing
     (said (jobs.Run disks program.name program.limit kept.save) input)
+
+-- A job of a program on the images that its paths hold, each on its unit: what is written, answered and left unread is
+-- what is said of them and of the input.
+abbrev pub TellsOf : (List (Option (Vec ℕ Global)) → Job) → Files → Option (List ℕ) → Option (List ℕ) → Option (List ℕ)
+    → Outcome → Program → List ℕ → Type 0
+TellsOf job files left held holds outcome program input = (disks : List (Option (Vec ℕ Global)))
+    × ReadsEach files (paths_of (string_bytes program.disk) program.others) (images_of disks)
+    × Tells left held holds outcome (said (job disks) input)
+
+abbrev pub TellsTrace : Files → Option (List ℕ) → Option (List ℕ) → Option (List ℕ) → Outcome → Program → List ℕ → Type 0
+TellsTrace files left held holds outcome program input =
+    TellsOf (λ disks. jobs.Trace disks program.name program.limit) files left held holds outcome program input
+
+abbrev pub TellsDebug : Files → Option (List ℕ) → Option (List ℕ) → Option (List ℕ) → Outcome → Program → List ℕ → Type 0
+TellsDebug files left held holds outcome program input =
+    TellsOf (λ disks. jobs.Debug disks program.name) files left held holds outcome program input

@@ -1,6 +1,5 @@
 //! How the program ends.
 use pm_files::DiskFault;
-use pm_streams::Fault;
 use pm_tool::{Exit, Outcome};
 
 /// What is wrong with paths that do not go together.
@@ -40,11 +39,8 @@ impl End {
     /// The exit status.
     pub fn status(&self) -> u8 {
         match self {
-            End::Outcome(outcome) => outcome.status,
-            End::File(fault, _) => match fault.fault() {
-                Fault::Read | Fault::Write => Exit::StreamFault.number(),
-                Fault::NoMemory => Exit::NoMemory.number(),
-            },
+            End::Outcome(outcome) => outcome.exit.number(),
+            End::File(fault, _) => Exit::of_fault(fault.fault()).number(),
             End::Words(_) => Exit::Usage.number(),
         }
     }

@@ -1,4 +1,7 @@
 //! The words of `files`.
+ghost use Rattle.std.specs.Prelude.{◌≡◌, Some, IfOk, IfSome, option_map, string_bytes, codes};
+ghost use Rattle.pm_program.specs.Asked.{AsksFiles, AsksVerb, IsKind, IsPath, IsSpelled, spelled, word_of};
+
 use crate::words::{WordsError, given, number};
 use clap::{Arg, ArgMatches, Command};
 use pm_filer::kind_word;
@@ -155,7 +158,9 @@ pub fn files<'a>(alloc: Global) -> Result<Command<'a>, AllocError> {
 }
 
 /// The kind that a word names.
-fn kind(text: &str) -> Option<u8> {
+fn kind(text: &str) -> Option<u8>
+    ensures value { IfSome result (λ kind. IsKind (Some text.now) kind) }
+{
     for kind in 0..16 {
         if kind_word(kind) == Some(text) {
             return Some(kind);
@@ -165,42 +170,56 @@ fn kind(text: &str) -> Option<u8> {
     if kind < 16 { Some(kind as u8) } else { None }
 }
 
-fn blocks(text: &str) -> Option<u16> {
+fn blocks(text: &str) -> Option<u16>
+    ensures value { IfSome result (λ blocks. blocks ≡ spelled text.now) }
+{
     u16::try_from(number(text)?).ok()
 }
 
 /// A word that the command line has to have.
-fn word(alloc: Global, matches: &ArgMatches<'_>, id: &str) -> Result<String, WordsError> {
+fn word(alloc: Global, matches: &ArgMatches<'_>, id: &str) -> Result<String, WordsError>
+    ensures value { IfOk result (λ text. word_of matches.now id.now ≡ Some (string_bytes text)) }
+{
     let text = matches.get_str(id).ok_or(WordsError::NoCommand)?;
     Ok(String::from_str(alloc, text)?)
 }
 
 /// A part of a date.
-fn part(matches: &ArgMatches<'_>, id: &str) -> Result<u8, WordsError> {
-    let number = number(matches.get_str(id).unwrap_or(""));
-    match number {
+fn part(matches: &ArgMatches<'_>, id: &str) -> Result<u8, WordsError>
+    ensures value { IfOk result (λ part. IsSpelled (word_of matches.now id.now) part) }
+{
+    let digits = matches.get_str(id).ok_or(WordsError::NoCommand)?;
+    match number(digits) {
         Some(part @ 0..=255) => Ok(part as u8),
         _ => Err(WordsError::Wrong("Y, M and D are numbers of decimal digits, at most 255")),
     }
 }
 
-fn put(alloc: Global, matches: &ArgMatches<'_>) -> Result<Verb, WordsError> {
+fn put(alloc: Global, matches: &ArgMatches<'_>) -> Result<Verb, WordsError>
+    ensures asked { IfOk result (λ verb. AsksVerb (codes "put") matches.now verb) }
+{
     let name = word(alloc, matches, "NAME")?;
-    let kind = kind(matches.get_str("KIND").unwrap_or("")).ok_or(WordsError::Wrong(
+    let text = matches.get_str("KIND").ok_or(WordsError::NoCommand)?;
+    let kind = kind(text).ok_or(WordsError::Wrong(
         "KIND is none, badb, code, text, info, data, graf, foto, secd, or a number 0 to 15",
     ))?;
     Ok(Verb::Command(pm_filer::Command::Put(name, kind, Vec::new(alloc))))
 }
 
-fn new(alloc: Global, matches: &ArgMatches<'_>) -> Result<Verb, WordsError> {
+fn new(alloc: Global, matches: &ArgMatches<'_>) -> Result<Verb, WordsError>
+    ensures asked { IfOk result (λ verb. AsksVerb (codes "new") matches.now verb) }
+{
     let name = word(alloc, matches, "NAME")?;
-    let blocks = blocks(matches.get_str("BLOCKS").unwrap_or("")).ok_or(WordsError::Wrong(
+    let digits = matches.get_str("BLOCKS").ok_or(WordsError::NoCommand)?;
+    let blocks = blocks(digits).ok_or(WordsError::Wrong(
         "BLOCKS is a number of decimal digits, at most 65535",
     ))?;
     Ok(Verb::New(name, blocks))
 }
 
-fn verb_of(alloc: Global, verb: &str, words: &ArgMatches<'_>) -> Result<Verb, WordsError> {
+fn verb_of(alloc: Global, verb: &str, words: &ArgMatches<'_>) -> Result<Verb, WordsError>
+    ensures asked { IfOk result (λ asked. AsksVerb verb.now words.now asked) }
+{
     use pm_filer::Command;
     let command = match verb {
         "list" => Command::List,
@@ -222,19 +241,28 @@ fn verb_of(alloc: Global, verb: &str, words: &ArgMatches<'_>) -> Result<Verb, Wo
     Ok(Verb::Command(command))
 }
 
+/// The path of the image, which stands before the verb or behind it.
+fn path_of(before: Option<String>, behind: Option<String>) -> Result<String, WordsError>
+    ensures path { IfOk result (λ path. IsPath (option_map string_bytes before) (option_map string_bytes behind) (string_bytes path)) }
+{
+    match (before, behind) {
+        (Some(path), None) => Ok(path),
+        (None, Some(path)) => Ok(path),
+        (Some(_), Some(_)) => Err(WordsError::Wrong("the option --image is given twice")),
+        (None, None) => Err(WordsError::Wrong("the option --image is wanted")),
+    }
+}
+
 /// What the words of `files` ask for.
-pub fn files_plan(alloc: Global, matches: &ArgMatches<'_>) -> Result<FilesPlan, WordsError> {
+pub fn files_plan(alloc: Global, matches: &ArgMatches<'_>) -> Result<FilesPlan, WordsError>
+    ensures asked { IfOk result (λ plan. AsksFiles matches.now plan) }
+{
     let Some((verb, words)) = matches.subcommand() else {
         return Err(WordsError::NoCommand);
     };
-    let path = match (
-        given(alloc, matches, "image")?,
-        given(alloc, words, "image")?,
-    ) {
-        (Some(path), None) | (None, Some(path)) => path,
-        (Some(_), Some(_)) => return Err(WordsError::Wrong("the option --image is given twice")),
-        (None, None) => return Err(WordsError::Wrong("the option --image is wanted")),
-    };
+    let before = given(alloc, matches, "image")?;
+    let behind = given(alloc, words, "image")?;
+    let path = path_of(before, behind)?;
     let verb = verb_of(alloc, verb, words)?;
     Ok(FilesPlan { path, verb })
 }

@@ -3,7 +3,7 @@ ghost use Rattle.std.specs.Prelude.{◌≡◌, false, IfOk, IfSome, OnErr, OnOk,
 ghost use Rattle.pm_tool.specs.Said.{IsSound};
 ghost use Rattle.pm_files.specs.Held.{Keeps};
 ghost use Rattle.pm_program.specs.Kept.{KeepsRun, KeepsFront, KeepsSaid, PrintsIf, SaysOf, has_run};
-ghost use Rattle.pm_program.specs.Kept.{KeepsRunSaid, Reads, ReadsEach, paths_of};
+ghost use Rattle.pm_program.specs.Kept.{KeepsRunSaid, Reads, ReadsEach, TellsDebug, TellsTrace, paths_of};
 ghost use Rattle.pm_tool.specs.Disks.{images_of};
 
 use crate::file_words::Verb;
@@ -56,7 +56,7 @@ pub fn do_files<S: Store, I: Source, O: Sink>(
     requires sink_well { O.has_failed sink.old ≡ false }
     ensures kept { IfOk result (λ outcome.
         Keeps (S.files store.old) (S.files store.new) path.now (option_map vec_items outcome.image)) }
-    ensures said { IfOk result (λ outcome. IsSound outcome.status → IfSome (I.remaining source.old) (λ input.
+    ensures said { IfOk result (λ outcome. IsSound outcome.exit → IfSome (I.remaining source.old) (λ input.
         KeepsSaid (S.files store.old) (S.files store.new) path.now verb input)) }
     ensures stays { OnErr result (S.files store.new ≡ S.files store.old) }
 {
@@ -107,12 +107,10 @@ fn images<S: Store>(
 }
 
 /// Whether a program came to an end of its own, of its steps or of its input.
-fn has_run(status: u8) -> bool
-    ensures value { result ≡ has_run status }
+fn has_run(exit: Exit) -> bool
+    ensures value { result ≡ has_run exit }
 {
-    status == Exit::Ended.number()
-        || status == Exit::ExecutionError.number()
-        || status == Exit::Stopped.number()
+    matches!(exit, Exit::Ended | Exit::ExecutionError | Exit::Stopped)
 }
 
 /// Writes the printer's bytes behind the console's.
@@ -143,11 +141,11 @@ fn keep_printer<S: Store, O: Sink>(
     outcome: &Outcome,
 ) -> Result<(), DiskFault>
     ensures kept { OnOk result (
-        PrintsIf (has_run outcome.now.status) (S.files store.old) (S.files store.new) printing.now
+        PrintsIf (has_run outcome.now.exit) (S.files store.old) (S.files store.new) printing.now
         outcome.now.printer.items) }
     ensures stays { OnErr result (S.files store.new ≡ S.files store.old) }
 {
-    if !has_run(outcome.status) {
+    if !has_run(outcome.exit) {
         return Ok(());
     }
     match printing {
@@ -201,7 +199,7 @@ pub fn do_run<S: Store, I: Source, O: Sink>(
     requires sink_well { O.has_failed sink.old ≡ false }
     ensures kept { IfOk result (λ outcome.
         KeepsRun (S.files store.old) (S.files store.new) (string_bytes program.disk) kept.printing outcome) }
-    ensures said { IfOk result (λ outcome. IsSound outcome.status → IfSome (I.remaining source.old) (λ input.
+    ensures said { IfOk result (λ outcome. IsSound outcome.exit → IfSome (I.remaining source.old) (λ input.
         KeepsRunSaid (S.files store.old) (S.files store.new) program kept input)) }
     ensures front { OnErr result (KeepsFront (S.files store.old) (S.files store.new) (string_bytes program.disk)) }
 {
@@ -225,7 +223,8 @@ pub fn do_run<S: Store, I: Source, O: Sink>(
     Ok(outcome)
 }
 
-/// Writes the trace of a program. No file changes. Neither stream may have failed before.
+/// Writes the trace of a program. No file changes. Neither stream may have failed before. Where the input is known, what
+/// is written, answered and left unread is what is said of it and of the images that the files had, each on its unit.
 pub fn do_trace<S: Store, I: Source, O: Sink>(
     alloc: Global,
     store: &mut S,
@@ -236,6 +235,8 @@ pub fn do_trace<S: Store, I: Source, O: Sink>(
     requires source_well { I.has_failed source.old ≡ false }
     requires sink_well { O.has_failed sink.old ≡ false }
     ensures stays { S.files store.new ≡ S.files store.old }
+    ensures said { IfOk result (λ outcome. IsSound outcome.exit → IfSome (I.remaining source.old) (λ input.
+        TellsTrace (S.files store.old) (I.remaining source.new) (O.contents sink.old) (O.contents sink.new) outcome program input)) }
 {
     let disks = images(alloc, store, program.disk.as_str(), &program.others)?;
     let Program { name, limit, .. } = program;
@@ -243,7 +244,9 @@ pub fn do_trace<S: Store, I: Source, O: Sink>(
     Ok(pm_tool::run(alloc, source, sink, job))
 }
 
-/// Debugs a program, by the commands of the source. No file changes. Neither stream may have failed before.
+/// Debugs a program, by the commands of the source. No file changes. Neither stream may have failed before. Where the input
+/// is known, what is written, answered and left unread is what is said of it and of the images that the files had, each on
+/// its unit.
 pub fn do_debug<S: Store, I: Source, O: Sink>(
     alloc: Global,
     store: &mut S,
@@ -254,6 +257,8 @@ pub fn do_debug<S: Store, I: Source, O: Sink>(
     requires source_well { I.has_failed source.old ≡ false }
     requires sink_well { O.has_failed sink.old ≡ false }
     ensures stays { S.files store.new ≡ S.files store.old }
+    ensures said { IfOk result (λ outcome. IsSound outcome.exit → IfSome (I.remaining source.old) (λ input.
+        TellsDebug (S.files store.old) (I.remaining source.new) (O.contents sink.old) (O.contents sink.new) outcome program input)) }
 {
     let disks = images(alloc, store, program.disk.as_str(), &program.others)?;
     let Program { name, .. } = program;

@@ -1,4 +1,7 @@
 //! The words of `run`, `trace` and `debug`.
+ghost use Rattle.std.specs.Prelude.{IfOk};
+ghost use Rattle.pm_program.specs.Asked.{AsksKeeping, AsksProgram};
+
 use crate::words::{WordsError, given, limit, limit_of};
 use clap::{Arg, ArgAction, ArgMatches, Command};
 use std::alloc::{AllocError, Global};
@@ -130,7 +133,9 @@ pub fn debug<'a>(alloc: Global) -> Result<Command<'a>, AllocError> {
 }
 
 /// The program that the words name.
-pub fn program_of(alloc: Global, matches: &ArgMatches<'_>) -> Result<Program, WordsError> {
+pub fn program_of(alloc: Global, matches: &ArgMatches<'_>) -> Result<Program, WordsError>
+    ensures asked { IfOk result (λ program. AsksProgram matches.now program) }
+{
     let disk = given(alloc, matches, "d4")?.ok_or(WordsError::NoCommand)?;
     let others = Others {
         d5: given(alloc, matches, "d5")?,
@@ -151,7 +156,9 @@ pub fn program_of(alloc: Global, matches: &ArgMatches<'_>) -> Result<Program, Wo
 }
 
 /// What the words of `run` say beside the program.
-pub fn keeping_of(alloc: Global, matches: &ArgMatches<'_>) -> Result<Keeping, WordsError> {
+pub fn keeping_of(alloc: Global, matches: &ArgMatches<'_>) -> Result<Keeping, WordsError>
+    ensures asked { IfOk result (λ keeping. AsksKeeping matches.now keeping) }
+{
     Ok(Keeping {
         save: matches.get_flag("save"),
         printer: given(alloc, matches, "printer")?,

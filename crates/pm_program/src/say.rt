@@ -1,29 +1,37 @@
 //! What the program says on standard error at its end.
 use crate::end::End;
-use pm_streams::Fault;
-use pm_tool::Exit;
+use pm_tool::{Outcome, Reason};
 
 /// The message of an end. It may be empty.
 fn message(end: &End) -> &str {
     match end {
-        End::Outcome(outcome) if !outcome.message.is_empty() => outcome.message.as_str(),
-        End::Outcome(outcome) if outcome.status == Exit::NoMemory.number() =>
-            Fault::NoMemory.text(),
-        End::Outcome(_) => "",
+        End::Outcome(outcome) => outcome.text(),
         End::File(fault, _) => fault.fault().text(),
         End::Words(conflict) => conflict.text(),
     }
 }
 
-/// Says more of an end: which file it was about and why, or where the numbers are told.
+/// Says why an input was refused, with the line of the assembler's text that is wrong.
+fn explain_refusal<R: Eprint>(rt: &R, outcome: &Outcome) {
+    let Some(refusal) = outcome.refusal else {
+        return;
+    };
+    let _ = match &outcome.line {
+        Some(line) => eprintln!(rt; "pmach: {}: {line}", Reason(refusal)),
+        None => eprintln!(rt; "pmach: {}", Reason(refusal)),
+    };
+}
+
+/// Says more of an end: which file it was about and why, or why the input was refused.
 fn explain<R: Eprint>(rt: &R, end: &End) {
     let _ = match end {
         End::File(fault, Some(path)) => eprintln!(rt; "pmach: {path}: {}", fault.reason()),
         End::File(fault, None) => eprintln!(rt; "pmach: {}", fault.reason()),
-        End::Outcome(outcome) if outcome.status == Exit::Refused.number() => {
-            eprintln!(rt; "pmach: docs/COMMANDS.md tells what the numbers mean")
+        End::Outcome(outcome) => {
+            explain_refusal(rt, outcome);
+            Ok(())
         }
-        _ => Ok(()),
+        End::Words(_) => Ok(()),
     };
 }
 

@@ -1,4 +1,7 @@
 //! The words of the command line.
+ghost use Rattle.std.specs.Prelude.{◌≡◌, IfOk, IfSome, option_map, string_bytes, codes};
+ghost use Rattle.pm_program.specs.Asked.{Asks, IsAsked, IsLimit, spelled, word_of};
+
 use crate::file_words::{FilesPlan, files, files_plan};
 use crate::run_words::{Keeping, Program, debug, keeping_of, program_of, run, trace};
 use clap::error::ErrorKind;
@@ -149,7 +152,9 @@ fn command<'a>(alloc: Global) -> Result<Command<'a>, AllocError> {
 }
 
 /// The number that decimal digits alone spell.
-pub fn number(text: &str) -> Option<u32> {
+pub fn number(text: &str) -> Option<u32>
+    ensures value { IfSome result (λ number. number ≡ spelled text.now) }
+{
     if text.is_empty() || !text.bytes().all(|byte| byte.is_ascii_digit()) {
         return None;
     }
@@ -161,7 +166,9 @@ pub fn given(
     alloc: Global,
     matches: &ArgMatches<'_>,
     id: &str,
-) -> Result<Option<String>, WordsError> {
+) -> Result<Option<String>, WordsError>
+    ensures value { IfOk result (λ text. word_of matches.now id.now ≡ option_map string_bytes text) }
+{
     match matches.get_str(id) {
         Some("") => Err(WordsError::NoValue),
         Some(text) => Ok(Some(String::from_str(alloc, text)?)),
@@ -170,7 +177,9 @@ pub fn given(
 }
 
 /// The limit that the words give.
-pub fn limit_of(matches: &ArgMatches<'_>) -> Result<u32, WordsError> {
+pub fn limit_of(matches: &ArgMatches<'_>) -> Result<u32, WordsError>
+    ensures value { IfOk result (λ limit. IsLimit (word_of matches.now (codes "limit")) limit) }
+{
     match matches.get_str("limit") {
         Some(text) => number(text).ok_or(WordsError::Wrong(
             "the limit is a number of decimal digits, at most 4294967295",
@@ -179,24 +188,35 @@ pub fn limit_of(matches: &ArgMatches<'_>) -> Result<u32, WordsError> {
     }
 }
 
-fn plan_asked(alloc: Global, matches: &ArgMatches<'_>) -> Result<Plan, WordsError> {
-    match matches.subcommand() {
-        Some(("raw", matches)) => Ok(Plan::Job(Job::Raw {
+/// What a command and its words ask for.
+fn plan_by(alloc: Global, command: &str, matches: &ArgMatches<'_>) -> Result<Plan, WordsError>
+    ensures asked { IfOk result (λ plan. Asks command.now matches.now plan) }
+{
+    match command {
+        "raw" => Ok(Plan::Job(Job::Raw {
             limit: limit_of(matches)?,
         })),
-        Some(("run", matches)) => Ok(Plan::Run(
-            program_of(alloc, matches)?,
-            keeping_of(alloc, matches)?,
-        )),
-        Some(("trace", matches)) => Ok(Plan::Trace(program_of(alloc, matches)?)),
-        Some(("debug", matches)) => Ok(Plan::Debug(program_of(alloc, matches)?)),
-        Some(("asm", matches)) => Ok(Plan::Job(Job::Asm {
+        "run" => Ok(Plan::Run(program_of(alloc, matches)?, keeping_of(alloc, matches)?)),
+        "trace" => Ok(Plan::Trace(program_of(alloc, matches)?)),
+        "debug" => Ok(Plan::Debug(program_of(alloc, matches)?)),
+        "asm" => Ok(Plan::Job(Job::Asm {
             list: matches.get_flag("list"),
         })),
-        Some(("dis", _)) => Ok(Plan::Job(Job::Dis)),
-        Some((_, matches)) => Ok(Plan::Files(files_plan(alloc, matches)?)),
-        None => Err(WordsError::NoCommand),
+        "dis" => Ok(Plan::Job(Job::Dis)),
+        "files" => Ok(Plan::Files(files_plan(alloc, matches)?)),
+        _ => Err(WordsError::NoCommand),
     }
+}
+
+/// What the words ask for that clap has found.
+fn plan_asked(alloc: Global, matches: &ArgMatches<'_>) -> Result<Plan, WordsError>
+    ensures asked { IfOk result (λ plan. IsAsked matches.now plan) }
+{
+    let Some((command, words)) = matches.subcommand() else {
+        return Err(WordsError::NoCommand);
+    };
+    let plan = plan_by(alloc, command, words)?;
+    Ok(plan)
 }
 
 fn parsed<'a>(alloc: Global, words: &'a [String]) -> Result<Plan, WordsError> {

@@ -9,38 +9,42 @@ use Rattle.pm_opcode.specs.declared.operation.Binary.{Binary}
 use Rattle.pm_opcode.specs.declared.operation.Relation.{Relation}
 use Rattle.pm_opcode.specs.declared.operation.Arithmetic.{Arithmetic}
 use Rattle.pm_opcode.specs.declared.operation.Arithmetic.TheVariants.{Constant, Nil, OnOne, OnTwo, Compare, Check}
-use Rattle.pm_values.specs.Sets.{signed, truth}
-use Rattle.pm_rows.specs.Signed.{unary, binary, relation}
+use Rattle.pm_words.specs.Signed.{signed, truth}
+use Rattle.pm_rows.specs.Integers.{unary, binary, relation}
 
+-- SLDC, LDCI and LDCN. .. -> .., w: the number of the instruction, 0 for LDCN
 unfoldable pub constant_row : ℕ → StackRow
 constant_row w m sp np = push m sp np w
 
+-- ABI, NGI, SQI and LNOT. .., a -> .., b
 unfoldable pub unary_row : Unary → StackRow
 unary_row o m sp np = do
   a ← pop m sp
-  push m a.1 np (unary o a.0)
+  push m a.above np (unary o a.word)
 
+-- ADI, SBI, MPI, DVI, MODI, LAND and LOR. .., a, b -> .., c
 unfoldable pub binary_row : Binary → StackRow
 binary_row o m sp np = do
   b ← pop m sp
-  a ← pop m b.1
-  c ← binary o a.0 b.0
-  push m a.1 np c
+  a ← pop m b.above
+  c ← binary o a.word b.word
+  push m a.above np c
 
+-- EQUI, NEQI, LESI, LEQI, GRTI and GEQI. .., a, b -> .., 1 or 0
 unfoldable pub relation_row : Relation → StackRow
 relation_row o m sp np = do
   b ← pop m sp
-  a ← pop m b.1
-  push m a.1 np (truth (relation o a.0 b.0))
+  a ← pop m b.above
+  push m a.above np (truth (relation o a.word b.word))
 
--- the third word stays, if it lies between the two above it
+-- CHK. .., a, b, c -> .., a: the third word stays, if it lies between the two above it
 unfoldable pub check_row : StackRow
 check_row m sp np = do
   c ← pop m sp
-  b ← pop m c.1
-  a ← pop m b.1
-  _ ← demand (int_le (signed b.0) (signed a.0) && int_le (signed a.0) (signed c.0)) InvalidIndex
-  push m a.1 np a.0
+  b ← pop m c.above
+  a ← pop m b.above
+  _ ← demand (int_le (signed b.word) (signed a.word) && int_le (signed a.word) (signed c.word)) InvalidIndex
+  push m a.above np a.word
 
 unfoldable pub arithmetic_row : Arithmetic → StackRow
 arithmetic_row (Constant w) m sp np = constant_row w m sp np

@@ -1,5 +1,22 @@
 -- Jumps. IPC is the next instruction in the registers that they are given.
-use Rattle.std.specs.Prelude.{ℕ, ◌+◌, ◌-◌, ◌*◌, ◌%◌, Bool, true, not, ◌&&◌, List, Result, Ok, if◌then◌else◌, ◌==◌, nat_lt, nat_le}
+use Rattle.std.specs.Prelude.{
+  ℕ,
+  ◌+◌,
+  ◌-◌,
+  ◌*◌,
+  ◌%◌,
+  Bool,
+  true,
+  not,
+  ◌&&◌,
+  List,
+  Result,
+  Ok,
+  if◌then◌else◌,
+  ◌==◌,
+  nat_lt,
+  nat_le,
+}
 use Rattle.pm_words.specs.declared.error.ExecError.{ExecError}
 use Rattle.pm_words.specs.declared.error.ExecError.TheVariants.{InvalidMemory}
 use Rattle.pm_words.specs.Stack.{◌>>=◌, demand, is_even, load, minus, pop}
@@ -25,20 +42,22 @@ target m r offset =
 abbrev pub jumped : Bool → List ℕ → Registers → ℕ → Result Registers ExecError
 jumped taken m r offset = if taken then (target m r offset >>= λ ipc. Ok (record r { ipc = ipc })) else Ok r
 
--- a word is false where its bit 0 is 0; all 16 bits count for two words
+-- UJP. .. -> ..
+-- FJP. .., a -> ..: it jumps where bit 0 of the word is 0
+-- EFJ and NFJ. .., a, b -> ..: EFJ jumps where two words differ, NFJ where they are equal; all 16 bits count
 unfoldable pub short_row : Condition → List ℕ → Registers → ℕ → Result Registers ExecError
 short_row Always m r offset = jumped true m r offset
 short_row IfFalse m r offset = do
   a ← pop m r.sp
-  jumped (a.0 % 2 == 0) m (record r { sp = a.1 }) offset
+  jumped (a.word % 2 == 0) m (record r { sp = a.above }) offset
 short_row IfDifferent m r offset = do
   b ← pop m r.sp
-  a ← pop m b.1
-  jumped (not (a.0 == b.0)) m (record r { sp = a.1 }) offset
+  a ← pop m b.above
+  jumped (not (a.word == b.word)) m (record r { sp = a.above }) offset
 short_row IfEqual m r offset = do
   b ← pop m r.sp
-  a ← pop m b.1
-  jumped (a.0 == b.0) m (record r { sp = a.1 }) offset
+  a ← pop m b.above
+  jumped (a.word == b.word) m (record r { sp = a.above }) offset
 
 -- Where a case jump leads: for a signed value from low to high by the entry of its table for that value, else to the
 -- jump of two bytes before the table. A word's rank is its place in the order of signed words.
@@ -48,11 +67,12 @@ case_target low high table m value =
     then entry_target m ((table + 2 * (rank value - rank low)) % 65536)
     else Ok (minus (table % 65536) 2)
 
+-- XJP. .., value -> ..: the jump to its case
 unfoldable pub case_row : ℕ → ℕ → ℕ → List ℕ → Registers → Result Registers ExecError
 case_row low high table m r = do
   a ← pop m r.sp
-  ipc ← case_target low high table m a.0
-  Ok (record r { sp = a.1; ipc = ipc })
+  ipc ← case_target low high table m a.word
+  Ok (record r { sp = a.above; ipc = ipc })
 
 unfoldable pub jump_row : Jump → List ℕ → Registers → Result Registers ExecError
 jump_row (Short condition offset) m r = short_row condition m r offset

@@ -1,4 +1,4 @@
-pub mod Signed
+pub mod Integers
 pub mod Arithmetic
 pub mod Variables
 pub mod Pointers

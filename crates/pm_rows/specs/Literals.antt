@@ -2,23 +2,25 @@
 use Rattle.std.specs.Prelude.{ℕ, ◌-◌, ◌+◌, ◌*◌, ◌/◌, ◌%◌, ◌&&◌, Ok, reverse, nat_le}
 use Rattle.pm_words.specs.declared.error.ExecError.TheVariants.{InvalidMemory, StackOverflow}
 use Rattle.pm_words.specs.Words.{with_words, words_at}
-use Rattle.pm_words.specs.Stack.{◌>>=◌, StackRow, demand, is_even, minus, push}
+use Rattle.pm_words.specs.Stack.{◌>>=◌, StackRow, demand, is_even, minus, push, words_lie_in_memory}
 use Rattle.pm_opcode.specs.declared.operation.Literal.{Literal}
 use Rattle.pm_opcode.specs.declared.operation.Literal.TheVariants.{String, Characters, Words}
-use Rattle.pm_rows.specs.Pointers.{is_word_range}
 
+-- LSA and LPA. .. -> .., x
 unfoldable pub address_row : ℕ → StackRow
 address_row x m sp np = push m sp np x
 
--- n words of the code are pushed one after another, so that the last one is at the top; without room for all of them
--- none is. That they lie in memory is so of every decoded instruction, and that SP is even of every machine.
+-- LDC. .. -> .., n words: n words of the code are pushed one after another, so that the last one is at the top; without
+-- room for all of them none is. That they lie in memory is so of every decoded instruction, and that SP is even of
+-- every machine.
 unfoldable pub words_row : ℕ → ℕ → StackRow
 words_row start n m sp np = do
-  _ ← demand (is_word_range start n && is_even sp) InvalidMemory
+  _ ← demand (words_lie_in_memory start n && is_even sp) InvalidMemory
   _ ← demand (nat_le (np + 2 * n) sp) StackOverflow
   Ok (with_words m (sp - 2 * n) (reverse (words_at m start n)), sp - 2 * n)
 
--- LSA gives the address of the count byte before its characters, LPA that of the characters, LDC its words (at most 255)
+-- LSA gives the address of the count byte before its characters, LPA that of the characters, LDC its words (at most
+-- 255)
 unfoldable pub literal_row : Literal → StackRow
 literal_row (String start) m sp np = address_row (minus (start % 65536) 1) m sp np
 literal_row (Characters start) m sp np = address_row (start % 65536) m sp np

@@ -8,34 +8,18 @@ use Rattle.pm_opcode.specs.declared.operation.Set.TheVariants as set
 use Rattle.pm_opcode.specs.declared.operation.Text.TheVariants as text
 use Rattle.pm_opcode.specs.declared.operation.Field.{Field}
 use Rattle.pm_opcode.specs.declared.operation.Field.TheVariants as field
-use Rattle.pm_opcode.specs.declared.operation.Relation as relations
-use Rattle.pm_opcode.specs.declared.operation.Relation.TheVariants as from
-use Rattle.pm_opcode.specs.declared.operation.Kind as kinds
-use Rattle.pm_opcode.specs.declared.operation.Kind.TheVariants as kind
-use Rattle.pm_values.specs.declared.comparisons.Relation.{Relation}
-use Rattle.pm_values.specs.declared.comparisons.Relation.TheVariants as to
-use Rattle.pm_values.specs.declared.comparisons.Kind.{Kind}
-use Rattle.pm_values.specs.declared.comparisons.Kind.TheVariants as of
 use Rattle.pm_values.specs.Comparisons.{compare_row}
 use Rattle.pm_values.specs.Fields.{load_byte_row, store_byte_row, index_field_row, load_field_row, store_field_row}
-use Rattle.pm_values.specs.Sets.{in_set_row, intersect_row, union_row, difference_row, singleton_row, subrange_row, adjust_row}
+use Rattle.pm_values.specs.Sets.{
+  in_set_row,
+  intersect_row,
+  union_row,
+  difference_row,
+  singleton_row,
+  subrange_row,
+  adjust_row,
+}
 use Rattle.pm_values.specs.Strings.{index_string_row, assign_row}
-
-abbrev pub relation_of : relations.Relation → Relation
-relation_of from.Equal = to.Equal
-relation_of from.NotEqual = to.NotEqual
-relation_of from.Less = to.Less
-relation_of from.LessOrEqual = to.LessOrEqual
-relation_of from.Greater = to.Greater
-relation_of from.GreaterOrEqual = to.GreaterOrEqual
-
-abbrev pub kind_of : kinds.Kind → Kind
-kind_of kind.Real = of.Real
-kind_of kind.String = of.String
-kind_of kind.Boolean = of.Boolean
-kind_of kind.Set = of.Set
-kind_of (kind.Bytes n) = of.Bytes n
-kind_of (kind.Words n) = of.Words n
 
 unfoldable pub set_row : Set → StackRow
 set_row set.Member m sp np = in_set_row m sp np
@@ -58,4 +42,4 @@ value_row (value.Set o) m sp np = set_row o m sp np
 value_row (value.Text text.Index) m sp np = index_string_row m sp np
 value_row (value.Text (text.Assign n)) m sp np = assign_row n m sp np
 value_row (value.Field o) m sp np = field_row o m sp np
-value_row (value.Compare r k) m sp np = compare_row (relation_of r) (kind_of k) m sp np
+value_row (value.Compare r k) m sp np = compare_row r k m sp np

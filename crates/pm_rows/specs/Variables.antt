@@ -20,24 +20,26 @@ frame_of (Intermediate n) m r = link m r.mp n
 abbrev pub variable_at : Scope → ℕ → List ℕ → Registers → Result ℕ ExecError
 variable_at scope b m r = frame_of scope m r >>= λ f. Ok ((f + 10 + 2 * b) % 65536)
 
--- Each row gives the memory and SP.
+-- LAO, LLA and LDA. .. -> .., the address of variable b. Each row gives the memory and SP.
 unfoldable pub address_row : Scope → ℕ → List ℕ → Registers → Result (List ℕ × ℕ) ExecError
 address_row scope b m r = do
   x ← variable_at scope b m r
   push m r.sp r.np x
 
+-- LDO and SLDO, LDL and SLDL, LOD. .. -> .., the word of variable b
 unfoldable pub load_row : Scope → ℕ → List ℕ → Registers → Result (List ℕ × ℕ) ExecError
 load_row scope b m r = do
   x ← variable_at scope b m r
   w ← load m x
   push m r.sp r.np w
 
+-- SRO, STL and STR. .., v -> ..: v goes to variable b
 unfoldable pub store_row : Scope → ℕ → List ℕ → Registers → Result (List ℕ × ℕ) ExecError
 store_row scope b m r = do
   v ← pop m r.sp
   x ← variable_at scope b m r
-  n ← store m x v.0
-  Ok (n, v.1)
+  n ← store m x v.word
+  Ok (n, v.above)
 
 unfoldable pub variable_row : Variable → List ℕ → Registers → Result (List ℕ × ℕ) ExecError
 variable_row (Address scope b) m r = address_row scope b m r

@@ -2,8 +2,8 @@
 
 ghost use Rattle.std.specs.Prelude.{◌≡◌, IfOk};
 ghost use Rattle.pm_words.specs.Watch.{KeepsWatch};
-ghost use Rattle.pm_words.specs.Stack.{IsStack, Stacks};
-ghost use Rattle.pm_rows.specs.Signed.{unary, binary, relation};
+ghost use Rattle.pm_words.specs.Stack.{IsStack, Changes};
+ghost use Rattle.pm_rows.specs.Integers.{unary, binary, relation};
 ghost use Rattle.pm_rows.specs.Arithmetic.{
   arithmetic_row,
   binary_row,
@@ -46,7 +46,7 @@ fn word_of_two(operation: Binary, a: u16, b: u16) -> Result<u16, ExecError>
     }
 }
 
-// The signed quotient, toward zero.
+// DVI. The signed quotient, toward zero.
 fn quotient(a: u16, b: u16) -> Result<u16, ExecError>
     ensures word { result ≡ binary Binary.Divide a b }
 {
@@ -57,7 +57,7 @@ fn quotient(a: u16, b: u16) -> Result<u16, ExecError>
     Ok(quotient.cast_unsigned())
 }
 
-// The signed remainder, with the sign of `a`.
+// MODI. The signed remainder, with the sign of `a`.
 fn remainder(a: u16, b: u16) -> Result<u16, ExecError>
     ensures word { result ≡ binary Binary.Modulo a b }
 {
@@ -85,66 +85,76 @@ fn holds(operation: Relation, a: u16, b: u16) -> bool
     }
 }
 
+// SLDC, LDCI and LDCN. .. -> .., word
 #[inline(always)]
 #[tactic(auto, unfolding(crate::specs::Arithmetic::constant_row), using(pm_words::proofs::WatchLaws::keeps))]
 fn constant(memory: &mut Memory, sp: u16, np: u16, word: u16) -> Result<u16, ExecError>
-    ensures row { Stacks result memory.old.words memory.new.words (constant_row word memory.old.words sp np) }
+    ensures row { Changes result memory.old.words memory.new.words (constant_row word memory.old.words sp np) }
     ensures stack { IsStack sp np → IfOk result (λ sp. IsStack sp np) }
     ensures keeps { KeepsWatch memory.old memory.new }
 {
     push(memory, sp, np, word)
 }
 
+// ABI, NGI, SQI and LNOT. .., a -> .., b
 #[inline(always)]
 #[tactic(auto, unfolding(crate::specs::Arithmetic::unary_row), using(pm_words::proofs::WatchLaws::keeps))]
 fn unary(memory: &mut Memory, sp: u16, np: u16, operation: Unary) -> Result<u16, ExecError>
-    ensures row { Stacks result memory.old.words memory.new.words (unary_row operation memory.old.words sp np) }
+    ensures row { Changes result memory.old.words memory.new.words (unary_row operation memory.old.words sp np) }
     ensures stack { IsStack sp np → IfOk result (λ sp. IsStack sp np) }
     ensures keeps { KeepsWatch memory.old memory.new }
 {
-    let (a, sp) = pop(memory, sp)?;
-    push(memory, sp, np, word_of_one(operation, a))
+    let a = pop(memory, sp)?;
+    push(memory, a.above, np, word_of_one(operation, a.word))
 }
 
+// ADI, SBI, MPI, DVI, MODI, LAND and LOR. .., a, b -> .., c
 #[inline(always)]
 #[tactic(auto, unfolding(crate::specs::Arithmetic::binary_row), using(pm_words::proofs::WatchLaws::keeps))]
 fn binary(memory: &mut Memory, sp: u16, np: u16, operation: Binary) -> Result<u16, ExecError>
-    ensures row { Stacks result memory.old.words memory.new.words (binary_row operation memory.old.words sp np) }
+    ensures row { Changes result memory.old.words memory.new.words (binary_row operation memory.old.words sp np) }
     ensures stack { IsStack sp np → IfOk result (λ sp. IsStack sp np) }
     ensures keeps { KeepsWatch memory.old memory.new }
 {
-    let (b, sp) = pop(memory, sp)?;
-    let (a, sp) = pop(memory, sp)?;
-    let c = word_of_two(operation, a, b)?;
-    push(memory, sp, np, c)
+    let b = pop(memory, sp)?;
+    let a = pop(memory, b.above)?;
+    let c = word_of_two(operation, a.word, b.word)?;
+    push(memory, a.above, np, c)
 }
 
+// EQUI, NEQI, LESI, LEQI, GRTI and GEQI. .., a, b -> .., 1 or 0
 #[inline(always)]
 #[tactic(auto, unfolding(crate::specs::Arithmetic::relation_row), using(pm_words::proofs::WatchLaws::keeps))]
 fn relation(memory: &mut Memory, sp: u16, np: u16, operation: Relation) -> Result<u16, ExecError>
-    ensures row { Stacks result memory.old.words memory.new.words (relation_row operation memory.old.words sp np) }
+    ensures row { Changes result memory.old.words memory.new.words (relation_row operation memory.old.words sp np) }
     ensures stack { IsStack sp np → IfOk result (λ sp. IsStack sp np) }
     ensures keeps { KeepsWatch memory.old memory.new }
 {
-    let (b, sp) = pop(memory, sp)?;
-    let (a, sp) = pop(memory, sp)?;
-    push(memory, sp, np, u16::from(holds(operation, a, b)))
+    let b = pop(memory, sp)?;
+    let a = pop(memory, b.above)?;
+    push(
+        memory,
+        a.above,
+        np,
+        u16::from(holds(operation, a.word, b.word)),
+    )
 }
 
+// CHK. .., a, b, c -> .., a
 #[tactic(auto, unfolding(crate::specs::Arithmetic::check_row), using(pm_words::proofs::WatchLaws::keeps))]
 fn check(memory: &mut Memory, sp: u16, np: u16) -> Result<u16, ExecError>
-    ensures row { Stacks result memory.old.words memory.new.words (check_row memory.old.words sp np) }
+    ensures row { Changes result memory.old.words memory.new.words (check_row memory.old.words sp np) }
     ensures stack { IsStack sp np → IfOk result (λ sp. IsStack sp np) }
     ensures keeps { KeepsWatch memory.old memory.new }
 {
-    let (c, sp) = pop(memory, sp)?;
-    let (b, sp) = pop(memory, sp)?;
-    let (a, sp) = pop(memory, sp)?;
-    let value = a.cast_signed();
-    if b.cast_signed() > value || value > c.cast_signed() {
+    let c = pop(memory, sp)?;
+    let b = pop(memory, c.above)?;
+    let a = pop(memory, b.above)?;
+    let value = a.word.cast_signed();
+    if b.word.cast_signed() > value || value > c.word.cast_signed() {
         return Err(ExecError::InvalidIndex);
     }
-    push(memory, sp, np, a)
+    push(memory, a.above, np, a.word)
 }
 
 /// Does an operation on words as integers, and gives the new SP. An error changes nothing.
@@ -156,7 +166,7 @@ pub fn perform(
     np: u16,
     operation: Arithmetic,
 ) -> Result<u16, ExecError>
-    ensures row { Stacks result memory.old.words memory.new.words (arithmetic_row operation memory.old.words sp np) }
+    ensures row { Changes result memory.old.words memory.new.words (arithmetic_row operation memory.old.words sp np) }
     ensures stack { IsStack sp np → IfOk result (λ sp. IsStack sp np) }
     ensures keeps { KeepsWatch memory.old memory.new }
 {

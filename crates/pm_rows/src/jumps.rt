@@ -53,7 +53,7 @@ fn jump_if(
     Ok(Registers { ipc, ..registers })
 }
 
-// The registers after a jump of two bytes.
+// UJP, FJP, EFJ and NFJ. The registers after a jump of two bytes.
 #[inline(always)]
 #[tactic(auto, unfolding(crate::specs::Jumps::short_row))]
 fn short(
@@ -69,18 +69,24 @@ fn short(
     match condition {
         Condition::Always => jump_if(true, memory, registers, offset),
         Condition::IfFalse => {
-            let (a, sp) = pop(memory, registers.sp)?;
-            jump_if(a % 2 == 0, memory, Registers { sp, ..registers }, offset)
+            let a = pop(memory, registers.sp)?;
+            let sp = a.above;
+            let past = Registers { sp, ..registers };
+            jump_if(a.word % 2 == 0, memory, past, offset)
         }
         Condition::IfDifferent => {
-            let (b, sp) = pop(memory, registers.sp)?;
-            let (a, sp) = pop(memory, sp)?;
-            jump_if(a != b, memory, Registers { sp, ..registers }, offset)
+            let b = pop(memory, registers.sp)?;
+            let a = pop(memory, b.above)?;
+            let sp = a.above;
+            let past = Registers { sp, ..registers };
+            jump_if(a.word != b.word, memory, past, offset)
         }
         Condition::IfEqual => {
-            let (b, sp) = pop(memory, registers.sp)?;
-            let (a, sp) = pop(memory, sp)?;
-            jump_if(a == b, memory, Registers { sp, ..registers }, offset)
+            let b = pop(memory, registers.sp)?;
+            let a = pop(memory, b.above)?;
+            let sp = a.above;
+            let past = Registers { sp, ..registers };
+            jump_if(a.word == b.word, memory, past, offset)
         }
     }
 }
@@ -111,6 +117,7 @@ fn case_target(
     entry_target(memory, table.wrapping_add(further.wrapping_mul(2)))
 }
 
+// XJP. .., value -> ..
 #[tactic(auto, unfolding(crate::specs::Jumps::case_row))]
 fn case(
     memory: &Memory,
@@ -123,10 +130,10 @@ fn case(
     ensures stack { IsStack registers.sp registers.np → IfOk result (λ r. IsStack r.sp r.np) }
     ensures mp { IfOk result (λ r. r.mp ≡ registers.mp) }
 {
-    let (value, sp) = pop(memory, registers.sp)?;
-    let ipc = case_target(memory, low, high, table, value)?;
+    let value = pop(memory, registers.sp)?;
+    let ipc = case_target(memory, low, high, table, value.word)?;
     Ok(Registers {
-        sp,
+        sp: value.above,
         ipc,
         ..registers
     })

@@ -1,5 +1,6 @@
-//! Rows of the table that change the memory and the registers alone: arithmetic and comparisons of words, variables, addresses,
-//! words and texts of the code, values, and jumps. Each family of operations is a module with one call, `perform`.
+//! Rows of the table that change the memory and the registers alone: arithmetic and comparisons of words, variables,
+//! addresses, words and texts of the code, values, and jumps. Each family of operations is a module with one call,
+//! `perform`.
 #![tactic(auto)]
 
 pub mod arithmetic;

@@ -2,7 +2,7 @@
 
 ghost use Rattle.std.specs.Prelude.{◌≡◌, ◌+◌, ◌-◌, ◌*◌, ◌%◌, ◌≤◌, IfOk, length, reverse};
 ghost use Rattle.pm_words.specs.Watch.{KeepsWatch};
-ghost use Rattle.pm_words.specs.Stack.{IsStack, Stacks};
+ghost use Rattle.pm_words.specs.Stack.{IsStack, Changes};
 ghost use Rattle.pm_words.specs.Words.{with_words, words_at};
 ghost use Rattle.pm_rows.specs.Literals.{address_row, literal_row, words_row};
 
@@ -42,9 +42,10 @@ fn put_words(memory: &mut Memory, sp: u16, words: &[u16])
     }
 }
 
+// LDC. .. -> .., the words
 #[tactic(auto, unfolding(crate::specs::Literals::words_row), using(pm_words::proofs::WatchLaws::keeps))]
 fn words(memory: &mut Memory, sp: u16, np: u16, start: u32, count: u8) -> Result<u16, ExecError>
-    ensures row { Stacks result memory.old.words memory.new.words (words_row start count memory.old.words sp np) }
+    ensures row { Changes result memory.old.words memory.new.words (words_row start count memory.old.words sp np) }
     ensures stack { IsStack sp np → IfOk result (λ sp. IsStack sp np) }
     ensures keeps { KeepsWatch memory.old memory.new }
 {
@@ -60,9 +61,10 @@ fn words(memory: &mut Memory, sp: u16, np: u16, start: u32, count: u8) -> Result
     Ok(sp - size)
 }
 
+// LSA and LPA. .. -> .., address
 #[tactic(auto, unfolding(crate::specs::Literals::address_row), using(pm_words::proofs::WatchLaws::keeps))]
 fn address(memory: &mut Memory, sp: u16, np: u16, address: u16) -> Result<u16, ExecError>
-    ensures row { Stacks result memory.old.words memory.new.words (address_row address memory.old.words sp np) }
+    ensures row { Changes result memory.old.words memory.new.words (address_row address memory.old.words sp np) }
     ensures stack { IsStack sp np → IfOk result (λ sp. IsStack sp np) }
     ensures keeps { KeepsWatch memory.old memory.new }
 {
@@ -72,7 +74,7 @@ fn address(memory: &mut Memory, sp: u16, np: u16, address: u16) -> Result<u16, E
 /// Pushes what stands in the code, and gives the new SP. An error changes nothing.
 #[tactic(auto, unfolding(crate::specs::Literals::literal_row), using(pm_words::proofs::WatchLaws::keeps))]
 pub fn perform(memory: &mut Memory, sp: u16, np: u16, operation: Literal) -> Result<u16, ExecError>
-    ensures row { Stacks result memory.old.words memory.new.words (literal_row operation memory.old.words sp np) }
+    ensures row { Changes result memory.old.words memory.new.words (literal_row operation memory.old.words sp np) }
     ensures stack { IsStack sp np → IfOk result (λ sp. IsStack sp np) }
     ensures keeps { KeepsWatch memory.old memory.new }
 {

@@ -40,6 +40,15 @@ word_cut (c ∷ w) tail h t =
     let solid : is_blank c ≡ false = (wordly c parts.0).blank in
     rw solid (ap (onto_word c) (word_cut w tail parts.1 t))
 
+-- the first word of text that begins with one
+pub first_cut : (w tail : List ℕ) → is_empty w ≡ false → list_all is_name_character w ≡ true → ends_word tail ≡ true → cut (w ++ tail) ≡ record { word = w; rest = tail }
+unfolding cut
+first_cut [] tail e h t = absurd (cc)
+first_cut (c ∷ w) tail e h t =
+    let solid : is_blank c ≡ false = (wordly c (and_parts _ _ h).0).blank in
+    let body : unindented ((c ∷ w) ++ tail) ≡ (c ∷ w) ++ tail = rw solid refl in
+    ap cut_word body ∙ word_cut (c ∷ w) tail h t
+
 pub word_characters : (w : List ℕ) → list_all is_name_character w ≡ true → list_all is_character w ≡ true
 word_characters [] h = refl
 word_characters (c ∷ w) h = let parts = and_parts _ _ h in let e = (wordly c parts.0).character in rw e (word_characters w parts.1)
@@ -66,16 +75,11 @@ pub record IsCut (text w tail : List ℕ) : Type 0 where
   pub parts : cut text ≡ record { word = w; rest = tail }
 
 pub cut_behind : (w tail : List ℕ) → is_empty w ≡ false → list_all is_name_character w ≡ true → IsRest tail → IsCut (w ++ tail) w tail
-unfolding cut
-cut_behind [] tail e h t = absurd (cc)
-cut_behind (c ∷ w) tail e h t =
-    let solid : is_blank c ≡ false = (wordly c (and_parts _ _ h).0).blank in
-    let body : unindented ((c ∷ w) ++ tail) ≡ (c ∷ w) ++ tail = rw solid refl in
-    record {
-      characters = list_all-append is_character (c ∷ w) tail ∙ and_turned _ _ (word_characters (c ∷ w) h) t.characters;
-      whole = word_passes (c ∷ w) tail h ∙ ap (λ cs. (c ∷ w) ++ cs) t.whole;
-      parts = ap cut_word body ∙ word_cut (c ∷ w) tail h t.behind;
-    }
+cut_behind w tail e h t = record {
+  characters = list_all-append is_character w tail ∙ and_turned _ _ (word_characters w h) t.characters;
+  whole = word_passes w tail h ∙ ap (λ cs. w ++ cs) t.whole;
+  parts = first_cut w tail e h t.behind;
+}
 
 pub by_cut : (n : ℕ) (text w tail : List ℕ) → IsCut text w tail → line_of n text ≡ line_by n true (record { word = w; rest = tail })
 unfolding line_of

@@ -10,7 +10,8 @@ use Rattle.pm_disasm.specs.Item.{Item}
 use Rattle.pm_source.specs.declared.number.Numeral.{Numeral}
 use Rattle.pm_source.specs.Words.{within, stored, number}
 use Rattle.pm_source.specs.Source.{Name}
-use Rattle.pm_source.specs.Line.{Operand, ◌>>=◌, byte_operand, number_operand, bare, plain, short_range, short_opcode, short_number, short_instruction, bare_instruction, one_number, one_long_number, two_bytes, byte_and_number}
+use Rattle.pm_codefile.specs.Segments.{◌>>=◌}
+use Rattle.pm_source.specs.Line.{Operand, byte_operand, number_operand, bare, plain, short_range, short_opcode, short_number, short_instruction, bare_instruction, one_number, one_long_number, two_bytes, byte_and_number}
 use Rattle.pm_source.proofs.Numerals.{bound, both, pair_is, some_is, stored_small}
 use Rattle.pm_source.proofs.Goods.{IsGood, IsNumber, well, is_right, byte_ranged, number_ranged}
 

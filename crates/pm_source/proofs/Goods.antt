@@ -13,7 +13,8 @@ use Rattle.pm_disasm.specs.Item.{Item, Target, IsByte, IsPlain, names_place}
 use Rattle.pm_disasm.specs.Item.Item.{Plain, Jump, Case, OneByte}
 use Rattle.pm_disasm.specs.Item.Target.{To, Through}
 use Rattle.pm_source.specs.Source.{Name}
-use Rattle.pm_source.specs.Line.{Operand, ◌>>=◌, numeral_operand, byte_operand, word_operand, bound_operand, number_operand, is_marked, jump_operand, label_operand, all_operands}
+use Rattle.pm_codefile.specs.Segments.{◌>>=◌}
+use Rattle.pm_source.specs.Line.{Operand, numeral_operand, byte_operand, word_operand, bound_operand, number_operand, is_marked, jump_operand, label_operand, all_operands}
 use Rattle.pm_source.proofs.Numerals.{bound, pair_is, some_is, numeral_small, numeral_below}
 
 abbrev pub IsGoodTarget : Target Name → Type 0

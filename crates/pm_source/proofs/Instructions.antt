@@ -14,7 +14,8 @@ use Rattle.pm_disasm.specs.Item.{Item, Target, IsByte}
 use Rattle.pm_disasm.specs.Item.Item.{Plain, Jump, Case}
 use Rattle.pm_source.specs.Words.{words}
 use Rattle.pm_source.specs.Source.{Name}
-use Rattle.pm_source.specs.Line.{Operand, ◌>>=◌, byte_operand, word_operand, number_operand, bound_operand, jump_operand, label_operand, text_operand, all_operands, bare, plain, few, one_number, text_item, one_text, flat_words, words_item, many_words, one_jump, case_jump, instruction, instruction_said, checked, type_words, sized_type_words, sized_comparison, comparison_by, comparison, one_comparison}
+use Rattle.pm_codefile.specs.Segments.{◌>>=◌}
+use Rattle.pm_source.specs.Line.{Operand, byte_operand, word_operand, number_operand, bound_operand, jump_operand, label_operand, text_operand, all_operands, bare, plain, few, one_number, text_item, one_text, flat_words, words_item, many_words, one_jump, case_jump, instruction, instruction_said, checked, type_words, sized_type_words, sized_comparison, comparison_by, comparison, one_comparison}
 use Rattle.pm_source.specs.Line.Flaw.{NoFlaw, OutOfRange, UnknownType}
 use Rattle.pm_source.proofs.Numerals.{bound, both, pair_is, some_is}
 use Rattle.pm_source.proofs.Goods.{IsGood, IsGoodTarget, IsNumber, well, is_right, byte_ranged, word_ranged, bound_ranged, number_ranged, target_ranged, all_ranged}

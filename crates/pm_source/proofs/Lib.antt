@@ -1,4 +1,5 @@
 pub mod Listed
+pub mod Denoting
 pub mod Labels
 pub mod Unlabelled
 pub mod Fit
@@ -33,4 +34,7 @@ pub mod Held
 pub mod Round
 pub mod Computed
 pub mod SameLines
+pub mod EndBlanks
+pub mod OneOperand
+pub mod Between
 pub mod Ascending

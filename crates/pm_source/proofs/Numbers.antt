@@ -95,9 +95,18 @@ zeros_value : (k : ℕ) (ds : List ℕ) → digits_value 10 (replicate k 48 ++ d
 zeros_value zero ds = refl
 zeros_value (suc k) ds = zeros_value k ds
 
-padded_value : (width n : ℕ) → n < 2 ^ 64 → digits_value 10 (padded width n) ≡ n
+pub padded_value : (width n : ℕ) → n < 2 ^ 64 → digits_value 10 (padded width n) ≡ n
 unfolding padded
 padded_value width n h = zeros_value (width - length (decimal n)) (decimal n) ∙ (decimal_is_IsNumeral n h).1
+
+-- a number with zeros in front is a word
+pub padded_word : (width n : ℕ) → n < 2 ^ 64 → IsWord (padded width n)
+unfolding padded
+padded_word width n h = record { some = behind (width - length (decimal n)); plain = digit_names (padded width n) (padded_digits width n h) }
+  where
+    behind : (k : ℕ) → is_empty (replicate k 48 ++ decimal n) ≡ false
+    behind zero = let s : IsShown n (decimal n) = shown n h in s.some
+    behind (suc k) = refl
 
 -- Labels of different places differ.
 pub same_label : (m n : ℕ) → m < 2 ^ 64 → n < 2 ^ 64 → label_text m ≡ label_text n → m ≡ n

@@ -5,7 +5,8 @@ use Rattle.std.proofs.lemmas.Bool.{leb-true}
 use Rattle.std.proofs.Math.Nat.{mod_self, mod-lt, mod-le}
 use Rattle.pm_source.specs.declared.number.Numeral.{Numeral}
 use Rattle.pm_source.specs.Words.{within, stored, number}
-use Rattle.pm_source.specs.Line.{◌>>=◌, numeral_operand, segment_number, slot_operand}
+use Rattle.pm_codefile.specs.Segments.{◌>>=◌}
+use Rattle.pm_source.specs.Line.{numeral_operand, segment_number, slot_operand}
 
 -- What a bind gives, its first part gave too.
 pub record Bound {A B : Type 0} (o : Option A) (f : A → Option B) (y : B) : Type 0 where

@@ -40,14 +40,14 @@ last_index : (ds : List ℕ) (c : ℕ) → slice_index (ds ++ c ∷ []) (length 
 last_index [] c = refl
 last_index (d ∷ ds) c = last_index ds c
 
-all_but_last : (ds : List ℕ) (c : ℕ) → take (length ds) (ds ++ c ∷ []) ≡ ds
+pub all_but_last : (ds : List ℕ) (c : ℕ) → take (length ds) (ds ++ c ∷ []) ≡ ds
 all_but_last [] c = refl
 all_but_last (d ∷ ds) c = ap (λ cs. d ∷ cs) (all_but_last ds c)
 
-one_less : (ds : List ℕ) (c : ℕ) → length (ds ++ c ∷ []) - 1 ≡ length ds
+pub one_less : (ds : List ℕ) (c : ℕ) → length (ds ++ c ∷ []) - 1 ≡ length ds
 one_less ds c = grind (arith, common_steps)
 
-marked : (ds : List ℕ) → is_marked (ds ++ 33 ∷ []) ≡ true
+pub marked : (ds : List ℕ) → is_marked (ds ++ 33 ∷ []) ≡ true
 marked ds =
     let less = one_less ds 33 in
     let last = last_index ds 33 in

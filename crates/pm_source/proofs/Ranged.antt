@@ -16,7 +16,8 @@ use Rattle.pm_source.specs.Words.{Cut, is_empty, is_name, cut, words}
 use Rattle.pm_source.specs.Source.{Name, Statement}
 use Rattle.pm_source.specs.Source.Row.{Items, Exit}
 use Rattle.pm_source.specs.Source.Statement.{Segment, Begin, Code, Entry, End}
-use Rattle.pm_source.specs.Line.{Flaw, Line, Operand, Said, ◌>>=◌, Keyword, numeral_operand, slot_operand, said, saying, spoken, labelled, labelled_by, line_of_words, line_by, line_of, label_of, keyword_of, code_said, items_said, bytes_said, one_item, operands, byte_operand, all_operands, instruction_said, directives, named_from, mnemonic_keyword, keyword_or, segment_operands, procedure_operands, entry_operands, no_operands, label_operand, size_operand, is_even, is_character, uncommented, ends_procedure}
+use Rattle.pm_codefile.specs.Segments.{◌>>=◌}
+use Rattle.pm_source.specs.Line.{Flaw, Line, Operand, Said, Keyword, numeral_operand, slot_operand, said, saying, spoken, labelled, labelled_by, line_of_words, line_by, line_of, label_of, keyword_of, code_said, items_said, bytes_said, one_item, operands, byte_operand, all_operands, instruction_said, directives, named_from, mnemonic_keyword, keyword_or, segment_operands, procedure_operands, entry_operands, no_operands, label_operand, size_operand, is_even, is_character, uncommented, ends_procedure}
 use Rattle.pm_source.specs.Line.Flaw.{NoFlaw}
 use Rattle.pm_source.specs.Line.Line.{Blank, Wrong, Strange, Says}
 use Rattle.pm_source.specs.Line.Keyword.{OfSegment, OfProcedure, OfExit, OfJump, OfEnd, OfBytes, Mnemonic}

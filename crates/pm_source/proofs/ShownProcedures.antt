@@ -67,15 +67,15 @@ within at (item ∷ items) q h = go (eqb at q) refl h (within (at + size at item
     go true e k f = omega (arith, eqb-true _ _ e, end_above (at + size at item) items)
     go false e k f = f k
 
-all_append : (P : ℕ → Type 0) (xs ys : List ℕ) → AllByRecursion P xs → AllByRecursion P ys → AllByRecursion P (xs ++ ys)
+pub all_append : (P : ℕ → Type 0) (xs ys : List ℕ) → AllByRecursion P xs → AllByRecursion P ys → AllByRecursion P (xs ++ ys)
 all_append P [] ys h k = k
 all_append P (x ∷ xs) ys h k = (h.0, all_append P xs ys h.1 k)
 
-all_front : (P : ℕ → Type 0) (xs ys : List ℕ) → AllByRecursion P (xs ++ ys) → AllByRecursion P xs
+pub all_front : (P : ℕ → Type 0) (xs ys : List ℕ) → AllByRecursion P (xs ++ ys) → AllByRecursion P xs
 all_front P [] ys h = tt
 all_front P (x ∷ xs) ys h = (h.0, all_front P xs ys h.1)
 
-all_back : (P : ℕ → Type 0) (xs ys : List ℕ) → AllByRecursion P (xs ++ ys) → AllByRecursion P ys
+pub all_back : (P : ℕ → Type 0) (xs ys : List ℕ) → AllByRecursion P (xs ++ ys) → AllByRecursion P ys
 all_back P [] ys h = h
 all_back P (x ∷ xs) ys h = all_back P xs ys h.1
 
@@ -151,7 +151,7 @@ writable_item at (Case low high (To place) qs) h s = (s.0, s.1)
 writable_item at (Case low high (Through k) qs) h s = (h.near, s)
 writable_item at (OneByte b) h s = tt
 
-are_writable : (at : ℕ) (items : List (Item ℕ)) → AreItems at items → AllByRecursion IsLow (named_places items) → AllByRecursion IsWritableItem items
+pub are_writable : (at : ℕ) (items : List (Item ℕ)) → AreItems at items → AllByRecursion IsLow (named_places items) → AllByRecursion IsWritableItem items
 are_writable at [] h s = tt
 are_writable at (item ∷ items) h s =
     (writable_item at item h.0 (all_front IsLow (item_places item) (named_places items) s), are_writable (at + size at item) items h.1 (all_back IsLow (item_places item) (named_places items) s))
@@ -200,7 +200,7 @@ shifted_end d at (item ∷ items) e =
 used_within : (p : Procedure) → IsWhole p → AllByRecursion (IsIn (places_of p)) (used_of p)
 used_within p w = all_append (IsIn (places_of p)) (named_places p.items) p.entries (named_within (places_of p) p.items w.procedure.jumps) w.procedure.entries
 
-used_low : (p : Procedure) → IsWhole p → AllByRecursion IsLow (used_of p)
+pub used_low : (p : Procedure) → IsWhole p → AllByRecursion IsLow (used_of p)
 used_low p w = all_mapped (IsIn (places_of p)) IsLow (used_of p) (λ q h. omega (arith, within p.start p.items q h, w.short)) (used_within p w)
 
 used_known : (n : ℕ) (p : Procedure) → IsWhole p → AllByRecursion (IsKnown (place_of p.start (shown_source n p).code)) (used_of p)

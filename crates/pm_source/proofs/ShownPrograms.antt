@@ -15,6 +15,7 @@ use Rattle.pm_source.specs.Words.{cut}
 use Rattle.pm_source.specs.Source.{Source, SourceSegment, Statement, IsSource, head_statements, statements_from, statements}
 use Rattle.pm_source.specs.Source.Statement.{Segment, End}
 use Rattle.pm_source.specs.Line.{Line, line_of, is_character, uncommented}
+use Rattle.pm_source.specs.Line.Flaw.{NoFlaw}
 use Rattle.pm_source.specs.Line.Line.{Blank, Wrong, Strange, Says}
 use Rattle.pm_source.specs.Faults.{lines_from}
 use Rattle.pm_source.specs.Meaning.{AreSaid, MeansProcedure, MeansSegment, ascending, segment_with, segments_from}
@@ -36,7 +37,7 @@ one_line (c ∷ l) rest h =
     no_newline : (c : ℕ) → is_character c ≡ true → (c == 10) ≡ false
     no_newline c h = grind (arith, nat_tests)
 
-abbrev AreCharacters : List (List ℕ) → Type 0
+abbrev pub AreCharacters : List (List ℕ) → Type 0
 AreCharacters ls = AllByRecursion (λ l. list_all is_character l ≡ true) ls
 
 parts_of : (ls : List (List ℕ)) → AreCharacters ls → slice_split (λ b. b == 10) (joined ls) ≡ ls ++ [] ∷ []
@@ -59,8 +60,20 @@ all_stripped [] h = refl
 all_stripped (l ∷ []) h = ap (λ u. u ∷ []) (stripped l h.0)
 all_stripped (l ∷ m ∷ ls) h = ap (λ u. u ∷ lines_of_parts ((m ∷ ls) ++ [] ∷ [])) (stripped l h.0) ∙ ap (λ us. l ∷ us) (all_stripped (m ∷ ls) h.1)
 
-lines_joined : (ls : List (List ℕ)) → AreCharacters ls → lines (joined ls) ≡ ls
+pub lines_joined : (ls : List (List ℕ)) → AreCharacters ls → lines (joined ls) ≡ ls
 lines_joined ls h = ap lines_of_parts (parts_of ls h) ∙ all_stripped ls h
+
+-- A line that says something has no character that may not stand.
+pub said_line : (n : ℕ) (l : List ℕ) (s : Statement) → line_of n l ≡ Says s NoFlaw → list_all is_character l ≡ true
+unfolding line_of
+said_line n l s h = go (list_all is_character l) refl
+  where
+    go : (b : Bool) → list_all is_character l ≡ b → list_all is_character l ≡ true
+    go true e = e
+    go false e =
+        let last : Bool = bytes_eq (cut (uncommented false l)).word (codes ".END") in
+        let wrong : line_of n l ≡ Wrong last = rw e refl in
+        absurd (cc)
 
 -- what is said after a line
 record Rest (lines : List Line) : Type 0 where
@@ -115,9 +128,9 @@ shows_procedures n k (p ∷ ps) texts said w l s =
     (subst (λ ss. Show n (procedure_lines k p ++ (procedures_lines (k + 1) ps ++ texts)) ss) (sym (append_assoc (head_statements k (shown_source n p)) (End ∷ statements_from (k + 1) (shown_sources m ps)) said)) first)
 
 -- a segment of a program, its procedures not too long
-record IsWholeSegment (s : program.Segment) : Type 0 where
-  segment : IsSegment s
-  procedures : AllByRecursion IsWhole s.procedures
+pub record IsWholeSegment (s : program.Segment) : Type 0 where
+  pub segment : IsSegment s
+  pub procedures : AllByRecursion IsWhole s.procedures
 
 shows_segments : (n : ℕ) (ss : List program.Segment) → AllByRecursion IsWholeSegment ss → Show n (segments_lines ss) (statements (shown_segments n ss))
 unfolding shown_segments
@@ -233,7 +246,7 @@ whole_segment s h l =
       procedures = wholes s.procedures 65534 (omega arith) h.procedures (ends_within 0 1 65534 s.procedures h.follow (omega (arith, parts, l)));
     }
 
-whole_segments : (ss : List program.Segment) → AllByRecursion IsSegment ss → FitSlots ss → AllByRecursion IsWholeSegment ss
+pub whole_segments : (ss : List program.Segment) → AllByRecursion IsSegment ss → FitSlots ss → AllByRecursion IsWholeSegment ss
 whole_segments [] h l = tt
 whole_segments (s ∷ ss) h l = (whole_segment s h.0 l.0, whole_segments ss h.1 l.1)
 

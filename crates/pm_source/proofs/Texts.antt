@@ -4,7 +4,8 @@ use Rattle.std.specs.Prelude.{reverse, nat_eq, nat_le, ◌&&◌, ◌||◌, ◌==
 use Rattle.std.specs.List.{AllByRecursion}
 use Rattle.std.proofs.lemmas.Bool.{leb-true}
 use Rattle.pm_disasm.specs.Item.{IsByte}
-use Rattle.pm_source.specs.Line.{◌>>=◌, is_plain, lower_hex, unescaped, unquoted, text_operand, flat_words}
+use Rattle.pm_codefile.specs.Segments.{◌>>=◌}
+use Rattle.pm_source.specs.Line.{is_plain, lower_hex, unescaped, unquoted, text_operand, flat_words}
 use Rattle.pm_source.proofs.Numerals.{bound, both, some_is}
 
 plain_byte : (c : ℕ) → is_plain c ≡ true → c < 256

@@ -5,6 +5,7 @@ pub mod Faults
 pub mod FaultNumbers
 pub mod Meaning
 pub mod Image
+pub mod Denoted
 pub mod Laws
 pub mod Worked
 pub mod Same

@@ -3,6 +3,7 @@ use Rattle.std.specs.Prelude.{ℕ, zero, suc, ◌+◌, ◌-◌, ◌*◌, ◌%◌
 use Rattle.std.specs.Map.{lookup}
 use Rattle.std.specs.List.{list_all, onto_first}
 use Rattle.std.specs.Str.{bytes_eq}
+use Rattle.pm_codefile.specs.Segments.{◌>>=◌}
 use Rattle.pm_opcode.specs.declared.operand_form.Form.{Form}
 use Rattle.pm_opcode.specs.declared.operand_form.Form.TheVariants as forms
 use Rattle.pm_opcode.specs.declared.instr.Instr.{Instr}
@@ -55,11 +56,6 @@ operands cs = if is_empty (unindented cs) then [] else map trimmed (pieces false
 -- What an operand is, if it is well-formed, and whether it is in range.
 abbrev pub Operand : Type 0 → Type 0
 Operand A = Option (A × Bool)
-
-infixl 10 ◌>>=◌
-abbrev pub ◌>>=◌ : {A B : Type 0} → Option A → (A → Option B) → Option B
-None >>= f = None
-(Some x) >>= f = f x
 
 abbrev pub numeral_operand : ℕ → ℕ → ℕ → List ℕ → Operand ℕ
 numeral_operand below above w text = number text >>= λ n. Some (stored w n, within below above n)

@@ -1,6 +1,7 @@
 //! Laws of the assembler's text, of what it spells and of its listing. The functions do nothing.
+ghost use Rattle.pm_source.specs.Denoted.{ListingDenotesSegments, ListingIsRead};
 ghost use Rattle.pm_source.specs.Image.{ListingIsPlaced, ListingIsSegment};
-ghost use Rattle.pm_source.specs.Same.{BlankSaysNothing, CommentSaysNothing, LineFaultsAscend, ZeroSaysNothing};
+ghost use Rattle.pm_source.specs.Same.{BaseSaysNothing, BlankSaysNothing, BlanksSayNothing, CommentSaysNothing, EndBlankSaysNothing, LineFaultsAscend, NumberWithoutZero, NumbersSayValues, ZeroSaysNothing};
 ghost use Rattle.pm_source.specs.Laws.{FaultlessIsSaid, FaultlessIsSpelled, FileHoldsProgram, FileIsAccepted, FoundIsFaultless, LabelsFound, SaidIsFaultless, SpelledIsFaultless, SpelledIsProgram};
 
 /// The bytes of a segment's lines in a listing, joined, are the segment, and each line names the offset at which its bytes stand in it.
@@ -8,6 +9,14 @@ ghost use Rattle.pm_source.specs.Laws.{FaultlessIsSaid, FaultlessIsSpelled, File
 pub fn listing_is_segment()
     ensures law { ListingIsSegment }
     ensures placed { ListingIsPlaced }
+{}
+
+/// The characters of a program's listing, read back, denote its lines: of each its segment, procedure, offset and bytes.
+/// The bytes that they denote for a segment are the segment, and each line names the offset at which its bytes stand in
+/// it.
+pub fn listing_is_read()
+    ensures law { ListingIsRead }
+    ensures segments { ListingDenotesSegments }
 {}
 
 /// The labels of a procedure that has no fault of them are found: it means the procedure of a program that has their
@@ -53,13 +62,30 @@ pub fn file_holds_program()
     ensures accepted { FileIsAccepted }
 {}
 
-/// A comment behind a line whose quotes are closed, and a blank in front of a line, change nothing of what it says; nor does a zero in
-/// front of decimal digits of their number.
-#[tactic(auto, using(crate::proofs::SameLines::comment_says_nothing, crate::proofs::SameLines::blank_says_nothing, crate::proofs::SameLines::zero_says_nothing))]
+/// A comment behind a line whose quotes are closed, and a blank in front of a line or behind it, change nothing of what
+/// it says; nor does a zero in front of decimal digits of their number.
+#[tactic(auto, using(crate::proofs::SameLines::comment_says_nothing, crate::proofs::SameLines::blank_says_nothing, crate::proofs::EndBlanks::end_blank_says_nothing, crate::proofs::SameLines::zero_says_nothing))]
 pub fn comments_blanks_zeros_say_nothing()
     ensures comment { CommentSaysNothing }
     ensures blank { BlankSaysNothing }
+    ensures behind { EndBlankSaysNothing }
     ensures zero { ZeroSaysNothing }
+{}
+
+/// Blanks between operands and between words change nothing of what a line says: in front of operands, behind them and
+/// beside a comma outside quotes, and beside another blank.
+#[tactic(auto, using(crate::proofs::Between::blanks_say_nothing))]
+pub fn blanks_say_nothing()
+    ensures law { BlanksSayNothing }
+{}
+
+/// How a number is written changes nothing of what a line says: neither zeros in front of its digits, nor whether they
+/// are hexadecimal. What stands behind a mnemonic, `.BYTE` or `.PROC` says the same with numbers of the same values, and
+/// `.SEG` with the same name.
+pub fn numbers_say_values()
+    ensures zeros { NumberWithoutZero }
+    ensures base { BaseSaysNothing }
+    ensures law { NumbersSayValues }
 {}
 
 /// The faults of a text's lines ascend: none is of a line before that of the fault before it.

@@ -13,7 +13,8 @@ part-written : (xs ys : List ℕ) (i n : ℕ) → length ys ≡ n → i + n ≤ 
 unfolding written
 part-written xs ys i n size room =
     let front : length (take i xs) ≡ i = length-take-le i xs (omega arith) in
-    let rest : drop i (take i xs ++ (ys ++ drop (i + length ys) xs)) ≡ ys ++ drop (i + length ys) xs = rw front at (drop-append_seam (take i xs) (ys ++ drop (i + length ys) xs)) in
+    let rest : drop i (take i xs ++ (ys ++ drop (i + length ys) xs)) ≡ ys ++ drop (i + length ys) xs = rw front at
+    (drop-append_seam (take i xs) (ys ++ drop (i + length ys) xs)) in
     let count : i + n - i ≡ length ys = omega arith in
     rw (rest, count) (take-append_seam ys (drop (i + length ys) xs))
 

@@ -48,7 +48,8 @@ scans_up m a n b equal h room =
     record {
       distance = passed (bytes_at m a n) b equal;
       answer = scanned-up m a (pos n) n b equal refl;
-      first = first-same (λ i. stops equal b (get_or (bytes_at m a n) i 0)) (λ i. stops equal b (byte_at m (a + i))) (length (bytes_at m a n)) n (passed (bytes_at m a n) b equal) size
+      first = first-same (λ i. stops equal b (get_or (bytes_at m a n) i 0)) (λ i. stops equal b (byte_at m (a + i))) (length (bytes_at m a n)) n
+          (passed (bytes_at m a n) b equal) size
           (λ i l. ap (stops equal b) (get_or-bytes_at m a n i (omega arith))) (passed-first (bytes_at m a n) b equal);
     }
 
@@ -60,7 +61,8 @@ scans_down m a d b equal h low high =
     record {
       distance = passed (reverse bytes) b equal;
       answer = scanned-down m a (negsuc d) d b equal refl;
-      first = first-same (λ i. stops equal b (get_or (reverse bytes) i 0)) (λ i. stops equal b (byte_at m (a - i))) (length (reverse bytes)) (d + 1) (passed (reverse bytes) b equal) turned
+      first = first-same (λ i. stops equal b (get_or (reverse bytes) i 0)) (λ i. stops equal b (byte_at m (a - i))) (length (reverse bytes)) (d + 1)
+          (passed (reverse bytes) b equal) turned
           (λ i l. ap (stops equal b) (get_or-reverse bytes i 0 (omega arith)
           ∙ (get_or-bytes_at m (a - d) (d + 1) (length bytes - 1 - i) (omega arith)
           ∙ ap (byte_at m) (omega arith)))) (passed-first (reverse bytes) b equal);

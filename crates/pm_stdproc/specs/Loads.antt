@@ -1,11 +1,25 @@
 -- The code of segments on disks.
-use Rattle.std.specs.Prelude.{ℕ, List, Option, Some, None, is_none, Result, Ok, Err, option_map, slice_get, if◌then◌else◌, ◌==◌}
+use Rattle.std.specs.Prelude.{
+  ℕ,
+  List,
+  Option,
+  Some,
+  None,
+  is_none,
+  Result,
+  Ok,
+  Err,
+  option_map,
+  slice_get,
+  if◌then◌else◌,
+  ◌==◌,
+}
 use Rattle.std.specs.Borrow.{Bor}
 use Rattle.pm_words.specs.declared.error.ExecError.{ExecError}
 use Rattle.pm_words.specs.declared.error.ExecError.TheVariants.{SystemIo}
 use Rattle.pm_calls.specs.declared.frames.Place.{Place}
-use Rattle.pm_calls.specs.declared.frames.Call.{Call}
-use Rattle.pm_calls.specs.declared.frames.Call.TheVariants.{Clp, Cgp, Cbp, Cip, Cxp}
+use Rattle.pm_opcode.specs.declared.operation.Call.{Call}
+use Rattle.pm_opcode.specs.declared.operation.Call.TheVariants.{Clp, Cgp, Cbp, Cip, Cxp}
 use Rattle.pm_calls.specs.Places.{placed}
 use Rattle.pm_stdproc.specs.Devices.{Devices, code_on}
 use Rattle.pm_stdproc.specs.declared.loads.SlotRow.{SlotRow}

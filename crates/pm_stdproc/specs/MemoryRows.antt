@@ -1,36 +1,60 @@
 -- The standard procedures that work on the stack, the heap and the memory alone. A row takes its words from the stack,
 -- the top one first, then checks them: its lines stand in the order of its faults.
-use Rattle.std.specs.Prelude.{◌≡◌, ℕ, ◌+◌, ◌-◌, ◌*◌, ◌/◌, ◌%◌, ℤ, pos, negsuc, Bool, ◌&&◌, List, Result, Ok, Err, if◌then◌else◌, ◌==◌, nat_lt, nat_le}
-use Rattle.std.specs.Int.{w16, cast_signed}
+use Rattle.std.specs.Prelude.{
+  ℕ,
+  ◌+◌,
+  ◌-◌,
+  ◌*◌,
+  ◌/◌,
+  ◌%◌,
+  ℤ,
+  pos,
+  negsuc,
+  Bool,
+  ◌&&◌,
+  List,
+  Result,
+  Ok,
+  Err,
+  if◌then◌else◌,
+  ◌==◌,
+  nat_lt,
+  nat_le,
+}
 use Rattle.pm_words.specs.declared.error.ExecError.{ExecError}
 use Rattle.pm_words.specs.declared.error.ExecError.TheVariants as error
 use Rattle.pm_words.specs.Words.{filled, moved_up, moved_down, scanned}
-use Rattle.pm_words.specs.Stack.{◌>>=◌, demand, is_even, load, store, pop, push}
+use Rattle.pm_words.specs.Signed.{signed, word}
+use Rattle.pm_words.specs.Stack.{◌>>=◌, demand, is_even, lies_in_memory, load, store, pop, push}
+use Rattle.pm_words.specs.declared.stack.Popped.{Popped}
 use Rattle.pm_calls.specs.declared.registers.Registers.{Registers}
 use Rattle.pm_stdproc.specs.declared.procedures.OnMemory.{OnMemory}
-use Rattle.pm_stdproc.specs.declared.procedures.OnMemory.TheVariants.{CheckIo, New, MoveLeft, MoveRight, Fill, Scan, Mark, Release, IoResult, Halt, FreeMemory}
+use Rattle.pm_stdproc.specs.declared.procedures.OnMemory.TheVariants.{
+  CheckIo,
+  New,
+  MoveLeft,
+  MoveRight,
+  Fill,
+  Scan,
+  Mark,
+  Release,
+  IoResult,
+  Halt,
+  FreeMemory,
+}
 
 -- from the memory and the registers to the memory and the registers
 abbrev pub MemoryRow : Type 0
 MemoryRow = List ℕ → Registers → Result (List ℕ × Registers) ExecError
 
--- a row was done: it gives the memory and the registers, or an error with the memory as it was
-abbrev pub Changes : Result Registers ExecError → List ℕ → List ℕ → Result (List ℕ × Registers) ExecError → Type 0
-Changes (Ok r) old new row = row ≡ Ok (new, r)
-Changes (Err e) old new row = (row ≡ Err e) × (new ≡ old)
-
 -- ---- operands
 
 -- a byte place on the stack, base and index: its address, which is their sum, and the SP above it
-abbrev pub pop_place : List ℕ → ℕ → Result (ℕ × ℕ) ExecError
+abbrev pub pop_place : List ℕ → ℕ → Result Popped ExecError
 pop_place m sp = do
   index ← pop m sp
-  base ← pop m index.1
-  Ok ((base.0 + index.0) % 65536, base.1)
-
--- whether a range of bytes lies in memory
-abbrev pub lies_in_memory : ℕ → ℕ → Bool
-lies_in_memory a n = nat_le (a + n) 65536
+  base ← pop m index.above
+  Ok (record { word = (base.word + index.word) % 65536; above = base.above })
 
 -- whether a word is above 0 as a signed number
 abbrev pub is_positive : ℕ → Bool
@@ -48,16 +72,17 @@ check_io_row m r = do
 unfoldable pub new_row : MemoryRow
 new_row m r = do
   n ← pop m r.sp
-  a ← pop m n.1
-  new ← store m a.0 r.np
-  _ ← demand (nat_le (r.np + 2 * n.0) a.1) error.StackOverflow
-  Ok (new, record r { sp = a.1; np = r.np + 2 * n.0 })
+  a ← pop m n.above
+  new ← store m a.word r.np
+  _ ← demand (nat_le (r.np + 2 * n.word) a.above) error.StackOverflow
+  Ok (new, record r { sp = a.above; np = r.np + 2 * n.word })
 
 -- bytes moved from one range to another; a count of 0 or less does nothing, whatever the places
 abbrev pub moved : (List ℕ → ℕ → ℕ → ℕ → List ℕ) → List ℕ → ℕ → ℕ → ℕ → Result (List ℕ) ExecError
 moved move m from to count =
     if is_positive count then
-    (demand (lies_in_memory from count && lies_in_memory to count) error.InvalidMemory >>= λ _. Ok (move m from to count))
+    (demand (lies_in_memory from count && lies_in_memory to count) error.InvalidMemory >>= λ _. Ok
+    (move m from to count))
     else Ok m
 
 -- MOVELEFT and MOVERIGHT. Source, destination, count: they move byte by byte, the one from the low end, the other from
@@ -65,10 +90,10 @@ moved move m from to count =
 unfoldable pub move_row : (List ℕ → ℕ → ℕ → ℕ → List ℕ) → MemoryRow
 move_row move m r = do
   count ← pop m r.sp
-  to ← pop_place m count.1
-  from ← pop_place m to.1
-  new ← moved move m from.0 to.0 count.0
-  Ok (new, record r { sp = from.1 })
+  to ← pop_place m count.above
+  from ← pop_place m to.above
+  new ← moved move m from.word to.word count.word
+  Ok (new, record r { sp = from.above })
 
 -- a range filled with one byte; a count of 0 or less does nothing, whatever the place
 abbrev pub filled_with : List ℕ → ℕ → ℕ → ℕ → Result (List ℕ) ExecError
@@ -80,25 +105,20 @@ filled_with m a count b =
 unfoldable pub fill_row : MemoryRow
 fill_row m r = do
   ch ← pop m r.sp
-  count ← pop m ch.1
-  place ← pop_place m count.1
-  new ← filled_with m place.0 count.0 (ch.0 % 256)
-  Ok (new, record r { sp = place.1 })
+  count ← pop m ch.above
+  place ← pop_place m count.above
+  new ← filled_with m place.word count.word (ch.word % 256)
+  Ok (new, record r { sp = place.above })
 
 -- whether all bytes that a scan may look at lie in memory
 abbrev pub scan_lies_in_memory : ℕ → ℤ → Bool
 scan_lies_in_memory a (pos n) = nat_le (a + n) 65536
 scan_lies_in_memory a (negsuc n) = nat_le n a
 
--- a signed number as a word
-abbrev pub word : ℤ → ℕ
-word (pos n) = n % 65536
-word (negsuc n) = 65535 - n % 65536
-
 -- how many bytes a scan passes, as a word; the limit is signed
 abbrev pub passed_by : List ℕ → ℕ → ℕ → ℕ → Bool → Result ℕ ExecError
 passed_by m a limit b equal = do
-  let steps = cast_signed w16 limit
+  let steps = signed limit
   _ ← demand (scan_lies_in_memory a steps) error.InvalidMemory
   Ok (word (scanned m a steps b equal))
 
@@ -107,29 +127,29 @@ passed_by m a limit b equal = do
 unfoldable pub scan_row : MemoryRow
 scan_row m r = do
   mask ← pop m r.sp
-  place ← pop_place m mask.1
-  ch ← pop m place.1
-  kind ← pop m ch.1
-  limit ← pop m kind.1
-  k ← passed_by m place.0 limit.0 (ch.0 % 256) (kind.0 % 2 == 0)
-  new ← push m limit.1 r.np k
+  place ← pop_place m mask.above
+  ch ← pop m place.above
+  kind ← pop m ch.above
+  limit ← pop m kind.above
+  k ← passed_by m place.word limit.word (ch.word % 256) (kind.word % 2 == 0)
+  new ← push m limit.above r.np k
   Ok (new.0, record r { sp = new.1 })
 
 -- MARK. Address: it gets NP.
 unfoldable pub mark_row : MemoryRow
 mark_row m r = do
   a ← pop m r.sp
-  new ← store m a.0 r.np
-  Ok (new, record r { sp = a.1 })
+  new ← store m a.word r.np
+  Ok (new, record r { sp = a.above })
 
 -- RELEASE. Address: NP becomes the word there, which is even and at most SP.
 unfoldable pub release_row : MemoryRow
 release_row m r = do
   a ← pop m r.sp
-  v ← load m a.0
+  v ← load m a.word
   _ ← demand (is_even v) error.InvalidMemory
-  _ ← demand (nat_le v a.1) error.StackOverflow
-  Ok (m, record r { sp = a.1; np = v })
+  _ ← demand (nat_le v a.above) error.StackOverflow
+  Ok (m, record r { sp = a.above; np = v })
 
 -- a word put on the stack
 unfoldable pub push_row : ℕ → MemoryRow

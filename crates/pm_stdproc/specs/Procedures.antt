@@ -17,7 +17,14 @@ use Rattle.pm_stdproc.specs.UnitRows.{Served, served, units_row}
 use Rattle.pm_stdproc.specs.declared.procedures.OnMemory.TheVariants as memory
 use Rattle.pm_stdproc.specs.declared.procedures.OnUnits.TheVariants as units
 use Rattle.pm_stdproc.specs.declared.procedures.Procedure.{Procedure}
-use Rattle.pm_stdproc.specs.declared.procedures.Procedure.TheVariants.{OnMemory, OnUnits, Exit, Keep, Unkeep, Unimplemented}
+use Rattle.pm_stdproc.specs.declared.procedures.Procedure.TheVariants.{
+  OnMemory,
+  OnUnits,
+  Exit,
+  Keep,
+  Unkeep,
+  Unimplemented,
+}
 
 -- what the standard procedures see of the machine
 pub record Reach : Type 0 where
@@ -26,6 +33,16 @@ pub record Reach : Type 0 where
   pub places : List (Option Place)
   pub rows : List SlotRow
   pub devices : Devices
+
+-- a memory, registers, places, rows and devices as a standard procedure reaches them
+abbrev pub reach_of : List ℕ → Registers → List (Option Place) → List SlotRow → Devices → Reach
+reach_of memory registers places rows devices = record {
+  memory = memory;
+  registers = registers;
+  places = places;
+  rows = rows;
+  devices = devices;
+}
 
 abbrev pub devices_reached : Reach → Devices
 devices_reached s = s.devices
@@ -62,8 +79,9 @@ parts s r = record { memory = s.memory; registers = r; places = s.places }
 unfoldable pub exit_row : Reach → Result Reach ExecError
 exit_row s = do
   procedure ← pop s.memory s.registers.sp
-  segment ← pop s.memory procedure.1
-  left ← exited (parts s (record s.registers { sp = segment.1 })) (record { segment = segment.0; procedure = procedure.0 })
+  segment ← pop s.memory procedure.above
+  left ← exited (parts s (record s.registers { sp = segment.above }))
+      (record { segment = segment.word; procedure = procedure.word })
   Ok (record s { memory = left.memory; registers = left.registers; places = left.places })
 
 -- what is new of the memory, the registers and the places
@@ -75,16 +93,16 @@ with_parts s p = record s { memory = p.memory; registers = p.registers; places =
 unfoldable pub keep_row : Reach → Result Reach ExecError
 keep_row s = do
   segment ← pop s.memory s.registers.sp
-  code ← slot_code segment.0 s.places s.rows s.devices
-  kept ← segment_kept (parts s (record s.registers { sp = segment.1 })) segment.0 code
+  code ← slot_code segment.word s.places s.rows s.devices
+  kept ← segment_kept (parts s (record s.registers { sp = segment.above })) segment.word code
   Ok (with_parts s kept)
 
 -- Unload a segment: the program keeps that of a slot once less. Segment
 unfoldable pub unkeep_row : Reach → Result Reach ExecError
 unkeep_row s = do
   segment ← pop s.memory s.registers.sp
-  let size = length_of (slice_get s.rows segment.0)
-  left ← segment_unkept (parts s (record s.registers { sp = segment.1 })) segment.0 size
+  let size = length_of (slice_get s.rows segment.word)
+  left ← segment_unkept (parts s (record s.registers { sp = segment.above })) segment.word size
   Ok (with_parts s left)
 
 abbrev pub on_memory : Reach → Result (List ℕ × Registers) ExecError → Result Reach ExecError

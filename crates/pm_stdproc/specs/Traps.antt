@@ -18,8 +18,8 @@ or_fails (Err e) = Err (Fails e)
 abbrev pub Outgrows : {B : Type 0} → (B → Devices) → Room → Devices → Result B Pause → Type 0
 Outgrows devices room d done = (new : _) × (done ≡ Ok new) × (has_room room d (devices new) ≡ false)
 
--- An instruction was done: it gives what is new, or leaves all as it was. So does want of memory, which comes only where
--- the instruction writes more to the console or to the printer than there is room for.
+-- An instruction was done: it gives what is new, or leaves all as it was. So does want of memory, which comes only
+-- where the instruction writes more to the console or to the printer than there is room for.
 abbrev pub Performs : {A B : Type 0} → (B → Devices) → Room → Result A Trap → B → B → Result B Pause → Type 0
 Performs devices room (Ok x) old new done = done ≡ Ok new
 Performs devices room (Err (trap.Exec e)) old new done = (done ≡ Err (Fails e)) × (new ≡ old)

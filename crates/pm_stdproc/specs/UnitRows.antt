@@ -3,11 +3,11 @@ use Rattle.std.specs.Prelude.{ℕ, ◌/◌, ◌%◌, ◌&&◌, List, Result, Ok}
 use Rattle.pm_words.specs.declared.error.ExecError.{ExecError}
 use Rattle.pm_words.specs.declared.error.ExecError.TheVariants.{InvalidMemory}
 use Rattle.pm_words.specs.Words.{with_word}
-use Rattle.pm_words.specs.Stack.{◌>>=◌, demand, is_even, pop, push}
+use Rattle.pm_words.specs.Stack.{◌>>=◌, demand, is_even, lies_in_memory, pop, push}
 use Rattle.pm_calls.specs.declared.registers.Registers.{Registers}
 use Rattle.pm_stdproc.specs.Traps.{Pause, or_fails}
 use Rattle.pm_stdproc.specs.Devices.{Devices, cleared, known, unit_of}
-use Rattle.pm_stdproc.specs.MemoryRows.{lies_in_memory, pop_place}
+use Rattle.pm_stdproc.specs.MemoryRows.{pop_place}
 use Rattle.pm_stdproc.specs.Transfers.{Moved, read, written}
 use Rattle.pm_stdproc.specs.declared.procedures.OnUnits.{OnUnits}
 use Rattle.pm_stdproc.specs.declared.procedures.OnUnits.TheVariants.{Read, Write, Time, Busy, Wait, Clear}
@@ -27,17 +27,22 @@ devices_served s = s.devices
 
 -- ---- transfers
 
--- Unit, place, count, block, mode: the operands of a transfer. The bytes at the place have to lie in memory, whatever the
--- unit; the count is unsigned, and nothing looks at the mode.
+-- Unit, place, count, block, mode: the operands of a transfer. The bytes at the place have to lie in memory, whatever
+-- the unit; the count is unsigned, and nothing looks at the mode.
 unfoldable pub ordered : List ℕ → ℕ → Result Order ExecError
 ordered m sp = do
   mode ← pop m sp
-  block ← pop m mode.1
-  count ← pop m block.1
-  place ← pop_place m count.1
-  unit ← pop m place.1
-  _ ← demand (lies_in_memory place.0 count.0) InvalidMemory
-  Ok (record { transfer = record { address = place.0; count = count.0; block = block.0 }; unit = unit.0; sp = unit.1 })
+  block ← pop m mode.above
+  count ← pop m block.above
+  place ← pop_place m count.above
+  unit ← pop m place.above
+  _ ← demand (lies_in_memory place.word count.word) InvalidMemory
+  Ok (record {
+    transfer = record { address = place.word; count = count.word; block = block.word };
+    unit = unit.word;
+    sp
+        = unit.above;
+  })
 
 -- what is left when a transfer is over
 abbrev pub after_transfer : Served → ℕ → Moved → Served
@@ -66,30 +71,34 @@ write_row s = do
 unfoldable pub time_row : Served → Result Served ExecError
 time_row s = do
   b ← pop s.memory s.registers.sp
-  a ← pop s.memory b.1
-  _ ← demand (is_even a.0 && is_even b.0) InvalidMemory
-  let high = with_word s.memory a.0 (s.devices.clock / 65536)
-  Ok (record s { memory = with_word high b.0 (s.devices.clock % 65536); registers = record s.registers { sp = a.1 } })
+  a ← pop s.memory b.above
+  _ ← demand (is_even a.word && is_even b.word) InvalidMemory
+  let high = with_word s.memory a.word (s.devices.clock / 65536)
+  Ok (record s {
+    memory = with_word high b.word (s.devices.clock % 65536);
+    registers = record s.registers
+        { sp = a.above };
+  })
 
 -- UNITWAIT. Unit
 unfoldable pub wait_row : Served → Result Served ExecError
 wait_row s = do
   unit ← pop s.memory s.registers.sp
-  Ok (record s { registers = record s.registers { sp = unit.1; ioresult = known (unit_of unit.0) } })
+  Ok (record s { registers = record s.registers { sp = unit.above; ioresult = known (unit_of unit.word) } })
 
 -- UNITBUSY. Unit: no unit is ever busy, so 0 is pushed.
 unfoldable pub busy_row : Served → Result Served ExecError
 busy_row s = do
   unit ← pop s.memory s.registers.sp
-  new ← push s.memory unit.1 s.registers.np 0
-  Ok (record s { memory = new.0; registers = record s.registers { sp = new.1; ioresult = known (unit_of unit.0) } })
+  new ← push s.memory unit.above s.registers.np 0
+  Ok (record s { memory = new.0; registers = record s.registers { sp = new.1; ioresult = known (unit_of unit.word) } })
 
 -- UNITCLEAR. Unit
 unfoldable pub clear_row : Served → Result Served ExecError
 clear_row s = do
   unit ← pop s.memory s.registers.sp
-  let done = cleared (unit_of unit.0) s.devices
-  Ok (record s { registers = record s.registers { sp = unit.1; ioresult = done.0 }; devices = done.1 })
+  let done = cleared (unit_of unit.word) s.devices
+  Ok (record s { registers = record s.registers { sp = unit.above; ioresult = done.0 }; devices = done.1 })
 
 unfoldable pub units_row : OnUnits → Served → Result Served Pause
 units_row Read s = read_row s

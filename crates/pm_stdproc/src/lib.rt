@@ -13,7 +13,7 @@ mod units;
 pub mod worked;
 
 pub use loads::{SlotRow, code_for};
-pub use ports::MountFault;
+pub use ports::{MountFault, Port, unit_of};
 pub use trap::Trap;
 pub use units::Units;
 

@@ -4,7 +4,8 @@ ghost use Rattle.std.specs.Prelude.{◌≡◌, ◌%◌, All, IfOk, IfSome, lengt
 ghost use Rattle.pm_stdproc.specs.Loads.{code_lent, code_needed, length_of, slot_code};
 
 use crate::units::Units;
-use pm_calls::{Call, Frames};
+use pm_calls::Frames;
+use pm_opcode::Call;
 use pm_words::ExecError;
 
 /// Where the code of a slot stands on a disk.
@@ -29,7 +30,8 @@ pub fn slot_code<'a>(
     units: &'a Units,
 ) -> Result<Option<&'a [u8]>, ExecError>
     ensures code { code_lent result ≡ slot_code n frames.now.places rows.now units.now.devices }
-    ensures even { All (λ row. row.length % 2 ≡ 0) rows.now → IfOk result (λ code. IfSome code (λ bytes. length bytes.now % 2 ≡ 0)) }
+    ensures even { All (λ row. row.length % 2 ≡ 0) rows.now → IfOk result
+        (λ code. IfSome code (λ bytes. length bytes.now % 2 ≡ 0)) }
 {
     let Some(row) = rows.get(usize::from(n)).copied() else {
         return Ok(None);
@@ -53,7 +55,8 @@ pub fn code_for<'a>(
     units: &'a Units,
 ) -> Result<Option<&'a [u8]>, ExecError>
     ensures code { code_lent result ≡ code_needed call frames.now.places rows.now units.now.devices }
-    ensures even { All (λ row. row.length % 2 ≡ 0) rows.now → IfOk result (λ code. IfSome code (λ bytes. length bytes.now % 2 ≡ 0)) }
+    ensures even { All (λ row. row.length % 2 ≡ 0) rows.now → IfOk result
+        (λ code. IfSome code (λ bytes. length bytes.now % 2 ≡ 0)) }
 {
     match call {
         Call::Cxp(n, _) => slot_code(u16::from(n), frames, rows, units),

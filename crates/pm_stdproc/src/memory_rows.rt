@@ -2,10 +2,9 @@
 
 ghost use Rattle.std.specs.Prelude.{◌≡◌, IfOk, ℕ};
 ghost use Rattle.pm_words.specs.Watch.{KeepsWatch};
-ghost use Rattle.pm_words.specs.Stack.{IsStack, Stores};
+ghost use Rattle.pm_words.specs.Stack.{Changes, IsStack, Stores};
 ghost use Rattle.pm_words.specs.Words.{moved_up, moved_down};
 ghost use Rattle.pm_stdproc.specs.MemoryRows.{
-  Changes,
   check_io_row,
   fill_row,
   filled_with,
@@ -24,17 +23,20 @@ ghost use Rattle.pm_stdproc.specs.MemoryRows.{
 
 use crate::procedures::OnMemory;
 use pm_calls::Registers;
-use pm_words::stack::{load, pop, push, store};
+use pm_words::stack::{Popped, load, pop, push, store};
 use pm_words::{ExecError, Memory};
 
 /// A byte place on the stack: its address, and the SP above it.
-pub fn pop_place(memory: &Memory, sp: u16) -> Result<(u16, u16), ExecError>
+pub fn pop_place(memory: &Memory, sp: u16) -> Result<Popped, ExecError>
     ensures place { result ≡ pop_place memory.now.words sp }
-    ensures stack { (np : ℕ) → IsStack sp np → IfOk result (λ r. IsStack r.1 np) }
+    ensures stack { (np : ℕ) → IsStack sp np → IfOk result (λ p. IsStack p.above np) }
 {
-    let (index, sp) = pop(memory, sp)?;
-    let (base, sp) = pop(memory, sp)?;
-    Ok((base.wrapping_add(index), sp))
+    let index = pop(memory, sp)?;
+    let base = pop(memory, index.above)?;
+    Ok(Popped {
+        word: base.word.wrapping_add(index.word),
+        above: base.above,
+    })
 }
 
 // Whether a word is above 0 as a signed number.
@@ -44,6 +46,7 @@ fn is_positive(word: u16) -> bool
     word > 0 && word < 32768
 }
 
+// IOCHECK.
 #[tactic(auto, unfolding(crate::specs::MemoryRows::check_io_row), using(pm_words::proofs::WatchLaws::keeps))]
 fn check_io(memory: &mut Memory, registers: Registers) -> Result<Registers, ExecError>
     ensures row { Changes result memory.old.words memory.new.words (check_io_row memory.old.words registers) }
@@ -57,6 +60,7 @@ fn check_io(memory: &mut Memory, registers: Registers) -> Result<Registers, Exec
     Ok(registers)
 }
 
+// NEW.
 #[tactic(auto, unfolding(crate::specs::MemoryRows::new_row), using(pm_words::proofs::WatchLaws::keeps))]
 fn new(memory: &mut Memory, registers: Registers) -> Result<Registers, ExecError>
     ensures row { Changes result memory.old.words memory.new.words (new_row memory.old.words registers) }
@@ -65,18 +69,18 @@ fn new(memory: &mut Memory, registers: Registers) -> Result<Registers, ExecError
     ensures mp { IfOk result (λ r. r.mp ≡ registers.mp) }
 {
     let Registers { sp, np, .. } = registers;
-    let (count, sp) = pop(memory, sp)?;
-    let (address, sp) = pop(memory, sp)?;
-    if address % 2 != 0 {
+    let count = pop(memory, sp)?;
+    let address = pop(memory, count.above)?;
+    if address.word % 2 != 0 {
         return Err(ExecError::InvalidMemory);
     }
-    let top = u32::from(np) + 2 * u32::from(count);
-    if top > u32::from(sp) {
+    let top = u32::from(np) + 2 * u32::from(count.word);
+    if top > u32::from(address.above) {
         return Err(ExecError::StackOverflow);
     }
-    store(memory, address, np)?;
+    store(memory, address.word, np)?;
     Ok(Registers {
-        sp,
+        sp: address.above,
         np: top as u16,
         ..registers
     })
@@ -108,6 +112,7 @@ fn move_down(memory: &mut Memory, from: u16, to: u16, count: u16) -> Result<(), 
     }
 }
 
+// MOVELEFT.
 #[tactic(auto, unfolding(crate::specs::MemoryRows::move_row), using(pm_words::proofs::WatchLaws::keeps))]
 fn move_left(memory: &mut Memory, registers: Registers) -> Result<Registers, ExecError>
     ensures row { Changes result memory.old.words memory.new.words (move_row moved_up memory.old.words registers) }
@@ -115,13 +120,17 @@ fn move_left(memory: &mut Memory, registers: Registers) -> Result<Registers, Exe
     ensures keeps { KeepsWatch memory.old memory.new }
     ensures mp { IfOk result (λ r. r.mp ≡ registers.mp) }
 {
-    let (count, sp) = pop(memory, registers.sp)?;
-    let (to, sp) = pop_place(memory, sp)?;
-    let (from, sp) = pop_place(memory, sp)?;
-    move_up(memory, from, to, count)?;
-    Ok(Registers { sp, ..registers })
+    let count = pop(memory, registers.sp)?;
+    let to = pop_place(memory, count.above)?;
+    let from = pop_place(memory, to.above)?;
+    move_up(memory, from.word, to.word, count.word)?;
+    Ok(Registers {
+        sp: from.above,
+        ..registers
+    })
 }
 
+// MOVERIGHT.
 #[tactic(auto, unfolding(crate::specs::MemoryRows::move_row), using(pm_words::proofs::WatchLaws::keeps))]
 fn move_right(memory: &mut Memory, registers: Registers) -> Result<Registers, ExecError>
     ensures row { Changes result memory.old.words memory.new.words (move_row moved_down memory.old.words registers) }
@@ -129,11 +138,14 @@ fn move_right(memory: &mut Memory, registers: Registers) -> Result<Registers, Ex
     ensures keeps { KeepsWatch memory.old memory.new }
     ensures mp { IfOk result (λ r. r.mp ≡ registers.mp) }
 {
-    let (count, sp) = pop(memory, registers.sp)?;
-    let (to, sp) = pop_place(memory, sp)?;
-    let (from, sp) = pop_place(memory, sp)?;
-    move_down(memory, from, to, count)?;
-    Ok(Registers { sp, ..registers })
+    let count = pop(memory, registers.sp)?;
+    let to = pop_place(memory, count.above)?;
+    let from = pop_place(memory, to.above)?;
+    move_down(memory, from.word, to.word, count.word)?;
+    Ok(Registers {
+        sp: from.above,
+        ..registers
+    })
 }
 
 // Fills a range with one byte.
@@ -149,6 +161,7 @@ fn fill_with(memory: &mut Memory, at: u16, count: u16, byte: u8) -> Result<(), E
     }
 }
 
+// FILLCHAR.
 #[tactic(auto, unfolding(crate::specs::MemoryRows::fill_row), using(pm_words::proofs::WatchLaws::keeps))]
 fn fill(memory: &mut Memory, registers: Registers) -> Result<Registers, ExecError>
     ensures row { Changes result memory.old.words memory.new.words (fill_row memory.old.words registers) }
@@ -156,11 +169,14 @@ fn fill(memory: &mut Memory, registers: Registers) -> Result<Registers, ExecErro
     ensures keeps { KeepsWatch memory.old memory.new }
     ensures mp { IfOk result (λ r. r.mp ≡ registers.mp) }
 {
-    let (character, sp) = pop(memory, registers.sp)?;
-    let (count, sp) = pop(memory, sp)?;
-    let (at, sp) = pop_place(memory, sp)?;
-    fill_with(memory, at, count, (character % 256) as u8)?;
-    Ok(Registers { sp, ..registers })
+    let character = pop(memory, registers.sp)?;
+    let count = pop(memory, character.above)?;
+    let at = pop_place(memory, count.above)?;
+    fill_with(memory, at.word, count.word, (character.word % 256) as u8)?;
+    Ok(Registers {
+        sp: at.above,
+        ..registers
+    })
 }
 
 // How many bytes a scan passes.
@@ -171,6 +187,7 @@ fn passed_by(memory: &Memory, at: u16, limit: u16, byte: u8, equal: bool) -> Res
     Ok(passed.ok_or(ExecError::InvalidMemory)?.cast_unsigned())
 }
 
+// SCAN.
 #[tactic(auto, unfolding(crate::specs::MemoryRows::scan_row), using(pm_words::proofs::WatchLaws::keeps))]
 fn scan(memory: &mut Memory, registers: Registers) -> Result<Registers, ExecError>
     ensures row { Changes result memory.old.words memory.new.words (scan_row memory.old.words registers) }
@@ -178,16 +195,23 @@ fn scan(memory: &mut Memory, registers: Registers) -> Result<Registers, ExecErro
     ensures keeps { KeepsWatch memory.old memory.new }
     ensures mp { IfOk result (λ r. r.mp ≡ registers.mp) }
 {
-    let (_mask, sp) = pop(memory, registers.sp)?;
-    let (at, sp) = pop_place(memory, sp)?;
-    let (character, sp) = pop(memory, sp)?;
-    let (kind, sp) = pop(memory, sp)?;
-    let (limit, sp) = pop(memory, sp)?;
-    let passed = passed_by(memory, at, limit, (character % 256) as u8, kind % 2 == 0)?;
-    let sp = push(memory, sp, registers.np, passed)?;
+    let mask = pop(memory, registers.sp)?;
+    let at = pop_place(memory, mask.above)?;
+    let character = pop(memory, at.above)?;
+    let kind = pop(memory, character.above)?;
+    let limit = pop(memory, kind.above)?;
+    let passed = passed_by(
+        memory,
+        at.word,
+        limit.word,
+        (character.word % 256) as u8,
+        kind.word % 2 == 0,
+    )?;
+    let sp = push(memory, limit.above, registers.np, passed)?;
     Ok(Registers { sp, ..registers })
 }
 
+// MARK.
 #[tactic(auto, unfolding(crate::specs::MemoryRows::mark_row), using(pm_words::proofs::WatchLaws::keeps))]
 fn mark(memory: &mut Memory, registers: Registers) -> Result<Registers, ExecError>
     ensures row { Changes result memory.old.words memory.new.words (mark_row memory.old.words registers) }
@@ -195,11 +219,15 @@ fn mark(memory: &mut Memory, registers: Registers) -> Result<Registers, ExecErro
     ensures keeps { KeepsWatch memory.old memory.new }
     ensures mp { IfOk result (λ r. r.mp ≡ registers.mp) }
 {
-    let (address, sp) = pop(memory, registers.sp)?;
-    store(memory, address, registers.np)?;
-    Ok(Registers { sp, ..registers })
+    let address = pop(memory, registers.sp)?;
+    store(memory, address.word, registers.np)?;
+    Ok(Registers {
+        sp: address.above,
+        ..registers
+    })
 }
 
+// RELEASE.
 #[tactic(auto, unfolding(crate::specs::MemoryRows::release_row), using(pm_words::proofs::WatchLaws::keeps))]
 fn release(memory: &mut Memory, registers: Registers) -> Result<Registers, ExecError>
     ensures row { Changes result memory.old.words memory.new.words (release_row memory.old.words registers) }
@@ -207,22 +235,22 @@ fn release(memory: &mut Memory, registers: Registers) -> Result<Registers, ExecE
     ensures keeps { KeepsWatch memory.old memory.new }
     ensures mp { IfOk result (λ r. r.mp ≡ registers.mp) }
 {
-    let (address, sp) = pop(memory, registers.sp)?;
-    let np = load(memory, address)?;
+    let address = pop(memory, registers.sp)?;
+    let np = load(memory, address.word)?;
     if np % 2 != 0 {
         return Err(ExecError::InvalidMemory);
     }
-    if np > sp {
+    if np > address.above {
         return Err(ExecError::StackOverflow);
     }
     Ok(Registers {
-        sp,
+        sp: address.above,
         np,
         ..registers
     })
 }
 
-// Puts a word on the stack.
+// IORESULT and MEMAVAIL. Puts a word on the stack.
 #[tactic(auto, unfolding(crate::specs::MemoryRows::push_row), using(pm_words::proofs::WatchLaws::keeps))]
 fn put(memory: &mut Memory, registers: Registers, word: u16) -> Result<Registers, ExecError>
     ensures row { Changes result memory.old.words memory.new.words (push_row word memory.old.words registers) }

@@ -45,7 +45,7 @@ impl MountFault {
     }
 }
 
-/// What stands behind a number.
+/// What stands behind the number of a unit, a whole word: 4, 5, 9, 10, 11 and 12 are the places 0 to 5 of the disks.
 #[tactic(auto, unfolding(crate::specs::Devices::unit_of))]
 pub fn unit_of(number: u16) -> Port
     ensures unit { result ≡ unit_of number }

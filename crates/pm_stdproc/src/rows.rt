@@ -6,9 +6,20 @@ ghost use Rattle.pm_words.specs.Stack.{IsStack};
 ghost use Rattle.pm_calls.specs.Kept.{Agrees};
 ghost use Rattle.pm_stdproc.specs.Traps.{Performs, or_fails};
 ghost use Rattle.pm_stdproc.specs.Devices.{Devices, Room};
-ghost use Rattle.pm_stdproc.specs.Procedures.{devices_reached, keep_row, procedure_of, procedure_row, unkeep_row};
+ghost use Rattle.pm_stdproc.specs.Procedures.{devices_reached, keep_row, procedure_of, procedure_row, unkeep_row, reach_of};
 ghost use Rattle.pm_stdproc.specs.declared.procedures.Procedure.TheVariants.{Unkeep};
-ghost use Rattle.pm_stdproc.specs.UnitRows.{busy_row, clear_row, devices_served, ordered, read_row, served, time_row, units_row, wait_row, write_row};
+ghost use Rattle.pm_stdproc.specs.UnitRows.{
+  busy_row,
+  clear_row,
+  devices_served,
+  ordered,
+  read_row,
+  served,
+  time_row,
+  units_row,
+  wait_row,
+  write_row,
+};
 
 use crate::loads::{SlotRow, length_of, slot_code};
 use crate::memory_rows::{self, pop_place};
@@ -28,26 +39,26 @@ fn order(memory: &Memory, sp: u16) -> Result<Order, ExecError>
     ensures inside { IfOk result (λ o. o.transfer.address + o.transfer.count ≤ 65536) }
     ensures stack { (np : ℕ) → IsStack sp np → IfOk result (λ o. IsStack o.sp np) }
 {
-    let (_mode, sp) = pop(memory, sp)?;
-    let (block, sp) = pop(memory, sp)?;
-    let (count, sp) = pop(memory, sp)?;
-    let (address, sp) = pop_place(memory, sp)?;
-    let (unit, sp) = pop(memory, sp)?;
-    if u32::from(address) + u32::from(count) > 65536 {
+    let mode = pop(memory, sp)?;
+    let block = pop(memory, mode.above)?;
+    let count = pop(memory, block.above)?;
+    let address = pop_place(memory, count.above)?;
+    let unit = pop(memory, address.above)?;
+    if u32::from(address.word) + u32::from(count.word) > 65536 {
         return Err(ExecError::InvalidMemory);
     }
     Ok(Order {
         transfer: Transfer {
-            address,
-            count,
-            block,
+            address: address.word,
+            count: count.word,
+            block: block.word,
         },
-        unit,
-        sp,
+        unit: unit.word,
+        sp: unit.above,
     })
 }
 
-// Unload a segment.
+// CSP 22. Unload a segment.
 #[tactic(auto, unfolding(crate::specs::Procedures::unkeep_row))]
 fn unkeep_row(
     memory: &mut Memory,
@@ -58,18 +69,22 @@ fn unkeep_row(
     ensures stack { All (λ row. row.length % 2 ≡ 0) rows.now → IsStack registers.old.sp registers.old.np
         → OnOk result (IsStack registers.new.sp registers.new.np) }
     ensures row { (devices : Devices) (room : Room) → Performs devices_reached room result
-        (record { memory = memory.old.words; registers = registers.old; places = frames.old.places; rows = rows.now; devices = devices })
-        (record { memory = memory.new.words; registers = registers.new; places = frames.new.places; rows = rows.now; devices = devices })
+        (reach_of memory.old.words registers.old frames.old.places rows.now devices)
+        (reach_of memory.new.words registers.new frames.new.places rows.now devices)
         (or_fails (unkeep_row
-        (record { memory = memory.old.words; registers = registers.old; places = frames.old.places; rows = rows.now; devices = devices }))) }
+        (reach_of memory.old.words registers.old frames.old.places rows.now devices))) }
     ensures refused { OnErr result ((memory.new ≡ memory.old) × (registers.new ≡ registers.old)
         × (frames.new.places ≡ frames.old.places)) }
     ensures agrees { Agrees memory.old frames.old registers.old.mp → Agrees memory.new frames.new registers.new.mp }
     ensures mp { registers.new.mp ≡ registers.old.mp }
 {
-    let (segment, sp) = pop(memory, registers.sp)?;
-    let mut inside = Registers { sp, ..*registers };
-    frames.unkeep(memory, &mut inside, segment, length_of(segment, rows))?;
+    let segment = pop(memory, registers.sp)?;
+    let mut inside = Registers {
+        sp: segment.above,
+        ..*registers
+    };
+    let n = segment.word;
+    frames.unkeep(memory, &mut inside, n, length_of(n, rows))?;
     *registers = inside;
     Ok(())
 }
@@ -94,11 +109,12 @@ impl Units {
         ensures stack { All (λ row. row.length % 2 ≡ 0) rows.now → IsStack registers.old.sp registers.old.np
             → OnOk result (IsStack registers.new.sp registers.new.np) }
         ensures row { Performs devices_reached self.old.room result
-            (record { memory = memory.old.words; registers = registers.old; places = frames.old.places; rows = rows.now; devices = self.old.devices })
-            (record { memory = memory.new.words; registers = registers.new; places = frames.new.places; rows = rows.now; devices = self.new.devices })
+            (reach_of memory.old.words registers.old frames.old.places rows.now self.old.devices)
+            (reach_of memory.new.words registers.new frames.new.places rows.now self.new.devices)
             (procedure_row (procedure_of n)
-            (record { memory = memory.old.words; registers = registers.old; places = frames.old.places; rows = rows.now; devices = self.old.devices })) }
-        ensures refused { OnErr result ((memory.new.words ≡ memory.old.words) × (registers.new ≡ registers.old) × (frames.new.places ≡ frames.old.places) × (self.new ≡ self.old)) }
+            (reach_of memory.old.words registers.old frames.old.places rows.now self.old.devices)) }
+        ensures refused { OnErr result ((memory.new.words ≡ memory.old.words) × (registers.new ≡ registers.old)
+            × (frames.new.places ≡ frames.old.places) × (self.new ≡ self.old)) }
         ensures agrees { Agrees memory.old frames.old registers.old.mp → Agrees memory.new frames.new registers.new.mp }
         ensures keeps { procedure_of n ≢ Unkeep → KeepsWatch memory.old memory.new }
         ensures mp { registers.new.mp ≡ registers.old.mp }
@@ -110,10 +126,13 @@ impl Units {
             }
             Procedure::OnUnits(procedure) => self.on_units(memory, registers, procedure),
             Procedure::Exit => {
-                let (procedure, sp) = pop(memory, registers.sp)?;
-                let (segment, sp) = pop(memory, sp)?;
-                let mut inside = Registers { sp, ..*registers };
-                frames.exit(memory, &mut inside, segment, procedure, scratch)?;
+                let procedure = pop(memory, registers.sp)?;
+                let segment = pop(memory, procedure.above)?;
+                let mut inside = Registers {
+                    sp: segment.above,
+                    ..*registers
+                };
+                frames.exit(memory, &mut inside, segment.word, procedure.word, scratch)?;
                 *registers = inside;
                 Ok(())
             }
@@ -123,7 +142,7 @@ impl Units {
         }
     }
 
-    // Load a segment.
+    // CSP 21. Load a segment.
     #[tactic(auto, unfolding(crate::specs::Procedures::keep_row), using(pm_words::proofs::WatchLaws::keeps))]
     fn keep_row(
         &self,
@@ -135,20 +154,23 @@ impl Units {
         ensures stack { All (λ row. row.length % 2 ≡ 0) rows.now → IsStack registers.old.sp registers.old.np
             → OnOk result (IsStack registers.new.sp registers.new.np) }
         ensures row { Performs devices_reached self.now.room result
-            (record { memory = memory.old.words; registers = registers.old; places = frames.old.places; rows = rows.now; devices = self.now.devices })
-            (record { memory = memory.new.words; registers = registers.new; places = frames.new.places; rows = rows.now; devices = self.now.devices })
+            (reach_of memory.old.words registers.old frames.old.places rows.now self.now.devices)
+            (reach_of memory.new.words registers.new frames.new.places rows.now self.now.devices)
             (or_fails (keep_row
-            (record { memory = memory.old.words; registers = registers.old; places = frames.old.places; rows = rows.now; devices = self.now.devices }))) }
+            (reach_of memory.old.words registers.old frames.old.places rows.now self.now.devices))) }
         ensures refused { OnErr result ((memory.new.words ≡ memory.old.words) × (registers.new ≡ registers.old)
             × (frames.new.places ≡ frames.old.places)) }
         ensures agrees { Agrees memory.old frames.old registers.old.mp → Agrees memory.new frames.new registers.new.mp }
         ensures keeps { KeepsWatch memory.old memory.new }
         ensures mp { registers.new.mp ≡ registers.old.mp }
     {
-        let (segment, sp) = pop(memory, registers.sp)?;
-        let code = slot_code(segment, frames, rows, self)?;
-        let mut inside = Registers { sp, ..*registers };
-        frames.keep(memory, &mut inside, segment, code)?;
+        let segment = pop(memory, registers.sp)?;
+        let code = slot_code(segment.word, frames, rows, self)?;
+        let mut inside = Registers {
+            sp: segment.above,
+            ..*registers
+        };
+        frames.keep(memory, &mut inside, segment.word, code)?;
         *registers = inside;
         Ok(())
     }
@@ -161,8 +183,12 @@ impl Units {
         registers: &mut Registers,
         procedure: OnUnits,
     ) -> Result<(), Trap>
-        ensures stack { IsStack registers.old.sp registers.old.np → OnOk result (IsStack registers.new.sp registers.new.np) }
-        ensures row { Performs devices_served self.old.room result (served memory.old.words registers.old self.old.devices) (served memory.new.words registers.new self.new.devices) (units_row procedure (served memory.old.words registers.old self.old.devices)) }
+        ensures stack { IsStack registers.old.sp registers.old.np → OnOk result
+            (IsStack registers.new.sp registers.new.np) }
+        ensures row { Performs devices_served self.old.room result
+            (served memory.old.words registers.old self.old.devices)
+            (served memory.new.words registers.new self.new.devices)
+            (units_row procedure (served memory.old.words registers.old self.old.devices)) }
         ensures room { OnErr result (self.new.room ≡ self.old.room) }
         ensures keeps { KeepsWatch memory.old memory.new }
         ensures mp { registers.new.mp ≡ registers.old.mp }
@@ -177,10 +203,15 @@ impl Units {
         }
     }
 
+    // UNITREAD.
     #[tactic(auto, unfolding(crate::specs::UnitRows::read_row), using(pm_words::proofs::WatchLaws::keeps))]
     fn read_row(&mut self, memory: &mut Memory, registers: &mut Registers) -> Result<(), Trap>
-        ensures stack { IsStack registers.old.sp registers.old.np → OnOk result (IsStack registers.new.sp registers.new.np) }
-        ensures row { Performs devices_served self.old.room result (served memory.old.words registers.old self.old.devices) (served memory.new.words registers.new self.new.devices) (read_row (served memory.old.words registers.old self.old.devices)) }
+        ensures stack { IsStack registers.old.sp registers.old.np → OnOk result
+            (IsStack registers.new.sp registers.new.np) }
+        ensures row { Performs devices_served self.old.room result
+            (served memory.old.words registers.old self.old.devices)
+            (served memory.new.words registers.new self.new.devices)
+            (read_row (served memory.old.words registers.old self.old.devices)) }
         ensures room { OnErr result (self.new.room ≡ self.old.room) }
         ensures keeps { KeepsWatch memory.old memory.new }
         ensures mp { registers.new.mp ≡ registers.old.mp }
@@ -191,10 +222,15 @@ impl Units {
         Ok(())
     }
 
+    // UNITWRITE.
     #[tactic(auto, unfolding(crate::specs::UnitRows::write_row), using(pm_words::proofs::WatchLaws::keeps))]
     fn write_row(&mut self, memory: &mut Memory, registers: &mut Registers) -> Result<(), Trap>
-        ensures stack { IsStack registers.old.sp registers.old.np → OnOk result (IsStack registers.new.sp registers.new.np) }
-        ensures row { Performs devices_served self.old.room result (served memory.old.words registers.old self.old.devices) (served memory.new.words registers.new self.new.devices) (write_row (served memory.old.words registers.old self.old.devices)) }
+        ensures stack { IsStack registers.old.sp registers.old.np → OnOk result
+            (IsStack registers.new.sp registers.new.np) }
+        ensures row { Performs devices_served self.old.room result
+            (served memory.old.words registers.old self.old.devices)
+            (served memory.new.words registers.new self.new.devices)
+            (write_row (served memory.old.words registers.old self.old.devices)) }
         ensures room { OnErr result (self.new.room ≡ self.old.room) }
         ensures keeps { KeepsWatch memory.old memory.new }
         ensures mp { registers.new.mp ≡ registers.old.mp }
@@ -205,65 +241,85 @@ impl Units {
         Ok(())
     }
 
+    // TIME.
     #[tactic(auto, unfolding(crate::specs::UnitRows::time_row), using(pm_words::proofs::WatchLaws::keeps))]
     fn time_row(&mut self, memory: &mut Memory, registers: &mut Registers) -> Result<(), Trap>
-        ensures stack { IsStack registers.old.sp registers.old.np → OnOk result (IsStack registers.new.sp registers.new.np) }
-        ensures row { Performs devices_served self.old.room result (served memory.old.words registers.old self.old.devices) (served memory.new.words registers.new self.new.devices) (or_fails (time_row (served memory.old.words registers.old self.old.devices))) }
+        ensures stack { IsStack registers.old.sp registers.old.np → OnOk result
+            (IsStack registers.new.sp registers.new.np) }
+        ensures row { Performs devices_served self.old.room result
+            (served memory.old.words registers.old self.old.devices)
+            (served memory.new.words registers.new self.new.devices)
+            (or_fails (time_row (served memory.old.words registers.old self.old.devices))) }
         ensures room { OnErr result (self.new.room ≡ self.old.room) }
         ensures keeps { KeepsWatch memory.old memory.new }
         ensures mp { registers.new.mp ≡ registers.old.mp }
     {
-        let (low, sp) = pop(memory, registers.sp)?;
-        let (high, sp) = pop(memory, sp)?;
-        if high % 2 != 0 || low % 2 != 0 {
+        let low = pop(memory, registers.sp)?;
+        let high = pop(memory, low.above)?;
+        if high.word % 2 != 0 || low.word % 2 != 0 {
             return Err(Trap::Exec(ExecError::InvalidMemory));
         }
-        memory.set_word(high, (self.clock / 65536) as u16);
-        memory.set_word(low, (self.clock % 65536) as u16);
-        registers.sp = sp;
+        memory.set_word(high.word, (self.clock / 65536) as u16);
+        memory.set_word(low.word, (self.clock % 65536) as u16);
+        registers.sp = high.above;
         Ok(())
     }
 
+    // UNITBUSY.
     #[tactic(auto, unfolding(crate::specs::UnitRows::busy_row), using(pm_words::proofs::WatchLaws::keeps))]
     fn busy_row(&mut self, memory: &mut Memory, registers: &mut Registers) -> Result<(), Trap>
-        ensures stack { IsStack registers.old.sp registers.old.np → OnOk result (IsStack registers.new.sp registers.new.np) }
-        ensures row { Performs devices_served self.old.room result (served memory.old.words registers.old self.old.devices) (served memory.new.words registers.new self.new.devices) (or_fails (busy_row (served memory.old.words registers.old self.old.devices))) }
+        ensures stack { IsStack registers.old.sp registers.old.np → OnOk result
+            (IsStack registers.new.sp registers.new.np) }
+        ensures row { Performs devices_served self.old.room result
+            (served memory.old.words registers.old self.old.devices)
+            (served memory.new.words registers.new self.new.devices)
+            (or_fails (busy_row (served memory.old.words registers.old self.old.devices))) }
         ensures room { OnErr result (self.new.room ≡ self.old.room) }
         ensures keeps { KeepsWatch memory.old memory.new }
         ensures mp { registers.new.mp ≡ registers.old.mp }
     {
-        let (unit, sp) = pop(memory, registers.sp)?;
-        let sp = push(memory, sp, registers.np, 0)?;
+        let unit = pop(memory, registers.sp)?;
+        let sp = push(memory, unit.above, registers.np, 0)?;
         registers.sp = sp;
-        registers.ioresult = known(unit_of(unit));
+        registers.ioresult = known(unit_of(unit.word));
         Ok(())
     }
 
+    // UNITWAIT.
     #[tactic(auto, unfolding(crate::specs::UnitRows::wait_row), using(pm_words::proofs::WatchLaws::keeps))]
     fn wait_row(&mut self, memory: &mut Memory, registers: &mut Registers) -> Result<(), Trap>
-        ensures stack { IsStack registers.old.sp registers.old.np → OnOk result (IsStack registers.new.sp registers.new.np) }
-        ensures row { Performs devices_served self.old.room result (served memory.old.words registers.old self.old.devices) (served memory.new.words registers.new self.new.devices) (or_fails (wait_row (served memory.old.words registers.old self.old.devices))) }
+        ensures stack { IsStack registers.old.sp registers.old.np → OnOk result
+            (IsStack registers.new.sp registers.new.np) }
+        ensures row { Performs devices_served self.old.room result
+            (served memory.old.words registers.old self.old.devices)
+            (served memory.new.words registers.new self.new.devices)
+            (or_fails (wait_row (served memory.old.words registers.old self.old.devices))) }
         ensures room { OnErr result (self.new.room ≡ self.old.room) }
         ensures keeps { KeepsWatch memory.old memory.new }
         ensures mp { registers.new.mp ≡ registers.old.mp }
     {
-        let (unit, sp) = pop(memory, registers.sp)?;
-        registers.sp = sp;
-        registers.ioresult = known(unit_of(unit));
+        let unit = pop(memory, registers.sp)?;
+        registers.sp = unit.above;
+        registers.ioresult = known(unit_of(unit.word));
         Ok(())
     }
 
+    // UNITCLEAR.
     #[tactic(auto, unfolding(crate::specs::UnitRows::clear_row), using(pm_words::proofs::WatchLaws::keeps))]
     fn clear_row(&mut self, memory: &mut Memory, registers: &mut Registers) -> Result<(), Trap>
-        ensures stack { IsStack registers.old.sp registers.old.np → OnOk result (IsStack registers.new.sp registers.new.np) }
-        ensures row { Performs devices_served self.old.room result (served memory.old.words registers.old self.old.devices) (served memory.new.words registers.new self.new.devices) (or_fails (clear_row (served memory.old.words registers.old self.old.devices))) }
+        ensures stack { IsStack registers.old.sp registers.old.np → OnOk result
+            (IsStack registers.new.sp registers.new.np) }
+        ensures row { Performs devices_served self.old.room result
+            (served memory.old.words registers.old self.old.devices)
+            (served memory.new.words registers.new self.new.devices)
+            (or_fails (clear_row (served memory.old.words registers.old self.old.devices))) }
         ensures room { OnErr result (self.new.room ≡ self.old.room) }
         ensures keeps { KeepsWatch memory.old memory.new }
         ensures mp { registers.new.mp ≡ registers.old.mp }
     {
-        let (unit, sp) = pop(memory, registers.sp)?;
-        registers.ioresult = self.clear(unit_of(unit));
-        registers.sp = sp;
+        let unit = pop(memory, registers.sp)?;
+        registers.ioresult = self.clear(unit_of(unit.word));
+        registers.sp = unit.above;
         Ok(())
     }
 }

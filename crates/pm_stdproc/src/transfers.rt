@@ -3,7 +3,16 @@
 ghost use Rattle.std.specs.Prelude.{◌≡◌, ◌+◌, ◌<◌, ◌≤◌, ◌++◌, drop, length, vec_capacity, vec_len, Ok, OnOk, OnErr};
 ghost use Rattle.pm_words.specs.Watch.{KeepsWatch};
 ghost use Rattle.pm_stdproc.specs.Devices.{HasPlace, cleared, image_at};
-ghost use Rattle.pm_stdproc.specs.Transfers.{Transfers, can_move, from_disk, from_queue, named_bytes, read, to_disk, written};
+ghost use Rattle.pm_stdproc.specs.Transfers.{
+  Transfers,
+  can_move,
+  from_disk,
+  from_queue,
+  named_bytes,
+  read,
+  to_disk,
+  written,
+};
 
 use crate::ports::Port;
 use crate::trap::Trap;
@@ -33,11 +42,13 @@ pub struct Order {
     pub sp: u16,
 }
 
-// Puts bytes behind others. Want of memory comes only where there is no room for them, and leaves the bytes and the room.
+// Puts bytes behind others. Want of memory comes only where there is no room for them, and leaves the bytes and the
+// room.
 pub(crate) fn append(bytes: &mut Vec<u8>, more: &[u8]) -> Result<(), AllocError>
     ensures appended { OnOk result (bytes.new.items ≡ bytes.old.items ++ more.now) }
     ensures items { OnErr result (bytes.new.items ≡ bytes.old.items) }
-    ensures room { OnErr result ((vec_capacity bytes.new ≡ vec_capacity bytes.old) × (vec_len bytes.new ≡ vec_len bytes.old)) }
+    ensures room { OnErr result ((vec_capacity bytes.new ≡ vec_capacity bytes.old)
+        × (vec_len bytes.new ≡ vec_len bytes.old)) }
     ensures full { OnErr result (vec_capacity bytes.old < vec_len bytes.old + length more.now) }
 {
     bytes.reserve(more.len())?;
@@ -85,7 +96,8 @@ impl Units {
     ) -> Result<u16, Trap>
         requires place { HasPlace unit }
         requires inside { transfer.address + transfer.count ≤ 65536 }
-        ensures read { Transfers self.old.room result memory.old.words self.old.devices memory.new.words self.new.devices (read unit transfer memory.old.words self.old.devices) }
+        ensures read { Transfers self.old.room result memory.old.words self.old.devices memory.new.words
+            self.new.devices (read unit transfer memory.old.words self.old.devices) }
         ensures room { OnErr result (self.new.room ≡ self.old.room) }
         ensures keeps { KeepsWatch memory.old memory.new }
     {
@@ -108,7 +120,8 @@ impl Units {
         echo: bool,
     ) -> Result<u16, Trap>
         requires inside { transfer.address + transfer.count ≤ 65536 }
-        ensures read { Transfers self.old.room result memory.old.words self.old.devices memory.new.words self.new.devices (from_queue echo transfer memory.old.words self.old.devices) }
+        ensures read { Transfers self.old.room result memory.old.words self.old.devices memory.new.words
+            self.new.devices (from_queue echo transfer memory.old.words self.old.devices) }
         ensures room { OnErr result (self.new.room ≡ self.old.room) }
         ensures keeps { KeepsWatch memory.old memory.new }
     {
@@ -129,7 +142,8 @@ impl Units {
     fn read_disk(&mut self, memory: &mut Memory, k: usize, transfer: Transfer) -> u16
         requires place { k < 6 }
         requires inside { transfer.address + transfer.count ≤ 65536 }
-        ensures read { Transfers self.old.room (Ok result) memory.old.words self.old.devices memory.new.words self.new.devices (Ok (from_disk (image_at self.old.devices k) transfer memory.old.words self.old.devices)) }
+        ensures read { Transfers self.old.room (Ok result) memory.old.words self.old.devices memory.new.words
+            self.new.devices (Ok (from_disk (image_at self.old.devices k) transfer memory.old.words self.old.devices)) }
         ensures keeps { KeepsWatch memory.old memory.new }
     {
         let Some(disk) = &self.disks[k] else {
@@ -157,7 +171,8 @@ impl Units {
     ) -> Result<u16, Trap>
         requires place { HasPlace unit }
         requires inside { transfer.address + transfer.count ≤ 65536 }
-        ensures written { Transfers self.old.room result memory.old.words self.old.devices memory.new.words self.new.devices (Ok (written unit transfer memory.old.words self.old.devices)) }
+        ensures written { Transfers self.old.room result memory.old.words self.old.devices memory.new.words
+            self.new.devices (Ok (written unit transfer memory.old.words self.old.devices)) }
         ensures room { OnErr result (self.new.room ≡ self.old.room) }
         ensures keeps { KeepsWatch memory.old memory.new }
     {
@@ -181,7 +196,8 @@ impl Units {
     fn write_disk(&mut self, memory: &mut Memory, k: usize, transfer: Transfer) -> u16
         requires place { k < 6 }
         requires inside { transfer.address + transfer.count ≤ 65536 }
-        ensures written { Transfers self.old.room (Ok result) memory.old.words self.old.devices memory.new.words self.new.devices (Ok (to_disk k (image_at self.old.devices k) transfer memory.old.words self.old.devices)) }
+        ensures written { Transfers self.old.room (Ok result) memory.old.words self.old.devices memory.new.words
+            self.new.devices (Ok (to_disk k (image_at self.old.devices k) transfer memory.old.words self.old.devices)) }
         ensures keeps { KeepsWatch memory.old memory.new }
     {
         let Some(disk) = &mut self.disks[k] else {

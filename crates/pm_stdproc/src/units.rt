@@ -1,6 +1,23 @@
 //! The units: disks, the console, the printer, and the clock.
 
-ghost use Rattle.std.specs.Prelude.{◌≡◌, ◌+◌, ◌++◌, [], ◌∷◌, length, replicate, None, Some, Ok, Err, IfErr, IfSome, OnOk, OnErr, option_map};
+ghost use Rattle.std.specs.Prelude.{
+  ◌≡◌,
+  ◌+◌,
+  ◌++◌,
+  [],
+  ◌∷◌,
+  length,
+  replicate,
+  None,
+  Some,
+  Ok,
+  Err,
+  IfErr,
+  IfSome,
+  OnOk,
+  OnErr,
+  option_map,
+};
 ghost use Rattle.pm_stdproc.specs.Devices.{HasPlace, code_in, code_on, ejected, ejected_image, image_on, mounted};
 
 use crate::ports::{MountFault, Port, unit_of};
@@ -60,7 +77,13 @@ fn part(image: &[u8], block: u16, count: u16) -> Option<&[u8]>
 impl Units {
     /// Units without a disk, with no input waiting and nothing written. Takes no memory.
     pub fn new(alloc: Global, clock: u32) -> Units
-        ensures empty { result.devices ≡ record { disks = replicate 6 None; queue = []; console = []; printer = []; clock = clock } }
+        ensures empty { result.devices ≡ record {
+          disks = replicate 6 None;
+          queue = [];
+          console = [];
+          printer = [];
+          clock = clock;
+        } }
     {
         Units {
             disks: [None, None, None, None, None, None],
@@ -74,7 +97,14 @@ impl Units {
     /// Units with these volumes on the disk units 4, 5, 9, 10, 11 and 12, with no input waiting and
     /// nothing written. Takes no memory.
     pub fn with_volumes(alloc: Global, volumes: [Option<Volume>; 6], clock: u32) -> Units
-        ensures mounted { result.devices ≡ record { disks = volumes; queue = []; console = []; printer = []; clock = clock } }
+        ensures mounted { result.devices ≡ record {
+          disks = volumes;
+          queue = [];
+          console = [];
+          printer = [];
+          clock =
+              clock;
+        } }
     {
         Units {
             disks: volumes.map(disk_of),
@@ -85,7 +115,8 @@ impl Units {
     /// Lets one more byte of input wait. Want of memory changes nothing, and comes only where no room
     /// is left for the byte.
     pub fn key(&mut self, byte: u8) -> Result<(), AllocError>
-        ensures waits { OnOk result (self.new.devices ≡ record self.old.devices { queue = self.old.devices.queue ++ byte ∷ [] }) }
+        ensures waits { OnOk result (self.new.devices ≡ record self.old.devices
+            { queue = self.old.devices.queue ++ byte ∷ [] }) }
         ensures refused { OnErr result (self.new ≡ self.old) }
         ensures full { OnErr result (self.old.room.queue ≡ 0) }
     {

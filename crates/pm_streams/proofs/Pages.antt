@@ -9,11 +9,13 @@ pub but_none : (old : Option (List ℕ)) → AppendsBut old old [] []
 but_none old = ([], Appends-nil old, refl)
 
 -- the page grows
-pub but_grown : (old new : Option (List ℕ)) (page shown more page' : List ℕ) → AppendsBut old new page shown → page' ≡ page ++ more → AppendsBut old new page' (shown ++ more)
+pub but_grown : (old new : Option (List ℕ)) (page shown more page' : List ℕ) → AppendsBut old new page shown → page' ≡ page ++ more →
+    AppendsBut old new page' (shown ++ more)
 but_grown old new page shown more page' b e = (b.0, b.1, ap (λ t. t ++ more) b.2 ∙ append_assoc b.0 page more ∙ ap (λ t. b.0 ++ t) (sym e))
 
 -- the front of the page is written
-pub but_turned : (old mid new : Option (List ℕ)) (page rest shown : List ℕ) → AppendsBut old mid page shown → AppendsBut mid new rest page → AppendsBut old new rest shown
+pub but_turned : (old mid new : Option (List ℕ)) (page rest shown : List ℕ) → AppendsBut old mid page shown → AppendsBut mid new rest page →
+    AppendsBut old new rest shown
 but_turned old mid new page rest shown b t =
     (b.0 ++ t.0, Appends-trans old mid new b.0 t.0 b.1 t.1, b.2 ∙ ap (λ p. b.0 ++ p) t.2 ∙ sym (append_assoc b.0 t.0 rest))
 
@@ -31,7 +33,8 @@ pub but_all : (old mid new : Option (List ℕ)) (page shown : List ℕ) → Appe
 but_all old mid new page shown b a = rw b.2 (Appends-trans old mid new b.0 page b.1 a)
 
 -- the page is written and cleared
-pub but_cleared : (old mid new : Option (List ℕ)) (page page' shown : List ℕ) → AppendsBut old mid page shown → Appends mid new page → page' ≡ [] → AppendsBut old new page' shown
+pub but_cleared : (old mid new : Option (List ℕ)) (page page' shown : List ℕ) → AppendsBut old mid page shown → Appends mid new page → page' ≡ [] →
+    AppendsBut old new page' shown
 but_cleared old mid new page page' shown b a e = rw e (shown, but_all old mid new page shown b a, sym (append-nil shown))
 
 pub front_longer : (old new : Option (List ℕ)) (text longer : List ℕ) → AppendsFront old new text → IsFront text longer → AppendsFront old new longer

@@ -1,5 +1,6 @@
 -- What several reads and writes did to known bytes.
-use Rattle.std.proofs.Common.{◌≡◌, ◌≤◌, ℕ, List, [], ◌++◌, Option, Bool, false, length, take, drop, inl, inr, refl, sym, ap, ◌∙◌, append_assoc, append-nil, arith}
+use Rattle.std.proofs.Common.{◌≡◌, ◌≤◌, ℕ, List, [], ◌++◌, Option, Bool, false, length, take, drop, inl, inr, refl, sym, ap, ◌∙◌, append_assoc, append-nil}
+use Rattle.std.proofs.Common.{arith}
 use Rattle.std.proofs.lemmas.List.{take-append-drop}
 use Rattle.std.specs.Io.KnownBytes.{Appends}
 use Rattle.std.proofs.KnownBytes.{Appends-trans, Appends-nil}
@@ -17,7 +18,8 @@ pub record Written (old new : Option (List ℕ)) (bytes rest : List ℕ) : Type 
 pub Written-none : (old : Option (List ℕ)) (bytes : List ℕ) → Written old old bytes bytes
 Written-none old bytes = record { done = []; appends = Appends-nil old; whole = refl }
 
-pub Written-more : (old mid new : Option (List ℕ)) (bytes rest : List ℕ) (n : ℕ) → Written old mid bytes rest → Appends mid new (take n rest) → Written old new bytes (drop n rest)
+pub Written-more : (old mid new : Option (List ℕ)) (bytes rest : List ℕ) (n : ℕ) → Written old mid bytes rest → Appends mid new (take n rest) →
+    Written old new bytes (drop n rest)
 Written-more old mid new bytes rest n w h = record {
   done = w.done ++ take n rest;
   appends = Appends-trans old mid new w.done (take n rest) w.appends h;
@@ -41,7 +43,8 @@ front_after a b c f = (f.0, ap (λ t. a ++ t) f.1 ∙ sym (append_assoc a b f.0)
 -- ---- causes
 
 -- what broke a job off while it read nothing
-pub cause_longer : (fault : Fault) (sink_failed : Bool) (read : List ℕ) → length read ≤ INPUT_LIMIT → IsCause fault false sink_failed [] → IsCause fault false sink_failed read
+pub cause_longer : (fault : Fault) (sink_failed : Bool) (read : List ℕ) → length read ≤ INPUT_LIMIT → IsCause fault false sink_failed [] →
+    IsCause fault false sink_failed read
 cause_longer faults.Read sink_failed read few c = elim c.1 [ inl bad ↦ cc | inr bad ↦ absurd (omega arith) ]
 cause_longer faults.Write sink_failed read few c = (c.0, refl, few)
 cause_longer faults.NoMemory sink_failed read few c = (c.0, refl, few)

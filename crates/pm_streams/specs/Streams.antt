@@ -1,5 +1,6 @@
 -- What a source gave and a sink took.
-use Rattle.std.specs.Prelude.{◌≡◌, ℕ, ◌==◌, ◌<◌, ◌≤◌, ◌⊎◌, Bool, true, false, List, [], ◌∷◌, ◌++◌, length, Option, None, Some, Result, Ok, Err}
+use Rattle.std.specs.Prelude.{◌≡◌, ℕ, ◌==◌, ◌<◌, ◌≤◌, ◌⊎◌, Bool, true, false, List, [], ◌∷◌, ◌++◌, length, Option, None}
+use Rattle.std.specs.Prelude.{Some, Result, Ok, Err}
 use Rattle.std.specs.Io.KnownBytes.{Appends, Consumes, IsAtEnd, Keeps}
 use Rattle.pm_streams.specs.declared.fault.Fault.{Fault}
 use Rattle.pm_streams.specs.declared.fault.Fault.TheVariants as faults
@@ -31,8 +32,12 @@ abbrev pub ReadsByte : Option (List ℕ) → Option (List ℕ) → Option ℕ �
 ReadsByte old new None = Keeps old new × IsAtEnd new
 ReadsByte old new (Some byte) = Consumes old new (byte ∷ [])
 
--- why a job is broken off when it has read these bytes: a read failed or they are too many; a write failed; there was no memory
+-- why a job is broken off when it has read these bytes: a read failed or they are too many; a write failed; there was
+-- no memory
 abbrev pub IsCause : Fault → Bool → Bool → List ℕ → Type 0
-IsCause faults.Read source_failed sink_failed read = (sink_failed ≡ false) × ((source_failed ≡ true) ⊎ (INPUT_LIMIT < length read))
-IsCause faults.Write source_failed sink_failed read = (sink_failed ≡ true) × (source_failed ≡ false) × (length read ≤ INPUT_LIMIT)
-IsCause faults.NoMemory source_failed sink_failed read = (sink_failed ≡ false) × (source_failed ≡ false) × (length read ≤ INPUT_LIMIT)
+IsCause faults.Read source_failed sink_failed read = (sink_failed ≡ false) ×
+    ((source_failed ≡ true) ⊎ (INPUT_LIMIT < length read))
+IsCause faults.Write source_failed sink_failed read = (sink_failed ≡ true) × (source_failed ≡ false) ×
+    (length read ≤ INPUT_LIMIT)
+IsCause faults.NoMemory source_failed sink_failed read = (sink_failed ≡ false) × (source_failed ≡ false) ×
+    (length read ≤ INPUT_LIMIT)

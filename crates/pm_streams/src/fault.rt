@@ -1,5 +1,5 @@
 //! Why a job is broken off.
-ghost use Rattle.std.specs.Prelude.{◌≡◌, ◌≤◌, length};
+ghost use Rattle.std.specs.Prelude.{◌≡◌};
 ghost use Rattle.pm_streams.specs.Faults.{fault_text};
 
 use std::alloc::AllocError;
@@ -15,14 +15,10 @@ pub enum Fault {
     NoMemory,
 }
 
-/// The bytes in which the message of a fault has room.
-pub const MESSAGE_ROOM: usize = 64;
-
 impl Fault {
     /// Its message: `read fault`, `write fault` or `no memory`.
     pub fn text(self) -> &'static str
         ensures value { result.now ≡ fault_text self }
-        ensures short { length result.now ≤ MESSAGE_ROOM }
     {
         match self {
             Fault::Read => "read fault",

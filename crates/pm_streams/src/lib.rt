@@ -7,7 +7,7 @@ mod nothing;
 mod sink;
 mod source;
 
-pub use fault::{Fault, MESSAGE_ROOM};
+pub use fault::Fault;
 pub use nothing::Nothing;
 pub use sink::{Output, Sink, Writer, write_all};
 pub use source::{INPUT_LIMIT, Input, Reader, Source, read_all, read_byte};

@@ -92,8 +92,8 @@ impl<W: Output> Sink for Writer<W> {
     }
 }
 
-/// Writes all of `bytes`, by as many writes as it takes. The sink may not have failed before. `Write` where a write fails or takes no
-/// byte: a front of the bytes is written then.
+/// Writes all of `bytes`, by as many writes as it takes. The sink may not have failed before. `Write` where a write
+/// fails or takes no byte: a front of the bytes is written then.
 pub fn write_all<W: Sink>(sink: &mut W, bytes: &[u8]) -> Result<(), Fault>
     requires well { W.has_failed sink.old ≡ false }
     ensures all { OnOk result (Appends (W.contents sink.old) (W.contents sink.new) bytes.now) }

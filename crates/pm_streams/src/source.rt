@@ -16,7 +16,8 @@ pub trait Source {
     /// A read has answered an error.
     ghost has_failed: { Self → Bool };
 
-    /// Reads some bytes into the front of `buf` and answers how many: none only at the end, or where `buf` is empty. An error reads nothing.
+    /// Reads some bytes into the front of `buf` and answers how many: none only at the end, or where `buf` is empty. An
+    /// error reads nothing.
     fn read(&mut self, buf: &mut [u8]) -> io::Result<usize>
         ensures bound { ReadsAtMost result buf.new }
         ensures bytes { ReadConsumes (remaining self.old) (remaining self.new) result buf.new }
@@ -96,13 +97,14 @@ impl<R: Input> Source for Reader<R> {
 /// The most bytes of input that a job reads. One more is a read fault.
 pub const INPUT_LIMIT: usize = 16_777_216;
 
-/// Reads all that is left. The source may not have failed before. `Read` where a read fails, or more than `INPUT_LIMIT` bytes come;
-/// `NoMemory` where memory is refused. What was read by then is lost.
+/// Reads all that is left. The source may not have failed before. `Read` where a read fails, or more than `INPUT_LIMIT`
+/// bytes come; `NoMemory` where memory is refused. What was read by then is lost.
 pub fn read_all<R: Source>(alloc: Global, source: &mut R) -> Result<Vec<u8>, Fault>
     requires well { R.has_failed source.old ≡ false }
     ensures all { IfOk result (λ input. ReadsAll (R.remaining source.old) (R.remaining source.new) input.items) }
     ensures well { OnOk result (R.has_failed source.new ≡ false) }
-    ensures cause { IfErr result (λ fault. (read : List ℕ) × Consumes (R.remaining source.old) (R.remaining source.new) read
+    ensures cause { IfErr result (λ fault. (read : List ℕ)
+        × Consumes (R.remaining source.old) (R.remaining source.new) read
         × IsCause fault (R.has_failed source.new) false read) }
 {
     let mut input = Vec::new(alloc);
@@ -122,7 +124,8 @@ pub fn read_all<R: Source>(alloc: Global, source: &mut R) -> Result<Vec<u8>, Fau
     Ok(input)
 }
 
-/// Reads one byte, if one is left. The source may not have failed before. `Read` where the read fails, and then no byte is taken.
+/// Reads one byte, if one is left. The source may not have failed before. `Read` where the read fails, and then no byte
+/// is taken.
 pub fn read_byte<R: Source>(source: &mut R) -> Result<Option<u8>, Fault>
     requires well { R.has_failed source.old ≡ false }
     ensures byte { IfOk result (λ byte. ReadsByte (R.remaining source.old) (R.remaining source.new) byte) }

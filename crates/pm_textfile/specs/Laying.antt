@@ -1,4 +1,5 @@
--- How a writer lays lines on pages, one after the other. What the file of a text is says `Writing`; that this is one says `encode`.
+-- How a writer lays lines on pages, one after the other. What the file of a text is says `Writing`; that this is one
+-- says `encode`.
 use Rattle.std.specs.Prelude.{ℕ, ◌-◌, List, [], ◌∷◌, ◌++◌, length, replicate, nat_le, if◌then◌else◌}
 use Rattle.pm_textfile.specs.Writing.{Line, coded, lines_of}
 

@@ -4,7 +4,8 @@ use Rattle.pm_textfile.specs.declared.decoding.Place.{Place}
 use Rattle.pm_textfile.specs.declared.decoding.Place.TheVariants.{LineStart, Indentation, Line}
 
 -- The text of the bytes that follow a place.
---   At a line's start a zero is skipped, 13 is an empty line, 16 begins an indentation, and any other byte begins the line.
+--   At a line's start a zero is skipped, 13 is an empty line, 16 begins an indentation, and any other byte begins the
+--   line.
 --   Behind such a 16 the next byte, whatever it is, gives as many spaces as it is above 32, and the line has begun.
 --   Within a line a zero is skipped, 13 ends the line, and any other byte is plain, 16 too.
 --   A line that has begun and is not ended, also by a last 16, gets its end.

@@ -1,5 +1,7 @@
--- The text file of a text: a header of 1,024 zeros, then pages of 1,024 bytes, each of whole lines and filled with zeros.
-use Rattle.std.specs.Prelude.{◌≡◌, ◌==◌, ◌&&◌, ◌<◌, ◌≤◌, Bool, not, nat_lt, IsTrue, ℕ, ◌+◌, ◌-◌, List, [], ◌∷◌, ◌++◌, drop, length, replicate, take, Option, Some, None, true, if◌then◌else◌}
+-- The text file of a text: a header of 1,024 zeros, then pages of 1,024 bytes, each of whole lines and filled with
+-- zeros.
+use Rattle.std.specs.Prelude.{◌≡◌, ◌==◌, ◌&&◌, ◌<◌, ◌≤◌, Bool, not, nat_lt, IsTrue, ℕ, ◌+◌, ◌-◌, List, [], ◌∷◌, ◌++◌}
+use Rattle.std.specs.Prelude.{drop, length, replicate, take, Option, Some, None, true, if◌then◌else◌}
 use Rattle.std.specs.List.{AllByRecursion, flat_map, list_all, prefix_len}
 use Rattle.pm_textfile.specs.declared.fault.TextFault.{TextFault}
 use Rattle.pm_textfile.specs.declared.fault.TextFault.TheVariants.{BadByte, LineTooLong}
@@ -58,8 +60,8 @@ page_lines page = flat_map coded page
 abbrev pub page_bytes : Page → List ℕ
 page_bytes page = page_lines page ++ replicate (1024 - length (page_lines page)) 0
 
--- Pages one after the other, so many bytes being left on the page before: the first line of each does not fit there, so each
--- has one, and all its lines fit on it.
+-- Pages one after the other, so many bytes being left on the page before: the first line of each does not fit there, so
+-- each has one, and all its lines fit on it.
 unfoldable pub AreTight : ℕ → List Page → Type 0
 AreTight room [] = Unit {0}
 AreTight room (page ∷ pages) =
@@ -74,8 +76,8 @@ pub record Writes (text bytes : List ℕ) : Type 0 where
   pub tight : AreTight 0 pages
   pub layout : bytes ≡ replicate 1024 0 ++ flat_map page_bytes pages
 
--- The fault of a line that begins at a place of the text and has a number: its first byte that is not plain; or else it does
--- not fit on a page in its form.
+-- The fault of a line that begins at a place of the text and has a number: its first byte that is not plain; or else it
+-- does not fit on a page in its form.
 unfoldable pub line_fault : ℕ → ℕ → Line → Option TextFault
 line_fault place number line =
     if nat_lt (prefix_len is_plain line) (length line) then Some (BadByte (place + prefix_len is_plain line))
@@ -101,7 +103,8 @@ pub record IsSound (line : Line) : Type 0 where
   pub plain : list_all is_plain line ≡ true
   pub fits : length (coded line) ≤ 1024
 
--- The fault is that of the first line that cannot stand in a file, which begins behind those before it and their line feeds.
+-- The fault is that of the first line that cannot stand in a file, which begins behind those before it and their line
+-- feeds.
 pub record IsFirstFault (text : List ℕ) (fault : TextFault) : Type 0 where
   pub before : List Line
   pub line : Line

@@ -164,7 +164,8 @@ impl Pages {
     fn add_line(&mut self, line: &[u8]) -> Result<(), AllocError>
         requires fits { length (coded line.now) ≤ 1024 }
         ensures laid { OnOk result ((lines : List Line) →
-            self.new.bytes.items ++ laid self.new.room lines ≡ self.old.bytes.items ++ laid self.old.room (line.now ∷ lines)) }
+            self.new.bytes.items ++ laid self.new.room lines ≡ self.old.bytes.items
+            ++ laid self.old.room (line.now ∷ lines)) }
     {
         let length = coded_length(line);
         if length > self.room {

@@ -12,7 +12,7 @@ use Rattle.pm_streams.specs.declared.fault.Fault.{Fault}
 use Rattle.pm_tool.specs.declared.outcome.Outcome.{Outcome}
 use Rattle.pm_tool.specs.declared.outcome.Refusal.TheVariants as refusals
 use Rattle.pm_tool.specs.Files.{said_filed, said_files, said_new, said_repaired, takes_input, with_input}
-use Rattle.pm_tool.specs.Outcomes.{Said, exit_number, refused, IsOutcome}
+use Rattle.pm_tool.specs.Outcomes.{Said, refused, IsOutcome}
 use Rattle.pm_tool.specs.Said.{IsBrokenOff, IsDone, IsSound, Tells}
 use Rattle.pm_streams.specs.Streams.{AppendsFront, IsCause, IsFront, ReadsAll}
 use Rattle.pm_tool.proofs.Kept.{broken_writing, done_whole}
@@ -28,11 +28,11 @@ keeps_all had input e = rw e refl
 -- nothing was read, and then all was written
 pub done_unread : (had held holds : Option (List ℕ)) (outcome : Outcome) (text : List ℕ → Said)
     → ((input : List ℕ) → Appends held holds (text input).written × IsOutcome outcome (text input) × ((text input).unread ≡ input))
-    → IsSound outcome.status → IsDone had had held holds outcome text
+    → IsSound outcome.exit → IsDone had had held holds outcome text
 done_unread had held holds outcome text all sound = record {
   tells = tells had;
   few = ([], consumes_none had, omega arith);
-  status = sound;
+  exit = sound;
 }
   where
     tells : (had' : Option (List ℕ)) → IfSome had' (λ input. Tells had' held holds outcome (text input))
@@ -65,9 +65,9 @@ broken_unread had held holds fault source_failed sink_failed text written same f
 
 -- ---- commands
 
-filed_exit : (r : Result Filed FilerFault) (unread : List ℕ) → IsSound (exit_number (said_filed r unread).exit)
-filed_exit (Ok f) unread = (λ e. absurd (omega arith), λ e. absurd (omega arith))
-filed_exit (Err fault) unread = (λ e. absurd (omega arith), λ e. absurd (omega arith))
+filed_exit : (r : Result Filed FilerFault) (unread : List ℕ) → IsSound (said_filed r unread).exit
+filed_exit (Ok f) unread = refl
+filed_exit (Err fault) unread = refl
 
 filed_unread : (r : Result Filed FilerFault) (unread : List ℕ) → (said_filed r unread).unread ≡ unread
 filed_unread (Ok f) unread = refl
@@ -102,7 +102,7 @@ module _ (image : List ℕ) (order : Order) (had held : Option (List ℕ)) where
       → IsDone had had held held outcome (said_files image order)
   refused_image fault e outcome out = done_unread had held held outcome (said_files image order)
       (λ input. rw e (Appends-nil held, out input, refl))
-      (subst IsSound (sym (out []).status) (λ k. absurd (omega arith), λ k. absurd (omega arith)))
+      (subst IsSound (sym (out []).exit) refl)
 
   module _ (opened : image_fault image ≡ None) where
     said_unread : takes_input order ≡ false → (input : List ℕ) → said_files image order input ≡ said_filed (filed image order) input
@@ -115,7 +115,7 @@ module _ (image : List ℕ) (order : Order) (had held : Option (List ℕ)) where
         → ((unread : List ℕ) → IsOutcome outcome (said_filed (filed image order) unread)) → IsDone had had held holds outcome (said_files image order)
     unread_done none holds outcome writes out = done_unread had held holds outcome (said_files image order)
         (λ input. rw (said_unread none input) (rw (filed_written (filed image order) input) writes, out input, filed_unread (filed image order) input))
-        (subst IsSound (sym (out []).status) (filed_exit (filed image order) []))
+        (subst IsSound (sym (out []).exit) (filed_exit (filed image order) []))
 
     pub unread_broken : takes_input order ≡ false → (holds : Option (List ℕ)) (fault : Fault) (source_failed sink_failed : Bool) → AppendsFront held holds (said_filed (filed image order) []).written
         → source_failed ≡ false → IsCause fault false sink_failed [] → IsBrokenOff had had held holds fault source_failed sink_failed (said_files image order)
@@ -130,7 +130,7 @@ module _ (image : List ℕ) (order : Order) (had held : Option (List ℕ)) where
           let told = sym (said_read some input) in
           done_whole had left input reads (said_files image order) held holds outcome (subst (λ s. Appends held holds s.written) told writes) (subst (IsOutcome outcome) told (out []))
           (ap (λ s. s.unread) (said_read some input) ∙ filed_unread (filed image (with_input order input)) [])
-          (subst IsSound (sym (out []).status) (filed_exit (filed image (with_input order input)) []))
+          (subst IsSound (sym (out []).exit) (filed_exit (filed image (with_input order input)) []))
 
       pub read_broken : (holds : Option (List ℕ)) (fault : Fault) (source_failed sink_failed : Bool) → AppendsFront held holds (said_filed (filed image (with_input order input)) []).written
           → source_failed ≡ false → IsCause fault false sink_failed [] → IsBrokenOff had left held holds fault source_failed sink_failed (said_files image order)
@@ -149,7 +149,7 @@ pub new_refused : (o : Option VolumeFault) (name : List ℕ) (blocks : ℕ) (fau
 new_refused o name blocks fault e outcome out input = rw e (out input)
 
 pub new_done : (name : List ℕ) (blocks : ℕ) (had held : Option (List ℕ)) (outcome : Outcome)
-    → ((input : List ℕ) → IsOutcome outcome (said_new (blank_fault name blocks) name blocks input)) → IsSound outcome.status
+    → ((input : List ℕ) → IsOutcome outcome (said_new (blank_fault name blocks) name blocks input)) → IsSound outcome.exit
     → IsDone had had held held outcome (said_new (blank_fault name blocks) name blocks)
 new_done name blocks had held outcome out sound = done_unread had held held outcome _ (λ input. (told (blank_fault name blocks) input, out input, left (blank_fault name blocks) input)) sound
   where
@@ -173,7 +173,7 @@ module _ (r : Result (List ℕ) VolumeFault) where
   repair_refused fault e outcome out input = rw e (out input)
 
 pub repair_done : (r : Result (List ℕ) VolumeFault) (had held : Option (List ℕ)) (outcome : Outcome)
-    → ((input : List ℕ) → IsOutcome outcome (said_repaired r input)) → IsSound outcome.status → IsDone had had held held outcome (said_repaired r)
+    → ((input : List ℕ) → IsOutcome outcome (said_repaired r input)) → IsSound outcome.exit → IsDone had had held held outcome (said_repaired r)
 repair_done r had held outcome out sound = done_unread had held held outcome (said_repaired r) (λ input. (told r input, out input, left r input)) sound
   where
     told : (o : Result (List ℕ) VolumeFault) (input : List ℕ) → Appends held held (said_repaired o input).written

@@ -49,14 +49,14 @@ module _ (had left : Option (List ℕ)) (input : List ℕ) (reads : ReadsAll had
   text_all rest e = ap text (ap (λ r. input ++ r) (no_rest rest e) ∙ append-nil input)
 
   -- all was read, and then all was written
-  pub done_whole : (held holds : Option (List ℕ)) (outcome : Outcome) → Appends held holds (text input).written → IsOutcome outcome (text input) → (text input).unread ≡ [] → IsSound outcome.status
+  pub done_whole : (held holds : Option (List ℕ)) (outcome : Outcome) → Appends held holds (text input).written → IsOutcome outcome (text input) → (text input).unread ≡ [] → IsSound outcome.exit
       → IsDone had left held holds outcome text
   done_whole held holds outcome writes comes_to none sound = record {
     tells = tells_known had left held holds input reads.0 outcome text (λ rest e.
         subst (Tells left held holds outcome) (sym (text_all rest e))
         (record { written = writes; comes_to = comes_to; unread = rw none (subst (Keeps (Some [])) (sym e) (no_rest rest e)) }));
     few = (input, reads.0, reads.2);
-    status = sound;
+    exit = sound;
   }
 
   -- all was read, and then a front was written
@@ -96,7 +96,7 @@ module _ (had left : Option (List ℕ)) (input : List ℕ) (reads : ReadsAll had
   raw_refused refusal loads held outcome out =
       let said = ap (λ start. said_started Trace limit start []) loads in
       done_whole had left input reads (text_of limit) held held outcome (subst (λ s. Appends held held s.written) said (Appends-nil held)) (subst (IsOutcome outcome) said (out []))
-      (ap (λ s. s.unread) (sym said)) (subst IsSound (sym (out []).status) (λ e. absurd (omega arith), λ e. absurd (omega arith)))
+      (ap (λ s. s.unread) (sym said)) (subst IsSound (sym (out []).exit) refl)
 
   module _ (machine : State) (loads : Ok machine ≡ loaded (spelled input)) (nothing held holds : Option (List ℕ)) where
     pub raw_done : (outcome : Outcome) → IsDone (Some []) nothing held holds outcome (λ keys. said_run Trace (run_of Trace limit keys machine))
@@ -105,7 +105,7 @@ module _ (had left : Option (List ℕ)) (input : List ℕ) (reads : ReadsAll had
         let said = ap (λ start. said_started Trace limit start []) loads in
         done_whole had left input reads (text_of limit) held holds outcome (subst (λ s. Appends held holds s.written) said d.tells.written)
         (subst (IsOutcome outcome) said d.tells.comes_to)
-        (ap (λ s. s.unread) (sym said) ∙ nothing_left nothing d.few.0 _ d.few.1 d.tells.unread) d.status
+        (ap (λ s. s.unread) (sym said) ∙ nothing_left nothing d.few.0 _ d.few.1 d.tells.unread) d.exit
 
     pub raw_broken : (fault : Fault) (source_failed sink_failed : Bool) → source_failed ≡ false
         → IsBrokenOff (Some []) nothing held holds fault false sink_failed (λ keys. said_run Trace (run_of Trace limit keys machine))

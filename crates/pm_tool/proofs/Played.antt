@@ -10,7 +10,7 @@ use Rattle.pm_tool.specs.declared.outcome.Outcome.{Outcome}
 use Rattle.pm_tool.specs.declared.outcome.Refusal.{Refusal}
 use Rattle.pm_tool.specs.declared.steps.Show.{Show}
 use Rattle.pm_tool.specs.declared.steps.Show.TheVariants.{Trace, Console}
-use Rattle.pm_tool.specs.Outcomes.{Said, exit_number, exit_of, refused, IsOutcome}
+use Rattle.pm_tool.specs.Outcomes.{Said, exit_of, refused, IsOutcome}
 use Rattle.pm_tool.specs.Run.{Run, end_text, ends, run_of, IsOver, IsBroken}
 use Rattle.pm_tool.specs.Said.{said_run, said_started, shown_started, IsSound, IsDone, IsBrokenOff, WritesFirst}
 use Rattle.pm_streams.specs.Streams.{IsFront, AppendsFront, IsCause}
@@ -31,11 +31,11 @@ said_exit : (show : Show) (run : Run) → (said_run show run).exit ≡ exit_of r
 said_exit Trace run = refl
 said_exit (Console save) run = refl
 
-sound_ending : (ending : Ending) → IsSound (exit_number (exit_of ending))
-sound_ending endings.Ended = (λ e. absurd (omega arith), λ e. absurd (omega arith))
-sound_ending (endings.Error error) = (λ e. absurd (omega arith), λ e. absurd (omega arith))
-sound_ending endings.Limit = (λ e. absurd (omega arith), λ e. absurd (omega arith))
-sound_ending endings.Waiting = (λ e. absurd (omega arith), λ e. absurd (omega arith))
+sound_ending : (ending : Ending) → IsSound (exit_of ending)
+sound_ending endings.Ended = refl
+sound_ending (endings.Error error) = refl
+sound_ending endings.Limit = refl
+sound_ending endings.Waiting = refl
 
 abbrev text_of : Show → ℕ → State → List ℕ → Said
 text_of show limit began input = said_run show (run_of show limit input began)
@@ -67,7 +67,7 @@ module _ (had left held holds : Option (List ℕ)) (page : List ℕ) (show : Sho
                 unread = rw (ap (λ s. s.unread) (said_over rest w) ∙ said_unread show (ends o.shown ending m rest)) (subst (Keeps (Some rest)) (sym e) refl);
               });
           few = (o.read, o.reads, o.few);
-          status = subst IsSound (sym ((out [] []).status ∙ ap exit_number (said_exit show (ends [] ending m [])))) (sound_ending ending);
+          exit = subst IsSound (sym ((out [] []).exit ∙ said_exit show (ends [] ending m []))) (sound_ending ending);
         }
 
     -- the end was not told whole
@@ -131,4 +131,4 @@ pub started_refused : (had held : Option (List ℕ)) (show : Show) (limit : ℕ)
 started_refused had held show limit start refusal outcome e out =
     subst (λ s. IsDone had had held held outcome (said_started show limit s)) e
     (done_unread had held held outcome (said_started show limit (Err refusal)) (λ input. (Appends-nil held, out input, refl))
-    (subst IsSound (sym (out []).status) (λ k. absurd (omega arith), λ k. absurd (omega arith))))
+    (subst IsSound (sym (out []).exit) refl))

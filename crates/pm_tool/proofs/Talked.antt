@@ -230,7 +230,7 @@ done_told had left held holds began machine outcome o b out = record {
         unread = rw (told_unread machine (o.read ++ rest), ap (λ t. t.unread) here) (subst (Keeps (Some rest)) (sym e) refl);
       });
   few = (o.read, o.reads, o.few);
-  status = subst IsSound (sym (out [] []).status) (λ k. absurd (omega arith), λ k. absurd (omega arith));
+  exit = subst IsSound (sym (out [] []).exit) refl;
 }
 
 pub cut_told : (had left held holds : Option (List ℕ)) (began : Session) (machine : State) (fault : Fault) (source_failed sink_failed : Bool)
@@ -282,4 +282,4 @@ pub debug_refused : (had held : Option (List ℕ)) (start : Result State Refusal
 debug_refused had held start refusal outcome e out =
     subst (λ s. IsDone had had held held outcome (said_debug s)) e
     (done_unread had held held outcome (said_debug (Err refusal)) (λ input. (Appends-nil held, out input, refl))
-    (subst IsSound (sym (out []).status) (λ k. absurd (omega arith), λ k. absurd (omega arith))))
+    (subst IsSound (sym (out []).exit) refl))

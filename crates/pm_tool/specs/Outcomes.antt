@@ -1,5 +1,5 @@
 -- What jobs come to, in numbers and words.
-use Rattle.std.specs.Prelude.{◌≡◌, ℕ, List, [], ◌∷◌, ◌++◌, Option, None, Some, codes, vec_items, option_map, string_bytes}
+use Rattle.std.specs.Prelude.{◌≡◌, ℕ, Bool, true, false, List, [], ◌∷◌, ◌++◌, Option, None, Some, codes, vec_items, option_map, string_bytes}
 use Rattle.std.specs.Fmt.{decimal}
 use Rattle.pm_words.specs.Errors.{number_of}
 use Rattle.pm_machine.specs.Faults.{boot_number}
@@ -7,14 +7,18 @@ use Rattle.pm_machine.specs.declared.state.BootFault.{BootFault}
 use Rattle.pm_machine.specs.declared.state.BootFault.TheVariants as boot
 use Rattle.pm_volume.specs.Faults.{detail_of, number_of as volume_number}
 use Rattle.pm_volume.specs.declared.fault.VolumeFault.{VolumeFault}
+use Rattle.pm_volume.specs.declared.fault.VolumeFault.TheVariants as volume
 use Rattle.pm_textfile.specs.Faults.{place_of, number_of as text_number}
 use Rattle.pm_textfile.specs.declared.fault.TextFault.{TextFault}
+use Rattle.pm_textfile.specs.declared.fault.TextFault.TheVariants as texts
 use Rattle.pm_codefile.specs.Faults.{slot_of, number_of as code_number}
 use Rattle.pm_codefile.specs.declared.fault.CodeFault.{CodeFault}
 use Rattle.pm_source.specs.FaultNumbers.{number_of as asm_number, place_of as asm_place}
 use Rattle.pm_source.specs.declared.fault.AsmFault.{AsmFault}
+use Rattle.pm_source.specs.declared.fault.AsmFault.TheVariants as asm
 use Rattle.pm_filer.specs.declared.fault.FilerFault.{FilerFault}
 use Rattle.pm_filer.specs.declared.fault.FilerFault.TheVariants as filer
+use Rattle.pm_streams.specs.Faults.{fault_text}
 use Rattle.pm_streams.specs.declared.fault.Fault.{Fault}
 use Rattle.pm_streams.specs.declared.fault.Fault.TheVariants as faults
 use Rattle.pm_tool.specs.declared.outcome.Exit.{Exit}
@@ -31,9 +35,31 @@ exit_number exits.Ended = 0
 exit_number exits.Usage = 1
 exit_number exits.Refused = 2
 exit_number exits.ExecutionError = 3
-exit_number exits.StreamFault = 4
+exit_number exits.ReadFault = 4
+exit_number exits.WriteFault = 4
 exit_number exits.NoMemory = 5
 exit_number exits.Stopped = 6
+
+-- it came to an end of its own: neither a fault of a stream nor want of memory
+abbrev pub is_sound : Exit → Bool
+is_sound exits.Ended = true
+is_sound exits.Usage = true
+is_sound exits.Refused = true
+is_sound exits.ExecutionError = true
+is_sound exits.ReadFault = false
+is_sound exits.WriteFault = false
+is_sound exits.NoMemory = false
+is_sound exits.Stopped = true
+
+abbrev pub is_refusal : Exit → Bool
+is_refusal exits.Ended = false
+is_refusal exits.Usage = false
+is_refusal exits.Refused = true
+is_refusal exits.ExecutionError = false
+is_refusal exits.ReadFault = false
+is_refusal exits.WriteFault = false
+is_refusal exits.NoMemory = false
+is_refusal exits.Stopped = false
 
 -- how a job ends whose run ends so
 abbrev pub exit_of : Ending → Exit
@@ -43,8 +69,8 @@ exit_of endings.Limit = exits.Stopped
 exit_of endings.Waiting = exits.Stopped
 
 abbrev pub fault_exit : Fault → Exit
-fault_exit faults.Read = exits.StreamFault
-fault_exit faults.Write = exits.StreamFault
+fault_exit faults.Read = exits.ReadFault
+fault_exit faults.Write = exits.WriteFault
 fault_exit faults.NoMemory = exits.NoMemory
 
 -- a space and the number of the execution error, where a start fails by one
@@ -91,6 +117,82 @@ refusal_text (refusals.Asm fault) = codes "refused asm " ++ asm_text fault
 refusal_text (refusals.Filer fault) = codes "refused filer " ++ filer_text fault
 refusal_text (refusals.Boot fault) = codes "refused boot " ++ (decimal (boot_number fault) ++ error_text fault)
 
+-- a fault that stands for want of memory, which is no refusal
+abbrev pub is_boot_want : BootFault → Bool
+is_boot_want boot.NoFile = false
+is_boot_want boot.NotCode = false
+is_boot_want boot.BadCode = false
+is_boot_want (boot.Exec error) = false
+is_boot_want boot.NoMemory = true
+
+abbrev pub is_volume_want : VolumeFault → Bool
+is_volume_want volume.NotBlocks = false
+is_volume_want volume.TooShort = false
+is_volume_want volume.BadHeader = false
+is_volume_want (volume.BadEntry x) = false
+is_volume_want volume.TooManyFiles = false
+is_volume_want volume.PastEnd = false
+is_volume_want volume.NoRoom = false
+is_volume_want volume.DirectoryFull = false
+is_volume_want volume.Duplicate = false
+is_volume_want volume.BadName = false
+is_volume_want volume.NoFile = false
+is_volume_want volume.NoMemory = true
+is_volume_want (volume.FirstCopyBad x) = false
+is_volume_want volume.Occupied = false
+
+abbrev pub is_text_want : TextFault → Bool
+is_text_want texts.NoHeader = false
+is_text_want texts.NoMemory = true
+is_text_want (texts.LineTooLong x) = false
+is_text_want (texts.BadByte x) = false
+
+abbrev pub is_filer_want : FilerFault → Bool
+is_filer_want (filer.Volume fault) = is_volume_want fault
+is_filer_want (filer.Text fault) = is_text_want fault
+is_filer_want filer.BadDate = false
+is_filer_want filer.NoMemory = true
+
+abbrev pub is_asm_want : AsmFault → Bool
+is_asm_want (asm.Syntax x) = false
+is_asm_want (asm.Unknown x) = false
+is_asm_want (asm.Range x) = false
+is_asm_want (asm.NoLabel x) = false
+is_asm_want (asm.Twice x) = false
+is_asm_want (asm.Far x) = false
+is_asm_want (asm.TooLong x) = false
+is_asm_want asm.NoMemory = true
+
+abbrev pub is_want : Refusal → Bool
+is_want refusals.Hex = false
+is_want (refusals.Volume fault) = is_volume_want fault
+is_want (refusals.Code fault) = false
+is_want (refusals.Asm fault) = is_asm_want fault
+is_want (refusals.Filer fault) = is_filer_want fault
+is_want (refusals.Boot fault) = is_boot_want fault
+
+-- what is said of an end: the text of a fault, or else the message
+abbrev pub text_at : Exit → List ℕ → List ℕ
+text_at exits.Ended message = message
+text_at exits.Usage message = message
+text_at exits.Refused message = message
+text_at exits.ExecutionError message = message
+text_at exits.ReadFault message = fault_text faults.Read
+text_at exits.WriteFault message = fault_text faults.Write
+text_at exits.NoMemory message = fault_text faults.NoMemory
+text_at exits.Stopped message = message
+
+abbrev pub outcome_text : Outcome → List ℕ
+outcome_text outcome = text_at outcome.exit (string_bytes outcome.message)
+
+-- a refusal names its fault, which is not want of memory, and the message is its text; no other end names one
+abbrev pub Names : Exit → Option Refusal → List ℕ → Type 0
+Names exit None message = is_refusal exit ≡ false
+Names exit (Some refusal) message = (exit ≡ exits.Refused) × (message ≡ refusal_text refusal) × (is_want refusal ≡ false)
+
+abbrev pub SaysWhy : Outcome → Type 0
+SaysWhy outcome = Names outcome.exit outcome.refusal (string_bytes outcome.message)
+
 -- what a job says to its input: what it writes, how it ends, its message, image and printer bytes, and what of the input is left unread
 pub record Said : Type 0 where
   pub written : List ℕ
@@ -110,7 +212,7 @@ wrote bytes = record { written = bytes; exit = exits.Ended; message = []; image 
 
 -- the outcome is what is said
 pub record IsOutcome (outcome : Outcome) (told : Said) : Type 0 where
-  pub status : outcome.status ≡ exit_number told.exit
+  pub exit : outcome.exit ≡ told.exit
   pub message : string_bytes outcome.message ≡ told.message
   pub image : option_map vec_items outcome.image ≡ told.image
   pub printer : outcome.printer.items ≡ told.printer

@@ -1,10 +1,11 @@
 -- What a job says to its input, and how a job keeps to it.
-use Rattle.std.specs.Prelude.{◌≡◌, ◌≢◌, ◌⊎◌, ◌↔◌, true, ◌≤◌, ℕ, ◌<◌, List, [], ◌++◌, Option, Some, None, Result, Ok, Err, length, Bool, if◌then◌else◌, IfSome, string_bytes}
+use Rattle.std.specs.Prelude.{◌≡◌, ◌⊎◌, ◌↔◌, true, false, ◌≤◌, ℕ, ◌<◌, List, [], ◌++◌, Option, Some, None, Result, Ok, Err, length, Bool, if◌then◌else◌, IfSome, string_bytes}
 use Rattle.std.specs.Io.KnownBytes.{Consumes, Appends, Keeps}
 use Rattle.pm_machine.specs.State.{State}
 use Rattle.pm_machine.specs.Start.{raw_start}
 use Rattle.pm_stdproc.specs.Devices.{ejected_image}
 use Rattle.pm_streams.specs.declared.fault.Fault.{Fault}
+use Rattle.pm_tool.specs.declared.outcome.Exit.{Exit}
 use Rattle.pm_tool.specs.declared.outcome.Exit.TheVariants as exits
 use Rattle.pm_tool.specs.declared.outcome.Job.{Job}
 use Rattle.pm_tool.specs.declared.outcome.Job.TheVariants as jobs
@@ -19,7 +20,7 @@ use Rattle.pm_tool.specs.Code.{said_dis}
 use Rattle.pm_tool.specs.Disks.{booted, images_of, started}
 use Rattle.pm_tool.specs.Files.{said_files, said_new, said_repair}
 use Rattle.pm_tool.specs.Hex.{spelled}
-use Rattle.pm_tool.specs.Outcomes.{Said, exit_number, exit_of, refused, IsOutcome}
+use Rattle.pm_tool.specs.Outcomes.{Said, exit_of, is_sound, refused, IsOutcome}
 use Rattle.pm_tool.specs.declared.steps.Show.{Show}
 use Rattle.pm_tool.specs.declared.steps.Show.TheVariants.{Trace, Console}
 use Rattle.pm_tool.specs.Run.{Run, end_text, last_line, run_of}
@@ -101,23 +102,25 @@ pub record IsCut (had left held holds : Option (List ℕ)) (text : List ℕ → 
   pub whole : IfSome left (λ rest. IsFront front (text (read ++ rest)).written)
 
 -- neither a fault of a stream nor want of memory
-abbrev pub IsSound : ℕ → Type 0
-IsSound status = (status ≢ exit_number exits.StreamFault) × (status ≢ exit_number exits.NoMemory)
+abbrev pub IsSound : Exit → Type 0
+IsSound exit = is_sound exit ≡ true
 
 -- a fault of a stream, or want of memory
-abbrev pub IsCutShort : ℕ → Type 0
-IsCutShort status = (status ≡ exit_number exits.StreamFault) ⊎ (status ≡ exit_number exits.NoMemory)
+abbrev pub IsCutShort : Exit → Type 0
+IsCutShort exit = is_sound exit ≡ false
 
--- a fault of a stream is answered exactly where a source or a sink has failed or too many bytes were read
-abbrev pub FailsExactly : Option (List ℕ) → Option (List ℕ) → Bool → Bool → ℕ → Type 0
-FailsExactly had left source_failed sink_failed status = (read : List ℕ) × Consumes had left read
-    × (status ≡ exit_number exits.StreamFault ↔ (source_failed ≡ true) ⊎ (sink_failed ≡ true) ⊎ (INPUT_LIMIT < length read))
+-- A read fault is answered exactly where a source has failed or too many bytes were read, and a write fault exactly where
+-- a sink has failed.
+abbrev pub FailsExactly : Option (List ℕ) → Option (List ℕ) → Bool → Bool → Exit → Type 0
+FailsExactly had left source_failed sink_failed exit = (read : List ℕ) × Consumes had left read
+    × (exit ≡ exits.ReadFault ↔ (source_failed ≡ true) ⊎ (INPUT_LIMIT < length read))
+    × (exit ≡ exits.WriteFault ↔ sink_failed ≡ true)
 
 -- what holds of a job that comes to its end
 pub record IsDone (had left held holds : Option (List ℕ)) (outcome : Outcome) (text : List ℕ → Said) : Type 0 where
   pub tells : IfSome had (λ input. Tells left held holds outcome (text input))
   pub few : (read : List ℕ) × Consumes had left read × (length read ≤ INPUT_LIMIT)
-  pub status : IsSound outcome.status
+  pub exit : IsSound outcome.exit
 
 -- what holds of a job that is broken off
 pub record IsBrokenOff (had left held holds : Option (List ℕ)) (fault : Fault) (source_failed sink_failed : Bool) (text : List ℕ → Said) : Type 0 where

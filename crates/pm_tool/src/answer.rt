@@ -131,7 +131,11 @@ fn key(debugger: &mut Debugger, byte: u8) -> Result<(), AllocError>
 
 /// Does a command, and gives its answer without a line feed.
 #[tactic(auto, unfolding(crate::specs::Answers::command_text, crate::specs::Answers::after_command))]
-fn perform(alloc: Global, debugger: &mut Debugger, command: Command) -> Result<String, AllocError>
+fn do_command(
+    alloc: Global,
+    debugger: &mut Debugger,
+    command: Command,
+) -> Result<String, AllocError>
     ensures text { IfOk result (λ text. string_bytes text ≡ command_text command (session_of debugger.old)) }
     ensures session { OnOk result ((session_of debugger.new) ≡ after_command command (session_of debugger.old)) }
 {
@@ -175,7 +179,7 @@ pub(crate) fn answer(
     ensures session { OnOk result ((session_of debugger.new) ≡ after_line command (session_of debugger.old)) }
 {
     let mut text = match command {
-        Some(command) => perform(alloc, debugger, command)?,
+        Some(command) => do_command(alloc, debugger, command)?,
         None => format!(in alloc; "?")?,
     };
     text.push_str("\n")?;

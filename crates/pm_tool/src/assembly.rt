@@ -2,9 +2,10 @@
 ghost use Rattle.std.specs.Prelude.{◌≡◌, false, Ok, Err, IfOk, IfErr, OnOk, string_bytes};
 ghost use Rattle.pm_asm.specs.Assembled.{assembled};
 ghost use Rattle.pm_tool.specs.Assembly.{character_of, said_asm, text_of, wanted};
+ghost use Rattle.pm_tool.specs.Outcomes.{SaysWhy};
 ghost use Rattle.pm_tool.specs.Said.{IsBrokenOff, IsDone};
 
-use crate::outcome::{Exit, Outcome, Refusal, refuse};
+use crate::outcome::{Exit, Outcome, Refusal, refuse_line};
 use pm_asm::{AsmFault, Assembly};
 use pm_streams::{Fault, Sink, Source, read_all, write_all};
 use std::alloc::{AllocError, Global};
@@ -42,6 +43,18 @@ fn wanted(alloc: Global, input: &[u8], list: bool) -> Result<Result<Vec<u8>, Asm
     }
 }
 
+/// The line of the text that a fault names, if it names one and there is memory for it.
+fn line_of(alloc: Global, input: &[u8], fault: AsmFault) -> Option<String> {
+    let number = match fault {
+        AsmFault::TooLong(_) => return None,
+        fault => fault.place()?,
+    };
+    let line = input
+        .split(|byte| *byte == b'\n')
+        .nth(number.checked_sub(1)?)?;
+    text_of(alloc, line).ok()
+}
+
 /// Writes the code file of the text that the input is, or with `list` its listing.
 pub(crate) fn assemble<R: Source, W: Sink>(
     alloc: Global,
@@ -56,11 +69,15 @@ pub(crate) fn assemble<R: Source, W: Sink>(
     ensures well { OnOk result ((R.has_failed source.new ≡ false) × (W.has_failed sink.new ≡ false)) }
     ensures broken { IfErr result (λ fault. IsBrokenOff (R.remaining source.old) (R.remaining source.new)
         (W.contents sink.old) (W.contents sink.new) fault (R.has_failed source.new) (W.has_failed sink.new) (said_asm list)) }
+    ensures told { IfOk result SaysWhy }
 {
     let input = read_all(alloc, source)?;
     let bytes = match wanted(alloc, &input, list)? {
         Ok(bytes) => bytes,
-        Err(fault) => return Ok(refuse(alloc, Refusal::Asm(fault))?),
+        Err(fault) => {
+            let line = line_of(alloc, &input, fault);
+            return Ok(refuse_line(alloc, Refusal::Asm(fault), line)?);
+        }
     };
     write_all(sink, &bytes)?;
     Ok(Outcome::plain(alloc, Exit::Ended, String::new(alloc)))

@@ -1,6 +1,7 @@
 //! The job on a code file.
 ghost use Rattle.std.specs.Prelude.{◌≡◌, false, IfOk, IfErr, OnOk};
 ghost use Rattle.pm_tool.specs.Code.{said_dis};
+ghost use Rattle.pm_tool.specs.Outcomes.{SaysWhy};
 ghost use Rattle.pm_tool.specs.Said.{IsBrokenOff, IsDone};
 
 use crate::outcome::{Exit, Outcome, Refusal, refuse};
@@ -21,6 +22,7 @@ pub(crate) fn disassemble<R: Source, W: Sink>(
     ensures well { OnOk result ((R.has_failed source.new ≡ false) × (W.has_failed sink.new ≡ false)) }
     ensures broken { IfErr result (λ fault. IsBrokenOff (R.remaining source.old) (R.remaining source.new)
         (W.contents sink.old) (W.contents sink.new) fault (R.has_failed source.new) (W.has_failed sink.new) said_dis) }
+    ensures told { IfOk result SaysWhy }
 {
     let input = read_all(alloc, source)?;
     let file = match CodeFile::read(&input) {

@@ -5,6 +5,7 @@ ghost use Rattle.pm_debug.specs.Session.{session_of};
 ghost use Rattle.pm_commands.specs.Commands.{command_of};
 ghost use Rattle.pm_tool.specs.Answers.{after_line};
 ghost use Rattle.pm_tool.specs.Disks.{booted, images_of};
+ghost use Rattle.pm_tool.specs.Outcomes.{SaysWhy};
 ghost use Rattle.pm_tool.specs.Said.{IsBrokenOff, IsDone, WritesFirst};
 ghost use Rattle.pm_tool.specs.Sessions.{answer, debugged, is_quit, said_debug};
 ghost use Rattle.pm_streams.specs.Streams.{AppendsFront, IsCause};
@@ -105,6 +106,7 @@ fn session<R: Source, W: Sink>(
         (W.contents sink.old) (W.contents sink.new) fault (R.has_failed source.new) (W.has_failed sink.new) (debugged machine.state)) }
     ensures prompt { OnErr result (R.has_failed source.new ≡ true → WritesFirst (R.remaining source.old) (R.remaining source.new)
         (W.contents sink.old) (W.contents sink.new) (λ read. (debugged machine.state (whole_lines read)).written)) }
+    ensures told { IfOk result SaysWhy }
 {
     let mut debugger = Debugger::new(machine);
     talk(alloc, source, sink, &mut debugger)?;
@@ -128,6 +130,7 @@ pub(crate) fn debug<R: Source, W: Sink>(
         (W.contents sink.old) (W.contents sink.new) fault (R.has_failed source.new) (W.has_failed sink.new) (said_debug (booted (images_of disks) name.now))) }
     ensures prompt { OnErr result (R.has_failed source.new ≡ true → WritesFirst (R.remaining source.old) (R.remaining source.new)
         (W.contents sink.old) (W.contents sink.new) (λ read. (said_debug (booted (images_of disks) name.now) (whole_lines read)).written)) }
+    ensures told { IfOk result SaysWhy }
 {
     let machine = match boot(alloc, disks, name)? {
         Ok(machine) => machine,

@@ -1,6 +1,6 @@
 //! How runs end, in a line.
-ghost use Rattle.std.specs.Prelude.{◌≡◌, Some};
-ghost use Rattle.pm_tool.specs.Outcomes.{exit_of};
+ghost use Rattle.std.specs.Prelude.{◌≡◌, false, Some};
+ghost use Rattle.pm_tool.specs.Outcomes.{exit_of, is_refusal};
 ghost use Rattle.pm_tool.specs.Run.{last_line};
 
 use crate::outcome::Exit;
@@ -19,6 +19,7 @@ pub(crate) enum Ending {
 impl Ending {
     pub(crate) fn exit(self) -> Exit
         ensures value { result ≡ exit_of self }
+        ensures ran { is_refusal result ≡ false }
     {
         match self {
             Ending::Ended => Exit::Ended,

@@ -1,10 +1,8 @@
 //! Jobs, from the bytes that are read to the bytes that are written.
-ghost use Rattle.std.specs.Prelude.{◌≡◌, ◌≢◌, ◌≤◌, ◌⊎◌, ◌↔◌, false, true, [], List, ℕ, None, IfOk, IfErr, OnOk, OnErr, IfSome, string_bytes, string_len, codes, if◌then◌else◌};
-ghost use Rattle.std.specs.String.{string_capacity};
+ghost use Rattle.std.specs.Prelude.{◌≡◌, ◌↔◌, false, true, [], List, ℕ, None, IfOk, IfErr, OnOk, OnErr, IfSome, codes};
 ghost use Rattle.pm_tool.specs.Disks.{state_in};
 ghost use Rattle.pm_tool.specs.Hex.{spelled};
-ghost use Rattle.pm_streams.specs.Faults.{fault_text};
-ghost use Rattle.pm_tool.specs.Outcomes.{exit_number, fault_exit};
+ghost use Rattle.pm_tool.specs.Outcomes.{SaysWhy, fault_exit, outcome_text};
 ghost use Rattle.pm_tool.specs.Said.{loaded, said, said_started, IsSound, IsCutShort, IsDone, IsBrokenOff, Tells, IsCut, IsPrompt, FailsExactly};
 
 use crate::assembly::assemble;
@@ -16,7 +14,7 @@ use crate::outcome::{Exit, Job, Outcome, Refusal, refuse};
 use crate::programs::{play, program};
 use crate::steps::Show;
 use pm_machine::{BootFault, Machine};
-use pm_streams::{Fault, MESSAGE_ROOM, Nothing, Sink, Source, read_all};
+use pm_streams::{Fault, Nothing, Sink, Source, read_all};
 use std::alloc::{AllocError, Global};
 
 /// The machine at its start on the program that the text spells, or why there is none.
@@ -44,6 +42,7 @@ fn raw<R: Source, W: Sink>(
     requires sink_well { W.has_failed sink.old ≡ false }
     ensures done { IfOk result (λ outcome. IsDone (R.remaining source.old) (R.remaining source.new)
         (W.contents sink.old) (W.contents sink.new) outcome (λ input. said_started Show.Trace limit (loaded (spelled input)) [])) }
+    ensures told { IfOk result SaysWhy }
     ensures well { OnOk result ((R.has_failed source.new ≡ false) × (W.has_failed sink.new ≡ false)) }
     ensures broken { IfErr result (λ fault. IsBrokenOff (R.remaining source.old) (R.remaining source.new)
         (W.contents sink.old) (W.contents sink.new) fault (R.has_failed source.new) (W.has_failed sink.new) (λ input. said_started Show.Trace limit (loaded (spelled input)) [])) }
@@ -58,7 +57,7 @@ fn raw<R: Source, W: Sink>(
 }
 
 /// Does the job, unless it is broken off.
-fn perform<R: Source, W: Sink>(
+fn do_job<R: Source, W: Sink>(
     alloc: Global,
     source: &mut R,
     sink: &mut W,
@@ -68,6 +67,7 @@ fn perform<R: Source, W: Sink>(
     requires sink_well { W.has_failed sink.old ≡ false }
     ensures done { IfOk result (λ outcome. IsDone (R.remaining source.old) (R.remaining source.new)
         (W.contents sink.old) (W.contents sink.new) outcome (said job)) }
+    ensures told { IfOk result SaysWhy }
     ensures well { OnOk result ((R.has_failed source.new ≡ false) × (W.has_failed sink.new ≡ false)) }
     ensures broken { IfErr result (λ fault. IsBrokenOff (R.remaining source.old) (R.remaining source.new)
         (W.contents sink.old) (W.contents sink.new) fault (R.has_failed source.new) (W.has_failed sink.new) (said job)) }
@@ -110,34 +110,29 @@ fn perform<R: Source, W: Sink>(
     }
 }
 
-/// The outcome of a job that was broken off. The message has its room already.
-fn broken_off(alloc: Global, fault: Fault, mut message: String) -> Outcome
-    requires empty { string_bytes message ≡ [] }
-    requires empty_len { string_len message ≡ 0 }
-    requires room { MESSAGE_ROOM ≤ string_capacity message }
-    ensures status { result.status ≡ exit_number (fault_exit fault) }
-    ensures message { string_bytes result.message ≡ fault_text fault }
+/// The outcome of a job that was broken off. It takes no memory.
+fn broken_off(alloc: Global, fault: Fault) -> Outcome
+    ensures exit { result.exit ≡ fault_exit fault }
     ensures image { result.image ≡ None }
     ensures printer { result.printer.items ≡ [] }
+    ensures told { SaysWhy result }
 {
-    let _ = message.push_str(fault.text());
-    Outcome::plain(alloc, Exit::of_fault(fault), message)
+    Outcome::plain(alloc, Exit::of_fault(fault), String::new(alloc))
 }
 
 /// Does a job: reads its input, writes its output, and answers what it comes to.
 ///
-/// Neither stream may have failed before. An input of more than `INPUT_LIMIT` bytes is a read fault. Room for the message
-/// of a fault is taken first: where that is refused, the message at want of memory is empty.
+/// Neither stream may have failed before. An input of more than `INPUT_LIMIT` bytes is a read fault.
 pub fn run<R: Source, W: Sink>(alloc: Global, source: &mut R, sink: &mut W, job: Job) -> Outcome
     requires source_well { R.has_failed source.old ≡ false }
     requires sink_well { W.has_failed sink.old ≡ false }
 
     // What is written, answered and left unread is exactly what is said to the input.
-    ensures exact { IsSound result.status → IfSome (R.remaining source.old)
+    ensures exact { IsSound result.exit → IfSome (R.remaining source.old)
         (λ input. Tells (R.remaining source.new) (W.contents sink.old) (W.contents sink.new) result (said job input)) }
 
     // After a fault of a stream or want of memory, what was written is a front of that.
-    ensures cut { IsCutShort result.status →
+    ensures cut { IsCutShort result.exit →
         IsCut (R.remaining source.old) (R.remaining source.new) (W.contents sink.old) (W.contents sink.new) (said job) }
 
     // Where a read failed, all that the program had shown by then was written, and every whole line of a session was answered: output
@@ -145,19 +140,18 @@ pub fn run<R: Source, W: Sink>(alloc: Global, source: &mut R, sink: &mut W, job:
     ensures prompt { R.has_failed source.new ≡ true →
         IsPrompt job (R.remaining source.old) (R.remaining source.new) (W.contents sink.old) (W.contents sink.new) }
 
-    // A fault of a stream is answered exactly where a read or a write failed or the input is too long.
-    ensures fails { FailsExactly (R.remaining source.old) (R.remaining source.new) (R.has_failed source.new) (W.has_failed sink.new) result.status }
-    ensures fault { result.status ≡ exit_number Exit.StreamFault →
-        string_bytes result.message ≡ (if W.has_failed sink.new then codes "write fault" else codes "read fault") }
-    ensures memory { result.status ≡ exit_number Exit.NoMemory →
-        (string_bytes result.message ≡ codes "no memory") ⊎ (string_bytes result.message ≡ []) }
-    ensures nothing_else { IsCutShort result.status → (result.image ≡ None) × (result.printer.items ≡ []) }
+    // A fault of a stream is answered exactly where a read or a write failed or the input is too long, and the text says which.
+    ensures fails { FailsExactly (R.remaining source.old) (R.remaining source.new) (R.has_failed source.new) (W.has_failed sink.new) result.exit }
+    ensures fault { result.exit ≡ Exit.ReadFault → outcome_text result ≡ codes "read fault" }
+    ensures write { result.exit ≡ Exit.WriteFault → outcome_text result ≡ codes "write fault" }
+    ensures memory { result.exit ≡ Exit.NoMemory → outcome_text result ≡ codes "no memory" }
+    ensures nothing_else { IsCutShort result.exit → (result.image ≡ None) × (result.printer.items ≡ []) }
+
+    // A refusal names its fault, which is never want of memory, and the message is its text; nothing else names one.
+    ensures told { SaysWhy result }
 {
-    let Ok(room) = String::with_capacity(alloc, MESSAGE_ROOM) else {
-        return Outcome::plain(alloc, Exit::NoMemory, String::new(alloc));
-    };
-    match perform(alloc, source, sink, job) {
+    match do_job(alloc, source, sink, job) {
         Ok(outcome) => outcome,
-        Err(fault) => broken_off(alloc, fault, room),
+        Err(fault) => broken_off(alloc, fault),
     }
 }

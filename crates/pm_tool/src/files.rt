@@ -4,7 +4,7 @@ ghost use Rattle.std.specs.Io.KnownBytes.{Appends};
 ghost use Rattle.pm_filer.specs.Filed.{answer_of, filed, order_of};
 ghost use Rattle.pm_volume.specs.Headers.{blank_fault};
 ghost use Rattle.pm_tool.specs.Files.{said_new, answer_bytes, said_filed, said_files, said_order, said_repair, takes_input, with_input};
-ghost use Rattle.pm_tool.specs.Outcomes.{IsOutcome};
+ghost use Rattle.pm_tool.specs.Outcomes.{IsOutcome, SaysWhy};
 ghost use Rattle.pm_tool.specs.Said.{IsBrokenOff, IsDone, IsSound};
 ghost use Rattle.pm_streams.specs.Streams.{AppendsFront, IsCause};
 
@@ -45,6 +45,7 @@ fn answer<W: Sink>(
     ensures well { OnOk result (W.has_failed sink.new ≡ false) }
     ensures front { OnErr result (AppendsFront (W.contents sink.old) (W.contents sink.new) (answer_bytes (answer_of reply))) }
     ensures cause { IfErr result (λ fault. IsCause fault false (W.has_failed sink.new) []) }
+    ensures told { IfOk result SaysWhy }
 {
     match reply {
         Reply::Lines(text) => write_all(sink, text.as_bytes())?,
@@ -67,6 +68,7 @@ fn file<W: Sink>(
     ensures well { OnOk result (W.has_failed sink.new ≡ false) }
     ensures front { OnErr result (AppendsFront (W.contents sink.old) (W.contents sink.new) (said_filed (filed volume (order_of command)) []).written) }
     ensures cause { IfErr result (λ fault. IsCause fault false (W.has_failed sink.new) []) }
+    ensures told { IfOk result SaysWhy }
 {
     match apply(alloc, &mut volume, command) {
         Ok(reply) => Ok(answer(alloc, sink, volume, reply)?),
@@ -90,6 +92,7 @@ pub(crate) fn files<R: Source, W: Sink>(
     ensures well { OnOk result ((R.has_failed source.new ≡ false) × (W.has_failed sink.new ≡ false)) }
     ensures broken { IfErr result (λ fault. IsBrokenOff (R.remaining source.old) (R.remaining source.new)
         (W.contents sink.old) (W.contents sink.new) fault (R.has_failed source.new) (W.has_failed sink.new) (said_files image.items (order_of command))) }
+    ensures told { IfOk result SaysWhy }
 {
     let volume = match Volume::open(image) {
         Ok(volume) => volume,
@@ -107,7 +110,8 @@ pub(crate) fn files<R: Source, W: Sink>(
 /// A new volume without files.
 pub(crate) fn new_volume(alloc: Global, name: &str, blocks: u16) -> Result<Outcome, AllocError>
     ensures outcome { IfOk result (λ outcome. (input : List ℕ) → IsOutcome outcome (said_new (blank_fault name.now blocks) name.now blocks input)) }
-    ensures sound { IfOk result (λ outcome. IsSound outcome.status) }
+    ensures sound { IfOk result (λ outcome. IsSound outcome.exit) }
+    ensures told { IfOk result SaysWhy }
 {
     match Volume::blank(alloc, name, blocks) {
         Ok(volume) => Ok(Outcome::keeping(alloc, volume.into_bytes())),
@@ -119,7 +123,8 @@ pub(crate) fn new_volume(alloc: Global, name: &str, blocks: u16) -> Result<Outco
 /// An image as a volume, its first copy repaired where it alone is damaged.
 pub(crate) fn repair_volume(alloc: Global, image: Vec<u8>) -> Result<Outcome, AllocError>
     ensures outcome { IfOk result (λ outcome. (input : List ℕ) → IsOutcome outcome (said_repair image.items input)) }
-    ensures sound { IfOk result (λ outcome. IsSound outcome.status) }
+    ensures sound { IfOk result (λ outcome. IsSound outcome.exit) }
+    ensures told { IfOk result SaysWhy }
 {
     match Volume::repair(image) {
         Ok(repaired) => Ok(Outcome::keeping(alloc, repaired.into_bytes())),

@@ -12,8 +12,10 @@ mod hex;
 pub mod laws;
 mod outcome;
 mod programs;
+mod reason;
 mod steps;
 
 pub use engine::run;
-pub use outcome::{Exit, Job, Outcome};
+pub use outcome::{Exit, Job, Outcome, Refusal};
 pub use pm_streams::{Reader, Sink, Source, Writer};
+pub use reason::Reason;

@@ -1,6 +1,6 @@
 //! Jobs, and what they come to.
 ghost use Rattle.std.specs.Prelude.{◌≡◌, [], List, ℕ, Some, None, IfOk, option_map, string_bytes, vec_items};
-ghost use Rattle.pm_tool.specs.Outcomes.{asm_text, code_text, exit_number, fault_exit, refusal_text, text_fault_text, volume_text, IsOutcome, refused};
+ghost use Rattle.pm_tool.specs.Outcomes.{asm_text, code_text, exit_number, fault_exit, is_want, outcome_text, refusal_text, text_fault_text, volume_text, IsOutcome, SaysWhy, refused};
 
 use pm_asm::AsmFault;
 use pm_codefile::CodeFault;
@@ -89,8 +89,10 @@ pub enum Exit {
     Refused,
     /// The program stopped at an execution error.
     ExecutionError,
-    /// A read or a write failed, or the input was too long.
-    StreamFault,
+    /// A read failed, or the input was too long.
+    ReadFault,
+    /// A write failed.
+    WriteFault,
     /// Memory was wanted and refused.
     NoMemory,
     /// The program came to the limit of its steps, or waited with no input left.
@@ -107,18 +109,19 @@ impl Exit {
             Exit::Usage => 1,
             Exit::Refused => 2,
             Exit::ExecutionError => 3,
-            Exit::StreamFault => 4,
+            Exit::ReadFault | Exit::WriteFault => 4,
             Exit::NoMemory => 5,
             Exit::Stopped => 6,
         }
     }
 
     /// How a job ends that was broken off.
-    pub(crate) fn of_fault(fault: Fault) -> Exit
+    pub fn of_fault(fault: Fault) -> Exit
         ensures value { result ≡ fault_exit fault }
     {
         match fault {
-            Fault::Read | Fault::Write => Exit::StreamFault,
+            Fault::Read => Exit::ReadFault,
+            Fault::Write => Exit::WriteFault,
             Fault::NoMemory => Exit::NoMemory,
         }
     }
@@ -127,53 +130,73 @@ impl Exit {
 /// What a job comes to, beside what it wrote.
 #[derive(Drop)]
 pub struct Outcome {
-    /// The number of an `Exit`.
-    pub status: u8,
-    /// What is said of it, with no line feed at the end. It may be empty.
+    pub exit: Exit,
+    /// What is said of it, with no line feed at the end. It may be empty, and is so after a fault: `text` has what is said
+    /// then.
     pub message: String,
     /// The image of a volume to be kept, if there is one.
     pub image: Option<Vec<u8>>,
     /// The bytes that were printed.
     pub printer: Vec<u8>,
+    /// Why the input was refused, if it was.
+    pub refusal: Option<Refusal>,
+    /// The line of the assembler's text that the refusal names, if it names one and there was memory for its text.
+    pub line: Option<String>,
 }
 
 impl Outcome {
     /// An outcome with no image and no printer bytes.
     pub(crate) fn plain(alloc: Global, exit: Exit, message: String) -> Outcome
-        ensures status { result.status ≡ exit_number exit }
+        ensures exit { result.exit ≡ exit }
         ensures message { result.message ≡ message }
         ensures image { result.image ≡ None }
         ensures printer { result.printer.items ≡ [] }
+        ensures refusal { result.refusal ≡ None }
     {
         Outcome {
-            status: exit.number(),
+            exit,
             message,
             image: None,
             printer: Vec::new(alloc),
+            refusal: None,
+            line: None,
         }
     }
-}
 
-impl Outcome {
     /// An outcome that keeps an image, with no message and no printer bytes.
     pub(crate) fn keeping(alloc: Global, image: Vec<u8>) -> Outcome
-        ensures status { result.status ≡ exit_number Exit.Ended }
+        ensures exit { result.exit ≡ Exit.Ended }
         ensures message { string_bytes result.message ≡ [] }
         ensures image { option_map vec_items result.image ≡ Some image.items }
         ensures printer { result.printer.items ≡ [] }
+        ensures refusal { result.refusal ≡ None }
     {
         Outcome {
-            status: Exit::Ended.number(),
+            exit: Exit::Ended,
             message: String::new(alloc),
             image: Some(image),
             printer: Vec::new(alloc),
+            refusal: None,
+            line: None,
+        }
+    }
+
+    /// What is said of it, with no line feed at the end: its message, or the text of a fault, which takes no memory.
+    pub fn text(&self) -> &str
+        ensures value { result.now ≡ outcome_text self.now }
+    {
+        match self.exit {
+            Exit::ReadFault => Fault::Read.text(),
+            Exit::WriteFault => Fault::Write.text(),
+            Exit::NoMemory => Fault::NoMemory.text(),
+            _ => self.message.as_str(),
         }
     }
 }
 
 /// Why an input is refused.
 #[derive(Clone, Copy, Debug, PartialEq, Eq)]
-pub(crate) enum Refusal {
+pub enum Refusal {
     /// It is not pairs of hexadecimal digits and white space.
     Hex,
     /// The machine does not start on it.
@@ -186,6 +209,23 @@ pub(crate) enum Refusal {
     Code(CodeFault),
     /// It is a text that spells no program, or one with a segment that is too long.
     Asm(AsmFault),
+}
+
+impl Refusal {
+    /// Whether it stands for want of memory, which is no refusal.
+    fn is_want(self) -> bool
+        ensures value { result ≡ is_want self }
+    {
+        match self {
+            Refusal::Boot(BootFault::NoMemory) => true,
+            Refusal::Volume(VolumeFault::NoMemory) => true,
+            Refusal::Filer(FilerFault::NoMemory) => true,
+            Refusal::Filer(FilerFault::Volume(VolumeFault::NoMemory)) => true,
+            Refusal::Filer(FilerFault::Text(TextFault::NoMemory)) => true,
+            Refusal::Asm(AsmFault::NoMemory) => true,
+            _ => false,
+        }
+    }
 }
 
 /// The number of a volume's fault, and the entry or the first copy's fault that it names.
@@ -294,10 +334,33 @@ impl fmt::Display for Refusal {
     }
 }
 
+/// Refuses the input for what stands in a line of it, if that is known: nothing is written.
+pub(crate) fn refuse_line(
+    alloc: Global,
+    refusal: Refusal,
+    line: Option<String>,
+) -> Result<Outcome, AllocError>
+    ensures outcome { IfOk result (λ outcome. (unread : List ℕ) → IsOutcome outcome (refused refusal unread)) }
+    ensures told { IfOk result SaysWhy }
+{
+    if refusal.is_want() {
+        return Err(AllocError);
+    }
+    let message = format!(in alloc; "{refusal}")?;
+    Ok(Outcome {
+        exit: Exit::Refused,
+        message,
+        image: None,
+        printer: Vec::new(alloc),
+        refusal: Some(refusal),
+        line,
+    })
+}
+
 /// Refuses the input: nothing is written.
 pub(crate) fn refuse(alloc: Global, refusal: Refusal) -> Result<Outcome, AllocError>
     ensures outcome { IfOk result (λ outcome. (unread : List ℕ) → IsOutcome outcome (refused refusal unread)) }
+    ensures told { IfOk result SaysWhy }
 {
-    let message = format!(in alloc; "{refusal}")?;
-    Ok(Outcome::plain(alloc, Exit::Refused, message))
+    refuse_line(alloc, refusal, None)
 }

@@ -2,7 +2,7 @@
 ghost use Rattle.std.specs.Prelude.{◌≡◌, false, true, [], ◌++◌, List, ℕ, Some, None, IfOk, IfErr, OnOk, OnErr, option_map, vec_items};
 ghost use Rattle.pm_tool.specs.Disks.{booted, state_in, disk_fault, first_fault, images_of};
 ghost use Rattle.std.specs.Io.KnownBytes.{Appends};
-ghost use Rattle.pm_tool.specs.Outcomes.{IsOutcome};
+ghost use Rattle.pm_tool.specs.Outcomes.{IsOutcome, SaysWhy};
 ghost use Rattle.pm_tool.specs.Run.{end_text, ends, run_of};
 ghost use Rattle.pm_tool.specs.Said.{IsBrokenOff, IsDone, WritesFirst, said_run, said_started, shown_started};
 ghost use Rattle.pm_streams.specs.Streams.{AppendsFront, IsCause};
@@ -30,6 +30,7 @@ fn tell<W: Sink>(
     ensures well { OnOk result (W.has_failed sink.new ≡ false) }
     ensures front { OnErr result (AppendsFront (W.contents sink.old) (W.contents sink.new) (page.items ++ end_text show ending machine.old.state.steps)) }
     ensures cause { IfErr result (λ fault. IsCause fault false (W.has_failed sink.new) []) }
+    ensures told { IfOk result SaysWhy }
 {
     let last = LastLine {
         ending,
@@ -52,10 +53,12 @@ fn tell<W: Sink>(
                 None
             };
             Ok(Outcome {
-                status: ending.exit().number(),
+                exit: ending.exit(),
                 message,
                 image,
                 printer,
+                refusal: None,
+                line: None,
             })
         }
     }
@@ -79,6 +82,7 @@ pub(crate) fn play<R: Source, W: Sink>(
         (W.contents sink.old) (W.contents sink.new) fault (R.has_failed source.new) (W.has_failed sink.new) (λ input. said_run show (run_of show limit input machine.state))) }
     ensures prompt { OnErr result (R.has_failed source.new ≡ true → WritesFirst (R.remaining source.old) (R.remaining source.new)
         (W.contents sink.old) (W.contents sink.new) (λ input. (run_of show limit input machine.state).shown)) }
+    ensures told { IfOk result SaysWhy }
 {
     let mut page = Vec::new(alloc);
     let ending = drive(alloc, source, sink, &mut machine, show, limit, &mut page)?;
@@ -154,6 +158,7 @@ pub(crate) fn program<R: Source, W: Sink>(
         (W.contents sink.old) (W.contents sink.new) fault (R.has_failed source.new) (W.has_failed sink.new) (said_started show limit (booted (images_of disks) name.now))) }
     ensures prompt { OnErr result (R.has_failed source.new ≡ true → WritesFirst (R.remaining source.old) (R.remaining source.new)
         (W.contents sink.old) (W.contents sink.new) (shown_started show limit (booted (images_of disks) name.now))) }
+    ensures told { IfOk result SaysWhy }
 {
     let machine = match boot(alloc, disks, name)? {
         Ok(machine) => machine,

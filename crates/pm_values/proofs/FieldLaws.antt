@@ -8,7 +8,8 @@ use Rattle.std.proofs.lemmas.Nat.{div-mul-add, mod-mul-add, pow-add, pow_pos}
 use Rattle.pm_values.specs.Laws.{OtherBitsStay, StoredIsLoaded}
 use Rattle.pm_values.specs.Fields.{field_of, with_field}
 
-replaced-below : (place size above w v : ℕ) → 0 < place → 0 < size → above * (size * place) ≡ 65536 → w < 65536 → (w - (w / place) % size * place) + (v % size) * place < 65536
+replaced-below : (place size above w v : ℕ) → 0 < place → 0 < size → above * (size * place) ≡ 65536 → w < 65536
+    → (w - (w / place) % size * place) + (v % size) * place < 65536
 replaced-below place size above w v p s whole fit =
     let q = w / place in
     let h = q / size in
@@ -56,7 +57,8 @@ unfolding field_of
 stored_is_loaded w r k v =
     let low : w % 2 ^ r < 2 ^ r = mod-lt w (pow_pos r) in
     let new : v % 2 ^ k < 2 ^ k = mod-lt v (pow_pos k) in
-    rw (with_field-parts w r k v, div-mul-add (w / 2 ^ r / 2 ^ k * 2 ^ k + v % 2 ^ k) (2 ^ r) (w % 2 ^ r) low) (mod-mul-add (w / 2 ^ r / 2 ^ k) (2 ^ k) (v % 2 ^ k) new)
+    rw (with_field-parts w r k v, div-mul-add (w / 2 ^ r / 2 ^ k * 2 ^ k + v % 2 ^ k) (2 ^ r) (w % 2 ^ r) low)
+    (mod-mul-add (w / 2 ^ r / 2 ^ k) (2 ^ k) (v % 2 ^ k) new)
 
 bit_above : (h u l r k i : ℕ) → u < 2 ^ k → l < 2 ^ r → r + k ≤ i → bit_at ((h * 2 ^ k + u) * 2 ^ r + l) i ≡ bit_at h (i - r - k)
 bit_above h u l r k i fit low place =
@@ -64,11 +66,13 @@ bit_above h u l r k i fit low place =
 
 pub other_bits_stay : OtherBitsStay
 other_bits_stay w r k v i away =
-    let whole : (w / 2 ^ r / 2 ^ k * 2 ^ k + (w / 2 ^ r) % 2 ^ k) * 2 ^ r + w % 2 ^ r ≡ w = ap (λ x. x * 2 ^ r + w % 2 ^ r) (div-add-mod' (w / 2 ^ r) (2 ^ k)) ∙ div-add-mod' w (2 ^ r) in
+    let whole : (w / 2 ^ r / 2 ^ k * 2 ^ k + (w / 2 ^ r) % 2 ^ k) * 2 ^ r + w % 2 ^ r ≡ w = ap (λ x. x * 2 ^ r + w % 2 ^ r) (div-add-mod' (w / 2 ^ r) (2 ^ k))
+    ∙ div-add-mod' w (2 ^ r) in
     let low : w % 2 ^ r < 2 ^ r = mod-lt w (pow_pos r) in
     let new : v % 2 ^ k < 2 ^ k = mod-lt v (pow_pos k) in
     let old : (w / 2 ^ r) % 2 ^ k < 2 ^ k = mod-lt (w / 2 ^ r) (pow_pos k) in
     ap (λ x. bit_at x i) (with_field-parts w r k v) ∙ (elim away [
-      | inl below ↦ bit_at_cat_low (w / 2 ^ r / 2 ^ k * 2 ^ k + v % 2 ^ k) r (w % 2 ^ r) i below ∙ sym (bit_at_cat_low (w / 2 ^ r / 2 ^ k * 2 ^ k + (w / 2 ^ r) % 2 ^ k) r (w % 2 ^ r) i below)
+      | inl below ↦ bit_at_cat_low (w / 2 ^ r / 2 ^ k * 2 ^ k + v % 2 ^ k) r (w % 2 ^ r) i below
+          ∙ sym (bit_at_cat_low (w / 2 ^ r / 2 ^ k * 2 ^ k + (w / 2 ^ r) % 2 ^ k) r (w % 2 ^ r) i below)
       | inr above ↦ bit_above _ _ _ r k i new low above ∙ sym (bit_above _ _ _ r k i old low above)
     ] ∙ ap (λ x. bit_at x i) whole)

@@ -1,5 +1,33 @@
 -- Which numbers are in a set that a test makes.
-use Rattle.std.proofs.Common.{◌≡◌, ℕ, zero, suc, ◌+◌, ◌*◌, ◌/◌, ◌%◌, ◌<◌, ◌≤◌, Bool, true, false, cond, eqb, ltb, List, length, get_or, inl, inr, ap, ◌∙◌, refl, arith, max, min}
+use Rattle.std.proofs.Common.{
+  ◌≡◌,
+  ℕ,
+  zero,
+  suc,
+  ◌+◌,
+  ◌*◌,
+  ◌/◌,
+  ◌%◌,
+  ◌<◌,
+  ◌≤◌,
+  Bool,
+  true,
+  false,
+  cond,
+  eqb,
+  ltb,
+  List,
+  length,
+  get_or,
+  inl,
+  inr,
+  ap,
+  ◌∙◌,
+  refl,
+  arith,
+  max,
+  min,
+}
 use Rattle.std.specs.Prelude.{◌||◌, ◌&&◌, not}
 use Rattle.std.specs.Int.{bit_at}
 use Rattle.std.proofs.lemmas.Bool.{cases_lt}
@@ -101,7 +129,8 @@ member_within xs e h = elim (cases_lt e (16 * length xs)) [
 tested : (e n m : ℕ) → e < 16 * n → n ≤ m → ltb e (16 * m) ≡ true
 tested e n m l le = grind (arith, nat_tests)
 
-parts : (a b c x y : Bool) → (x ≡ true → a ≡ true) → (x ≡ true → b ≡ true) → (x ≡ true → y ≡ true → c ≡ true) → a && ((b && (x && not y)) || (c && (x && y))) ≡ x
+parts : (a b c x y : Bool) → (x ≡ true → a ≡ true) → (x ≡ true → b ≡ true) → (x ≡ true → y ≡ true → c ≡ true)
+    → a && ((b && (x && not y)) || (c && (x && y))) ≡ x
 parts a b c true true f g h = rw (f refl, g refl, h refl refl) refl
 parts a b c true false f g h = rw (f refl, g refl) refl
 parts false b c false y f g h = refl
@@ -117,7 +146,11 @@ parts_unite xs ys e =
     let more : length rest ≡ length xs = length-set_from (length xs) 0 (λ e. is_member xs e && not (is_member ys e)) in
     let fewer : length taken ≡ min (length xs) (length ys) = length-set_from (min (length xs) (length ys)) 0 (λ e. is_member xs e && is_member ys e) in
     set_is_its_test (max (length rest) (length taken)) (λ e. is_member rest e || is_member taken e) e
-    ∙ rw (set_is_its_test (length xs) (λ e. is_member xs e && not (is_member ys e)) e, set_is_its_test (min (length xs) (length ys)) (λ e. is_member xs e && is_member ys e) e)
+    ∙ rw (
+      set_is_its_test (length xs) (λ e. is_member xs e && not (is_member ys e)) e,
+      set_is_its_test (min (length xs) (length ys))
+          (λ e. is_member xs e && is_member ys e) e,
+    )
     (parts _ _ _ (is_member xs e) (is_member ys e)
     (λ h. tested e (length xs) _ (member_within xs e h) (omega (arith, more)))
     (λ h. tested e (length xs) _ (member_within xs e h) (omega arith))

@@ -13,7 +13,8 @@ length_string ws a n h room = length-bytes_at ws a n h room
 bytes_at-first : (ws : List ℕ) (a n : ℕ) → IsMemory ws → a < 65536 → bytes_at ws a (n + 1) ≡ byte_at ws a ∷ bytes_at ws (a + 1) n
 unfolding bytes_at byte_at
 bytes_at-first ws a n h l =
-    let more : drop a (bytes_of ws) ≡ get_or (bytes_of ws) a 0 ∷ drop (a + 1) (bytes_of ws) = drop_more (bytes_of ws) a 0 (omega (arith, (AreMemoryBytes-bytes_of ws h).size)) in
+    let more : drop a (bytes_of ws) ≡ get_or (bytes_of ws) a 0 ∷ drop (a + 1) (bytes_of ws) = drop_more (bytes_of ws) a 0
+    (omega (arith, (AreMemoryBytes-bytes_of ws h).size)) in
     let next : n + 1 ≡ suc n = omega arith in
     rw (next, more) refl
 

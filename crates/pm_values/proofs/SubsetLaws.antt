@@ -37,7 +37,8 @@ none_from-append p e (suc a) b =
     both false t u v h = refl
 
 -- a word of the one set without the members of the other is zero, if all its numbers are in the other
-none_from-word : (xs ys : List ℕ) (i : ℕ) → get_or xs i 0 < 2 ^ 16 → get_or ys i 0 < 2 ^ 16 → none_from (λ e. is_member xs e && not (is_member ys e)) (16 * i) 16 ≡ eqb (bit_and (get_or xs i 0) (bit_not w16 (get_or ys i 0))) 0
+none_from-word : (xs ys : List ℕ) (i : ℕ) → get_or xs i 0 < 2 ^ 16 → get_or ys i 0 < 2 ^ 16
+    → none_from (λ e. is_member xs e && not (is_member ys e)) (16 * i) 16 ≡ eqb (bit_and (get_or xs i 0) (bit_not w16 (get_or ys i 0))) 0
 none_from-word xs ys i p q =
     none_from-bits (λ e. is_member xs e && not (is_member ys e)) (16 * i) 16 ∙ ap (λ w. eqb w 0) (combined-word Difference xs ys i p q)
 
@@ -46,20 +47,30 @@ unfolding none_from
 subset-none p = refl
 
 -- one word more of a subset
-pub subset-more : (xs ys : List ℕ) (i : ℕ) → get_or xs i 0 < 2 ^ 16 → get_or ys i 0 < 2 ^ 16 → bit_and (get_or xs i 0) (bit_not w16 (get_or ys i 0)) ≡ 0 → none_from (λ e. is_member xs e && not (is_member ys e)) 0 (16 * i) ≡ true → none_from (λ e. is_member xs e && not (is_member ys e)) 0 (16 * (i + 1)) ≡ true
+pub subset-more : (xs ys : List ℕ) (i : ℕ) → get_or xs i 0 < 2 ^ 16 → get_or ys i 0 < 2 ^ 16 → bit_and (get_or xs i 0) (bit_not w16 (get_or ys i 0)) ≡ 0
+    → none_from (λ e. is_member xs e && not (is_member ys e)) 0 (16 * i) ≡ true → none_from (λ e. is_member xs e && not (is_member ys e)) 0 (16 * (i + 1))
+    ≡ true
 subset-more xs ys i p q zero_word h =
     let more : 16 * (i + 1) ≡ 16 * i + 16 = omega arith in
     let place : 0 + 16 * i ≡ 16 * i = omega arith in
     rw (more, none_from-append _ 0 (16 * i) 16, h, place, none_from-word xs ys i p q, zero_word) refl
 
 -- one word that is not zero
-pub subset-not : (xs ys : List ℕ) (i : ℕ) → get_or xs i 0 < 2 ^ 16 → get_or ys i 0 < 2 ^ 16 → i < length xs → bit_and (get_or xs i 0) (bit_not w16 (get_or ys i 0)) ≢ 0 → is_subset xs ys ≡ false
+pub subset-not : (xs ys : List ℕ) (i : ℕ) → get_or xs i 0 < 2 ^ 16 → get_or ys i 0 < 2 ^ 16 → i < length xs
+    → bit_and (get_or xs i 0) (bit_not w16 (get_or ys i 0)) ≢ 0 → is_subset xs ys ≡ false
 unfolding is_subset
 subset-not xs ys i p q inside ne =
     let parts : 16 * length xs ≡ 16 * i + (16 + 16 * (length xs - (i + 1))) = omega arith in
     let place : 0 + 16 * i ≡ 16 * i = omega arith in
     let other : eqb (bit_and (get_or xs i 0) (bit_not w16 (get_or ys i 0))) 0 ≡ false = grind (arith, nat_tests) in
-    rw (parts, none_from-append _ 0 (16 * i) (16 + 16 * (length xs - (i + 1))), place, none_from-append _ (16 * i) 16 (16 * (length xs - (i + 1))), none_from-word xs ys i p q, other) (never _)
+    rw (
+      parts,
+      none_from-append _ 0 (16 * i) (16 + 16 * (length xs - (i + 1))),
+      place,
+      none_from-append _ (16 * i) 16 (16 * (length xs - (i + 1))),
+      none_from-word xs ys i p q,
+      other,
+    ) (never _)
   where
     never : (b : Bool) → b && false ≡ false
     never true = refl
@@ -117,7 +128,8 @@ forward xs ys e h m =
 
 backward : (xs ys : List ℕ) → ((e : ℕ) → is_member xs e ≡ true → is_member ys e ≡ true) → is_subset xs ys ≡ true
 unfolding is_subset
-backward xs ys h = none_if (λ e. is_member xs e && not (is_member ys e)) 0 (16 * length xs) (λ b l. none_outside (is_member xs (0 + b)) (is_member ys (0 + b)) (h (0 + b)))
+backward xs ys h = none_if (λ e. is_member xs e && not (is_member ys e)) 0 (16 * length xs)
+    (λ b l. none_outside (is_member xs (0 + b)) (is_member ys (0 + b)) (h (0 + b)))
 
 pub subset_is_of_numbers : SubsetIsOfNumbers
 subset_is_of_numbers xs ys = ((λ h e m. forward xs ys e h m), backward xs ys)

@@ -3,15 +3,23 @@
 use Rattle.std.specs.Cmp.Lexicographic.{slice_cmp}
 use Rattle.std.specs.Ordering.{is_eq, is_ge, is_gt, is_le, is_lt, is_ne, nat_cmp}
 use Rattle.std.specs.declared.cmp.Ordering.{Ordering}
-use Rattle.std.specs.Prelude.{ℕ, zero, suc, ◌+◌, ◌*◌, ◌%◌, ◌&&◌, Bool, true, false, not, List, length, Err, nat_le}
+use Rattle.std.specs.Prelude.{ℕ, zero, suc, ◌*◌, ◌%◌, ◌&&◌, Bool, true, false, not, List, length, Err, nat_le}
 use Rattle.pm_words.specs.Words.{compared}
 use Rattle.pm_words.specs.declared.error.ExecError.TheVariants.{InvalidMemory, Unimplemented}
-use Rattle.pm_words.specs.Stack.{◌>>=◌, StackRow, demand, is_even, pop, push}
-use Rattle.pm_values.specs.declared.comparisons.Kind.{Kind}
-use Rattle.pm_values.specs.declared.comparisons.Kind.TheVariants.{Real, String, Boolean, Set, Bytes, Words}
-use Rattle.pm_values.specs.declared.comparisons.Relation.{Relation}
-use Rattle.pm_values.specs.declared.comparisons.Relation.TheVariants.{Equal, NotEqual, Less, LessOrEqual, Greater, GreaterOrEqual}
-use Rattle.pm_values.specs.Sets.{is_member, pop_set, truth}
+use Rattle.pm_words.specs.Stack.{◌>>=◌, StackRow, demand, lies_in_memory, pop, push, words_lie_in_memory}
+use Rattle.pm_opcode.specs.declared.operation.Kind.{Kind}
+use Rattle.pm_opcode.specs.declared.operation.Kind.TheVariants.{Real, String, Boolean, Set, Bytes, Words}
+use Rattle.pm_opcode.specs.declared.operation.Relation.{Relation}
+use Rattle.pm_opcode.specs.declared.operation.Relation.TheVariants.{
+  Equal,
+  NotEqual,
+  Less,
+  LessOrEqual,
+  Greater,
+  GreaterOrEqual,
+}
+use Rattle.pm_words.specs.Signed.{truth}
+use Rattle.pm_values.specs.Sets.{is_member, pop_set}
 use Rattle.pm_values.specs.Strings.{string_at}
 
 -- whether a relation holds of two values in an order
@@ -23,29 +31,32 @@ holds LessOrEqual o = is_le o
 holds Greater o = is_gt o
 holds GreaterOrEqual o = is_ge o
 
--- address, address: two strings by their unsigned bytes, a proper prefix being less
+-- EQU, NEQ, LES, LEQ, GRT and GEQ STR. .., address, address -> .., 1 or 0: two strings by their unsigned
+-- bytes, a proper prefix being less
 unfoldable pub compare_strings_row : Relation → StackRow
 compare_strings_row r m sp np = do
   b ← pop m sp
-  a ← pop m b.1
-  s ← string_at m a.0
-  t ← string_at m b.0
-  push m a.1 np (truth (holds r (slice_cmp nat_cmp s t)))
+  a ← pop m b.above
+  s ← string_at m a.word
+  t ← string_at m b.word
+  push m a.above np (truth (holds r (slice_cmp nat_cmp s t)))
 
--- word, word: two truth values by bit 0 alone, false being below true
+-- EQU, NEQ, LES, LEQ, GRT and GEQ BOOL. .., a, b -> .., 1 or 0: two truth values by bit 0 alone,
+-- false being below true
 unfoldable pub compare_booleans_row : Relation → StackRow
 compare_booleans_row r m sp np = do
   b ← pop m sp
-  a ← pop m b.1
-  push m a.1 np (truth (holds r (nat_cmp (a.0 % 2) (b.0 % 2))))
+  a ← pop m b.above
+  push m a.above np (truth (holds r (nat_cmp (a.word % 2) (b.word % 2))))
 
--- address, address: two ranges of n bytes, by the first byte in which they differ, bytes being unsigned
+-- EQU, NEQ, LES, LEQ, GRT and GEQ BYTES. .., address, address -> .., 1 or 0: two ranges of n bytes, by the
+-- first byte in which they differ, bytes being unsigned
 unfoldable pub compare_bytes_row : ℕ → Relation → StackRow
 compare_bytes_row n r m sp np = do
   b ← pop m sp
-  a ← pop m b.1
-  _ ← demand (nat_le (a.0 + n) 65536 && nat_le (b.0 + n) 65536) InvalidMemory
-  push m a.1 np (truth (holds r (compared m a.0 b.0 n)))
+  a ← pop m b.above
+  _ ← demand (lies_in_memory a.word n && lies_in_memory b.word n) InvalidMemory
+  push m a.above np (truth (holds r (compared m a.word b.word n)))
 
 -- whether a relation asks for equality alone
 abbrev pub is_equality : Relation → Bool
@@ -58,16 +69,16 @@ is_equality GreaterOrEqual = false
 
 -- whether n words from an address on lie in memory; an operand has at most 32,767 words
 abbrev pub are_words : ℕ → ℕ → Bool
-are_words a n = nat_le n 32767 && is_even a && nat_le (a + 2 * n) 65536
+are_words a n = nat_le n 32767 && words_lie_in_memory a n
 
--- address, address: whether two ranges of n words are the same
+-- EQU and NEQ WORDS. .., address, address -> .., 1 or 0: whether two ranges of n words are the same
 unfoldable pub compare_words_row : ℕ → Relation → StackRow
 compare_words_row n r m sp np = do
   _ ← demand (is_equality r) Unimplemented
   b ← pop m sp
-  a ← pop m b.1
-  _ ← demand (are_words a.0 n && are_words b.0 n) InvalidMemory
-  push m a.1 np (truth (holds r (compared m a.0 b.0 (2 * n))))
+  a ← pop m b.above
+  _ ← demand (are_words a.word n && are_words b.word n) InvalidMemory
+  push m a.above np (truth (holds r (compared m a.word b.word (2 * n))))
 
 -- whether none of the n numbers from e on passes the test
 unfoldable pub none_from : (ℕ → Bool) → ℕ → ℕ → Bool
@@ -96,7 +107,8 @@ holds_of_sets LessOrEqual s t = is_subset s t
 holds_of_sets Greater s t = false
 holds_of_sets GreaterOrEqual s t = is_subset t s
 
--- set, set: two sets as sets of numbers, however many words they have
+-- EQU, NEQ, LEQ and GEQ SET. .., set, set -> .., 1 or 0: two sets as sets of numbers, however many words
+-- they have
 unfoldable pub compare_sets_row : Relation → StackRow
 compare_sets_row r m sp np = do
   _ ← demand (is_of_sets r) Unimplemented
@@ -104,7 +116,7 @@ compare_sets_row r m sp np = do
   s ← pop_set m t.above
   push m s.above np (truth (holds_of_sets r s.members t.members))
 
--- each kind with its rows; reals have none
+-- EQU, NEQ, LES, LEQ, GRT and GEQ of a type. .., a, b -> .., 1 or 0: each kind with its rows; reals have none
 unfoldable pub compare_row : Relation → Kind → StackRow
 compare_row r Real m sp np = Err Unimplemented
 compare_row r String m sp np = compare_strings_row r m sp np

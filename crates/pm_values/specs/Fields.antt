@@ -6,20 +6,20 @@ use Rattle.pm_words.specs.declared.error.ExecError.TheVariants.{InvalidIndex}
 use Rattle.pm_words.specs.Stack.{◌>>=◌, StackRow, demand, load, pop, push, store}
 use Rattle.pm_values.specs.Several.{push_words}
 
--- base, index: the byte at their sum
+-- LDB. .., base, index -> .., v: the byte at their sum
 unfoldable pub load_byte_row : StackRow
 load_byte_row m sp np = do
   i ← pop m sp
-  a ← pop m i.1
-  push m a.1 np (byte_at m ((a.0 + i.0) % 65536))
+  a ← pop m i.above
+  push m a.above np (byte_at m ((a.word + i.word) % 65536))
 
--- base, index, value: the value's low byte goes to their sum
+-- STB. .., base, index, value -> ..: the value's low byte goes to their sum
 unfoldable pub store_byte_row : StackRow
 store_byte_row m sp np = do
   v ← pop m sp
-  i ← pop m v.1
-  a ← pop m i.1
-  Ok (with_byte m ((a.0 + i.0) % 65536) (v.0 % 256), a.1)
+  i ← pop m v.above
+  a ← pop m i.above
+  Ok (with_byte m ((a.word + i.word) % 65536) (v.word % 256), a.above)
 
 -- the k bits of a word from bit r on
 unfoldable pub field_of : ℕ → ℕ → ℕ → ℕ
@@ -33,34 +33,36 @@ with_field w r k v = (w - field_of w r k * 2 ^ r) + (v % 2 ^ k) * 2 ^ r
 abbrev pub is_field : ℕ → ℕ → Bool
 is_field r k = not (k == 0) && nat_le (r + k) 16
 
--- Base, index: the place of an element of an array that packs so many fields of one width in each word. The place is
--- three words: the word's address, the width, and the lowest bit, which is on the top.
+-- IXP. .., base, index -> .., address, width, lowest bit: the place of an element of an array that packs so many fields
+-- of one width in each word. The place is three words: the word's address, the width, and the lowest bit, which is on
+-- the top.
 unfoldable pub index_field_row : ℕ → ℕ → StackRow
 index_field_row per_word width m sp np = do
   i ← pop m sp
-  a ← pop m i.1
-  _ ← demand (not (per_word == 0) && nat_lt i.0 32768) InvalidIndex
-  _ ← demand (is_field ((i.0 % per_word) * width) width) InvalidIndex
-  push_words m a.1 np ((i.0 % per_word) * width ∷ width ∷ (a.0 + 2 * (i.0 / per_word)) % 65536 ∷ [])
+  a ← pop m i.above
+  _ ← demand (not (per_word == 0) && nat_lt i.word 32768) InvalidIndex
+  _ ← demand (is_field ((i.word % per_word) * width) width) InvalidIndex
+  push_words m a.above np ((i.word % per_word) * width ∷ width ∷ (a.word + 2 * (i.word / per_word)) % 65536 ∷ [])
 
--- address, width, lowest bit: the field of the word at the address
+-- LDP. .., address, width, lowest bit -> .., v: the field of the word at the address
 unfoldable pub load_field_row : StackRow
 load_field_row m sp np = do
   r ← pop m sp
-  k ← pop m r.1
-  x ← pop m k.1
-  _ ← demand (is_field r.0 k.0) InvalidIndex
-  w ← load m x.0
-  push m x.1 np (field_of w r.0 k.0)
+  k ← pop m r.above
+  x ← pop m k.above
+  _ ← demand (is_field r.word k.word) InvalidIndex
+  w ← load m x.word
+  push m x.above np (field_of w r.word k.word)
 
--- address, width, lowest bit, value: the value goes to the field of the word at the address, and the other bits stay
+-- STP. .., address, width, lowest bit, value -> ..: the value goes to the field of the word at the address, and the
+-- other bits stay
 unfoldable pub store_field_row : StackRow
 store_field_row m sp np = do
   v ← pop m sp
-  r ← pop m v.1
-  k ← pop m r.1
-  x ← pop m k.1
-  _ ← demand (is_field r.0 k.0) InvalidIndex
-  w ← load m x.0
-  n ← store m x.0 (with_field w r.0 k.0 v.0)
-  Ok (n, x.1)
+  r ← pop m v.above
+  k ← pop m r.above
+  x ← pop m k.above
+  _ ← demand (is_field r.word k.word) InvalidIndex
+  w ← load m x.word
+  n ← store m x.word (with_field w r.word k.word v.word)
+  Ok (n, x.above)

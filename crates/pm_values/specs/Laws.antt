@@ -3,7 +3,28 @@ use Rattle.std.specs.Cmp.{IsTotalOrder}
 use Rattle.std.specs.Cmp.Lexicographic.{slice_cmp}
 use Rattle.std.specs.Int.{bit_at}
 use Rattle.std.specs.Ordering.{nat_cmp}
-use Rattle.std.specs.Prelude.{◌≡◌, ◌↔◌, true, ◌⊎◌, ◌<◌, ◌≤◌, ℕ, ◌+◌, ◌*◌, ◌%◌, ◌^◌, ◌&&◌, ◌||◌, Bool, not, max, min, List, length, nat_lt}
+use Rattle.std.specs.Prelude.{
+  ◌≡◌,
+  ◌↔◌,
+  true,
+  ◌⊎◌,
+  ◌<◌,
+  ◌≤◌,
+  ℕ,
+  ◌+◌,
+  ◌*◌,
+  ◌%◌,
+  ◌^◌,
+  ◌&&◌,
+  ◌||◌,
+  Bool,
+  not,
+  max,
+  min,
+  List,
+  length,
+  nat_lt,
+}
 use Rattle.pm_values.specs.Comparisons.{is_subset}
 use Rattle.pm_values.specs.Fields.{field_of, with_field}
 use Rattle.pm_values.specs.Sets.{is_member, set_of}
@@ -37,7 +58,8 @@ PartsUnite = (xs ys : List ℕ) (e : ℕ) → is_member (united (removed xs ys) 
 
 -- a subset is one by its numbers, however many words the sets have
 abbrev pub SubsetIsOfNumbers : Type 0
-SubsetIsOfNumbers = (xs ys : List ℕ) → (is_subset xs ys ≡ true) ↔ ((e : ℕ) → is_member xs e ≡ true → is_member ys e ≡ true)
+SubsetIsOfNumbers = (xs ys : List ℕ) → (is_subset xs ys ≡ true) ↔ ((e : ℕ) → is_member xs e ≡ true
+    → is_member ys e ≡ true)
 
 -- the field stored is the field loaded
 abbrev pub StoredIsLoaded : Type 0

@@ -1,12 +1,40 @@
 -- Sets of numbers in words: number e is bit e mod 16 of word e div 16. On the stack a set is the count of its words,
 -- and above it the words, the least elements first.
-use Rattle.std.specs.Prelude.{ℕ, zero, suc, ◌+◌, ◌*◌, ◌/◌, ◌%◌, ◌^◌, ◌==◌, ◌&&◌, ◌||◌, Bool, not, max, min, if◌then◌else◌, List, [], ◌∷◌, length, slice_index, ℤ, int_lt, Result, Ok, nat_lt, nat_le}
-use Rattle.std.specs.Int.{w16, cast_signed}
+use Rattle.std.specs.Prelude.{
+  ℕ,
+  zero,
+  suc,
+  ◌+◌,
+  ◌*◌,
+  ◌/◌,
+  ◌%◌,
+  ◌^◌,
+  ◌==◌,
+  ◌&&◌,
+  ◌||◌,
+  Bool,
+  not,
+  max,
+  min,
+  if◌then◌else◌,
+  List,
+  [],
+  ◌∷◌,
+  length,
+  slice_index,
+  int_lt,
+  Result,
+  Ok,
+  nat_lt,
+  nat_le,
+}
 use Rattle.pm_words.specs.Words.{words_at}
 use Rattle.pm_words.specs.declared.error.ExecError.{ExecError}
 use Rattle.pm_words.specs.declared.error.ExecError.TheVariants.{InvalidIndex, InvalidMemory}
 use Rattle.pm_words.specs.Stack.{◌>>=◌, StackRow, demand, pop, push}
+use Rattle.pm_words.specs.Signed.{signed, truth}
 use Rattle.pm_values.specs.Several.{push_words}
+use Rattle.pm_words.specs.declared.layout.TheConstants.{STACK_END}
 
 -- whether a number is in the set that a list of words denotes
 unfoldable pub is_member : List ℕ → ℕ → Bool
@@ -35,24 +63,16 @@ pub record StackSet : Type 0 where
 unfoldable pub pop_set : List ℕ → ℕ → Result StackSet ExecError
 pop_set m sp = do
   n ← pop m sp
-  _ ← demand (nat_le n.0 255) InvalidIndex
-  _ ← demand (nat_le (n.1 + 2 * n.0) 65504) InvalidMemory
-  Ok (record { members = words_at m n.1 n.0; above = n.1 + 2 * n.0 })
+  _ ← demand (nat_le n.word 255) InvalidIndex
+  _ ← demand (nat_le (n.above + 2 * n.word) STACK_END) InvalidMemory
+  Ok (record { members = words_at m n.above n.word; above = n.above + 2 * n.word })
 
--- a truth value as a word
-abbrev pub truth : Bool → ℕ
-truth b = if b then 1 else 0
-
--- value, set: whether the value is an element; a negative value is none
+-- INN. .., value, set -> .., 1 or 0: whether the value is an element; a negative value is none
 unfoldable pub in_set_row : StackRow
 in_set_row m sp np = do
   s ← pop_set m sp
   a ← pop m s.above
-  push m a.1 np (truth (nat_lt a.0 32768 && is_member s.members a.0))
-
--- the signed value of a word
-abbrev pub signed : ℕ → ℤ
-signed w = cast_signed w16 w
+  push m a.above np (truth (nat_lt a.word 32768 && is_member s.members a.word))
 
 -- a set as it stands on the stack: the count of its words, then the words
 abbrev pub counted : List ℕ → List ℕ
@@ -64,17 +84,19 @@ abbrev pub two_sets_row : (ℕ → ℕ → ℕ) → (Bool → Bool → Bool) →
 two_sets_row count test m sp np = do
   t ← pop_set m sp
   s ← pop_set m t.above
-  push_words m s.above np (counted (set_of (count (length s.members) (length t.members)) (λ e. test (is_member s.members e) (is_member t.members e))))
+  push_words m s.above np (counted (set_of (count (length s.members) (length t.members))
+      (λ e. test (is_member s.members e) (is_member t.members e))))
 
--- the numbers in both sets, in as many words as the smaller has
+-- INT. .., set, set -> .., set: the numbers in both sets, in as many words as the smaller has
 unfoldable pub intersect_row : StackRow
 intersect_row m sp np = two_sets_row min (λ s t. s && t) m sp np
 
--- the numbers in either set, in as many words as the larger has
+-- UNI. .., set, set -> .., set: the numbers in either set, in as many words as the larger has
 unfoldable pub union_row : StackRow
 union_row m sp np = two_sets_row max (λ s t. s || t) m sp np
 
--- the numbers in the lower set and not in the upper one, in as many words as the lower set has
+-- DIF. .., set, set -> .., set: the numbers in the lower set and not in the upper one, in as many words as the lower
+-- set has
 unfoldable pub difference_row : StackRow
 difference_row m sp np = two_sets_row (λ s t. s) (λ s t. s && not t) m sp np
 
@@ -82,22 +104,23 @@ difference_row m sp np = two_sets_row (λ s t. s) (λ s t. s && not t) m sp np
 abbrev pub interval : ℕ → ℕ → List ℕ
 interval low high = set_of (high / 16 + 1) (λ e. nat_le low e && nat_le e high)
 
--- value: the set of that number alone
+-- SGS. .., value -> .., set: the set of that number alone
 unfoldable pub singleton_row : StackRow
 singleton_row m sp np = do
   a ← pop m sp
-  _ ← demand (nat_le a.0 4079) InvalidIndex
-  push_words m a.1 np (counted (interval a.0 a.0))
+  _ ← demand (nat_le a.word 4079) InvalidIndex
+  push_words m a.above np (counted (interval a.word a.word))
 
--- low, high: the set of the numbers from low to high; if low is above high, the set of no words
+-- SRS. .., low, high -> .., set: the set of the numbers from low to high; if low is above high, the set of no words
 unfoldable pub subrange_row : StackRow
 subrange_row m sp np = do
   b ← pop m sp
-  a ← pop m b.1
-  set ← if int_lt (signed b.0) (signed a.0) then Ok [] else (demand (nat_le a.0 4079 && nat_le b.0 4079) InvalidIndex >>= λ _. Ok (interval a.0 b.0))
-  push_words m a.1 np (counted set)
+  a ← pop m b.above
+  set ← if int_lt (signed b.word) (signed a.word) then Ok [] else (demand (nat_le a.word 4079 && nat_le b.word 4079)
+      InvalidIndex >>= λ _. Ok (interval a.word b.word))
+  push_words m a.above np (counted set)
 
--- set: its members in so many words, without a count
+-- ADJ. .., set -> .., n words: its members in so many words, without a count
 unfoldable pub adjust_row : ℕ → StackRow
 adjust_row n m sp np = do
   s ← pop_set m sp

@@ -2,7 +2,7 @@
 
 ghost use Rattle.std.specs.Prelude.{◌≡◌, IfOk};
 ghost use Rattle.pm_words.specs.Watch.{KeepsWatch};
-ghost use Rattle.pm_words.specs.Stack.{IsStack, Stacks};
+ghost use Rattle.pm_words.specs.Stack.{IsStack, Changes};
 ghost use Rattle.pm_values.specs.Comparisons.{
   compare_booleans_row,
   compare_bytes_row,
@@ -19,51 +19,16 @@ ghost use Rattle.pm_values.specs.Comparisons.{
 
 use crate::sets::{take_set, word_or_zero};
 use crate::strings::characters;
+use pm_opcode::{Kind, Relation};
 use pm_words::stack::{pop, push};
 use pm_words::{ExecError, Memory};
 use std::cmp::Ordering;
 
-/// What a comparison asks of its left operand beside its right one.
-#[derive(Clone, Copy, Debug, PartialEq, Eq)]
-pub enum Relation {
-    /// The left one equals the right one.
-    Equal,
-    /// They differ.
-    NotEqual,
-    /// The left one is less.
-    Less,
-    /// The left one is less, or they are equal.
-    LessOrEqual,
-    /// The left one is greater.
-    Greater,
-    /// The left one is greater, or they are equal.
-    GreaterOrEqual,
-}
-
-/// What a comparison takes its operands for. Strings, bytes and words stand in memory, and their
-/// addresses on the stack; truth values and sets stand on the stack.
-#[derive(Clone, Copy, Debug, PartialEq, Eq)]
-pub enum Kind {
-    /// Real numbers, which this machine does not have.
-    Real,
-    /// Strings, by their characters.
-    String,
-    /// Truth values, by bit 0.
-    Boolean,
-    /// Sets of numbers.
-    Set,
-    /// So many bytes.
-    Bytes(u16),
-    /// So many words, at most 32,767.
-    Words(u16),
-}
-
-/// Replaces two operands of a kind, the left one below the right one, by 1 or 0, whether the
-/// relation holds, and gives the new SP. `Unimplemented` straight away for reals, for sets that are
-/// to be less or greater, and for words that are to be anything but equal or not. Then
-/// `InvalidMemory` where there are too few words, or an operand passes the end of memory, or words
-/// begin at an odd address; `InvalidIndex` for a set of more than 255 words. An error changes
-/// nothing.
+/// `EQU`, `NEQ`, `LES`, `LEQ`, `GRT` and `GEQ` of a type. Replaces two operands of a kind, the left one below the right
+/// one, by 1 or 0, whether the relation holds, and gives the new SP. `Unimplemented` straight away for reals, for sets
+/// that are to be less or greater, and for words that are to be anything but equal or not. Then `InvalidMemory` where
+/// there are too few words, or an operand passes the end of memory, or words begin at an odd address; `InvalidIndex`
+/// for a set of more than 255 words. An error changes nothing.
 #[tactic(auto, unfolding(crate::specs::Comparisons::compare_row), using(pm_words::proofs::WatchLaws::keeps))]
 pub fn compare(
     memory: &mut Memory,
@@ -72,7 +37,7 @@ pub fn compare(
     relation: Relation,
     kind: Kind,
 ) -> Result<u16, ExecError>
-    ensures row { Stacks result memory.old.words memory.new.words (compare_row relation kind memory.old.words sp np) }
+    ensures row { Changes result memory.old.words memory.new.words (compare_row relation kind memory.old.words sp np) }
     ensures stack { IsStack sp np → IfOk result (λ sp. IsStack sp np) }
     ensures keeps { KeepsWatch memory.old memory.new }
 {
@@ -94,16 +59,16 @@ fn compare_strings(
     np: u16,
     relation: Relation,
 ) -> Result<u16, ExecError>
-    ensures row { Stacks result memory.old.words memory.new.words (compare_strings_row relation memory.old.words sp np) }
+    ensures row { Changes result memory.old.words memory.new.words (compare_strings_row relation memory.old.words sp np) }
     ensures stack { IsStack sp np → IfOk result (λ sp. IsStack sp np) }
     ensures keeps { KeepsWatch memory.old memory.new }
 {
-    let (right, sp) = pop(memory, sp)?;
-    let (left, sp) = pop(memory, sp)?;
-    let left = characters(memory, left)?;
-    let right = characters(memory, right)?;
-    let found = holds(relation, left.cmp(right));
-    push(memory, sp, np, u16::from(found))
+    let right = pop(memory, sp)?;
+    let left = pop(memory, right.above)?;
+    let first = characters(memory, left.word)?;
+    let second = characters(memory, right.word)?;
+    let found = holds(relation, first.cmp(second));
+    push(memory, left.above, np, u16::from(found))
 }
 
 // Two truth values, by bit 0 alone.
@@ -114,15 +79,16 @@ fn compare_booleans(
     np: u16,
     relation: Relation,
 ) -> Result<u16, ExecError>
-    ensures row { Stacks result memory.old.words memory.new.words (compare_booleans_row relation memory.old.words sp np) }
+    ensures row { Changes result memory.old.words memory.new.words
+        (compare_booleans_row relation memory.old.words sp np) }
     ensures stack { IsStack sp np → IfOk result (λ sp. IsStack sp np) }
     ensures keeps { KeepsWatch memory.old memory.new }
 {
-    let (right, sp) = pop(memory, sp)?;
-    let (left, sp) = pop(memory, sp)?;
-    let (left, right) = (left % 2, right % 2);
-    let found = holds(relation, left.cmp(&right));
-    push(memory, sp, np, u16::from(found))
+    let right = pop(memory, sp)?;
+    let left = pop(memory, right.above)?;
+    let (first, second) = (left.word % 2, right.word % 2);
+    let found = holds(relation, first.cmp(&second));
+    push(memory, left.above, np, u16::from(found))
 }
 
 // Two ranges of bytes.
@@ -134,16 +100,17 @@ fn compare_bytes(
     relation: Relation,
     count: u16,
 ) -> Result<u16, ExecError>
-    ensures row { Stacks result memory.old.words memory.new.words (compare_bytes_row count relation memory.old.words sp np) }
+    ensures row { Changes result memory.old.words memory.new.words
+        (compare_bytes_row count relation memory.old.words sp np) }
     ensures stack { IsStack sp np → IfOk result (λ sp. IsStack sp np) }
     ensures keeps { KeepsWatch memory.old memory.new }
 {
-    let (right, sp) = pop(memory, sp)?;
-    let (left, sp) = pop(memory, sp)?;
-    let Some(order) = memory.compare(left, right, count) else {
+    let right = pop(memory, sp)?;
+    let left = pop(memory, right.above)?;
+    let Some(order) = memory.compare(left.word, right.word, count) else {
         return Err(ExecError::InvalidMemory);
     };
-    push(memory, sp, np, u16::from(holds(relation, order)))
+    push(memory, left.above, np, u16::from(holds(relation, order)))
 }
 
 // Two ranges of words.
@@ -155,28 +122,29 @@ fn compare_words(
     relation: Relation,
     count: u16,
 ) -> Result<u16, ExecError>
-    ensures row { Stacks result memory.old.words memory.new.words (compare_words_row count relation memory.old.words sp np) }
+    ensures row { Changes result memory.old.words memory.new.words
+        (compare_words_row count relation memory.old.words sp np) }
     ensures stack { IsStack sp np → IfOk result (λ sp. IsStack sp np) }
     ensures keeps { KeepsWatch memory.old memory.new }
 {
     if !is_equality(relation) {
         return Err(ExecError::Unimplemented);
     }
-    let (right, sp) = pop(memory, sp)?;
-    let (left, sp) = pop(memory, sp)?;
-    if count > 32767 || left % 2 != 0 || right % 2 != 0 {
+    let right = pop(memory, sp)?;
+    let left = pop(memory, right.above)?;
+    if count > 32767 || left.word % 2 != 0 || right.word % 2 != 0 {
         return Err(ExecError::InvalidMemory);
     }
-    let Some(order) = memory.compare(left, right, 2 * count) else {
+    let Some(order) = memory.compare(left.word, right.word, 2 * count) else {
         return Err(ExecError::InvalidMemory);
     };
-    push(memory, sp, np, u16::from(holds(relation, order)))
+    push(memory, left.above, np, u16::from(holds(relation, order)))
 }
 
 // Two sets, as sets of numbers.
 #[tactic(auto, unfolding(crate::specs::Comparisons::compare_sets_row), using(pm_words::proofs::WatchLaws::keeps))]
 fn compare_sets(memory: &mut Memory, sp: u16, np: u16, relation: Relation) -> Result<u16, ExecError>
-    ensures row { Stacks result memory.old.words memory.new.words (compare_sets_row relation memory.old.words sp np) }
+    ensures row { Changes result memory.old.words memory.new.words (compare_sets_row relation memory.old.words sp np) }
     ensures stack { IsStack sp np → IfOk result (λ sp. IsStack sp np) }
     ensures keeps { KeepsWatch memory.old memory.new }
 {

@@ -2,7 +2,7 @@
 
 ghost use Rattle.std.specs.Prelude.{◌≡◌, ◌+◌, ◌≤◌, IfOk, Err};
 ghost use Rattle.pm_words.specs.Watch.{KeepsWatch};
-ghost use Rattle.pm_words.specs.Stack.{IsStack, Stacks, demand};
+ghost use Rattle.pm_words.specs.Stack.{IsStack, Changes, demand};
 ghost use Rattle.pm_words.specs.declared.error.ExecError.TheVariants.{InvalidIndex};
 ghost use Rattle.pm_values.specs.Fields.{
   field_of,
@@ -19,41 +19,40 @@ use crate::stack::push_words;
 use pm_words::stack::{load, pop, push, store};
 use pm_words::{ExecError, Memory};
 
-/// Replaces a base and an index in bytes by the byte at their sum, and gives the new SP;
-/// `InvalidMemory` where there are too few words. An error changes nothing.
+/// `LDB`. Replaces a base and an index in bytes by the byte at their sum, and gives the new SP; `InvalidMemory` where
+/// there are too few words. An error changes nothing.
 #[tactic(auto, unfolding(crate::specs::Fields::load_byte_row), using(pm_words::proofs::WatchLaws::keeps))]
 pub fn load_byte(memory: &mut Memory, sp: u16, np: u16) -> Result<u16, ExecError>
-    ensures row { Stacks result memory.old.words memory.new.words (load_byte_row memory.old.words sp np) }
+    ensures row { Changes result memory.old.words memory.new.words (load_byte_row memory.old.words sp np) }
     ensures stack { IsStack sp np → IfOk result (λ sp. IsStack sp np) }
     ensures keeps { KeepsWatch memory.old memory.new }
 {
-    let (index, sp) = pop(memory, sp)?;
-    let (base, sp) = pop(memory, sp)?;
-    let byte = memory.byte(base.wrapping_add(index));
-    push(memory, sp, np, u16::from(byte))
+    let index = pop(memory, sp)?;
+    let base = pop(memory, index.above)?;
+    let byte = memory.byte(base.word.wrapping_add(index.word));
+    push(memory, base.above, np, u16::from(byte))
 }
 
-/// Takes a base, an index in bytes and a value from the stack, writes the value's low byte at their
-/// sum, and gives the new SP; `InvalidMemory` where there are too few words. An error changes
-/// nothing.
+/// `STB`. Takes a base, an index in bytes and a value from the stack, writes the value's low byte at their sum, and
+/// gives the new SP; `InvalidMemory` where there are too few words. An error changes nothing.
 #[tactic(auto, unfolding(crate::specs::Fields::store_byte_row), using(pm_words::proofs::WatchLaws::keeps))]
 pub fn store_byte(memory: &mut Memory, sp: u16, np: u16) -> Result<u16, ExecError>
-    ensures row { Stacks result memory.old.words memory.new.words (store_byte_row memory.old.words sp np) }
+    ensures row { Changes result memory.old.words memory.new.words (store_byte_row memory.old.words sp np) }
     ensures stack { IsStack sp np → IfOk result (λ sp. IsStack sp np) }
     ensures keeps { KeepsWatch memory.old memory.new }
 {
-    let (value, sp) = pop(memory, sp)?;
-    let (index, sp) = pop(memory, sp)?;
-    let (base, sp) = pop(memory, sp)?;
-    memory.set_byte(base.wrapping_add(index), (value % 256) as u8);
-    Ok(sp)
+    let value = pop(memory, sp)?;
+    let index = pop(memory, value.above)?;
+    let base = pop(memory, index.above)?;
+    memory.set_byte(base.word.wrapping_add(index.word), (value.word % 256) as u8);
+    Ok(base.above)
 }
 
-/// Replaces a base and an index in fields by the place of that field, which is the address of its
-/// word, its width and its lowest bit, the last on the top, and gives the new SP. The array packs
-/// `per_word` fields of `width` bits in each word, the first in the lowest bits. `InvalidMemory`
-/// where there are too few words; `InvalidIndex` for a negative index, for no fields a word, and
-/// for bits that are no field of a word; `StackOverflow`. An error changes nothing.
+/// `IXP`. Replaces a base and an index in fields by the place of that field, which is the address of its word, its
+/// width and its lowest bit, the last on the top, and gives the new SP. The array packs `per_word` fields of `width`
+/// bits in each word, the first in the lowest bits. `InvalidMemory` where there are too few words; `InvalidIndex` for a
+/// negative index, for no fields a word, and for bits that are no field of a word; `StackOverflow`. An error changes
+/// nothing.
 #[tactic(auto, unfolding(crate::specs::Fields::index_field_row), using(pm_words::proofs::WatchLaws::keeps))]
 pub fn index_field(
     memory: &mut Memory,
@@ -62,56 +61,66 @@ pub fn index_field(
     per_word: u8,
     width: u8,
 ) -> Result<u16, ExecError>
-    ensures row { Stacks result memory.old.words memory.new.words (index_field_row per_word width memory.old.words sp np) }
+    ensures row { Changes result memory.old.words memory.new.words
+        (index_field_row per_word width memory.old.words sp np) }
     ensures stack { IsStack sp np → IfOk result (λ sp. IsStack sp np) }
     ensures keeps { KeepsWatch memory.old memory.new }
 {
-    let (index, sp) = pop(memory, sp)?;
-    let (base, sp) = pop(memory, sp)?;
+    let index = pop(memory, sp)?;
+    let base = pop(memory, index.above)?;
     let (per_word, width) = (u16::from(per_word), u16::from(width));
-    if per_word == 0 || index > 32767 {
+    if per_word == 0 || index.word > 32767 {
         return Err(ExecError::InvalidIndex);
     }
-    let lowest = (index % per_word) * width;
+    let lowest = (index.word % per_word) * width;
     check_field(lowest, width)?;
-    let address = base.wrapping_add(2 * (index / per_word));
-    push_words(memory, sp, np, &[lowest, width, address])
+    let address = base.word.wrapping_add(2 * (index.word / per_word));
+    push_words(memory, base.above, np, &[lowest, width, address])
 }
 
-/// Replaces the place of a field by the field, and gives the new SP. `InvalidMemory` where there are
-/// too few words; `InvalidIndex` for bits that are no field of a word; `InvalidMemory` for an odd
-/// address. An error changes nothing.
+/// `LDP`. Replaces the place of a field by the field, and gives the new SP. `InvalidMemory` where there are too few
+/// words; `InvalidIndex` for bits that are no field of a word; `InvalidMemory` for an odd address. An error changes
+/// nothing.
 #[tactic(auto, unfolding(crate::specs::Fields::load_field_row), using(pm_words::proofs::WatchLaws::keeps))]
 pub fn load_field(memory: &mut Memory, sp: u16, np: u16) -> Result<u16, ExecError>
-    ensures row { Stacks result memory.old.words memory.new.words (load_field_row memory.old.words sp np) }
+    ensures row { Changes result memory.old.words memory.new.words (load_field_row memory.old.words sp np) }
     ensures stack { IsStack sp np → IfOk result (λ sp. IsStack sp np) }
     ensures keeps { KeepsWatch memory.old memory.new }
 {
-    let (lowest, sp) = pop(memory, sp)?;
-    let (width, sp) = pop(memory, sp)?;
-    let (address, sp) = pop(memory, sp)?;
-    check_field(lowest, width)?;
-    let word = load(memory, address)?;
-    push(memory, sp, np, extracted(word, lowest, width))
+    let lowest = pop(memory, sp)?;
+    let width = pop(memory, lowest.above)?;
+    let address = pop(memory, width.above)?;
+    check_field(lowest.word, width.word)?;
+    let word = load(memory, address.word)?;
+    push(
+        memory,
+        address.above,
+        np,
+        extracted(word, lowest.word, width.word),
+    )
 }
 
-/// Takes the place of a field and a value from the stack, writes the value's low bits into the
-/// field, and gives the new SP. `InvalidMemory` where there are too few words; `InvalidIndex` for
-/// bits that are no field of a word; `InvalidMemory` for an odd address. An error changes nothing.
+/// `STP`. Takes the place of a field and a value from the stack, writes the value's low bits into the field, and gives
+/// the new SP. `InvalidMemory` where there are too few words; `InvalidIndex` for bits that are no field of a word;
+/// `InvalidMemory` for an odd address. An error changes nothing.
 #[tactic(auto, unfolding(crate::specs::Fields::store_field_row), using(pm_words::proofs::WatchLaws::keeps))]
 pub fn store_field(memory: &mut Memory, sp: u16, np: u16) -> Result<u16, ExecError>
-    ensures row { Stacks result memory.old.words memory.new.words (store_field_row memory.old.words sp np) }
+    ensures row { Changes result memory.old.words memory.new.words (store_field_row memory.old.words sp np) }
     ensures stack { IsStack sp np → IfOk result (λ sp. IsStack sp np) }
     ensures keeps { KeepsWatch memory.old memory.new }
 {
-    let (value, sp) = pop(memory, sp)?;
-    let (lowest, sp) = pop(memory, sp)?;
-    let (width, sp) = pop(memory, sp)?;
-    let (address, sp) = pop(memory, sp)?;
-    check_field(lowest, width)?;
-    let word = load(memory, address)?;
-    store(memory, address, replaced(word, lowest, width, value))?;
-    Ok(sp)
+    let value = pop(memory, sp)?;
+    let lowest = pop(memory, value.above)?;
+    let width = pop(memory, lowest.above)?;
+    let address = pop(memory, width.above)?;
+    check_field(lowest.word, width.word)?;
+    let word = load(memory, address.word)?;
+    store(
+        memory,
+        address.word,
+        replaced(word, lowest.word, width.word, value.word),
+    )?;
+    Ok(address.above)
 }
 
 // `InvalidIndex` where `width` bits from bit `lowest` on are no field of a word.

@@ -9,7 +9,7 @@ mod stack;
 mod strings;
 pub mod worked;
 
-pub use comparisons::{Kind, Relation, compare};
+pub use comparisons::compare;
 pub use fields::{index_field, load_byte, load_field, store_byte, store_field};
 pub use sets::{adjust, difference, in_set, intersect, singleton, subrange, union};
 pub use strings::{assign, index_string};

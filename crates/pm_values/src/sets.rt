@@ -1,8 +1,24 @@
 //! Sets on the stack.
 
-ghost use Rattle.std.specs.Prelude.{◌≡◌, ◌%◌, ◌≤◌, ◌+◌, ◌*◌, ◌&&◌, ℕ, IfOk, IsOk, MatchResult, Ok, Err, length, nat_le, slice_index};
+ghost use Rattle.std.specs.Prelude.{
+  ◌≡◌,
+  ◌%◌,
+  ◌≤◌,
+  ◌+◌,
+  ◌*◌,
+  ◌&&◌,
+  ℕ,
+  IfOk,
+  IsOk,
+  MatchResult,
+  Ok,
+  Err,
+  length,
+  nat_le,
+  slice_index,
+};
 ghost use Rattle.pm_words.specs.Watch.{KeepsWatch};
-ghost use Rattle.pm_words.specs.Stack.{IsStack, Stacks};
+ghost use Rattle.pm_words.specs.Stack.{IsStack, Changes};
 ghost use Rattle.pm_words.specs.Words.{words_at};
 ghost use Rattle.pm_values.specs.Combinations.{count_of, test_of, word_of};
 ghost use Rattle.pm_values.specs.Sets.{
@@ -21,9 +37,11 @@ ghost use Rattle.pm_values.specs.Sets.{
   two_sets_row,
   union_row,
 };
+ghost use Rattle.pm_words.specs.declared.layout.TheConstants.{STACK_END};
 
 use crate::stack::push_words;
 use arrayvec::ArrayVec;
+use pm_words::layout::STACK_END;
 use pm_words::stack::{pop, push};
 use pm_words::{ExecError, Memory};
 
@@ -48,100 +66,96 @@ pub struct StackSet {
     pub above: u16,
 }
 
-/// Replaces a value and a set by 1 or 0, whether the signed value is an element, and gives the new
-/// SP. `InvalidMemory` where there are too few words; `InvalidIndex` for a set of more than 255
-/// words. An error changes nothing.
+/// `INN`. Replaces a value and a set by 1 or 0, whether the signed value is an element, and gives the new SP.
+/// `InvalidMemory` where there are too few words; `InvalidIndex` for a set of more than 255 words. An error changes
+/// nothing.
 #[tactic(auto, unfolding(crate::specs::Sets::in_set_row), using(pm_words::proofs::WatchLaws::keeps))]
 pub fn in_set(memory: &mut Memory, sp: u16, np: u16) -> Result<u16, ExecError>
-    ensures row { Stacks result memory.old.words memory.new.words (in_set_row memory.old.words sp np) }
+    ensures row { Changes result memory.old.words memory.new.words (in_set_row memory.old.words sp np) }
     ensures stack { IsStack sp np → IfOk result (λ sp. IsStack sp np) }
     ensures keeps { KeepsWatch memory.old memory.new }
 {
     let set = take_set(memory, sp)?;
-    let (value, sp) = pop(memory, set.above)?;
-    let found = value < 32768 && contains(&set.words, value);
-    push(memory, sp, np, u16::from(found))
+    let value = pop(memory, set.above)?;
+    let found = value.word < 32768 && contains(&set.words, value.word);
+    push(memory, value.above, np, u16::from(found))
 }
 
-/// Replaces two sets by the set of the numbers in both, in as many words as the smaller has, and
-/// gives the new SP. For each operand, the top one first: `InvalidMemory` where there are too few
-/// words, `InvalidIndex` for a set of more than 255 words; then `StackOverflow`. An error changes
-/// nothing.
+/// `INT`. Replaces two sets by the set of the numbers in both, in as many words as the smaller has, and gives the new
+/// SP. For each operand, the top one first: `InvalidMemory` where there are too few words, `InvalidIndex` for a set of
+/// more than 255 words; then `StackOverflow`. An error changes nothing.
 #[tactic(auto, unfolding(crate::specs::Sets::intersect_row), using(pm_words::proofs::WatchLaws::keeps))]
 pub fn intersect(memory: &mut Memory, sp: u16, np: u16) -> Result<u16, ExecError>
-    ensures row { Stacks result memory.old.words memory.new.words (intersect_row memory.old.words sp np) }
+    ensures row { Changes result memory.old.words memory.new.words (intersect_row memory.old.words sp np) }
     ensures stack { IsStack sp np → IfOk result (λ sp. IsStack sp np) }
     ensures keeps { KeepsWatch memory.old memory.new }
 {
     combine(memory, sp, np, Combination::Intersection)
 }
 
-/// Replaces two sets by the set of the numbers in either, in as many words as the larger has, and
-/// gives the new SP. Errors as in `intersect`; an error changes nothing.
+/// `UNI`. Replaces two sets by the set of the numbers in either, in as many words as the larger has, and gives the new
+/// SP. Errors as in `intersect`; an error changes nothing.
 #[tactic(auto, unfolding(crate::specs::Sets::union_row), using(pm_words::proofs::WatchLaws::keeps))]
 pub fn union(memory: &mut Memory, sp: u16, np: u16) -> Result<u16, ExecError>
-    ensures row { Stacks result memory.old.words memory.new.words (union_row memory.old.words sp np) }
+    ensures row { Changes result memory.old.words memory.new.words (union_row memory.old.words sp np) }
     ensures stack { IsStack sp np → IfOk result (λ sp. IsStack sp np) }
     ensures keeps { KeepsWatch memory.old memory.new }
 {
     combine(memory, sp, np, Combination::Union)
 }
 
-/// Replaces two sets by the set of the numbers in the lower and not in the upper one, in as many
-/// words as the lower set has, and gives the new SP. Errors as in `intersect`; an error changes
-/// nothing.
+/// `DIF`. Replaces two sets by the set of the numbers in the lower and not in the upper one, in as many words as the
+/// lower set has, and gives the new SP. Errors as in `intersect`; an error changes nothing.
 #[tactic(auto, unfolding(crate::specs::Sets::difference_row), using(pm_words::proofs::WatchLaws::keeps))]
 pub fn difference(memory: &mut Memory, sp: u16, np: u16) -> Result<u16, ExecError>
-    ensures row { Stacks result memory.old.words memory.new.words (difference_row memory.old.words sp np) }
+    ensures row { Changes result memory.old.words memory.new.words (difference_row memory.old.words sp np) }
     ensures stack { IsStack sp np → IfOk result (λ sp. IsStack sp np) }
     ensures keeps { KeepsWatch memory.old memory.new }
 {
     combine(memory, sp, np, Combination::Difference)
 }
 
-/// Replaces a value by the set of that number alone, and gives the new SP. `InvalidMemory` where
-/// there are too few words; `InvalidIndex` for a value that is not 0 to 4,079; `StackOverflow`. An
-/// error changes nothing.
+/// `SGS`. Replaces a value by the set of that number alone, and gives the new SP. `InvalidMemory` where there are too
+/// few words; `InvalidIndex` for a value that is not 0 to 4,079; `StackOverflow`. An error changes nothing.
 #[tactic(auto, unfolding(crate::specs::Sets::singleton_row), using(pm_words::proofs::WatchLaws::keeps))]
 pub fn singleton(memory: &mut Memory, sp: u16, np: u16) -> Result<u16, ExecError>
-    ensures row { Stacks result memory.old.words memory.new.words (singleton_row memory.old.words sp np) }
+    ensures row { Changes result memory.old.words memory.new.words (singleton_row memory.old.words sp np) }
     ensures stack { IsStack sp np → IfOk result (λ sp. IsStack sp np) }
     ensures keeps { KeepsWatch memory.old memory.new }
 {
-    let (value, sp) = pop(memory, sp)?;
-    if value > LAST_MEMBER {
+    let value = pop(memory, sp)?;
+    if value.word > LAST_MEMBER {
         return Err(ExecError::InvalidIndex);
     }
-    push_words(memory, sp, np, &interval(value, value))
+    push_words(memory, value.above, np, &interval(value.word, value.word))
 }
 
-/// Replaces two signed values by the set of the numbers from the lower word to the upper one, or by
-/// the set of no words if the first is the greater, and gives the new SP. `InvalidMemory` where
-/// there are too few words; `InvalidIndex` for a bound that is not 0 to 4,079; `StackOverflow`. An
-/// error changes nothing.
+/// `SRS`. Replaces two signed values by the set of the numbers from the lower word to the upper one, or by the set of
+/// no words if the first is the greater, and gives the new SP. `InvalidMemory` where there are too few words;
+/// `InvalidIndex` for a bound that is not 0 to 4,079; `StackOverflow`. An error changes nothing.
 #[tactic(auto, unfolding(crate::specs::Sets::subrange_row), using(pm_words::proofs::WatchLaws::keeps))]
 pub fn subrange(memory: &mut Memory, sp: u16, np: u16) -> Result<u16, ExecError>
-    ensures row { Stacks result memory.old.words memory.new.words (subrange_row memory.old.words sp np) }
+    ensures row { Changes result memory.old.words memory.new.words (subrange_row memory.old.words sp np) }
     ensures stack { IsStack sp np → IfOk result (λ sp. IsStack sp np) }
     ensures keeps { KeepsWatch memory.old memory.new }
 {
-    let (high, sp) = pop(memory, sp)?;
-    let (low, sp) = pop(memory, sp)?;
-    if high.cast_signed() < low.cast_signed() {
-        return push_words(memory, sp, np, &[0]);
+    let high = pop(memory, sp)?;
+    let low = pop(memory, high.above)?;
+    if high.word.cast_signed() < low.word.cast_signed() {
+        return push_words(memory, low.above, np, &[0]);
     }
-    if low > LAST_MEMBER || high > LAST_MEMBER {
+    if low.word > LAST_MEMBER || high.word > LAST_MEMBER {
         return Err(ExecError::InvalidIndex);
     }
-    push_words(memory, sp, np, &interval(low, high))
+    push_words(memory, low.above, np, &interval(low.word, high.word))
 }
 
-/// Replaces a set by `words` words without a count, cut or filled up by zeros at the end of the
-/// greatest elements, and gives the new SP. `InvalidMemory` where there are too few words;
-/// `InvalidIndex` for a set of more than 255 words; `StackOverflow`. An error changes nothing.
+/// `ADJ`. Replaces a set by `words` words without a count, cut or filled up by zeros at the end of the greatest
+/// elements, and gives the new SP. `InvalidMemory` where there are too few words; `InvalidIndex` for a set of more than
+/// 255 words; `StackOverflow`. An error changes nothing.
 #[tactic(auto, unfolding(crate::specs::Sets::adjust_row), using(pm_words::proofs::WatchLaws::keeps))]
 pub fn adjust(memory: &mut Memory, sp: u16, np: u16, words: u8) -> Result<u16, ExecError>
-    ensures row { Stacks result memory.old.words memory.new.words (adjust_row words memory.old.words sp np) }
+    ensures row { Changes result memory.old.words memory.new.words (adjust_row words memory.old.words sp np) }
     ensures stack { IsStack sp np → IfOk result (λ sp. IsStack sp np) }
     ensures keeps { KeepsWatch memory.old memory.new }
 {
@@ -158,7 +172,8 @@ fn combine(
     np: u16,
     combination: Combination,
 ) -> Result<u16, ExecError>
-    ensures row { Stacks result memory.old.words memory.new.words (two_sets_row (count_of combination) (test_of combination) memory.old.words sp np) }
+    ensures row { Changes result memory.old.words memory.new.words
+        (two_sets_row (count_of combination) (test_of combination) memory.old.words sp np) }
     ensures stack { IsStack sp np → IfOk result (λ sp. IsStack sp np) }
     ensures keeps { KeepsWatch memory.old memory.new }
 {
@@ -177,17 +192,17 @@ pub fn take_set(memory: &Memory, sp: u16) -> Result<StackSet, ExecError>
     ensures even { IfOk result (λ s. s.above % 2 ≡ 0) }
     ensures stack { (np : ℕ) → IsStack sp np → IfOk result (λ s. IsStack s.above np) }
 {
-    let (count, sp) = pop(memory, sp)?;
-    if count > 255 {
+    let count = pop(memory, sp)?;
+    if count.word > 255 {
         return Err(ExecError::InvalidIndex);
     }
-    if 2 * count > 65504 - sp {
+    if 2 * count.word > STACK_END - count.above {
         return Err(ExecError::InvalidMemory);
     }
-    let words = words_on_stack(memory, sp, count)?;
+    let words = words_on_stack(memory, count.above, count.word)?;
     Ok(StackSet {
         words,
-        above: sp + 2 * count,
+        above: count.above + 2 * count.word,
     })
 }
 
@@ -199,7 +214,7 @@ fn words_on_stack(
 ) -> Result<ArrayVec<u16, SET_WORDS>, ExecError>
     requires even { address % 2 ≡ 0 }
     requires few { count ≤ 255 }
-    requires inside { address + 2 * count ≤ 65504 }
+    requires inside { address + 2 * count ≤ STACK_END }
     ensures words { IfOk result (λ v. v.items ≡ words_at memory.now.words address count) }
     ensures always { IsOk result }
 {
@@ -231,7 +246,8 @@ fn combined(combination: Combination, lower: &[u16], upper: &[u16]) -> ArrayVec<
     requires lower { length lower.now ≤ 255 }
     requires upper { length upper.now ≤ 255 }
     ensures few { length result.items ≤ 256 }
-    ensures words { result.items ≡ counted (set_of (count_of combination (length lower.now) (length upper.now)) (λ e. test_of combination (is_member lower.now e) (is_member upper.now e))) }
+    ensures words { result.items ≡ counted (set_of (count_of combination (length lower.now) (length upper.now))
+        (λ e. test_of combination (is_member lower.now e) (is_member upper.now e))) }
 {
     let count = combined_count(combination, lower.len(), upper.len());
     let mut words = ArrayVec::new();

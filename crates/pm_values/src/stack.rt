@@ -2,7 +2,7 @@
 
 ghost use Rattle.std.specs.Prelude.{◌≡◌, ◌%◌, ◌≤◌, IfOk, length};
 ghost use Rattle.pm_words.specs.Watch.{KeepsWatch};
-ghost use Rattle.pm_words.specs.Stack.{IsStack, Stacks};
+ghost use Rattle.pm_words.specs.Stack.{IsStack, Changes};
 ghost use Rattle.pm_values.specs.Several.{push_words};
 
 use pm_words::{ExecError, Memory};
@@ -13,7 +13,7 @@ use pm_words::{ExecError, Memory};
 pub fn push_words(memory: &mut Memory, sp: u16, np: u16, words: &[u16]) -> Result<u16, ExecError>
     requires even { sp % 2 ≡ 0 }
     requires few { length words.now ≤ 256 }
-    ensures row { Stacks result memory.old.words memory.new.words (push_words memory.old.words sp np words.now) }
+    ensures row { Changes result memory.old.words memory.new.words (push_words memory.old.words sp np words.now) }
     ensures stack { IsStack sp np → IfOk result (λ sp. IsStack sp np) }
     ensures keeps { KeepsWatch memory.old memory.new }
 {

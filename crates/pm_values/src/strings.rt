@@ -2,60 +2,59 @@
 
 ghost use Rattle.std.specs.Prelude.{◌≡◌, ◌≤◌, IfOk, MatchResult, Ok, Err, length};
 ghost use Rattle.pm_words.specs.Watch.{KeepsWatch};
-ghost use Rattle.pm_words.specs.Stack.{IsStack, Stacks};
+ghost use Rattle.pm_words.specs.Stack.{IsStack, Changes};
 ghost use Rattle.pm_words.specs.Words.{IsMemory, byte_at};
 ghost use Rattle.pm_values.specs.Strings.{assign_row, index_string_row, string_at};
 
 use pm_words::stack::pop;
 use pm_words::{ExecError, Memory};
 
-/// Checks an index against the string whose address stands below it, leaves both, and gives the SP
-/// as it was. `InvalidMemory` where there are too few words; `InvalidIndex` for an index above the
-/// string's length, both unsigned. It changes nothing.
+/// `IXS`. Checks an index against the string whose address stands below it, leaves both, and gives the SP as it was.
+/// `InvalidMemory` where there are too few words; `InvalidIndex` for an index above the string's length, both unsigned.
+/// It changes nothing.
 #[tactic(auto, unfolding(crate::specs::Strings::index_string_row), using(pm_words::proofs::WatchLaws::keeps))]
 pub fn index_string(memory: &mut Memory, sp: u16, np: u16) -> Result<u16, ExecError>
-    ensures row { Stacks result memory.old.words memory.new.words (index_string_row memory.old.words sp np) }
+    ensures row { Changes result memory.old.words memory.new.words (index_string_row memory.old.words sp np) }
     ensures stack { IsStack sp np → IfOk result (λ sp. IsStack sp np) }
     ensures keeps { KeepsWatch memory.old memory.new }
 {
-    let (index, above) = pop(memory, sp)?;
-    let (string, _) = pop(memory, above)?;
-    if index > u16::from(memory.byte(string)) {
+    let index = pop(memory, sp)?;
+    let string = pop(memory, index.above)?;
+    if index.word > u16::from(memory.byte(string.word)) {
         return Err(ExecError::InvalidIndex);
     }
     Ok(sp)
 }
 
-/// Takes a destination and a source from the stack, writes the source's length and characters to
-/// the destination, and gives the new SP. A source below 256 is one character, another the address
-/// of a string. `InvalidMemory` where there are too few words, or the string passes the end of
-/// memory; `StringTooLong` for more than `limit` characters; `InvalidMemory` where the destination
-/// passes the end. An error changes nothing.
+/// `SAS`. Takes a destination and a source from the stack, writes the source's length and characters to the
+/// destination, and gives the new SP. A source below 256 is one character, another the address of a string.
+/// `InvalidMemory` where there are too few words, or the string passes the end of memory; `StringTooLong` for more than
+/// `limit` characters; `InvalidMemory` where the destination passes the end. An error changes nothing.
 #[tactic(auto, unfolding(crate::specs::Strings::assign_row), using(pm_words::proofs::WatchLaws::keeps, crate::proofs::StringLaws::strings))]
 pub fn assign(memory: &mut Memory, sp: u16, np: u16, limit: u8) -> Result<u16, ExecError>
-    ensures row { Stacks result memory.old.words memory.new.words (assign_row limit memory.old.words sp np) }
+    ensures row { Changes result memory.old.words memory.new.words (assign_row limit memory.old.words sp np) }
     ensures stack { IsStack sp np → IfOk result (λ sp. IsStack sp np) }
     ensures keeps { KeepsWatch memory.old memory.new }
 {
-    let (source, sp) = pop(memory, sp)?;
-    let (place, sp) = pop(memory, sp)?;
-    if source < 256 {
+    let source = pop(memory, sp)?;
+    let place = pop(memory, source.above)?;
+    if source.word < 256 {
         if limit < 1 {
             return Err(ExecError::StringTooLong);
         }
-        if !memory.write(place, &[1, source as u8]) {
+        if !memory.write(place.word, &[1, source.word as u8]) {
             return Err(ExecError::InvalidMemory);
         }
-        return Ok(sp);
+        return Ok(place.above);
     }
-    let length = characters(memory, source)?.len();
+    let length = characters(memory, source.word)?.len();
     if length > usize::from(limit) {
         return Err(ExecError::StringTooLong);
     }
-    if !memory.copy(source, place, length as u16 + 1) {
+    if !memory.copy(source.word, place.word, length as u16 + 1) {
         return Err(ExecError::InvalidMemory);
     }
-    Ok(sp)
+    Ok(place.above)
 }
 
 /// The characters of the string at an address; `InvalidMemory` where they pass the end of memory.

@@ -55,7 +55,8 @@ module _ (image name bytes : List ℕ) (kind date : ℕ) (g : Gap) (v : IsVolume
         rest = λ place out.
             outside place (rw (← end) out.1.1.0)
             ∙ with_directory_same image d place v.long size (λ from to.
-            with_slot_outside (directory_of image) (slot_of entry) g.place (length-directory image v.long) (length-slot_of entry fit) r.few r.first r.last (place - 1024)
+            with_slot_outside (directory_of image) (slot_of entry) g.place (length-directory image v.long) (length-slot_of entry fit) r.few r.first r.last
+            (place - 1024)
             (shifted 1024 16 18 place from out.0) (shifted 1024 (26 * g.place) (26 * (file_count (directory_of image) + 2)) place from out.1.0));
       }
 
@@ -72,4 +73,5 @@ module _ (image name bytes : List ℕ) (kind date : ℕ) (g : Gap) (v : IsVolume
       let out = (gap_in image name (blocks_for (length bytes)) g v p).apart k e h in
       KeepsFile-from_outside image (with_file image g.place entry bytes) _ long (omega (arith, w.within, v.has_directory.within, v.whole)) w.ordered w.one_block
       (λ place from to. outside place (apart (get_or (files_of image) k e) place out from to)
-      ∙ with_directory_outside image d place v.long size (inr (omega (arith, w.after, past_directory (directory_of image) (length image / 512) v.has_directory))))
+      ∙ with_directory_outside image d place v.long size
+      (inr (omega (arith, w.after, past_directory (directory_of image) (length image / 512) v.has_directory))))

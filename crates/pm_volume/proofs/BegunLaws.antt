@@ -32,12 +32,14 @@ module _ (d : List ℕ) (past : ℕ) (whole : length d ≡ 2048) where
   files-begun few =
       let count : file_count (with_word d 2 past) ≡ file_count d = word_in-above d 2 (little_bytes 2 past) 16 room (omega arith) in
       ap (entries_from (with_word d 2 past) 1) count
-      ∙ entries_from-same (with_word d 2 past) d (file_count d) 1 1 (λ k below. entry_in-behind d 2 (little_bytes 2 past) room (1 + k) (omega arith) (omega (arith, whole)))
+      ∙ entries_from-same (with_word d 2 past) d (file_count d) 1 1
+      (λ k below. entry_in-behind d 2 (little_bytes 2 past) room (1 + k) (omega arith) (omega (arith, whole)))
 
   begins-begun : past < 65536 → files_begin (with_word d 2 past) ≡ past
   begins-begun fits = word_in-written d 2 past (omega (arith, whole)) fits
 
-  IsDirectory-begun : (blocks : ℕ) → (past ≡ 6) ⊎ (past ≡ 10) → past < 65536 → past ≤ block_count d → AreInOrder (block_count d) past (files_in d) → IsDirectory d blocks
+  IsDirectory-begun : (blocks : ℕ) → (past ≡ 6) ⊎ (past ≡ 10) → past < 65536 → past ≤ block_count d → AreInOrder (block_count d) past (files_in d) →
+      IsDirectory d blocks
       → IsDirectory (with_word d 2 past) blocks
   IsDirectory-begun blocks begins fits holds order old =
       let name = get_written_above d 2 (little_bytes 2 past) 6 room (omega arith) in
@@ -53,7 +55,8 @@ module _ (d : List ℕ) (past : ℕ) (whole : length d ≡ 2048) where
         in_order = rw (total, begins-begun fits, files-begun old.few) order;
       }
 
-module _ (image : List ℕ) (v : IsVolume image) (past : ℕ) (begins : (past ≡ 6) ⊎ (past ≡ 10)) (fits : past < 65536) (holds : past ≤ block_count (directory_of image))
+module _ (image : List ℕ) (v : IsVolume image) (past : ℕ) (begins : (past ≡ 6) ⊎ (past ≡ 10)) (fits : past < 65536)
+    (holds : past ≤ block_count (directory_of image))
     (order : AreInOrder (block_count (directory_of image)) past (files_of image)) where
   size : length (with_word (directory_of image) 2 past) ≡ 2048
   size = length-begun (directory_of image) past (length-directory image v.long)
@@ -67,7 +70,8 @@ module _ (image : List ℕ) (v : IsVolume image) (past : ℕ) (begins : (past �
   pub IsVolume-begun : IsVolume (begun_at image past)
   IsVolume-begun =
       let d = directory_of image in
-      IsVolume-with image (with_word d 2 past) v size (IsDirectory-begun d past (length-directory image v.long) (length image / 512) begins fits holds order v.has_directory)
+      IsVolume-with image (with_word d 2 past) v size
+      (IsDirectory-begun d past (length-directory image v.long) (length image / 512) begins fits holds order v.has_directory)
 
   pub files-image : files_of (begun_at image past) ≡ files_of image
   files-image = ap files_in own ∙ files-begun (directory_of image) past (length-directory image v.long) v.has_directory.few

@@ -1,5 +1,6 @@
 -- Images whose second copy was made the same as the first.
-use Rattle.std.proofs.Common.{◌≡◌, ◌==◌, ◌<◌, ◌≤◌, ◌⊎◌, ◌&&◌, true, false, leb, ℕ, ◌+◌, ◌-◌, ◌*◌, ◌/◌, List, [], ◌∷◌, ◌∙◌, ap, sym, refl, inl, inr, length, get_or, arith}
+use Rattle.std.proofs.Common.{◌≡◌, ◌==◌, ◌<◌, ◌≤◌, ◌⊎◌, ◌&&◌, true, false, leb, ℕ, ◌+◌, ◌-◌, ◌*◌, ◌/◌, List, [], ◌∷◌, ◌∙◌, ap, sym, refl, inl, inr, length}
+use Rattle.std.proofs.Common.{get_or, arith}
 use Rattle.std.proofs.lemmas.Bool.Decides.{nat_tests}
 use Rattle.std.proofs.lemmas.List.{take_all}
 use Rattle.std.proofs.lemmas.List.Elements.{All-head, All-tail, All-weaker}
@@ -38,7 +39,8 @@ module _ (m : List ℕ) (long : 5120 ≤ length m) (ten : files_begin (directory
   outside-ten place (inl below) =
       ap (λ (xs : List ℕ). get_or xs place 0) mirrored-ten ∙ get_written_below m 3072 (directory_of m) place (omega (arith, size, long)) below
   outside-ten place (inr above) =
-      ap (λ (xs : List ℕ). get_or xs place 0) mirrored-ten ∙ get_written_above m 3072 (directory_of m) place (omega (arith, size, long)) (omega (arith, size, above))
+      ap (λ (xs : List ℕ). get_or xs place 0) mirrored-ten ∙ get_written_above m 3072 (directory_of m) place (omega (arith, size, long))
+      (omega (arith, size, above))
 
   directory-ten : directory_of (mirrored m) ≡ directory_of m
   directory-ten =
@@ -167,7 +169,8 @@ pub begins-kept : (spans : List Span) (old m : List ℕ) → ChangesOnly spans o
     → files_begin (directory_of m) ≡ files_begin (directory_of old)
 unfolding word_in
 begins-kept spans old m c low high =
-    let at : (place : ℕ) → place < 2048 → get_or m (1024 + place) 0 ≡ get_or old (1024 + place) 0 → get_or (directory_of m) place 0 ≡ get_or (directory_of old) place 0 =
+    let at : (place : ℕ) → place < 2048 → get_or m (1024 + place) 0 ≡ get_or old (1024 + place) 0 →
+    get_or (directory_of m) place 0 ≡ get_or (directory_of old) place 0 =
     λ place below e. directory_byte m place below ∙ e ∙ sym (directory_byte old place below) in
     rw (at 2 (omega arith) (c.rest 1026 low), at 3 (omega arith) (c.rest 1027 high)) refl
 
@@ -197,5 +200,8 @@ moved-mirrored old m [] [] kept zip = zip
 moved-mirrored old m [] (f ∷ fs) kept zip = zip
 moved-mirrored old m (e ∷ es) [] kept zip = zip
 moved-mirrored old m (e ∷ es) (f ∷ fs) kept zip =
-    let k = All-head (KeepsFile m (mirrored m)) f fs kept in
-    (record { bytes = k.bytes ∙ zip.0.bytes; blocks = k.blocks ∙ zip.0.blocks }, moved-mirrored old m es fs (All-tail (KeepsFile m (mirrored m)) f fs kept) zip.1)
+    let k = All-head (KeepsFile m (mirrored m)) f fs kept in (
+      record { bytes = k.bytes ∙ zip.0.bytes; blocks = k.blocks ∙ zip.0.blocks },
+      moved-mirrored old m es fs (All-tail (KeepsFile m (mirrored m)) f fs kept)
+          zip.1,
+    )

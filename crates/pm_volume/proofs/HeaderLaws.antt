@@ -12,7 +12,8 @@ use Rattle.pm_volume.specs.Words.{with_word, word_in, written, zeros}
 use Rattle.pm_volume.proofs.ImageLaws.{IsVolume-from_directory, IsVolume-with, directory-with}
 use Rattle.pm_volume.proofs.NameLaws.{length-name_field}
 use Rattle.pm_volume.proofs.SlotChanges.{entries_from-same}
-use Rattle.pm_volume.proofs.WrittenLaws.{get_written_above, get_written_below, get_written_in, length-directory, length-written, same_parts, word_in-above, word_in-below, word_in-written}
+use Rattle.pm_volume.proofs.WrittenLaws.{get_written_above, get_written_below, get_written_in, length-directory, length-written, same_parts, word_in-above}
+use Rattle.pm_volume.proofs.WrittenLaws.{word_in-below, word_in-written}
 
 module _ (d : List ℕ) (i : ℕ) (ys : List ℕ) (room : i + length ys ≤ length d) where
   -- the entries before what was written, and those behind it
@@ -209,13 +210,16 @@ module _ (image : List ℕ) (v : IsVolume image) where
     IsVolume-zeroed fits =
         let d = directory_of image in
         let h = v.has_directory in
-        IsVolume-with image (new_directory (files_begin d) name (block_count d) (last_date_of d)) v (length-new_directory (files_begin d) name (block_count d) (last_date_of d) short)
+        IsVolume-with image (new_directory (files_begin d) name (block_count d) (last_date_of d)) v
+        (length-new_directory (files_begin d) name (block_count d) (last_date_of d) short)
         (IsDirectory-new (files_begin d) name (block_count d) (last_date_of d) short (length image / 512) h.begins some h.holds_directory fits h.within)
 
     pub files-zeroed : files_of (zeroed_first image name) ≡ []
     files-zeroed =
         let d = directory_of image in
-        ap files_in (directory-with image (new_directory (files_begin d) name (block_count d) (last_date_of d)) v.long (length-new_directory (files_begin d) name (block_count d) (last_date_of d) short))
+        ap files_in
+        (directory-with image (new_directory (files_begin d) name (block_count d) (last_date_of d)) v.long
+        (length-new_directory (files_begin d) name (block_count d) (last_date_of d) short))
         ∙ files-new_directory (files_begin d) name (block_count d) (last_date_of d) short
 
 -- a new volume

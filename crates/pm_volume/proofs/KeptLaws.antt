@@ -19,7 +19,8 @@ use Rattle.pm_volume.proofs.NameLaws.{length-name_field}
 use Rattle.pm_volume.proofs.OrderLaws.{IsWithin, all_within}
 use Rattle.pm_volume.proofs.RenameLaws.{length-named}
 use Rattle.pm_volume.proofs.SlotRemoval.{length-without_slot, without_slot_outside}
-use Rattle.pm_volume.proofs.WrittenLaws.{get_written_above, get_written_below, get_written_in, get_written_outside, length-directory, length-written, same_parts, shifted}
+use Rattle.pm_volume.proofs.WrittenLaws.{get_written_above, get_written_below, get_written_in, get_written_outside, length-directory, length-written}
+use Rattle.pm_volume.proofs.WrittenLaws.{same_parts, shifted}
 
 -- a byte of the directory
 pub directory_byte : (image : List ℕ) (k : ℕ) → k < 2048 → get_or (directory_of image) k 0 ≡ get_or image (1024 + k) 0
@@ -81,7 +82,9 @@ KeepsFiles-with_directory image d v size =
     All-weaker (IsWithin (files_begin (directory_of image)) (block_count (directory_of image))) (KeepsFile image (with_directory image d))
     (λ e w. KeepsFile-from_outside image (with_directory image d) e (length-with_directory image d v.long size)
     (omega (arith, w.within, v.has_directory.within, v.whole)) w.ordered w.one_block
-    (λ place from to. with_directory_outside image d place v.long size (inr (omega (arith, w.after, past_directory (directory_of image) (length image / 512) v.has_directory)))))
+    (λ place from to.
+    with_directory_outside image d place v.long size
+    (inr (omega (arith, w.after, past_directory (directory_of image) (length image / 512) v.has_directory)))))
     (files_of image) (files_within image v)
 
 -- what another directory changes, where the rest of the directory is the same

@@ -13,7 +13,8 @@ use Rattle.pm_volume.specs.Packing.{Krunches, MovesFile, krunched_image, moved_e
 use Rattle.pm_volume.specs.Space.{gaps_in}
 use Rattle.pm_volume.specs.Words.{word_in}
 use Rattle.pm_volume.specs.declared.entry.Entry.{Entry}
-use Rattle.pm_volume.proofs.CopyLaws.{ChangesOnly-mirrored, IsVolume-mirrored, KeepsCopies-mirrored, KeepsFiles-own, directory-mirrored, files-mirrored, moved-mirrored}
+use Rattle.pm_volume.proofs.CopyLaws.{ChangesOnly-mirrored, IsVolume-mirrored, KeepsCopies-mirrored, KeepsFiles-own, directory-mirrored, files-mirrored}
+use Rattle.pm_volume.proofs.CopyLaws.{moved-mirrored}
 use Rattle.pm_volume.proofs.DirectoryLaws.{past_directory}
 use Rattle.pm_volume.proofs.KeptLaws.{directory_byte}
 use Rattle.pm_volume.proofs.PackedLaws.{Packs, SameBlocks, new_place-down, order-packed, packs, spans-outside}
@@ -76,7 +77,8 @@ module _ (image : List ℕ) (v : IsVolume image) (fits : block_count (directory_
 
   moved : Packs 1 (file_count (directory_of image)) (files_of image) (packed (files_begin (directory_of image)) (files_of image)) image new
   unfolding new
-  moved = packs (file_count (directory_of image)) 1 (files_begin (directory_of image)) (block_count (directory_of image)) image v.long room fits (omega (arith, v.has_directory.few)) begin
+  moved = packs (file_count (directory_of image)) 1 (files_begin (directory_of image)) (block_count (directory_of image)) image v.long room fits
+      (omega (arith, v.has_directory.few)) begin
       v.has_directory.in_order
 
   size : length new ≡ length image
@@ -86,8 +88,10 @@ module _ (image : List ℕ) (v : IsVolume image) (fits : block_count (directory_
   header : (k : ℕ) → k < 26 → get_or (directory_of new) k 0 ≡ get_or (directory_of image) k 0
   header k below =
       directory_byte new k (omega arith)
-      ∙ moved.rest.rest (1024 + k) (spans-outside (block_count (directory_of image)) (1024 + k) 1 (files_begin (directory_of image)) (files_of image) v.has_directory.in_order
-      (omega (arith, length-entries_from (directory_of image) (file_count (directory_of image)) 1, v.has_directory.few)) (inl (omega arith)) (omega (arith, begin)))
+      ∙ moved.rest.rest (1024 + k)
+      (spans-outside (block_count (directory_of image)) (1024 + k) 1 (files_begin (directory_of image)) (files_of image) v.has_directory.in_order
+      (omega (arith, length-entries_from (directory_of image) (file_count (directory_of image)) 1, v.has_directory.few)) (inl (omega arith))
+      (omega (arith, begin)))
       ∙ sym (directory_byte image k (omega arith))
 
   word : (place : ℕ) → place + 2 ≤ 26 → word_in (directory_of new) place ≡ word_in (directory_of image) place
@@ -114,12 +118,15 @@ module _ (image : List ℕ) (v : IsVolume image) (fits : block_count (directory_
           holds_directory = omega (arith, word 14 (omega arith), word 2 (omega arith), h.holds_directory);
           within = omega (arith, word 14 (omega arith), h.within, size);
           few = omega (arith, word 16 (omega arith), h.few);
-          in_order = rw (word 14 (omega arith), word 2 (omega arith), files) (order-packed (block_count (directory_of image)) (files_begin (directory_of image)) (files_of image) h.in_order);
+          in_order =
+              rw (word 14 (omega arith), word 2 (omega arith), files)
+              (order-packed (block_count (directory_of image)) (files_begin (directory_of image)) (files_of image) h.in_order);
         };
       }
 
   zip : AllZip (MovesFile image new) (files_of image) (files_of new)
-  zip = rw files (moves image new (block_count (directory_of image)) (files_begin (directory_of image)) (files_of image) v.has_directory.in_order room size moved.blocks)
+  zip = rw files
+      (moves image new (block_count (directory_of image)) (files_begin (directory_of image)) (files_of image) v.has_directory.in_order room size moved.blocks)
 
   only : ChangesOnly (packed_spans 1 (files_of new)) image new
   only = rw files moved.rest

@@ -1,6 +1,7 @@
 -- Files moved together.
 use Rattle.byteorder.specs.Endian.{little_bytes}
-use Rattle.std.proofs.Common.{◌≡◌, ◌<◌, ◌≤◌, ◌⊎◌, ℕ, ◌+◌, ◌-◌, ◌*◌, List, ◌∙◌, ap, sym, refl, inl, inr, length, drop, take, get_or, slice_range, arith, length-take, length-drop}
+use Rattle.std.proofs.Common.{◌≡◌, ◌<◌, ◌≤◌, ◌⊎◌, ℕ, ◌+◌, ◌-◌, ◌*◌, List, ◌∙◌, ap, sym, refl, inl, inr, length, drop, take, get_or, slice_range, arith}
+use Rattle.std.proofs.Common.{length-take, length-drop}
 use Rattle.std.proofs.lemmas.List.{get_or-drop, get_or-take}
 use Rattle.pm_volume.specs.Directory.{directory_of, entries_from, entry_in}
 use Rattle.pm_volume.specs.Entries.{entry_of}
@@ -13,7 +14,8 @@ use Rattle.pm_volume.proofs.ImageLaws.{directory-with}
 use Rattle.pm_volume.proofs.KeptLaws.{length-with_directory, with_directory_outside, with_directory_same}
 use Rattle.pm_volume.proofs.RenameLaws.{slot_byte, slot_word}
 use Rattle.pm_volume.proofs.SlotChanges.{entries_from-same}
-use Rattle.pm_volume.proofs.WrittenLaws.{get_written_in, get_written_outside, length-directory, length-written, same_parts, shifted, word_in-above, word_in-below, word_in-written}
+use Rattle.pm_volume.proofs.WrittenLaws.{get_written_in, get_written_outside, length-directory, length-written, same_parts, shifted, word_in-above}
+use Rattle.pm_volume.proofs.WrittenLaws.{word_in-below, word_in-written}
 
 -- a directory with other block numbers in a slot
 module _ (d : List ℕ) (n first end : ℕ) (whole : length d ≡ 2048) (slot : n ≤ 77) where
@@ -53,7 +55,8 @@ module _ (d : List ℕ) (n first end : ℕ) (whole : length d ≡ 2048) (slot : 
 
   first_read : first < 65536 → word_in (with_places d n first end) (26 * n) ≡ first
   unfolding with_places d1
-  first_read fits = word_in-below d1 (26 * n + 2) (little_bytes 2 end) (26 * n) r2 (omega arith) ∙ word_in-written d (26 * n) first (omega (arith, whole, slot)) fits
+  first_read fits =
+      word_in-below d1 (26 * n + 2) (little_bytes 2 end) (26 * n) r2 (omega arith) ∙ word_in-written d (26 * n) first (omega (arith, whole, slot)) fits
 
   end_read : end < 65536 → word_in (with_places d n first end) (26 * n + 2) ≡ end
   unfolding with_places d1
@@ -72,7 +75,8 @@ module _ (d : List ℕ) (n first end : ℕ) (whole : length d ≡ 2048) (slot : 
   name_kept =
       let size : 26 * n + 26 - 26 * n ≡ 26 = omega arith in
       let left : length (slice_range (with_places d n first end) (26 * n) (26 * n + 26)) ≡ 26 =
-      rw size (omega (arith, length-with_places, slot, length-take 26 (drop (26 * n) (with_places d n first end)), length-drop (26 * n) (with_places d n first end))) in
+      rw size (omega
+      (arith, length-with_places, slot, length-take 26 (drop (26 * n) (with_places d n first end)), length-drop (26 * n) (with_places d n first end))) in
       let right : length (slice_range d (26 * n) (26 * n + 26)) ≡ 26 =
       rw size (omega (arith, whole, slot, length-take 26 (drop (26 * n) d), length-drop (26 * n) d)) in
       same_parts (slice_range (with_places d n first end) (26 * n) (26 * n + 26)) (slice_range d (26 * n) (26 * n + 26)) 6 6 16 (omega arith) (omega arith)
@@ -88,7 +92,8 @@ module _ (d : List ℕ) (n first end : ℕ) (whole : length d ≡ 2048) (slot : 
       let zeroth : 26 * n + 0 ≡ 26 * n = omega arith in
       let first' : word_in (slice_range (with_places d n first end) (26 * n) (26 * n + 26)) 0 ≡ first = here ∙ rw zeroth (first_read fits) in
       let end' : word_in (slice_range (with_places d n first end) (26 * n) (26 * n + 26)) 2 ≡ end = there ∙ end_read fits' in
-      rw (name_kept, word_kept 4 (omega arith) (omega arith), first', end', word_kept 22 (omega arith) (omega arith), word_kept 24 (omega arith) (omega arith)) refl
+      rw (name_kept, word_kept 4 (omega arith) (omega arith), first', end', word_kept 22 (omega arith) (omega arith), word_kept 24 (omega arith) (omega arith))
+      refl
 
 -- one file moved down
 module _ (image : List ℕ) (n : ℕ) (e : Entry) (to : ℕ) (long : 3072 ≤ length image) (slot : n ≤ 77) (past : 6 ≤ to) (down : to ≤ e.first)
@@ -160,7 +165,8 @@ module _ (image : List ℕ) (n : ℕ) (e : Entry) (to : ℕ) (long : 3072 ≤ le
       block_byte xs begin count k below = get_or-take count (drop begin xs) k 0 below ∙ get_or-drop begin xs k 0
 
   -- the entries behind the slot
-  pub entries-behind : (m left : ℕ) → n < m → m + left ≤ 78 → entries_from (directory_of (with_moved image n e to)) m left ≡ entries_from (directory_of image) m left
+  pub entries-behind : (m left : ℕ) → n < m → m + left ≤ 78 →
+      entries_from (directory_of (with_moved image n e to)) m left ≡ entries_from (directory_of image) m left
   entries-behind m left behind few =
       rw directory-moved (entries_from-same (with_places (directory_of image) n to (to + (e.end - e.first))) (directory_of image) left m m
       (λ k below. entry-behind (directory_of image) n to (to + (e.end - e.first)) (length-directory image long) slot (m + k) (omega arith) (omega arith)))

@@ -102,13 +102,16 @@ module _ (image : List ℕ) (blocks n from end : ℕ) (long : 3072 ≤ length im
   pub next-size : length (with_moved image n (entry_in (directory_of image) n) (new_place from (entry_in (directory_of image) n))) ≡ length image
   next-size =
       let f = entry_in (directory_of image) n in
-      length-moved image n f (new_place from f) long (omega arith) (omega (arith, new_place-after from f file-after, past)) (new_place-down from f file-after) file-ordered file-within
+      length-moved image n f (new_place from f) long (omega arith) (omega (arith, new_place-after from f file-after, past)) (new_place-down from f file-after)
+      file-ordered file-within
 
   pub next-past : 6 ≤ new_place from (entry_in (directory_of image) n) + ((entry_in (directory_of image) n).end - (entry_in (directory_of image) n).first)
   next-past = omega (arith, new_place-after from (entry_in (directory_of image) n) file-after, past)
 
-  pub next-order : AreInOrder blocks (new_place from (entry_in (directory_of image) n) + ((entry_in (directory_of image) n).end - (entry_in (directory_of image) n).first))
-      (entries_from (directory_of (with_moved image n (entry_in (directory_of image) n) (new_place from (entry_in (directory_of image) n)))) (n + 1) (end - (n + 1)))
+  pub next-order : AreInOrder blocks
+      (new_place from (entry_in (directory_of image) n) + ((entry_in (directory_of image) n).end - (entry_in (directory_of image) n).first))
+      (entries_from (directory_of (with_moved image n (entry_in (directory_of image) n) (new_place from (entry_in (directory_of image) n)))) (n + 1)
+      (end - (n + 1)))
   unfolding file
   next-order =
       let f = entry_in (directory_of image) n in
@@ -131,7 +134,8 @@ spans-outside blocks place n from (e ∷ es) order few side below =
       numbers place n side (omega arith),
       (
         inl (omega arith),
-        spans-outside blocks place (n + 1) (to + (e.end - e.first)) es (earlier blocks (to + (e.end - e.first)) e.end es end order.2) (omega arith) (next place n side) (omega arith),
+        spans-outside blocks place (n + 1) (to + (e.end - e.first)) es (earlier blocks (to + (e.end - e.first)) e.end es end order.2) (omega arith)
+            (next place n side) (omega arith),
       ),
     )
   where
@@ -238,14 +242,16 @@ module _ (image : List ℕ) (n left from blocks : ℕ) (es : List Entry) (new : 
 
     own-same : entry_in (directory_of new) n ≡ entry_in (directory_of image') n
     own-same =
-        slot_same (directory_of new) (directory_of image') n (length-directory new (omega (arith, whole, long))) (length-directory image' (omega (arith, size, long))) slot
+        slot_same (directory_of new) (directory_of image') n (length-directory new (omega (arith, whole, long)))
+        (length-directory image' (omega (arith, size, long))) slot
         (λ k below. directory_byte new (26 * n + k) (omega (arith, slot))
         ∙ left_alone (1024 + (26 * n + k)) (inl (omega arith)) (omega (arith, low, slot))
         ∙ sym (directory_byte image' (26 * n + k) (omega (arith, slot))))
 
     own-moved : entry_in (directory_of image') n ≡ moved_entry e to
     unfolding e to end image'
-    own-moved = entry-moved image n e to long slot above down ordered inside refl (omega (arith, down, ordered, within, fits)) (omega (arith, end-down, within, fits))
+    own-moved =
+        entry-moved image n e to long slot above down ordered inside refl (omega (arith, down, ordered, within, fits)) (omega (arith, end-down, within, fits))
 
     own : entry_in (directory_of new) n ≡ moved_entry e to
     own = own-same ∙ own-moved
@@ -254,20 +260,27 @@ module _ (image : List ℕ) (n left from blocks : ℕ) (es : List Entry) (new : 
     unfolding e to end image'
     own-blocks =
         let width : 512 * (to + (e.end - e.first)) - 512 * to ≡ 512 * e.end - 512 * e.first = omega (arith, ordered) in
-        rw width (same_parts new image (512 * to) (512 * e.first) (512 * e.end - 512 * e.first) (omega (arith, whole, down, ordered, inside)) (omega (arith, ordered, inside))
+        rw width (same_parts new image (512 * to) (512 * e.first) (512 * e.end - 512 * e.first) (omega (arith, whole, down, ordered, inside))
+        (omega (arith, ordered, inside))
         (λ k below. left_alone (512 * to + k) (inr (omega (arith, above))) (omega (arith, ordered))
         ∙ moved_inside image n e to long slot above down ordered inside k below))
 
-    packs-step : Packs n (suc left) (entry_in (directory_of image) n ∷ es) (moved_entry (entry_in (directory_of image) n) (new_place from (entry_in (directory_of image) n))
-        ∷ packed (new_place from (entry_in (directory_of image) n) + ((entry_in (directory_of image) n).end - (entry_in (directory_of image) n).first)) es) image new
+    packs-step : Packs n (suc left) (entry_in (directory_of image) n ∷ es)
+        (moved_entry (entry_in (directory_of image) n) (new_place from (entry_in (directory_of image) n))
+        ∷ packed (new_place from (entry_in (directory_of image) n) + ((entry_in (directory_of image) n).end - (entry_in (directory_of image) n).first)) es)
+        image new
     unfolding entries_from e to end image' packed_spans
     packs-step = record {
       entries = rw (own, ih.entries) refl;
       blocks = (
         own-blocks,
         zip-before image image' new blocks e.end es (packed end es) order
-            (λ x behind width below. same_parts image' image (512 * x.first) (512 * x.first) (512 * x.end - 512 * x.first) (omega (arith, size, below, room)) (omega (arith, below, room))
-            (λ k small. moved_outside image n e to long slot above down ordered inside (512 * x.first + k) (inr (omega (arith, behind, end-down, low, slot))) (inr (omega (arith, behind, end-down)))))
+            (λ x behind width below.
+            same_parts image' image (512 * x.first) (512 * x.first) (512 * x.end - 512 * x.first) (omega (arith, size, below, room))
+            (omega (arith, below, room))
+            (λ k small.
+            moved_outside image n e to long slot above down ordered inside (512 * x.first + k) (inr (omega (arith, behind, end-down, low, slot)))
+            (inr (omega (arith, behind, end-down)))))
             ih.blocks,
       );
       rest = record {
@@ -297,5 +310,6 @@ packs (suc left) n from blocks image long room fits few past order =
     let same = entries-behind image n e to long (omega arith) (omega arith) down s.ordered inside (n + 1) left (omega arith) (omega arith) in
     let order' : AreInOrder blocks end (entries_from (directory_of image') (n + 1) left) = rw same (earlier blocks end e.end es low order.2) in
     let ih = packs left (n + 1) end blocks image' (omega (arith, size)) (omega (arith, size)) fits (omega arith) (omega arith) order' in
-    packs-step image n left from blocks es (packed_image image' (n + 1) end left) long room fits few past s order.1 order.2 (length-entries_from (directory_of image) left (n + 1))
+    packs-step image n left from blocks es (packed_image image' (n + 1) end left) long room fits few past s order.1 order.2
+    (length-entries_from (directory_of image) left (n + 1))
     (rw same at ih)

@@ -1,5 +1,6 @@
 -- A directory in which a file has another name.
-use Rattle.std.proofs.Common.{◌≡◌, ◌<◌, ◌≤◌, ℕ, ◌+◌, ◌-◌, ◌*◌, ◌/◌, List, [], ◌∷◌, ◌++◌, ◌∙◌, ap, sym, refl, length, drop, get_or, slice_range, slice_set, arith, length-take, length-drop}
+use Rattle.std.proofs.Common.{◌≡◌, ◌<◌, ◌≤◌, ℕ, ◌+◌, ◌-◌, ◌*◌, ◌/◌, List, [], ◌∷◌, ◌++◌, ◌∙◌, ap, sym, refl, length, drop, get_or, slice_range, slice_set}
+use Rattle.std.proofs.Common.{arith, length-take, length-drop}
 use Rattle.std.proofs.Math.Seq.{set-append_seam}
 use Rattle.std.proofs.lemmas.List.{get_or-drop, get_or-take, take_all}
 use Rattle.pm_volume.specs.Changes.{with_name}
@@ -93,7 +94,15 @@ module _ (d name : List ℕ) (n : ℕ) (whole : length d ≡ 2048) (short : leng
 
   entry-named : entry_in named n ≡ record (entry_in d n) { name = field }
   unfolding entry_of
-  entry-named = rw (name_read, word_before 4 (omega arith), word_before 0 (omega arith), word_before 2 (omega arith), word_behind 22 (omega arith) (omega arith), word_behind 24 (omega arith) (omega arith)) refl
+  entry-named =
+      rw (
+        name_read,
+        word_before 4 (omega arith),
+        word_before 0 (omega arith),
+        word_before 2 (omega arith),
+        word_behind 22 (omega arith) (omega arith),
+        word_behind 24 (omega arith) (omega arith),
+      ) refl
 
   word_kept : (p : ℕ) → p + 2 ≤ 26 → word_in named p ≡ word_in d p
   unfolding named
@@ -115,7 +124,8 @@ module _ (d name : List ℕ) (n : ℕ) (whole : length d ≡ 2048) (short : leng
         ∙ ap (λ (es : List Entry). entries_from named 1 (n - 1) ++ es) (first_entry named n (file_count d - n))
         ∙ rw (front, back, entry-named) refl
 
-    pub files-named : files_in (written d (26 * n + 6) (name_field 15 name)) ≡ slice_set (files_in d) (n - 1) (record (entry_in d n) { name = name_field 15 name })
+    pub files-named : files_in (written d (26 * n + 6) (name_field 15 name))
+        ≡ slice_set (files_in d) (n - 1) (record (entry_in d n) { name = name_field 15 name })
     unfolding named field
     files-named =
         let front = entries_from d 1 (n - 1) in
@@ -139,7 +149,9 @@ module _ (d name : List ℕ) (n : ℕ) (whole : length d ≡ 2048) (short : leng
           holds_directory = omega (arith, total, begins, old.holds_directory);
           within = omega (arith, total, old.within);
           few = omega (arith, count, old.few);
-          in_order = rw (total, begins, split-named) (order-named (block_count d) (files_begin d) (entries_from d 1 (n - 1)) (entry_in d n) (record (entry_in d n) { name = field })
+          in_order =
+              rw (total, begins, split-named)
+              (order-named (block_count d) (files_begin d) (entries_from d 1 (n - 1)) (entry_in d n) (record (entry_in d n) { name = field })
               (entries_from d (n + 1) (file_count d - n)) (λ f s. record {
                 named = some;
                 short = short;
@@ -150,7 +162,8 @@ module _ (d name : List ℕ) (n : ℕ) (whole : length d ≡ 2048) (short : leng
               }) refl order);
         }
 
-module _ (image name : List ℕ) (n : ℕ) (v : IsVolume image) (some : 1 ≤ length name) (short : length name ≤ 15) (from : 1 ≤ n) (to : n ≤ file_count (directory_of image)) where
+module _ (image name : List ℕ) (n : ℕ) (v : IsVolume image) (some : 1 ≤ length name) (short : length name ≤ 15) (from : 1 ≤ n)
+    (to : n ≤ file_count (directory_of image)) where
   few : n ≤ 77
   few = omega (arith, to, v.has_directory.few)
 
@@ -161,7 +174,8 @@ module _ (image name : List ℕ) (n : ℕ) (v : IsVolume image) (some : 1 ≤ le
       IsVolume-with image (written d (26 * n + 6) (name_field 15 name)) v (length-named d name n whole short from few)
       (IsDirectory-named d name n whole short from few to v.has_directory.few (length image / 512) some v.has_directory)
 
-  pub files-renamed : files_of (with_name image n name) ≡ slice_set (files_of image) (n - 1) (record (entry_in (directory_of image) n) { name = name_field 15 name })
+  pub files-renamed : files_of (with_name image n name)
+      ≡ slice_set (files_of image) (n - 1) (record (entry_in (directory_of image) n) { name = name_field 15 name })
   files-renamed =
       let d = directory_of image in
       let whole = length-directory image v.long in

@@ -1,5 +1,6 @@
 -- What a second copy of the directory is good for.
-use Rattle.std.proofs.Common.{◌≡◌, ◌<◌, ◌≤◌, ◌⊎◌, ◌&&◌, ◌==◌, true, leb, ℕ, ◌+◌, ◌-◌, ◌/◌, ◌%◌, List, ◌∙◌, ap, refl, inl, inr, length, get_or, drop, Option, Some, None, Ok, arith, length-take, length-drop}
+use Rattle.std.proofs.Common.{◌≡◌, ◌<◌, ◌≤◌, ◌⊎◌, ◌&&◌, ◌==◌, true, leb, ℕ, ◌+◌, ◌-◌, ◌/◌, ◌%◌, List, ◌∙◌, ap, refl, inl, inr, length, get_or, drop, Option}
+use Rattle.std.proofs.Common.{Some, None, Ok, arith, length-take, length-drop}
 use Rattle.std.proofs.lemmas.Bool.{and_parts, cases_lt, eqb-true, le-ltb, leb-true}
 use Rattle.std.proofs.lemmas.Bool.Decides.{nat_tests}
 use Rattle.std.proofs.lemmas.List.{ext_get_or}
@@ -8,7 +9,8 @@ use Rattle.std.specs.List.{All}
 use Rattle.std.specs.Option.{is_none}
 use Rattle.pm_volume.specs.Changes.{with_directory}
 use Rattle.pm_volume.specs.Copies.{HasCopies, repaired, restored}
-use Rattle.pm_volume.specs.Directory.{IsVolume, block_count, directory_fault, directory_of, fault_beside, files_begin, files_in, image_fault, is_second_good, second_of}
+use Rattle.pm_volume.specs.Directory.{IsVolume, block_count, directory_fault, directory_of, fault_beside, files_begin, files_in, image_fault, is_second_good}
+use Rattle.pm_volume.specs.Directory.{second_of}
 use Rattle.pm_volume.specs.Faults.{number_of}
 use Rattle.pm_volume.specs.Kept.{KeepsFile}
 use Rattle.pm_volume.specs.Laws.{DamageIsUndone, GoodImagesStay, IsSaved, SecondCopySaves}
@@ -27,7 +29,8 @@ use Rattle.pm_volume.proofs.WrittenLaws.{get_written_above, get_written_below, g
 IsFirstBad-from_good : (image : List ℕ) → length image % 512 ≡ 0 → is_second_good image ≡ true → IsFirstBad image
 unfolding is_second_good
 IsFirstBad-from_good image whole good =
-    let parts = and_parts (leb 5120 (length image) && (files_begin (second_of image) == 10)) (is_none (directory_fault (second_of image) (length image / 512))) good in
+    let parts =
+    and_parts (leb 5120 (length image) && (files_begin (second_of image) == 10)) (is_none (directory_fault (second_of image) (length image / 512))) good in
     let front = and_parts (leb 5120 (length image)) (files_begin (second_of image) == 10) parts.0 in
     record {
       whole = whole;
@@ -66,7 +69,8 @@ module _ (image : List ℕ) (b : IsFirstBad image) where
   unfolding restored
   kept =
       All-weaker (IsWithin (files_begin (second_of image)) (block_count (second_of image))) (KeepsFile image (with_directory image (second_of image)))
-      (λ e w. KeepsFile-from_outside image (with_directory image (second_of image)) e (length-with_directory image (second_of image) (omega (arith, b.long)) size)
+      (λ e w. KeepsFile-from_outside image (with_directory image (second_of image)) e
+      (length-with_directory image (second_of image) (omega (arith, b.long)) size)
       (omega (arith, w.within, b.second.within, b.whole)) w.ordered w.one_block
       (λ place from to. with_directory_outside image (second_of image) place (omega (arith, b.long)) size (inr (omega (arith, w.after, b.begins)))))
       (files_in (second_of image)) (all_within (block_count (second_of image)) (files_begin (second_of image)) (files_in (second_of image)) b.second.in_order)
@@ -87,7 +91,8 @@ second_copy_saves image whole good =
     let b = IsFirstBad-from_good image whole good in
     cases b (fault-first image b good)
   where
-    cases : IsFirstBad image → (image_fault image ≡ None) ⊎ ((number : ℕ) × (image_fault image ≡ Some (FirstCopyBad number))) → (image_fault image ≡ None) ⊎ IsSaved image
+    cases : IsFirstBad image → (image_fault image ≡ None) ⊎ ((number : ℕ) × (image_fault image ≡ Some (FirstCopyBad number))) → (image_fault image ≡ None) ⊎
+        IsSaved image
     cases b (inl none) = inl none
     cases b (inr first) = inr (saved image b first.0 first.1)
 
@@ -140,11 +145,15 @@ module _ (image bytes : List ℕ) (v : IsVolume image) (copies : HasCopies image
   unfolding restored
   back =
       let d = directory_of image in
-      rw (second-bad image bytes v copies whole) (written-again image bytes d 1024 2048 whole (length-directory image v.long) (omega (arith, long image bytes v copies whole))
+      rw (second-bad image bytes v copies whole)
+      (written-again image bytes d 1024 2048 whole (length-directory image v.long) (omega (arith, long image bytes v copies whole))
       (λ k below. directory_byte image k below))
 
   pub undone : (image_fault (written image 1024 bytes) ≡ None) ⊎ (repaired (written image 1024 bytes) ≡ Ok image)
-  undone = cases (fault-first (written image 1024 bytes) (IsFirstBad-from_good (written image 1024 bytes) (rw (bad-size image bytes v copies whole) v.whole) (good image bytes v copies whole)) (good image bytes v copies whole))
+  undone = cases
+      (fault-first (written image 1024 bytes)
+      (IsFirstBad-from_good (written image 1024 bytes) (rw (bad-size image bytes v copies whole) v.whole) (good image bytes v copies whole))
+      (good image bytes v copies whole))
     where
       cases : (image_fault (written image 1024 bytes) ≡ None) ⊎ ((number : ℕ) × (image_fault (written image 1024 bytes) ≡ Some (FirstCopyBad number)))
           → (image_fault (written image 1024 bytes) ≡ None) ⊎ (repaired (written image 1024 bytes) ≡ Ok image)

@@ -13,9 +13,11 @@ use Rattle.pm_volume.specs.declared.gap.Gap.{Gap}
 use Rattle.pm_volume.proofs.AddKept.{ChangesOnly-added, KeepsFiles-added, added_first}
 use Rattle.pm_volume.proofs.AddLaws.{bytes-added, files-added}
 use Rattle.pm_volume.proofs.CopyLaws.{Changed, Changed-mirrored, KeepsFile-mirrored, begins-kept}
-use Rattle.pm_volume.proofs.HeaderLaws.{IsVolume-dated, IsVolume-zeroed, begins-new, dated_first, files-dated_first, files-zeroed, length-dated, length-new_directory, zeroed_first}
+use Rattle.pm_volume.proofs.HeaderLaws.{IsVolume-dated, IsVolume-zeroed, begins-new, dated_first, files-dated_first, files-zeroed, length-dated}
+use Rattle.pm_volume.proofs.HeaderLaws.{length-new_directory, zeroed_first}
 use Rattle.pm_volume.proofs.ImageLaws.{directory-with}
-use Rattle.pm_volume.proofs.KeptLaws.{ChangesOnly-dated, ChangesOnly-named, ChangesOnly-removed, ChangesOnly-zeroed, KeepsFiles-named, KeepsFiles-removed, KeepsFiles-with_directory, removed_first}
+use Rattle.pm_volume.proofs.KeptLaws.{ChangesOnly-dated, ChangesOnly-named, ChangesOnly-removed, ChangesOnly-zeroed, KeepsFiles-named, KeepsFiles-removed}
+use Rattle.pm_volume.proofs.KeptLaws.{KeepsFiles-with_directory, removed_first}
 use Rattle.pm_volume.proofs.PlaceLaws.{IsPlaced, IsRoomFor-placed, IsVolume-added, gap_in}
 use Rattle.pm_volume.proofs.RenameLaws.{IsVolume-named, files-renamed}
 use Rattle.pm_volume.proofs.SlotRemoval.{IsVolume-removed, files-removed}
@@ -40,7 +42,8 @@ module _ (image name bytes : List ℕ) (kind date : ℕ) (g : Gap) (v : IsVolume
       (IsVolume-added image name bytes kind date g v p fit) begins-added (files-added image name bytes kind date g v p fit)
       (KeepsFiles-added image name bytes kind date g v p fit) (ChangesOnly-added image name bytes kind date g v p fit)
 
-  pub bytes-added_second : file_bytes (mirrored (with_file image g.place (new_entry g name kind (length bytes) date) bytes)) (new_entry g name kind (length bytes) date)
+  pub bytes-added_second : file_bytes (mirrored (with_file image g.place (new_entry g name kind (length bytes) date) bytes))
+      (new_entry g name kind (length bytes) date)
       ≡ Some bytes
   bytes-added_second =
       let e = new_entry g name kind (length bytes) date in
@@ -57,8 +60,10 @@ module _ (image : List ℕ) (v : IsVolume image) where
       → Changed (removed_first (directory_of image) n) (remove (files_of image) (n - 1)) image (mirrored (without_file image n))
   Changed-removed n from to =
       let only = ChangesOnly-removed image v n from to in
-      Changed-mirrored (removed_first (directory_of image) n) (remove (files_of image) (n - 1)) image (without_file image n) v (IsVolume-removed image n v from to)
-      (begins-kept (removed_first (directory_of image) n) image (without_file image n) only (inl (omega arith), (inl (omega arith), tt)) (inl (omega arith), (inl (omega arith), tt)))
+      Changed-mirrored (removed_first (directory_of image) n) (remove (files_of image) (n - 1)) image (without_file image n) v
+      (IsVolume-removed image n v from to)
+      (begins-kept (removed_first (directory_of image) n) image (without_file image n) only (inl (omega arith), (inl (omega arith), tt))
+      (inl (omega arith), (inl (omega arith), tt)))
       (files-removed image n v from to) (KeepsFiles-removed image v n from to) only
 
   pub Changed-named : (name : List ℕ) (n : ℕ) → 1 ≤ length name → length name ≤ 15 → 1 ≤ n → n ≤ file_count (directory_of image)
@@ -66,7 +71,8 @@ module _ (image : List ℕ) (v : IsVolume image) where
       (mirrored (with_name image n name))
   Changed-named name n some short from to =
       let only = ChangesOnly-named image v n from to name short in
-      Changed-mirrored (name_span n ∷ []) (slice_set (files_of image) (n - 1) (record (entry_in (directory_of image) n) { name = name_field 15 name })) image (with_name image n name) v
+      Changed-mirrored (name_span n ∷ []) (slice_set (files_of image) (n - 1) (record (entry_in (directory_of image) n) { name = name_field 15 name })) image
+      (with_name image n name) v
       (IsVolume-named image name n v some short from to)
       (begins-kept (name_span n ∷ []) image (with_name image n name) only (inl (omega arith), tt) (inl (omega arith), tt))
       (files-renamed image name n v some short from to) (KeepsFiles-named image v n from to name short) only
@@ -87,5 +93,6 @@ module _ (image : List ℕ) (v : IsVolume image) where
       let new = new_directory (files_begin d) name (block_count d) (last_date_of d) in
       let size = length-new_directory (files_begin d) name (block_count d) (last_date_of d) short in
       Changed-mirrored (directory_span ∷ []) [] image (zeroed_first image name) v (IsVolume-zeroed image v name some short fits)
-      (ap files_begin (directory-with image new v.long size) ∙ begins-new (files_begin d) name (block_count d) (last_date_of d) short (omega (arith, h.holds_directory, fits)))
+      (ap files_begin (directory-with image new v.long size) ∙ begins-new (files_begin d) name (block_count d) (last_date_of d) short
+      (omega (arith, h.holds_directory, fits)))
       (files-zeroed image v name some short) (KeepsFiles-with_directory image new v size) (ChangesOnly-zeroed image v name short)

@@ -1,5 +1,6 @@
 -- A second copy that is dropped, or put in the place of the first.
-use Rattle.std.proofs.Common.{◌≡◌, ◌<◌, ◌≤◌, ◌⊎◌, false, true, ℕ, ◌+◌, List, [], ◌∷◌, ◌∙◌, inl, inr, refl, length, drop, get_or, arith, length-take, length-drop}
+use Rattle.std.proofs.Common.{◌≡◌, ◌<◌, ◌≤◌, ◌⊎◌, false, true, ℕ, ◌+◌, List, [], ◌∷◌, ◌∙◌, inl, inr, refl, length, drop, get_or, arith, length-take}
+use Rattle.std.proofs.Common.{length-drop}
 use Rattle.std.proofs.lemmas.Bool.{cases_Bool}
 use Rattle.std.proofs.lemmas.List.Elements.{All-weaker}
 use Rattle.std.specs.List.{All}
@@ -11,7 +12,8 @@ use Rattle.pm_volume.specs.Kept.{ChangesOnly, KeepsFile, KeepsFiles, past_span}
 use Rattle.pm_volume.specs.Made.{begun_at, singled}
 use Rattle.pm_volume.specs.Words.{written, zeros}
 use Rattle.pm_volume.specs.declared.copies.Copies.TheVariants.{Single}
-use Rattle.pm_volume.proofs.BegunLaws.{ChangesOnly-begun, IsVolume-begun, KeepsFiles-begun, Recopied, begins-image, files-image, kept_both, second_said, second_unsaid}
+use Rattle.pm_volume.proofs.BegunLaws.{ChangesOnly-begun, IsVolume-begun, KeepsFiles-begun, Recopied, begins-image, files-image, kept_both, second_said}
+use Rattle.pm_volume.proofs.BegunLaws.{second_unsaid}
 use Rattle.pm_volume.proofs.Faults.{IsFirstBad}
 use Rattle.pm_volume.proofs.HeaderLaws.{length-zeros}
 use Rattle.pm_volume.proofs.ImageLaws.{IsVolume-from_directory}

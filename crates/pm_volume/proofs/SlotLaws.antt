@@ -26,7 +26,8 @@ unfolding written
 removed d none b k m s size same within =
     let cut : drop s (take k (drop b d)) ≡ take m (drop (b + s) d) =
     ap (λ (n : ℕ). drop s (take n (drop b d))) same ∙ drop-take s m (drop b d) ∙ ap (take m) (drop-drop s b d) in
-    let whole : length (take m (drop (b + s) d) ++ none) ≡ k = omega (arith, length-append (take m (drop (b + s) d)) none, length-take m (drop (b + s) d), length-drop (b + s) d) in
+    let whole : length (take m (drop (b + s) d) ++ none) ≡ k =
+    omega (arith, length-append (take m (drop (b + s) d)) none, length-take m (drop (b + s) d), length-drop (b + s) d) in
     let after : drop k (drop b d) ≡ drop (b + length (take m (drop (b + s) d) ++ none)) d = drop-drop k b d ∙ ap (λ (n : ℕ). drop (b + n) d) (sym whole) in
     ap (λ (xs : List ℕ). put_mid b k d (xs ++ none)) cut
     ∙ ap (λ (xs : List ℕ). take b d ++ ((take m (drop (b + s) d) ++ none) ++ xs)) after

@@ -1,6 +1,7 @@
 -- The entries of a directory with one slot less.
 use Rattle.byteorder.specs.Endian.{little_bytes}
-use Rattle.std.proofs.Common.{◌≡◌, ◌<◌, ◌≤◌, ◌⊎◌, ℕ, zero, suc, ◌+◌, ◌-◌, ◌*◌, ◌/◌, List, [], ◌∷◌, ◌++◌, ◌∙◌, ap, sym, refl, length, drop, get_or, arith, length-append, length-take, length-drop}
+use Rattle.std.proofs.Common.{◌≡◌, ◌<◌, ◌≤◌, ◌⊎◌, ℕ, zero, suc, ◌+◌, ◌-◌, ◌*◌, ◌/◌, List, [], ◌∷◌, ◌++◌, ◌∙◌, ap, sym, refl, length, drop, get_or, arith}
+use Rattle.std.proofs.Common.{length-append, length-take, length-drop}
 use Rattle.std.proofs.lemmas.List.{get_or-drop, get_or-take, get_or_append_left}
 use Rattle.std.specs.List.{remove}
 use Rattle.pm_volume.specs.Changes.{no_slot, slots, without_file, without_slot}
@@ -13,7 +14,8 @@ use Rattle.pm_volume.proofs.EntryLaws.{length-no_slot}
 use Rattle.pm_volume.proofs.ImageLaws.{IsVolume-with, directory-with}
 use Rattle.pm_volume.proofs.OrderLaws.{IsSound-later}
 use Rattle.pm_volume.proofs.SlotChanges.{entries_from-add, entries_from-same, first_entry, length-entries_from}
-use Rattle.pm_volume.proofs.WrittenLaws.{get_written_above, get_written_below, get_written_in, get_written_outside, length-directory, length-written, same_parts, word_in-written}
+use Rattle.pm_volume.proofs.WrittenLaws.{get_written_above, get_written_below, get_written_in, get_written_outside, length-directory, length-written}
+use Rattle.pm_volume.proofs.WrittenLaws.{same_parts, word_in-written}
 
 pub earlier : (blocks from later : ℕ) (es : List Entry) → from ≤ later → AreInOrder blocks later es → AreInOrder blocks from es
 unfolding AreInOrder
@@ -81,7 +83,8 @@ module _ (d : List ℕ) (n : ℕ) (whole : length d ≡ 2048) (few : file_count 
   unfolding without_slot moved
   moved_byte k above below =
       let part = slots d (n + 1) (file_count d + 1) in
-      let size : length part ≡ 26 * (file_count d + 1) - 26 * (n + 1) = omega (arith, whole, few, to, length-take (26 * (file_count d + 1) - 26 * (n + 1)) (drop (26 * (n + 1)) d), length-drop (26 * (n + 1)) d) in
+      let size : length part ≡ 26 * (file_count d + 1) - 26 * (n + 1) =
+      omega (arith, whole, few, to, length-take (26 * (file_count d + 1) - 26 * (n + 1)) (drop (26 * (n + 1)) d), length-drop (26 * (n + 1)) d) in
       let at : 26 * (n + 1) + (k - 26 * n) ≡ 26 + k = omega arith in
       get_written_above (written d (26 * n) moved) 16 (little_bytes 2 (file_count d - 1)) k (omega (arith, length-area)) (omega (arith, from))
       ∙ get_written_in d (26 * n) moved k room above (omega (arith, length-moved))

@@ -10,7 +10,8 @@ module _ (f : ℕ → Gap → ℕ) (a : ℕ) (directory : List ℕ) (blocks n fr
   -- the gap before the next entry counts, and then those behind it
   pub fold-next : n < end
       → fold f a (gaps blocks n from (entries_from directory n (end - n)))
-      ≡ fold f (f a (record { place = n; begin = from; end = (entry_in directory n).first })) (gaps blocks (n + 1) (entry_in directory n).end (entries_from directory (n + 1) (end - (n + 1))))
+      ≡ fold f (f a (record { place = n; begin = from; end = (entry_in directory n).first }))
+      (gaps blocks (n + 1) (entry_in directory n).end (entries_from directory (n + 1) (end - (n + 1))))
   unfolding gaps
   fold-next below = rw (entries_from-more directory n end below)
 

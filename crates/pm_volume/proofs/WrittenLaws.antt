@@ -1,17 +1,26 @@
 -- Bytes written in a list.
 use Rattle.byteorder.specs.Endian.{little_bytes}
 use Rattle.std.proofs.Math.Nat.{mod-eq_of_lt}
-use Rattle.std.proofs.Common.{◌≡◌, ◌<◌, ◌≤◌, ◌⊎◌, inl, inr, ℕ, ◌+◌, ◌-◌, ◌*◌, ◌/◌, ◌%◌, List, [], ◌∷◌, ◌++◌, ◌∙◌, ap, sym, refl, length, map, set, take, drop, get_or, arith, length-append, length-take, length-drop}
+use Rattle.std.proofs.Common.{◌≡◌, ◌<◌, ◌≤◌, ◌⊎◌, inl, inr, ℕ, ◌+◌, ◌-◌, ◌*◌, ◌/◌, ◌%◌, List, [], ◌∷◌, ◌++◌, ◌∙◌, ap, sym, refl, length, map, set, take, drop}
+use Rattle.std.proofs.Common.{get_or, arith, length-append, length-take, length-drop}
 use Rattle.std.proofs.lemmas.Bool.{cases_lt}
 use Rattle.std.specs.Char.{to_ascii_uppercase}
-use Rattle.std.proofs.lemmas.List.{append_assoc, drop_more, length-map, map_more, set-append_right, get_or-append_right, get_or-drop, get_or-take, get_or_append_left, length-take-le, ext_get_or}
+use Rattle.std.proofs.lemmas.List.{append_assoc, drop_more, length-map, map_more, set-append_right, get_or-append_right, get_or-drop, get_or-take}
+use Rattle.std.proofs.lemmas.List.{get_or_append_left, length-take-le, ext_get_or}
 use Rattle.pm_volume.specs.Words.{word_in, written}
 use Rattle.pm_volume.specs.Directory.{directory_of}
 
 pub length-written : (xs : List ℕ) (i : ℕ) (ys : List ℕ) → i + length ys ≤ length xs → length (written xs i ys) ≡ length xs
 unfolding written
 length-written xs i ys fits =
-    omega (arith, length-append (take i xs) (ys ++ drop (i + length ys) xs), length-append ys (drop (i + length ys) xs), length-take i xs, length-drop (i + length ys) xs)
+    omega (
+      arith,
+      length-append (take i xs) (ys ++ drop (i + length ys) xs),
+      length-append ys (drop (i + length ys) xs),
+      length-take i xs,
+      length-drop
+          (i + length ys) xs,
+    )
 
 -- an item before those written
 pub get_written_below : (xs : List ℕ) (i : ℕ) (ys : List ℕ) (k : ℕ) → i + length ys ≤ length xs → k < i

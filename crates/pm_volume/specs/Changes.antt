@@ -1,10 +1,13 @@
 -- What a change makes of a volume.
-use Rattle.std.specs.Prelude.{◌≡◌, ◌==◌, ◌<◌, Bool, not, nat_le, is_some, ℕ, ◌+◌, ◌-◌, ◌*◌, ◌%◌, List, [], ◌∷◌, ◌++◌, length, replicate, slice_range, slice_set, Option, Some, None, Result, Ok, Err, if◌then◌else◌}
+use Rattle.std.specs.Prelude.{◌≡◌, ◌==◌, ◌<◌, Bool, not, nat_le, is_some, ℕ, ◌+◌, ◌-◌, ◌*◌, ◌%◌, List, [], ◌∷◌, ◌++◌}
+use Rattle.std.specs.Prelude.{length, replicate, slice_range, slice_set, Option, Some, None, Result, Ok, Err}
+use Rattle.std.specs.Prelude.{if◌then◌else◌}
 use Rattle.std.specs.List.{find, insert, list_any, position_from, remove}
 use Rattle.std.specs.Option.{ok_or}
 pub use Rattle.pm_base.specs.Blocks.{blocks_for}
 use Rattle.pm_volume.specs.Copies.{and_second, mirrored}
-use Rattle.pm_volume.specs.Directory.{block_count, directory_of, entries_from, entry_in, file_count, files_begin, files_in}
+use Rattle.pm_volume.specs.Directory.{block_count, directory_of, entries_from, entry_in, file_count, files_begin}
+use Rattle.pm_volume.specs.Directory.{files_in}
 use Rattle.pm_volume.specs.Files.{file_named, files_of, is_named}
 use Rattle.pm_volume.specs.Kept.{Span, blocks_span, count_span, slots_span}
 use Rattle.pm_volume.specs.Names.{is_new_name, name_field}
@@ -13,7 +16,9 @@ use Rattle.pm_volume.specs.declared.entry.Entry.{Entry}
 use Rattle.pm_volume.specs.declared.fault.VolumeFault.{VolumeFault}
 use Rattle.pm_volume.specs.declared.fault.VolumeFault.TheVariants.{BadName, DirectoryFull, Duplicate, NoFile, NoRoom}
 use Rattle.pm_volume.specs.declared.gap.Gap.{Gap}
-use Rattle.pm_volume.specs.declared.fields.TheConstants.{DIRECTORY, ENTRY_DATE, ENTRY_END, ENTRY_FIRST, ENTRY_KIND, ENTRY_LAST_BYTES, ENTRY_NAME, HEADER_FILES, LONGEST_NAME, MOST_FILES, SLOT}
+use Rattle.pm_volume.specs.declared.fields.TheConstants.{DIRECTORY, ENTRY_DATE, ENTRY_END, ENTRY_FIRST, ENTRY_KIND}
+use Rattle.pm_volume.specs.declared.fields.TheConstants.{ENTRY_LAST_BYTES, ENTRY_NAME, HEADER_FILES, LONGEST_NAME}
+use Rattle.pm_volume.specs.declared.fields.TheConstants.{MOST_FILES, SLOT}
 use Rattle.pm_base.specs.declared.blocks.TheConstants.{BLOCK}
 
 -- an image with another directory
@@ -72,7 +77,8 @@ serves need count g = if need == 0 then g.place == count + 1 else nat_le need (g
 -- the lowest gap that serves
 abbrev pub gap_for : List ℕ → ℕ → Option Gap
 gap_for directory need =
-    find (serves need (file_count directory)) (gaps (block_count directory) 1 (files_begin directory) (files_in directory))
+    find (serves need (file_count directory))
+    (gaps (block_count directory) 1 (files_begin directory) (files_in directory))
 
 -- where a new file goes, or why there is none
 unfoldable pub place_for : List ℕ → List ℕ → ℕ → Result Gap VolumeFault
@@ -100,10 +106,11 @@ unfoldable pub with_file : List ℕ → ℕ → Entry → List ℕ → List ℕ
 with_file image n e bytes =
     let begin = BLOCK * e.first in
     let listed = with_directory image (with_slot (directory_of image) n (slot_of e)) in
-    written (written listed begin bytes) (begin + length bytes) (replicate (BLOCK * blocks_for (length bytes) - length bytes) 0)
+    written (written listed begin bytes) (begin + length bytes)
+    (replicate (BLOCK * blocks_for (length bytes) - length bytes) 0)
 
--- a file was added: its entry stands in the lowest gap that serves, and its bytes in the entry's blocks; it comes into the list
--- of files at that gap's place
+-- a file was added: its entry stands in the lowest gap that serves, and its bytes in the entry's blocks; it comes into
+-- the list of files at that gap's place
 pub record AddsFile (old new name : List ℕ) (kind : ℕ) (bytes : List ℕ) (date : ℕ) (e : Entry) : Type 0 where
   pub gap : Gap
   pub placed : place_for old name (blocks_for (length bytes)) ≡ Ok gap
@@ -111,7 +118,8 @@ pub record AddsFile (old new name : List ℕ) (kind : ℕ) (bytes : List ℕ) (d
   pub image : new ≡ mirrored (with_file old gap.place e bytes)
   pub files : files_of new ≡ insert (files_of old) (gap.place - 1) e
 
--- what an added file changes: the number of files, the slots from its own to that of the last file, its blocks, and the second copy
+-- what an added file changes: the number of files, the slots from its own to that of the last file, its blocks, and the
+-- second copy
 abbrev pub added_spans : List ℕ → Gap → Entry → List Span
 added_spans directory g e =
     and_second directory (count_span ∷ slots_span g.place (file_count directory + 2) ∷ blocks_span e ∷ [])
@@ -131,7 +139,8 @@ pub record RemovesFile (old new name : List ℕ) : Type 0 where
   pub image : new ≡ mirrored (without_file old slot)
   pub files : files_of new ≡ remove (files_of old) (slot - 1)
 
--- what the removal of the file in slot n changes: the number of files, the slots from n to that of the last file, and the second copy
+-- what the removal of the file in slot n changes: the number of files, the slots from n to that of the last file, and
+-- the second copy
 abbrev pub removed_spans : List ℕ → ℕ → List Span
 removed_spans directory n = and_second directory (count_span ∷ slots_span n (file_count directory + 1) ∷ [])
 
@@ -155,11 +164,14 @@ slot_to_rename directory old new = elim (slot_named directory old) [
 
 -- the image with another name for the file in slot n: the 16 bytes of the name alone
 abbrev pub with_name : List ℕ → ℕ → List ℕ → List ℕ
-with_name image n name = with_directory image (written (directory_of image) (SLOT * n + ENTRY_NAME) (name_field LONGEST_NAME name))
+with_name image n name =
+    with_directory image (written (directory_of image) (SLOT * n + ENTRY_NAME) (name_field LONGEST_NAME name))
 
 -- the first file of a name got another one
 pub record RenamesFile (old new from to : List ℕ) : Type 0 where
   pub slot : ℕ
   pub found : slot_to_rename (directory_of old) from to ≡ Ok slot
   pub image : new ≡ mirrored (with_name old slot to)
-  pub files : files_of new ≡ slice_set (files_of old) (slot - 1) (record (entry_in (directory_of old) slot) { name = name_field LONGEST_NAME to })
+  pub files : files_of new
+      ≡ slice_set (files_of old) (slot - 1)
+      (record (entry_in (directory_of old) slot) { name = name_field LONGEST_NAME to })

@@ -1,5 +1,6 @@
 -- The second copy of a directory.
-use Rattle.std.specs.Prelude.{◌≡◌, ◌≢◌, ◌==◌, ◌&&◌, Bool, nat_le, ℕ, List, ◌∷◌, length, Option, Some, None, Result, Ok, Err, if◌then◌else◌}
+use Rattle.std.specs.Prelude.{◌≡◌, ◌≢◌, ◌==◌, ◌&&◌, Bool, nat_le, ℕ, List, ◌∷◌, length, Option, Some, None, Result, Ok}
+use Rattle.std.specs.Prelude.{Err, if◌then◌else◌}
 use Rattle.pm_volume.specs.Directory.{directory_of, files_begin, image_fault, second_of}
 use Rattle.pm_volume.specs.Kept.{Span, second_span}
 use Rattle.pm_volume.specs.Words.{written}
@@ -42,6 +43,7 @@ repaired_from image None = Ok image
 repaired_from image (Some (FirstCopyBad number)) = Ok (restored image)
 repaired_from image (Some fault) = Err fault
 
--- an image that can be opened as it is, one whose first copy alone is bad with its second in that place, or why it is no volume
+-- an image that can be opened as it is, one whose first copy alone is bad with its second in that place, or why it is
+-- no volume
 unfoldable pub repaired : List ℕ → Result (List ℕ) VolumeFault
 repaired image = repaired_from image (image_fault image)

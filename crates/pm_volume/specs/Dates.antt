@@ -1,4 +1,5 @@
--- Dates as a directory has them, each in a word: the month in bits 0 to 3, the day in bits 4 to 8, the year in bits 9 to 15.
+-- Dates as a directory has them, each in a word: the month in bits 0 to 3, the day in bits 4 to 8, the year in bits 9
+-- to 15.
 use Rattle.std.specs.Prelude.{ℕ, Bool, ◌+◌, ◌*◌, ◌/◌, ◌%◌, ◌&&◌, nat_le}
 use Rattle.pm_volume.specs.declared.date.Date.{Date}
 

@@ -4,7 +4,8 @@ use Rattle.pm_base.specs.declared.blocks.TheConstants.{BLOCK}
 
 -- block n of an image, none past its end
 unfoldable pub block_of : List ℕ → ℕ → Option (List ℕ)
-block_of image n = if nat_le (BLOCK * n + BLOCK) (length image) then Some (slice_range image (BLOCK * n) (BLOCK * n + BLOCK)) else None
+block_of image n =
+    if nat_le (BLOCK * n + BLOCK) (length image) then Some (slice_range image (BLOCK * n) (BLOCK * n + BLOCK)) else None
 
 -- so many bytes from a place on lie in an image
 abbrev pub IsInImage : List ℕ → ℕ → ℕ → Type 0

@@ -1,7 +1,10 @@
 -- The numbers of the faults.
 use Rattle.std.specs.Prelude.{ℕ, Option, Some, None}
 use Rattle.pm_volume.specs.declared.fault.VolumeFault.{VolumeFault}
-use Rattle.pm_volume.specs.declared.fault.VolumeFault.TheVariants.{NotBlocks, TooShort, BadHeader, BadEntry, TooManyFiles, PastEnd, NoRoom, DirectoryFull, Duplicate, BadName, NoFile, NoMemory, FirstCopyBad, Occupied}
+use Rattle.pm_volume.specs.declared.fault.VolumeFault.TheVariants.{NotBlocks, TooShort, BadHeader, BadEntry}
+use Rattle.pm_volume.specs.declared.fault.VolumeFault.TheVariants.{TooManyFiles, PastEnd, NoRoom, DirectoryFull}
+use Rattle.pm_volume.specs.declared.fault.VolumeFault.TheVariants.{Duplicate, BadName, NoFile, NoMemory, FirstCopyBad}
+use Rattle.pm_volume.specs.declared.fault.VolumeFault.TheVariants.{Occupied}
 
 -- the number of a fault
 abbrev pub number_of : VolumeFault → ℕ

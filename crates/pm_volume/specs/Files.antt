@@ -1,5 +1,6 @@
 -- The files of an image: their blocks and bytes.
-use Rattle.std.specs.Prelude.{Bool, nat_le, ℕ, ◌+◌, ◌-◌, ◌*◌, List, [], length, slice_range, Option, Some, None, if◌then◌else◌}
+use Rattle.std.specs.Prelude.{Bool, nat_le, ℕ, ◌+◌, ◌-◌, ◌*◌, List, [], length, slice_range, Option, Some, None}
+use Rattle.std.specs.Prelude.{if◌then◌else◌}
 use Rattle.std.specs.List.{find}
 use Rattle.pm_volume.specs.Directory.{directory_of, files_in}
 use Rattle.pm_volume.specs.Names.{characters_of, is_same_name}

@@ -7,17 +7,23 @@ use Rattle.pm_volume.specs.Names.{is_new_name, name_field}
 use Rattle.pm_volume.specs.Words.{with_word, word_in, written, zeros}
 use Rattle.pm_volume.specs.declared.fault.VolumeFault.{VolumeFault}
 use Rattle.pm_volume.specs.declared.fault.VolumeFault.TheVariants.{BadHeader, BadName}
-use Rattle.pm_volume.specs.declared.fields.TheConstants.{DIRECTORY_SIZE, HEADER_BLOCKS, HEADER_DATE, HEADER_FILES_BEGIN, HEADER_NAME, LONGEST_VOLUME_NAME, PAST_DIRECTORY}
+use Rattle.pm_volume.specs.declared.fields.TheConstants.{DIRECTORY_SIZE, HEADER_BLOCKS, HEADER_DATE, HEADER_FILES_BEGIN}
+use Rattle.pm_volume.specs.declared.fields.TheConstants.{HEADER_NAME, LONGEST_VOLUME_NAME, PAST_DIRECTORY}
 use Rattle.pm_base.specs.declared.blocks.TheConstants.{BLOCK}
 
 -- the date that a volume was last set to
 abbrev pub last_date_of : List ℕ → ℕ
 last_date_of directory = word_in directory HEADER_DATE
 
--- a directory without files: the block past it, the volume's name, its number of blocks and its last date; all else is zero
+-- a directory without files: the block past it, the volume's name, its number of blocks and its last date; all else is
+-- zero
 unfoldable pub new_directory : ℕ → List ℕ → ℕ → ℕ → List ℕ
 new_directory past name blocks date =
-    with_word (with_word (written (with_word (zeros DIRECTORY_SIZE) HEADER_FILES_BEGIN past) HEADER_NAME (name_field LONGEST_VOLUME_NAME name)) HEADER_BLOCKS blocks)
+    with_word
+    (with_word
+    (written (with_word (zeros DIRECTORY_SIZE) HEADER_FILES_BEGIN past) HEADER_NAME
+    (name_field LONGEST_VOLUME_NAME name))
+    HEADER_BLOCKS blocks)
     HEADER_DATE date
 
 -- the image of a new volume: zeros but for its directory in blocks 2 to 5
@@ -30,11 +36,13 @@ blank_fault name blocks =
     if not (is_new_name LONGEST_VOLUME_NAME name) then Some BadName
     else (if nat_lt blocks PAST_DIRECTORY then Some BadHeader else None)
 
--- the image with a new directory of this name, where files begin as before, of as many blocks and with the same last date
+-- the image with a new directory of this name, where files begin as before, of as many blocks and with the same last
+-- date
 abbrev pub zeroed_image : List ℕ → List ℕ → List ℕ
 zeroed_image image name =
     let directory = directory_of image in
-    mirrored (with_directory image (new_directory (files_begin directory) name (block_count directory) (last_date_of directory)))
+    mirrored (with_directory image
+    (new_directory (files_begin directory) name (block_count directory) (last_date_of directory)))
 
 -- the image with another last date
 abbrev pub dated_image : List ℕ → ℕ → List ℕ

@@ -3,7 +3,9 @@ use Rattle.std.specs.Prelude.{◌≡◌, ◌<◌, ◌≤◌, ◌⊎◌, ℕ, ◌
 use Rattle.std.specs.List.{All}
 use Rattle.pm_volume.specs.Files.{file_bytes, files_of}
 use Rattle.pm_volume.specs.declared.entry.Entry.{Entry}
-use Rattle.pm_volume.specs.declared.fields.TheConstants.{DIRECTORY, DIRECTORY_END, ENTRY_KIND, ENTRY_LAST_BYTES, ENTRY_NAME, HEADER_DATE, HEADER_FILES, HEADER_FILES_BEGIN, SECOND, SECOND_END, SLOT}
+use Rattle.pm_volume.specs.declared.fields.TheConstants.{DIRECTORY, DIRECTORY_END, ENTRY_KIND, ENTRY_LAST_BYTES}
+use Rattle.pm_volume.specs.declared.fields.TheConstants.{ENTRY_NAME, HEADER_DATE, HEADER_FILES, HEADER_FILES_BEGIN}
+use Rattle.pm_volume.specs.declared.fields.TheConstants.{SECOND, SECOND_END, SLOT}
 use Rattle.pm_base.specs.declared.blocks.TheConstants.{BLOCK}
 
 -- the bytes of all blocks of a file

@@ -11,7 +11,8 @@ use Rattle.pm_volume.specs.declared.fault.VolumeFault.TheVariants.{FirstCopyBad}
 use Rattle.pm_volume.specs.declared.fields.TheConstants.{DIRECTORY, DIRECTORY_SIZE}
 use Rattle.pm_base.specs.declared.blocks.TheConstants.{BLOCK}
 
--- an image is refused for its first copy alone, and repaired it is a volume with the files of the second copy, each with its bytes
+-- an image is refused for its first copy alone, and repaired it is a volume with the files of the second copy, each
+-- with its bytes
 pub record IsSaved (image : List ℕ) : Type 0 where
   pub number : ℕ
   pub fault : image_fault image ≡ Some (FirstCopyBad number)
@@ -21,11 +22,12 @@ pub record IsSaved (image : List ℕ) : Type 0 where
   pub files : files_of new ≡ files_in (second_of image)
   pub kept : All (KeepsFile image new) (files_of new)
 
--- an image of whole blocks whose second copy is good opens by its first copy, or its files are saved by the second, whatever
--- bytes stand in the first
+-- an image of whole blocks whose second copy is good opens by its first copy, or its files are saved by the second,
+-- whatever bytes stand in the first
 abbrev pub SecondCopySaves : Type 0
 SecondCopySaves =
-    (image : List ℕ) → length image % BLOCK ≡ 0 → is_second_good image ≡ true → (image_fault image ≡ None) ⊎ IsSaved image
+    (image : List ℕ) → length image % BLOCK ≡ 0 → is_second_good image ≡ true → (image_fault image ≡ None) ⊎
+    IsSaved image
 
 -- a volume with two equal copies whose first is overwritten opens by what was written, or is repaired to what it was
 abbrev pub DamageIsUndone : Type 0

@@ -1,7 +1,8 @@
 -- The image that a change makes, or why it is refused.
 use Rattle.std.specs.Prelude.{Bool, nat_lt, ℕ, List, length, Option, Some, None, Result, Ok, Err, if◌then◌else◌}
 use Rattle.std.specs.List.{list_any}
-use Rattle.pm_volume.specs.Changes.{blocks_for, new_entry, place_for, slot_named, slot_to_rename, with_directory, with_file, with_name, without_file}
+use Rattle.pm_volume.specs.Changes.{blocks_for, new_entry, place_for, slot_named, slot_to_rename, with_directory}
+use Rattle.pm_volume.specs.Changes.{with_file, with_name, without_file}
 use Rattle.pm_volume.specs.Copies.{has_second, mirrored}
 use Rattle.pm_volume.specs.Directory.{block_count, directory_of}
 use Rattle.pm_volume.specs.Files.{files_of}
@@ -12,7 +13,8 @@ use Rattle.pm_volume.specs.Names.{is_new_name}
 use Rattle.pm_volume.specs.declared.fault.VolumeFault.{VolumeFault}
 use Rattle.pm_volume.specs.declared.fault.VolumeFault.TheVariants.{BadHeader, BadName, NoFile, Occupied}
 use Rattle.pm_volume.specs.declared.gap.Gap.{Gap}
-use Rattle.pm_volume.specs.declared.fields.TheConstants.{DIRECTORY_SIZE, HEADER_FILES_BEGIN, LONGEST_VOLUME_NAME, PAST_DIRECTORY, PAST_SECOND, SECOND}
+use Rattle.pm_volume.specs.declared.fields.TheConstants.{DIRECTORY_SIZE, HEADER_FILES_BEGIN, LONGEST_VOLUME_NAME}
+use Rattle.pm_volume.specs.declared.fields.TheConstants.{PAST_DIRECTORY, PAST_SECOND, SECOND}
 
 -- a new file in a gap
 abbrev pub added_in : List ℕ → List ℕ → ℕ → List ℕ → ℕ → Result Gap VolumeFault → Result (List ℕ) VolumeFault
@@ -22,7 +24,8 @@ added_in image name kind bytes date (Err fault) = Err fault
 
 -- the image with a new file of this name, kind, bytes and date
 unfoldable pub added : List ℕ → List ℕ → ℕ → List ℕ → ℕ → Result (List ℕ) VolumeFault
-added image name kind bytes date = added_in image name kind bytes date (place_for image name (blocks_for (length bytes)))
+added image name kind bytes date =
+    added_in image name kind bytes date (place_for image name (blocks_for (length bytes)))
 
 abbrev pub removed_at : List ℕ → Option ℕ → Result (List ℕ) VolumeFault
 removed_at image (Some slot) = Ok (mirrored (without_file image slot))
@@ -60,4 +63,5 @@ doubled image =
 
 -- the image without its second copy, whose blocks become zero; one that has none stays
 unfoldable pub singled : List ℕ → List ℕ
-singled image = if has_second image then written (begun_at image PAST_DIRECTORY) SECOND (zeros DIRECTORY_SIZE) else image
+singled image =
+    if has_second image then written (begun_at image PAST_DIRECTORY) SECOND (zeros DIRECTORY_SIZE) else image

@@ -27,7 +27,8 @@ packed from (e ∷ es) =
     let f = moved_entry e (new_place from e) in
     f ∷ packed f.end es
 
--- what moving files changes, the first of them in slot n: the two block numbers of each entry, and the blocks where each file is now
+-- what moving files changes, the first of them in slot n: the two block numbers of each entry, and the blocks where
+-- each file is now
 unfoldable pub packed_spans : ℕ → List Entry → List Span
 packed_spans n [] = []
 packed_spans n (f ∷ fs) = places_span n ∷ blocks_span f ∷ packed_spans (n + 1) fs
@@ -52,7 +53,8 @@ with_places directory n first end = with_word (with_word directory (SLOT * n) fi
 -- the image with the blocks of the file in slot n at another place
 unfoldable pub with_moved : List ℕ → ℕ → Entry → ℕ → List ℕ
 with_moved image n e to =
-    with_directory (written image (BLOCK * to) (blocks_of image e)) (with_places (directory_of image) n to (to + (e.end - e.first)))
+    with_directory (written image (BLOCK * to) (blocks_of image e))
+    (with_places (directory_of image) n to (to + (e.end - e.first)))
 
 -- the image after the files of so many slots from slot n on were moved, the one before them ending at a block
 unfoldable pub packed_image : List ℕ → ℕ → ℕ → ℕ → List ℕ

@@ -8,7 +8,8 @@ use Rattle.pm_volume.specs.declared.fields.TheConstants.{HEADER_NAME}
 
 -- the characters of the volume's name
 abbrev pub name_of : List ℕ → List ℕ
-name_of image = slice_range (directory_of image) (HEADER_NAME + 1) (HEADER_NAME + 1 + slice_index (directory_of image) HEADER_NAME)
+name_of image =
+    slice_range (directory_of image) (HEADER_NAME + 1) (HEADER_NAME + 1 + slice_index (directory_of image) HEADER_NAME)
 
 -- the blocks of a gap
 abbrev pub gap_size : Gap → ℕ

@@ -1,13 +1,28 @@
 //! Changes of an image: files put in, taken out and renamed, and new headers.
 
 ghost use Rattle.std.specs.Prelude.{◌≡◌, ◌+◌, ◌<◌, ◌≤◌, ◌*◌, length};
-ghost use Rattle.pm_volume.specs.Changes.{FitsSlot, blocks_for, new_entry, with_directory, with_file, with_name, without_file};
+ghost use Rattle.pm_volume.specs.Changes.{
+  FitsSlot,
+  blocks_for,
+  new_entry,
+  with_directory,
+  with_file,
+  with_name,
+  without_file,
+};
 ghost use Rattle.pm_volume.specs.Copies.{has_second, mirrored};
 ghost use Rattle.pm_volume.specs.Directory.{directory_of, file_count};
 ghost use Rattle.pm_volume.specs.Headers.{new_directory};
 ghost use Rattle.pm_volume.specs.Made.{begun_at, singled};
 ghost use Rattle.pm_volume.specs.Words.{with_word, zeros};
-ghost use Rattle.pm_volume.specs.declared.fields.TheConstants.{DIRECTORY_END, HEADER_DATE, LONGEST_NAME, LONGEST_VOLUME_NAME, MOST_FILES, PAST_SECOND};
+ghost use Rattle.pm_volume.specs.declared.fields.TheConstants.{
+  DIRECTORY_END,
+  HEADER_DATE,
+  LONGEST_NAME,
+  LONGEST_VOLUME_NAME,
+  MOST_FILES,
+  PAST_SECOND,
+};
 ghost use Rattle.pm_base.specs.declared.blocks.TheConstants.{BLOCK};
 
 use crate::copies::{has_second, mirror};
@@ -88,7 +103,8 @@ pub(crate) fn name_file(image: &mut [u8], slot: u16, name: &[u8])
 // Sets the last date.
 pub(crate) fn date_volume(image: &mut [u8], date: u16)
     requires whole { DIRECTORY_END ≤ length image.old }
-    ensures image { image.new ≡ mirrored (with_directory image.old (with_word (directory_of image.old) HEADER_DATE date)) }
+    ensures image { image.new
+        ≡ mirrored (with_directory image.old (with_word (directory_of image.old) HEADER_DATE date)) }
 {
     set_word(&mut image[DIRECTORY..DIRECTORY_END], HEADER_DATE, date);
     mirror(image);

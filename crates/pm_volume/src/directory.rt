@@ -5,7 +5,16 @@ ghost use Rattle.std.specs.List.{list_any};
 ghost use Rattle.pm_volume.specs.Changes.{is_named_beside, slot_named};
 ghost use Rattle.pm_volume.specs.Files.{is_named};
 ghost use Rattle.pm_volume.specs.Headers.{new_directory};
-ghost use Rattle.pm_volume.specs.Directory.{block_count, directory_fault, entries_from, entry_in, file_count, files_begin, files_in, is_header};
+ghost use Rattle.pm_volume.specs.Directory.{
+  block_count,
+  directory_fault,
+  entries_from,
+  entry_in,
+  file_count,
+  files_begin,
+  files_in,
+  is_header,
+};
 ghost use Rattle.pm_volume.specs.Entries.{entries_fault};
 ghost use Rattle.pm_volume.specs.declared.fields.TheConstants.{DIRECTORY_SIZE, LONGEST_VOLUME_NAME, MOST_FILES};
 
@@ -64,7 +73,8 @@ pub(crate) fn fault_of_directory(directory: &[u8], blocks: usize) -> Option<Volu
 fn fault_of_entries(directory: &[u8]) -> Option<VolumeFault>
     requires whole { length directory.now ≡ DIRECTORY_SIZE }
     requires few { file_count directory.now ≤ MOST_FILES }
-    ensures first { result ≡ entries_fault (block_count directory.now) 1 (files_begin directory.now) (files_in directory.now) }
+    ensures first { result ≡ entries_fault (block_count directory.now) 1 (files_begin directory.now)
+        (files_in directory.now) }
 {
     let blocks = word(directory, HEADER_BLOCKS);
     let mut from = word(directory, HEADER_FILES_BEGIN);

@@ -1,5 +1,5 @@
-//! Where things stand in a volume: the directory and its second copy in the image, the header in slot 0 of the directory,
-//! and what the slot of a file holds. Places in the header and in a slot are counted from its first byte.
+//! Where things stand in a volume: the directory and its second copy in the image, the header in slot 0 of the
+//! directory, and what the slot of a file holds. Places in the header and in a slot are counted from its first byte.
 
 /// The first byte of the directory, blocks 2 to 5.
 pub const DIRECTORY: usize = 1024;

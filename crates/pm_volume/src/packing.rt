@@ -39,7 +39,8 @@ fn pack_file(image: &mut Vec<u8>, n: u16, from: u16) -> u16
     requires slot { n ≤ MOST_FILES }
     requires past { PAST_DIRECTORY ≤ from }
     requires after { from ≤ (entry_in (directory_of image.old.items) n).first }
-    requires ordered { (entry_in (directory_of image.old.items) n).first ≤ (entry_in (directory_of image.old.items) n).end }
+    requires ordered { (entry_in (directory_of image.old.items) n).first
+        ≤ (entry_in (directory_of image.old.items) n).end }
     requires within { BLOCK * (entry_in (directory_of image.old.items) n).end ≤ length image.old.items }
     ensures moved { image.new.items ≡ with_moved image.old.items n (entry_in (directory_of image.old.items) n)
         (new_place from (entry_in (directory_of image.old.items) n)) }

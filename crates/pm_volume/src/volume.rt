@@ -1,9 +1,42 @@
 //! Volumes: images whose directory is sound.
 
-ghost use Rattle.std.specs.Prelude.{◌≡◌, ◌≢◌, ◌↔◌, ◌+◌, ◌≤◌, [], ◌∷◌, length, slice_index, slice_range, unwrap_or, Err, None, Ok, Some, IfErr, IfOk, IfSome, IsOk, IsTrue, OnOk, OnErr, true, false, ℕ};
+ghost use Rattle.std.specs.Prelude.{
+  ◌≡◌,
+  ◌≢◌,
+  ◌↔◌,
+  ◌+◌,
+  ◌≤◌,
+  [],
+  ◌∷◌,
+  length,
+  slice_index,
+  slice_range,
+  unwrap_or,
+  Err,
+  None,
+  Ok,
+  Some,
+  IfErr,
+  IfOk,
+  IfSome,
+  IsOk,
+  IsTrue,
+  OnOk,
+  OnErr,
+  true,
+  false,
+  ℕ,
+};
 ghost use Rattle.pm_volume.specs.Changes.{blocks_for};
 ghost use Rattle.pm_volume.specs.Directory.{directory_of, file_count, image_fault};
-ghost use Rattle.pm_volume.specs.declared.fields.TheConstants.{DIRECTORY_SIZE, HEADER_DATE, HEADER_NAME, LONGEST_NAME, LONGEST_VOLUME_NAME, MOST_FILES};
+ghost use Rattle.pm_volume.specs.declared.fields.TheConstants.{
+  DIRECTORY_SIZE,
+  HEADER_DATE,
+  HEADER_NAME,
+  LONGEST_NAME,
+  LONGEST_VOLUME_NAME,
+  MOST_FILES,
+};
 ghost use Rattle.pm_base.specs.declared.blocks.TheConstants.{BLOCK};
 
 use crate::changes::{
@@ -45,12 +78,29 @@ impl Model for Volume {
 }
 
 impl Volume {
-    ghost use Rattle.pm_volume.specs.Changes.{added_spans, removed_spans, AddsFile, RemovesFile, RenamesFile, place_for, slot_named, slot_to_rename};
+    ghost use Rattle.pm_volume.specs.Changes.{
+      added_spans,
+      removed_spans,
+      AddsFile,
+      RemovesFile,
+      RenamesFile,
+      place_for,
+      slot_named,
+      slot_to_rename,
+    };
     ghost use Rattle.pm_volume.specs.Copies.{HasCopies, KeepsCopies, and_second, repaired};
     ghost use Rattle.pm_volume.specs.declared.copies.Copies.TheVariants as copies;
     ghost use Rattle.pm_volume.specs.Made.{doubled, is_occupied, singled};
     ghost use Rattle.pm_volume.specs.Headers.{blank_fault, blank_image, dated_image, zeroed_image};
-    ghost use Rattle.pm_volume.specs.Kept.{ChangesOnly, KeepsFiles, date_span, directory_span, name_span, past_span, second_span};
+    ghost use Rattle.pm_volume.specs.Kept.{
+      ChangesOnly,
+      KeepsFiles,
+      date_span,
+      directory_span,
+      name_span,
+      past_span,
+      second_span,
+    };
     ghost use Rattle.pm_volume.specs.Packing.{Krunches, krunched_image};
     ghost use Rattle.pm_volume.specs.Names.{is_new_name};
     ghost use Rattle.pm_volume.specs.Directory.{IsVolume, block_count};
@@ -137,7 +187,9 @@ impl Volume {
 
     /// The volume's name.
     pub fn name(&self) -> &[u8]
-        ensures characters { result.now ≡ slice_range (directory_of self.now) (HEADER_NAME + 1) (HEADER_NAME + 1 + slice_index (directory_of self.now) HEADER_NAME) }
+        ensures characters { result.now
+            ≡ slice_range (directory_of self.now) (HEADER_NAME + 1)
+            (HEADER_NAME + 1 + slice_index (directory_of self.now) HEADER_NAME) }
     {
         let directory = self.directory();
         let begin = HEADER_NAME + 1;
@@ -239,7 +291,8 @@ impl Volume {
         ensures kept { OnOk result (KeepsFiles self.old self.new) }
         ensures rest { IfOk result (λ e. IfOk (place_for self.old name.now (blocks_for (length bytes.now)))
             (λ gap. ChangesOnly (added_spans (directory_of self.old) gap e) self.old self.new)) }
-        ensures refused { IfErr result (λ fault. place_for self.old name.now (blocks_for (length bytes.now)) ≡ Err fault) }
+        ensures refused { IfErr result
+            (λ fault. place_for self.old name.now (blocks_for (length bytes.now)) ≡ Err fault) }
         ensures unchanged { OnErr result (self.new ≡ self.old) }
     {
         let need = blocks_for(bytes.len());
@@ -323,7 +376,8 @@ impl Volume {
         ensures empty { OnOk result (files_of self.new ≡ []) }
         ensures volume { IsVolume self.new }
         ensures copies { OnOk result (KeepsCopies self.old self.new) }
-        ensures rest { OnOk result (ChangesOnly (and_second (directory_of self.old) (directory_span ∷ [])) self.old self.new) }
+        ensures rest { OnOk result
+            (ChangesOnly (and_second (directory_of self.old) (directory_span ∷ [])) self.old self.new) }
         ensures refused { IfErr result (λ fault. fault ≡ VolumeFault.BadName) }
         ensures unchanged { OnErr result (self.new ≡ self.old) }
     {

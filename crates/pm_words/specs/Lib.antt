@@ -1,4 +1,6 @@
 pub mod Words
 pub mod Watch
 pub mod Errors
+pub mod Signed
 pub mod Stack
+pub mod Laws

@@ -1,9 +1,11 @@
 -- Steps that may fail, and the stack's own steps. The stack grows down: SP is the address of the word
 -- on its top, words are pushed below it, and it ends at 65,504, above which no word is popped.
-use Rattle.std.specs.Prelude.{ℕ, ◌+◌, ◌-◌, ◌%◌, ◌≤◌, ◌≡◌, ◌==◌, Bool, List, Result, Ok, Err, if◌then◌else◌, nat_lt}
+use Rattle.std.specs.Prelude.{ℕ, ◌+◌, ◌-◌, ◌%◌, ◌≤◌, ◌≡◌, ◌==◌, Bool, List, Result, Ok, Err, if◌then◌else◌, ◌&&◌, ◌*◌, nat_le, nat_lt}
 use Rattle.pm_words.specs.declared.error.ExecError.{ExecError}
 use Rattle.pm_words.specs.declared.error.ExecError.TheVariants.{InvalidMemory, StackOverflow}
 use Rattle.pm_words.specs.Words.{word_at, with_word}
+use Rattle.pm_words.specs.declared.stack.Popped.{Popped}
+use Rattle.pm_words.specs.declared.layout.TheConstants.{HIGHEST_WORD, STACK_END}
 
 -- one step after another: the first error is the answer
 infixl 10 ◌>>=◌
@@ -18,6 +20,14 @@ demand holds e = if holds then Ok tt else Err e
 abbrev pub is_even : ℕ → Bool
 is_even a = a % 2 == 0
 
+-- whether n bytes from an address on lie in memory
+abbrev pub lies_in_memory : ℕ → ℕ → Bool
+lies_in_memory a n = nat_le (a + n) 65536
+
+-- whether n words from an address on lie in memory: the address has to be even
+abbrev pub words_lie_in_memory : ℕ → ℕ → Bool
+words_lie_in_memory a n = is_even a && lies_in_memory a (2 * n)
+
 -- a difference modulo 65,536
 abbrev pub minus : ℕ → ℕ → ℕ
 minus a b = (a + (65536 - b)) % 65536
@@ -31,8 +41,8 @@ abbrev pub store : List ℕ → ℕ → ℕ → Result (List ℕ) ExecError
 store m a w = if is_even a then Ok (with_word m a w) else Err InvalidMemory
 
 -- the word on the stack at sp, and the sp above it, which is at most 65,504
-abbrev pub pop : List ℕ → ℕ → Result (ℕ × ℕ) ExecError
-pop m sp = if nat_lt 65502 sp then Err InvalidMemory else (load m sp >>= λ w. Ok (w, sp + 2))
+abbrev pub pop : List ℕ → ℕ → Result Popped ExecError
+pop m sp = if nat_lt HIGHEST_WORD sp then Err InvalidMemory else (load m sp >>= λ w. Ok (record { word = w; above = sp + 2 }))
 
 -- the memory with a word put on the stack, and the new sp, which is at least np
 abbrev pub push : List ℕ → ℕ → ℕ → ℕ → Result (List ℕ × ℕ) ExecError
@@ -43,10 +53,10 @@ push m sp np w = if nat_lt sp (np + 2) then Err StackOverflow else (store m (sp 
 abbrev pub StackRow : Type 0
 StackRow = List ℕ → ℕ → ℕ → Result (List ℕ × ℕ) ExecError
 
--- a row on the stack was done: it gives the new memory and SP, or an error with the memory as it was
-abbrev pub Stacks : Result ℕ ExecError → List ℕ → List ℕ → Result (List ℕ × ℕ) ExecError → Type 0
-Stacks (Ok sp) old new row = row ≡ Ok (new, sp)
-Stacks (Err e) old new row = (row ≡ Err e) × (new ≡ old)
+-- a row was done: it gives the new memory and a result (SP, or the registers), or an error with the memory as it was
+abbrev pub Changes : {A : Type 0} → Result A ExecError → List ℕ → List ℕ → Result (List ℕ × A) ExecError → Type 0
+Changes (Ok x) old new row = row ≡ Ok (new, x)
+Changes (Err e) old new row = (row ≡ Err e) × (new ≡ old)
 
 -- a write was done, or an error leaves the memory as it was
 abbrev pub Stores : {A : Type 0} → Result A ExecError → List ℕ → List ℕ → Result (List ℕ) ExecError → Type 0
@@ -58,4 +68,4 @@ pub record IsStack (sp np : ℕ) : Type 0 where
   pub even_sp : sp % 2 ≡ 0
   pub even_np : np % 2 ≡ 0
   pub above : np ≤ sp
-  pub below : sp ≤ 65504
+  pub below : sp ≤ STACK_END

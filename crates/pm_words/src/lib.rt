@@ -2,7 +2,9 @@
 #![tactic(auto)]
 
 mod error;
+pub mod layout;
 mod memory;
+pub mod memory_laws;
 mod ranges;
 pub mod stack;
 mod watch;

@@ -3,8 +3,9 @@
 
 ghost use Rattle.std.specs.Prelude.{◌≡◌, ℕ, IfOk};
 ghost use Rattle.pm_words.specs.Watch.{KeepsWatch};
-ghost use Rattle.pm_words.specs.Stack.{IsStack, Stacks, Stores, load, pop, push, store};
+ghost use Rattle.pm_words.specs.Stack.{IsStack, Changes, Stores, load, pop, push, store};
 
+use crate::layout::HIGHEST_WORD;
 use crate::{ExecError, Memory};
 
 /// The word at an address; `InvalidMemory` where that is odd.
@@ -28,24 +29,36 @@ pub fn store(memory: &mut Memory, address: u16, word: u16) -> Result<(), ExecErr
     }
 }
 
+/// A word that was popped.
+#[derive(Clone, Copy, Debug, PartialEq, Eq)]
+pub struct Popped {
+    /// The word that was on the top of the stack.
+    pub word: u16,
+    /// The SP above it.
+    pub above: u16,
+}
+
 /// The word on the stack, and the SP above it; `InvalidMemory` where that would pass 65,504.
 #[inline(always)]
-pub fn pop(memory: &Memory, sp: u16) -> Result<(u16, u16), ExecError>
+pub fn pop(memory: &Memory, sp: u16) -> Result<Popped, ExecError>
     ensures row { result ≡ pop memory.now.words sp }
-    ensures stack { (np : ℕ) → IsStack sp np → IfOk result (λ r. IsStack r.1 np) }
+    ensures stack { (np : ℕ) → IsStack sp np → IfOk result (λ p. IsStack p.above np) }
 {
-    if sp > 65502 {
+    if sp > HIGHEST_WORD {
         return Err(ExecError::InvalidMemory);
     }
     let word = load(memory, sp)?;
-    Ok((word, sp + 2))
+    Ok(Popped {
+        word,
+        above: sp + 2,
+    })
 }
 
 /// Puts a word on the stack, and gives the new SP; `StackOverflow`, and nothing changed, where that
 /// would be below NP.
 #[inline(always)]
 pub fn push(memory: &mut Memory, sp: u16, np: u16, word: u16) -> Result<u16, ExecError>
-    ensures row { Stacks result memory.old.words memory.new.words (push memory.old.words sp np word) }
+    ensures row { Changes result memory.old.words memory.new.words (push memory.old.words sp np word) }
     ensures keeps { KeepsWatch memory.old memory.new }
     ensures stack { IsStack sp np → IfOk result (λ sp. IsStack sp np) }
 {

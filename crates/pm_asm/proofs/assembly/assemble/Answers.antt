@@ -1,9 +1,9 @@
 use Rattle.std.proofs.Common.{rules, ◌≡◌, ◌∙◌, ap, string_bytes, subst, sym}
 use Rattle.std.proofs.lemmas.Result.{err_from_is_err_and}
 use Rattle.pm_source.specs.Image.{file_of, listing}
-use Rattle.pm_disasm.specs.Program.{AreShort, IsProgram}
+use Rattle.pm_disasm.specs.Program.{IsProgram}
 use Rattle.pm_reader.specs.Views.{segments_seen}
-use Rattle.pm_asm.specs.Lengths.{IsTooLong, found_program}
+use Rattle.pm_asm.specs.Lengths.{AreShort, IsTooLong, found_program}
 use Rattle.pm_asm.proofs.Outcomes.{refused_spells_nothing}
 use Rattle.pm_asm.proofs.Stages.{label_refused, line_refused, ready_assembled, ready_program, ready_spelled, seen_ready, too_long_refused}
 use Rattle.pm_asm.proofs.assembly.assemble.Goals as goal

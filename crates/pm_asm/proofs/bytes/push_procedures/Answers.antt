@@ -6,6 +6,7 @@ use Rattle.pm_reader.specs.Views.{procedure_seen}
 use Rattle.pm_reader.proofs.Least.{there}
 use Rattle.pm_asm.proofs.Pushed.{procedure_ends, procedure_good, procedure_more, procedure_short, procedure_table}
 use Rattle.pm_asm.proofs.bytes.push_procedures.Goals as goal
+use Rattle.pm_asm.specs.declared.lengths.TheConstants.{LONGEST}
 
 pub push_procedure-requires-clause-procedure : goal.push_procedure-requires-clause-procedure
 push_procedure-requires-clause-procedure c =
@@ -17,7 +18,7 @@ pub push_procedure-requires-clause-short : goal.push_procedure-requires-clause-s
 push_procedure-requires-clause-short c =
     let next = there c.args.procedures.now c.loop-done.done c.index-procedures-done.result c.loop-done-test.true c.index-procedures-done.is in
     let at : ℕ = length c.loop-done.out.items in
-    procedure_short at (procedure_seen c.index-procedures-done.result) (map procedure_seen (drop (c.loop-done.done + 1) c.args.procedures.now)) (subst (λ ps. procedures_end at (found_procedures at (map procedure_seen ps)) ≤ 60000) next c.loop-done.invariant.short)
+    procedure_short at (procedure_seen c.index-procedures-done.result) (map procedure_seen (drop (c.loop-done.done + 1) c.args.procedures.now)) (subst (λ ps. procedures_end at (found_procedures at (map procedure_seen ps)) ≤ LONGEST) next c.loop-done.invariant.short)
 
 pub loop-done-preserved : goal.loop-done-preserved
 loop-done-preserved c =
@@ -38,5 +39,5 @@ loop-done-preserved c =
           ∙ ap (λ ps. c.loop-done.tables.items ++ map jtab_of (found_procedures (length before) (map procedure_seen ps))) (sym next)
           ∙ c.loop-done.invariant.tables;
       good = procedure_good before after number p rest added (subst (λ ps. AllByRecursion IsProcedure (found_procedures (length before) (map procedure_seen ps))) next c.loop-done.invariant.good);
-      short = subst (λ n. n ≤ 60000) (sym (procedure_ends before after number p rest added)) (subst (λ ps. procedures_end (length before) (found_procedures (length before) (map procedure_seen ps)) ≤ 60000) next c.loop-done.invariant.short);
+      short = subst (λ n. n ≤ LONGEST) (sym (procedure_ends before after number p rest added)) (subst (λ ps. procedures_end (length before) (found_procedures (length before) (map procedure_seen ps)) ≤ LONGEST) next c.loop-done.invariant.short);
     }

@@ -4,6 +4,7 @@ use Rattle.pm_disasm.specs.Program.{IsProcedure, jtab_of, procedures_bytes, proc
 use Rattle.pm_source.specs.Meaning.{found_procedures}
 use Rattle.pm_reader.specs.Views.{procedure_seen}
 use Rattle.pm_asm.proofs.bytes.push_procedures.Given as goal
+use Rattle.pm_asm.specs.declared.lengths.TheConstants.{LONGEST}
 
 abbrev pub invariant-loop-done : goal.invariant-loop-done
 invariant-loop-done l = record {
@@ -12,5 +13,5 @@ invariant-loop-done l = record {
   tables : l.tables.items ++ map jtab_of (found_procedures (length l.out.items) (map procedure_seen (drop l.done l.procedures)))
       ≡ map jtab_of (found_procedures (length l.initial.out.items) (map procedure_seen l.procedures));
   good : AllByRecursion IsProcedure (found_procedures (length l.out.items) (map procedure_seen (drop l.done l.procedures)));
-  short : procedures_end (length l.out.items) (found_procedures (length l.out.items) (map procedure_seen (drop l.done l.procedures))) ≤ 60000;
+  short : procedures_end (length l.out.items) (found_procedures (length l.out.items) (map procedure_seen (drop l.done l.procedures))) ≤ LONGEST;
 }

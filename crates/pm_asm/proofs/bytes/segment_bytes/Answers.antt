@@ -5,12 +5,13 @@ use Rattle.pm_source.proofs.Labels.{map_length}
 use Rattle.pm_reader.specs.Views.{procedure_seen, segment_seen}
 use Rattle.pm_asm.proofs.Pushed.{Headed, found_count, headed, headed_room, segment_ends, segment_pushed}
 use Rattle.pm_asm.proofs.bytes.segment_bytes.Goals as goal
+use Rattle.pm_asm.specs.declared.lengths.TheConstants.{LONGEST}
 
 pub push_procedures-requires-clause-short : goal.push_procedures-requires-clause-short
 push_procedures-requires-clause-short c =
     let s = segment_seen c.args.segment.now in
     let start : List ℕ = c.new-bytes.result.items in
-    subst (λ ps. procedures_end (length start) (found_procedures (length start) (map procedure_seen ps)) ≤ 60000) (sym c.deref.ensures.value) (segment_ends s start c.new-bytes.ensures.items c.requires.segment c.requires.short)
+    subst (λ ps. procedures_end (length start) (found_procedures (length start) (map procedure_seen ps)) ≤ LONGEST) (sym c.deref.ensures.value) (segment_ends s start c.new-bytes.ensures.items c.requires.segment c.requires.short)
 
 pub push_procedures-requires-clause-few : goal.push_procedures-requires-clause-few
 push_procedures-requires-clause-few c =

@@ -6,6 +6,7 @@ use Rattle.pm_reader.specs.Views.{segment_seen, segments_seen}
 use Rattle.pm_asm.specs.Found.{program_seen}
 use Rattle.pm_asm.proofs.Slotted.{name_short, numbered_all, slot_empty, slot_there}
 use Rattle.pm_asm.proofs.image.slot_of.Goals as goal
+use Rattle.pm_asm.specs.declared.lengths.TheConstants.{LONGEST}
 
 pub returns-in_default-clause-name : goal.returns-in_default-clause-name
 returns-in_default-clause-name c = sym (ap name_of_segment (slot_empty c.args.number (segments_seen c.args.segments.now) c.requires.number c.in_default.ensures.segment))
@@ -30,7 +31,7 @@ pub segment_bytes-requires-clause-short : goal.segment_bytes-requires-clause-sho
 segment_bytes-requires-clause-short c =
     let s = segment_seen c.in-Some.segment.now in
     let there = slot_there c.args.number (segments_seen c.args.segments.now) s c.requires.number c.in-Some.ensures.segment in
-    numbered_all (λ t. length (segment_bytes t) ≤ 60000) c.args.number (program_seen c.args.segments.now) (found_segment s) there c.requires.short
+    numbered_all (λ t. length (segment_bytes t) ≤ LONGEST) c.args.number (program_seen c.args.segments.now) (found_segment s) there c.requires.short
 
 pub returns-clause-name : goal.returns-clause-name
 returns-clause-name c =
@@ -48,4 +49,4 @@ pub returns-clause-short : goal.returns-clause-short
 returns-clause-short c =
     let s = segment_seen c.in-Some.segment.now in
     let there = slot_there c.args.number (segments_seen c.args.segments.now) s c.requires.number c.in-Some.ensures.segment in
-    subst (λ bs. length bs ≤ 60000) (sym c.in_ok-bytes.ensures.bytes) (numbered_all (λ t. length (segment_bytes t) ≤ 60000) c.args.number (program_seen c.args.segments.now) (found_segment s) there c.requires.short)
+    subst (λ bs. length bs ≤ LONGEST) (sym c.in_ok-bytes.ensures.bytes) (numbered_all (λ t. length (segment_bytes t) ≤ LONGEST) c.args.number (program_seen c.args.segments.now) (found_segment s) there c.requires.short)

@@ -9,6 +9,7 @@ use Rattle.pm_asm.proofs.Outlines.{listing_none, listing_one}
 use Rattle.pm_asm.proofs.Pushed.{on_ok_map}
 use Rattle.pm_asm.proofs.Slotted.{numbered_all, slot_there}
 use Rattle.pm_asm.proofs.listing.push_numbered.Goals as goal
+use Rattle.pm_asm.specs.declared.lengths.TheConstants.{LONGEST}
 
 pub returns-in_default : goal.returns-in_default
 returns-in_default c =
@@ -25,7 +26,7 @@ pub push_segment-requires-clause-short : goal.push_segment-requires-clause-short
 push_segment-requires-clause-short c =
     let s = segment_seen c.in-Some.segment.now in
     let there = slot_there c.args.number (segments_seen c.args.segments.now) s c.requires.number c.in-Some.ensures.segment in
-    numbered_all (λ t. length (segment_bytes t) ≤ 60000) c.args.number (program_seen c.args.segments.now) (found_segment s) there c.requires.short
+    numbered_all (λ t. length (segment_bytes t) ≤ LONGEST) c.args.number (program_seen c.args.segments.now) (found_segment s) there c.requires.short
 
 pub returns : goal.returns
 returns c =

@@ -8,11 +8,19 @@ returns-then-not-is_digit c =
 
 pub returns-then-value-gt4294967295 : goal.returns-then-value-gt4294967295
 returns-then-value-gt4294967295 c =
-    record { number = sym (number_too_large _ c.digits.value _ c.digits.invariant.rest c.in-Some.byte.now c.in-Some.tail.now (search rules) (search rules) (omega (arith, c.from.ensures))) }
+    record {
+      number = sym
+          (number_too_large _ c.digits.value _ c.digits.invariant.rest c.in-Some.byte.now c.in-Some.tail.now (search rules) (search rules)
+          (omega (arith, c.from.ensures)));
+    }
 
 pub digits-preserved : goal.digits-preserved
 digits-preserved c =
-    record { rest = rw c.from.ensures (number_next _ c.digits.value _ c.digits.invariant.rest c.in-Some.byte.now c.in-Some.tail.now (search rules) (search rules)); small = omega arith }
+    record {
+      rest = rw c.from.ensures
+          (number_next _ c.digits.value _ c.digits.invariant.rest c.in-Some.byte.now c.in-Some.tail.now (search rules) (search rules));
+      small = omega arith;
+    }
 
 pub returns : goal.returns
 returns c = record { number = sym (number_is _ _ _ c.digits.invariant.rest (search rules) c.digits.invariant.small) }

@@ -15,7 +15,8 @@ pub words-preserved : goal.words-preserved
 words-preserved c =
     let size : length c.push.new.self.items ≡ length c.words.numbers.items + 1 = c.push.ensures.len in
     record {
-      rest = rw c.push.ensures.items (numbers_next _ _ _ _ c.words.invariant.rest c.in-Some.word.now (words c.in-Some.tail.now) (search rules) c.in-Some-number.number _
+      rest = rw c.push.ensures.items
+          (numbers_next _ _ _ _ c.words.invariant.rest c.in-Some.word.now (words c.in-Some.tail.now) (search rules) c.in-Some-number.number _
           (omega (arith, length-append c.words.numbers.items (c.in-Some-number.number ∷ []))) (search rules));
       few = omega (arith, size);
     }

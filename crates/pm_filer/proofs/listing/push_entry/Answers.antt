@@ -5,4 +5,15 @@ use Rattle.pm_filer.proofs.listing.push_entry.Goals as goal
 
 pub returns : goal.returns
 unfolding entry_line
-returns c = record { text = rw (c.in_ok-writeln.ensures.bytes, c.in_ok-push_spaces.ensures.text, c.in_ok-push_name.ensures.text, c.saturating_sub.ensures, shown_length, ← c.characters-name.ensures.characters) (simp append_assoc refl) }
+returns c =
+    record {
+      text = rw (
+        c.in_ok-writeln.ensures.bytes,
+        c.in_ok-push_spaces.ensures.text,
+        c.in_ok-push_name.ensures.text,
+        c.saturating_sub.ensures,
+        shown_length,
+        ←
+            c.characters-name.ensures.characters,
+      ) (simp append_assoc refl);
+    }

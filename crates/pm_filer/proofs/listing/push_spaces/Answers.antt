@@ -7,4 +7,8 @@ pub loop-preserved : goal.loop-preserved
 loop-preserved c = rw (c.in_ok-push.ensures.bytes, encode_ascii 32 (omega arith)) (spaces-more _ c.args.count c.loop.counter (omega arith) ∙ c.loop.invariant)
 
 pub returns : goal.returns
-returns c = record { text = sym (append-nil _) ∙ ap (λ t. string_bytes c.loop.text ++ t) (sym (spaces-done c.args.count c.loop.counter (omega arith))) ∙ c.loop.invariant }
+returns c =
+    record {
+      text = sym (append-nil _) ∙ ap (λ t. string_bytes c.loop.text ++ t) (sym (spaces-done c.args.count c.loop.counter (omega arith))) ∙
+          c.loop.invariant;
+    }

@@ -16,7 +16,8 @@ loop-n-preserved c =
     record {
       size = length-set c.loop-n.rows c.loop-n.n c.row_of.result ∙ size;
       rows = rw (take_more_set c.loop-n.rows c.loop-n.n c.row_of.result (omega arith), add-one, c.loop-n.invariant.rows, c.row_of.ensures.row) refl;
-      even = rw (take_more_set c.loop-n.rows c.loop-n.n c.row_of.result (omega arith)) (All-push (λ (r : SlotRow). r.length % 2 ≡ 0) _ _ c.loop-n.invariant.even c.row_of.ensures.even);
+      even = rw (take_more_set c.loop-n.rows c.loop-n.n c.row_of.result (omega arith)) (All-push (λ (r : SlotRow). r.length % 2 ≡ 0) _ _ c.loop-n.invariant.even
+          c.row_of.ensures.even);
     }
 
 pub returns-clause-rows : goal.returns-clause-rows

@@ -14,7 +14,8 @@ loop-word-preserved c =
     let place = c.loop-word.invariant.place in
     let even : c.loop-word.at % 2 ≡ 0 = omega arith in
     let below : c.loop-word.at - 2 + 2 ≡ c.loop-word.at = omega arith in
-    let wrote : c.set_word.new.self.words ≡ with_word c.loop-word.memory.words (c.loop-word.at - 2) (get_or c.args.words.now c.loop-word.word-index 0) = search rules in
+    let wrote : c.set_word.new.self.words ≡ with_word c.loop-word.memory.words (c.loop-word.at - 2) (get_or c.args.words.now c.loop-word.word-index 0) = search
+    rules in
     record {
       place = omega arith;
       written = wrote ∙ rw c.loop-word.invariant.written (put_more _ _ _ _ _ c.bytes.ensures.memory.size even below (omega arith) next);

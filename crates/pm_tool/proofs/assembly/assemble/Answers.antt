@@ -23,9 +23,9 @@ returns-in_err-bytes-clause-broken g c =
     let reads = c.in_ok-input.ensures.all in
     rw (p.1, p.2) (broken_unwritten _ _ _ _ _ _ _ c.in_ok-input.input.items reads.0 (c.requires.sink_well, c.in_ok-input.ensures.well, reads.2))
 
-pub returns-in_err-refuse-in-Err-clause-broken : goal.returns-in_err-refuse-in-Err-clause-broken
-returns-in_err-refuse-in-Err-clause-broken g c =
-    let r = c.from_residual-in_err-refuse-in-Err in
+pub returns-in_err-refuse_line-in-Err-clause-broken : goal.returns-in_err-refuse_line-in-Err-clause-broken
+returns-in_err-refuse_line-in-Err-clause-broken g c =
+    let r = c.from_residual-in_err-refuse_line-in-Err in
     let p = err_from_is_err_and r.result r.ensures.1 in
     let reads = c.in_ok-input.ensures.all in
     rw (p.1, p.2) (broken_unwritten _ _ _ _ _ _ _ c.in_ok-input.input.items reads.0 (c.requires.sink_well, c.in_ok-input.ensures.well, reads.2))
@@ -34,7 +34,7 @@ pub returns-in-Err-clause-done : goal.returns-in-Err-clause-done
 returns-in-Err-clause-done g c =
     let input = c.in_ok-input.input.items in
     let fault : wanted c.args.list (assembled (text_of input)) ≡ Err c.in-Err.fault = ap (λ i. wanted c.args.list (assembled (text_of i))) (sym c.deref.ensures.value) ∙ (rw c.in-Err.is at c.in_ok-bytes.ensures.fault) in
-    input_refused _ _ input c.in_ok-input.ensures.all _ (said_asm c.args.list) (refusals.Asm c.in-Err.fault) (sym (ap said_wanted fault)) _ c.in_ok-refuse-in-Err.ensures.outcome
+    input_refused _ _ input c.in_ok-input.ensures.all _ (said_asm c.args.list) (refusals.Asm c.in-Err.fault) (sym (ap said_wanted fault)) _ c.in_ok-refuse_line-in-Err.ensures.outcome
 
 pub returns-in_err-write_all-clause-broken : goal.returns-in_err-write_all-clause-broken
 returns-in_err-write_all-clause-broken g c =
@@ -49,7 +49,7 @@ returns-clause-done g c =
     let input = c.in_ok-input.input.items in
     let bytes : wanted c.args.list (assembled (text_of input)) ≡ Ok c.in-Ok.bytes.items = ap (λ i. wanted c.args.list (assembled (text_of i))) (sym c.deref.ensures.value) ∙ (rw c.in-Ok.is at c.in_ok-bytes.ensures.bytes) in
     bytes_written _ _ input c.in_ok-input.ensures.all _ (said_asm c.args.list) c.in-Ok.bytes.items (sym (ap said_wanted bytes)) _ c.plain.result (subst (Appends _ _) c.deref-2.ensures.value c.in_ok-write_all.ensures.all) (record {
-      status = c.plain.ensures.status;
+      exit = c.plain.ensures.exit;
       message = ap string_bytes c.plain.ensures.message ∙ c.new.ensures.bytes;
       image = ap (option_map vec_items) c.plain.ensures.image;
       printer = c.plain.ensures.printer;

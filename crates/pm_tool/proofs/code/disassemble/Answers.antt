@@ -52,7 +52,7 @@ returns-clause-done g c =
     let sound : file_fault input ≡ None = sym (ap file_fault c.deref.ensures.value) ∙ c.in-Ok.ensures.accepted.0 (search rules) in
     let text : c.as_bytes.result.now ≡ file_text input = c.as_bytes.ensures.value ∙ c.in_ok-text.ensures.text ∙ ap file_text (c.in-Ok.ensures.read ∙ c.deref.ensures.value) in
     bytes_written _ _ input c.in_ok-input.ensures.all _ said_dis (file_text input) (ap (λ o. said_code o input) (sym sound)) _ c.plain.result (subst (Appends _ _) text c.in_ok-write_all.ensures.all) (record {
-      status = c.plain.ensures.status;
+      exit = c.plain.ensures.exit;
       message = ap string_bytes c.plain.ensures.message ∙ c.new.ensures.bytes;
       image = ap (option_map vec_items) c.plain.ensures.image;
       printer = c.plain.ensures.printer;

@@ -8,7 +8,10 @@ pub returns : goal.returns
 returns c =
     let place : (1 * 2 ^ c.min-from.result) % 2 ^ 32 ≡ 2 ^ c.min-from.result = one_shl c.min-from.result 32 (omega arith) in
     let size : (1 * 2 ^ c.min-to.result) % 2 ^ 32 ≡ 2 ^ c.min-to.result = one_shl c.min-to.result 32 (omega arith) in
-    record { word = rw (place, size) (sym (interval-word c.args.low c.args.high c.args.first c.min-from.result c.min-to.result c.requires.order (omega arith) (omega arith))) }
+    record {
+      word = rw (place, size) (sym (interval-word c.args.low c.args.high c.args.first c.min-from.result c.min-to.result c.requires.order (omega arith)
+          (omega arith)));
+    }
 
 pub overflow_sub-result : goal.overflow_sub-result
 overflow_sub-result c =

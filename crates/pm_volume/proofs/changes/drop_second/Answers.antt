@@ -18,5 +18,7 @@ returns-then-has_second c =
     let size : length (slice_range m 3072 5120) ≡ 2048 = omega (arith, kept, long, length-take 2048 (drop 3072 m), length-drop 3072 m) in
     let zeroed = rw size at c.clear_all.ensures.cleared in
     record {
-      image = rw said (ap (put_mid 3072 2048 m) zeroed ∙ listed_second m (zeros 2048) (length-zeros 2048) ∙ ap (λ (xs : List ℕ). written xs 3072 (zeros 2048)) c.begin_at.ensures.begun);
+      image = rw said
+          (ap (put_mid 3072 2048 m) zeroed ∙ listed_second m (zeros 2048) (length-zeros 2048) ∙ ap (λ (xs : List ℕ). written xs 3072 (zeros 2048))
+          c.begin_at.ensures.begun);
     }

@@ -19,5 +19,6 @@ returns c =
       image =
           c.mirror.ensures.mirrored
           ∙ ap mirrored (ap (put_mid 1024 2048 image) wrote
-          ∙ listed image (written d (26 * c.args.slot + 6) (name_field 15 c.args.name.now)) (length-named d c.args.name.now c.args.slot (length-directory image r.whole) r.short r.from r.to));
+          ∙ listed image (written d (26 * c.args.slot + 6) (name_field 15 c.args.name.now))
+          (length-named d c.args.name.now c.args.slot (length-directory image r.whole) r.short r.from r.to));
     }

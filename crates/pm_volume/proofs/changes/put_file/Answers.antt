@@ -23,9 +23,12 @@ returns c =
           let e = c.args.entry.now in
           let d = directory_of image in
           let begin = 512 * e.first in
-          let wrote = rw (c.set_bytes.ensures.written, c.insert_slot.ensures.inserted, c.slot-slot.ensures.fields, c.from-begin.ensures, c.blocks_for.ensures.count) at c.clear.ensures.written in
+          let wrote =
+          rw (c.set_bytes.ensures.written, c.insert_slot.ensures.inserted, c.slot-slot.ensures.fields, c.from-begin.ensures, c.blocks_for.ensures.count) at
+          c.clear.ensures.written in
           let size : length (slot_of e) ≡ 26 = ap length (sym c.slot-slot.ensures.fields) ∙ c.slot-slot.ensures.size in
           let new = length-with_slot d (slot_of e) c.args.n (length-directory image c.requires.whole) size c.requires.few c.requires.from c.requires.to in
           let left : (begin + 512 * blocks_for (length bytes)) - (begin + length bytes) ≡ 512 * blocks_for (length bytes) - length bytes = omega arith in
-          c.mirror.ensures.mirrored ∙ ap mirrored (filed image (with_slot d c.args.n (slot_of e)) bytes _ _ begin _ _ wrote (listed image (with_slot d c.args.n (slot_of e)) new) left);
+          c.mirror.ensures.mirrored ∙ ap mirrored
+          (filed image (with_slot d c.args.n (slot_of e)) bytes _ _ begin _ _ wrote (listed image (with_slot d c.args.n (slot_of e)) new) left);
     }

@@ -6,6 +6,13 @@ unfolding new_directory
 returns c =
     record {
       directory =
-          rw (c.set_word-2.ensures.written, c.set_bytes.ensures.written, c.set_word.ensures.written, c.clear_all.ensures.cleared, c.requires.whole, c.volume_name_field-field.ensures.field)
+          rw (
+            c.set_word-2.ensures.written,
+            c.set_bytes.ensures.written,
+            c.set_word.ensures.written,
+            c.clear_all.ensures.cleared,
+            c.requires.whole,
+            c.volume_name_field-field.ensures.field,
+          )
           at c.set_word-3.ensures.written;
     }

@@ -9,7 +9,8 @@ returns c =
     let begin = c.args.begin in
     let end = c.args.end in
     let to = c.args.to in
-    let size : length (slice_range bytes begin end) ≡ end - begin = omega (arith, length-take (end - begin) (drop begin bytes), length-drop begin bytes, c.requires.order, c.requires.source) in
+    let size : length (slice_range bytes begin end) ≡ end - begin =
+    omega (arith, length-take (end - begin) (drop begin bytes), length-drop begin bytes, c.requires.order, c.requires.source) in
     record {
       moved =
           c.copy_within.ensures.items ∙ append_assoc (take to bytes) (slice_range bytes begin end) (drop (to + (end - begin)) bytes)

@@ -13,7 +13,9 @@ use Rattle.pm_volume.proofs.packing.pack_file.Goals.{After-move_part}
 copied : (c : After-move_part) → c.move_part.new.bytes.items
     ≡ written c.args.image.now.items (512 * new_place c.args.from (entry_in (directory_of c.args.image.now.items) c.args.n))
     (blocks_of c.args.image.now.items (entry_in (directory_of c.args.image.now.items) c.args.n))
-copied c = rw (c.from-3.ensures, c.from.ensures, c.from-2.ensures, c.new_place-to.ensures.place, c.entry_at-entry.ensures.entry, c.deref.ensures.value) at c.move_part.ensures.moved
+copied c =
+    rw (c.from-3.ensures, c.from.ensures, c.from-2.ensures, c.new_place-to.ensures.place, c.entry_at-entry.ensures.entry, c.deref.ensures.value) at
+    c.move_part.ensures.moved
 
 pub place_file-requires-clause-whole : goal.place_file-requires-clause-whole
 place_file-requires-clause-whole c =
@@ -38,5 +40,6 @@ returns-clause-moved c =
     let same = c.deref_mut.ensures.value ∙ copied (goal.at.returns-clause-moved c).After-move_part in
     let directory = directory-copied image c.args.n e to r.whole r.slot (omega arith) down r.ordered r.within in
     let wrote = rw (same, directory, c.new_place-to.ensures.place, c.entry_at-entry.ensures.entry, c.deref.ensures.value) at c.place_file.ensures.placed in
-    written_back c.move_part.new.bytes.items c.place_file.new.image c.move_part.new.bytes.len (c.place_file.auto.image ∙ ap length c.deref_mut.ensures.value) c.move_part.new.bytes.ok.0
+    written_back c.move_part.new.bytes.items c.place_file.new.image c.move_part.new.bytes.len (c.place_file.auto.image ∙ ap length c.deref_mut.ensures.value)
+    c.move_part.new.bytes.ok.0
     ∙ wrote

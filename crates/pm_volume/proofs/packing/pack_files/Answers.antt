@@ -55,7 +55,8 @@ loop-n-preserved c =
     }
 
 pub returns-clause-packed : goal.returns-clause-packed
-returns-clause-packed c = sym (packed_image-done c.loop-n.image.items c.loop-n.n c.loop-n.from (c.word-count.result + 1) (omega arith)) ∙ c.loop-n.invariant.rest
+returns-clause-packed c =
+    sym (packed_image-done c.loop-n.image.items c.loop-n.n c.loop-n.from (c.word-count.result + 1) (omega arith)) ∙ c.loop-n.invariant.rest
 
 pub returns-clause-blocks : goal.returns-clause-blocks
 returns-clause-blocks c = rw (c.word-blocks.ensures.word, c.deref.ensures.value) at c.word-blocks.type_inv

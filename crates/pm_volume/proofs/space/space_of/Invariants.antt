@@ -8,7 +8,9 @@ use Rattle.pm_volume.proofs.space.space_of.Given as goal
 -- the gaps so far with those from here on are all gaps
 abbrev pub invariant-loop-n : goal.invariant-loop-n
 invariant-loop-n l = record {
-  free : fold (λ sum gap. sum + gap_size gap) l.space.free (gaps (block_count l.directory) l.n l.from (entries_from l.directory l.n (l.n-end - l.n))) ≡ free_in l.directory;
-  largest : fold (λ most gap. max most (gap_size gap)) l.space.largest (gaps (block_count l.directory) l.n l.from (entries_from l.directory l.n (l.n-end - l.n))) ≡ largest_in l.directory;
+  free : fold (λ sum gap. sum + gap_size gap) l.space.free (gaps (block_count l.directory) l.n l.from (entries_from l.directory l.n (l.n-end - l.n)))
+      ≡ free_in l.directory;
+  largest : fold (λ most gap. max most (gap_size gap)) l.space.largest
+      (gaps (block_count l.directory) l.n l.from (entries_from l.directory l.n (l.n-end - l.n))) ≡ largest_in l.directory;
   room : l.space.free ≤ 65536 * l.n;
 }

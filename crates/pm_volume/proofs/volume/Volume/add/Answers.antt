@@ -52,7 +52,8 @@ image_after : (c : After-put_file) → take c.self.inside.bytes.len (c.put_file.
     ≡ mirrored (with_file c.args.self.now c.in_ok-gap.gap.place c.new_entry-entry.result c.args.bytes.now)
 image_after c =
     let same = c.deref_mut.ensures.value ∙ c.self.view_is in
-    written_back c.self.inside.bytes.items c.put_file.new.image c.self.inside.bytes.len (c.put_file.auto.image ∙ ap length c.deref_mut.ensures.value) c.self.inside.bytes.ok.0
+    written_back c.self.inside.bytes.items c.put_file.new.image c.self.inside.bytes.len (c.put_file.auto.image ∙ ap length c.deref_mut.ensures.value)
+    c.self.inside.bytes.ok.0
     ∙ c.put_file.ensures.image ∙ ap (λ (image : List ℕ). mirrored (with_file image c.in_ok-gap.gap.place c.new_entry-entry.result c.args.bytes.now)) same
 
 pub invariant_of-self : goal.invariant_of-self

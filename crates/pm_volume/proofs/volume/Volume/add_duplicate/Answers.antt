@@ -12,7 +12,8 @@ image_after : (c : After-add_second) → take c.self.inside.bytes.len (c.add_sec
     ≡ mirrored (begun_at c.args.self.now 10)
 image_after c =
     let same = c.deref_mut.ensures.value ∙ c.self.view_is in
-    written_back c.self.inside.bytes.items c.add_second.new.image c.self.inside.bytes.len (c.add_second.auto.image ∙ ap length c.deref_mut.ensures.value) c.self.inside.bytes.ok.0
+    written_back c.self.inside.bytes.items c.add_second.new.image c.self.inside.bytes.len (c.add_second.auto.image ∙ ap length c.deref_mut.ensures.value)
+    c.self.inside.bytes.ok.0
     ∙ c.add_second.ensures.image ∙ ap (λ (image : List ℕ). mirrored (begun_at image 10)) same
 
 volume : (c : After-add_second) → IsVolume c.args.self.now

@@ -28,7 +28,8 @@ image_after : (c : After-renew_directory) → c.in-Ok.bytes.items ≡ zeros (512
 image_after c made begins =
     let same = c.deref_mut.ensures.value ∙ made in
     let wrote = rw (c.as_bytes-2.ensures.value, same) at c.renew_directory.ensures.image in
-    written_back c.in-Ok.bytes.items c.renew_directory.new.image c.in-Ok.bytes.len (c.renew_directory.auto.image ∙ ap length c.deref_mut.ensures.value) c.in-Ok.bytes.ok.0
+    written_back c.in-Ok.bytes.items c.renew_directory.new.image c.in-Ok.bytes.len (c.renew_directory.auto.image ∙ ap length c.deref_mut.ensures.value)
+    c.in-Ok.bytes.ok.0
     ∙ wrote ∙ mirrored-six (blank_image c.args.name.now c.args.blocks) begins
 
 pub renew_directory-requires-clause-whole : goal.renew_directory-requires-clause-whole
@@ -43,7 +44,8 @@ pub invariant_of-result : goal.invariant_of-result
 invariant_of-result c =
     let b = (goal.at.invariant_of-result c).After-as_bytes-2 in
     let n = name_length b in
-    rw (image_after (goal.at.invariant_of-result c).After-renew_directory (made b) (begins-blank c.args.name.now c.args.blocks n.0 n.1 (omega arith))) (IsVolume-blank c.args.name.now c.args.blocks n.0 n.1 (omega arith) (omega arith))
+    rw (image_after (goal.at.invariant_of-result c).After-renew_directory (made b) (begins-blank c.args.name.now c.args.blocks n.0 n.1 (omega arith)))
+    (IsVolume-blank c.args.name.now c.args.blocks n.0 n.1 (omega arith) (omega arith))
 
 pub returns-clause-made : goal.returns-clause-made
 returns-clause-made c =
@@ -55,16 +57,19 @@ pub returns-clause-empty : goal.returns-clause-empty
 returns-clause-empty c =
     let b = (goal.at.returns-clause-empty c).After-as_bytes-2 in
     let n = name_length b in
-    rw (image_after (goal.at.returns-clause-empty c).After-renew_directory (made b) (begins-blank c.args.name.now c.args.blocks n.0 n.1 (omega arith))) (files-blank c.args.name.now c.args.blocks n.0 n.1 (omega arith))
+    rw (image_after (goal.at.returns-clause-empty c).After-renew_directory (made b) (begins-blank c.args.name.now c.args.blocks n.0 n.1 (omega arith)))
+    (files-blank c.args.name.now c.args.blocks n.0 n.1 (omega arith))
 
 pub returns-clause-volume : goal.returns-clause-volume
 returns-clause-volume c =
     let b = (goal.at.returns-clause-volume c).After-as_bytes-2 in
     let n = name_length b in
-    rw (image_after (goal.at.returns-clause-volume c).After-renew_directory (made b) (begins-blank c.args.name.now c.args.blocks n.0 n.1 (omega arith))) (IsVolume-blank c.args.name.now c.args.blocks n.0 n.1 (omega arith) (omega arith))
+    rw (image_after (goal.at.returns-clause-volume c).After-renew_directory (made b) (begins-blank c.args.name.now c.args.blocks n.0 n.1 (omega arith)))
+    (IsVolume-blank c.args.name.now c.args.blocks n.0 n.1 (omega arith) (omega arith))
 
 pub returns-clause-copies : goal.returns-clause-copies
 returns-clause-copies c =
     let b = (goal.at.returns-clause-copies c).After-as_bytes-2 in
     let n = name_length b in
-    rw (image_after (goal.at.returns-clause-copies c).After-renew_directory (made b) (begins-blank c.args.name.now c.args.blocks n.0 n.1 (omega arith))) (begins-blank c.args.name.now c.args.blocks n.0 n.1 (omega arith))
+    rw (image_after (goal.at.returns-clause-copies c).After-renew_directory (made b) (begins-blank c.args.name.now c.args.blocks n.0 n.1 (omega arith)))
+    (begins-blank c.args.name.now c.args.blocks n.0 n.1 (omega arith))

@@ -7,11 +7,13 @@ use Rattle.pm_volume.proofs.volume.Volume.drop_duplicate.Goals as goal
 use Rattle.pm_volume.proofs.volume.Volume.drop_duplicate.Goals.{After-drop_second}
 
 -- what the image becomes
-image_after : (c : After-drop_second) → take c.self.inside.bytes.len (c.drop_second.new.image ++ drop (length c.drop_second.new.image) c.self.inside.bytes.items)
+image_after : (c : After-drop_second) →
+    take c.self.inside.bytes.len (c.drop_second.new.image ++ drop (length c.drop_second.new.image) c.self.inside.bytes.items)
     ≡ singled c.args.self.now
 image_after c =
     let same = c.deref_mut.ensures.value ∙ c.self.view_is in
-    written_back c.self.inside.bytes.items c.drop_second.new.image c.self.inside.bytes.len (c.drop_second.auto.image ∙ ap length c.deref_mut.ensures.value) c.self.inside.bytes.ok.0
+    written_back c.self.inside.bytes.items c.drop_second.new.image c.self.inside.bytes.len (c.drop_second.auto.image ∙ ap length c.deref_mut.ensures.value)
+    c.self.inside.bytes.ok.0
     ∙ c.drop_second.ensures.image ∙ ap singled same
 
 volume : (c : After-drop_second) → IsVolume c.args.self.now

@@ -16,7 +16,9 @@ fits c = subst (λ (image : List ℕ). block_count (directory_of image) < 65536)
 -- the image with its files moved
 packed : (c : After-pack_files) → c.pack_files.new.image.items
     ≡ packed_image c.args.self.now 1 (files_begin (directory_of c.args.self.now)) (file_count (directory_of c.args.self.now))
-packed c = subst (λ (image : List ℕ). c.pack_files.new.image.items ≡ packed_image image 1 (files_begin (directory_of image)) (file_count (directory_of image))) c.self.view_is c.pack_files.ensures.packed
+packed c =
+    subst (λ (image : List ℕ). c.pack_files.new.image.items ≡ packed_image image 1 (files_begin (directory_of image)) (file_count (directory_of image)))
+    c.self.view_is c.pack_files.ensures.packed
 
 pub mirror-requires : goal.mirror-requires
 mirror-requires c =
@@ -30,7 +32,8 @@ image_after : (c : After-mirror)
     → take c.pack_files.new.image.len (c.mirror.new.image ++ drop (length c.mirror.new.image) c.pack_files.new.image.items)
     ≡ krunched_image c.args.self.now
 image_after c moved =
-    written_back c.pack_files.new.image.items c.mirror.new.image c.pack_files.new.image.len (c.mirror.auto.image ∙ ap length c.deref_mut.ensures.value) c.pack_files.new.image.ok.0
+    written_back c.pack_files.new.image.items c.mirror.new.image c.pack_files.new.image.len (c.mirror.auto.image ∙ ap length c.deref_mut.ensures.value)
+    c.pack_files.new.image.ok.0
     ∙ c.mirror.ensures.mirrored ∙ ap mirrored (c.deref_mut.ensures.value ∙ moved)
 
 pub invariant_of-self : goal.invariant_of-self

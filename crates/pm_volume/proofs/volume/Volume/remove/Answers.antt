@@ -16,7 +16,8 @@ image_after : (c : After-take_file) → take c.self.inside.bytes.len (c.take_fil
     ≡ mirrored (without_file c.args.self.now c.in-Some.slot)
 image_after c =
     let same = c.deref_mut.ensures.value ∙ c.self.view_is in
-    written_back c.self.inside.bytes.items c.take_file.new.image c.self.inside.bytes.len (c.take_file.auto.image ∙ ap length c.deref_mut.ensures.value) c.self.inside.bytes.ok.0
+    written_back c.self.inside.bytes.items c.take_file.new.image c.self.inside.bytes.len (c.take_file.auto.image ∙ ap length c.deref_mut.ensures.value)
+    c.self.inside.bytes.ok.0
     ∙ c.take_file.ensures.image ∙ ap (λ (image : List ℕ). mirrored (without_file image c.in-Some.slot)) same
 
 pub invariant_of-self : goal.invariant_of-self

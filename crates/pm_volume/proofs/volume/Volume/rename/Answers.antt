@@ -12,7 +12,8 @@ image_after : (c : After-name_file) → take c.self.inside.bytes.len (c.name_fil
 image_after c =
     let same = c.deref_mut.ensures.value ∙ c.self.view_is in
     let wrote = rw (c.as_bytes.ensures.value, same) at c.name_file.ensures.image in
-    written_back c.self.inside.bytes.items c.name_file.new.image c.self.inside.bytes.len (c.name_file.auto.image ∙ ap length c.deref_mut.ensures.value) c.self.inside.bytes.ok.0
+    written_back c.self.inside.bytes.items c.name_file.new.image c.self.inside.bytes.len (c.name_file.auto.image ∙ ap length c.deref_mut.ensures.value)
+    c.self.inside.bytes.ok.0
     ∙ wrote
 
 pub invariant_of-self : goal.invariant_of-self
@@ -31,7 +32,8 @@ returns-clause-renamed c =
       slot = c.in_ok-slot.slot;
       found = sym c.slot_to_rename.ensures.found ∙ c.in_ok-slot.was;
       image = image_after w;
-      files = rw (image_after w) ((Changed-named c.args.self.now c.slot_to_rename.ensures.volume c.args.new.now c.in_ok-slot.slot new.0 new.1 slot.0 slot.1).files);
+      files = rw (image_after w)
+          ((Changed-named c.args.self.now c.slot_to_rename.ensures.volume c.args.new.now c.in_ok-slot.slot new.0 new.1 slot.0 slot.1).files);
     }
 
 pub returns-clause-kept : goal.returns-clause-kept

@@ -20,14 +20,16 @@ restore-requires c =
     record { whole = rw same (bad (goal.at.restore-requires c).In-Some-FirstCopyBad).long }
 
 -- what the image becomes
-image_after : (c : After-restore) → take c.args.bytes.len (c.restore.new.image ++ drop (length c.restore.new.image) c.args.bytes.items) ≡ restored c.args.bytes.items
+image_after : (c : After-restore) →
+    take c.args.bytes.len (c.restore.new.image ++ drop (length c.restore.new.image) c.args.bytes.items) ≡ restored c.args.bytes.items
 image_after c =
     written_back c.args.bytes.items c.restore.new.image c.args.bytes.len (c.restore.auto.image ∙ ap length c.deref_mut.ensures.value) c.args.bytes.ok.0
     ∙ c.restore.ensures.restored ∙ ap restored c.deref_mut.ensures.value
 
 pub invariant_of-result : goal.invariant_of-result
 invariant_of-result c =
-    rw (image_after (goal.at.invariant_of-result c).After-restore) (IsVolume-restored c.args.bytes.items (bad (goal.at.invariant_of-result c).In-Some-FirstCopyBad))
+    rw (image_after (goal.at.invariant_of-result c).After-restore)
+    (IsVolume-restored c.args.bytes.items (bad (goal.at.invariant_of-result c).In-Some-FirstCopyBad))
 
 pub returns-in-Some-FirstCopyBad-clause-volume : goal.returns-in-Some-FirstCopyBad-clause-volume
 returns-in-Some-FirstCopyBad-clause-volume c =

@@ -7,11 +7,13 @@ use Rattle.pm_volume.proofs.volume.Volume.set_date.Goals as goal
 use Rattle.pm_volume.proofs.volume.Volume.set_date.Goals.{After-date_volume}
 
 -- what the image becomes
-image_after : (c : After-date_volume) → take c.self.inside.bytes.len (c.date_volume.new.image ++ drop (length c.date_volume.new.image) c.self.inside.bytes.items)
+image_after : (c : After-date_volume) →
+    take c.self.inside.bytes.len (c.date_volume.new.image ++ drop (length c.date_volume.new.image) c.self.inside.bytes.items)
     ≡ dated_image c.args.self.now c.args.date
 image_after c =
     let same = c.deref_mut.ensures.value ∙ c.self.view_is in
-    written_back c.self.inside.bytes.items c.date_volume.new.image c.self.inside.bytes.len (c.date_volume.auto.image ∙ ap length c.deref_mut.ensures.value) c.self.inside.bytes.ok.0
+    written_back c.self.inside.bytes.items c.date_volume.new.image c.self.inside.bytes.len (c.date_volume.auto.image ∙ ap length c.deref_mut.ensures.value)
+    c.self.inside.bytes.ok.0
     ∙ c.date_volume.ensures.image ∙ ap (λ (image : List ℕ). dated_image image c.args.date) same
 
 volume : (c : After-date_volume) → IsVolume c.args.self.now

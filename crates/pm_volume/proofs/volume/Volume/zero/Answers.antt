@@ -14,12 +14,22 @@ name_length c =
     length-new_name 7 c.args.name.now new
 
 -- what the image becomes
-image_after : (c : After-renew_directory) → take c.self.inside.bytes.len (c.renew_directory.new.image ++ drop (length c.renew_directory.new.image) c.self.inside.bytes.items)
+image_after : (c : After-renew_directory) →
+    take c.self.inside.bytes.len (c.renew_directory.new.image ++ drop (length c.renew_directory.new.image) c.self.inside.bytes.items)
     ≡ zeroed_image c.args.self.now c.args.name.now
 image_after c =
     let same = c.deref_mut.ensures.value ∙ c.self.view_is in
-    let wrote = rw (c.as_bytes-2.ensures.value, c.word-past.ensures.word, c.word-blocks.ensures.word, c.word-date.ensures.word, c.directory-directory.ensures.bytes, same) at c.renew_directory.ensures.image in
-    written_back c.self.inside.bytes.items c.renew_directory.new.image c.self.inside.bytes.len (c.renew_directory.auto.image ∙ ap length c.deref_mut.ensures.value) c.self.inside.bytes.ok.0
+    let wrote =
+    rw (
+      c.as_bytes-2.ensures.value,
+      c.word-past.ensures.word,
+      c.word-blocks.ensures.word,
+      c.word-date.ensures.word,
+      c.directory-directory.ensures.bytes,
+      same,
+    ) at c.renew_directory.ensures.image in
+    written_back c.self.inside.bytes.items c.renew_directory.new.image c.self.inside.bytes.len
+    (c.renew_directory.auto.image ∙ ap length c.deref_mut.ensures.value) c.self.inside.bytes.ok.0
     ∙ wrote
 
 pub renew_directory-requires-clause-short : goal.renew_directory-requires-clause-short
@@ -29,33 +39,38 @@ pub invariant_of-self : goal.invariant_of-self
 invariant_of-self c =
     let w = (goal.at.invariant_of-self c).After-renew_directory in
     let n = name_length (goal.at.invariant_of-self c).After-as_bytes-2 in
-    let fits : block_count (directory_of c.args.self.now) < 65536 = rw (c.word-blocks.ensures.word, c.directory-directory.ensures.bytes) at c.word-blocks.type_inv in
+    let fits : block_count (directory_of c.args.self.now) < 65536 =
+    rw (c.word-blocks.ensures.word, c.directory-directory.ensures.bytes) at c.word-blocks.type_inv in
     rw (image_after w) ((Changed-zeroed c.args.self.now c.directory-directory.ensures.volume c.args.name.now n.0 n.1 fits).volume)
 
 pub returns-clause-empty : goal.returns-clause-empty
 returns-clause-empty c =
     let w = (goal.at.returns-clause-empty c).After-renew_directory in
     let n = name_length (goal.at.returns-clause-empty c).After-as_bytes-2 in
-    let fits : block_count (directory_of c.args.self.now) < 65536 = rw (c.word-blocks.ensures.word, c.directory-directory.ensures.bytes) at c.word-blocks.type_inv in
+    let fits : block_count (directory_of c.args.self.now) < 65536 =
+    rw (c.word-blocks.ensures.word, c.directory-directory.ensures.bytes) at c.word-blocks.type_inv in
     rw (image_after w) ((Changed-zeroed c.args.self.now c.directory-directory.ensures.volume c.args.name.now n.0 n.1 fits).files)
 
 pub returns-clause-rest : goal.returns-clause-rest
 returns-clause-rest c =
     let w = (goal.at.returns-clause-rest c).After-renew_directory in
     let n = name_length (goal.at.returns-clause-rest c).After-as_bytes-2 in
-    let fits : block_count (directory_of c.args.self.now) < 65536 = rw (c.word-blocks.ensures.word, c.directory-directory.ensures.bytes) at c.word-blocks.type_inv in
+    let fits : block_count (directory_of c.args.self.now) < 65536 =
+    rw (c.word-blocks.ensures.word, c.directory-directory.ensures.bytes) at c.word-blocks.type_inv in
     rw (image_after w) ((Changed-zeroed c.args.self.now c.directory-directory.ensures.volume c.args.name.now n.0 n.1 fits).only)
 
 pub returns-clause-volume : goal.returns-clause-volume
 returns-clause-volume c =
     let w = (goal.at.returns-clause-volume c).After-renew_directory in
     let n = name_length (goal.at.returns-clause-volume c).After-as_bytes-2 in
-    let fits : block_count (directory_of c.args.self.now) < 65536 = rw (c.word-blocks.ensures.word, c.directory-directory.ensures.bytes) at c.word-blocks.type_inv in
+    let fits : block_count (directory_of c.args.self.now) < 65536 =
+    rw (c.word-blocks.ensures.word, c.directory-directory.ensures.bytes) at c.word-blocks.type_inv in
     rw (image_after w) ((Changed-zeroed c.args.self.now c.directory-directory.ensures.volume c.args.name.now n.0 n.1 fits).volume)
 
 pub returns-clause-copies : goal.returns-clause-copies
 returns-clause-copies c =
     let w = (goal.at.returns-clause-copies c).After-renew_directory in
     let n = name_length (goal.at.returns-clause-copies c).After-as_bytes-2 in
-    let fits : block_count (directory_of c.args.self.now) < 65536 = rw (c.word-blocks.ensures.word, c.directory-directory.ensures.bytes) at c.word-blocks.type_inv in
+    let fits : block_count (directory_of c.args.self.now) < 65536 =
+    rw (c.word-blocks.ensures.word, c.directory-directory.ensures.bytes) at c.word-blocks.type_inv in
     rw (image_after w) ((Changed-zeroed c.args.self.now c.directory-directory.ensures.volume c.args.name.now n.0 n.1 fits).copies)

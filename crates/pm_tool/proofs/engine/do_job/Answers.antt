@@ -2,8 +2,9 @@ use Rattle.std.proofs.Common.{[], arith}
 use Rattle.std.proofs.lemmas.Result.{err_from_is_err_and}
 use Rattle.pm_tool.specs.declared.outcome.Job.TheVariants as jobs
 use Rattle.pm_tool.proofs.Kept.{broken_job, broken_unwritten}
-use Rattle.pm_tool.proofs.Filing.{consumes_none}
-use Rattle.pm_tool.proofs.engine.perform.Goals as goal
+use Rattle.pm_volume.specs.Copies.{repaired}
+use Rattle.pm_tool.proofs.Filing.{consumes_none, repair_done}
+use Rattle.pm_tool.proofs.engine.do_job.Goals as goal
 
 pub returns-in-Raw-clause-broken : goal.returns-in-Raw-clause-broken
 returns-in-Raw-clause-broken g c = broken_job c.args.job (jobs.Raw c.in-Raw.limit) _ _ _ _ _ _ _ c.raw.ensures.broken c.in-Raw.is
@@ -37,3 +38,9 @@ returns-in_err-repair_volume-in-Repair-clause-broken g c =
     let r = c.from_residual-in_err-repair_volume-in-Repair in
     let p = err_from_is_err_and r.result r.ensures.1 in
     rw (p.1, p.2) (broken_unwritten _ _ _ _ _ _ _ [] (consumes_none _) (c.requires.sink_well, c.requires.source_well, omega arith))
+
+pub returns-in_ok-repair_volume-in-Repair-clause-done : goal.returns-in_ok-repair_volume-in-Repair-clause-done
+returns-in_ok-repair_volume-in-Repair-clause-done g c =
+    rw c.in-Repair.is
+    (repair_done (repaired c.in-Repair.image.items) _ _ _ c.in_ok-repair_volume-in-Repair.ensures.outcome
+    c.in_ok-repair_volume-in-Repair.ensures.sound)

@@ -1,20 +1,45 @@
--- Words as signed numbers: a word from 32,768 on stands for itself less 65,536. Results are words again, modulo 65,536.
-use Rattle.std.specs.Prelude.{ℕ, ◌+◌, ◌-◌, ◌*◌, ◌%◌, Bool, not, Result, Ok, Err, if◌then◌else◌, ◌==◌, ℤ, pos, negsuc, unsigned_abs, int_lt, int_le, int_div, int_rem, bit_and, bit_or}
+-- What the rows on integers compute. Results are words again, modulo 65,536.
+use Rattle.std.specs.Prelude.{
+  ℕ,
+  ◌+◌,
+  ◌-◌,
+  ◌*◌,
+  ◌%◌,
+  Bool,
+  not,
+  Result,
+  Ok,
+  Err,
+  if◌then◌else◌,
+  ◌==◌,
+  ℤ,
+  pos,
+  negsuc,
+  unsigned_abs,
+  int_lt,
+  int_le,
+  int_div,
+  int_rem,
+  bit_and,
+  bit_or,
+}
 use Rattle.pm_words.specs.declared.error.ExecError.{ExecError}
 use Rattle.pm_words.specs.declared.error.ExecError.TheVariants.{DivideByZero}
 use Rattle.pm_words.specs.Stack.{minus}
-use Rattle.pm_values.specs.Sets.{signed}
+use Rattle.pm_words.specs.Signed.{signed, word}
 use Rattle.pm_opcode.specs.declared.operation.Unary.{Unary}
 use Rattle.pm_opcode.specs.declared.operation.Unary.TheVariants.{Absolute, Negate, Square, Complement}
 use Rattle.pm_opcode.specs.declared.operation.Binary.{Binary}
 use Rattle.pm_opcode.specs.declared.operation.Binary.TheVariants.{Add, Subtract, Multiply, Divide, Modulo, And, Or}
 use Rattle.pm_opcode.specs.declared.operation.Relation.{Relation}
-use Rattle.pm_opcode.specs.declared.operation.Relation.TheVariants.{Equal, GreaterOrEqual, Greater, LessOrEqual, Less, NotEqual}
-
--- a number modulo 65,536
-abbrev pub word : ℤ → ℕ
-word (pos n) = n % 65536
-word (negsuc n) = 65535 - n % 65536
+use Rattle.pm_opcode.specs.declared.operation.Relation.TheVariants.{
+  Equal,
+  GreaterOrEqual,
+  Greater,
+  LessOrEqual,
+  Less,
+  NotEqual,
+}
 
 -- the absolute value, the negative, the square, all 16 bits turned round
 abbrev pub unary : Unary → ℕ → ℕ

@@ -1,0 +1,7 @@
+//! The opcodes of a case jump.
+
+/// The opcode of XJP.
+pub const CASE_JUMP: u8 = 172;
+
+/// The opcode of UJP, the jump that stands in an XJP.
+pub const JUMP: u8 = 185;

@@ -1,0 +1,20 @@
+#!/bin/sh
+# Makes a disk as somebody may have kept it, by the program alone: examples/disk.sh PATH
+# The volume KEPT of 40 blocks has two programs, HANOI and LOADS, and a text.
+set -e
+[ $# = 1 ] || {
+    echo "usage: disk.sh PATH" >&2
+    exit 1
+}
+here=$(dirname "$(readlink -f "$0")")
+files() {
+    "$here/../pmach" files --image "$image" "$@"
+}
+image=$1
+files new KEPT 40
+files date 84 12 1
+for name in hanoi loads; do
+    "$here/../pmach" asm <"$here/$name.text" | files put "$(echo $name | tr a-z A-Z)" code
+done
+printf '%s\n' 'HANOI moves a tower of three disks.' 'LOADS loads one segment where another stood.' |
+    files puttext READ.ME.TEXT

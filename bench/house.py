@@ -2,7 +2,8 @@
 
     definitions     of the same text in specs/ of two crates
     functions       of more than 40 lines with their signature, and crates of more than 100 functions
-    lines           over 120 characters in code, definitions and docs (tables apart), over 160 in proofs
+    lines           over 120 characters in code, definitions and docs, over 160 in proofs (tables apart, and
+                    attributes, which `rt fmt` joins)
     numbers         that have a name: ends of the stack, the most bytes of bare code, opcodes of jumps (tables of
                     opcodes, table.rt and quick.rt, have their own)
     the page        of the instructions, of which crates/pm_page/stdin is a copy
@@ -77,7 +78,7 @@ for folder in sorted(glob.glob("crates/*")):
 for pattern, most in (("crates/*/src/**/*.rt", 120), ("crates/*/specs/**/*.antt", 120), ("crates/*/proofs/**/*.antt", 160),
                       ("docs/*.md", 120), ("README.md", 120)):
     for path in sorted(glob.glob(pattern, recursive=True)):
-        long = [n + 1 for n, line in enumerate(lines(path)) if len(line) > most and not line.startswith("|")]
+        long = [n + 1 for n, line in enumerate(lines(path)) if len(line) > most and not line.lstrip().startswith(("|", "#["))]
         if long:
             tell("line", "%s: %d over %d characters, the first at %d" % (path, len(long), most, long[0]))
 

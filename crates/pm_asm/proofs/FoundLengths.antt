@@ -1,5 +1,6 @@
 -- How long segments are, and the first that is too long.
-use Rattle.std.proofs.Common.{◌≡◌, ◌<◌, ℕ, ◌+◌, ◌-◌, ◌*◌, Bool, true, false, List, [], ◌∷◌, ◌++◌, length, map, reverse, refl, sym, ap, subst, ◌∙◌, arith, length-append, Option, Some, None}
+use Rattle.std.proofs.Common.{◌≡◌, ◌<◌, ℕ, ◌+◌, ◌-◌, ◌*◌, Bool, true, false, List, [], ◌∷◌, ◌++◌, length, map}
+use Rattle.std.proofs.Common.{reverse, refl, sym, ap, subst, ◌∙◌, arith, length-append, Option, Some, None}
 use Rattle.std.specs.Prelude.{suc, nat_lt, if◌then◌else◌}
 use Rattle.std.specs.Option.{option_to_list}
 use Rattle.std.proofs.lemmas.Bool.{ltb-false}
@@ -22,7 +23,8 @@ length-dictionary at (p ∷ ps) = omega (arith, length-dictionary (at + 2) ps)
 
 found_follow : (at : ℕ) (ps : List Source) → FollowFrom at (found_procedures at ps)
 found_follow at [] = tt
-found_follow at (p ∷ ps) = (refl, subst (λ k. FollowFrom k (found_procedures (source_end at p) ps)) (sym (found_behind at p)) (found_follow (source_end at p) ps))
+found_follow at (p ∷ ps) =
+    (refl, subst (λ k. FollowFrom k (found_procedures (source_end at p) ps)) (sym (found_behind at p)) (found_follow (source_end at p) ps))
 
 found_ends : (at : ℕ) (ps : List Source) → procedures_end at (found_procedures at ps) ≡ sources_end at ps
 found_ends at [] = refl
@@ -51,7 +53,8 @@ found_length_is s =
     )
 
 -- the same of a segment of the code
-pub found_length-seen : (s : code.Segment) → sources_end 0 (map procedure_seen s.procedures.items) + 2 * length s.procedures.items + 2 ≡ found_length (segment_seen s)
+pub found_length-seen : (s : code.Segment) → sources_end 0 (map procedure_seen s.procedures.items) + 2 * length s.procedures.items + 2
+    ≡ found_length (segment_seen s)
 found_length-seen s = omega (arith, found_length_is (segment_seen s), map_length procedure_seen s.procedures.items)
 
 -- where none is long, all are short
@@ -80,10 +83,12 @@ next_long n ss found h e =
 pub none_long : (n : ℕ) (ss : List SourceSegment) → n < 16 → segment_with n ss ≡ None → long_from n ss ≡ long_from (n + 1) ss
 none_long n ss h e = next_long n ss None h e
 
-pub short_here : (n : ℕ) (ss : List SourceSegment) (s : SourceSegment) → n < 16 → segment_with n ss ≡ Some s → nat_lt LONGEST (found_length s) ≡ false → long_from n ss ≡ long_from (n + 1) ss
+pub short_here : (n : ℕ) (ss : List SourceSegment) (s : SourceSegment) → n < 16 → segment_with n ss ≡ Some s → nat_lt LONGEST (found_length s) ≡ false
+    → long_from n ss ≡ long_from (n + 1) ss
 short_here n ss s h e l =
     next_long n ss (Some s) h e ∙ ap (λ b. if b then Some s.number else long_from (n + 1) ss) l
 
-pub long_here : (n : ℕ) (ss : List SourceSegment) (s : SourceSegment) → n < 16 → segment_with n ss ≡ Some s → nat_lt LONGEST (found_length s) ≡ true → long_from n ss ≡ Some s.number
+pub long_here : (n : ℕ) (ss : List SourceSegment) (s : SourceSegment) → n < 16 → segment_with n ss ≡ Some s → nat_lt LONGEST (found_length s) ≡ true
+    → long_from n ss ≡ Some s.number
 long_here n ss s h e l =
     next_long n ss (Some s) h e ∙ ap (λ b. if b then Some s.number else long_from (n + 1) ss) l

@@ -12,3 +12,4 @@ pub mod Stages
 pub mod ShownAgain
 pub mod ListedFile
 pub mod Tables
+pub mod Fitting

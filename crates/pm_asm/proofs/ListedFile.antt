@@ -5,7 +5,7 @@ use Rattle.std.specs.Option.{unwrap_or}
 use Rattle.pm_codefile.specs.Dictionary.{segment_in}
 use Rattle.pm_disasm.specs.Laws.{segment_numbered}
 use Rattle.pm_disasm.specs.Program.{Segment, segment_bytes}
-use Rattle.pm_disasm.proofs.Fitting.{short_fits}
+use Rattle.pm_asm.proofs.Fitting.{short_fits}
 use Rattle.pm_source.specs.Denoted.{ArePlacedFrom, denoted, denoted_bytes, of_segment}
 use Rattle.pm_source.specs.Image.{bytes_of_segment}
 use Rattle.pm_source.proofs.Denoting.{listing_denotes_segments}

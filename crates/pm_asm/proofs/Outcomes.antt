@@ -9,7 +9,7 @@ use Rattle.pm_source.specs.Faults.{faults}
 use Rattle.pm_source.specs.Image.{file_of, listing}
 use Rattle.pm_source.specs.Meaning.{program_of}
 use Rattle.pm_source.proofs.Spelled.{faultless_is_spelled, spelled_is_faultless}
-use Rattle.pm_disasm.proofs.Fitting.{short_fits}
+use Rattle.pm_asm.proofs.Fitting.{short_fits}
 use Rattle.pm_source.proofs.Programs.{spelled_is_program}
 use Rattle.pm_reader.specs.Firsts.{first_of}
 use Rattle.pm_asm.specs.Assembled.{AssembledIsSpelled, Assembles, RefusedSpellsNothing, SpellsNothing, assembled, outcome_by, outcome_of}
@@ -34,14 +34,18 @@ unfolding assembled
 assembled_ok text none short =
     ap (λ fs. outcome_by text (first_of fs)) none ∙ ap (outcome_of (program_of text)) (none_too_long (program_of text) short)
 
-pub is_assembled : (text file shown : List ℕ) → faults text ≡ [] → AreShort (program_of text) → file ≡ file_of (program_of text) → shown ≡ listing (program_of text)
+pub is_assembled : (text file shown : List ℕ) → faults text ≡ [] → AreShort (program_of text) → file ≡ file_of (program_of text)
+    → shown ≡ listing (program_of text)
     → assembled text ≡ Ok (file, shown)
-is_assembled text file shown none short image lines = assembled_ok text none short ∙ sym (ap (λ f. Ok (f, shown)) image ∙ ap (λ l. Ok (file_of (program_of text), l)) lines)
+is_assembled text file shown none short image lines =
+    assembled_ok text none short ∙ sym (ap (λ f. Ok (f, shown)) image ∙ ap (λ l. Ok (file_of (program_of text), l)) lines)
 
 -- It is that of the program that the text spells.
-pub is_spelled : (text file shown : List ℕ) → faults text ≡ [] → AreShort (program_of text) → file ≡ file_of (program_of text) → shown ≡ listing (program_of text)
+pub is_spelled : (text file shown : List ℕ) → faults text ≡ [] → AreShort (program_of text) → file ≡ file_of (program_of text)
+    → shown ≡ listing (program_of text)
     → Assembles text file shown
-is_spelled text file shown none short image lines = record { program = program_of text; spelled = faultless_is_spelled text none; short = short; image = image; lines = lines }
+is_spelled text file shown none short image lines =
+    record { program = program_of text; spelled = faultless_is_spelled text none; short = short; image = image; lines = lines }
 
 -- A text is refused by its first fault.
 pub fault_refused : (text : List ℕ) (fault : AsmFault) → first_of (faults text) ≡ Some fault → assembled text ≡ Err fault
@@ -78,7 +82,8 @@ assembled_spelled : (text file shown : List ℕ) → assembled text ≡ Ok (file
 unfolding assembled
 assembled_spelled text file shown h = by_fault (first_of (faults text)) refl h
   where
-    by_length : (o : Option ℕ) → faults text ≡ [] → first_long (program_of text) ≡ o → outcome_of (program_of text) o ≡ Ok (file, shown) → Assembles text file shown
+    by_length : (o : Option ℕ) → faults text ≡ [] → first_long (program_of text) ≡ o → outcome_of (program_of text) o ≡ Ok (file, shown)
+        → Assembles text file shown
     by_length (Some n) none e h = absurd (cc)
     by_length None none e h =
         let made : List ℕ × List ℕ = (file_of (program_of text), listing (program_of text)) in

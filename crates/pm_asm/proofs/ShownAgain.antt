@@ -4,7 +4,7 @@ use Rattle.std.specs.List.{AllZip}
 use Rattle.pm_disasm.specs.Laws.{IsSameSegment}
 use Rattle.pm_disasm.specs.Program.{Segment, segment_bytes}
 use Rattle.pm_disasm.specs.Shown.{file_text}
-use Rattle.pm_disasm.proofs.Fitting.{short_fits}
+use Rattle.pm_asm.proofs.Fitting.{short_fits}
 use Rattle.pm_source.specs.Image.{file_of, listing}
 use Rattle.pm_source.specs.Laws.{IsShownAgain}
 use Rattle.pm_source.specs.Meaning.{Spells}

@@ -29,7 +29,7 @@ label_faults_alone : (text : List ℕ) (ss : List SourceSegment) → faults_of_l
 unfolding faults
 label_faults_alone text ss lines read = ap (λ fs. faults_with fs (source_of text)) lines ∙ ap all_label_faults (sym read)
 
-program_read : (text : List ℕ) (ss : List SourceSegment) → ss ≡ source_of text → found_program ss ≡ program_of text
+pub program_read : (text : List ℕ) (ss : List SourceSegment) → ss ≡ source_of text → found_program ss ≡ program_of text
 unfolding program_of
 program_read text ss read = ap found_program read
 
@@ -50,15 +50,17 @@ pub record IsReady (text : List ℕ) (ss : List SourceSegment) : Type 0 where
 -- of segments of the code, whose labels are looked up by reference
 pub seen_ready : (text : List ℕ) (segments lent : List code.Segment) → faults_of_lines text ≡ [] → segments_seen segments ≡ source_of text
     → lent ≡ segments → all_label_faults (segments_seen lent) ≡ [] → IsReady text (segments_seen segments)
-seen_ready text segments lent lines read same labels = record { lines = lines; read = read; labels = ap (λ s. all_label_faults (segments_seen s)) (sym same) ∙ labels }
+seen_ready text segments lent lines read same labels =
+    record { lines = lines; read = read; labels = ap (λ s. all_label_faults (segments_seen s)) (sym same) ∙ labels }
 
-ready_faultless : (text : List ℕ) (ss : List SourceSegment) → IsReady text ss → faults text ≡ []
+pub ready_faultless : (text : List ℕ) (ss : List SourceSegment) → IsReady text ss → faults text ≡ []
 ready_faultless text ss r = label_faults_alone text ss r.lines r.read ∙ r.labels
 
-ready_short : (text : List ℕ) (ss : List SourceSegment) → IsReady text ss → AreShort (found_program ss) → AreShort (program_of text)
+pub ready_short : (text : List ℕ) (ss : List SourceSegment) → IsReady text ss → AreShort (found_program ss) → AreShort (program_of text)
 ready_short text ss r short = subst AreShort (program_read text ss r.read) short
 
-pub too_long_refused : (text : List ℕ) (ss : List SourceSegment) (fault : AsmFault) → IsReady text ss → IsTooLong (found_program ss) fault → fault ≢ NoMemory → assembled text ≡ Err fault
+pub too_long_refused : (text : List ℕ) (ss : List SourceSegment) (fault : AsmFault) → IsReady text ss → IsTooLong (found_program ss) fault → fault ≢ NoMemory
+    → assembled text ≡ Err fault
 too_long_refused text ss fault r long other =
     long_refused text fault (ready_faultless text ss r) (subst (λ p. IsTooLong p fault) (program_read text ss r.read) long) other
 
@@ -66,13 +68,15 @@ pub ready_program : (text : List ℕ) (ss : List SourceSegment) → IsReady text
 ready_program text ss r short =
     subst IsProgram (sym (program_read text ss r.read)) (faultless_is_program text (ready_faultless text ss r) (ready_short text ss r short))
 
-pub ready_assembled : (text file shown : List ℕ) (ss : List SourceSegment) → IsReady text ss → AreShort (found_program ss) → file ≡ file_of (found_program ss) → shown ≡ listing (found_program ss)
+pub ready_assembled : (text file shown : List ℕ) (ss : List SourceSegment) → IsReady text ss → AreShort (found_program ss) → file ≡ file_of (found_program ss)
+    → shown ≡ listing (found_program ss)
     → assembled text ≡ Ok (file, shown)
 ready_assembled text file shown ss r short image lines =
     let same = program_read text ss r.read in
     is_assembled text file shown (ready_faultless text ss r) (ready_short text ss r short) (image ∙ ap file_of same) (lines ∙ ap listing same)
 
-pub ready_spelled : (text file shown : List ℕ) (ss : List SourceSegment) → IsReady text ss → AreShort (found_program ss) → file ≡ file_of (found_program ss) → shown ≡ listing (found_program ss)
+pub ready_spelled : (text file shown : List ℕ) (ss : List SourceSegment) → IsReady text ss → AreShort (found_program ss) → file ≡ file_of (found_program ss)
+    → shown ≡ listing (found_program ss)
     → Assembles text file shown
 ready_spelled text file shown ss r short image lines =
     let same = program_read text ss r.read in

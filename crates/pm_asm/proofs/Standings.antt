@@ -1,5 +1,6 @@
 -- Bytes that stand in a segment, and the lines that list them.
-use Rattle.std.proofs.Common.{◌≡◌, ◌<◌, ◌≤◌, ℕ, ◌+◌, ◌-◌, true, List, [], ◌∷◌, ◌++◌, length, reverse, take, drop, get_or, refl, sym, ap, subst, ◌∙◌, arith, append_assoc, length-append, length-drop, drop-drop, Some}
+use Rattle.std.proofs.Common.{◌≡◌, ◌<◌, ◌≤◌, ℕ, ◌+◌, ◌-◌, true, List, [], ◌∷◌, ◌++◌, length, reverse, take, drop, get_or}
+use Rattle.std.proofs.Common.{refl, sym, ap, subst, ◌∙◌, arith, append_assoc, length-append, length-drop, drop-drop, Some}
 use Rattle.std.proofs.Math.Seq.{drop-append_seam, take-append_seam}
 use Rattle.std.proofs.lemmas.List.{reverse-append, take_more}
 use Rattle.pm_line.specs.declared.item.Item.{Item}
@@ -45,7 +46,8 @@ pub item_within : (s : List ℕ) (at : ℕ) (item : model.Item ℕ) → Stands s
 item_within s at item h = omega (arith, stands_within s at (item_bytes at item) h (omega (arith, length-item at item, size-some at item)), length-item at item)
 
 -- an instruction is read where it stands
-pub item_there : (s : List ℕ) (at : ℕ) (item : model.Item ℕ) → Stands s at (item_bytes at item) → IsItem at item → is_instruction item ≡ true → item_at s at ≡ Some item
+pub item_there : (s : List ℕ) (at : ℕ) (item : model.Item ℕ) → Stands s at (item_bytes at item) → IsItem at item → is_instruction item ≡ true
+    → item_at s at ≡ Some item
 unfolding item_at
 item_there s at item h good e = ap (λ bs. item_in (front at bs)) h.there ∙ ap item_in (instruction_is_read at item h.rest good e)
 
@@ -59,23 +61,29 @@ pub some_same : {A : Type 0} (x y : A) → Some x ≡ Some y → x ≡ y
 some_same x y e = cc
 
 -- A line more, and some lines more.
-pub line_more : (n : ℕ) (l : Listed) (before after : List ℕ) (rest : List Listed) → after ≡ before ++ listed_line n l → after ++ listed_lines n rest ≡ before ++ listed_lines n (l ∷ rest)
+pub line_more : (n : ℕ) (l : Listed) (before after : List ℕ) (rest : List Listed) → after ≡ before ++ listed_line n l
+    → after ++ listed_lines n rest ≡ before ++ listed_lines n (l ∷ rest)
 line_more n l before after rest e = ap (λ bs. bs ++ listed_lines n rest) e ∙ append_assoc before (listed_line n l) (listed_lines n rest)
 
 -- items that stand one behind another, and their lines
-pub items_listed : (procedure at : ℕ) (xs ys : List (model.Item ℕ)) → listed_items procedure at (xs ++ ys) ≡ listed_items procedure at xs ++ listed_items procedure (end_of at xs) ys
+pub items_listed : (procedure at : ℕ) (xs ys : List (model.Item ℕ))
+    → listed_items procedure at (xs ++ ys) ≡ listed_items procedure at xs ++ listed_items procedure (end_of at xs) ys
 items_listed procedure at [] ys = refl
-items_listed procedure at (x ∷ xs) ys = ap (λ ls. record { procedure = procedure; at = at; bytes = item_bytes at x; what = shown_item x } ∷ ls) (items_listed procedure (at + size at x) xs ys)
+items_listed procedure at (x ∷ xs) ys =
+    ap (λ ls. record { procedure = procedure; at = at; bytes = item_bytes at x; what = shown_item x } ∷ ls) (items_listed procedure (at + size at x) xs ys)
 
 -- items in two parts that stand there
 pub parts_first : (s : List ℕ) (at : ℕ) (xs ys : List (model.Item ℕ)) → Stands s at (code_bytes at (xs ++ ys)) → Stands s at (code_bytes at xs)
 parts_first s at xs ys h = stands_first s at (code_bytes at xs) (code_bytes (end_of at xs) ys) (subst (Stands s at) (code-append at xs ys) h)
 
-pub parts_next : (s : List ℕ) (at : ℕ) (xs ys : List (model.Item ℕ)) → Stands s at (code_bytes at (xs ++ ys)) → Stands s (end_of at xs) (code_bytes (end_of at xs) ys)
-parts_next s at xs ys h = stands_next s at (end_of at xs) (code_bytes at xs) (code_bytes (end_of at xs) ys) (sym (length-code at xs)) (subst (Stands s at) (code-append at xs ys) h)
+pub parts_next : (s : List ℕ) (at : ℕ) (xs ys : List (model.Item ℕ)) → Stands s at (code_bytes at (xs ++ ys))
+    → Stands s (end_of at xs) (code_bytes (end_of at xs) ys)
+parts_next s at xs ys h =
+    stands_next s at (end_of at xs) (code_bytes at xs) (code_bytes (end_of at xs) ys) (sym (length-code at xs)) (subst (Stands s at) (code-append at xs ys) h)
 
 -- the last of so many places first
-pub last_first : (xs : List ℕ) (count done : ℕ) → done < count → count ≡ length xs → reverse (take (count - done) xs) ≡ get_or xs (count - 1 - done) 0 ∷ reverse (take (count - (done + 1)) xs)
+pub last_first : (xs : List ℕ) (count done : ℕ) → done < count → count ≡ length xs
+    → reverse (take (count - done) xs) ≡ get_or xs (count - 1 - done) 0 ∷ reverse (take (count - (done + 1)) xs)
 last_first xs count done h e =
     let m : ℕ = count - (done + 1) in
     let more : count - done ≡ m + 1 = omega (arith, h) in

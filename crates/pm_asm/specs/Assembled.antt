@@ -1,5 +1,5 @@
 -- What assembling a text gives.
-use Rattle.std.specs.Prelude.{◌≡◌, ◌↔◌, ◌<◌, ℕ, List, [], Option, Some, None, Result, Ok, Err}
+use Rattle.std.specs.Prelude.{◌≡◌, ◌↔◌, ◌<◌, ℕ, Bool, if◌then◌else◌, List, [], Option, Some, None, Result, Ok, Err}
 use Rattle.std.specs.Option.{unwrap_or}
 use Rattle.pm_codefile.specs.Dictionary.{segment_in}
 use Rattle.pm_disasm.specs.Program.{Segment}
@@ -26,11 +26,18 @@ abbrev pub outcome_by : List ℕ → Option AsmFault → Outcome
 outcome_by text None = outcome_of (program_of text) (first_long (program_of text))
 outcome_by text (Some fault) = Err fault
 
--- The first of a text's faults; without one, its first segment that is too long; else the code file and the listing of its program.
+-- The first of a text's faults; without one, its first segment that is too long; else the code file and the listing of
+-- its program.
 unfoldable pub assembled : List ℕ → Outcome
 assembled text = outcome_by text (first_of (faults text))
 
--- A code file and a listing are those of a program that the text spells, of which no segment has more than 60,000 bytes.
+-- the code file of an assembled text; with list its listing in its place
+abbrev pub wanted : Bool → Outcome → Result (List ℕ) AsmFault
+wanted list (Ok made) = Ok (if list then made.1 else made.0)
+wanted list (Err fault) = Err fault
+
+-- A code file and a listing are those of a program that the text spells, of which no segment has more than 60,000
+-- bytes.
 pub record Assembles (text file shown : List ℕ) : Type 0 where
   pub program : List Segment
   pub spelled : Spells text program
@@ -42,7 +49,8 @@ pub record Assembles (text file shown : List ℕ) : Type 0 where
 abbrev pub SpellsNothing : List ℕ → Type 0
 SpellsNothing text = (ss : List Segment) → Spells text ss → AreShort ss → ⊥
 
--- A text gives a code file and a listing exactly where they are those of a program that it spells, of which no segment is too long.
+-- A text gives a code file and a listing exactly where they are those of a program that it spells, of which no segment
+-- is too long.
 abbrev pub AssembledIsSpelled : Type 0
 AssembledIsSpelled = (text file shown : List ℕ) → (assembled text ≡ Ok (file, shown)) ↔ Assembles text file shown
 

@@ -23,7 +23,8 @@ pub struct Assembly {
 
 /// The code file of a text's program, and its listing.
 ///
-/// It is Ok exactly when the text spells a program of which no segment has more than 60,000 bytes, if memory can grow. Refusals:
+/// It is Ok exactly when the text spells a program of which no segment has more than 60,000 bytes, if memory can grow.
+/// Refusals:
 ///
 /// - the first of the text's faults (`Syntax`, `Unknown`, `Range`, `NoLabel`, `Twice`, `Far`), with its line;
 /// - `TooLong(n)`: no fault, and n is the first segment with more than 60,000 bytes;

@@ -2,12 +2,14 @@
 
 ghost use Rattle.std.specs.Prelude.{◌≡◌, ◌<◌, ◌≤◌, ◌+◌, ◌*◌, ◌++◌, ◌∷◌, [], length, map, reverse, IfOk, OnOk};
 ghost use Rattle.std.specs.List.{AllByRecursion};
-ghost use Rattle.pm_opcode.specs.Spelling.{flip, is_odd, padding, word};
+ghost use Rattle.pm_opcode.specs.Spelling.{flip, is_odd, pad_byte, spelled_word};
 ghost use Rattle.pm_disasm.specs.Item.{IsCase, IsItem, IsPlain, item_bytes, table_words};
 ghost use Rattle.pm_disasm.specs.Item.Item.{Case, Plain};
-ghost use Rattle.pm_disasm.specs.Program.{AreItems, IsProcedure, IsSegment, back_to, code_bytes, entry_bytes, jtab_of, procedure_bytes, procedures_bytes, procedures_end, segment_bytes};
+ghost use Rattle.pm_disasm.specs.Program.{AreItems, IsProcedure, IsSegment, back_to, code_bytes, entry_bytes, jtab_of};
+ghost use Rattle.pm_disasm.specs.Program.{procedure_bytes, procedures_bytes, procedures_end, segment_bytes};
 ghost use Rattle.pm_line.specs.Views.{item_seen, row_seen, target_seen, texts_seen};
-ghost use Rattle.pm_source.specs.Meaning.{found_item, found_label, found_procedure, found_procedures, found_segment, found_target};
+ghost use Rattle.pm_source.specs.Meaning.{found_item, found_label, found_procedure};
+ghost use Rattle.pm_source.specs.Meaning.{found_procedures, found_segment, found_target};
 ghost use Rattle.pm_source.specs.Source.{row_items};
 ghost use Rattle.pm_reader.specs.Views.{entry_seen, procedure_seen, segment_seen};
 ghost use Rattle.pm_asm.specs.Found.{items_in};
@@ -25,7 +27,7 @@ use std::alloc::{AllocError, Global};
 
 /// Adds a word, its low byte first.
 fn push_word(out: &mut Vec<u8>, value: u16) -> Result<(), AllocError>
-    ensures bytes { OnOk result (out.new.items ≡ out.old.items ++ word value) }
+    ensures bytes { OnOk result (out.new.items ≡ out.old.items ++ spelled_word value) }
 {
     out.push((value % 256) as u8)?;
     out.push((value / 256) as u8)?;
@@ -34,7 +36,7 @@ fn push_word(out: &mut Vec<u8>, value: u16) -> Result<(), AllocError>
 
 /// Adds the padding of a case jump whose opcode stands at an offset.
 fn push_padding(out: &mut Vec<u8>, at: usize) -> Result<(), AllocError>
-    ensures bytes { OnOk result (out.new.items ≡ out.old.items ++ padding (flip (is_odd at)) 0) }
+    ensures bytes { OnOk result (out.new.items ≡ out.old.items ++ pad_byte (flip (is_odd at)) 0) }
 {
     if at % 2 == 0 {
         out.push(0)?;
@@ -48,8 +50,10 @@ fn push_table<'a>(
     labels: Code<'_, 'a>,
     names: &[&'a [u8]],
 ) -> Result<(), AllocError>
-    requires within { AllByRecursion (λ place. place < 65536) (map (found_label (places_in labels)) (texts_seen names.now)) }
-    ensures bytes { OnOk result (out.new.items ≡ out.old.items ++ table_words (length out.old.items) (map (found_label (places_in labels.entry)) (texts_seen names.now))) }
+    requires within { AllByRecursion (λ place. place < 65536)
+        (map (found_label (places_in labels)) (texts_seen names.now)) }
+    ensures bytes { OnOk result (out.new.items ≡ out.old.items
+        ++ table_words (length out.old.items) (map (found_label (places_in labels.entry)) (texts_seen names.now))) }
 {
     for name in names {
         let place = found_label(labels, name);
@@ -67,7 +71,9 @@ fn push_case<'a>(
     otherwise: Target<'a>,
     names: &[&'a [u8]],
 ) -> Result<(), AllocError>
-    requires case { IsCase (length out.old.items) bounds.0 bounds.1 (found_target (places_in labels) (target_seen otherwise)) (map (found_label (places_in labels)) (texts_seen names.now)) }
+    requires case { IsCase (length out.old.items) bounds.0 bounds.1
+        (found_target (places_in labels) (target_seen otherwise))
+        (map (found_label (places_in labels)) (texts_seen names.now)) }
     ensures bytes { OnOk result (out.new.items ≡ out.old.items ++ item_bytes (length out.old.items)
         (Case bounds.0 bounds.1 (found_target (places_in labels.entry) (target_seen otherwise.entry)) (map (found_label (places_in labels.entry)) (texts_seen names.now)))) }
 {
@@ -86,7 +92,8 @@ fn push_case<'a>(
 #[tactic(auto, using(crate::proofs::Spelled::plain_spelled))]
 fn push_plain(out: &mut Vec<u8>, instr: &Instr, named: &[u8]) -> Result<(), AllocError>
     requires plain { IsPlain instr.now named.now }
-    ensures bytes { OnOk result (out.new.items ≡ out.old.items ++ item_bytes (length out.old.items) (Plain instr.now named.now)) }
+    ensures bytes { OnOk result (out.new.items ≡ out.old.items
+        ++ item_bytes (length out.old.items) (Plain instr.now named.now)) }
 {
     let at = out.len();
     match encode(instr, named, at, out) {
@@ -99,7 +106,8 @@ fn push_plain(out: &mut Vec<u8>, instr: &Instr, named: &[u8]) -> Result<(), Allo
 /// Adds an item.
 fn push_item<'a>(out: &mut Vec<u8>, labels: Code<'_, 'a>, item: &Item<'a>) -> Result<(), AllocError>
     requires item { IsItem (length out.old.items) (found_item (places_in labels) (item_seen item.now)) }
-    ensures bytes { OnOk result (out.new.items ≡ out.old.items ++ item_bytes (length out.old.items) (found_item (places_in labels.entry) (item_seen item.now))) }
+    ensures bytes { OnOk result (out.new.items ≡ out.old.items
+        ++ item_bytes (length out.old.items) (found_item (places_in labels.entry) (item_seen item.now))) }
 {
     let at = out.len();
     match item {
@@ -127,7 +135,8 @@ fn push_items<'a>(
     items: &[Item<'a>],
 ) -> Result<(), AllocError>
     requires items { AreItems (length out.old.items) (map (found_item (places_in labels)) (map item_seen items.now)) }
-    ensures bytes { OnOk result (out.new.items ≡ out.old.items ++ code_bytes (length out.old.items) (map (found_item (places_in labels.entry)) (map item_seen items.now))) }
+    ensures bytes { OnOk result (out.new.items ≡ out.old.items
+        ++ code_bytes (length out.old.items) (map (found_item (places_in labels.entry)) (map item_seen items.now))) }
 {
     for item in items {
         push_item(out, labels, item)?;
@@ -137,8 +146,11 @@ fn push_items<'a>(
 
 /// Adds the items of a line.
 fn push_row<'a>(out: &mut Vec<u8>, labels: Code<'_, 'a>, row: &Row<'a>) -> Result<(), AllocError>
-    requires items { AreItems (length out.old.items) (map (found_item (places_in labels)) (row_items (row_seen row.now))) }
-    ensures bytes { OnOk result (out.new.items ≡ out.old.items ++ code_bytes (length out.old.items) (map (found_item (places_in labels.entry)) (row_items (row_seen row.now)))) }
+    requires items { AreItems (length out.old.items)
+        (map (found_item (places_in labels)) (row_items (row_seen row.now))) }
+    ensures bytes { OnOk result (out.new.items ≡ out.old.items
+        ++ code_bytes (length out.old.items) (map (found_item (places_in labels.entry))
+        (row_items (row_seen row.now)))) }
 {
     match row {
         Row::Items { items, .. } => push_items(out, labels, items),
@@ -149,7 +161,8 @@ fn push_row<'a>(out: &mut Vec<u8>, labels: Code<'_, 'a>, row: &Row<'a>) -> Resul
 /// Adds code.
 fn push_code(out: &mut Vec<u8>, labels: Code<'_, '_>) -> Result<(), AllocError>
     requires items { AreItems (length out.old.items) (items_in labels) }
-    ensures bytes { OnOk result (out.new.items ≡ out.old.items ++ code_bytes (length out.old.items) (items_in labels.entry)) }
+    ensures bytes { OnOk result (out.new.items ≡ out.old.items
+        ++ code_bytes (length out.old.items) (items_in labels.entry)) }
 {
     for row in labels.rows {
         push_row(out, labels, row)?;
@@ -169,7 +182,8 @@ fn push_distance(out: &mut Vec<u8>, place: usize) -> Result<(), AllocError>
 /// Adds words that say how far places lie below them, that of the last place first.
 fn push_distances(out: &mut Vec<u8>, places: &[usize]) -> Result<(), AllocError>
     requires short { length out.old.items + 2 * length places.now ≤ 65536 }
-    ensures bytes { OnOk result (out.new.items ≡ out.old.items ++ entry_bytes (length out.old.items) (reverse places.now)) }
+    ensures bytes { OnOk result (out.new.items ≡ out.old.items
+        ++ entry_bytes (length out.old.items) (reverse places.now)) }
 {
     let count = places.len();
     for done in 0..count {
@@ -184,7 +198,8 @@ pub(crate) fn entry_places<'a>(
     labels: Code<'_, 'a>,
     entries: &[Entry<'a>],
 ) -> Result<Vec<usize>, AllocError>
-    ensures places { IfOk result (λ places. places.items ≡ map (λ e. found_label (places_in labels.entry) e.1) (map entry_seen entries.now)) }
+    ensures places { IfOk result (λ places. places.items
+        ≡ map (λ e. found_label (places_in labels.entry) e.1) (map entry_seen entries.now)) }
 {
     let mut places = Vec::new(alloc);
     for entry in entries {
@@ -203,8 +218,10 @@ fn push_attributes(
     exit: usize,
 ) -> Result<(), AllocError>
     requires short { length out.old.items + 8 < 65536 }
-    ensures bytes { OnOk result (out.new.items ≡ out.old.items ++ (word procedure.now.locals ++ (word procedure.now.parameters
-        ++ (back_to (length out.old.items + 4) exit ++ (back_to (length out.old.items + 6) start ++ number ∷ procedure.now.level ∷ []))))) }
+    ensures bytes { OnOk result (out.new.items ≡ out.old.items
+        ++ (spelled_word procedure.now.locals ++ (spelled_word procedure.now.parameters
+        ++ (back_to (length out.old.items + 4) exit ++
+        (back_to (length out.old.items + 6) start ++ number ∷ procedure.now.level ∷ []))))) }
 {
     push_word(out, procedure.locals)?;
     push_word(out, procedure.parameters)?;
@@ -224,7 +241,8 @@ fn push_procedure(
 ) -> Result<(), AllocError>
     requires procedure { IsProcedure (found_procedure (length out.old.items) (procedure_seen procedure.now)) }
     requires short { jtab_of (found_procedure (length out.old.items) (procedure_seen procedure.now)) ≤ LONGEST }
-    ensures bytes { OnOk result (out.new.items ≡ out.old.items ++ procedure_bytes number (found_procedure (length out.old.items) (procedure_seen procedure.now))) }
+    ensures bytes { OnOk result (out.new.items ≡ out.old.items
+        ++ procedure_bytes number (found_procedure (length out.old.items) (procedure_seen procedure.now))) }
 {
     let start = out.len();
     let rows: &[Row<'_>] = &procedure.code;
@@ -247,11 +265,15 @@ fn push_procedures(
     out: &mut Vec<u8>,
     procedures: &[Procedure<'_>],
 ) -> Result<Vec<usize>, AllocError>
-    requires procedures { AllByRecursion IsProcedure (found_procedures (length out.old.items) (map procedure_seen procedures.now)) }
-    requires short { procedures_end (length out.old.items) (found_procedures (length out.old.items) (map procedure_seen procedures.now)) ≤ LONGEST }
+    requires procedures { AllByRecursion IsProcedure
+        (found_procedures (length out.old.items) (map procedure_seen procedures.now)) }
+    requires short { procedures_end (length out.old.items)
+        (found_procedures (length out.old.items) (map procedure_seen procedures.now)) ≤ LONGEST }
     requires few { length procedures.now < 256 }
-    ensures bytes { OnOk result (out.new.items ≡ out.old.items ++ procedures_bytes 1 (found_procedures (length out.old.items) (map procedure_seen procedures.now))) }
-    ensures tables { IfOk result (λ tables. tables.items ≡ map jtab_of (found_procedures (length out.old.items) (map procedure_seen procedures.now))) }
+    ensures bytes { OnOk result (out.new.items ≡ out.old.items
+        ++ procedures_bytes 1 (found_procedures (length out.old.items) (map procedure_seen procedures.now))) }
+    ensures tables { IfOk result (λ tables. tables.items
+        ≡ map jtab_of (found_procedures (length out.old.items) (map procedure_seen procedures.now))) }
 {
     let mut tables = Vec::new(alloc);
     for done in 0..procedures.len() {
@@ -261,7 +283,8 @@ fn push_procedures(
     Ok(tables)
 }
 
-/// The bytes of a segment: its procedures, its dictionary, and the word with its number and the count of its procedures.
+/// The bytes of a segment: its procedures, its dictionary, and the word with its number and the count of its
+/// procedures.
 pub(crate) fn segment_bytes(alloc: Global, segment: &Segment<'_>) -> Result<Vec<u8>, AllocError>
     requires segment { IsSegment (found_segment (segment_seen segment.now)) }
     requires short { length (segment_bytes (found_segment (segment_seen segment.now))) ≤ LONGEST }

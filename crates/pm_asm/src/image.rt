@@ -40,8 +40,10 @@ fn slot_of(alloc: Global, segments: &[Segment<'_>], number: u8) -> Result<Slot, 
     requires number { number < 16 }
     requires program { IsProgram (program_seen segments.now) }
     requires short { AreShort (program_seen segments.now) }
-    ensures name { IfOk result (λ slot. slot.name ≡ name_of_segment (segment_numbered number (program_seen segments.now))) }
-    ensures bytes { IfOk result (λ slot. slot.bytes.items ≡ bytes_of_segment (segment_numbered number (program_seen segments.now))) }
+    ensures name { IfOk result (λ slot. slot.name ≡ name_of_segment
+        (segment_numbered number (program_seen segments.now))) }
+    ensures bytes { IfOk result (λ slot. slot.bytes.items
+        ≡ bytes_of_segment (segment_numbered number (program_seen segments.now))) }
     ensures short { IfOk result (λ slot. length slot.bytes.items ≤ LONGEST) }
 {
     let Some(segment) = segment_with(segments, number) else {

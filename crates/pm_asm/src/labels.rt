@@ -61,7 +61,8 @@ fn is_unknown_target<'a>(code: &Code<'_, 'a>, target: Target<'a>) -> bool
     }
 }
 
-/// Whether a short jump cannot reach a place from the next instruction: it lies before it, or more than 127 bytes behind it.
+/// Whether a short jump cannot reach a place from the next instruction: it lies before it, or more than 127 bytes
+/// behind it.
 fn is_far_place(next: usize, place: usize) -> bool
     ensures far { result ≡ is_far_place next (Some place) }
 {
@@ -101,8 +102,10 @@ fn check_item<'a>(
     item: &Item<'a>,
 ) -> Result<(), AsmFault>
     ensures faultless { OnOk result (item_faults (places_in code.now) line at (item_seen item.now) ≡ []) }
-    ensures fault { IfErr result (λ fault. IsFirstOf fault (item_faults (places_in code.now) line at (item_seen item.now))) }
-    ensures too_long { at + size at (item_seen item.now) ≤ end_in code.now → result ≡ Err NoMemory → IsCountless (end_in code.now) }
+    ensures fault { IfErr result (λ fault. IsFirstOf fault
+        (item_faults (places_in code.now) line at (item_seen item.now))) }
+    ensures too_long { at + size at (item_seen item.now) ≤ end_in code.now → result ≡ Err NoMemory
+        → IsCountless (end_in code.now) }
 {
     let (unknown, next, target) = match item {
         Item::Jump(_, target) => (is_unknown_target(code, *target), at.checked_add(2), *target),
@@ -135,8 +138,10 @@ fn check_items<'a>(
     items: &[Item<'a>],
 ) -> Result<(), AsmFault>
     ensures faultless { OnOk result (items_faults (places_in code.now) line start (map item_seen items.now) ≡ []) }
-    ensures fault { IfErr result (λ fault. IsFirstOf fault (items_faults (places_in code.now) line start (map item_seen items.now))) }
-    ensures too_long { end_of start (map item_seen items.now) ≤ end_in code.now → result ≡ Err NoMemory → IsCountless (end_in code.now) }
+    ensures fault { IfErr result (λ fault. IsFirstOf fault
+        (items_faults (places_in code.now) line start (map item_seen items.now))) }
+    ensures too_long { end_of start (map item_seen items.now) ≤ end_in code.now → result ≡ Err NoMemory
+        → IsCountless (end_in code.now) }
 {
     let mut at = start;
     for item in items {
@@ -151,7 +156,8 @@ fn check_items<'a>(
 fn check_row<'a>(code: &Code<'_, 'a>, at: usize, row: &Row<'a>) -> Result<(), AsmFault>
     ensures faultless { OnOk result (row_faults (places_in code.now) at (row_seen row.now) ≡ []) }
     ensures fault { IfErr result (λ fault. IsFirstOf fault (row_faults (places_in code.now) at (row_seen row.now))) }
-    ensures too_long { end_of at (row_items (row_seen row.now)) ≤ end_in code.now → result ≡ Err NoMemory → IsCountless (end_in code.now) }
+    ensures too_long { end_of at (row_items (row_seen row.now)) ≤ end_in code.now → result ≡ Err NoMemory
+        → IsCountless (end_in code.now) }
 {
     match row {
         Row::Items { line, items, .. } => check_items(code, *line, at, items),
@@ -162,8 +168,10 @@ fn check_row<'a>(code: &Code<'_, 'a>, at: usize, row: &Row<'a>) -> Result<(), As
 /// Refuses code by the first of the faults of its items.
 #[tactic(auto, using(pm_reader::proofs::Firsts::first_front, crate::proofs::Firsts::row_first))]
 fn check_code(code: &Code<'_, '_>) -> Result<(), AsmFault>
-    ensures faultless { OnOk result (code_faults (places_in code.now) code.now.start (map row_seen code.now.rows.now) ≡ []) }
-    ensures fault { IfErr result (λ fault. IsFirstOf fault (code_faults (places_in code.now) code.now.start (map row_seen code.now.rows.now))) }
+    ensures faultless { OnOk result (code_faults (places_in code.now) code.now.start (map row_seen code.now.rows.now)
+        ≡ []) }
+    ensures fault { IfErr result (λ fault. IsFirstOf fault
+        (code_faults (places_in code.now) code.now.start (map row_seen code.now.rows.now))) }
     ensures too_long { result ≡ Err NoMemory → IsCountless (end_in code.now) }
 {
     let mut at = code.start;
@@ -178,7 +186,8 @@ fn check_code(code: &Code<'_, '_>) -> Result<(), AsmFault>
 #[tactic(auto, using(pm_reader::proofs::Firsts::first_front))]
 fn check_entries<'a>(code: &Code<'_, 'a>, entries: &[Entry<'a>]) -> Result<(), AsmFault>
     ensures faultless { OnOk result (entries_faults (places_in code.now) (map entry_seen entries.now) ≡ []) }
-    ensures fault { IfErr result (λ fault. IsFirstOf fault (entries_faults (places_in code.now) (map entry_seen entries.now))) }
+    ensures fault { IfErr result (λ fault. IsFirstOf fault
+        (entries_faults (places_in code.now) (map entry_seen entries.now))) }
     ensures no_memory { result ≢ Err NoMemory }
 {
     for entry in entries {
@@ -220,8 +229,9 @@ fn check_procedures(alloc: Global, procedures: &[Procedure<'_>]) -> Result<(), A
     Ok(())
 }
 
-/// Refuses segments by the first of their labels' faults: the line of a label that does not stand in its procedure, or of a short jump that
-/// leads backward or more than 127 bytes forward. `NoMemory`: memory could not grow, or cannot hold code as long as the segments say.
+/// Refuses segments by the first of their labels' faults: the line of a label that does not stand in its procedure, or
+/// of a short jump that leads backward or more than 127 bytes forward. `NoMemory`: memory could not grow, or cannot
+/// hold code as long as the segments say.
 #[tactic(auto, using(pm_reader::proofs::Firsts::first_front))]
 pub(crate) fn check_labels(alloc: Global, segments: &[Segment<'_>]) -> Result<(), AsmFault>
     ensures faultless { OnOk result (all_label_faults (segments_seen segments.now) ≡ []) }

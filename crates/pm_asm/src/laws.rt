@@ -1,8 +1,9 @@
 //! Laws of what assembling gives. The functions do nothing.
-ghost use Rattle.pm_asm.specs.Assembled.{AssembledIsListed, AssembledIsShownAgain, AssembledIsSpelled, RefusedSpellsNothing};
+ghost use Rattle.pm_asm.specs.Assembled.{AssembledIsListed, AssembledIsShownAgain};
+ghost use Rattle.pm_asm.specs.Assembled.{AssembledIsSpelled, RefusedSpellsNothing};
 
-/// A text is assembled exactly where it spells a program of which no segment has more than 60,000 bytes: what it gives is the code
-/// file and the listing of such a program, and where they are those of one, it gives them.
+/// A text is assembled exactly where it spells a program of which no segment has more than 60,000 bytes: what it gives
+/// is the code file and the listing of such a program, and where they are those of one, it gives them.
 pub fn assembled_is_spelled()
     ensures law { AssembledIsSpelled }
 {}

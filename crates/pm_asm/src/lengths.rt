@@ -7,7 +7,8 @@ ghost use Rattle.pm_source.specs.declared.fault.AsmFault.TheVariants.{NoMemory};
 ghost use Rattle.pm_source.specs.Meaning.{segment_with};
 ghost use Rattle.pm_reader.specs.Reader.{IsCountless};
 ghost use Rattle.pm_reader.specs.Views.{procedure_seen, segment_seen, segments_seen};
-ghost use Rattle.pm_asm.specs.Lengths.{AreShort, IsTooLong, found_length, found_program, is_countless_long, sources_end};
+ghost use Rattle.pm_asm.specs.Lengths.{AreShort, IsTooLong, found_length, found_program};
+ghost use Rattle.pm_asm.specs.Lengths.{is_countless_long, sources_end};
 ghost use Rattle.pm_asm.specs.declared.lengths.TheConstants.{LONGEST};
 
 use pm_reader::{Procedure, Segment, source_end};
@@ -64,8 +65,8 @@ fn is_long(segment: &Segment<'_>) -> Result<bool, AsmFault>
     Ok(length > LONGEST)
 }
 
-/// Refuses segments of which one has more than 60,000 bytes, by the lowest number of such a segment. Of segments with one number only the
-/// first counts. `NoMemory` is for a segment that is longer than memory can hold.
+/// Refuses segments of which one has more than 60,000 bytes, by the lowest number of such a segment. Of segments with
+/// one number only the first counts. `NoMemory` is for a segment that is longer than memory can hold.
 pub(crate) fn check_lengths(segments: &[Segment<'_>]) -> Result<(), AsmFault>
     ensures short { OnOk result (AreShort (found_program (segments_seen segments.now))) }
     ensures fault { IfErr result (IsTooLong (found_program (segments_seen segments.now))) }

@@ -11,10 +11,12 @@ pub mod laws;
 mod lengths;
 mod listing;
 mod table;
+mod wanted;
 
 pub use assembly::{Assembly, assemble};
 pub use lengths::LONGEST;
 pub use pm_source::AsmFault;
+pub use wanted::{assemble_file, assemble_listing};
 
 #[cfg(test)]
 mod tests;

@@ -1,14 +1,18 @@
 //! The listing of segments.
 
-ghost use Rattle.std.specs.Prelude.{◌≡◌, ◌<◌, ◌≤◌, ◌+◌, ◌*◌, ◌++◌, ◌∷◌, [], List, Some, length, map, reverse, string_bytes, IfOk, OnOk};
+ghost use Rattle.std.specs.Prelude.{◌≡◌, ◌<◌, ◌≤◌, ◌+◌, ◌*◌, ◌++◌, ◌∷◌, [], List, Some};
+ghost use Rattle.std.specs.Prelude.{length, map, reverse, string_bytes, IfOk, OnOk};
 ghost use Rattle.std.specs.List.{AllByRecursion};
 ghost use Rattle.std.specs.Option.{option_to_list};
 ghost use Rattle.pm_disasm.specs.Item.{IsItem, item_bytes, size};
-ghost use Rattle.pm_disasm.specs.Program.{AreItems, IsProcedure, IsProgram, IsSegment, code_bytes, end_of, entry_bytes, procedure_bytes, procedures_bytes, procedures_end, segment_bytes};
+ghost use Rattle.pm_disasm.specs.Program.{AreItems, IsProcedure, IsProgram, IsSegment, code_bytes, end_of, entry_bytes};
+ghost use Rattle.pm_disasm.specs.Program.{procedure_bytes, procedures_bytes, procedures_end, segment_bytes};
 ghost use Rattle.pm_disasm.specs.Shown.{padded, shown_item};
 ghost use Rattle.pm_line.specs.Views.{item_seen, row_seen};
 ghost use Rattle.pm_source.specs.Faults.{source_end};
-ghost use Rattle.pm_source.specs.Image.{Listed, listed_entries, listed_items, listed_line, listed_lines, listed_procedure, listed_procedures, listed_segment, listing, pairs_text, upper_digit};
+ghost use Rattle.pm_source.specs.Image.{Listed, listed_entries, listed_items, listed_line, listed_lines};
+ghost use Rattle.pm_source.specs.Image.{listed_procedure, listed_procedures, listed_segment, listing, pairs_text};
+ghost use Rattle.pm_source.specs.Image.{upper_digit};
 ghost use Rattle.pm_source.specs.Meaning.{found_item, found_procedure, found_procedures, found_segment, segment_with};
 ghost use Rattle.pm_source.specs.Source.{code_end, row_items};
 ghost use Rattle.pm_reader.specs.Views.{procedure_seen, segment_seen, segments_seen};
@@ -112,7 +116,12 @@ fn push_pairs(text: &mut String, bytes: &[u8]) -> Result<(), AllocError>
 /// Adds a line: a place, the bytes there, and what they are.
 fn push_line(text: &mut String, place: Place, bytes: &[u8], what: &str) -> Result<(), AllocError>
     ensures text { OnOk result (string_bytes text.new ≡ string_bytes text.old
-        ++ listed_line place.segment (record { procedure = place.procedure; at = place.at; bytes = bytes.now; what = what.now })) }
+        ++ listed_line place.segment (record {
+          procedure = place.procedure;
+          at = place.at;
+          bytes = bytes.now;
+          what = what.now;
+        })) }
 {
     let segment = SegmentNumber(place.segment);
     let procedure = ProcedureNumber(place.procedure);
@@ -145,9 +154,11 @@ fn item_text(
     item: &Item<'_>,
 ) -> Result<String, AllocError>
     requires item { IsItem at (found_item (places_in code.labels) (item_seen item.now)) }
-    requires stands { Stands code.bytes.now at (item_bytes at (found_item (places_in code.labels) (item_seen item.now))) }
+    requires stands { Stands code.bytes.now at (item_bytes at
+        (found_item (places_in code.labels) (item_seen item.now))) }
     requires short { length code.bytes.now ≤ LONGEST }
-    ensures text { IfOk result (λ text. string_bytes text ≡ shown_item (found_item (places_in code.entry.labels) (item_seen item.now))) }
+    ensures text { IfOk result (λ text. string_bytes text
+        ≡ shown_item (found_item (places_in code.entry.labels) (item_seen item.now))) }
 {
     match item {
         Item::OneByte(byte) => format!(in alloc; ".BYTE {byte}"),
@@ -164,15 +175,17 @@ fn push_item(
     item: &Item<'_>,
 ) -> Result<usize, AllocError>
     requires item { IsItem at (found_item (places_in code.labels) (item_seen item.now)) }
-    requires stands { Stands code.bytes.now at (item_bytes at (found_item (places_in code.labels) (item_seen item.now))) }
+    requires stands { Stands code.bytes.now at (item_bytes at
+        (found_item (places_in code.labels) (item_seen item.now))) }
     requires short { length code.bytes.now ≤ LONGEST }
     ensures end { IfOk result (λ end. end ≡ at + size at (item_seen item.now)) }
-    ensures text { OnOk result (string_bytes text.new ≡ string_bytes text.old ++ listed_line code.entry.segment (record {
-      procedure = code.entry.procedure;
-      at = at;
-      bytes = item_bytes at (found_item (places_in code.entry.labels) (item_seen item.now));
-      what = shown_item (found_item (places_in code.entry.labels) (item_seen item.now));
-    })) }
+    ensures text { OnOk result (string_bytes text.new
+        ≡ string_bytes text.old ++ listed_line code.entry.segment (record {
+          procedure = code.entry.procedure;
+          at = at;
+          bytes = item_bytes at (found_item (places_in code.entry.labels) (item_seen item.now));
+          what = shown_item (found_item (places_in code.entry.labels) (item_seen item.now));
+        })) }
 {
     let end = at + item_size(at, item).ok_or(AllocError)?;
     let what = item_text(alloc, code, at, item)?;
@@ -194,11 +207,15 @@ fn push_items(
     items: &[Item<'_>],
 ) -> Result<usize, AllocError>
     requires items { AreItems at (map (found_item (places_in code.labels)) (map item_seen items.now)) }
-    requires stand { Stands code.bytes.now at (code_bytes at (map (found_item (places_in code.labels)) (map item_seen items.now))) }
+    requires stand { Stands code.bytes.now at (code_bytes at
+        (map (found_item (places_in code.labels)) (map item_seen items.now))) }
     requires short { length code.bytes.now ≤ LONGEST }
-    ensures end { IfOk result (λ end. end ≡ end_of at (map (found_item (places_in code.entry.labels)) (map item_seen items.now))) }
+    ensures end { IfOk result (λ end. end ≡ end_of at
+        (map (found_item (places_in code.entry.labels)) (map item_seen items.now))) }
     ensures text { OnOk result ((rest : List Listed) → string_bytes text.new ++ listed_lines code.entry.segment rest
-        ≡ string_bytes text.old ++ listed_lines code.entry.segment (listed_items code.entry.procedure at (map (found_item (places_in code.entry.labels)) (map item_seen items.now)) ++ rest)) }
+        ≡ string_bytes text.old ++ listed_lines code.entry.segment
+        (listed_items code.entry.procedure at (map (found_item (places_in code.entry.labels))
+        (map item_seen items.now)) ++ rest)) }
 {
     let mut end = at;
     for item in items {
@@ -216,11 +233,15 @@ fn push_row(
     row: &Row<'_>,
 ) -> Result<usize, AllocError>
     requires items { AreItems at (map (found_item (places_in code.labels)) (row_items (row_seen row.now))) }
-    requires stand { Stands code.bytes.now at (code_bytes at (map (found_item (places_in code.labels)) (row_items (row_seen row.now)))) }
+    requires stand { Stands code.bytes.now at (code_bytes at
+        (map (found_item (places_in code.labels)) (row_items (row_seen row.now)))) }
     requires short { length code.bytes.now ≤ LONGEST }
-    ensures end { IfOk result (λ end. end ≡ end_of at (map (found_item (places_in code.entry.labels)) (row_items (row_seen row.now)))) }
+    ensures end { IfOk result (λ end. end ≡ end_of at
+        (map (found_item (places_in code.entry.labels)) (row_items (row_seen row.now)))) }
     ensures text { OnOk result ((rest : List Listed) → string_bytes text.new ++ listed_lines code.entry.segment rest
-        ≡ string_bytes text.old ++ listed_lines code.entry.segment (listed_items code.entry.procedure at (map (found_item (places_in code.entry.labels)) (row_items (row_seen row.now))) ++ rest)) }
+        ≡ string_bytes text.old ++ listed_lines code.entry.segment
+        (listed_items code.entry.procedure at (map (found_item (places_in code.entry.labels))
+        (row_items (row_seen row.now))) ++ rest)) }
 {
     match row {
         Row::Items { items, .. } => push_items(alloc, text, code, at, items),
@@ -239,7 +260,8 @@ fn push_code(
     requires short { length code.bytes.now ≤ LONGEST }
     ensures end { IfOk result (λ end. end ≡ end_of code.entry.labels.start (items_in code.entry.labels)) }
     ensures text { OnOk result ((rest : List Listed) → string_bytes text.new ++ listed_lines code.entry.segment rest
-        ≡ string_bytes text.old ++ listed_lines code.entry.segment (listed_items code.entry.procedure code.entry.labels.start (items_in code.entry.labels) ++ rest)) }
+        ≡ string_bytes text.old ++ listed_lines code.entry.segment
+        (listed_items code.entry.procedure code.entry.labels.start (items_in code.entry.labels) ++ rest)) }
 {
     let mut end = code.labels.start;
     for row in code.labels.rows {
@@ -259,7 +281,8 @@ fn push_entry(
 ) -> Result<(), AllocError>
     requires stands { Stands bytes.now place.at (entry_bytes place.at (leads ∷ [])) }
     ensures text { OnOk result ((rest : List Listed) → string_bytes text.new ++ listed_lines place.segment rest
-        ≡ string_bytes text.old ++ listed_lines place.segment (listed_entries place.procedure place.at (leads ∷ []) ++ rest)) }
+        ≡ string_bytes text.old ++ listed_lines place.segment
+        (listed_entries place.procedure place.at (leads ∷ []) ++ rest)) }
 {
     let label = Offset(leads);
     let what = format!(in alloc; ".JUMP L{label}")?;
@@ -277,7 +300,8 @@ fn push_entries(
     requires stand { Stands bytes.now place.at (entry_bytes place.at (reverse entries.now)) }
     requires short { length bytes.now ≤ LONGEST }
     ensures text { OnOk result ((rest : List Listed) → string_bytes text.new ++ listed_lines place.segment rest
-        ≡ string_bytes text.old ++ listed_lines place.segment (listed_entries place.procedure place.at (reverse entries.now) ++ rest)) }
+        ≡ string_bytes text.old ++ listed_lines place.segment
+        (listed_entries place.procedure place.at (reverse entries.now) ++ rest)) }
 {
     let count = entries.len();
     for done in 0..count {
@@ -299,11 +323,13 @@ fn push_procedure(
     procedure: &Procedure<'_>,
 ) -> Result<usize, AllocError>
     requires procedure { IsProcedure (found_procedure place.at (procedure_seen procedure.now)) }
-    requires stands { Stands bytes.now place.at (procedure_bytes place.procedure (found_procedure place.at (procedure_seen procedure.now))) }
+    requires stands { Stands bytes.now place.at (procedure_bytes place.procedure
+        (found_procedure place.at (procedure_seen procedure.now))) }
     requires short { length bytes.now ≤ LONGEST }
     ensures end { IfOk result (λ end. end ≡ source_end place.at (procedure_seen procedure.now)) }
     ensures text { OnOk result ((rest : List Listed) → string_bytes text.new ++ listed_lines place.segment rest
-        ≡ string_bytes text.old ++ listed_lines place.segment (listed_procedure place.procedure (found_procedure place.at (procedure_seen procedure.now)) rest)) }
+        ≡ string_bytes text.old ++ listed_lines place.segment
+        (listed_procedure place.procedure (found_procedure place.at (procedure_seen procedure.now)) rest)) }
 {
     let rows: &[Row<'_>] = &procedure.code;
     let table = table_of(alloc, place.at, rows)?;
@@ -340,7 +366,8 @@ fn push_procedures(
     requires short { length bytes.now ≤ LONGEST }
     ensures end { IfOk result (λ end. end ≡ procedures_end 0 (found_procedures 0 (map procedure_seen procedures.now))) }
     ensures text { OnOk result ((rest : List Listed) → string_bytes text.new ++ listed_lines segment rest
-        ≡ string_bytes text.old ++ listed_lines segment (listed_procedures 1 (found_procedures 0 (map procedure_seen procedures.now)) rest)) }
+        ≡ string_bytes text.old ++ listed_lines segment
+        (listed_procedures 1 (found_procedures 0 (map procedure_seen procedures.now)) rest)) }
 {
     let mut at = 0;
     for done in 0..procedures.len() {
@@ -358,7 +385,9 @@ fn push_procedures(
 fn push_segment(alloc: Global, text: &mut String, segment: &Segment<'_>) -> Result<(), AllocError>
     requires segment { IsSegment (found_segment (segment_seen segment.now)) }
     requires short { length (segment_bytes (found_segment (segment_seen segment.now))) ≤ LONGEST }
-    ensures text { OnOk result (string_bytes text.new ≡ string_bytes text.old ++ listed_lines segment.now.number (listed_segment (found_segment (segment_seen segment.now)))) }
+    ensures text { OnOk result (string_bytes text.new
+        ≡ string_bytes text.old ++ listed_lines segment.now.number
+        (listed_segment (found_segment (segment_seen segment.now)))) }
 {
     let bytes = segment_bytes(alloc, segment)?;
     let at = push_procedures(alloc, text, &bytes, segment.number, &segment.procedures)?;
@@ -380,7 +409,9 @@ fn push_numbered(
     requires number { number < 16 }
     requires program { IsProgram (program_seen segments.now) }
     requires short { AreShort (program_seen segments.now) }
-    ensures text { OnOk result (string_bytes text.new ≡ string_bytes text.old ++ listing (map found_segment (option_to_list (segment_with number (segments_seen segments.now))))) }
+    ensures text { OnOk result (string_bytes text.new
+        ≡ string_bytes text.old ++ listing (map found_segment
+        (option_to_list (segment_with number (segments_seen segments.now))))) }
 {
     let Some(segment) = segment_with(segments, number) else {
         return Ok(());
@@ -388,8 +419,8 @@ fn push_numbered(
     push_segment(alloc, text, segment)
 }
 
-/// The listing of segments, by ascending number: a line for each item, each entry of a jump table, each table of a procedure, and each
-/// dictionary.
+/// The listing of segments, by ascending number: a line for each item, each entry of a jump table, each table of a
+/// procedure, and each dictionary.
 pub(crate) fn listing_of(alloc: Global, segments: &[Segment<'_>]) -> Result<String, AllocError>
     requires program { IsProgram (program_seen segments.now) }
     requires short { AreShort (program_seen segments.now) }

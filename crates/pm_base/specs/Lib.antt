@@ -1,2 +1,4 @@
 pub mod Words
 pub mod Blocks
+pub mod Steps
+pub mod Decimals

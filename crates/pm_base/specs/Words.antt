@@ -11,8 +11,8 @@ unfoldable pub written : List ℕ → ℕ → List ℕ → List ℕ
 written xs i ys = take i xs ++ (ys ++ drop (i + length ys) xs)
 
 -- a list with another word at a place, its low byte first
-abbrev pub with_word : List ℕ → ℕ → ℕ → List ℕ
-with_word xs place w = written xs place (little_bytes 2 w)
+abbrev pub with_word_in : List ℕ → ℕ → ℕ → List ℕ
+with_word_in xs place w = written xs place (little_bytes 2 w)
 
 -- so many zeros
 unfoldable pub zeros : ℕ → List ℕ

@@ -6,7 +6,8 @@ use Rattle.pm_calls.specs.declared.registers.Registers.{Registers}
 use Rattle.pm_calls.specs.Calls.{with_control}
 
 -- the static link is the frame's first word
-pub with_control-link : (m : List ℕ) (f static above : ℕ) (r : Registers) → IsMemory m → f % 2 ≡ 0 → f + 12 ≤ 65504 → word_at (with_control m f static r above) f ≡ static
+pub with_control-link : (m : List ℕ) (f static above : ℕ) (r : Registers) → IsMemory m → f % 2 ≡ 0 → f + 12 ≤ 65504
+    → word_at (with_control m f static r above) f ≡ static
 unfolding with_control
 with_control-link m f static above r h even room =
     word_at-with_word_other _ (f + 10) f above (omega arith) even (λ e. absurd (omega arith))

@@ -9,3 +9,4 @@ pub mod LoadLaws
 pub mod PlaceLaws
 pub mod LowLaws
 pub mod KeepLaws
+pub mod RestLaws

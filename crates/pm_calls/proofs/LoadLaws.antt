@@ -1,5 +1,6 @@
 -- Where the code of a loaded segment stands after its call.
-use Rattle.std.proofs.Common.{◌≡◌, ◌<◌, ◌≤◌, inr, ℕ, ◌+◌, ◌-◌, ◌*◌, ◌/◌, ◌%◌, Bool, true, false, nat_lt, nat_le, List, length, drop, get_or, Option, Some, None, Ok, refl, sym, ap, ◌∙◌, arith}
+use Rattle.std.proofs.Common.{◌≡◌, ◌<◌, ◌≤◌, inr, ℕ, ◌+◌, ◌-◌, ◌*◌, ◌/◌, ◌%◌, Bool, true, false, nat_lt, nat_le}
+use Rattle.std.proofs.Common.{List, length, drop, get_or, Option, Some, None, Ok, refl, sym, ap, ◌∙◌, arith}
 use Rattle.std.specs.Prelude.{slice_get}
 use Rattle.std.specs.List.{All}
 use Rattle.std.proofs.lemmas.Bool.Decides.{nat_tests}
@@ -11,13 +12,14 @@ use Rattle.pm_words.proofs.Laws.{byte_at-with_bytes}
 use Rattle.pm_words.proofs.RangeLaws.{byte_at-copied_other, byte_at-with_word_other, IsMemory-copied}
 use Rattle.pm_calls.specs.declared.registers.Registers.{Registers}
 use Rattle.pm_calls.specs.declared.frames.Table.{Table}
-use Rattle.pm_calls.specs.declared.frames.Place.{Place}
+use Rattle.pm_calls.specs.declared.frames.SegmentPlace.{SegmentPlace}
 use Rattle.pm_opcode.specs.declared.operation.Call.{Call}
 use Rattle.pm_opcode.specs.declared.operation.Call.TheVariants.{Cxp}
 use Rattle.pm_calls.specs.Places.{Parts, place_in}
 use Rattle.pm_calls.specs.Links.{static_link}
 use Rattle.pm_calls.specs.Tables.{attributes}
-use Rattle.pm_calls.specs.Calls.{Reached, called, called_at, called_loading, called_slot, entered, frame_top, is_base, kept_below, loading, procedure_of, with_control, with_frame, with_old_base}
+use Rattle.pm_calls.specs.Calls.{Reached, called, called_at, called_loading, called_slot, entered, frame_top, is_base}
+use Rattle.pm_calls.specs.Calls.{kept_below, reach_loading, procedure_called, with_control, with_frame, with_old_base}
 use Rattle.pm_calls.specs.Laws.{LoadedCodeStands}
 use Rattle.pm_calls.proofs.ReturnLaws.{IsFramed, bound, frame_made, has_room, loading_memory, low_before, ok_same, size_kept, size_of_control}
 
@@ -87,8 +89,8 @@ record IsLoaded (c : Parts) (code : List ℕ) (at : Reached) : Type 0 where
   pub some : 0 < length code
   pub room : length code ≤ c.registers.sp
 
-loaded_there : (c : Parts) (n : ℕ) (code : List ℕ) (at : Reached) → loading c n code ≡ Ok at → IsLoaded c code at
-unfolding loading
+loaded_there : (c : Parts) (n : ℕ) (code : List ℕ) (at : Reached) → reach_loading c n code ≡ Ok at → IsLoaded c code at
+unfolding reach_loading
 loaded_there c n code at h =
     let has = has_room c.registers code _ at h in
     let same = ok_same _ at has.made in
@@ -112,7 +114,7 @@ entered_above : (c : Parts) (call : Call) (at : Reached) (d : Parts) → IsMemor
 unfolding called_at entered
 entered_above c call at d memory some made =
     let e = bound (entered at.memory at.place at.loaded c.registers call) _ _ made in
-    let t = bound (attributes at.memory at.place (procedure_of call)) _ _ e.1 in
+    let t = bound (attributes at.memory at.place (procedure_called call)) _ _ e.1 in
     let l = bound (static_link call at.memory c.registers t.0.level) _ _ t.2 in
     let new : e.0.0 ≡ d.memory = ap (λ (p : Parts). p.memory) (ok_same _ d e.2) in
     let f = frame_made at.memory e.0.0 at.place at.loaded l.0 c.registers e.0.1 (is_base call t.0.level) t.0 l.2 in
@@ -125,7 +127,7 @@ entered_above c call at d memory some made =
     }
 
 code_stands : (c d : Parts) (call : Call) (n : ℕ) (code : List ℕ) (at : Reached) → IsMemory c.memory → All (λ b. b < 256) code →
-    loading c n code ≡ Ok at → called_at c call at ≡ Ok d → bytes_at d.memory (c.registers.sp - length code) (length code) ≡ code
+    reach_loading c n code ≡ Ok at → called_at c call at ≡ Ok d → bytes_at d.memory (c.registers.sp - length code) (length code) ≡ code
 code_stands c d call n code at memory bytes h made =
     let low = low_before c d call at made in
     let is = loaded_there c n code at h in
@@ -143,14 +145,14 @@ code_stands c d call n code at memory bytes h made =
     ∙ byte_at-with_bytes c.memory code start (start + i) memory inside bytes (omega arith) (omega (arith, below))
     ∙ ap (λ k. get_or code k 0) away)
 
-slot_stands : (c d : Parts) (call : Call) (n : ℕ) (code : List ℕ) (slot : Option (Option Place)) → place_in slot ≡ None →
+slot_stands : (c d : Parts) (call : Call) (n : ℕ) (code : List ℕ) (slot : Option (Option SegmentPlace)) → place_in slot ≡ None →
     IsMemory c.memory → All (λ b. b < 256) code → called_slot c call n (Some code) slot ≡ Ok d →
     bytes_at d.memory (c.registers.sp - length code) (length code) ≡ code
 unfolding called_loading
 slot_stands c d call n code None none memory bytes made = absurd (cc)
 slot_stands c d call n code (Some (Some p)) none memory bytes made = absurd (cc)
 slot_stands c d call n code (Some None) none memory bytes made =
-    let x = bound (loading c n code) _ _ made in
+    let x = bound (reach_loading c n code) _ _ made in
     code_stands c d call n code x.0 memory bytes x.1 x.2
 
 pub loaded_code_stands : LoadedCodeStands

@@ -1,5 +1,6 @@
 -- The places after a return right after its call.
-use Rattle.std.proofs.Common.{◌≡◌, ◌≢◌, ◌<◌, ◌≤◌, inl, inr, ℕ, ◌+◌, ◌-◌, ◌*◌, ◌==◌, ◌&&◌, ◌||◌, Bool, true, false, cond, nat_lt, nat_le, List, length, get_or, Option, Some, None, Ok, refl, sym, ap, ◌∙◌, arith}
+use Rattle.std.proofs.Common.{◌≡◌, ◌≢◌, ◌<◌, ◌≤◌, inl, inr, ℕ, ◌+◌, ◌-◌, ◌*◌, ◌==◌, ◌&&◌, ◌||◌, Bool, true, false, cond}
+use Rattle.std.proofs.Common.{nat_lt, nat_le, List, length, get_or, Option, Some, None, Ok, refl, sym, ap, ◌∙◌, arith}
 use Rattle.std.specs.Prelude.{slice_get, slice_set, slice_index_or, position, option_and_then}
 use Rattle.std.specs.List.{position_or_len}
 use Rattle.std.proofs.lemmas.Bool.{cases_Bool}
@@ -17,41 +18,46 @@ use Rattle.pm_opcode.specs.declared.operation.Call.{Call}
 use Rattle.pm_opcode.specs.declared.operation.Call.TheVariants.{Clp, Cgp, Cbp, Cip, Cxp}
 use Rattle.pm_calls.specs.Links.{static_link}
 use Rattle.pm_calls.specs.Tables.{attributes}
-use Rattle.pm_calls.specs.Calls.{Reached, called, called_at, called_loading, called_slot, called_standing, entered, here, inside, is_base, kept_below, loading, procedure_of, standing, with_frame, with_old_base}
-use Rattle.pm_calls.specs.declared.frames.Place.{Place}
+use Rattle.pm_calls.specs.Calls.{Reached, called, called_at, called_loading, called_slot, called_standing, entered, here, inside}
+use Rattle.pm_calls.specs.Calls.{is_base, kept_below, reach_loading, procedure_called, reach_standing, with_frame, with_old_base}
+use Rattle.pm_calls.specs.declared.frames.SegmentPlace.{SegmentPlace}
 use Rattle.pm_calls.specs.Places.{Parts}
-use Rattle.pm_calls.specs.Returns.{less, lessened, released, returned, stands_at}
+use Rattle.pm_calls.specs.Returns.{one_call_less, lessened, released, returned, stands_at}
 use Rattle.pm_calls.specs.Laws.{IsCode, IsFirstAt, IsFoundAgain, ReturnGivesPlacesBack}
-use Rattle.pm_calls.proofs.ReturnLaws.{IsFramed, bound, control_kept, control_written, frame_made, has_room, loading_memory, low_before, ok_same, passed, return_read}
+use Rattle.pm_calls.proofs.ReturnLaws.{IsFramed, bound, control_kept, control_written, frame_made, has_room}
+use Rattle.pm_calls.proofs.ReturnLaws.{loading_memory, low_before, ok_same, passed, return_read}
 
 -- ---- the slot that a return finds
 
 stands_there : (s count keeps : ℕ) → 0 < count → stands_at s (Some (record { place = s; count = count; keeps = keeps })) ≡ true
 stands_there s count keeps h = grind (arith, nat_tests)
 
-found_again : (places : List (Option Place)) (s n count keeps : ℕ) → n < length places → 0 < count → IsFirstAt s n places →
+found_again : (places : List (Option SegmentPlace)) (s n count keeps : ℕ) → n < length places → 0 < count → IsFirstAt s n places →
     position (stands_at s) (slice_set places n (Some (record { place = s; count = count; keeps = keeps }))) ≡ Some n
 found_again places s n count keeps low some first =
     let new = slice_set places n (Some (record { place = s; count = count; keeps = keeps })) in
     let size : length new ≡ length places = length-set places n (Some (record { place = s; count = count; keeps = keeps })) in
     let inside : n < length new = omega (arith, low, size) in
     let is : position_or_len (stands_at s) new ≡ n = position_or_len_is (stands_at s) new n None (omega (arith, inside))
-    (λ k l. ap (stands_at s) (get_or-set_other places n k (Some (record { place = s; count = count; keeps = keeps })) None (λ e. omega (arith, e, l))) ∙ first k l)
+    (λ k l. ap (stands_at s) (get_or-set_other places n k (Some (record { place = s; count = count; keeps = keeps })) None (λ e. omega (arith, e, l)))
+    ∙ first k l)
     (λ l. ap (stands_at s) (get_or-set_same places n (Some (record { place = s; count = count; keeps = keeps })) None low) ∙ stands_there s count keeps some) in
     let test : nat_lt (position_or_len (stands_at s) new) (length new) ≡ true = grind (arith, nat_tests, is, inside) in
     rw test (ap Some is)
 
 -- a slot that has one call more and then one less is the slot before
-slot_back : (places : List (Option Place)) (s n count keeps : ℕ) (old : Option Place) → n < length places → 0 < count → IsFirstAt s n places → get_or places n None ≡ old →
-    less (record { place = s; count = count; keeps = keeps }) ≡ old → released s (slice_set places n (Some (record { place = s; count = count; keeps = keeps }))) ≡ places
+slot_back : (places : List (Option SegmentPlace)) (s n count keeps : ℕ) (old : Option SegmentPlace) → n < length places → 0 < count → IsFirstAt s n places
+    → get_or places n None ≡ old →
+    one_call_less (record { place = s; count = count; keeps = keeps }) ≡ old
+    → released s (slice_set places n (Some (record { place = s; count = count; keeps = keeps }))) ≡ places
 unfolding released
 slot_back places s n count keeps old low some first was gives =
     let new = Some (record { place = s; count = count; keeps = keeps }) in
     let there = found_again places s n count keeps low some first in
     let here : slice_index_or (slice_set places n new) n None ≡ new = get_or-set_same places n new None low in
     ap (λ k. lessened k (slice_set places n new)) there
-    ∙ ap (λ k. slice_set (slice_set places n new) n (option_and_then less k)) here
-    ∙ set-set places n new (less (record { place = s; count = count; keeps = keeps }))
+    ∙ ap (λ k. slice_set (slice_set places n new) n (option_and_then one_call_less k)) here
+    ∙ set-set places n new (one_call_less (record { place = s; count = count; keeps = keeps }))
     ∙ ap (λ k. slice_set places n k) (gives ∙ sym was)
     ∙ set-get_or places n None
 
@@ -71,9 +77,13 @@ return_places c e words base h =
     ∙ ap (λ k. cond (k == c.registers.seg) c.places (released c.registers.seg c.places)) (ap (λ (p : Parts). p.registers.seg) same)
 
 -- a return gives back the segment of the caller, whatever its kind
-frame_segment : (m : List ℕ) (s f static words : ℕ) (r : Registers) (base back : Bool) (t : Table) (places : List (Option Place)) (e : Parts) →
+frame_segment : (m : List ℕ) (s f static words : ℕ) (r : Registers) (base back : Bool) (t : Table) (places : List (Option SegmentPlace)) (e : Parts) →
     IsMemory m → r.sp + t.parameters ≤ 65504 → f + 12 + t.parameters ≤ 65504 → kept_below base ≤ f →
-    returned (record { memory = with_old_base base (with_frame m f static r t.parameters) f r.base; registers = inside base r s t f; places = places }) words back ≡ Ok e →
+    returned (record {
+      memory = with_old_base base (with_frame m f static r t.parameters) f r.base;
+      registers = inside base r s t f;
+      places = places;
+    }) words back ≡ Ok e →
     e.registers.seg ≡ r.seg
 frame_segment m s f static words r base back t places e h fits room below done =
     let n = with_old_base base (with_frame m f static r t.parameters) f r.base in
@@ -84,7 +94,8 @@ frame_segment m s f static words r base back t places e h fits room below done =
     let kept = control_kept base (with_frame m f static r t.parameters) f r.base r (r.sp + t.parameters) left.even below control in
     ap (λ (k : Registers). k.seg) left.registers ∙ kept.seg
 
-made_segment : (m n : List ℕ) (s loaded static words f : ℕ) (r inner : Registers) (base back : Bool) (t : Table) (places : List (Option Place)) (e : Parts) →
+made_segment : (m n : List ℕ) (s loaded static words f : ℕ) (r inner : Registers) (base back : Bool) (t : Table) (places : List (Option SegmentPlace))
+    (e : Parts) →
     IsMemory m → IsFramed m s loaded r base t static n inner f →
     returned (record { memory = n; registers = inner; places = places }) words back ≡ Ok e → e.registers.seg ≡ r.seg
 made_segment m n s loaded static words f r inner base back t places e h x done =
@@ -92,12 +103,13 @@ made_segment m n s loaded static words f r inner base back t places e h x done =
 
 -- ---- a call in a segment that was reached
 
-at_places : (c d e : Parts) (call : Call) (at : Reached) (words : ℕ) (base : Bool) → IsMemory at.memory → called_at c call at ≡ Ok d → returned d words base ≡ Ok e →
+at_places : (c d e : Parts) (call : Call) (at : Reached) (words : ℕ) (base : Bool) → IsMemory at.memory → called_at c call at ≡ Ok d
+    → returned d words base ≡ Ok e →
     e.places ≡ cond (c.registers.seg == at.place) at.places (released at.place at.places)
 unfolding called_at entered
 at_places c d e call at words base h made done =
     let x = bound (entered at.memory at.place at.loaded c.registers call) _ _ made in
-    let t = bound (attributes at.memory at.place (procedure_of call)) _ _ x.1 in
+    let t = bound (attributes at.memory at.place (procedure_called call)) _ _ x.1 in
     let l = bound (static_link call at.memory c.registers t.0.level) _ _ t.2 in
     let same = ok_same _ _ x.2 in
     let left = rw (sym same) at done in
@@ -111,23 +123,24 @@ at_places c d e call at words base h made done =
 is_itself : (n : ℕ) → (n == n) ≡ true
 is_itself n = grind (arith, nat_tests)
 
-here_places : (c d e : Parts) (call : Call) (words : ℕ) (base : Bool) → IsMemory c.memory → called_at c call (here c) ≡ Ok d → returned d words base ≡ Ok e → e.places ≡ c.places
+here_places : (c d e : Parts) (call : Call) (words : ℕ) (base : Bool) → IsMemory c.memory → called_at c call (here c) ≡ Ok d → returned d words base ≡ Ok e
+    → e.places ≡ c.places
 here_places c d e call words base h made done =
     at_places c d e call (here c) words base h made done ∙ ap (λ b. cond b c.places (released c.registers.seg c.places)) (is_itself c.registers.seg)
 
 is_other : (a b : ℕ) → a ≢ b → (a == b) ≡ false
 is_other a b h = grind (arith, nat_tests)
 
-one_less : (p : Place) → 0 < p.count + p.keeps → less (record { place = p.place; count = p.count + 1; keeps = p.keeps }) ≡ Some p
+one_less : (p : SegmentPlace) → 0 < p.count + p.keeps → one_call_less (record { place = p.place; count = p.count + 1; keeps = p.keeps }) ≡ Some p
 one_less p h =
     let test : (nat_lt 1 (p.count + 1) || nat_lt 0 p.keeps) ≡ true = grind (arith, nat_tests) in
     let count : p.count + 1 - 1 ≡ p.count = omega arith in
     rw (test, count) refl
 
-standing_places : (c d e : Parts) (call : Call) (n : ℕ) (p : Place) (at : Reached) (words : ℕ) (base : Bool) → IsMemory c.memory →
+standing_places : (c d e : Parts) (call : Call) (n : ℕ) (p : SegmentPlace) (at : Reached) (words : ℕ) (base : Bool) → IsMemory c.memory →
     n < length c.places → get_or c.places n None ≡ Some p → IsFoundAgain c n (Some (Some p)) →
-    standing c n p ≡ Ok at → called_at c call at ≡ Ok d → returned d words base ≡ Ok e → e.places ≡ c.places
-unfolding standing
+    reach_standing c n p ≡ Ok at → called_at c call at ≡ Ok d → returned d words base ≡ Ok e → e.places ≡ c.places
+unfolding reach_standing
 standing_places c d e call n p at words base h low was again is made done = elim (cases_Bool (p.place == c.registers.seg)) [
   | inl here ↦
       let same = ok_same _ at (rw here at is) in
@@ -137,7 +150,7 @@ standing_places c d e call n p at words base h low was again is made done = elim
       let k = passed (nat_lt p.count 65535) StackOverflow _ at (rw other at is) in
       let same = ok_same _ at k.1 in
       let found = again differ in
-      let new : List (Option Place) = slice_set c.places n (Some (record p { count = p.count + 1 })) in
+      let new : List (Option SegmentPlace) = slice_set c.places n (Some (record p { count = p.count + 1 })) in
       at_places c d e call (record { memory = c.memory; places = new; place = p.place; loaded = 0 }) words base h (rw (sym same) at made) done
       ∙ ap (λ b. cond b new (released p.place new)) (is_other c.registers.seg p.place (λ e. differ (sym e)))
       ∙ slot_back c.places p.place n (p.count + 1) p.keeps (Some p) low (omega arith) found.1 was (one_less p found.0)
@@ -145,12 +158,12 @@ standing_places c d e call n p at words base h low was again is made done = elim
 
 loading_places : (c d e : Parts) (call : Call) (n : ℕ) (code : List ℕ) (at : Reached) (words : ℕ) (base : Bool) → IsMemory at.memory →
     n < length c.places → get_or c.places n None ≡ None → IsFoundAgain c n (Some None) →
-    loading c n code ≡ Ok at → called_at c call at ≡ Ok d → returned d words base ≡ Ok e → e.places ≡ c.places
-unfolding loading
+    reach_loading c n code ≡ Ok at → called_at c call at ≡ Ok d → returned d words base ≡ Ok e → e.places ≡ c.places
+unfolding reach_loading
 loading_places c d e call n code at words base h low was again is made done =
     let same = ok_same _ at (has_room c.registers code _ at is).made in
     let s = minus c.registers.sp 2 in
-    let new : List (Option Place) = slice_set c.places n (Some (record { place = s; count = 1; keeps = 0 })) in
+    let new : List (Option SegmentPlace) = slice_set c.places n (Some (record { place = s; count = 1; keeps = 0 })) in
     let place : at.place ≡ s = sym (ap (λ (x : Reached). x.place) same) in
     let places : at.places ≡ new = sym (ap (λ (x : Reached). x.places) same) in
     at_places c d e call at words base h made done
@@ -159,18 +172,20 @@ loading_places c d e call n code at words base h low was again is made done =
     ∙ ap (λ b. cond b new (released s new)) (is_other c.registers.seg s again.0)
     ∙ slot_back c.places s n 1 0 None low (omega arith) again.1 was refl
 
-slot_places : (c d e : Parts) (call : Call) (n : ℕ) (code : Option (List ℕ)) (slot : Option (Option Place)) (words : ℕ) (base : Bool) →
+slot_places : (c d e : Parts) (call : Call) (n : ℕ) (code : Option (List ℕ)) (slot : Option (Option SegmentPlace)) (words : ℕ) (base : Bool) →
     slice_get c.places n ≡ slot → IsFoundAgain c n slot → IsMemory c.memory → IsCode code →
     called_slot c call n code slot ≡ Ok d → returned d words base ≡ Ok e → e.places ≡ c.places
 unfolding called_standing called_loading
 slot_places c d e call n code None words base is again m bytes made done = absurd (cc)
 slot_places c d e call n code (Some (Some p)) words base is again m bytes made done =
-    let x = bound (standing c n p) _ _ made in
-    standing_places c d e call n p x.0 words base m (slice_get_within c.places n (Some p) is) (get_or_from_slice_get c.places n (Some p) None is) again x.1 x.2 done
+    let x = bound (reach_standing c n p) _ _ made in
+    standing_places c d e call n p x.0 words base m (slice_get_within c.places n (Some p) is)
+    (get_or_from_slice_get c.places n (Some p) None is) again x.1 x.2 done
 slot_places c d e call n None (Some None) words base is again m bytes made done = absurd (cc)
 slot_places c d e call n (Some code) (Some None) words base is again m bytes made done =
-    let x = bound (loading c n code) _ _ made in
-    loading_places c d e call n code x.0 words base (loading_memory c n code x.0 m bytes (low_before c d call x.0 x.2) x.1) (slice_get_within c.places n None is) (get_or_from_slice_get c.places n None None is) again x.1 x.2 done
+    let x = bound (reach_loading c n code) _ _ made in
+    loading_places c d e call n code x.0 words base (loading_memory c n code x.0 m bytes (low_before c d call x.0 x.2) x.1)
+    (slice_get_within c.places n None is) (get_or_from_slice_get c.places n None None is) again x.1 x.2 done
 
 pub return_gives_places_back : ReturnGivesPlacesBack
 unfolding called

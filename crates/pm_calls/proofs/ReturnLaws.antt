@@ -1,5 +1,6 @@
 -- A return right after its call.
-use Rattle.std.proofs.Common.{◌≡◌, ◌≢◌, ◌<◌, ◌≤◌, inl, inr, ℕ, ◌+◌, ◌-◌, ◌*◌, ◌/◌, ◌%◌, ◌==◌, ◌&&◌, Bool, true, false, cond, nat_lt, nat_le, List, length, Option, Some, None, Result, Ok, Err, refl, sym, ap, ◌∙◌, subst, arith, length-set}
+use Rattle.std.proofs.Common.{◌≡◌, ◌≢◌, ◌<◌, ◌≤◌, inl, inr, ℕ, ◌+◌, ◌-◌, ◌*◌, ◌/◌, ◌%◌, ◌==◌, ◌&&◌, Bool, true, false, cond, nat_lt}
+use Rattle.std.proofs.Common.{nat_le, List, length, Option, Some, None, Result, Ok, Err, refl, sym, ap, ◌∙◌, subst, arith, length-set}
 use Rattle.std.specs.Prelude.{slice_get}
 use Rattle.std.specs.List.{All}
 use Rattle.std.proofs.lemmas.Bool.{and_parts, cases_Bool}
@@ -12,13 +13,14 @@ use Rattle.pm_words.proofs.Laws.{IsMemory-with_bytes, word_at-with_word, word_at
 use Rattle.pm_words.proofs.RangeLaws.{IsMemory-copied}
 use Rattle.pm_calls.specs.declared.registers.Registers.{Registers}
 use Rattle.pm_calls.specs.declared.frames.Table.{Table}
-use Rattle.pm_calls.specs.declared.frames.Place.{Place}
+use Rattle.pm_calls.specs.declared.frames.SegmentPlace.{SegmentPlace}
 use Rattle.pm_opcode.specs.declared.operation.Call.{Call}
 use Rattle.pm_opcode.specs.declared.operation.Call.TheVariants.{Clp, Cgp, Cbp, Cip, Cxp}
 use Rattle.pm_calls.specs.Places.{Parts}
 use Rattle.pm_calls.specs.Links.{static_link}
 use Rattle.pm_calls.specs.Tables.{attributes}
-use Rattle.pm_calls.specs.Calls.{Reached, called, called_at, called_loading, called_slot, called_standing, code_fits, entered, framed, frame_top, here, inside, is_base, kept_below, loading, procedure_of, standing, with_control, with_frame, with_old_base}
+use Rattle.pm_calls.specs.Calls.{Reached, called, called_at, called_loading, called_slot, called_standing, code_fits, entered, framed, frame_top, here}
+use Rattle.pm_calls.specs.Calls.{inside, is_base, kept_below, reach_loading, procedure_called, reach_standing, with_control, with_frame, with_old_base}
 use Rattle.pm_calls.specs.Returns.{left_to, returned}
 use Rattle.pm_calls.specs.Laws.{GivesBack, IsCode, Reaches, ReachesSlot, ReturnGivesBack}
 
@@ -42,7 +44,8 @@ pub record HasRoom {A : Type 0} (r : Registers) (code : List ℕ) (rest : Result
   pub room : r.np + length code ≤ r.sp
   pub made : rest ≡ Ok y
 
-pub has_room : {A : Type 0} (r : Registers) (code : List ℕ) (rest : Result A ExecError) (y : A) → (code_fits r code >>= λ _. rest) ≡ Ok y → HasRoom r code rest y
+pub has_room : {A : Type 0} (r : Registers) (code : List ℕ) (rest : Result A ExecError) (y : A) → (code_fits r code >>= λ _. rest) ≡ Ok y
+    → HasRoom r code rest y
 has_room r code rest y h =
     let k = bound (code_fits r code) (λ _. rest) y h in
     let first = passed (nat_lt 0 (length code)) NoSegment (demand (nat_le (r.np + length code) r.sp) StackOverflow) k.0 k.1 in
@@ -83,7 +86,8 @@ other_at m a x w even here ne = word_at-with_word_other m a x w even here ne
 pub size_kept : (m : List ℕ) (a w : ℕ) → length m ≡ 32768 → length (with_word m a w) ≡ 32768
 size_kept m a w h = size-with_word m a w ∙ h
 
-pub control_written : (m : List ℕ) (f static : ℕ) (r : Registers) (above : ℕ) → length m ≡ 32768 → f % 2 ≡ 0 → f + 12 ≤ 65536 → IsControl (with_control m f static r above) f r above
+pub control_written : (m : List ℕ) (f static : ℕ) (r : Registers) (above : ℕ) → length m ≡ 32768 → f % 2 ≡ 0 → f + 12 ≤ 65536
+    → IsControl (with_control m f static r above) f r above
 unfolding with_control
 control_written m f static r above size even room =
     let m1 = with_word m f static in
@@ -102,9 +106,13 @@ control_written m f static r above size even room =
     let e8 : (f + 8) % 2 ≡ 0 = omega arith in
     let e10 : (f + 10) % 2 ≡ 0 = omega arith in
     record {
-      mp = other_at m5 (f + 10) (f + 2) above e10 e2 (λ h. omega (arith, h)) ∙ other_at m4 (f + 8) (f + 2) r.ipc e8 e2 (λ h. omega (arith, h)) ∙ other_at m3 (f + 6) (f + 2) r.seg e6 e2 (λ h. omega (arith, h)) ∙ other_at m2 (f + 4) (f + 2) r.jtab e4 e2 (λ h. omega (arith, h)) ∙ written_at m1 (f + 2) r.mp s1 (omega arith);
-      jtab = other_at m5 (f + 10) (f + 4) above e10 e4 (λ h. omega (arith, h)) ∙ other_at m4 (f + 8) (f + 4) r.ipc e8 e4 (λ h. omega (arith, h)) ∙ other_at m3 (f + 6) (f + 4) r.seg e6 e4 (λ h. omega (arith, h)) ∙ written_at m2 (f + 4) r.jtab s2 (omega arith);
-      seg = other_at m5 (f + 10) (f + 6) above e10 e6 (λ h. omega (arith, h)) ∙ other_at m4 (f + 8) (f + 6) r.ipc e8 e6 (λ h. omega (arith, h)) ∙ written_at m3 (f + 6) r.seg s3 (omega arith);
+      mp = other_at m5 (f + 10) (f + 2) above e10 e2 (λ h. omega (arith, h)) ∙ other_at m4 (f + 8) (f + 2) r.ipc e8 e2 (λ h. omega (arith, h))
+          ∙ other_at m3 (f + 6) (f + 2) r.seg e6 e2 (λ h. omega (arith, h)) ∙ other_at m2 (f + 4) (f + 2) r.jtab e4 e2 (λ h. omega (arith, h))
+          ∙ written_at m1 (f + 2) r.mp s1 (omega arith);
+      jtab = other_at m5 (f + 10) (f + 4) above e10 e4 (λ h. omega (arith, h)) ∙ other_at m4 (f + 8) (f + 4) r.ipc e8 e4 (λ h. omega (arith, h))
+          ∙ other_at m3 (f + 6) (f + 4) r.seg e6 e4 (λ h. omega (arith, h)) ∙ written_at m2 (f + 4) r.jtab s2 (omega arith);
+      seg = other_at m5 (f + 10) (f + 6) above e10 e6 (λ h. omega (arith, h)) ∙ other_at m4 (f + 8) (f + 6) r.ipc e8 e6 (λ h. omega (arith, h))
+          ∙ written_at m3 (f + 6) r.seg s3 (omega arith);
       ipc = other_at m5 (f + 10) (f + 8) above e10 e8 (λ h. omega (arith, h)) ∙ written_at m4 (f + 8) r.ipc s4 (omega arith);
       sp = written_at m5 (f + 10) above s5 (omega arith);
     }
@@ -113,9 +121,11 @@ control_written m f static r above size even room =
 pub size_of_control : (m : List ℕ) (f static : ℕ) (r : Registers) (above : ℕ) → length m ≡ 32768 → length (with_control m f static r above) ≡ 32768
 unfolding with_control
 size_of_control m f static r above size =
-    size_kept _ (f + 10) above (size_kept _ (f + 8) r.ipc (size_kept _ (f + 6) r.seg (size_kept _ (f + 4) r.jtab (size_kept _ (f + 2) r.mp (size_kept m f static size)))))
+    size_kept _ (f + 10) above (size_kept _ (f + 8) r.ipc (size_kept _ (f + 6) r.seg
+    (size_kept _ (f + 4) r.jtab (size_kept _ (f + 2) r.mp (size_kept m f static size)))))
 
-pub control_kept : (base : Bool) (m : List ℕ) (f old : ℕ) (r : Registers) (above : ℕ) → f % 2 ≡ 0 → kept_below base ≤ f → IsControl m f r above → IsControl (with_old_base base m f old) f r above
+pub control_kept : (base : Bool) (m : List ℕ) (f old : ℕ) (r : Registers) (above : ℕ) → f % 2 ≡ 0 → kept_below base ≤ f → IsControl m f r above
+    → IsControl (with_old_base base m f old) f r above
 control_kept false m f old r above even low h = h
 control_kept true m f old r above even low h =
     let e : (f - 2) % 2 ≡ 0 = omega arith in
@@ -148,7 +158,8 @@ pub record IsFramed (m : List ℕ) (s loaded : ℕ) (r : Registers) (base : Bool
 top_inside : (loaded sp parameters : ℕ) → sp + parameters ≤ 65504 → frame_top loaded sp parameters ≤ 65504
 top_inside loaded sp parameters h = elim (cases_Bool (nat_lt 0 loaded)) [ inl e ↦ rw e (omega (arith, h)) | inr e ↦ rw e h ]
 
-pub frame_made : (m n : List ℕ) (s loaded static : ℕ) (r inner : Registers) (base : Bool) (t : Table) → framed m s loaded r base t static ≡ Ok (n, inner) → (f : ℕ) × IsFramed m s loaded r base t static n inner f
+pub frame_made : (m n : List ℕ) (s loaded static : ℕ) (r inner : Registers) (base : Bool) (t : Table) → framed m s loaded r base t static ≡ Ok (n, inner)
+    → (f : ℕ) × IsFramed m s loaded r base t static n inner f
 unfolding framed
 frame_made m n s loaded static r inner base t h =
     let size = t.locals + t.parameters + 12 in
@@ -195,9 +206,13 @@ return_read c e words base h =
     }
 
 -- a return from a frame at f
-frame_returns : (m : List ℕ) (s f static words : ℕ) (r : Registers) (base : Bool) (t : Table) (places : List (Option Place)) (e : Parts) →
+frame_returns : (m : List ℕ) (s f static words : ℕ) (r : Registers) (base : Bool) (t : Table) (places : List (Option SegmentPlace)) (e : Parts) →
     IsMemory m → r.sp + t.parameters ≤ 65504 → f + 12 + t.parameters ≤ 65504 → kept_below base ≤ f →
-    returned (record { memory = with_old_base base (with_frame m f static r t.parameters) f r.base; registers = inside base r s t f; places = places }) words base ≡ Ok e →
+    returned (record {
+      memory = with_old_base base (with_frame m f static r t.parameters) f r.base;
+      registers = inside base r s t f;
+      places = places;
+    }) words base ≡ Ok e →
     e.registers ≡ record r { sp = r.sp + t.parameters - 2 * words }
 frame_returns m s f static words r base t places e h fits room below done =
     let n = with_old_base base (with_frame m f static r t.parameters) f r.base in
@@ -210,14 +225,14 @@ frame_returns m s f static words r base t places e h fits room below done =
     let old = base_back base (with_frame m f static r t.parameters) r f frame_size (omega (arith, room)) below in
     back.registers ∙ rw (kept.mp, kept.jtab, kept.seg, kept.ipc, kept.sp, old) refl
 
-made_returns : (m n : List ℕ) (s loaded static words f : ℕ) (r inner : Registers) (base : Bool) (t : Table) (places : List (Option Place)) (e : Parts) →
+made_returns : (m n : List ℕ) (s loaded static words f : ℕ) (r inner : Registers) (base : Bool) (t : Table) (places : List (Option SegmentPlace)) (e : Parts) →
     IsMemory m → IsFramed m s loaded r base t static n inner f →
     returned (record { memory = n; registers = inner; places = places }) words base ≡ Ok e →
     e.registers ≡ record r { sp = r.sp + t.parameters - 2 * words }
 made_returns m n s loaded static words f r inner base t places e h x done =
     frame_returns m s f static words r base t places e h x.inside_memory x.room x.below (rw (x.memory, x.registers) at done)
 
-framed_returns : (m n : List ℕ) (s loaded static words : ℕ) (r inner : Registers) (base : Bool) (t : Table) (places : List (Option Place)) (e : Parts) →
+framed_returns : (m n : List ℕ) (s loaded static words : ℕ) (r inner : Registers) (base : Bool) (t : Table) (places : List (Option SegmentPlace)) (e : Parts) →
     IsMemory m → framed m s loaded r base t static ≡ Ok (n, inner) →
     returned (record { memory = n; registers = inner; places = places }) words base ≡ Ok e →
     e.registers ≡ record r { sp = r.sp + t.parameters - 2 * words }
@@ -232,7 +247,7 @@ pub low_before : (c d : Parts) (call : Call) (at : Reached) → called_at c call
 unfolding called_at entered
 low_before c d call at made =
     let x = bound (entered at.memory at.place at.loaded c.registers call) _ _ made in
-    let t = bound (attributes at.memory at.place (procedure_of call)) _ _ x.1 in
+    let t = bound (attributes at.memory at.place (procedure_called call)) _ _ x.1 in
     let l = bound (static_link call at.memory c.registers t.0.level) _ _ t.2 in
     let f = frame_made at.memory x.0.0 at.place at.loaded l.0 c.registers x.0.1 (is_base call t.0.level) t.0 l.2 in
     let fits = f.1.inside_memory in
@@ -243,7 +258,7 @@ at_gives_back : (c d e : Parts) (call : Call) (code : Option (List ℕ)) (at : R
 unfolding called_at entered
 at_gives_back c d e call code at words base is h made done =
     let x = bound (entered at.memory at.place at.loaded c.registers call) _ _ made in
-    let t = bound (attributes at.memory at.place (procedure_of call)) _ _ x.1 in
+    let t = bound (attributes at.memory at.place (procedure_called call)) _ _ x.1 in
     let l = bound (static_link call at.memory c.registers t.0.level) _ _ t.2 in
     let same = ok_same _ _ x.2 in
     record {
@@ -251,11 +266,12 @@ at_gives_back c d e call code at words base is h made done =
       at = at;
       reached = is;
       found = t.1;
-      registers = λ kind. framed_returns at.memory x.0.0 at.place at.loaded l.0 words c.registers x.0.1 (is_base call t.0.level) t.0 at.places e h l.2 (rw (sym same, kind) at done);
+      registers = λ kind. framed_returns at.memory x.0.0 at.place at.loaded l.0 words c.registers x.0.1 (is_base call t.0.level) t.0 at.places e h l.2
+          (rw (sym same, kind) at done);
     }
 
-pub standing_memory : (c : Parts) (n : ℕ) (p : Place) (at : Reached) → standing c n p ≡ Ok at → at.memory ≡ c.memory
-unfolding standing
+pub standing_memory : (c : Parts) (n : ℕ) (p : SegmentPlace) (at : Reached) → reach_standing c n p ≡ Ok at → at.memory ≡ c.memory
+unfolding reach_standing
 standing_memory c n p at h = elim (cases_Bool (p.place == c.registers.seg)) [
   | inl e ↦ sym (ap (λ (x : Reached). x.memory) (ok_same (here c) at (rw e at h)))
   | inr e ↦
@@ -263,26 +279,27 @@ standing_memory c n p at h = elim (cases_Bool (p.place == c.registers.seg)) [
       sym (ap (λ (x : Reached). x.memory) (ok_same _ at k.1))
 ]
 
-pub loading_memory : (c : Parts) (n : ℕ) (code : List ℕ) (at : Reached) → IsMemory c.memory → All (λ b. b < 256) code → c.registers.sp ≤ 65504 → loading c n code ≡ Ok at → IsMemory at.memory
-unfolding loading
+pub loading_memory : (c : Parts) (n : ℕ) (code : List ℕ) (at : Reached) → IsMemory c.memory → All (λ b. b < 256) code → c.registers.sp ≤ 65504
+    → reach_loading c n code ≡ Ok at → IsMemory at.memory
+unfolding reach_loading
 loading_memory c n code at m bytes low h =
     let has = has_room c.registers code _ at h in
     let room = has.room in
     let is : with_bytes c.memory (c.registers.sp - length code) code ≡ at.memory = ap (λ (x : Reached). x.memory) (ok_same _ at has.made) in
     subst IsMemory is (IsMemory-with_bytes c.memory code (c.registers.sp - length code) m (omega (arith, room, low)) bytes)
 
-slot_gives_back : (c d e : Parts) (call : Call) (n : ℕ) (code : Option (List ℕ)) (slot : Option (Option Place)) (words : ℕ) (base : Bool) →
+slot_gives_back : (c d e : Parts) (call : Call) (n : ℕ) (code : Option (List ℕ)) (slot : Option (Option SegmentPlace)) (words : ℕ) (base : Bool) →
     ((at : Reached) → ReachesSlot c n code slot at → Reaches c call code at) →
     IsMemory c.memory → IsCode code →
     called_slot c call n code slot ≡ Ok d → returned d words base ≡ Ok e → GivesBack c call code words base e.registers
 unfolding called_standing called_loading
 slot_gives_back c d e call n code None words base k m bytes made done = absurd (cc)
 slot_gives_back c d e call n code (Some (Some p)) words base k m bytes made done =
-    let x = bound (standing c n p) _ _ made in
+    let x = bound (reach_standing c n p) _ _ made in
     at_gives_back c d e call code x.0 words base (k x.0 x.1) (rw (standing_memory c n p x.0 x.1) m) x.2 done
 slot_gives_back c d e call n None (Some None) words base k m bytes made done = absurd (cc)
 slot_gives_back c d e call n (Some code) (Some None) words base k m bytes made done =
-    let x = bound (loading c n code) _ _ made in
+    let x = bound (reach_loading c n code) _ _ made in
     at_gives_back c d e call (Some code) x.0 words base (k x.0 x.1) (loading_memory c n code x.0 m bytes (low_before c d call x.0 x.2) x.1) x.2 done
 
 pub return_gives_back : ReturnGivesBack

@@ -40,7 +40,8 @@ pub stops-not : (m : List ℕ) (p : Wanted) (a n : ℕ) → Passes m p a n → (
 stops-not m p a n h i l = rw (h i l) refl
 
 -- the walk stops at the first frame that is the wanted one
-pub walked-there : (m : List ℕ) (p : Wanted) (a k : ℕ) → k < 32768 → Passes m p a k → met m p (frame_up m a k) ≡ Ok true → walked m p a ≡ Ok (with_exits m a (k + 1))
+pub walked-there : (m : List ℕ) (p : Wanted) (a k : ℕ) → k < 32768 → Passes m p a k → met m p (frame_up m a k) ≡ Ok true
+    → walked m p a ≡ Ok (with_exits m a (k + 1))
 unfolding walked last_frame
 walked-there m p a k l h e =
     let there : stops m p a k ≡ true = rw e refl in
@@ -68,6 +69,7 @@ pub frame_up-more : (m : List ℕ) (a k f : ℕ) → f ≡ frame_up m a k → fr
 unfolding frame_up
 frame_up-more m a k f e = rw (add-one, e) refl
 
-pub with_exits-more : (m : List ℕ) (a k f : ℕ) → f ≡ frame_up m a k → with_exits m a (k + 1) ≡ with_word (with_exits m a k) ((f + 8) % 65536) (exit_code m (control m f 4))
+pub with_exits-more : (m : List ℕ) (a k f : ℕ) → f ≡ frame_up m a k
+    → with_exits m a (k + 1) ≡ with_word (with_exits m a k) ((f + 8) % 65536) (exit_code m (control m f 4))
 unfolding with_exits
 with_exits-more m a k f e = rw (add-one, e) refl

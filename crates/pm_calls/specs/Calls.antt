@@ -1,12 +1,13 @@
 -- Calls.
-use Rattle.std.specs.Prelude.{ℕ, ◌+◌, ◌-◌, ℤ, pos, int_le, Bool, true, false, List, Option, Some, None, Result, Ok, Err, ◌≡◌, if◌then◌else◌, ◌==◌, nat_lt, nat_le, slice_get, slice_set, length}
+use Rattle.std.specs.Prelude.{ℕ, ◌+◌, ◌-◌, ℤ, pos, int_le, Bool, true, false, List, Option, Some, None, Result}
+use Rattle.std.specs.Prelude.{Ok, Err, ◌≡◌, if◌then◌else◌, ◌==◌, nat_lt, nat_le, slice_get, slice_set, length}
 use Rattle.pm_words.specs.declared.error.ExecError.{ExecError}
 use Rattle.pm_words.specs.declared.error.ExecError.TheVariants.{NoSegment, InvalidMemory, StackOverflow}
 use Rattle.pm_words.specs.Words.{with_word, with_bytes, copied}
 use Rattle.pm_words.specs.Stack.{◌>>=◌, demand, minus}
 use Rattle.pm_calls.specs.declared.registers.Registers.{Registers}
 use Rattle.pm_calls.specs.declared.frames.Table.{Table}
-use Rattle.pm_calls.specs.declared.frames.Place.{Place}
+use Rattle.pm_calls.specs.declared.frames.SegmentPlace.{SegmentPlace}
 use Rattle.pm_opcode.specs.declared.operation.Call.{Call}
 use Rattle.pm_opcode.specs.declared.operation.Call.TheVariants.{Clp, Cgp, Cbp, Cip, Cxp}
 use Rattle.pm_calls.specs.Places.{Parts}
@@ -22,19 +23,19 @@ is_base (Clp p) level = false
 is_base (Cgp p) level = false
 is_base (Cip p) level = false
 
-abbrev pub procedure_of : Call → ℕ
-procedure_of (Clp p) = p
-procedure_of (Cgp p) = p
-procedure_of (Cbp p) = p
-procedure_of (Cip p) = p
-procedure_of (Cxp n p) = p
+abbrev pub procedure_called : Call → ℕ
+procedure_called (Clp p) = p
+procedure_called (Cgp p) = p
+procedure_called (Cbp p) = p
+procedure_called (Cip p) = p
+procedure_called (Cxp n p) = p
 
 -- ---- the segment of a call
 
 -- where the called segment stands, the memory with its code, and how many bytes were loaded for the call
 pub record Reached : Type 0 where
   pub memory : List ℕ
-  pub places : List (Option Place)
+  pub places : List (Option SegmentPlace)
   pub place : ℕ
   pub loaded : ℕ
 
@@ -49,8 +50,8 @@ code_fits r code = do
   demand (nat_le (r.np + length code) r.sp) StackOverflow
 
 -- a segment that is loaded now: its code ends at SP, and its highest word is the word below
-unfoldable pub loading : Parts → ℕ → List ℕ → Result Reached ExecError
-loading c n code = do
+unfoldable pub reach_loading : Parts → ℕ → List ℕ → Result Reached ExecError
+reach_loading c n code = do
   let sp = c.registers.sp
   _ ← code_fits c.registers code
   Ok (record {
@@ -61,8 +62,8 @@ loading c n code = do
   })
 
 -- a segment that stands already: a call from another segment counts, up to 65,535
-unfoldable pub standing : Parts → ℕ → Place → Result Reached ExecError
-standing c n p =
+unfoldable pub reach_standing : Parts → ℕ → SegmentPlace → Result Reached ExecError
+reach_standing c n p =
     if p.place == c.registers.seg then Ok (here c)
     else do
       _ ← demand (nat_lt p.count 65535) StackOverflow
@@ -129,7 +130,7 @@ framed m s loaded r base t static = do
 -- a call in the segment at s, of which so many bytes were loaded for it; all reads are of the memory with them
 unfoldable pub entered : List ℕ → ℕ → ℕ → Registers → Call → Result (List ℕ × Registers) ExecError
 entered m s loaded r call = do
-  t ← attributes m s (procedure_of call)
+  t ← attributes m s (procedure_called call)
   static ← static_link call m r t.level
   framed m s loaded r (is_base call t.level) t static
 
@@ -140,14 +141,14 @@ called_at c call at = do
   Ok (record { memory = e.0; registers = e.1; places = at.places })
 
 -- a call in a segment that stands, and in one that has to be loaded
-unfoldable pub called_standing : Parts → Call → ℕ → Place → Result Parts ExecError
-called_standing c call n p = standing c n p >>= called_at c call
+unfoldable pub called_standing : Parts → Call → ℕ → SegmentPlace → Result Parts ExecError
+called_standing c call n p = reach_standing c n p >>= called_at c call
 
 unfoldable pub called_loading : Parts → Call → ℕ → List ℕ → Result Parts ExecError
-called_loading c call n code = loading c n code >>= called_at c call
+called_loading c call n code = reach_loading c n code >>= called_at c call
 
 -- a call in the segment of slot n, which may have a place; without one its code is needed
-abbrev pub called_slot : Parts → Call → ℕ → Option (List ℕ) → Option (Option Place) → Result Parts ExecError
+abbrev pub called_slot : Parts → Call → ℕ → Option (List ℕ) → Option (Option SegmentPlace) → Result Parts ExecError
 called_slot c call n code None = Err NoSegment
 called_slot c call n code (Some (Some p)) = called_standing c call n p
 called_slot c call n None (Some None) = Err NoSegment

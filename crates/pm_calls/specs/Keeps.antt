@@ -1,17 +1,18 @@
 -- Segments that the program keeps. A segment that is kept stands where it is, whatever calls of it return.
-use Rattle.std.specs.Prelude.{ℕ, ◌+◌, ◌-◌, ◌&&◌, ◌||◌, List, Option, Some, None, is_none, Result, Ok, Err, if◌then◌else◌, ◌==◌, nat_lt, nat_le, slice_get, slice_set, length}
+use Rattle.std.specs.Prelude.{ℕ, ◌+◌, ◌-◌, ◌&&◌, ◌||◌, List, Option, Some, None, is_none, Result, Ok}
+use Rattle.std.specs.Prelude.{Err, if◌then◌else◌, ◌==◌, nat_lt, nat_le, slice_get, slice_set, length}
 use Rattle.pm_words.specs.declared.error.ExecError.{ExecError}
 use Rattle.pm_words.specs.declared.error.ExecError.TheVariants.{NoSegment, StackOverflow}
 use Rattle.pm_words.specs.Words.{with_bytes}
 use Rattle.pm_words.specs.Stack.{◌>>=◌, demand, minus}
-use Rattle.pm_calls.specs.declared.frames.Place.{Place}
+use Rattle.pm_calls.specs.declared.frames.SegmentPlace.{SegmentPlace}
 use Rattle.pm_calls.specs.Places.{Parts}
 use Rattle.pm_calls.specs.Calls.{code_fits}
 
 -- ---- one keep more
 
 -- a segment that stands already has one keep more, up to 65,535
-unfoldable pub keep_standing : Parts → ℕ → Place → Result Parts ExecError
+unfoldable pub keep_standing : Parts → ℕ → SegmentPlace → Result Parts ExecError
 keep_standing c n p = do
   _ ← demand (nat_lt p.keeps 65535) StackOverflow
   Ok (record c { places = slice_set c.places n (Some (record p { keeps = p.keeps + 1 })) })
@@ -29,7 +30,7 @@ keep_loading c n code = do
   })
 
 -- the segment of slot n, which may have a place; without one its code is needed
-abbrev pub keep_slot : Parts → ℕ → Option (List ℕ) → Option (Option Place) → Result Parts ExecError
+abbrev pub keep_slot : Parts → ℕ → Option (List ℕ) → Option (Option SegmentPlace) → Result Parts ExecError
 keep_slot c n code None = Err NoSegment
 keep_slot c n code (Some (Some p)) = keep_standing c n p
 keep_slot c n None (Some None) = Err NoSegment
@@ -41,20 +42,20 @@ segment_kept c n code = keep_slot c n code (slice_get c.places n)
 -- ---- one keep less
 
 -- a slot with one keep less, or with no place after the last, if no call of its segment runs
-abbrev pub less_kept : Place → Option Place
+abbrev pub less_kept : SegmentPlace → Option SegmentPlace
 less_kept p = if nat_lt 1 p.keeps || nat_lt 0 p.count then Some (record p { keeps = p.keeps - 1 }) else None
 
 -- SP after a segment of so many bytes, which stood at a place, is forgotten: it goes above the code that it stands on
 abbrev pub above_code : ℕ → ℕ → ℕ → ℕ
 above_code sp place size = if sp + size == place + 2 then place + 2 else sp
 
-unfoldable pub unkeep_standing : Parts → ℕ → ℕ → Place → Result Parts ExecError
+unfoldable pub unkeep_standing : Parts → ℕ → ℕ → SegmentPlace → Result Parts ExecError
 unkeep_standing c n size p = do
   _ ← demand (nat_lt 0 p.keeps) NoSegment
   let sp = if is_none (less_kept p) then above_code c.registers.sp p.place size else c.registers.sp
   Ok (record c { registers = record c.registers { sp = sp }; places = slice_set c.places n (less_kept p) })
 
-abbrev pub unkeep_slot : Parts → ℕ → ℕ → Option (Option Place) → Result Parts ExecError
+abbrev pub unkeep_slot : Parts → ℕ → ℕ → Option (Option SegmentPlace) → Result Parts ExecError
 unkeep_slot c n size None = Err NoSegment
 unkeep_slot c n size (Some None) = Err NoSegment
 unkeep_slot c n size (Some (Some p)) = unkeep_standing c n size p

@@ -1,35 +1,36 @@
 -- Returns.
-use Rattle.std.specs.Prelude.{ℕ, ◌+◌, ◌-◌, ◌*◌, ◌%◌, Bool, false, ◌&&◌, ◌||◌, List, Option, Some, None, Result, Ok, if◌then◌else◌, ◌==◌, nat_lt, nat_le, slice_set, slice_index_or, option_and_then, position}
+use Rattle.std.specs.Prelude.{ℕ, ◌+◌, ◌-◌, ◌*◌, ◌%◌, Bool, false, ◌&&◌, ◌||◌, List, Option, Some, None, Result, Ok}
+use Rattle.std.specs.Prelude.{if◌then◌else◌, ◌==◌, nat_lt, nat_le, slice_set, slice_index_or, option_and_then, position}
 use Rattle.pm_words.specs.declared.error.ExecError.{ExecError}
 use Rattle.pm_words.specs.declared.error.ExecError.TheVariants.{InvalidMemory, StackOverflow}
 use Rattle.pm_words.specs.Words.{word_at, copied}
 use Rattle.pm_words.specs.Stack.{◌>>=◌, demand, is_even, minus}
 use Rattle.pm_calls.specs.declared.registers.Registers.{Registers}
-use Rattle.pm_calls.specs.declared.frames.Place.{Place}
+use Rattle.pm_calls.specs.declared.frames.SegmentPlace.{SegmentPlace}
 use Rattle.pm_calls.specs.Places.{Parts}
 use Rattle.pm_words.specs.declared.layout.TheConstants.{STACK_END}
 
 -- a slot with one call less, or with no place after the last, if the program does not keep its segment
-abbrev pub less : Place → Option Place
-less p = if nat_lt 1 p.count || nat_lt 0 p.keeps then Some (record p { count = p.count - 1 }) else None
+abbrev pub one_call_less : SegmentPlace → Option SegmentPlace
+one_call_less p = if nat_lt 1 p.count || nat_lt 0 p.keeps then Some (record p { count = p.count - 1 }) else None
 
 -- a slot whose segment stands at s
-abbrev pub is_at : ℕ → Option Place → Bool
+abbrev pub is_at : ℕ → Option SegmentPlace → Bool
 is_at s None = false
 is_at s (Some p) = p.place == s
 
 -- a slot that stands at s, for some call
-abbrev pub stands_at : ℕ → Option Place → Bool
+abbrev pub stands_at : ℕ → Option SegmentPlace → Bool
 stands_at s None = false
 stands_at s (Some p) = p.place == s && nat_lt 0 p.count
 
 -- one call less at a slot, if there is one
-abbrev pub lessened : Option ℕ → List (Option Place) → List (Option Place)
+abbrev pub lessened : Option ℕ → List (Option SegmentPlace) → List (Option SegmentPlace)
 lessened None places = places
-lessened (Some n) places = slice_set places n (option_and_then less (slice_index_or places n None))
+lessened (Some n) places = slice_set places n (option_and_then one_call_less (slice_index_or places n None))
 
 -- the places after a return from the segment at s: the lowest slot that stands there has one call less
-unfoldable pub released : ℕ → List (Option Place) → List (Option Place)
+unfoldable pub released : ℕ → List (Option SegmentPlace) → List (Option SegmentPlace)
 released s places = lessened (position (stands_at s) places) places
 
 -- the registers after a return to the caller of the frame at f; a base return gives back the old BASE

@@ -100,7 +100,8 @@ pub fn enter(
     requires even { IsEvenTable table }
     requires even_code { loaded % 2 ≡ 0 }
     requires room { loaded ≤ registers.sp }
-    ensures framed { Changes result memory.old.words memory.new.words (framed memory.old.words place loaded registers base table link) }
+    ensures framed { Changes result memory.old.words memory.new.words
+        (framed memory.old.words place loaded registers base table link) }
     ensures stack { IfOk result (λ r. IsStack r.sp r.np) }
     ensures keeps { KeepsWatch memory.old memory.new }
     ensures refused { OnErr result (memory.new ≡ memory.old) }

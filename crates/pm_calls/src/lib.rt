@@ -9,11 +9,12 @@ mod frames;
 mod keeps;
 pub mod laws;
 mod links;
+pub mod memory_laws;
 mod registers;
 mod returns;
 mod tables;
 
-pub use frames::{Frames, Kept, Place, Table};
+pub use frames::{Frames, KeptTable, SegmentPlace, Table};
 pub use registers::Registers;
 
 #[cfg(test)]

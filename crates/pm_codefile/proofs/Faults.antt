@@ -2,17 +2,18 @@
 use Rattle.std.proofs.Common.{◌≡◌, ◌⊎◌, inl, inr, ℕ, suc, ◌+◌, ◌-◌, ◌<◌, ◌≤◌, Bool, true, false, cond, List, length, None, Some, refl, arith}
 use Rattle.pm_codefile.specs.declared.fault.CodeFault.{CodeFault}
 use Rattle.pm_codefile.specs.declared.fault.CodeFault.TheVariants.{SlotPastEnd, OddLength}
-use Rattle.pm_codefile.specs.Dictionary.{IsFirstFault, first_fault, slot_fault}
+use Rattle.pm_codefile.specs.Dictionary.{IsFirstCodeFault, first_slot_fault, slot_fault}
 
 pub first_fault-more : (file : List ℕ) (n left : ℕ) → n < left → slot_fault file n ≡ None →
-    first_fault file n (left - n) ≡ first_fault file (n + 1) (left - (n + 1))
-unfolding first_fault
+    first_slot_fault file n (left - n) ≡ first_slot_fault file (n + 1) (left - (n + 1))
+unfolding first_slot_fault
 first_fault-more file n left l e =
     let step : left - n ≡ suc (left - (n + 1)) = omega arith in
     rw (step, e) refl
 
-pub first_fault-here : (file : List ℕ) (n left : ℕ) (fault : CodeFault) → n < left → slot_fault file n ≡ Some fault → first_fault file n (left - n) ≡ Some fault
-unfolding first_fault
+pub first_fault-here : (file : List ℕ) (n left : ℕ) (fault : CodeFault) → n < left → slot_fault file n ≡ Some fault
+    → first_slot_fault file n (left - n) ≡ Some fault
+unfolding first_slot_fault
 first_fault-here file n left fault l e =
     let step : left - n ≡ suc (left - (n + 1)) = omega arith in
     rw (step, e) refl
@@ -30,7 +31,7 @@ names_slot file n fault h = one_of _ _ _ _ _ h
 
 -- a slot's fault, where no slot before has one, is the first of the file
 pub first-from_slot : (file : List ℕ) (n : ℕ) (fault : CodeFault) → 512 ≤ length file → n < 16 → ((k : ℕ) → k < n → slot_fault file k ≡ None)
-    → slot_fault file n ≡ Some fault → IsFirstFault file fault
+    → slot_fault file n ≡ Some fault → IsFirstCodeFault file fault
 first-from_slot file n fault d l before h = elim (names_slot file n fault h) [
   | inl e ↦ let there : slot_fault file n ≡ Some (OddLength n) = rw e at h in
       rw e (record { dictionary = d; slot = l; before = before; there = there })

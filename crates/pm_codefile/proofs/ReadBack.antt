@@ -6,9 +6,9 @@ use Rattle.std.specs.List.{sum_by}
 use Rattle.std.proofs.lemmas.Bool.{cases_Bool, eqb-true, le-ltb}
 use Rattle.std.proofs.lemmas.List.{length-replicate, get_or-replicate, get_or_default}
 use Rattle.std.proofs.lemmas.List.Sums.{sum_by-le}
-use Rattle.pm_codefile.specs.Dictionary.{block_in, file_fault, first_fault, length_in, segment_in, slot_fault, slot_in, word_in}
-use Rattle.pm_codefile.specs.Layout.{blocks_for, layout, name_for, names_for, padded, pairs}
-use Rattle.pm_codefile.specs.ReadBack.{ReadsBack, begin_of, block_of}
+use Rattle.pm_codefile.specs.Dictionary.{block_in, file_fault, first_slot_fault, length_in, segment_in, slot_fault, slot_in, word_in}
+use Rattle.pm_codefile.specs.Layout.{blocks_for, layout, name_for, names_for, in_blocks, pairs}
+use Rattle.pm_codefile.specs.ReadBack.{ReadsBack, begin_of, first_block_of}
 use Rattle.pm_codefile.proofs.Written.{length-names, length-padded, length-pairs, names-name, padded-part, pairs-block, pairs-length, part-within}
 use Rattle.pm_codefile.proofs.Written.{slice_range-left, slice_range-right, word_in-left, word_in-right}
 
@@ -18,8 +18,8 @@ unfolding word_in
 zero-word n p h = rw (get_or-replicate {A = ℕ} n p 0 0 (omega arith), get_or-replicate {A = ℕ} n (p + 1) 0 0 (omega arith)) refl
 
 -- no slot has a fault where each has none
-none-first : (file : List ℕ) (left n : ℕ) → ((k : ℕ) → k < n + left → slot_fault file k ≡ None) → first_fault file n left ≡ None
-unfolding first_fault
+none-first : (file : List ℕ) (left n : ℕ) → ((k : ℕ) → k < n + left → slot_fault file k ≡ None) → first_slot_fault file n left ≡ None
+unfolding first_slot_fault
 none-first file zero n none = refl
 none-first file (suc left) n none = rw (none n (omega arith)) (none-first file left (n + 1) (λ k l. none k (omega arith)))
 
@@ -54,7 +54,7 @@ module _ (names : List (List ℕ)) (ns segments : List ℕ) (named : length name
   length-file =
       omega (
         arith,
-        length-append ((pairs 1 ns ++ names_for names ns) ++ replicate 320 0) (padded ns segments),
+        length-append ((pairs 1 ns ++ names_for names ns) ++ replicate 320 0) (in_blocks ns segments),
         length-dictionary,
         length-padded ns segments (omega arith),
       )
@@ -63,20 +63,20 @@ module _ (names : List (List ℕ)) (ns segments : List ℕ) (named : length name
   word_of_pairs : (p : ℕ) → p + 2 ≤ 64 → word_in (layout names ns segments) p ≡ word_in (pairs 1 ns) p
   unfolding layout
   word_of_pairs p h =
-      word_in-left ((pairs 1 ns ++ names_for names ns) ++ replicate 320 0) (padded ns segments) p (omega (arith, length-dictionary))
+      word_in-left ((pairs 1 ns ++ names_for names ns) ++ replicate 320 0) (in_blocks ns segments) p (omega (arith, length-dictionary))
       ∙ word_in-left (pairs 1 ns ++ names_for names ns) (replicate 320 0) p (omega (arith, length-front))
       ∙ word_in-left (pairs 1 ns) (names_for names ns) p (omega (arith, lengths_of_pairs))
 
   length_of_slot : (n : ℕ) → n < 16 → length_in (layout names ns segments) n ≡ get_or ns n 0
   length_of_slot n l = word_of_pairs (4 * n + 2) (omega arith) ∙ pairs-length ns 1 n (omega arith) small
 
-  block_of_slot : (n : ℕ) → n < 16 → block_in (layout names ns segments) n ≡ block_of ns n
+  block_of_slot : (n : ℕ) → n < 16 → block_in (layout names ns segments) n ≡ first_block_of ns n
   block_of_slot n l = word_of_pairs (4 * n) (omega arith) ∙ pairs-block ns 1 n (omega arith) (omega (arith, few))
 
   kind_of_slot : (n : ℕ) → n < 16 → word_in (layout names ns segments) (192 + 2 * n) ≡ 0
   unfolding layout
   kind_of_slot n l =
-      word_in-left ((pairs 1 ns ++ names_for names ns) ++ replicate 320 0) (padded ns segments) (192 + 2 * n) (omega (arith, length-dictionary))
+      word_in-left ((pairs 1 ns ++ names_for names ns) ++ replicate 320 0) (in_blocks ns segments) (192 + 2 * n) (omega (arith, length-dictionary))
       ∙ word_in-right (pairs 1 ns ++ names_for names ns) (replicate 320 0) 192 (2 * n) length-front
       ∙ zero-word 320 (2 * n) (omega arith)
 
@@ -86,13 +86,13 @@ module _ (names : List (List ℕ)) (ns segments : List ℕ) (named : length name
   name_of_slot n l =
       let front = pairs 1 ns ++ names_for names ns in
       let e : (64 + 8 * n) + 8 ≡ 64 + (8 * n + 8) = omega arith in
-      slice_range-left (front ++ replicate 320 0) (padded ns segments) (64 + 8 * n) ((64 + 8 * n) + 8) (omega arith) (omega (arith, length-dictionary))
+      slice_range-left (front ++ replicate 320 0) (in_blocks ns segments) (64 + 8 * n) ((64 + 8 * n) + 8) (omega arith) (omega (arith, length-dictionary))
       ∙ slice_range-left front (replicate 320 0) (64 + 8 * n) ((64 + 8 * n) + 8) (omega arith) (omega (arith, length-front))
       ∙ rw e (slice_range-right (pairs 1 ns) (names_for names ns) 64 (8 * n) (8 * n + 8) lengths_of_pairs
       ∙ names-name names ns n (omega arith) (named ∙ sym sixteen) each)
 
   part_of_slot : (n : ℕ) → n < 16 → eqb (get_or ns n 0) 0 ≡ false
-      → slice_range (layout names ns segments) (512 * block_of ns n) (512 * block_of ns n + get_or ns n 0)
+      → slice_range (layout names ns segments) (512 * first_block_of ns n) (512 * first_block_of ns n + get_or ns n 0)
       ≡ slice_range segments (begin_of ns n) (begin_of ns n + get_or ns n 0)
   unfolding layout
   part_of_slot n l some =
@@ -101,11 +101,11 @@ module _ (names : List (List ℕ)) (ns segments : List ℕ) (named : length name
       let e : 512 * (1 + b) ≡ 512 + 512 * b = omega arith in
       let f : (512 + 512 * b) + m ≡ 512 + (512 * b + m) = omega arith in
       rw (some, e, f)
-      (slice_range-right ((pairs 1 ns ++ names_for names ns) ++ replicate 320 0) (padded ns segments) 512 (512 * b) (512 * b + m) length-dictionary
+      (slice_range-right ((pairs 1 ns ++ names_for names ns) ++ replicate 320 0) (in_blocks ns segments) 512 (512 * b) (512 * b + m) length-dictionary
       ∙ padded-part ns segments n (omega arith) (omega arith))
 
   slot_of_file : (n : ℕ) → n < 16 → slot_in (layout names ns segments) n ≡ Some (record {
-    block = block_of ns n;
+    block = first_block_of ns n;
     length = get_or ns n 0;
     kind = 0;
     name = name_for (get_or names n []) (get_or ns n 0);
@@ -125,7 +125,7 @@ module _ (names : List (List ℕ)) (ns segments : List ℕ) (named : length name
         | inr e ↦ rw (part_of_slot n l e, e) refl
       ])
 
-  slot_within : (n : ℕ) → n < 16 → eqb (get_or ns n 0) 0 ≡ false → 512 * block_of ns n + get_or ns n 0 ≤ length (layout names ns segments)
+  slot_within : (n : ℕ) → n < 16 → eqb (get_or ns n 0) 0 ≡ false → 512 * first_block_of ns n + get_or ns n 0 ≤ length (layout names ns segments)
   slot_within n l some = rw some (omega (arith, length-file, part-within ns n (omega arith)))
 
   fault_of_slot : (n : ℕ) → n < 16 → get_or ns n 0 % 2 ≡ 0 → slot_fault (layout names ns segments) n ≡ None
@@ -137,8 +137,8 @@ module _ (names : List (List ℕ)) (ns segments : List ℕ) (named : length name
             let none : ltb 0 (get_or ns n 0) ≡ false = le-ltb 0 (get_or ns n 0) (omega arith) in
             rw none refl
         | inr e ↦
-            let none = le-ltb (length (layout names ns segments)) (512 * block_of ns n + get_or ns n 0) (slot_within n l e) in
-            rw (neither (ltb 0 (get_or ns n 0)) (ltb (length (layout names ns segments)) (512 * block_of ns n + get_or ns n 0)) none) refl
+            let none = le-ltb (length (layout names ns segments)) (512 * first_block_of ns n + get_or ns n 0) (slot_within n l e) in
+            rw (neither (ltb 0 (get_or ns n 0)) (ltb (length (layout names ns segments)) (512 * first_block_of ns n + get_or ns n 0)) none) refl
       ])
 
 -- what `write` gives is read as it was written

@@ -10,7 +10,7 @@ use Rattle.std.proofs.lemmas.List.Sums.{sum_by-cons}
 use Rattle.byteorder.specs.Endian.{little_bytes}
 use Rattle.byteorder.specs.Numbers.{little_number-reads_back}
 use Rattle.pm_codefile.specs.Dictionary.{word_in}
-use Rattle.pm_codefile.specs.Layout.{blocks_for, name_for, names_for, padded, padding, pair, pairs}
+use Rattle.pm_codefile.specs.Layout.{blocks_for, name_for, names_for, in_blocks, block_padding, slot_pair, pairs}
 
 -- a word in the first of two lists
 pub word_in-left : (xs ys : List ℕ) (p : ℕ) → p + 2 ≤ length xs → word_in (xs ++ ys) p ≡ word_in xs p
@@ -48,7 +48,7 @@ pub length-pairs : (ns : List ℕ) (b : ℕ) → length (pairs b ns) ≡ 4 * len
 unfolding pairs
 length-pairs [] b = refl
 length-pairs (n ∷ ns) b =
-    omega (arith, length-append (pair b n) (pairs (b + blocks_for n) ns), length-pairs ns (b + blocks_for n))
+    omega (arith, length-append (slot_pair b n) (pairs (b + blocks_for n) ns), length-pairs ns (b + blocks_for n))
 
 -- the length of a slot
 pub pairs-length : (ns : List ℕ) (b i : ℕ) → i < length ns → ((k : ℕ) → get_or ns k 0 < 65536) → word_in (pairs b ns) (4 * i + 2) ≡ get_or ns i 0
@@ -60,7 +60,8 @@ pairs-length (n ∷ ns) b zero l small =
     rw (append_assoc first (little_bytes 2 n) rest) (word_in-right first (little_bytes 2 n ++ rest) 2 0 refl ∙ word_in-start n rest (small 0))
 pairs-length (n ∷ ns) b (suc i) l small =
     let e : 4 * suc i + 2 ≡ 4 + (4 * i + 2) = omega arith in
-    rw e (word_in-right (pair b n) (pairs (b + blocks_for n) ns) 4 (4 * i + 2) refl ∙ pairs-length ns (b + blocks_for n) i (omega arith) (λ k. small (suc k)))
+    rw e (word_in-right (slot_pair b n) (pairs (b + blocks_for n) ns) 4 (4 * i + 2) refl
+    ∙ pairs-length ns (b + blocks_for n) i (omega arith) (λ k. small (suc k)))
 
 small_block : (n b : ℕ) → b < 65536 → cond (eqb n 0) 0 b < 65536
 small_block n b h = elim (cases_Bool (eqb n 0)) [ inl e ↦ rw e (omega arith) | inr e ↦ rw e h ]
@@ -80,7 +81,8 @@ pairs-block (n ∷ ns) b (suc i) l small =
     let all = sum_by-cons blocks_for n ns in
     let before = sum_by-cons blocks_for n (take i ns) in
     let f : b + sum_by blocks_for (n ∷ take i ns) ≡ (b + blocks_for n) + sum_by blocks_for (take i ns) = omega (arith, before) in
-    rw (e, f) (word_in-right (pair b n) (pairs (b + blocks_for n) ns) 4 (4 * i) refl ∙ pairs-block ns (b + blocks_for n) i (omega arith) (omega (arith, all)))
+    rw (e, f) (word_in-right (slot_pair b n) (pairs (b + blocks_for n) ns) 4 (4 * i) refl
+    ∙ pairs-block ns (b + blocks_for n) i (omega arith) (omega (arith, all)))
 
 length-name : (name : List ℕ) (n : ℕ) → length name ≡ 8 → length (name_for name n) ≡ 8
 length-name name n h = elim (cases_Bool (eqb n 0)) [ inl e ↦ rw e refl | inr e ↦ rw e h ]
@@ -114,19 +116,19 @@ names-name (name ∷ names) (n ∷ ns) (suc i) l h each =
     rw (e, f) (slice_range-right (name_for name n) (names_for names ns) 8 (8 * i) (8 * i + 8) (length-name name n (each 0 (omega arith)))
     ∙ names-name names ns i (omega arith) (omega arith) (λ k m. each (suc k) (omega arith)))
 
-length-filled : (n : ℕ) (segments : List ℕ) → n ≤ length segments → length (take n segments ++ padding n) ≡ 512 * blocks_for n
+length-filled : (n : ℕ) (segments : List ℕ) → n ≤ length segments → length (take n segments ++ block_padding n) ≡ 512 * blocks_for n
 length-filled n segments h =
-    omega (arith, length-append (take n segments) (padding n), length-take-le n segments h, length-replicate {A = ℕ} (512 * blocks_for n - n) 0)
+    omega (arith, length-append (take n segments) (block_padding n), length-take-le n segments h, length-replicate {A = ℕ} (512 * blocks_for n - n) 0)
 
 -- all segments
-pub length-padded : (ns segments : List ℕ) → sum ns ≤ length segments → length (padded ns segments) ≡ 512 * sum_by blocks_for ns
-unfolding padded
+pub length-padded : (ns segments : List ℕ) → sum ns ≤ length segments → length (in_blocks ns segments) ≡ 512 * sum_by blocks_for ns
+unfolding in_blocks
 length-padded [] segments h = refl
 length-padded (n ∷ ns) segments h =
     let total = sum_by-cons (λ x. x) n ns in
     omega (
       arith,
-      length-append (take n segments ++ padding n) (padded ns (drop n segments)),
+      length-append (take n segments ++ block_padding n) (in_blocks ns (drop n segments)),
       length-filled n segments (omega (arith, total)),
       length-padded ns (drop n segments) (omega (arith, total, length-drop n segments)),
       sum_by-cons blocks_for n ns,
@@ -141,15 +143,16 @@ part-within (n ∷ ns) (suc i) l =
 
 -- the segment of a slot
 pub padded-part : (ns segments : List ℕ) (i : ℕ) → i < length ns → sum ns ≤ length segments
-    → slice_range (padded ns segments) (512 * sum_by blocks_for (take i ns)) (512 * sum_by blocks_for (take i ns) + get_or ns i 0)
+    → slice_range (in_blocks ns segments) (512 * sum_by blocks_for (take i ns)) (512 * sum_by blocks_for (take i ns) + get_or ns i 0)
     ≡ slice_range segments (sum (take i ns)) (sum (take i ns) + get_or ns i 0)
-unfolding padded
+unfolding in_blocks
 padded-part [] segments i l h = absurd (omega arith)
 padded-part (n ∷ ns) segments zero l h =
     let total = sum_by-cons (λ x. x) n ns in
-    let rest = padded ns (drop n segments) in
+    let rest = in_blocks ns (drop n segments) in
     let e : (0 + n) - 0 ≡ n = omega arith in
-    rw (append_assoc (take n segments) (padding n) rest, e) (take_at (take n segments) (padding n ++ rest) n (length-take-le n segments (omega (arith, total))))
+    rw (append_assoc (take n segments) (block_padding n) rest, e) (take_at (take n segments) (block_padding n ++ rest) n
+    (length-take-le n segments (omega (arith, total))))
 padded-part (n ∷ ns) segments (suc i) l h =
     let total = sum_by-cons (λ x. x) n ns in
     let sum' = sum_by-cons (λ x. x) n (take i ns) in
@@ -162,6 +165,6 @@ padded-part (n ∷ ns) segments (suc i) l h =
     let g : sum (n ∷ take i ns) ≡ n + s = sum' in
     let k : ((n + s) + m) - (n + s) ≡ (s + m) - s = omega arith in
     rw (e, f, g, k, ← drop-drop s n segments)
-    (slice_range-right (take n segments ++ padding n) (padded ns (drop n segments)) (512 * blocks_for n) (512 * b) (512 * b + m)
+    (slice_range-right (take n segments ++ block_padding n) (in_blocks ns (drop n segments)) (512 * blocks_for n) (512 * b) (512 * b + m)
     (length-filled n segments (omega (arith, total)))
     ∙ padded-part ns (drop n segments) i (omega arith) (omega (arith, total, length-drop n segments)))

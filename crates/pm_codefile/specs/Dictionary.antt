@@ -31,18 +31,18 @@ slot_fault file n =
     else None)
 
 -- A fault, or else what else may be one.
-abbrev pub or_else : Option CodeFault → Option CodeFault → Option CodeFault
-or_else (Some fault) rest = Some fault
-or_else None rest = rest
+abbrev pub or_code_fault : Option CodeFault → Option CodeFault → Option CodeFault
+or_code_fault (Some fault) rest = Some fault
+or_code_fault None rest = rest
 
 -- The first fault among so many slots from slot n on.
-unfoldable pub first_fault : List ℕ → ℕ → ℕ → Option CodeFault
-first_fault file n zero = None
-first_fault file n (suc left) = or_else (slot_fault file n) (first_fault file (n + 1) left)
+unfoldable pub first_slot_fault : List ℕ → ℕ → ℕ → Option CodeFault
+first_slot_fault file n zero = None
+first_slot_fault file n (suc left) = or_code_fault (slot_fault file n) (first_slot_fault file (n + 1) left)
 
 -- Why a file is refused.
 unfoldable pub file_fault : List ℕ → Option CodeFault
-file_fault file = if nat_lt (length file) BLOCK then Some NoDictionary else first_fault file 0 16
+file_fault file = if nat_lt (length file) BLOCK then Some NoDictionary else first_slot_fault file 0 16
 
 -- No slot below slot n has a fault, and slot n has this one.
 pub record IsFaultOfSlot (file : List ℕ) (n : ℕ) (fault : CodeFault) : Type 0 where
@@ -52,10 +52,10 @@ pub record IsFaultOfSlot (file : List ℕ) (n : ℕ) (fault : CodeFault) : Type 
   pub there : slot_fault file n ≡ Some fault
 
 -- The fault is the first one of the file.
-abbrev pub IsFirstFault : List ℕ → CodeFault → Type 0
-IsFirstFault file NoDictionary = length file < BLOCK
-IsFirstFault file (SlotPastEnd n) = IsFaultOfSlot file n (SlotPastEnd n)
-IsFirstFault file (OddLength n) = IsFaultOfSlot file n (OddLength n)
+abbrev pub IsFirstCodeFault : List ℕ → CodeFault → Type 0
+IsFirstCodeFault file NoDictionary = length file < BLOCK
+IsFirstCodeFault file (SlotPastEnd n) = IsFaultOfSlot file n (SlotPastEnd n)
+IsFirstCodeFault file (OddLength n) = IsFaultOfSlot file n (OddLength n)
 
 -- The bytes of a code file: it has a dictionary, and no slot is refused.
 pub record IsCodeFile (file : List ℕ) : Type 0 where

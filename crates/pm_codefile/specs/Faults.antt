@@ -8,7 +8,7 @@ number_of NoDictionary = 1
 number_of (SlotPastEnd n) = 2
 number_of (OddLength n) = 3
 
-abbrev pub slot_of : CodeFault → Option ℕ
-slot_of NoDictionary = None
-slot_of (SlotPastEnd n) = Some n
-slot_of (OddLength n) = Some n
+abbrev pub slot_of_fault : CodeFault → Option ℕ
+slot_of_fault NoDictionary = None
+slot_of_fault (SlotPastEnd n) = Some n
+slot_of_fault (OddLength n) = Some n

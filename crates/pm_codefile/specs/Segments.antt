@@ -18,12 +18,12 @@ abbrev pub ◌>>=◌ : {A B : Type 0} → Option A → (A → Option B) → Opti
 None >>= f = None
 
 -- A rule without which there is nothing.
-abbrev pub given : Bool → Option (Unit {0})
-given holds = if holds then Some tt else None
+abbrev pub demanded : Bool → Option (Unit {0})
+demanded holds = if holds then Some tt else None
 
 -- A difference of whole numbers, which is none below 0.
-abbrev pub less : ℕ → ℕ → Option ℕ
-less a b = if nat_le b a then Some (a - b) else None
+abbrev pub less_or_none : ℕ → ℕ → Option ℕ
+less_or_none a b = if nat_le b a then Some (a - b) else None
 
 -- The number of procedures, the last byte of a segment; 0 if there is none.
 abbrev pub procedures_in : List ℕ → ℕ
@@ -33,14 +33,14 @@ procedures_in segment = slice_index segment (length segment - 1)
 -- segment, at an even place; and neither code place is above j - 8.
 unfoldable pub attributes_in : List ℕ → ℕ → Option Attributes
 attributes_in segment p = do
-  _ ← given (nat_le 1 p && nat_le p (procedures_in segment))
-  at ← less (length segment) (2 * p + 2)
-  j ← less at (word_in segment at)
-  last ← less j 8
-  _ ← given (j % 2 == 0)
-  enter ← less (j - 2) (word_in segment (j - 2))
-  exit ← less (j - 4) (word_in segment (j - 4))
-  _ ← given (nat_le enter last && nat_le exit last)
+  _ ← demanded (nat_le 1 p && nat_le p (procedures_in segment))
+  at ← less_or_none (length segment) (2 * p + 2)
+  j ← less_or_none at (word_in segment at)
+  last ← less_or_none j 8
+  _ ← demanded (j % 2 == 0)
+  enter ← less_or_none (j - 2) (word_in segment (j - 2))
+  exit ← less_or_none (j - 4) (word_in segment (j - 4))
+  _ ← demanded (nat_le enter last && nat_le exit last)
   Some (record {
     procedure = slice_index segment j;
     level = cast_signed w8 (slice_index segment (j + 1));

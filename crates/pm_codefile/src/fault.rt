@@ -1,7 +1,7 @@
 //! Why bytes are no code file.
 
 ghost use Rattle.std.specs.Prelude.{◌≡◌};
-ghost use Rattle.pm_codefile.specs.Faults.{number_of, slot_of};
+ghost use Rattle.pm_codefile.specs.Faults.{number_of, slot_of_fault};
 
 use thiserror::Error;
 
@@ -33,7 +33,7 @@ impl CodeFault {
 
     /// The slot that the fault names, if it names one.
     pub fn slot(self) -> Option<u8>
-        ensures value { result ≡ slot_of self }
+        ensures value { result ≡ slot_of_fault self }
     {
         match self {
             CodeFault::NoDictionary => None,

@@ -22,9 +22,9 @@ ghost use Rattle.std.specs.Prelude.{
 };
 ghost use Rattle.pm_codefile.specs.Dictionary.{
   IsCodeFile,
-  IsFirstFault,
+  IsFirstCodeFault,
   file_fault,
-  first_fault,
+  first_slot_fault,
   segment_in,
   slot_fault,
   slot_in,
@@ -86,9 +86,9 @@ fn slot_fault(bytes: &[u8], n: u8) -> Option<CodeFault>
 // The first fault of a slot.
 fn first_fault(bytes: &[u8]) -> Option<CodeFault>
     requires dictionary { BLOCK ≤ length bytes.now }
-    ensures fault { result ≡ first_fault bytes.now 0 16 }
+    ensures fault { result ≡ first_slot_fault bytes.now 0 16 }
     ensures sound { result ≡ None → (n : ℕ) → n < 16 → slot_fault bytes.now n ≡ None }
-    ensures first { IfSome result (λ fault. IsFirstFault bytes.now fault) }
+    ensures first { IfSome result (λ fault. IsFirstCodeFault bytes.now fault) }
 {
     for n in 0..16 {
         if let Some(fault) = slot_fault(bytes, n) {
@@ -103,7 +103,7 @@ fn first_fault(bytes: &[u8]) -> Option<CodeFault>
 fn file_fault(bytes: &[u8]) -> Option<CodeFault>
     ensures fault { result ≡ file_fault bytes.now }
     ensures sound { result ≡ None → IsCodeFile bytes.now }
-    ensures first { IfSome result (λ fault. IsFirstFault bytes.now fault) }
+    ensures first { IfSome result (λ fault. IsFirstCodeFault bytes.now fault) }
 {
     if bytes.len() < BLOCK {
         return Some(CodeFault::NoDictionary);
@@ -130,7 +130,7 @@ impl<'a> CodeFile<'a> {
         ensures sound { OnOk result (IsCodeFile bytes.now) }
         ensures read { IfOk result (λ f. f ≡ bytes.now) }
         ensures fault { IfErr result (λ fault. file_fault bytes.now ≡ Some fault) }
-        ensures first { IfErr result (λ fault. IsFirstFault bytes.now fault) }
+        ensures first { IfErr result (λ fault. IsFirstCodeFault bytes.now fault) }
     {
         match file_fault(bytes) {
             Some(fault) => Err(fault),

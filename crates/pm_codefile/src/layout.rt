@@ -20,7 +20,8 @@ ghost use Rattle.std.specs.Prelude.{
   OnOk,
 };
 ghost use Rattle.byteorder.specs.Endian.{little_bytes};
-ghost use Rattle.pm_codefile.specs.Layout.{blocks_for, layout, name_for, names_for, padded, padding, pair, pairs};
+ghost use Rattle.pm_codefile.specs.Layout.{blocks_for, layout, name_for, names_for};
+ghost use Rattle.pm_codefile.specs.Layout.{in_blocks, block_padding, slot_pair, pairs};
 ghost use Rattle.pm_codefile.specs.ReadBack.{ReadsBack};
 
 use byteorder::{ByteOrder, LittleEndian};
@@ -82,7 +83,7 @@ fn blocks_for(count: u16) -> u16
 
 // Adds the block and the length of a slot.
 fn put_pair(file: &mut Vec<u8>, block: u16, count: u16) -> Result<(), AllocError>
-    ensures added { OnOk result (file.new.items ≡ file.old.items ++ pair block count) }
+    ensures added { OnOk result (file.new.items ≡ file.old.items ++ slot_pair block count) }
 {
     put_word(file, if count == 0 { 0 } else { block })?;
     put_word(file, count)
@@ -127,7 +128,8 @@ fn put_names(file: &mut Vec<u8>, names: &[[u8; 8]], lengths: &[u16]) -> Result<(
 // Adds a segment, filled up to a block.
 fn put_segment(file: &mut Vec<u8>, segment: &[u8]) -> Result<(), AllocError>
     requires size { length segment.now < 65536 }
-    ensures added { OnOk result (file.new.items ≡ file.old.items ++ (segment.now ++ padding (length segment.now))) }
+    ensures added { OnOk result (file.new.items ≡ file.old.items
+        ++ (segment.now ++ block_padding (length segment.now))) }
 {
     file.extend_from_slice(segment)?;
     let count = segment.len();
@@ -137,7 +139,7 @@ fn put_segment(file: &mut Vec<u8>, segment: &[u8]) -> Result<(), AllocError>
 // Adds segments, each filled up to a block.
 fn put_segments(file: &mut Vec<u8>, lengths: &[u16], segments: &[u8]) -> Result<(), AllocError>
     requires joined { sum lengths.now ≡ length segments.now }
-    ensures added { OnOk result (file.new.items ≡ file.old.items ++ padded lengths.now segments.now) }
+    ensures added { OnOk result (file.new.items ≡ file.old.items ++ in_blocks lengths.now segments.now) }
 {
     let mut rest = segments;
     for count in lengths {

@@ -2,7 +2,7 @@
 
 ghost use Rattle.std.specs.Prelude.{◌≡◌, ◌+◌, ◌%◌, ◌≤◌, length};
 ghost use Rattle.pm_codefile.specs.Dictionary.{word_in};
-ghost use Rattle.pm_codefile.specs.Segments.{attributes_in, less, procedures_in};
+ghost use Rattle.pm_codefile.specs.Segments.{attributes_in, less_or_none, procedures_in};
 
 use crate::table::Attributes;
 use pm_base::word;
@@ -20,7 +20,7 @@ pub fn procedures(segment: &[u8]) -> u8
 // The place that a word names by its distance, if it is in the segment.
 fn self_relative(segment: &[u8], place: u16) -> Option<u16>
     requires within { place + 2 ≤ length segment.now }
-    ensures place { result ≡ less place (word_in segment.now place) }
+    ensures place { result ≡ less_or_none place (word_in segment.now place) }
 {
     place.checked_sub(word(segment, usize::from(place)))
 }

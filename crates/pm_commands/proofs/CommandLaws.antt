@@ -3,7 +3,7 @@ use Rattle.std.proofs.Common.{◌≡◌, ◌∙◌, ◌+◌, ◌-◌, ◌*◌, �
 use Rattle.std.proofs.Common.{append_assoc, append-nil, Option, Some, None}
 use Rattle.std.specs.Prelude.{nat_lt, if◌then◌else◌}
 use Rattle.std.proofs.lemmas.Bool.Decides.{nat_tests}
-use Rattle.pm_commands.specs.Commands.{is_digit, joined, number, number_behind, numbers}
+use Rattle.pm_commands.specs.Commands.{is_digit, number_and_numbers, word_number, number_behind, numbers}
 
 -- a number that is too large stays so
 number_large : (n : ℕ) (word : List ℕ) → 4294967295 < n → number_behind n word ≡ None
@@ -61,11 +61,11 @@ pub behind_none : (ns : Option (List ℕ)) → ns ≡ behind [] ns
 behind_none (Some ns) = refl
 behind_none None = refl
 
-behind_one : (front : List ℕ) (n : ℕ) (ns : Option (List ℕ)) → behind front (joined (Some n) ns) ≡ behind (front ++ n ∷ []) ns
+behind_one : (front : List ℕ) (n : ℕ) (ns : Option (List ℕ)) → behind front (number_and_numbers (Some n) ns) ≡ behind (front ++ n ∷ []) ns
 behind_one front n (Some ns) = ap (λ xs. Some xs) (sym (append_assoc front (n ∷ []) ns))
 behind_one front n None = refl
 
-joined_none : (ns : Option (List ℕ)) → joined None ns ≡ None
+joined_none : (ns : Option (List ℕ)) → number_and_numbers None ns ≡ None
 joined_none (Some ns) = refl
 joined_none None = refl
 
@@ -78,7 +78,8 @@ numbers_full : (word : List ℕ) (words : List (List ℕ)) → numbers 0 (word �
 unfolding numbers
 numbers_full word words = refl
 
-numbers_more : (most : ℕ) (word : List ℕ) (words : List (List ℕ)) → numbers (suc most) (word ∷ words) ≡ joined (number word) (numbers most words)
+numbers_more : (most : ℕ) (word : List ℕ) (words : List (List ℕ))
+    → numbers (suc most) (word ∷ words) ≡ number_and_numbers (word_number word) (numbers most words)
 unfolding numbers
 numbers_more most word words = refl
 
@@ -91,15 +92,15 @@ module _ (whole : Option (List ℕ)) (front : List ℕ) (k : ℕ) (words : List 
     numbers_too_many none =
         h ∙ ap (λ ws. behind front (numbers k ws)) e ∙ ap (λ n. behind front (numbers n (word ∷ rest))) none ∙ ap (behind front) (numbers_full word rest)
 
-    pub numbers_none : number word ≡ None → whole ≡ None
+    pub numbers_none : word_number word ≡ None → whole ≡ None
     numbers_none none = h ∙ ap (λ ws. behind front (numbers k ws)) e ∙ ap (behind front) (at k)
       where
         at : (k : ℕ) → numbers k (word ∷ rest) ≡ None
         at zero = numbers_full word rest
-        at (suc k) = numbers_more k word rest ∙ ap (λ n. joined n (numbers k rest)) none ∙ joined_none (numbers k rest)
+        at (suc k) = numbers_more k word rest ∙ ap (λ n. number_and_numbers n (numbers k rest)) none ∙ joined_none (numbers k rest)
 
-    pub numbers_next : (n j : ℕ) → k ≡ suc j → number word ≡ Some n → whole ≡ behind (front ++ n ∷ []) (numbers j rest)
+    pub numbers_next : (n j : ℕ) → k ≡ suc j → word_number word ≡ Some n → whole ≡ behind (front ++ n ∷ []) (numbers j rest)
     numbers_next n j ke is =
         h ∙ ap (λ ws. behind front (numbers k ws)) e ∙ ap (λ i. behind front (numbers i (word ∷ rest))) ke
-        ∙ ap (behind front) (numbers_more j word rest ∙ ap (λ m. joined m (numbers j rest)) is)
+        ∙ ap (behind front) (numbers_more j word rest ∙ ap (λ m. number_and_numbers m (numbers j rest)) is)
         ∙ behind_one front n (numbers j rest)

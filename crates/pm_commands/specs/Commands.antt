@@ -6,7 +6,7 @@ use Rattle.pm_commands.specs.declared.commands.Verb.{Verb}
 use Rattle.pm_commands.specs.declared.commands.Verb.TheVariants as verbs
 use Rattle.pm_commands.specs.declared.commands.Command.{Command}
 use Rattle.pm_commands.specs.declared.commands.Command.TheVariants as commands
-use Rattle.pm_commands.specs.Words.{without_return, words}
+use Rattle.pm_commands.specs.Words.{without_return, words_of_line}
 
 -- ---- numbers
 
@@ -19,23 +19,23 @@ number_behind n [] = if nat_lt n (2 ^ 32) then Some n else None
 number_behind n (c ∷ word) = if is_digit c then number_behind (10 * n + (c - 48)) word else None
 
 -- the number that a word is
-abbrev pub number : List ℕ → Option ℕ
-number word = number_behind 0 word
+abbrev pub word_number : List ℕ → Option ℕ
+word_number word = number_behind 0 word
 
-abbrev pub joined : Option ℕ → Option (List ℕ) → Option (List ℕ)
-joined (Some n) (Some ns) = Some (n ∷ ns)
-joined (Some n) None = None
-joined None ns = None
+abbrev pub number_and_numbers : Option ℕ → Option (List ℕ) → Option (List ℕ)
+number_and_numbers (Some n) (Some ns) = Some (n ∷ ns)
+number_and_numbers (Some n) None = None
+number_and_numbers None ns = None
 
 -- the numbers that words are, at most so many; there are none where a word is no number
 unfoldable pub numbers : ℕ → List (List ℕ) → Option (List ℕ)
 numbers most [] = Some []
 numbers zero (word ∷ words) = None
-numbers (suc most) (word ∷ words) = joined (number word) (numbers most words)
+numbers (suc most) (word ∷ words) = number_and_numbers (word_number word) (numbers most words)
 
 -- a number up to this one
-abbrev pub up_to : ℕ → ℕ → Option ℕ
-up_to most n = if nat_le n most then Some n else None
+abbrev pub number_up_to : ℕ → ℕ → Option ℕ
+number_up_to most n = if nat_le n most then Some n else None
 
 -- ---- commands
 
@@ -66,17 +66,17 @@ point (s ∷ p ∷ o ∷ []) = if nat_le s 255 && (nat_le p 255 && nat_le o 6553
 point (s ∷ p ∷ o ∷ n ∷ more) = None
 
 -- two words of 16 bits
-abbrev pub pair : List ℕ → Option (ℕ × ℕ)
-pair [] = None
-pair (a ∷ []) = None
-pair (a ∷ b ∷ []) = if nat_le a 65535 && nat_le b 65535 then Some (a, b) else None
-pair (a ∷ b ∷ n ∷ more) = None
+abbrev pub two_numbers : List ℕ → Option (ℕ × ℕ)
+two_numbers [] = None
+two_numbers (a ∷ []) = None
+two_numbers (a ∷ b ∷ []) = if nat_le a 65535 && nat_le b 65535 then Some (a, b) else None
+two_numbers (a ∷ b ∷ n ∷ more) = None
 
 -- one number up to this one
-abbrev pub one : ℕ → List ℕ → Option ℕ
-one most [] = None
-one most (n ∷ []) = up_to most n
-one most (n ∷ m ∷ more) = None
+abbrev pub single_number : ℕ → List ℕ → Option ℕ
+single_number most [] = None
+single_number most (n ∷ []) = number_up_to most n
+single_number most (n ∷ m ∷ more) = None
 
 -- no number
 abbrev pub alone : Command → List ℕ → Option Command
@@ -87,15 +87,15 @@ alone command (n ∷ more) = None
 unfoldable pub asked : Verb → List ℕ → Option Command
 asked verbs.Break ns = option_map (λ (t : ℕ × ℕ × ℕ). commands.Break t.0 t.1 t.2) (point ns)
 asked verbs.Clear ns = option_map (λ (t : ℕ × ℕ × ℕ). commands.Clear t.0 t.1 t.2) (point ns)
-asked verbs.Poke ns = option_map (λ (t : ℕ × ℕ). commands.Poke t.0 t.1) (pair ns)
-asked verbs.Key ns = option_map commands.Key (one 255 ns)
-asked verbs.Go ns = option_map commands.Go (one 4294967295 ns)
-asked verbs.Stack ns = option_map commands.Stack (one 65535 ns)
-asked verbs.Static ns = option_map commands.Static (one 65535 ns)
-asked verbs.Dynamic ns = option_map commands.Dynamic (one 65535 ns)
-asked verbs.Local ns = option_map (λ (t : ℕ × ℕ). commands.Local t.0 t.1) (pair ns)
+asked verbs.Poke ns = option_map (λ (t : ℕ × ℕ). commands.Poke t.0 t.1) (two_numbers ns)
+asked verbs.Key ns = option_map commands.Key (single_number 255 ns)
+asked verbs.Go ns = option_map commands.Go (single_number 4294967295 ns)
+asked verbs.Stack ns = option_map commands.Stack (single_number 65535 ns)
+asked verbs.Static ns = option_map commands.Static (single_number 65535 ns)
+asked verbs.Dynamic ns = option_map commands.Dynamic (single_number 65535 ns)
+asked verbs.Local ns = option_map (λ (t : ℕ × ℕ). commands.Local t.0 t.1) (two_numbers ns)
 asked verbs.Registers ns = alone commands.Registers ns
-asked verbs.Place ns = option_map commands.Place (one 15 ns)
+asked verbs.Place ns = option_map commands.Place (single_number 15 ns)
 asked verbs.Trace ns = alone commands.Trace ns
 asked verbs.Quit ns = alone commands.Quit ns
 
@@ -111,4 +111,4 @@ in_words (verb ∷ words) = asked_by (verb_of verb) (numbers 3 words)
 
 -- the command that a line is, without its line feed; a carriage return at its end is no part of it
 unfoldable pub command_of : List ℕ → Option Command
-command_of line = in_words (words (without_return line))
+command_of line = in_words (words_of_line (without_return line))

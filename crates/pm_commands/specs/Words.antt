@@ -2,24 +2,25 @@
 use Rattle.std.specs.Prelude.{ℕ, ◌==◌, Bool, false, not, List, [], ◌∷◌, if◌then◌else◌}
 
 -- one byte more in the first of these pieces
-abbrev pub with_byte : ℕ → List (List ℕ) → List (List ℕ)
-with_byte c [] = (c ∷ []) ∷ []
-with_byte c (piece ∷ pieces) = (c ∷ piece) ∷ pieces
+abbrev pub with_character : ℕ → List (List ℕ) → List (List ℕ)
+with_character c [] = (c ∷ []) ∷ []
+with_character c (piece ∷ pieces) = (c ∷ piece) ∷ pieces
 
 -- the pieces of a text before, between and behind the bytes of one value; without one it is one piece
-unfoldable pub pieces : ℕ → List ℕ → List (List ℕ)
-pieces mark [] = [] ∷ []
-pieces mark (c ∷ text) = if c == mark then [] ∷ pieces mark text else with_byte c (pieces mark text)
+unfoldable pub pieces_between : ℕ → List ℕ → List (List ℕ)
+pieces_between mark [] = [] ∷ []
+pieces_between mark (c ∷ text) =
+    if c == mark then [] ∷ pieces_between mark text else with_character c (pieces_between mark text)
 
 -- the pieces that have bytes
-unfoldable pub filled : List (List ℕ) → List (List ℕ)
-filled [] = []
-filled ([] ∷ pieces) = filled pieces
-filled ((c ∷ piece) ∷ pieces) = (c ∷ piece) ∷ filled pieces
+unfoldable pub without_empty : List (List ℕ) → List (List ℕ)
+without_empty [] = []
+without_empty ([] ∷ pieces) = without_empty pieces
+without_empty ((c ∷ piece) ∷ pieces) = (c ∷ piece) ∷ without_empty pieces
 
 -- the words of a line, with one space or more between them
-unfoldable pub words : List ℕ → List (List ℕ)
-words line = filled (pieces 32 line)
+unfoldable pub words_of_line : List ℕ → List (List ℕ)
+words_of_line line = without_empty (pieces_between 32 line)
 
 -- a word begins at the front
 abbrev pub begins_word : List ℕ → Bool
@@ -40,5 +41,5 @@ without_empty_end ((c ∷ piece) ∷ []) = (c ∷ piece) ∷ []
 without_empty_end (piece ∷ next ∷ pieces) = piece ∷ without_empty_end (next ∷ pieces)
 
 -- the lines of an input: each ends with a line feed, the last one perhaps with the input
-unfoldable pub lines_of : List ℕ → List (List ℕ)
-lines_of input = without_empty_end (pieces 10 input)
+unfoldable pub lines_of_input : List ℕ → List (List ℕ)
+lines_of_input input = without_empty_end (pieces_between 10 input)

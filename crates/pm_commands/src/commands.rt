@@ -5,16 +5,16 @@ ghost use Rattle.pm_commands.specs.Commands.{
   asked,
   command_of,
   is_digit,
-  number,
+  word_number,
   numbers,
-  one,
-  pair,
+  single_number,
+  two_numbers,
   point,
-  up_to,
+  number_up_to,
   verb_of,
 };
 ghost use Rattle.std.specs.Str.{bytes_eq};
-ghost use Rattle.pm_commands.specs.Words.{begins_word, words, without_return};
+ghost use Rattle.pm_commands.specs.Words.{begins_word, words_of_line, without_return};
 
 use arrayvec::ArrayVec;
 
@@ -119,7 +119,7 @@ fn is_digit(byte: u8) -> bool
 
 /// The number that decimal digits alone write.
 fn number(word: &[u8]) -> Option<u32>
-    ensures number { result ≡ number word.now }
+    ensures number { result ≡ word_number word.now }
 {
     let mut value: u64 = 0;
     let mut rest = word;
@@ -148,7 +148,7 @@ fn begins_word(line: &[u8]) -> bool
 
 /// A line without the spaces at its front.
 fn without_spaces(line: &[u8]) -> &[u8]
-    ensures words { words result.now ≡ words line.now }
+    ensures words { words_of_line result.now ≡ words_of_line line.now }
     ensures begins { (result.now ≡ []) ⊎ (begins_word result.now ≡ true) }
     ensures shorter { length result.now ≤ length line.now }
 {
@@ -165,7 +165,7 @@ fn without_spaces(line: &[u8]) -> &[u8]
 /// The first word of a line that begins with one, and what stands behind it.
 fn word_and_rest(line: &[u8]) -> (&[u8], &[u8])
     requires begins { begins_word line.now ≡ true }
-    ensures words { words line.now ≡ result.0.now ∷ words result.1.now }
+    ensures words { words_of_line line.now ≡ result.0.now ∷ words_of_line result.1.now }
     ensures shorter { length result.1.now < length line.now }
 {
     let mut end = 0;
@@ -182,9 +182,9 @@ fn word_and_rest(line: &[u8]) -> (&[u8], &[u8])
 
 /// The first word of a line, and the rest behind it.
 fn next_word(line: &[u8]) -> Option<(&[u8], &[u8])>
-    ensures some { IfSome result (λ r. words line.now ≡ r.0.now ∷ words r.1.now) }
+    ensures some { IfSome result (λ r. words_of_line line.now ≡ r.0.now ∷ words_of_line r.1.now) }
     ensures shorter { IfSome result (λ r. length r.1.now < length line.now) }
-    ensures none { IfNone result (words line.now ≡ []) }
+    ensures none { IfNone result (words_of_line line.now ≡ []) }
 {
     let line = without_spaces(line);
     if line.is_empty() {
@@ -195,8 +195,8 @@ fn next_word(line: &[u8]) -> Option<(&[u8], &[u8])>
 
 /// The numbers that the words of a line are, at most three.
 fn numbers(line: &[u8]) -> Option<ArrayVec<u32, 3>>
-    ensures some { IfSome result (λ ns. numbers 3 (words line.now) ≡ Some ns.items) }
-    ensures none { IfNone result (numbers 3 (words line.now) ≡ None) }
+    ensures some { IfSome result (λ ns. numbers 3 (words_of_line line.now) ≡ Some ns.items) }
+    ensures none { IfNone result (numbers 3 (words_of_line line.now) ≡ None) }
 {
     let mut numbers = ArrayVec::new();
     let mut rest = line;
@@ -214,13 +214,13 @@ fn numbers(line: &[u8]) -> Option<ArrayVec<u32, 3>>
 }
 
 fn byte(n: u32) -> Option<u8>
-    ensures byte { result ≡ up_to 255 n }
+    ensures byte { result ≡ number_up_to 255 n }
 {
     if n <= 255 { Some(n as u8) } else { None }
 }
 
 fn word(n: u32) -> Option<u16>
-    ensures word { result ≡ up_to 65535 n }
+    ensures word { result ≡ number_up_to 65535 n }
 {
     if n <= 65535 { Some(n as u16) } else { None }
 }
@@ -242,7 +242,7 @@ fn point(numbers: &[u32]) -> Option<(u8, u8, u16)>
 
 /// Two words of 16 bits.
 fn pair(numbers: &[u32]) -> Option<(u16, u16)>
-    ensures pair { result ≡ pair numbers.now }
+    ensures pair { result ≡ two_numbers numbers.now }
 {
     match numbers {
         [first, second] => {
@@ -256,7 +256,7 @@ fn pair(numbers: &[u32]) -> Option<(u16, u16)>
 
 /// One number.
 fn one(numbers: &[u32]) -> Option<u32>
-    ensures one { result ≡ one 4294967295 numbers.now }
+    ensures one { result ≡ single_number 4294967295 numbers.now }
 {
     match numbers {
         [number] => Some(*number),
@@ -265,7 +265,7 @@ fn one(numbers: &[u32]) -> Option<u32>
 }
 
 fn one_byte(numbers: &[u32]) -> Option<u8>
-    ensures one { result ≡ one 255 numbers.now }
+    ensures one { result ≡ single_number 255 numbers.now }
 {
     match numbers {
         [number] => byte(*number),
@@ -274,7 +274,7 @@ fn one_byte(numbers: &[u32]) -> Option<u8>
 }
 
 fn one_slot(numbers: &[u32]) -> Option<u8>
-    ensures one { result ≡ one 15 numbers.now }
+    ensures one { result ≡ single_number 15 numbers.now }
 {
     match numbers {
         [number] if *number <= 15 => Some(*number as u8),
@@ -283,7 +283,7 @@ fn one_slot(numbers: &[u32]) -> Option<u8>
 }
 
 fn one_word(numbers: &[u32]) -> Option<u16>
-    ensures one { result ≡ one 65535 numbers.now }
+    ensures one { result ≡ single_number 65535 numbers.now }
 {
     match numbers {
         [number] => word(*number),

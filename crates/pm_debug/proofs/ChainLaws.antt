@@ -39,7 +39,8 @@ chain_none : (m : List ℕ) (distance more a : ℕ) → (more == 0 || a == 65492
 unfolding chain
 chain_none m distance more a e odd = rw (e, odd) refl
 
-module _ (m : List ℕ) (distance : ℕ) (whole : Option (List ℕ)) (front : List ℕ) (n more a : ℕ) (some : n ≡ suc more) (h : whole ≡ behind front (chain m distance n a)) where
+module _ (m : List ℕ) (distance : ℕ) (whole : Option (List ℕ)) (front : List ℕ) (n more a : ℕ) (some : n ≡ suc more)
+    (h : whole ≡ behind front (chain m distance n a)) where
   going_on : whole ≡ behind front (chain m distance (suc more) a)
   going_on = h ∙ ap (λ k. behind front (chain m distance k a)) some
 
@@ -49,16 +50,19 @@ module _ (m : List ℕ) (distance : ℕ) (whole : Option (List ℕ)) (front : Li
 
   module _ (on : (more == 0 || a == 65492) ≡ false) where
     -- one frame more
-    pub chain_more : (next : ℕ) → Some next ≡ (if is_even a then Some (word_at m ((a + distance) % 65536)) else None) → whole ≡ behind (front ++ a ∷ []) (chain m distance more next)
+    pub chain_more : (next : ℕ) → Some next ≡ (if is_even a then Some (word_at m ((a + distance) % 65536)) else None)
+        → whole ≡ behind (front ++ a ∷ []) (chain m distance more next)
     chain_more next e =
         let even = where_some (is_even a) _ _ e in
-        rw even.1 (going_on ∙ ap (behind front) (chain_next m distance more a on even.0) ∙ behind_one front a (chain m distance more (word_at m ((a + distance) % 65536))))
+        rw even.1 (going_on ∙ ap (behind front) (chain_next m distance more a on even.0)
+        ∙ behind_one front a (chain m distance more (word_at m ((a + distance) % 65536))))
 
     -- no frame more, at an odd address
     pub chain_odd : None ≡ (if is_even a then Some (word_at m ((a + distance) % 65536)) else None) → whole ≡ None
     chain_odd e = going_on ∙ ap (behind front) (chain_none m distance more a on (where_none (is_even a) _ e))
 
 -- nothing of the chain is left
-pub chain_over : (m : List ℕ) (distance : ℕ) (whole : Option (List ℕ)) (front : List ℕ) (a : ℕ) → whole ≡ behind front (chain m distance 0 a) → whole ≡ Some front
+pub chain_over : (m : List ℕ) (distance : ℕ) (whole : Option (List ℕ)) (front : List ℕ) (a : ℕ) → whole ≡ behind front (chain m distance 0 a)
+    → whole ≡ Some front
 unfolding chain
 chain_over m distance whole front a h = h ∙ ap (λ xs. Some xs) (append-nil front)

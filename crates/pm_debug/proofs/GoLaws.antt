@@ -1,5 +1,6 @@
 -- Runs to a breakpoint, from what was found on the way.
-use Rattle.std.proofs.Common.{◌≡◌, ◌∙◌, ◌<◌, ◌≤◌, ◌+◌, ◌⊎◌, inl, inr, ap, sym, refl, arith, add-one, below_more, ℕ, zero, suc, Bool, true, false, not, ◌&&◌, List, [], Option, Some, None, subst}
+use Rattle.std.proofs.Common.{◌≡◌, ◌∙◌, ◌<◌, ◌≤◌, ◌+◌, ◌⊎◌, inl, inr, ap, sym, refl, arith, add-one, below_more}
+use Rattle.std.proofs.Common.{ℕ, zero, suc, Bool, true, false, not, ◌&&◌, List, [], Option, Some, None, subst}
 use Rattle.std.specs.Prelude.{nat_lt, ◌==◌}
 use Rattle.std.proofs.lemmas.Bool.{ltb-false}
 use Rattle.std.proofs.lemmas.Bool.Decides.{nat_tests}
@@ -7,13 +8,14 @@ use Rattle.pm_machine.specs.declared.state.Stop.{Stop}
 use Rattle.pm_machine.specs.declared.state.Stop.TheVariants as stop
 use Rattle.pm_machine.specs.State.{State}
 use Rattle.pm_machine.specs.Steps.{is_running, stepped}
-use Rattle.pm_machine.specs.Runs.{after, AllWent}
+use Rattle.pm_machine.specs.Runs.{after_steps, AllWent}
 use Rattle.pm_machine.specs.Quick.{QuickSteps}
 use Rattle.pm_debug.specs.declared.breaks.Breakpoint.{Breakpoint}
-use Rattle.pm_debug.specs.Breaks.{is_at_break, is_one_of, standing}
-use Rattle.pm_debug.specs.declared.reason.Reason.{Reason}
-use Rattle.pm_debug.specs.declared.reason.Reason.TheVariants as reasons
-use Rattle.pm_debug.specs.Runs.{Gone, UnbrokenSteps, breaks_after, can_go, can_step, gone, gone_after, greatest, has_ended, held_up, is_made, left_by, reason_at, steps_made}
+use Rattle.pm_debug.specs.Breaks.{is_at_break, is_one_of, place_in_code}
+use Rattle.pm_debug.specs.declared.reason.BreakReason.{BreakReason}
+use Rattle.pm_debug.specs.declared.reason.BreakReason.TheVariants as reasons
+use Rattle.pm_debug.specs.Runs.{Gone, UnbrokenSteps, breaks_after, can_go, can_step, gone, gone_after}
+use Rattle.pm_debug.specs.Runs.{greatest, has_ended, held_up, is_made, left_by, reason_at, steps_made}
 use Rattle.pm_debug.proofs.StepLaws.{ended_stands, step_ended, step_went}
 
 and_false : (b : Bool) → b && false ≡ false
@@ -86,19 +88,20 @@ module _ (breaks : List Breakpoint) (s : State) where
   go_none = refl
 
   -- one step more
-  go_more : (k : ℕ) → can_go breaks s k ≡ true → breaks_after breaks k (after k s) ≡ false → can_step (after k s) ≡ true → can_go breaks s (suc k) ≡ true
+  go_more : (k : ℕ) → can_go breaks s k ≡ true → breaks_after breaks k (after_steps k s) ≡ false → can_step (after_steps k s) ≡ true
+      → can_go breaks s (suc k) ≡ true
   unfolding can_go
   go_more k g b c = rw (g, b, c) refl
 
   -- no step more, since a breakpoint matches
-  go_broken : (k : ℕ) → breaks_after breaks k (after k s) ≡ true → can_go breaks s (suc k) ≡ false
+  go_broken : (k : ℕ) → breaks_after breaks k (after_steps k s) ≡ true → can_go breaks s (suc k) ≡ false
   unfolding can_go
   go_broken k b = rw b (and_false (can_go breaks s k))
 
   -- no step more, since none can be made
-  go_stopped : (k : ℕ) → can_step (after k s) ≡ false → can_go breaks s (suc k) ≡ false
+  go_stopped : (k : ℕ) → can_step (after_steps k s) ≡ false → can_go breaks s (suc k) ≡ false
   unfolding can_go
-  go_stopped k c = rw c (ap (λ b. can_go breaks s k && b) (and_false (not (breaks_after breaks k (after k s)))) ∙ and_false (can_go breaks s k))
+  go_stopped k c = rw c (ap (λ b. can_go breaks s k && b) (and_false (not (breaks_after breaks k (after_steps k s)))) ∙ and_false (can_go breaks s k))
 
   module _ (limit : ℕ) where
     gone_at : (k : ℕ) → steps_made breaks s limit ≡ k → gone breaks limit s ≡ gone_after breaks limit k s
@@ -117,17 +120,17 @@ module _ (breaks : List Breakpoint) (s : State) where
 
 -- so many steps were made from s, each of which went, and no breakpoint stopped the run; the machine stands at m
 pub record IsUnderWay (breaks : List Breakpoint) (s : State) (count : ℕ) (m : State) : Type 0 where
-  pub left : m ≡ after count s
+  pub left : m ≡ after_steps count s
   pub made : can_go breaks s count ≡ true
   pub going : has_ended m.status ≡ false
   pub went : AllWent count s
 
-after_none : (s : State) → after 0 s ≡ s
-unfolding after
+after_none : (s : State) → after_steps 0 s ≡ s
+unfolding after_steps
 after_none s = refl
 
-after_more : (n : ℕ) (s m t : State) (answer : Stop) → m ≡ after n s → stepped m ≡ (t, answer) → after (suc n) s ≡ t
-unfolding after
+after_more : (n : ℕ) (s m t : State) (answer : Stop) → m ≡ after_steps n s → stepped m ≡ (t, answer) → after_steps (suc n) s ≡ t
+unfolding after_steps
 after_more n s m t answer e h = ap (λ u. (stepped u).0) (sym e) ∙ ap (λ (p : State × Stop). p.0) h
 
 cannot_step : (m t : State) (answer : Stop) → stepped m ≡ (t, answer) → is_made answer ≡ false → can_step m ≡ false
@@ -143,7 +146,8 @@ pub under_way_none : (breaks : List Breakpoint) (s : State) → has_ended s.stat
 under_way_none breaks s h = record { left = sym (after_none s); made = go_none breaks s; going = h; went = λ k lt. absurd (omega arith) }
 
 module _ (breaks : List Breakpoint) (s : State) (limit : ℕ) where
-  gone_so : (k : ℕ) (reason : Reason) (m t : State) → steps_made breaks s limit ≡ k → m ≡ after k s → reason_at breaks limit k m ≡ reason → left_by reason m ≡ t
+  gone_so : (k : ℕ) (reason : BreakReason) (m t : State) → steps_made breaks s limit ≡ k → m ≡ after_steps k s → reason_at breaks limit k m ≡ reason
+      → left_by reason m ≡ t
       → gone breaks limit s ≡ record { steps = k; reason = reason; machine = t }
   gone_so k reason m t made e r l =
       gone_at breaks s limit k made
@@ -151,10 +155,10 @@ module _ (breaks : List Breakpoint) (s : State) (limit : ℕ) where
       ∙ ap (gone_by k m) r
       ∙ ap (gone_with k reason) l
     where
-      gone_with : ℕ → Reason → State → Gone
+      gone_with : ℕ → BreakReason → State → Gone
       gone_with k reason t = record { steps = k; reason = reason; machine = t }
 
-      gone_by : ℕ → State → Reason → Gone
+      gone_by : ℕ → State → BreakReason → Gone
       gone_by k m reason = record { steps = k; reason = reason; machine = left_by reason m }
 
       gone_from : ℕ → State → Gone
@@ -192,7 +196,8 @@ module _ (breaks : List Breakpoint) (s : State) (limit : ℕ) where
             (sym next) (rw ends.1 refl) refl)
 
         -- the step waits or fails
-        pub gone_held : (answer : Stop) (reason : Reason) → stepped m ≡ (t, answer) → is_made answer ≡ false → held_up answer ≡ reason → left_by reason m ≡ (stepped m).0
+        pub gone_held : (answer : Stop) (reason : BreakReason) → stepped m ≡ (t, answer) → is_made answer ≡ false → held_up answer ≡ reason
+            → left_by reason m ≡ (stepped m).0
             → gone breaks limit s ≡ record { steps = count; reason = reason; machine = t }
         gone_held answer reason h e r l = gone_so count reason m t
             (made breaks s limit count (omega arith) u.made (go_stopped breaks s count (rw (← u.left) (cannot_step m t answer h e))))
@@ -223,7 +228,7 @@ quick_unbroken breaks limit s count t e q = record {
   within = q.within;
   went = q.went;
   left = q.left;
-  unbroken = λ k h. ap (λ bs. is_at_break bs (after k s)) e ∙ none_matches (standing (after k s));
+  unbroken = λ k h. ap (λ bs. is_at_break bs (after_steps k s)) e ∙ none_matches (place_in_code (after_steps k s));
 }
 
 pub unbroken_none : (breaks : List Breakpoint) (limit : ℕ) (s : State) → UnbrokenSteps breaks limit s 0 s
@@ -235,16 +240,16 @@ unbroken_none breaks limit s = record {
 }
 
 module _ (breaks : List Breakpoint) (s : State) (n : ℕ) (m : State) (u : IsUnderWay breaks s n m) where
-  under_way_after : (count : ℕ) → AllWent count m → ((k : ℕ) → k < count → is_at_break breaks (after k m) ≡ false)
-      → IsUnderWay breaks s (n + count) (after count m)
-  unfolding after
+  under_way_after : (count : ℕ) → AllWent count m → ((k : ℕ) → k < count → is_at_break breaks (after_steps k m) ≡ false)
+      → IsUnderWay breaks s (n + count) (after_steps count m)
+  unfolding after_steps
   under_way_after zero went free = let e : n + 0 ≡ n = omega arith in rw e u
   under_way_after (suc k) went free =
       let before = under_way_after k (λ i h. went i (omega (arith, h))) (λ i h. free i (omega (arith, h))) in
-      let b : breaks_after breaks (n + k) (after k m) ≡ false = rw (free k (omega arith)) (and_false (not (n + k == 0))) in
-      let step : stepped (after k m) ≡ ((stepped (after k m)).0, stop.Went) = ap (λ a. ((stepped (after k m)).0, a)) (went k (omega arith)) in
+      let b : breaks_after breaks (n + k) (after_steps k m) ≡ false = rw (free k (omega arith)) (and_false (not (n + k == 0))) in
+      let step : stepped (after_steps k m) ≡ ((stepped (after_steps k m)).0, stop.Went) = ap (λ a. ((stepped (after_steps k m)).0, a)) (went k (omega arith)) in
       let e : n + suc k ≡ n + k + 1 = omega arith in
-      rw e (under_way_went breaks s (n + suc k) (n + k) (after k m) before (omega arith) b (stepped (after k m)).0 step)
+      rw e (under_way_went breaks s (n + suc k) (n + k) (after_steps k m) before (omega arith) b (stepped (after_steps k m)).0 step)
 
   pub under_way_unbroken : (limit count : ℕ) (t : State) → UnbrokenSteps breaks limit m count t → IsUnderWay breaks s (n + count) t
   under_way_unbroken limit count t h = subst (IsUnderWay breaks s (n + count)) (sym h.left) (under_way_after count h.went h.unbroken)

@@ -6,15 +6,15 @@ use Rattle.pm_machine.specs.declared.state.Status.TheVariants as status
 use Rattle.pm_machine.specs.declared.state.Stop.{Stop}
 use Rattle.pm_machine.specs.declared.state.Stop.TheVariants as stop
 use Rattle.pm_machine.specs.State.{State}
-use Rattle.pm_machine.specs.Steps.{answer, at_status, executed, is_running, settled, stepped}
+use Rattle.pm_machine.specs.Steps.{stop_of, at_status, executed, is_running, settled, stepped}
 use Rattle.pm_debug.specs.Runs.{has_ended}
 
-answer_went : (st : Status) → answer st ≡ stop.Went → has_ended st ≡ false
+answer_went : (st : Status) → stop_of st ≡ stop.Went → has_ended st ≡ false
 answer_went status.Running h = refl
 answer_went status.Ended h = cc
 answer_went (status.Halted e) h = cc
 
-answer_ended : (st : Status) → answer st ≡ stop.Ended → has_ended st ≡ true
+answer_ended : (st : Status) → stop_of st ≡ stop.Ended → has_ended st ≡ true
 answer_ended status.Running h = cc
 answer_ended status.Ended h = refl
 answer_ended (status.Halted e) h = cc

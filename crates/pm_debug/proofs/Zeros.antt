@@ -1,5 +1,6 @@
 -- Numbers with zeros in front, digit by digit.
-use Rattle.std.proofs.Common.{◌≡◌, ◌<◌, ◌≤◌, ℕ, zero, suc, ◌+◌, ◌-◌, ◌/◌, ◌%◌, ◌^◌, Bool, true, false, List, [], ◌∷◌, ◌++◌, length, replicate, refl, sym, ap, ◌∙◌, arith, append_assoc, length-append}
+use Rattle.std.proofs.Common.{◌≡◌, ◌<◌, ◌≤◌, ℕ, zero, suc, ◌+◌, ◌-◌, ◌/◌, ◌%◌, ◌^◌, Bool, true, false, List, []}
+use Rattle.std.proofs.Common.{◌∷◌, ◌++◌, length, replicate, refl, sym, ap, ◌∙◌, arith, append_assoc, length-append}
 use Rattle.std.specs.Prelude.{nat_lt}
 use Rattle.std.specs.Fmt.{decimal}
 use Rattle.std.proofs.lemmas.Bool.{ltb-false}
@@ -44,7 +45,8 @@ unfolding padded
 padded_last n h = rw (decimal_digit n h) refl
 
 -- a word in five digits
-pub five_digits : (n : ℕ) → n < 65536 → padded 5 n ≡ (48 + n / 10 / 10 / 10 / 10) ∷ (48 + n / 10 / 10 / 10 % 10) ∷ (48 + n / 10 / 10 % 10) ∷ (48 + n / 10 % 10) ∷ (48 + n % 10) ∷ []
+pub five_digits : (n : ℕ) → n < 65536 → padded 5 n ≡ (48 + n / 10 / 10 / 10 / 10) ∷ (48 + n / 10 / 10 / 10 % 10) ∷ (48 + n / 10 / 10 % 10) ∷ (48 + n / 10 % 10)
+    ∷ (48 + n % 10) ∷ []
 five_digits n h =
     padded_step 3 n (omega arith)
     ∙ ap (λ u. u ++ (48 + n % 10) ∷ []) (padded_step 2 (n / 10) (omega arith)

@@ -1,14 +1,15 @@
--- Breakpoints: places in the code, by the number of a segment, the number of a procedure, and the distance from where the
--- procedure is entered.
-use Rattle.std.specs.Prelude.{ℕ, ◌%◌, ◌==◌, ◌&&◌, not, Bool, false, List, [], ◌∷◌, ◌++◌, length, filter, Option, Some, None, Result, Ok, Err, if◌then◌else◌, nat_lt}
+-- Breakpoints: places in the code, by the number of a segment, the number of a procedure, and the distance from where
+-- the procedure is entered.
+use Rattle.std.specs.Prelude.{ℕ, ◌%◌, ◌==◌, ◌&&◌, not, Bool, false, List, [], ◌∷◌, ◌++◌, length}
+use Rattle.std.specs.Prelude.{filter, Option, Some, None, Result, Ok, Err, if◌then◌else◌, nat_lt}
 use Rattle.std.specs.List.{list_any}
 use Rattle.pm_words.specs.Words.{word_at}
 use Rattle.pm_words.specs.Stack.{is_even, minus}
 use Rattle.pm_calls.specs.Tables.{self_relative}
 use Rattle.pm_machine.specs.State.{State}
 use Rattle.pm_debug.specs.declared.breaks.Breakpoint.{Breakpoint}
-use Rattle.pm_debug.specs.declared.refusal.Refusal.{Refusal}
-use Rattle.pm_debug.specs.declared.refusal.Refusal.TheVariants.{Full, NoBreak}
+use Rattle.pm_debug.specs.declared.refusal.DebugRefusal.{DebugRefusal}
+use Rattle.pm_debug.specs.declared.refusal.DebugRefusal.TheVariants.{Full, NoBreak}
 
 -- the breakpoint at a place
 abbrev pub break_at : ℕ → ℕ → ℕ → Breakpoint
@@ -22,20 +23,20 @@ abbrev pub is_set : Breakpoint → List Breakpoint → Bool
 is_set b breaks = list_any (is_same b) breaks
 
 -- one breakpoint more; one that is set already stays, and a new one beside 64 is refused
-unfoldable pub with_break : Breakpoint → List Breakpoint → Result (List Breakpoint) Refusal
+unfoldable pub with_break : Breakpoint → List Breakpoint → Result (List Breakpoint) DebugRefusal
 with_break b breaks =
     if is_set b breaks then Ok breaks
     else if nat_lt (length breaks) 64 then Ok (breaks ++ b ∷ [])
     else Err Full
 
 -- one breakpoint less; one that is not set is refused
-unfoldable pub without_break : Breakpoint → List Breakpoint → Result (List Breakpoint) Refusal
+unfoldable pub without_break : Breakpoint → List Breakpoint → Result (List Breakpoint) DebugRefusal
 without_break b breaks = if is_set b breaks then Ok (filter (λ c. not (is_same b c)) breaks) else Err NoBreak
 
 -- Where a machine stands in the code: the low bytes of the words at SEG and at JTAB, and IPC less the place where the
 -- procedure is entered. It stands nowhere where one of the two addresses is odd.
-unfoldable pub standing : State → Option Breakpoint
-standing s =
+unfoldable pub place_in_code : State → Option Breakpoint
+place_in_code s =
     if is_even s.registers.seg && is_even s.registers.jtab then Some (break_at
     (word_at s.memory s.registers.seg % 256)
     (word_at s.memory s.registers.jtab % 256)
@@ -48,4 +49,4 @@ is_one_of (Some b) breaks = is_set b breaks
 
 -- a breakpoint matches: the machine stands at one of them
 abbrev pub is_at_break : List Breakpoint → State → Bool
-is_at_break breaks s = is_one_of (standing s) breaks
+is_at_break breaks s = is_one_of (place_in_code s) breaks

@@ -2,10 +2,10 @@
 use Rattle.std.specs.Prelude.{ℕ, Result, Ok, Err}
 use Rattle.pm_words.specs.declared.error.ExecError.{ExecError}
 use Rattle.pm_words.specs.declared.error.ExecError.TheVariants as errors
-use Rattle.pm_debug.specs.declared.refusal.Refusal.{Refusal}
-use Rattle.pm_debug.specs.declared.refusal.Refusal.TheVariants.{Full, NoBreak, OddAddress, NoMemory, TooDeep}
+use Rattle.pm_debug.specs.declared.refusal.DebugRefusal.{DebugRefusal}
+use Rattle.pm_debug.specs.declared.refusal.DebugRefusal.TheVariants.{Full, NoBreak, OddAddress, NoMemory, TooDeep}
 
-abbrev pub number_of : Refusal → ℕ
+abbrev pub number_of : DebugRefusal → ℕ
 number_of Full = 1
 number_of NoBreak = 2
 number_of OddAddress = 3
@@ -13,7 +13,7 @@ number_of NoMemory = 4
 number_of TooDeep = 5
 
 -- the refusal of a read that fails: too many static links, or an odd address on the way
-abbrev pub refusal_of : ExecError → Refusal
+abbrev pub refusal_of : ExecError → DebugRefusal
 refusal_of errors.NoSegment = TooDeep
 refusal_of errors.InvalidIndex = OddAddress
 refusal_of errors.NoProcedure = OddAddress
@@ -27,6 +27,6 @@ refusal_of errors.StringTooLong = OddAddress
 refusal_of errors.Halt = OddAddress
 
 -- a read, or its refusal
-abbrev pub or_refused : Result ℕ ExecError → Result ℕ Refusal
+abbrev pub or_refused : Result ℕ ExecError → Result ℕ DebugRefusal
 or_refused (Ok word) = Ok word
 or_refused (Err error) = Err (refusal_of error)

@@ -1,15 +1,16 @@
 -- Runs to a breakpoint.
-use Rattle.std.specs.Prelude.{ℕ, zero, suc, ◌≡◌, ◌<◌, ◌≤◌, ◌==◌, ◌&&◌, not, Bool, true, false, List, if◌then◌else◌, nat_lt}
+use Rattle.std.specs.Prelude.{ℕ, zero, suc, ◌≡◌, ◌<◌, ◌≤◌, ◌==◌, ◌&&◌, not}
+use Rattle.std.specs.Prelude.{Bool, true, false, List, if◌then◌else◌, nat_lt}
 use Rattle.pm_machine.specs.declared.state.Status.{Status}
 use Rattle.pm_machine.specs.declared.state.Status.TheVariants as status
 use Rattle.pm_machine.specs.declared.state.Stop.{Stop}
 use Rattle.pm_machine.specs.declared.state.Stop.TheVariants as stop
 use Rattle.pm_machine.specs.State.{State, Whole}
 use Rattle.pm_machine.specs.Steps.{WantsMemory, is_running, stepped}
-use Rattle.pm_machine.specs.Runs.{AllWent, after}
+use Rattle.pm_machine.specs.Runs.{AllWent, after_steps}
 use Rattle.pm_debug.specs.declared.breaks.Breakpoint.{Breakpoint}
-use Rattle.pm_debug.specs.declared.reason.Reason.{Reason}
-use Rattle.pm_debug.specs.declared.reason.Reason.TheVariants as reasons
+use Rattle.pm_debug.specs.declared.reason.BreakReason.{BreakReason}
+use Rattle.pm_debug.specs.declared.reason.BreakReason.TheVariants as reasons
 use Rattle.pm_debug.specs.Breaks.{is_at_break}
 
 -- a step that went, or ended the program
@@ -30,7 +31,8 @@ breaks_after breaks k s = not (k == 0) && is_at_break breaks s
 -- so many steps can be made from s, one after another, with no breakpoint that matches between two of them
 unfoldable pub can_go : List Breakpoint → State → ℕ → Bool
 can_go breaks s zero = true
-can_go breaks s (suc k) = can_go breaks s k && (not (breaks_after breaks k (after k s)) && can_step (after k s))
+can_go breaks s (suc k) =
+    can_go breaks s k && (not (breaks_after breaks k (after_steps k s)) && can_step (after_steps k s))
 
 -- the greatest number up to n that passes a test, or 0
 unfoldable pub greatest : (ℕ → Bool) → ℕ → ℕ
@@ -47,7 +49,7 @@ has_ended status.Running = false
 has_ended (status.Halted e) = false
 
 -- why no further step is made, by what the next one would answer
-abbrev pub held_up : Stop → Reason
+abbrev pub held_up : Stop → BreakReason
 held_up stop.Waiting = reasons.Waiting
 held_up (stop.Halted e) = reasons.Halted e
 held_up stop.Ended = reasons.Ended
@@ -55,7 +57,7 @@ held_up stop.Went = reasons.Limit
 
 -- why a run ends after k steps at s: the program has ended; a breakpoint matches after the first step and before the
 -- limit; the limit is reached; or the next step waits or fails
-abbrev pub reason_at : List Breakpoint → ℕ → ℕ → State → Reason
+abbrev pub reason_at : List Breakpoint → ℕ → ℕ → State → BreakReason
 reason_at breaks limit k s =
     if has_ended s.status then reasons.Ended
     else if breaks_after breaks k s && nat_lt k limit then reasons.Break
@@ -63,7 +65,7 @@ reason_at breaks limit k s =
     else held_up (stepped s).1
 
 -- the machine that is left: a step that waits or fails was made too
-abbrev pub left_by : Reason → State → State
+abbrev pub left_by : BreakReason → State → State
 left_by reasons.Break s = s
 left_by reasons.Limit s = s
 left_by reasons.Ended s = s
@@ -73,12 +75,17 @@ left_by (reasons.Halted e) s = (stepped s).0
 -- what a run to a breakpoint comes to
 pub record Gone : Type 0 where
   pub steps : ℕ
-  pub reason : Reason
+  pub reason : BreakReason
   pub machine : State
 
 -- the run of at most so many steps that ends after k of them
 abbrev pub gone_after : List Breakpoint → ℕ → ℕ → State → Gone
-gone_after breaks limit k s = let reason = reason_at breaks limit k (after k s) in record { steps = k; reason = reason; machine = left_by reason (after k s) }
+gone_after breaks limit k s =
+    let reason = reason_at breaks limit k (after_steps k s) in record {
+      steps = k;
+      reason = reason;
+      machine = left_by reason (after_steps k s);
+    }
 
 -- the run of at most so many steps to a breakpoint
 unfoldable pub gone : List Breakpoint → ℕ → State → Gone
@@ -87,12 +94,13 @@ gone breaks limit s = gone_after breaks limit (steps_made breaks s limit) s
 -- a run that was given up for want of memory, after some steps that can be made, and not at a breakpoint
 abbrev pub GaveUpUnbroken : List Breakpoint → ℕ → Whole → Whole → Type 0
 GaveUpUnbroken breaks limit m t =
-    (n : ℕ) × (n < limit) × (can_go breaks m.state n ≡ true) × (t.state ≡ after n m.state) × (breaks_after breaks n t.state ≡ false)
+    (n : ℕ) × (n < limit) × (can_go breaks m.state n ≡ true) × (t.state ≡ after_steps n m.state)
+    × (breaks_after breaks n t.state ≡ false)
     × WantsMemory t
 
 -- some steps, at most so many: each went, and no breakpoint matches before any of them
 pub record UnbrokenSteps (breaks : List Breakpoint) (limit : ℕ) (s : State) (count : ℕ) (t : State) : Type 0 where
   pub within : count ≤ limit
   pub went : AllWent count s
-  pub left : t ≡ after count s
-  pub unbroken : (k : ℕ) → k < count → is_at_break breaks (after k s) ≡ false
+  pub left : t ≡ after_steps count s
+  pub unbroken : (k : ℕ) → k < count → is_at_break breaks (after_steps k s) ≡ false

@@ -1,12 +1,13 @@
 -- What is shown of a machine, beside its registers and the line of a trace: always of the state as it is.
-use Rattle.std.specs.Prelude.{◌≡◌, ℕ, zero, suc, ◌+◌, ◌-◌, ◌*◌, ◌/◌, ◌%◌, ◌==◌, ◌||◌, min, ⊤, List, [], ◌∷◌, Option, Some, None, Result, Ok, Err, if◌then◌else◌}
+use Rattle.std.specs.Prelude.{◌≡◌, ℕ, zero, suc, ◌+◌, ◌-◌, ◌*◌, ◌/◌, ◌%◌, ◌==◌, ◌||◌, min, ⊤}
+use Rattle.std.specs.Prelude.{List, [], ◌∷◌, Option, Some, None, Result, Ok, Err, if◌then◌else◌}
 use Rattle.pm_words.specs.Words.{word_at, words_at}
 use Rattle.pm_words.specs.Stack.{◌>>=◌, is_even, load}
 use Rattle.pm_calls.specs.Links.{link}
 use Rattle.pm_machine.specs.State.{State}
 use Rattle.pm_words.specs.declared.error.ExecError.{ExecError}
-use Rattle.pm_debug.specs.declared.refusal.Refusal.{Refusal}
-use Rattle.pm_debug.specs.declared.refusal.Refusal.TheVariants.{Full, NoBreak, OddAddress, NoMemory, TooDeep}
+use Rattle.pm_debug.specs.declared.refusal.DebugRefusal.{DebugRefusal}
+use Rattle.pm_debug.specs.declared.refusal.DebugRefusal.TheVariants.{Full, NoBreak, OddAddress, NoMemory, TooDeep}
 use Rattle.pm_words.specs.declared.layout.TheConstants.{STACK_END, SYSTEM_FRAME}
 
 -- the words on the stack from SP up, below 65,504, at most n of them
@@ -39,7 +40,7 @@ unfoldable pub local : State → ℕ → ℕ → Result ℕ ExecError
 local s depth b = link s.memory s.registers.mp depth >>= λ f. load s.memory ((f + 10 + 2 * b) % 65536)
 
 -- a chain was shown, or refused: by an odd address on the way, or for want of memory
-abbrev pub ShowsChain : {Z : Type 0} → (Z → List ℕ) → Result Z Refusal → Option (List ℕ) → Type 0
+abbrev pub ShowsChain : {Z : Type 0} → (Z → List ℕ) → Result Z DebugRefusal → Option (List ℕ) → Type 0
 ShowsChain view (Ok frames) chain = chain ≡ Some (view frames)
 ShowsChain view (Err OddAddress) chain = chain ≡ None
 ShowsChain view (Err NoMemory) chain = ⊤

@@ -1,9 +1,9 @@
 //! Breakpoints.
 
 ghost use Rattle.std.specs.Prelude.{◌≡◌, Ok, IfErr, OnOk, OnErr, Err};
-ghost use Rattle.pm_debug.specs.Breaks.{is_at_break, is_same, is_set, standing, with_break, without_break};
+ghost use Rattle.pm_debug.specs.Breaks.{is_at_break, is_same, is_set, place_in_code, with_break, without_break};
 
-use crate::refusal::Refusal;
+use crate::refusal::DebugRefusal;
 use arrayvec::ArrayVec;
 use pm_machine::Machine;
 
@@ -40,7 +40,7 @@ fn is_set(breaks: &[Breakpoint], wanted: Breakpoint) -> bool
 
 /// Sets a breakpoint. One that is set already stays; a new one beside 64 is refused.
 #[tactic(auto, unfolding(crate::specs::Breaks::with_break))]
-pub(crate) fn set(breaks: &mut Breaks, new: Breakpoint) -> Result<(), Refusal>
+pub(crate) fn set(breaks: &mut Breaks, new: Breakpoint) -> Result<(), DebugRefusal>
     ensures set { OnOk result (with_break new breaks.old.items ≡ Ok breaks.new.items) }
     ensures refused { IfErr result (λ refusal. with_break new breaks.old.items ≡ Err refusal) }
     ensures kept { OnErr result (breaks.new ≡ breaks.old) }
@@ -49,7 +49,7 @@ pub(crate) fn set(breaks: &mut Breaks, new: Breakpoint) -> Result<(), Refusal>
         return Ok(());
     }
     if breaks.is_full() {
-        return Err(Refusal::Full);
+        return Err(DebugRefusal::Full);
     }
     breaks.push(new);
     Ok(())
@@ -57,22 +57,22 @@ pub(crate) fn set(breaks: &mut Breaks, new: Breakpoint) -> Result<(), Refusal>
 
 /// Takes a breakpoint away.
 #[tactic(auto, unfolding(crate::specs::Breaks::without_break))]
-pub(crate) fn clear(breaks: &mut Breaks, old: Breakpoint) -> Result<(), Refusal>
+pub(crate) fn clear(breaks: &mut Breaks, old: Breakpoint) -> Result<(), DebugRefusal>
     ensures cleared { OnOk result (without_break old breaks.old.items ≡ Ok breaks.new.items) }
     ensures refused { IfErr result (λ refusal. without_break old breaks.old.items ≡ Err refusal) }
     ensures kept { OnErr result (breaks.new ≡ breaks.old) }
 {
     if !is_set(breaks, old) {
-        return Err(Refusal::NoBreak);
+        return Err(DebugRefusal::NoBreak);
     }
     breaks.retain(|known| !is_same(old, *known));
     Ok(())
 }
 
 /// Where a machine stands in the code; nowhere where SEG or JTAB is odd.
-#[tactic(auto, unfolding(crate::specs::Breaks::standing))]
+#[tactic(auto, unfolding(crate::specs::Breaks::place_in_code))]
 fn standing(machine: &Machine) -> Option<Breakpoint>
-    ensures place { result ≡ standing machine.now.state }
+    ensures place { result ≡ place_in_code machine.now.state }
 {
     let registers = machine.registers();
     let memory = machine.memory();

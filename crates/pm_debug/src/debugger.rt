@@ -10,8 +10,8 @@ ghost use Rattle.pm_debug.specs.Trace.{trace_line};
 ghost use Rattle.pm_debug.specs.Views.{ShowsChain, dynamic_chain, local, stack_words, static_chain};
 
 use crate::breaks::{Breakpoint, Breaks};
-use crate::reason::Reason;
-use crate::refusal::{Refusal, refusal_of};
+use crate::reason::BreakReason;
+use crate::refusal::{DebugRefusal, refusal_of};
 use crate::run::run;
 use crate::views::{DYNAMIC_LINK, STATIC_LINK, chain, words_at};
 use crate::{breaks, text};
@@ -69,10 +69,12 @@ impl Debugger {
     /// Sets a breakpoint: the number of a segment, the number of a procedure, and the distance in
     /// bytes from where the procedure is entered. One that is set already stays, also beside 64
     /// breakpoints; `Full` for a new one beside 64.
-    pub fn set_break(&mut self, segment: u8, procedure: u8, offset: u16) -> Result<(), Refusal>
+    pub fn set_break(&mut self, segment: u8, procedure: u8, offset: u16) -> Result<(), DebugRefusal>
         ensures machine { self.new.machine ≡ self.old.machine }
-        ensures set { OnOk result (with_break (break_at segment procedure offset) self.old.breaks ≡ Ok self.new.breaks) }
-        ensures refused { IfErr result (λ refusal. with_break (break_at segment procedure offset) self.old.breaks ≡ Err refusal) }
+        ensures set { OnOk result (with_break (break_at segment procedure offset) self.old.breaks
+            ≡ Ok self.new.breaks) }
+        ensures refused { IfErr result (λ refusal. with_break (break_at segment procedure offset) self.old.breaks
+            ≡ Err refusal) }
         ensures kept { OnErr result (self.new ≡ self.old) }
     {
         let place = Breakpoint {
@@ -84,10 +86,17 @@ impl Debugger {
     }
 
     /// Takes a breakpoint away; `NoBreak` where it is not set.
-    pub fn clear_break(&mut self, segment: u8, procedure: u8, offset: u16) -> Result<(), Refusal>
+    pub fn clear_break(
+        &mut self,
+        segment: u8,
+        procedure: u8,
+        offset: u16,
+    ) -> Result<(), DebugRefusal>
         ensures machine { self.new.machine ≡ self.old.machine }
-        ensures cleared { OnOk result (without_break (break_at segment procedure offset) self.old.breaks ≡ Ok self.new.breaks) }
-        ensures refused { IfErr result (λ refusal. without_break (break_at segment procedure offset) self.old.breaks ≡ Err refusal) }
+        ensures cleared { OnOk result (without_break (break_at segment procedure offset) self.old.breaks
+            ≡ Ok self.new.breaks) }
+        ensures refused { IfErr result (λ refusal. without_break (break_at segment procedure offset) self.old.breaks
+            ≡ Err refusal) }
         ensures kept { OnErr result (self.new ≡ self.old) }
     {
         let place = Breakpoint {
@@ -102,9 +111,10 @@ impl Debugger {
     /// step, where the program ends, and where a step waits or fails: how many steps went or ended
     /// the program, and why no more. A breakpoint that matches at the limit is not told. After want
     /// of memory the machine stands after the steps that went.
-    pub fn go(&mut self, limit: u64) -> Result<(u64, Reason), AllocError>
+    pub fn go(&mut self, limit: u64) -> Result<(u64, BreakReason), AllocError>
         ensures breaks { self.new.breaks ≡ self.old.breaks }
-        ensures gone { IfOk result (λ r. gone self.old.breaks limit self.old.machine.state ≡ record { steps = r.0; reason = r.1; machine = self.new.machine.state }) }
+        ensures gone { IfOk result (λ r. gone self.old.breaks limit self.old.machine.state
+            ≡ record { steps = r.0; reason = r.1; machine = self.new.machine.state }) }
         ensures err { OnErr result (GaveUpUnbroken self.old.breaks limit self.old.machine self.new.machine) }
     {
         let gone = run(&mut self.machine, &self.breaks, limit)?;
@@ -126,7 +136,7 @@ impl Debugger {
     /// The frames from MP on by their static links, at most `limit`; the frame of the system, 65,492,
     /// is the last where it comes. `OddAddress` where the link of a frame at an odd address is asked
     /// for. A chain of none wants no memory.
-    pub fn static_chain(&self, alloc: Global, limit: u16) -> Result<Vec<u16>, Refusal>
+    pub fn static_chain(&self, alloc: Global, limit: u16) -> Result<Vec<u16>, DebugRefusal>
         ensures frames { ShowsChain (λ frames. frames.items) result (static_chain self.now.machine.state limit) }
         ensures wanted { OnErr result (0 < limit) }
     {
@@ -135,7 +145,7 @@ impl Debugger {
     }
 
     /// The frames from MP on by their dynamic links, as the static chain.
-    pub fn dynamic_chain(&self, alloc: Global, limit: u16) -> Result<Vec<u16>, Refusal>
+    pub fn dynamic_chain(&self, alloc: Global, limit: u16) -> Result<Vec<u16>, DebugRefusal>
         ensures frames { ShowsChain (λ frames. frames.items) result (dynamic_chain self.now.machine.state limit) }
         ensures wanted { OnErr result (0 < limit) }
     {
@@ -147,7 +157,7 @@ impl Debugger {
     /// a depth above 127, before anything is read; `OddAddress` where a link or the variable stands
     /// at an odd address. Nothing changes.
     #[tactic(auto, unfolding(crate::specs::Views::local))]
-    pub fn local(&mut self, depth: u16, b: u16) -> Result<u16, Refusal>
+    pub fn local(&mut self, depth: u16, b: u16) -> Result<u16, DebugRefusal>
         ensures word { result ≡ or_refused (local self.old.machine.state depth b) }
         ensures same { self.new ≡ self.old }
     {
@@ -158,7 +168,7 @@ impl Debugger {
         let address = frame.wrapping_add(10).wrapping_add(b.wrapping_mul(2));
         match self.machine.memory().word(address) {
             Some(word) => Ok(word),
-            None => Err(Refusal::OddAddress),
+            None => Err(DebugRefusal::OddAddress),
         }
     }
 

@@ -13,8 +13,8 @@ mod views;
 
 pub use breaks::Breakpoint;
 pub use debugger::Debugger;
-pub use reason::Reason;
-pub use refusal::Refusal;
+pub use reason::BreakReason;
+pub use refusal::DebugRefusal;
 pub use state_line::TraceLine;
 pub use text::trace_line;
 

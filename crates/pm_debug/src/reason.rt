@@ -4,7 +4,7 @@ use pm_words::ExecError;
 
 /// Why a run to a breakpoint ends.
 #[derive(Clone, Copy, Debug, PartialEq, Eq)]
-pub enum Reason {
+pub enum BreakReason {
     /// A breakpoint matches: the machine stands before the instruction there.
     Break,
     /// The limit of the steps is reached.

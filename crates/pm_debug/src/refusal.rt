@@ -9,7 +9,7 @@ use thiserror::Error;
 
 /// Why the debugger refuses a call. Nothing has changed then.
 #[derive(Clone, Copy, Debug, Drop, Error, PartialEq, Eq)]
-pub enum Refusal {
+pub enum DebugRefusal {
     /// 1: there are 64 breakpoints already.
     #[error("too many breakpoints")]
     Full,
@@ -27,47 +27,47 @@ pub enum Refusal {
     TooDeep,
 }
 
-impl Refusal {
+impl DebugRefusal {
     /// The refusal's number, as the program prints it.
     pub fn number(self) -> u8
         ensures value { result ≡ number_of self }
     {
         match self {
-            Refusal::Full => 1,
-            Refusal::NoBreak => 2,
-            Refusal::OddAddress => 3,
-            Refusal::NoMemory => 4,
-            Refusal::TooDeep => 5,
+            DebugRefusal::Full => 1,
+            DebugRefusal::NoBreak => 2,
+            DebugRefusal::OddAddress => 3,
+            DebugRefusal::NoMemory => 4,
+            DebugRefusal::TooDeep => 5,
         }
     }
 }
 
-impl From<AllocError> for Refusal {
-    ghost use Rattle.pm_debug.specs.declared.refusal.Refusal.TheVariants.{NoMemory};
+impl From<AllocError> for DebugRefusal {
+    ghost use Rattle.pm_debug.specs.declared.refusal.DebugRefusal.TheVariants.{NoMemory};
 
     ghost from_gives = { λ _ refusal. refusal ≡ NoMemory };
 
-    fn from(_: AllocError) -> Refusal {
-        Refusal::NoMemory
+    fn from(_: AllocError) -> DebugRefusal {
+        DebugRefusal::NoMemory
     }
 }
 
-impl<T: Drop> From<AllocFailed<T>> for Refusal {
-    ghost use Rattle.pm_debug.specs.declared.refusal.Refusal.TheVariants.{NoMemory};
+impl<T: Drop> From<AllocFailed<T>> for DebugRefusal {
+    ghost use Rattle.pm_debug.specs.declared.refusal.DebugRefusal.TheVariants.{NoMemory};
 
     ghost from_gives = { λ _ refusal. refusal ≡ NoMemory };
 
-    fn from(_: AllocFailed<T>) -> Refusal {
-        Refusal::NoMemory
+    fn from(_: AllocFailed<T>) -> DebugRefusal {
+        DebugRefusal::NoMemory
     }
 }
 
 /// The refusal of a read that fails.
-pub(crate) fn refusal_of(error: ExecError) -> Refusal
+pub(crate) fn refusal_of(error: ExecError) -> DebugRefusal
     ensures refusal { result ≡ refusal_of error }
 {
     match error {
-        ExecError::NoSegment => Refusal::TooDeep,
-        _ => Refusal::OddAddress,
+        ExecError::NoSegment => DebugRefusal::TooDeep,
+        _ => DebugRefusal::OddAddress,
     }
 }

@@ -4,7 +4,7 @@ ghost use Rattle.std.specs.Prelude.{◌≡◌, IfOk, OnErr};
 ghost use Rattle.pm_debug.specs.Runs.{GaveUpUnbroken, UnbrokenSteps, breaks_after, gone, has_ended};
 
 use crate::breaks::{Breakpoint, is_at_break};
-use crate::reason::Reason;
+use crate::reason::BreakReason;
 use pm_machine::{Machine, Status, Stop};
 use std::alloc::AllocError;
 
@@ -37,27 +37,28 @@ pub(crate) fn run(
     machine: &mut Machine,
     breaks: &[Breakpoint],
     limit: u64,
-) -> Result<(u64, Reason), AllocError>
-    ensures gone { IfOk result (λ r. gone breaks.now limit machine.old.state ≡ record { steps = r.0; reason = r.1; machine = machine.new.state }) }
+) -> Result<(u64, BreakReason), AllocError>
+    ensures gone { IfOk result (λ r. gone breaks.now limit machine.old.state
+        ≡ record { steps = r.0; reason = r.1; machine = machine.new.state }) }
     ensures err { OnErr result (GaveUpUnbroken breaks.now limit machine.old machine.new) }
 {
     if has_ended(machine.status()) {
-        return Ok((0, Reason::Ended));
+        return Ok((0, BreakReason::Ended));
     }
     let mut count = 0;
     'steps: while count < limit {
         if breaks_after(machine, breaks, count) {
-            return Ok((count, Reason::Break));
+            return Ok((count, BreakReason::Break));
         }
         match machine.step()? {
             Stop::Went => {
                 count += 1;
                 count += unbroken_steps(machine, breaks, limit - count);
             }
-            Stop::Ended => return Ok((count + 1, Reason::Ended)),
-            Stop::Waiting => return Ok((count, Reason::Waiting)),
-            Stop::Halted(error) => return Ok((count, Reason::Halted(error))),
+            Stop::Ended => return Ok((count + 1, BreakReason::Ended)),
+            Stop::Waiting => return Ok((count, BreakReason::Waiting)),
+            Stop::Halted(error) => return Ok((count, BreakReason::Halted(error))),
         }
     }
-    Ok((limit, Reason::Limit))
+    Ok((limit, BreakReason::Limit))
 }

@@ -6,7 +6,7 @@ ghost use Rattle.pm_words.specs.Stack.{is_even};
 ghost use Rattle.pm_debug.specs.Views.{ShowsChain, chain};
 ghost use Rattle.pm_words.specs.declared.layout.TheConstants.{SYSTEM_FRAME};
 
-use crate::refusal::Refusal;
+use crate::refusal::DebugRefusal;
 use pm_words::Memory;
 use pm_words::layout::SYSTEM_FRAME;
 use std::alloc::{AllocError, Global};
@@ -46,7 +46,8 @@ fn is_last(frame: u16, more: u16) -> bool
 // The frame that a word of another frame leads to; none where that frame is at an odd address.
 fn next_frame(memory: &Memory, frame: u16, distance: u16) -> Option<u16>
     requires even { distance % 2 ≡ 0 }
-    ensures next { result ≡ (if is_even frame then Some (word_at memory.now.words ((frame + distance) % 65536)) else None) }
+    ensures next { result ≡ (if is_even frame then Some
+        (word_at memory.now.words ((frame + distance) % 65536)) else None) }
 {
     if frame % 2 != 0 {
         return None;
@@ -62,7 +63,7 @@ pub(crate) fn chain(
     distance: u16,
     limit: u16,
     first: u16,
-) -> Result<Vec<u16>, Refusal>
+) -> Result<Vec<u16>, DebugRefusal>
     requires even { distance % 2 ≡ 0 }
     ensures frames { ShowsChain (λ frames. frames.items) result (chain memory.now.words distance limit first) }
     ensures wanted { OnErr result (0 < limit) }
@@ -75,7 +76,7 @@ pub(crate) fn chain(
             return Ok(frames);
         }
         let Some(next) = next_frame(memory, frame, distance) else {
-            return Err(Refusal::OddAddress);
+            return Err(DebugRefusal::OddAddress);
         };
         frame = next;
     }

@@ -1,5 +1,6 @@
 -- The instructions of a procedure are the parts of its code, whatever follows.
-use Rattle.std.proofs.Common.{◌≡◌, ◌<◌, ◌≤◌, ℕ, ◌+◌, ◌-◌, ◌⊎◌, Bool, true, false, ltb, eqb, List, [], ◌∷◌, ◌++◌, length, take, refl, sym, ap, ◌∙◌, arith, inl, inr, append_assoc, Option, Some}
+use Rattle.std.proofs.Common.{◌≡◌, ◌<◌, ◌≤◌, ℕ, ◌+◌, ◌-◌, ◌⊎◌, Bool, true, false, ltb, eqb, List, [], ◌∷◌, ◌++◌}
+use Rattle.std.proofs.Common.{length, take, refl, sym, ap, ◌∙◌, arith, inl, inr, append_assoc, Option, Some}
 use Rattle.std.specs.Prelude.{◌&&◌, nat_lt}
 use Rattle.std.specs.List.{list_any, AllByRecursion}
 use Rattle.std.proofs.Math.Seq.{take-append_seam}
@@ -20,14 +21,16 @@ parts_of_items at (item ∷ items) = record { at = at; bytes = item_bytes at ite
 -- no forced place lies strictly inside an item
 abbrev pub AreWhole : List ℕ → ℕ → List (Item ℕ) → Type 0
 AreWhole forced at [] = Unit {0}
-AreWhole forced at (item ∷ items) = (list_any (λ place. nat_lt at place && nat_lt place (at + size at item)) forced ≡ false) × AreWhole forced (at + size at item) items
+AreWhole forced at (item ∷ items) =
+    (list_any (λ place. nat_lt at place && nat_lt place (at + size at item)) forced ≡ false) × AreWhole forced (at + size at item) items
 
 passed : (forced : List ℕ) (at : ℕ) (xs ys : List ℕ) (next : ℕ) → next ≡ at + length xs → parts forced (length xs) at (xs ++ ys) ≡ parts forced 0 next ys
 passed forced at [] ys next e = ap (λ n. parts forced 0 n ys) (omega arith)
 passed forced at (x ∷ xs) ys next e = passed forced (at + 1) xs ys next (omega arith)
 
 -- an instruction that is taken is one part
-one_part : (forced : List ℕ) (at : ℕ) (xs ys : List ℕ) (n : ℕ) (item : Option (Item ℕ)) → length xs ≡ n → 0 < n → taken forced at (xs ++ ys) ≡ Some (record { size = n; item = item })
+one_part : (forced : List ℕ) (at : ℕ) (xs ys : List ℕ) (n : ℕ) (item : Option (Item ℕ)) → length xs ≡ n → 0 < n
+    → taken forced at (xs ++ ys) ≡ Some (record { size = n; item = item })
     → parts forced 0 at (xs ++ ys) ≡ record { at = at; bytes = xs; item = item } ∷ parts forced 0 (at + n) ys
 one_part forced at [] ys n item e some t = absurd (omega arith)
 one_part forced at (x ∷ xs) ys n item e some t =
@@ -35,9 +38,11 @@ one_part forced at (x ∷ xs) ys n item e some t =
     let less : n - 1 ≡ length xs = omega arith in
     ap (λ o. part_of at (x ∷ (xs ++ ys)) o ∷ parts forced (bytes_after_first o) (at + 1) (xs ++ ys)) t
     ∙ ap (λ zs. record { at = at; bytes = zs; item = item } ∷ parts forced (n - 1) (at + 1) (xs ++ ys)) whole
-    ∙ ap (λ ps. record { at = at; bytes = x ∷ xs; item = item } ∷ ps) (ap (λ k. parts forced k (at + 1) (xs ++ ys)) less ∙ passed forced (at + 1) xs ys (at + n) (omega arith))
+    ∙ ap (λ ps. record { at = at; bytes = x ∷ xs; item = item } ∷ ps)
+    (ap (λ k. parts forced k (at + 1) (xs ++ ys)) less ∙ passed forced (at + 1) xs ys (at + n) (omega arith))
 
-uncut_is : (forced : List ℕ) (at : ℕ) (n : ℕ) (item : Option (Item ℕ)) → (list_any (λ place. nat_lt at place && nat_lt place (at + n)) forced ≡ false) → uncut forced at (Some (record { size = n; item = item })) ≡ Some (record { size = n; item = item })
+uncut_is : (forced : List ℕ) (at : ℕ) (n : ℕ) (item : Option (Item ℕ)) → (list_any (λ place. nat_lt at place && nat_lt place (at + n)) forced ≡ false)
+    → uncut forced at (Some (record { size = n; item = item })) ≡ Some (record { size = n; item = item })
 uncut_is forced at n item e = rw e refl
 
 -- The code of items is split into them, and goes on with what follows.
@@ -46,7 +51,8 @@ pub split_again : (forced : List ℕ) (at : ℕ) (items : List (Item ℕ)) (rest
 split_again forced at [] rest h i w = refl
 split_again forced at (item ∷ items) rest h i w =
     let more : List ℕ = code_bytes (at + size at item) items ++ rest in
-    let here : parts forced 0 at (item_bytes at item ++ more) ≡ record { at = at; bytes = item_bytes at item; item = Some item } ∷ parts forced 0 (at + size at item) more =
+    let here : parts forced 0 at (item_bytes at item ++ more) ≡ record { at = at; bytes = item_bytes at item; item = Some item }
+    ∷ parts forced 0 (at + size at item) more =
     one_part forced at (item_bytes at item) more (size at item) (Some item) (length-item at item) (size-some at item)
     (ap (uncut forced at) (instruction_is_read at item more h.0 i.0) ∙ uncut_is forced at (size at item) (Some item) w.0) in
     ap (parts forced 0 at) (append_assoc (item_bytes at item) (code_bytes (at + size at item) items) rest)
@@ -74,7 +80,8 @@ earlier at (item ∷ items) place h = elim (either (eqb at place) (is_among (bou
 abbrev Clear : ℕ → List (Item ℕ) → ℕ → Type 0
 Clear at items place = (place ≤ at) ⊎ IsIn (boundaries at items) place
 
-clear_of_first : (at : ℕ) (item : Item ℕ) (items : List (Item ℕ)) (place : ℕ) → Clear at (item ∷ items) place → (nat_lt at place && nat_lt place (at + size at item)) ≡ false
+clear_of_first : (at : ℕ) (item : Item ℕ) (items : List (Item ℕ)) (place : ℕ) → Clear at (item ∷ items) place
+    → (nat_lt at place && nat_lt place (at + size at item)) ≡ false
 clear_of_first at item items place (inl h) = grind (arith, nat_tests)
 clear_of_first at item items place (inr h) = elim (either (eqb at place) (is_among (boundaries (at + size at item) items) place) h) [
   | inl e ↦ (let f : at ≡ place = eqb-true _ _ e in let g : place ≤ at = omega arith in low g)
@@ -98,11 +105,13 @@ clear_of_rest at item items place (inr h) = elim (either (eqb at place) (is_amon
   | inr e ↦ inr e
 ]
 
-none_inside : (at : ℕ) (item : Item ℕ) (items : List (Item ℕ)) (forced : List ℕ) → AllByRecursion (Clear at (item ∷ items)) forced → list_any (λ place. nat_lt at place && nat_lt place (at + size at item)) forced ≡ false
+none_inside : (at : ℕ) (item : Item ℕ) (items : List (Item ℕ)) (forced : List ℕ) → AllByRecursion (Clear at (item ∷ items)) forced
+    → list_any (λ place. nat_lt at place && nat_lt place (at + size at item)) forced ≡ false
 none_inside at item items [] h = refl
 none_inside at item items (f ∷ forced) h = let e = clear_of_first at item items f h.0 in rw e (none_inside at item items forced h.1)
 
-rest_clear : (at : ℕ) (item : Item ℕ) (items : List (Item ℕ)) (forced : List ℕ) → AllByRecursion (Clear at (item ∷ items)) forced → AllByRecursion (Clear (at + size at item) items) forced
+rest_clear : (at : ℕ) (item : Item ℕ) (items : List (Item ℕ)) (forced : List ℕ) → AllByRecursion (Clear at (item ∷ items)) forced
+    → AllByRecursion (Clear (at + size at item) items) forced
 rest_clear at item items [] h = tt
 rest_clear at item items (f ∷ forced) h = (clear_of_rest at item items f h.0, rest_clear at item items forced h.1)
 

@@ -1,5 +1,6 @@
 -- What is read at a place of code.
-use Rattle.std.proofs.Common.{◌≡◌, ◌<◌, ◌≤◌, ℕ, ◌+◌, ◌-◌, Bool, true, false, cond, List, ◌++◌, length, take, drop, replicate, Ok, Err, Some, None, refl, sym, ap, ◌∙◌, arith, inl, inr, length-append, length-drop, drop-drop}
+use Rattle.std.proofs.Common.{◌≡◌, ◌<◌, ◌≤◌, ℕ, ◌+◌, ◌-◌, Bool, true, false, cond, List, ◌++◌, length, take, drop, replicate}
+use Rattle.std.proofs.Common.{Ok, Err, Some, None, refl, sym, ap, ◌∙◌, arith, inl, inr, length-append, length-drop, drop-drop}
 use Rattle.std.proofs.Math.Seq.{drop-append_seam}
 use Rattle.std.proofs.lemmas.List.{length-replicate}
 use Rattle.std.proofs.lemmas.Bool.{cases_Bool, true≢false}
@@ -9,7 +10,7 @@ use Rattle.pm_opcode.specs.declared.instr.Instr.{Instr}
 use Rattle.pm_opcode.specs.declared.instr.Decode.{Decode}
 use Rattle.pm_opcode.specs.Table.{form_of}
 use Rattle.pm_opcode.specs.Spelling.{is_odd, is_sized, names_bytes, named_by, spelling}
-use Rattle.pm_opcode.specs.Standing.{Stands, clear}
+use Rattle.pm_opcode.specs.Standing.{IsSpelledAt, clear}
 use Rattle.pm_opcode.specs.Reading.{reading}
 use Rattle.pm_opcode.proofs.ReadAgain.{length-named, length-named_by, length-operands}
 use Rattle.pm_disasm.specs.Split.{front, has_zero_padding, item_of, standing_at}
@@ -46,7 +47,7 @@ pub record Bounds (bytes : List ℕ) (at : ℕ) (i : Instr) : Type 0 where
   pub count : i.count ≤ i.len
   pub start : names_bytes (form_of i.op) ≡ true → at ≤ i.start
 
-pub bounds : (bytes : List ℕ) (at : ℕ) (i : Instr) → Stands bytes at i → Bounds bytes at i
+pub bounds : (bytes : List ℕ) (at : ℕ) (i : Instr) → IsSpelledAt bytes at i → Bounds bytes at i
 bounds bytes at i s =
     let form : Form = form_of i.op in
     let odd : Bool = is_odd at in
@@ -55,7 +56,8 @@ bounds bytes at i s =
     let count : i.count ≡ (clear form i).count = ap (λ (j : Instr). j.count) s.placed in
     let start : i.start ≡ cond (names_bytes form) (at + length (spelling odd 0 i named) - (clear form i).count) 0 = ap (λ (j : Instr). j.start) s.placed in
     let size = length-operands form odd s.spelled.0 i named in
-    let long : length (drop at bytes) ≡ length (spelling odd s.spelled.0 i named) + length s.spelled.1 = ap length s.spelled.2 ∙ length-append (spelling odd s.spelled.0 i named) s.spelled.1 in
+    let long : length (drop at bytes) ≡ length (spelling odd s.spelled.0 i named) + length s.spelled.1 =
+    ap length s.spelled.2 ∙ length-append (spelling odd s.spelled.0 i named) s.spelled.1 in
     let small : i.count ≤ i.len = elim (cases_Bool (names_bytes form)) [
       | inl n ↦ omega (arith, length-named form odd 0 i named n, length-named_by i bytes s.ranges n, len)
       | inr n ↦ omega (arith, clear_count form i n, count)
@@ -64,7 +66,8 @@ bounds bytes at i s =
       some = omega (arith, len);
       within = omega (arith, len, size, long, length-drop at bytes);
       count = small;
-      start = λ n. let e : i.start ≡ at + length (spelling odd 0 i named) - (clear form i).count = start ∙ ap (λ b. cond b (at + length (spelling odd 0 i named) - (clear form i).count) 0) n in omega (arith, e, small, len, count);
+      start = λ n. let e : i.start ≡ at + length (spelling odd 0 i named) - (clear form i).count = start
+          ∙ ap (λ b. cond b (at + length (spelling odd 0 i named) - (clear form i).count) 0) n in omega (arith, e, small, len, count);
     }
 
 same_named : (a b : List ℕ) (at start count : ℕ) → drop at a ≡ drop at b → at ≤ start → take count (drop start a) ≡ take count (drop start b)
@@ -80,15 +83,18 @@ named_again bytes at i b = elim (cases_Bool (names_bytes (form_of i.op))) [
 ]
 
 -- what stands at the front, where an instruction was read
-pub front_read : (bytes : List ℕ) (at : ℕ) (i : Instr) → reading bytes at ≡ Ok i → Stands bytes at i → front at (drop at bytes)
-    ≡ cond (has_zero_padding (form_of i.op) (is_odd at) (drop at bytes)) (Some (record { size = i.len; item = item_of (form_of i.op) i (named_by i bytes) (at + i.len) })) None
+pub front_read : (bytes : List ℕ) (at : ℕ) (i : Instr) → reading bytes at ≡ Ok i → IsSpelledAt bytes at i → front at (drop at bytes)
+    ≡ cond (has_zero_padding (form_of i.op) (is_odd at) (drop at bytes))
+    (Some (record { size = i.len; item = item_of (form_of i.op) i (named_by i bytes) (at + i.len) })) None
 unfolding front
 front_read bytes at i e s =
-    let again : reading (standing_at at (drop at bytes)) at ≡ Ok i = same_reading (standing_at at (drop at bytes)) bytes at (drop_standing at (drop at bytes)) ∙ e in
+    let again : reading (standing_at at (drop at bytes)) at ≡ Ok i =
+    same_reading (standing_at at (drop at bytes)) bytes at (drop_standing at (drop at bytes)) ∙ e in
     rw (again, named_again bytes at i (bounds bytes at i s)) refl
 
 pub front_none : (bytes : List ℕ) (at : ℕ) (fault : Decode) → reading bytes at ≡ Err fault → front at (drop at bytes) ≡ None
 unfolding front
 front_none bytes at fault e =
-    let again : reading (standing_at at (drop at bytes)) at ≡ Err fault = same_reading (standing_at at (drop at bytes)) bytes at (drop_standing at (drop at bytes)) ∙ e in
+    let again : reading (standing_at at (drop at bytes)) at ≡ Err fault =
+    same_reading (standing_at at (drop at bytes)) bytes at (drop_standing at (drop at bytes)) ∙ e in
     rw again refl

@@ -1,5 +1,6 @@
 -- What is read at the front of bytes is an item of those bytes.
-use Rattle.std.proofs.Common.{◌≡◌, ◌<◌, ◌≤◌, ℕ, zero, suc, ◌+◌, ◌-◌, ◌*◌, ◌/◌, ◌%◌, Bool, true, false, cond, ltb, eqb, List, [], ◌∷◌, ◌++◌, length, take, drop, refl, sym, ap, ◌∙◌, subst, arith, inl, inr, append_assoc, length-append, IfSome, IfOk, Option, Some, None, Result, Ok, Err}
+use Rattle.std.proofs.Common.{◌≡◌, ◌<◌, ◌≤◌, ℕ, zero, suc, ◌+◌, ◌-◌, ◌*◌, ◌/◌, ◌%◌, Bool, true, false, cond, ltb, eqb, List, [], ◌∷◌, ◌++◌, length, take}
+use Rattle.std.proofs.Common.{drop, refl, sym, ap, ◌∙◌, subst, arith, inl, inr, append_assoc, length-append, IfSome, IfOk, Option, Some, None, Result, Ok, Err}
 use Rattle.std.specs.Prelude.{◌&&◌, nat_le, ◌==◌}
 use Rattle.std.specs.List.{AllByRecursion}
 use Rattle.std.proofs.Math.Seq.{take-append_seam}
@@ -10,8 +11,9 @@ use Rattle.pm_opcode.specs.declared.operand_form.Form.TheVariants as forms
 use Rattle.pm_opcode.specs.declared.instr.Instr.{Instr}
 use Rattle.pm_opcode.specs.declared.instr.Decode.{Decode}
 use Rattle.pm_opcode.specs.Table.{groups, form_of}
-use Rattle.pm_opcode.specs.Spelling.{spelling, operands, word, padding, flip, is_odd, is_sized, in_range, lies_within, jump_count, names_bytes, named_by}
-use Rattle.pm_opcode.specs.Standing.{clear, Stands}
+use Rattle.pm_opcode.specs.Spelling.{spelling, spelled_operands, spelled_word, pad_byte, flip, is_odd}
+use Rattle.pm_opcode.specs.Spelling.{is_sized, in_range, lies_within, jump_count, names_bytes, named_by}
+use Rattle.pm_opcode.specs.Standing.{clear, IsSpelledAt}
 use Rattle.pm_opcode.specs.Reading.{reading}
 use Rattle.pm_opcode.proofs.Takes.{IsBytes}
 use Rattle.pm_opcode.proofs.ReadTakes.{reading_takes}
@@ -60,15 +62,17 @@ pub record Fronts (at : ℕ) (bytes : List ℕ) (f : Front) : Type 0 where
   pub item : IfSome f.item (Spells at bytes f.size)
 
 -- a padding byte that is zero
-zero_padding : (form : Form) (odd : Bool) (op pad : ℕ) (i : Instr) (named rest : List ℕ) → has_zero_padding form odd (op ∷ (operands form odd pad i named ++ rest)) ≡ true → operands form odd pad i named ≡ operands form odd 0 i named
-zero_padding forms.Words true op pad i named rest h = ap (λ n. operands forms.Words true n i named) (eqb-true _ _ h)
+zero_padding : (form : Form) (odd : Bool) (op pad : ℕ) (i : Instr) (named rest : List ℕ)
+    → has_zero_padding form odd (op ∷ (spelled_operands form odd pad i named ++ rest)) ≡ true
+    → spelled_operands form odd pad i named ≡ spelled_operands form odd 0 i named
+zero_padding forms.Words true op pad i named rest h = ap (λ n. spelled_operands forms.Words true n i named) (eqb-true _ _ h)
 zero_padding forms.Words false op pad i named rest h = refl
 zero_padding forms.Jumps true op pad i named rest h = refl
-zero_padding forms.Jumps false op pad i named rest h = ap (λ n. operands forms.Jumps false n i named) (eqb-true _ _ h)
+zero_padding forms.Jumps false op pad i named rest h = ap (λ n. spelled_operands forms.Jumps false n i named) (eqb-true _ _ h)
 zero_padding _ odd op pad i named rest h = refl
 
 -- where an instruction stands does not matter for its bytes, its ranges and its fields
-alike : (form : Form) (odd : Bool) (i : Instr) (named : List ℕ) → operands form odd 0 (by_operands i) named ≡ operands form odd 0 i named
+alike : (form : Form) (odd : Bool) (i : Instr) (named : List ℕ) → spelled_operands form odd 0 (by_operands i) named ≡ spelled_operands form odd 0 i named
 alike forms.Plain odd i named = refl
 alike _ odd i named = refl
 
@@ -81,7 +85,8 @@ clear_alike forms.Typed i = elim (cases_Bool (is_sized i.a)) [ inl s ↦ rw s re
 clear_alike _ i = refl
 
 -- an operand that is read from bytes is a word
-small_word : (form : Form) (odd : Bool) (i : Instr) (named rest : List ℕ) → names_place form ≡ false → AllByRecursion IsByte (operands form odd 0 i named ++ rest) → in_range form i ≡ true → clear form (by_operands i) ≡ by_operands i → i.a < 65536
+small_word : (form : Form) (odd : Bool) (i : Instr) (named rest : List ℕ) → names_place form ≡ false
+    → AllByRecursion IsByte (spelled_operands form odd 0 i named ++ rest) → in_range form i ≡ true → clear form (by_operands i) ≡ by_operands i → i.a < 65536
 small_word forms.Plain odd i named rest n h r e = omega (arith, ap (λ (j : Instr). j.a) e)
 small_word forms.B odd i named rest n h r e = omega (arith, ltb-true _ _ r)
 small_word forms.W odd i named rest n h r e = omega (arith, h.1.0)
@@ -107,9 +112,11 @@ known_text at bytes i named k =
     let text : List ℕ = spelling (is_odd at) 0 i named in
     sym (ap (λ n. take n bytes) k.len ∙ ap (take (length text)) k.whole ∙ take-append_seam text k.rest)
 
-plain_fronts : (at : ℕ) (bytes : List ℕ) (i : Instr) (named : List ℕ) → names_place (form_of i.op) ≡ false → Known at bytes i named → Spells at bytes i.len (Plain (by_operands i) named)
+plain_fronts : (at : ℕ) (bytes : List ℕ) (i : Instr) (named : List ℕ) → names_place (form_of i.op) ≡ false → Known at bytes i named
+    → Spells at bytes i.len (Plain (by_operands i) named)
 plain_fronts at bytes i named n k =
-    let text : spelling (is_odd at) 0 (by_operands i) named ≡ spelling (is_odd at) 0 i named = ap (λ bs. i.op ∷ bs) (alike (form_of i.op) (is_odd at) i named) in
+    let text : spelling (is_odd at) 0 (by_operands i) named ≡ spelling (is_odd at) 0 i named =
+    ap (λ bs. i.op ∷ bs) (alike (form_of i.op) (is_odd at) i named) in
     record {
       sound = record {
         opcode = k.text.0;
@@ -132,11 +139,13 @@ target_named next b h = elim (cases_lt b 128) [
   | inr high ↦ (let t : ltb b 128 ≡ false = le-ltb _ _ high in rw t (through ((b % 2 == 0) && nat_le b 246) refl high))
 ]
   where
-    through : (test : Bool) → ((b % 2 == 0) && nat_le b 246) ≡ test → 128 ≤ b → IfSome (cond test (Some (Through ((246 - b) / 2))) None) (λ (t : Target ℕ). IsNear next t × (jump_byte next t ≡ b))
+    through : (test : Bool) → ((b % 2 == 0) && nat_le b 246) ≡ test → 128 ≤ b
+        → IfSome (cond test (Some (Through ((246 - b) / 2))) None) (λ (t : Target ℕ). IsNear next t × (jump_byte next t ≡ b))
     through true e l = (omega (arith, l), grind (arith, nat_tests))
     through false e l = tt
 
-jump_fronts : (at : ℕ) (bytes : List ℕ) (i : Instr) (named : List ℕ) (t : Option (Target ℕ)) → form_of i.op ≡ forms.Sb → Known at bytes i named → IfSome t (λ t. IsNear (at + i.len) t × (jump_byte (at + i.len) t ≡ i.a % 256)) → IfSome (jump_item i.op t) (Spells at bytes i.len)
+jump_fronts : (at : ℕ) (bytes : List ℕ) (i : Instr) (named : List ℕ) (t : Option (Target ℕ)) → form_of i.op ≡ forms.Sb → Known at bytes i named
+    → IfSome t (λ t. IsNear (at + i.len) t × (jump_byte (at + i.len) t ≡ i.a % 256)) → IfSome (jump_item i.op t) (Spells at bytes i.len)
 jump_fronts at bytes i named None f k h = tt
 jump_fronts at bytes i named (Some t) f k h =
     let text : spelling (is_odd at) 0 i named ≡ i.op ∷ i.a % 256 ∷ [] = rw f refl in
@@ -181,11 +190,13 @@ table_places-within at [] = tt
 table_places-within at (w ∷ ws) = (omega arith, table_places-within (at + 2) ws)
 
 -- the operands of a case jump are words
-case_words : (padded : Bool) (i : Instr) (named rest : List ℕ) → AllByRecursion IsByte ((padding padded 0 ++ word i.a ++ word i.b ++ word i.c ++ named) ++ rest) → (i.a < 65536) × (i.b < 65536) × (i.c < 65536)
+case_words : (padded : Bool) (i : Instr) (named rest : List ℕ) → AllByRecursion IsByte
+    ((pad_byte padded 0 ++ spelled_word i.a ++ spelled_word i.b ++ spelled_word i.c ++ named) ++ rest) → (i.a < 65536) × (i.b < 65536) × (i.c < 65536)
 case_words true i named rest h = (omega (arith, h.1.1.0), omega (arith, h.1.1.1.1.0), omega (arith, h.1.1.1.1.1.1.0))
 case_words false i named rest h = (omega (arith, h.1.0), omega (arith, h.1.1.1.0), omega (arith, h.1.1.1.1.1.0))
 
-case_fronts : (at : ℕ) (bytes : List ℕ) (i : Instr) (named : List ℕ) (t : Option (Target ℕ)) → form_of i.op ≡ forms.Jumps → Known at bytes i named → i.c % 256 ≡ 185 → IfSome t (λ t. IsNear (at + i.len - i.count) t × (jump_byte (at + i.len - i.count) t ≡ i.c / 256))
+case_fronts : (at : ℕ) (bytes : List ℕ) (i : Instr) (named : List ℕ) (t : Option (Target ℕ)) → form_of i.op ≡ forms.Jumps → Known at bytes i named
+    → i.c % 256 ≡ 185 → IfSome t (λ t. IsNear (at + i.len - i.count) t × (jump_byte (at + i.len - i.count) t ≡ i.c / 256))
     → IfSome (case_item i.a i.b t (table_places (at + i.len - i.count) (words_of named))) (Spells at bytes i.len)
 case_fronts at bytes i named None f k j h = tt
 case_fronts at bytes i named (Some t) f k j h =
@@ -194,15 +205,23 @@ case_fronts at bytes i named (Some t) f k j h =
     let item : Item ℕ = Case i.a i.b t places in
     let half = jump_count i.a i.b in
     let ranges : i.count ≡ 2 * half = eqb-true _ _ (rw f at k.ranges) in
-    let size_of : i.len ≡ 7 + length (padding (flip (is_odd at)) 0) + i.count =
-    k.len ∙ rw f (simp append_assoc (omega (arith, length-append (padding (flip (is_odd at)) 0) (word i.a ++ (word i.b ++ (word i.c ++ named))), k.count))) in
+    let size_of : i.len ≡ 7 + length (pad_byte (flip (is_odd at)) 0) + i.count =
+    k.len ∙ rw f (simp append_assoc (omega (
+      arith,
+      length-append (pad_byte (flip (is_odd at)) 0)
+          (spelled_word i.a ++ (spelled_word i.b ++ (spelled_word i.c ++ named))),
+      k.count,
+    ))) in
     let begins : table_place at ≡ start = omega (arith, size_of) in
     let count : length places ≡ half = length-table_places start (words_of named) ∙ length-words_of half named (k.count ∙ ranges) in
     let words : table_words (table_place at) places ≡ named = ap (λ n. table_words n places) begins ∙ words_named half start named (k.count ∙ ranges) k.names in
-    let last : jump_opcode ∷ jump_byte (table_place at) t ∷ named ≡ word i.c ++ named = ap (λ n. jump_opcode ∷ jump_byte n t ∷ named) begins ∙ ap (λ b. jump_opcode ∷ b ∷ named) h.1 ∙ ap (λ b. b ∷ i.c / 256 ∷ named) (sym j) in
+    let last : jump_opcode ∷ jump_byte (table_place at) t ∷ named ≡ spelled_word i.c ++ named =
+    ap (λ n. jump_opcode ∷ jump_byte n t ∷ named) begins ∙ ap (λ b. jump_opcode ∷ b ∷ named) h.1 ∙ ap (λ b. b ∷ i.c / 256 ∷ named) (sym j) in
     let limits = case_words (flip (is_odd at)) i named k.rest (rw f at k.text.1) in
     let op : 172 ≡ i.op = sym (is_172 i.op k.text.0 f) in
-    let text : item_bytes at item ≡ spelling (is_odd at) 0 i named = rw (f, words, last) (simp append_assoc (ap (λ n. n ∷ padding (flip (is_odd at)) 0 ++ (word i.a ++ (word i.b ++ (word i.c ++ named)))) op)) in
+    let text : item_bytes at item ≡ spelling (is_odd at) 0 i named =
+    rw (f, words, last) (simp append_assoc (ap (λ n. n ∷ pad_byte (flip (is_odd at)) 0
+    ++ (spelled_word i.a ++ (spelled_word i.b ++ (spelled_word i.c ++ named)))) op)) in
     record {
       sound = record {
         least = limits.0;
@@ -215,23 +234,28 @@ case_fronts at bytes i named (Some t) f k j h =
       sized = sym (length-item at item) ∙ ap length text ∙ sym k.len;
     }
 
-item_fronts : (form : Form) (at : ℕ) (bytes : List ℕ) (i : Instr) (named : List ℕ) → form_of i.op ≡ form → Known at bytes i named → IfSome (item_of form i named (at + i.len)) (Spells at bytes i.len)
-item_fronts forms.Sb at bytes i named f k = jump_fronts at bytes i named (target_of (at + i.len) (i.a % 256)) f k (target_named (at + i.len) (i.a % 256) (omega arith))
+item_fronts : (form : Form) (at : ℕ) (bytes : List ℕ) (i : Instr) (named : List ℕ) → form_of i.op ≡ form → Known at bytes i named
+    → IfSome (item_of form i named (at + i.len)) (Spells at bytes i.len)
+item_fronts forms.Sb at bytes i named f k =
+    jump_fronts at bytes i named (target_of (at + i.len) (i.a % 256)) f k (target_named (at + i.len) (i.a % 256) (omega arith))
 item_fronts forms.Jumps at bytes i named f k = elim (cases_Bool (i.c % 256 == 185)) [
-  | inl e ↦ rw e (case_fronts at bytes i named (target_of (at + i.len - i.count) (i.c / 256)) f k (eqb-true _ _ e) (target_named (at + i.len - i.count) (i.c / 256) (omega (arith, (case_words (flip (is_odd at)) i named k.rest (rw f at k.text.1)).2))))
+  | inl e ↦ rw e (case_fronts at bytes i named (target_of (at + i.len - i.count) (i.c / 256)) f k (eqb-true _ _ e)
+      (target_named (at + i.len - i.count) (i.c / 256) (omega (arith, (case_words (flip (is_odd at)) i named k.rest (rw f at k.text.1)).2))))
   | inr e ↦ rw e tt
 ]
 item_fronts _ at bytes i named f k = plain_fronts at bytes i named (ap names_place f) k
 
 -- what is read at an offset is known
-read_known : (at : ℕ) (bytes : List ℕ) (i : Instr) → AllByRecursion IsByte bytes → Stands (standing_at at bytes) at i → has_zero_padding (form_of i.op) (is_odd at) bytes ≡ true → Known at bytes i (named_by i (standing_at at bytes))
+read_known : (at : ℕ) (bytes : List ℕ) (i : Instr) → AllByRecursion IsByte bytes → IsSpelledAt (standing_at at bytes) at i
+    → has_zero_padding (form_of i.op) (is_odd at) bytes ≡ true → Known at bytes i (named_by i (standing_at at bytes))
 read_known at bytes i h s z =
     let all : List ℕ = standing_at at bytes in
     let named : List ℕ = named_by i all in
     let form = form_of i.op in
     let rest : List ℕ = s.spelled.1 in
-    let there : bytes ≡ i.op ∷ (operands form (is_odd at) s.spelled.0 i named ++ rest) = sym (drop-standing at bytes) ∙ s.spelled.2 in
-    let zero : operands form (is_odd at) s.spelled.0 i named ≡ operands form (is_odd at) 0 i named = zero_padding form (is_odd at) i.op s.spelled.0 i named rest (subst (λ bs. has_zero_padding form (is_odd at) bs ≡ true) there z) in
+    let there : bytes ≡ i.op ∷ (spelled_operands form (is_odd at) s.spelled.0 i named ++ rest) = sym (drop-standing at bytes) ∙ s.spelled.2 in
+    let zero : spelled_operands form (is_odd at) s.spelled.0 i named ≡ spelled_operands form (is_odd at) 0 i named =
+    zero_padding form (is_odd at) i.op s.spelled.0 i named rest (subst (λ bs. has_zero_padding form (is_odd at) bs ≡ true) there z) in
     let whole : bytes ≡ spelling (is_odd at) 0 i named ++ rest = there ∙ ap (λ bs. i.op ∷ (bs ++ rest)) zero in
     let fields : clear form (by_operands i) ≡ by_operands i = clear_alike form i ∙ sym (ap by_operands s.placed) in
     record {
@@ -251,7 +275,8 @@ read_known at bytes i h s z =
       text = subst (AllByRecursion IsByte) whole h;
     }
 
-known_front : (at : ℕ) (bytes : List ℕ) (i : Instr) (named : List ℕ) → Known at bytes i named → Fronts at bytes (record { size = i.len; item = item_of (form_of i.op) i named (at + i.len) })
+known_front : (at : ℕ) (bytes : List ℕ) (i : Instr) (named : List ℕ) → Known at bytes i named
+    → Fronts at bytes (record { size = i.len; item = item_of (form_of i.op) i named (at + i.len) })
 known_front at bytes i named k =
     let text : List ℕ = spelling (is_odd at) 0 i named in
     record {
@@ -260,7 +285,8 @@ known_front at bytes i named k =
       item = item_fronts (form_of i.op) at bytes i named refl k;
     }
 
-front_read : (at : ℕ) (bytes : List ℕ) (r : Result Instr Decode) → AllByRecursion IsByte bytes → IfOk r (Stands (standing_at at bytes) at) → IfSome (front_by at bytes r) (Fronts at bytes)
+front_read : (at : ℕ) (bytes : List ℕ) (r : Result Instr Decode) → AllByRecursion IsByte bytes → IfOk r (IsSpelledAt (standing_at at bytes) at)
+    → IfSome (front_by at bytes r) (Fronts at bytes)
 front_read at bytes (Err e) h s = tt
 front_read at bytes (Ok i) h s = elim (cases_Bool (has_zero_padding (form_of i.op) (is_odd at) bytes)) [
   | inl z ↦ rw z (known_front at bytes i (named_by i (standing_at at bytes)) (read_known at bytes i h s z))
@@ -270,7 +296,9 @@ front_read at bytes (Ok i) h s = elim (cases_Bool (has_zero_padding (form_of i.o
 -- What is read at the front of bytes is an item of them.
 pub fronts : (at : ℕ) (bytes : List ℕ) → AllByRecursion IsByte bytes → IfSome (front at bytes) (Fronts at bytes)
 unfolding front
-fronts at bytes h = front_read at bytes (reading (standing_at at bytes) at) h (reading_takes (standing_at at bytes) at (as_bytes (standing_at at bytes) (standing-bytes at bytes h)))
+fronts at bytes h =
+    front_read at bytes (reading (standing_at at bytes) at) h (reading_takes (standing_at at bytes) at
+    (as_bytes (standing_at at bytes) (standing-bytes at bytes h)))
 
 -- The bytes begin with an instruction, by the fields of its form alone.
 pub record IsRead (at : ℕ) (bytes : List ℕ) : Type 0 where
@@ -289,7 +317,8 @@ known_read at bytes i named k = record {
   clear = record { ranges = ranges_alike (form_of i.op) i ∙ k.ranges; fields = k.fields; count = k.count };
 }
 
-is_read : (at : ℕ) (bytes : List ℕ) (r : Result Instr Decode) → AllByRecursion IsByte bytes → IfOk r (Stands (standing_at at bytes) at) → IfSome (front_by at bytes r) (λ f. IsRead at bytes)
+is_read : (at : ℕ) (bytes : List ℕ) (r : Result Instr Decode) → AllByRecursion IsByte bytes → IfOk r (IsSpelledAt (standing_at at bytes) at)
+    → IfSome (front_by at bytes r) (λ f. IsRead at bytes)
 is_read at bytes (Err e) h s = tt
 is_read at bytes (Ok i) h s = elim (cases_Bool (has_zero_padding (form_of i.op) (is_odd at) bytes)) [
   | inl z ↦ rw z (known_read at bytes i (named_by i (standing_at at bytes)) (read_known at bytes i h s z))
@@ -299,4 +328,6 @@ is_read at bytes (Ok i) h s = elim (cases_Bool (has_zero_padding (form_of i.op) 
 -- Where something is read, the bytes begin with an instruction.
 pub reads : (at : ℕ) (bytes : List ℕ) → AllByRecursion IsByte bytes → IfSome (front at bytes) (λ f. IsRead at bytes)
 unfolding front
-reads at bytes h = is_read at bytes (reading (standing_at at bytes) at) h (reading_takes (standing_at at bytes) at (as_bytes (standing_at at bytes) (standing-bytes at bytes h)))
+reads at bytes h =
+    is_read at bytes (reading (standing_at at bytes) at) h (reading_takes (standing_at at bytes) at
+    (as_bytes (standing_at at bytes) (standing-bytes at bytes h)))

@@ -7,7 +7,7 @@ use Rattle.std.proofs.lemmas.Bool.Decides.{nat_tests}
 use Rattle.pm_opcode.specs.declared.operand_form.Form.{Form}
 use Rattle.pm_opcode.specs.declared.operand_form.Form.TheVariants as forms
 use Rattle.pm_opcode.specs.declared.instr.Instr.{Instr}
-use Rattle.pm_opcode.specs.Spelling.{operands, word, number, padding, flip, is_odd, is_sized, is_unsized, in_range}
+use Rattle.pm_opcode.specs.Spelling.{spelled_operands, spelled_word, spelled_number, pad_byte, flip, is_odd, is_sized, is_unsized, in_range}
 use Rattle.pm_disasm.specs.Item.{Item, IsItem, IsByte, item_bytes, size, names_place, jump_opcode, jump_byte, table_place, table_words}
 use Rattle.pm_disasm.specs.Item.Item.{Plain, Jump, Case, OneByte}
 use Rattle.pm_disasm.specs.Program.{AreItems, back_to, code_bytes, entry_bytes}
@@ -20,17 +20,17 @@ AreBytes bs = AllByRecursion IsByte bs
 pub join_bytes : (xs ys : List ℕ) → AreBytes xs → AreBytes ys → AreBytes (xs ++ ys)
 join_bytes xs ys h k = all-append IsByte xs ys h k
 
-pub word_bytes : (w : ℕ) → w < 65536 → AreBytes (word w)
+pub word_bytes : (w : ℕ) → w < 65536 → AreBytes (spelled_word w)
 word_bytes w h = (omega arith, (omega (arith, h), tt))
 
-number_bytes : (n : ℕ) (long : Bool) → n < 32768 → AreBytes (number n long)
+number_bytes : (n : ℕ) (long : Bool) → n < 32768 → AreBytes (spelled_number n long)
 number_bytes n true h = (omega (arith, h), (omega arith, tt))
 number_bytes n false h = elim (cases_lt n 128) [
   | inl low ↦ (let t : leb 128 n ≡ false = grind (arith, nat_tests) in rw t (omega (arith, low), tt))
   | inr high ↦ (let t : leb 128 n ≡ true = le-leb _ _ high in rw t (omega (arith, h), (omega arith, tt)))
 ]
 
-padding_bytes : (odd : Bool) → AreBytes (padding odd 0)
+padding_bytes : (odd : Bool) → AreBytes (pad_byte odd 0)
 padding_bytes true = (omega arith, tt)
 padding_bytes false = tt
 
@@ -47,13 +47,14 @@ unsized_byte a h = elim (either (eqb a 2 || eqb a 4 || eqb a 6) (eqb a 8) h) [
   ]
 ]
 
-typed_bytes : (i : Instr) → in_range forms.Typed i ≡ true → AreBytes (i.a ∷ cond (is_sized i.a) (number i.b i.long) [])
+typed_bytes : (i : Instr) → in_range forms.Typed i ≡ true → AreBytes (i.a ∷ cond (is_sized i.a) (spelled_number i.b i.long) [])
 typed_bytes i r = elim (cases_Bool (is_sized i.a)) [
   | inl e ↦ (let k : nat_lt i.b 32768 ≡ true = rw e at r in (sized_byte i.a e, rw e (number_bytes i.b i.long (ltb-true _ _ k))))
   | inr e ↦ (let k : is_unsized i.a ≡ true = rw e at r in (unsized_byte i.a k, rw e tt))
 ]
 
-operand_bytes : (form : Form) (odd : Bool) (i : Instr) (named : List ℕ) → names_place form ≡ false → in_range form i ≡ true → i.a < 65536 → AreBytes named → AreBytes (operands form odd 0 i named)
+operand_bytes : (form : Form) (odd : Bool) (i : Instr) (named : List ℕ) → names_place form ≡ false → in_range form i ≡ true → i.a < 65536 → AreBytes named
+    → AreBytes (spelled_operands form odd 0 i named)
 operand_bytes forms.Plain odd i named n r a h = tt
 operand_bytes forms.Ub odd i named n r a h = (ltb-true _ _ r, tt)
 operand_bytes forms.Db odd i named n r a h = (ltb-true _ _ r, tt)
@@ -63,7 +64,7 @@ operand_bytes forms.UbUb odd i named n r a h = (ltb-true _ _ (and_parts _ _ r).0
 operand_bytes forms.DbB odd i named n r a h = (ltb-true _ _ (and_parts _ _ r).0, number_bytes i.b i.long (ltb-true _ _ (and_parts _ _ r).1))
 operand_bytes forms.W odd i named n r a h = word_bytes i.a a
 operand_bytes forms.Chars odd i named n r a h = (ltb-true _ _ (and_parts _ _ r).0, h)
-operand_bytes forms.Words odd i named n r a h = (ltb-true _ _ (and_parts _ _ r).0, join_bytes (padding odd 0) named (padding_bytes odd) h)
+operand_bytes forms.Words odd i named n r a h = (ltb-true _ _ (and_parts _ _ r).0, join_bytes (pad_byte odd 0) named (padding_bytes odd) h)
 operand_bytes forms.Typed odd i named n r a h = typed_bytes i r
 operand_bytes forms.Sb odd i named n r a h = absurd (true≢false n)
 operand_bytes forms.Jumps odd i named n r a h = absurd (true≢false n)
@@ -71,26 +72,32 @@ operand_bytes forms.Unassigned odd i named n r a h = tt
 
 table_bytes : (at : ℕ) (places : List ℕ) → AreBytes (table_words at places)
 table_bytes at [] = tt
-table_bytes at (place ∷ places) = join_bytes (word ((at + 65536 - place) % 65536)) (table_words (at + 2) places) (word_bytes ((at + 65536 - place) % 65536) (omega arith)) (table_bytes (at + 2) places)
+table_bytes at (place ∷ places) =
+    join_bytes (spelled_word ((at + 65536 - place) % 65536)) (table_words (at + 2) places) (word_bytes ((at + 65536 - place) % 65536) (omega arith))
+    (table_bytes (at + 2) places)
 
 pub are_item_bytes : (at : ℕ) (item : Item ℕ) → IsItem at item → AreBytes (item_bytes at item)
 are_item_bytes at (Plain i named) h = (h.opcode, operand_bytes _ (is_odd at) i named h.form h.ranges h.word h.bytes)
 are_item_bytes at (Jump op target) h = (h.1, (jump_byte-is_byte (at + 2) target h.2, tt))
 are_item_bytes at (Case low high otherwise places) h =
     let table = table_place at in
-    let pad : List ℕ = padding (flip (is_odd at)) 0 in
+    let pad : List ℕ = pad_byte (flip (is_odd at)) 0 in
     let last : List ℕ = jump_opcode ∷ jump_byte table otherwise ∷ table_words table places in (
       omega arith,
-      join_bytes pad (word low ++ (word high ++ last)) (padding_bytes (flip (is_odd at)))
-          (join_bytes (word low) (word high ++ last) (word_bytes low h.least)
-          (join_bytes (word high) last (word_bytes high h.greatest) (omega arith, (jump_byte-is_byte table otherwise h.near, table_bytes table places)))),
+      join_bytes pad (spelled_word low ++ (spelled_word high ++ last)) (padding_bytes (flip (is_odd at)))
+          (join_bytes (spelled_word low) (spelled_word high ++ last) (word_bytes low h.least)
+          (join_bytes (spelled_word high) last (word_bytes high h.greatest)
+          (omega arith, (jump_byte-is_byte table otherwise h.near, table_bytes table places)))),
     )
 are_item_bytes at (OneByte b) h = (h, tt)
 
 pub are_code_bytes : (at : ℕ) (items : List (Item ℕ)) → AreItems at items → AreBytes (code_bytes at items)
 are_code_bytes at [] h = tt
-are_code_bytes at (item ∷ items) h = join_bytes (item_bytes at item) (code_bytes (at + size at item) items) (are_item_bytes at item h.0) (are_code_bytes (at + size at item) items h.1)
+are_code_bytes at (item ∷ items) h =
+    join_bytes (item_bytes at item) (code_bytes (at + size at item) items) (are_item_bytes at item h.0) (are_code_bytes (at + size at item) items h.1)
 
 pub are_entry_bytes : (at : ℕ) (places : List ℕ) → at + 2 * length places ≤ 65536 → AreBytes (entry_bytes at places)
 are_entry_bytes at [] h = tt
-are_entry_bytes at (place ∷ places) h = join_bytes (back_to at place) (entry_bytes (at + 2) places) (word_bytes (at - place) (omega (arith, h))) (are_entry_bytes (at + 2) places (omega (arith, h)))
+are_entry_bytes at (place ∷ places) h =
+    join_bytes (back_to at place) (entry_bytes (at + 2) places) (word_bytes (at - place) (omega (arith, h)))
+    (are_entry_bytes (at + 2) places (omega (arith, h)))

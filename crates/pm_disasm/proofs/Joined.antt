@@ -1,5 +1,6 @@
 -- What is written for code are items of its bytes.
-use Rattle.std.proofs.Common.{◌≡◌, ℕ, zero, suc, ◌+◌, ◌-◌, Bool, true, false, cond, List, [], ◌∷◌, ◌++◌, length, map, take, drop, refl, sym, ap, ◌∙◌, subst, arith, append-nil, IfSome, Option, Some, None}
+use Rattle.std.proofs.Common.{◌≡◌, ℕ, zero, suc, ◌+◌, ◌-◌, Bool, true, false, cond, List, [], ◌∷◌, ◌++◌, length, map}
+use Rattle.std.proofs.Common.{take, drop, refl, sym, ap, ◌∙◌, subst, arith, append-nil, IfSome, Option, Some, None}
 use Rattle.std.specs.Prelude.{◌&&◌, nat_lt}
 use Rattle.std.specs.List.{list_any, AllByRecursion}
 use Rattle.std.proofs.lemmas.List.{take-append-drop}
@@ -34,7 +35,8 @@ join at next bs cs xs ys e x y =
     let here : next ≡ end_of at xs = e ∙ sym x.ends in
     record {
       sound = are-append at xs ys x.sound (subst (λ n. AreItems n ys) here y.sound);
-      joined = code-append at xs ys ∙ ap (λ zs. zs ++ code_bytes (end_of at xs) ys) x.joined ∙ ap (λ n. bs ++ code_bytes n ys) (sym here) ∙ ap (λ zs. bs ++ zs) y.joined;
+      joined = code-append at xs ys ∙ ap (λ zs. zs ++ code_bytes (end_of at xs) ys) x.joined ∙ ap (λ n. bs ++ code_bytes n ys) (sym here)
+          ∙ ap (λ zs. bs ++ zs) y.joined;
       ends = end-append at xs ys ∙ ap (λ n. end_of n ys) (sym here) ∙ grind (arith, common_steps, y.ends);
     }
 
@@ -44,7 +46,8 @@ singles_join at (b ∷ bs) h =
     let more = singles_join (at + 1) bs h.1 in
     record { sound = (h.0, more.sound); joined = ap (λ cs. b ∷ cs) more.joined; ends = omega (arith, more.ends) }
 
-pub part_joins : (boundaries : List ℕ) (allowed : Bool) (at : ℕ) (bytes : List ℕ) (n : ℕ) (item : Option (Item ℕ)) → AllByRecursion IsByte bytes → n ≡ length (take n bytes) → IfSome item (Spells at bytes n) → Joins at (take n bytes) (written_as boundaries allowed (take n bytes) item)
+pub part_joins : (boundaries : List ℕ) (allowed : Bool) (at : ℕ) (bytes : List ℕ) (n : ℕ) (item : Option (Item ℕ)) → AllByRecursion IsByte bytes
+    → n ≡ length (take n bytes) → IfSome item (Spells at bytes n) → Joins at (take n bytes) (written_as boundaries allowed (take n bytes) item)
 part_joins boundaries allowed at bytes n None b e h = singles_join at (take n bytes) (take-bytes n bytes b)
 part_joins boundaries allowed at bytes n (Some item) b e h = chosen (leads boundaries allowed item)
   where
@@ -53,17 +56,24 @@ part_joins boundaries allowed at bytes n (Some item) b e h = chosen (leads bound
     chosen false = singles_join at (take n bytes) (take-bytes n bytes b)
 
 -- What is written from any place of the code on.
-pub joined : (forced boundaries : List ℕ) (allowed : Bool) (skip at : ℕ) (bytes : List ℕ) → AllByRecursion IsByte bytes → Joins (at + skip) (drop skip bytes) (written boundaries allowed (parts forced skip at bytes))
+pub joined : (forced boundaries : List ℕ) (allowed : Bool) (skip at : ℕ) (bytes : List ℕ) → AllByRecursion IsByte bytes
+    → Joins (at + skip) (drop skip bytes) (written boundaries allowed (parts forced skip at bytes))
 joined forced boundaries allowed zero at [] h = record { sound = tt; joined = refl; ends = omega arith }
 joined forced boundaries allowed (suc skip) at [] h = record { sound = tt; joined = refl; ends = omega arith }
 joined forced boundaries allowed (suc skip) at (b ∷ bytes) h =
-    subst (λ n. Joins n (drop skip bytes) (written boundaries allowed (parts forced skip (at + 1) bytes))) (omega arith) (joined forced boundaries allowed skip (at + 1) bytes h.1)
-joined forced boundaries allowed zero at (b ∷ bytes) h = piece (λ n. joined forced boundaries allowed n (at + 1) bytes h.1) (taken forced at (b ∷ bytes)) (still forced at (front at (b ∷ bytes)) (Fronts at (b ∷ bytes)) (fronts at (b ∷ bytes) h))
+    subst (λ n. Joins n (drop skip bytes) (written boundaries allowed (parts forced skip (at + 1) bytes))) (omega arith)
+    (joined forced boundaries allowed skip (at + 1) bytes h.1)
+joined forced boundaries allowed zero at (b ∷ bytes) h =
+    piece (λ n. joined forced boundaries allowed n (at + 1) bytes h.1) (taken forced at (b ∷ bytes))
+    (still forced at (front at (b ∷ bytes)) (Fronts at (b ∷ bytes)) (fronts at (b ∷ bytes) h))
   where
-    piece : ((n : ℕ) → Joins (at + 1 + n) (drop n bytes) (written boundaries allowed (parts forced n (at + 1) bytes))) → (o : Option Front) → IfSome o (Fronts at (b ∷ bytes)) → Joins (at + 0) (b ∷ bytes) (written boundaries allowed (part_of at (b ∷ bytes) o ∷ parts forced (bytes_after_first o) (at + 1) bytes))
+    piece : ((n : ℕ) → Joins (at + 1 + n) (drop n bytes) (written boundaries allowed (parts forced n (at + 1) bytes))) → (o : Option Front)
+        → IfSome o (Fronts at (b ∷ bytes)) → Joins (at + 0) (b ∷ bytes)
+        (written boundaries allowed (part_of at (b ∷ bytes) o ∷ parts forced (bytes_after_first o) (at + 1) bytes))
     piece rest None f =
         let all : Joins at (b ∷ bytes) (OneByte b ∷ written boundaries allowed (parts forced 0 (at + 1) bytes)) =
-        join at (at + 1 + 0) (b ∷ []) bytes (OneByte b ∷ []) (written boundaries allowed (parts forced 0 (at + 1) bytes)) (omega arith) (singles_join at (b ∷ []) (h.0, tt)) (rest 0) in
+        join at (at + 1 + 0) (b ∷ []) bytes (OneByte b ∷ []) (written boundaries allowed (parts forced 0 (at + 1) bytes)) (omega arith)
+        (singles_join at (b ∷ []) (h.0, tt)) (rest 0) in
         subst (λ n. Joins n (b ∷ bytes) (OneByte b ∷ written boundaries allowed (parts forced 0 (at + 1) bytes))) (omega arith) all
     piece rest (Some f) g =
         let long : f.size ≡ length (take f.size (b ∷ bytes)) = grind (arith, common_steps, g.within) in
@@ -72,8 +82,10 @@ joined forced boundaries allowed zero at (b ∷ bytes) h = piece (λ n. joined f
         let more : List (Item ℕ) = written boundaries allowed (parts forced (f.size - 1) (at + 1) bytes) in
         let back : suc (f.size - 1) ≡ f.size = omega (arith, g.some) in
         let tail : drop (f.size - 1) bytes ≡ drop f.size (b ∷ bytes) = ap (λ n. drop n (b ∷ bytes)) back in
-        let all : Joins at (take f.size (b ∷ bytes) ++ drop (f.size - 1) bytes) (w ++ more) = join at (at + 1 + (f.size - 1)) (take f.size (b ∷ bytes)) (drop (f.size - 1) bytes) w more (omega (arith, long, g.some)) one (rest (f.size - 1)) in
-        let whole : take f.size (b ∷ bytes) ++ drop (f.size - 1) bytes ≡ b ∷ bytes = ap (λ xs. take f.size (b ∷ bytes) ++ xs) tail ∙ take-append-drop f.size (b ∷ bytes) in
+        let all : Joins at (take f.size (b ∷ bytes) ++ drop (f.size - 1) bytes) (w ++ more) =
+        join at (at + 1 + (f.size - 1)) (take f.size (b ∷ bytes)) (drop (f.size - 1) bytes) w more (omega (arith, long, g.some)) one (rest (f.size - 1)) in
+        let whole : take f.size (b ∷ bytes) ++ drop (f.size - 1) bytes ≡ b ∷ bytes =
+        ap (λ xs. take f.size (b ∷ bytes) ++ xs) tail ∙ take-append-drop f.size (b ∷ bytes) in
         let zero_more : at ≡ at + 0 = omega arith in
         subst (λ n. Joins n (b ∷ bytes) (w ++ more)) zero_more (subst (λ bs. Joins at bs (w ++ more)) whole all)
 

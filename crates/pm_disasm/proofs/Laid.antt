@@ -1,10 +1,12 @@
 -- Where the procedures of a segment and its dictionary stand.
-use Rattle.std.proofs.Common.{◌≡◌, ◌<◌, ◌≤◌, ℕ, ◌+◌, ◌-◌, ◌*◌, List, [], ◌∷◌, ◌++◌, length, map, drop, reverse, refl, sym, ap, ◌∙◌, subst, arith, append_assoc, length-append, drop-drop}
+use Rattle.std.proofs.Common.{◌≡◌, ◌<◌, ◌≤◌, ℕ, ◌+◌, ◌-◌, ◌*◌, List, [], ◌∷◌, ◌++◌, length, map, drop, reverse}
+use Rattle.std.proofs.Common.{refl, sym, ap, ◌∙◌, subst, arith, append_assoc, length-append, drop-drop}
 use Rattle.std.specs.List.{AllByRecursion}
 use Rattle.std.proofs.Math.Seq.{drop-append_seam}
 use Rattle.std.proofs.lemmas.List.{length-reverse, map-append, reverse-append}
-use Rattle.pm_opcode.specs.Spelling.{word}
-use Rattle.pm_disasm.specs.Program.{Procedure, Segment, IsProcedure, IsSegment, FollowFrom, attribute_bytes, back_to, code_end, code_of, dictionary_bytes, entry_bytes, jtab_of, procedure_bytes, procedures_bytes, procedures_end, segment_bytes}
+use Rattle.pm_opcode.specs.Spelling.{spelled_word}
+use Rattle.pm_disasm.specs.Program.{Procedure, Segment, IsProcedure, IsSegment, FollowFrom, attribute_bytes, back_to, code_end, code_of}
+use Rattle.pm_disasm.specs.Program.{dictionary_bytes, entry_bytes, jtab_of, procedure_bytes, procedures_bytes, procedures_end, segment_bytes}
 use Rattle.pm_disasm.specs.Laws.{StandsIn}
 use Rattle.pm_disasm.proofs.Sizes.{length-code}
 use Rattle.pm_disasm.proofs.Stored.{Table, length-entry_bytes}
@@ -25,7 +27,13 @@ length-procedure number p =
 pub length-procedures : (at number : ℕ) (ps : List Procedure) → FollowFrom at ps → at + length (procedures_bytes number ps) ≡ procedures_end at ps
 length-procedures at number [] h = omega arith
 length-procedures at number (p ∷ ps) h =
-    omega (arith, h.0, length-append (procedure_bytes number p) (procedures_bytes (number + 1) ps), length-procedure number p, length-procedures (jtab_of p + 2) (number + 1) ps h.1)
+    omega (
+      arith,
+      h.0,
+      length-append (procedure_bytes number p) (procedures_bytes (number + 1) ps),
+      length-procedure number p,
+      length-procedures (jtab_of p + 2) (number + 1) ps h.1,
+    )
 
 -- the dictionary is laid out as a jump table
 pub dictionary_entries : (at : ℕ) (ps : List Procedure) → dictionary_bytes at ps ≡ entry_bytes at (map jtab_of ps)
@@ -52,7 +60,8 @@ pub ends_later : (at : ℕ) (ps : List Procedure) → FollowFrom at ps → AllBy
 ends_later at [] h k = omega arith
 ends_later at (p ∷ ps) h k = omega (arith, h.0, length-code p.start p.items, ends_later (jtab_of p + 2) ps h.1 k.1)
 
-pub tables_before : (at : ℕ) (ps : List Procedure) → FollowFrom at ps → AllByRecursion IsProcedure ps → AllByRecursion (λ p. jtab_of p + 2 ≤ procedures_end at ps) ps
+pub tables_before : (at : ℕ) (ps : List Procedure) → FollowFrom at ps → AllByRecursion IsProcedure ps
+    → AllByRecursion (λ p. jtab_of p + 2 ≤ procedures_end at ps) ps
 tables_before at [] h k = tt
 tables_before at (p ∷ ps) h k = (ends_later (jtab_of p + 2) ps h.1 k.1, tables_before (jtab_of p + 2) ps h.1 k.1)
 
@@ -61,14 +70,16 @@ abbrev pub AllStand : List ℕ → ℕ → List Procedure → Type 0
 AllStand segment number [] = Unit {0}
 AllStand segment number (p ∷ ps) = StandsIn segment number p × AllStand segment (number + 1) ps
 
-pub all_stand : (segment rest : List ℕ) (at number : ℕ) (ps : List Procedure) → AreBytes segment → drop at segment ≡ procedures_bytes number ps ++ rest → FollowFrom at ps → AllByRecursion IsProcedure ps → AllStand segment number ps
+pub all_stand : (segment rest : List ℕ) (at number : ℕ) (ps : List Procedure) → AreBytes segment → drop at segment ≡ procedures_bytes number ps ++ rest
+    → FollowFrom at ps → AllByRecursion IsProcedure ps → AllStand segment number ps
 all_stand segment rest at number [] b e h k = tt
 all_stand segment rest at number (p ∷ ps) b e h k =
     let one : List ℕ = procedure_bytes number p in
     let more : List ℕ = procedures_bytes (number + 1) ps ++ rest in
     let here : drop p.start segment ≡ one ++ more = ap (λ n. drop n segment) h.0 ∙ e ∙ append_assoc one (procedures_bytes (number + 1) ps) rest in
     let next : drop (jtab_of p + 2) segment ≡ more =
-    ap (λ n. drop n segment) (sym (length-procedure number p)) ∙ sym (drop-drop (length one) p.start segment) ∙ ap (drop (length one)) here ∙ drop-append_seam one more in
+    ap (λ n. drop n segment) (sym (length-procedure number p)) ∙ sym (drop-drop (length one) p.start segment) ∙ ap (drop (length one)) here
+    ∙ drop-append_seam one more in
     (record { procedure = k.0; rest = more; there = here; bytes = b }, all_stand segment rest (jtab_of p + 2) (number + 1) ps b next h.1 k.1)
 
 -- the bytes of a procedure are bytes
@@ -80,12 +91,13 @@ are_procedure_bytes number p h n short =
     let start : List ℕ = back_to (jtab_of p - 2) p.start in
     join_bytes (code_of p) (entries ++ attribute_bytes number p) (are_code_bytes p.start p.items h.items)
     (join_bytes entries (attribute_bytes number p) (are_entry_bytes (code_end p) (reverse p.entries) (omega (arith, length-reverse p.entries, short)))
-    (join_bytes (word p.locals) (word p.parameters ++ (exit ++ (start ++ last))) (word_bytes p.locals h.locals.0)
-    (join_bytes (word p.parameters) (exit ++ (start ++ last)) (word_bytes p.parameters h.parameters.0)
+    (join_bytes (spelled_word p.locals) (spelled_word p.parameters ++ (exit ++ (start ++ last))) (word_bytes p.locals h.locals.0)
+    (join_bytes (spelled_word p.parameters) (exit ++ (start ++ last)) (word_bytes p.parameters h.parameters.0)
     (join_bytes exit (start ++ last) (word_bytes (jtab_of p - 4 - p.exit) (omega (arith, short)))
     (join_bytes start last (word_bytes (jtab_of p - 2 - p.start) (omega (arith, short))) (n, (h.level, tt)))))))
 
-are_procedures_bytes : (number end : ℕ) (ps : List Procedure) → AllByRecursion IsProcedure ps → number + length ps ≤ 256 → end ≤ 65536 → AllByRecursion (λ p. jtab_of p + 2 ≤ end) ps → AreBytes (procedures_bytes number ps)
+are_procedures_bytes : (number end : ℕ) (ps : List Procedure) → AllByRecursion IsProcedure ps → number + length ps ≤ 256 → end ≤ 65536
+    → AllByRecursion (λ p. jtab_of p + 2 ≤ end) ps → AreBytes (procedures_bytes number ps)
 are_procedures_bytes number end [] h n e b = tt
 are_procedures_bytes number end (p ∷ ps) h n e b =
     join_bytes (procedure_bytes number p) (procedures_bytes (number + 1) ps) (are_procedure_bytes number p h.0 (omega (arith, n)) (omega (arith, b.0, e)))
@@ -116,18 +128,23 @@ are_segment_bytes s h short =
     let last : List ℕ = s.number ∷ length s.procedures ∷ [] in
     let long = length-segment s h in
     subst (λ bs. AreBytes (procedures_bytes 1 s.procedures ++ (bs ++ last))) (sym (dictionary_reversed end s.procedures))
-    (join_bytes (procedures_bytes 1 s.procedures) (entries ++ last) (are_procedures_bytes 1 end s.procedures h.procedures (omega (arith, h.few)) (omega (arith, long, short)) (tables_before 0 s.procedures h.follow h.procedures))
-    (join_bytes entries last (are_entry_bytes end (reverse (map jtab_of s.procedures)) (omega (arith, length-reverse (map jtab_of s.procedures), length-jtabs s.procedures, long, short)))
+    (join_bytes (procedures_bytes 1 s.procedures) (entries ++ last)
+    (are_procedures_bytes 1 end s.procedures h.procedures (omega (arith, h.few)) (omega (arith, long, short))
+    (tables_before 0 s.procedures h.follow h.procedures))
+    (join_bytes entries last (are_entry_bytes end (reverse (map jtab_of s.procedures))
+    (omega (arith, length-reverse (map jtab_of s.procedures), length-jtabs s.procedures, long, short)))
     (omega (arith, h.number), (h.few, tt))))
 
 -- The dictionary of a segment.
-pub dictionary_there : (s : Segment) (h : IsSegment s) → Table (segment_bytes s) (procedures_end 0 s.procedures) (length (segment_bytes s) + 6) 0 (map jtab_of s.procedures) (s.number ∷ length s.procedures ∷ [])
+pub dictionary_there : (s : Segment) (h : IsSegment s) → Table (segment_bytes s) (procedures_end 0 s.procedures) (length (segment_bytes s) + 6) 0
+    (map jtab_of s.procedures) (s.number ∷ length s.procedures ∷ [])
 dictionary_there s h =
     let end = procedures_end 0 s.procedures in
     let before : List ℕ = procedures_bytes 1 s.procedures in
     let last : List ℕ = s.number ∷ length s.procedures ∷ [] in
     let begins : end ≡ length before = sym (length-procedures 0 1 s.procedures h.follow) ∙ omega arith in
     record {
-      there = ap (λ n. drop n (segment_bytes s)) begins ∙ drop-append_seam before (dictionary_bytes end (reverse s.procedures) ++ last) ∙ ap (λ bs. bs ++ last) (dictionary_reversed end s.procedures);
+      there = ap (λ n. drop n (segment_bytes s)) begins ∙ drop-append_seam before (dictionary_bytes end (reverse s.procedures) ++ last)
+          ∙ ap (λ bs. bs ++ last) (dictionary_reversed end s.procedures);
       ends = omega (arith, length-segment s h, length-jtabs s.procedures);
     }

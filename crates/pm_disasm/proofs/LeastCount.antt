@@ -1,5 +1,6 @@
 -- The procedure that is shown.
-use Rattle.std.proofs.Common.{◌≡◌, ◌<◌, ◌≤◌, ℕ, zero, suc, ◌+◌, Bool, true, false, cond, max, List, [], ◌∷◌, ◌++◌, length, map, refl, sym, ap, ◌∙◌, subst, arith, inl, inr, Option, Some, None, IfSome}
+use Rattle.std.proofs.Common.{◌≡◌, ◌<◌, ◌≤◌, ℕ, zero, suc, ◌+◌, Bool, true, false, cond, max, List, [], ◌∷◌, ◌++◌}
+use Rattle.std.proofs.Common.{length, map, refl, sym, ap, ◌∙◌, subst, arith, inl, inr, Option, Some, None, IfSome}
 use Rattle.std.specs.List.{list_all}
 use Rattle.std.proofs.lemmas.Bool.{and_parts, cases_Bool, cases_lt, true≢false}
 use Rattle.pm_codefile.specs.declared.table.Attributes.{Attributes}
@@ -7,7 +8,8 @@ use Rattle.pm_disasm.specs.Item.{Item, Target, IsNear, IsItem, size}
 use Rattle.pm_disasm.specs.Item.Item.{Plain, Jump, Case, OneByte}
 use Rattle.pm_disasm.specs.Item.Target.{To, Through}
 use Rattle.pm_disasm.specs.Program.{Procedure, AreItems, AreInstructions, code_end, is_among, item_places, entries_for, entries_used, entries_needed}
-use Rattle.pm_disasm.specs.Split.{Part, parts, is_allowed, is_allowed_item, leads, written, written_as, ends_of, code_with, procedure_with, fits, least_from, with_count, procedure_of}
+use Rattle.pm_disasm.specs.Split.{Part, parts, is_allowed, is_allowed_item, leads, written, written_as, ends_of}
+use Rattle.pm_disasm.specs.Split.{code_with, procedure_with, fits, least_from, with_count, procedure_of}
 use Rattle.pm_disasm.specs.Laws.{StandsIn, attributes_of, IsShownAs, ProcedureIsShown}
 use Rattle.pm_disasm.proofs.Again.{later, earlier}
 use Rattle.pm_disasm.proofs.OwnCount.{own_count, own_fits, smaller_count_fails}
@@ -20,7 +22,8 @@ least_fits segment a t (suc count) = elim (cases_Bool (fits segment a t)) [
   | inr e ↦ rw e (least_fits segment a (t + 1) count)
 ]
 
-least_is : (segment : List ℕ) (a : Attributes) (u t count : ℕ) → ((n : ℕ) → n < u → fits segment a n ≡ false) → fits segment a u ≡ true → t ≤ u → u < t + count → least_from segment a t count ≡ Some u
+least_is : (segment : List ℕ) (a : Attributes) (u t count : ℕ) → ((n : ℕ) → n < u → fits segment a n ≡ false) → fits segment a u ≡ true → t ≤ u → u < t + count
+    → least_from segment a t count ≡ Some u
 least_is segment a u t zero f e low high = absurd (omega arith)
 least_is segment a u t (suc count) f e low high = elim (cases_lt t u) [
   | inl less ↦ (let w = f t less in rw w (least_is segment a u (t + 1) count f e (omega arith) (omega arith)))
@@ -71,18 +74,22 @@ none_of_part ends bytes (Some item) = chosen (leads ends false item) refl
 
 none_needed : (ends : List ℕ) (ps : List Part) → entries_needed (written ends false ps) ≡ 0
 none_needed ends [] = refl
-none_needed ends (p ∷ ps) = omega (arith, needed_of_both (written_as ends false p.bytes p.item) (written ends false ps), none_of_part ends p.bytes p.item, none_needed ends ps)
+none_needed ends (p ∷ ps) =
+    omega (arith, needed_of_both (written_as ends false p.bytes p.item) (written ends false ps), none_of_part ends p.bytes p.item, none_needed ends ps)
 
-shown_as : (segment : List ℕ) (number : ℕ) (p : Procedure) (o : Option ℕ) → StandsIn segment number p → least_from segment (attributes_of number p) 0 61 ≡ o → IsShownAs number p (with_count segment (attributes_of number p) o)
+shown_as : (segment : List ℕ) (number : ℕ) (p : Procedure) (o : Option ℕ) → StandsIn segment number p → least_from segment (attributes_of number p) 0 61 ≡ o
+    → IsShownAs number p (with_count segment (attributes_of number p) o)
 shown_as segment number p o s e = by_cases o e (subst (λ o. IfSome o (λ u. fits segment a u ≡ true)) e (least_fits segment a 0 61))
   where
     a : Attributes
     a = attributes_of number p
 
     own : AreInstructions p.items → least_from segment (attributes_of number p) 0 61 ≡ Some (length p.entries)
-    own i = least_is segment (attributes_of number p) (length p.entries) 0 61 (λ t n. smaller_count_fails segment number p t s i n) (own_fits segment number p s i) (omega arith) (omega (arith, s.procedure.used, few_needed p.start p.items s.procedure.items))
+    own i = least_is segment (attributes_of number p) (length p.entries) 0 61 (λ t n. smaller_count_fails segment number p t s i n)
+        (own_fits segment number p s i) (omega arith) (omega (arith, s.procedure.used, few_needed p.start p.items s.procedure.items))
 
-    by_cases : (o : Option ℕ) → least_from segment (attributes_of number p) 0 61 ≡ o → IfSome o (λ u. fits segment (attributes_of number p) u ≡ true) → IsShownAs number p (with_count segment (attributes_of number p) o)
+    by_cases : (o : Option ℕ) → least_from segment (attributes_of number p) 0 61 ≡ o → IfSome o (λ u. fits segment (attributes_of number p) u ≡ true)
+        → IsShownAs number p (with_count segment (attributes_of number p) o)
     by_cases None e f =
         let h = s.procedure in
         let exit : p.exit ≤ code_end p = earlier p.start p.items p.exit h.exit in
@@ -91,10 +98,18 @@ shown_as segment number p o s e = by_cases o e (subst (λ o. IfSome o (λ u. fit
           exit = omega (arith, exit);
           after = refl;
           within = tt;
-          used = sym (none_needed (ends_of (p.start + length (code_with segment (attributes_of number p) 0)) (parts (p.exit ∷ []) 0 p.start (code_with segment (attributes_of number p) 0))) (parts (p.exit ∷ []) 0 p.start (code_with segment (attributes_of number p) 0)));
+          used = sym (none_needed (ends_of (p.start + length (code_with segment (attributes_of number p) 0))
+              (parts (p.exit ∷ []) 0 p.start (code_with segment (attributes_of number p) 0)))
+              (parts (p.exit ∷ []) 0 p.start (code_with segment (attributes_of number p) 0)));
         } in
         let same = counted_shown segment number p false 0 s c in
-        record { procedure = same.procedure; start = refl; jtab = same.jtab; bytes = same.bytes; same = λ i. absurd (let w : None ≡ Some (length p.entries) = sym e ∙ own i in cc) }
+        record {
+          procedure = same.procedure;
+          start = refl;
+          jtab = same.jtab;
+          bytes = same.bytes;
+          same = λ i. absurd (let w : None ≡ Some (length p.entries) = sym e ∙ own i in cc);
+        }
     by_cases (Some t) e f =
         let same = counted_shown segment number p true t s (fits_counted segment number p t f) in
         record {
@@ -102,7 +117,8 @@ shown_as segment number p o s e = by_cases o e (subst (λ o. IfSome o (λ u. fit
           start = refl;
           jtab = same.jtab;
           bytes = same.bytes;
-          same = λ i. (let w : Some t ≡ Some (length p.entries) = sym e ∙ own i in let n : t ≡ length p.entries = cc in ap (procedure_with segment (attributes_of number p) true) n ∙ own_count segment number p s i);
+          same = λ i. (let w : Some t ≡ Some (length p.entries) = sym e
+              ∙ own i in let n : t ≡ length p.entries = cc in ap (procedure_with segment (attributes_of number p) true) n ∙ own_count segment number p s i);
         }
 
 pub procedure_is_shown : ProcedureIsShown

@@ -1,5 +1,6 @@
 -- Lines of code, item by item.
-use Rattle.std.proofs.Common.{◌≡◌, ℕ, ◌+◌, Bool, true, false, List, [], ◌∷◌, ◌++◌, refl, sym, ap, ◌∙◌, append_assoc, append-nil, subst, IfSome, Option, Some, None}
+use Rattle.std.proofs.Common.{◌≡◌, ℕ, ◌+◌, Bool, true, false, List, [], ◌∷◌, ◌++◌, refl, sym}
+use Rattle.std.proofs.Common.{ap, ◌∙◌, append_assoc, append-nil, subst, IfSome, Option, Some, None}
 use Rattle.std.specs.Prelude.{codes, ◌==◌}
 use Rattle.std.specs.Fmt.{decimal}
 use Rattle.pm_disasm.specs.Item.{Item, size}
@@ -12,7 +13,8 @@ joined_put true x xs = sym (append_assoc x (10 ∷ []) (joined xs))
 joined_put false x xs = refl
 
 -- what stands at a place, and the lines behind it
-pub joined_at : (test : ℕ → Bool) (exit at : ℕ) (rest : List (List ℕ)) → joined (lines_at_by test exit at rest) ≡ joined (lines_at_by test exit at []) ++ joined rest
+pub joined_at : (test : ℕ → Bool) (exit at : ℕ) (rest : List (List ℕ))
+    → joined (lines_at_by test exit at rest) ≡ joined (lines_at_by test exit at []) ++ joined rest
 joined_at test exit at rest =
     let label : List ℕ = label_text at ++ 58 ∷ [] in
     let out = joined_put (exit == at) (codes ".EXIT") rest in
@@ -23,13 +25,15 @@ joined_at test exit at rest =
     ∙ ap (λ u. u ++ joined rest) (sym (joined_put (test at) label mark))
 
 -- one item more
-pub item_joined : (test : ℕ → Bool) (exit at : ℕ) (before after : List ℕ) (item : Item ℕ) (rest : List (Item ℕ)) → after ≡ (before ++ joined (lines_at_by test exit at [])) ++ (codes "  " ++ (shown_item item ++ 10 ∷ []))
+pub item_joined : (test : ℕ → Bool) (exit at : ℕ) (before after : List ℕ) (item : Item ℕ) (rest : List (Item ℕ))
+    → after ≡ (before ++ joined (lines_at_by test exit at [])) ++ (codes "  " ++ (shown_item item ++ 10 ∷ []))
     → after ++ joined (code_lines_by test exit (at + size at item) rest) ≡ before ++ joined (code_lines_by test exit at (item ∷ rest))
 item_joined test exit at before after item rest e =
     let here : List ℕ = joined (lines_at_by test exit at []) in
     let line : List ℕ = codes "  " ++ (shown_item item ++ 10 ∷ []) in
     let more : List ℕ = joined (code_lines_by test exit (at + size at item) rest) in
-    let split : joined ((32 ∷ 32 ∷ shown_item item) ∷ code_lines_by test exit (at + size at item) rest) ≡ line ++ more = ap (λ u. 32 ∷ 32 ∷ u) (sym (append_assoc (shown_item item) (10 ∷ []) more)) in
+    let split : joined ((32 ∷ 32 ∷ shown_item item) ∷ code_lines_by test exit (at + size at item) rest) ≡ line ++ more =
+    ap (λ u. 32 ∷ 32 ∷ u) (sym (append_assoc (shown_item item) (10 ∷ []) more)) in
     ap (λ u. u ++ more) e
     ∙ append_assoc (before ++ here) line more
     ∙ append_assoc before here (line ++ more)
@@ -53,6 +57,8 @@ unfolding shown_item
 byte_line b = ap (λ u. codes "  .BYTE " ++ (u ++ 10 ∷ [])) (sym (append-nil (decimal b)))
 
 -- one byte more
-pub byte_joined : (test : ℕ → Bool) (exit at : ℕ) (before after : List ℕ) (b : ℕ) (rest : List (Item ℕ)) → after ≡ (before ++ joined (lines_at_by test exit at [])) ++ (codes "  .BYTE " ++ (decimal b ++ 10 ∷ []))
+pub byte_joined : (test : ℕ → Bool) (exit at : ℕ) (before after : List ℕ) (b : ℕ) (rest : List (Item ℕ))
+    → after ≡ (before ++ joined (lines_at_by test exit at [])) ++ (codes "  .BYTE " ++ (decimal b ++ 10 ∷ []))
     → after ++ joined (code_lines_by test exit (at + 1) rest) ≡ before ++ joined (code_lines_by test exit at (OneByte b ∷ rest))
-byte_joined test exit at before after b rest e = item_joined test exit at before after (OneByte b) rest (e ∙ ap (λ u. (before ++ joined (lines_at_by test exit at [])) ++ u) (byte_line b))
+byte_joined test exit at before after b rest e =
+    item_joined test exit at before after (OneByte b) rest (e ∙ ap (λ u. (before ++ joined (lines_at_by test exit at [])) ++ u) (byte_line b))

@@ -19,7 +19,8 @@ items_need bs None rest = omega (arith, bytes_need bs rest)
 items_need bs (Some item) rest = refl
 
 -- one part more
-pub needed_step : (test : ℕ → Bool) (p : Part) (ps : List Part) (n u whole : ℕ) (o : Option (Item ℕ)) → o ≡ item_led test true p.item → u ≡ used_by o → max n (entries_needed (written_by test true (p ∷ ps))) ≡ whole
+pub needed_step : (test : ℕ → Bool) (p : Part) (ps : List Part) (n u whole : ℕ) (o : Option (Item ℕ)) → o ≡ item_led test true p.item → u ≡ used_by o
+    → max n (entries_needed (written_by test true (p ∷ ps))) ≡ whole
     → max (max u n) (entries_needed (written_by test true ps)) ≡ whole
 needed_step test p ps n u whole o e s h =
     let rest : List (Item ℕ) = written_by test true ps in

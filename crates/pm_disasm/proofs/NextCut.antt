@@ -13,12 +13,14 @@ same_one : (before at next end place : ℕ) → lies before next place ≡ false
 same_one before at next end place h l m = elim (cases_lt at place) [
   | inl a ↦ (let s : nat_lt at place ≡ true = lt-ltb _ _ a in let t : nat_lt before place ≡ true = lt-ltb _ _ (omega (arith, a, l)) in rw (s, t) refl)
   | inr a ↦ (let s : nat_lt at place ≡ false = le-ltb _ _ a in elim (cases_lt before place) [
-    | inl b ↦ (let t : nat_lt before place ≡ true = lt-ltb _ _ b in let u : nat_lt place next ≡ true = lt-ltb _ _ (omega (arith, a, m)) in absurd (true≢false (sym (rw (t, u) refl) ∙ h)))
+    | inl b ↦ (let t : nat_lt before place ≡ true = lt-ltb _ _ b in let u : nat_lt place next
+        ≡ true = lt-ltb _ _ (omega (arith, a, m)) in absurd (true≢false (sym (rw (t, u) refl) ∙ h)))
     | inr b ↦ (let t : nat_lt before place ≡ false = le-ltb _ _ b in rw (s, t) refl)
   ])
 ]
 
-same_any : (forced : List ℕ) (before at next end : ℕ) → list_any (lies before next) forced ≡ false → before ≤ at → at < next → list_any (lies at end) forced ≡ list_any (lies before end) forced
+same_any : (forced : List ℕ) (before at next end : ℕ) → list_any (lies before next) forced ≡ false → before ≤ at → at < next
+    → list_any (lies at end) forced ≡ list_any (lies before end) forced
 same_any [] before at next end h l m = refl
 same_any (p ∷ forced) before at next end h l m =
     let both = or_parts (lies before next p) (list_any (lies before next) forced) h in
@@ -35,7 +37,8 @@ or_more true b c = refl
 or_more false b c = refl
 
 -- a place behind it that lies before the least so far is the least
-pub less_next : (at place next end : ℕ) (rest : Bool) → at < place → place < next → (nat_lt place end || rest) ≡ (nat_lt next end || (lies at end place || rest))
+pub less_next : (at place next end : ℕ) (rest : Bool) → at < place → place < next
+    → (nat_lt place end || rest) ≡ (nat_lt next end || (lies at end place || rest))
 less_next at place next end rest a b =
     let s : nat_lt at place ≡ true = lt-ltb _ _ a in
     elim (cases_lt place end) [
@@ -47,7 +50,8 @@ less_next at place next end rest a b =
     ]
 
 -- another place changes nothing
-pub same_next : (at place next end : ℕ) (rest : Bool) → (at < place → next ≤ place) → (nat_lt next end || rest) ≡ (nat_lt next end || (lies at end place || rest))
+pub same_next : (at place next end : ℕ) (rest : Bool) → (at < place → next ≤ place)
+    → (nat_lt next end || rest) ≡ (nat_lt next end || (lies at end place || rest))
 same_next at place next end rest h = elim (cases_lt next end) [
   | inl d ↦ (let u : nat_lt next end ≡ true = lt-ltb _ _ d in rw u refl)
   | inr d ↦ (let u : nat_lt next end ≡ false = le-ltb _ _ d in elim (cases_lt at place) [
@@ -62,7 +66,8 @@ cut forced at next f h w l =
     let t : list_any (lies at (at + f.size)) forced ≡ true = h (at + f.size) w ∙ lt-ltb _ _ l in
     rw t refl
 
-pub kept : (forced : List ℕ) (at next : ℕ) (f : Front) → IsNextCut forced at next → at + f.size < 2 ^ 64 → at + f.size ≤ next → Some f ≡ uncut forced at (Some f)
+pub kept : (forced : List ℕ) (at next : ℕ) (f : Front) → IsNextCut forced at next → at + f.size < 2 ^ 64 → at + f.size ≤ next
+    → Some f ≡ uncut forced at (Some f)
 kept forced at next f h w l =
     let t : list_any (lies at (at + f.size)) forced ≡ false = h (at + f.size) w ∙ le-ltb _ _ l in
     rw t refl

@@ -1,5 +1,6 @@
 -- What is read in bytes is what is read in more of them, where it ends within the first ones.
-use Rattle.std.proofs.Common.{◌≡◌, ◌<◌, ◌≤◌, ℕ, zero, suc, ◌+◌, ◌-◌, Bool, true, false, List, [], ◌∷◌, ◌++◌, length, map, take, drop, get_or, refl, sym, ap, ◌∙◌, arith, append_assoc, length-take-le, Option, Some, None, option_map}
+use Rattle.std.proofs.Common.{◌≡◌, ◌<◌, ◌≤◌, ℕ, zero, suc, ◌+◌, ◌-◌, Bool, true, false, List, [], ◌∷◌, ◌++◌, length, map, take}
+use Rattle.std.proofs.Common.{drop, get_or, refl, sym, ap, ◌∙◌, arith, append_assoc, length-take-le, Option, Some, None, option_map}
 use Rattle.std.specs.Prelude.{nat_le}
 use Rattle.std.specs.List.{AllByRecursion}
 use Rattle.std.proofs.Math.Seq.{drop-cons, take-append-add}
@@ -38,7 +39,8 @@ cut_again at m bytes f r e small =
     let here = clear_read at r.instr r.named r.rest r.clear in
     let size : f.size ≡ length s = ap (size_or 0) (sym e ∙ ap (front at) r.whole ∙ here) in
     let long : m ≡ length s + (m - length s) = omega (arith, size, small) in
-    let cut : take m bytes ≡ s ++ take (m - length s) r.rest = ap (take m) r.whole ∙ ap (λ n. take n (s ++ r.rest)) long ∙ take-append-add s r.rest (m - length s) in
+    let cut : take m bytes ≡ s ++ take (m - length s) r.rest = ap (take m) r.whole ∙ ap (λ n. take n (s ++ r.rest)) long
+    ∙ take-append-add s r.rest (m - length s) in
     ap (front at) cut
     ∙ clear_read at r.instr r.named (take (m - length s) r.rest) r.clear
     ∙ sym here
@@ -50,7 +52,8 @@ pub front_cut : (at m : ℕ) (bytes : List ℕ) → AllByRecursion IsByte bytes 
 front_cut at m bytes h = both (front at (take m bytes)) (front at bytes) refl refl
   where
     longer : (f : Front) (b : Bool) → nat_le f.size m ≡ b → front at bytes ≡ Some f → front at (take m bytes) ≡ None → None ≡ up_to m (Some f)
-    longer f true t e n = absurd (let same : Some f ≡ None = sym (cut_again at m bytes f (given (λ (g : Front). IsRead at bytes) (front at bytes) f e (reads at bytes h)) e (leb-true _ _ t)) ∙ n in cc)
+    longer f true t e n = absurd (let same : Some f ≡ None = sym (cut_again at m bytes f
+        (given (λ (g : Front). IsRead at bytes) (front at bytes) f e (reads at bytes h)) e (leb-true _ _ t)) ∙ n in cc)
     longer f false t e n = rw t refl
 
     both : (o p : Option Front) → front at (take m bytes) ≡ o → front at bytes ≡ p → o ≡ up_to m p
@@ -80,10 +83,12 @@ length-fronts_of at (b ∷ bytes) = ap suc (length-fronts_of (at + 1) bytes)
 pub fronts_at : (at k : ℕ) (bytes : List ℕ) → k < length bytes → get_or (fronts_of at bytes) k None ≡ front (at + k) (drop k bytes)
 fronts_at at k [] h = absurd (omega (arith, h))
 fronts_at at zero (b ∷ bytes) h = ap (λ n. front n (b ∷ bytes)) (let e : at ≡ at + 0 = omega arith in e)
-fronts_at at (suc k) (b ∷ bytes) h = fronts_at (at + 1) k bytes (omega (arith, h)) ∙ ap (λ n. front n (drop k bytes)) (let e : at + 1 + k ≡ at + suc k = omega arith in e)
+fronts_at at (suc k) (b ∷ bytes) h =
+    fronts_at (at + 1) k bytes (omega (arith, h)) ∙ ap (λ n. front n (drop k bytes)) (let e : at + 1 + k ≡ at + suc k = omega arith in e)
 
 -- What was read at each offset of a segment tells what is read in the code with which it begins.
-pub fronts_tell : (fs : List (Option code.Front)) (segment bytes : List ℕ) (end : ℕ) → AreFronts fs segment → AllByRecursion IsByte segment → end ≤ length segment → bytes ≡ take end segment → TellFronts fs bytes
+pub fronts_tell : (fs : List (Option code.Front)) (segment bytes : List ℕ) (end : ℕ) → AreFronts fs segment → AllByRecursion IsByte segment
+    → end ≤ length segment → bytes ≡ take end segment → TellFronts fs bytes
 fronts_tell fs segment bytes end a h l e =
     let size : length bytes ≡ end = ap length e ∙ length-take-le end segment l in
     let all : length fs ≡ length segment = sym (length-map fs (option_map front_seen)) ∙ ap length a ∙ length-fronts_of 0 segment in
@@ -91,16 +96,19 @@ fronts_tell fs segment bytes end a h l e =
       long = omega (arith, size, all, l);
       each = λ at i.
           let one : option_map front_seen (get_or fs at None) ≡ front at (drop at segment) =
-          sym (get_or-map (option_map front_seen) fs at None) ∙ ap (λ gs. get_or gs at None) a ∙ fronts_at 0 at segment (omega (arith, i, size, l)) ∙ ap (λ n. front n (drop at segment)) (let e : 0 + at ≡ at = omega arith in e) in
+          sym (get_or-map (option_map front_seen) fs at None) ∙ ap (λ gs. get_or gs at None) a ∙ fronts_at 0 at segment (omega (arith, i, size, l))
+          ∙ ap (λ n. front n (drop at segment)) (let e : 0 + at ≡ at = omega arith in e) in
           let m : at + (end - at) ≡ end = omega (arith, i, size) in
-          let there : drop at bytes ≡ take (end - at) (drop at segment) = ap (drop at) e ∙ ap (λ n. drop at (take n segment)) (sym m) ∙ drop-take at (end - at) segment in
+          let there : drop at bytes ≡ take (end - at) (drop at segment) =
+          ap (drop at) e ∙ ap (λ n. drop at (take n segment)) (sym m) ∙ drop-take at (end - at) segment in
           ap (λ n. up_to (n - at) (option_map front_seen (get_or fs at None))) size
           ∙ ap (up_to (end - at)) one
           ∙ sym (ap (front at) there ∙ front_cut at (end - at) (drop at segment) (drop-bytes at segment h));
     }
 
 -- what was read up to an offset and there, with what is read behind it
-pub next_front : (segment : List ℕ) (at : ℕ) (fs : List (Option code.Front)) (f : Option code.Front) (more : List (Option code.Front)) → at < length segment → more ≡ fs ++ f ∷ [] → option_map front_seen f ≡ front at (drop at segment)
+pub next_front : (segment : List ℕ) (at : ℕ) (fs : List (Option code.Front)) (f : Option code.Front) (more : List (Option code.Front)) → at < length segment
+    → more ≡ fs ++ f ∷ [] → option_map front_seen f ≡ front at (drop at segment)
     → map (option_map front_seen) more ++ fronts_of (at + 1) (drop (at + 1) segment) ≡ map (option_map front_seen) fs ++ fronts_of at (drop at segment)
 next_front segment at fs f more h e r =
     let seen = option_map front_seen in
@@ -118,4 +126,5 @@ next_front segment at fs f more h e r =
 
 -- what is read at a place has bytes
 pub some_size : (bytes : List ℕ) (at : ℕ) (f : code.Front) → AllByRecursion IsByte bytes → Some (front_seen f) ≡ front at (drop at bytes) → 0 < f.size
-some_size bytes at f h e = (given (Fronts at (drop at bytes)) (front at (drop at bytes)) (front_seen f) (sym e) (fronts at (drop at bytes) (drop-bytes at bytes h))).some
+some_size bytes at f h e =
+    (given (Fronts at (drop at bytes)) (front at (drop at bytes)) (front_seen f) (sym e) (fronts at (drop at bytes) (drop-bytes at bytes h))).some

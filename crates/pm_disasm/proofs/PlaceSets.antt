@@ -1,5 +1,6 @@
 -- Sets of places, place by place.
-use Rattle.std.proofs.Common.{◌≡◌, ◌<◌, ◌≤◌, ℕ, ◌+◌, ◌-◌, ◌*◌, ◌/◌, ◌%◌, Bool, true, false, List, [], ◌∷◌, ◌++◌, length, map, drop, get_or, refl, sym, ap, ◌∙◌, arith, append-nil, append_assoc, zero, suc, Option, Some, None, inl, inr}
+use Rattle.std.proofs.Common.{◌≡◌, ◌<◌, ◌≤◌, ℕ, ◌+◌, ◌-◌, ◌*◌, ◌/◌, ◌%◌, Bool, true, false, List, [], ◌∷◌, ◌++◌, length, map, drop}
+use Rattle.std.proofs.Common.{get_or, refl, sym, ap, ◌∙◌, arith, append-nil, append_assoc, zero, suc, Option, Some, None, inl, inr}
 use Rattle.std.specs.Prelude.{◌&&◌, ◌||◌, ◌==◌, nat_le}
 use Rattle.std.specs.List.{list_all}
 use Rattle.std.proofs.lemmas.Bool.{and_parts, leb-true, cases_lt, true≢false}
@@ -41,7 +42,8 @@ shuffle true false c = refl
 shuffle false b c = refl
 
 -- one place of a table more
-pub table_step : (bs : List ℕ) (at k p q : ℕ) (new old whole : Bool) → 2 * k + 1 < length bs → p ≡ (at + 2 * k + 65536 - (get_or bs (2 * k) 0 + 256 * get_or bs (2 * k + 1) 0)) % 65536 → new ≡ ((p == q) || old)
+pub table_step : (bs : List ℕ) (at k p q : ℕ) (new old whole : Bool) → 2 * k + 1 < length bs
+    → p ≡ (at + 2 * k + 65536 - (get_or bs (2 * k) 0 + 256 * get_or bs (2 * k + 1) 0)) % 65536 → new ≡ ((p == q) || old)
     → (is_among (table_places (at + 2 * k) (words_of (drop (2 * k) bs))) q || old) ≡ whole
     → (is_among (table_places (at + 2 * (k + 1)) (words_of (drop (2 * (k + 1)) bs))) q || new) ≡ whole
 table_step bs at k p q new old whole h e n i =
@@ -53,18 +55,21 @@ table_step bs at k p q new old whole h e n i =
     ∙ i
 
 -- the next place of a table that lies in a set, and those behind it
-pub table_within : (test : ℕ → Bool) (bs : List ℕ) (at k p : ℕ) → 2 * k + 1 < length bs → p ≡ (at + 2 * k + 65536 - (get_or bs (2 * k) 0 + 256 * get_or bs (2 * k + 1) 0)) % 65536
+pub table_within : (test : ℕ → Bool) (bs : List ℕ) (at k p : ℕ) → 2 * k + 1 < length bs
+    → p ≡ (at + 2 * k + 65536 - (get_or bs (2 * k) 0 + 256 * get_or bs (2 * k + 1) 0)) % 65536
     → list_all test (table_places (at + 2 * k) (words_of (drop (2 * k) bs))) ≡ true
     → (test p ≡ true) × (list_all test (table_places (at + 2 * (k + 1)) (words_of (drop (2 * (k + 1)) bs))) ≡ true)
 table_within test bs at k p h e i =
     let rest : List ℕ = table_places (at + 2 * (k + 1)) (words_of (drop (2 * (k + 1)) bs)) in
     and_parts (test p) (list_all test rest) (ap (λ q. test q && list_all test rest) e ∙ ap (list_all test) (sym (next_place bs at k h)) ∙ i)
 
-pub table_done : (bs : List ℕ) (at k q : ℕ) (now whole : Bool) → length bs / 2 ≤ k → (is_among (table_places (at + 2 * k) (words_of (drop (2 * k) bs))) q || now) ≡ whole → now ≡ whole
+pub table_done : (bs : List ℕ) (at k q : ℕ) (now whole : Bool) → length bs / 2 ≤ k
+    → (is_among (table_places (at + 2 * k) (words_of (drop (2 * k) bs))) q || now) ≡ whole → now ≡ whole
 table_done bs at k q now whole h i = ap (λ ps. is_among ps q || now) (sym (no_place bs at k h)) ∙ i
 
 -- one entry more
-pub entry_step : (es : List ℕ) (e q : ℕ) (new old whole : Bool) → new ≡ ((e == q) || old) → (old || is_among (e ∷ es) q) ≡ whole → (new || is_among es q) ≡ whole
+pub entry_step : (es : List ℕ) (e q : ℕ) (new old whole : Bool) → new ≡ ((e == q) || old) → (old || is_among (e ∷ es) q) ≡ whole
+    → (new || is_among es q) ≡ whole
 entry_step es e q new old whole n i = ap (λ b. b || is_among es q) n ∙ swap (e == q) old (is_among es q) ∙ i
   where
     swap : (a b c : Bool) → ((a || b) || c) ≡ (b || (a || c))
@@ -97,7 +102,8 @@ items_name bs None = bytes_name bs
 items_name bs (Some item) = append-nil (item_places item)
 
 -- one part more
-pub part_step : (test : ℕ → Bool) (allowed : Bool) (p : Part) (ps : List Part) (q : ℕ) (new old whole : Bool) (o : Option (Item ℕ)) → o ≡ item_led test allowed p.item → new ≡ (is_among (places_by o) q || old)
+pub part_step : (test : ℕ → Bool) (allowed : Bool) (p : Part) (ps : List Part) (q : ℕ) (new old whole : Bool) (o : Option (Item ℕ))
+    → o ≡ item_led test allowed p.item → new ≡ (is_among (places_by o) q || old)
     → (old || is_among (named_places (written_by test allowed (p ∷ ps))) q) ≡ whole → (new || is_among (named_places (written_by test allowed ps)) q) ≡ whole
 part_step test allowed p ps q new old whole o e n i =
     let rest : List (Item ℕ) = written_by test allowed ps in

@@ -1,5 +1,6 @@
 -- An instruction is read in its own bytes, whatever follows.
-use Rattle.std.proofs.Common.{◌≡◌, ◌<◌, ℕ, ◌+◌, ◌-◌, ◌*◌, ◌/◌, ◌%◌, Bool, true, false, cond, ltb, List, [], ◌∷◌, ◌++◌, length, drop, refl, sym, ap, ◌∙◌, arith, inl, inr, append_assoc, Option, Some, Ok}
+use Rattle.std.proofs.Common.{◌≡◌, ◌<◌, ℕ, ◌+◌, ◌-◌, ◌*◌, ◌/◌, ◌%◌, Bool, true, false, cond, ltb, List, [], ◌∷◌}
+use Rattle.std.proofs.Common.{◌++◌, length, drop, refl, sym, ap, ◌∙◌, arith, inl, inr, append_assoc, Option, Some, Ok}
 use Rattle.std.specs.Prelude.{◌&&◌, nat_le, ◌==◌, replicate}
 use Rattle.std.specs.List.{AllByRecursion}
 use Rattle.std.proofs.Math.Seq.{drop-append_seam}
@@ -10,12 +11,13 @@ use Rattle.pm_opcode.specs.declared.operand_form.Form.{Form}
 use Rattle.pm_opcode.specs.declared.operand_form.Form.TheVariants as forms
 use Rattle.pm_opcode.specs.declared.instr.Instr.{Instr}
 use Rattle.pm_opcode.specs.Table.{groups, form_of}
-use Rattle.pm_opcode.specs.Spelling.{spelling, operands, is_odd, is_sized, in_range, jump_count, names_bytes, named_by, signed_byte}
-use Rattle.pm_opcode.specs.Standing.{clear, standing}
+use Rattle.pm_opcode.specs.Spelling.{spelling, spelled_operands, is_odd, is_sized, in_range, jump_count, names_bytes, named_by, signed_byte}
+use Rattle.pm_opcode.specs.Standing.{clear, placed_at}
 use Rattle.pm_opcode.specs.Reading.{reading}
 use Rattle.pm_opcode.proofs.ReadAgain.{spelled_read, named_at}
 use Rattle.pm_words.specs.Words.{words_of}
-use Rattle.pm_disasm.specs.Item.{Item, Target, IsItem, IsPlain, IsCase, IsNear, item_bytes, size, is_instruction, names_place, jump_byte, table_place, table_words}
+use Rattle.pm_disasm.specs.Item.{Item, Target, IsItem, IsPlain, IsCase, IsNear, item_bytes, size}
+use Rattle.pm_disasm.specs.Item.{is_instruction, names_place, jump_byte, table_place, table_words}
 use Rattle.pm_disasm.specs.Item.Item.{Plain, Jump, Case, OneByte}
 use Rattle.pm_disasm.specs.Item.Target.{To, Through}
 use Rattle.pm_disasm.specs.Split.{Front, front, front_by, item_of, has_zero_padding, standing_at, target_of, jump_item, table_places, by_operands}
@@ -25,7 +27,8 @@ pub drop-standing : (at : ℕ) (bytes : List ℕ) → drop at (standing_at at by
 drop-standing at bytes = ap (λ n. drop n (standing_at at bytes)) (sym (length-replicate at 0)) ∙ drop-append_seam (replicate at 0) bytes
 
 -- zero padding is seen as zero
-padded_zero : (form : Form) (odd : Bool) (i : Instr) (named rest : List ℕ) → has_zero_padding form odd (i.op ∷ (operands form odd 0 i named ++ rest)) ≡ true
+padded_zero : (form : Form) (odd : Bool) (i : Instr) (named rest : List ℕ)
+    → has_zero_padding form odd (i.op ∷ (spelled_operands form odd 0 i named ++ rest)) ≡ true
 padded_zero forms.Words true i named rest = refl
 padded_zero forms.Words false i named rest = refl
 padded_zero forms.Jumps true i named rest = refl
@@ -58,25 +61,41 @@ abbrev pub placed : ℕ → Instr → List ℕ → Instr
 placed at i named = let len = length (spelling (is_odd at) 0 i named) in
     record i { start = cond (names_bytes (form_of i.op)) (at + len - i.count) 0; len = len }
 
-placed_names : (at : ℕ) (i : Instr) (named rest : List ℕ) → IsClear i named → named_by (placed at i named) (standing_at at (spelling (is_odd at) 0 i named ++ rest)) ≡ named
+placed_names : (at : ℕ) (i : Instr) (named rest : List ℕ) → IsClear i named
+    → named_by (placed at i named) (standing_at at (spelling (is_odd at) 0 i named ++ rest)) ≡ named
 placed_names at i named rest h =
     let all : List ℕ = standing_at at (spelling (is_odd at) 0 i named ++ rest) in
     elim (cases_Bool (names_bytes (form_of i.op))) [
-      | inl n ↦ rw n (named_at all at i named rest 0 (at + length (spelling (is_odd at) 0 i named) - i.count) n h.count (drop-standing at (spelling (is_odd at) 0 i named ++ rest)) refl)
+      | inl n ↦ rw n (named_at all at i named rest 0 (at + length (spelling (is_odd at) 0 i named) - i.count) n h.count
+          (drop-standing at (spelling (is_odd at) 0 i named ++ rest)) refl)
       | inr n ↦ rw n (nothing_named named (h.count ∙ no_count (form_of i.op) i n h.fields))
     ]
 
 -- What is read in the bytes of such an instruction.
 pub clear_read : (at : ℕ) (i : Instr) (named rest : List ℕ) → IsClear i named
-    → front at (spelling (is_odd at) 0 i named ++ rest) ≡ Some (record { size = length (spelling (is_odd at) 0 i named); item = item_of (form_of i.op) (placed at i named) named (at + length (spelling (is_odd at) 0 i named)) })
+    → front at (spelling (is_odd at) 0 i named ++ rest) ≡ Some (record {
+      size = length (spelling (is_odd at) 0 i named);
+      item = item_of (form_of i.op) (placed at i named) named (at + length (spelling (is_odd at) 0 i named));
+    })
 unfolding front
 clear_read at i named rest h =
     let bytes : List ℕ = spelling (is_odd at) 0 i named ++ rest in
-    let read : reading (standing_at at bytes) at ≡ Ok (standing at i named) = spelled_read (standing_at at bytes) at i named (record { ranges = h.ranges; count = λ n. h.count; pad = 0; rest = rest; whole = drop-standing at bytes }) in
+    let read : reading (standing_at at bytes) at ≡ Ok (placed_at at i named) =
+    spelled_read (standing_at at bytes) at i named (record {
+      ranges = h.ranges;
+      count = λ n. h.count;
+      pad = 0;
+      rest = rest;
+      whole = drop-standing at bytes;
+    }) in
     let len = length (spelling (is_odd at) 0 i named) in
-    let here : standing at i named ≡ placed at i named = ap (λ (j : Instr). record j { start = cond (names_bytes (form_of i.op)) (at + len - j.count) 0; len = len }) h.fields in
+    let here : placed_at at i named ≡ placed at i named = ap (λ (j : Instr). record j {
+      start = cond (names_bytes (form_of i.op)) (at + len - j.count) 0;
+      len = len;
+    }) h.fields in
     ap (front_by at bytes) (read ∙ ap Ok here)
-    ∙ rw (padded_zero (form_of i.op) (is_odd at) i named rest) (ap (λ names. Some (record { size = len; item = item_of (form_of i.op) (placed at i named) names (at + len) })) (placed_names at i named rest h))
+    ∙ rw (padded_zero (form_of i.op) (is_odd at) i named rest) (ap
+    (λ names. Some (record { size = len; item = item_of (form_of i.op) (placed at i named) names (at + len) })) (placed_names at i named rest h))
 
 -- what the item of an instruction is that names no place
 plain_item : (form : Form) (i : Instr) (named : List ℕ) (end : ℕ) → names_place form ≡ false → item_of form i named end ≡ Some (Plain (by_operands i) named)
@@ -95,7 +114,8 @@ plain_read : (at : ℕ) (i : Instr) (named rest : List ℕ) → IsPlain i named 
 plain_read at i named rest h =
     let len = length (spelling (is_odd at) 0 i named) in
     clear_read at i named rest (record { ranges = h.ranges; fields = h.fields; count = h.count })
-    ∙ ap (λ item. Some (record { size = len; item = item })) (plain_item (form_of i.op) (placed at i named) named (at + len) h.form ∙ ap (λ j. Some (Plain j named)) (by_operands_alone i h.nowhere.0 h.nowhere.1))
+    ∙ ap (λ item. Some (record { size = len; item = item })) (plain_item (form_of i.op) (placed at i named) named (at + len) h.form
+    ∙ ap (λ j. Some (Plain j named)) (by_operands_alone i h.nowhere.0 h.nowhere.1))
 
 -- the byte of a target is read as it
 pub target_again : (next : ℕ) (target : Target ℕ) → IsNear next target → target_of next (jump_byte next target) ≡ Some target
@@ -124,7 +144,8 @@ signed_byte-low b h = elim (cases_lt b 128) [
 abbrev jump_instr : ℕ → ℕ → Instr
 jump_instr op b = record { op = op; a = signed_byte b; b = 0; c = 0; long = false; start = 0; count = 0; len = 0 }
 
-jump_read : (at op : ℕ) (target : Target ℕ) (rest : List ℕ) → form_of op ≡ forms.Sb → IsNear (at + 2) target → front at (item_bytes at (Jump op target) ++ rest) ≡ found at (Jump op target)
+jump_read : (at op : ℕ) (target : Target ℕ) (rest : List ℕ) → form_of op ≡ forms.Sb → IsNear (at + 2) target
+    → front at (item_bytes at (Jump op target) ++ rest) ≡ found at (Jump op target)
 jump_read at op target rest f h =
     let b = jump_byte (at + 2) target in
     let i = jump_instr op b in
@@ -133,7 +154,8 @@ jump_read at op target rest f h =
     let text : spelling (is_odd at) 0 i [] ≡ op ∷ b ∷ [] = rw f (ap (λ c. op ∷ c ∷ []) low) in
     ap (λ bs. front at (bs ++ rest)) (sym text)
     ∙ clear_read at i [] rest clear
-    ∙ rw f (ap (λ c. Some (record { size = 2; item = jump_item op (target_of (at + 2) c) })) low ∙ ap (λ t. Some (record { size = 2; item = jump_item op t })) (target_again (at + 2) target h))
+    ∙ rw f (ap (λ c. Some (record { size = 2; item = jump_item op (target_of (at + 2) c) })) low
+    ∙ ap (λ t. Some (record { size = 2; item = jump_item op t })) (target_again (at + 2) target h))
 
 pub case_form : form_of 172 ≡ forms.Jumps
 unfolding form_of groups
@@ -166,14 +188,16 @@ case_read at low high otherwise places rest h =
     let first : (185 + 256 * b) % 256 ≡ 185 = omega arith in
     let second : (185 + 256 * b) / 256 ≡ b = omega arith in
     let text : spelling (is_odd at) 0 i named ≡ item_bytes at (Case low high otherwise places) = rw case_form (simp (append_assoc, first, second) refl) in
-    let len : length (spelling (is_odd at) 0 i named) ≡ size at (Case low high otherwise places) = ap length text ∙ length-item at (Case low high otherwise places) in
+    let len : length (spelling (is_odd at) 0 i named) ≡ size at (Case low high otherwise places) =
+    ap length text ∙ length-item at (Case low high otherwise places) in
     let begins : at + size at (Case low high otherwise places) - count ≡ table = omega (arith, h.count) in
     ap (λ bs. front at (bs ++ rest)) (sym text)
     ∙ clear_read at i named rest clear
     ∙ rw (len, case_form) (rw (first, begins, second, target_again table otherwise h.near, places_again table places h.within) refl)
 
 -- An instruction is read in its own bytes, whatever follows.
-pub instruction_is_read : (at : ℕ) (item : Item ℕ) (rest : List ℕ) → IsItem at item → is_instruction item ≡ true → front at (item_bytes at item ++ rest) ≡ found at item
+pub instruction_is_read : (at : ℕ) (item : Item ℕ) (rest : List ℕ) → IsItem at item → is_instruction item ≡ true
+    → front at (item_bytes at item ++ rest) ≡ found at item
 instruction_is_read at (Plain i named) rest h e = plain_read at i named rest h
 instruction_is_read at (Jump op target) rest h e = jump_read at op target rest h.0 h.2
 instruction_is_read at (Case low high otherwise places) rest h e = case_read at low high otherwise places rest h

@@ -1,5 +1,6 @@
 -- Code as it is read with a count of entries.
-use Rattle.std.proofs.Common.{◌≡◌, ◌<◌, ◌≤◌, ℕ, zero, suc, ◌+◌, ◌-◌, ◌*◌, Bool, true, false, List, [], ◌∷◌, ◌++◌, length, map, take, drop, refl, sym, ap, ◌∙◌, arith, length-drop, length-take-le, subst, IfSome, Option, Some, None}
+use Rattle.std.proofs.Common.{◌≡◌, ◌<◌, ◌≤◌, ℕ, zero, suc, ◌+◌, ◌-◌, ◌*◌, Bool, true, false, List, [], ◌∷◌, ◌++◌, length, map}
+use Rattle.std.proofs.Common.{take, drop, refl, sym, ap, ◌∙◌, arith, length-drop, length-take-le, subst, IfSome, Option, Some, None}
 use Rattle.std.specs.Prelude.{◌&&◌, ◌==◌, nat_le, codes}
 use Rattle.std.specs.List.{AllByRecursion, list_all}
 use Rattle.std.proofs.lemmas.Bool.{and_from, and_parts, eq-eqb, eqb-true, leb-true, le-leb}
@@ -10,7 +11,8 @@ use Rattle.pm_disasm.specs.declared.counts.Reading.{Reading}
 use Rattle.pm_disasm.specs.Item.{Item, size}
 use Rattle.pm_disasm.specs.Program.{entries_needed, is_among, item_places}
 use Rattle.pm_disasm.specs.Shown.{code_lines, lines_at, put_if, shown_item, label_text}
-use Rattle.pm_disasm.specs.Split.{Part, are_after, code_with, end_with, ends_of, entry_places, fits, is_allowed_item, least_from, parts, procedure_of, procedure_with, with_count, written, written_as}
+use Rattle.pm_disasm.specs.Split.{Part, are_after, code_with, end_with, ends_of, entry_places, fits, is_allowed_item}
+use Rattle.pm_disasm.specs.Split.{least_from, parts, procedure_of, procedure_with, with_count, written, written_as}
 use Rattle.pm_disasm.specs.Follow.{Follow, code_lines_by, item_led, items_or_bytes, leading, lines_at_by, written_by}
 use Rattle.pm_disasm.specs.Chosen.{IsReading, IsTable, are_inside, can_read, forced_with, parts_with}
 use Rattle.pm_disasm.specs.Views.{IsSetOf, has, part_seen}
@@ -22,7 +24,8 @@ code_there segment a t h =
     ap (λ n. drop a.enter (take n segment)) size ∙ drop-take a.enter (end_with a t - a.enter) segment
 
 -- each entry lies in the code
-pub entries_inside : (segment : List ℕ) (a : Attributes) (end jtab k count : ℕ) → are_inside segment a end jtab k count ≡ true → AllByRecursion (λ place. (a.enter ≤ place) × (place ≤ end)) (entry_places segment jtab k count)
+pub entries_inside : (segment : List ℕ) (a : Attributes) (end jtab k count : ℕ) → are_inside segment a end jtab k count ≡ true
+    → AllByRecursion (λ place. (a.enter ≤ place) × (place ≤ end)) (entry_places segment jtab k count)
 entries_inside segment a end jtab k zero h = tt
 entries_inside segment a end jtab k (suc count) h =
     let at : ℕ = jtab - 10 - 2 * k in
@@ -37,28 +40,33 @@ same_all : (f g : ℕ → Bool) (xs : List ℕ) → ((x : ℕ) → f x ≡ g x) 
 same_all f g [] e = refl
 same_all f g (x ∷ xs) e = ap (λ b. b && list_all f xs) (e x) ∙ ap (λ b. g x && b) (same_all f g xs e)
 
-same_part : (test : ℕ → Bool) (ends : List ℕ) (allowed : Bool) (bytes : List ℕ) (o : Option (Item ℕ)) → ((x : ℕ) → test x ≡ is_among ends x) → items_or_bytes bytes (item_led test allowed o) ≡ written_as ends allowed bytes o
+same_part : (test : ℕ → Bool) (ends : List ℕ) (allowed : Bool) (bytes : List ℕ) (o : Option (Item ℕ)) → ((x : ℕ) → test x ≡ is_among ends x)
+    → items_or_bytes bytes (item_led test allowed o) ≡ written_as ends allowed bytes o
 same_part test ends allowed bytes None e = refl
 same_part test ends allowed bytes (Some item) e = go (leading (is_among ends) allowed item) refl
   where
     same : leading test allowed item ≡ leading (is_among ends) allowed item
     same = ap (λ b. is_allowed_item allowed item && b) (same_all test (is_among ends) (item_places item) e)
 
-    go : (b : Bool) → leading (is_among ends) allowed item ≡ b → items_or_bytes bytes (item_led test allowed (Some item)) ≡ written_as ends allowed bytes (Some item)
+    go : (b : Bool) → leading (is_among ends) allowed item ≡ b → items_or_bytes bytes (item_led test allowed (Some item))
+        ≡ written_as ends allowed bytes (Some item)
     go true h = rw (same ∙ h, h) refl
     go false h = rw (same ∙ h, h) refl
 
 -- what is written by a test of the boundaries is what is written by their list
-pub same_written : (test : ℕ → Bool) (ends : List ℕ) (allowed : Bool) (ps : List Part) → ((x : ℕ) → test x ≡ is_among ends x) → written_by test allowed ps ≡ written ends allowed ps
+pub same_written : (test : ℕ → Bool) (ends : List ℕ) (allowed : Bool) (ps : List Part) → ((x : ℕ) → test x ≡ is_among ends x)
+    → written_by test allowed ps ≡ written ends allowed ps
 same_written test ends allowed [] e = refl
 same_written test ends allowed (p ∷ ps) e =
     ap (λ xs. xs ++ written_by test allowed ps) (same_part test ends allowed p.bytes p.item e)
     ∙ ap (λ xs. written_as ends allowed p.bytes p.item ++ xs) (same_written test ends allowed ps e)
 
-same_at : (test : ℕ → Bool) (used : List ℕ) (exit at : ℕ) (rest : List (List ℕ)) → ((x : ℕ) → test x ≡ is_among used x) → lines_at_by test exit at rest ≡ lines_at used exit at rest
+same_at : (test : ℕ → Bool) (used : List ℕ) (exit at : ℕ) (rest : List (List ℕ)) → ((x : ℕ) → test x ≡ is_among used x)
+    → lines_at_by test exit at rest ≡ lines_at used exit at rest
 same_at test used exit at rest e = ap (λ b. put_if b (label_text at ++ 58 ∷ []) (put_if (exit == at) (codes ".EXIT") rest)) (e at)
 
-pub same_lines : (test : ℕ → Bool) (used : List ℕ) (exit at : ℕ) (items : List (Item ℕ)) → ((x : ℕ) → test x ≡ is_among used x) → code_lines_by test exit at items ≡ code_lines used exit at items
+pub same_lines : (test : ℕ → Bool) (used : List ℕ) (exit at : ℕ) (items : List (Item ℕ)) → ((x : ℕ) → test x ≡ is_among used x)
+    → code_lines_by test exit at items ≡ code_lines used exit at items
 same_lines test used exit at [] e = same_at test used exit at [] e
 same_lines test used exit at (item ∷ items) e =
     ap (λ ls. lines_at_by test exit at ((32 ∷ 32 ∷ shown_item item) ∷ ls)) (same_lines test used exit (at + size at item) items e)
@@ -69,7 +77,8 @@ pub items_read : (segment : List ℕ) (a : Attributes) (t : ℕ) (r : Reading) (
     → written_by (has r.code.boundaries) allowed (map part_seen r.code.parts.items) ≡ (procedure_with segment a allowed t).items
 items_read segment a t r allowed w h =
     let ps : List Part = parts_with segment a t in
-    let long : a.enter + length (code_with segment a t) ≡ end_with a t = omega (arith, length-take-le (end_with a t - a.enter) (drop a.enter segment) (omega (arith, length-drop a.enter segment, w.within)), h.order, h.end) in
+    let long : a.enter + length (code_with segment a t) ≡ end_with a t =
+    omega (arith, length-take-le (end_with a t - a.enter) (drop a.enter segment) (omega (arith, length-drop a.enter segment, w.within)), h.order, h.end) in
     ap (written_by (has r.code.boundaries) allowed) h.parts
     ∙ same_written (has r.code.boundaries) (ends_of (end_with a t) ps) allowed ps h.boundaries
     ∙ ap (λ n. written (ends_of n ps) allowed ps) (sym long)
@@ -82,7 +91,8 @@ order true false false l n = refl
 order false x f l n = refl
 
 -- a count fits that can be read and that is taken
-pub fits_if : (segment : List ℕ) (a : Attributes) (t : ℕ) → a.enter ≤ a.exit → fits segment a t ≡ (can_read segment a t && (t == entries_needed (procedure_with segment a true t).items))
+pub fits_if : (segment : List ℕ) (a : Attributes) (t : ℕ) → a.enter ≤ a.exit
+    → fits segment a t ≡ (can_read segment a t && (t == entries_needed (procedure_with segment a true t).items))
 fits_if segment a t h =
     let in_order : nat_le a.enter a.exit ≡ true = le-leb _ _ h in
     let end : ℕ = end_with a t in
@@ -103,47 +113,57 @@ pub record Pieces (fs bs : List ℕ) (r : Reading) (begin : ℕ) : Type 0 where
   pub from : r.code.boundaries.begin ≡ begin
   pub size : length r.code.boundaries.marks.items ≡ length bs - begin + 1
 
-reading_from : (segment : List ℕ) (a : Attributes) (t : ℕ) (r : Reading) (fs bs : List ℕ) → IsTable segment a → length segment ≤ 65534 → r.forced.items ≡ forced_with segment a t → r.end ≡ end_with a t → a.enter ≤ r.end → are_inside segment a (end_with a t) a.jtab 0 t ≡ true
+reading_from : (segment : List ℕ) (a : Attributes) (t : ℕ) (r : Reading) (fs bs : List ℕ) → IsTable segment a → length segment ≤ 65534
+    → r.forced.items ≡ forced_with segment a t → r.end ≡ end_with a t → a.enter ≤ r.end → are_inside segment a (end_with a t) a.jtab 0 t ≡ true
     → fs ≡ r.forced.items → bs ≡ take r.end segment → Pieces fs bs r a.enter → IsReading segment a t r
 reading_from segment a t r fs bs w short f e order within same_forced same_bytes ps =
     let long : length bs ≡ r.end = ap length same_bytes ∙ length-take-le r.end segment (omega (arith, e, w.within)) in
     let places : fs ≡ forced_with segment a t = same_forced ∙ f in
-    let code : drop a.enter bs ≡ code_with segment a t = ap (drop a.enter) (same_bytes ∙ ap (λ n. take n segment) e) ∙ code_there segment a t (omega (arith, order, e)) in
-    let whole : parts fs 0 a.enter (drop a.enter bs) ≡ parts_with segment a t = ap (λ xs. parts xs 0 a.enter (drop a.enter bs)) places ∙ ap (parts (forced_with segment a t) 0 a.enter) code in
+    let code : drop a.enter bs ≡ code_with segment a t = ap (drop a.enter) (same_bytes ∙ ap (λ n. take n segment) e)
+    ∙ code_there segment a t (omega (arith, order, e)) in
+    let whole : parts fs 0 a.enter (drop a.enter bs) ≡ parts_with segment a t =
+    ap (λ xs. parts xs 0 a.enter (drop a.enter bs)) places ∙ ap (parts (forced_with segment a t) 0 a.enter) code in
     record {
       forced = f;
       end = e;
       order = order;
       short = omega (arith, e, w.within, short);
       parts = ps.parts ∙ whole;
-      boundaries = λ place. ps.boundaries place ∙ ap (λ n. is_among (ends_of n (parts fs 0 a.enter (drop a.enter bs))) place) (long ∙ e) ∙ ap (λ qs. is_among (ends_of (end_with a t) qs) place) whole;
+      boundaries = λ place. ps.boundaries place ∙ ap (λ n. is_among (ends_of n (parts fs 0 a.enter (drop a.enter bs))) place) (long ∙ e)
+          ∙ ap (λ qs. is_among (ends_of (end_with a t) qs) place) whole;
       begin = ps.from;
       size = ps.size ∙ ap (λ n. n - a.enter + 1) long;
       follow = subst (λ n. Follow a.enter n (map part_seen r.code.parts.items)) long ps.follow;
-      inside = subst (λ n. AllByRecursion (λ place. (a.enter ≤ place) × (place ≤ n)) (entry_places segment a.jtab 0 t)) (sym e) (entries_inside segment a (end_with a t) a.jtab 0 t within);
+      inside = subst (λ n. AllByRecursion (λ place. (a.enter ≤ place) × (place ≤ n)) (entry_places segment a.jtab 0 t)) (sym e)
+          (entries_inside segment a (end_with a t) a.jtab 0 t within);
     }
 
 -- what is read, from what its parts are
-pub is_reading : (segment : List ℕ) (a : Attributes) (t : ℕ) (r : Reading) (fs bs : List ℕ) (begin : ℕ) → begin ≡ a.enter → IsTable segment a → length segment ≤ 65534 → r.forced.items ≡ forced_with segment a t → r.end ≡ end_with a t → a.enter ≤ r.end → are_inside segment a (end_with a t) a.jtab 0 t ≡ true
+pub is_reading : (segment : List ℕ) (a : Attributes) (t : ℕ) (r : Reading) (fs bs : List ℕ) (begin : ℕ) → begin ≡ a.enter → IsTable segment a
+    → length segment ≤ 65534 → r.forced.items ≡ forced_with segment a t → r.end ≡ end_with a t → a.enter ≤ r.end
+    → are_inside segment a (end_with a t) a.jtab 0 t ≡ true
     → fs ≡ r.forced.items → bs ≡ take r.end segment → Pieces fs bs r begin → IsReading segment a t r
 is_reading segment a t r fs bs begin at w short f e order within same_forced same_bytes ps =
     reading_from segment a t r fs bs w short f e order within same_forced same_bytes (subst (Pieces fs bs r) at ps)
 
 -- the least count that fits
-pub count_fits : (segment : List ℕ) (a : Attributes) (k : ℕ) → k < 61 → true ≡ fits segment a k → least_from segment a k (61 - k) ≡ least_from segment a 0 61 → procedure_of segment a ≡ procedure_with segment a true k
+pub count_fits : (segment : List ℕ) (a : Attributes) (k : ℕ) → k < 61 → true ≡ fits segment a k → least_from segment a k (61 - k) ≡ least_from segment a 0 61
+    → procedure_of segment a ≡ procedure_with segment a true k
 unfolding procedure_of
 count_fits segment a k h f i =
     let more : 61 - k ≡ suc (60 - k) = omega arith in
     let least : least_from segment a k (61 - k) ≡ Some k = ap (least_from segment a k) more ∙ rw (sym f) refl in
     ap (with_count segment a) (sym i ∙ least)
 
-pub count_fails : (segment : List ℕ) (a : Attributes) (k : ℕ) (whole : Option ℕ) → k < 61 → false ≡ fits segment a k → least_from segment a k (61 - k) ≡ whole → least_from segment a (k + 1) (61 - (k + 1)) ≡ whole
+pub count_fails : (segment : List ℕ) (a : Attributes) (k : ℕ) (whole : Option ℕ) → k < 61 → false ≡ fits segment a k → least_from segment a k (61 - k) ≡ whole
+    → least_from segment a (k + 1) (61 - (k + 1)) ≡ whole
 count_fails segment a k whole h f i =
     let more : 61 - k ≡ suc (61 - (k + 1)) = omega arith in
     let least : least_from segment a k (suc (61 - (k + 1))) ≡ least_from segment a (k + 1) (61 - (k + 1)) = rw (sym f) refl in
     sym least ∙ ap (least_from segment a k) (sym more) ∙ i
 
-pub none_fits : (segment : List ℕ) (a : Attributes) (k : ℕ) → 61 ≤ k → least_from segment a k (61 - k) ≡ least_from segment a 0 61 → procedure_of segment a ≡ procedure_with segment a false 0
+pub none_fits : (segment : List ℕ) (a : Attributes) (k : ℕ) → 61 ≤ k → least_from segment a k (61 - k) ≡ least_from segment a 0 61
+    → procedure_of segment a ≡ procedure_with segment a false 0
 unfolding procedure_of
 none_fits segment a k h i =
     let none : 61 - k ≡ 0 = omega arith in
@@ -166,14 +186,16 @@ and_false false = refl
 abbrev Needed : Reading → ℕ
 Needed r = entries_needed (written_by (has r.code.boundaries) true (map part_seen r.code.parts.items))
 
-pub not_taken : (segment : List ℕ) (a : Attributes) (t n : ℕ) (r : Reading) → IsTable segment a → a.enter ≤ a.exit → IsReading segment a t r → n ≡ Needed r → (n ≡ t → ⊥) → false ≡ fits segment a t
+pub not_taken : (segment : List ℕ) (a : Attributes) (t n : ℕ) (r : Reading) → IsTable segment a → a.enter ≤ a.exit → IsReading segment a t r → n ≡ Needed r
+    → (n ≡ t → ⊥) → false ≡ fits segment a t
 not_taken segment a t n r w h s e d =
     let m : n ≡ entries_needed (procedure_with segment a true t).items = e ∙ ap entries_needed (items_read segment a t r true w s) in
     sym (and_false (can_read segment a t))
     ∙ ap (λ b. can_read segment a t && b) (sym (differ t n (λ f. d (sym f))) ∙ ap (λ k. t == k) m)
     ∙ sym (fits_if segment a t h)
 
-pub is_taken : (segment : List ℕ) (a : Attributes) (t n : ℕ) (r : Reading) → IsTable segment a → a.enter ≤ a.exit → IsReading segment a t r → can_read segment a t ≡ true → n ≡ Needed r → n ≡ t → true ≡ fits segment a t
+pub is_taken : (segment : List ℕ) (a : Attributes) (t n : ℕ) (r : Reading) → IsTable segment a → a.enter ≤ a.exit → IsReading segment a t r
+    → can_read segment a t ≡ true → n ≡ Needed r → n ≡ t → true ≡ fits segment a t
 is_taken segment a t n r w h s c e d =
     let m : n ≡ entries_needed (procedure_with segment a true t).items = e ∙ ap entries_needed (items_read segment a t r true w s) in
     let same : (t == entries_needed (procedure_with segment a true t).items) ≡ true = eq-eqb _ _ (sym d ∙ m) in

@@ -1,14 +1,16 @@
 -- A procedure is shown as one of the same bytes.
-use Rattle.std.proofs.Common.{◌≡◌, ◌≤◌, ℕ, zero, suc, ◌+◌, ◌-◌, ◌*◌, Bool, true, eqb, List, [], ◌∷◌, ◌++◌, length, take, drop, reverse, refl, sym, ap, ◌∙◌, arith, append_assoc, length-append, drop-drop}
+use Rattle.std.proofs.Common.{◌≡◌, ◌≤◌, ℕ, zero, suc, ◌+◌, ◌-◌, ◌*◌, Bool, true, eqb, List, [], ◌∷◌, ◌++◌, length}
+use Rattle.std.proofs.Common.{take, drop, reverse, refl, sym, ap, ◌∙◌, arith, append_assoc, length-append, drop-drop}
 use Rattle.std.specs.Prelude.{◌&&◌, nat_le, ◌==◌}
 use Rattle.std.specs.List.{list_all, AllByRecursion}
 use Rattle.std.proofs.Math.Seq.{take-add, take-append_seam}
 use Rattle.std.proofs.lemmas.List.{length-take, length-drop, length-reverse}
 use Rattle.std.proofs.lemmas.Bool.{and_parts, leb-true, eqb-true, eq-eqb}
-use Rattle.pm_opcode.specs.Spelling.{word}
+use Rattle.pm_opcode.specs.Spelling.{spelled_word}
 use Rattle.pm_codefile.specs.Dictionary.{word_in}
 use Rattle.pm_disasm.specs.Item.{IsByte}
-use Rattle.pm_disasm.specs.Program.{Procedure, IsProcedure, IsIn, is_among, code_of, code_end, places_of, entry_bytes, attribute_bytes, back_to, jtab_of, procedure_bytes, entries_needed}
+use Rattle.pm_disasm.specs.Program.{Procedure, IsProcedure, IsIn, is_among, code_of, code_end, places_of, entry_bytes}
+use Rattle.pm_disasm.specs.Program.{attribute_bytes, back_to, jtab_of, procedure_bytes, entries_needed}
 use Rattle.pm_disasm.specs.Split.{entry_places, are_after, end_with, code_with, procedure_with, fits}
 use Rattle.pm_disasm.specs.Laws.{StandsIn, attributes_of}
 use Rattle.pm_disasm.proofs.Sizes.{length-code}
@@ -29,7 +31,8 @@ pub record Counted (segment : List ℕ) (number : ℕ) (p : Procedure) (allowed 
 
 passed_below : (end : ℕ) (places : List ℕ) → list_all (λ place. nat_le place end) places ≡ true → AllByRecursion (λ place. place ≤ end) places
 passed_below end [] h = tt
-passed_below end (place ∷ places) h = let both = and_parts (nat_le place end) (list_all (λ place. nat_le place end) places) h in (leb-true _ _ both.0, passed_below end places both.1)
+passed_below end (place ∷ places) h =
+    let both = and_parts (nat_le place end) (list_all (λ place. nat_le place end) places) h in (leb-true _ _ both.0, passed_below end places both.1)
 
 pub fits_counted : (segment : List ℕ) (number : ℕ) (p : Procedure) (t : ℕ) → fits segment (attributes_of number p) t ≡ true → Counted segment number p true t
 fits_counted segment number p t h =
@@ -60,18 +63,31 @@ long_enough segment number p s =
     )
 
 -- where the code of a count ends
-taken_length : (segment : List ℕ) (number : ℕ) (p : Procedure) (t : ℕ) (s : StandsIn segment number p) → p.start + 8 + 2 * t ≤ jtab_of p → p.start + length (code_with segment (attributes_of number p) t) ≡ end_with (attributes_of number p) t
-taken_length segment number p t s room = omega (arith, length-take (jtab_of p - 8 - 2 * t - p.start) (drop p.start segment), long_enough segment number p s, room)
+taken_length : (segment : List ℕ) (number : ℕ) (p : Procedure) (t : ℕ) (s : StandsIn segment number p) → p.start + 8 + 2 * t ≤ jtab_of p
+    → p.start + length (code_with segment (attributes_of number p) t) ≡ end_with (attributes_of number p) t
+taken_length segment number p t s room =
+    omega (arith, length-take (jtab_of p - 8 - 2 * t - p.start) (drop p.start segment), long_enough segment number p s, room)
 
 -- the code and the jump table of a procedure, in the segment
-front_there : (segment : List ℕ) (number : ℕ) (p : Procedure) (s : StandsIn segment number p) → take (jtab_of p - 8 - p.start) (drop p.start segment) ≡ code_of p ++ entry_bytes (code_end p) (reverse p.entries)
+front_there : (segment : List ℕ) (number : ℕ) (p : Procedure) (s : StandsIn segment number p)
+    → take (jtab_of p - 8 - p.start) (drop p.start segment) ≡ code_of p ++ entry_bytes (code_end p) (reverse p.entries)
 front_there segment number p s =
     let entries : List ℕ = entry_bytes (code_end p) (reverse p.entries) in
-    let long : jtab_of p - 8 - p.start ≡ length (code_of p ++ entries) = omega (arith, length-append (code_of p) entries, length-entry_bytes (code_end p) (reverse p.entries), length-reverse p.entries, length-code p.start p.items) in
-    let there : drop p.start segment ≡ (code_of p ++ entries) ++ (attribute_bytes number p ++ s.rest) = code_there segment number p s ∙ sym (append_assoc (code_of p) entries (attribute_bytes number p ++ s.rest)) in
-    ap (λ n. take n (drop p.start segment)) long ∙ ap (take (length (code_of p ++ entries))) there ∙ take-append_seam (code_of p ++ entries) (attribute_bytes number p ++ s.rest)
+    let long : jtab_of p - 8 - p.start ≡ length (code_of p ++ entries) =
+    omega (
+      arith,
+      length-append (code_of p) entries,
+      length-entry_bytes (code_end p) (reverse p.entries),
+      length-reverse p.entries,
+      length-code p.start p.items,
+    ) in
+    let there : drop p.start segment ≡ (code_of p ++ entries) ++ (attribute_bytes number p ++ s.rest) =
+    code_there segment number p s ∙ sym (append_assoc (code_of p) entries (attribute_bytes number p ++ s.rest)) in
+    ap (λ n. take n (drop p.start segment)) long ∙ ap (take (length (code_of p ++ entries))) there
+    ∙ take-append_seam (code_of p ++ entries) (attribute_bytes number p ++ s.rest)
 
-after_all : (segment : List ℕ) (enter jtab k t : ℕ) → are_after segment enter jtab k t ≡ true → AllByRecursion (λ place. enter ≤ place) (entry_places segment jtab k t)
+after_all : (segment : List ℕ) (enter jtab k t : ℕ) → are_after segment enter jtab k t ≡ true
+    → AllByRecursion (λ place. enter ≤ place) (entry_places segment jtab k t)
 after_all segment enter jtab k zero h = tt
 after_all segment enter jtab k (suc t) h =
     let at = jtab - 10 - 2 * k in
@@ -79,7 +95,9 @@ after_all segment enter jtab k (suc t) h =
     (omega (arith, leb-true _ _ both.0), after_all segment enter jtab (k + 1) t both.1)
 
 -- places among the forced ones, within the code, are boundaries
-all_bound : (forced bounds xs : List ℕ) (start end : ℕ) → ((place : ℕ) → IsIn forced place → start ≤ place → place ≤ end → IsIn bounds place) → ((place : ℕ) → IsIn xs place → IsIn forced place) → AllByRecursion (λ place. start ≤ place) xs → AllByRecursion (λ place. place ≤ end) xs → AllByRecursion (IsIn bounds) xs
+all_bound : (forced bounds xs : List ℕ) (start end : ℕ) → ((place : ℕ) → IsIn forced place → start ≤ place → place ≤ end → IsIn bounds place)
+    → ((place : ℕ) → IsIn xs place → IsIn forced place) → AllByRecursion (λ place. start ≤ place) xs → AllByRecursion (λ place. place ≤ end) xs
+    → AllByRecursion (IsIn bounds) xs
 all_bound forced bounds [] start end f sub low high = tt
 all_bound forced bounds (x ∷ xs) start end f sub low high =
     let first : IsIn (x ∷ xs) x = (let t : eqb x x ≡ true = eq-eqb x x refl in rw t refl) in
@@ -91,7 +109,8 @@ pub record SameBytes (number : ℕ) (p q : Procedure) : Type 0 where
   pub jtab : jtab_of q ≡ jtab_of p
   pub bytes : procedure_bytes number q ≡ procedure_bytes number p
 
-pub counted_shown : (segment : List ℕ) (number : ℕ) (p : Procedure) (allowed : Bool) (t : ℕ) → StandsIn segment number p → Counted segment number p allowed t → SameBytes number p (procedure_with segment (attributes_of number p) allowed t)
+pub counted_shown : (segment : List ℕ) (number : ℕ) (p : Procedure) (allowed : Bool) (t : ℕ) → StandsIn segment number p → Counted segment number p allowed t
+    → SameBytes number p (procedure_with segment (attributes_of number p) allowed t)
 counted_shown segment number p allowed t s c =
     let a = attributes_of number p in
     let q = procedure_with segment a allowed t in
@@ -104,17 +123,21 @@ counted_shown segment number p allowed t s c =
     let length_of : p.start + length code ≡ end = taken_length segment number p t s c.room in
     let ends : code_end q ≡ end = joins.ends ∙ length_of in
     let count : length q.entries ≡ t = length-entry_places segment (jtab_of p) 0 t in
-    let bounds : (place : ℕ) → IsIn forced place → p.start ≤ place → place ≤ end → IsIn (places_of q) place = λ place i low high. forced_written forced allowed p.start code place are_bytes i low (omega (arith, high, length_of)) in
+    let bounds : (place : ℕ) → IsIn forced place → p.start ≤ place → place ≤ end → IsIn (places_of q) place =
+    λ place i low high. forced_written forced allowed p.start code place are_bytes i low (omega (arith, high, length_of)) in
     let self : eqb p.exit p.exit ≡ true = eq-eqb p.exit p.exit refl in
     let jtab : jtab_of q ≡ jtab_of p = omega (arith, ends, count, c.room) in
     let level : q.level ≡ p.level = level_again p.level h.level in
     let attributes : attribute_bytes number q ≡ attribute_bytes number p =
-    ap (λ j. word p.locals ++ (word p.parameters ++ (back_to (j - 4) p.exit ++ (back_to (j - 2) p.start ++ number ∷ q.level ∷ [])))) jtab
-    ∙ ap (λ l. word p.locals ++ (word p.parameters ++ (back_to (jtab_of p - 4) p.exit ++ (back_to (jtab_of p - 2) p.start ++ number ∷ l ∷ [])))) level in
+    ap (λ j. spelled_word p.locals ++ (spelled_word p.parameters ++ (back_to (j - 4) p.exit ++ (back_to (j - 2) p.start ++ number ∷ q.level ∷ [])))) jtab
+    ∙ ap (λ l. spelled_word p.locals ++ (spelled_word p.parameters
+    ++ (back_to (jtab_of p - 4) p.exit ++ (back_to (jtab_of p - 2) p.start ++ number ∷ l ∷ [])))) level in
     let entries : entry_bytes (code_end q) (reverse q.entries) ≡ take (2 * t) (drop end segment) =
     ap (λ n. entry_bytes n (reverse q.entries)) ends
-    ∙ entries_again segment p.start end (jtab_of p) 0 t (omega (arith, c.room)) (omega (arith, long_enough segment number p s, length-drop p.start segment)) s.bytes c.after in
-    let from : drop end segment ≡ drop (end - p.start) (drop p.start segment) = ap (λ n. drop n segment) (omega (arith, c.room)) ∙ sym (drop-drop (end - p.start) p.start segment) in
+    ∙ entries_again segment p.start end (jtab_of p) 0 t (omega (arith, c.room))
+    (omega (arith, long_enough segment number p s, length-drop p.start segment)) s.bytes c.after in
+    let from : drop end segment ≡ drop (end - p.start) (drop p.start segment) =
+    ap (λ n. drop n segment) (omega (arith, c.room)) ∙ sym (drop-drop (end - p.start) p.start segment) in
     let front : code_of q ++ entry_bytes (code_end q) (reverse q.entries) ≡ code_of p ++ entry_bytes (code_end p) (reverse p.entries) =
     ap (λ bs. bs ++ entry_bytes (code_end q) (reverse q.entries)) joins.joined
     ∙ ap (λ bs. code ++ bs) (entries ∙ ap (take (2 * t)) from)
@@ -129,7 +152,8 @@ counted_shown segment number p allowed t s c =
         items = joins.sound;
         jumps = jumps_written forced allowed p.start code are_bytes;
         exit = bounds p.exit (rw self refl) (later p.start p.items p.exit h.exit) c.exit;
-        entries = all_bound forced (places_of q) q.entries p.start end bounds (λ place i. or_right (eqb p.exit place) (is_among q.entries place) i) (after_all segment p.start (jtab_of p) 0 t c.after) c.within;
+        entries = all_bound forced (places_of q) q.entries p.start end bounds (λ place i. or_right (eqb p.exit place) (is_among q.entries place) i)
+            (after_all segment p.start (jtab_of p) 0 t c.after) c.within;
         used = count ∙ c.used;
         begins = h.begins;
         ends = omega (arith, ends, h.ends, c.room);

@@ -20,7 +20,8 @@ joined-append [] ys = refl
 joined-append (x ∷ xs) ys = ap (λ u. x ++ (10 ∷ u)) (joined-append xs ys) ∙ sym (append_assoc x (10 ∷ joined xs) (joined ys))
 
 -- the entries of a reading lie inside the places of its code
-pub inside_code : (segment : List ℕ) (a : Attributes) (t : ℕ) (r : Reading) (s : PlaceSet) → IsReading segment a t r → IsAlike s r.code.boundaries → AllByRecursion (IsInside s) (entry_places segment a.jtab 0 t)
+pub inside_code : (segment : List ℕ) (a : Attributes) (t : ℕ) (r : Reading) (s : PlaceSet) → IsReading segment a t r → IsAlike s r.code.boundaries
+    → AllByRecursion (IsInside s) (entry_places segment a.jtab 0 t)
 inside_code segment a t r s h e = go (entry_places segment a.jtab 0 t) h.inside
   where
     go : (ps : List ℕ) → AllByRecursion (λ place. (a.enter ≤ place) × (place ≤ r.end)) ps → AllByRecursion (IsInside s) ps
@@ -28,7 +29,8 @@ inside_code segment a t r s h e = go (entry_places segment a.jtab 0 t) h.inside
     go (p ∷ ps) k = ((omega (arith, e.0, h.begin, k.0.0), omega (arith, e.0, e.1, h.begin, h.size, h.order, k.0.0, k.0.1)), go ps k.1)
 
 -- the places that a shown procedure names
-pub places_read : (segment : List ℕ) (a : Attributes) (t : ℕ) (r : Reading) (allowed : Bool) (before after : PlaceSet) → IsTable segment a → IsReading segment a t r
+pub places_read : (segment : List ℕ) (a : Attributes) (t : ℕ) (r : Reading) (allowed : Bool) (before after : PlaceSet) → IsTable segment a
+    → IsReading segment a t r
     → ((p : ℕ) → has before p ≡ is_among (named_places (written_by (has r.code.boundaries) allowed (map part_seen r.code.parts.items))) p)
     → ((p : ℕ) → has after p ≡ (has before p || is_among (entry_places segment a.jtab 0 t) p))
     → IsSetOf after (named_places (procedure_with segment a allowed t).items ++ (procedure_with segment a allowed t).entries)
@@ -39,9 +41,11 @@ places_read segment a t r allowed before after w h b e place =
     ∙ sym (among-append (named_places (procedure_with segment a allowed t).items) entries place)
 
 -- the whole text of a procedure
-pub procedure_joined : (segment : List ℕ) (a : Attributes) (t number : ℕ) (r : Reading) (allowed : Bool) (named : PlaceSet) (header : List ℕ) → IsTable segment a → IsReading segment a t r
+pub procedure_joined : (segment : List ℕ) (a : Attributes) (t number : ℕ) (r : Reading) (allowed : Bool) (named : PlaceSet) (header : List ℕ)
+    → IsTable segment a → IsReading segment a t r
     → IsSetOf named (named_places (procedure_with segment a allowed t).items ++ (procedure_with segment a allowed t).entries)
-    → header ≡ codes ".PROC" ++ words_text (decimal number ∷ level_text (procedure_with segment a allowed t).level ∷ decimal a.parameters ∷ decimal a.locals ∷ [])
+    → header ≡ codes ".PROC" ++ words_text (decimal number ∷ level_text (procedure_with segment a allowed t).level ∷ decimal a.parameters ∷ decimal a.locals
+    ∷ [])
     → joined (procedure_lines number (procedure_with segment a allowed t))
     ≡ (header ++ 10 ∷ []) ++ (joined (code_lines_by (has named) a.exit a.enter (written_by (has r.code.boundaries) allowed (map part_seen r.code.parts.items)))
     ++ (joined (map entry_line (entry_places segment a.jtab 0 t)) ++ (codes ".END" ++ 10 ∷ [])))

@@ -1,5 +1,6 @@
 -- A code file that holds a program is shown as a program of the same bytes.
-use Rattle.std.proofs.Common.{◌≡◌, ◌<◌, ◌≤◌, ℕ, zero, suc, ◌+◌, ◌-◌, true, false, cond, eqb, List, [], ◌∷◌, ◌++◌, length, map, replicate, reverse, refl, sym, ap, ◌∙◌, subst, arith, inl, inr, Some, None}
+use Rattle.std.proofs.Common.{◌≡◌, ◌<◌, ◌≤◌, ℕ, zero, suc, ◌+◌, ◌-◌, true, false, cond, eqb, List, [], ◌∷◌, ◌++◌}
+use Rattle.std.proofs.Common.{length, map, replicate, reverse, refl, sym, ap, ◌∙◌, subst, arith, inl, inr, Some, None}
 use Rattle.std.specs.Prelude.{◌&&◌, ◌||◌, not, nat_le, ◌==◌, option_map}
 use Rattle.std.specs.List.{AllByRecursion, AllZip, list_all}
 use Rattle.std.proofs.lemmas.List.{reverse-append, reverse-reverse}
@@ -7,7 +8,8 @@ use Rattle.std.proofs.lemmas.Bool.{and_parts, cases_lt, eq-eqb, leb-true}
 use Rattle.std.proofs.lemmas.Bool.Decides.{nat_tests}
 use Rattle.pm_codefile.specs.Dictionary.{segment_in, slot_in}
 use Rattle.pm_disasm.specs.Program.{Segment, IsSegment, FitSlots, AscendFrom, is_name_character, is_segment_name, segment_bytes}
-use Rattle.pm_disasm.specs.Shown.{cut, file_text, joined, name_of, or_mark, procedures_lines, program_text, segment_line, segment_lines, segments_lines, shown_name, slot_lines, slots_lines}
+use Rattle.pm_disasm.specs.Shown.{cut, file_text, joined, name_of, or_mark, procedures_lines, program_text, segment_line}
+use Rattle.pm_disasm.specs.Shown.{segment_lines, segments_lines, shown_name, slot_lines, slots_lines}
 use Rattle.pm_disasm.specs.Laws.{Holds, IsSameSegment, ProgramIsShown, segment_numbered}
 use Rattle.pm_disasm.proofs.Boundaries.{all-append}
 use Rattle.pm_disasm.proofs.ShownSegment.{ShownWell, shown_segment, shown_well}
@@ -26,7 +28,8 @@ cut-none [] h = refl
 cut-none (x ∷ xs) h = let t : eqb x 32 ≡ false = no_space x h.0 in rw t refl
   where
     no_space : (c : ℕ) → is_name_character c ≡ true → eqb c 32 ≡ false
-    no_space c e = let low : 33 ≤ c = leb-true 33 c (and_parts (nat_le 33 c) (nat_le c 126) (and_parts (nat_le 33 c && nat_le c 126) (not ((c == 59) || (c == 44) || (c == 34))) e).0).0 in grind (arith, nat_tests)
+    no_space c e = let low : 33 ≤ c = leb-true 33 c (and_parts (nat_le 33 c) (nat_le c 126)
+        (and_parts (nat_le 33 c && nat_le c 126) (not ((c == 59) || (c == 44) || (c == 34))) e).0).0 in grind (arith, nat_tests)
 
 all-replicate : (n : ℕ) → AllByRecursion (λ (c : ℕ). c ≡ 32) (replicate n 32)
 all-replicate zero = tt
@@ -52,7 +55,8 @@ name_shown name n h =
     let good = all_characters name parts.1 in
     let spaces : List ℕ = replicate n 32 in
     let turned : cut (reverse (name ++ spaces)) ≡ reverse name =
-    ap cut (reverse-append name spaces) ∙ cut-spaces (reverse spaces) (reverse name) (all-reverse (λ c. c ≡ 32) spaces (all-replicate n)) ∙ cut-none (reverse name) (all-reverse (λ c. is_name_character c ≡ true) name good) in
+    ap cut (reverse-append name spaces) ∙ cut-spaces (reverse spaces) (reverse name) (all-reverse (λ c. c ≡ 32) spaces (all-replicate n))
+    ∙ cut-none (reverse name) (all-reverse (λ c. is_name_character c ≡ true) name good) in
     ap (λ cs. or_mark (map (λ c. cond (is_name_character c) c 63) (reverse cs))) turned
     ∙ ap (λ cs. or_mark (map (λ c. cond (is_name_character c) c 63) cs)) (reverse-reverse name)
     ∙ ap or_mark (same_characters name good)
@@ -75,7 +79,8 @@ record Left (file : List ℕ) (ss left : List Segment) (n : ℕ) : Type 0 where
   ascend : AscendFrom n left
   same : (m : ℕ) → n ≤ m → segment_numbered m ss ≡ segment_numbered m left
 
-slots_shown : (file : List ℕ) (ss : List Segment) → Holds file ss → (left : List Segment) (n count : ℕ) → n + count ≡ 16 → Left file ss left n → slots_lines file n count ≡ segments_lines (map shown_segment left)
+slots_shown : (file : List ℕ) (ss : List Segment) → Holds file ss → (left : List Segment) (n count : ℕ) → n + count ≡ 16 → Left file ss left n
+    → slots_lines file n count ≡ segments_lines (map shown_segment left)
 slots_shown file ss h [] n zero e k = refl
 slots_shown file ss h (s ∷ left) n zero e k = absurd (omega (arith, k.ascend.0, k.sound.0.number))
 slots_shown file ss h [] n (suc count) e k =
@@ -85,9 +90,11 @@ slots_shown file ss h [] n (suc count) e k =
 slots_shown file ss h (s ∷ left) n (suc count) e k = elim (cases_lt n s.number) [
   | inl less ↦ (
       let next : AscendFrom (n + 1) (s ∷ left) = (omega (arith, less), k.ascend.1) in
-      let none : segment_in file n ≡ None = h.segments n (omega arith) ∙ ap (option_map segment_bytes) (k.same n (omega arith) ∙ none_below n (n + 1) (s ∷ left) (omega arith) next) in
+      let none : segment_in file n ≡ None = h.segments n (omega arith)
+      ∙ ap (option_map segment_bytes) (k.same n (omega arith) ∙ none_below n (n + 1) (s ∷ left) (omega arith) next) in
       ap (λ o. slot_lines n (name_of (slot_in file n)) o ++ slots_lines file (n + 1) count) none
-      ∙ slots_shown file ss h (s ∷ left) (n + 1) count (omega arith) (record { well = k.well; sound = k.sound; ascend = next; same = λ m l. k.same m (omega arith) })
+      ∙ slots_shown file ss h (s ∷ left) (n + 1) count (omega arith)
+      (record { well = k.well; sound = k.sound; ascend = next; same = λ m l. k.same m (omega arith) })
       )
   | inr more ↦ (
       let here : s.number ≡ n = omega (arith, more, k.ascend.0) in
@@ -99,7 +106,13 @@ slots_shown file ss h (s ∷ left) n (suc count) e k = elim (cases_lt n s.number
       ∙ ap (λ ls. (segment_line n (shown_name (name_of (slot_in file n))) ∷ ls) ++ slots_lines file (n + 1) count) k.well.0.lines
       ∙ ap (λ name. (segment_line n name ∷ procedures_lines 1 (shown_segment s).procedures) ++ slots_lines file (n + 1) count) name
       ∙ ap (λ number. (segment_line number s.name ∷ procedures_lines 1 (shown_segment s).procedures) ++ slots_lines file (n + 1) count) (sym here)
-      ∙ ap (λ ls. segment_lines (shown_segment s) ++ ls) (slots_shown file ss h left (n + 1) count (omega arith) (record { well = k.well.1; sound = k.sound.1; ascend = subst (λ n. AscendFrom (n + 1) left) here k.ascend.1; same = λ m l. k.same m (omega arith) ∙ later_numbered n m s left here (omega arith) }))
+      ∙ ap (λ ls. segment_lines (shown_segment s) ++ ls) (slots_shown file ss h left (n + 1) count (omega arith)
+      (record {
+        well = k.well.1;
+        sound = k.sound.1;
+        ascend = subst (λ n. AscendFrom (n + 1) left) here k.ascend.1;
+        same = λ m l. k.same m (omega arith) ∙ later_numbered n m s left here (omega arith);
+      }))
       )
 ]
 

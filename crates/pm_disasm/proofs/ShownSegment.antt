@@ -1,12 +1,14 @@
 -- A segment of a program is shown as one of the same bytes.
-use Rattle.std.proofs.Common.{◌≡◌, ◌≤◌, ℕ, ◌+◌, ◌-◌, ◌*◌, false, cond, ltb, List, [], ◌∷◌, ◌++◌, length, map, drop, reverse, refl, sym, ap, ◌∙◌, subst, arith, length-append, length-drop, drop-drop, Some}
+use Rattle.std.proofs.Common.{◌≡◌, ◌≤◌, ℕ, ◌+◌, ◌-◌, ◌*◌, false, cond, ltb, List, [], ◌∷◌, ◌++◌, length, map, drop}
+use Rattle.std.proofs.Common.{reverse, refl, sym, ap, ◌∙◌, subst, arith, length-append, length-drop, drop-drop, Some}
 use Rattle.std.specs.List.{AllByRecursion}
 use Rattle.std.proofs.Math.Seq.{drop-append_seam}
 use Rattle.std.proofs.lemmas.Bool.{le-ltb}
 use Rattle.pm_codefile.specs.declared.table.Attributes.{Attributes}
 use Rattle.pm_codefile.specs.Dictionary.{word_in}
 use Rattle.pm_codefile.specs.Segments.{attributes_in, procedures_in}
-use Rattle.pm_disasm.specs.Program.{Procedure, Segment, IsProcedure, IsSegment, AreInstructions, FollowFrom, back_to, dictionary_bytes, entry_bytes, jtab_of, procedure_bytes, procedures_bytes, procedures_end, segment_bytes}
+use Rattle.pm_disasm.specs.Program.{Procedure, Segment, IsProcedure, IsSegment, AreInstructions, FollowFrom, back_to, dictionary_bytes}
+use Rattle.pm_disasm.specs.Program.{entry_bytes, jtab_of, procedure_bytes, procedures_bytes, procedures_end, segment_bytes}
 use Rattle.pm_disasm.specs.Split.{procedure_of}
 use Rattle.pm_disasm.specs.Shown.{missing_line, procedure_lines, procedures_lines, table_lines_or, tables_lines}
 use Rattle.pm_disasm.specs.Laws.{attributes_of, IsShownAs, IsSameSegment}
@@ -29,13 +31,15 @@ abbrev AllFound : List ℕ → ℕ → List Procedure → Type 0
 AllFound segment number [] = Unit {0}
 AllFound segment number (p ∷ ps) = (attributes_in segment number ≡ Some (attributes_of number p)) × AllFound segment (number + 1) ps
 
-all_found : (segment rest : List ℕ) (at number k : ℕ) (ps : List Procedure) → Table segment at (length segment + 6) k (map jtab_of ps) rest → number ≡ k + 1 → number + length ps ≤ procedures_in segment + 1 → AllStand segment number ps → AllByRecursion (λ p. jtab_of p + 2 ≤ at) ps → AllFound segment number ps
+all_found : (segment rest : List ℕ) (at number k : ℕ) (ps : List Procedure) → Table segment at (length segment + 6) k (map jtab_of ps) rest → number ≡ k + 1
+    → number + length ps ≤ procedures_in segment + 1 → AllStand segment number ps → AllByRecursion (λ p. jtab_of p + 2 ≤ at) ps → AllFound segment number ps
 all_found segment rest at number k [] t e few s b = tt
 all_found segment rest at number k (p ∷ ps) t e few s b =
     let place = length segment + 6 - 10 - 2 * k in
     let word : word_in segment place ≡ place - jtab_of p = first_word segment at (length segment + 6) k (jtab_of p) (map jtab_of ps) rest t in (
       table_found segment number place p s.0 (omega (arith, e)) (omega (arith, few)) (omega (arith, t.ends, e)) word (omega (arith, t.ends, b.0)),
-      all_found segment (back_to (at + 2 * length (map jtab_of ps)) (jtab_of p) ++ rest) at (number + 1) (k + 1) ps (other_words segment at (length segment + 6) k (jtab_of p) (map jtab_of ps) rest t) (omega (arith, e)) (omega (arith, few)) s.1 b.1,
+      all_found segment (back_to (at + 2 * length (map jtab_of ps)) (jtab_of p) ++ rest) at (number + 1) (k + 1) ps
+          (other_words segment at (length segment + 6) k (jtab_of p) (map jtab_of ps) rest t) (omega (arith, e)) (omega (arith, few)) s.1 b.1,
     )
 
 -- the count of procedures is the last byte
@@ -46,12 +50,14 @@ count_there s h =
     let last : List ℕ = s.number ∷ length s.procedures ∷ [] in
     let entries : List ℕ = entry_bytes at (reverse (map jtab_of s.procedures)) in
     let t = dictionary_there s h in
-    let there : drop (at + length entries) segment ≡ last = sym (drop-drop (length entries) at segment) ∙ ap (drop (length entries)) t.there ∙ drop-append_seam entries last in
+    let there : drop (at + length entries) segment ≡ last = sym (drop-drop (length entries) at segment) ∙ ap (drop (length entries)) t.there
+    ∙ drop-append_seam entries last in
     let total : at + (length segment - at) ≡ length segment = omega (arith, t.ends) in
     let long : length segment - at ≡ length entries + 2 = sym (length-drop at segment) ∙ ap length t.there ∙ length-append entries last in
     stored_byte segment last (at + length entries) (length segment - 1) 1 there (omega (arith, total, long))
 
-tables_shown : (segment : List ℕ) (number : ℕ) (ps : List Procedure) → AllStand segment number ps → AllFound segment number ps → tables_lines segment number (length ps) ≡ procedures_lines number (shown_from segment number ps)
+tables_shown : (segment : List ℕ) (number : ℕ) (ps : List Procedure) → AllStand segment number ps → AllFound segment number ps
+    → tables_lines segment number (length ps) ≡ procedures_lines number (shown_from segment number ps)
 tables_shown segment number [] s f = refl
 tables_shown segment number (p ∷ ps) s f =
     let h = s.0.procedure in
@@ -59,7 +65,8 @@ tables_shown segment number (p ∷ ps) s f =
     let t : ltb p.exit p.start ≡ false = le-ltb _ _ (later p.start p.items p.exit h.exit) in
     let one : table_lines_or segment number (attributes_in segment number) ≡ procedure_lines number (procedure_of segment a) =
     ap (table_lines_or segment number) f.0 ∙ ap (λ b. cond b (missing_line number) (procedure_lines number (procedure_of segment a))) t in
-    ap (λ ls. ls ++ tables_lines segment (number + 1) (length ps)) one ∙ ap (λ ls. procedure_lines number (procedure_of segment a) ++ ls) (tables_shown segment (number + 1) ps s.1 f.1)
+    ap (λ ls. ls ++ tables_lines segment (number + 1) (length ps)) one
+    ∙ ap (λ ls. procedure_lines number (procedure_of segment a) ++ ls) (tables_shown segment (number + 1) ps s.1 f.1)
 
 -- What is shown for procedures that stand in a segment.
 record AreShownAs (segment : List ℕ) (number at : ℕ) (ps : List Procedure) : Type 0 where
@@ -100,9 +107,11 @@ shown_well s h short =
     let ps : List Procedure = s.procedures in
     let end = procedures_end 0 ps in
     let last : List ℕ = s.number ∷ length ps ∷ [] in
-    let stand : AllStand bytes 1 ps = all_stand bytes (dictionary_bytes end (reverse ps) ++ last) 0 1 ps (are_segment_bytes s h short) refl h.follow h.procedures in
+    let stand : AllStand bytes 1 ps = all_stand bytes (dictionary_bytes end (reverse ps) ++ last) 0 1 ps
+    (are_segment_bytes s h short) refl h.follow h.procedures in
     let count = count_there s h in
-    let found : AllFound bytes 1 ps = all_found bytes last end 1 0 ps (dictionary_there s h) refl (omega (arith, count)) stand (tables_before 0 ps h.follow h.procedures) in
+    let found : AllFound bytes 1 ps = all_found bytes last end 1 0 ps (dictionary_there s h) refl (omega (arith, count)) stand
+    (tables_before 0 ps h.follow h.procedures) in
     let shown = are_shown_as bytes 1 0 ps stand in
     let qs : List Procedure = shown_from bytes 1 ps in
     let dictionary : dictionary_bytes (procedures_end 0 qs) (reverse qs) ≡ dictionary_bytes end (reverse ps) =
@@ -111,7 +120,13 @@ shown_well s h short =
     ∙ ap (λ ns. entry_bytes end (reverse ns)) shown.jtabs
     ∙ sym (dictionary_reversed end ps) in
     record {
-      segment = record { number = h.number; name = h.name; procedures = shown.procedures; few = omega (arith, shown.count, h.few); follow = shown.follow h.follow };
+      segment = record {
+        number = h.number;
+        name = h.name;
+        procedures = shown.procedures;
+        few = omega (arith, shown.count, h.few);
+        follow = shown.follow h.follow;
+      };
       same = record {
         number = refl;
         name = refl;

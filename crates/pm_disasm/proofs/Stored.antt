@@ -1,11 +1,12 @@
 -- A jump table that stands in a segment.
-use Rattle.std.proofs.Common.{◌≡◌, ◌≤◌, ℕ, zero, suc, ◌+◌, ◌-◌, ◌*◌, ◌/◌, ◌%◌, true, List, [], ◌∷◌, ◌++◌, length, take, drop, get_or, reverse, refl, sym, ap, ◌∙◌, arith, append_assoc, length-drop, drop-drop}
+use Rattle.std.proofs.Common.{◌≡◌, ◌≤◌, ℕ, zero, suc, ◌+◌, ◌-◌, ◌*◌, ◌/◌, ◌%◌, true, List, [], ◌∷◌, ◌++◌, length, take}
+use Rattle.std.proofs.Common.{drop, get_or, reverse, refl, sym, ap, ◌∙◌, arith, append_assoc, length-drop, drop-drop}
 use Rattle.std.specs.Prelude.{nat_le}
 use Rattle.std.specs.List.{AllByRecursion}
 use Rattle.std.proofs.Math.Seq.{take-add}
 use Rattle.std.proofs.lemmas.List.{get_or-drop, reverse-append, length-reverse}
 use Rattle.std.proofs.lemmas.Bool.{and_from, and_parts, le-leb, leb-true}
-use Rattle.pm_opcode.specs.Spelling.{word}
+use Rattle.pm_opcode.specs.Spelling.{spelled_word}
 use Rattle.pm_codefile.specs.Dictionary.{word_in}
 use Rattle.pm_codefile.proofs.Written.{word_in-right}
 use Rattle.pm_disasm.specs.Item.{IsByte}
@@ -21,18 +22,18 @@ word_in-drop n p bs =
     let high : get_or bs (n + p + 1) 0 ≡ get_or (drop n bs) (p + 1) 0 = ap (λ k. get_or bs k 0) same ∙ sym (get_or-drop n bs (p + 1) 0) in
     rw (low, high) refl
 
-word_first : (w : ℕ) (rest : List ℕ) → word_in (word w ++ rest) 0 ≡ w
+word_first : (w : ℕ) (rest : List ℕ) → word_in (spelled_word w ++ rest) 0 ≡ w
 unfolding word_in
 word_first w rest = omega arith
 
 -- a word that stands behind other bytes
-pub stored_word : (segment xs rest : List ℕ) (at p w : ℕ) → drop at segment ≡ xs ++ (word w ++ rest) → p ≡ at + length xs → word_in segment p ≡ w
+pub stored_word : (segment xs rest : List ℕ) (at p w : ℕ) → drop at segment ≡ xs ++ (spelled_word w ++ rest) → p ≡ at + length xs → word_in segment p ≡ w
 stored_word segment xs rest at p w e f =
     ap (word_in segment) f
     ∙ word_in-drop at (length xs) segment
     ∙ ap (λ bs. word_in bs (length xs)) e
-    ∙ (let same : length xs ≡ length xs + 0 = omega arith in ap (word_in (xs ++ (word w ++ rest))) same)
-    ∙ word_in-right xs (word w ++ rest) (length xs) 0 refl
+    ∙ (let same : length xs ≡ length xs + 0 = omega arith in ap (word_in (xs ++ (spelled_word w ++ rest))) same)
+    ∙ word_in-right xs (spelled_word w ++ rest) (length xs) 0 refl
     ∙ word_first w rest
 
 pub length-entry_bytes : (at : ℕ) (places : List ℕ) → length (entry_bytes at places) ≡ 2 * length places
@@ -41,10 +42,12 @@ length-entry_bytes at (place ∷ places) = omega (arith, length-entry_bytes (at 
 
 pub entries-append : (at : ℕ) (xs ys : List ℕ) → entry_bytes at (xs ++ ys) ≡ entry_bytes at xs ++ entry_bytes (at + 2 * length xs) ys
 entries-append at [] ys = ap (λ n. entry_bytes n ys) (omega arith)
-entries-append at (x ∷ xs) ys = ap (λ bs. back_to at x ++ bs) (entries-append (at + 2) xs ys ∙ ap (λ n. entry_bytes (at + 2) xs ++ entry_bytes n ys) (omega arith))
+entries-append at (x ∷ xs) ys =
+    ap (λ bs. back_to at x ++ bs) (entries-append (at + 2) xs ys ∙ ap (λ n. entry_bytes (at + 2) xs ++ entry_bytes n ys) (omega arith))
 
 -- the first entry stands highest
-pub entries-first : (at place : ℕ) (places : List ℕ) → entry_bytes at (reverse (place ∷ places)) ≡ entry_bytes at (reverse places) ++ back_to (at + 2 * length places) place
+pub entries-first : (at place : ℕ) (places : List ℕ) → entry_bytes at (reverse (place ∷ places))
+    ≡ entry_bytes at (reverse places) ++ back_to (at + 2 * length places) place
 entries-first at place places =
     ap (entry_bytes at) (reverse-append (place ∷ []) places)
     ∙ entries-append at (reverse places) (place ∷ [])
@@ -56,41 +59,49 @@ pub record Table (segment : List ℕ) (at jtab k : ℕ) (places rest : List ℕ)
   pub ends : jtab ≡ at + 2 * length places + 8 + 2 * k
 
 -- its first entry, and the table of the others
-pub first_word : (segment : List ℕ) (at jtab k place : ℕ) (places rest : List ℕ) → Table segment at jtab k (place ∷ places) rest → word_in segment (jtab - 10 - 2 * k) ≡ (jtab - 10 - 2 * k) - place
+pub first_word : (segment : List ℕ) (at jtab k place : ℕ) (places rest : List ℕ) → Table segment at jtab k (place ∷ places) rest
+    → word_in segment (jtab - 10 - 2 * k) ≡ (jtab - 10 - 2 * k) - place
 first_word segment at jtab k place places rest t =
     let here : at + 2 * length places ≡ jtab - 10 - 2 * k = omega (arith, t.ends) in
     let before : List ℕ = entry_bytes at (reverse places) in
     let long : length before ≡ 2 * length places = length-entry_bytes at (reverse places) ∙ ap (λ n. 2 * n) (length-reverse places) in
     stored_word segment before rest at (jtab - 10 - 2 * k) ((jtab - 10 - 2 * k) - place)
-    (t.there ∙ ap (λ bs. bs ++ rest) (entries-first at place places) ∙ append_assoc before (back_to (at + 2 * length places) place) rest ∙ ap (λ n. before ++ (back_to n place ++ rest)) here)
+    (t.there ∙ ap (λ bs. bs ++ rest) (entries-first at place places) ∙ append_assoc before (back_to (at + 2 * length places) place) rest
+    ∙ ap (λ n. before ++ (back_to n place ++ rest)) here)
     (omega (arith, long, here))
 
-pub other_words : (segment : List ℕ) (at jtab k place : ℕ) (places rest : List ℕ) → Table segment at jtab k (place ∷ places) rest → Table segment at jtab (k + 1) places (back_to (at + 2 * length places) place ++ rest)
+pub other_words : (segment : List ℕ) (at jtab k place : ℕ) (places rest : List ℕ) → Table segment at jtab k (place ∷ places) rest
+    → Table segment at jtab (k + 1) places (back_to (at + 2 * length places) place ++ rest)
 other_words segment at jtab k place places rest t = record {
-  there = t.there ∙ ap (λ bs. bs ++ rest) (entries-first at place places) ∙ append_assoc (entry_bytes at (reverse places)) (back_to (at + 2 * length places) place) rest;
+  there = t.there ∙ ap (λ bs. bs ++ rest) (entries-first at place places)
+      ∙ append_assoc (entry_bytes at (reverse places)) (back_to (at + 2 * length places) place) rest;
   ends = omega (arith, t.ends);
 }
 
 -- The first entries of a table are read as they are.
-pub entries_read : (segment : List ℕ) (at jtab k t : ℕ) (places rest : List ℕ) → Table segment at jtab k places rest → t ≤ length places → AllByRecursion (λ place. place ≤ at) places → entry_places segment jtab k t ≡ take t places
+pub entries_read : (segment : List ℕ) (at jtab k t : ℕ) (places rest : List ℕ) → Table segment at jtab k places rest → t ≤ length places
+    → AllByRecursion (λ place. place ≤ at) places → entry_places segment jtab k t ≡ take t places
 entries_read segment at jtab k zero places rest h n l = refl
 entries_read segment at jtab k (suc t) [] rest h n l = absurd (omega arith)
 entries_read segment at jtab k (suc t) (place ∷ places) rest h n l =
     let here = jtab - 10 - 2 * k in
     let one : here - word_in segment here ≡ place = ap (λ w. here - w) (first_word segment at jtab k place places rest h) ∙ omega (arith, h.ends, l.0) in
-    rw one (ap (λ ps. place ∷ ps) (entries_read segment at jtab (k + 1) t places (back_to (at + 2 * length places) place ++ rest) (other_words segment at jtab k place places rest h) (omega arith) l.1))
+    rw one (ap (λ ps. place ∷ ps) (entries_read segment at jtab (k + 1) t places (back_to (at + 2 * length places) place ++ rest)
+    (other_words segment at jtab k place places rest h) (omega arith) l.1))
 
 -- none of them lies before the code
-pub entries_after : (segment : List ℕ) (enter at jtab k t : ℕ) (places rest : List ℕ) → Table segment at jtab k places rest → t ≤ length places → AllByRecursion (λ place. (enter ≤ place) × (place ≤ at)) places → are_after segment enter jtab k t ≡ true
+pub entries_after : (segment : List ℕ) (enter at jtab k t : ℕ) (places rest : List ℕ) → Table segment at jtab k places rest → t ≤ length places
+    → AllByRecursion (λ place. (enter ≤ place) × (place ≤ at)) places → are_after segment enter jtab k t ≡ true
 entries_after segment enter at jtab k zero places rest h n l = refl
 entries_after segment enter at jtab k (suc t) [] rest h n l = absurd (omega arith)
 entries_after segment enter at jtab k (suc t) (place ∷ places) rest h n l =
     let here = jtab - 10 - 2 * k in
     and_from _ _ (le-leb _ _ (omega (arith, first_word segment at jtab k place places rest h, h.ends, l.0.0, l.0.1)))
-    (entries_after segment enter at jtab (k + 1) t places (back_to (at + 2 * length places) place ++ rest) (other_words segment at jtab k place places rest h) (omega arith) l.1)
+    (entries_after segment enter at jtab (k + 1) t places (back_to (at + 2 * length places) place ++ rest) (other_words segment at jtab k place places rest h)
+    (omega arith) l.1)
 
 -- a word of bytes is the word that they make
-word_of_bytes : (bs : List ℕ) → 2 ≤ length bs → AllByRecursion IsByte bs → word (word_in bs 0) ≡ take 2 bs
+word_of_bytes : (bs : List ℕ) → 2 ≤ length bs → AllByRecursion IsByte bs → spelled_word (word_in bs 0) ≡ take 2 bs
 unfolding word_in
 word_of_bytes [] n h = absurd (omega arith)
 word_of_bytes (x ∷ []) n h = absurd (omega arith)
@@ -99,17 +110,19 @@ word_of_bytes (x ∷ y ∷ bs) n h =
     let high : (x + 256 * y) / 256 ≡ y = omega (arith, h.0, h.1.0) in
     rw (low, high) refl
 
-word_there : (segment : List ℕ) (p : ℕ) → p + 2 ≤ length segment → AllByRecursion IsByte segment → word (word_in segment p) ≡ take 2 (drop p segment)
+word_there : (segment : List ℕ) (p : ℕ) → p + 2 ≤ length segment → AllByRecursion IsByte segment → spelled_word (word_in segment p) ≡ take 2 (drop p segment)
 word_there segment p n h =
     let same : p ≡ p + 0 = omega arith in
-    ap word (ap (word_in segment) same ∙ word_in-drop p 0 segment) ∙ word_of_bytes (drop p segment) (omega (arith, length-drop p segment)) (drop-bytes p segment h)
+    ap spelled_word (ap (word_in segment) same ∙ word_in-drop p 0 segment)
+    ∙ word_of_bytes (drop p segment) (omega (arith, length-drop p segment)) (drop-bytes p segment h)
 
 pub length-entry_places : (segment : List ℕ) (jtab k t : ℕ) → length (entry_places segment jtab k t) ≡ t
 length-entry_places segment jtab k zero = refl
 length-entry_places segment jtab k (suc t) = omega (arith, length-entry_places segment jtab (k + 1) t)
 
 -- Entries that are read have the bytes that they are read from.
-pub entries_again : (segment : List ℕ) (enter at jtab k t : ℕ) → jtab ≡ at + 2 * t + 8 + 2 * k → jtab ≤ length segment → AllByRecursion IsByte segment → are_after segment enter jtab k t ≡ true → entry_bytes at (reverse (entry_places segment jtab k t)) ≡ take (2 * t) (drop at segment)
+pub entries_again : (segment : List ℕ) (enter at jtab k t : ℕ) → jtab ≡ at + 2 * t + 8 + 2 * k → jtab ≤ length segment → AllByRecursion IsByte segment
+    → are_after segment enter jtab k t ≡ true → entry_bytes at (reverse (entry_places segment jtab k t)) ≡ take (2 * t) (drop at segment)
 entries_again segment enter at jtab k zero e n h a = refl
 entries_again segment enter at jtab k (suc t) e n h a =
     let here = jtab - 10 - 2 * k in
@@ -118,7 +131,7 @@ entries_again segment enter at jtab k (suc t) e n h a =
     let low : enter + word_in segment here ≤ here = leb-true _ _ both.0 in
     let stands : at + 2 * length places ≡ here = omega (arith, length-entry_places segment jtab (k + 1) t, e) in
     let one : back_to (at + 2 * length places) (here - word_in segment here) ≡ take 2 (drop here segment) =
-    ap (λ n. back_to n (here - word_in segment here)) stands ∙ ap word (omega (arith, low)) ∙ word_there segment here (omega (arith, e, n)) h in
+    ap (λ n. back_to n (here - word_in segment here)) stands ∙ ap spelled_word (omega (arith, low)) ∙ word_there segment here (omega (arith, e, n)) h in
     let more : entry_bytes at (reverse places) ≡ take (2 * t) (drop at segment) = entries_again segment enter at jtab (k + 1) t (omega (arith, e)) n h both.1 in
     let from : drop here segment ≡ drop (2 * t) (drop at segment) = ap (λ n. drop n segment) (omega (arith, e)) ∙ sym (drop-drop (2 * t) at segment) in
     let count : 2 * t + 2 ≡ 2 * suc t = omega arith in

@@ -1,5 +1,6 @@
 -- A count of entries that nothing takes fits no procedure.
-use Rattle.std.proofs.Common.{◌≡◌, ◌<◌, ◌≤◌, ℕ, zero, suc, ◌+◌, ◌-◌, ◌*◌, Bool, true, false, max, List, [], ◌∷◌, ◌++◌, length, map, take, drop, get_or, refl, sym, ap, ◌∙◌, subst, arith, drop-drop, length-drop, length-take-le, inl, inr, Option, Some, None, option_map}
+use Rattle.std.proofs.Common.{◌≡◌, ◌<◌, ◌≤◌, ℕ, zero, suc, ◌+◌, ◌-◌, ◌*◌, Bool, true, false, max, List, [], ◌∷◌, ◌++◌, length, map, take, drop, get_or}
+use Rattle.std.proofs.Common.{refl, sym, ap, ◌∙◌, subst, arith, drop-drop, length-drop, length-take-le, inl, inr, Option, Some, None, option_map}
 use Rattle.std.specs.Prelude.{◌&&◌, ◌==◌, nat_le, nat_lt}
 use Rattle.std.specs.List.{AllByRecursion, list_any}
 use Rattle.std.proofs.Math.ListN.{get_or-map}
@@ -12,7 +13,8 @@ use Rattle.pm_disasm.specs.Item.Item.{OneByte}
 use Rattle.pm_disasm.specs.Chosen.{IsTable}
 use Rattle.pm_disasm.specs.Offsets.{IsDecoded, front_count, item_count, up_to}
 use Rattle.pm_disasm.specs.Program.{entries_needed, entries_used}
-use Rattle.pm_disasm.specs.Split.{Front, Part, are_after, bytes_after_first, code_with, end_with, ends_of, entry_places, fits, front, leads, part_of, parts, procedure_with, taken, uncut, written, written_as}
+use Rattle.pm_disasm.specs.Split.{Front, Part, are_after, bytes_after_first, code_with, end_with, ends_of, entry_places}
+use Rattle.pm_disasm.specs.Split.{fits, front, leads, part_of, parts, procedure_with, taken, uncut, written, written_as}
 use Rattle.pm_disasm.specs.Views.{front_seen, has}
 use Rattle.pm_disasm.proofs.Fronts.{drop-bytes}
 use Rattle.pm_disasm.proofs.Offsets.{front_cut, fronts_at, length-fronts_of}
@@ -33,7 +35,8 @@ greater t x y h k e = elim (cases_lt x y) [
   | inr l ↦ h (omega (arith, e, l))
 ]
 
-part_not : (t : ℕ) (ends : List ℕ) (bytes : List ℕ) (o : Option (Item ℕ)) (rest : List (Item ℕ)) → Not t (item_count o) → Not t (entries_needed rest) → Not t (entries_needed (written_as ends true bytes o ++ rest))
+part_not : (t : ℕ) (ends : List ℕ) (bytes : List ℕ) (o : Option (Item ℕ)) (rest : List (Item ℕ)) → Not t (item_count o) → Not t (entries_needed rest)
+    → Not t (entries_needed (written_as ends true bytes o ++ rest))
 part_not t ends bytes None rest h k e = k (sym (bytes_need bytes rest) ∙ e)
 part_not t ends bytes (Some item) rest h k e = go (leads ends true item) refl
   where
@@ -55,7 +58,8 @@ abbrev Nowhere : ℕ → ℕ → List ℕ → Type 0
 Nowhere t at bytes = (k : ℕ) → k < length bytes → Not t (front_count (front (at + k) (drop k bytes)))
 
 later : (t at : ℕ) (b : ℕ) (bytes : List ℕ) → Nowhere t at (b ∷ bytes) → Nowhere t (at + 1) bytes
-later t at b bytes h k l = subst (λ n. Not t (front_count (front n (drop k bytes)))) (let e : at + suc k ≡ at + 1 + k = omega arith in e) (h (suc k) (omega (arith, l)))
+later t at b bytes h k l =
+    subst (λ n. Not t (front_count (front n (drop k bytes)))) (let e : at + suc k ≡ at + 1 + k = omega arith in e) (h (suc k) (omega (arith, l)))
 
 uncut_not : (t : ℕ) (forced : List ℕ) (at : ℕ) (o : Option Front) → Not t 0 → Not t (front_count o) → Not t (front_count (uncut forced at o))
 uncut_not t forced at None z h = z
@@ -73,7 +77,8 @@ parts_not t forced zero at [] z h = tt
 parts_not t forced (suc skip) at [] z h = tt
 parts_not t forced (suc skip) at (b ∷ bytes) z h = parts_not t forced skip (at + 1) bytes z (later t at b bytes h)
 parts_not t forced zero at (b ∷ bytes) z h =
-    let here : Not t (front_count (front at (b ∷ bytes))) = subst (λ n. Not t (front_count (front n (b ∷ bytes)))) (let e : at + 0 ≡ at = omega arith in e) (h 0 (omega arith)) in (
+    let here : Not t (front_count (front at (b ∷ bytes))) = subst (λ n. Not t (front_count (front n (b ∷ bytes)))) (let e : at + 0 ≡ at = omega arith in e)
+    (h 0 (omega arith)) in (
       part_counts t at (b ∷ bytes) (taken forced at (b ∷ bytes)) (uncut_not t forced at (front at (b ∷ bytes)) z here),
       parts_not t forced (bytes_after_first (taken forced at (b ∷ bytes))) (at + 1) bytes z (later t at b bytes h),
     )
@@ -85,7 +90,8 @@ up_to_not t n None z h = z
 up_to_not t n (Some f) z h = elim (cases_Bool (nat_le f.size n)) [ inl e ↦ rw e h | inr e ↦ rw e z ]
 
 -- the code of a segment in which nothing takes so many
-code_not : (t enter m : ℕ) (segment : List ℕ) → AllByRecursion IsByte segment → Not t 0 → Nowhere t 0 segment → enter + m ≤ length segment → Nowhere t enter (take m (drop enter segment))
+code_not : (t enter m : ℕ) (segment : List ℕ) → AllByRecursion IsByte segment → Not t 0 → Nowhere t 0 segment → enter + m ≤ length segment
+    → Nowhere t enter (take m (drop enter segment))
 code_not t enter m segment b z h l k i =
     let long : length (take m (drop enter segment)) ≡ m = length-take-le m (drop enter segment) (omega (arith, length-drop enter segment, l)) in
     let all : m ≡ k + (m - k) = omega (arith, i, long) in
@@ -94,7 +100,8 @@ code_not t enter m segment b z h l k i =
     let same : front (enter + k) (drop k (take m (drop enter segment))) ≡ up_to (m - k) (front (enter + k) (drop (enter + k) segment)) =
     ap (front (enter + k)) there ∙ front_cut (enter + k) (m - k) (drop (enter + k) segment) (drop-bytes (enter + k) segment b) in
     let here : Not t (front_count (front (enter + k) (drop (enter + k) segment))) =
-    subst (λ n. Not t (front_count (front n (drop (enter + k) segment)))) (let e : 0 + (enter + k) ≡ enter + k = omega arith in e) (h (enter + k) (omega (arith, i, long, l))) in
+    subst (λ n. Not t (front_count (front n (drop (enter + k) segment)))) (let e : 0 + (enter + k) ≡ enter + k = omega arith in e)
+    (h (enter + k) (omega (arith, i, long, l))) in
     λ e. up_to_not t (m - k) (front (enter + k) (drop (enter + k) segment)) z here (sym (ap front_count same) ∙ e)
 
 decoded_not : (d : Decoded) (segment : List ℕ) (t : ℕ) → IsDecoded d segment → t ≤ 60 → has d.counts t ≡ false → Nowhere t 0 segment
@@ -102,11 +109,13 @@ decoded_not d segment t h few none k l e =
     let seen = option_map front_seen in
     let fs = d.fronts.items in
     let all : length fs ≡ length segment = sym (length-map fs seen) ∙ ap length h.fronts ∙ length-fronts_of 0 segment in
-    let one : seen (get_or fs k None) ≡ front (0 + k) (drop k segment) = sym (get_or-map seen fs k None) ∙ ap (λ gs. get_or gs k None) h.fronts ∙ fronts_at 0 k segment l in
+    let one : seen (get_or fs k None) ≡ front (0 + k) (drop k segment) =
+    sym (get_or-map seen fs k None) ∙ ap (λ gs. get_or gs k None) h.fronts ∙ fronts_at 0 k segment l in
     let count : front_count (seen (get_or fs k None)) ≡ t = ap front_count one ∙ e in
     true≢false (sym (h.counts k (omega (arith, all, l)) (omega (arith, count, few))) ∙ ap (has d.counts) count ∙ none)
 
-needed_of : (segment : List ℕ) (a : Attributes) (t : ℕ) → fits segment a t ≡ true → (t ≡ entries_needed (procedure_with segment a true t).items) × (a.enter ≤ end_with a t)
+needed_of : (segment : List ℕ) (a : Attributes) (t : ℕ) → fits segment a t ≡ true
+    → (t ≡ entries_needed (procedure_with segment a true t).items) × (a.enter ≤ end_with a t)
 needed_of segment a t h =
     let p = procedure_with segment a true t in
     let one = and_parts (nat_le (a.enter + 8 + 2 * t) a.jtab) _ h in
@@ -116,7 +125,8 @@ needed_of segment a t h =
     (eqb-true _ _ four.1, omega (arith, leb-true _ _ one.0))
 
 -- A count from 0 to 60 that the set has not fits no procedure of the segment.
-pub not_told : (d : Decoded) (segment : List ℕ) (a : Attributes) (t : ℕ) → IsDecoded d segment → AllByRecursion IsByte segment → IsTable segment a → t ≤ 60 → has d.counts t ≡ false → false ≡ fits segment a t
+pub not_told : (d : Decoded) (segment : List ℕ) (a : Attributes) (t : ℕ) → IsDecoded d segment → AllByRecursion IsByte segment → IsTable segment a → t ≤ 60
+    → has d.counts t ≡ false → false ≡ fits segment a t
 not_told d segment a t h b w few none = go (fits segment a t) refl
   where
     zero_not : Not t 0
@@ -128,5 +138,7 @@ not_told d segment a t h b w few none = go (fits segment a t) refl
         let needed = needed_of segment a t e in
         let code : List ℕ = code_with segment a t in
         let ps : List Part = parts (a.exit ∷ entry_places segment a.jtab 0 t) 0 a.enter code in
-        let nowhere : Nowhere t a.enter code = code_not t a.enter (end_with a t - a.enter) segment b zero_not (decoded_not d segment t h few none) (omega (arith, needed.1, w.within)) in
-        absurd (written_not t (ends_of (a.enter + length code) ps) ps zero_not (parts_not t (a.exit ∷ entry_places segment a.jtab 0 t) 0 a.enter code zero_not nowhere) (sym needed.0))
+        let nowhere : Nowhere t a.enter code = code_not t a.enter (end_with a t - a.enter) segment b zero_not (decoded_not d segment t h few none)
+        (omega (arith, needed.1, w.within)) in
+        absurd (written_not t (ends_of (a.enter + length code) ps) ps zero_not
+        (parts_not t (a.exit ∷ entry_places segment a.jtab 0 t) 0 a.enter code zero_not nowhere) (sym needed.0))

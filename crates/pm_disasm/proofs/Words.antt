@@ -1,5 +1,6 @@
 -- Words as they are written one after the other.
-use Rattle.std.proofs.Common.{◌≡◌, ◌<◌, ◌≤◌, ℕ, zero, suc, ◌+◌, ◌-◌, ◌*◌, ◌/◌, ◌%◌, List, [], ◌∷◌, ◌++◌, length, map, drop, get_or, refl, sym, ap, ◌∙◌, arith, add-one, append-nil, append_assoc, drop-cons, length-drop}
+use Rattle.std.proofs.Common.{◌≡◌, ◌<◌, ◌≤◌, ℕ, zero, suc, ◌+◌, ◌-◌, ◌*◌, ◌/◌, ◌%◌, List, [], ◌∷◌, ◌++◌, length, map, drop}
+use Rattle.std.proofs.Common.{get_or, refl, sym, ap, ◌∙◌, arith, add-one, append-nil, append_assoc, drop-cons, length-drop}
 use Rattle.std.specs.Prelude.{codes, Bool, true, false, ◌&&◌}
 use Rattle.std.specs.List.{list_all}
 use Rattle.std.specs.Fmt.{decimal}
@@ -30,18 +31,21 @@ first_text : (k : ℕ) (t : List ℕ) (ts : List (List ℕ)) → rest_text k (t 
 first_text zero t ts = refl
 first_text (suc k) t ts = refl
 
-words_at : (bs : List ℕ) (k : ℕ) → 2 * k + 1 < length bs → words_of (drop (2 * k) bs) ≡ (get_or bs (2 * k) 0 + 256 * get_or bs (2 * k + 1) 0) ∷ words_of (drop (2 * (k + 1)) bs)
+words_at : (bs : List ℕ) (k : ℕ) → 2 * k + 1 < length bs → words_of (drop (2 * k) bs)
+    ≡ (get_or bs (2 * k) 0 + 256 * get_or bs (2 * k + 1) 0) ∷ words_of (drop (2 * (k + 1)) bs)
 unfolding words_of
 words_at bs k h =
     let here : suc (2 * k) ≡ 2 * k + 1 = omega arith in
     let next : suc (2 * k + 1) ≡ 2 * (k + 1) = omega arith in
     let low : drop (2 * k) bs ≡ get_or bs (2 * k) 0 ∷ drop (suc (2 * k)) bs = drop-cons bs (2 * k) 0 (omega arith) in
     let high : drop (2 * k + 1) bs ≡ get_or bs (2 * k + 1) 0 ∷ drop (suc (2 * k + 1)) bs = drop-cons bs (2 * k + 1) 0 h in
-    ap words_of (low ∙ ap (λ n. get_or bs (2 * k) 0 ∷ drop n bs) here ∙ ap (λ xs. get_or bs (2 * k) 0 ∷ xs) (high ∙ ap (λ n. get_or bs (2 * k + 1) 0 ∷ drop n bs) next))
+    ap words_of (low ∙ ap (λ n. get_or bs (2 * k) 0 ∷ drop n bs) here
+    ∙ ap (λ xs. get_or bs (2 * k) 0 ∷ xs) (high ∙ ap (λ n. get_or bs (2 * k + 1) 0 ∷ drop n bs) next))
 
 -- one more word is written
 pub word_written : (bs done whole : List ℕ) (k : ℕ) → 2 * k + 1 < length bs → done ++ rest_text k (map decimal (words_of (drop (2 * k) bs))) ≡ whole
-    → (done ++ (lead_text k ++ decimal (get_or bs (2 * k) 0 + 256 * get_or bs (2 * k + 1) 0))) ++ rest_text (k + 1) (map decimal (words_of (drop (2 * (k + 1)) bs))) ≡ whole
+    → (done ++ (lead_text k ++ decimal (get_or bs (2 * k) 0 + 256 * get_or bs (2 * k + 1) 0)))
+    ++ rest_text (k + 1) (map decimal (words_of (drop (2 * (k + 1)) bs))) ≡ whole
 word_written bs done whole k h e =
     let w : ℕ = get_or bs (2 * k) 0 + 256 * get_or bs (2 * k + 1) 0 in
     let ts : List (List ℕ) = map decimal (words_of (drop (2 * (k + 1)) bs)) in
@@ -69,7 +73,8 @@ all_written bs done whole k h e =
     empty (suc k) = refl
 
 -- one more place of a table is written
-pub place_written : (bs done whole : List ℕ) (at k : ℕ) → 2 * k + 1 < length bs → done ++ more_operands (map label_text (table_places (at + 2 * k) (words_of (drop (2 * k) bs)))) ≡ whole
+pub place_written : (bs done whole : List ℕ) (at k : ℕ) → 2 * k + 1 < length bs
+    → done ++ more_operands (map label_text (table_places (at + 2 * k) (words_of (drop (2 * k) bs)))) ≡ whole
     → (done ++ (codes ", " ++ label_text ((at + 2 * k + 65536 - (get_or bs (2 * k) 0 + 256 * get_or bs (2 * k + 1) 0)) % 65536)))
     ++ more_operands (map label_text (table_places (at + 2 * (k + 1)) (words_of (drop (2 * (k + 1)) bs)))) ≡ whole
 place_written bs done whole at k h e =
@@ -82,14 +87,16 @@ place_written bs done whole at k h e =
     ∙ ap (λ u. done ++ more_operands (map label_text (table_places (at + 2 * k) u))) (sym (words_at bs k h))
     ∙ e
 
-pub places_written : (bs done whole : List ℕ) (at k : ℕ) → length bs / 2 ≤ k → done ++ more_operands (map label_text (table_places (at + 2 * k) (words_of (drop (2 * k) bs)))) ≡ whole → done ≡ whole
+pub places_written : (bs done whole : List ℕ) (at k : ℕ) → length bs / 2 ≤ k
+    → done ++ more_operands (map label_text (table_places (at + 2 * k) (words_of (drop (2 * k) bs)))) ≡ whole → done ≡ whole
 places_written bs done whole at k h e =
     let none : words_of (drop (2 * k) bs) ≡ [] = none_left (drop (2 * k) bs) (omega (arith, length-drop (2 * k) bs)) in
     sym (append-nil done) ∙ ap (λ u. done ++ more_operands (map label_text (table_places (at + 2 * k) u))) (sym none) ∙ e
 
 -- the places of a table from its word k on
 pub next_place : (bs : List ℕ) (at k : ℕ) → 2 * k + 1 < length bs → table_places (at + 2 * k) (words_of (drop (2 * k) bs))
-    ≡ ((at + 2 * k + 65536 - (get_or bs (2 * k) 0 + 256 * get_or bs (2 * k + 1) 0)) % 65536) ∷ table_places (at + 2 * (k + 1)) (words_of (drop (2 * (k + 1)) bs))
+    ≡ ((at + 2 * k + 65536 - (get_or bs (2 * k) 0 + 256 * get_or bs (2 * k + 1) 0)) % 65536)
+    ∷ table_places (at + 2 * (k + 1)) (words_of (drop (2 * (k + 1)) bs))
 next_place bs at k h =
     let w : ℕ = get_or bs (2 * k) 0 + 256 * get_or bs (2 * k + 1) 0 in
     let next : at + 2 * k + 2 ≡ at + 2 * (k + 1) = omega arith in
@@ -100,14 +107,17 @@ pub no_place : (bs : List ℕ) (at k : ℕ) → length bs / 2 ≤ k → table_pl
 no_place bs at k h = ap (table_places (at + 2 * k)) (none_left (drop (2 * k) bs) (omega (arith, length-drop (2 * k) bs)))
 
 -- a test of all places of a table, place by place
-pub table_out : (test : ℕ → Bool) (bs : List ℕ) (at k p : ℕ) (whole : Bool) → 2 * k + 1 < length bs → p ≡ (at + 2 * k + 65536 - (get_or bs (2 * k) 0 + 256 * get_or bs (2 * k + 1) 0)) % 65536 → test p ≡ false
+pub table_out : (test : ℕ → Bool) (bs : List ℕ) (at k p : ℕ) (whole : Bool) → 2 * k + 1 < length bs
+    → p ≡ (at + 2 * k + 65536 - (get_or bs (2 * k) 0 + 256 * get_or bs (2 * k + 1) 0)) % 65536 → test p ≡ false
     → list_all test (table_places (at + 2 * k) (words_of (drop (2 * k) bs))) ≡ whole → false ≡ whole
 table_out test bs at k p whole h e out i =
     let rest : List ℕ = table_places (at + 2 * (k + 1)) (words_of (drop (2 * (k + 1)) bs)) in
     sym (ap (λ b. b && list_all test rest) out) ∙ ap (λ q. test q && list_all test rest) e ∙ ap (list_all test) (sym (next_place bs at k h)) ∙ i
 
-pub table_in : (test : ℕ → Bool) (bs : List ℕ) (at k p : ℕ) (whole : Bool) → 2 * k + 1 < length bs → p ≡ (at + 2 * k + 65536 - (get_or bs (2 * k) 0 + 256 * get_or bs (2 * k + 1) 0)) % 65536 → test p ≡ true
-    → list_all test (table_places (at + 2 * k) (words_of (drop (2 * k) bs))) ≡ whole → list_all test (table_places (at + 2 * (k + 1)) (words_of (drop (2 * (k + 1)) bs))) ≡ whole
+pub table_in : (test : ℕ → Bool) (bs : List ℕ) (at k p : ℕ) (whole : Bool) → 2 * k + 1 < length bs
+    → p ≡ (at + 2 * k + 65536 - (get_or bs (2 * k) 0 + 256 * get_or bs (2 * k + 1) 0)) % 65536 → test p ≡ true
+    → list_all test (table_places (at + 2 * k) (words_of (drop (2 * k) bs))) ≡ whole
+    → list_all test (table_places (at + 2 * (k + 1)) (words_of (drop (2 * (k + 1)) bs))) ≡ whole
 table_in test bs at k p whole h e within i =
     let rest : List ℕ = table_places (at + 2 * (k + 1)) (words_of (drop (2 * (k + 1)) bs)) in
     sym (ap (λ b. b && list_all test rest) within) ∙ ap (λ q. test q && list_all test rest) e ∙ ap (list_all test) (sym (next_place bs at k h)) ∙ i

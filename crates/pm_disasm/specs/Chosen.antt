@@ -24,11 +24,14 @@ parts_with segment a t = parts (forced_with segment a t) 0 a.enter (code_with se
 
 -- no place lies before the code or behind its end
 abbrev pub are_inside : List ℕ → Attributes → ℕ → ℕ → ℕ → ℕ → Bool
-are_inside segment a end jtab k count = are_after segment a.enter jtab k count && list_all (λ place. nat_le place end) (entry_places segment jtab k count)
+are_inside segment a end jtab k count =
+    are_after segment a.enter jtab k count && list_all (λ place. nat_le place end) (entry_places segment jtab k count)
 
 -- Whether code can be read with a count of entries, whatever it takes.
 abbrev pub can_read : List ℕ → Attributes → ℕ → Bool
-can_read segment a t = nat_le (a.enter + 8 + 2 * t) a.jtab && (nat_le a.exit (end_with a t) && are_inside segment a (end_with a t) a.jtab 0 t)
+can_read segment a t =
+    nat_le (a.enter + 8 + 2 * t) a.jtab && (nat_le a.exit (end_with a t)
+    && are_inside segment a (end_with a t) a.jtab 0 t)
 
 -- What is read with a count of entries.
 pub record IsReading (segment : List ℕ) (a : Attributes) (t : ℕ) (r : Reading) : Type 0 where

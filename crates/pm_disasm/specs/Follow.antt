@@ -1,5 +1,6 @@
 -- What is written for parts, by a test of boundaries.
-use Rattle.std.specs.Prelude.{◌≡◌, ◌≤◌, ℕ, ◌+◌, Bool, ◌&&◌, ◌==◌, List, [], ◌∷◌, ◌++◌, length, map, if◌then◌else◌, codes, Option, Some, None, IfSome}
+use Rattle.std.specs.Prelude.{◌≡◌, ◌≤◌, ℕ, ◌+◌, Bool, ◌&&◌, ◌==◌, List, [], ◌∷◌, ◌++◌}
+use Rattle.std.specs.Prelude.{length, map, if◌then◌else◌, codes, Option, Some, None, IfSome}
 use Rattle.std.specs.List.{list_all}
 use Rattle.pm_disasm.specs.Item.{Item, size}
 use Rattle.pm_disasm.specs.Item.Item.{OneByte}
@@ -13,7 +14,9 @@ Items = List (Item ℕ)
 -- Parts that stand one behind another from a place to an end, each item of the size of its bytes.
 abbrev pub Follow : ℕ → ℕ → List Part → Type 0
 Follow at end [] = at ≡ end
-Follow at end (p ∷ ps) = (p.at ≡ at) × ((at + length p.bytes ≤ end) × (IfSome p.item (λ item. size at item ≡ length p.bytes) × Follow (at + length p.bytes) end ps))
+Follow at end (p ∷ ps) =
+    (p.at ≡ at) × ((at + length p.bytes ≤ end) × (IfSome p.item (λ item. size at item ≡ length p.bytes)
+    × Follow (at + length p.bytes) end ps))
 
 -- the item of a part, if its jumps can be written
 abbrev pub leading : (ℕ → Bool) → Bool → Item ℕ → Bool
@@ -37,4 +40,5 @@ lines_at_by test exit at rest = put_if (test at) (label_text at ++ 58 ∷ []) (p
 
 abbrev pub code_lines_by : (ℕ → Bool) → ℕ → ℕ → List (Item ℕ) → List (List ℕ)
 code_lines_by test exit at [] = lines_at_by test exit at []
-code_lines_by test exit at (item ∷ items) = lines_at_by test exit at ((32 ∷ 32 ∷ shown_item item) ∷ code_lines_by test exit (at + size at item) items)
+code_lines_by test exit at (item ∷ items) =
+    lines_at_by test exit at ((32 ∷ 32 ∷ shown_item item) ∷ code_lines_by test exit (at + size at item) items)

@@ -5,7 +5,7 @@ use Rattle.pm_opcode.specs.declared.operand_form.Form.{Form}
 use Rattle.pm_opcode.specs.declared.operand_form.Form.TheVariants as forms
 use Rattle.pm_opcode.specs.declared.instr.Instr.{Instr}
 use Rattle.pm_opcode.specs.Table.{form_of}
-use Rattle.pm_opcode.specs.Spelling.{word, padding, flip, is_odd, spelling, jump_count, in_range}
+use Rattle.pm_opcode.specs.Spelling.{spelled_word, pad_byte, flip, is_odd, spelling, jump_count, in_range}
 use Rattle.pm_opcode.specs.Standing.{clear}
 
 -- Where a jump leads. P is how a place is told: by a label in a text, by its offset in the segment in a program.
@@ -31,33 +31,36 @@ case_opcode = 172
 abbrev pub jump_opcode : ℕ
 jump_opcode = 185
 
--- The byte of a short jump: how far the place is from the next instruction; or entry k, by how far its word lies from JTAB, as a signed byte.
+-- The byte of a short jump: how far the place is from the next instruction; or entry k, by how far its word lies from
+-- JTAB, as a signed byte.
 abbrev pub jump_byte : ℕ → Target ℕ → ℕ
 jump_byte next (To place) = place - next
 jump_byte next (Through k) = 246 - 2 * k
 
 -- where the table of an XJP begins: behind the opcode, the padding and three words
 abbrev pub table_place : ℕ → ℕ
-table_place at = at + 7 + length (padding (flip (is_odd at)) 0)
+table_place at = at + 7 + length (pad_byte (flip (is_odd at)) 0)
 
 -- the words of a table that begins at an offset: each is how far its place lies below it, modulo 65,536
 abbrev pub table_words : ℕ → List ℕ → List ℕ
 table_words at [] = []
-table_words at (place ∷ places) = word ((at + 65536 - place) % 65536) ++ table_words (at + 2) places
+table_words at (place ∷ places) = spelled_word ((at + 65536 - place) % 65536) ++ table_words (at + 2) places
 
 -- the bytes of an item that begins at an offset of the segment
 abbrev pub item_bytes : ℕ → Item ℕ → List ℕ
 item_bytes at (Plain i named) = spelling (is_odd at) 0 i named
 item_bytes at (Jump op target) = op ∷ jump_byte (at + 2) target ∷ []
 item_bytes at (Case low high otherwise places) =
-    case_opcode ∷ padding (flip (is_odd at)) 0 ++ (word low ++ (word high ++ (jump_opcode ∷ jump_byte (table_place at) otherwise ∷ table_words (table_place at) places)))
+    case_opcode ∷ pad_byte (flip (is_odd at)) 0 ++
+    (spelled_word low ++ (spelled_word high ++ (jump_opcode ∷ jump_byte (table_place at) otherwise
+    ∷ table_words (table_place at) places)))
 item_bytes at (OneByte b) = b ∷ []
 
 -- how many bytes an item has that begins at an offset, wherever its jumps lead
 abbrev pub size : {P : Type 0} → ℕ → Item P → ℕ
 size at (Plain i named) = length (spelling (is_odd at) 0 i named)
 size at (Jump op target) = 2
-size at (Case low high otherwise places) = 7 + length (padding (flip (is_odd at)) 0) + 2 * length places
+size at (Case low high otherwise places) = 7 + length (pad_byte (flip (is_odd at)) 0) + 2 * length places
 size at (OneByte b) = 1
 
 abbrev pub IsByte : ℕ → Type 0

@@ -1,11 +1,14 @@
 -- What the text of code says of its bytes.
-use Rattle.std.specs.Prelude.{◌≡◌, ℕ, ◌+◌, ◌-◌, ◌<◌, ◌≤◌, Bool, true, false, List, [], ◌∷◌, ◌++◌, length, drop, replicate, ◌==◌, if◌then◌else◌, Option, Some, None, option_map}
+use Rattle.std.specs.Prelude.{◌≡◌, ℕ, ◌+◌, ◌-◌, ◌<◌, ◌≤◌, Bool, true, false, List, [], ◌∷◌, ◌++◌, length}
+use Rattle.std.specs.Prelude.{drop, replicate, ◌==◌, if◌then◌else◌, Option, Some, None, option_map}
 use Rattle.std.specs.Int.{w8, cast_signed}
 use Rattle.std.specs.List.{AllByRecursion, AllZip}
 use Rattle.pm_codefile.specs.declared.table.Attributes.{Attributes}
 use Rattle.pm_codefile.specs.Dictionary.{segment_in, slot_in}
 use Rattle.pm_disasm.specs.Item.{Item, IsItem, IsByte, item_bytes, size, is_instruction}
-use Rattle.pm_disasm.specs.Program.{Procedure, Segment, AreItems, AreInstructions, FitSlots, IsIn, IsProcedure, IsProgram, NamesWithin, boundaries, code_bytes, jtab_of, procedure_bytes, segment_bytes}
+use Rattle.pm_disasm.specs.Program.{Procedure, Segment, AreItems, AreInstructions, FitSlots, IsIn, IsProcedure}
+use Rattle.pm_disasm.specs.Program.{IsProgram, NamesWithin, boundaries, code_bytes, jtab_of, procedure_bytes}
+use Rattle.pm_disasm.specs.Program.{segment_bytes}
 use Rattle.pm_disasm.specs.Split.{Front, fits, front, items_in, procedure_of, procedure_with}
 use Rattle.pm_disasm.specs.Shown.{file_text, name_of, program_text}
 
@@ -14,12 +17,14 @@ abbrev pub InstructionIsRead : Type 0
 InstructionIsRead = (at : ℕ) (item : Item ℕ) (rest : List ℕ) → IsItem at item → is_instruction item ≡ true
     → front at (item_bytes at item ++ rest) ≡ Some (record { size = size at item; item = Some item })
 
--- What is written for code: items of the code's bytes, which name boundaries alone; and each forced place is a boundary.
+-- What is written for code: items of the code's bytes, which name boundaries alone; and each forced place is a
+-- boundary.
 pub record IsWritten (forced : List ℕ) (at : ℕ) (code : List ℕ) (items : List (Item ℕ)) : Type 0 where
   pub sound : AreItems at items
   pub bytes : code_bytes at items ≡ code
   pub jumps : AllByRecursion (NamesWithin (boundaries at items)) items
-  pub places : (place : ℕ) → IsIn forced place → at ≤ place → place ≤ at + length code → IsIn (boundaries at items) place
+  pub places : (place : ℕ) → IsIn forced place → at ≤ place → place ≤ at + length code
+      → IsIn (boundaries at items) place
 
 -- Whatever count of jump entries is taken, the parts of code are items of the same bytes.
 abbrev pub SplitKeepsBytes : Type 0
@@ -28,7 +33,16 @@ SplitKeepsBytes = (forced : List ℕ) (allowed : Bool) (at : ℕ) (code : List �
 
 -- what the table of a procedure says
 abbrev pub attributes_of : ℕ → Procedure → Attributes
-attributes_of number p = record { procedure = number; level = cast_signed w8 p.level; enter = p.start; exit = p.exit; parameters = p.parameters; locals = p.locals; jtab = jtab_of p }
+attributes_of number p =
+    record {
+      procedure = number;
+      level = cast_signed w8 p.level;
+      enter = p.start;
+      exit = p.exit;
+      parameters = p.parameters;
+      locals = p.locals;
+      jtab = jtab_of p;
+    }
 
 -- the item of an instruction that stands at an offset of a segment
 abbrev pub item_in : Option Front → Option (Item ℕ)
@@ -45,17 +59,22 @@ pub record StandsIn (segment : List ℕ) (number : ℕ) (p : Procedure) : Type 0
   pub there : drop p.start segment ≡ procedure_bytes number p ++ rest
   pub bytes : AllByRecursion IsByte segment
 
--- For a procedure without a byte that is no instruction its own count of entries fits, and it is what is read with that count.
+-- For a procedure without a byte that is no instruction its own count of entries fits, and it is what is read with that
+-- count.
 abbrev pub OwnCountFits : Type 0
 OwnCountFits = (segment : List ℕ) (number : ℕ) (p : Procedure) → StandsIn segment number p → AreInstructions p.items
-    → (procedure_with segment (attributes_of number p) true (length p.entries) ≡ p) × (fits segment (attributes_of number p) (length p.entries) ≡ true)
+    → (procedure_with segment (attributes_of number p) true (length p.entries) ≡ p)
+    × (fits segment (attributes_of number p) (length p.entries) ≡ true)
 
 -- No smaller count fits there.
 abbrev pub SmallerCountFails : Type 0
-SmallerCountFails = (segment : List ℕ) (number : ℕ) (p : Procedure) (t : ℕ) → StandsIn segment number p → AreInstructions p.items → t < length p.entries
+SmallerCountFails =
+    (segment : List ℕ) (number : ℕ) (p : Procedure) (t : ℕ) → StandsIn segment number p → AreInstructions p.items
+    → t < length p.entries
     → fits segment (attributes_of number p) t ≡ false
 
--- A procedure of a program is shown as one of the same bytes at the same place: as itself where all its items are instructions.
+-- A procedure of a program is shown as one of the same bytes at the same place: as itself where all its items are
+-- instructions.
 pub record IsShownAs (number : ℕ) (p q : Procedure) : Type 0 where
   pub procedure : IsProcedure q
   pub start : q.start ≡ p.start
@@ -64,19 +83,24 @@ pub record IsShownAs (number : ℕ) (p q : Procedure) : Type 0 where
   pub same : AreInstructions p.items → q ≡ p
 
 abbrev pub ProcedureIsShown : Type 0
-ProcedureIsShown = (segment : List ℕ) (number : ℕ) (p : Procedure) → StandsIn segment number p → IsShownAs number p (procedure_of segment (attributes_of number p))
+ProcedureIsShown =
+    (segment : List ℕ) (number : ℕ) (p : Procedure) → StandsIn segment number p
+    → IsShownAs number p (procedure_of segment (attributes_of number p))
 
 -- the segment of a number
 abbrev pub segment_numbered : ℕ → List Segment → Option Segment
 segment_numbered n [] = None
 segment_numbered n (s ∷ ss) = if s.number == n then Some s else segment_numbered n ss
 
--- A code file holds a program: a slot has the bytes of the segment of its number, and its name with spaces at the end, or no segment.
+-- A code file holds a program: a slot has the bytes of the segment of its number, and its name with spaces at the end,
+-- or no segment.
 pub record Holds (file : List ℕ) (ss : List Segment) : Type 0 where
   pub segments : (n : ℕ) → n < 16 → segment_in file n ≡ option_map segment_bytes (segment_numbered n ss)
-  pub names : (n : ℕ) (s : Segment) → segment_numbered n ss ≡ Some s → name_of (slot_in file n) ≡ s.name ++ replicate (8 - length s.name) 32
+  pub names : (n : ℕ) (s : Segment) → segment_numbered n ss ≡ Some s
+      → name_of (slot_in file n) ≡ s.name ++ replicate (8 - length s.name) 32
 
--- Segments of one number and name with the same bytes; and the same segments, where the items of the first are all instructions.
+-- Segments of one number and name with the same bytes; and the same segments, where the items of the first are all
+-- instructions.
 pub record IsSameSegment (s t : Segment) : Type 0 where
   pub number : t.number ≡ s.number
   pub name : t.name ≡ s.name

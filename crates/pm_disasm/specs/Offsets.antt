@@ -1,5 +1,6 @@
 -- What is read at each offset of a segment.
-use Rattle.std.specs.Prelude.{◌≡◌, true, ◌<◌, ◌≤◌, ℕ, ◌+◌, ◌-◌, ◌^◌, ◌&&◌, nat_lt, nat_le, List, [], ◌∷◌, length, map, drop, get_or, if◌then◌else◌, Option, Some, None, option_map}
+use Rattle.std.specs.Prelude.{◌≡◌, true, ◌<◌, ◌≤◌, ℕ, ◌+◌, ◌-◌, ◌^◌, ◌&&◌, nat_lt, nat_le, List, [], ◌∷◌}
+use Rattle.std.specs.Prelude.{length, map, drop, get_or, if◌then◌else◌, Option, Some, None, option_map}
 use Rattle.std.specs.List.{list_any}
 use Rattle.pm_disasm.specs.declared.decoded.Decoded.{Decoded}
 use Rattle.pm_disasm.specs.declared.front.Front.{Front}
@@ -26,11 +27,13 @@ up_to n (Some f) = if nat_le f.size n then Some f else None
 -- What is read in bytes is what was read at the same offset, where it ends within them.
 pub record TellFronts (fronts : List (Option Front)) (bytes : List ℕ) : Type 0 where
   pub long : length bytes ≤ length fronts
-  pub each : (at : ℕ) → at < length bytes → up_to (length bytes - at) (option_map front_seen (get_or fronts at None)) ≡ split.front at (drop at bytes)
+  pub each : (at : ℕ) → at < length bytes → up_to (length bytes - at) (option_map front_seen (get_or fronts at None))
+      ≡ split.front at (drop at bytes)
 
 -- A forced place lies strictly between a place and an end exactly where this one lies before the end.
 abbrev pub IsNextCut : List ℕ → ℕ → ℕ → Type 0
-IsNextCut forced at next = (end : ℕ) → end < 2 ^ 64 → list_any (λ place. nat_lt at place && nat_lt place end) forced ≡ nat_lt next end
+IsNextCut forced at next =
+    (end : ℕ) → end < 2 ^ 64 → list_any (λ place. nat_lt at place && nat_lt place end) forced ≡ nat_lt next end
 
 -- how many entries the jump table has to have for what is read at an offset
 abbrev pub item_count : Option (Item ℕ) → ℕ
@@ -43,7 +46,9 @@ front_count (Some f) = item_count f.item
 
 -- The set has the counts, up to 60, that are taken by what was read, up to an offset.
 abbrev pub HasCounts : PlaceSet → List (Option Front) → ℕ → Type 0
-HasCounts counts fronts end = (at : ℕ) → at < end → front_count (option_map front_seen (get_or fronts at None)) ≤ 60 → has counts (front_count (option_map front_seen (get_or fronts at None))) ≡ true
+HasCounts counts fronts end =
+    (at : ℕ) → at < end → front_count (option_map front_seen (get_or fronts at None)) ≤ 60
+    → has counts (front_count (option_map front_seen (get_or fronts at None))) ≡ true
 
 -- What was read in a segment, and the counts that it takes.
 pub record IsDecoded (d : Decoded) (segment : List ℕ) : Type 0 where

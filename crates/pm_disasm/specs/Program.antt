@@ -1,13 +1,15 @@
--- Programs, with each place as an offset in its segment, and their bytes. A label is only a spelling of a place, so a program has none.
-use Rattle.std.specs.Prelude.{◌≡◌, ℕ, ◌+◌, ◌-◌, ◌*◌, ◌%◌, ◌<◌, ◌≤◌, Bool, true, not, List, [], ◌∷◌, ◌++◌, length, reverse, max, nat_le, ◌==◌, ◌&&◌, ◌||◌}
+-- Programs, with each place as an offset in its segment, and their bytes. A label is only a spelling of a place, so a
+-- program has none.
+use Rattle.std.specs.Prelude.{◌≡◌, ℕ, ◌+◌, ◌-◌, ◌*◌, ◌%◌, ◌<◌, ◌≤◌, Bool, true, not, List}
+use Rattle.std.specs.Prelude.{[], ◌∷◌, ◌++◌, length, reverse, max, nat_le, ◌==◌, ◌&&◌, ◌||◌}
 use Rattle.std.specs.List.{AllByRecursion, list_any, list_all}
-use Rattle.pm_opcode.specs.Spelling.{word}
+use Rattle.pm_opcode.specs.Spelling.{spelled_word}
 use Rattle.pm_disasm.specs.Item.{Item, Target, item_bytes, size, IsItem, is_instruction}
 use Rattle.pm_disasm.specs.Item.Item.{Jump, Case}
 use Rattle.pm_disasm.specs.Item.Target.{To, Through}
 
--- A procedure. Its code begins at start, and its exit code at exit; an entry of its jump table is a place in its code. Sizes are in
--- bytes, the level is a byte in two's complement.
+-- A procedure. Its code begins at start, and its exit code at exit; an entry of its jump table is a place in its code.
+-- Sizes are in bytes, the level is a byte in two's complement.
 pub record Procedure : Type 0 where
   pub level : ℕ
   pub parameters : ℕ
@@ -87,8 +89,8 @@ places_of p = boundaries p.start p.items
 abbrev pub code_end : Procedure → ℕ
 code_end p = end_of p.start p.items
 
--- What a procedure of a program is: its jumps, its exit code and its entries lead to boundaries of its items, it has entries up to
--- the greatest that a jump takes and no more, and its code begins and ends at an even offset.
+-- What a procedure of a program is: its jumps, its exit code and its entries lead to boundaries of its items, it has
+-- entries up to the greatest that a jump takes and no more, and its code begins and ends at an even offset.
 pub record IsProcedure (p : Procedure) : Type 0 where
   pub level : p.level < 256
   pub parameters : (p.parameters < 65536) × (p.parameters % 2 ≡ 0)
@@ -103,7 +105,7 @@ pub record IsProcedure (p : Procedure) : Type 0 where
 
 -- a word at an offset that says how far a place lies below it
 abbrev pub back_to : ℕ → ℕ → List ℕ
-back_to at place = word (at - place)
+back_to at place = spelled_word (at - place)
 
 -- a jump table from its lowest word upward, which is its last entry
 abbrev pub entry_bytes : ℕ → List ℕ → List ℕ
@@ -118,7 +120,8 @@ jtab_of p = code_end p + 2 * length p.entries + 8
 abbrev pub attribute_bytes : ℕ → Procedure → List ℕ
 attribute_bytes number p =
     let jtab = jtab_of p in
-    word p.locals ++ (word p.parameters ++ (back_to (jtab - 4) p.exit ++ (back_to (jtab - 2) p.start ++ number ∷ p.level ∷ [])))
+    spelled_word p.locals ++ (spelled_word p.parameters
+    ++ (back_to (jtab - 4) p.exit ++ (back_to (jtab - 2) p.start ++ number ∷ p.level ∷ [])))
 
 -- a procedure: its code, its jump table with entry 0 the highest, and its attributes
 abbrev pub procedure_bytes : ℕ → Procedure → List ℕ
@@ -141,7 +144,8 @@ dictionary_bytes at (p ∷ ps) = back_to at (jtab_of p) ++ dictionary_bytes (at 
 -- a segment: its procedures, the dictionary, and the highest word with its number and the count of procedures
 abbrev pub segment_bytes : Segment → List ℕ
 segment_bytes s =
-    procedures_bytes 1 s.procedures ++ (dictionary_bytes (procedures_end 0 s.procedures) (reverse s.procedures) ++ s.number ∷ length s.procedures ∷ [])
+    procedures_bytes 1 s.procedures ++ (dictionary_bytes (procedures_end 0 s.procedures) (reverse s.procedures)
+    ++ s.number ∷ length s.procedures ∷ [])
 
 -- each procedure begins where the one before ends
 abbrev pub FollowFrom : ℕ → List Procedure → Type 0

@@ -1,6 +1,8 @@
 -- Programs and code files as text.
-use Rattle.std.specs.Prelude.{ℕ, zero, suc, ◌+◌, ◌-◌, Bool, List, [], ◌∷◌, ◌++◌, length, map, replicate, reverse, nat_lt, ◌==◌, if◌then◌else◌, codes, Option, Some, None}
+use Rattle.std.specs.Prelude.{ℕ, zero, suc, ◌+◌, ◌-◌, Bool, List, [], ◌∷◌, ◌++◌, length, map, replicate}
+use Rattle.std.specs.Prelude.{reverse, nat_lt, ◌==◌, if◌then◌else◌, codes, Option, Some, None}
 use Rattle.std.specs.Fmt.{decimal}
+unfoldable pub use Rattle.pm_base.specs.Decimals.{padded}
 use Rattle.pm_opcode.specs.Table.{mnemonic_of, form_of}
 use Rattle.pm_codefile.specs.declared.table.Attributes.{Attributes}
 use Rattle.pm_codefile.specs.declared.file.Slot.{Slot}
@@ -17,10 +19,6 @@ use Rattle.pm_disasm.specs.Split.{procedure_of}
 abbrev pub words_text : List (List ℕ) → List ℕ
 words_text [] = []
 words_text (t ∷ ts) = 32 ∷ t ++ words_text ts
-
--- a number in at least so many digits, with zeros in front
-unfoldable pub padded : ℕ → ℕ → List ℕ
-padded width n = replicate (width - length (decimal n)) 48 ++ decimal n
 
 -- a label: `L` and its place in five digits
 abbrev pub label_text : ℕ → List ℕ
@@ -42,7 +40,8 @@ front_text (OneByte b) = codes ".BYTE"
 abbrev pub item_operands : Item ℕ → List (List ℕ)
 item_operands (Plain i named) = operand_texts (form_of i.op) i named
 item_operands (Jump op target) = target_text target ∷ []
-item_operands (Case low high otherwise places) = signed_text low ∷ signed_text high ∷ target_text otherwise ∷ map label_text places
+item_operands (Case low high otherwise places) =
+    signed_text low ∷ signed_text high ∷ target_text otherwise ∷ map label_text places
 item_operands (OneByte b) = decimal b ∷ []
 
 -- The text of an item.
@@ -59,12 +58,14 @@ put_if b x xs = if b then x ∷ xs else xs
 
 -- the label of a place if it is used, and the exit code if it is there, and what follows
 abbrev pub lines_at : List ℕ → ℕ → ℕ → List (List ℕ) → List (List ℕ)
-lines_at used exit at rest = put_if (is_among used at) (label_text at ++ 58 ∷ []) (put_if (exit == at) (codes ".EXIT") rest)
+lines_at used exit at rest =
+    put_if (is_among used at) (label_text at ++ 58 ∷ []) (put_if (exit == at) (codes ".EXIT") rest)
 
 -- the lines of items that begin at an offset
 abbrev pub code_lines : List ℕ → ℕ → ℕ → List (Item ℕ) → List (List ℕ)
 code_lines used exit at [] = lines_at used exit at []
-code_lines used exit at (item ∷ items) = lines_at used exit at ((32 ∷ 32 ∷ shown_item item) ∷ code_lines used exit (at + size at item) items)
+code_lines used exit at (item ∷ items) =
+    lines_at used exit at ((32 ∷ 32 ∷ shown_item item) ∷ code_lines used exit (at + size at item) items)
 
 -- a level, a byte, as a signed number
 abbrev pub level_text : ℕ → List ℕ
@@ -73,11 +74,13 @@ level_text level = if nat_lt level 128 then decimal level else 45 ∷ decimal (2
 abbrev pub entry_line : ℕ → List ℕ
 entry_line place = codes ".JUMP" ++ words_text (label_text place ∷ [])
 
--- A procedure: its number, level and sizes, its code with the labels that a jump or an entry names, its entries from the first on.
+-- A procedure: its number, level and sizes, its code with the labels that a jump or an entry names, its entries from
+-- the first on.
 abbrev pub procedure_lines : ℕ → Procedure → List (List ℕ)
 procedure_lines number p =
     (codes ".PROC" ++ words_text (decimal number ∷ level_text p.level ∷ decimal p.parameters ∷ decimal p.locals ∷ []))
-    ∷ (code_lines (named_places p.items ++ p.entries) p.exit p.start p.items ++ (map entry_line p.entries ++ codes ".END" ∷ []))
+    ∷ (code_lines (named_places p.items ++ p.entries) p.exit p.start p.items
+    ++ (map entry_line p.entries ++ codes ".END" ∷ []))
 
 abbrev pub procedures_lines : ℕ → List Procedure → List (List ℕ)
 procedures_lines number [] = []
@@ -108,7 +111,8 @@ missing_line number = (codes "; procedure " ++ decimal number) ∷ []
 
 -- What is shown for a procedure by its table: one whose exit code lies before its code by its number alone.
 abbrev pub table_lines : List ℕ → Attributes → List (List ℕ)
-table_lines segment a = if nat_lt a.exit a.enter then missing_line a.procedure else procedure_lines a.procedure (procedure_of segment a)
+table_lines segment a =
+    if nat_lt a.exit a.enter then missing_line a.procedure else procedure_lines a.procedure (procedure_of segment a)
 
 -- What is shown for procedure p of a segment: by its number alone where it has no table.
 abbrev pub table_lines_or : List ℕ → ℕ → Option Attributes → List (List ℕ)
@@ -118,9 +122,11 @@ table_lines_or segment p (Some a) = table_lines segment a
 -- so many procedures of a segment, from procedure p on
 abbrev pub tables_lines : List ℕ → ℕ → ℕ → List (List ℕ)
 tables_lines segment p zero = []
-tables_lines segment p (suc count) = table_lines_or segment p (attributes_in segment p) ++ tables_lines segment (p + 1) count
+tables_lines segment p (suc count) =
+    table_lines_or segment p (attributes_in segment p) ++ tables_lines segment (p + 1) count
 
--- A name in a code file without the spaces at its end, its strange bytes as question marks; an empty one is one question mark.
+-- A name in a code file without the spaces at its end, its strange bytes as question marks; an empty one is one
+-- question mark.
 abbrev pub cut : List ℕ → List ℕ
 cut [] = []
 cut (c ∷ cs) = if c == 32 then cut cs else c ∷ cs
@@ -144,7 +150,8 @@ slot_lines n name (Some segment) = segment_line n (shown_name name) ∷ tables_l
 -- so many slots of a code file, from slot n on
 abbrev pub slots_lines : List ℕ → ℕ → ℕ → List (List ℕ)
 slots_lines file n zero = []
-slots_lines file n (suc count) = slot_lines n (name_of (slot_in file n)) (segment_in file n) ++ slots_lines file (n + 1) count
+slots_lines file n (suc count) =
+    slot_lines n (name_of (slot_in file n)) (segment_in file n) ++ slots_lines file (n + 1) count
 
 -- The text of a procedure of a segment.
 unfoldable pub procedure_text : List ℕ → Attributes → List ℕ

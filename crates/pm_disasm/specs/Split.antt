@@ -1,5 +1,7 @@
 -- The items that are read in a segment's bytes.
-use Rattle.std.specs.Prelude.{ℕ, zero, suc, ◌+◌, ◌-◌, ◌*◌, ◌/◌, ◌%◌, Bool, true, false, List, [], ◌∷◌, ◌++◌, length, map, take, drop, replicate, nat_lt, nat_le, ◌==◌, ◌&&◌, if◌then◌else◌, Option, Some, None, Result, Ok, Err, slice_index}
+use Rattle.std.specs.Prelude.{ℕ, zero, suc, ◌+◌, ◌-◌, ◌*◌, ◌/◌, ◌%◌, Bool, true, false, List, []}
+use Rattle.std.specs.Prelude.{◌∷◌, ◌++◌, length, map, take, drop, replicate, nat_lt, nat_le, ◌==◌}
+use Rattle.std.specs.Prelude.{◌&&◌, if◌then◌else◌, Option, Some, None, Result, Ok, Err, slice_index}
 use Rattle.std.specs.Int.{w8, cast_unsigned}
 use Rattle.std.specs.List.{list_any, list_all}
 use Rattle.pm_opcode.specs.declared.operand_form.Form.{Form}
@@ -17,13 +19,14 @@ use Rattle.pm_disasm.specs.Item.Item.{Plain, Jump, Case, OneByte}
 use Rattle.pm_disasm.specs.Item.Target.{To, Through}
 use Rattle.pm_disasm.specs.Program.{Procedure, entries_needed, is_among, item_places}
 
--- An instruction at the front of bytes: how many bytes it has, and the item that it is; none where a jump of it leads neither forward nor
--- through an entry, or where the third word of an XJP holds no UJP.
+-- An instruction at the front of bytes: how many bytes it has, and the item that it is; none where a jump of it leads
+-- neither forward nor through an entry, or where the third word of an XJP holds no UJP.
 pub record Front : Type 0 where
   pub size : ℕ
   pub item : Option (Item ℕ)
 
--- The target of a short jump by its byte, counted from an offset: forward, or by an even distance down from JTAB - 10 through an entry.
+-- The target of a short jump by its byte, counted from an offset: forward, or by an even distance down from JTAB - 10
+-- through an entry.
 abbrev pub target_of : ℕ → ℕ → Option (Target ℕ)
 target_of next b = if nat_lt b 128 then Some (To (next + b))
     else if (b % 2 == 0) && nat_le b 246 then Some (Through ((246 - b) / 2))
@@ -46,13 +49,14 @@ abbrev pub case_item : ℕ → ℕ → Option (Target ℕ) → List ℕ → Opti
 case_item low high None places = None
 case_item low high (Some otherwise) places = Some (Case low high otherwise places)
 
--- The item of an instruction that names these bytes and ends before an offset. The third word of XJP is a UJP, whose distance counts from
--- the table.
+-- The item of an instruction that names these bytes and ends before an offset. The third word of XJP is a UJP, whose
+-- distance counts from the table.
 abbrev pub item_of : Form → Instr → List ℕ → ℕ → Option (Item ℕ)
 item_of forms.Sb i named end = jump_item i.op (target_of end (i.a % 256))
 item_of forms.Jumps i named end =
     let table = end - i.count in
-    if i.c % 256 == jump_opcode then case_item i.a i.b (target_of table (i.c / 256)) (table_places table (words_of named)) else None
+    if i.c % 256 == jump_opcode then case_item i.a i.b (target_of table (i.c / 256))
+    (table_places table (words_of named)) else None
 item_of _ i named end = Some (Plain (by_operands i) named)
 
 -- The padding byte of an instruction is zero: the third byte of LDC at an odd offset, the second of XJP at an even one.
@@ -68,7 +72,11 @@ standing_at at bytes = replicate at 0 ++ bytes
 abbrev pub front_by : ℕ → List ℕ → Result Instr Decode → Option Front
 front_by at bytes (Err fault) = None
 front_by at bytes (Ok i) = if has_zero_padding (form_of i.op) (is_odd at) bytes
-    then Some (record { size = i.len; item = item_of (form_of i.op) i (named_by i (standing_at at bytes)) (at + i.len) })
+    then Some (record {
+      size = i.len;
+      item = item_of (form_of i.op) i (named_by i (standing_at at bytes))
+          (at + i.len);
+    })
     else None
 
 -- The instruction at the front of bytes that begin at an offset: it decodes, ends within them, and has zero padding.
@@ -78,12 +86,14 @@ front at bytes = front_by at bytes (reading (standing_at at bytes) at)
 -- the instruction, unless a forced place lies strictly inside
 abbrev pub uncut : List ℕ → ℕ → Option Front → Option Front
 uncut forced at None = None
-uncut forced at (Some f) = if list_any (λ place. nat_lt at place && nat_lt place (at + f.size)) forced then None else Some f
+uncut forced at (Some f) =
+    if list_any (λ place. nat_lt at place && nat_lt place (at + f.size)) forced then None else Some f
 
 abbrev pub taken : List ℕ → ℕ → List ℕ → Option Front
 taken forced at bytes = uncut forced at (front at bytes)
 
--- A part of code: its bytes, and the item that it is if its jumps lead to boundaries; without one it is written as bytes.
+-- A part of code: its bytes, and the item that it is if its jumps lead to boundaries; without one it is written as
+-- bytes.
 pub record Part : Type 0 where
   pub at : ℕ
   pub bytes : List ℕ
@@ -97,8 +107,8 @@ abbrev pub bytes_after_first : Option Front → ℕ
 bytes_after_first None = 0
 bytes_after_first (Some f) = f.size - 1
 
--- The parts of code that begins at an offset, after as many bytes that belong to a part before: at each place the instruction that is
--- taken, else one byte.
+-- The parts of code that begins at an offset, after as many bytes that belong to a part before: at each place the
+-- instruction that is taken, else one byte.
 abbrev pub parts : List ℕ → ℕ → ℕ → List ℕ → List Part
 parts forced skip at [] = []
 parts forced (suc skip) at (b ∷ bytes) = parts forced skip (at + 1) bytes
@@ -141,12 +151,14 @@ items_in forced allowed at code =
 -- the places that the first entries of the jump table name, from entry k on
 abbrev pub entry_places : List ℕ → ℕ → ℕ → ℕ → List ℕ
 entry_places segment jtab k zero = []
-entry_places segment jtab k (suc count) = let at = jtab - 10 - 2 * k in (at - word_in segment at) ∷ entry_places segment jtab (k + 1) count
+entry_places segment jtab k (suc count) =
+    let at = jtab - 10 - 2 * k in (at - word_in segment at) ∷ entry_places segment jtab (k + 1) count
 
 -- none of them lies before the code
 abbrev pub are_after : List ℕ → ℕ → ℕ → ℕ → ℕ → Bool
 are_after segment enter jtab k zero = true
-are_after segment enter jtab k (suc count) = let at = jtab - 10 - 2 * k in nat_le (enter + word_in segment at) at && are_after segment enter jtab (k + 1) count
+are_after segment enter jtab k (suc count) =
+    let at = jtab - 10 - 2 * k in nat_le (enter + word_in segment at) at && are_after segment enter jtab (k + 1) count
 
 -- where the code ends with a count of entries
 abbrev pub end_with : Attributes → ℕ → ℕ
@@ -169,8 +181,8 @@ procedure_with segment a allowed t =
       items = items_in (a.exit ∷ entries) allowed a.enter (code_with segment a t);
     }
 
--- Whether a count of entries fits: the code does not end before it begins, the exit code and all entries lead from its begin to its end,
--- and as many entries are taken by what is written.
+-- Whether a count of entries fits: the code does not end before it begins, the exit code and all entries lead from its
+-- begin to its end, and as many entries are taken by what is written.
 abbrev pub fits : List ℕ → Attributes → ℕ → Bool
 fits segment a t =
     let p = procedure_with segment a true t in
@@ -189,7 +201,7 @@ abbrev pub with_count : List ℕ → Attributes → Option ℕ → Procedure
 with_count segment a None = procedure_with segment a false 0
 with_count segment a (Some t) = procedure_with segment a true t
 
--- The procedure that is shown: with the least count from 0 to 60 that fits; where none does, without entries, and no jump through one is
--- written.
+-- The procedure that is shown: with the least count from 0 to 60 that fits; where none does, without entries, and no
+-- jump through one is written.
 unfoldable pub procedure_of : List ℕ → Attributes → Procedure
 procedure_of segment a = with_count segment a (least_from segment a 0 61)

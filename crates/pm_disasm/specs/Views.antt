@@ -21,7 +21,8 @@ target_seen (targets.Through k) = Through k
 abbrev pub item_seen : Item → model.Item ℕ
 item_seen (items.Plain instr named) = Plain instr named.now
 item_seen (items.Jump op target) = Jump op (target_seen target)
-item_seen (items.Case low high otherwise table) = Case low high (target_seen otherwise) (split.table_places table.at (words_of table.words.now))
+item_seen (items.Case low high otherwise table) =
+    Case low high (target_seen otherwise) (split.table_places table.at (words_of table.words.now))
 
 abbrev pub front_seen : Front → split.Front
 front_seen f = record { size = f.size; item = option_map item_seen f.item }

@@ -1,6 +1,7 @@
 //! The count of entries of a procedure's jump table, which its bytes do not say.
 
-ghost use Rattle.std.specs.Prelude.{◌≡◌, ◌<◌, ◌≤◌, ◌^◌, ◌+◌, ◌-◌, ◌*◌, ◌∷◌, [], ◌&&◌, ℕ, nat_le, true, is_some, length, IfOk, IfSome};
+ghost use Rattle.std.specs.Prelude.{◌≡◌, ◌<◌, ◌≤◌, ◌^◌, ◌+◌, ◌-◌, ◌*◌, ◌∷◌, [], ◌&&◌};
+ghost use Rattle.std.specs.Prelude.{ℕ, nat_le, true, is_some, length, IfOk, IfSome};
 ghost use Rattle.pm_codefile.specs.Dictionary.{word_in};
 ghost use Rattle.pm_disasm.specs.Chosen.{IsReading, IsTable, are_inside, can_read, forced_with};
 ghost use Rattle.pm_disasm.specs.Offsets.{IsDecoded};
@@ -40,8 +41,8 @@ fn leads_inside(enter: u16, end: u16, at: u16, distance: u16) -> bool
     u32::from(enter) + u32::from(distance) <= u32::from(at) && at - distance <= end
 }
 
-/// The exit code and the places that the first entries of a jump table name; None if an entry leads before the code or behind its
-/// end.
+/// The exit code and the places that the first entries of a jump table name; None if an entry leads before the code or
+/// behind its end.
 fn forced_places(
     alloc: Global,
     segment: &[u8],
@@ -51,7 +52,8 @@ fn forced_places(
     requires table { IsTable segment.now a.now }
     requires room { a.now.enter + 8 + 2 * count ≤ a.now.jtab }
     ensures places { IfOk result (λ r. IfSome r (λ v. v.items ≡ forced_with segment.now a.now count)) }
-    ensures inside { IfOk result (λ r. is_some r ≡ are_inside segment.now a.now (end_with a.now count) a.now.jtab 0 count) }
+    ensures inside { IfOk result (λ r. is_some r ≡ are_inside segment.now a.now
+        (end_with a.now count) a.now.jtab 0 count) }
 {
     let end = a.jtab - 8 - 2 * count;
     let mut forced = Vec::new(alloc);
@@ -67,7 +69,8 @@ fn forced_places(
     Ok(Some(forced))
 }
 
-/// The code as it is read with a count of entries, if none leads elsewhere and the exit code does not lie behind the code's end.
+/// The code as it is read with a count of entries, if none leads elsewhere and the exit code does not lie behind the
+/// code's end.
 fn read_with<'a>(
     alloc: Global,
     segment: &'a [u8],
@@ -136,8 +139,8 @@ pub(crate) struct Shown<'a> {
     pub allowed: bool,
 }
 
-/// The code as it is shown: with the least count of entries from 0 to 60 that fits; where none does, without entries, and no jump
-/// through one is written.
+/// The code as it is shown: with the least count of entries from 0 to 60 that fits; where none does, without entries,
+/// and no jump through one is written.
 pub(crate) fn shown_code<'a>(
     alloc: Global,
     segment: &'a [u8],
@@ -148,7 +151,9 @@ pub(crate) fn shown_code<'a>(
     requires decoded { IsDecoded decoded.now segment.now }
     requires short { length segment.now ≤ 65534 }
     requires order { a.now.enter ≤ a.now.exit }
-    ensures shown { IfOk result (λ shown. (t : ℕ) × (procedure_of segment.now a.now ≡ procedure_with segment.now a.now shown.allowed t) × IsReading segment.now a.now t shown.reading) }
+    ensures shown { IfOk result (λ shown. (t : ℕ) ×
+        (procedure_of segment.now a.now ≡ procedure_with segment.now a.now shown.allowed t)
+        × IsReading segment.now a.now t shown.reading) }
 {
     for count in 0..61 {
         if let Some(reading) = fitting(alloc, segment, decoded, a, count)? {

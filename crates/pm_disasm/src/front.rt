@@ -1,7 +1,7 @@
 //! The instruction at a place of code.
 
 ghost use Rattle.std.specs.Prelude.{◌≡◌, ◌<◌, ◌≤◌, ◌^◌, ◌+◌, ◌-◌, ◌*◌, drop, length, option_map, slice_index, IfSome};
-ghost use Rattle.pm_opcode.specs.Standing.{Stands};
+ghost use Rattle.pm_opcode.specs.Standing.{IsSpelledAt};
 ghost use Rattle.pm_opcode.specs.declared.operand_form.Form.TheVariants as forms;
 ghost use Rattle.pm_opcode.specs.Table.{form_of};
 ghost use Rattle.pm_opcode.specs.Spelling.{is_odd, named_by};

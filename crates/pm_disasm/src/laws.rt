@@ -1,20 +1,22 @@
 //! What the text of code says of its bytes. The functions do nothing: their contracts are laws of the definitions that
 //! the disassembler meets.
 
-ghost use Rattle.pm_disasm.specs.Laws.{InstructionIsRead, SplitKeepsBytes, OwnCountFits, SmallerCountFails, ProcedureIsShown, ProgramIsShown};
+ghost use Rattle.pm_disasm.specs.Laws.{InstructionIsRead, SplitKeepsBytes, OwnCountFits};
+ghost use Rattle.pm_disasm.specs.Laws.{SmallerCountFails, ProcedureIsShown, ProgramIsShown};
 
 /// An instruction is read in its own bytes, whatever follows them.
 pub fn instruction_is_read()
     ensures law { InstructionIsRead }
 {}
 
-/// Whatever places are forced and whether entries may be named, what is written for code are items of its bytes, which name
-/// boundaries alone, and each forced place in the code is a boundary.
+/// Whatever places are forced and whether entries may be named, what is written for code are items of its bytes, which
+/// name boundaries alone, and each forced place in the code is a boundary.
 pub fn split_keeps_bytes()
     ensures law { SplitKeepsBytes }
 {}
 
-/// A procedure of instructions that stands in a segment fits with its own count of jump entries, and is what is read with it.
+/// A procedure of instructions that stands in a segment fits with its own count of jump entries, and is what is read
+/// with it.
 pub fn own_count_fits()
     ensures law { OwnCountFits }
 {}
@@ -24,14 +26,14 @@ pub fn smaller_count_fails()
     ensures law { SmallerCountFails }
 {}
 
-/// A procedure that stands in a segment is shown as one of the same bytes at the same place, and as itself where all its items
-/// are instructions.
+/// A procedure that stands in a segment is shown as one of the same bytes at the same place, and as itself where all
+/// its items are instructions.
 pub fn procedure_is_shown()
     ensures law { ProcedureIsShown }
 {}
 
-/// The text of a code file that holds a program of which no segment has more than 65,534 bytes is that of a program with the same
-/// bytes: of the same one, segment by segment, where all items are instructions.
+/// The text of a code file that holds a program of which no segment has more than 65,534 bytes is that of a program
+/// with the same bytes: of the same one, segment by segment, where all items are instructions.
 pub fn program_is_shown()
     ensures law { ProgramIsShown }
 {}

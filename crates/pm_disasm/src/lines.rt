@@ -1,6 +1,7 @@
 //! The lines of code.
 
-ghost use Rattle.std.specs.Prelude.{◌≡◌, ◌<◌, ◌^◌, ◌+◌, ◌++◌, [], ◌∷◌, List, ℕ, length, map, string_bytes, option_map, IfSome, OnOk};
+ghost use Rattle.std.specs.Prelude.{◌≡◌, ◌<◌, ◌^◌, ◌+◌, ◌++◌, [], ◌∷◌, List, ℕ, length};
+ghost use Rattle.std.specs.Prelude.{map, string_bytes, option_map, IfSome, OnOk};
 ghost use Rattle.pm_disasm.specs.Item.{size};
 ghost use Rattle.pm_disasm.specs.Item.Item.{OneByte};
 ghost use Rattle.pm_disasm.specs.Follow.{Follow, Items, code_lines_by, items_or_bytes, lines_at_by, written_by};
@@ -25,7 +26,8 @@ pub(crate) struct Marks<'a> {
 
 /// Adds the label of a place, if it has one, and the exit code, if it is there.
 fn push_place(text: &mut String, place: usize, marks: Marks<'_>) -> Result<(), AllocError>
-    ensures text { OnOk result (string_bytes text.new ≡ string_bytes text.old ++ joined (lines_at_by (has marks.entry.named.now) marks.entry.exit place [])) }
+    ensures text { OnOk result (string_bytes text.new
+        ≡ string_bytes text.old ++ joined (lines_at_by (has marks.entry.named.now) marks.entry.exit place [])) }
 {
     if marks.named.contains(place) {
         let label = Label(place);
@@ -45,8 +47,10 @@ fn push_bytes(
     marks: Marks<'_>,
 ) -> Result<(), AllocError>
     requires short { at + length bytes.now < 2 ^ 32 }
-    ensures text { OnOk result ((rest : Items) → string_bytes text.new ++ joined (code_lines_by (has marks.entry.named.now) marks.entry.exit (at + length bytes.now) rest)
-        ≡ string_bytes text.old ++ joined (code_lines_by (has marks.entry.named.now) marks.entry.exit at (map OneByte bytes.now ++ rest))) }
+    ensures text { OnOk result ((rest : Items) → string_bytes text.new
+        ++ joined (code_lines_by (has marks.entry.named.now) marks.entry.exit (at + length bytes.now) rest)
+        ≡ string_bytes text.old ++ joined (code_lines_by (has marks.entry.named.now) marks.entry.exit at
+        (map OneByte bytes.now ++ rest))) }
 {
     let mut place = at;
     for byte in bytes {
@@ -64,8 +68,11 @@ fn push_item(
     at: usize,
     marks: Marks<'_>,
 ) -> Result<(), AllocError>
-    ensures text { OnOk result ((rest : Items) → string_bytes text.new ++ joined (code_lines_by (has marks.entry.named.now) marks.entry.exit (at + size at (item_seen item.entry)) rest)
-        ≡ string_bytes text.old ++ joined (code_lines_by (has marks.entry.named.now) marks.entry.exit at (item_seen item.entry ∷ rest))) }
+    ensures text { OnOk result ((rest : Items) → string_bytes text.new
+        ++ joined (code_lines_by (has marks.entry.named.now) marks.entry.exit
+        (at + size at (item_seen item.entry)) rest)
+        ≡ string_bytes text.old ++ joined (code_lines_by (has marks.entry.named.now) marks.entry.exit at
+        (item_seen item.entry ∷ rest))) }
 {
     push_place(text, at, marks)?;
     writeln!(text, "  {item}")?;
@@ -81,8 +88,11 @@ fn push_part(
 ) -> Result<(), AllocError>
     requires short { part.at + length part.bytes.now < 2 ^ 32 }
     requires sized { IfSome item (λ item. size part.at (item_seen item) ≡ length part.bytes.now) }
-    ensures text { OnOk result ((rest : Items) → string_bytes text.new ++ joined (code_lines_by (has marks.entry.named.now) marks.entry.exit (part.entry.at + length part.entry.bytes.now) rest)
-        ≡ string_bytes text.old ++ joined (code_lines_by (has marks.entry.named.now) marks.entry.exit part.entry.at (items_or_bytes part.entry.bytes.now (option_map item_seen item.entry) ++ rest))) }
+    ensures text { OnOk result ((rest : Items) → string_bytes text.new
+        ++ joined (code_lines_by (has marks.entry.named.now) marks.entry.exit
+        (part.entry.at + length part.entry.bytes.now) rest)
+        ≡ string_bytes text.old ++ joined (code_lines_by (has marks.entry.named.now) marks.entry.exit part.entry.at
+        (items_or_bytes part.entry.bytes.now (option_map item_seen item.entry) ++ rest))) }
 {
     match item {
         Some(item) => push_item(text, item, part.at, marks)?,
@@ -103,7 +113,9 @@ pub(crate) fn push_code(
     requires follow { Follow boundaries.now.begin end (map part_seen parts.now) }
     requires short { end < 2 ^ 32 }
     ensures text { OnOk result (string_bytes text.new
-        ≡ string_bytes text.old ++ joined (code_lines_by (has marks.entry.named.now) marks.entry.exit boundaries.now.begin (written_by (has boundaries.now) allowed (map part_seen parts.now)))) }
+        ≡ string_bytes text.old ++ joined (code_lines_by
+        (has marks.entry.named.now) marks.entry.exit boundaries.now.begin
+        (written_by (has boundaries.now) allowed (map part_seen parts.now)))) }
 {
     for part in parts {
         let item = item_led(*part, boundaries, allowed);

@@ -31,7 +31,8 @@ fn add_target(named: &mut PlaceSet, boundaries: &PlaceSet, target: Target)
 fn add_table(named: &mut PlaceSet, boundaries: &PlaceSet, table: Table<'_>)
     requires alike { IsAlike named.old boundaries.now }
     requires leads { list_all (has boundaries.now) (table_places table.at (words_of table.words.now)) ≡ true }
-    ensures has { (p : ℕ) → has named.new p ≡ (is_among (table_places table.entry.at (words_of table.entry.words.now)) p || has named.old p) }
+    ensures has { (p : ℕ) → has named.new p ≡ (is_among
+        (table_places table.entry.at (words_of table.entry.words.now)) p || has named.old p) }
     ensures alike { IsAlike named.new boundaries.now }
 {
     let at = table.at;
@@ -70,7 +71,8 @@ pub(crate) fn places_named(
     requires end { length boundaries.now.marks.items ≡ end - boundaries.now.begin + 1 }
     requires order { boundaries.now.begin ≤ end }
     requires short { end < 2 ^ 32 }
-    ensures has { IfOk result (λ named. (p : ℕ) → has named p ≡ is_among (named_places (written_by (has boundaries.now) allowed (map part_seen parts.now))) p) }
+    ensures has { IfOk result (λ named. (p : ℕ) → has named p
+        ≡ is_among (named_places (written_by (has boundaries.now) allowed (map part_seen parts.now))) p) }
     ensures alike { IfOk result (λ named. IsAlike named boundaries.now) }
 {
     let mut named = PlaceSet::new(alloc, boundaries.begin, end)?;

@@ -51,8 +51,10 @@ fn part_at<'a>(bytes: &'a [u8], fronts: &[Option<Front<'a>>], at: usize, cuts: C
     requires fronts { TellFronts fronts.now bytes.now }
     requires inside { at < length bytes.now }
     requires next { IsNextCut cuts.forced.now at cuts.next }
-    ensures part { part_seen result ≡ part_of at (drop at bytes.now) (taken cuts.entry.forced.now at (drop at bytes.now)) }
-    ensures size { bytes_after_first (taken cuts.entry.forced.now at (drop at bytes.now)) + 1 ≡ length result.bytes.now }
+    ensures part { part_seen result ≡ part_of at (drop at bytes.now)
+        (taken cuts.entry.forced.now at (drop at bytes.now)) }
+    ensures size { bytes_after_first (taken cuts.entry.forced.now at (drop at bytes.now)) + 1
+        ≡ length result.bytes.now }
     ensures within { at + length result.bytes.now ≤ length bytes.now }
 {
     match taken(bytes, fronts, at, cuts) {
@@ -89,8 +91,10 @@ pub(crate) fn split<'a>(
     requires fronts { TellFronts fronts.now bytes.now }
     requires short { length bytes.now < 2 ^ 32 - 1 }
     requires inside { begin ≤ length bytes.now }
-    ensures parts { IfOk result (λ code. map part_seen code.parts.items ≡ parts forced.now 0 begin (drop begin bytes.now)) }
-    ensures boundaries { IfOk result (λ code. IsSetOf code.boundaries (ends_of (length bytes.now) (parts forced.now 0 begin (drop begin bytes.now)))) }
+    ensures parts { IfOk result (λ code. map part_seen code.parts.items
+        ≡ parts forced.now 0 begin (drop begin bytes.now)) }
+    ensures boundaries { IfOk result (λ code. IsSetOf code.boundaries
+        (ends_of (length bytes.now) (parts forced.now 0 begin (drop begin bytes.now)))) }
     ensures follow { IfOk result (λ code. Follow begin (length bytes.now) (map part_seen code.parts.items)) }
     ensures begin { IfOk result (λ code. code.boundaries.begin ≡ begin) }
     ensures size { IfOk result (λ code. length code.boundaries.marks.items ≡ length bytes.now - begin + 1) }

@@ -1,12 +1,14 @@
 //! Procedures as text.
 
-ghost use Rattle.std.specs.Prelude.{◌≡◌, ◌<◌, ◌≤◌, ◌+◌, ◌++◌, ◌∷◌, codes, ℕ, [], Some, None, drop, length, map, string_bytes, IfOk, OnOk};
+ghost use Rattle.std.specs.Prelude.{◌≡◌, ◌<◌, ◌≤◌, ◌+◌, ◌++◌, ◌∷◌, codes, ℕ, [], Some};
+ghost use Rattle.std.specs.Prelude.{None, drop, length, map, string_bytes, IfOk, OnOk};
 ghost use Rattle.std.specs.Fmt.{decimal};
 ghost use Rattle.pm_codefile.specs.Segments.{attributes_in};
 ghost use Rattle.pm_disasm.specs.Chosen.{IsReading, IsTable};
 ghost use Rattle.pm_disasm.specs.Offsets.{IsDecoded};
 ghost use Rattle.pm_disasm.specs.Program.{is_among};
-ghost use Rattle.pm_disasm.specs.Shown.{entry_line, joined, level_text, missing_line, named_places, procedure_lines, table_lines, words_text};
+ghost use Rattle.pm_disasm.specs.Shown.{entry_line, joined, level_text, missing_line, named_places};
+ghost use Rattle.pm_disasm.specs.Shown.{procedure_lines, table_lines, words_text};
 ghost use Rattle.pm_disasm.specs.Split.{entry_places, procedure_of, procedure_with};
 ghost use Rattle.pm_disasm.specs.Views.{IsSetOf};
 
@@ -49,7 +51,8 @@ struct Header {
 }
 
 impl fmt::Display for Header {
-    ghost output = { λ h. Some (codes ".PROC" ++ words_text (decimal h.number ∷ level_text h.level.0 ∷ decimal h.parameters ∷ decimal h.locals ∷ [])) };
+    ghost output = { λ h. Some (codes ".PROC" ++ words_text
+        (decimal h.number ∷ level_text h.level.0 ∷ decimal h.parameters ∷ decimal h.locals ∷ [])) };
 
     fn fmt<W: fmt::Write>(&self, f: &mut fmt::Formatter<W>) -> fmt::Result {
         let number = self.number;
@@ -91,7 +94,8 @@ fn places_shown(
     requires table { IsTable segment.now a.now }
     requires reading { (t : ℕ) × IsReading segment.now a.now t shown.now.reading }
     ensures places { IfOk result (λ named. (t : ℕ) → IsReading segment.now a.now t shown.now.reading
-        → IsSetOf named (named_places (procedure_with segment.now a.now shown.now.allowed t).items ++ (procedure_with segment.now a.now shown.now.allowed t).entries)) }
+        → IsSetOf named (named_places (procedure_with segment.now a.now shown.now.allowed t).items
+        ++ (procedure_with segment.now a.now shown.now.allowed t).entries)) }
 {
     let code = &shown.reading.code;
     let end = shown.reading.end;
@@ -112,7 +116,8 @@ fn push_shown<'a>(
     requires decoded { IsDecoded decoded.now segment.now }
     requires short { length segment.now ≤ 65534 }
     requires order { a.enter ≤ a.exit }
-    ensures text { OnOk result (string_bytes text.new ≡ string_bytes text.old ++ joined (procedure_lines a.procedure (procedure_of segment.now a))) }
+    ensures text { OnOk result (string_bytes text.new
+        ≡ string_bytes text.old ++ joined (procedure_lines a.procedure (procedure_of segment.now a))) }
 {
     let header = Header {
         number: a.procedure,
@@ -127,8 +132,7 @@ fn push_shown<'a>(
         named: &named,
         exit: usize::from(a.exit),
     };
-    let code = &shown.reading.code;
-    let end = shown.reading.end;
+    let (code, end) = (&shown.reading.code, shown.reading.end);
     push_code(
         text,
         &code.parts,
@@ -142,7 +146,8 @@ fn push_shown<'a>(
     Ok(())
 }
 
-/// Adds what is shown for a procedure by its table in a segment as it was decoded: one whose exit code lies before its code by its number alone.
+/// Adds what is shown for a procedure by its table in a segment as it was decoded: one whose exit code lies before its
+/// code by its number alone.
 pub(crate) fn push_table<'a>(
     alloc: Global,
     text: &mut String,
@@ -153,7 +158,8 @@ pub(crate) fn push_table<'a>(
     requires table { IsTable segment.now a.now }
     requires decoded { IsDecoded decoded.now segment.now }
     requires short { length segment.now ≤ 65534 }
-    ensures text { OnOk result (string_bytes text.new ≡ string_bytes text.old ++ joined (table_lines segment.now a.now)) }
+    ensures text { OnOk result (string_bytes text.new
+        ≡ string_bytes text.old ++ joined (table_lines segment.now a.now)) }
 {
     if a.exit < a.enter {
         let number = a.procedure;

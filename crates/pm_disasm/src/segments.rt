@@ -1,11 +1,13 @@
 //! Code files as text.
 
-ghost use Rattle.std.specs.Prelude.{◌≡◌, ◌<◌, ◌≤◌, ◌^◌, ◌%◌, ◌++◌, ℕ, Some, true, if◌then◌else◌, is_some, map, option_map, length, reverse, string_bytes, IfOk, OnOk};
+ghost use Rattle.std.specs.Prelude.{◌≡◌, ◌<◌, ◌≤◌, ◌^◌, ◌%◌, ◌++◌, ℕ, Some, true, if◌then◌else◌, is_some};
+ghost use Rattle.std.specs.Prelude.{map, option_map, length, reverse, string_bytes, IfOk, OnOk};
 ghost use Rattle.pm_codefile.specs.Dictionary.{segment_in, slot_in};
 ghost use Rattle.pm_codefile.specs.Segments.{attributes_in, procedures_in};
 ghost use Rattle.pm_disasm.specs.Program.{is_name_character};
 ghost use Rattle.pm_disasm.specs.Laws.{item_at};
-ghost use Rattle.pm_disasm.specs.Shown.{cut, file_text, joined, name_of, procedure_text, shown_item, shown_name, slot_lines, slots_lines, tables_lines};
+ghost use Rattle.pm_disasm.specs.Shown.{cut, file_text, joined, name_of, procedure_text, shown_item};
+ghost use Rattle.pm_disasm.specs.Shown.{shown_name, slot_lines, slots_lines, tables_lines};
 
 use crate::decoded::decode_segment;
 use crate::front::{Front, front_at};
@@ -34,7 +36,8 @@ pub fn is_name_character(byte: u8) -> bool
 
 /// Adds the bytes of a name, each that may not stand in one as a question mark.
 fn push_marked(text: &mut String, name: &[u8]) -> Result<(), AllocError>
-    ensures text { OnOk result (string_bytes text.new ≡ string_bytes text.old ++ map (λ c. if is_name_character c then c else 63) name.now) }
+    ensures text { OnOk result (string_bytes text.new
+        ≡ string_bytes text.old ++ map (λ c. if is_name_character c then c else 63) name.now) }
 {
     for byte in name {
         let shown = if is_name_character(*byte) {
@@ -62,7 +65,8 @@ fn push_name(text: &mut String, name: &[u8]) -> Result<(), AllocError>
 fn push_tables(alloc: Global, text: &mut String, segment: &[u8]) -> Result<(), AllocError>
     requires even { length segment.now % 2 ≡ 0 }
     requires short { length segment.now ≤ 65534 }
-    ensures text { OnOk result (string_bytes text.new ≡ string_bytes text.old ++ joined (tables_lines segment.now 1 (procedures_in segment.now))) }
+    ensures text { OnOk result (string_bytes text.new
+        ≡ string_bytes text.old ++ joined (tables_lines segment.now 1 (procedures_in segment.now))) }
 {
     let decoded = decode_segment(alloc, segment)?;
     for done in 0..procedures(segment) {
@@ -78,7 +82,8 @@ fn push_tables(alloc: Global, text: &mut String, segment: &[u8]) -> Result<(), A
 /// Adds the segment of slot n, if it has one.
 fn push_slot(alloc: Global, text: &mut String, file: &CodeFile<'_>, n: u8) -> Result<(), AllocError>
     requires slot { n < 16 }
-    ensures text { OnOk result (string_bytes text.new ≡ string_bytes text.old ++ joined (slot_lines n (name_of (slot_in file.now n)) (segment_in file.now n))) }
+    ensures text { OnOk result (string_bytes text.new
+        ≡ string_bytes text.old ++ joined (slot_lines n (name_of (slot_in file.now n)) (segment_in file.now n))) }
 {
     let Some(segment) = file.segment(n) else {
         return Ok(());
@@ -93,8 +98,9 @@ fn push_slot(alloc: Global, text: &mut String, file: &CodeFile<'_>, n: u8) -> Re
     Ok(())
 }
 
-/// The text of a code file: its segments by ascending slot, each with its procedures. A slot without a length gives nothing. A
-/// procedure without a table that can be read, or whose exit code lies before its code, is a comment with its number.
+/// The text of a code file: its segments by ascending slot, each with its procedures. A slot without a length gives
+/// nothing. A procedure without a table that can be read, or whose exit code lies before its code, is a comment with
+/// its number.
 #[tactic(auto, unfolding(crate::specs::Shown::file_text))]
 pub fn file(alloc: Global, file: &CodeFile<'_>) -> Result<String, AllocError>
     ensures text { IfOk result (λ text. string_bytes text ≡ file_text file.now) }
@@ -106,9 +112,9 @@ pub fn file(alloc: Global, file: &CodeFile<'_>) -> Result<String, AllocError>
     Ok(text)
 }
 
-/// The text of a procedure of a segment, by its table: its lines from `.PROC` to `.END`, each with a line feed. Where its exit code
-/// lies before its code it is a comment with the number in the table. The table has to be that of a procedure of the segment, which
-/// has at most 65,534 bytes.
+/// The text of a procedure of a segment, by its table: its lines from `.PROC` to `.END`, each with a line feed. Where
+/// its exit code lies before its code it is a comment with the number in the table. The table has to be that of a
+/// procedure of the segment, which has at most 65,534 bytes.
 #[tactic(auto, unfolding(crate::specs::Shown::procedure_text))]
 pub fn procedure(
     alloc: Global,
@@ -125,9 +131,9 @@ pub fn procedure(
     Ok(text)
 }
 
-/// The text of the instruction at an offset of a segment, without spaces before it and without a line feed. A short jump is shown
-/// with the label of its place or with its entry, as in the text of a procedure. An instruction that a text can spell has to stand
-/// there, and the segment to have fewer than 2^32 bytes.
+/// The text of the instruction at an offset of a segment, without spaces before it and without a line feed. A short
+/// jump is shown with the label of its place or with its entry, as in the text of a procedure. An instruction that a
+/// text can spell has to stand there, and the segment to have fewer than 2^32 bytes.
 #[tactic(auto, unfolding(crate::specs::Laws::item_at))]
 pub fn item(alloc: Global, segment: &[u8], at: u16) -> Result<String, AllocError>
     requires short { length segment.now < 2 ^ 32 }

@@ -1,10 +1,12 @@
 //! What is written for the parts of code.
 
-ghost use Rattle.std.specs.Prelude.{◌≡◌, ◌<◌, ◌≤◌, ◌+◌, ◌-◌, ◌||◌, ◌&&◌, ◌++◌, ℕ, true, length, map, option_map, IfSome};
+ghost use Rattle.std.specs.Prelude.{◌≡◌, ◌<◌, ◌≤◌, ◌+◌, ◌-◌, ◌||◌, ◌&&◌, ◌++◌};
+ghost use Rattle.std.specs.Prelude.{ℕ, true, length, map, option_map, IfSome};
 ghost use Rattle.std.specs.List.{AllByRecursion, list_all};
 ghost use Rattle.pm_words.specs.Words.{words_of};
 ghost use Rattle.pm_disasm.specs.Follow.{item_led, leading, written_by};
-ghost use Rattle.pm_disasm.specs.Program.{entries_for, entries_needed, entries_used, is_among, item_places, target_places};
+ghost use Rattle.pm_disasm.specs.Program.{entries_for, entries_needed, entries_used};
+ghost use Rattle.pm_disasm.specs.Program.{is_among, item_places, target_places};
 ghost use Rattle.pm_disasm.specs.Shown.{named_places};
 ghost use Rattle.pm_disasm.specs.Split.{is_allowed, is_allowed_item, table_places};
 ghost use Rattle.pm_disasm.specs.Views.{IsSetOf, has, item_seen, part_seen, target_seen};
@@ -15,7 +17,8 @@ use crate::places::PlaceSet;
 
 /// Whether a jump can be written: by a label at a boundary, or through an entry where that is allowed.
 fn target_leads(target: Target, boundaries: &PlaceSet, allowed: bool) -> bool
-    ensures leads { result ≡ (is_allowed allowed (target_seen target) && list_all (has boundaries.now) (target_places (target_seen target))) }
+    ensures leads { result ≡ (is_allowed allowed (target_seen target)
+        && list_all (has boundaries.now) (target_places (target_seen target))) }
 {
     match target {
         Target::To(place) => boundaries.contains(place),
@@ -25,7 +28,8 @@ fn target_leads(target: Target, boundaries: &PlaceSet, allowed: bool) -> bool
 
 /// Whether all places of a table are boundaries.
 fn table_leads(table: Table<'_>, boundaries: &PlaceSet) -> bool
-    ensures leads { result ≡ list_all (has boundaries.now) (table_places table.entry.at (words_of table.entry.words.now)) }
+    ensures leads { result ≡ list_all (has boundaries.now)
+        (table_places table.entry.at (words_of table.entry.words.now)) }
 {
     let at = table.at;
     let words = table.words;

@@ -3,7 +3,7 @@ use crate::files::{
     answers, changed, lists, new_image, one_file, put, put_text, refuses, set, text,
 };
 use crate::jobs::{job_run, tells};
-use pm_filer::Command;
+use pm_filer::FileCommand;
 use pm_tool::Job;
 use std::alloc::{AllocError, Global};
 use std::process::Abort;
@@ -37,7 +37,14 @@ fn second_copies(rt: HostRuntime) -> Result<(), Fail> {
     has_same_copies(&rt, &image);
     lists(&rt, alloc, &image, ONE_FILE)?;
     set(&mut image, 1030, 0);
-    refuses(&rt, alloc, &image, Command::List, "refused volume 13 3", 3)?;
+    refuses(
+        &rt,
+        alloc,
+        &image,
+        FileCommand::List,
+        "refused volume 13 3",
+        3,
+    )?;
     let ran = job_run(alloc, Job::Repair { image }, b"xyz");
     assert_eq!(rt; ran.left, 3);
     let image = ran.into_image().ok_or("no image")?;
@@ -69,7 +76,7 @@ fn both_bad(rt: &impl Abort, alloc: Global, place: usize, byte: u8) -> Result<()
     let mut image = doubled(alloc)?;
     set(&mut image, 1030, 0);
     set(&mut image, place, byte);
-    refuses(rt, alloc, &image, Command::List, "refused volume 3", 3)?;
+    refuses(rt, alloc, &image, FileCommand::List, "refused volume 3", 3)?;
     Ok(no_repair(rt, alloc, &image, "refused volume 3")?)
 }
 
@@ -98,7 +105,7 @@ fn differing_copies(rt: HostRuntime) -> Result<(), Fail> {
     let ran = job_run(alloc, Job::Repair { image }, b"");
     let image = ran.into_image().ok_or("no image")?;
     assert_eq!(rt; image.get(3078).copied(), Some(0));
-    let image = changed(alloc, image, Command::Date(0, 1, 1), b"")?;
+    let image = changed(alloc, image, FileCommand::Date(0, 1, 1), b"")?;
     has_same_copies(&rt, &image);
     Ok(())
 }
@@ -111,7 +118,7 @@ fn refused_copies(rt: HostRuntime) -> Result<(), Fail> {
         &rt,
         alloc,
         &image,
-        Command::Duplicate,
+        FileCommand::Duplicate,
         "refused filer 1 14",
         3,
     )?;
@@ -120,7 +127,7 @@ fn refused_copies(rt: HostRuntime) -> Result<(), Fail> {
         &rt,
         alloc,
         &image,
-        Command::Duplicate,
+        FileCommand::Duplicate,
         "refused filer 1 3",
         3,
     )?;
@@ -138,13 +145,13 @@ files 3 free 4 largest 3
 /// A file taken away below one that moves, bad blocks and a text.
 fn moved(alloc: Global) -> Result<Vec<u8>, Fail> {
     let image = changed(alloc, doubled(alloc)?, put(alloc, "X")?, b"two")?;
-    let bad = Command::Put(text(alloc, "BAD")?, 1, Vec::new(alloc));
+    let bad = FileCommand::Put(text(alloc, "BAD")?, 1, Vec::new(alloc));
     let image = changed(alloc, image, bad, b"bad")?;
     let image = changed(alloc, image, put_text(alloc, "C")?, b"c\n")?;
-    let change = Command::Change(text(alloc, "X")?, text(alloc, "b")?);
+    let change = FileCommand::Change(text(alloc, "X")?, text(alloc, "b")?);
     let image = changed(alloc, image, change, b"")?;
-    let image = changed(alloc, image, Command::Remove(text(alloc, "A")?), b"")?;
-    changed(alloc, image, Command::Krunch, b"")
+    let image = changed(alloc, image, FileCommand::Remove(text(alloc, "A")?), b"")?;
+    changed(alloc, image, FileCommand::Krunch, b"")
 }
 
 /// Each change keeps the copies the same; bad blocks stay, and a file that was moved has its bytes.
@@ -154,9 +161,9 @@ fn kept_copies(rt: HostRuntime) -> Result<(), Fail> {
     let image = moved(alloc)?;
     has_same_copies(&rt, &image);
     lists(&rt, alloc, &image, MOVED)?;
-    let get = Command::Get(text(alloc, "b")?);
+    let get = FileCommand::Get(text(alloc, "b")?);
     answers(&rt, alloc, &image, get, b"xyz", (0, "", "two", 3))?;
-    let image = changed(alloc, image, Command::Zero(text(alloc, "new")?), b"")?;
+    let image = changed(alloc, image, FileCommand::Zero(text(alloc, "new")?), b"")?;
     has_same_copies(&rt, &image);
     lists(&rt, alloc, &image, "NEW:\nfiles 0 free 10 largest 10\n")?;
     Ok(())
@@ -169,12 +176,12 @@ fn copies_made_and_dropped(rt: HostRuntime) -> Result<(), Fail> {
     let image = changed(
         alloc,
         new_image(alloc, "work", 20)?,
-        Command::Duplicate,
+        FileCommand::Duplicate,
         b"",
     )?;
     has_same_copies(&rt, &image);
     lists(&rt, alloc, &image, "WORK:\nfiles 0 free 10 largest 10\n")?;
-    let image = changed(alloc, image, Command::Single, b"")?;
+    let image = changed(alloc, image, FileCommand::Single, b"")?;
     lists(&rt, alloc, &image, "WORK:\nfiles 0 free 14 largest 14\n")?;
     assert!(rt; image.iter().skip(3072).all(|byte| *byte == 0));
     Ok(())

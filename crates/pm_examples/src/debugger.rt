@@ -1,6 +1,6 @@
 //! Calls of a debugger.
 use crate::code::{EXITS, volume};
-use pm_debug::{Debugger, Reason, Refusal};
+use pm_debug::{BreakReason, DebugRefusal, Debugger};
 use pm_machine::{Machine, Stop};
 use std::alloc::Global;
 use std::process::Abort;
@@ -20,7 +20,7 @@ fn goes(
     rt: &impl Abort,
     debugger: &mut Debugger,
     limit: u64,
-    wanted: (u64, Reason),
+    wanted: (u64, BreakReason),
 ) -> Result<(), Fail> {
     assert_eq!(rt; debugger.go(limit)?, wanted);
     Ok(())
@@ -63,7 +63,7 @@ fn stacks(
 fn stopped(rt: &impl Abort, alloc: Global) -> Result<Debugger, Fail> {
     let mut debugger = debugger(alloc)?;
     debugger.set_break(2, 2, 0)?;
-    goes(rt, &mut debugger, 100, (3, Reason::Break))?;
+    goes(rt, &mut debugger, 100, (3, BreakReason::Break))?;
     Ok(debugger)
 }
 
@@ -95,7 +95,7 @@ fn refuses_odd_frames(rt: HostRuntime) -> Result<(), Fail> {
     statics(&rt, alloc, &debugger, 2, &[65366, 3])?;
     assert_eq!(rt;
         debugger.static_chain(alloc, 3).err(),
-        Some(Refusal::OddAddress)
+        Some(DebugRefusal::OddAddress)
     );
     Ok(())
 }
@@ -105,7 +105,7 @@ fn locals(
     debugger: &mut Debugger,
     depth: u16,
     b: u16,
-    wanted: Result<u16, Refusal>,
+    wanted: Result<u16, DebugRefusal>,
 ) {
     assert_eq!(rt; debugger.local(depth, b), wanted);
 }
@@ -115,9 +115,9 @@ fn shows_variables(rt: HostRuntime) -> Result<(), Fail> {
     let mut debugger = stopped(&rt, rt.alloc())?;
     assert!(rt; debugger.machine().poke(65392, 77));
     locals(&rt, &mut debugger, 1, 1, Ok(77));
-    locals(&rt, &mut debugger, 128, 1, Err(Refusal::TooDeep));
+    locals(&rt, &mut debugger, 128, 1, Err(DebugRefusal::TooDeep));
     assert!(rt; debugger.machine().poke(65366, 3));
-    locals(&rt, &mut debugger, 1, 1, Err(Refusal::OddAddress));
+    locals(&rt, &mut debugger, 1, 1, Err(DebugRefusal::OddAddress));
     Ok(())
 }
 
@@ -126,17 +126,17 @@ fn clears_breaks(rt: HostRuntime) -> Result<(), Fail> {
     let mut debugger = debugger(rt.alloc())?;
     debugger.set_break(2, 2, 0)?;
     debugger.clear_break(2, 2, 0)?;
-    assert_eq!(rt; debugger.clear_break(2, 2, 0), Err(Refusal::NoBreak));
-    goes(&rt, &mut debugger, 0, (0, Reason::Limit))?;
-    goes(&rt, &mut debugger, 100, (10, Reason::Ended))?;
-    goes(&rt, &mut debugger, 0, (0, Reason::Ended))
+    assert_eq!(rt; debugger.clear_break(2, 2, 0), Err(DebugRefusal::NoBreak));
+    goes(&rt, &mut debugger, 0, (0, BreakReason::Limit))?;
+    goes(&rt, &mut debugger, 100, (10, BreakReason::Ended))?;
+    goes(&rt, &mut debugger, 0, (0, BreakReason::Ended))
 }
 
 fn full(rt: &impl Abort, debugger: &mut Debugger) -> Result<(), Fail> {
     for offset in 0..64 {
         debugger.set_break(9, 9, offset)?;
     }
-    assert_eq!(rt; debugger.set_break(9, 9, 64), Err(Refusal::Full));
+    assert_eq!(rt; debugger.set_break(9, 9, 64), Err(DebugRefusal::Full));
     Ok(())
 }
 
@@ -148,7 +148,7 @@ fn keeps_64_breaks(rt: HostRuntime) -> Result<(), Fail> {
     debugger.set_break(9, 9, 5)?;
     debugger.clear_break(9, 9, 5)?;
     debugger.set_break(9, 9, 64)?;
-    assert_eq!(rt; debugger.set_break(9, 9, 5), Err(Refusal::Full));
+    assert_eq!(rt; debugger.set_break(9, 9, 5), Err(DebugRefusal::Full));
     Ok(())
 }
 
@@ -156,7 +156,7 @@ fn keeps_64_breaks(rt: HostRuntime) -> Result<(), Fail> {
 #[test]
 fn goes_from_a_break(rt: HostRuntime) -> Result<(), Fail> {
     let mut debugger = stopped(&rt, rt.alloc())?;
-    goes(&rt, &mut debugger, 100, (7, Reason::Ended))?;
+    goes(&rt, &mut debugger, 100, (7, BreakReason::Ended))?;
     assert_eq!(rt; debugger.into_machine().steps(), 10);
     Ok(())
 }
@@ -171,7 +171,7 @@ fn shows_a_sum(rt: HostRuntime) -> Result<(), Fail> {
         line.as_str(),
         "00000000 01024 65492 65492 65492 01028 65492 SLDC 2"
     );
-    goes(&rt, &mut debugger, 2, (2, Reason::Limit))?;
+    goes(&rt, &mut debugger, 2, (2, BreakReason::Limit))?;
     stacks(
         &rt,
         alloc,

@@ -1,6 +1,6 @@
 //! Jobs on volumes, from image to image.
 use crate::jobs::{Told, job_run, tells};
-use pm_filer::Command;
+use pm_filer::FileCommand;
 use pm_tool::Job;
 use std::alloc::{AllocError, Global};
 use std::process::Abort;
@@ -21,15 +21,15 @@ pub(crate) fn new_image(alloc: Global, name: &str, blocks: u16) -> Result<Vec<u8
 pub(crate) fn changed(
     alloc: Global,
     image: Vec<u8>,
-    command: Command,
+    command: FileCommand,
     input: &[u8],
 ) -> Result<Vec<u8>, Fail> {
     let ran = job_run(alloc, Job::Files { image, command }, input);
     Ok(ran.into_image().ok_or("no image")?)
 }
 
-pub(crate) fn put(alloc: Global, name: &str) -> Result<Command, AllocError> {
-    Ok(Command::Put(text(alloc, name)?, 5, Vec::new(alloc)))
+pub(crate) fn put(alloc: Global, name: &str) -> Result<FileCommand, AllocError> {
+    Ok(FileCommand::Put(text(alloc, name)?, 5, Vec::new(alloc)))
 }
 
 const EMPTY: &str = "WORK:\nfiles 0 free 14 largest 14\n";
@@ -45,7 +45,7 @@ pub(crate) fn answers(
     rt: &impl Abort,
     alloc: Global,
     image: &[u8],
-    command: Command,
+    command: FileCommand,
     input: &[u8],
     told: Told<'_>,
 ) -> Result<(), AllocError> {
@@ -61,7 +61,14 @@ pub(crate) fn lists(
     image: &[u8],
     list: &str,
 ) -> Result<(), AllocError> {
-    answers(rt, alloc, image, Command::List, b"xyz", (0, "", list, 3))
+    answers(
+        rt,
+        alloc,
+        image,
+        FileCommand::List,
+        b"xyz",
+        (0, "", list, 3),
+    )
 }
 
 /// A refused command.
@@ -69,7 +76,7 @@ pub(crate) fn refuses(
     rt: &impl Abort,
     alloc: Global,
     image: &[u8],
-    command: Command,
+    command: FileCommand,
     message: &str,
     left: usize,
 ) -> Result<(), AllocError> {
@@ -90,7 +97,7 @@ fn listed(rt: HostRuntime) -> Result<(), Fail> {
     lists(&rt, alloc, &image, EMPTY)?;
     let image = one_file(alloc)?;
     lists(&rt, alloc, &image, ONE_FILE)?;
-    let command = Command::Get(text(alloc, "a")?);
+    let command = FileCommand::Get(text(alloc, "a")?);
     answers(&rt, alloc, &image, command, b"xyz", (0, "", "xyz", 3))?;
     Ok(())
 }
@@ -133,11 +140,11 @@ fn refused_puts(rt: HostRuntime) -> Result<(), Fail> {
 fn refused_commands(rt: HostRuntime) -> Result<(), Fail> {
     let alloc = rt.alloc();
     let image = one_file(alloc)?;
-    let get = Command::Get(text(alloc, "B")?);
+    let get = FileCommand::Get(text(alloc, "B")?);
     refuses(&rt, alloc, &image, get, "refused filer 1 11", 3)?;
-    let change = Command::Change(text(alloc, "A")?, text(alloc, "")?);
+    let change = FileCommand::Change(text(alloc, "A")?, text(alloc, "")?);
     refuses(&rt, alloc, &image, change, "refused filer 1 10", 3)?;
-    let get_text = Command::GetText(text(alloc, "A")?);
+    let get_text = FileCommand::GetText(text(alloc, "A")?);
     refuses(&rt, alloc, &image, get_text, "refused filer 2 1", 3)?;
     Ok(())
 }
@@ -167,9 +174,16 @@ fn refused_images(rt: HostRuntime) -> Result<(), Fail> {
     refuses_front(&rt, alloc, &image, 513, "refused volume 1")?;
     refuses_front(&rt, alloc, &image, 2560, "refused volume 2")?;
     set(&mut image, 1040, 1);
-    refuses(&rt, alloc, &image, Command::List, "refused volume 4 1", 3)?;
+    refuses(
+        &rt,
+        alloc,
+        &image,
+        FileCommand::List,
+        "refused volume 4 1",
+        3,
+    )?;
     set(&mut image, 1026, 7);
-    refuses(&rt, alloc, &image, Command::List, "refused volume 3", 3)?;
+    refuses(&rt, alloc, &image, FileCommand::List, "refused volume 3", 3)?;
     Ok(())
 }
 
@@ -206,8 +220,8 @@ A.TEXT          text     6     4 512 000-00-00
 files 1 free 10 largest 10
 ";
 
-pub(crate) fn put_text(alloc: Global, name: &str) -> Result<Command, AllocError> {
-    Ok(Command::PutText(text(alloc, name)?, Vec::new(alloc)))
+pub(crate) fn put_text(alloc: Global, name: &str) -> Result<FileCommand, AllocError> {
+    Ok(FileCommand::PutText(text(alloc, name)?, Vec::new(alloc)))
 }
 
 /// A volume with the text file A.TEXT of one line.
@@ -221,7 +235,7 @@ fn texts(rt: HostRuntime) -> Result<(), Fail> {
     let alloc = rt.alloc();
     let image = one_text(alloc)?;
     lists(&rt, alloc, &image, TEXT_LIST)?;
-    let get_text = Command::GetText(text(alloc, "a.text")?);
+    let get_text = FileCommand::GetText(text(alloc, "a.text")?);
     answers(&rt, alloc, &image, get_text, b"xyz", (0, "", "a\n", 3))?;
     Ok(())
 }
@@ -249,7 +263,7 @@ fn long_lines(rt: HostRuntime) -> Result<(), Fail> {
 
 fn no_date(rt: &impl Abort, alloc: Global, year: u8, month: u8, day: u8) -> Result<(), Fail> {
     let image = new_image(alloc, "WORK", 20)?;
-    let command = Command::Date(year, month, day);
+    let command = FileCommand::Date(year, month, day);
     Ok(refuses(rt, alloc, &image, command, "refused filer 3", 3)?)
 }
 
@@ -270,10 +284,10 @@ files 1 free 13 largest 13
 
 /// A date, a file with it, the file before it gone, all moved together.
 fn dated(alloc: Global) -> Result<Vec<u8>, Fail> {
-    let image = changed(alloc, one_file(alloc)?, Command::Date(81, 11, 22), b"")?;
+    let image = changed(alloc, one_file(alloc)?, FileCommand::Date(81, 11, 22), b"")?;
     let image = changed(alloc, image, put(alloc, "B")?, b"q")?;
-    let image = changed(alloc, image, Command::Remove(text(alloc, "A")?), b"")?;
-    changed(alloc, image, Command::Krunch, b"")
+    let image = changed(alloc, image, FileCommand::Remove(text(alloc, "A")?), b"")?;
+    changed(alloc, image, FileCommand::Krunch, b"")
 }
 
 /// The date's file alone; then no file.
@@ -282,9 +296,9 @@ fn other_commands(rt: HostRuntime) -> Result<(), Fail> {
     let alloc = rt.alloc();
     let image = dated(alloc)?;
     lists(&rt, alloc, &image, DATED)?;
-    let moved = Command::Get(text(alloc, "B")?);
+    let moved = FileCommand::Get(text(alloc, "B")?);
     answers(&rt, alloc, &image, moved, b"xyz", (0, "", "q", 3))?;
-    let image = changed(alloc, image, Command::Zero(text(alloc, "new")?), b"")?;
+    let image = changed(alloc, image, FileCommand::Zero(text(alloc, "new")?), b"")?;
     lists(&rt, alloc, &image, "NEW:\nfiles 0 free 14 largest 14\n")?;
     Ok(())
 }

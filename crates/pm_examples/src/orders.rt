@@ -1,6 +1,6 @@
 //! Comparisons of strings, bytes, words, booleans and sets.
 use crate::sets::{NO_TWO_SETS, leave};
-use crate::values::{Bytes, Left, MEMORY, NOT_HERE, NP, Row, check};
+use crate::values::{Bytes, Left, MEMORY, NOT_HERE, NP, ValueRow, check};
 use pm_opcode::{Kind, Relation};
 use pm_words::ExecError;
 use std::alloc::{AllocError, Global};
@@ -46,7 +46,7 @@ fn check_order(
             Ok(_) => Ok(answer.as_slice()),
             Err(error) => Err(error),
         };
-        let row = Row::Compare(relation, kind);
+        let row = ValueRow::Compare(relation, kind);
         check(rt, alloc, (row, NP), operands, (left, &[]))?;
     }
     Ok(())
@@ -176,7 +176,7 @@ fn compare_sets(
     relation: Relation,
     left: Left,
 ) -> Result<(), AllocError> {
-    let row = Row::Compare(relation, Kind::Set);
+    let row = ValueRow::Compare(relation, Kind::Set);
     check(rt, alloc, (row, NP), (stack, &[]), (left, &[]))
 }
 
@@ -256,7 +256,7 @@ fn compare_words(
 ) -> Result<(), AllocError> {
     let before: Bytes = &[(2000, &[1, 2, 3, 128]), (3000, &[1, 2, 3, 127])];
     for (count, stack, left) in cases {
-        let row = Row::Compare(relation, Kind::Words(*count));
+        let row = ValueRow::Compare(relation, Kind::Words(*count));
         check(rt, alloc, (row, NP), (stack, before), (*left, &[]))?;
     }
     Ok(())
@@ -289,7 +289,7 @@ const NOT_MADE: [(Relation, Kind); 14] = [
 #[test]
 fn comparisons_not_made(rt: HostRuntime) -> Result<(), AllocError> {
     for (relation, kind) in NOT_MADE {
-        let row = Row::Compare(relation, kind);
+        let row = ValueRow::Compare(relation, kind);
         // good operands; a bad count, and odd addresses; no operands
         leave(
             &rt,

@@ -90,6 +90,7 @@ struct Given<'a> {
     record: &'a RefCell<Record>,
     rest: &'a [u8],
     failed: bool,
+    given: u64,
 }
 
 impl<'a> Given<'a> {
@@ -100,12 +101,14 @@ impl<'a> Given<'a> {
             record,
             rest,
             failed: false,
+            given: 0,
         }
     }
 
     fn give(&mut self, buf: &mut [u8]) -> io::Result<usize>
         ensures bound { ReadsAtMost result buf.new }
         ensures failed { self.new.failed ≡ self.old.failed }
+        ensures given { self.new.given ≡ self.old.given }
     {
         let Ok(mut record) = self.record.try_borrow_mut() else {
             return Err(failure());
@@ -121,9 +124,14 @@ impl Source for Given<'_> {
 
     ghost has_failed = { λ source. source.failed };
 
+    ghost given = { λ source. source.given };
+
     fn read(&mut self, buf: &mut [u8]) -> io::Result<usize> {
         let outcome = self.give(buf);
-        self.failed |= outcome.is_err();
+        match outcome {
+            Ok(count) => self.given = self.given.saturating_add(count as u64),
+            Err(_) => self.failed = true,
+        }
         outcome
     }
 

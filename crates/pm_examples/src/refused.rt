@@ -3,7 +3,7 @@ ghost use Rattle.std.specs.Prelude.{◌≡◌, length, sum};
 
 use crate::jobs::tells;
 use crate::runs::disks;
-use pm_filer::Command;
+use pm_filer::FileCommand;
 use pm_tool::Job;
 use pm_volume::Volume;
 use std::alloc::Global;
@@ -42,7 +42,7 @@ const IMAGES: &[(&[Change], &str)] = &[
 /// The command that lists the files of an image comes to this.
 fn lists(rt: &impl Abort, alloc: Global, image: Vec<u8>, told: (u8, &str, &str)) {
     let (status, message, written) = told;
-    let command = Command::List;
+    let command = FileCommand::List;
     let job = Job::Files { image, command };
     tells(rt, alloc, job, b"xyz", (status, message, written, 3));
 }

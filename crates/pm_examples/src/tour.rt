@@ -1,6 +1,6 @@
 //! Commands of a first hour, as jobs: traces of bare code, files of a volume, programs, and what each writes.
 use crate::jobs::{Told, job_run, tells};
-use pm_filer::Command;
+use pm_filer::FileCommand;
 use pm_tool::Job;
 use std::alloc::{AllocError, Global};
 use std::process::Abort;
@@ -41,17 +41,22 @@ fn work(alloc: Global) -> Result<Vec<u8>, Fail> {
 }
 
 /// The image after a command.
-fn after(alloc: Global, image: Vec<u8>, command: Command, input: &[u8]) -> Result<Vec<u8>, Fail> {
+fn after(
+    alloc: Global,
+    image: Vec<u8>,
+    command: FileCommand,
+    input: &[u8],
+) -> Result<Vec<u8>, Fail> {
     let ran = job_run(alloc, Job::Files { image, command }, input);
     Ok(ran.into_image().ok_or("no image")?)
 }
 
-fn put(alloc: Global, name: &str, kind: u8) -> Result<Command, AllocError> {
-    Ok(Command::Put(String::from_str(alloc, name)?, kind, Vec::new(alloc)))
+fn put(alloc: Global, name: &str, kind: u8) -> Result<FileCommand, AllocError> {
+    Ok(FileCommand::Put(String::from_str(alloc, name)?, kind, Vec::new(alloc)))
 }
 
-fn put_text(alloc: Global, name: &str) -> Result<Command, AllocError> {
-    Ok(Command::PutText(String::from_str(alloc, name)?, Vec::new(alloc)))
+fn put_text(alloc: Global, name: &str) -> Result<FileCommand, AllocError> {
+    Ok(FileCommand::PutText(String::from_str(alloc, name)?, Vec::new(alloc)))
 }
 
 /// A volume with a text and a file of three bytes.
@@ -66,7 +71,12 @@ fn two_files(alloc: Global) -> Result<Vec<u8>, Fail> {
 }
 
 /// What a command on the two files comes to.
-fn answers(rt: &impl Abort, alloc: Global, command: Command, told: Told<'_>) -> Result<(), Fail> {
+fn answers(
+    rt: &impl Abort,
+    alloc: Global,
+    command: FileCommand,
+    told: Told<'_>,
+) -> Result<(), Fail> {
     let image = two_files(alloc)?;
     tells(rt, alloc, Job::Files { image, command }, b"", told);
     Ok(())
@@ -82,10 +92,10 @@ files 2 free 29 largest 29
 #[test]
 fn files_of_a_volume(rt: HostRuntime) -> Result<(), Fail> {
     let alloc = rt.alloc();
-    answers(&rt, alloc, Command::List, (0, "", LIST, 0))?;
-    let text = Command::GetText(String::from_str(alloc, "hello.text")?);
+    answers(&rt, alloc, FileCommand::List, (0, "", LIST, 0))?;
+    let text = FileCommand::GetText(String::from_str(alloc, "hello.text")?);
     answers(&rt, alloc, text, (0, "", "hello\n", 0))?;
-    let none = Command::Get(String::from_str(alloc, "NONE")?);
+    let none = FileCommand::Get(String::from_str(alloc, "NONE")?);
     answers(&rt, alloc, none, (2, "refused filer 1 11", "", 0))
 }
 

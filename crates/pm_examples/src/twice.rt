@@ -5,7 +5,7 @@ ghost use Rattle.std.specs.Prelude.{◌≡◌, length, sum};
 use crate::calls::{CALLS, STORED_LINK, TOP};
 use crate::code::{EXITS, KEEPS, SEGMENTS, volume};
 use pm_calls::Registers;
-use pm_debug::{Debugger, Refusal};
+use pm_debug::{DebugRefusal, Debugger};
 use pm_machine::{Machine, Stop};
 use pm_words::ExecError;
 use std::alloc::Global;
@@ -67,8 +67,8 @@ fn are_same(rt: &impl Abort, one: &Machine, other: &Machine) {
 /// The stack and both chains.
 type Chains = (
     Vec<u16>,
-    Result<Vec<u16>, Refusal>,
-    Result<Vec<u16>, Refusal>,
+    Result<Vec<u16>, DebugRefusal>,
+    Result<Vec<u16>, DebugRefusal>,
 );
 
 fn chains(alloc: Global, debugger: &Debugger) -> Result<Chains, Fail> {
@@ -80,7 +80,7 @@ fn chains(alloc: Global, debugger: &Debugger) -> Result<Chains, Fail> {
 }
 
 /// Variables of frames up the static links.
-fn locals(debugger: &mut Debugger) -> [Result<u16, Refusal>; 4] {
+fn locals(debugger: &mut Debugger) -> [Result<u16, DebugRefusal>; 4] {
     [
         debugger.local(0, 1),
         debugger.local(1, 1),

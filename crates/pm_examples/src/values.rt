@@ -12,7 +12,7 @@ use std::process::Abort;
 
 /// The rows with their operands.
 #[derive(Clone, Copy, Debug)]
-pub(crate) enum Row {
+pub(crate) enum ValueRow {
     InSet,
     Intersect,
     Union,
@@ -30,24 +30,24 @@ pub(crate) enum Row {
     StoreByte,
 }
 
-impl Row {
+impl ValueRow {
     pub(crate) fn run(self, memory: &mut Memory, sp: u16, np: u16) -> Result<u16, ExecError> {
         match self {
-            Row::InSet => in_set(memory, sp, np),
-            Row::Intersect => intersect(memory, sp, np),
-            Row::Union => union(memory, sp, np),
-            Row::Difference => difference(memory, sp, np),
-            Row::Singleton => singleton(memory, sp, np),
-            Row::Subrange => subrange(memory, sp, np),
-            Row::Adjust(words) => adjust(memory, sp, np, words),
-            Row::Compare(relation, kind) => compare(memory, sp, np, relation, kind),
-            Row::Assign(limit) => assign(memory, sp, np, limit),
-            Row::IndexString => index_string(memory, sp, np),
-            Row::IndexField(per_word, width) => index_field(memory, sp, np, per_word, width),
-            Row::LoadField => load_field(memory, sp, np),
-            Row::StoreField => store_field(memory, sp, np),
-            Row::LoadByte => load_byte(memory, sp, np),
-            Row::StoreByte => store_byte(memory, sp, np),
+            ValueRow::InSet => in_set(memory, sp, np),
+            ValueRow::Intersect => intersect(memory, sp, np),
+            ValueRow::Union => union(memory, sp, np),
+            ValueRow::Difference => difference(memory, sp, np),
+            ValueRow::Singleton => singleton(memory, sp, np),
+            ValueRow::Subrange => subrange(memory, sp, np),
+            ValueRow::Adjust(words) => adjust(memory, sp, np, words),
+            ValueRow::Compare(relation, kind) => compare(memory, sp, np, relation, kind),
+            ValueRow::Assign(limit) => assign(memory, sp, np, limit),
+            ValueRow::IndexString => index_string(memory, sp, np),
+            ValueRow::IndexField(per_word, width) => index_field(memory, sp, np, per_word, width),
+            ValueRow::LoadField => load_field(memory, sp, np),
+            ValueRow::StoreField => store_field(memory, sp, np),
+            ValueRow::LoadByte => load_byte(memory, sp, np),
+            ValueRow::StoreByte => store_byte(memory, sp, np),
         }
     }
 }
@@ -84,7 +84,7 @@ pub(crate) type Left<'a> = Result<&'a [u16], ExecError>;
 pub(crate) fn check(
     rt: &impl Abort,
     alloc: Global,
-    (row, np): (Row, u16),
+    (row, np): (ValueRow, u16),
     (stack, before): (&[u16], Bytes),
     (left, after): (Left, Bytes),
 ) -> Result<(), AllocError> {

@@ -17,8 +17,8 @@ use Rattle.pm_volume.proofs.NameLaws.{length-new_name}
 use Rattle.pm_volume.proofs.RenameLaws.{files-split}
 use Rattle.pm_volume.proofs.SecondLaws.{Changed-named}
 use Rattle.pm_volume.proofs.SlotChanges.{length-entries_from}
-use Rattle.pm_filer.specs.Filed.{bytes_of, filed}
-use Rattle.pm_filer.specs.Laws.{ChangeKeepsOthers, NewNameGives, given}
+use Rattle.pm_filer.specs.Filed.{bytes_of_file, filed}
+use Rattle.pm_filer.specs.Laws.{ChangeKeepsOthers, NewNameGives, file_given}
 use Rattle.pm_filer.proofs.FoundFiles.{found_kept, position-within}
 use Rattle.pm_filer.proofs.GivenLaws.{changed-ok, missed}
 use Rattle.pm_filer.proofs.SameNames.{named-new, same-from_upper, same-right, upper-from_same}
@@ -147,7 +147,7 @@ module _ (image old new other : List ℕ) (slot : ℕ) (v : IsVolume image) (s :
   unfolding file_bytes named
   own_bytes = refl
 
-  new_gives : is_same_name new other ≡ true → given after other ≡ given image old
+  new_gives : is_same_name new other ≡ true → file_given after other ≡ file_given image old
   unfolding d front back after
   new_gives same =
       let c = Changed-named image v new slot size.0 size.1 within.0 last in
@@ -156,10 +156,10 @@ module _ (image old new other : List ℕ) (slot : ℕ) (v : IsVolume image) (s :
       let only = found_only (is_named other) front named back (own ∙ same) alone in
       let kept = found_kept (is_named old) image after (files_of image) c.kept in
       let first = rw parts at kept in
-      let bytes : bytes_of after (Some file) ≡ bytes_of image (Some file) = rw was.1 at first in
+      let bytes : bytes_of_file after (Some file) ≡ bytes_of_file image (Some file) = rw was.1 at first in
       rw (files, only, parts, was.1) (own_bytes ∙ bytes)
 
-  others_kept : is_same_name new other ≡ false → is_same_name old other ≡ false → given after other ≡ given image other
+  others_kept : is_same_name new other ≡ false → is_same_name old other ≡ false → file_given after other ≡ file_given image other
   unfolding d after
   others_kept unlike apart =
       let c = Changed-named image v new slot size.0 size.1 within.0 last in
@@ -172,11 +172,12 @@ module _ (image old new other : List ℕ) (slot : ℕ) (v : IsVolume image) (s :
       let there = rw parts at kept in
       rw (files, past, parts) there
 
-  NewNameGives-slot : is_same_name new other ≡ true → given (mirrored (with_name image slot new)) other ≡ given image old
+  NewNameGives-slot : is_same_name new other ≡ true → file_given (mirrored (with_name image slot new)) other ≡ file_given image old
   unfolding after
   NewNameGives-slot = new_gives
 
-  OthersKept-slot : is_same_name new other ≡ false → is_same_name old other ≡ false → given (mirrored (with_name image slot new)) other ≡ given image other
+  OthersKept-slot : is_same_name new other ≡ false → is_same_name old other ≡ false
+      → file_given (mirrored (with_name image slot new)) other ≡ file_given image other
   unfolding after
   OthersKept-slot = others_kept
 
@@ -190,11 +191,11 @@ unfolding filed renamed
 new_name_gives image old new f v done other same =
     let parts = renamed-ok image new (slot_to_rename (directory_of image) old new) f.image (changed-ok _ f done) in
     let s = IsSlot-from_ok (directory_of image) old new parts.0 parts.1 in
-    subst (λ made. given made other ≡ given image old) parts.2 (NewNameGives-slot image old new other parts.0 v s same)
+    subst (λ made. file_given made other ≡ file_given image old) parts.2 (NewNameGives-slot image old new other parts.0 v s same)
 
 pub change_keeps_others : ChangeKeepsOthers
 unfolding filed renamed
 change_keeps_others image old new f v done other unlike apart =
     let parts = renamed-ok image new (slot_to_rename (directory_of image) old new) f.image (changed-ok _ f done) in
     let s = IsSlot-from_ok (directory_of image) old new parts.0 parts.1 in
-    subst (λ made. given made other ≡ given image other) parts.2 (OthersKept-slot image old new other parts.0 v s unlike apart)
+    subst (λ made. file_given made other ≡ file_given image other) parts.2 (OthersKept-slot image old new other parts.0 v s unlike apart)

@@ -6,16 +6,16 @@ use Rattle.std.specs.Prelude.{Bool, true, false, nat_le, ◌&&◌, if◌then◌e
 use Rattle.std.proofs.lemmas.Str.{encode_ascii}
 use Rattle.std.proofs.lemmas.Bool.Decides.{nat_tests}
 use Rattle.std.proofs.Math.Utf8.{encode}
-use Rattle.pm_filer.specs.Listing.{shown_byte, shown_name, spaces}
+use Rattle.pm_filer.specs.Listing.{shown_byte, printable_name, spaces}
 
 -- a byte of the name is written
 pub name-more : (text name : List ℕ) (i : ℕ) → i < length name
-    → (text ++ shown_byte (get_or name i 0) ∷ []) ++ shown_name (drop (i + 1) name) ≡ text ++ shown_name (drop i name)
-unfolding shown_name
+    → (text ++ shown_byte (get_or name i 0) ∷ []) ++ printable_name (drop (i + 1) name) ≡ text ++ printable_name (drop i name)
+unfolding printable_name
 name-more text name i h = rw (add-one, drop-cons name i 0 h) (append_assoc text (shown_byte (get_or name i 0) ∷ []) (map shown_byte (drop (suc i) name)))
 
-pub name-done : (name : List ℕ) (i : ℕ) → length name ≤ i → shown_name (drop i name) ≡ []
-unfolding shown_name
+pub name-done : (name : List ℕ) (i : ℕ) → length name ≤ i → printable_name (drop i name) ≡ []
+unfolding printable_name
 name-done [] zero h = refl
 name-done [] (suc i) h = refl
 name-done (c ∷ name) zero h = absurd (omega arith)
@@ -40,7 +40,7 @@ shown_ascii c = encode_ascii (shown_byte c) (below (nat_le 32 c && nat_le c 126)
     below true e = grind (arith, nat_tests)
     below false e = omega arith
 
-pub shown_length : (name : List ℕ) → length (shown_name name) ≡ length name
-unfolding shown_name
+pub shown_length : (name : List ℕ) → length (printable_name name) ≡ length name
+unfolding printable_name
 shown_length [] = refl
 shown_length (c ∷ name) = ap suc (shown_length name)

@@ -7,23 +7,24 @@ use Rattle.pm_volume.specs.Files.{files_of, is_named}
 use Rattle.pm_volume.specs.Kept.{KeepsFile, KeepsFiles}
 use Rattle.pm_volume.specs.Packing.{MovesFile, new_place, packed}
 use Rattle.pm_volume.specs.declared.entry.Entry.{Entry}
-use Rattle.pm_filer.specs.Filed.{bytes_of}
-use Rattle.pm_filer.specs.Laws.{given}
+use Rattle.pm_filer.specs.Filed.{bytes_of_file}
+use Rattle.pm_filer.specs.Laws.{file_given}
 
 -- the same files with the same bytes
-pub found_kept : (p : Entry → Bool) (old new : List ℕ) (es : List Entry) → All (KeepsFile old new) es → bytes_of new (find p es) ≡ bytes_of old (find p es)
+pub found_kept : (p : Entry → Bool) (old new : List ℕ) (es : List Entry) → All (KeepsFile old new) es
+    → bytes_of_file new (find p es) ≡ bytes_of_file old (find p es)
 found_kept p old new [] kept = refl
 found_kept p old new (e ∷ es) kept = elim (cases_Bool (p e)) [
   | inl here ↦ rw here (All-head (KeepsFile old new) e es kept).bytes
   | inr on ↦ rw on (found_kept p old new es (All-tail (KeepsFile old new) e es kept))
 ]
 
-pub given_kept : (old new : List ℕ) → files_of new ≡ files_of old → KeepsFiles old new → (name : List ℕ) → given new name ≡ given old name
+pub given_kept : (old new : List ℕ) → files_of new ≡ files_of old → KeepsFiles old new → (name : List ℕ) → file_given new name ≡ file_given old name
 given_kept old new files kept name = rw files (found_kept (is_named name) old new (files_of old) kept)
 
 -- files moved, each with its bytes
 pub found_moved : (name old new : List ℕ) (from : ℕ) (es : List Entry) → AllZip (MovesFile old new) es (packed from es)
-    → bytes_of new (find (is_named name) (packed from es)) ≡ bytes_of old (find (is_named name) es)
+    → bytes_of_file new (find (is_named name) (packed from es)) ≡ bytes_of_file old (find (is_named name) es)
 unfolding packed
 found_moved name old new from [] zip = refl
 found_moved name old new from (e ∷ es) zip = elim (cases_Bool (is_named name e)) [

@@ -8,7 +8,7 @@ use Rattle.pm_volume.specs.Copies.{mirrored}
 use Rattle.pm_volume.specs.Directory.{IsVolume, block_count, directory_of, file_count, files_begin}
 use Rattle.pm_volume.specs.Files.{file_named, files_of, is_named}
 use Rattle.pm_volume.specs.Headers.{dated_image, last_date_of}
-use Rattle.pm_volume.specs.Made.{added, added_in, begun_at, doubled, singled, is_occupied, removed, removed_at}
+use Rattle.pm_volume.specs.Made.{added, added_in, begun_at, doubled, singled, is_occupied, file_removed, removed_at}
 use Rattle.pm_volume.specs.Packing.{krunched_image}
 use Rattle.pm_volume.specs.Names.{is_new_name, is_same_name}
 use Rattle.pm_volume.specs.Words.{word_in}
@@ -24,7 +24,7 @@ use Rattle.pm_volume.proofs.SingledLaws.{Recopied-singled}
 use Rattle.pm_volume.proofs.SlotChanges.{length-entries_from}
 use Rattle.pm_filer.specs.Filed.{Filed, changed, filed}
 use Rattle.pm_volume.specs.Dates.{date_word, is_date}
-use Rattle.pm_filer.specs.Laws.{IsVolumeOfBytes, NamesAreKept, PutIsGot, RemovalKeepsOthers, duplicate, date, given, krunch, single}
+use Rattle.pm_filer.specs.Laws.{IsVolumeOfBytes, NamesAreKept, PutIsGot, RemovalKeepsOthers, duplicate, date, file_given, krunch, single}
 use Rattle.pm_filer.proofs.FoundFiles.{found_beside, found_kept, found_left, found_moved, found_new, given_kept, position-within}
 use Rattle.pm_filer.proofs.SameNames.{named-new, same-from_upper, same-right, upper-from_same}
 
@@ -108,8 +108,8 @@ module _ (image name : List ℕ) (kind : ℕ) (bytes : List ℕ) (g : _) (b : Is
         rw c.files (found_new (is_named other) (files_of image) (g.place - 1) e (own ∙ same) none)
 
     put_given : (other : List ℕ)
-        → given (mirrored (with_file image g.place (new_entry g name kind (length bytes) (last_date_of (directory_of image))) bytes)) other
-        ≡ cond (is_same_name name other) (Some bytes) (given image other)
+        → file_given (mirrored (with_file image g.place (new_entry g name kind (length bytes) (last_date_of (directory_of image))) bytes)) other
+        ≡ cond (is_same_name name other) (Some bytes) (file_given image other)
     put_given other =
         let day = last_date_of (directory_of image) in
         let e = new_entry g name kind (length bytes) day in
@@ -128,11 +128,11 @@ unfolding filed added
 put_is_got image name kind bytes f b done other =
     let made = changed-ok _ f done in
     let parts = added-ok image name kind bytes (last_date_of (directory_of image)) (place_for image name (blocks_for (length bytes))) f.image made in
-    subst (λ new. given new other ≡ cond (is_same_name name other) (Some bytes) (given image other)) parts.2
+    subst (λ new. file_given new other ≡ cond (is_same_name name other) (Some bytes) (file_given image other)) parts.2
     (put_given image name kind bytes parts.0 b parts.1 other)
 
 removed_given : (image name other : List ℕ) (slot : ℕ) → IsVolume image → slot_named (directory_of image) name ≡ Some slot → is_same_name name other ≡ false
-    → given (mirrored (without_file image slot)) other ≡ given image other
+    → file_given (mirrored (without_file image slot)) other ≡ file_given image other
 removed_given image name other slot v found unlike =
     let within = position-within (is_named name) 1 (files_of image) slot found in
     let size = length-entries_from (directory_of image) (file_count (directory_of image)) 1 in
@@ -145,11 +145,11 @@ removed_given image name other slot v found unlike =
     rw (c.files, left) (found_kept (is_named other) image (mirrored (without_file image slot)) (files_of image) c.kept)
 
 pub removal_keeps_others : RemovalKeepsOthers
-unfolding filed removed
+unfolding filed file_removed
 removal_keeps_others image name f v done other unlike =
     let made = changed-ok _ f done in
     let parts = removed-ok image (slot_named (directory_of image) name) f.image made in
-    subst (λ new. given new other ≡ given image other) parts.2 (removed_given image name other parts.0 v parts.1 unlike)
+    subst (λ new. file_given new other ≡ file_given image other) parts.2 (removed_given image name other parts.0 v parts.1 unlike)
 
 missed_test : (b : Bool) (f : VolumeFault) (rest : Result (List ℕ) VolumeFault) (y : List ℕ) → cond b (Err f) rest ≡ Ok y → (b ≡ false) × (rest ≡ Ok y)
 missed_test true f rest y h = cc
@@ -173,21 +173,21 @@ names_are_kept image order f b krunch done name =
     let same : krunched_image image ≡ f.image = cc in
     let zip = rw k.files at k.moved in
     let found = found_moved name image (krunched_image image) (files_begin (directory_of image)) (files_of image) zip in
-    subst (λ new. given new name ≡ given image name) same (rw k.files found)
+    subst (λ new. file_given new name ≡ file_given image name) same (rw k.files found)
 names_are_kept image order f b (date year month day) done name = elim (cases_Bool (is_date year month day)) [
   | inl good ↦
       let told = rw good at done in
       let same : dated_image image (date_word year month day) ≡ f.image = cc in
       let c = Changed-dated image b.volume (date_word year month day) in
-      subst (λ new. given new name ≡ given image name) same (given_kept image (dated_image image (date_word year month day)) c.files c.kept name)
+      subst (λ new. file_given new name ≡ file_given image name) same (given_kept image (dated_image image (date_word year month day)) c.files c.kept name)
   | inr bad ↦ let told = rw bad at done in cc
 ]
 names_are_kept image order f b duplicate done name =
     let made = changed-ok _ f done in
     let parts = doubled-ok image f.image made in
     let c = Recopied-doubled image b.volume parts.0 parts.1 in
-    subst (λ new. given new name ≡ given image name) parts.2 (given_kept image (mirrored (begun_at image 10)) c.files c.kept name)
+    subst (λ new. file_given new name ≡ file_given image name) parts.2 (given_kept image (mirrored (begun_at image 10)) c.files c.kept name)
 names_are_kept image order f b single done name =
     let same : singled image ≡ f.image = cc in
     let c = Recopied-singled image b.volume in
-    subst (λ new. given new name ≡ given image name) same (given_kept image (singled image) c.files c.kept name)
+    subst (λ new. file_given new name ≡ file_given image name) same (given_kept image (singled image) c.files c.kept name)

@@ -2,7 +2,7 @@
 use Rattle.std.proofs.Common.{◌≡◌, ℕ, List, length, Ok, Err, None, true, false, refl}
 use Rattle.pm_volume.specs.Changes.{AddsFile, RemovesFile, RenamesFile, blocks_for, place_for, slot_named, slot_to_rename}
 use Rattle.pm_volume.specs.Directory.{directory_of}
-use Rattle.pm_volume.specs.Made.{added, removed, renamed, zeroed}
+use Rattle.pm_volume.specs.Made.{added, file_removed, renamed, zeroed}
 use Rattle.pm_volume.specs.Headers.{zeroed_image}
 use Rattle.pm_volume.specs.Names.{is_new_name}
 use Rattle.pm_volume.specs.declared.entry.Entry.{Entry}
@@ -14,8 +14,8 @@ pub made-added : (old new name : List ℕ) (kind : ℕ) (bytes : List ℕ) (date
 unfolding added
 made-added old new name kind bytes date e a = rw (a.placed, a.image, a.entry) refl
 
-pub made-removed : (old new name : List ℕ) → RemovesFile old new name → removed old name ≡ Ok new
-unfolding removed
+pub made-removed : (old new name : List ℕ) → RemovesFile old new name → file_removed old name ≡ Ok new
+unfolding file_removed
 made-removed old new name a = rw (a.found, a.image) refl
 
 pub made-unadded : (image name : List ℕ) (kind : ℕ) (bytes : List ℕ) (date : ℕ) (fault : VolumeFault) →
@@ -23,8 +23,8 @@ pub made-unadded : (image name : List ℕ) (kind : ℕ) (bytes : List ℕ) (date
 unfolding added
 made-unadded image name kind bytes date fault e = rw e refl
 
-pub made-unremoved : (image name : List ℕ) → slot_named (directory_of image) name ≡ None → removed image name ≡ Err NoFile
-unfolding removed
+pub made-unremoved : (image name : List ℕ) → slot_named (directory_of image) name ≡ None → file_removed image name ≡ Err NoFile
+unfolding file_removed
 made-unremoved image name e = rw e refl
 
 pub made-renamed : (old new from to : List ℕ) → RenamesFile old new from to → renamed old from to ≡ Ok new

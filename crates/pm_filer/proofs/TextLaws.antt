@@ -5,11 +5,11 @@ use Rattle.pm_textfile.proofs.RoundTrip.{length-text_file, text_of-text_file}
 use Rattle.pm_textfile.specs.Laying.{text_file}
 use Rattle.pm_textfile.specs.Writing.{text_fault}
 use Rattle.pm_textfile.specs.declared.fault.TextFault.{TextFault}
-use Rattle.pm_filer.specs.Filed.{Filed, Put, PutText, filed, written}
+use Rattle.pm_filer.specs.Filed.{Filed, Put, PutText, filed, text_written}
 use Rattle.pm_filer.specs.Laws.{TextIsGot, TextKeepsOthers}
 use Rattle.pm_filer.proofs.GivenLaws.{put_is_got}
 
-faultless : (image name text : List ℕ) (o : Option TextFault) (f : Filed) → written image name text o ≡ Ok f → o ≡ None
+faultless : (image name text : List ℕ) (o : Option TextFault) (f : Filed) → text_written image name text o ≡ Ok f → o ≡ None
 faultless image name text None f done = refl
 faultless image name text (Some fault) f done = cc
 

@@ -6,9 +6,9 @@ use Rattle.pm_volume.specs.declared.kinds.TheConstants.{TEXT}
 use Rattle.pm_volume.specs.Files.{file_bytes, file_named}
 use Rattle.pm_volume.specs.Directory.{directory_of}
 use Rattle.pm_volume.specs.Headers.{dated_image, last_date_of}
-use Rattle.pm_volume.specs.Made.{added, doubled, removed, renamed, singled, zeroed}
+use Rattle.pm_volume.specs.Made.{added, doubled, file_removed, renamed, singled, zeroed}
 use Rattle.pm_volume.specs.Packing.{krunched_image}
-use Rattle.pm_textfile.specs.Reading.{text_of}
+use Rattle.pm_textfile.specs.Reading.{text_of_file}
 use Rattle.pm_textfile.specs.Writing.{text_fault}
 use Rattle.pm_textfile.specs.Laying.{text_file}
 use Rattle.pm_textfile.specs.declared.fault.TextFault.{TextFault}
@@ -17,8 +17,8 @@ use Rattle.pm_textfile.specs.declared.fault.TextFault.TheVariants.{NoHeader}
 use Rattle.pm_volume.specs.declared.entry.Entry.{Entry}
 use Rattle.pm_volume.specs.declared.fault.VolumeFault.{VolumeFault}
 use Rattle.pm_volume.specs.declared.fault.VolumeFault.TheVariants.{NoFile}
-use Rattle.pm_filer.specs.declared.command.Command.{Command}
-use Rattle.pm_filer.specs.declared.command.Command.TheVariants as commands
+use Rattle.pm_filer.specs.declared.command.FileCommand.{FileCommand}
+use Rattle.pm_filer.specs.declared.command.FileCommand.TheVariants as commands
 use Rattle.pm_filer.specs.declared.command.Reply.{Reply}
 use Rattle.pm_filer.specs.declared.command.Reply.TheVariants as replies
 use Rattle.pm_filer.specs.declared.fault.FilerFault.{FilerFault}
@@ -53,7 +53,7 @@ pub data Order : Type 0 where
   Duplicate : Order
   Single : Order
 
-abbrev pub order_of : Command → Order
+abbrev pub order_of : FileCommand → Order
 order_of commands.List = ListFiles
 order_of (commands.Get name) = Get (string_bytes name)
 order_of (commands.Put name kind bytes) = Put (string_bytes name) kind bytes.items
@@ -93,31 +93,31 @@ abbrev pub lent : List ℕ → Option (List ℕ) → Result Filed FilerFault
 lent image (Some bytes) = Ok (record { image = image; answer = Bytes bytes })
 lent image None = Err (faults.Volume NoFile)
 
-abbrev pub bytes_of : List ℕ → Option Entry → Option (List ℕ)
-bytes_of image None = None
-bytes_of image (Some entry) = file_bytes image entry
+abbrev pub bytes_of_file : List ℕ → Option Entry → Option (List ℕ)
+bytes_of_file image None = None
+bytes_of_file image (Some entry) = file_bytes image entry
 
 -- the text of a text file, if there is one
-abbrev pub read : List ℕ → Option (List ℕ) → Result Filed FilerFault
-read image (Some bytes) =
+abbrev pub text_read : List ℕ → Option (List ℕ) → Result Filed FilerFault
+text_read image (Some bytes) =
     if nat_lt (length bytes) 1024 then Err (faults.Text NoHeader)
-    else Ok (record { image = image; answer = Bytes (text_of bytes) })
-read image None = Err (faults.Volume NoFile)
+    else Ok (record { image = image; answer = Bytes (text_of_file bytes) })
+text_read image None = Err (faults.Volume NoFile)
 
 -- a text that was written as a text file, unless it has a fault, which comes before the volume's
-abbrev pub written : List ℕ → List ℕ → List ℕ → Option TextFault → Result Filed FilerFault
-written image name text None = changed (added image name TEXT (text_file text) (last_date_of (directory_of image)))
-written image name text (Some fault) = Err (faults.Text fault)
+abbrev pub text_written : List ℕ → List ℕ → List ℕ → Option TextFault → Result Filed FilerFault
+text_written image name text None = changed (added image name TEXT (text_file text) (last_date_of (directory_of image)))
+text_written image name text (Some fault) = Err (faults.Text fault)
 
 -- what a command comes to; a refused one leaves the volume
 unfoldable pub filed : List ℕ → Order → Result Filed FilerFault
 filed image ListFiles = Ok (record { image = image; answer = Lines (list_text image) })
-filed image (Get name) = lent image (bytes_of image (file_named image name))
+filed image (Get name) = lent image (bytes_of_file image (file_named image name))
 filed image (Put name kind bytes) = changed (added image name kind bytes (last_date_of (directory_of image)))
-filed image (Remove name) = changed (removed image name)
+filed image (Remove name) = changed (file_removed image name)
 filed image (Change old new) = changed (renamed image old new)
-filed image (GetText name) = read image (bytes_of image (file_named image name))
-filed image (PutText name text) = written image name text (text_fault text)
+filed image (GetText name) = text_read image (bytes_of_file image (file_named image name))
+filed image (PutText name text) = text_written image name text (text_fault text)
 filed image Krunch = Ok (record { image = krunched_image image; answer = Done })
 filed image (Date year month day) =
     if is_date year month day then Ok (record { image = dated_image image (date_word year month day); answer = Done })

@@ -12,11 +12,11 @@ use Rattle.pm_volume.specs.declared.fault.VolumeFault.TheVariants.{NoRoom}
 use Rattle.pm_filer.specs.declared.fault.FilerFault.TheVariants.{Volume}
 use Rattle.pm_textfile.specs.Writing.{completed}
 use Rattle.pm_filer.specs.Filed.{Bytes, Filed, Order, Put, Remove, Change, GetText, PutText, Krunch, Date, Duplicate}
-use Rattle.pm_filer.specs.Filed.{Single, bytes_of, filed}
+use Rattle.pm_filer.specs.Filed.{Single, bytes_of_file, filed}
 
 -- what a name gives: the bytes of the first file of that name, none where there is no such file
-abbrev pub given : List ℕ → List ℕ → Option (List ℕ)
-given image name = bytes_of image (file_named image name)
+abbrev pub file_given : List ℕ → List ℕ → Option (List ℕ)
+file_given image name = bytes_of_file image (file_named image name)
 
 -- a volume whose image is a list of bytes
 pub record IsVolumeOfBytes (image : List ℕ) : Type 0 where
@@ -28,7 +28,8 @@ abbrev pub PutIsGot : Type 0
 PutIsGot =
     (image name : List ℕ) (kind : ℕ) (bytes : List ℕ) (f : Filed) → IsVolumeOfBytes image →
     filed image (Put name kind bytes) ≡ Ok f
-    → (other : List ℕ) → given f.image other ≡ (if is_same_name name other then Some bytes else given image other)
+    → (other : List ℕ) → file_given f.image other ≡
+    (if is_same_name name other then Some bytes else file_given image other)
 
 -- a text that is put under a name is got under it, in either case of letters, with its last line ended
 abbrev pub TextIsGot : Type 0
@@ -41,26 +42,26 @@ TextIsGot =
 abbrev pub TextKeepsOthers : Type 0
 TextKeepsOthers =
     (image name text : List ℕ) (f : Filed) → IsVolumeOfBytes image → filed image (PutText name text) ≡ Ok f
-    → (other : List ℕ) → is_same_name name other ≡ false → given f.image other ≡ given image other
+    → (other : List ℕ) → is_same_name name other ≡ false → file_given f.image other ≡ file_given image other
 
 -- after a change the new name, in either case of letters, gives what the old one gave
 abbrev pub NewNameGives : Type 0
 NewNameGives =
     (image old new : List ℕ) (f : Filed) → IsVolume image → filed image (Change old new) ≡ Ok f
-    → (other : List ℕ) → is_same_name new other ≡ true → given f.image other ≡ given image old
+    → (other : List ℕ) → is_same_name new other ≡ true → file_given f.image other ≡ file_given image old
 
 -- and every name that is neither of them gives what it gave
 abbrev pub ChangeKeepsOthers : Type 0
 ChangeKeepsOthers =
     (image old new : List ℕ) (f : Filed) → IsVolume image → filed image (Change old new) ≡ Ok f
     → (other : List ℕ) → is_same_name new other ≡ false → is_same_name old other ≡ false
-    → given f.image other ≡ given image other
+    → file_given f.image other ≡ file_given image other
 
 -- after a removal every other name gives what it gave
 abbrev pub RemovalKeepsOthers : Type 0
 RemovalKeepsOthers =
     (image name : List ℕ) (f : Filed) → IsVolume image → filed image (Remove name) ≡ Ok f
-    → (other : List ℕ) → is_same_name name other ≡ false → given f.image other ≡ given image other
+    → (other : List ℕ) → is_same_name name other ≡ false → file_given f.image other ≡ file_given image other
 
 -- moving the files together, a date, and a second copy of the directory made or dropped change nothing of what names
 -- give
@@ -74,7 +75,7 @@ pub data KeepsNames : Order → Type 0 where
 abbrev pub NamesAreKept : Type 0
 NamesAreKept =
     (image : List ℕ) (order : Order) (f : Filed) → IsVolumeOfBytes image → KeepsNames order → filed image order ≡ Ok f
-    → (name : List ℕ) → given f.image name ≡ given image name
+    → (name : List ℕ) → file_given f.image name ≡ file_given image name
 
 -- the blocks from one up to another are free: they lie where files may, and each file ends before or begins behind them
 pub record AreFree (directory : List ℕ) (begin end : ℕ) : Type 0 where

@@ -3,10 +3,11 @@ use Rattle.std.specs.Prelude.{ℕ, ◌-◌, ◌==◌, ◌&&◌, nat_le, List, []
 use Rattle.std.specs.Prelude.{Some, None, if◌then◌else◌}
 use Rattle.std.specs.Fmt.{decimal}
 use Rattle.std.specs.List.{flat_map}
+unfoldable pub use Rattle.pm_base.specs.Decimals.{padded}
 use Rattle.pm_volume.specs.Dates.{date_of}
 use Rattle.pm_volume.specs.Files.{files_of}
 use Rattle.pm_volume.specs.Names.{characters_of}
-use Rattle.pm_volume.specs.Space.{free_blocks, largest_gap, name_of}
+use Rattle.pm_volume.specs.Space.{free_blocks, largest_gap, volume_name}
 use Rattle.pm_volume.specs.declared.entry.Entry.{Entry}
 use Rattle.pm_volume.specs.declared.kinds.TheConstants.{BAD_BLOCKS, CODE, DATA, FOTO, GRAF, INFO, SECURE, TEXT, UNTYPED}
 use Rattle.pm_volume.specs.declared.fields.TheConstants.{LONGEST_NAME}
@@ -15,8 +16,8 @@ use Rattle.pm_volume.specs.declared.fields.TheConstants.{LONGEST_NAME}
 abbrev pub shown_byte : ℕ → ℕ
 shown_byte c = if nat_le 32 c && nat_le c 126 then c else 63
 
-unfoldable pub shown_name : List ℕ → List ℕ
-shown_name name = map shown_byte name
+unfoldable pub printable_name : List ℕ → List ℕ
+printable_name name = map shown_byte name
 
 -- so many spaces
 unfoldable pub spaces : ℕ → List ℕ
@@ -28,10 +29,6 @@ at_left width text = text ++ spaces (width - length text)
 
 unfoldable pub at_right : ℕ → ℕ → List ℕ
 at_right width n = spaces (width - length (decimal n)) ++ decimal n
-
--- a number in at least so many digits, with zeros in front
-unfoldable pub padded : ℕ → ℕ → List ℕ
-padded width n = replicate (width - length (decimal n)) 48 ++ decimal n
 
 -- the words for kinds of files; kinds from 9 on have none
 unfoldable pub kind_word : ℕ → Option (List ℕ)
@@ -67,8 +64,8 @@ entry_details e =
     ++ (32 ∷ (at_right 3 e.last_bytes ++ (32 ∷ date_text e.date)))))))
 
 -- the line of a file
-unfoldable pub entry_line : Entry → List ℕ
-entry_line e = at_left LONGEST_NAME (shown_name (characters_of e.name)) ++ (32 ∷ (entry_details e ++ 10 ∷ []))
+unfoldable pub file_line : Entry → List ℕ
+file_line e = at_left LONGEST_NAME (printable_name (characters_of e.name)) ++ (32 ∷ (entry_details e ++ 10 ∷ []))
 
 -- the last line: the number of files, the free blocks, and the largest gap
 unfoldable pub space_line : List ℕ → List ℕ
@@ -78,4 +75,5 @@ space_line image =
 
 -- the whole list: the volume's name and a colon, a line for each file, and the last line
 unfoldable pub list_text : List ℕ → List ℕ
-list_text image = shown_name (name_of image) ++ (58 ∷ 10 ∷ (flat_map entry_line (files_of image) ++ space_line image))
+list_text image =
+    printable_name (volume_name image) ++ (58 ∷ 10 ∷ (flat_map file_line (files_of image) ++ space_line image))

@@ -23,12 +23,12 @@ ghost use Rattle.pm_filer.specs.Filed.{
   Filed,
   MayWantMemory,
   answer_of,
-  bytes_of,
+  bytes_of_file,
   filed,
   lent,
   order_of,
-  read,
-  written,
+  text_read,
+  text_written,
 };
 ghost use Rattle.pm_volume.specs.Files.{file_named};
 
@@ -40,7 +40,7 @@ use std::alloc::Global;
 
 /// What is to be done with a volume.
 #[derive(Debug, Drop, PartialEq, Eq)]
-pub enum Command {
+pub enum FileCommand {
     /// Lists the files.
     List,
     /// Gives the bytes of the first file of this name.
@@ -82,13 +82,13 @@ pub enum Reply {
 // The bytes of the first file of a name.
 fn get(alloc: Global, volume: &Volume, name: &str) -> Result<Reply, FilerFault>
     ensures done { IfOk result
-        (λ reply. lent volume.now (bytes_of volume.now (file_named volume.now name.now))
+        (λ reply. lent volume.now (bytes_of_file volume.now (file_named volume.now name.now))
         ≡ Ok (record { image = volume.now; answer = answer_of reply })) }
     ensures refused { IfErr result
         (λ fault. fault ≢ FilerFault.NoMemory →
-        lent volume.now (bytes_of volume.now (file_named volume.now name.now)) ≡ Err fault) }
+        lent volume.now (bytes_of_file volume.now (file_named volume.now name.now)) ≡ Err fault) }
     ensures memory { IsErrOf result FilerFault.NoMemory →
-        IsOk (lent volume.now (bytes_of volume.now (file_named volume.now name.now))) }
+        IsOk (lent volume.now (bytes_of_file volume.now (file_named volume.now name.now))) }
 {
     let entry = volume.find(name).ok_or(VolumeFault::NoFile)?;
     let bytes = volume.file(&entry).ok_or(VolumeFault::NoFile)?;
@@ -98,13 +98,13 @@ fn get(alloc: Global, volume: &Volume, name: &str) -> Result<Reply, FilerFault>
 // The text of the first file of a name.
 fn get_text(alloc: Global, volume: &Volume, name: &str) -> Result<Reply, FilerFault>
     ensures done { IfOk result
-        (λ reply. read volume.now (bytes_of volume.now (file_named volume.now name.now))
+        (λ reply. text_read volume.now (bytes_of_file volume.now (file_named volume.now name.now))
         ≡ Ok (record { image = volume.now; answer = answer_of reply })) }
     ensures refused { IfErr result
         (λ fault. fault ≢ FilerFault.NoMemory →
-        read volume.now (bytes_of volume.now (file_named volume.now name.now)) ≡ Err fault) }
+        text_read volume.now (bytes_of_file volume.now (file_named volume.now name.now)) ≡ Err fault) }
     ensures memory { IsErrOf result FilerFault.NoMemory →
-        IsOk (read volume.now (bytes_of volume.now (file_named volume.now name.now))) }
+        IsOk (text_read volume.now (bytes_of_file volume.now (file_named volume.now name.now))) }
 {
     let entry = volume.find(name).ok_or(VolumeFault::NoFile)?;
     let bytes = volume.file(&entry).ok_or(VolumeFault::NoFile)?;
@@ -115,12 +115,12 @@ fn get_text(alloc: Global, volume: &Volume, name: &str) -> Result<Reply, FilerFa
 // Adds the text file of a text.
 fn put_text(alloc: Global, volume: &mut Volume, name: &str, text: &[u8]) -> Result<(), FilerFault>
     ensures done { OnOk result
-        (written volume.old name.now text.now (text_fault text.now)
+        (text_written volume.old name.now text.now (text_fault text.now)
         ≡ Ok (record { image = volume.new; answer = Done })) }
     ensures volume { OnOk result (IsVolume volume.new) }
     ensures refused { IfErr result
         (λ fault. fault ≢ FilerFault.NoMemory →
-        written volume.old name.now text.now (text_fault text.now) ≡ Err fault) }
+        text_written volume.old name.now text.now (text_fault text.now) ≡ Err fault) }
     ensures unchanged { OnErr result (volume.new ≡ volume.old) }
 {
     let bytes = pm_textfile::encode(alloc, text)?;
@@ -178,7 +178,7 @@ fn done(_changed: ()) -> Reply
 ///
 /// Only the list, the bytes and the text of a file, and a text to be put take memory.
 #[tactic(auto, unfolding(crate::specs::Filed::filed), using(crate::proofs::Made::made))]
-pub fn apply(alloc: Global, volume: &mut Volume, command: Command) -> Result<Reply, FilerFault>
+pub fn apply(alloc: Global, volume: &mut Volume, command: FileCommand) -> Result<Reply, FilerFault>
     ensures done { IfOk result
         (λ reply. filed volume.old (order_of command)
         ≡ Ok (record { image = volume.new; answer = answer_of reply })) }
@@ -190,21 +190,26 @@ pub fn apply(alloc: Global, volume: &mut Volume, command: Command) -> Result<Rep
     ensures volume { IsVolume volume.old → IsVolume volume.new }
 {
     match command {
-        Command::List => Ok(Reply::Lines(list_text(alloc, volume)?)),
-        Command::Get(name) => get(alloc, volume, name.as_str()),
-        Command::Put(name, kind, bytes) => Ok(done(put(volume, name.as_str(), kind, &bytes)?)),
-        Command::Remove(name) => Ok(done(volume.remove(name.as_str())?)),
-        Command::Change(old, new) => Ok(done(change(volume, old.as_str(), new.as_str())?)),
-        Command::GetText(name) => get_text(alloc, volume, name.as_str()),
-        Command::PutText(name, text) => Ok(done(put_text(alloc, volume, name.as_str(), &text)?)),
-        Command::Krunch => Ok(done(volume.krunch())),
-        Command::Date(year, month, day) => {
+        FileCommand::List => Ok(Reply::Lines(list_text(alloc, volume)?)),
+        FileCommand::Get(name) => get(alloc, volume, name.as_str()),
+        FileCommand::Put(name, kind, bytes) => Ok(done(put(volume, name.as_str(), kind, &bytes)?)),
+        FileCommand::Remove(name) => Ok(done(volume.remove(name.as_str())?)),
+        FileCommand::Change(old, new) => Ok(done(change(volume, old.as_str(), new.as_str())?)),
+        FileCommand::GetText(name) => get_text(alloc, volume, name.as_str()),
+        FileCommand::PutText(name, text) => Ok(done(put_text(
+            alloc,
+            volume,
+            name.as_str(),
+            &text,
+        )?)),
+        FileCommand::Krunch => Ok(done(volume.krunch())),
+        FileCommand::Date(year, month, day) => {
             let date = Date { year, month, day };
             let word = date.word().ok_or(FilerFault::BadDate)?;
             Ok(done(volume.set_date(word)))
         }
-        Command::Zero(name) => Ok(done(forget(volume, name.as_str())?)),
-        Command::Duplicate => Ok(done(volume.add_duplicate()?)),
-        Command::Single => Ok(done(volume.drop_duplicate())),
+        FileCommand::Zero(name) => Ok(done(forget(volume, name.as_str())?)),
+        FileCommand::Duplicate => Ok(done(volume.add_duplicate()?)),
+        FileCommand::Single => Ok(done(volume.drop_duplicate())),
     }
 }

@@ -6,6 +6,6 @@ mod fault;
 pub mod laws;
 mod listing;
 
-pub use command::{Command, Reply, apply};
+pub use command::{FileCommand, Reply, apply};
 pub use fault::FilerFault;
 pub use listing::kind_word;

@@ -5,12 +5,12 @@ ghost use Rattle.pm_filer.specs.Listing.{
   at_right,
   date_text,
   entry_details,
-  entry_line,
+  file_line,
   kind_text,
   kind_word,
   list_text,
   shown_byte,
-  shown_name,
+  printable_name,
   space_line,
   spaces,
 };
@@ -114,7 +114,7 @@ fn shown_byte(byte: u8) -> u8
 
 /// Adds the bytes of a name as they are shown.
 fn push_name(text: &mut String, name: &[u8]) -> Result<(), AllocError>
-    ensures text { OnOk result (string_bytes text.new ≡ string_bytes text.old ++ shown_name name.now) }
+    ensures text { OnOk result (string_bytes text.new ≡ string_bytes text.old ++ printable_name name.now) }
 {
     for byte in name {
         text.push(char::from(shown_byte(*byte)))?;
@@ -151,9 +151,9 @@ impl fmt::Display for Details {
 }
 
 /// Adds the line of a file.
-#[tactic(auto, unfolding(crate::specs::Listing::entry_line), using(crate::proofs::Columns::shown_length))]
+#[tactic(auto, unfolding(crate::specs::Listing::file_line), using(crate::proofs::Columns::shown_length))]
 fn push_entry(text: &mut String, entry: Entry) -> Result<(), AllocError>
-    ensures text { OnOk result (string_bytes text.new ≡ string_bytes text.old ++ entry_line entry) }
+    ensures text { OnOk result (string_bytes text.new ≡ string_bytes text.old ++ file_line entry) }
 {
     let name = entry.characters();
     push_name(text, name)?;
@@ -166,7 +166,7 @@ fn push_entry(text: &mut String, entry: Entry) -> Result<(), AllocError>
 /// Adds the lines of the files.
 fn push_files(text: &mut String, volume: &Volume) -> Result<(), AllocError>
     ensures text { OnOk result
-        (string_bytes text.new ≡ string_bytes text.old ++ flat_map entry_line (files_of volume.now)) }
+        (string_bytes text.new ≡ string_bytes text.old ++ flat_map file_line (files_of volume.now)) }
 {
     let mut entries = volume.entries();
     'files: while let Some(entry) = entries.next() {

@@ -6,9 +6,9 @@ abbrev pub Files : Type 0
 Files = Option (List ℕ → Option (List ℕ))
 
 -- a path holds these bytes
-abbrev pub Holds : Files → List ℕ → List ℕ → Type 0
-Holds None path bytes = ⊤
-Holds (Some files) path bytes = files path ≡ Some bytes
+abbrev pub HoldsFile : Files → List ℕ → List ℕ → Type 0
+HoldsFile None path bytes = ⊤
+HoldsFile (Some files) path bytes = files path ≡ Some bytes
 
 -- a path holds these bytes now, and each other path what it held
 abbrev pub Puts : Files → Files → List ℕ → List ℕ → Type 0

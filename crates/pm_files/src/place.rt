@@ -10,7 +10,7 @@ pub(crate) const TRIES: u8 = 100;
 
 /// A path to which bytes are going to be written. All memory that this takes is had here, so that none is wanted later.
 #[derive(Drop)]
-pub(crate) struct Place<F> {
+pub(crate) struct WritePath<F> {
     /// The path as it was given.
     pub(crate) name: String,
     /// The path behind all links. `None`: nothing but the file itself can be written, as where a link leads to nothing.
@@ -65,12 +65,12 @@ fn locked<R: Host>(rt: &R, path: &str) -> Result<Option<R::File>, DiskFault> {
     Err(DiskFault::Busy)
 }
 
-impl<F> Place<F> {
+impl<F> WritePath<F> {
     /// Makes ready to write to a path. `NoMemory` is the only refusal: what else is wrong is met where it is written.
     pub(crate) fn new<R: Host<File = F> + AllocGlobal>(
         rt: &R,
         name: &str,
-    ) -> Result<Place<F>, DiskFault> {
+    ) -> Result<WritePath<F>, DiskFault> {
         let path = resolved(rt, name)?;
         let whole = match &path {
             Some(path) => path.as_str(),
@@ -80,7 +80,7 @@ impl<F> Place<F> {
             return Err(DiskFault::NoMemory);
         };
         let name = String::from_str(rt.alloc(), name)?;
-        Ok(Place {
+        Ok(WritePath {
             name,
             path,
             beside,

@@ -1,7 +1,7 @@
 //! Writing a file whole.
 use crate::fault::DiskFault;
 use crate::host::Host;
-use crate::place::{Place, TRIES};
+use crate::place::{TRIES, WritePath};
 use std::fs::{File, Metadata, OpenFile, OpenOptions};
 use std::io::{ErrorKind, Write};
 use std::os::unix::fs as fs_unix;
@@ -142,7 +142,7 @@ fn found<R: Host>(rt: &R, path: &str) -> io::Result<Option<Metadata>> {
 
 fn write<R: Host>(
     rt: &R,
-    place: &Place<R::File>,
+    place: &WritePath<R::File>,
     old: &Option<Metadata>,
     bytes: &[u8],
 ) -> io::Result<()> {
@@ -163,7 +163,7 @@ fn write<R: Host>(
 }
 
 /// Whether the file that is held has been replaced by another.
-fn is_replaced<R: Host>(rt: &R, place: &Place<R::File>) -> io::Result<bool> {
+fn is_replaced<R: Host>(rt: &R, place: &WritePath<R::File>) -> io::Result<bool> {
     match (&place.held, &place.path) {
         (Some(held), Some(path)) => Ok(!rt.is_named(path.as_str(), held)?),
         _ => Ok(false),
@@ -176,7 +176,7 @@ fn is_replaced<R: Host>(rt: &R, place: &Place<R::File>) -> io::Result<bool> {
 /// name now.
 pub(crate) fn replace<R: Host>(
     rt: &R,
-    place: &Place<R::File>,
+    place: &WritePath<R::File>,
     bytes: &[u8],
 ) -> Result<(), DiskFault> {
     let old = found(rt, place.name.as_str()).map_err(DiskFault::of_write)?;

@@ -1,11 +1,11 @@
 //! Files as the program sees them: which bytes stand under which path.
 ghost use Rattle.std.specs.Prelude.{◌≡◌, ℕ, List, Option, None, IfOk, OnOk, OnErr};
-ghost use Rattle.pm_files.specs.Held.{Holds, Puts};
+ghost use Rattle.pm_files.specs.Held.{HoldsFile, Puts};
 
 use crate::fault::DiskFault;
 use crate::host::Host;
 use crate::image::read_image;
-use crate::place::Place;
+use crate::place::WritePath;
 use crate::replacing::replace;
 use std::alloc::Global;
 use std::fs;
@@ -18,7 +18,7 @@ pub trait Store {
     /// Reads a file of at most `IMAGE_LIMIT` bytes.
     fn read(&mut self, alloc: Global, path: &str) -> Result<Vec<u8>, DiskFault>
         ensures stays { files self.new ≡ files self.old }
-        ensures value { IfOk result (λ image. Holds (files self.old) path.now image.items) };
+        ensures value { IfOk result (λ image. HoldsFile (files self.old) path.now image.items) };
 
     /// Takes all memory that writing a file wants.
     fn prepare(&mut self, path: &str) -> Result<(), DiskFault>
@@ -45,7 +45,7 @@ pub trait Store {
 #[derive(Drop)]
 pub struct HostStore<'a, R: Host> {
     rt: &'a R,
-    places: Vec<Place<R::File>>,
+    places: Vec<WritePath<R::File>>,
     /// The path with which a call failed last.
     refused: Option<String>,
 }
@@ -74,7 +74,7 @@ impl<'a, R: Host + AllocGlobal> HostStore<'a, R> {
     }
 
     fn add(&mut self, path: &str, holds: bool) -> Result<(), DiskFault> {
-        let mut place = Place::new(self.rt, path)?;
+        let mut place = WritePath::new(self.rt, path)?;
         if holds {
             place.hold(self.rt)?;
         }
@@ -90,7 +90,7 @@ impl<'a, R: Host + AllocGlobal> HostStore<'a, R> {
                 return replace(self.rt, place, bytes);
             }
         }
-        let place = Place::new(self.rt, path)?;
+        let place = WritePath::new(self.rt, path)?;
         replace(self.rt, &place, bytes)
     }
 }

@@ -66,7 +66,8 @@ not_shorter xs ys e h = omega (arith, ap length e, h)
 -- a text that begins with no blank: its first word, and its other words
 pub words_at_once : (cs : List ℕ) → begins_solid cs ≡ true → words cs ≡ (cut_word cs).word ∷ words (unindented (cut_word cs).rest)
 words_at_once [] h = absurd (cc)
-words_at_once (c ∷ cs) h = words_first c cs (solid_is_no_blank (is_blank c) h) ∙ ap (λ ws. (cut_word (c ∷ cs)).word ∷ ws) (sym (words_unindented (cut_word (c ∷ cs)).rest))
+words_at_once (c ∷ cs) h =
+    words_first c cs (solid_is_no_blank (is_blank c) h) ∙ ap (λ ws. (cut_word (c ∷ cs)).word ∷ ws) (sym (words_unindented (cut_word (c ∷ cs)).rest))
 
 pub shorter_behind : (cs : List ℕ) → begins_solid cs ≡ true → length (unindented (cut_word cs).rest) < length cs
 shorter_behind [] h = absurd (cc)

@@ -1,7 +1,8 @@
 -- What is ill-formed since there are too few operands, or too many.
 use Rattle.std.proofs.Common.{◌≡◌, ℕ, ◌<◌, List, [], ◌∷◌, length, None, Some, refl, arith, Bor}
 use Rattle.std.proofs.lemmas.List.{length-map}
-use Rattle.pm_source.specs.Line.{byte_and_number, byte_operand, case_jump, entry_operands, one_comparison, one_jump, one_long_number, one_number, one_text, procedure_operands, segment_operands, short_instruction, sized_comparison, two_bytes, word_operand}
+use Rattle.pm_source.specs.Line.{byte_and_number, byte_operand, case_jump, entry_operands, one_comparison, one_jump, one_long_number, one_number}
+use Rattle.pm_source.specs.Line.{one_text, procedure_operands, segment_operands, short_instruction, sized_comparison, two_bytes, word_operand}
 use Rattle.pm_line.specs.Views.{IsNotFour, IsNotOne, IsNotTwo, text_seen, texts_seen}
 
 pub no_jump : (op : ℕ) (ts : List (List ℕ)) → IsNotOne ts → one_jump op ts ≡ None

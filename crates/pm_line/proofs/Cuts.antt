@@ -12,7 +12,8 @@ pieces_on q c cs h = ap (λ b. if b then [] ∷ pieces q cs else onto_first c (p
 
 -- a character of the piece
 pub piece_on : (text : List ℕ) (i : ℕ) (q : Bool) → i < length text → ((get_or text i 0 == 44) && not q) ≡ false
-    → onto_piece (take (i + 1) text) (pieces (if get_or text i 0 == 34 then not q else q) (drop (i + 1) text)) ≡ onto_piece (take i text) (pieces q (drop i text))
+    → onto_piece (take (i + 1) text) (pieces (if get_or text i 0 == 34 then not q else q) (drop (i + 1) text))
+    ≡ onto_piece (take i text) (pieces q (drop i text))
 piece_on text i q h n =
     let c = get_or text i 0 in
     ap (λ cs. onto_piece cs (pieces (if c == 34 then not q else q) (drop (i + 1) text))) (take_more text i 0 h)

@@ -5,13 +5,15 @@ use Rattle.pm_opcode.specs.Table.{mnemonic_of}
 use Rattle.pm_source.specs.Line.{named_from}
 
 -- the opcodes from op on, op itself first
-from_here : (name : List ℕ) (op : ℕ) → op < 256 → named_from name op (256 - op) ≡ (if bytes_eq name (mnemonic_of op) then Some op else named_from name (op + 1) (256 - (op + 1)))
+from_here : (name : List ℕ) (op : ℕ) → op < 256 → named_from name op (256 - op)
+    ≡ (if bytes_eq name (mnemonic_of op) then Some op else named_from name (op + 1) (256 - (op + 1)))
 from_here name op h = let e : 256 - op ≡ suc (256 - (op + 1)) = omega (arith, h) in ap (named_from name op) e
 
 pub found_here : (name : List ℕ) (op : ℕ) → op < 256 → bytes_eq name (mnemonic_of op) ≡ true → named_from name op (256 - op) ≡ Some op
 found_here name op h e = from_here name op h ∙ ap (λ b. if b then Some op else named_from name (op + 1) (256 - (op + 1))) e
 
-pub not_here : (name : List ℕ) (op : ℕ) → op < 256 → bytes_eq name (mnemonic_of op) ≡ false → named_from name op (256 - op) ≡ named_from name (op + 1) (256 - (op + 1))
+pub not_here : (name : List ℕ) (op : ℕ) → op < 256 → bytes_eq name (mnemonic_of op) ≡ false
+    → named_from name op (256 - op) ≡ named_from name (op + 1) (256 - (op + 1))
 not_here name op h e = from_here name op h ∙ ap (λ b. if b then Some op else named_from name (op + 1) (256 - (op + 1))) e
 
 pub nowhere : (name : List ℕ) (op : ℕ) → op ≡ 256 → named_from name op (256 - op) ≡ None

@@ -14,7 +14,8 @@ and_assoc false b c = refl
 onto_rest : {A : Type 0} (xs : List A) (good : Bool) (x : A) (b : Bool) (more : Operand (List A))
     → onto_operands (xs ++ (x ∷ [])) (good && b) more ≡ onto_operands xs good (more >>= λ m. Some (x ∷ m.0, b && m.1))
 onto_rest xs good x b None = refl
-onto_rest xs good x b (Some m) = ap (λ l. Some (l, (good && b) && m.1)) (append_assoc xs (x ∷ []) m.0) ∙ ap (λ g. Some (xs ++ (x ∷ m.0), g)) (and_assoc good b m.1)
+onto_rest xs good x b (Some m) =
+    ap (λ l. Some (l, (good && b) && m.1)) (append_assoc xs (x ∷ []) m.0) ∙ ap (λ g. Some (xs ++ (x ∷ m.0), g)) (and_assoc good b m.1)
 
 -- one operand more
 pub onto_more : {A : Type 0} (f : List ℕ → Operand A) (t : List ℕ) (ts : List (List ℕ)) (xs : List A) (good : Bool) (x : A) (b : Bool) → f t ≡ Some (x, b)

@@ -9,7 +9,8 @@ use Rattle.pm_line.specs.Views.{cut_seen}
 by_words : (n : ℕ) (k : Cut) → is_empty k.word ≡ false → line_by n true k ≡ line_of_words n k (label_of k.word)
 by_words n k e = rw e refl
 
-pub whole_line : (n : ℕ) (text body word rest : List ℕ) → list_all is_character text ≡ true → body ≡ uncommented false text → word ≡ (cut body).word → rest ≡ (cut body).rest
+pub whole_line : (n : ℕ) (text body word rest : List ℕ) → list_all is_character text ≡ true → body ≡ uncommented false text → word ≡ (cut body).word
+    → rest ≡ (cut body).rest
     → is_empty word ≡ false → line_of n text ≡ line_of_words n (cut_seen word rest) (label_of word)
 unfolding line_of
 whole_line n text body word rest good b w r some =

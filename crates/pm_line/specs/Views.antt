@@ -1,5 +1,6 @@
 -- What the values of the code stand for.
-use Rattle.std.specs.Prelude.{ℕ, ◌+◌, Bool, true, not, List, [], ◌∷◌, ◌++◌, ◌&&◌, Vec, Option, Some, None, map, length, option_map, false, if◌then◌else◌}
+use Rattle.std.specs.Prelude.{ℕ, ◌+◌, Bool, true, not, List, [], ◌∷◌, ◌++◌, ◌&&◌, Vec, Option}
+use Rattle.std.specs.Prelude.{Some, None, map, length, option_map, false, if◌then◌else◌}
 use Rattle.std.specs.Borrow.{Bor}
 use Rattle.std.specs.List.{onto_first}
 use Rattle.pm_line.specs.declared.item.Target.{Target}

@@ -3,7 +3,8 @@
 ghost use Rattle.std.specs.Prelude.{◌≡◌, option_map, IfOk};
 ghost use Rattle.std.specs.Map.{lookup};
 ghost use Rattle.std.specs.Str.{bytes_eq};
-ghost use Rattle.pm_source.specs.Line.{checked, comparison, instruction_said, one_comparison, sized_comparison, sized_type_words, type_words};
+ghost use Rattle.pm_source.specs.Line.{checked, comparison, instruction_said, one_comparison};
+ghost use Rattle.pm_source.specs.Line.{sized_comparison, sized_type_words, type_words};
 ghost use Rattle.pm_line.specs.Views.{flaw_seen, item_seen, range_flaw, said_seen, texts_seen};
 
 use crate::counted::only;

@@ -30,7 +30,8 @@ type Four<'a> = (&'a [u8], &'a [u8], &'a [u8], &'a [u8]);
 
 /// The operands, where there are just four.
 pub(crate) fn four<'a>(texts: &[&'a [u8]]) -> Option<Four<'a>>
-    ensures four { IfSome result (λ four. texts_seen texts.now ≡ four.0.now ∷ four.1.now ∷ four.2.now ∷ four.3.now ∷ []) }
+    ensures four { IfSome result (λ four. texts_seen texts.now
+        ≡ four.0.now ∷ four.1.now ∷ four.2.now ∷ four.3.now ∷ []) }
     ensures other { IsNone result → IsNotFour (texts_seen texts.now) }
 {
     match texts {

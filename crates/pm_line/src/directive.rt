@@ -1,6 +1,7 @@
 //! What directives say, by the words behind them.
 //!
-//! Each function answers None where the words are ill-formed, and else the statement and whether its numbers are in range.
+//! Each function answers None where the words are ill-formed, and else the statement and whether its numbers are in
+//! range.
 
 ghost use Rattle.std.specs.Prelude.{◌≡◌, true, option_map};
 ghost use Rattle.std.specs.List.{list_all};

@@ -1,10 +1,12 @@
 //! Instructions by the forms of their operands, but for comparisons.
 //!
-//! Each function answers None where the operands are ill-formed, and else the item and whether its numbers, lengths and counts are in
-//! range.
+//! Each function answers None where the operands are ill-formed, and else the item and whether its numbers, lengths and
+//! counts are in range.
 
 ghost use Rattle.std.specs.Prelude.{◌≡◌, ◌<◌, ◌≤◌, ◌+◌, option_map, IfOk, IfSome};
-ghost use Rattle.pm_source.specs.Line.{bare, bare_instruction, byte_and_number, byte_operand, case_jump, instruction, many_words, one_jump, one_long_number, one_number, one_text, plain, short_instruction, short_range, two_bytes, word_operand};
+ghost use Rattle.pm_source.specs.Line.{bare, bare_instruction, byte_and_number, byte_operand, case_jump};
+ghost use Rattle.pm_source.specs.Line.{instruction, many_words, one_jump, one_long_number, one_number, one_text};
+ghost use Rattle.pm_source.specs.Line.{plain, short_instruction, short_range, two_bytes, word_operand};
 ghost use Rattle.pm_line.specs.Views.{item_seen, operand_seen, texts_seen};
 
 use crate::counted::{only, pair};

@@ -15,7 +15,8 @@ pub(crate) fn word_operands(
     alloc: Global,
     texts: &[&[u8]],
 ) -> Result<Option<(Vec<u16>, bool)>, AllocError>
-    ensures operands { IfOk result (λ list. operand_seen vec_seen list ≡ all_operands word_operand (texts_seen texts.now)) }
+    ensures operands { IfOk result (λ list. operand_seen vec_seen list
+        ≡ all_operands word_operand (texts_seen texts.now)) }
 {
     let mut words = Vec::new(alloc);
     let mut in_range = true;
@@ -35,7 +36,8 @@ pub(crate) fn byte_operands(
     alloc: Global,
     texts: &[&[u8]],
 ) -> Result<Option<(Vec<u8>, bool)>, AllocError>
-    ensures operands { IfOk result (λ list. operand_seen vec_seen list ≡ all_operands byte_operand (texts_seen texts.now)) }
+    ensures operands { IfOk result (λ list. operand_seen vec_seen list
+        ≡ all_operands byte_operand (texts_seen texts.now)) }
 {
     let mut bytes = Vec::new(alloc);
     let mut in_range = true;
@@ -55,7 +57,8 @@ pub(crate) fn label_operands<'a>(
     alloc: Global,
     texts: &[&'a [u8]],
 ) -> Result<Option<(Vec<&'a [u8]>, bool)>, AllocError>
-    ensures operands { IfOk result (λ list. operand_seen labels_seen list ≡ all_operands label_operand (texts_seen texts.now)) }
+    ensures operands { IfOk result (λ list. operand_seen labels_seen list
+        ≡ all_operands label_operand (texts_seen texts.now)) }
 {
     let mut labels = Vec::new(alloc);
     let mut in_range = true;

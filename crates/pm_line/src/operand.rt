@@ -1,8 +1,11 @@
 //! The operands of instructions and directives.
 
 ghost use Rattle.std.specs.Prelude.{◌≡◌, ◌<◌, ◌≤◌, ◌∷◌, [], length, option_map, IfOk, IfSome};
-ghost use Rattle.pm_source.specs.Line.{bound_operand, byte_operand, is_plain, jump_operand, label_operand, lower_hex, number_operand, numeral_operand, size_operand, slot_operand, text_operand, unescaped, word_operand};
-ghost use Rattle.pm_line.specs.Views.{first_unescaped, number_seen, onto_bytes, operand_seen, target_seen, text_seen, unescaped_if};
+ghost use Rattle.pm_source.specs.Line.{bound_operand, byte_operand, is_plain, jump_operand, label_operand};
+ghost use Rattle.pm_source.specs.Line.{lower_hex, number_operand, numeral_operand, size_operand};
+ghost use Rattle.pm_source.specs.Line.{slot_operand, text_operand, unescaped, word_operand};
+ghost use Rattle.pm_line.specs.Views.{first_unescaped, number_seen, onto_bytes, operand_seen};
+ghost use Rattle.pm_line.specs.Views.{target_seen, text_seen, unescaped_if};
 
 use crate::item::Target;
 use crate::number::{is_within, number, stored};
@@ -158,7 +161,8 @@ fn first_unescaped(text: &[u8]) -> Option<(u8, &[u8])>
     }
 }
 
-/// The bytes that the characters between quotes stand for: `\` and two lower case hexadecimal digits stand for one byte.
+/// The bytes that the characters between quotes stand for: `\` and two lower case hexadecimal digits stand for one
+/// byte.
 #[tactic(auto, using(crate::proofs::Escapes::onto_both))]
 fn unescaped(alloc: Global, text: &[u8]) -> Result<Option<Vec<u8>>, AllocError>
     ensures bytes { IfOk result (λ list. option_map (λ bytes. bytes.items) list ≡ unescaped text.now) }

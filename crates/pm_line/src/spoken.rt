@@ -3,8 +3,10 @@
 ghost use Rattle.std.specs.Prelude.{◌≡◌, ℕ, List, true, option_map, IfOk};
 ghost use Rattle.std.specs.List.{list_all};
 ghost use Rattle.pm_source.specs.Words.{words};
-ghost use Rattle.pm_source.specs.Line.{bytes_said, checked, code_said, is_character, items_said, label_of, labelled, line_of, line_of_words, said, spoken};
-ghost use Rattle.pm_line.specs.Views.{cut_seen, is_directive, items_seen, keyword_seen, line_seen, operand_seen, said_seen, statement_seen, text_seen, texts_seen};
+ghost use Rattle.pm_source.specs.Line.{bytes_said, checked, code_said, is_character, items_said};
+ghost use Rattle.pm_source.specs.Line.{label_of, labelled, line_of, line_of_words, said, spoken};
+ghost use Rattle.pm_line.specs.Views.{cut_seen, is_directive, items_seen, keyword_seen, line_seen};
+ghost use Rattle.pm_line.specs.Views.{operand_seen, said_seen, statement_seen, text_seen, texts_seen};
 
 use crate::comparison::{Said, flaw_of, instruction_said};
 use crate::directive::{entry_operands, no_operands, procedure_operands, segment_operands};
@@ -54,7 +56,8 @@ fn code_said<'a>(
     label: Option<&'a [u8]>,
     items: Option<(Vec<Item<'a>>, Flaw)>,
 ) -> Option<(Statement<'a>, Flaw)>
-    ensures said { said_seen statement_seen result ≡ code_said line (option_map text_seen label.entry) (said_seen items_seen items.entry) }
+    ensures said { said_seen statement_seen result
+        ≡ code_said line (option_map text_seen label.entry) (said_seen items_seen items.entry) }
 {
     let (items, flaw) = items?;
     let row = Row::Items { line, label, items };
@@ -64,7 +67,8 @@ fn code_said<'a>(
 /// What a directive and the words behind it say; None for what is no directive but `.BYTE`.
 fn directive<'a>(line: usize, keyword: Keyword, texts: &[&'a [u8]]) -> Option<(Statement<'a>, bool)>
     requires directive { is_directive (keyword_seen keyword) ≡ true }
-    ensures said { (rest : List ℕ) → texts_seen texts.now ≡ words rest → checked (operand_seen statement_seen result) ≡ said line (keyword_seen keyword) rest }
+    ensures said { (rest : List ℕ) → texts_seen texts.now ≡ words rest
+        → checked (operand_seen statement_seen result) ≡ said line (keyword_seen keyword) rest }
 {
     match keyword {
         Keyword::Segment => segment_operands(texts),
@@ -161,7 +165,8 @@ fn line_of_words<'a>(
     word: &'a [u8],
     rest: &'a [u8],
 ) -> Result<Line<'a>, AllocError>
-    ensures line { IfOk result (λ l. line_seen l ≡ line_of_words number (cut_seen word.now rest.now) (label_of word.now)) }
+    ensures line { IfOk result (λ l. line_seen l ≡ line_of_words number (cut_seen word.now rest.now)
+        (label_of word.now)) }
 {
     let Some(label) = label_of(word) else {
         return spoken(alloc, number, rest, keyword_of(word));
@@ -172,7 +177,8 @@ fn line_of_words<'a>(
 
 /// What a line says, by its number and its characters, without the line feed.
 ///
-/// Its own errors are in the answer: `Line::Wrong`, `Line::Strange`, and the flaw of `Line::Says`. `AllocError`: memory could not grow.
+/// Its own errors are in the answer: `Line::Wrong`, `Line::Strange`, and the flaw of `Line::Says`. `AllocError`: memory
+/// could not grow.
 #[tactic(auto, unfolding(pm_source::specs::Line::line_of))]
 pub fn line<'a>(alloc: Global, number: usize, text: &'a [u8]) -> Result<Line<'a>, AllocError>
     ensures line { IfOk result (λ l. line_seen l ≡ line_of number text.now) }

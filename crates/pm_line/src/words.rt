@@ -2,7 +2,8 @@
 
 ghost use Rattle.std.specs.Prelude.{◌≡◌, ◌<◌, ◌∷◌, true, reverse, length, IfOk};
 ghost use Rattle.std.specs.List.{list_all};
-ghost use Rattle.pm_source.specs.Words.{begins_name, continues_name, cut, cut_word, is_blank, is_name, trimmed, unindented, words};
+ghost use Rattle.pm_source.specs.Words.{begins_name, continues_name, cut, cut_word};
+ghost use Rattle.pm_source.specs.Words.{is_blank, is_name, trimmed, unindented, words};
 ghost use Rattle.pm_line.specs.Views.{begins_solid, texts_seen};
 
 use std::alloc::{AllocError, Global};

@@ -5,7 +5,7 @@ use Rattle.std.proofs.lemmas.Bool.Decides.{nat_tests}
 use Rattle.pm_codefile.specs.Dictionary.{file_fault, segment_in}
 use Rattle.pm_disasm.specs.Laws.{segment_numbered}
 use Rattle.pm_disasm.specs.Program.{segment_bytes}
-use Rattle.pm_disasm.proofs.Fitting.{short_fits}
+use Rattle.pm_asm.proofs.Fitting.{short_fits}
 use Rattle.pm_source.proofs.Held.{file_holds_program, file_is_accepted}
 use Rattle.pm_source.proofs.Programs.{spelled_is_program}
 use Rattle.pm_asm.specs.Assembled.{Assembles, assembled}

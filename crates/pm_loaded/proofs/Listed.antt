@@ -21,7 +21,8 @@ none_above : (file : List ℕ) (n : ℕ) → nat_lt 15 n ≡ true → segment_in
 unfolding segment_in
 none_above file n h = rw h refl
 
-listed_as : (text file shown : List ℕ) (n below : ℕ) (m : List ℕ) → IsAssembled text file shown → StandsBelow file n below m → StandsAsListed text shown n below m
+listed_as : (text file shown : List ℕ) (n below : ℕ) (m : List ℕ) → IsAssembled text file shown → StandsBelow file n below m
+    → StandsAsListed text shown n below m
 listed_as text file shown n below m is at = elim (cases_Bool (nat_lt 15 n)) [
   | inl high ↦ let no = none_above file n high in let there = at.segment in absurd (cc)
   | inr low ↦
@@ -43,4 +44,5 @@ assembled_loads_listed s memory text shown file image unit n p is volume from th
 
 pub assembled_boots_listed : AssembledBootsListed
 assembled_boots_listed text shown file images image name entry unit clock s is volume on found start =
-    listed_as text file shown 1 65492 s.memory (is_assembled text file shown is) (boots_load_segment images image name file entry unit clock s volume on found start)
+    listed_as text file shown 1 65492 s.memory (is_assembled text file shown is)
+    (boots_load_segment images image name file entry unit clock s volume on found start)

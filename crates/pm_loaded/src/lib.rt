@@ -2,7 +2,8 @@
 //! functions do nothing.
 #![tactic(auto)]
 
-ghost use Rattle.pm_loaded.specs.Laws.{AssembledBootsListed, AssembledIsAccepted, AssembledIsFound, AssembledLoadsListed};
+ghost use Rattle.pm_loaded.specs.Laws.{AssembledBootsListed, AssembledIsAccepted};
+ghost use Rattle.pm_loaded.specs.Laws.{AssembledIsFound, AssembledLoadsListed};
 
 use pm_machine::Machine;
 use pm_machine_laws::shapes::machines_hold_words;

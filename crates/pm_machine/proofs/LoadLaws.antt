@@ -60,13 +60,13 @@ use Rattle.pm_volume.specs.Files.{file_bytes, file_named, files_of, is_named}
 use Rattle.pm_volume.proofs.KeptLaws.{files_within}
 use Rattle.pm_volume.proofs.OrderLaws.{IsWithin}
 use Rattle.pm_codefile.specs.declared.fault.CodeFault.{CodeFault}
-use Rattle.pm_codefile.specs.Dictionary.{block_in, file_fault, first_fault, length_in, or_else, segment_in, slot_fault, slot_in}
+use Rattle.pm_codefile.specs.Dictionary.{block_in, file_fault, first_slot_fault, length_in, or_code_fault, segment_in, slot_fault, slot_in}
 use Rattle.pm_stdproc.specs.Devices.{Devices, code_on, image_on, unit_of}
 use Rattle.pm_machine.specs.declared.state.BootFault.{BootFault}
 use Rattle.pm_machine.specs.declared.state.BootFault.TheVariants.{NoFile, NotCode, BadCode}
 use Rattle.pm_stdproc.specs.declared.loads.SlotRow.{SlotRow}
 use Rattle.pm_machine.specs.Boot.{code_file, image_of, row_of, rows_below, some_or}
-use Rattle.pm_stdproc.specs.Loads.{code_needed, code_of}
+use Rattle.pm_stdproc.specs.Loads.{code_needed, code_of_row}
 use Rattle.pm_machine.specs.Laws.{LoadsGiveSegments}
 
 -- a part of a part
@@ -140,12 +140,12 @@ found images image name file entry unit on h =
 
 -- ---- the slots of a sound file
 
-or_none : (a b : Option CodeFault) → or_else a b ≡ None → (a ≡ None) × (b ≡ None)
+or_none : (a b : Option CodeFault) → or_code_fault a b ≡ None → (a ≡ None) × (b ≡ None)
 or_none None b h = (refl, h)
 or_none (Some f) b h = cc
 
-slots_sound : (file : List ℕ) (left n k : ℕ) → first_fault file n left ≡ None → k < left → slot_fault file (n + k) ≡ None
-unfolding first_fault
+slots_sound : (file : List ℕ) (left n k : ℕ) → first_slot_fault file n left ≡ None → k < left → slot_fault file (n + k) ≡ None
+unfolding first_slot_fault
 slots_sound file zero n k h l = absurd (omega (arith, l))
 slots_sound file (suc left) n zero h l = let at : n + 0 ≡ n = omega arith in rw at ((or_none _ _ h).0)
 slots_sound file (suc left) n (suc k) h l =
@@ -251,7 +251,7 @@ slot_placed image file e n part one_block word has inside =
     length-part xs a b = let size = length-take (b - a) (drop a xs) in omega (arith, size)
 
 slot_loads : (image file : List ℕ) (e : Entry) (d : Devices) (unit n : ℕ) → nat_lt 15 n ≡ false → IsPartOf image e file → e.last_bytes ≤ 512 → e.end < 65536
-    → IsSoundFile file → image_on (unit_of unit) d ≡ Some image → code_of (Some (row_of unit e.first (slot_in file n))) d ≡ Ok (segment_in file n)
+    → IsSoundFile file → image_on (unit_of unit) d ≡ Some image → code_of_row (Some (row_of unit e.first (slot_in file n))) d ≡ Ok (segment_in file n)
 unfolding slot_in segment_in code_on
 slot_loads image file e d unit n low part one_block word sound on = elim (cases_Bool (length_in file n == 0)) [
   | inl none ↦ rw (low, none) refl

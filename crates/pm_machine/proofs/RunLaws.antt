@@ -5,12 +5,12 @@ use Rattle.pm_machine.specs.declared.state.Stop.{Stop}
 use Rattle.pm_machine.specs.declared.state.Stop.TheVariants as stop
 use Rattle.pm_machine.specs.State.{State}
 use Rattle.pm_machine.specs.Steps.{stepped}
-use Rattle.pm_machine.specs.Runs.{after, AllWent, Ran, WentAll, StoppedAfter, last_counts}
+use Rattle.pm_machine.specs.Runs.{after_steps, AllWent, Ran, WentAll, StoppedAfter, last_counts}
 use Rattle.pm_machine.specs.RunLaws.{RunsGoOn, RunsStay, RunsAreOne, SameOutcome}
 
 -- steps after others
-pub after_both : (k m : ℕ) (s : State) → after (m + k) s ≡ after k (after m s)
-unfolding after
+pub after_both : (k m : ℕ) (s : State) → after_steps (m + k) s ≡ after_steps k (after_steps m s)
+unfolding after_steps
 after_both zero m s = let e : m + zero ≡ m = omega arith in rw e refl
 after_both (suc k) m s =
     let e : m + suc k ≡ suc (m + k) = omega arith in
@@ -18,18 +18,18 @@ after_both (suc k) m s =
 
 -- ---- a run that goes on
 
-pub went_both : (m n : ℕ) (s t : State) → t ≡ after m s → AllWent m s → AllWent n t → AllWent (m + n) s
+pub went_both : (m n : ℕ) (s t : State) → t ≡ after_steps m s → AllWent m s → AllWent n t → AllWent (m + n) s
 went_both m n s t left first second k below = elim (cases_lt k m) [
   | inl early ↦ first k early
   | inr late ↦
       let e : k ≡ m + (k - m) = omega arith in
-      let there : after k s ≡ after (k - m) t = ap (λ i. after i s) e ∙ after_both (k - m) m s ∙ ap (after (k - m)) (sym left) in
+      let there : after_steps k s ≡ after_steps (k - m) t = ap (λ i. after_steps i s) e ∙ after_both (k - m) m s ∙ ap (after_steps (k - m)) (sym left) in
       rw there (second (k - m) (omega arith))
 ]
 
 stopped_both : (m n c d k : ℕ) (s t u : State) (a : Stop) → WentAll m s c t → StoppedAfter k n t d a u → StoppedAfter (m + k) (m + n) s (c + d) a u
 stopped_both m n c d k s t u a w h =
-    let there : after (m + k) s ≡ after k t = after_both k m s ∙ ap (after k) (sym w.left) in
+    let there : after_steps (m + k) s ≡ after_steps k t = after_both k m s ∙ ap (after_steps k) (sym w.left) in
     record {
       within = omega (arith, h.within);
       went = went_both m k s t w.left w.went h.went;
@@ -41,7 +41,7 @@ pub runs_go_on : RunsGoOn
 runs_go_on m n c d s t u stop.Went w h = record {
   counted = omega (arith, w.counted, h.counted);
   went = went_both m n s t w.left w.went h.went;
-  left = h.left ∙ ap (after n) w.left ∙ sym (after_both n m s);
+  left = h.left ∙ ap (after_steps n) w.left ∙ sym (after_both n m s);
 }
 runs_go_on m n c d s t u stop.Waiting w h = (m + h.0, stopped_both m n c d h.0 s t u stop.Waiting w h.1)
 runs_go_on m n c d s t u stop.Ended w h = (m + h.0, stopped_both m n c d h.0 s t u stop.Ended w h.1)
@@ -77,10 +77,10 @@ not_went n limit c k s t a h other went below =
 
 same_place : (n k limit c d : ℕ) (s t u : State) (a b : Stop) → StoppedAfter n limit s c a t → StoppedAfter k limit s d b u → n ≡ k → SameOutcome c d a b t u
 same_place n k limit c d s t u a b h j e =
-    let both = sym h.last ∙ ap (λ i. stepped (after i s)) e ∙ j.last in
+    let both = sym h.last ∙ ap (λ i. stepped (after_steps i s)) e ∙ j.last in
     let answers : a ≡ b = ap (λ (p : State × Stop). p.1) both in
     record {
-      count = h.counted ∙ ap (λ i. i + last_counts (after i s).status a) e ∙ ap (λ x. k + last_counts (after k s).status x) answers ∙ sym j.counted;
+      count = h.counted ∙ ap (λ i. i + last_counts (after_steps i s).status a) e ∙ ap (λ x. k + last_counts (after_steps k s).status x) answers ∙ sym j.counted;
       answer = answers;
       state = ap (λ (p : State × Stop). p.0) both;
     }

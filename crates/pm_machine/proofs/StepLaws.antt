@@ -50,9 +50,9 @@ use Rattle.pm_stdproc.specs.Loads.{length_of, slot_code}
 use Rattle.pm_calls.specs.Returns.{returned}
 use Rattle.pm_stdproc.specs.Traps.{Pause, Fails, Waits, or_fails}
 use Rattle.pm_stdproc.specs.Devices.{Devices, cleared, image_at, unit_of}
-use Rattle.pm_stdproc.specs.Transfers.{Moved, can_move, from_disk, from_queue, read}
+use Rattle.pm_stdproc.specs.Transfers.{Moved, can_move, from_disk, from_queue, unit_read}
 use Rattle.pm_stdproc.specs.UnitRows.{Served, busy_row, clear_row, ordered, read_row, served, time_row, units_row, wait_row}
-use Rattle.pm_stdproc.specs.Procedures.{Reach, exit_row, keep_row, on_memory, on_units, procedure_of, procedure_row, unkeep_row}
+use Rattle.pm_stdproc.specs.Procedures.{Reach, exit_row, keep_row, on_memory, on_units, procedure_numbered, procedure_row, unkeep_row}
 use Rattle.pm_stdproc.specs.Procedures as standard
 use Rattle.pm_stdproc.specs.MemoryRows.{memory_row}
 use Rattle.pm_stdproc.specs.declared.ports.Port.{Port}
@@ -70,10 +70,10 @@ use Rattle.pm_rows.specs.Jumps.{jump_row}
 use Rattle.pm_rows.specs.Literals.{literal_row}
 use Rattle.pm_rows.specs.Pointers.{increment_row, indirect_row, index_row, pointer_row}
 use Rattle.pm_rows.specs.Values.{value_row}
-use Rattle.pm_rows.specs.Variables.{address_row, load_row, variable_at, variable_row}
+use Rattle.pm_rows.specs.Variables.{variable_address_row, load_row, variable_at, variable_row}
 use Rattle.pm_stdproc.specs.Loads.{code_needed}
 use Rattle.pm_machine.specs.Procedures.{call_row, is_base_return, parts, reach, return_row, standard_row, words_of_return}
-use Rattle.pm_machine.specs.Rows.{fetched, on_registers, on_stack, past, performed, row}
+use Rattle.pm_machine.specs.Rows.{fetched, on_registers, on_stack, past_instruction, performed, row}
 use Rattle.pm_rows.specs.Integers.{binary}
 use Rattle.pm_machine.specs.Steps.{at_status, executed, settled, stepped}
 use Rattle.pm_machine.specs.RunLaws.{RowsKeepBelow, IsUnitWrite, KeepsBelow, RestStays, StepsKeepDisks}
@@ -138,8 +138,8 @@ disk_keeps : (o : Option (List ℕ)) (t : Transfer) (m : List ℕ) (d : Devices)
 disk_keeps None t m d = refl
 disk_keeps (Some image) t m d = elim (cases_Bool (can_move image t)) [ inl e ↦ rw e refl | inr e ↦ rw e refl ]
 
-read_keeps : (p : Port) (t : Transfer) (m : List ℕ) (d : Devices) → Keeps of_moved d.disks (read p t m d)
-unfolding read
+read_keeps : (p : Port) (t : Transfer) (m : List ℕ) (d : Devices) → Keeps of_moved d.disks (unit_read p t m d)
+unfolding unit_read
 read_keeps Unknown t m d = refl
 read_keeps Absent t m d = refl
 read_keeps Printer t m d = refl
@@ -150,7 +150,8 @@ read_keeps (Disk k) t m d = disk_keeps (image_at d k) t m d
 pub read_row_keeps : (s : Served) → Keeps of_served s.devices.disks (read_row s)
 unfolding read_row
 read_row_keeps s = then of_served s.devices.disks (or_fails (ordered s.memory s.registers.sp)) _ (λ o.
-    after of_moved of_served s.devices.disks (read (unit_of o.unit) o.transfer s.memory s.devices) _ (read_keeps (unit_of o.unit) o.transfer s.memory s.devices)
+    after of_moved of_served s.devices.disks (unit_read (unit_of o.unit) o.transfer s.memory s.devices) _
+    (read_keeps (unit_of o.unit) o.transfer s.memory s.devices)
     (λ t e. e))
 
 pub time_keeps : (s : Served) → Keeps of_served s.devices.disks (time_row s)
@@ -193,19 +194,19 @@ exit_keeps : (s : Reach) → Keeps of_reach s.devices.disks (exit_row s)
 unfolding exit_row
 exit_keeps s = then of_reach s.devices.disks (pop s.memory s.registers.sp) _ (λ p.
     then of_reach s.devices.disks (pop s.memory p.above) _ (λ n.
-    then of_reach s.devices.disks (exited (standard.parts s (record s.registers { sp = n.above })) (record { segment = n.word; procedure = p.word })) _
+    then of_reach s.devices.disks (exited (standard.reach_parts s (record s.registers { sp = n.above })) (record { segment = n.word; procedure = p.word })) _
     (λ left. refl)))
 
 keep_keeps : (s : Reach) → Keeps of_reach s.devices.disks (keep_row s)
 unfolding keep_row
 keep_keeps s = then of_reach s.devices.disks (pop s.memory s.registers.sp) _ (λ n.
     then of_reach s.devices.disks (slot_code n.word s.places s.rows s.devices) _ (λ code.
-    then of_reach s.devices.disks (segment_kept (standard.parts s (record s.registers { sp = n.above })) n.word code) _ (λ kept. refl)))
+    then of_reach s.devices.disks (segment_kept (standard.reach_parts s (record s.registers { sp = n.above })) n.word code) _ (λ kept. refl)))
 
 unkeep_keeps : (s : Reach) → Keeps of_reach s.devices.disks (unkeep_row s)
 unfolding unkeep_row
 unkeep_keeps s = then of_reach s.devices.disks (pop s.memory s.registers.sp) _ (λ n.
-    then of_reach s.devices.disks (segment_unkept (standard.parts s (record s.registers { sp = n.above })) n.word (length_of (slice_get s.rows n.word))) _
+    then of_reach s.devices.disks (segment_unkept (standard.reach_parts s (record s.registers { sp = n.above })) n.word (length_of (slice_get s.rows n.word))) _
     (λ left. refl))
 
 procedure_keeps : (p : Procedure) (s : Reach) → p ≢ procedure.OnUnits units.Write → Keeps of_reach s.devices.disks (procedure_row p s)
@@ -222,9 +223,10 @@ procedure_keeps procedure.Unimplemented s other = tt
 
 -- ---- the rows
 
-standard_keeps : (n : ℕ) (s : State) → procedure_of n ≢ procedure.OnUnits units.Write → Keeps of_state s.devices.disks (standard_row n s)
+standard_keeps : (n : ℕ) (s : State) → procedure_numbered n ≢ procedure.OnUnits units.Write → Keeps of_state s.devices.disks (standard_row n s)
 standard_keeps n s other =
-    after of_reach of_state s.devices.disks (procedure_row (procedure_of n) (reach s)) _ (procedure_keeps (procedure_of n) (reach s) other) (λ t e. e)
+    after of_reach of_state s.devices.disks (procedure_row (procedure_numbered n) (reach s)) _ (procedure_keeps (procedure_numbered n) (reach s) other)
+    (λ t e. e)
 
 stack_keeps : (s : State) (r : Result (List ℕ × ℕ) ExecError) → Keeps of_state s.devices.disks (or_fails (on_stack s r))
 stack_keeps s r = lifted of_state s.devices.disks (on_stack s r) (then of_state s.devices.disks r _ (λ t. refl))
@@ -240,7 +242,7 @@ call_keeps c s = then of_state s.devices.disks (code_needed c s.places s.rows s.
 return_keeps : (r : Return) (s : State) → Keeps of_state s.devices.disks (return_row r s)
 return_keeps r s = then of_state s.devices.disks (returned (parts s) (words_of_return r) (is_base_return r)) _ (λ p. refl)
 
-performed_keeps : (o : Operation) (s : State) → ((n : ℕ) → o ≡ operation.Standard n → procedure_of n ≢ procedure.OnUnits units.Write) →
+performed_keeps : (o : Operation) (s : State) → ((n : ℕ) → o ≡ operation.Standard n → procedure_numbered n ≢ procedure.OnUnits units.Write) →
     Keeps of_state s.devices.disks (performed o s)
 performed_keeps (operation.Arithmetic o) s other = stack_keeps s (arithmetic_row o s.memory s.registers.sp s.registers.np)
 performed_keeps (operation.Variable o) s other = stack_keeps s (variable_row o s.memory s.registers)
@@ -266,7 +268,7 @@ fetched_keeps : (s : State) (r : Result Instr ExecError) → ((i : Instr) → r 
     Keeps of_state s.devices.disks (or_fails r >>= λ i. row i s)
 unfolding row
 fetched_keeps s (Err e) other = tt
-fetched_keeps s (Ok i) other = performed_keeps (operation_of i) (past i s) (λ n e p. other i refl (n, e, p))
+fetched_keeps s (Ok i) other = performed_keeps (operation_of i) (past_instruction i s) (λ n e p. other i refl (n, e, p))
 
 status_keeps : (a : Status) (s : State) → ((i : Instr) → fetched s.memory s.registers.ipc ≡ Ok i → IsUnitWrite i → ⊥) →
     (at_status a s).0.devices.disks ≡ s.devices.disks
@@ -320,8 +322,8 @@ index_keeps : (b : ℕ) (m : List ℕ) (sp np : ℕ) → KeepsBelow m (index_row
 unfolding index_row
 index_keeps b m sp np = bound m (pop m sp) _ (λ i. bound m (pop m i.above) _ (λ a. pushed_below m a.above np _))
 
-address_keeps : (scope : Scope) (b : ℕ) (m : List ℕ) (r : Registers) → KeepsBelow m (address_row scope b m r)
-unfolding address_row
+address_keeps : (scope : Scope) (b : ℕ) (m : List ℕ) (r : Registers) → KeepsBelow m (variable_address_row scope b m r)
+unfolding variable_address_row
 address_keeps scope b m r = bound m (variable_at scope b m r) _ (λ x. pushed_below m r.sp r.np x)
 
 variable_keeps : (scope : Scope) (b : ℕ) (m : List ℕ) (r : Registers) → KeepsBelow m (load_row scope b m r)

@@ -1,7 +1,7 @@
 -- Laws of events, and of loads.
 use Rattle.std.specs.Prelude.{◌≡◌, ◌<◌, ℕ, List, [], ◌∷◌, ◌++◌, Option, Some, None, Ok}
 use Rattle.pm_opcode.specs.declared.operation.Call.TheVariants.{Cxp}
-use Rattle.pm_calls.specs.declared.frames.Place.{Place}
+use Rattle.pm_calls.specs.declared.frames.SegmentPlace.{SegmentPlace}
 use Rattle.pm_calls.specs.Places.{placed}
 use Rattle.pm_volume.specs.declared.entry.Entry.{Entry}
 use Rattle.pm_volume.specs.Directory.{IsVolume}
@@ -30,7 +30,7 @@ EventsGoOn = (s : State) (es more : List Event) → after_all s (es ++ more) ≡
 abbrev pub LoadsGiveSegments : Type 0
 LoadsGiveSegments =
     (images : List (Option (List ℕ))) (image name file : List ℕ) (entry : Entry) (d : Devices)
-    (places : List (Option Place)) (unit n p : ℕ) →
+    (places : List (Option SegmentPlace)) (unit n p : ℕ) →
     IsVolume image → image_of images unit ≡ Some image → code_file images unit name ≡ Ok (entry, file)
     → entry.end < 65536 →
     image_on (unit_of unit) d ≡ Some image → placed places n ≡ None →

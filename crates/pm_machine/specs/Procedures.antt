@@ -11,7 +11,7 @@ use Rattle.pm_calls.specs.Returns.{returned}
 use Rattle.pm_machine.specs.declared.state.Status.{Status}
 use Rattle.pm_machine.specs.declared.state.Status.TheVariants as status
 use Rattle.pm_stdproc.specs.Traps.{Pause}
-use Rattle.pm_stdproc.specs.Procedures.{Reach, procedure_of, procedure_row}
+use Rattle.pm_stdproc.specs.Procedures.{Reach, procedure_numbered, procedure_row}
 use Rattle.pm_machine.specs.State.{State}
 use Rattle.pm_stdproc.specs.Loads.{code_needed}
 use Rattle.pm_words.specs.declared.layout.TheConstants.{SYSTEM_FRAME}
@@ -57,4 +57,4 @@ with_reach t s = record s { memory = t.memory; registers = t.registers; places =
 
 -- CSP. As the row of the standard procedure says.
 abbrev pub standard_row : ℕ → State → Result State Pause
-standard_row n s = procedure_row (procedure_of n) (reach s) >>= λ t. Ok (with_reach t s)
+standard_row n s = procedure_row (procedure_numbered n) (reach s) >>= λ t. Ok (with_reach t s)

@@ -8,7 +8,7 @@ use Rattle.pm_opcode.specs.declared.operation.Arithmetic.{Arithmetic}
 use Rattle.pm_opcode.specs.declared.operation.Scope.{Scope}
 use Rattle.pm_opcode.specs.Operations.{operation_of}
 use Rattle.pm_calls.specs.declared.registers.Registers.{Registers}
-use Rattle.pm_stdproc.specs.Procedures.{procedure_of}
+use Rattle.pm_stdproc.specs.Procedures.{procedure_numbered}
 use Rattle.pm_stdproc.specs.declared.procedures.OnUnits.TheVariants as units
 use Rattle.pm_stdproc.specs.declared.procedures.Procedure.TheVariants.{OnUnits}
 use Rattle.pm_machine.specs.declared.state.Status.TheVariants as status
@@ -20,7 +20,7 @@ use Rattle.pm_rows.specs.Pointers.{increment_row, indirect_row, index_row}
 use Rattle.pm_machine.specs.Rows.{fetched}
 use Rattle.pm_machine.specs.Runs.{Ran}
 use Rattle.pm_machine.specs.Steps.{stepped}
-use Rattle.pm_rows.specs.Variables.{address_row, load_row}
+use Rattle.pm_rows.specs.Variables.{variable_address_row, load_row}
 
 -- ---- runs
 
@@ -54,7 +54,7 @@ RestStays = (s : State) → s.status ≢ status.Running → (stepped s).0 ≡ s
 
 -- an instruction that is UNITWRITE
 abbrev pub IsUnitWrite : Instr → Type 0
-IsUnitWrite i = (n : ℕ) × (operation_of i ≡ operation.Standard n) × (procedure_of n ≡ OnUnits units.Write)
+IsUnitWrite i = (n : ℕ) × (operation_of i ≡ operation.Standard n) × (procedure_numbered n ≡ OnUnits units.Write)
 
 -- a step changes no disk, unless its instruction is UNITWRITE
 abbrev pub StepsKeepDisks : Type 0
@@ -76,5 +76,5 @@ pub record RowsKeepBelow : Type 0 where
   pub increments : (b : ℕ) (m : List ℕ) (sp np : ℕ) → KeepsBelow m (increment_row b m sp np)
   pub loads : (b : ℕ) (m : List ℕ) (sp np : ℕ) → KeepsBelow m (indirect_row b m sp np)
   pub indexes : (b : ℕ) (m : List ℕ) (sp np : ℕ) → KeepsBelow m (index_row b m sp np)
-  pub addresses : (scope : Scope) (b : ℕ) (m : List ℕ) (r : Registers) → KeepsBelow m (address_row scope b m r)
+  pub addresses : (scope : Scope) (b : ℕ) (m : List ℕ) (r : Registers) → KeepsBelow m (variable_address_row scope b m r)
   pub variables : (scope : Scope) (b : ℕ) (m : List ℕ) (r : Registers) → KeepsBelow m (load_row scope b m r)

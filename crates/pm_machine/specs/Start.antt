@@ -46,8 +46,8 @@ abbrev pub devices_with : List (Option (List ℕ)) → ℕ → Devices
 devices_with images clock = record { disks = images; queue = []; console = []; printer = []; clock = clock }
 
 -- the end of code that stands from 1,024 on, made even upward
-abbrev pub code_end : List ℕ → ℕ
-code_end bytes = HEAP + length bytes + length bytes % 2
+abbrev pub bare_code_end : List ℕ → ℕ
+bare_code_end bytes = HEAP + length bytes + length bytes % 2
 
 -- The start on bare code: its bytes stand from 1,024 on, and the rest of the memory is zero but for the frame of the
 -- system. No slot has a length, no segment stands anywhere, no disk is there, and the clock is 0. More than 60,000
@@ -55,7 +55,7 @@ code_end bytes = HEAP + length bytes + length bytes % 2
 unfoldable pub raw_start : List ℕ → Result State BootFault
 raw_start bytes =
     if nat_lt LONGEST_CODE (length bytes) then Err BadCode
-    else (let e = code_end bytes in
+    else (let e = bare_code_end bytes in
     Ok (record {
       memory = with_system_frame (with_bytes zero_words HEAP bytes);
       registers = record {

@@ -1,7 +1,7 @@
 -- The whole state of the machine. Definitions change it by its fields alone, so that it can grow.
 use Rattle.std.specs.Prelude.{ℕ, List, Option}
 use Rattle.pm_calls.specs.declared.registers.Registers.{Registers}
-use Rattle.pm_calls.specs.declared.frames.Place.{Place}
+use Rattle.pm_calls.specs.declared.frames.SegmentPlace.{SegmentPlace}
 use Rattle.pm_stdproc.specs.Devices.{Devices, Room}
 use Rattle.pm_machine.specs.declared.state.Status.{Status}
 use Rattle.pm_stdproc.specs.declared.loads.SlotRow.{SlotRow}
@@ -14,7 +14,7 @@ pub record State : Type 0 where
   pub steps : ℕ
   pub status : Status
   -- for each of the 16 slots, where its segment stands, for how many calls, and how many times the program keeps it
-  pub places : List (Option Place)
+  pub places : List (Option SegmentPlace)
   -- for each of the 16 slots, where its code stands on a disk; these never change
   pub rows : List SlotRow
   -- the disks, the console, the printer and the clock

@@ -49,19 +49,20 @@ use Rattle.pm_opcode.specs.declared.operation.Return.{Return}
 use Rattle.pm_opcode.specs.Operations.{operation_of}
 use Rattle.pm_calls.specs.declared.registers.Registers.{Registers}
 use Rattle.pm_calls.specs.declared.exits.Wanted.{Wanted}
-use Rattle.pm_calls.specs.declared.frames.Place.{Place}
+use Rattle.pm_calls.specs.declared.frames.SegmentPlace.{SegmentPlace}
 use Rattle.pm_opcode.specs.declared.operation.Call.{Call}
 use Rattle.pm_opcode.specs.declared.operation.Call.TheVariants.{Clp, Cgp, Cbp, Cip, Cxp}
 use Rattle.pm_calls.specs.Places.{Parts}
-use Rattle.pm_calls.specs.Calls.{Reached, called, called_at, called_loading, called_slot, called_standing, entered, here, loading, standing, code_fits}
+use Rattle.pm_calls.specs.Calls.{Reached, called, called_at, called_loading, called_slot, called_standing}
+use Rattle.pm_calls.specs.Calls.{entered, here, reach_loading, reach_standing, code_fits}
 use Rattle.pm_calls.specs.Keeps.{keep_loading, keep_slot, keep_standing, less_kept, segment_kept, segment_unkept, unkeep_slot, unkeep_standing}
 use Rattle.pm_stdproc.specs.Loads.{length_of, slot_code}
 use Rattle.pm_calls.specs.Exits.{exited, is_wanted, walked_unless}
-use Rattle.pm_calls.specs.Returns.{less, lessened, released, returned, stands_at}
+use Rattle.pm_calls.specs.Returns.{one_call_less, lessened, released, returned, stands_at}
 use Rattle.pm_stdproc.specs.Traps.{Pause, Fails, Waits, or_fails}
 use Rattle.pm_stdproc.specs.Devices.{Devices, mounted}
 use Rattle.pm_stdproc.specs.UnitRows.{served, units_row}
-use Rattle.pm_stdproc.specs.Procedures.{Reach, exit_row, keep_row, on_memory, procedure_of, procedure_row, unkeep_row}
+use Rattle.pm_stdproc.specs.Procedures.{Reach, exit_row, keep_row, on_memory, procedure_numbered, procedure_row, unkeep_row}
 use Rattle.pm_stdproc.specs.Procedures as standard
 use Rattle.pm_stdproc.specs.MemoryRows.{memory_row}
 use Rattle.pm_stdproc.specs.declared.ports.MountFault.{MountFault}
@@ -81,7 +82,7 @@ use Rattle.pm_rows.specs.Literals.{literal_row}
 use Rattle.pm_stdproc.specs.Loads.{code_needed}
 use Rattle.pm_rows.specs.Pointers.{pointer_row}
 use Rattle.pm_machine.specs.Procedures.{call_row, is_base_return, parts, reach, return_row, standard_row, words_of_return}
-use Rattle.pm_machine.specs.Rows.{fetched, on_registers, on_stack, past, performed, row}
+use Rattle.pm_machine.specs.Rows.{fetched, on_registers, on_stack, past_instruction, performed, row}
 use Rattle.pm_machine.specs.Start.{raw_start}
 use Rattle.pm_machine.specs.Steps.{at_status, executed, settled, stepped}
 use Rattle.pm_rows.specs.Values.{value_row}
@@ -109,10 +110,10 @@ AreCounted places = All IsCounted places
 
 -- ---- calls and returns
 
-one_more : (p : Place) → IsCounted (Some (record p { count = p.count + 1 }))
+one_more : (p : SegmentPlace) → IsCounted (Some (record p { count = p.count + 1 }))
 one_more p = omega arith
 
-more_counts : (places : Places) (n : ℕ) (p : Place) → slice_get places n ≡ Some (Some p) → AreCounted places
+more_counts : (places : Places) (n : ℕ) (p : SegmentPlace) → slice_get places n ≡ Some (Some p) → AreCounted places
     → AreCounted (slice_set places n (Some (record p { count = p.count + 1 })))
 more_counts places n p is h = All-set IsCounted places n (Some (record p { count = p.count + 1 })) (one_more p) h
 
@@ -124,7 +125,7 @@ load_counts : (places : Places) (n s : ℕ) → slice_get places n ≡ Some None
 load_counts places n s is h = All-set IsCounted places n (Some (record { place = s; count = 1; keeps = 0 })) (first_one s) h
 
 -- a place that has one call less is for some call still
-less_counts : (o : Option Place) → IsCounted (option_and_then less o)
+less_counts : (o : Option SegmentPlace) → IsCounted (option_and_then one_call_less o)
 less_counts None = tt
 less_counts (Some p) = elim (cases_Bool (nat_lt 1 p.count || nat_lt 0 p.keeps)) [
   | inl e ↦ let left : 0 < p.count - 1 + p.keeps = grind (arith, nat_tests, e) in rw e left
@@ -133,7 +134,7 @@ less_counts (Some p) = elim (cases_Bool (nat_lt 1 p.count || nat_lt 0 p.keeps)) 
 
 lessened_counts : (o : Option ℕ) (places : Places) → AreCounted places → AreCounted (lessened o places)
 lessened_counts None places h = h
-lessened_counts (Some n) places h = All-set IsCounted places n (option_and_then less (slice_index_or places n None))
+lessened_counts (Some n) places h = All-set IsCounted places n (option_and_then one_call_less (slice_index_or places n None))
     (less_counts (slice_index_or places n None)) h
 
 released_counts : (s : ℕ) (places : Places) → AreCounted places → AreCounted (released s places)
@@ -142,13 +143,13 @@ released_counts s places h = lessened_counts (position (stands_at s) places) pla
 
 -- ---- keeps
 
-one_kept : (p : Place) → IsCounted (Some (record p { keeps = p.keeps + 1 }))
+one_kept : (p : SegmentPlace) → IsCounted (Some (record p { keeps = p.keeps + 1 }))
 one_kept p = omega arith
 
 first_kept : (s : ℕ) → IsCounted (Some (record { place = s; count = 0; keeps = 1 }))
 first_kept s = omega arith
 
-keep_slot_counts : (c : Parts) (n : ℕ) (code : Option (List ℕ)) (slot : Option (Option Place)) → AreCounted c.places
+keep_slot_counts : (c : Parts) (n : ℕ) (code : Option (List ℕ)) (slot : Option (Option SegmentPlace)) → AreCounted c.places
     → Holds AreCounted of_parts (keep_slot c n code slot)
 unfolding keep_standing keep_loading
 keep_slot_counts c n code None h = tt
@@ -165,13 +166,14 @@ unfolding segment_kept
 kept_counts c n code h = keep_slot_counts c n code (slice_get c.places n) h
 
 -- a place that has one keep less is for some call or some keep still
-less_kept_counts : (p : Place) → IsCounted (less_kept p)
+less_kept_counts : (p : SegmentPlace) → IsCounted (less_kept p)
 less_kept_counts p = elim (cases_Bool (nat_lt 1 p.keeps || nat_lt 0 p.count)) [
   | inl e ↦ let left : 0 < p.count + (p.keeps - 1) = grind (arith, nat_tests, e) in rw e left
   | inr e ↦ rw e tt
 ]
 
-unkeep_slot_counts : (c : Parts) (n size : ℕ) (slot : Option (Option Place)) → AreCounted c.places → Holds AreCounted of_parts (unkeep_slot c n size slot)
+unkeep_slot_counts : (c : Parts) (n size : ℕ) (slot : Option (Option SegmentPlace)) → AreCounted c.places
+    → Holds AreCounted of_parts (unkeep_slot c n size slot)
 unfolding unkeep_standing
 unkeep_slot_counts c n size None h = tt
 unkeep_slot_counts c n size (Some None) h = tt
@@ -186,15 +188,15 @@ keep_counts : (s : Reach) → AreCounted s.places → Holds AreCounted of_reach 
 unfolding keep_row
 keep_counts s h = then AreCounted of_reach (pop s.memory s.registers.sp) _ (λ n.
     then AreCounted of_reach (slot_code n.word s.places s.rows s.devices) _ (λ code.
-    after AreCounted of_parts of_reach (segment_kept (standard.parts s (record s.registers { sp = n.above })) n.word code) _
-    (kept_counts (standard.parts s (record s.registers { sp = n.above })) n.word code h) (λ left k. k)))
+    after AreCounted of_parts of_reach (segment_kept (standard.reach_parts s (record s.registers { sp = n.above })) n.word code) _
+    (kept_counts (standard.reach_parts s (record s.registers { sp = n.above })) n.word code h) (λ left k. k)))
 
 unkeep_counts : (s : Reach) → AreCounted s.places → Holds AreCounted of_reach (unkeep_row s)
 unfolding unkeep_row
 unkeep_counts s h = then AreCounted of_reach (pop s.memory s.registers.sp) _ (λ n.
     let size = length_of (slice_get s.rows n.word) in
-    after AreCounted of_parts of_reach (segment_unkept (standard.parts s (record s.registers { sp = n.above })) n.word size) _
-    (unkept_counts (standard.parts s (record s.registers { sp = n.above })) n.word size h) (λ left k. k))
+    after AreCounted of_parts of_reach (segment_unkept (standard.reach_parts s (record s.registers { sp = n.above })) n.word size) _
+    (unkept_counts (standard.reach_parts s (record s.registers { sp = n.above })) n.word size h) (λ left k. k))
 
 procedure_counts : (p : Procedure) (s : Reach) → AreCounted s.places → Holds AreCounted of_reach (procedure_row p s)
 unfolding procedure_row
@@ -209,7 +211,7 @@ procedure_counts procedure.Unimplemented s h = tt
 
 next_counts : (s : State) (e : Event) → AreCounted s.places → AreCounted (next s e).places
 next_counts s e h = next_holds AreCounted more_counts load_counts released_counts s e h
-    (λ step running i n there is. standard_holds AreCounted n (past i s) (procedure_counts (procedure_of n) (reach (past i s)) h))
+    (λ step running i n there is. standard_holds AreCounted n (past_instruction i s) (procedure_counts (procedure_numbered n) (reach (past_instruction i s)) h))
 
 all_count : (s : State) (es : List Event) → AreCounted s.places → AreCounted (after_all s es).places
 all_count s [] h = h

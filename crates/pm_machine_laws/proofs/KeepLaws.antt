@@ -51,15 +51,15 @@ use Rattle.pm_opcode.specs.declared.operation.Operation.{Operation}
 use Rattle.pm_opcode.specs.declared.operation.Operation.TheVariants as operation
 use Rattle.pm_opcode.specs.declared.operation.Return.{Return}
 use Rattle.pm_opcode.specs.Operations.{operation_of}
-use Rattle.pm_calls.specs.declared.frames.Place.{Place}
+use Rattle.pm_calls.specs.declared.frames.SegmentPlace.{SegmentPlace}
 use Rattle.pm_calls.specs.Places.{Parts}
 use Rattle.pm_calls.specs.Calls.{code_fits}
 use Rattle.pm_calls.specs.Keeps.{keep_loading, keep_slot, keep_standing, segment_kept}
-use Rattle.pm_calls.specs.Returns.{less, lessened, released, returned, stands_at}
+use Rattle.pm_calls.specs.Returns.{one_call_less, lessened, released, returned, stands_at}
 use Rattle.pm_calls.proofs.PlaceLaws.{return_places}
 use Rattle.pm_stdproc.specs.Traps.{Pause, Fails, Waits, or_fails}
 use Rattle.pm_stdproc.specs.Loads.{slot_code}
-use Rattle.pm_stdproc.specs.Procedures.{Reach, keep_row, procedure_of, procedure_row}
+use Rattle.pm_stdproc.specs.Procedures.{Reach, keep_row, procedure_numbered, procedure_row}
 use Rattle.pm_stdproc.specs.Procedures as standard
 use Rattle.pm_stdproc.specs.declared.procedures.Procedure.{Procedure}
 use Rattle.pm_stdproc.specs.declared.procedures.Procedure.TheVariants as procedure
@@ -69,12 +69,12 @@ use Rattle.pm_machine.specs.State.{State}
 use Rattle.pm_machine.specs.Events.{Event, after_all, next}
 use Rattle.pm_machine.specs.Events.Event.{Step, Key, Poke, Mount, Eject}
 use Rattle.pm_machine.specs.Procedures.{is_base_return, parts, reach, return_row, standard_row, status_after, with_parts, words_of_return}
-use Rattle.pm_machine.specs.Rows.{fetched, past, performed, row}
+use Rattle.pm_machine.specs.Rows.{fetched, past_instruction, performed, row}
 use Rattle.pm_machine.specs.Steps.{at_status, executed, settled, stepped}
 use Rattle.pm_machine_laws.specs.Keeping.{
   IsAtProcedure,
   IsNeverAt,
-  IsPlain,
+  IsPlainRun,
   IsUnkept,
   KeptSegmentsStand,
   StandsAs,
@@ -110,7 +110,7 @@ use Rattle.pm_machine_laws.proofs.Places.{
 
 -- ---- a kept segment stands where it is
 
-inside : (places : Places) (n : ℕ) (p : Place) → get_or places n None ≡ Some p → n < length places
+inside : (places : Places) (n : ℕ) (p : SegmentPlace) → get_or places n None ≡ Some p → n < length places
 inside places n p is = elim (cases_Bool (nat_lt n (length places))) [
   | inl e ↦ grind (arith, nat_tests, e)
   | inr e ↦
@@ -120,7 +120,7 @@ inside places n p is = elim (cases_Bool (nat_lt n (length places))) [
 ]
 
 -- the places after one slot is set
-set_at : (places : Places) (m n : ℕ) (x : Option Place) (p : Place) → StandsAs p (get_or places n None) → (m ≡ n → StandsAs p x)
+set_at : (places : Places) (m n : ℕ) (x : Option SegmentPlace) (p : SegmentPlace) → StandsAs p (get_or places n None) → (m ≡ n → StandsAs p x)
     → StandsAs p (get_or (slice_set places m x) n None)
 set_at places m n x p h k = elim (cases_Bool (m == n)) [
   | inl e ↦
@@ -134,44 +134,44 @@ set_at places m n x p h k = elim (cases_Bool (m == n)) [
 ]
 
 -- the slot that is set is the one that stands
-at_slot : (places : Places) (m n : ℕ) (q p : Place) → get_or places m None ≡ Some q → StandsAs p (get_or places n None) → m ≡ n → StandsAs p (Some q)
+at_slot : (places : Places) (m n : ℕ) (q p : SegmentPlace) → get_or places m None ≡ Some q → StandsAs p (get_or places n None) → m ≡ n → StandsAs p (Some q)
 at_slot places m n q p is h same = subst (StandsAs p) (subst (λ i. get_or places i None ≡ Some q) same is) h
 
-some_same : (p q : Place) → Some p ≡ Some q → p ≡ q
+some_same : (p q : SegmentPlace) → Some p ≡ Some q → p ≡ q
 some_same p q h = cc
 
-counted : (p q : Place) (count : ℕ) → StandsAs p (Some q) → StandsAs p (Some (record q { count = count }))
+counted : (p q : SegmentPlace) (count : ℕ) → StandsAs p (Some q) → StandsAs p (Some (record q { count = count }))
 counted p q count h =
     let same : q ≡ h.now = some_same q h.now h.there in
     record {
       now = record q { count = count };
       there = refl;
-      place = ap (λ (x : Place). x.place) same
+      place = ap (λ (x : SegmentPlace). x.place) same
           ∙ h.place;
-      keeps = (let keeps : q.keeps ≡ h.now.keeps = ap (λ (x : Place). x.keeps) same in let few = h.keeps in omega (arith, keeps, few));
+      keeps = (let keeps : q.keeps ≡ h.now.keeps = ap (λ (x : SegmentPlace). x.keeps) same in let few = h.keeps in omega (arith, keeps, few));
     }
 
-kept_more : (p q : Place) → StandsAs p (Some q) → StandsAs p (Some (record q { keeps = q.keeps + 1 }))
+kept_more : (p q : SegmentPlace) → StandsAs p (Some q) → StandsAs p (Some (record q { keeps = q.keeps + 1 }))
 kept_more p q h =
     let same : q ≡ h.now = some_same q h.now h.there in
     record {
       now = record q { keeps = q.keeps + 1 };
       there = refl;
-      place = ap (λ (x : Place). x.place) same
+      place = ap (λ (x : SegmentPlace). x.place) same
           ∙ h.place;
-      keeps = (let keeps : q.keeps ≡ h.now.keeps = ap (λ (x : Place). x.keeps) same in let few = h.keeps in omega (arith, keeps, few));
+      keeps = (let keeps : q.keeps ≡ h.now.keeps = ap (λ (x : SegmentPlace). x.keeps) same in let few = h.keeps in omega (arith, keeps, few));
     }
 
 -- a slot without a place is another
-apart : (places : Places) (m n : ℕ) (p : Place) → get_or places m None ≡ None → StandsAs p (get_or places n None) → m ≡ n → ⊥
+apart : (places : Places) (m n : ℕ) (p : SegmentPlace) → get_or places m None ≡ None → StandsAs p (get_or places n None) → m ≡ n → ⊥
 apart places m n p none h same =
     let no : None ≡ Some h.now = sym (subst (λ i. get_or places i None ≡ None) same none) ∙ h.there in cc
 
-module _ (n : ℕ) (p : Place) (kept : 0 < p.keeps) where
+module _ (n : ℕ) (p : SegmentPlace) (kept : 0 < p.keeps) where
   abbrev Stands : Places → Type 0
   Stands places = StandsAs p (get_or places n None)
 
-  more_stands : (places : Places) (m : ℕ) (q : Place) → slice_get places m ≡ Some (Some q) → Stands places
+  more_stands : (places : Places) (m : ℕ) (q : SegmentPlace) → slice_get places m ≡ Some (Some q) → Stands places
       → Stands (slice_set places m (Some (record q { count = q.count + 1 })))
   more_stands places m q is h =
       let there = get_or_from_slice_get places m (Some q) None is in
@@ -183,25 +183,25 @@ module _ (n : ℕ) (p : Place) (kept : 0 < p.keeps) where
       let there = get_or_from_slice_get places m None None is in
       set_at places m n (Some (record { place = s; count = 1; keeps = 0 })) p h (λ same. absurd (apart places m n p there h same))
 
-  less_stands : (o : Option Place) → StandsAs p o → StandsAs p (option_and_then less o)
+  less_stands : (o : Option SegmentPlace) → StandsAs p o → StandsAs p (option_and_then one_call_less o)
   less_stands None h = let no : None ≡ Some h.now = h.there in absurd (cc)
   less_stands (Some q) h =
       let same : q ≡ h.now = some_same q h.now h.there in
-      let keeps : q.keeps ≡ h.now.keeps = ap (λ (x : Place). x.keeps) same in
+      let keeps : q.keeps ≡ h.now.keeps = ap (λ (x : SegmentPlace). x.keeps) same in
       let few = h.keeps in
       let test : (nat_lt 1 q.count || nat_lt 0 q.keeps) ≡ true = grind (arith, nat_tests, keeps, few, kept) in
       rw test (counted p q (q.count - 1) h)
 
   lessened_stands : (o : Option ℕ) (places : Places) → Stands places → Stands (lessened o places)
   lessened_stands None places h = h
-  lessened_stands (Some m) places h = set_at places m n (option_and_then less (slice_index_or places m None)) p h
+  lessened_stands (Some m) places h = set_at places m n (option_and_then one_call_less (slice_index_or places m None)) p h
       (λ same. less_stands (get_or places m None) (subst (λ i. StandsAs p (get_or places i None)) (sym same) h))
 
   released_stands : (s : ℕ) (places : Places) → Stands places → Stands (released s places)
   unfolding released
   released_stands s places h = lessened_stands (position (stands_at s) places) places h
 
-  keep_slot_stands : (c : Parts) (m : ℕ) (code : Option (List ℕ)) (slot : Option (Option Place)) → slice_get c.places m ≡ slot → Stands c.places
+  keep_slot_stands : (c : Parts) (m : ℕ) (code : Option (List ℕ)) (slot : Option (Option SegmentPlace)) → slice_get c.places m ≡ slot → Stands c.places
       → Holds Stands of_parts (keep_slot c m code slot)
   unfolding keep_standing keep_loading
   keep_slot_stands c m code None is h = tt
@@ -223,8 +223,8 @@ module _ (n : ℕ) (p : Place) (kept : 0 < p.keeps) where
   unfolding keep_row
   keep_row_stands s h = then Stands of_reach (pop s.memory s.registers.sp) _ (λ m.
       then Stands of_reach (slot_code m.word s.places s.rows s.devices) _ (λ code.
-      after Stands of_parts of_reach (segment_kept (standard.parts s (record s.registers { sp = m.above })) m.word code) _
-      (kept_stands (standard.parts s (record s.registers { sp = m.above })) m.word code h) (λ left k. k)))
+      after Stands of_parts of_reach (segment_kept (standard.reach_parts s (record s.registers { sp = m.above })) m.word code) _
+      (kept_stands (standard.reach_parts s (record s.registers { sp = m.above })) m.word code h) (λ left k. k)))
 
   procedure_stands : (o : Procedure) (s : Reach) → o ≢ procedure.Unkeep → Stands s.places → Holds Stands of_reach (procedure_row o s)
   unfolding procedure_row
@@ -238,7 +238,7 @@ module _ (n : ℕ) (p : Place) (kept : 0 < p.keeps) where
   next_stands : (s : State) (e : Event) → Stands s.places → (e ≡ Step → IsAtProcedure 22 s → ⊥) → Stands (next s e).places
   next_stands s e h never = next_holds Stands more_stands load_stands released_stands s e h
       (λ step running i m there is.
-      standard_holds Stands m (past i s) (procedure_stands (procedure_of m) (reach (past i s))
+      standard_holds Stands m (past_instruction i s) (procedure_stands (procedure_numbered m) (reach (past_instruction i s))
       (not_unkeep m (λ k. never step (record { running = running; instr = i; there = there; calls = is ∙ ap operation.Standard k }))) h))
 
   pub all_stand : (s : State) (es : List Event) → Stands s.places → IsNeverAt 22 s es → Stands (after_all s es).places
@@ -263,7 +263,7 @@ slot_unkept places n h = elim (cases_Bool (nat_lt n (length places))) [
       rw none tt
 ]
 
-more_unkept : (places : Places) (n : ℕ) (p : Place) → slice_get places n ≡ Some (Some p) → AreUnkept places
+more_unkept : (places : Places) (n : ℕ) (p : SegmentPlace) → slice_get places n ≡ Some (Some p) → AreUnkept places
     → AreUnkept (slice_set places n (Some (record p { count = p.count + 1 })))
 more_unkept places n p is h =
     let there = get_or_from_slice_get places n (Some p) None is in
@@ -273,13 +273,13 @@ load_unkept : (places : Places) (n s : ℕ) → slice_get places n ≡ Some None
     → AreUnkept (slice_set places n (Some (record { place = s; count = 1; keeps = 0 })))
 load_unkept places n s is h = All-set IsUnkept places n (Some (record { place = s; count = 1; keeps = 0 })) refl h
 
-less_unkept : (o : Option Place) → IsUnkept o → IsUnkept (option_and_then less o)
+less_unkept : (o : Option SegmentPlace) → IsUnkept o → IsUnkept (option_and_then one_call_less o)
 less_unkept None h = tt
 less_unkept (Some p) h = elim (cases_Bool (nat_lt 1 p.count || nat_lt 0 p.keeps)) [ inl e ↦ rw e h | inr e ↦ rw e tt ]
 
 lessened_unkept : (o : Option ℕ) (places : Places) → AreUnkept places → AreUnkept (lessened o places)
 lessened_unkept None places h = h
-lessened_unkept (Some n) places h = All-set IsUnkept places n (option_and_then less (slice_index_or places n None))
+lessened_unkept (Some n) places h = All-set IsUnkept places n (option_and_then one_call_less (slice_index_or places n None))
     (less_unkept (slice_index_or places n None) (slot_unkept places n h)) h
 
 released_unkept : (s : ℕ) (places : Places) → AreUnkept places → AreUnkept (released s places)
@@ -290,7 +290,7 @@ no_places : AreUnkept (replicate 16 None)
 no_places = All-replicate IsUnkept 16 None tt
 
 -- a return forgets what that of the machine without kept segments forgets
-less_same : (o : Option Place) → IsUnkept o → option_and_then less o ≡ option_and_then plain_less o
+less_same : (o : Option SegmentPlace) → IsUnkept o → option_and_then one_call_less o ≡ option_and_then plain_less o
 less_same None h = refl
 less_same (Some p) h = elim (cases_Bool (nat_lt 1 p.count)) [
   | inl e ↦ let test : (nat_lt 1 p.count || nat_lt 0 p.keeps) ≡ true = grind (arith, nat_tests, e) in rw (test, e) refl
@@ -342,10 +342,10 @@ performed_same operation.Unimplemented s h a b = refl
 
 executed_same : (s : State) (r : Result Instr ExecError) → AreUnkept s.places
     → ((i : Instr) → r ≡ Ok i → operation_of i ≢ operation.Standard 21) → ((i : Instr) → r ≡ Ok i → operation_of i ≢ operation.Standard 22)
-    → (or_fails r >>= λ i. row i s) ≡ (or_fails r >>= λ i. plain_performed (operation_of i) (past i s))
+    → (or_fails r >>= λ i. row i s) ≡ (or_fails r >>= λ i. plain_performed (operation_of i) (past_instruction i s))
 unfolding row
 executed_same s (Err e) h a b = refl
-executed_same s (Ok i) h a b = performed_same (operation_of i) (past i s) h (a i refl) (b i refl)
+executed_same s (Ok i) h a b = performed_same (operation_of i) (past_instruction i s) h (a i refl) (b i refl)
 
 status_same : (k : Status) (s : State) → AreUnkept s.places
     → (k ≡ status.Running → (i : Instr) → fetched s.memory s.registers.ipc ≡ Ok i → operation_of i ≢ operation.Standard 21)
@@ -369,11 +369,11 @@ next_same s (Eject unit) h a b = refl
 next_unkept : (s : State) (e : Event) → AreUnkept s.places → (e ≡ Step → IsAtProcedure 21 s → ⊥) → (e ≡ Step → IsAtProcedure 22 s → ⊥)
     → AreUnkept (next s e).places
 next_unkept s e h a b = next_holds AreUnkept more_unkept load_unkept released_unkept s e h
-    (λ step running i n there is. other_holds AreUnkept n (past i s)
+    (λ step running i n there is. other_holds AreUnkept n (past_instruction i s)
     (λ k. a step (record { running = running; instr = i; there = there; calls = is ∙ ap operation.Standard k }))
     (λ k. b step (record { running = running; instr = i; there = there; calls = is ∙ ap operation.Standard k })) h)
 
-plain_all : (s : State) (es : List Event) → AreUnkept s.places → IsNeverAt 21 s es → IsNeverAt 22 s es → IsPlain s es
+plain_all : (s : State) (es : List Event) → AreUnkept s.places → IsNeverAt 21 s es → IsNeverAt 22 s es → IsPlainRun s es
 unfolding IsNeverAt plain_after_all
 plain_all s [] h a b = record { same = refl; unkept = h }
 plain_all s (e ∷ es) h a b =

@@ -13,7 +13,7 @@ use Rattle.pm_opcode.specs.declared.operation.Operation.TheVariants.{Call}
 use Rattle.pm_opcode.specs.Operations.{operation_of}
 use Rattle.pm_opcode.specs.declared.operation.Call as calls
 use Rattle.pm_opcode.specs.declared.operation.Call.TheVariants.{Cxp}
-use Rattle.pm_calls.specs.declared.frames.Place.{Place}
+use Rattle.pm_calls.specs.declared.frames.SegmentPlace.{SegmentPlace}
 use Rattle.pm_calls.specs.Places.{Parts, place_in, placed}
 use Rattle.pm_calls.specs.Calls.{called, called_slot}
 use Rattle.pm_calls.specs.Laws.{IsCode}
@@ -30,7 +30,7 @@ use Rattle.pm_machine.specs.Boot.{begun, boot_start, code_file, first_parts, or_
 use Rattle.pm_machine.specs.Events.{Event, after_all}
 use Rattle.pm_stdproc.specs.Loads.{code_needed}
 use Rattle.pm_machine.specs.Procedures.{call_row, parts, with_parts}
-use Rattle.pm_machine.specs.Rows.{fetched, past, performed, row}
+use Rattle.pm_machine.specs.Rows.{fetched, past_instruction, performed, row}
 use Rattle.pm_machine.specs.Start.{with_system_frame}
 use Rattle.pm_machine.specs.Steps.{at_status, executed, settled, stepped}
 use Rattle.pm_machine.proofs.LoadLaws.{found, loads_give_segments}
@@ -56,7 +56,7 @@ booted_rows images unit name clock s t es entry file h found now =
     ap (λ (k : State). k.rows) now ∙ (events_keep_shape s es).rows ∙ is.rows ∙ ap (λ (k : Entry × List ℕ). rows_below unit k.0.first k.1 16) same
 
 -- a call that has to load and gets no code fails
-none_fails : (c d : Parts) (call : calls.Call) (n : ℕ) (slot : Option (Option Place)) → place_in slot ≡ None → called_slot c call n None slot ≡ Ok d → ⊥
+none_fails : (c d : Parts) (call : calls.Call) (n : ℕ) (slot : Option (Option SegmentPlace)) → place_in slot ≡ None → called_slot c call n None slot ≡ Ok d → ⊥
 none_fails c d call n None none h = cc
 none_fails c d call n (Some (Some p)) none h = cc
 none_fails c d call n (Some None) none h = cc
@@ -101,9 +101,10 @@ stepped_runs : (s : State) → s.status ≡ Running → stepped s ≡ settled s 
 unfolding stepped
 stepped_runs s h = ap (λ a. at_status a s) h
 
-executes : (s : State) (i : Instr) (o : Operation) → fetched s.memory s.registers.ipc ≡ Ok i → operation_of i ≡ o → executed s ≡ performed o (past i s)
+executes : (s : State) (i : Instr) (o : Operation) → fetched s.memory s.registers.ipc ≡ Ok i → operation_of i ≡ o
+    → executed s ≡ performed o (past_instruction i s)
 unfolding executed row
-executes s i o h k = ap (λ r. or_fails r >>= λ j. row j s) h ∙ ap (λ o. performed o (past i s)) k
+executes s i o h k = ap (λ r. or_fails r >>= λ j. row j s) h ∙ ap (λ o. performed o (past_instruction i s)) k
 
 pub steps_load : (s : State) → IsMemory s.memory → StepsLoadSegments s
 steps_load s memory image file unit n p is from there none at goes =
@@ -114,10 +115,10 @@ steps_load s memory image file unit n p is from there none at goes =
     ∙ loads_give_segments from.images image from.name file from.entry s.devices s.places unit n p is.volume from.mounted from.found
     (end_fits image from.name from.entry file is f) there none in
     let code = segment_fits file n (file_fits image file from.entry is.bytes f.bytes) in
-    let same : stepped s ≡ settled s (or_fails (call_row (Cxp n p) (past at.instr s))) =
+    let same : stepped s ≡ settled s (or_fails (call_row (Cxp n p) (past_instruction at.instr s))) =
     stepped_runs s at.running ∙ ap (settled s) (executes s at.instr (Call (Cxp n p)) at.there at.calls) in
-    rw same (went s (call_row (Cxp n p) (past at.instr s)) (StandsBelow file n s.registers.sp) (rw same at goes)
-    (λ u made. row_loads file n p (past at.instr s) u memory code none needed made))
+    rw same (went s (call_row (Cxp n p) (past_instruction at.instr s)) (StandsBelow file n s.registers.sp) (rw same at goes)
+    (λ u made. row_loads file n p (past_instruction at.instr s) u memory code none needed made))
 
 -- ---- the first call
 

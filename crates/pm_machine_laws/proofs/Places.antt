@@ -51,19 +51,20 @@ use Rattle.pm_opcode.specs.declared.operation.Return.{Return}
 use Rattle.pm_opcode.specs.Operations.{operation_of}
 use Rattle.pm_calls.specs.declared.registers.Registers.{Registers}
 use Rattle.pm_calls.specs.declared.exits.Wanted.{Wanted}
-use Rattle.pm_calls.specs.declared.frames.Place.{Place}
+use Rattle.pm_calls.specs.declared.frames.SegmentPlace.{SegmentPlace}
 use Rattle.pm_opcode.specs.declared.operation.Call.{Call}
 use Rattle.pm_opcode.specs.declared.operation.Call.TheVariants.{Clp, Cgp, Cbp, Cip, Cxp}
 use Rattle.pm_calls.specs.Places.{Parts}
-use Rattle.pm_calls.specs.Calls.{Reached, called, called_at, called_loading, called_slot, called_standing, entered, here, loading, standing, code_fits}
+use Rattle.pm_calls.specs.Calls.{Reached, called, called_at, called_loading, called_slot, called_standing}
+use Rattle.pm_calls.specs.Calls.{entered, here, reach_loading, reach_standing, code_fits}
 use Rattle.pm_calls.specs.Keeps.{keep_loading, keep_slot, keep_standing, less_kept, segment_kept, segment_unkept, unkeep_slot, unkeep_standing}
 use Rattle.pm_stdproc.specs.Loads.{length_of, slot_code}
 use Rattle.pm_calls.specs.Exits.{exited, is_wanted, walked_unless}
-use Rattle.pm_calls.specs.Returns.{less, lessened, released, returned, stands_at}
+use Rattle.pm_calls.specs.Returns.{one_call_less, lessened, released, returned, stands_at}
 use Rattle.pm_stdproc.specs.Traps.{Pause, Fails, Waits, or_fails}
 use Rattle.pm_stdproc.specs.Devices.{Devices, mounted}
 use Rattle.pm_stdproc.specs.UnitRows.{served, units_row}
-use Rattle.pm_stdproc.specs.Procedures.{Reach, exit_row, keep_row, on_memory, procedure_of, procedure_row, unkeep_row}
+use Rattle.pm_stdproc.specs.Procedures.{Reach, exit_row, keep_row, on_memory, procedure_numbered, procedure_row, unkeep_row}
 use Rattle.pm_stdproc.specs.Procedures as standard
 use Rattle.pm_stdproc.specs.MemoryRows.{memory_row}
 use Rattle.pm_stdproc.specs.declared.ports.MountFault.{MountFault}
@@ -83,7 +84,7 @@ use Rattle.pm_rows.specs.Literals.{literal_row}
 use Rattle.pm_stdproc.specs.Loads.{code_needed}
 use Rattle.pm_rows.specs.Pointers.{pointer_row}
 use Rattle.pm_machine.specs.Procedures.{call_row, is_base_return, parts, reach, return_row, standard_row, words_of_return}
-use Rattle.pm_machine.specs.Rows.{fetched, on_registers, on_stack, past, performed, row}
+use Rattle.pm_machine.specs.Rows.{fetched, on_registers, on_stack, past_instruction, performed, row}
 use Rattle.pm_machine.specs.Start.{raw_start}
 use Rattle.pm_machine.specs.Steps.{at_status, executed, settled, stepped}
 use Rattle.pm_rows.specs.Values.{value_row}
@@ -92,7 +93,7 @@ use Rattle.pm_machine_laws.specs.Shapes.{IsCounted, MachinesCountCalls}
 use Rattle.pm_machine_laws.proofs.ShapeLaws.{bound, chosen, ok_same, parts_there}
 
 abbrev pub Places : Type 0
-Places = List (Option Place)
+Places = List (Option SegmentPlace)
 
 -- what a part of a row gives has places for which something holds
 abbrev pub Holds : {A E : Type 0} → (Places → Type 0) → (A → Places) → Result A E → Type 0
@@ -134,7 +135,7 @@ exit_holds : (P : Places → Type 0) (s : Reach) → P s.places → Holds P of_r
 unfolding exit_row exited
 exit_holds P s h = then P of_reach (pop s.memory s.registers.sp) _ (λ p.
     then P of_reach (pop s.memory p.above) _ (λ n.
-    let c = standard.parts s (record s.registers { sp = n.above }) in
+    let c = standard.reach_parts s (record s.registers { sp = n.above }) in
     let w : Wanted = record { segment = n.word; procedure = p.word } in
     after P of_parts of_reach (exited c w) _
     (then P of_parts (is_wanted c.memory w c.registers.seg c.registers.jtab) _ (λ d.
@@ -152,9 +153,9 @@ procedure_holds P procedure.Unkeep s a b h = absurd (b refl)
 procedure_holds P procedure.Unimplemented s a b h = tt
 
 -- a standard procedure, by what its row gives
-pub standard_holds : (P : Places → Type 0) (n : ℕ) (s : State) → Holds P of_reach (procedure_row (procedure_of n) (reach s))
+pub standard_holds : (P : Places → Type 0) (n : ℕ) (s : State) → Holds P of_reach (procedure_row (procedure_numbered n) (reach s))
     → Holds P of_state (standard_row n s)
-standard_holds P n s h = after P of_reach of_state (procedure_row (procedure_of n) (reach s)) _ h (λ t k. k)
+standard_holds P n s h = after P of_reach of_state (procedure_row (procedure_numbered n) (reach s)) _ h (λ t k. k)
 
 -- one that keeps no segment
 is_not : (b : Bool) (x y p : Procedure) → x ≢ p → y ≢ p → cond b x y ≢ p
@@ -168,8 +169,8 @@ is_not_by false x y p h k = k
 is_number : (n k : ℕ) → (n == k) ≡ true → n ≡ k
 is_number n k e = grind (arith, nat_tests, e)
 
-pub not_keep : (n : ℕ) → n ≢ 21 → procedure_of n ≢ procedure.Keep
-unfolding procedure_of
+pub not_keep : (n : ℕ) → n ≢ 21 → procedure_numbered n ≢ procedure.Keep
+unfolding procedure_numbered
 not_keep n h =
     is_not (n == 0) _ _ _ (λ e. cc) (
     is_not (n == 1) _ _ _ (λ e. cc) (
@@ -193,8 +194,8 @@ not_keep n h =
     is_not (n == 40) _ _ _ (λ e. cc) (
     λ e. cc))))))))))))))))))))
 
-pub not_unkeep : (n : ℕ) → n ≢ 22 → procedure_of n ≢ procedure.Unkeep
-unfolding procedure_of
+pub not_unkeep : (n : ℕ) → n ≢ 22 → procedure_numbered n ≢ procedure.Unkeep
+unfolding procedure_numbered
 not_unkeep n h =
     is_not (n == 0) _ _ _ (λ e. cc) (
     is_not (n == 1) _ _ _ (λ e. cc) (
@@ -219,7 +220,7 @@ not_unkeep n h =
     λ e. cc))))))))))))))))))))
 
 pub other_holds : (P : Places → Type 0) (n : ℕ) (s : State) → n ≢ 21 → n ≢ 22 → P s.places → Holds P of_state (standard_row n s)
-other_holds P n s a b h = standard_holds P n s (procedure_holds P (procedure_of n) (reach s) (not_keep n a) (not_unkeep n b) h)
+other_holds P n s a b h = standard_holds P n s (procedure_holds P (procedure_numbered n) (reach s) (not_keep n a) (not_unkeep n b) h)
 
 stack_holds : (P : Places → Type 0) (s : State) (r : Result (List ℕ × ℕ) ExecError) → P s.places → Holds P of_state (or_fails (on_stack s r))
 stack_holds P s r h = lifted P of_state (on_stack s r) (then P of_state r _ (λ t. h))
@@ -230,7 +231,7 @@ registers_hold P s r h = lifted P of_state (on_registers s r) (then P of_state r
 -- ---- the rows that change places: what a call, a load and a return do to them
 
 module _ (P : Places → Type 0)
-    (more : (places : Places) (n : ℕ) (p : Place) → slice_get places n ≡ Some (Some p) → P places
+    (more : (places : Places) (n : ℕ) (p : SegmentPlace) → slice_get places n ≡ Some (Some p) → P places
     → P (slice_set places n (Some (record p { count = p.count + 1 }))))
     (load : (places : Places) (n s : ℕ) → slice_get places n ≡ Some None → P places → P (slice_set places n
     (Some (record { place = s; count = 1; keeps = 0 }))))
@@ -239,25 +240,26 @@ module _ (P : Places → Type 0)
   unfolding called_at
   at_holds c call at h = then P of_parts (entered at.memory at.place at.loaded c.registers call) _ (λ e. h)
 
-  standing_holds : (c : Parts) (n : ℕ) (p : Place) → slice_get c.places n ≡ Some (Some p) → P c.places → Holds P of_reached (standing c n p)
-  unfolding standing
+  standing_holds : (c : Parts) (n : ℕ) (p : SegmentPlace) → slice_get c.places n ≡ Some (Some p) → P c.places → Holds P of_reached (reach_standing c n p)
+  unfolding reach_standing
   standing_holds c n p is h = elim (cases_Bool (p.place == c.registers.seg)) [
     | inl e ↦ rw e h
     | inr e ↦ rw e (then P of_reached (demand (nat_lt p.count 65535) StackOverflow) _ (λ d. more c.places n p is h))
   ]
 
-  loading_holds : (c : Parts) (n : ℕ) (code : List ℕ) → slice_get c.places n ≡ Some None → P c.places → Holds P of_reached (loading c n code)
-  unfolding loading
+  loading_holds : (c : Parts) (n : ℕ) (code : List ℕ) → slice_get c.places n ≡ Some None → P c.places → Holds P of_reached (reach_loading c n code)
+  unfolding reach_loading
   loading_holds c n code is h =
       then P of_reached (code_fits c.registers code) _ (λ d. load c.places n (minus c.registers.sp 2) is h)
 
-  slot_holds : (c : Parts) (call : Call) (n : ℕ) (code : Option (List ℕ)) (slot : Option (Option Place)) → slice_get c.places n ≡ slot → P c.places
+  slot_holds : (c : Parts) (call : Call) (n : ℕ) (code : Option (List ℕ)) (slot : Option (Option SegmentPlace)) → slice_get c.places n ≡ slot → P c.places
       → Holds P of_parts (called_slot c call n code slot)
   unfolding called_standing called_loading
   slot_holds c call n code None is h = tt
-  slot_holds c call n code (Some (Some p)) is h = after P of_reached of_parts (standing c n p) _ (standing_holds c n p is h) (λ at k. at_holds c call at k)
+  slot_holds c call n code (Some (Some p)) is h = after P of_reached of_parts (reach_standing c n p) _ (standing_holds c n p is h)
+      (λ at k. at_holds c call at k)
   slot_holds c call n None (Some None) is h = tt
-  slot_holds c call n (Some code) (Some None) is h = after P of_reached of_parts (loading c n code) _ (loading_holds c n code is h)
+  slot_holds c call n (Some code) (Some None) is h = after P of_reached of_parts (reach_loading c n code) _ (loading_holds c n code is h)
       (λ at k. at_holds c call at k)
 
   pub called_holds : (c : Parts) (call : Call) (code : Option (List ℕ)) → P c.places → Holds P of_parts (called c call code)
@@ -309,12 +311,12 @@ module _ (P : Places → Type 0)
 
   -- what holds after each standard procedure that the instruction at IPC may be
   abbrev pub StandardHolds : State → Result Instr ExecError → Type 0
-  StandardHolds s r = (i : Instr) (n : ℕ) → r ≡ Ok i → operation_of i ≡ operation.Standard n → Holds P of_state (standard_row n (past i s))
+  StandardHolds s r = (i : Instr) (n : ℕ) → r ≡ Ok i → operation_of i ≡ operation.Standard n → Holds P of_state (standard_row n (past_instruction i s))
 
   fetched_holds : (s : State) (r : Result Instr ExecError) → P s.places → StandardHolds s r → Holds P of_state (or_fails r >>= λ i. row i s)
   unfolding row
   fetched_holds s (Err e) h k = tt
-  fetched_holds s (Ok i) h k = performed_holds (operation_of i) (past i s) h (λ n is. k i n refl is)
+  fetched_holds s (Ok i) h k = performed_holds (operation_of i) (past_instruction i s) h (λ n is. k i n refl is)
 
   status_holds : (a : Status) (s : State) → P s.places → (a ≡ status.Running → StandardHolds s (fetched s.memory s.registers.ipc)) → P (at_status a s).0.places
   unfolding executed

@@ -47,20 +47,21 @@ use Rattle.pm_opcode.specs.declared.operation.Return.{Return}
 use Rattle.pm_opcode.specs.Operations.{operation_of}
 use Rattle.pm_calls.specs.declared.registers.Registers.{Registers}
 use Rattle.pm_calls.specs.declared.exits.Wanted.{Wanted}
-use Rattle.pm_calls.specs.declared.frames.Place.{Place}
+use Rattle.pm_calls.specs.declared.frames.SegmentPlace.{SegmentPlace}
 use Rattle.pm_opcode.specs.declared.operation.Call.{Call}
 use Rattle.pm_opcode.specs.declared.operation.Call.TheVariants.{Clp, Cgp, Cbp, Cip, Cxp}
 use Rattle.pm_calls.specs.Places.{Parts, place_in}
-use Rattle.pm_calls.specs.Calls.{Reached, called, called_at, called_loading, called_slot, called_standing, entered, here, loading, standing, code_fits}
+use Rattle.pm_calls.specs.Calls.{Reached, called, called_at, called_loading, called_slot, called_standing}
+use Rattle.pm_calls.specs.Calls.{entered, here, reach_loading, reach_standing, code_fits}
 use Rattle.pm_calls.specs.Exits.{exited, is_wanted, walked_unless}
 use Rattle.pm_calls.specs.Keeps.{keep_loading, keep_slot, keep_standing, less_kept, segment_kept, segment_unkept, unkeep_slot, unkeep_standing}
 use Rattle.pm_stdproc.specs.Loads.{length_of, slot_code}
 use Rattle.pm_calls.specs.Returns.{lessened, released, returned, stands_at}
 use Rattle.pm_stdproc.specs.Traps.{Pause, Fails, Waits, or_fails}
 use Rattle.pm_stdproc.specs.Devices.{Devices, ejected, ejected_at, image_at, mounted, mounted_at, unit_of}
-use Rattle.pm_stdproc.specs.Transfers.{can_move, to_disk, written}
+use Rattle.pm_stdproc.specs.Transfers.{can_move, to_disk, unit_written}
 use Rattle.pm_stdproc.specs.UnitRows.{Served, busy_row, clear_row, ordered, read_row, served, time_row, units_row, wait_row, write_row}
-use Rattle.pm_stdproc.specs.Procedures.{Reach, exit_row, keep_row, on_memory, procedure_of, procedure_row, unkeep_row}
+use Rattle.pm_stdproc.specs.Procedures.{Reach, exit_row, keep_row, on_memory, procedure_numbered, procedure_row, unkeep_row}
 use Rattle.pm_stdproc.specs.Procedures as standard
 use Rattle.pm_stdproc.specs.MemoryRows.{memory_row}
 use Rattle.pm_stdproc.specs.declared.ports.Port.{Port}
@@ -86,7 +87,7 @@ use Rattle.pm_rows.specs.Literals.{literal_row}
 use Rattle.pm_stdproc.specs.Loads.{code_needed}
 use Rattle.pm_rows.specs.Pointers.{pointer_row}
 use Rattle.pm_machine.specs.Procedures.{call_row, is_base_return, parts, reach, return_row, standard_row, words_of_return}
-use Rattle.pm_machine.specs.Rows.{fetched, on_registers, on_stack, past, performed, row}
+use Rattle.pm_machine.specs.Rows.{fetched, on_registers, on_stack, past_instruction, performed, row}
 use Rattle.pm_machine.specs.Start.{raw_start}
 use Rattle.pm_machine.specs.Steps.{at_status, executed, settled, stepped}
 use Rattle.pm_rows.specs.Values.{value_row}
@@ -130,26 +131,26 @@ at_keeps : (c : Parts) (call : Call) (at : Reached) (n : ℕ) → length at.plac
 unfolding called_at
 at_keeps c call at n h = then of_parts n (entered at.memory at.place at.loaded c.registers call) _ (λ e. h)
 
-standing_keeps : (c : Parts) (n : ℕ) (p : Place) → Keeps of_reached (length c.places) (standing c n p)
-unfolding standing
+standing_keeps : (c : Parts) (n : ℕ) (p : SegmentPlace) → Keeps of_reached (length c.places) (reach_standing c n p)
+unfolding reach_standing
 standing_keeps c n p = elim (cases_Bool (p.place == c.registers.seg)) [
   | inl e ↦ rw e refl
   | inr e ↦ rw e (then of_reached (length c.places) (demand (nat_lt p.count 65535) StackOverflow) _ (λ h. length-set c.places n _))
 ]
 
-loading_keeps : (c : Parts) (n : ℕ) (code : List ℕ) → Keeps of_reached (length c.places) (loading c n code)
-unfolding loading
+loading_keeps : (c : Parts) (n : ℕ) (code : List ℕ) → Keeps of_reached (length c.places) (reach_loading c n code)
+unfolding reach_loading
 loading_keeps c n code =
     then of_reached (length c.places) (code_fits c.registers code) _ (λ k. length-set c.places n _)
 
-slot_keeps : (c : Parts) (call : Call) (n : ℕ) (code : Option (List ℕ)) (slot : Option (Option Place))
+slot_keeps : (c : Parts) (call : Call) (n : ℕ) (code : Option (List ℕ)) (slot : Option (Option SegmentPlace))
     → Keeps of_parts (length c.places) (called_slot c call n code slot)
 unfolding called_standing called_loading
 slot_keeps c call n code None = tt
-slot_keeps c call n code (Some (Some p)) = after of_reached (length c.places) of_parts (length c.places) (standing c n p) _ (standing_keeps c n p)
+slot_keeps c call n code (Some (Some p)) = after of_reached (length c.places) of_parts (length c.places) (reach_standing c n p) _ (standing_keeps c n p)
     (λ at h. at_keeps c call at (length c.places) h)
 slot_keeps c call n None (Some None) = tt
-slot_keeps c call n (Some code) (Some None) = after of_reached (length c.places) of_parts (length c.places) (loading c n code) _ (loading_keeps c n code)
+slot_keeps c call n (Some code) (Some None) = after of_reached (length c.places) of_parts (length c.places) (reach_loading c n code) _ (loading_keeps c n code)
     (λ at h. at_keeps c call at (length c.places) h)
 
 called_keeps : (c : Parts) (call : Call) (code : Option (List ℕ)) → Keeps of_parts (length c.places) (called c call code)
@@ -160,11 +161,11 @@ called_keeps c (Cgp p) code = at_keeps c (Cgp p) (here c) (length c.places) refl
 called_keeps c (Cbp p) code = at_keeps c (Cbp p) (here c) (length c.places) refl
 called_keeps c (Cip p) code = at_keeps c (Cip p) (here c) (length c.places) refl
 
-lessened_size : (o : Option ℕ) (places : List (Option Place)) → length (lessened o places) ≡ length places
+lessened_size : (o : Option ℕ) (places : List (Option SegmentPlace)) → length (lessened o places) ≡ length places
 lessened_size None places = refl
 lessened_size (Some n) places = length-set places n _
 
-released_size : (s : ℕ) (places : List (Option Place)) → length (released s places) ≡ length places
+released_size : (s : ℕ) (places : List (Option SegmentPlace)) → length (released s places) ≡ length places
 unfolding released
 released_size s places = lessened_size (position (stands_at s) places) places
 
@@ -183,7 +184,8 @@ exited_keeps c p =
     then of_parts (length c.places) (is_wanted c.memory p c.registers.seg c.registers.jtab) _ (λ h.
     then of_parts (length c.places) (walked_unless h c.memory p c.registers.mp) _ (λ m. refl))
 
-keep_slot_keeps : (c : Parts) (n : ℕ) (code : Option (List ℕ)) (slot : Option (Option Place)) → Keeps of_parts (length c.places) (keep_slot c n code slot)
+keep_slot_keeps : (c : Parts) (n : ℕ) (code : Option (List ℕ)) (slot : Option (Option SegmentPlace))
+    → Keeps of_parts (length c.places) (keep_slot c n code slot)
 unfolding keep_standing keep_loading
 keep_slot_keeps c n code None = tt
 keep_slot_keeps c n code (Some (Some p)) = then of_parts (length c.places) (demand (nat_lt p.keeps 65535) StackOverflow) _ (λ h. length-set c.places n _)
@@ -195,7 +197,7 @@ kept_keeps : (c : Parts) (n : ℕ) (code : Option (List ℕ)) → Keeps of_parts
 unfolding segment_kept
 kept_keeps c n code = keep_slot_keeps c n code (slice_get c.places n)
 
-unkeep_slot_keeps : (c : Parts) (n size : ℕ) (slot : Option (Option Place)) → Keeps of_parts (length c.places) (unkeep_slot c n size slot)
+unkeep_slot_keeps : (c : Parts) (n size : ℕ) (slot : Option (Option SegmentPlace)) → Keeps of_parts (length c.places) (unkeep_slot c n size slot)
 unfolding unkeep_standing
 unkeep_slot_keeps c n size None = tt
 unkeep_slot_keeps c n size (Some None) = tt
@@ -222,8 +224,8 @@ to_disk_size : (k : ℕ) (o : Option (List ℕ)) (t : Transfer) (m : List ℕ) (
 to_disk_size k None t m d = refl
 to_disk_size k (Some image) t m d = elim (cases_Bool (can_move image t)) [ inl e ↦ rw e (length-set d.disks k _) | inr e ↦ rw e refl ]
 
-written_size : (p : Port) (t : Transfer) (m : List ℕ) (d : Devices) → length (written p t m d).devices.disks ≡ length d.disks
-unfolding written
+written_size : (p : Port) (t : Transfer) (m : List ℕ) (d : Devices) → length (unit_written p t m d).devices.disks ≡ length d.disks
+unfolding unit_written
 written_size Unknown t m d = refl
 written_size Absent t m d = refl
 written_size Printer t m d = refl
@@ -258,25 +260,25 @@ exit_keeps : (s : Reach) → Keeps of_reach (of_reach s) (exit_row s)
 unfolding exit_row
 exit_keeps s = then of_reach (of_reach s) (pop s.memory s.registers.sp) _ (λ p.
     then of_reach (of_reach s) (pop s.memory p.above) _ (λ n.
-    after of_parts (length s.places) of_reach (of_reach s) (exited (standard.parts s (record s.registers { sp = n.above }))
+    after of_parts (length s.places) of_reach (of_reach s) (exited (standard.reach_parts s (record s.registers { sp = n.above }))
     (record { segment = n.word; procedure = p.word })) _
-    (exited_keeps (standard.parts s (record s.registers { sp = n.above })) (record { segment = n.word; procedure = p.word }))
+    (exited_keeps (standard.reach_parts s (record s.registers { sp = n.above })) (record { segment = n.word; procedure = p.word }))
     (λ left e. ap (λ k. record { places = k; disks = length s.devices.disks }) e)))
 
 keep_keeps : (s : Reach) → Keeps of_reach (of_reach s) (keep_row s)
 unfolding keep_row
 keep_keeps s = then of_reach (of_reach s) (pop s.memory s.registers.sp) _ (λ n.
     then of_reach (of_reach s) (slot_code n.word s.places s.rows s.devices) _ (λ code.
-    after of_parts (length s.places) of_reach (of_reach s) (segment_kept (standard.parts s (record s.registers { sp = n.above })) n.word code) _
-    (kept_keeps (standard.parts s (record s.registers { sp = n.above })) n.word code)
+    after of_parts (length s.places) of_reach (of_reach s) (segment_kept (standard.reach_parts s (record s.registers { sp = n.above })) n.word code) _
+    (kept_keeps (standard.reach_parts s (record s.registers { sp = n.above })) n.word code)
     (λ left e. ap (λ k. record { places = k; disks = length s.devices.disks }) e)))
 
 unkeep_keeps : (s : Reach) → Keeps of_reach (of_reach s) (unkeep_row s)
 unfolding unkeep_row
 unkeep_keeps s = then of_reach (of_reach s) (pop s.memory s.registers.sp) _ (λ n.
     let size = length_of (slice_get s.rows n.word) in
-    after of_parts (length s.places) of_reach (of_reach s) (segment_unkept (standard.parts s (record s.registers { sp = n.above })) n.word size) _
-    (unkept_keeps (standard.parts s (record s.registers { sp = n.above })) n.word size)
+    after of_parts (length s.places) of_reach (of_reach s) (segment_unkept (standard.reach_parts s (record s.registers { sp = n.above })) n.word size) _
+    (unkept_keeps (standard.reach_parts s (record s.registers { sp = n.above })) n.word size)
     (λ left e. ap (λ k. record { places = k; disks = length s.devices.disks }) e))
 
 procedure_keeps : (p : Procedure) (s : Reach) → Keeps of_reach (of_reach s) (procedure_row p s)
@@ -322,7 +324,7 @@ return_keeps r s =
 
 standard_keeps : (n : ℕ) (s : State) → Keeps shape (shape s) (standard_row n s)
 standard_keeps n s =
-    after of_reach (of_reach (reach s)) shape (shape s) (procedure_row (procedure_of n) (reach s)) _ (procedure_keeps (procedure_of n) (reach s))
+    after of_reach (of_reach (reach s)) shape (shape s) (procedure_row (procedure_numbered n) (reach s)) _ (procedure_keeps (procedure_numbered n) (reach s))
     (λ t e. ap (λ (k : Counts). record { rows = s.rows; places = k.places; disks = k.disks }) e)
 
 performed_keeps : (o : Operation) (s : State) → Keeps shape (shape s) (performed o s)
@@ -349,7 +351,7 @@ settled_keeps s (Err Waits) h = refl
 fetched_keeps : (s : State) (r : Result Instr ExecError) → Keeps shape (shape s) (or_fails r >>= λ i. row i s)
 unfolding row
 fetched_keeps s (Err e) = tt
-fetched_keeps s (Ok i) = performed_keeps (operation_of i) (past i s)
+fetched_keeps s (Ok i) = performed_keeps (operation_of i) (past_instruction i s)
 
 status_keeps : (a : Status) (s : State) → shape (at_status a s).0 ≡ shape s
 unfolding executed

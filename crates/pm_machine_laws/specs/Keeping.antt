@@ -33,7 +33,7 @@ use Rattle.pm_opcode.specs.declared.operation.Operation.{Operation}
 use Rattle.pm_opcode.specs.declared.operation.Operation.TheVariants as operation
 use Rattle.pm_opcode.specs.declared.operation.Return.{Return}
 use Rattle.pm_opcode.specs.Operations.{operation_of}
-use Rattle.pm_calls.specs.declared.frames.Place.{Place}
+use Rattle.pm_calls.specs.declared.frames.SegmentPlace.{SegmentPlace}
 use Rattle.pm_calls.specs.Places.{Parts}
 use Rattle.pm_calls.specs.Returns.{returned, stands_at}
 use Rattle.pm_stdproc.specs.Traps.{Pause, Fails, or_fails}
@@ -44,7 +44,7 @@ use Rattle.pm_machine.specs.declared.state.Stop.TheVariants as stop
 use Rattle.pm_machine.specs.Boot.{boot_start}
 use Rattle.pm_machine.specs.Events.{Event, Step, Key, Poke, Mount, Eject, after_all, next}
 use Rattle.pm_machine.specs.Procedures.{is_base_return, parts, standard_row, status_after, with_parts, words_of_return}
-use Rattle.pm_machine.specs.Rows.{fetched, past, performed}
+use Rattle.pm_machine.specs.Rows.{fetched, past_instruction, performed}
 use Rattle.pm_machine.specs.Start.{raw_start}
 use Rattle.pm_machine.specs.State.{State}
 use Rattle.pm_machine.specs.Steps.{settled}
@@ -64,8 +64,8 @@ IsNeverAt n s (e ∷ es) = (e ≡ Step → IsAtProcedure n s → ⊥) × IsNever
 -- ---- a kept segment stands where it is
 
 -- a slot's segment stands where it stood, and is kept at least as often
-pub record StandsAs (p : Place) (slot : Option Place) : Type 0 where
-  pub now : Place
+pub record StandsAs (p : SegmentPlace) (slot : Option SegmentPlace) : Type 0 where
+  pub now : SegmentPlace
   pub there : slot ≡ Some now
   pub place : now.place ≡ p.place
   pub keeps : p.keeps ≤ now.keeps
@@ -74,21 +74,21 @@ pub record StandsAs (p : Place) (slot : Option Place) : Type 0 where
 -- of it return.
 abbrev pub KeptSegmentsStand : Type 0
 KeptSegmentsStand =
-    (s : State) (es : List Event) (n : ℕ) (p : Place) →
+    (s : State) (es : List Event) (n : ℕ) (p : SegmentPlace) →
     slice_index_or s.places n None ≡ Some p → 0 < p.keeps → IsNeverAt 22 s es →
     StandsAs p (slice_index_or (after_all s es).places n None)
 
 -- ---- the machine without kept segments
 
 -- a return takes the last call of a segment, and its place with it
-abbrev pub plain_less : Place → Option Place
+abbrev pub plain_less : SegmentPlace → Option SegmentPlace
 plain_less p = if nat_lt 1 p.count then Some (record p { count = p.count - 1 }) else None
 
-abbrev pub plain_lessened : Option ℕ → List (Option Place) → List (Option Place)
+abbrev pub plain_lessened : Option ℕ → List (Option SegmentPlace) → List (Option SegmentPlace)
 plain_lessened None places = places
 plain_lessened (Some n) places = slice_set places n (option_and_then plain_less (slice_index_or places n None))
 
-abbrev pub plain_released : ℕ → List (Option Place) → List (Option Place)
+abbrev pub plain_released : ℕ → List (Option SegmentPlace) → List (Option SegmentPlace)
 plain_released s places = plain_lessened (position (stands_at s) places) places
 
 -- a return as it is, but for the places after it
@@ -125,7 +125,8 @@ plain_performed operation.End s = performed operation.End s
 plain_performed operation.Unimplemented s = performed operation.Unimplemented s
 
 unfoldable pub plain_executed : State → Result State Pause
-plain_executed s = or_fails (fetched s.memory s.registers.ipc) >>= λ i. plain_performed (operation_of i) (past i s)
+plain_executed s =
+    or_fails (fetched s.memory s.registers.ipc) >>= λ i. plain_performed (operation_of i) (past_instruction i s)
 
 abbrev pub plain_at_status : Status → State → State × Stop
 plain_at_status status.Running s = settled s (plain_executed s)
@@ -144,12 +145,12 @@ plain_after_all s [] = s
 plain_after_all s (e ∷ es) = plain_after_all (plain_next s e) es
 
 -- a slot's segment is not kept
-abbrev pub IsUnkept : Option Place → Type 0
+abbrev pub IsUnkept : Option SegmentPlace → Type 0
 IsUnkept None = Unit {0}
 IsUnkept (Some p) = p.keeps ≡ 0
 
 -- the state after some events is that of the machine without kept segments, and none is kept
-pub record IsPlain (s : State) (es : List Event) : Type 0 where
+pub record IsPlainRun (s : State) (es : List Event) : Type 0 where
   pub same : after_all s es ≡ plain_after_all s es
   pub unkept : All IsUnkept (after_all s es).places
 
@@ -158,10 +159,10 @@ pub record IsPlain (s : State) (es : List Event) : Type 0 where
 pub record UnkeptMachinesArePlain : Type 0 where
   pub raw :
       (bytes : List ℕ) (s : State) (es : List Event) →
-      raw_start bytes ≡ Ok s → IsNeverAt 21 s es → IsNeverAt 22 s es → IsPlain s es
+      raw_start bytes ≡ Ok s → IsNeverAt 21 s es → IsNeverAt 22 s es → IsPlainRun s es
   pub booted :
       (images : List (Option (List ℕ))) (unit : ℕ) (name : List ℕ) (clock : ℕ) (s : State) (es : List Event) →
-      boot_start images unit name clock ≡ Ok s → IsNeverAt 21 s es → IsNeverAt 22 s es → IsPlain s es
+      boot_start images unit name clock ≡ Ok s → IsNeverAt 21 s es → IsNeverAt 22 s es → IsPlainRun s es
   -- and so from any state in which no segment is kept
   pub later : (s : State) (es : List Event) → All IsUnkept s.places → IsNeverAt 21 s es → IsNeverAt 22 s es
-      → IsPlain s es
+      → IsPlainRun s es

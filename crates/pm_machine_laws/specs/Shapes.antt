@@ -1,6 +1,6 @@
 -- Laws of what no event changes.
 use Rattle.std.specs.Prelude.{◌≡◌, ◌<◌, ℕ, ◌+◌, List, All, Option, Some, None, Ok, length}
-use Rattle.pm_calls.specs.declared.frames.Place.{Place}
+use Rattle.pm_calls.specs.declared.frames.SegmentPlace.{SegmentPlace}
 use Rattle.pm_calls.specs.Places.{placed}
 use Rattle.pm_machine.specs.Boot.{boot_start}
 use Rattle.pm_machine.specs.Events.{Event, after_all}
@@ -32,7 +32,7 @@ pub record MachinesHaveShape : Type 0 where
       length images ≡ 6 → boot_start images unit name clock ≡ Ok s → HasShape (after_all s es)
 
 -- a slot has no place, or one for some call or some keep
-abbrev pub IsCounted : Option Place → Type 0
+abbrev pub IsCounted : Option SegmentPlace → Type 0
 IsCounted None = Unit {0}
 IsCounted (Some p) = 0 < p.count + p.keeps
 

@@ -28,7 +28,7 @@ impl Model for Page {
 
 // A row: its opcodes from the first to the last, their number, the name and the form.
 #[derive(Clone, Copy)]
-struct Row<'a> {
+struct PageRow<'a> {
     first: u8,
     last: u8,
     hex: &'a str,
@@ -45,15 +45,15 @@ fn opcodes(cell: &str) -> Option<(u8, u8)> {
     Some((first.parse().ok()?, last.parse().ok()?))
 }
 
-impl<'a> Row<'a> {
+impl<'a> PageRow<'a> {
     // The row that a line is, if its first cell has opcodes.
-    fn of(line: &'a str) -> Option<Row<'a>> {
+    fn of(line: &'a str) -> Option<PageRow<'a>> {
         let mut cells = line.strip_prefix("| ")?.split('|');
         let (first, last) = opcodes(cells.next()?.trim())?;
         let hex = cells.next()?.trim();
         let name = cells.next()?.trim();
         let form = cells.next()?.trim();
-        Some(Row {
+        Some(PageRow {
             first,
             last,
             hex,
@@ -117,7 +117,7 @@ impl Page {
         if !self.in_table {
             return Ok(true);
         }
-        let Some(row) = Row::of(line) else {
+        let Some(row) = PageRow::of(line) else {
             return Ok(true);
         };
         if u16::from(row.first) != self.next || row.last < row.first {

@@ -3,11 +3,11 @@ use Rattle.std.proofs.Common.{◌≡◌, ℕ, List, Option, None, Some, subst, I
 use Rattle.std.specs.declared.alloc.Global.{Global}
 use Rattle.pm_files.specs.Held.{Files, Keeps}
 use Rattle.pm_tool.specs.Outcomes.{Said, IsOutcome}
-use Rattle.pm_tool.specs.Said.{said, Tells}
+use Rattle.pm_tool.specs.Said.{job_said, Tells}
 use Rattle.pm_tool.specs.declared.outcome.Job.{Job}
 use Rattle.pm_tool.specs.declared.outcome.Outcome.{Outcome}
 use Rattle.pm_program.specs.Kept.{KeepsRun, KeepsRunSaid, KeepsSaid, KeepsTold, PrintsIf, ReadsEach, SaysOf, TellsOf, has_run, paths_of}
-use Rattle.pm_program.specs.declared.run_words.Kept.{Kept}
+use Rattle.pm_program.specs.declared.run_words.KeptOfRun.{KeptOfRun}
 use Rattle.pm_program.specs.declared.run_words.Program.{Program}
 use Rattle.pm_tool.specs.Disks.{images_of}
 use Rattle.pm_tool.specs.declared.outcome.Job.TheVariants as jobs
@@ -16,7 +16,7 @@ use Rattle.pm_program.specs.declared.file_words.Verb.{Verb}
 use Rattle.pm_program.specs.declared.file_words.Verb.TheVariants as verbs
 
 keeps_said : (old new : Files) (path : List ℕ) (verb : Verb) (job : Job) (input : List ℕ) → SaysOf old path verb job
-    → Keeps old new path (said job input).image → KeepsSaid old new path verb input
+    → Keeps old new path (job_said job input).image → KeepsSaid old new path verb input
 keeps_said old new path (verbs.Command command) job input says keeps =
     (says.0, says.1, subst (λ told. Keeps old new path told.image) (says.2 input) keeps)
 keeps_said old new path (verbs.New name blocks) job input says keeps =
@@ -26,7 +26,7 @@ keeps_said old new path verbs.Repair job input says keeps =
 
 -- where the input is known, the file keeps what is said to it
 pub known_keeps_said : (had left held holds : Option (List ℕ)) (old read new : Files) (path : List ℕ) (verb : Verb) (job : Job)
-    (outcome : Outcome) → IfSome had (λ input. Tells left held holds outcome (said job input)) → SaysOf old path verb job
+    (outcome : Outcome) → IfSome had (λ input. Tells left held holds outcome (job_said job input)) → SaysOf old path verb job
     → read ≡ old → Keeps read new path (option_map vec_items outcome.image)
     → IfSome had (λ input. KeepsSaid old new path verb input)
 known_keeps_said None left held holds old read new path verb job outcome tells says same keeps = tt
@@ -46,10 +46,10 @@ run_told old new disk printing outcome told is keeps = (
 )
 
 -- where the input is known, a run keeps what is said to it of the images that were read
-pub known_run_said : (had left held holds : Option (List ℕ)) (old ready read new : Files) (program : Program) (kept : Kept)
+pub known_run_said : (had left held holds : Option (List ℕ)) (old ready read new : Files) (program : Program) (kept : KeptOfRun)
     (disks : List (Option (Vec ℕ Global))) (outcome : Outcome) (from to : List ℕ)
     → from ≡ string_bytes program.disk → to ≡ string_bytes program.disk
-    → IfSome had (λ input. Tells left held holds outcome (said (jobs.Run disks program.name program.limit kept.save) input))
+    → IfSome had (λ input. Tells left held holds outcome (job_said (jobs.Run disks program.name program.limit kept.save) input))
     → ready ≡ old → read ≡ ready → ReadsEach ready (paths_of from program.others) (images_of disks)
     → KeepsRun read new to kept.printing outcome
     → IfSome had (λ input. KeepsRunSaid old new program kept input)
@@ -68,7 +68,7 @@ known_run_said (Some input) left held holds old ready read new program kept disk
 pub known_tells : (job : List (Option (Vec ℕ Global)) → Job) (had left held holds : Option (List ℕ)) (files : Files)
     (program : Program) (disks : List (Option (Vec ℕ Global))) (outcome : Outcome) (from : List ℕ)
     → from ≡ string_bytes program.disk
-    → IfSome had (λ input. Tells left held holds outcome (said (job disks) input))
+    → IfSome had (λ input. Tells left held holds outcome (job_said (job disks) input))
     → ReadsEach files (paths_of from program.others) (images_of disks)
     → IfSome had (λ input. TellsOf job files left held holds outcome program input)
 known_tells job None left held holds files program disks outcome from is_from tells reads = tt

@@ -1,9 +1,11 @@
 -- Which words give which job. What clap finds of the words it keeps under ids, and the command by its name.
-use Rattle.std.specs.Prelude.{◌≡◌, ◌⊎◌, ℕ, Bool, true, false, List, [], Option, None, Some, option_map, string_bytes, codes}
+use Rattle.std.specs.Prelude.{◌≡◌, ◌⊎◌, ℕ, Bool, true, false, List, [], Option}
+use Rattle.std.specs.Prelude.{None, Some, option_map, string_bytes, codes}
 use Rattle.std.specs.Str.Parse.{digits_value, without_leading_plus}
 use Rattle.clap.specs.Matches.{first_value, found_of, one_text, subcommand_name_of}
 use Rattle.clap.specs.declared.parser.matches.ArgMatches.{ArgMatches}
-use Rattle.pm_filer.specs.Filed.{Order, ListFiles, Get, Put, Remove, Change, GetText, PutText, Krunch, Date, Zero, Duplicate, Single, order_of}
+use Rattle.pm_filer.specs.Filed.{Order, ListFiles, Get, Put, Remove, Change, GetText}
+use Rattle.pm_filer.specs.Filed.{PutText, Krunch, Date, Zero, Duplicate, Single, order_of}
 use Rattle.pm_filer.specs.Listing.{kind_word}
 use Rattle.pm_tool.specs.declared.outcome.Job.{Job}
 use Rattle.pm_tool.specs.declared.outcome.Job.TheVariants as jobs
@@ -16,26 +18,26 @@ use Rattle.pm_program.specs.declared.words.Plan.{Plan}
 use Rattle.pm_program.specs.declared.words.Plan.TheVariants as plans
 
 -- the word that is found for an id
-abbrev pub word_of : ArgMatches → List ℕ → Option (List ℕ)
-word_of m id = first_value (found_of m) id
+abbrev pub word_found : ArgMatches → List ℕ → Option (List ℕ)
+word_found m id = first_value (found_of m) id
 
 -- the number that digits spell
-abbrev pub spelled : List ℕ → ℕ
-spelled digits = digits_value 10 (without_leading_plus digits)
+abbrev pub number_spelled : List ℕ → ℕ
+number_spelled digits = digits_value 10 (without_leading_plus digits)
 
 abbrev pub IsSpelled : Option (List ℕ) → ℕ → Type 0
 IsSpelled None number = ⊥
-IsSpelled (Some digits) number = number ≡ spelled digits
+IsSpelled (Some digits) number = number ≡ number_spelled digits
 
 -- the limit of a run: 10,000,000 where the words have none
 abbrev pub IsLimit : Option (List ℕ) → ℕ → Type 0
 IsLimit None limit = limit ≡ 10000000
-IsLimit (Some digits) limit = limit ≡ spelled digits
+IsLimit (Some digits) limit = limit ≡ number_spelled digits
 
 -- a kind of file: by its word in a list, or by its number
 abbrev pub IsKind : Option (List ℕ) → ℕ → Type 0
 IsKind None kind = ⊥
-IsKind (Some word) kind = (kind_word kind ≡ Some word) ⊎ (kind ≡ spelled word)
+IsKind (Some word) kind = (kind_word kind ≡ Some word) ⊎ (kind ≡ number_spelled word)
 
 -- whether an option without a value is among the words
 pub record IsFlag (found : Option (List ℕ)) (flag : Bool) : Type 0 where
@@ -45,42 +47,45 @@ pub record IsFlag (found : Option (List ℕ)) (flag : Bool) : Type 0 where
 
 -- the words of run, trace and debug: each disk by its unit's option
 pub record AsksProgram (m : ArgMatches) (program : Program) : Type 0 where
-  pub disk : word_of m (codes "d4") ≡ Some (string_bytes program.disk)
-  pub d5 : word_of m (codes "d5") ≡ option_map string_bytes program.others.d5
-  pub d9 : word_of m (codes "d9") ≡ option_map string_bytes program.others.d9
-  pub d10 : word_of m (codes "d10") ≡ option_map string_bytes program.others.d10
-  pub d11 : word_of m (codes "d11") ≡ option_map string_bytes program.others.d11
-  pub d12 : word_of m (codes "d12") ≡ option_map string_bytes program.others.d12
-  pub name : word_of m (codes "NAME") ≡ Some (string_bytes program.name)
-  pub limit : IsLimit (word_of m (codes "limit")) program.limit
+  pub disk : word_found m (codes "d4") ≡ Some (string_bytes program.disk)
+  pub d5 : word_found m (codes "d5") ≡ option_map string_bytes program.others.d5
+  pub d9 : word_found m (codes "d9") ≡ option_map string_bytes program.others.d9
+  pub d10 : word_found m (codes "d10") ≡ option_map string_bytes program.others.d10
+  pub d11 : word_found m (codes "d11") ≡ option_map string_bytes program.others.d11
+  pub d12 : word_found m (codes "d12") ≡ option_map string_bytes program.others.d12
+  pub name : word_found m (codes "NAME") ≡ Some (string_bytes program.name)
+  pub limit : IsLimit (word_found m (codes "limit")) program.limit
 
 -- the further words of run
 pub record AsksKeeping (m : ArgMatches) (keeping : Keeping) : Type 0 where
   pub save : IsFlag (one_text (found_of m) (codes "save")) keeping.save
-  pub printer : word_of m (codes "printer") ≡ option_map string_bytes keeping.printer
+  pub printer : word_found m (codes "printer") ≡ option_map string_bytes keeping.printer
 
 -- the words of a command on a volume, its verb among them; what is put is read later
 abbrev pub AsksOrder : List ℕ → ArgMatches → Order → Type 0
 AsksOrder verb m ListFiles = verb ≡ codes "list"
-AsksOrder verb m (Get name) = (verb ≡ codes "get") × (word_of m (codes "NAME") ≡ Some name)
+AsksOrder verb m (Get name) = (verb ≡ codes "get") × (word_found m (codes "NAME") ≡ Some name)
 AsksOrder verb m (Put name kind bytes) =
-    (verb ≡ codes "put") × (word_of m (codes "NAME") ≡ Some name) × IsKind (word_of m (codes "KIND")) kind × (bytes ≡ [])
-AsksOrder verb m (Remove name) = (verb ≡ codes "remove") × (word_of m (codes "NAME") ≡ Some name)
+    (verb ≡ codes "put") × (word_found m (codes "NAME") ≡ Some name) × IsKind (word_found m (codes "KIND")) kind
+    × (bytes ≡ [])
+AsksOrder verb m (Remove name) = (verb ≡ codes "remove") × (word_found m (codes "NAME") ≡ Some name)
 AsksOrder verb m (Change old new) =
-    (verb ≡ codes "change") × (word_of m (codes "OLD") ≡ Some old) × (word_of m (codes "NEW") ≡ Some new)
-AsksOrder verb m (GetText name) = (verb ≡ codes "gettext") × (word_of m (codes "NAME") ≡ Some name)
-AsksOrder verb m (PutText name text) = (verb ≡ codes "puttext") × (word_of m (codes "NAME") ≡ Some name) × (text ≡ [])
+    (verb ≡ codes "change") × (word_found m (codes "OLD") ≡ Some old) × (word_found m (codes "NEW") ≡ Some new)
+AsksOrder verb m (GetText name) = (verb ≡ codes "gettext") × (word_found m (codes "NAME") ≡ Some name)
+AsksOrder verb m (PutText name text) =
+    (verb ≡ codes "puttext") × (word_found m (codes "NAME") ≡ Some name) × (text ≡ [])
 AsksOrder verb m Krunch = verb ≡ codes "krunch"
-AsksOrder verb m (Date year month day) = (verb ≡ codes "date") × IsSpelled (word_of m (codes "Y")) year
-    × IsSpelled (word_of m (codes "M")) month × IsSpelled (word_of m (codes "D")) day
-AsksOrder verb m (Zero name) = (verb ≡ codes "zero") × (word_of m (codes "NAME") ≡ Some name)
+AsksOrder verb m (Date year month day) = (verb ≡ codes "date") × IsSpelled (word_found m (codes "Y")) year
+    × IsSpelled (word_found m (codes "M")) month × IsSpelled (word_found m (codes "D")) day
+AsksOrder verb m (Zero name) = (verb ≡ codes "zero") × (word_found m (codes "NAME") ≡ Some name)
 AsksOrder verb m Duplicate = verb ≡ codes "duplicate"
 AsksOrder verb m Single = verb ≡ codes "single"
 
 abbrev pub AsksVerb : List ℕ → ArgMatches → Verb → Type 0
 AsksVerb verb m (verbs.Command command) = AsksOrder verb m (order_of command)
 AsksVerb verb m (verbs.New name blocks) =
-    (verb ≡ codes "new") × (word_of m (codes "NAME") ≡ Some (string_bytes name)) × IsSpelled (word_of m (codes "BLOCKS")) blocks
+    (verb ≡ codes "new") × (word_found m (codes "NAME") ≡ Some (string_bytes name))
+    × IsSpelled (word_found m (codes "BLOCKS")) blocks
 AsksVerb verb m verbs.Repair = verb ≡ codes "repair"
 
 -- the path of an image, which stands before the verb or behind it
@@ -93,12 +98,12 @@ IsPath (Some before) (Some behind) path = ⊥
 -- the words of files
 abbrev pub AsksFiles : ArgMatches → FilesPlan → Type 0
 AsksFiles m plan = (verb : List ℕ) × (below : ArgMatches) × (subcommand_name_of m ≡ Some verb)
-    × IsPath (word_of m (codes "image")) (word_of below (codes "image")) (string_bytes plan.path)
+    × IsPath (word_found m (codes "image")) (word_found below (codes "image")) (string_bytes plan.path)
     × AsksVerb verb below plan.verb
 
 -- the words of a job that takes no file
 abbrev pub AsksJob : List ℕ → ArgMatches → Job → Type 0
-AsksJob command m (jobs.Raw limit) = (command ≡ codes "raw") × IsLimit (word_of m (codes "limit")) limit
+AsksJob command m (jobs.Raw limit) = (command ≡ codes "raw") × IsLimit (word_found m (codes "limit")) limit
 AsksJob command m (jobs.Run disks name limit save) = ⊥
 AsksJob command m (jobs.Trace disks name limit) = ⊥
 AsksJob command m (jobs.Debug disks name) = ⊥
@@ -118,4 +123,5 @@ Asks command m (plans.Debug program) = (command ≡ codes "debug") × AsksProgra
 
 -- all words
 abbrev pub IsAsked : ArgMatches → Plan → Type 0
-IsAsked m plan = (command : List ℕ) × (below : ArgMatches) × (subcommand_name_of m ≡ Some command) × Asks command below plan
+IsAsked m plan =
+    (command : List ℕ) × (below : ArgMatches) × (subcommand_name_of m ≡ Some command) × Asks command below plan

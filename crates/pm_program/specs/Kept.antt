@@ -2,13 +2,13 @@
 use Rattle.std.specs.Prelude.{◌≡◌, ◌⊎◌, ⊤, ℕ, Bool, true, false, List, [], ◌∷◌}
 use Rattle.std.specs.Prelude.{Option, None, Some, Vec, option_map, vec_items, string_bytes}
 use Rattle.std.specs.declared.alloc.Global.{Global}
-use Rattle.pm_files.specs.Held.{Files, Holds, Keeps, Puts}
+use Rattle.pm_files.specs.Held.{Files, HoldsFile, Keeps, Puts}
 use Rattle.pm_filer.specs.Filed.{order_of}
 use Rattle.pm_volume.specs.Headers.{blank_fault}
 use Rattle.pm_tool.specs.Files.{said_files, said_new, said_repair}
 use Rattle.pm_tool.specs.Disks.{images_of}
 use Rattle.pm_tool.specs.Outcomes.{Said}
-use Rattle.pm_tool.specs.Said.{Tells, said}
+use Rattle.pm_tool.specs.Said.{Tells, job_said}
 use Rattle.pm_tool.specs.declared.outcome.Exit.{Exit}
 use Rattle.pm_tool.specs.declared.outcome.Exit.TheVariants as exits
 use Rattle.pm_tool.specs.declared.outcome.Job.{Job}
@@ -16,7 +16,7 @@ use Rattle.pm_tool.specs.declared.outcome.Job.TheVariants as jobs
 use Rattle.pm_tool.specs.declared.outcome.Outcome.{Outcome}
 use Rattle.pm_program.specs.declared.file_words.Verb.{Verb}
 use Rattle.pm_program.specs.declared.file_words.Verb.TheVariants as verbs
-use Rattle.pm_program.specs.declared.run_words.Kept.{Kept}
+use Rattle.pm_program.specs.declared.run_words.KeptOfRun.{KeptOfRun}
 use Rattle.pm_program.specs.declared.run_words.Others.{Others}
 use Rattle.pm_program.specs.declared.run_words.Printing.{Printing}
 use Rattle.pm_program.specs.declared.run_words.Program.{Program}
@@ -59,20 +59,20 @@ KeepsFront old new disk = (new ≡ old) ⊎ ((image : List ℕ) × Puts old new 
 -- said of them, if one is, and nothing else has changed. A new volume is told to the input alone.
 abbrev pub KeepsSaid : Files → Files → List ℕ → Verb → List ℕ → Type 0
 KeepsSaid old new path (verbs.Command command) input = (image : List ℕ)
-    × Holds old path image × Keeps old new path (said_files image (order_of command) input).image
+    × HoldsFile old path image × Keeps old new path (said_files image (order_of command) input).image
 KeepsSaid old new path (verbs.New name blocks) input =
     Keeps old new path (said_new (blank_fault (string_bytes name) blocks) (string_bytes name) blocks input).image
 KeepsSaid old new path verbs.Repair input = (image : List ℕ)
-    × Holds old path image × Keeps old new path (said_repair image input).image
+    × HoldsFile old path image × Keeps old new path (said_repair image input).image
 
 -- the job of a verb says to each input what the verb does of the image that the path holds
 abbrev pub SaysOf : Files → List ℕ → Verb → Job → Type 0
-SaysOf files path (verbs.Command command) job = (image : List ℕ) × Holds files path image
-    × ((input : List ℕ) → said job input ≡ said_files image (order_of command) input)
+SaysOf files path (verbs.Command command) job = (image : List ℕ) × HoldsFile files path image
+    × ((input : List ℕ) → job_said job input ≡ said_files image (order_of command) input)
 SaysOf files path (verbs.New name blocks) job = (input : List ℕ)
-    → said job input ≡ said_new (blank_fault (string_bytes name) blocks) (string_bytes name) blocks input
-SaysOf files path verbs.Repair job = (image : List ℕ) × Holds files path image
-    × ((input : List ℕ) → said job input ≡ said_repair image input)
+    → job_said job input ≡ said_new (blank_fault (string_bytes name) blocks) (string_bytes name) blocks input
+SaysOf files path verbs.Repair job = (image : List ℕ) × HoldsFile files path image
+    × ((input : List ℕ) → job_said job input ≡ said_repair image input)
 
 -- the paths of a program's disks, in the order of the units 4, 5, 9, 10, 11 and 12
 abbrev pub paths_of : List ℕ → Others → List (Option (List ℕ))
@@ -84,7 +84,7 @@ abbrev pub Reads : Files → Option (List ℕ) → Option (List ℕ) → Type 0
 Reads files None None = ⊤
 Reads files None (Some image) = ⊥
 Reads files (Some path) None = ⊥
-Reads files (Some path) (Some image) = Holds files path image
+Reads files (Some path) (Some image) = HoldsFile files path image
 
 -- the images of the paths, in their order
 abbrev pub ReadsEach : Files → List (Option (List ℕ)) → List (Option (List ℕ)) → Type 0
@@ -102,11 +102,11 @@ KeepsTold old new disk printing told = (between : Files)
 
 -- A program is run on the images that its paths hold, each on its unit: what is kept is what is said of them and of the
 -- input.
-abbrev pub KeepsRunSaid : Files → Files → Program → Kept → List ℕ → Type 0
+abbrev pub KeepsRunSaid : Files → Files → Program → KeptOfRun → List ℕ → Type 0
 KeepsRunSaid old new program kept input = (disks : List (Option (Vec ℕ Global)))
     × ReadsEach old (paths_of (string_bytes program.disk) program.others) (images_of disks)
     × KeepsTold old new (string_bytes program.disk) kept.printing
-    (said (jobs.Run disks program.name program.limit kept.save) input)
+    (job_said (jobs.Run disks program.name program.limit kept.save) input)
 
 -- A job of a program on the images that its paths hold, each on its unit: what is written, answered and left unread is
 -- what is said of them and of the input.
@@ -114,12 +114,14 @@ abbrev pub TellsOf : (List (Option (Vec ℕ Global)) → Job) → Files → Opti
     → Outcome → Program → List ℕ → Type 0
 TellsOf job files left held holds outcome program input = (disks : List (Option (Vec ℕ Global)))
     × ReadsEach files (paths_of (string_bytes program.disk) program.others) (images_of disks)
-    × Tells left held holds outcome (said (job disks) input)
+    × Tells left held holds outcome (job_said (job disks) input)
 
-abbrev pub TellsTrace : Files → Option (List ℕ) → Option (List ℕ) → Option (List ℕ) → Outcome → Program → List ℕ → Type 0
+abbrev pub TellsTrace : Files → Option (List ℕ) → Option (List ℕ) → Option (List ℕ) → Outcome → Program → List ℕ
+    → Type 0
 TellsTrace files left held holds outcome program input =
     TellsOf (λ disks. jobs.Trace disks program.name program.limit) files left held holds outcome program input
 
-abbrev pub TellsDebug : Files → Option (List ℕ) → Option (List ℕ) → Option (List ℕ) → Outcome → Program → List ℕ → Type 0
+abbrev pub TellsDebug : Files → Option (List ℕ) → Option (List ℕ) → Option (List ℕ) → Outcome → Program → List ℕ
+    → Type 0
 TellsDebug files left held holds outcome program input =
     TellsOf (λ disks. jobs.Debug disks program.name) files left held holds outcome program input

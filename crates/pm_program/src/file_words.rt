@@ -1,6 +1,6 @@
 //! The words of `files`.
 ghost use Rattle.std.specs.Prelude.{◌≡◌, Some, IfOk, IfSome, option_map, string_bytes, codes};
-ghost use Rattle.pm_program.specs.Asked.{AsksFiles, AsksVerb, IsKind, IsPath, IsSpelled, spelled, word_of};
+ghost use Rattle.pm_program.specs.Asked.{AsksFiles, AsksVerb, IsKind, IsPath, IsSpelled, number_spelled, word_found};
 
 use crate::words::{WordsError, given, number};
 use clap::{Arg, ArgMatches, Command};
@@ -20,7 +20,7 @@ pub struct FilesPlan {
 #[derive(Drop)]
 pub enum Verb {
     /// A command on the volume that the image is.
-    Command(pm_filer::Command),
+    Command(pm_filer::FileCommand),
     /// A new volume of this name and so many blocks.
     New(String, u16),
     /// The image with its first copy of the directory repaired.
@@ -30,17 +30,20 @@ pub enum Verb {
 impl Verb {
     /// Whether the image is written back where the command is accepted.
     pub(crate) fn changes(&self) -> bool {
-        use pm_filer::Command;
+        use pm_filer::FileCommand;
         !matches!(
             self,
-            Verb::Command(Command::List | Command::Get(_) | Command::GetText(_))
+            Verb::Command(FileCommand::List | FileCommand::Get(_) | FileCommand::GetText(_))
         )
     }
 
     /// Whether the command reads standard input.
     pub(crate) fn reads(&self) -> bool {
-        use pm_filer::Command;
-        matches!(self, Verb::Command(Command::Put(..) | Command::PutText(..)))
+        use pm_filer::FileCommand;
+        matches!(
+            self,
+            Verb::Command(FileCommand::Put(..) | FileCommand::PutText(..))
+        )
     }
 }
 
@@ -171,14 +174,14 @@ fn kind(text: &str) -> Option<u8>
 }
 
 fn blocks(text: &str) -> Option<u16>
-    ensures value { IfSome result (λ blocks. blocks ≡ spelled text.now) }
+    ensures value { IfSome result (λ blocks. blocks ≡ number_spelled text.now) }
 {
     u16::try_from(number(text)?).ok()
 }
 
 /// A word that the command line has to have.
 fn word(alloc: Global, matches: &ArgMatches<'_>, id: &str) -> Result<String, WordsError>
-    ensures value { IfOk result (λ text. word_of matches.now id.now ≡ Some (string_bytes text)) }
+    ensures value { IfOk result (λ text. word_found matches.now id.now ≡ Some (string_bytes text)) }
 {
     let text = matches.get_str(id).ok_or(WordsError::NoCommand)?;
     Ok(String::from_str(alloc, text)?)
@@ -186,7 +189,7 @@ fn word(alloc: Global, matches: &ArgMatches<'_>, id: &str) -> Result<String, Wor
 
 /// A part of a date.
 fn part(matches: &ArgMatches<'_>, id: &str) -> Result<u8, WordsError>
-    ensures value { IfOk result (λ part. IsSpelled (word_of matches.now id.now) part) }
+    ensures value { IfOk result (λ part. IsSpelled (word_found matches.now id.now) part) }
 {
     let digits = matches.get_str(id).ok_or(WordsError::NoCommand)?;
     match number(digits) {
@@ -203,7 +206,7 @@ fn put(alloc: Global, matches: &ArgMatches<'_>) -> Result<Verb, WordsError>
     let kind = kind(text).ok_or(WordsError::Wrong(
         "KIND is none, badb, code, text, info, data, graf, foto, secd, or a number 0 to 15",
     ))?;
-    Ok(Verb::Command(pm_filer::Command::Put(name, kind, Vec::new(alloc))))
+    Ok(Verb::Command(pm_filer::FileCommand::Put(name, kind, Vec::new(alloc))))
 }
 
 fn new(alloc: Global, matches: &ArgMatches<'_>) -> Result<Verb, WordsError>
@@ -220,19 +223,19 @@ fn new(alloc: Global, matches: &ArgMatches<'_>) -> Result<Verb, WordsError>
 fn verb_of(alloc: Global, verb: &str, words: &ArgMatches<'_>) -> Result<Verb, WordsError>
     ensures asked { IfOk result (λ asked. AsksVerb verb.now words.now asked) }
 {
-    use pm_filer::Command;
+    use pm_filer::FileCommand;
     let command = match verb {
-        "list" => Command::List,
-        "get" => Command::Get(word(alloc, words, "NAME")?),
-        "remove" => Command::Remove(word(alloc, words, "NAME")?),
-        "change" => Command::Change(word(alloc, words, "OLD")?, word(alloc, words, "NEW")?),
-        "gettext" => Command::GetText(word(alloc, words, "NAME")?),
-        "puttext" => Command::PutText(word(alloc, words, "NAME")?, Vec::new(alloc)),
-        "krunch" => Command::Krunch,
-        "zero" => Command::Zero(word(alloc, words, "NAME")?),
-        "date" => Command::Date(part(words, "Y")?, part(words, "M")?, part(words, "D")?),
-        "duplicate" => Command::Duplicate,
-        "single" => Command::Single,
+        "list" => FileCommand::List,
+        "get" => FileCommand::Get(word(alloc, words, "NAME")?),
+        "remove" => FileCommand::Remove(word(alloc, words, "NAME")?),
+        "change" => FileCommand::Change(word(alloc, words, "OLD")?, word(alloc, words, "NEW")?),
+        "gettext" => FileCommand::GetText(word(alloc, words, "NAME")?),
+        "puttext" => FileCommand::PutText(word(alloc, words, "NAME")?, Vec::new(alloc)),
+        "krunch" => FileCommand::Krunch,
+        "zero" => FileCommand::Zero(word(alloc, words, "NAME")?),
+        "date" => FileCommand::Date(part(words, "Y")?, part(words, "M")?, part(words, "D")?),
+        "duplicate" => FileCommand::Duplicate,
+        "single" => FileCommand::Single,
         "repair" => return Ok(Verb::Repair),
         "put" => return put(alloc, words),
         "new" => return new(alloc, words),
@@ -243,7 +246,8 @@ fn verb_of(alloc: Global, verb: &str, words: &ArgMatches<'_>) -> Result<Verb, Wo
 
 /// The path of the image, which stands before the verb or behind it.
 fn path_of(before: Option<String>, behind: Option<String>) -> Result<String, WordsError>
-    ensures path { IfOk result (λ path. IsPath (option_map string_bytes before) (option_map string_bytes behind) (string_bytes path)) }
+    ensures path { IfOk result (λ path. IsPath (option_map string_bytes before) (option_map string_bytes behind)
+        (string_bytes path)) }
 {
     match (before, behind) {
         (Some(path), None) => Ok(path),

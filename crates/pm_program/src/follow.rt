@@ -5,7 +5,7 @@ use crate::console::{Keys, Lined, Prompted};
 use crate::end::{Conflict, End};
 use crate::file_words::FilesPlan;
 use crate::kept::{do_debug, do_files, do_run, do_trace};
-use crate::run_words::{Keeping, Kept, Printing, Program};
+use crate::run_words::{Keeping, KeptOfRun, Printing, Program};
 use crate::words::Plan;
 use pm_files::{DiskFault, Host, HostStore, Store, Stream};
 use pm_streams::{Reader, Sink, Source, Writer};
@@ -92,7 +92,7 @@ fn act<S: Store, I: Source, O: Sink>(
 }
 
 /// Where the printer's bytes go: a path of standard output's file is standard output.
-fn kept_of<S: Store>(store: &S, keeping: Keeping) -> Kept {
+fn kept_of<S: Store>(store: &S, keeping: Keeping) -> KeptOfRun {
     let Keeping { save, printer } = keeping;
     let is_output = match &printer {
         Some(path) => store.is_same(path.as_str(), OUTPUT),
@@ -103,7 +103,7 @@ fn kept_of<S: Store>(store: &S, keeping: Keeping) -> Kept {
         (Some(_), true) => Printing::Output,
         (None, _) => Printing::Nowhere,
     };
-    Kept { save, printing }
+    KeptOfRun { save, printing }
 }
 
 /// Whether a path names the file of an image on another unit than 4.

@@ -1,13 +1,13 @@
 //! Jobs with files: what is read before them, and what is written behind them.
 ghost use Rattle.std.specs.Prelude.{◌≡◌, false, IfOk, IfSome, OnErr, OnOk, string_bytes, option_map, vec_items};
-ghost use Rattle.pm_tool.specs.Said.{IsSound};
+ghost use Rattle.pm_tool.specs.Said.{IsSoundExit};
 ghost use Rattle.pm_files.specs.Held.{Keeps};
 ghost use Rattle.pm_program.specs.Kept.{KeepsRun, KeepsFront, KeepsSaid, PrintsIf, SaysOf, has_run};
 ghost use Rattle.pm_program.specs.Kept.{KeepsRunSaid, Reads, ReadsEach, TellsDebug, TellsTrace, paths_of};
 ghost use Rattle.pm_tool.specs.Disks.{images_of};
 
 use crate::file_words::Verb;
-use crate::run_words::{Kept, Others, Printing, Program};
+use crate::run_words::{KeptOfRun, Others, Printing, Program};
 use pm_files::{DiskFault, Store};
 use pm_streams::{Sink, Source, write_all};
 use pm_tool::{Exit, Job, Outcome};
@@ -56,7 +56,7 @@ pub fn do_files<S: Store, I: Source, O: Sink>(
     requires sink_well { O.has_failed sink.old ≡ false }
     ensures kept { IfOk result (λ outcome.
         Keeps (S.files store.old) (S.files store.new) path.now (option_map vec_items outcome.image)) }
-    ensures said { IfOk result (λ outcome. IsSound outcome.exit → IfSome (I.remaining source.old) (λ input.
+    ensures said { IfOk result (λ outcome. IsSoundExit outcome.exit → IfSome (I.remaining source.old) (λ input.
         KeepsSaid (S.files store.old) (S.files store.new) path.now verb input)) }
     ensures stays { OnErr result (S.files store.new ≡ S.files store.old) }
 {
@@ -171,7 +171,7 @@ fn keep<S: Store, O: Sink>(
 }
 
 /// Holds the file of the image that is going to be saved, and makes ready for the printer's file.
-fn make_ready<S: Store>(store: &mut S, disk: &str, kept: &Kept) -> Result<(), DiskFault>
+fn make_ready<S: Store>(store: &mut S, disk: &str, kept: &KeptOfRun) -> Result<(), DiskFault>
     ensures stays { S.files store.new ≡ S.files store.old }
 {
     if kept.save {
@@ -193,13 +193,13 @@ pub fn do_run<S: Store, I: Source, O: Sink>(
     source: &mut I,
     sink: &mut O,
     program: Program,
-    kept: Kept,
+    kept: KeptOfRun,
 ) -> Result<Outcome, DiskFault>
     requires source_well { I.has_failed source.old ≡ false }
     requires sink_well { O.has_failed sink.old ≡ false }
     ensures kept { IfOk result (λ outcome.
         KeepsRun (S.files store.old) (S.files store.new) (string_bytes program.disk) kept.printing outcome) }
-    ensures said { IfOk result (λ outcome. IsSound outcome.exit → IfSome (I.remaining source.old) (λ input.
+    ensures said { IfOk result (λ outcome. IsSoundExit outcome.exit → IfSome (I.remaining source.old) (λ input.
         KeepsRunSaid (S.files store.old) (S.files store.new) program kept input)) }
     ensures front { OnErr result (KeepsFront (S.files store.old) (S.files store.new) (string_bytes program.disk)) }
 {
@@ -210,7 +210,7 @@ pub fn do_run<S: Store, I: Source, O: Sink>(
         limit,
     } = program;
     make_ready(store, disk.as_str(), &kept)?;
-    let Kept { save, printing } = kept;
+    let KeptOfRun { save, printing } = kept;
     let disks = images(alloc, store, disk.as_str(), &others)?;
     let job = Job::Run {
         disks,
@@ -223,8 +223,9 @@ pub fn do_run<S: Store, I: Source, O: Sink>(
     Ok(outcome)
 }
 
-/// Writes the trace of a program. No file changes. Neither stream may have failed before. Where the input is known, what
-/// is written, answered and left unread is what is said of it and of the images that the files had, each on its unit.
+/// Writes the trace of a program. No file changes. Neither stream may have failed before. Where the input is known,
+/// what is written, answered and left unread is what is said of it and of the images that the files had, each on its
+/// unit.
 pub fn do_trace<S: Store, I: Source, O: Sink>(
     alloc: Global,
     store: &mut S,
@@ -235,7 +236,7 @@ pub fn do_trace<S: Store, I: Source, O: Sink>(
     requires source_well { I.has_failed source.old ≡ false }
     requires sink_well { O.has_failed sink.old ≡ false }
     ensures stays { S.files store.new ≡ S.files store.old }
-    ensures said { IfOk result (λ outcome. IsSound outcome.exit → IfSome (I.remaining source.old) (λ input.
+    ensures said { IfOk result (λ outcome. IsSoundExit outcome.exit → IfSome (I.remaining source.old) (λ input.
         TellsTrace (S.files store.old) (I.remaining source.new) (O.contents sink.old) (O.contents sink.new) outcome program input)) }
 {
     let disks = images(alloc, store, program.disk.as_str(), &program.others)?;
@@ -244,9 +245,9 @@ pub fn do_trace<S: Store, I: Source, O: Sink>(
     Ok(pm_tool::run(alloc, source, sink, job))
 }
 
-/// Debugs a program, by the commands of the source. No file changes. Neither stream may have failed before. Where the input
-/// is known, what is written, answered and left unread is what is said of it and of the images that the files had, each on
-/// its unit.
+/// Debugs a program, by the commands of the source. No file changes. Neither stream may have failed before. Where the
+/// input is known, what is written, answered and left unread is what is said of it and of the images that the files
+/// had, each on its unit.
 pub fn do_debug<S: Store, I: Source, O: Sink>(
     alloc: Global,
     store: &mut S,
@@ -257,7 +258,7 @@ pub fn do_debug<S: Store, I: Source, O: Sink>(
     requires source_well { I.has_failed source.old ≡ false }
     requires sink_well { O.has_failed sink.old ≡ false }
     ensures stays { S.files store.new ≡ S.files store.old }
-    ensures said { IfOk result (λ outcome. IsSound outcome.exit → IfSome (I.remaining source.old) (λ input.
+    ensures said { IfOk result (λ outcome. IsSoundExit outcome.exit → IfSome (I.remaining source.old) (λ input.
         TellsDebug (S.files store.old) (I.remaining source.new) (O.contents sink.old) (O.contents sink.new) outcome program input)) }
 {
     let disks = images(alloc, store, program.disk.as_str(), &program.others)?;

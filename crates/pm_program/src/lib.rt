@@ -14,4 +14,4 @@ mod words;
 pub use entry::program;
 pub use file_words::Verb;
 pub use kept::{do_debug, do_files, do_run, do_trace};
-pub use run_words::{Kept, Others, Printing, Program};
+pub use run_words::{KeptOfRun, Others, Printing, Program};

@@ -51,7 +51,7 @@ pub enum Printing {
 
 /// What is kept of a run.
 #[derive(Drop)]
-pub struct Kept {
+pub struct KeptOfRun {
     /// Whether unit 4's image is written back.
     pub save: bool,
     /// Where the printer's bytes go.

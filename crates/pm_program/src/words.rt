@@ -1,6 +1,6 @@
 //! The words of the command line.
 ghost use Rattle.std.specs.Prelude.{◌≡◌, IfOk, IfSome, option_map, string_bytes, codes};
-ghost use Rattle.pm_program.specs.Asked.{Asks, IsAsked, IsLimit, spelled, word_of};
+ghost use Rattle.pm_program.specs.Asked.{Asks, IsAsked, IsLimit, number_spelled, word_found};
 
 use crate::file_words::{FilesPlan, files, files_plan};
 use crate::run_words::{Keeping, Program, debug, keeping_of, program_of, run, trace};
@@ -153,7 +153,7 @@ fn command<'a>(alloc: Global) -> Result<Command<'a>, AllocError> {
 
 /// The number that decimal digits alone spell.
 pub fn number(text: &str) -> Option<u32>
-    ensures value { IfSome result (λ number. number ≡ spelled text.now) }
+    ensures value { IfSome result (λ number. number ≡ number_spelled text.now) }
 {
     if text.is_empty() || !text.bytes().all(|byte| byte.is_ascii_digit()) {
         return None;
@@ -167,7 +167,7 @@ pub fn given(
     matches: &ArgMatches<'_>,
     id: &str,
 ) -> Result<Option<String>, WordsError>
-    ensures value { IfOk result (λ text. word_of matches.now id.now ≡ option_map string_bytes text) }
+    ensures value { IfOk result (λ text. word_found matches.now id.now ≡ option_map string_bytes text) }
 {
     match matches.get_str(id) {
         Some("") => Err(WordsError::NoValue),
@@ -178,7 +178,7 @@ pub fn given(
 
 /// The limit that the words give.
 pub fn limit_of(matches: &ArgMatches<'_>) -> Result<u32, WordsError>
-    ensures value { IfOk result (λ limit. IsLimit (word_of matches.now (codes "limit")) limit) }
+    ensures value { IfOk result (λ limit. IsLimit (word_found matches.now (codes "limit")) limit) }
 {
     match matches.get_str("limit") {
         Some(text) => number(text).ok_or(WordsError::Wrong(

@@ -11,7 +11,8 @@ use Rattle.pm_reader.specs.declared.current.Current.{Current}
 use Rattle.pm_reader.specs.Reader.{current_seen}
 use Rattle.pm_reader.specs.Views.{procedure_seen, segment_seen, segments_seen}
 
-with_last : (p : Source) (ss : List SourceSegment) (s : SourceSegment) → with_procedure p (ss ++ s ∷ []) ≡ ss ++ record s { procedures = s.procedures ++ p ∷ [] } ∷ []
+with_last : (p : Source) (ss : List SourceSegment) (s : SourceSegment)
+    → with_procedure p (ss ++ s ∷ []) ≡ ss ++ record s { procedures = s.procedures ++ p ∷ [] } ∷ []
 with_last p [] s = refl
 with_last p (t ∷ []) s = refl
 with_last p (t ∷ u ∷ ss) s = ap (λ rest. t ∷ rest) (with_last p (u ∷ ss) s)
@@ -24,8 +25,10 @@ with_procedures s ps = record s { procedures = ps }
 
 -- a segment with one procedure more, as it is seen
 pub one_more : (last : Segment) (ps : List Procedure) (p : Procedure) → ps ≡ last.procedures.items ++ p ∷ [] →
-    with_procedures (segment_seen last) (map procedure_seen ps) ≡ with_procedures (segment_seen last) (map procedure_seen last.procedures.items ++ procedure_seen p ∷ [])
-one_more last ps p e = ap (λ qs. with_procedures (segment_seen last) qs) (ap (λ qs. map procedure_seen qs) e ∙ map-append procedure_seen last.procedures.items (p ∷ []))
+    with_procedures (segment_seen last) (map procedure_seen ps) ≡ with_procedures (segment_seen last)
+    (map procedure_seen last.procedures.items ++ procedure_seen p ∷ [])
+one_more last ps p e =
+    ap (λ qs. with_procedures (segment_seen last) qs) (ap (λ qs. map procedure_seen qs) e ∙ map-append procedure_seen last.procedures.items (p ∷ []))
 
 -- the last segment with the procedure that ended
 pub ended_last : (olds news kept : List Segment) (last changed : Segment) (opened now : Option Current) (o : Current)

@@ -13,7 +13,8 @@ use Rattle.pm_source.specs.Faults.{ends}
 abbrev pub IsUntil : List Line → ℕ → Type 0
 IsUntil lines until = (at : ℕ) → list_any ends (drop at lines) ≡ nat_lt at until
 
-any_more : (lines : List Line) (line : Line) (at : ℕ) → at ≤ length lines → list_any ends (drop at (lines ++ line ∷ [])) ≡ (list_any ends (drop at lines) || ends line)
+any_more : (lines : List Line) (line : Line) (at : ℕ) → at ≤ length lines
+    → list_any ends (drop at (lines ++ line ∷ [])) ≡ (list_any ends (drop at lines) || ends line)
 any_more lines line at h =
     ap (list_any ends) (drop-append-le at lines (line ∷ []) h)
     ∙ (list_any-append ends (drop at lines) (line ∷ []) ∙ ap (λ b. list_any ends (drop at lines) || b) (or-false (ends line)))
@@ -24,12 +25,15 @@ none_past lines line at h =
 
 pub until_here : (lines : List Line) (line : Line) → ends line ≡ true → IsUntil (lines ++ line ∷ []) (length lines + 1)
 until_here lines line e at = elim (cases_lt at (length lines + 1)) [
-  | inl h ↦ any_more lines line at (omega (arith, h)) ∙ (ap (λ b. list_any ends (drop at lines) || b) e ∙ (or-true (list_any ends (drop at lines)) ∙ sym (lt-ltb at (length lines + 1) h)))
+  | inl h ↦ any_more lines line at (omega (arith, h)) ∙ (ap (λ b. list_any ends (drop at lines) || b) e
+      ∙ (or-true (list_any ends (drop at lines)) ∙ sym (lt-ltb at (length lines + 1) h)))
   | inr h ↦ none_past lines line at h ∙ sym (le-ltb at (length lines + 1) h)
 ]
 
-pub until_before : (lines : List Line) (line : Line) (until : ℕ) → ends line ≡ false → until ≤ length lines → IsUntil lines until → IsUntil (lines ++ line ∷ []) until
+pub until_before : (lines : List Line) (line : Line) (until : ℕ) → ends line ≡ false → until ≤ length lines → IsUntil lines until
+    → IsUntil (lines ++ line ∷ []) until
 until_before lines line until e few before at = elim (cases_lt at (length lines + 1)) [
-  | inl h ↦ any_more lines line at (omega (arith, h)) ∙ (ap (λ b. list_any ends (drop at lines) || b) e ∙ (or-false (list_any ends (drop at lines)) ∙ before at))
+  | inl h ↦ any_more lines line at (omega (arith, h)) ∙ (ap (λ b. list_any ends (drop at lines) || b) e
+      ∙ (or-false (list_any ends (drop at lines)) ∙ before at))
   | inr h ↦ none_past lines line at h ∙ sym (le-ltb at until (omega (arith, h, few)))
 ]

@@ -16,5 +16,6 @@ max-assoc : (a b c : ℕ) → max (max a b) c ≡ max a (max b c)
 max-assoc a b c = omega arith
 
 -- one row more
-pub used-more : (most : ℕ) (row : Row) (rows : List Row) → max (max most (entries_needed (row_items row))) (entries_used rows) ≡ max most (entries_used (row ∷ rows))
+pub used-more : (most : ℕ) (row : Row) (rows : List Row) → max (max most (entries_needed (row_items row))) (entries_used rows)
+    ≡ max most (entries_used (row ∷ rows))
 used-more most row rows = max-assoc most (entries_needed (row_items row)) (entries_used rows) ∙ ap (max most) (sym (used-cons row rows))

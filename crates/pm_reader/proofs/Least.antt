@@ -18,7 +18,8 @@ pub there : {X : Type 0} (xs : List X) (k : ℕ) (x : X) → k < length xs → x
 there xs k x h e = drop_more xs k x h ∙ ap (λ y. y ∷ drop (k + 1) xs) (sym e)
 
 -- the items that are left begin with one that is too long, or that ends too late
-pub too_long_item : {A P : Type 0} (f : A → Item P) (most at end : ℕ) (items : List A) (item : A) (rest : List A) → items ≡ item ∷ rest → end_of at (map f items) ≡ end
+pub too_long_item : {A P : Type 0} (f : A → Item P) (most at end : ℕ) (items : List A) (item : A) (rest : List A) → items ≡ item ∷ rest
+    → end_of at (map f items) ≡ end
     → most < at + size at (f item) → most < end
 too_long_item f most at end items item rest e all h =
     let after = end_after (at + size at (f item)) (map f rest) in

@@ -13,13 +13,15 @@ any_of_views p view [] = refl
 any_of_views p view (x ∷ xs) = ap (λ b. p (view x) || b) (any_of_views p view xs)
 
 -- the count of procedures of the last of segments
-count_at : (ss : List Segment) (i : ℕ) (last : Segment) → suc i ≡ length ss → slice_get ss i ≡ Some last → length last.procedures.items ≡ procedure_count (segments_seen ss)
+count_at : (ss : List Segment) (i : ℕ) (last : Segment) → suc i ≡ length ss → slice_get ss i ≡ Some last
+    → length last.procedures.items ≡ procedure_count (segments_seen ss)
 count_at [] i last e h = absurd (omega (arith, e))
 count_at (s ∷ []) zero last e h = cc (length-map last.procedures.items procedure_seen)
 count_at (s ∷ []) (suc i) last e h = absurd (omega (arith, e))
 count_at (s ∷ t ∷ ss) zero last e h = absurd (omega (arith, e))
 count_at (s ∷ t ∷ ss) (suc i) last e h = count_at (t ∷ ss) i last (omega (arith, e)) h
 
-pub count_of_last : (ss : List Segment) (last : Segment) → slice_get ss (length ss - 1) ≡ Some last → length last.procedures.items ≡ procedure_count (segments_seen ss)
+pub count_of_last : (ss : List Segment) (last : Segment) → slice_get ss (length ss - 1) ≡ Some last
+    → length last.procedures.items ≡ procedure_count (segments_seen ss)
 count_of_last [] last h = absurd (cc)
 count_of_last (s ∷ ss) last h = count_at (s ∷ ss) (length (s ∷ ss) - 1) last (omega arith) h

@@ -16,7 +16,8 @@ use Rattle.pm_reader.proofs.Firsts.{first_front}
 abbrev pub seen_from : ℕ → List Line → List text.Line
 seen_from n lines = map line_seen (drop n lines)
 
-front : (lines : List Line) (n : ℕ) (line : Line) → (n < length lines) × (line ≡ get_or lines n line) → seen_from n lines ≡ line_seen line ∷ seen_from (n + 1) lines
+front : (lines : List Line) (n : ℕ) (line : Line) → (n < length lines) × (line ≡ get_or lines n line)
+    → seen_from n lines ≡ line_seen line ∷ seen_from (n + 1) lines
 front lines n line turn = at_drop_more (map line_seen) lines n line turn.0 ∙ ap (λ l. line_seen l ∷ seen_from (n + 1) lines) (sym turn.1)
 
 -- whether a later line ends a procedure
@@ -47,5 +48,6 @@ pub first_fault : (lines : List Line) (n : ℕ) (line : Line) (before : Reading)
 first_fault lines n line before faults fault turn here whole =
     let rest = seen_from (n + 1) lines in
     let more = faults_from (n + 1 + 1) (after_line before (line_seen line)) rest in
-    let first : IsFirstOf fault (line_faults (n + 1) before (line_seen line) rest ++ more) = λ memory. first_front fault (line_faults (n + 1) before (line_seen line) rest) more (here memory) in
+    let first : IsFirstOf fault (line_faults (n + 1) before (line_seen line) rest ++ more) =
+    λ memory. first_front fault (line_faults (n + 1) before (line_seen line) rest) more (here memory) in
     subst (IsFirstOf fault) (sym (ap (faults_from (n + 1) before) (front lines n line turn)) ∙ whole) first

@@ -5,7 +5,8 @@ ghost use Rattle.pm_reader.specs.Named.{HasLabelsOf};
 use crate::source::Procedure;
 use std::collections::BTreeMap;
 
-/// A procedure that has not ended, with the labels of its code, each with the index of its line: none is sought line by line.
+/// A procedure that has not ended, with the labels of its code, each with the index of its line: none is sought line by
+/// line.
 #[derive(Debug, Drop)]
 pub(crate) struct Current<'a> {
     /// What the lines so far have said of it.

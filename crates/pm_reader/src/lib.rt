@@ -1,6 +1,7 @@
 //! The reader of the assembler: the segments that a text says, read line by line, or its first fault of reading.
 //!
-//! `source_of` reads a text. What it answers borrows from the text, and labels are not looked up yet. `item_size`, `row_end` and
+//! `source_of` reads a text. What it answers borrows from the text, and labels are not looked up yet. `item_size`,
+//! `row_end` and
 //! `source_end` tell how many bytes its parts will have.
 #![tactic(auto)]
 

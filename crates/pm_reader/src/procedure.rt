@@ -40,7 +40,8 @@ impl Procedure<'_> {
         any_exit(&self.code)
     }
 
-    /// Whether the code has an odd length, or takes other entries than there are; none where memory cannot hold the code.
+    /// Whether the code has an odd length, or takes other entries than there are; none where memory cannot hold the
+    /// code.
     pub(crate) fn is_uneven(&self) -> Option<bool>
         ensures uneven { IfSome result (λ uneven. uneven ≡ is_uneven (procedure_seen self.now)) }
         ensures too_long { result ≡ None → IsCountless (code_end 0 (procedure_seen self.now).code) }
@@ -76,7 +77,8 @@ impl<'a> Current<'a> {
 
     /// It with one line of code more.
     pub(crate) fn with_row(self, row: Row<'a>) -> Result<Current<'a>, AllocError>
-        ensures row { IfOk result (λ current. current_seen current ≡ after_code (row_seen row.entry) (current_seen self.entry)) }
+        ensures row { IfOk result (λ current. current_seen current
+            ≡ after_code (row_seen row.entry) (current_seen self.entry)) }
     {
         let Current {
             mut procedure,

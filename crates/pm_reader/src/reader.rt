@@ -6,7 +6,8 @@ ghost use Rattle.pm_line.specs.Views.{statement_seen, flaw_seen, line_seen};
 ghost use Rattle.pm_source.specs.Line as text;
 ghost use Rattle.pm_source.specs.Line.Line.{Says};
 ghost use Rattle.pm_source.specs.Faults as faults;
-ghost use Rattle.pm_source.specs.Faults.{after, after_line, closed, ends, is_again, is_in_place, is_miscounted, line_faults, procedure_count, start};
+ghost use Rattle.pm_source.specs.Faults.{after, after_line, closed, ends, is_again, is_in_place};
+ghost use Rattle.pm_source.specs.Faults.{is_miscounted, line_faults, procedure_count, start};
 ghost use Rattle.pm_reader.specs.Views.{segments_seen};
 ghost use Rattle.pm_reader.specs.Firsts.{IsFirstOf};
 ghost use Rattle.pm_source.specs.declared.fault.AsmFault.TheVariants.{NoMemory};
@@ -99,10 +100,11 @@ impl<'a> Reader<'a> {
         }
     }
 
-    /// Whether a procedure has a number that is not the next one, or ends with an odd length or a wrong count of entries; none where
-    /// memory cannot hold its code.
+    /// Whether a procedure has a number that is not the next one, or ends with an odd length or a wrong count of
+    /// entries; none where memory cannot hold its code.
     fn is_miscounted(&self, statement: &Statement<'a>) -> Option<bool>
-        ensures miscounted { IfSome result (λ wrong. wrong ≡ is_miscounted (reader_seen self.now) (statement_seen statement.now)) }
+        ensures miscounted { IfSome result (λ wrong. wrong
+            ≡ is_miscounted (reader_seen self.now) (statement_seen statement.now)) }
         ensures too_long { result ≡ None → IsCountless (open_end (reader_seen self.now).current) }
     {
         match (statement, &self.current) {
@@ -114,7 +116,8 @@ impl<'a> Reader<'a> {
         }
     }
 
-    /// The first of what is wrong in a statement, by whether a later line ends a procedure; no memory where it cannot hold the code.
+    /// The first of what is wrong in a statement, by whether a later line ends a procedure; no memory where it cannot
+    /// hold the code.
     fn said_fault(
         &self,
         number: usize,
@@ -123,7 +126,8 @@ impl<'a> Reader<'a> {
         ends_later: bool,
     ) -> Option<AsmFault>
         ensures fault { (rest : List text.Line) → ends_later ≡ list_any ends rest
-            → Answers result (line_faults number (reader_seen self.now) (Says (statement_seen said.now) (flaw_seen flaw)) rest) }
+            → Answers result (line_faults number (reader_seen self.now)
+            (Says (statement_seen said.now) (flaw_seen flaw)) rest) }
         ensures too_long { result ≡ Some NoMemory → IsCountless (open_end (reader_seen self.now).current) }
     {
         if !self.is_in_place(said) || is_begin(said) && !ends_later {
@@ -145,7 +149,8 @@ impl<'a> Reader<'a> {
         }
     }
 
-    /// The first of what is wrong in a line, by whether a later line ends a procedure; no memory where it cannot hold the code.
+    /// The first of what is wrong in a line, by whether a later line ends a procedure; no memory where it cannot hold
+    /// the code.
     fn line_fault(&self, number: usize, line: &Line<'a>, ends_later: bool) -> Option<AsmFault>
         ensures fault { (rest : List text.Line) → ends_later ≡ list_any ends rest
             → Answers result (line_faults number (reader_seen self.now) (line_seen line.now) rest) }
@@ -248,7 +253,8 @@ impl<'a> Reader<'a> {
         }
     }
 
-    /// Takes in a line without fault, by its number and whether a later line ends a procedure; its first fault is refused.
+    /// Takes in a line without fault, by its number and whether a later line ends a procedure; its first fault is
+    /// refused.
     pub(crate) fn step(
         &mut self,
         alloc: Global,
@@ -261,7 +267,8 @@ impl<'a> Reader<'a> {
         ensures taken { OnOk result (reader_seen self.new
             ≡ after_line (reader_seen self.old) (line_seen line.entry)) }
         ensures fault { (rest : List text.Line) → ends_later ≡ list_any ends rest
-            → IfErr result (λ fault. IsFirstOf fault (line_faults number (reader_seen self.old) (line_seen line.entry) rest)) }
+            → IfErr result (λ fault. IsFirstOf fault (line_faults number (reader_seen self.old)
+            (line_seen line.entry) rest)) }
     {
         if let Some(fault) = self.line_fault(number, &line, ends_later) {
             return Err(fault);

@@ -69,8 +69,8 @@ fn lines_of<'a>(alloc: Global, text: &'a str) -> Result<Vec<Line<'a>>, AllocErro
 
 /// What a text says: its segments with their labels, in the order of the text.
 ///
-/// It is Ok only where no line has a fault. Whether the labels that are named stand anywhere, and how long segments are, is not looked at.
-/// Refusals:
+/// It is Ok only where no line has a fault. Whether the labels that are named stand anywhere, and how long segments
+/// are, is not looked at. Refusals:
 ///
 /// - the first of the lines' faults (`Syntax`, `Unknown`, `Range`, `Twice`), with its line, numbered from 1;
 /// - `NoMemory`: memory could not grow, or cannot hold code as long as the text says.

@@ -1,7 +1,7 @@
 //! How many bytes code has. Each answer is `None` only where it would pass `usize::MAX`: memory cannot hold such code.
 
 ghost use Rattle.std.specs.Prelude.{◌≡◌, ◌<◌, None, IfSome, length, map};
-ghost use Rattle.pm_opcode.specs.Spelling.{is_odd, is_sized, number, padding, spelling};
+ghost use Rattle.pm_opcode.specs.Spelling.{is_odd, is_sized, spelled_number, pad_byte, spelling};
 ghost use Rattle.pm_disasm.specs.Item.{size};
 ghost use Rattle.pm_disasm.specs.Program.{end_of};
 ghost use Rattle.pm_line.specs.Views.{item_seen, row_seen};
@@ -15,14 +15,14 @@ use pm_opcode::{Form, Instr, form_at};
 
 /// How many bytes a number has.
 fn number_size(value: u16, long: bool) -> usize
-    ensures size { result ≡ length (number value long) }
+    ensures size { result ≡ length (spelled_number value long) }
 {
     if long || value >= 128 { 2 } else { 1 }
 }
 
 /// How many bytes the padding before an odd address has.
 fn padding_size(odd: bool) -> usize
-    ensures size { result ≡ length (padding odd 0) }
+    ensures size { result ≡ length (pad_byte odd 0) }
 {
     if odd { 1 } else { 0 }
 }
@@ -54,8 +54,8 @@ fn spelling_size(at: usize, instr: &Instr, named: &[u8]) -> Option<usize>
     }
 }
 
-/// How many bytes an item has that begins at an offset of its segment, wherever its jumps lead; an even or an odd offset decides the
-/// padding. `None` only where it would pass `usize::MAX`.
+/// How many bytes an item has that begins at an offset of its segment, wherever its jumps lead; an even or an odd
+/// offset decides the padding. `None` only where it would pass `usize::MAX`.
 pub fn item_size(at: usize, item: &Item<'_>) -> Option<usize>
     ensures size { IfSome result (λ n. n ≡ size at (item_seen item.now)) }
     ensures too_long { result ≡ None → 18446744073709551615 < size at (item_seen item.now) }
@@ -83,7 +83,8 @@ fn items_end(at: usize, items: &[Item<'_>]) -> Option<usize>
     Some(end)
 }
 
-/// The offset, in bytes, where a line of code ends that begins at an offset of its segment. `None` only where it would pass `usize::MAX`.
+/// The offset, in bytes, where a line of code ends that begins at an offset of its segment. `None` only where it would
+/// pass `usize::MAX`.
 pub fn row_end(at: usize, row: &Row<'_>) -> Option<usize>
     ensures end { IfSome result (λ n. n ≡ end_of at (row_items (row_seen row.now))) }
     ensures too_long { result ≡ None → 18446744073709551615 < end_of at (row_items (row_seen row.now)) }
@@ -106,8 +107,8 @@ pub(crate) fn code_end(at: usize, rows: &[Row<'_>]) -> Option<usize>
     Some(end)
 }
 
-/// The offset, in bytes, where a procedure ends that begins at an offset of its segment: behind its code, two bytes for each entry of its
-/// jump table, and ten bytes of attributes. `None` only where it would pass `usize::MAX`.
+/// The offset, in bytes, where a procedure ends that begins at an offset of its segment: behind its code, two bytes for
+/// each entry of its jump table, and ten bytes of attributes. `None` only where it would pass `usize::MAX`.
 pub fn source_end(at: usize, procedure: &Procedure<'_>) -> Option<usize>
     ensures end { IfSome result (λ n. n ≡ source_end at (procedure_seen procedure.now)) }
     ensures too_long { result ≡ None → 18446744073709551615 < source_end at (procedure_seen procedure.now) }

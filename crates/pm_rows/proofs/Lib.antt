@@ -1,1 +1,2 @@
 pub mod WordLists
+pub mod StoredWords

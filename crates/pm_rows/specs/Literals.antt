@@ -7,8 +7,8 @@ use Rattle.pm_opcode.specs.declared.operation.Literal.{Literal}
 use Rattle.pm_opcode.specs.declared.operation.Literal.TheVariants.{String, Characters, Words}
 
 -- LSA and LPA. .. -> .., x
-unfoldable pub address_row : ℕ → StackRow
-address_row x m sp np = push m sp np x
+unfoldable pub literal_address_row : ℕ → StackRow
+literal_address_row x m sp np = push m sp np x
 
 -- LDC. .. -> .., n words: n words of the code are pushed one after another, so that the last one is at the top; without
 -- room for all of them none is. That they lie in memory is so of every decoded instruction, and that SP is even of
@@ -22,6 +22,6 @@ words_row start n m sp np = do
 -- LSA gives the address of the count byte before its characters, LPA that of the characters, LDC its words (at most
 -- 255)
 unfoldable pub literal_row : Literal → StackRow
-literal_row (String start) m sp np = address_row (minus (start % 65536) 1) m sp np
-literal_row (Characters start) m sp np = address_row (start % 65536) m sp np
+literal_row (String start) m sp np = literal_address_row (minus (start % 65536) 1) m sp np
+literal_row (Characters start) m sp np = literal_address_row (start % 65536) m sp np
 literal_row (Words start count) m sp np = words_row start (count / 2 % 256) m sp np

@@ -21,8 +21,8 @@ abbrev pub variable_at : Scope → ℕ → List ℕ → Registers → Result ℕ
 variable_at scope b m r = frame_of scope m r >>= λ f. Ok ((f + 10 + 2 * b) % 65536)
 
 -- LAO, LLA and LDA. .. -> .., the address of variable b. Each row gives the memory and SP.
-unfoldable pub address_row : Scope → ℕ → List ℕ → Registers → Result (List ℕ × ℕ) ExecError
-address_row scope b m r = do
+unfoldable pub variable_address_row : Scope → ℕ → List ℕ → Registers → Result (List ℕ × ℕ) ExecError
+variable_address_row scope b m r = do
   x ← variable_at scope b m r
   push m r.sp r.np x
 
@@ -42,6 +42,6 @@ store_row scope b m r = do
   Ok (n, v.above)
 
 unfoldable pub variable_row : Variable → List ℕ → Registers → Result (List ℕ × ℕ) ExecError
-variable_row (Address scope b) m r = address_row scope b m r
+variable_row (Address scope b) m r = variable_address_row scope b m r
 variable_row (Load scope b) m r = load_row scope b m r
 variable_row (Store scope b) m r = store_row scope b m r

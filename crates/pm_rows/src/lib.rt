@@ -6,6 +6,7 @@
 pub mod arithmetic;
 pub mod jumps;
 pub mod literals;
+pub mod pointer_laws;
 pub mod pointers;
 pub mod values;
 pub mod variables;

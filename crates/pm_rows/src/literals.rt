@@ -4,7 +4,7 @@ ghost use Rattle.std.specs.Prelude.{◌≡◌, ◌+◌, ◌-◌, ◌*◌, ◌%�
 ghost use Rattle.pm_words.specs.Watch.{KeepsWatch};
 ghost use Rattle.pm_words.specs.Stack.{IsStack, Changes};
 ghost use Rattle.pm_words.specs.Words.{with_words, words_at};
-ghost use Rattle.pm_rows.specs.Literals.{address_row, literal_row, words_row};
+ghost use Rattle.pm_rows.specs.Literals.{literal_address_row, literal_row, words_row};
 
 use arrayvec::ArrayVec;
 use pm_opcode::Literal;
@@ -62,9 +62,10 @@ fn words(memory: &mut Memory, sp: u16, np: u16, start: u32, count: u8) -> Result
 }
 
 // LSA and LPA. .. -> .., address
-#[tactic(auto, unfolding(crate::specs::Literals::address_row), using(pm_words::proofs::WatchLaws::keeps))]
+#[tactic(auto, unfolding(crate::specs::Literals::literal_address_row), using(pm_words::proofs::WatchLaws::keeps))]
 fn address(memory: &mut Memory, sp: u16, np: u16, address: u16) -> Result<u16, ExecError>
-    ensures row { Changes result memory.old.words memory.new.words (address_row address memory.old.words sp np) }
+    ensures row { Changes result memory.old.words memory.new.words
+        (literal_address_row address memory.old.words sp np) }
     ensures stack { IsStack sp np → IfOk result (λ sp. IsStack sp np) }
     ensures keeps { KeepsWatch memory.old memory.new }
 {

@@ -5,7 +5,8 @@ use Rattle.std.specs.List.{AllByRecursion, list_any}
 use Rattle.pm_source.specs.declared.fault.AsmFault.{AsmFault}
 use Rattle.pm_source.specs.declared.fault.AsmFault.TheVariants.{Syntax, Unknown, Range, Twice}
 use Rattle.pm_source.specs.FaultNumbers.{place_of}
-use Rattle.pm_source.specs.Faults.{Reading, after_line, ends, faults_from, is_again, is_begin, is_in_place, is_miscounted, is_out_of_range, is_unknown, line_faults, lines_of, only_if, start}
+use Rattle.pm_source.specs.Faults.{Reading, after_line, ends, faults_from, is_again, is_begin, is_in_place, is_miscounted}
+use Rattle.pm_source.specs.Faults.{is_out_of_range, is_unknown, line_faults, lines_of, only_if, start}
 use Rattle.pm_source.specs.Line.{Line}
 use Rattle.pm_source.specs.Line.Line.{Blank, Wrong, Strange, Says}
 use Rattle.pm_source.specs.Same.{AscendFrom, LineFaultsAscend}

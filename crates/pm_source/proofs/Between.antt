@@ -26,7 +26,8 @@ front_trimmed c xs h = ap (map trimmed) front ∙ trimmed_first c (pieces false 
 before : (c : ℕ) (rest : List ℕ) → is_blank c ≡ true → operands (c ∷ rest) ≡ operands rest
 before c rest h =
     let off : unindented (c ∷ rest) ≡ unindented rest = rw h refl in
-    ap (λ cs. if is_empty cs then [] else map trimmed (pieces false (c ∷ rest))) off ∙ ap (λ ts. if is_empty (unindented rest) then [] else ts) (front_trimmed c rest h)
+    ap (λ cs. if is_empty cs then [] else map trimmed (pieces false (c ∷ rest))) off
+    ∙ ap (λ ts. if is_empty (unindented rest) then [] else ts) (front_trimmed c rest h)
 
 -- the pieces of a text are those before a comma and those behind it
 onto_some : (x : ℕ) (ps qs : List (List ℕ)) → is_empty ps ≡ false → onto_first x (ps ++ qs) ≡ onto_first x ps ++ qs
@@ -40,7 +41,8 @@ comma_quote x quoted h = by (x == 44) refl h
     by true e k = grind (arith, nat_tests)
     by false e k = absurd (cc)
 
-joined_pieces : (quoted : Bool) (front rest : List ℕ) → is_open quoted front ≡ false → pieces quoted (front ++ 44 ∷ rest) ≡ pieces quoted front ++ pieces false rest
+joined_pieces : (quoted : Bool) (front rest : List ℕ) → is_open quoted front ≡ false
+    → pieces quoted (front ++ 44 ∷ rest) ≡ pieces quoted front ++ pieces false rest
 joined_pieces true [] rest h = absurd (cc)
 joined_pieces false [] rest h = refl
 joined_pieces quoted (x ∷ xs) rest h =
@@ -55,7 +57,8 @@ joined_pieces quoted (x ∷ xs) rest h =
         let closed : is_open quoted xs ≡ false = sym (ap (λ b. is_open (if b then not quoted else quoted) xs) same) ∙ h in
         ap (λ ps. [] ∷ ps) (f closed)
     by false e f g =
-        ap (onto_first x) g ∙ onto_some x (pieces (if x == 34 then not quoted else quoted) xs) (pieces false rest) (some_piece (if x == 34 then not quoted else quoted) xs)
+        ap (onto_first x) g ∙ onto_some x (pieces (if x == 34 then not quoted else quoted) xs) (pieces false rest)
+        (some_piece (if x == 34 then not quoted else quoted) xs)
 
 not_empty : (front rest : List ℕ) → is_empty (unindented (front ++ 44 ∷ rest)) ≡ false
 not_empty [] rest = refl
@@ -65,13 +68,15 @@ not_empty (x ∷ xs) rest = by (is_blank x) (not_empty xs rest)
     by true e = e
     by false e = refl
 
-around_comma : (front rest : List ℕ) → is_open false front ≡ false → operands (front ++ 44 ∷ rest) ≡ map trimmed (pieces false front) ++ map trimmed (pieces false rest)
+around_comma : (front rest : List ℕ) → is_open false front ≡ false
+    → operands (front ++ 44 ∷ rest) ≡ map trimmed (pieces false front) ++ map trimmed (pieces false rest)
 around_comma front rest h =
     ap (λ b. if b then [] else map trimmed (pieces false (front ++ 44 ∷ rest))) (not_empty front rest)
     ∙ ap (map trimmed) (joined_pieces false front rest h)
     ∙ map-append trimmed (pieces false front) (pieces false rest)
 
-after_comma : (c : ℕ) (front rest : List ℕ) → is_blank c ≡ true → is_open false front ≡ false → operands (front ++ 44 ∷ c ∷ rest) ≡ operands (front ++ 44 ∷ rest)
+after_comma : (c : ℕ) (front rest : List ℕ) → is_blank c ≡ true → is_open false front ≡ false
+    → operands (front ++ 44 ∷ c ∷ rest) ≡ operands (front ++ 44 ∷ rest)
 after_comma c front rest h k =
     around_comma front (c ∷ rest) k ∙ ap (λ ts. map trimmed (pieces false front) ++ ts) (front_trimmed c rest h) ∙ sym (around_comma front rest k)
 
@@ -79,7 +84,8 @@ open_behind : (c : ℕ) (quoted : Bool) (front : List ℕ) → is_blank c ≡ tr
 open_behind c quoted [] h = let quote = no_quote c h in rw quote refl
 open_behind c quoted (x ∷ xs) h = open_behind c (if x == 34 then not quoted else quoted) xs h
 
-before_comma : (c : ℕ) (front rest : List ℕ) → is_blank c ≡ true → is_open false front ≡ false → operands (front ++ c ∷ 44 ∷ rest) ≡ operands (front ++ 44 ∷ rest)
+before_comma : (c : ℕ) (front rest : List ℕ) → is_blank c ≡ true → is_open false front ≡ false
+    → operands (front ++ c ∷ 44 ∷ rest) ≡ operands (front ++ 44 ∷ rest)
 before_comma c front rest h k =
     ap operands (sym (append_assoc front (c ∷ []) (44 ∷ rest)))
     ∙ around_comma (front ++ c ∷ []) rest (open_behind c false front h ∙ k)

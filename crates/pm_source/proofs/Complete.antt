@@ -1,5 +1,6 @@
 -- The statements of a sound program have no faults, and are read as that program.
-use Rattle.std.proofs.Common.{◌≡◌, ◌≤◌, ℕ, ◌+◌, ◌%◌, Bool, true, false, eqb, not, List, [], ◌∷◌, ◌++◌, length, map, refl, sym, ap, subst, ◌∙◌, arith, append_assoc, Some, None}
+use Rattle.std.proofs.Common.{◌≡◌, ◌≤◌, ℕ, ◌+◌, ◌%◌, Bool, true, false, eqb, not, List, [], ◌∷◌, ◌++◌}
+use Rattle.std.proofs.Common.{length, map, refl, sym, ap, subst, ◌∙◌, arith, append_assoc, Some, None}
 use Rattle.std.specs.Prelude.{◌||◌, nat_eq, ◌==◌}
 use Rattle.std.specs.List.{list_any, AllByRecursion, IsDistinct}
 use Rattle.std.specs.Option.{option_to_list}
@@ -7,7 +8,8 @@ use Rattle.std.specs.Str.{bytes_eq}
 use Rattle.std.proofs.lemmas.Bool.{eq-eqb}
 use Rattle.std.proofs.lemmas.Bool.Decides.{nat_tests}
 use Rattle.std.proofs.lemmas.Grind.{common_steps}
-use Rattle.pm_source.specs.Source.{Name, Row, Statement, Source, SourceSegment, head_statements, entry_statement, statements_from, segment_statements, statements, labels_of, has_label, is_exit, exits_of, code_end, entries_used, IsSource, AreSources}
+use Rattle.pm_source.specs.Source.{Name, Row, Statement, Source, SourceSegment, head_statements, entry_statement, statements_from, segment_statements}
+use Rattle.pm_source.specs.Source.{statements, labels_of, has_label, is_exit, exits_of, code_end, entries_used, IsSource, AreSources}
 use Rattle.pm_source.specs.Source.Row.{Items, Exit}
 use Rattle.pm_source.specs.Source.Statement.{Segment, Begin, Code, End}
 use Rattle.pm_source.specs.Words.{is_empty}
@@ -28,11 +30,13 @@ all_after r (x ∷ xs) ys = all_after (after r x) xs ys
 
 pub statements_append : (xs ys : List SourceSegment) → statements (xs ++ ys) ≡ statements xs ++ statements ys
 statements_append [] ys = refl
-statements_append (x ∷ xs) ys = ap (λ zs. segment_statements x ++ zs) (statements_append xs ys) ∙ sym (append_assoc (segment_statements x) (statements xs) (statements ys))
+statements_append (x ∷ xs) ys =
+    ap (λ zs. segment_statements x ++ zs) (statements_append xs ys) ∙ sym (append_assoc (segment_statements x) (statements xs) (statements ys))
 
 pub labels_append : (xs ys : List Row) → labels_of (xs ++ ys) ≡ labels_of xs ++ labels_of ys
 labels_append [] ys = refl
-labels_append (Items line label items ∷ xs) ys = ap (λ zs. option_to_list label ++ zs) (labels_append xs ys) ∙ sym (append_assoc (option_to_list label) (labels_of xs) (labels_of ys))
+labels_append (Items line label items ∷ xs) ys =
+    ap (λ zs. option_to_list label ++ zs) (labels_append xs ys) ∙ sym (append_assoc (option_to_list label) (labels_of xs) (labels_of ys))
 labels_append (Exit ∷ xs) ys = labels_append xs ys
 
 -- an element among distinct ones is none of those before it
@@ -85,7 +89,14 @@ has_label_is label (Exit ∷ rows) = has_label_is label rows
 
 row_fits : (segments : List SourceSegment) (p : Source) (row : Row) (rows : List Row) → RowsFit p (row ∷ rows) → IsFit (inside segments p) (Code row)
 row_fits segments p (Items line None items) rows h = record { in_place = rw h.entries refl; new = refl; counted = refl }
-row_fits segments p (Items line (Some label) items) rows h = record { in_place = rw h.entries refl; new = has_label_is label p.code ∙ new_among bytes_eq (labels_of p.code) label (labels_of rows) (subst (IsDistinct bytes_eq) (labels_append p.code (Items line (Some label) items ∷ rows)) h.labels); counted = refl }
+row_fits segments p (Items line (Some label) items) rows h =
+    record {
+      in_place = rw h.entries refl;
+      new = has_label_is label p.code
+          ∙ new_among bytes_eq (labels_of p.code) label (labels_of rows)
+          (subst (IsDistinct bytes_eq) (labels_append p.code (Items line (Some label) items ∷ rows)) h.labels);
+      counted = refl;
+    }
 row_fits segments p Exit rows h =
     let e : exits_of p.code ≡ 0 = omega (arith, h.exits, exits_append p.code (Exit ∷ rows)) in
     record { in_place = rw h.entries refl; new = has_exit_is p.code ∙ rw e refl; counted = refl }
@@ -95,18 +106,23 @@ next_rows p row rows h =
     let e : (p.code ++ row ∷ []) ++ rows ≡ p.code ++ row ∷ rows = append_assoc p.code (row ∷ []) rows in
     record { labels = rw e h.labels; exits = rw e h.exits; entries = h.entries }
 
-pub rows_fit : (segments : List SourceSegment) (p : Source) (rows : List Row) → RowsFit p rows → AreFit (inside segments p) (map Code rows) × (after_all (inside segments p) (map Code rows) ≡ inside segments (with_code p rows))
+pub rows_fit : (segments : List SourceSegment) (p : Source) (rows : List Row) → RowsFit p rows
+    → AreFit (inside segments p) (map Code rows) × (after_all (inside segments p) (map Code rows) ≡ inside segments (with_code p rows))
 rows_fit segments p [] h = (tt, ap (λ c. inside segments (record p { code = c })) (sym (append_nil p.code)))
 rows_fit segments p (row ∷ rows) h =
     let more = rows_fit segments (with_code p (row ∷ [])) rows (next_rows p row rows h) in
     ((row_fits segments p row rows h, more.0), more.1 ∙ ap (λ c. inside segments (record p { code = c })) (append_assoc p.code (row ∷ []) rows))
 
 -- the entries behind the code
-pub entries_fit : (segments : List SourceSegment) (p : Source) (entries : List (ℕ × Name)) → AreFit (inside segments p) (map entry_statement entries) × (after_all (inside segments p) (map entry_statement entries) ≡ inside segments (record p { entries = p.entries ++ entries }))
+pub entries_fit : (segments : List SourceSegment) (p : Source) (entries : List (ℕ × Name))
+    → AreFit (inside segments p) (map entry_statement entries) × (after_all (inside segments p) (map entry_statement entries)
+    ≡ inside segments (record p { entries = p.entries ++ entries }))
 entries_fit segments p [] = (tt, ap (λ es. inside segments (record p { entries = es })) (sym (append_nil p.entries)))
 entries_fit segments p (e ∷ es) =
-    let more = entries_fit segments (record p { entries = p.entries ++ e ∷ [] }) es in
-    ((record { in_place = refl; new = refl; counted = refl }, more.0), more.1 ∙ ap (λ xs. inside segments (record p { entries = xs })) (append_assoc p.entries (e ∷ []) es))
+    let more = entries_fit segments (record p { entries = p.entries ++ e ∷ [] }) es in (
+      (record { in_place = refl; new = refl; counted = refl }, more.0),
+      more.1 ∙ ap (λ xs. inside segments (record p { entries = xs })) (append_assoc p.entries (e ∷ []) es),
+    )
 
 -- A whole procedure, from its first statement to its last.
 abbrev begun : Source → Source
@@ -117,7 +133,8 @@ last_count [] s = refl
 last_count (x ∷ []) s = refl
 last_count (x ∷ y ∷ done) s = last_count (y ∷ done) s
 
-last_with : (done : List SourceSegment) (s : SourceSegment) (p : Source) → with_procedure p (done ++ s ∷ []) ≡ done ++ record s { procedures = s.procedures ++ p ∷ [] } ∷ []
+last_with : (done : List SourceSegment) (s : SourceSegment) (p : Source)
+    → with_procedure p (done ++ s ∷ []) ≡ done ++ record s { procedures = s.procedures ++ p ∷ [] } ∷ []
 last_with [] s p = refl
 last_with (x ∷ []) s p = refl
 last_with (x ∷ y ∷ done) s p = ap (λ ss. x ∷ ss) (last_with (y ∷ done) s p)
@@ -127,32 +144,45 @@ some_last [] s = refl
 some_last (x ∷ done) s = refl
 
 pub procedure_fits : (done : List SourceSegment) (s : SourceSegment) (p : Source) (n : ℕ) → n ≡ length s.procedures + 1 → IsSource p
-    → AreFit (outside (done ++ s ∷ [])) (head_statements n p ++ End ∷ []) × (after_all (outside (done ++ s ∷ [])) (head_statements n p ++ End ∷ []) ≡ outside (done ++ record s { procedures = s.procedures ++ p ∷ [] } ∷ []))
+    → AreFit (outside (done ++ s ∷ [])) (head_statements n p ++ End ∷ [])
+    × (after_all (outside (done ++ s ∷ [])) (head_statements n p ++ End ∷ []) ≡ outside (done ++ record s { procedures = s.procedures ++ p ∷ [] } ∷ []))
 procedure_fits done s p n e h =
     let segments : List SourceSegment = done ++ s ∷ [] in
     let same : eqb n (procedure_count segments + 1) ≡ true = eq-eqb _ _ (omega (arith, e, last_count done s)) in
-    let first : IsFit (outside segments) (Begin n p.level p.parameters p.locals) = record { in_place = rw (some_last done s) refl; new = refl; counted = rw same refl } in
+    let first : IsFit (outside segments) (Begin n p.level p.parameters p.locals) =
+    record { in_place = rw (some_last done s) refl; new = refl; counted = rw same refl } in
     let code = rows_fit segments (begun p) p.code (record { labels = h.labels; exits = omega (arith, h.exit); entries = refl }) in
     let table = entries_fit segments (record p { entries = [] }) p.entries in
     let even : eqb (code_end 0 p.code % 2) 0 ≡ true = eq-eqb _ _ h.even in
     let used : eqb (length p.entries) (entries_used p.code) ≡ true = eq-eqb _ _ h.used in
     let last : IsFit (inside segments p) End = record { in_place = has_exit_is p.code ∙ rw h.exit refl; new = refl; counted = rw (even, used) refl } in
-    let after_code : after_all (inside segments (begun p)) (map Code p.code ++ map entry_statement p.entries) ≡ inside segments p = all_after (inside segments (begun p)) (map Code p.code) (map entry_statement p.entries) ∙ ap (λ r. after_all r (map entry_statement p.entries)) code.1 ∙ table.1 in
-    let body : AreFit (inside segments (begun p)) (map Code p.code ++ map entry_statement p.entries) = fit_append (inside segments (begun p)) (map Code p.code) (map entry_statement p.entries) code.0 (rw code.1 table.0) in
-    let whole : AreFit (inside segments (begun p)) ((map Code p.code ++ map entry_statement p.entries) ++ End ∷ []) = fit_append (inside segments (begun p)) (map Code p.code ++ map entry_statement p.entries) (End ∷ []) body (rw after_code (last, tt)) in
-    ((first, whole), all_after (inside segments (begun p)) (map Code p.code ++ map entry_statement p.entries) (End ∷ []) ∙ ap (λ r. after r End) after_code ∙ ap outside (last_with done s p))
+    let after_code : after_all (inside segments (begun p)) (map Code p.code ++ map entry_statement p.entries) ≡ inside segments p =
+    all_after (inside segments (begun p)) (map Code p.code) (map entry_statement p.entries) ∙ ap (λ r. after_all r (map entry_statement p.entries)) code.1
+    ∙ table.1 in
+    let body : AreFit (inside segments (begun p)) (map Code p.code ++ map entry_statement p.entries) =
+    fit_append (inside segments (begun p)) (map Code p.code) (map entry_statement p.entries) code.0 (rw code.1 table.0) in
+    let whole : AreFit (inside segments (begun p)) ((map Code p.code ++ map entry_statement p.entries) ++ End ∷ []) =
+    fit_append (inside segments (begun p)) (map Code p.code ++ map entry_statement p.entries) (End ∷ []) body (rw after_code (last, tt)) in (
+      (first, whole),
+      all_after (inside segments (begun p)) (map Code p.code ++ map entry_statement p.entries) (End ∷ []) ∙ ap (λ r. after r End) after_code
+          ∙ ap outside (last_with done s p),
+    )
 
 procedures_fit : (done : List SourceSegment) (s : SourceSegment) (ps : List Source) (n : ℕ) → n ≡ length s.procedures + 1 → AllByRecursion IsSource ps
-    → AreFit (outside (done ++ s ∷ [])) (statements_from n ps) × (after_all (outside (done ++ s ∷ [])) (statements_from n ps) ≡ outside (done ++ record s { procedures = s.procedures ++ ps } ∷ []))
+    → AreFit (outside (done ++ s ∷ [])) (statements_from n ps) × (after_all (outside (done ++ s ∷ [])) (statements_from n ps)
+    ≡ outside (done ++ record s { procedures = s.procedures ++ ps } ∷ []))
 procedures_fit done s [] n e h = (tt, ap (λ qs. outside (done ++ record s { procedures = qs } ∷ [])) (sym (append_nil s.procedures)))
 procedures_fit done s (p ∷ ps) n e h =
     let longer : SourceSegment = record s { procedures = s.procedures ++ p ∷ [] } in
     let here = procedure_fits done s p n e h.0 in
     let more = procedures_fit done longer ps (n + 1) (grind (arith, common_steps)) h.1 in
     let r : Reading = outside (done ++ s ∷ []) in
-    let regrouped : (head_statements n p ++ End ∷ []) ++ statements_from (n + 1) ps ≡ head_statements n p ++ End ∷ statements_from (n + 1) ps = append_assoc (head_statements n p) (End ∷ []) (statements_from (n + 1) ps) in (
-      subst (AreFit r) regrouped (fit_append r (head_statements n p ++ End ∷ []) (statements_from (n + 1) ps) here.0 (subst (λ q. AreFit q (statements_from (n + 1) ps)) (sym here.1) more.0)),
-      ap (after_all r) (sym regrouped) ∙ all_after r (head_statements n p ++ End ∷ []) (statements_from (n + 1) ps) ∙ ap (λ q. after_all q (statements_from (n + 1) ps)) here.1 ∙ more.1
+    let regrouped : (head_statements n p ++ End ∷ []) ++ statements_from (n + 1) ps ≡ head_statements n p ++ End ∷ statements_from (n + 1) ps =
+    append_assoc (head_statements n p) (End ∷ []) (statements_from (n + 1) ps) in (
+      subst (AreFit r) regrouped (fit_append r (head_statements n p ++ End ∷ []) (statements_from (n + 1) ps) here.0
+          (subst (λ q. AreFit q (statements_from (n + 1) ps)) (sym here.1) more.0)),
+      ap (after_all r) (sym regrouped) ∙ all_after r (head_statements n p ++ End ∷ []) (statements_from (n + 1) ps)
+          ∙ ap (λ q. after_all q (statements_from (n + 1) ps)) here.1 ∙ more.1
           ∙ ap (λ qs. outside (done ++ record s { procedures = qs } ∷ [])) (append_assoc s.procedures (p ∷ []) ps),
     )
 
@@ -164,12 +194,15 @@ pub map_append : {A B : Type 0} (f : A → B) (xs ys : List A) → map f (xs ++ 
 map_append f [] ys = refl
 map_append f (x ∷ xs) ys = ap (λ zs. f x ∷ zs) (map_append f xs ys)
 
-segments_fit : (done ss : List SourceSegment) → IsDistinct nat_eq (map (λ s. s.number) (done ++ ss)) → AllByRecursion (λ s. AllByRecursion IsSource s.procedures) ss
+segments_fit : (done ss : List SourceSegment) → IsDistinct nat_eq (map (λ s. s.number) (done ++ ss))
+    → AllByRecursion (λ s. AllByRecursion IsSource s.procedures) ss
     → AreFit (outside done) (statements ss) × (after_all (outside done) (statements ss) ≡ outside (done ++ ss))
 segments_fit done [] d h = (tt, ap outside (sym (append_nil done)))
 segments_fit done (s ∷ ss) d h =
     let empty : SourceSegment = record { number = s.number; name = s.name; procedures = [] } in
-    let new : list_any (λ t. t.number == s.number) done ≡ false = any_number done s.number ∙ new_among nat_eq (map (λ t. t.number) done) s.number (map (λ t. t.number) ss) (subst (IsDistinct nat_eq) (map_append (λ t. t.number) done (s ∷ ss)) d) in
+    let new : list_any (λ t. t.number == s.number) done ≡ false = any_number done s.number
+    ∙ new_among nat_eq (map (λ t. t.number) done) s.number (map (λ t. t.number) ss)
+    (subst (IsDistinct nat_eq) (map_append (λ t. t.number) done (s ∷ ss)) d) in
     let first : IsFit (outside done) (Segment s.number s.name) = record { in_place = refl; new = new; counted = refl } in
     let inner = procedures_fit done empty s.procedures 1 (omega arith) h.0 in
     let regrouped : (done ++ s ∷ []) ++ ss ≡ done ++ s ∷ ss = append_assoc done (s ∷ []) ss in
@@ -182,5 +215,6 @@ segments_fit done (s ∷ ss) d h =
     )
 
 -- The statements of a sound program are fit, and say that program.
-pub program_fits : (ss : List SourceSegment) → AreSources ss → AreFit start (statements ss) × (after_all start (statements ss) ≡ record { segments = ss; current = None })
+pub program_fits : (ss : List SourceSegment) → AreSources ss → AreFit start (statements ss)
+    × (after_all start (statements ss) ≡ record { segments = ss; current = None })
 program_fits ss h = segments_fit [] ss h.0 h.1

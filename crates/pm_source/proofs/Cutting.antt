@@ -41,7 +41,8 @@ word_cut (c ∷ w) tail h t =
     rw solid (ap (onto_word c) (word_cut w tail parts.1 t))
 
 -- the first word of text that begins with one
-pub first_cut : (w tail : List ℕ) → is_empty w ≡ false → list_all is_name_character w ≡ true → ends_word tail ≡ true → cut (w ++ tail) ≡ record { word = w; rest = tail }
+pub first_cut : (w tail : List ℕ) → is_empty w ≡ false → list_all is_name_character w ≡ true → ends_word tail ≡ true
+    → cut (w ++ tail) ≡ record { word = w; rest = tail }
 unfolding cut
 first_cut [] tail e h t = absurd (cc)
 first_cut (c ∷ w) tail e h t =

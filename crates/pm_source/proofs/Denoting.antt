@@ -1,5 +1,6 @@
 -- The characters of a listing denote its lines.
-use Rattle.std.proofs.Common.{◌≡◌, ◌<◌, ◌≤◌, ℕ, ◌^◌, ◌+◌, ◌/◌, ◌%◌, Bool, true, false, List, [], ◌∷◌, ◌++◌, length, map, reverse, refl, sym, ap, subst, ◌∙◌, arith, append_assoc, Some}
+use Rattle.std.proofs.Common.{◌≡◌, ◌<◌, ◌≤◌, ℕ, ◌^◌, ◌+◌, ◌/◌, ◌%◌, Bool, true, false, List, [], ◌∷◌, ◌++◌}
+use Rattle.std.proofs.Common.{length, map, reverse, refl, sym, ap, subst, ◌∙◌, arith, append_assoc, Some}
 use Rattle.std.specs.Prelude.{◌==◌, if◌then◌else◌}
 use Rattle.std.specs.List.{AllByRecursion, list_all}
 use Rattle.std.specs.Char.{digit_value}
@@ -15,8 +16,10 @@ use Rattle.pm_disasm.specs.Program.{Procedure, Segment, AreItems, AscendFrom, Fi
 use Rattle.pm_disasm.specs.Shown.{entry_line, joined, named_places, padded, shown_item}
 use Rattle.pm_disasm.proofs.ItemBytes.{AreBytes}
 use Rattle.pm_disasm.proofs.Laid.{are_segment_bytes}
-use Rattle.pm_source.specs.Denoted.{Denoted, ArePlacedFrom, ListingDenotesSegments, ListingIsRead, bytes_of_lines, denoted, denoted_line, denoted_program, line_by_words, line_value, of_segment, pairs_value}
-use Rattle.pm_source.specs.Image.{Listed, StandFrom, bytes_of_segment, listed_attributes, listed_bytes, listed_dictionary, listed_entries, listed_items, listed_line, listed_lines, listed_procedure, listed_procedures, listed_segment, listing, pairs_text, upper_digit}
+use Rattle.pm_source.specs.Denoted.{Denoted, ArePlacedFrom, ListingDenotesSegments, ListingIsRead, bytes_of_lines, denoted}
+use Rattle.pm_source.specs.Denoted.{denoted_line, denoted_program, line_by_words, line_value, of_segment, pairs_value}
+use Rattle.pm_source.specs.Image.{Listed, StandFrom, bytes_of_segment, listed_attributes, listed_bytes, listed_dictionary, listed_entries, listed_items}
+use Rattle.pm_source.specs.Image.{listed_line, listed_lines, listed_procedure, listed_procedures, listed_segment, listing, pairs_text, upper_digit}
 use Rattle.pm_source.specs.Line.{is_character}
 use Rattle.pm_source.specs.Words.{cut, ends_word}
 use Rattle.pm_source.proofs.Cutting.{and_turned, first_cut, word_characters}
@@ -75,7 +78,8 @@ ended number l rest =
     let e : List ℕ = l.what in
     five a b c d e
   where
-    five : (a b c d e : List ℕ) → (a ++ (32 ∷ b ++ (32 ∷ c ++ (d ++ (32 ∷ 32 ∷ e ++ (10 ∷ [])))))) ++ rest ≡ (a ++ (32 ∷ b ++ (32 ∷ c ++ (d ++ (32 ∷ 32 ∷ e))))) ++ 10 ∷ rest
+    five : (a b c d e : List ℕ) → (a ++ (32 ∷ b ++ (32 ∷ c ++ (d ++ (32 ∷ 32 ∷ e ++ (10 ∷ [])))))) ++ rest
+        ≡ (a ++ (32 ∷ b ++ (32 ∷ c ++ (d ++ (32 ∷ 32 ∷ e))))) ++ 10 ∷ rest
     five a b c d e =
         append_assoc a (32 ∷ b ++ (32 ∷ c ++ (d ++ (32 ∷ 32 ∷ e ++ (10 ∷ []))))) rest
         ∙ ap (λ u. a ++ 32 ∷ u) (append_assoc b (32 ∷ c ++ (d ++ (32 ∷ 32 ∷ e ++ (10 ∷ [])))) rest
@@ -104,8 +108,10 @@ line_again number l n h =
     let first : List ℕ = 32 ∷ padded 3 l.procedure ++ second in
     let a = padded_word 2 number n in
     let c : cut (line_text number l) ≡ record { word = padded 2 number; rest = first } = first_cut (padded 2 number) first a.some a.plain refl in
-    let d : cut first ≡ record { word = padded 3 l.procedure; rest = second } = behind (padded 3 l.procedure) second (padded_word 3 l.procedure h.procedure) refl in
-    let e : cut second ≡ record { word = padded 5 l.at; rest = third } = behind (padded 5 l.at) third (padded_word 5 l.at h.at) (pairs_end l.bytes (32 ∷ l.what)) in
+    let d : cut first ≡ record { word = padded 3 l.procedure; rest = second } =
+    behind (padded 3 l.procedure) second (padded_word 3 l.procedure h.procedure) refl in
+    let e : cut second ≡ record { word = padded 5 l.at; rest = third } =
+    behind (padded 5 l.at) third (padded_word 5 l.at h.at) (pairs_end l.bytes (32 ∷ l.what)) in
     let p = padded_value 2 number n in
     let q = padded_value 3 l.procedure h.procedure in
     let r = padded_value 5 l.at h.at in
@@ -143,12 +149,14 @@ listing_joined [] = refl
 listing_joined (s ∷ ss) =
     ap (λ u. listed_lines s.number (listed_segment s) ++ u) (listing_joined ss) ∙ segment_joined s.number (listed_segment s) (texts_of ss)
 
-lines_again : (number : ℕ) (ls : List Listed) → number < 2 ^ 64 → AllByRecursion IsLine ls → map line_value (map (line_text number) ls) ≡ map (denoted_line number) ls
+lines_again : (number : ℕ) (ls : List Listed) → number < 2 ^ 64 → AllByRecursion IsLine ls
+    → map line_value (map (line_text number) ls) ≡ map (denoted_line number) ls
 lines_again number [] n h = refl
 lines_again number (l ∷ ls) n h =
     ap (λ d. d ∷ map line_value (map (line_text number) ls)) (line_again number l n h.0) ∙ ap (λ ds. denoted_line number l ∷ ds) (lines_again number ls n h.1)
 
-lines_characters : (number : ℕ) (ls : List Listed) (texts : List (List ℕ)) → number < 2 ^ 64 → AllByRecursion IsLine ls → AreCharacters texts → AreCharacters (map (line_text number) ls ++ texts)
+lines_characters : (number : ℕ) (ls : List Listed) (texts : List (List ℕ)) → number < 2 ^ 64 → AllByRecursion IsLine ls → AreCharacters texts
+    → AreCharacters (map (line_text number) ls ++ texts)
 lines_characters number [] texts n h k = k
 lines_characters number (l ∷ ls) texts n h k = (line_characters number l n h.0, lines_characters number ls texts n h.1 k)
 
@@ -160,8 +168,10 @@ record IsNamed (l : Listed) : Type 0 where
 items_named : (number at : ℕ) (items : List (Item ℕ)) (rest : List Listed) → number < 2 ^ 64 → AreItems at items → AllByRecursion IsWritableItem items
     → AllByRecursion IsNamed rest → AllByRecursion IsNamed (listed_items number at items ++ rest)
 items_named number at [] rest n h w k = k
-items_named number at (item ∷ items) rest n h w k =
-    (record { procedure = n; what = said_line 1 (32 ∷ 32 ∷ shown_item item) _ (item_line 1 at item h.0 w.0) }, items_named number (at + size at item) items rest n h.1 w.1 k)
+items_named number at (item ∷ items) rest n h w k = (
+  record { procedure = n; what = said_line 1 (32 ∷ 32 ∷ shown_item item) _ (item_line 1 at item h.0 w.0) },
+  items_named number (at + size at item) items rest n h.1 w.1 k,
+)
 
 entries_named : (number at : ℕ) (places : List ℕ) (rest : List Listed) → number < 2 ^ 64 → AllByRecursion IsLow places
     → AllByRecursion IsNamed rest → AllByRecursion IsNamed (listed_entries number at places ++ rest)
@@ -174,12 +184,14 @@ low_reversed [] h = tt
 low_reversed (place ∷ places) h =
     subst (AllByRecursion IsLow) (sym (reverse-append (place ∷ []) places)) (all_append IsLow (reverse places) (place ∷ []) (low_reversed places h.1) (h.0, tt))
 
-procedure_named : (number : ℕ) (p : Procedure) (rest : List Listed) → number < 2 ^ 64 → IsWhole p → AllByRecursion IsNamed rest → AllByRecursion IsNamed (listed_procedure number p rest)
+procedure_named : (number : ℕ) (p : Procedure) (rest : List Listed) → number < 2 ^ 64 → IsWhole p → AllByRecursion IsNamed rest
+    → AllByRecursion IsNamed (listed_procedure number p rest)
 procedure_named number p rest n w k =
     let low = used_low p w in
     items_named number p.start p.items (listed_entries number (code_end p) (reverse p.entries) ++ listed_attributes number p ∷ rest) n w.procedure.items
     (are_writable p.start p.items w.procedure.items (all_front IsLow (named_places p.items) p.entries low))
-    (entries_named number (code_end p) (reverse p.entries) (listed_attributes number p ∷ rest) n (low_reversed p.entries (all_back IsLow (named_places p.items) p.entries low))
+    (entries_named number (code_end p) (reverse p.entries) (listed_attributes number p ∷ rest) n
+    (low_reversed p.entries (all_back IsLow (named_places p.items) p.entries low))
     (record { procedure = n; what = refl }, k))
 
 procedures_named : (number : ℕ) (ps : List Procedure) (rest : List Listed) → number + length ps ≤ 256 → AllByRecursion IsWhole ps → AllByRecursion IsNamed rest
@@ -193,7 +205,8 @@ append_bytes : (xs ys : List ℕ) → AreBytes (xs ++ ys) → AreBytes xs × Are
 append_bytes [] ys h = (tt, h)
 append_bytes (x ∷ xs) ys h = let more = append_bytes xs ys h.1 in ((h.0, more.0), more.1)
 
-each_line : (at : ℕ) (ls : List Listed) → AllByRecursion IsNamed ls → AreBytes (listed_bytes ls) → StandFrom at ls → at + length (listed_bytes ls) ≤ 65534 → AllByRecursion IsLine ls
+each_line : (at : ℕ) (ls : List Listed) → AllByRecursion IsNamed ls → AreBytes (listed_bytes ls) → StandFrom at ls → at + length (listed_bytes ls) ≤ 65534
+    → AllByRecursion IsLine ls
 each_line at [] n b s short = tt
 each_line at (l ∷ ls) n b s short =
     let parts = append_bytes l.bytes (listed_bytes ls) b in
@@ -206,7 +219,8 @@ segment_lines_are : (s : Segment) → IsWholeSegment s → length (segment_bytes
 segment_lines_are s w short =
     let same = listing_is_segment s in
     each_line 0 (listed_segment s)
-    (procedures_named 1 s.procedures (listed_dictionary s ∷ []) (omega (arith, w.segment.few)) w.procedures (record { procedure = omega arith; what = refl }, tt))
+    (procedures_named 1 s.procedures (listed_dictionary s ∷ []) (omega (arith, w.segment.few)) w.procedures
+    (record { procedure = omega arith; what = refl }, tt))
     (subst AreBytes (sym same) (are_segment_bytes s w.segment short))
     (listing_is_placed s w.segment.follow)
     (omega (arith, ap length same, short))
@@ -214,13 +228,15 @@ segment_lines_are s w short =
 program_characters : (ss : List Segment) → AllByRecursion IsWholeSegment ss → FitSlots ss → AreCharacters (texts_of ss)
 program_characters [] w short = tt
 program_characters (s ∷ ss) w short =
-    lines_characters s.number (listed_segment s) (texts_of ss) (omega (arith, w.0.segment.number)) (segment_lines_are s w.0 short.0) (program_characters ss w.1 short.1)
+    lines_characters s.number (listed_segment s) (texts_of ss) (omega (arith, w.0.segment.number)) (segment_lines_are s w.0 short.0)
+    (program_characters ss w.1 short.1)
 
 program_again : (ss : List Segment) → AllByRecursion IsWholeSegment ss → FitSlots ss → map line_value (texts_of ss) ≡ denoted_program ss
 program_again [] w short = refl
 program_again (s ∷ ss) w short =
     map-append line_value (map (line_text s.number) (listed_segment s)) (texts_of ss)
-    ∙ ap (λ ds. ds ++ map line_value (texts_of ss)) (lines_again s.number (listed_segment s) (omega (arith, w.0.segment.number)) (segment_lines_are s w.0 short.0))
+    ∙ ap (λ ds. ds ++ map line_value (texts_of ss)) (lines_again s.number (listed_segment s) (omega (arith, w.0.segment.number))
+    (segment_lines_are s w.0 short.0))
     ∙ ap (λ ds. map (denoted_line s.number) (listed_segment s) ++ ds) (program_again ss w.1 short.1)
 
 pub listing_is_read : ListingIsRead
@@ -246,7 +262,8 @@ of_other m n (l ∷ ls) ds e = rw e (of_other m n ls ds e)
 of_none : (n least : ℕ) (ss : List Segment) → n < least → AscendFrom least ss → of_segment n (denoted_program ss) ≡ []
 of_none n least [] l h = refl
 of_none n least (s ∷ ss) l h =
-    of_other s.number n (listed_segment s) (denoted_program ss) (differ s.number n (omega (arith, l, h.0))) ∙ of_none n (s.number + 1) ss (omega (arith, l, h.0)) h.1
+    of_other s.number n (listed_segment s) (denoted_program ss) (differ s.number n (omega (arith, l, h.0)))
+    ∙ of_none n (s.number + 1) ss (omega (arith, l, h.0)) h.1
   where
     differ : (m n : ℕ) → n < m → (m == n) ≡ false
     differ m n h = grind (arith, nat_tests)
@@ -283,7 +300,8 @@ segment_denoted n least (s ∷ ss) a h = by (s.number == n) refl (segment_denote
     by true f more =
         let e : s.number ≡ n = eqb-true s.number n f in
         record {
-          bytes = ap bytes_of_lines (here e) ∙ bytes_again n (listed_segment s) ∙ listing_is_segment s ∙ ap (λ b. bytes_of_segment (if b then Some s else segment_numbered n ss)) (sym f);
+          bytes = ap bytes_of_lines (here e) ∙ bytes_again n (listed_segment s) ∙ listing_is_segment s
+              ∙ ap (λ b. bytes_of_segment (if b then Some s else segment_numbered n ss)) (sym f);
           placed = subst (ArePlacedFrom 0) (sym (here e)) (placed_again n 0 (listed_segment s) (listing_is_placed s h.0.follow));
         }
     by false f more =

@@ -8,7 +8,8 @@ use Rattle.std.proofs.lemmas.List.Folds.{list_all-append}
 use Rattle.std.proofs.Math.Bool.{and-true}
 use Rattle.pm_source.specs.Words.{Cut, cut, cut_word, is_blank, is_empty, onto_word, trimmed, unindented, words}
 use Rattle.pm_source.specs.Source.{Name}
-use Rattle.pm_source.specs.Line.{Keyword, is_character, items_said, keyword_of, label_of, labelled, labelled_by, line_by, line_of, line_of_words, operands, pieces, said, spoken, uncommented}
+use Rattle.pm_source.specs.Line.{Keyword, is_character, items_said, keyword_of, label_of, labelled, labelled_by}
+use Rattle.pm_source.specs.Line.{line_by, line_of, line_of_words, operands, pieces, said, spoken, uncommented}
 use Rattle.pm_source.specs.Line.Keyword.{OfSegment, OfProcedure, OfExit, OfJump, OfEnd, OfBytes, Mnemonic}
 use Rattle.pm_source.specs.Line.Line.{Blank}
 use Rattle.pm_source.specs.Same.{EndBlankSaysNothing}
@@ -41,7 +42,8 @@ uncommented_end c quoted [] h = let no = no_comment c h in inr (rw no refl)
 uncommented_end c quoted (x ∷ xs) h = by ((x == 59) && not quoted) (uncommented_end c (if x == 34 then not quoted else quoted) xs h)
   where
     by : (b : Bool) → Ends c (uncommented (if x == 34 then not quoted else quoted) (xs ++ c ∷ [])) (uncommented (if x == 34 then not quoted else quoted) xs)
-        → Ends c (if b then [] else x ∷ uncommented (if x == 34 then not quoted else quoted) (xs ++ c ∷ [])) (if b then [] else x ∷ uncommented (if x == 34 then not quoted else quoted) xs)
+        → Ends c (if b then [] else x ∷ uncommented (if x == 34 then not quoted else quoted) (xs ++ c ∷ []))
+        (if b then [] else x ∷ uncommented (if x == 34 then not quoted else quoted) xs)
     by true more = inl refl
     by false more = under c (λ cs. x ∷ cs) _ _ refl more
 
@@ -132,7 +134,8 @@ pieces_end c quoted (x ∷ xs) h =
         → (if b then [] ∷ pieces quoted (xs ++ c ∷ []) else onto_first x (pieces (if x == 34 then not quoted else quoted) (xs ++ c ∷ [])))
         ≡ onto_last c (if b then [] ∷ pieces quoted xs else onto_first x (pieces (if x == 34 then not quoted else quoted) xs))
     by true e f = ap (λ ps. [] ∷ ps) e ∙ behind_comma c (pieces quoted xs) (some_piece quoted xs)
-    by false e f = ap (onto_first x) f ∙ first_and_last c x (pieces (if x == 34 then not quoted else quoted) xs) (some_piece (if x == 34 then not quoted else quoted) xs)
+    by false e f = ap (onto_first x) f ∙ first_and_last c x (pieces (if x == 34 then not quoted else quoted) xs)
+        (some_piece (if x == 34 then not quoted else quoted) xs)
 
 trimmed_end : (c : ℕ) (xs : List ℕ) → is_blank c ≡ true → trimmed (xs ++ c ∷ []) ≡ trimmed xs
 trimmed_end c xs h = by (unindented (xs ++ c ∷ [])) (unindented xs) (unindented_end c xs h)
@@ -209,12 +212,14 @@ words_say n c a b h k = ap (λ w. line_of_words n a (label_of w)) k.word ∙ by 
     by None = ap (λ w. spoken n a.rest (keyword_of w)) k.word ∙ spoken_alike n (keyword_of b.word) a.rest b.rest (alike c a.rest b.rest h k.rest)
     by (Some label) =
         let m = cut_of c a.rest b.rest h k.rest in
-        ap (labelled n label (cut a.rest).rest) m.word ∙ labelled_alike n label (cut b.rest).word (cut a.rest).rest (cut b.rest).rest (alike c (cut a.rest).rest (cut b.rest).rest h m.rest)
+        ap (labelled n label (cut a.rest).rest) m.word ∙ labelled_alike n label (cut b.rest).word (cut a.rest).rest (cut b.rest).rest
+        (alike c (cut a.rest).rest (cut b.rest).rest h m.rest)
 
 cuts_say : (n c : ℕ) (good : Bool) (a b : Cut) → is_blank c ≡ true → Cuts c a b → line_by n good a ≡ line_by n good b
 cuts_say n c false a b h k = let e = k.word in rw e refl
 cuts_say n c true a b h k =
-    ap (λ w. if is_empty w then Blank else line_of_words n a (label_of a.word)) k.word ∙ ap (λ said. if is_empty b.word then Blank else said) (words_say n c a b h k)
+    ap (λ w. if is_empty w then Blank else line_of_words n a (label_of a.word)) k.word
+    ∙ ap (λ said. if is_empty b.word then Blank else said) (words_say n c a b h k)
 
 pub end_blank_says_nothing : EndBlankSaysNothing
 unfolding line_of

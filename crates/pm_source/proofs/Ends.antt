@@ -1,5 +1,6 @@
 -- Where procedures end whose labels are found, and the segments of a text by their numbers.
-use Rattle.std.proofs.Common.{◌≡◌, ◌<◌, ◌≤◌, ℕ, ◌+◌, Bool, true, false, List, [], ◌∷◌, ◌++◌, length, map, refl, sym, ap, subst, ◌∙◌, arith, append_assoc, Some, inl, inr}
+use Rattle.std.proofs.Common.{◌≡◌, ◌<◌, ◌≤◌, ℕ, ◌+◌, Bool, true, false, List, [], ◌∷◌, ◌++◌, length}
+use Rattle.std.proofs.Common.{map, refl, sym, ap, subst, ◌∙◌, arith, append_assoc, Some, inl, inr}
 use Rattle.std.specs.Prelude.{zero, suc, nat_eq, ◌==◌, if◌then◌else◌}
 use Rattle.std.specs.List.{AllByRecursion, IsDistinct, list_any}
 use Rattle.std.specs.Option.{option_to_list}
@@ -33,7 +34,8 @@ found_code_end at p = found_end (place_of at p.code) at (items_of p.code) ∙ en
 -- So the next procedure begins where the text says.
 pub found_behind : (at : ℕ) (p : Source) → jtab_of (found_procedure at p) + 2 ≡ source_end at p
 found_behind at p =
-    let entries : length (map (λ e. found_label (place_of at p.code) e.1) p.entries) ≡ length p.entries = map_length (λ e. found_label (place_of at p.code) e.1) p.entries in
+    let entries : length (map (λ e. found_label (place_of at p.code) e.1) p.entries) ≡ length p.entries =
+    map_length (λ e. found_label (place_of at p.code) e.1) p.entries in
     omega (arith, found_code_end at p, entries)
 
 -- What all segments are, those are that are taken by their numbers.
@@ -47,7 +49,8 @@ all_with P n (s ∷ ss) h = by (s.number == n) (all_with P n ss h.1)
 
 all_from : (P : SourceSegment → Type 0) (n count : ℕ) (ss : List SourceSegment) → AllByRecursion P ss → AllByRecursion P (segments_from n count ss)
 all_from P n zero ss h = tt
-all_from P n (suc count) ss h = all_append P (option_to_list (segment_with n ss)) (segments_from (n + 1) count ss) (all_with P n ss h) (all_from P (n + 1) count ss h)
+all_from P n (suc count) ss h =
+    all_append P (option_to_list (segment_with n ss)) (segments_from (n + 1) count ss) (all_with P n ss h) (all_from P (n + 1) count ss h)
 
 pub all_ascending : (P : SourceSegment → Type 0) (ss : List SourceSegment) → AllByRecursion P ss → AllByRecursion P (ascending ss)
 all_ascending P ss h = all_from P 0 16 ss h
@@ -57,7 +60,8 @@ pub all_split : {A : Type 0} (P : A → Type 0) (xs ys : List A) → AllByRecurs
 all_split P [] ys h = (tt, h)
 all_split P (x ∷ xs) ys h = let more = all_split P xs ys h.1 in ((h.0, more.0), more.1)
 
-taken : (P : SourceSegment → Type 0) (n count : ℕ) (ss : List SourceSegment) (m : ℕ) (s : SourceSegment) → AllByRecursion P (segments_from n count ss) → n ≤ m → m < n + count → segment_with m ss ≡ Some s → P s
+taken : (P : SourceSegment → Type 0) (n count : ℕ) (ss : List SourceSegment) (m : ℕ) (s : SourceSegment) → AllByRecursion P (segments_from n count ss) → n ≤ m
+    → m < n + count → segment_with m ss ≡ Some s → P s
 taken P n zero ss m s h low high e = absurd (omega (arith, low, high))
 taken P n (suc count) ss m s h low high e =
     let parts = all_split P (option_to_list (segment_with n ss)) (segments_from (n + 1) count ss) h in
@@ -71,22 +75,26 @@ taken P n (suc count) ss m s h low high e =
     ]
 
 -- the first segment of a number, those before it having others
-first_with : (done : List SourceSegment) (s : SourceSegment) (rest : List SourceSegment) → list_any (λ n. nat_eq n s.number) (map (λ t. t.number) done) ≡ false → segment_with s.number (done ++ s ∷ rest) ≡ Some s
+first_with : (done : List SourceSegment) (s : SourceSegment) (rest : List SourceSegment) → list_any (λ n. nat_eq n s.number) (map (λ t. t.number) done) ≡ false
+    → segment_with s.number (done ++ s ∷ rest) ≡ Some s
 first_with [] s rest h = let same : nat_eq s.number s.number ≡ true = eq-eqb _ _ refl in rw same refl
 first_with (d ∷ done) s rest h =
     let parts = neither (nat_eq d.number s.number) (list_any (λ n. nat_eq n s.number) (map (λ t. t.number) done)) h in
     let other : nat_eq d.number s.number ≡ false = parts.0 in
     rw other (first_with done s rest parts.1)
 
-all_taken : (P : SourceSegment → Type 0) (whole done ss : List SourceSegment) → whole ≡ done ++ ss → IsDistinct nat_eq (map (λ s. s.number) whole) → AllByRecursion (λ s. s.number < 16) ss → AllByRecursion P (ascending whole) → AllByRecursion P ss
+all_taken : (P : SourceSegment → Type 0) (whole done ss : List SourceSegment) → whole ≡ done ++ ss → IsDistinct nat_eq (map (λ s. s.number) whole)
+    → AllByRecursion (λ s. s.number < 16) ss → AllByRecursion P (ascending whole) → AllByRecursion P ss
 all_taken P whole done [] e d n h = tt
 all_taken P whole done (s ∷ ss) e d n h =
-    let apart : IsDistinct nat_eq (map (λ t. t.number) done ++ s.number ∷ map (λ t. t.number) ss) = subst (IsDistinct nat_eq) (ap (map (λ t. t.number)) e ∙ map_append (λ t. t.number) done (s ∷ ss)) d in
+    let apart : IsDistinct nat_eq (map (λ t. t.number) done ++ s.number ∷ map (λ t. t.number) ss) =
+    subst (IsDistinct nat_eq) (ap (map (λ t. t.number)) e ∙ map_append (λ t. t.number) done (s ∷ ss)) d in
     let new = new_among nat_eq (map (λ t. t.number) done) s.number (map (λ t. t.number) ss) apart in
     let there : segment_with s.number whole ≡ Some s = ap (segment_with s.number) e ∙ first_with done s ss new in (
       taken P 0 16 whole s.number s h (omega arith) n.0 there,
       all_taken P whole (done ++ s ∷ []) ss (e ∙ sym (append_assoc done (s ∷ []) ss)) d n.1 h,
     )
 
-pub ascending_all : (P : SourceSegment → Type 0) (ss : List SourceSegment) → IsDistinct nat_eq (map (λ s. s.number) ss) → AllByRecursion (λ s. s.number < 16) ss → AllByRecursion P (ascending ss) → AllByRecursion P ss
+pub ascending_all : (P : SourceSegment → Type 0) (ss : List SourceSegment) → IsDistinct nat_eq (map (λ s. s.number) ss)
+    → AllByRecursion (λ s. s.number < 16) ss → AllByRecursion P (ascending ss) → AllByRecursion P ss
 ascending_all P ss d n h = all_taken P ss [] ss refl d n h

@@ -15,7 +15,8 @@ use Rattle.pm_source.proofs.Lines.{Clean, clean, SaysFit, says_fit}
 abbrev with : List SourceSegment → Option Source → Reading
 with segments current = record { segments = segments; current = current }
 
-closed_at_end : (segments : List SourceSegment) (current : Option Source) (said : List Statement) → AreFit (with segments current) said → (is_some current ≡ true → list_any is_end said ≡ true) → AllEnd said → (after_all (with segments current) said).current ≡ None
+closed_at_end : (segments : List SourceSegment) (current : Option Source) (said : List Statement) → AreFit (with segments current) said
+    → (is_some current ≡ true → list_any is_end said ≡ true) → AllEnd said → (after_all (with segments current) said).current ≡ None
 closed_at_end segments None [] f h e = refl
 closed_at_end segments (Some p) [] f h e = absurd (let k : false ≡ true = h refl in cc)
 closed_at_end segments None (Segment n name ∷ said) f h e = closed_at_end _ None said f.1 (λ k. absurd (let l : false ≡ true = k in cc)) e.1

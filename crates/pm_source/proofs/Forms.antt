@@ -11,7 +11,8 @@ use Rattle.pm_source.specs.declared.number.Numeral.{Numeral}
 use Rattle.pm_source.specs.Words.{within, stored, number}
 use Rattle.pm_source.specs.Source.{Name}
 use Rattle.pm_codefile.specs.Segments.{◌>>=◌}
-use Rattle.pm_source.specs.Line.{Operand, byte_operand, number_operand, bare, plain, short_range, short_opcode, short_number, short_instruction, bare_instruction, one_number, one_long_number, two_bytes, byte_and_number}
+use Rattle.pm_source.specs.Line.{Operand, byte_operand, number_operand, bare, plain, short_range, short_opcode, short_number}
+use Rattle.pm_source.specs.Line.{short_instruction, bare_instruction, one_number, one_long_number, two_bytes, byte_and_number}
 use Rattle.pm_source.proofs.Numerals.{bound, both, pair_is, some_is, stored_small}
 use Rattle.pm_source.proofs.Goods.{IsGood, IsNumber, well, is_right, byte_ranged, number_ranged}
 
@@ -79,7 +80,8 @@ record Runs (op least greatest : ℕ) : Type 0 where
 runs : (op : ℕ) (range : ℕ × ℕ) → short_range op ≡ Some range → Runs op range.0 range.1
 runs op range e = by (nat_eq op 0) (nat_eq op 216) (nat_eq op 232) (nat_eq op 248) refl refl refl refl e
   where
-    given : (least greatest at count : ℕ) → op ≡ at → all_plain at count ≡ true → greatest < least + count → at + count ≤ 256 → greatest < 256 → Some (least, greatest) ≡ Some range → Runs op range.0 range.1
+    given : (least greatest at count : ℕ) → op ≡ at → all_plain at count ≡ true → greatest < least + count → at + count ≤ 256 → greatest < 256
+        → Some (least, greatest) ≡ Some range → Runs op range.0 range.1
     given least greatest at count o c g w l e =
         let r : Runs op least greatest = record {
           plain = λ n low high. plain_at at count (op + (n - least)) c (omega (arith, o)) (omega (arith, o, low, high, g));
@@ -90,14 +92,16 @@ runs op range e = by (nat_eq op 0) (nat_eq op 216) (nat_eq op 232) (nat_eq op 24
         subst (λ x. Runs op x.0 x.1) p r
 
     by : (a b c d : Bool) → nat_eq op 0 ≡ a → nat_eq op 216 ≡ b → nat_eq op 232 ≡ c → nat_eq op 248 ≡ d
-        → (if a then Some (0, 127) else if b then Some (1, 16) else if c then Some (1, 16) else if d then Some (0, 7) else None) ≡ Some range → Runs op range.0 range.1
+        → (if a then Some (0, 127) else if b then Some (1, 16) else if c then Some (1, 16) else if d then Some (0, 7) else None) ≡ Some range
+        → Runs op range.0 range.1
     by true b c d f g h i e = given 0 127 0 128 (eqb-true op 0 f) first_run (omega arith) (omega arith) (omega arith) e
     by false true c d f g h i e = given 1 16 216 16 (eqb-true op 216 g) second_run (omega arith) (omega arith) (omega arith) e
     by false false true d f g h i e = given 1 16 232 16 (eqb-true op 232 h) third_run (omega arith) (omega arith) (omega arith) e
     by false false false true f g h i e = given 0 7 248 8 (eqb-true op 248 i) last_run (omega arith) (omega arith) (omega arith) e
     by false false false false f g h i e = absurd (cc)
 
-short_good : (op : ℕ) (range : ℕ × ℕ) (texts : List (List ℕ)) (x : Item Name) → short_range op ≡ Some range → short_instruction op range texts ≡ Some (x, true) → IsGood x
+short_good : (op : ℕ) (range : ℕ × ℕ) (texts : List (List ℕ)) (x : Item Name) → short_range op ≡ Some range → short_instruction op range texts ≡ Some (x, true)
+    → IsGood x
 short_good op range [] x f e = absurd (cc)
 short_good op range (text ∷ other ∷ others) x f e = absurd (cc)
 short_good op range (text ∷ []) x f e =
@@ -113,7 +117,8 @@ short_good op range (text ∷ []) x f e =
     let good : IsGood (plain (bare (short_opcode op range.0 true v))) = bare_good (op + (v - range.0)) (r.below v low high) (r.plain v low high) in
     subst IsGood parts.0 (subst (λ c. IsGood (plain (bare (short_opcode op range.0 c v)))) (sym parts.1) good)
 
-pub plain_good : (op : ℕ) (texts : List (List ℕ)) (x : Item Name) → op < 256 → form_of op ≡ forms.Plain → bare_instruction op (short_range op) texts ≡ Some (x, true) → IsGood x
+pub plain_good : (op : ℕ) (texts : List (List ℕ)) (x : Item Name) → op < 256 → form_of op ≡ forms.Plain
+    → bare_instruction op (short_range op) texts ≡ Some (x, true) → IsGood x
 plain_good op texts x o f e = by (short_range op) texts refl e
   where
     by : (range : Option (ℕ × ℕ)) (texts : List (List ℕ)) → short_range op ≡ range → bare_instruction op range texts ≡ Some (x, true) → IsGood x
@@ -125,7 +130,8 @@ plain_good op texts x o f e = by (short_range op) texts refl e
 abbrev stored_at : ℕ → ℕ × Bool → Operand (Item Name)
 stored_at op a = Some (plain (record (bare op) { a = a.0 }), a.1)
 
-pub one_good : (operand : List ℕ → Operand ℕ) (op : ℕ) (texts : List (List ℕ)) (x : Item Name) → ((text : List ℕ) (v : ℕ × Bool) → operand text ≡ Some v → IsGood (plain (record (bare op) { a = v.0 })))
+pub one_good : (operand : List ℕ → Operand ℕ) (op : ℕ) (texts : List (List ℕ)) (x : Item Name)
+    → ((text : List ℕ) (v : ℕ × Bool) → operand text ≡ Some v → IsGood (plain (record (bare op) { a = v.0 })))
     → one_number operand op texts ≡ Some (x, true) → IsGood x
 one_good operand op [] x h e = absurd (cc)
 one_good operand op (text ∷ other ∷ others) x h e = absurd (cc)
@@ -148,7 +154,8 @@ long_good op (text ∷ []) x o f e =
     let parts = pair_is (plain (record (bare op) { a = n.0; long = n.1 })) x v.1 true b.next in
     let r : IsNumber n.0 n.1 = number_ranged text n (is_right (number_operand text) v b.first parts.1) in
     let i : Instr = record (bare op) { a = n.0; long = n.1 } in
-    subst IsGood parts.0 (well forms.B i [] o f refl (lt-ltb n.0 32768 r.below) (omega (arith, r.below)) (ap (λ l. record (bare op) { a = n.0; long = l }) r.short) (refl, refl) refl tt)
+    subst IsGood parts.0 (well forms.B i [] o f refl (lt-ltb n.0 32768 r.below) (omega (arith, r.below))
+    (ap (λ l. record (bare op) { a = n.0; long = l }) r.short) (refl, refl) refl tt)
 
 abbrev bytes_at : ℕ → ℕ × Bool → ℕ × Bool → Operand (Item Name)
 bytes_at op a b = Some (plain (record (bare op) { a = a.0; b = b.0 }), a.1 && b.1)

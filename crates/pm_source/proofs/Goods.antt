@@ -14,7 +14,8 @@ use Rattle.pm_disasm.specs.Item.Item.{Plain, Jump, Case, OneByte}
 use Rattle.pm_disasm.specs.Item.Target.{To, Through}
 use Rattle.pm_source.specs.Source.{Name}
 use Rattle.pm_codefile.specs.Segments.{◌>>=◌}
-use Rattle.pm_source.specs.Line.{Operand, numeral_operand, byte_operand, word_operand, bound_operand, number_operand, is_marked, jump_operand, label_operand, all_operands}
+use Rattle.pm_source.specs.Line.{Operand, numeral_operand, byte_operand, word_operand, bound_operand}
+use Rattle.pm_source.specs.Line.{number_operand, is_marked, jump_operand, label_operand, all_operands}
 use Rattle.pm_source.proofs.Numerals.{bound, pair_is, some_is, numeral_small, numeral_below}
 
 abbrev pub IsGoodTarget : Target Name → Type 0
@@ -29,7 +30,8 @@ IsGood (Case low high otherwise labels) = (low < 65536) × (high < 65536) × IsG
 IsGood (OneByte b) = b < 256
 
 -- what is plain by its form
-pub well : (F : Form) (i : Instr) (named : List ℕ) → i.op < 256 → form_of i.op ≡ F → names_place F ≡ false → in_range F i ≡ true → i.a < 65536 → clear F i ≡ i → (i.start ≡ 0) × (i.len ≡ 0)
+pub well : (F : Form) (i : Instr) (named : List ℕ) → i.op < 256 → form_of i.op ≡ F → names_place F ≡ false → in_range F i ≡ true → i.a < 65536 → clear F i ≡ i
+    → (i.start ≡ 0) × (i.len ≡ 0)
     → length named ≡ i.count → AllByRecursion IsByte named → IsPlain i named
 well F i named o f n r w c z l b = record {
   opcode = o;
@@ -66,7 +68,8 @@ pub record IsNumber (n : ℕ) (long : Bool) : Type 0 where
 abbrev marked : Bool → ℕ × Bool → Operand (ℕ × Bool)
 marked long n = Some ((n.0, long), n.1)
 
-marked_ranged : (above : ℕ) (long : Bool) (text : List ℕ) (v : ℕ × Bool) → above < 65536 → (numeral_operand 0 above 65536 text >>= marked long) ≡ Some (v, true) → (v.0 ≤ above) × (v.1 ≡ long)
+marked_ranged : (above : ℕ) (long : Bool) (text : List ℕ) (v : ℕ × Bool) → above < 65536
+    → (numeral_operand 0 above 65536 text >>= marked long) ≡ Some (v, true) → (v.0 ≤ above) × (v.1 ≡ long)
 marked_ranged above long text v h e =
     let b = bound (numeral_operand 0 above 65536 text) (marked long) (v, true) e in
     let n = b.value in
@@ -77,7 +80,8 @@ marked_ranged above long text v h e =
 pub number_ranged : (text : List ℕ) (v : ℕ × Bool) → number_operand text ≡ Some (v, true) → IsNumber v.0 v.1
 number_ranged text v e = by (is_marked text) e
   where
-    by : (b : Bool) → (if b then (numeral_operand 0 127 65536 (take (length text - 1) text) >>= marked true) else (numeral_operand 0 32767 65536 text >>= marked false)) ≡ Some (v, true) → IsNumber v.0 v.1
+    by : (b : Bool) → (if b then (numeral_operand 0 127 65536 (take (length text - 1) text) >>= marked true) else
+        (numeral_operand 0 32767 65536 text >>= marked false)) ≡ Some (v, true) → IsNumber v.0 v.1
     by true e =
         let r = marked_ranged 127 true (take (length text - 1) text) v (omega arith) e in
         let t : nat_lt v.0 128 ≡ true = lt-ltb v.0 128 (omega (arith, r.0)) in

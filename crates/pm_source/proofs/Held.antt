@@ -1,5 +1,6 @@
 -- The code file of a program holds it.
-use Rattle.std.proofs.Common.{◌≡◌, ◌<◌, ◌≤◌, ℕ, zero, suc, ◌+◌, ◌-◌, ◌%◌, Bool, true, false, All, List, [], ◌∷◌, length, map, take, replicate, get_or, refl, sym, ap, subst, ◌∙◌, arith, length-append, Option, Some, None}
+use Rattle.std.proofs.Common.{◌≡◌, ◌<◌, ◌≤◌, ℕ, zero, suc, ◌+◌, ◌-◌, ◌%◌, Bool, true, false, All, List, [], ◌∷◌, length, map}
+use Rattle.std.proofs.Common.{take, replicate, get_or, refl, sym, ap, subst, ◌∙◌, arith, length-append, Option, Some, None}
 use Rattle.std.specs.Prelude.{◌==◌, ◌&&◌, nat_le, if◌then◌else◌, option_map, slice_range, sum}
 use Rattle.std.specs.List.{AllByRecursion, list_all}
 use Rattle.std.proofs.lemmas.Bool.{and_parts, eq-eqb, eqb-true, leb-true}
@@ -100,7 +101,8 @@ lengths_joined (s ∷ slots) =
     omega (arith, sum_by-cons (λ x. x) (slot_length s) (map slot_length slots), length-append (bytes_of_segment s) (joined_bytes slots), lengths_joined slots)
 
 joined_part : (slots : List (Option Segment)) (i : ℕ) → i < length slots
-    → slice_range (joined_bytes slots) (begin_of (map slot_length slots) i) (begin_of (map slot_length slots) i + slot_length (get_or slots i None)) ≡ bytes_of_segment (get_or slots i None)
+    → slice_range (joined_bytes slots) (begin_of (map slot_length slots) i) (begin_of (map slot_length slots) i + slot_length (get_or slots i None))
+    ≡ bytes_of_segment (get_or slots i None)
 joined_part [] i l = absurd (omega arith)
 joined_part (s ∷ slots) zero l =
     let e : (0 + slot_length s) - 0 ≡ slot_length s = omega arith in
@@ -142,12 +144,15 @@ slots_hold ss slots segments sixteen sound there =
     let bytes : List ℕ = joined_bytes slots in
     let length_is : (k : ℕ) → get_or ns k 0 ≡ slot_length (get_or slots k None) = λ k. get_or-map slot_length slots k None in
     let slot_is : (k : ℕ) → IsSlot (get_or slots k None) = λ k. all_get IsSlot None slots tt sound k in
-    let name_is : (k : ℕ) → k < 16 → get_or names k [] ≡ name_of_segment (get_or slots k None) = λ k l. lists.get_or-map name_of_segment slots k None [] (omega (arith, l, sixteen)) in
+    let name_is : (k : ℕ) → k < 16 → get_or names k [] ≡ name_of_segment (get_or slots k None) =
+    λ k l. lists.get_or-map name_of_segment slots k None [] (omega (arith, l, sixteen)) in
     let many : length names ≡ 16 = length-map slots name_of_segment ∙ sixteen in
     let count : length ns ≡ 16 = length-map slots slot_length ∙ sixteen in
-    let each : (k : ℕ) → k < length names → length (get_or names k []) ≡ 8 = λ k l. ap length (name_is k (omega (arith, l, many))) ∙ name_eight (get_or slots k None) (slot_is k) in
+    let each : (k : ℕ) → k < length names → length (get_or names k []) ≡ 8 =
+    λ k l. ap length (name_is k (omega (arith, l, many))) ∙ name_eight (get_or slots k None) (slot_is k) in
     let small : (k : ℕ) → get_or ns k 0 < 65536 = λ k. subst (λ n. n < 65536) (sym (length_is k)) (length_small (get_or slots k None) (slot_is k)) in
-    let even : All (λ n. n % 2 ≡ 0) ns = All-from_get_or (λ n. n % 2 ≡ 0) ns 0 (λ k l. subst (λ n. n % 2 ≡ 0) (sym (length_is k)) (length_even (get_or slots k None) (slot_is k))) in
+    let even : All (λ n. n % 2 ≡ 0) ns = All-from_get_or (λ n. n % 2 ≡ 0) ns 0
+    (λ k l. subst (λ n. n % 2 ≡ 0) (sym (length_is k)) (length_even (get_or slots k None) (slot_is k))) in
     let r : ReadsBack names ns bytes (layout names ns bytes) = layout-reads_back names ns bytes many count each small (lengths_joined slots) even in (
       record {
         segments = λ n l. (

@@ -12,7 +12,8 @@ use Rattle.pm_source.specs.declared.fault.AsmFault.{AsmFault}
 use Rattle.pm_source.specs.declared.fault.AsmFault.TheVariants.{NoLabel, Far}
 use Rattle.pm_source.specs.Source.{Name, Row, items_of}
 use Rattle.pm_source.specs.Source.Row.{Items, Exit}
-use Rattle.pm_source.specs.Faults.{Places, place_of, only_if, is_unknown_target, is_unknown_label, is_far_place, is_far, item_faults, items_faults, code_faults, entries_faults}
+use Rattle.pm_source.specs.Faults.{Places, place_of, only_if, is_unknown_target, is_unknown_label, is_far_place}
+use Rattle.pm_source.specs.Faults.{is_far, item_faults, items_faults, code_faults, entries_faults}
 use Rattle.pm_source.specs.Meaning.{LeadsTo, Means, ReachesFrom, IsNearFrom, AreNear, found_target, found_label, found_item}
 use Rattle.pm_source.specs.Laws.{LabelsFound}
 
@@ -44,14 +45,17 @@ known places name (Some place) e h = e ∙ ap (λ o. Some (unwrap_or o 0)) (sym 
 label_known : (places : Places) (name : Name) → is_none (places name) ≡ false → places name ≡ Some (found_label places name)
 label_known places name h = known places name (places name) refl h
 
-target_found : (places : Places) (next : ℕ) (target : Target Name) → is_unknown_target places target ≡ false → is_far places next target ≡ false → FoundTarget places next target
+target_found : (places : Places) (next : ℕ) (target : Target Name) → is_unknown_target places target ≡ false → is_far places next target ≡ false
+    → FoundTarget places next target
 target_found places next (Through k) h f = record { leads = refl; near = tt }
-target_found places next (To name) h f = record { leads = label_known places name h; near = reach (unwrap_or (places name) 0) (ap (is_far_place next) (sym (label_known places name h)) ∙ f) }
+target_found places next (To name) h f =
+    record { leads = label_known places name h; near = reach (unwrap_or (places name) 0) (ap (is_far_place next) (sym (label_known places name h)) ∙ f) }
   where
     reach : (place : ℕ) → is_far_place next (Some place) ≡ false → ReachesFrom next (To place)
     reach place e = let tests = neither (nat_lt place next) (nat_lt (next + 127) place) e in (ltb-false _ _ tests.0, ltb-false _ _ tests.1)
 
-labels_known : (places : Places) (labels : List Name) → list_any (is_unknown_label places) labels ≡ false → AllZip (λ label place. places label ≡ Some place) labels (map (found_label places) labels)
+labels_known : (places : Places) (labels : List Name) → list_any (is_unknown_label places) labels ≡ false
+    → AllZip (λ label place. places label ≡ Some place) labels (map (found_label places) labels)
 labels_known places [] h = tt
 labels_known places (label ∷ labels) h =
     let parts = neither (is_unknown_label places label) (list_any (is_unknown_label places) labels) h in
@@ -91,7 +95,8 @@ record FoundItems (places : Places) (at : ℕ) (items : List (Item Name)) : Type
   near : AreNear at (map (found_item places) items)
 
 -- what is near behind an item is near behind the found one
-pub near_behind : (places : Places) (at : ℕ) (item : Item Name) (items : List (Item ℕ)) → AreNear (at + size at item) items → AreNear (at + size at (found_item places item)) items
+pub near_behind : (places : Places) (at : ℕ) (item : Item Name) (items : List (Item ℕ)) → AreNear (at + size at item) items
+    → AreNear (at + size at (found_item places item)) items
 near_behind places at item items n = subst (λ k. AreNear (at + k) items) (sym (found_size places at item)) n
 
 some_found : (places : Places) (line at : ℕ) (items : List (Item Name)) → items_faults places line at items ≡ [] → FoundItems places at items
@@ -103,10 +108,12 @@ some_found places line at (item ∷ items) h =
     let more : FoundItems places next items = some_found places line next items parts.1 in
     record { mean = (one.means, more.mean); near = (one.near, near_behind places at item (map (found_item places) items) more.near) }
 
-join_found : (places : Places) (at : ℕ) (xs ys : List (Item Name)) → FoundItems places at xs → FoundItems places (end_of at xs) ys → FoundItems places at (xs ++ ys)
+join_found : (places : Places) (at : ℕ) (xs ys : List (Item Name)) → FoundItems places at xs → FoundItems places (end_of at xs) ys
+    → FoundItems places at (xs ++ ys)
 join_found places at [] ys f g = g
 join_found places at (x ∷ xs) ys f g =
-    let near : AreNear (at + size at x) (map (found_item places) xs) = subst (λ k. AreNear (at + k) (map (found_item places) xs)) (found_size places at x) f.near.1 in
+    let near : AreNear (at + size at x) (map (found_item places) xs) =
+    subst (λ k. AreNear (at + k) (map (found_item places) xs)) (found_size places at x) f.near.1 in
     let more : FoundItems places (at + size at x) (xs ++ ys) = join_found places (at + size at x) xs ys (record { mean = f.mean.1; near = near }) g in
     record { mean = (f.mean.0, more.mean); near = (f.near.0, near_behind places at x (map (found_item places) (xs ++ ys)) more.near) }
 
@@ -117,7 +124,8 @@ code_found places at (Items line label items ∷ rows) h =
     let parts = both_empty (items_faults places line at items) (code_faults places (end_of at items) rows) h in
     join_found places at items (items_of rows) (some_found places line at items parts.0) (code_found places (end_of at items) rows parts.1)
 
-entries_found : (places : Places) (entries : List (ℕ × Name)) → entries_faults places entries ≡ [] → AllZip (λ e place. places e.1 ≡ Some place) entries (map (λ e. found_label places e.1) entries)
+entries_found : (places : Places) (entries : List (ℕ × Name)) → entries_faults places entries ≡ []
+    → AllZip (λ e place. places e.1 ≡ Some place) entries (map (λ e. found_label places e.1) entries)
 entries_found places [] h = tt
 entries_found places (e ∷ es) h =
     let parts = both_empty (only_if (is_unknown_label places e.1) (NoLabel e.0)) (entries_faults places es) h in
@@ -128,4 +136,12 @@ labels_found at p h =
     let places : Places = place_of at p.code in
     let parts = both_empty (code_faults places at p.code) (entries_faults places p.entries) h in
     let items : FoundItems places at (items_of p.code) = code_found places at p.code parts.0 in
-    record { level = refl; parameters = refl; locals = refl; items = items.mean; near = items.near; exit = refl; entries = entries_found places p.entries parts.1 }
+    record {
+      level = refl;
+      parameters = refl;
+      locals = refl;
+      items = items.mean;
+      near = items.near;
+      exit = refl;
+      entries = entries_found places p.entries parts.1;
+    }

@@ -8,7 +8,8 @@ use Rattle.pm_source.specs.Source.{Statement}
 use Rattle.pm_source.specs.Line.{Flaw, Line}
 use Rattle.pm_source.specs.Line.Flaw.{NoFlaw, OutOfRange, UnknownType}
 use Rattle.pm_source.specs.Line.Line.{Blank, Wrong, Strange, Says}
-use Rattle.pm_source.specs.Faults.{Reading, after, after_line, is_in_place, is_again, is_miscounted, is_begin, is_end, ends, only_if, line_faults, after_lines, faults_from, is_unknown, is_out_of_range}
+use Rattle.pm_source.specs.Faults.{Reading, after, after_line, is_in_place, is_again, is_miscounted, is_begin, is_end}
+use Rattle.pm_source.specs.Faults.{ends, only_if, line_faults, after_lines, faults_from, is_unknown, is_out_of_range}
 use Rattle.pm_source.specs.Meaning.{AreSaid}
 use Rattle.pm_source.proofs.Fit.{AreFit, AllEnd, after_all}
 
@@ -45,7 +46,8 @@ misplaced r s rest = not (is_in_place r s) || (is_begin s && not (list_any ends 
 abbrev off : Reading → Statement → Flaw → Bool
 off r s flaw = is_out_of_range flaw || is_miscounted r s
 
-none_wrong : (a b c d : Bool) (x y z w : AsmFault) → a ≡ false → b ≡ false → c ≡ false → d ≡ false → only_if a x ++ (only_if b y ++ (only_if c z ++ only_if d w)) ≡ []
+none_wrong : (a b c d : Bool) (x y z w : AsmFault) → a ≡ false → b ≡ false → c ≡ false → d ≡ false
+    → only_if a x ++ (only_if b y ++ (only_if c z ++ only_if d w)) ≡ []
 none_wrong a b c d x y z w e f g h = rw (e, f, g, h) refl
 
 record NoneWrong (a b c d : Bool) (rest : List AsmFault) : Type 0 where
@@ -55,7 +57,8 @@ record NoneWrong (a b c d : Bool) (rest : List AsmFault) : Type 0 where
   fourth : d ≡ false
   more : rest ≡ []
 
-none_was_wrong : (a b c d : Bool) (x y z w : AsmFault) (rest : List AsmFault) → (only_if a x ++ (only_if b y ++ (only_if c z ++ only_if d w))) ++ rest ≡ [] → NoneWrong a b c d rest
+none_was_wrong : (a b c d : Bool) (x y z w : AsmFault) (rest : List AsmFault) → (only_if a x ++ (only_if b y ++ (only_if c z ++ only_if d w))) ++ rest ≡ []
+    → NoneWrong a b c d rest
 none_was_wrong false false false false x y z w rest e = record { first = refl; second = refl; third = refl; fourth = refl; more = e }
 none_was_wrong true b c d x y z w rest e = absurd (cc)
 none_was_wrong false true c d x y z w rest e = absurd (cc)
@@ -84,7 +87,8 @@ pub record Clean (n : ℕ) (r : Reading) (lines : List Line) (said : List Statem
 pub clean : (n : ℕ) (r : Reading) (lines : List Line) (said : List Statement) → AreSaid lines said → AreFit r said → AllEnd said → Clean n r lines said
 clean n r [] [] h f e = record { faults = refl; same = refl }
 clean n r [] (s ∷ said) h f e = absurd (cc)
-clean n r (Blank ∷ lines) said h f e = let more : Clean (n + 1) r lines said = clean (n + 1) r lines said h f e in record { faults = more.faults; same = more.same }
+clean n r (Blank ∷ lines) said h f e =
+    let more : Clean (n + 1) r lines said = clean (n + 1) r lines said h f e in record { faults = more.faults; same = more.same }
 clean n r (Wrong b ∷ lines) said h f e = absurd h
 clean n r (Strange ∷ lines) said h f e = absurd h
 clean n r (Says s flaw ∷ lines) [] h f e = absurd h
@@ -92,11 +96,15 @@ clean n r (Says s flaw ∷ lines) (t ∷ said) h f e =
     let rest = h.1 in
     let fit = f.0 in
     let more : Clean (n + 1) (after r t) lines said = clean (n + 1) (after r t) lines said rest.1 f.1 e.1 in
-    let in_place : misplaced r t lines ≡ false = placed (is_in_place r t) (is_begin t) (list_any ends lines) fit.in_place (λ b. end_comes lines said rest.1 (e.0 b)) in
-    let one : line_faults n r (Says t NoFlaw) lines ≡ [] = none_wrong (misplaced r t lines) false (is_again r t) (off r t NoFlaw) (Syntax n) (Unknown n) (Twice n) (Range n) in_place refl fit.new fit.counted in
+    let in_place : misplaced r t lines ≡ false = placed (is_in_place r t) (is_begin t) (list_any ends lines) fit.in_place
+    (λ b. end_comes lines said rest.1 (e.0 b)) in
+    let one : line_faults n r (Says t NoFlaw) lines ≡ [] = none_wrong (misplaced r t lines) false (is_again r t) (off r t NoFlaw) (Syntax n) (Unknown n)
+    (Twice n) (Range n) in_place refl fit.new fit.counted in
     let next : after_line r (Says t NoFlaw) ≡ after r t = rw fit.in_place refl in
-    let shown : (u : Statement) (b : Flaw) → u ≡ t → b ≡ NoFlaw → Clean n r (Says u b ∷ lines) (t ∷ said) = λ u b p q. (let line : Says u b ≡ Says t NoFlaw = cc in record {
-      faults = ap (λ l. faults_from n r (l ∷ lines)) line ∙ ap (λ fs. fs ++ faults_from (n + 1) (after_line r (Says t NoFlaw)) lines) one ∙ ap (λ q. faults_from (n + 1) q lines) next ∙ more.faults;
+    let shown : (u : Statement) (b : Flaw) → u ≡ t → b ≡ NoFlaw → Clean n r (Says u b ∷ lines) (t ∷ said) =
+    λ u b p q. (let line : Says u b ≡ Says t NoFlaw = cc in record {
+      faults = ap (λ l. faults_from n r (l ∷ lines)) line ∙ ap (λ fs. fs ++ faults_from (n + 1) (after_line r (Says t NoFlaw)) lines) one
+          ∙ ap (λ q. faults_from (n + 1) q lines) next ∙ more.faults;
       same = ap (λ l. after_lines r (l ∷ lines)) line ∙ ap (λ q. after_lines q lines) next ∙ more.same;
     }) in
     shown s flaw rest.0 h.0
@@ -111,7 +119,14 @@ pub record SaysFit (r : Reading) (lines : List Line) : Type 0 where
 
 pub says_fit : (n : ℕ) (r : Reading) (lines : List Line) → faults_from n r lines ≡ [] → SaysFit r lines
 says_fit n r [] e = record { said = []; are_said = refl; fit = tt; all_end = tt; same = refl }
-says_fit n r (Blank ∷ lines) e = let more : SaysFit r lines = says_fit (n + 1) r lines e in record { said = more.said; are_said = more.are_said; fit = more.fit; all_end = more.all_end; same = more.same }
+says_fit n r (Blank ∷ lines) e =
+    let more : SaysFit r lines = says_fit (n + 1) r lines e in record {
+      said = more.said;
+      are_said = more.are_said;
+      fit = more.fit;
+      all_end = more.all_end;
+      same = more.same;
+    }
 says_fit n r (Wrong true ∷ lines) e = absurd (cc)
 says_fit n r (Wrong false ∷ lines) e = absurd (cc)
 says_fit n r (Strange ∷ lines) e = absurd (cc)

@@ -1,5 +1,6 @@
 -- The names of the instructions are read again as their opcodes.
-use Rattle.std.proofs.Common.{◌≡◌, ◌<◌, ◌≤◌, ℕ, zero, suc, ◌+◌, ◌-◌, Bool, true, false, eqb, not, List, [], ◌∷◌, refl, sym, ap, subst, ◌∙◌, arith, Option, Some, None}
+use Rattle.std.proofs.Common.{◌≡◌, ◌<◌, ◌≤◌, ℕ, zero, suc, ◌+◌, ◌-◌, Bool, true, false, eqb, not}
+use Rattle.std.proofs.Common.{List, [], ◌∷◌, refl, sym, ap, subst, ◌∙◌, arith, Option, Some, None}
 use Rattle.std.specs.Prelude.{◌&&◌, ◌||◌, ◌==◌, is_none, nat_le, if◌then◌else◌}
 use Rattle.std.specs.List.{list_all}
 use Rattle.std.specs.Str.{bytes_eq}
@@ -51,7 +52,8 @@ found op (Some n) (Some first) = is_plain (form_of first) && (is_plain (form_of 
 is_read : List (List ℕ) → ℕ → List ℕ → Bool
 is_read names op name =
     is_unassigned (form_of op)
-    || (not (is_empty name) && (list_all is_name_character name && (is_none (label_of name) && (is_none (lookup (bytes_eq name) directives) && found op (implied op) (named_in name 0 names)))))
+    || (not (is_empty name) && (list_all is_name_character name &&
+    (is_none (label_of name) && (is_none (lookup (bytes_eq name) directives) && found op (implied op) (named_in name 0 names)))))
 
 all_read : List (List ℕ) → ℕ → List (List ℕ) → Bool
 all_read names op [] = true
@@ -61,7 +63,8 @@ table_is_read : all_read (names_from 0 256) 0 (names_from 0 256) ≡ true
 unfolding all_read is_read found gives named_in names_from mnemonic_of form_of implied groups directives
 table_is_read = refl
 
-each_read : (names : List (List ℕ)) (op count k : ℕ) → all_read names op (names_from op count) ≡ true → op ≤ k → k < op + count → is_read names k (mnemonic_of k) ≡ true
+each_read : (names : List (List ℕ)) (op count k : ℕ) → all_read names op (names_from op count) ≡ true → op ≤ k → k < op + count
+    → is_read names k (mnemonic_of k) ≡ true
 unfolding all_read names_from
 each_read names op zero k h l m = absurd (omega (arith, l, m))
 each_read names op (suc count) k h l m =
@@ -71,7 +74,8 @@ each_read names op (suc count) k h l m =
     differ : (op k : ℕ) → (op == k) ≡ false → op ≤ k → op + 1 ≤ k
     differ op k e l = grind (arith, nat_tests)
 
-    go : (b : Bool) → eqb op k ≡ b → is_read names op (mnemonic_of op) ≡ true → (op + 1 ≤ k → is_read names k (mnemonic_of k) ≡ true) → is_read names k (mnemonic_of k) ≡ true
+    go : (b : Bool) → eqb op k ≡ b → is_read names op (mnemonic_of op) ≡ true → (op + 1 ≤ k → is_read names k (mnemonic_of k) ≡ true)
+        → is_read names k (mnemonic_of k) ≡ true
     go true e h f = subst (λ j. is_read names j (mnemonic_of j) ≡ true) (eqb-true _ _ e) h
     go false e h f = f (differ op k e l)
 
@@ -98,10 +102,14 @@ unfolding is_read keyword_of
 known op l u =
     let word : List ℕ = mnemonic_of op in
     let names : List (List ℕ) = names_from 0 256 in
-    let all = or_false (is_unassigned (form_of op)) (not (is_empty word) && (list_all is_name_character word && (is_none (label_of word) && (is_none (lookup (bytes_eq word) directives) && found op (implied op) (named_in word 0 names))))) u
+    let all = or_false (is_unassigned (form_of op)) (not (is_empty word)
+    && (list_all is_name_character word && (is_none (label_of word)
+    && (is_none (lookup (bytes_eq word) directives) && found op (implied op) (named_in word 0 names))))) u
     (each_read names 0 256 op table_is_read (omega arith) (omega (arith, l))) in
-    let one = and_parts (not (is_empty word)) (list_all is_name_character word && (is_none (label_of word) && (is_none (lookup (bytes_eq word) directives) && found op (implied op) (named_in word 0 names)))) all in
-    let two = and_parts (list_all is_name_character word) (is_none (label_of word) && (is_none (lookup (bytes_eq word) directives) && found op (implied op) (named_in word 0 names))) one.1 in
+    let one = and_parts (not (is_empty word)) (list_all is_name_character word
+    && (is_none (label_of word) && (is_none (lookup (bytes_eq word) directives) && found op (implied op) (named_in word 0 names)))) all in
+    let two = and_parts (list_all is_name_character word) (is_none (label_of word)
+    && (is_none (lookup (bytes_eq word) directives) && found op (implied op) (named_in word 0 names))) one.1 in
     let three = and_parts (is_none (label_of word)) (is_none (lookup (bytes_eq word) directives) && found op (implied op) (named_in word 0 names)) two.1 in
     let four = and_parts (is_none (lookup (bytes_eq word) directives)) (found op (implied op) (named_in word 0 names)) three.1 in
     record {
@@ -147,25 +155,45 @@ plain_is forms.Unassigned h = absurd (cc)
 
 pub is_named : (op : ℕ) → op < 256 → is_unassigned (form_of op) ≡ false → implied op ≡ None → IsNamed op
 unfolding found
-is_named op l u e = let k : IsKnown op = known op l u in go (named_from (mnemonic_of op) 0 256) refl (subst (λ number. found op number (named_from (mnemonic_of op) 0 256) ≡ true) e k.found) k
+is_named op l u e =
+    let k : IsKnown op = known op l u in go (named_from (mnemonic_of op) 0 256) refl
+    (subst (λ number. found op number (named_from (mnemonic_of op) 0 256) ≡ true) e k.found) k
   where
     go : (m : Option ℕ) → named_from (mnemonic_of op) 0 256 ≡ m → found op None (named_from (mnemonic_of op) 0 256) ≡ true → IsKnown op → IsNamed op
     go None s h k = absurd (let no : false ≡ true = ap (found op None) (sym s) ∙ h in cc)
     go (Some first) s h k =
         let parts = and_parts (first == op) (is_none (short_range op)) (ap (found op None) (sym s) ∙ h) in
-        record { front = k.front; keyword = k.keyword ∙ ap mnemonic_keyword s ∙ ap (λ o. Some (Mnemonic o)) (eqb-true _ _ parts.0); alone = none_is (short_range op) parts.1 }
+        record {
+          front = k.front;
+          keyword = k.keyword ∙ ap mnemonic_keyword s ∙ ap (λ o. Some (Mnemonic o)) (eqb-true _ _ parts.0);
+          alone = none_is (short_range op) parts.1;
+        }
 
 pub is_short : (op n : ℕ) → op < 256 → is_unassigned (form_of op) ≡ false → implied op ≡ Some n → IsShort op n
 unfolding found gives
-is_short op n l u e = let k : IsKnown op = known op l u in go (named_from (mnemonic_of op) 0 256) refl (subst (λ number. found op number (named_from (mnemonic_of op) 0 256) ≡ true) e k.found) k
+is_short op n l u e =
+    let k : IsKnown op = known op l u in go (named_from (mnemonic_of op) 0 256) refl
+    (subst (λ number. found op number (named_from (mnemonic_of op) 0 256) ≡ true) e k.found) k
   where
-    within : (first : ℕ) (r : Option (ℕ × ℕ)) → short_range first ≡ r → gives op first n r ≡ true → form_of first ≡ forms.Plain → keyword_of (mnemonic_of op) ≡ Some (Mnemonic first) → IsKnown op → IsShort op n
+    within : (first : ℕ) (r : Option (ℕ × ℕ)) → short_range first ≡ r → gives op first n r ≡ true → form_of first ≡ forms.Plain
+        → keyword_of (mnemonic_of op) ≡ Some (Mnemonic first) → IsKnown op → IsShort op n
     within first None s h f w k = absurd (cc)
     within first (Some range) s h f w k =
         let one = and_parts (nat_le range.0 n) (nat_le n range.1 && (nat_le n 127 && (first + (n - range.0) == op))) h in
         let two = and_parts (nat_le n range.1) (nat_le n 127 && (first + (n - range.0) == op)) one.1 in
         let three = and_parts (nat_le n 127) (first + (n - range.0) == op) two.1 in
-        record { front = k.front; first = first; keyword = w; form = f; range = range; known = s; low = one.0; high = two.0; small = three.0; opcode = eqb-true _ _ three.1 }
+        record {
+          front = k.front;
+          first = first;
+          keyword = w;
+          form = f;
+          range = range;
+          known = s;
+          low = one.0;
+          high = two.0;
+          small = three.0;
+          opcode = eqb-true _ _ three.1;
+        }
 
     go : (m : Option ℕ) → named_from (mnemonic_of op) 0 256 ≡ m → found op (Some n) (named_from (mnemonic_of op) 0 256) ≡ true → IsKnown op → IsShort op n
     go None s h k = absurd (let no : false ≡ true = ap (found op (Some n)) (sym s) ∙ h in cc)
@@ -183,5 +211,6 @@ no_number op l u f = let k : IsKnown op = known op l u in go (implied op) refl (
     go None e m h = e
     go (Some n) e None h = absurd (let no : false ≡ true = ap (λ number. found op number None) (sym e) ∙ h in cc)
     go (Some n) e (Some first) h =
-        let parts = and_parts (is_plain (form_of first)) (is_plain (form_of op) && gives op first n (short_range first)) (ap (λ number. found op number (Some first)) (sym e) ∙ h) in
+        let parts = and_parts (is_plain (form_of first)) (is_plain (form_of op) && gives op first n (short_range first))
+        (ap (λ number. found op number (Some first)) (sym e) ∙ h) in
         absurd (let plain : is_plain (form_of op) ≡ true = (and_parts (is_plain (form_of op)) (gives op first n (short_range first)) parts.1).0 in cc)

@@ -1,5 +1,6 @@
 -- Numbers that are shown in decimal are read again.
-use Rattle.std.proofs.Common.{◌≡◌, ◌<◌, ◌≤◌, ℕ, zero, suc, ◌^◌, ◌+◌, ◌-◌, ◌%◌, Bool, true, false, min, List, [], ◌∷◌, ◌++◌, length, replicate, refl, sym, ap, ◌∙◌, arith, Some}
+use Rattle.std.proofs.Common.{◌≡◌, ◌<◌, ◌≤◌, ℕ, zero, suc, ◌^◌, ◌+◌, ◌-◌, ◌%◌, Bool, true, false, min}
+use Rattle.std.proofs.Common.{List, [], ◌∷◌, ◌++◌, length, replicate, refl, sym, ap, ◌∙◌, arith, Some}
 use Rattle.std.specs.Prelude.{◌==◌, nat_le, nat_lt}
 use Rattle.std.specs.List.{list_all}
 use Rattle.std.specs.Char.{is_ascii_digit}
@@ -36,7 +37,11 @@ one_digit m h = let t = digit_passes m h in rw t refl
 pub shown : (n : ℕ) → n < 2 ^ 64 → IsShown n (decimal n)
 shown n h = decimal_by_steps IsShown
     (λ m k. record { some = refl; digits = one_digit m k })
-    (λ m ds k s. record { some = some_more ds (48 + m % 10); digits = list_all-append is_ascii_digit ds ((48 + m % 10) ∷ []) ∙ and_turned _ _ s.digits (one_digit (m % 10) (omega arith)) }) n h
+    (λ m ds k s. record {
+      some = some_more ds (48 + m % 10);
+      digits = list_all-append is_ascii_digit ds ((48 + m % 10) ∷ [])
+          ∙ and_turned _ _ s.digits (one_digit (m % 10) (omega arith));
+    }) n h
 
 pub unsigned_again : (n : ℕ) → n < 1000000 → (negative : Bool) → decimal_number negative (decimal n) ≡ Some (record { negative = negative; magnitude = n })
 unsigned_again n h negative =
@@ -50,7 +55,11 @@ unsigned_again n h negative =
 -- where the first is a digit, no sign is read
 no_sign : (ds : List ℕ) → is_empty ds ≡ false → list_all is_ascii_digit ds ≡ true → number ds ≡ decimal_number false ds
 no_sign [] e h = absurd (cc)
-no_sign (c ∷ cs) e h = let digit = (and_parts (is_ascii_digit c) (list_all is_ascii_digit cs) h).0 in let minus = no_minus c digit in let dollar = no_dollar c digit in rw minus (rw dollar refl)
+no_sign (c ∷ cs) e h =
+    let digit = (and_parts (is_ascii_digit c) (list_all is_ascii_digit cs) h).0 in
+    let minus = no_minus c digit in
+    let dollar = no_dollar c digit in
+    rw minus (rw dollar refl)
   where
     no_minus : (c : ℕ) → is_ascii_digit c ≡ true → (c == 45) ≡ false
     no_minus c h = grind (arith, nat_tests)

@@ -53,14 +53,16 @@ below false magnitude w h = mod-lt magnitude h
 
 pub numeral_small : (above w : ℕ) (text : List ℕ) (v : ℕ) → above < w → numeral_operand 0 above w text ≡ Some (v, true) → v ≤ above
 numeral_small above w text v h e =
-    let b : Bound (number text) (λ n. Some (stored w n, within 0 above n)) (v, true) = bound (number text) (λ n. Some (stored w n, within 0 above n)) (v, true) e in
+    let b : Bound (number text) (λ n. Some (stored w n, within 0 above n)) (v, true) =
+    bound (number text) (λ n. Some (stored w n, within 0 above n)) (v, true) e in
     let n : Numeral = b.value in
     let parts = pair_is (stored w n) v (within 0 above n) true b.next in
     subst (λ k. k ≤ above) parts.0 (small n.negative n.magnitude above w h parts.1)
 
 pub numeral_below : (least above w : ℕ) (text : List ℕ) (v : ℕ) (in_range : Bool) → 0 < w → numeral_operand least above w text ≡ Some (v, in_range) → v < w
 numeral_below least above w text v in_range h e =
-    let b : Bound (number text) (λ n. Some (stored w n, within least above n)) (v, in_range) = bound (number text) (λ n. Some (stored w n, within least above n)) (v, in_range) e in
+    let b : Bound (number text) (λ n. Some (stored w n, within least above n)) (v, in_range) =
+    bound (number text) (λ n. Some (stored w n, within least above n)) (v, in_range) e in
     let n : Numeral = b.value in
     let parts = pair_is (stored w n) v (within least above n) in_range b.next in
     subst (λ k. k < w) parts.0 (below n.negative n.magnitude w h)
@@ -71,7 +73,8 @@ size_within false magnitude above e = leb-true magnitude above e
 
 pub slot_small : (text : List ℕ) (v : ℕ) → slot_operand text ≡ Some (v, true) → v ≤ 15
 slot_small text v e =
-    let b : Bound (number text) (λ n. Some (segment_number n, within 0 15 n)) (v, true) = bound (number text) (λ n. Some (segment_number n, within 0 15 n)) (v, true) e in
+    let b : Bound (number text) (λ n. Some (segment_number n, within 0 15 n)) (v, true) =
+    bound (number text) (λ n. Some (segment_number n, within 0 15 n)) (v, true) e in
     let n : Numeral = b.value in
     let parts = pair_is (segment_number n) v (within 0 15 n) true b.next in
     let same : segment_number n ≡ n.magnitude = ap (λ c. if c then n.magnitude else 16) parts.1 in

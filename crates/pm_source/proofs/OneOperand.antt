@@ -1,5 +1,6 @@
 -- A number is read as its value, however it is written.
-use Rattle.std.proofs.Common.{◌≡◌, ◌<◌, ◌-◌, ℕ, zero, suc, Bool, true, false, List, [], ◌∷◌, ◌++◌, length, map, reverse, refl, sym, ap, subst, ◌∙◌, arith, inl, inr, Option, Some, None}
+use Rattle.std.proofs.Common.{◌≡◌, ◌<◌, ◌-◌, ℕ, zero, suc, Bool, true, false, List, [], ◌∷◌, ◌++◌, length}
+use Rattle.std.proofs.Common.{map, reverse, refl, sym, ap, subst, ◌∙◌, arith, inl, inr, Option, Some, None}
 use Rattle.std.specs.Prelude.{◌==◌, ◌&&◌, ◌||◌, not, is_some, min, nat_lt, slice_index, if◌then◌else◌}
 use Rattle.std.specs.Char.{digit_value, is_ascii_digit, is_ascii_hexdigit}
 use Rattle.std.specs.Fmt.{decimal}
@@ -17,7 +18,11 @@ use Rattle.pm_disasm.specs.Item.Target.{Through}
 use Rattle.pm_disasm.specs.Program.{is_name_character}
 use Rattle.pm_source.specs.declared.number.Numeral.{Numeral}
 use Rattle.pm_source.specs.Words.{begins_name, decimal_number, hexadecimal_number, is_empty, number, stored, within, words}
-use Rattle.pm_source.specs.Line.{Keyword, Operand, all_operands, bare_instruction, byte_and_number, byte_operand, bytes_said, case_jump, checked, comparison, comparison_by, instruction, instruction_said, is_marked, items_said, jump_operand, label_operand, number_operand, numeral_operand, one_comparison, one_item, one_jump, one_long_number, one_number, one_text, operands, procedure_operands, segment_operands, short_range, size_operand, sized_comparison, sized_type_words, text_operand, two_bytes, type_words, unquoted, word_operand}
+use Rattle.pm_source.specs.Line.{Keyword, Operand, all_operands, bare_instruction, byte_and_number, byte_operand, bytes_said, case_jump, checked, comparison}
+use Rattle.pm_source.specs.Line.{comparison_by, instruction, instruction_said, is_marked, items_said, jump_operand, label_operand, number_operand}
+use Rattle.pm_source.specs.Line.{numeral_operand, one_comparison, one_item, one_jump, one_long_number, one_number, one_text, operands, procedure_operands}
+use Rattle.pm_source.specs.Line.{segment_operands, short_range, size_operand, sized_comparison, sized_type_words, text_operand, two_bytes, type_words, unquoted}
+use Rattle.pm_source.specs.Line.{word_operand}
 use Rattle.pm_source.specs.Line.Keyword.{OfSegment, OfProcedure, OfExit, OfJump, OfEnd, OfBytes, Mnemonic}
 use Rattle.pm_source.specs.Same.{BaseSaysNothing, IsOneOperand, NumberWithoutZero, NumbersSayValues}
 use Rattle.pm_source.proofs.Cutting.{and_parts, and_turned}
@@ -138,7 +143,8 @@ is_number (c ∷ cs) h = by (c == 45) (c == 36) refl refl h
     digit e = rw e refl
 
     by : (a b : Bool) → (c == 45) ≡ a → (c == 36) ≡ b
-        → is_some {T = Numeral} (if a then decimal_number true cs else if b then hexadecimal_number cs else decimal_number false (c ∷ cs)) ≡ true → IsNumber (c ∷ cs)
+        → is_some {T = Numeral} (if a then decimal_number true cs else if b then hexadecimal_number cs else decimal_number false (c ∷ cs)) ≡ true
+        → IsNumber (c ∷ cs)
     by true b e f k = record { first = c; others = cs; text = refl; begins = signed e; all = of_digits cs (decimals true cs k).1 }
     by false true e f k = record { first = c; others = cs; text = refl; begins = dollar f; all = of_hexdigits cs (hexadecimals cs k) }
     by false false e f k =
@@ -260,7 +266,8 @@ single f one more (t ∷ s ∷ ts) (u ∷ []) z = absurd z.1
 
 double : {A : Type 0} (f : List (List ℕ) → A) → ((t u : List ℕ) → f (t ∷ []) ≡ f (u ∷ []))
     → ((t s u r : List ℕ) → IsOneOperand t u → IsOneOperand s r → f (t ∷ s ∷ []) ≡ f (u ∷ r ∷ []))
-    → ((t s q u r p : List ℕ) (ts us : List (List ℕ)) → f (t ∷ s ∷ q ∷ ts) ≡ f (u ∷ r ∷ p ∷ us)) → (ts us : List (List ℕ)) → AllZip IsOneOperand ts us → f ts ≡ f us
+    → ((t s q u r p : List ℕ) (ts us : List (List ℕ)) → f (t ∷ s ∷ q ∷ ts) ≡ f (u ∷ r ∷ p ∷ us)) → (ts us : List (List ℕ)) → AllZip IsOneOperand ts us
+    → f ts ≡ f us
 double f one two more [] [] z = refl
 double f one two more (t ∷ []) (u ∷ []) z = one t u
 double f one two more (t ∷ s ∷ []) (u ∷ r ∷ []) z = two t s u r z.0 z.1.0
@@ -299,16 +306,22 @@ case_one (t ∷ s ∷ q ∷ ts) (u ∷ r ∷ []) z = absurd z.1.1
 
 instruction_one : (form : Form) (op : ℕ) (ts us : List (List ℕ)) → AllZip IsOneOperand ts us → instruction form op ts ≡ instruction form op us
 instruction_one forms.Plain op ts us z = bare_one op (short_range op) ts us z
-instruction_one forms.Ub op ts us z = single (one_number byte_operand op) (λ t u h. let e = numeral_one 0 255 256 t u h in rw e refl) (λ t s u r ts us. refl) ts us z
-instruction_one forms.Db op ts us z = single (one_number byte_operand op) (λ t u h. let e = numeral_one 0 255 256 t u h in rw e refl) (λ t s u r ts us. refl) ts us z
-instruction_one forms.W op ts us z = single (one_number word_operand op) (λ t u h. let e = numeral_one 32768 65535 65536 t u h in rw e refl) (λ t s u r ts us. refl) ts us z
+instruction_one forms.Ub op ts us z =
+    single (one_number byte_operand op) (λ t u h. let e = numeral_one 0 255 256 t u h in rw e refl) (λ t s u r ts us. refl) ts us z
+instruction_one forms.Db op ts us z =
+    single (one_number byte_operand op) (λ t u h. let e = numeral_one 0 255 256 t u h in rw e refl) (λ t s u r ts us. refl) ts us z
+instruction_one forms.W op ts us z =
+    single (one_number word_operand op) (λ t u h. let e = numeral_one 32768 65535 65536 t u h in rw e refl) (λ t s u r ts us. refl) ts us z
 instruction_one forms.B op ts us z = single (one_long_number op) (λ t u h. let e = long_one t u h in rw e refl) (λ t s u r ts us. refl) ts us z
 instruction_one forms.UbUb op ts us z =
-    double (two_bytes op) (λ t u. refl) (λ t s u r h k. let e = numeral_one 0 255 256 t u h in let f = numeral_one 0 255 256 s r k in rw (e, f) refl) (λ t s q u r p ts us. refl) ts us z
+    double (two_bytes op) (λ t u. refl) (λ t s u r h k. let e = numeral_one 0 255 256 t u h in let f = numeral_one 0 255 256 s r k in rw (e, f) refl)
+    (λ t s q u r p ts us. refl) ts us z
 instruction_one forms.UbB op ts us z =
-    double (byte_and_number op) (λ t u. refl) (λ t s u r h k. let e = numeral_one 0 255 256 t u h in let f = long_one s r k in rw (e, f) refl) (λ t s q u r p ts us. refl) ts us z
+    double (byte_and_number op) (λ t u. refl) (λ t s u r h k. let e = numeral_one 0 255 256 t u h in let f = long_one s r k in rw (e, f) refl)
+    (λ t s q u r p ts us. refl) ts us z
 instruction_one forms.DbB op ts us z =
-    double (byte_and_number op) (λ t u. refl) (λ t s u r h k. let e = numeral_one 0 255 256 t u h in let f = long_one s r k in rw (e, f) refl) (λ t s q u r p ts us. refl) ts us z
+    double (byte_and_number op) (λ t u. refl) (λ t s u r h k. let e = numeral_one 0 255 256 t u h in let f = long_one s r k in rw (e, f) refl)
+    (λ t s q u r p ts us. refl) ts us z
 instruction_one forms.Chars op ts us z = single (one_text op) (λ t u h. let e = text_one t u h in rw e refl) (λ t s u r ts us. refl) ts us z
 instruction_one forms.Words op ts us z = let e = all_one word_operand (numeral_one 32768 65535 65536) ts us z in rw e refl
 instruction_one forms.Sb op ts us z = single (one_jump op) (λ t u h. let e = jump_one t u h in rw e refl) (λ t s u r ts us. refl) ts us z
@@ -334,11 +347,13 @@ said_one forms.Unassigned op ts us z = refl
 
 bytes_one : (ts us : List (List ℕ)) → AllZip IsOneOperand ts us → bytes_said ts ≡ bytes_said us
 bytes_one [] [] z = refl
-bytes_one (t ∷ ts) (u ∷ us) z = let e = all_one byte_operand (numeral_one 0 255 256) (t ∷ ts) (u ∷ us) z in ap (λ o. o >>= λ bs. Some (map OneByte bs.0, bs.1)) e
+bytes_one (t ∷ ts) (u ∷ us) z =
+    let e = all_one byte_operand (numeral_one 0 255 256) (t ∷ ts) (u ∷ us) z in ap (λ o. o >>= λ bs. Some (map OneByte bs.0, bs.1)) e
 bytes_one [] (u ∷ us) z = absurd z
 bytes_one (t ∷ ts) [] z = absurd z
 
-items_one : (keyword : Keyword) (rest other : List ℕ) → AllZip IsOneOperand (operands rest) (operands other) → items_said keyword rest ≡ items_said keyword other
+items_one : (keyword : Keyword) (rest other : List ℕ) → AllZip IsOneOperand (operands rest) (operands other)
+    → items_said keyword rest ≡ items_said keyword other
 items_one OfBytes rest other z = ap checked (bytes_one (operands rest) (operands other) z)
 items_one (Mnemonic op) rest other z = ap (λ said. said >>= one_item) (said_one (form_of op) op (operands rest) (operands other) z)
 items_one OfSegment rest other z = refl

@@ -22,7 +22,8 @@ pub record IsOperand (t : List ℕ) : Type 0 where
 pub solid_front : (c : ℕ) (cs : List ℕ) → is_blank c ≡ false → unindented (c ∷ cs) ≡ c ∷ cs
 solid_front c cs e = rw e refl
 
-word_pieces : (w rest p : List ℕ) (ps : List (List ℕ)) → list_all is_name_character w ≡ true → pieces false rest ≡ p ∷ ps → pieces false (w ++ rest) ≡ (w ++ p) ∷ ps
+word_pieces : (w rest p : List ℕ) (ps : List (List ℕ)) → list_all is_name_character w ≡ true → pieces false rest ≡ p ∷ ps
+    → pieces false (w ++ rest) ≡ (w ++ p) ∷ ps
 word_pieces [] rest p ps h e = e
 word_pieces (c ∷ w) rest p ps h e =
     let parts = and_parts _ _ h in
@@ -91,7 +92,8 @@ one_piece t rest p ps o e = ap (onto_first 32) (o.piece rest p ps e)
 more_pieces : (ts : List (List ℕ)) → AllByRecursion IsOperand ts → pieces false (more_operands ts) ≡ [] ∷ map (λ t. 32 ∷ t) ts
 more_pieces [] h = refl
 more_pieces (t ∷ ts) h =
-    ap (λ ps. [] ∷ ps) (one_piece t (more_operands ts) [] (map (λ t. 32 ∷ t) ts) h.0 (more_pieces ts h.1) ∙ ap (λ u. (32 ∷ u) ∷ map (λ t. 32 ∷ t) ts) (append_nil t))
+    ap (λ ps. [] ∷ ps) (one_piece t (more_operands ts) [] (map (λ t. 32 ∷ t) ts) h.0 (more_pieces ts h.1)
+    ∙ ap (λ u. (32 ∷ u) ∷ map (λ t. 32 ∷ t) ts) (append_nil t))
 
 all_pieces : (t : List ℕ) (ts : List (List ℕ)) → IsOperand t → AllByRecursion IsOperand ts → pieces false (operands_text (t ∷ ts)) ≡ map (λ t. 32 ∷ t) (t ∷ ts)
 all_pieces t ts o h = one_piece t (more_operands ts) [] (map (λ t. 32 ∷ t) ts) o (more_pieces ts h) ∙ ap (λ u. (32 ∷ u) ∷ map (λ t. 32 ∷ t) ts) (append_nil t)
@@ -170,8 +172,10 @@ words_rest (w ∷ ws) h = record { behind = refl; characters = words_characters 
 pub two_words : (a b : List ℕ) → IsOperand a → IsOperand b → IsOperand (a ++ 32 ∷ b)
 two_words a b f g = record {
   characters = list_all-append is_character a (32 ∷ b) ∙ and_turned _ _ f.characters g.characters;
-  passes = λ rest. ap (uncommented false) (append_assoc a (32 ∷ b) rest) ∙ f.passes (32 ∷ b ++ rest) ∙ ap (λ u. a ++ 32 ∷ u) (g.passes rest) ∙ sym (append_assoc a (32 ∷ b) (uncommented false rest));
-  piece = λ rest p ps e. ap (pieces false) (append_assoc a (32 ∷ b) rest) ∙ f.piece (32 ∷ b ++ rest) (32 ∷ b ++ p) ps (ap (onto_first 32) (g.piece rest p ps e)) ∙ ap (λ u. u ∷ ps) (sym (append_assoc a (32 ∷ b) p));
+  passes = λ rest. ap (uncommented false) (append_assoc a (32 ∷ b) rest) ∙ f.passes (32 ∷ b ++ rest) ∙ ap (λ u. a ++ 32 ∷ u) (g.passes rest)
+      ∙ sym (append_assoc a (32 ∷ b) (uncommented false rest));
+  piece = λ rest p ps e. ap (pieces false) (append_assoc a (32 ∷ b) rest)
+      ∙ f.piece (32 ∷ b ++ rest) (32 ∷ b ++ p) ps (ap (onto_first 32) (g.piece rest p ps e)) ∙ ap (λ u. u ∷ ps) (sym (append_assoc a (32 ∷ b) p));
   front = λ rest. ap unindented (append_assoc a (32 ∷ b) rest) ∙ f.front (32 ∷ b ++ rest) ∙ sym (append_assoc a (32 ∷ b) rest);
   back = λ rest.
       ap (λ u. unindented (u ++ rest)) (reverse-append a (32 ∷ b) ∙ ap (λ u. u ++ reverse a) (reverse-append (32 ∷ []) b))

@@ -6,10 +6,12 @@ use Rattle.std.proofs.lemmas.Bool.{eq-eqb, eqb-true}
 use Rattle.pm_disasm.specs.Item.{Item, Target, size, table_place, IsItem, IsNear}
 use Rattle.pm_disasm.specs.Item.Item.{Plain, Jump, Case, OneByte}
 use Rattle.pm_disasm.specs.Item.Target.{To, Through}
-use Rattle.pm_disasm.specs.Program.{AreItems, IsIn, IsProcedure, NamesWithin, boundaries, end_of, entries_needed, entries_used, is_among, item_places, target_places}
+use Rattle.pm_disasm.specs.Program.{AreItems, IsIn, IsProcedure, NamesWithin, boundaries, end_of}
+use Rattle.pm_disasm.specs.Program.{entries_needed, entries_used, is_among, item_places, target_places}
 use Rattle.pm_source.specs.Source.{Name, Row, Source, code_end, has_label, is_exit, items_of, row_items, IsSource}
 use Rattle.pm_source.specs.Faults.{Places, place_of, label_faults}
-use Rattle.pm_source.specs.Meaning.{AreNear, IsNearFrom, LeadsTo, Means, MeansProcedure, ReachesFrom, exit_place, found_item, found_label, found_procedure, found_target}
+use Rattle.pm_source.specs.Meaning.{AreNear, IsNearFrom, LeadsTo, Means, MeansProcedure, ReachesFrom}
+use Rattle.pm_source.specs.Meaning.{exit_place, found_item, found_label, found_procedure, found_target}
 use Rattle.pm_source.proofs.Ends.{found_code_end}
 use Rattle.pm_source.proofs.Goods.{IsGood, IsGoodTarget}
 use Rattle.pm_source.proofs.Labels.{found_size, labels_found, map_length}
@@ -25,23 +27,28 @@ first_among : (at : ℕ) (items : List (Item ℕ)) → IsIn (boundaries at items
 first_among at [] = let same : (at == at) ≡ true = eq-eqb at at refl in rw same refl
 first_among at (item ∷ items) = let same : (at == at) ≡ true = eq-eqb at at refl in rw same refl
 
-later_among : (places : Places) (at : ℕ) (xs ys : List (Item Name)) (place : ℕ) → IsIn (boundaries (end_of at xs) (map (found_item places) ys)) place → IsIn (boundaries at (map (found_item places) (xs ++ ys))) place
+later_among : (places : Places) (at : ℕ) (xs ys : List (Item Name)) (place : ℕ) → IsIn (boundaries (end_of at xs) (map (found_item places) ys)) place
+    → IsIn (boundaries at (map (found_item places) (xs ++ ys))) place
 later_among places at [] ys place h = h
 later_among places at (x ∷ xs) ys place h =
     let rest : List (Item ℕ) = map (found_item places) (xs ++ ys) in
     let more : IsIn (boundaries (at + size at x) rest) place = later_among places (at + size at x) xs ys place h in
-    let there : IsIn (boundaries (at + size at (found_item places x)) rest) place = subst (λ k. IsIn (boundaries (at + k) rest) place) (sym (found_size places at x)) more in
+    let there : IsIn (boundaries (at + size at (found_item places x)) rest) place =
+    subst (λ k. IsIn (boundaries (at + k) rest) place) (sym (found_size places at x)) more in
     or_right (at == place) (is_among (boundaries (at + size at (found_item places x)) rest) place) there
 
 -- a label stands at a boundary
-place_among : (places : Places) (at : ℕ) (rows : List Row) (name : Name) (place : ℕ) → place_of at rows name ≡ Some place → IsIn (boundaries at (map (found_item places) (items_of rows))) place
+place_among : (places : Places) (at : ℕ) (rows : List Row) (name : Name) (place : ℕ) → place_of at rows name ≡ Some place
+    → IsIn (boundaries at (map (found_item places) (items_of rows))) place
 place_among places at [] name place e = absurd (cc)
 place_among places at (row ∷ rows) name place e = by (has_label name row) e (λ f. place_among places (end_of at (row_items row)) rows name place f)
   where
     by : (b : Bool) → (if b then Some at else place_of (end_of at (row_items row)) rows name) ≡ Some place
-        → (place_of (end_of at (row_items row)) rows name ≡ Some place → IsIn (boundaries (end_of at (row_items row)) (map (found_item places) (items_of rows))) place)
+        → (place_of (end_of at (row_items row)) rows name ≡ Some place
+        → IsIn (boundaries (end_of at (row_items row)) (map (found_item places) (items_of rows))) place)
         → IsIn (boundaries at (map (found_item places) (items_of (row ∷ rows)))) place
-    by true e more = subst (IsIn (boundaries at (map (found_item places) (items_of (row ∷ rows))))) (some_is at place e) (first_among at (map (found_item places) (items_of (row ∷ rows))))
+    by true e more = subst (IsIn (boundaries at (map (found_item places) (items_of (row ∷ rows))))) (some_is at place e)
+        (first_among at (map (found_item places) (items_of (row ∷ rows))))
     by false e more = later_among places at (row_items row) (items_of rows) place (more e)
 
 exit_among : (places : Places) (at : ℕ) (rows : List Row) → IsIn (boundaries at (map (found_item places) (items_of rows))) (exit_place at rows)
@@ -75,23 +82,27 @@ among_end at (item ∷ items) place h = by (at == place) refl h (λ f. among_end
 abbrev EachPlace : Places → (ℕ → Type 0) → Type 0
 EachPlace places P = (name : Name) (place : ℕ) → places name ≡ Some place → P place
 
-labels_all : (places : Places) (P : ℕ → Type 0) (labels : List Name) (found : List ℕ) → EachPlace places P → AllZip (λ label place. places label ≡ Some place) labels found → AllByRecursion P found
+labels_all : (places : Places) (P : ℕ → Type 0) (labels : List Name) (found : List ℕ) → EachPlace places P
+    → AllZip (λ label place. places label ≡ Some place) labels found → AllByRecursion P found
 labels_all places P [] [] h z = tt
 labels_all places P [] (f ∷ found) h z = absurd z
 labels_all places P (label ∷ labels) [] h z = absurd z
 labels_all places P (label ∷ labels) (f ∷ found) h z = (h label f z.0, labels_all places P labels found h z.1)
 
-entries_all : (places : Places) (P : ℕ → Type 0) (entries : List (ℕ × Name)) (found : List ℕ) → EachPlace places P → AllZip (λ e place. places e.1 ≡ Some place) entries found → AllByRecursion P found
+entries_all : (places : Places) (P : ℕ → Type 0) (entries : List (ℕ × Name)) (found : List ℕ) → EachPlace places P
+    → AllZip (λ e place. places e.1 ≡ Some place) entries found → AllByRecursion P found
 entries_all places P [] [] h z = tt
 entries_all places P [] (f ∷ found) h z = absurd z
 entries_all places P (e ∷ entries) [] h z = absurd z
 entries_all places P (e ∷ entries) (f ∷ found) h z = (h e.1 f z.0, entries_all places P entries found h z.1)
 
-target_near : (places : Places) (next : ℕ) (target : Target Name) → IsGoodTarget target → ReachesFrom next (found_target places target) → IsNear next (found_target places target)
+target_near : (places : Places) (next : ℕ) (target : Target Name) → IsGoodTarget target → ReachesFrom next (found_target places target)
+    → IsNear next (found_target places target)
 target_near places next (To name) g r = r
 target_near places next (Through k) g r = g
 
-item_is : (places : Places) (at : ℕ) (item : Item Name) → EachPlace places (λ place. place < 65536) → IsGood item → Means places item (found_item places item) → IsNearFrom at (found_item places item) → IsItem at (found_item places item)
+item_is : (places : Places) (at : ℕ) (item : Item Name) → EachPlace places (λ place. place < 65536) → IsGood item → Means places item (found_item places item)
+    → IsNearFrom at (found_item places item) → IsItem at (found_item places item)
 item_is places at (Plain i named) h g m n = g
 item_is places at (OneByte b) h g m n = g
 item_is places at (Jump op target) h g m n = (g.0, g.1, target_near places (at + 2) target g.2 n)
@@ -106,12 +117,14 @@ item_is places at (Case low high otherwise labels) h g m n =
       count = map_length (found_label places) labels ∙ g.3;
     }
 
-items_are : (places : Places) (at : ℕ) (items : List (Item Name)) → EachPlace places (λ place. place < 65536) → AllByRecursion IsGood items → AllZip (Means places) items (map (found_item places) items) → AreNear at (map (found_item places) items)
+items_are : (places : Places) (at : ℕ) (items : List (Item Name)) → EachPlace places (λ place. place < 65536) → AllByRecursion IsGood items
+    → AllZip (Means places) items (map (found_item places) items) → AreNear at (map (found_item places) items)
     → AreItems at (map (found_item places) items)
 items_are places at [] h g m n = tt
 items_are places at (x ∷ xs) h g m n = (item_is places at x h g.0 m.0 n.0, items_are places (at + size at (found_item places x)) xs h g.1 m.1 n.1)
 
-target_all : (places : Places) (P : ℕ → Type 0) (target : Target Name) → EachPlace places P → LeadsTo places target (found_target places target) → AllByRecursion P (target_places (found_target places target))
+target_all : (places : Places) (P : ℕ → Type 0) (target : Target Name) → EachPlace places P → LeadsTo places target (found_target places target)
+    → AllByRecursion P (target_places (found_target places target))
 target_all places P (To name) h l = (h name (found_label places name) l, tt)
 target_all places P (Through k) h l = tt
 
@@ -119,16 +132,19 @@ all_join : (P : ℕ → Type 0) (xs ys : List ℕ) → AllByRecursion P xs → A
 all_join P [] ys h k = k
 all_join P (x ∷ xs) ys h k = (h.0, all_join P xs ys h.1 k)
 
-item_within : (places : Places) (P : ℕ → Type 0) (item : Item Name) → EachPlace places P → Means places item (found_item places item) → AllByRecursion P (item_places (found_item places item))
+item_within : (places : Places) (P : ℕ → Type 0) (item : Item Name) → EachPlace places P → Means places item (found_item places item)
+    → AllByRecursion P (item_places (found_item places item))
 item_within places P (Plain i named) h m = tt
 item_within places P (OneByte b) h m = tt
 item_within places P (Jump op target) h m = target_all places P target h m.1
 item_within places P (Case low high otherwise labels) h m =
     let rest = m.1 in
     let both = rest.1 in
-    all_join P (target_places (found_target places otherwise)) (map (found_label places) labels) (target_all places P otherwise h both.0) (labels_all places P labels (map (found_label places) labels) h both.1)
+    all_join P (target_places (found_target places otherwise)) (map (found_label places) labels) (target_all places P otherwise h both.0)
+    (labels_all places P labels (map (found_label places) labels) h both.1)
 
-items_within : (places : Places) (bounds : List ℕ) (items : List (Item Name)) → EachPlace places (IsIn bounds) → AllZip (Means places) items (map (found_item places) items) → AllByRecursion (NamesWithin bounds) (map (found_item places) items)
+items_within : (places : Places) (bounds : List ℕ) (items : List (Item Name)) → EachPlace places (IsIn bounds)
+    → AllZip (Means places) items (map (found_item places) items) → AllByRecursion (NamesWithin bounds) (map (found_item places) items)
 items_within places bounds [] h m = tt
 items_within places bounds (x ∷ xs) h m = (item_within places (IsIn bounds) x h m.0, items_within places bounds xs h m.1)
 
@@ -151,7 +167,8 @@ pub record IsGoodSource (p : Source) : Type 0 where
   pub locals : IsSize p.locals
   pub items : AllByRecursion IsGood (items_of p.code)
 
-pub procedure_is : (at : ℕ) (p : Source) → label_faults at p ≡ [] → IsSource p → IsGoodSource p → at % 2 ≡ 0 → code_end at p.code < 65536 → IsProcedure (found_procedure at p)
+pub procedure_is : (at : ℕ) (p : Source) → label_faults at p ≡ [] → IsSource p → IsGoodSource p → at % 2 ≡ 0 → code_end at p.code < 65536
+    → IsProcedure (found_procedure at p)
 procedure_is at p h s g e b =
     let places : Places = place_of at p.code in
     let items : List (Item ℕ) = map (found_item places) (items_of p.code) in
@@ -159,7 +176,8 @@ procedure_is at p h s g e b =
     let bounds : List ℕ = boundaries at items in
     let ends : end_of at items ≡ code_end at p.code = found_code_end at p in
     let there : EachPlace places (IsIn bounds) = λ name place f. place_among places at p.code name place f in
-    let low : EachPlace places (λ place. place < 65536) = λ name place f. (let last : place ≤ end_of at items = among_end at items place (there name place f) in omega (arith, last, ends, b)) in
+    let low : EachPlace places (λ place. place < 65536) = λ name place f.
+    (let last : place ≤ end_of at items = among_end at items place (there name place f) in omega (arith, last, ends, b)) in
     let zero_even : at % 2 ≡ 0 % 2 = e in
     let even : code_end at p.code % 2 ≡ 0 = code_parity at 0 p.code zero_even ∙ s.even in
     record {

@@ -1,11 +1,13 @@
 -- What a text spells is a program.
-use Rattle.std.proofs.Common.{◌≡◌, ◌<◌, ◌≤◌, ℕ, ◌+◌, ◌%◌, Bool, true, false, List, [], ◌∷◌, ◌++◌, length, map, refl, sym, ap, subst, ◌∙◌, arith, Option, Some, None}
+use Rattle.std.proofs.Common.{◌≡◌, ◌<◌, ◌≤◌, ℕ, ◌+◌, ◌%◌, Bool, true, false, List, [], ◌∷◌, ◌++◌}
+use Rattle.std.proofs.Common.{length, map, refl, sym, ap, subst, ◌∙◌, arith, Option, Some, None}
 use Rattle.std.specs.Prelude.{zero, suc, ◌==◌, if◌then◌else◌}
 use Rattle.std.specs.List.{AllByRecursion}
 use Rattle.std.specs.Option.{option_to_list}
 use Rattle.std.proofs.lemmas.Bool.{eqb-true}
 use Rattle.pm_disasm.specs.Program.{FitSlots, AscendFrom, IsProcedure, IsProgram, IsSegment, is_segment_name, jtab_of, procedures_end, segment_bytes}
-use Rattle.pm_source.specs.Source.{Row, Source, SourceSegment, IsSource, code_end, entry_statement, head_statements, items_of, segment_statements, statements, statements_from}
+use Rattle.pm_source.specs.Source.{Row, Source, SourceSegment, IsSource, code_end, entry_statement, head_statements}
+use Rattle.pm_source.specs.Source.{items_of, segment_statements, statements, statements_from}
 use Rattle.pm_source.specs.Source.Row.{Items, Exit}
 use Rattle.pm_source.specs.Source.Statement.{Code, End}
 use Rattle.pm_source.specs.Faults.{label_faults, label_faults_from, source_end}
@@ -65,7 +67,8 @@ segments_good (s ∷ ss) h =
     (record { number = first.0; name = first.1; sources = good.sources; few = omega (arith, good.few) }, segments_good ss parts.1)
 
 -- The procedures of a segment that is not too long.
-procedures_are : (at : ℕ) (ps : List Source) → label_faults_from at ps ≡ [] → AllByRecursion IsSource ps → AllByRecursion IsGoodSource ps → at % 2 ≡ 0 → procedures_end at (found_procedures at ps) ≤ 65534
+procedures_are : (at : ℕ) (ps : List Source) → label_faults_from at ps ≡ [] → AllByRecursion IsSource ps → AllByRecursion IsGoodSource ps → at % 2 ≡ 0
+    → procedures_end at (found_procedures at ps) ≤ 65534
     → AllByRecursion IsProcedure (found_procedures at ps)
 procedures_are at [] h s g e b = tt
 procedures_are at (p ∷ ps) h s g e b =
@@ -85,7 +88,8 @@ found_count : (at : ℕ) (ps : List Source) → length (found_procedures at ps) 
 found_count at [] = refl
 found_count at (p ∷ ps) = ap suc (found_count (source_end at p) ps)
 
-segment_is : (s : SourceSegment) → IsClean s → AllByRecursion IsSource s.procedures → IsGoodSegment s → length (segment_bytes (found_segment s)) ≤ 65534 → IsSegment (found_segment s)
+segment_is : (s : SourceSegment) → IsClean s → AllByRecursion IsSource s.procedures → IsGoodSegment s → length (segment_bytes (found_segment s)) ≤ 65534
+    → IsSegment (found_segment s)
 segment_is s c h g b =
     let m : MeanFrom 0 s.procedures = procedures_found 0 s.procedures c in
     let last : procedures_end 0 (found_procedures 0 s.procedures) ≤ length (segment_bytes (found_segment s)) = end_within (found_segment s) m.follow in
@@ -97,7 +101,8 @@ segment_is s c h g b =
       follow = m.follow;
     }
 
-segments_are : (ss : List SourceSegment) → AllByRecursion IsClean ss → AllByRecursion (λ s. AllByRecursion IsSource s.procedures) ss → AllByRecursion IsGoodSegment ss → FitSlots (map found_segment ss)
+segments_are : (ss : List SourceSegment) → AllByRecursion IsClean ss → AllByRecursion (λ s. AllByRecursion IsSource s.procedures) ss
+    → AllByRecursion IsGoodSegment ss → FitSlots (map found_segment ss)
     → AllByRecursion IsSegment (map found_segment ss)
 segments_are [] c h g b = tt
 segments_are (s ∷ ss) c h g b = (segment_is s c.0 h.0 g.0 b.0, segments_are ss c.1 h.1 g.1 b.1)

@@ -1,5 +1,6 @@
 -- Marked numbers, targets and quoted text are read again.
-use Rattle.std.proofs.Common.{◌≡◌, ◌<◌, ℕ, zero, suc, ◌^◌, ◌+◌, ◌-◌, ◌*◌, ◌/◌, ◌%◌, Bool, true, false, not, List, [], ◌∷◌, ◌++◌, length, take, reverse, map, refl, sym, ap, ◌∙◌, arith, Some, append_assoc}
+use Rattle.std.proofs.Common.{◌≡◌, ◌<◌, ℕ, zero, suc, ◌^◌, ◌+◌, ◌-◌, ◌*◌, ◌/◌, ◌%◌, Bool, true, false, not, List}
+use Rattle.std.proofs.Common.{[], ◌∷◌, ◌++◌, length, take, reverse, map, refl, sym, ap, ◌∙◌, arith, Some, append_assoc}
 use Rattle.std.specs.Prelude.{◌&&◌, ◌==◌, nat_le, nat_lt, slice_index, if◌then◌else◌, codes}
 use Rattle.std.specs.List.{list_all, onto_first, AllByRecursion, flat_map}
 use Rattle.std.specs.Char.{is_ascii_digit}
@@ -16,7 +17,8 @@ use Rattle.pm_disasm.specs.Text.{number_text, hex_digit, escaped, quoted}
 use Rattle.pm_disasm.specs.Shown.{label_text, target_text}
 use Rattle.pm_source.specs.Words.{is_empty, unindented}
 use Rattle.pm_source.specs.Source.{Name}
-use Rattle.pm_source.specs.Line.{is_character, uncommented, pieces, number_operand, jump_operand, label_operand, all_operands, word_operand, is_marked, unescaped, lower_hex, is_plain, text_operand, unquoted}
+use Rattle.pm_source.specs.Line.{is_character, uncommented, pieces, number_operand, jump_operand, label_operand, all_operands}
+use Rattle.pm_source.specs.Line.{word_operand, is_marked, unescaped, lower_hex, is_plain, text_operand, unquoted}
 use Rattle.pm_source.proofs.Cutting.{and_parts, and_turned}
 use Rattle.pm_source.proofs.Operanded.{IsOperand, IsWord, of_word, append_nil, solid_front}
 use Rattle.pm_source.proofs.Numbers.{IsShown, shown, number_shown, word_shown, decimal_word, label_word, label_name}
@@ -132,7 +134,8 @@ pub words_operands : (ws : List ℕ) → AllByRecursion (λ w. w < 65536) ws →
 words_operands [] h = tt
 words_operands (w ∷ ws) h = (of_word (decimal w) (decimal_word w (omega (arith, h.0))), words_operands ws h.1)
 
-pub labels_again : (places : List ℕ) → AllByRecursion (λ p. p < 100000) places → all_operands label_operand (map label_text places) ≡ Some (map label_text places, true)
+pub labels_again : (places : List ℕ) → AllByRecursion (λ p. p < 100000) places
+    → all_operands label_operand (map label_text places) ≡ Some (map label_text places, true)
 labels_again [] h = refl
 labels_again (p ∷ places) h = let name = label_name p h.0 in let more = labels_again places h.1 in rw name (rw more refl)
 
@@ -222,7 +225,8 @@ inner_passes (c ∷ w) rest h =
     let comment = and_false (c == 59) in
     rw (comment, quote) (ap (λ cs. c ∷ cs) (inner_passes w rest parts.1))
 
-inner_pieces : (w rest p : List ℕ) (ps : List (List ℕ)) → list_all is_inner w ≡ true → pieces false rest ≡ p ∷ ps → pieces true (w ++ 34 ∷ rest) ≡ (w ++ 34 ∷ p) ∷ ps
+inner_pieces : (w rest p : List ℕ) (ps : List (List ℕ)) → list_all is_inner w ≡ true → pieces false rest ≡ p ∷ ps
+    → pieces true (w ++ 34 ∷ rest) ≡ (w ++ 34 ∷ p) ∷ ps
 inner_pieces [] rest p ps h e = ap (onto_first 34) e
 inner_pieces (c ∷ w) rest p ps h e =
     let parts = and_parts _ _ h in
@@ -236,10 +240,13 @@ quoted_operand bytes h =
     let all : list_all is_inner w ≡ true = all_inner bytes h in
     record {
       characters = list_all-append is_character (34 ∷ w) (34 ∷ []) ∙ and_turned _ _ (inner_characters w all) refl;
-      passes = λ rest. ap (uncommented false) (append_assoc (34 ∷ w) (34 ∷ []) rest) ∙ ap (λ cs. 34 ∷ cs) (inner_passes w rest all) ∙ sym (append_assoc (34 ∷ w) (34 ∷ []) (uncommented false rest));
-      piece = λ rest p ps e. ap (pieces false) (append_assoc (34 ∷ w) (34 ∷ []) rest) ∙ ap (onto_first 34) (inner_pieces w rest p ps all e) ∙ ap (λ u. u ∷ ps) (sym (append_assoc (34 ∷ w) (34 ∷ []) p));
+      passes = λ rest. ap (uncommented false) (append_assoc (34 ∷ w) (34 ∷ []) rest) ∙ ap (λ cs. 34 ∷ cs) (inner_passes w rest all)
+          ∙ sym (append_assoc (34 ∷ w) (34 ∷ []) (uncommented false rest));
+      piece = λ rest p ps e. ap (pieces false) (append_assoc (34 ∷ w) (34 ∷ []) rest) ∙ ap (onto_first 34) (inner_pieces w rest p ps all e)
+          ∙ ap (λ u. u ∷ ps) (sym (append_assoc (34 ∷ w) (34 ∷ []) p));
       front = λ rest. refl;
-      back = λ rest. ap (λ u. unindented (u ++ rest)) (reverse-append (34 ∷ w) (34 ∷ [])) ∙ solid_front 34 (reverse (34 ∷ w) ++ rest) refl ∙ ap (λ u. u ++ rest) (sym (reverse-append (34 ∷ w) (34 ∷ [])));
+      back = λ rest. ap (λ u. unindented (u ++ rest)) (reverse-append (34 ∷ w) (34 ∷ [])) ∙ solid_front 34 (reverse (34 ∷ w) ++ rest) refl
+          ∙ ap (λ u. u ++ rest) (sym (reverse-append (34 ∷ w) (34 ∷ [])));
       some = refl;
     }
 

@@ -17,7 +17,10 @@ use Rattle.pm_source.specs.Source.{Name, Statement}
 use Rattle.pm_source.specs.Source.Row.{Items, Exit}
 use Rattle.pm_source.specs.Source.Statement.{Segment, Begin, Code, Entry, End}
 use Rattle.pm_codefile.specs.Segments.{◌>>=◌}
-use Rattle.pm_source.specs.Line.{Flaw, Line, Operand, Said, Keyword, numeral_operand, slot_operand, said, saying, spoken, labelled, labelled_by, line_of_words, line_by, line_of, label_of, keyword_of, code_said, items_said, bytes_said, one_item, operands, byte_operand, all_operands, instruction_said, directives, named_from, mnemonic_keyword, keyword_or, segment_operands, procedure_operands, entry_operands, no_operands, label_operand, size_operand, is_even, is_character, uncommented, ends_procedure}
+use Rattle.pm_source.specs.Line.{Flaw, Line, Operand, Said, Keyword, numeral_operand, slot_operand, said, saying, spoken, labelled, labelled_by, line_of_words}
+use Rattle.pm_source.specs.Line.{line_by, line_of, label_of, keyword_of, code_said, items_said, bytes_said, one_item, operands, byte_operand, all_operands}
+use Rattle.pm_source.specs.Line.{instruction_said, directives, named_from, mnemonic_keyword, keyword_or, segment_operands, procedure_operands, entry_operands}
+use Rattle.pm_source.specs.Line.{no_operands, label_operand, size_operand, is_even, is_character, uncommented, ends_procedure}
 use Rattle.pm_source.specs.Line.Flaw.{NoFlaw}
 use Rattle.pm_source.specs.Line.Line.{Blank, Wrong, Strange, Says}
 use Rattle.pm_source.specs.Line.Keyword.{OfSegment, OfProcedure, OfExit, OfJump, OfEnd, OfBytes, Mnemonic}
@@ -44,7 +47,8 @@ named_small : (name : List ℕ) (from count op : ℕ) → named_from name from c
 named_small name from zero op e = absurd (cc)
 named_small name from (suc count) op e = by (bytes_eq name (mnemonic_of from)) e (λ f. named_small name (from + 1) count op f)
   where
-    by : (b : Bool) → (if b then Some from else named_from name (from + 1) count) ≡ Some op → (named_from name (from + 1) count ≡ Some op → op < from + 1 + count) → op < from + suc count
+    by : (b : Bool) → (if b then Some from else named_from name (from + 1) count) ≡ Some op
+        → (named_from name (from + 1) count ≡ Some op → op < from + 1 + count) → op < from + suc count
     by true e more = omega (arith, some_is from op e)
     by false e more = omega (arith, more e)
 
@@ -95,7 +99,8 @@ none_said said t (text ∷ texts) e = absurd (cc)
 entry_ranged : (line : ℕ) (texts : List (List ℕ)) (s : Statement) → entry_operands line texts ≡ Some (s, true) → IsRanged s
 entry_ranged line [] s e = absurd (cc)
 entry_ranged line (name ∷ []) s e =
-    let b : Bound (label_operand name) (λ label. Some (Entry line label.0, label.1)) (s, true) = bound (label_operand name) (λ label. Some (Entry line label.0, label.1)) (s, true) e in
+    let b : Bound (label_operand name) (λ label. Some (Entry line label.0, label.1)) (s, true) =
+    bound (label_operand name) (λ label. Some (Entry line label.0, label.1)) (s, true) e in
     let label = b.value in
     let parts = pair_is (Entry line label.0) s label.1 true b.next in
     subst IsRanged parts.0 tt
@@ -122,8 +127,10 @@ begun p level parameters locals = Some (Begin p.0 level.0 parameters.0 locals.0,
 
 begin_ranged : (p level parameters locals : List ℕ) (s : Statement) → procedure_operands (p ∷ level ∷ parameters ∷ locals ∷ []) ≡ Some (s, true) → IsRanged s
 begin_ranged p level parameters locals s e =
-    let a = bound (numeral_operand 0 255 256 p) (λ x. numeral_operand 128 127 256 level >>= λ y. size_operand parameters >>= λ z. size_operand locals >>= λ w. begun x y z w) (s, true) e in
-    let b = bound (numeral_operand 128 127 256 level) (λ y. size_operand parameters >>= λ z. size_operand locals >>= λ w. begun a.value y z w) (s, true) a.next in
+    let a = bound (numeral_operand 0 255 256 p)
+    (λ x. numeral_operand 128 127 256 level >>= λ y. size_operand parameters >>= λ z. size_operand locals >>= λ w. begun x y z w) (s, true) e in
+    let b = bound (numeral_operand 128 127 256 level) (λ y. size_operand parameters >>= λ z. size_operand locals >>= λ w. begun a.value y z w)
+    (s, true) a.next in
     let c = bound (size_operand parameters) (λ z. size_operand locals >>= λ w. begun a.value b.value z w) (s, true) b.next in
     let d = bound (size_operand locals) (λ w. begun a.value b.value c.value w) (s, true) c.next in
     let x = a.value in
@@ -167,7 +174,8 @@ bytes_good (text ∷ texts) items e =
     let parts = pair_is (map OneByte bs.0) items bs.1 true b.next in
     subst (AllByRecursion IsGood) parts.0 (ones_good bs.0 (all_ranged IsByte byte_operand byte_ranged (text ∷ texts) bs b.first))
 
-item_good : (op : ℕ) (texts : List (List ℕ)) (items : List (Item Name)) → op < 256 → (instruction_said (form_of op) op texts >>= one_item) ≡ Some (items, NoFlaw) → AllByRecursion IsGood items
+item_good : (op : ℕ) (texts : List (List ℕ)) (items : List (Item Name)) → op < 256
+    → (instruction_said (form_of op) op texts >>= one_item) ≡ Some (items, NoFlaw) → AllByRecursion IsGood items
 item_good op texts items o e =
     let b = bound (instruction_said (form_of op) op texts) one_item (items, NoFlaw) e in
     let x = b.value in
@@ -175,7 +183,8 @@ item_good op texts items o e =
     let right : instruction_said (form_of op) op texts ≡ Some (x.0, NoFlaw) = b.first ∙ ap (flawed x.0) parts.1 in
     subst (AllByRecursion IsGood) parts.0 (instruction_good (form_of op) op texts x.0 o refl right, tt)
 
-items_good : (keyword : Keyword) (rest : List ℕ) (items : List (Item Name)) → IsKnown keyword → items_said keyword rest ≡ Some (items, NoFlaw) → AllByRecursion IsGood items
+items_good : (keyword : Keyword) (rest : List ℕ) (items : List (Item Name)) → IsKnown keyword → items_said keyword rest ≡ Some (items, NoFlaw)
+    → AllByRecursion IsGood items
 items_good OfBytes rest items k e = bytes_good (operands rest) items (checked_is (bytes_said (operands rest)) items e)
 items_good (Mnemonic op) rest items k e = item_good op (operands rest) items k e
 items_good OfSegment rest items k e = absurd (cc)
@@ -184,7 +193,8 @@ items_good OfExit rest items k e = absurd (cc)
 items_good OfJump rest items k e = absurd (cc)
 items_good OfEnd rest items k e = absurd (cc)
 
-code_ranged : (line : ℕ) (label : Option Name) (keyword : Keyword) (rest : List ℕ) (s : Statement) → IsKnown keyword → code_said line label (items_said keyword rest) ≡ Some (s, NoFlaw) → IsRanged s
+code_ranged : (line : ℕ) (label : Option Name) (keyword : Keyword) (rest : List ℕ) (s : Statement) → IsKnown keyword
+    → code_said line label (items_said keyword rest) ≡ Some (s, NoFlaw) → IsRanged s
 code_ranged line label keyword rest s k e = by (items_said keyword rest) refl e
   where
     by : (o : Said (List (Item Name))) → items_said keyword rest ≡ o → code_said line label o ≡ Some (s, NoFlaw) → IsRanged s
@@ -210,11 +220,14 @@ saying_is : (end : Bool) (o : Said Statement) (s : Statement) → saying end o �
 saying_is end None s e = absurd (cc)
 saying_is end (Some (t, flaw)) s e = let p = says_is t s flaw NoFlaw e in let one = p.0 in let other = p.1 in cc
 
-spoken_ranged : (line : ℕ) (rest : List ℕ) (keyword : Option Keyword) (s : Statement) → ((k : Keyword) → keyword ≡ Some k → IsKnown k) → spoken line rest keyword ≡ Says s NoFlaw → IsRanged s
+spoken_ranged : (line : ℕ) (rest : List ℕ) (keyword : Option Keyword) (s : Statement) → ((k : Keyword) → keyword ≡ Some k → IsKnown k)
+    → spoken line rest keyword ≡ Says s NoFlaw → IsRanged s
 spoken_ranged line rest None s k e = absurd (cc)
-spoken_ranged line rest (Some keyword) s k e = said_ranged line keyword rest s (k keyword refl) (saying_is (ends_procedure keyword) (said line keyword rest) s e)
+spoken_ranged line rest (Some keyword) s k e =
+    said_ranged line keyword rest s (k keyword refl) (saying_is (ends_procedure keyword) (said line keyword rest) s e)
 
-labelled_by_ranged : (line : ℕ) (label rest : List ℕ) (keyword : Option Keyword) (s : Statement) → ((k : Keyword) → keyword ≡ Some k → IsKnown k) → labelled_by line label rest keyword ≡ Says s NoFlaw → IsRanged s
+labelled_by_ranged : (line : ℕ) (label rest : List ℕ) (keyword : Option Keyword) (s : Statement) → ((k : Keyword) → keyword ≡ Some k → IsKnown k)
+    → labelled_by line label rest keyword ≡ Says s NoFlaw → IsRanged s
 labelled_by_ranged line label rest None s k e = absurd (cc)
 labelled_by_ranged line label rest (Some keyword) s k e = by (is_name label) e
   where
@@ -259,7 +272,8 @@ line_said line text (Says s flaw) rest (t ∷ said) f h more =
 
 lines_ranged : (line : ℕ) (texts : List (List ℕ)) (said : List Statement) → AreSaid (lines_from line texts) said → AllByRecursion IsRanged said
 lines_ranged line [] said h = subst (AllByRecursion IsRanged) (sym h) tt
-lines_ranged line (text ∷ texts) said h = line_said line text (line_of line text) (lines_from (line + 1) texts) said refl h (λ more k. lines_ranged (line + 1) texts more k)
+lines_ranged line (text ∷ texts) said h =
+    line_said line text (line_of line text) (lines_from (line + 1) texts) said refl h (λ more k. lines_ranged (line + 1) texts more k)
 
 -- Statements that lines say are in their ranges.
 pub said_ranges : (text : List ℕ) (said : List Statement) → AreSaid (lines_of text) said → AllByRecursion IsRanged said

@@ -1,5 +1,6 @@
 -- The text of a program's code file spells a program of the same code file.
-use Rattle.std.proofs.Common.{◌≡◌, ◌≤◌, ℕ, zero, suc, ◌+◌, ◌-◌, Bool, true, false, List, [], ◌∷◌, ◌++◌, length, map, replicate, refl, sym, ap, subst, ◌∙◌, Option, Some}
+use Rattle.std.proofs.Common.{◌≡◌, ◌≤◌, ℕ, zero, suc, ◌+◌, ◌-◌, Bool, true, false, List, [], ◌∷◌}
+use Rattle.std.proofs.Common.{◌++◌, length, map, replicate, refl, sym, ap, subst, ◌∙◌, Option, Some}
 use Rattle.std.specs.Prelude.{◌==◌, if◌then◌else◌}
 use Rattle.std.specs.List.{AllByRecursion, AllZip}
 use Rattle.pm_codefile.specs.Layout.{layout}
@@ -22,9 +23,11 @@ same_numbered n [] [] h = record { name = refl; bytes = refl }
 same_numbered n [] (t ∷ ts) h = absurd h
 same_numbered n (s ∷ ss) [] h = absurd h
 same_numbered n (s ∷ ss) (t ∷ ts) h =
-    subst (λ m. IsSameSlot (segment_numbered n (s ∷ ss)) (if m == n then Some t else segment_numbered n ts)) (sym h.0.number) (by (s.number == n) (same_numbered n ss ts h.1))
+    subst (λ m. IsSameSlot (segment_numbered n (s ∷ ss)) (if m == n then Some t else segment_numbered n ts)) (sym h.0.number)
+    (by (s.number == n) (same_numbered n ss ts h.1))
   where
-    by : (b : Bool) → IsSameSlot (segment_numbered n ss) (segment_numbered n ts) → IsSameSlot (if b then Some s else segment_numbered n ss) (if b then Some t else segment_numbered n ts)
+    by : (b : Bool) → IsSameSlot (segment_numbered n ss) (segment_numbered n ts)
+        → IsSameSlot (if b then Some s else segment_numbered n ss) (if b then Some t else segment_numbered n ts)
     by true more = record { name = ap (λ name. name ++ replicate (8 - length name) 32) h.0.name; bytes = h.0.bytes }
     by false more = more
 
@@ -72,7 +75,8 @@ same_short [] (t ∷ ts) h short = absurd h
 same_short (s ∷ ss) [] h short = absurd h
 same_short (s ∷ ss) (t ∷ ts) h short = (subst (λ bs. length bs ≤ 65534) (sym h.0.bytes) short.0, same_short ss ts h.1 short.1)
 
-same_segments : (ss ts : List Segment) → AllZip IsSameSegment ss ts → AllByRecursion (λ s. AllByRecursion (λ (p : Procedure). AreInstructions p.items) s.procedures) ss → ts ≡ ss
+same_segments : (ss ts : List Segment) → AllZip IsSameSegment ss ts
+    → AllByRecursion (λ s. AllByRecursion (λ (p : Procedure). AreInstructions p.items) s.procedures) ss → ts ≡ ss
 same_segments [] [] h i = refl
 same_segments [] (t ∷ ts) h i = absurd h
 same_segments (s ∷ ss) [] h i = absurd h

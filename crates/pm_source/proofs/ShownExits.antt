@@ -30,13 +30,18 @@ there true n at name rows = refl
 there false n at name rows = refl
 
 exit_here : (n : ℕ) (used : List ℕ) (exit at : ℕ) (rows : List Row) → (exit == at) ≡ true → exit_place at (rows_at n used exit at rows) ≡ exit
-exit_here n used exit at rows e = ap (λ b. exit_place at (put_if (is_among used at) (Items n (Some (label_text at)) []) (put_if b Exit rows))) e ∙ here (is_among used at) n at (label_text at) rows ∙ sym (eqb-true _ _ e)
+exit_here n used exit at rows e =
+    ap (λ b. exit_place at (put_if (is_among used at) (Items n (Some (label_text at)) []) (put_if b Exit rows))) e
+    ∙ here (is_among used at) n at (label_text at) rows ∙ sym (eqb-true _ _ e)
 
 exit_passed : (n : ℕ) (used : List ℕ) (exit at : ℕ) (rows : List Row) → (exit == at) ≡ false → exit_place at (rows_at n used exit at rows) ≡ exit_place at rows
-exit_passed n used exit at rows e = ap (λ b. exit_place at (put_if (is_among used at) (Items n (Some (label_text at)) []) (put_if b Exit rows))) e ∙ there (is_among used at) n at (label_text at) rows
+exit_passed n used exit at rows e =
+    ap (λ b. exit_place at (put_if (is_among used at) (Items n (Some (label_text at)) []) (put_if b Exit rows))) e
+    ∙ there (is_among used at) n at (label_text at) rows
 
 -- The exit stands where it is.
-pub exit_stands : (n : ℕ) (used : List ℕ) (exit at : ℕ) (items : List (Item ℕ)) → IsIn (boundaries at items) exit → exit_place at (rows_of n used exit at items) ≡ exit
+pub exit_stands : (n : ℕ) (used : List ℕ) (exit at : ℕ) (items : List (Item ℕ)) → IsIn (boundaries at items) exit
+    → exit_place at (rows_of n used exit at items) ≡ exit
 exit_stands n used exit at [] i = go (eqb exit at) refl
   where
     go : (b : Bool) → eqb exit at ≡ b → exit_place at (rows_of n used exit at []) ≡ exit
@@ -45,9 +50,11 @@ exit_stands n used exit at [] i = go (eqb exit at) refl
 exit_stands n used exit at (item ∷ items) i = go (eqb exit at) refl (exit_stands (line_behind n used exit at + 1) used exit (at + size at item) items)
   where
     go : (b : Bool) → eqb exit at ≡ b
-        → (IsIn (boundaries (at + size at item) items) exit → exit_place (at + size at item) (rows_of (line_behind n used exit at + 1) used exit (at + size at item) items) ≡ exit)
+        → (IsIn (boundaries (at + size at item) items) exit → exit_place (at + size at item)
+        (rows_of (line_behind n used exit at + 1) used exit (at + size at item) items) ≡ exit)
         → exit_place at (rows_of n used exit at (item ∷ items)) ≡ exit
-    go true e f = exit_here n used exit at (Items (line_behind n used exit at) None (labelled_item item ∷ []) ∷ rows_of (line_behind n used exit at + 1) used exit (at + size at item) items) e
+    go true e f = exit_here n used exit at (Items (line_behind n used exit at) None (labelled_item item ∷ [])
+        ∷ rows_of (line_behind n used exit at + 1) used exit (at + size at item) items) e
     go false e f =
         let m : ℕ = line_behind n used exit at in
         let more : List Row = rows_of (m + 1) used exit (at + size at item) items in
@@ -55,7 +62,8 @@ exit_stands n used exit at (item ∷ items) i = go (eqb exit at) refl (exit_stan
         ∙ ap (λ k. exit_place (at + k) more) (same_size at item)
         ∙ f (or_false (at == exit) (is_among (boundaries (at + size at item) items) exit) (turned exit at e) i)
 
-exits_if : (b c : Bool) (n : ℕ) (name : Name) (rows : List Row) → exits_of (put_if b (Items n (Some name) []) (put_if c Exit rows)) ≡ exits_of (put_if c Exit rows)
+exits_if : (b c : Bool) (n : ℕ) (name : Name) (rows : List Row)
+    → exits_of (put_if b (Items n (Some name) []) (put_if c Exit rows)) ≡ exits_of (put_if c Exit rows)
 exits_if true c n name rows = refl
 exits_if false c n name rows = refl
 
@@ -70,7 +78,8 @@ no_exits n used exit at [] h = no_exit_at n used exit at [] (below exit at h)
 no_exits n used exit at (item ∷ items) h =
     let m : ℕ = line_behind n used exit at in
     let more : List Row = rows_of (m + 1) used exit (at + size at item) items in
-    no_exit_at n used exit at (Items m None (labelled_item item ∷ []) ∷ more) (below exit at h) ∙ no_exits (m + 1) used exit (at + size at item) items (omega (arith, h))
+    no_exit_at n used exit at (Items m None (labelled_item item ∷ []) ∷ more) (below exit at h)
+    ∙ no_exits (m + 1) used exit (at + size at item) items (omega (arith, h))
 
 -- The exit stands once.
 pub one_exit : (n : ℕ) (used : List ℕ) (exit at : ℕ) (items : List (Item ℕ)) → IsIn (boundaries at items) exit → exits_of (rows_of n used exit at items) ≡ 1
@@ -100,7 +109,8 @@ one_exit n used exit at (item ∷ items) i = go (eqb exit at) refl (one_exit (li
 abbrev IsOther : Name → List Row → Type 0
 IsOther name rows = AllByRecursion (λ label. bytes_eq name label ≡ false) (labels_of rows)
 
-other_if : (b : Bool) (n at : ℕ) (rows : List Row) (name : Name) → bytes_eq name (label_text at) ≡ false → IsOther name rows → IsOther name (put_if b (Items n (Some (label_text at)) []) rows)
+other_if : (b : Bool) (n at : ℕ) (rows : List Row) (name : Name) → bytes_eq name (label_text at) ≡ false → IsOther name rows
+    → IsOther name (put_if b (Items n (Some (label_text at)) []) rows)
 other_if true n at rows name e h = (e, h)
 other_if false n at rows name e h = h
 
@@ -108,17 +118,21 @@ exit_if : (P : List Name → Type 0) (b : Bool) (rows : List Row) → P (labels_
 exit_if P true rows h = h
 exit_if P false rows h = h
 
-other_rows : (n : ℕ) (used : List ℕ) (exit at : ℕ) (items : List (Item ℕ)) (q : ℕ) → q < at → end_of at items < 2 ^ 64 → IsOther (label_text q) (rows_of n used exit at items)
+other_rows : (n : ℕ) (used : List ℕ) (exit at : ℕ) (items : List (Item ℕ)) (q : ℕ) → q < at → end_of at items < 2 ^ 64
+    → IsOther (label_text q) (rows_of n used exit at items)
 other_rows n used exit at [] q h l =
-    other_if (is_among used at) n at (put_if (exit == at) Exit []) (label_text q) (other_label q at (omega (arith, h, l)) l (below q at h)) (exit_if (AllByRecursion (λ label. bytes_eq (label_text q) label ≡ false)) (exit == at) [] tt)
+    other_if (is_among used at) n at (put_if (exit == at) Exit []) (label_text q) (other_label q at (omega (arith, h, l)) l (below q at h))
+    (exit_if (AllByRecursion (λ label. bytes_eq (label_text q) label ≡ false)) (exit == at) [] tt)
 other_rows n used exit at (item ∷ items) q h l =
     let m : ℕ = line_behind n used exit at in
     let rows : List Row = Items m None (labelled_item item ∷ []) ∷ rows_of (m + 1) used exit (at + size at item) items in
     let room : at < 2 ^ 64 = omega (arith, end_above (at + size at item) items, l) in
     let rest : IsOther (label_text q) rows = other_rows (m + 1) used exit (at + size at item) items q (omega (arith, h)) l in
-    other_if (is_among used at) n at (put_if (exit == at) Exit rows) (label_text q) (other_label q at (omega (arith, h, room)) room (below q at h)) (exit_if (AllByRecursion (λ label. bytes_eq (label_text q) label ≡ false)) (exit == at) rows rest)
+    other_if (is_among used at) n at (put_if (exit == at) Exit rows) (label_text q) (other_label q at (omega (arith, h, room)) room (below q at h))
+    (exit_if (AllByRecursion (λ label. bytes_eq (label_text q) label ≡ false)) (exit == at) rows rest)
 
-distinct_if : (b : Bool) (n at : ℕ) (rows : List Row) → IsOther (label_text at) rows → IsDistinct bytes_eq (labels_of rows) → IsDistinct bytes_eq (labels_of (put_if b (Items n (Some (label_text at)) []) rows))
+distinct_if : (b : Bool) (n at : ℕ) (rows : List Row) → IsOther (label_text at) rows → IsDistinct bytes_eq (labels_of rows)
+    → IsDistinct bytes_eq (labels_of (put_if b (Items n (Some (label_text at)) []) rows))
 unfolding IsDistinct
 distinct_if true n at rows h d = (h, d)
 distinct_if false n at rows h d = d
@@ -128,12 +142,16 @@ unfolding IsDistinct
 no_names = tt
 
 -- No label stands twice.
-pub labels_distinct : (n : ℕ) (used : List ℕ) (exit at : ℕ) (items : List (Item ℕ)) → end_of at items < 2 ^ 64 → IsDistinct bytes_eq (labels_of (rows_of n used exit at items))
+pub labels_distinct : (n : ℕ) (used : List ℕ) (exit at : ℕ) (items : List (Item ℕ)) → end_of at items < 2 ^ 64
+    → IsDistinct bytes_eq (labels_of (rows_of n used exit at items))
 labels_distinct n used exit at [] l =
-    distinct_if (is_among used at) n at (put_if (exit == at) Exit []) (exit_if (AllByRecursion (λ label. bytes_eq (label_text at) label ≡ false)) (exit == at) [] tt) (exit_if (IsDistinct bytes_eq) (exit == at) [] no_names)
+    distinct_if (is_among used at) n at (put_if (exit == at) Exit [])
+    (exit_if (AllByRecursion (λ label. bytes_eq (label_text at) label ≡ false)) (exit == at) [] tt) (exit_if (IsDistinct bytes_eq) (exit == at) [] no_names)
 labels_distinct n used exit at (item ∷ items) l =
     let m : ℕ = line_behind n used exit at in
     let rows : List Row = Items m None (labelled_item item ∷ []) ∷ rows_of (m + 1) used exit (at + size at item) items in
     let others : IsOther (label_text at) rows = other_rows (m + 1) used exit (at + size at item) items at (omega (arith, positive at item)) l in
     let rest : IsDistinct bytes_eq (labels_of rows) = labels_distinct (m + 1) used exit (at + size at item) items l in
-    distinct_if (is_among used at) n at (put_if (exit == at) Exit rows) (exit_if (AllByRecursion (λ label. bytes_eq (label_text at) label ≡ false)) (exit == at) rows others) (exit_if (IsDistinct bytes_eq) (exit == at) rows rest)
+    distinct_if (is_among used at) n at (put_if (exit == at) Exit rows)
+    (exit_if (AllByRecursion (λ label. bytes_eq (label_text at) label ≡ false)) (exit == at) rows others)
+    (exit_if (IsDistinct bytes_eq) (exit == at) rows rest)

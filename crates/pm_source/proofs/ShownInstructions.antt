@@ -1,5 +1,6 @@
 -- The operands of an instruction that names no place are read again, form by form.
-use Rattle.std.proofs.Common.{◌≡◌, ◌<◌, ℕ, zero, suc, ◌+◌, ◌*◌, ◌/◌, ◌%◌, Bool, true, false, eqb, List, [], ◌∷◌, ◌++◌, length, refl, sym, ap, subst, ◌∙◌, arith, Some}
+use Rattle.std.proofs.Common.{◌≡◌, ◌<◌, ℕ, zero, suc, ◌+◌, ◌*◌, ◌/◌, ◌%◌, Bool, true, false, eqb}
+use Rattle.std.proofs.Common.{List, [], ◌∷◌, ◌++◌, length, refl, sym, ap, subst, ◌∙◌, arith, Some}
 use Rattle.std.specs.Prelude.{◌&&◌, ◌==◌, nat_le, nat_lt, codes, if◌then◌else◌}
 use Rattle.std.specs.List.{AllByRecursion}
 use Rattle.std.specs.Fmt.{decimal}
@@ -78,8 +79,10 @@ data_byte_is i named h =
 word_is : (i : Instr) (named : List ℕ) → IsOfForm forms.W i named → IsReadAs forms.W i named
 word_is i named h =
     let small : i.a < 65536 = h.word in
-    let read = word_shown i.a small in
-    ((of_word (decimal i.a) (decimal_word i.a (omega arith)), tt), rw read (unnamed i (clear forms.W (placed i)) named (cleared forms.W i named h) h.count refl))
+    let read = word_shown i.a small in (
+      (of_word (decimal i.a) (decimal_word i.a (omega arith)), tt),
+      rw read (unnamed i (clear forms.W (placed i)) named (cleared forms.W i named h) h.count refl),
+    )
 
 number_is : (n : ℕ) (long : Bool) → n < 32768 → IsOperand (number_text n long)
 number_is n long h = of_word (number_text n long) (marked_word n long (omega (arith, h)))
@@ -96,8 +99,10 @@ two_bytes_is i named h =
     let small : i.a < 256 = below i.a 256 parts.0 in
     let other : i.b < 256 = below i.b 256 parts.1 in
     let read = byte_shown i.a small in
-    let more = byte_shown i.b other in
-    ((byte_operand_is i.a small, (byte_operand_is i.b other, tt)), rw (read, more) (unnamed i (clear forms.UbUb (placed i)) named (cleared forms.UbUb i named h) h.count refl))
+    let more = byte_shown i.b other in (
+      (byte_operand_is i.a small, (byte_operand_is i.b other, tt)),
+      rw (read, more) (unnamed i (clear forms.UbUb (placed i)) named (cleared forms.UbUb i named h) h.count refl),
+    )
 
 byte_and_big_is : (i : Instr) (named : List ℕ) → IsOfForm forms.UbB i named → IsReadAs forms.UbB i named
 byte_and_big_is i named h =
@@ -105,8 +110,10 @@ byte_and_big_is i named h =
     let small : i.a < 256 = below i.a 256 parts.0 in
     let other : i.b < 32768 = below i.b 32768 parts.1 in
     let read = byte_shown i.a small in
-    let more = number_text_shown i.b i.long other in
-    ((byte_operand_is i.a small, (number_is i.b i.long other, tt)), rw (read, more) (unnamed i (clear forms.UbB (placed i)) named (cleared forms.UbB i named h) h.count refl))
+    let more = number_text_shown i.b i.long other in (
+      (byte_operand_is i.a small, (number_is i.b i.long other, tt)),
+      rw (read, more) (unnamed i (clear forms.UbB (placed i)) named (cleared forms.UbB i named h) h.count refl),
+    )
 
 data_and_big_is : (i : Instr) (named : List ℕ) → IsOfForm forms.DbB i named → IsReadAs forms.DbB i named
 data_and_big_is i named h =
@@ -114,8 +121,10 @@ data_and_big_is i named h =
     let small : i.a < 256 = below i.a 256 parts.0 in
     let other : i.b < 32768 = below i.b 32768 parts.1 in
     let read = byte_shown i.a small in
-    let more = number_text_shown i.b i.long other in
-    ((byte_operand_is i.a small, (number_is i.b i.long other, tt)), rw (read, more) (unnamed i (clear forms.DbB (placed i)) named (cleared forms.DbB i named h) h.count refl))
+    let more = number_text_shown i.b i.long other in (
+      (byte_operand_is i.a small, (number_is i.b i.long other, tt)),
+      rw (read, more) (unnamed i (clear forms.DbB (placed i)) named (cleared forms.DbB i named h) h.count refl),
+    )
 
 equal : (m n : ℕ) → (m == n) ≡ true → m ≡ n
 equal m n h = grind (arith, nat_tests)
@@ -128,7 +137,8 @@ chars_is i named h =
     let short : nat_le (length named) 255 ≡ true = at_most (length named) (omega (arith, size, small)) in
     let read = text_shown named h.bytes in
     let same : record (bare i.op) { a = length named; count = length named } ≡ i =
-    ap (λ n. record (bare i.op) { a = n; count = length named }) size ∙ ap (λ n. record (bare i.op) { a = i.a; count = n }) h.count ∙ cleared forms.Chars i named h in
+    ap (λ n. record (bare i.op) { a = n; count = length named }) size ∙ ap (λ n. record (bare i.op) { a = i.a; count = n }) h.count
+    ∙ cleared forms.Chars i named h in
     ((quoted_operand named h.bytes, tt), rw read (rw short (ap (λ j. said_plain j named) same)))
   where
     at_most : (n : ℕ) → n < 256 → nat_le n 255 ≡ true
@@ -150,7 +160,8 @@ words_again_of (low ∷ high ∷ bytes) (suc n) h e =
     let first : (low + 256 * high) % 256 ≡ low = omega (arith, h.0, h.1.0) in
     let second : (low + 256 * high) / 256 ≡ high = omega (arith, h.0, h.1.0) in
     record {
-      flat = ap (λ b. b ∷ (low + 256 * high) / 256 ∷ flat_words (words_of bytes)) first ∙ ap (λ b. low ∷ b ∷ flat_words (words_of bytes)) second ∙ ap (λ bs. low ∷ high ∷ bs) more.flat;
+      flat = ap (λ b. b ∷ (low + 256 * high) / 256 ∷ flat_words (words_of bytes)) first ∙ ap (λ b. low ∷ b ∷ flat_words (words_of bytes)) second
+          ∙ ap (λ bs. low ∷ high ∷ bs) more.flat;
       ranges = (omega (arith, h.0, h.1.0), more.ranges);
       size = omega (arith, more.size);
     }
@@ -166,8 +177,10 @@ words_is i named h =
     let short : nat_le (length (words_of named)) 255 ≡ true = at_most (length (words_of named)) (omega (arith, size, small)) in
     let read = words_again (words_of named) w.ranges in
     let same : record (bare i.op) { a = length (words_of named); count = 2 * length (words_of named) } ≡ i =
-    ap (λ n. record (bare i.op) { a = n; count = 2 * length (words_of named) }) size ∙ ap (λ n. record (bare i.op) { a = i.a; count = n }) bytes ∙ cleared forms.Words i named h in
-    let moved : said_plain (record (bare i.op) { a = length (words_of named); count = 2 * length (words_of named) }) (flat_words (words_of named)) ≡ said_plain i (flat_words (words_of named)) = ap (λ j. said_plain j (flat_words (words_of named))) same in
+    ap (λ n. record (bare i.op) { a = n; count = 2 * length (words_of named) }) size ∙ ap (λ n. record (bare i.op) { a = i.a; count = n }) bytes
+    ∙ cleared forms.Words i named h in
+    let moved : said_plain (record (bare i.op) { a = length (words_of named); count = 2 * length (words_of named) }) (flat_words (words_of named))
+    ≡ said_plain i (flat_words (words_of named)) = ap (λ j. said_plain j (flat_words (words_of named))) same in
     let ended : said_plain i (flat_words (words_of named)) ≡ said_plain i named = ap (said_plain i) w.flat in
     (words_operands (words_of named) w.ranges, rw read (rw short (moved ∙ ended)))
   where
@@ -176,15 +189,18 @@ words_is i named h =
 
 -- a comparison of a type, with what is left of its size and mark
 abbrev compared : ℕ → ℕ → Bool → ℕ → Instr
-compared op size long type = record (bare op) { a = type; b = if is_sized type then size else 0; long = if is_sized type then long && nat_lt size 128 else false }
+compared op size long type =
+    record (bare op) { a = type; b = if is_sized type then size else 0; long = if is_sized type then long && nat_lt size 128 else false }
 
 abbrev IsType : ℕ → ℕ → Bool → ℕ → Type 0
-IsType op size long type = IsOperand (type_text type size long) × (one_comparison op (type_text type size long ∷ []) ≡ said_plain (compared op size long type) [])
+IsType op size long type =
+    IsOperand (type_text type size long) × (one_comparison op (type_text type size long ∷ []) ≡ said_plain (compared op size long type) [])
 
 word_of : (w : List ℕ) → IsWord w → words w ≡ w ∷ []
 word_of w h = ap words (sym (append_nil w)) ∙ first_of_words w [] h.some h.plain refl
 
-unsized_is : (op size : ℕ) (long : Bool) (type : ℕ) (w : List ℕ) → type_text type size long ≡ w → IsWord w → comparison op (w ∷ []) ≡ said_plain (compared op size long type) [] → IsType op size long type
+unsized_is : (op size : ℕ) (long : Bool) (type : ℕ) (w : List ℕ) → type_text type size long ≡ w → IsWord w
+    → comparison op (w ∷ []) ≡ said_plain (compared op size long type) [] → IsType op size long type
 unsized_is op size long type w t h e = (subst IsOperand (sym t) (of_word w h), ap (λ u. comparison op (words u)) t ∙ ap (comparison op) (word_of w h) ∙ e)
 
 -- the words of a type and its size
@@ -208,12 +224,14 @@ types op size long type h = two (eqb type 2) refl
     small : (t : ℕ) → eqb type t ≡ true → is_sized t ≡ true → size < 32768
     small t e s = below size 32768 (sym (ap (λ b. if b then nat_lt size 32768 else is_unsized type) (ap is_sized (eqb-true _ _ e) ∙ s)) ∙ h)
 
-    twelve : (b : Bool) → eqb type 12 ≡ b → eqb type 10 ≡ false → eqb type 8 ≡ false → eqb type 6 ≡ false → eqb type 4 ≡ false → eqb type 2 ≡ false → IsType op size long type
+    twelve : (b : Bool) → eqb type 12 ≡ b → eqb type 10 ≡ false → eqb type 8 ≡ false → eqb type 6 ≡ false → eqb type 4 ≡ false → eqb type 2 ≡ false
+        → IsType op size long type
     twelve true e e10 e8 e6 e4 e2 =
         let l : size < 32768 = small 12 e refl in
         let read = number_text_shown size long l in
         at 12 e (sized_is op size long 12 (codes "WORDS") refl (record { some = refl; plain = refl }) l (rw read refl))
-    twelve false e e10 e8 e6 e4 e2 = absurd (let no : (if is_sized type then nat_lt size 32768 else is_unsized type) ≡ false = rw (e, e10, e8, e6, e4, e2) refl in cc)
+    twelve false e e10 e8 e6 e4 e2 = absurd (let no : (if is_sized type then nat_lt size 32768 else is_unsized type)
+        ≡ false = rw (e, e10, e8, e6, e4, e2) refl in cc)
 
     ten : (b : Bool) → eqb type 10 ≡ b → eqb type 8 ≡ false → eqb type 6 ≡ false → eqb type 4 ≡ false → eqb type 2 ≡ false → IsType op size long type
     ten true e e8 e6 e4 e2 =

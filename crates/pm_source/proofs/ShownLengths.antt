@@ -3,10 +3,11 @@ use Rattle.std.proofs.Common.{◌≡◌, ◌≤◌, ℕ, ◌+◌, ◌*◌, List,
 use Rattle.std.specs.List.{AllByRecursion}
 use Rattle.std.proofs.lemmas.List.{length-append, length-reverse}
 use Rattle.std.proofs.lemmas.Grind.{common_steps}
-use Rattle.pm_opcode.specs.Spelling.{padding, flip, is_odd, word}
+use Rattle.pm_opcode.specs.Spelling.{pad_byte, flip, is_odd, spelled_word}
 use Rattle.pm_disasm.specs.Item.{Item, size, item_bytes, table_place, table_words, case_opcode, jump_opcode, jump_byte}
 use Rattle.pm_disasm.specs.Item.Item.{Plain, Jump, Case, OneByte}
-use Rattle.pm_disasm.specs.Program.{Procedure, FollowFrom, attribute_bytes, code_bytes, code_end, code_of, end_of, entry_bytes, jtab_of, procedure_bytes, procedures_bytes}
+use Rattle.pm_disasm.specs.Program.{Procedure, FollowFrom, attribute_bytes, code_bytes, code_end, code_of}
+use Rattle.pm_disasm.specs.Program.{end_of, entry_bytes, jtab_of, procedure_bytes, procedures_bytes}
 
 table_length : (at : ℕ) (places : List ℕ) → length (table_words at places) ≡ 2 * length places
 table_length at [] = refl
@@ -17,7 +18,8 @@ item_length at (Plain i named) = refl
 item_length at (Jump op target) = refl
 item_length at (Case low high otherwise places) =
     let table = table_length (table_place at) places in
-    behind (padding (flip (is_odd at)) 0) (word low ++ (word high ++ (jump_opcode ∷ jump_byte (table_place at) otherwise ∷ table_words (table_place at) places))) (length places) (omega (arith, table))
+    behind (pad_byte (flip (is_odd at)) 0) (spelled_word low ++ (spelled_word high
+    ++ (jump_opcode ∷ jump_byte (table_place at) otherwise ∷ table_words (table_place at) places))) (length places) (omega (arith, table))
   where
     behind : (pad bytes : List ℕ) (n : ℕ) → length bytes ≡ 6 + 2 * n → length (case_opcode ∷ pad ++ bytes) ≡ 7 + length pad + 2 * n
     behind pad bytes n e = grind (arith, common_steps)
@@ -25,7 +27,8 @@ item_length at (OneByte b) = refl
 
 code_length : (at : ℕ) (items : List (Item ℕ)) → at + length (code_bytes at items) ≡ end_of at items
 code_length at [] = omega arith
-code_length at (item ∷ items) = omega (arith, length-append (item_bytes at item) (code_bytes (at + size at item) items), item_length at item, code_length (at + size at item) items)
+code_length at (item ∷ items) =
+    omega (arith, length-append (item_bytes at item) (code_bytes (at + size at item) items), item_length at item, code_length (at + size at item) items)
 
 entries_length : (at : ℕ) (places : List ℕ) → length (entry_bytes at places) ≡ 2 * length places
 entries_length at [] = refl
@@ -43,7 +46,8 @@ procedure_length k p =
     )
 
 -- The code of each procedure ends within the bytes of all.
-pub ends_within : (at k last : ℕ) (ps : List Procedure) → FollowFrom at ps → at + length (procedures_bytes k ps) ≤ last → AllByRecursion (λ p. code_end p ≤ last) ps
+pub ends_within : (at k last : ℕ) (ps : List Procedure) → FollowFrom at ps → at + length (procedures_bytes k ps) ≤ last
+    → AllByRecursion (λ p. code_end p ≤ last) ps
 ends_within at k last [] f l = tt
 ends_within at k last (p ∷ ps) f l =
     let whole = length-append (procedure_bytes k p) (procedures_bytes (k + 1) ps) in

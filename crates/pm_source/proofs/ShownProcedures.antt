@@ -1,15 +1,17 @@
 -- The shown lines of a procedure say a procedure with labels, which means it.
-use Rattle.std.proofs.Common.{◌≡◌, ◌<◌, ◌≤◌, ℕ, ◌+◌, ◌*◌, ◌%◌, Bool, true, false, eqb, List, [], ◌∷◌, ◌++◌, length, map, refl, sym, ap, subst, ◌∙◌, arith, Some, append_assoc}
+use Rattle.std.proofs.Common.{◌≡◌, ◌<◌, ◌≤◌, ℕ, ◌+◌, ◌*◌, ◌%◌, Bool, true, false, eqb, List, [], ◌∷◌}
+use Rattle.std.proofs.Common.{◌++◌, length, map, refl, sym, ap, subst, ◌∙◌, arith, Some, append_assoc}
 use Rattle.std.specs.Prelude.{◌||◌, ◌==◌, max, codes}
 use Rattle.std.specs.List.{AllByRecursion, AllZip}
 use Rattle.std.specs.Fmt.{decimal}
 use Rattle.std.proofs.lemmas.Bool.{eqb-true}
 use Rattle.std.proofs.lemmas.Bool.Decides.{nat_tests}
-use Rattle.pm_opcode.specs.Spelling.{spelling, padding, flip, is_odd}
+use Rattle.pm_opcode.specs.Spelling.{spelling, pad_byte, flip, is_odd}
 use Rattle.pm_disasm.specs.Item.{Item, IsItem, size}
 use Rattle.pm_disasm.specs.Item.Item.{Plain, Jump, Case, OneByte}
 use Rattle.pm_disasm.specs.Item.Target.{To, Through}
-use Rattle.pm_disasm.specs.Program.{Procedure, IsProcedure, is_among, IsIn, boundaries, end_of, code_end, AreItems, NamesWithin, item_places, places_of, entries_needed, entries_used}
+use Rattle.pm_disasm.specs.Program.{Procedure, IsProcedure, is_among, IsIn, boundaries, end_of, code_end, AreItems}
+use Rattle.pm_disasm.specs.Program.{NamesWithin, item_places, places_of, entries_needed, entries_used}
 use Rattle.pm_disasm.specs.Shown.{label_text, level_text, words_text, named_places, code_lines, entry_line, procedure_lines}
 use Rattle.pm_source.specs.Source as source
 use Rattle.pm_source.specs.Source.{Name, Row, Source, Statement, IsSource, entry_statement, head_statements, items_of}
@@ -41,7 +43,14 @@ abbrev pub entries_at : ℕ → Procedure → ℕ
 entries_at n p = line_after (n + 1) (used_of p) p.exit p.start p.items
 
 abbrev pub shown_source : ℕ → Procedure → Source
-shown_source n p = record { level = p.level; parameters = p.parameters; locals = p.locals; code = rows_of (n + 1) (used_of p) p.exit p.start p.items; entries = shown_entries (entries_at n p) p.entries }
+shown_source n p =
+    record {
+      level = p.level;
+      parameters = p.parameters;
+      locals = p.locals;
+      code = rows_of (n + 1) (used_of p) p.exit p.start p.items;
+      entries = shown_entries (entries_at n p) p.entries;
+    }
 
 abbrev pub procedure_after : ℕ → Procedure → ℕ
 procedure_after n p = entries_after (entries_at n p) p.entries + 1
@@ -49,10 +58,12 @@ procedure_after n p = entries_after (entries_at n p) p.entries + 1
 abbrev pub IsLow : ℕ → Type 0
 IsLow place = place < 100000
 
-shows_entries : (n : ℕ) (places : List ℕ) (texts : List (List ℕ)) (said : List Statement) → AllByRecursion IsLow places → Show (entries_after n places) texts said → Show n (map entry_line places ++ texts) (map entry_statement (shown_entries n places) ++ said)
+shows_entries : (n : ℕ) (places : List ℕ) (texts : List (List ℕ)) (said : List Statement) → AllByRecursion IsLow places
+    → Show (entries_after n places) texts said → Show n (map entry_line places ++ texts) (map entry_statement (shown_entries n places) ++ said)
 shows_entries n [] texts said h s = s
 shows_entries n (place ∷ places) texts said h s =
-    shows n (entry_line place) (Entry n (label_text place)) (map entry_line places ++ texts) (map entry_statement (shown_entries (n + 1) places) ++ said) (jump_entry_line n place h.0) (shows_entries (n + 1) places texts said h.1 s)
+    shows n (entry_line place) (Entry n (label_text place)) (map entry_line places ++ texts) (map entry_statement (shown_entries (n + 1) places) ++ said)
+    (jump_entry_line n place h.0) (shows_entries (n + 1) places texts said h.1 s)
 
 -- a place in code
 within : (at : ℕ) (items : List (Item ℕ)) (q : ℕ) → IsIn (boundaries at items) q → q ≤ end_of at items
@@ -63,7 +74,8 @@ within at [] q h = go (eqb at q) refl h
     go false e k = absurd (cc)
 within at (item ∷ items) q h = go (eqb at q) refl h (within (at + size at item) items q)
   where
-    go : (b : Bool) → eqb at q ≡ b → (b || is_among (boundaries (at + size at item) items) q) ≡ true → (IsIn (boundaries (at + size at item) items) q → q ≤ end_of (at + size at item) items) → q ≤ end_of (at + size at item) items
+    go : (b : Bool) → eqb at q ≡ b → (b || is_among (boundaries (at + size at item) items) q) ≡ true
+        → (IsIn (boundaries (at + size at item) items) q → q ≤ end_of (at + size at item) items) → q ≤ end_of (at + size at item) items
     go true e k f = omega (arith, eqb-true _ _ e, end_above (at + size at item) items)
     go false e k f = f k
 
@@ -93,7 +105,8 @@ or_right false b e = e
 
 all_among : (xs : List ℕ) → AllByRecursion (IsIn xs) xs
 all_among [] = tt
-all_among (x ∷ xs) = (or_left (eqb x x) (is_among xs x) (same x), all_mapped (IsIn xs) (IsIn (x ∷ xs)) xs (λ q h. or_right (eqb x q) (is_among xs q) h) (all_among xs))
+all_among (x ∷ xs) =
+    (or_left (eqb x x) (is_among xs x) (same x), all_mapped (IsIn xs) (IsIn (x ∷ xs)) xs (λ q h. or_right (eqb x q) (is_among xs q) h) (all_among xs))
   where
     same : (x : ℕ) → eqb x x ≡ true
     same x = grind (arith, nat_tests)
@@ -122,12 +135,16 @@ known_item places (Case low high (To place) qs) h = (refl, (refl, (h.0, known_la
 known_item places (Case low high (Through k) qs) h = (refl, (refl, (refl, known_labels places qs h)))
 known_item places (OneByte b) h = refl
 
-known_items : (places : Places) (items : List (Item ℕ)) → AllByRecursion (IsKnown places) (named_places items) → AllZip (Means places) (map labelled_item items) items
+known_items : (places : Places) (items : List (Item ℕ)) → AllByRecursion (IsKnown places) (named_places items)
+    → AllZip (Means places) (map labelled_item items) items
 known_items places [] h = tt
-known_items places (item ∷ items) h =
-    (known_item places item (all_front (IsKnown places) (item_places item) (named_places items) h), known_items places items (all_back (IsKnown places) (item_places item) (named_places items) h))
+known_items places (item ∷ items) h = (
+  known_item places item (all_front (IsKnown places) (item_places item) (named_places items) h),
+  known_items places items (all_back (IsKnown places) (item_places item) (named_places items) h),
+)
 
-known_entries : (places : Places) (n : ℕ) (entries : List ℕ) → AllByRecursion (IsKnown places) entries → AllZip (λ e place. places e.1 ≡ Some place) (shown_entries n entries) entries
+known_entries : (places : Places) (n : ℕ) (entries : List ℕ) → AllByRecursion (IsKnown places) entries
+    → AllZip (λ e place. places e.1 ≡ Some place) (shown_entries n entries) entries
 known_entries places n [] h = tt
 known_entries places n (e ∷ entries) h = (h.0, known_entries places (n + 1) entries h.1)
 
@@ -153,8 +170,10 @@ writable_item at (OneByte b) h s = tt
 
 pub are_writable : (at : ℕ) (items : List (Item ℕ)) → AreItems at items → AllByRecursion IsLow (named_places items) → AllByRecursion IsWritableItem items
 are_writable at [] h s = tt
-are_writable at (item ∷ items) h s =
-    (writable_item at item h.0 (all_front IsLow (item_places item) (named_places items) s), are_writable (at + size at item) items h.1 (all_back IsLow (item_places item) (named_places items) s))
+are_writable at (item ∷ items) h s = (
+  writable_item at item h.0 (all_front IsLow (item_places item) (named_places items) s),
+  are_writable (at + size at item) items h.1 (all_back IsLow (item_places item) (named_places items) s),
+)
 
 same_needs : (items : List (Item ℕ)) → entries_needed (map labelled_item items) ≡ entries_needed items
 same_needs [] = refl
@@ -185,7 +204,7 @@ shifted_size d at item e = go item
     go : (item : Item ℕ) → size (d + at) item ≡ size at item
     go (Plain i named) = ap (λ odd. length (spelling odd 0 i named)) parity
     go (Jump op target) = refl
-    go (Case low high otherwise qs) = ap (λ odd. 7 + length (padding (flip odd) 0) + 2 * length qs) parity
+    go (Case low high otherwise qs) = ap (λ odd. 7 + length (pad_byte (flip odd) 0) + 2 * length qs) parity
     go (OneByte b) = refl
 
 shifted_end : (d at : ℕ) (items : List (Item ℕ)) → d % 2 ≡ 0 → end_of (d + at) items ≡ d + end_of at items
@@ -217,7 +236,8 @@ source_means n p w =
       level = refl;
       parameters = refl;
       locals = refl;
-      items = subst (λ is. AllZip (Means places) is p.items) (sym (rows_items (n + 1) (used_of p) p.exit p.start p.items)) (known_items places p.items (all_front (IsKnown places) (named_places p.items) p.entries known));
+      items = subst (λ is. AllZip (Means places) is p.items) (sym (rows_items (n + 1) (used_of p) p.exit p.start p.items))
+          (known_items places p.items (all_front (IsKnown places) (named_places p.items) p.entries known));
       near = are_near p.start p.items w.procedure.items;
       exit = sym (exit_stands (n + 1) (used_of p) p.exit p.start p.items w.procedure.exit);
       entries = known_entries places (entries_at n p) p.entries (all_back (IsKnown places) (named_places p.items) p.entries known);
@@ -227,7 +247,8 @@ even_end : (n : ℕ) (p : Procedure) → IsWhole p → source.code_end 0 (shown_
 even_end n p w =
     let rows = rows_end (n + 1) (used_of p) p.exit p.start 0 p.items in
     let moved = shifted_end p.start 0 p.items w.procedure.begins in
-    ap (λ k. k % 2) rows ∙ even p.start (end_of 0 p.items) w.procedure.begins (ap (λ k. k % 2) (sym moved ∙ ap (λ k. end_of k p.items) (nothing p.start)) ∙ w.procedure.ends)
+    ap (λ k. k % 2) rows ∙ even p.start (end_of 0 p.items) w.procedure.begins
+    (ap (λ k. k % 2) (sym moved ∙ ap (λ k. end_of k p.items) (nothing p.start)) ∙ w.procedure.ends)
   where
     nothing : (k : ℕ) → k + 0 ≡ k
     nothing k = omega arith
@@ -240,11 +261,13 @@ source_sound n p w = record {
   labels = labels_distinct (n + 1) (used_of p) p.exit p.start p.items (omega (arith, w.short));
   exit = one_exit (n + 1) (used_of p) p.exit p.start p.items w.procedure.exit;
   even = even_end n p w;
-  used = same_entries (entries_at n p) p.entries ∙ w.procedure.used ∙ sym (same_needs p.items) ∙ ap entries_needed (sym (rows_items (n + 1) (used_of p) p.exit p.start p.items));
+  used = same_entries (entries_at n p) p.entries ∙ w.procedure.used ∙ sym (same_needs p.items)
+      ∙ ap entries_needed (sym (rows_items (n + 1) (used_of p) p.exit p.start p.items));
 }
 
 -- What the lines of a procedure say.
-pub shows_procedure : (n k : ℕ) (p : Procedure) (texts : List (List ℕ)) (said : List Statement) → IsWhole p → k < 256 → Show (procedure_after n p) texts said → Show n (procedure_lines k p ++ texts) (head_statements k (shown_source n p) ++ End ∷ said)
+pub shows_procedure : (n k : ℕ) (p : Procedure) (texts : List (List ℕ)) (said : List Statement) → IsWhole p → k < 256 → Show (procedure_after n p) texts said
+    → Show n (procedure_lines k p ++ texts) (head_statements k (shown_source n p) ++ End ∷ said)
 shows_procedure n k p texts said w l s =
     let used : List ℕ = used_of p in
     let code : List (List ℕ) = code_lines used p.exit p.start p.items in
@@ -254,14 +277,19 @@ shows_procedure n k p texts said w l s =
     let m : ℕ = entries_at n p in
     let es : List Statement = map entry_statement (shown_entries m p.entries) in
     let low : AllByRecursion IsLow used = used_low p w in
-    let ended : Show (entries_after m p.entries) (codes ".END" ∷ texts) (End ∷ said) = shows (entries_after m p.entries) (codes ".END") End texts said (end_line (entries_after m p.entries)) s in
-    let tail : Show m (entries ++ codes ".END" ∷ texts) (es ++ End ∷ said) = shows_entries m p.entries (codes ".END" ∷ texts) (End ∷ said) (all_back IsLow (named_places p.items) p.entries low) ended in
+    let ended : Show (entries_after m p.entries) (codes ".END" ∷ texts) (End ∷ said) =
+    shows (entries_after m p.entries) (codes ".END") End texts said (end_line (entries_after m p.entries)) s in
+    let tail : Show m (entries ++ codes ".END" ∷ texts) (es ++ End ∷ said) =
+    shows_entries m p.entries (codes ".END" ∷ texts) (End ∷ said) (all_back IsLow (named_places p.items) p.entries low) ended in
     let body : Show (n + 1) (lines_then used p.exit p.start p.items (entries ++ codes ".END" ∷ texts)) (map Code rows ++ (es ++ End ∷ said)) =
-    shows_code (n + 1) used p.exit p.start p.items (entries ++ codes ".END" ∷ texts) (es ++ End ∷ said) w.procedure.items (are_writable p.start p.items w.procedure.items (all_front IsLow (named_places p.items) p.entries low)) w.short tail in
+    shows_code (n + 1) used p.exit p.start p.items (entries ++ codes ".END" ∷ texts) (es ++ End ∷ said) w.procedure.items
+    (are_writable p.start p.items w.procedure.items (all_front IsLow (named_places p.items) p.entries low)) w.short tail in
     let texts_join : (code ++ (entries ++ codes ".END" ∷ [])) ++ texts ≡ lines_then used p.exit p.start p.items (entries ++ codes ".END" ∷ texts) =
-    append_assoc code (entries ++ codes ".END" ∷ []) texts ∙ ap (λ ls. code ++ ls) (append_assoc entries (codes ".END" ∷ []) texts) ∙ code_then used p.exit p.start p.items (entries ++ codes ".END" ∷ texts) in
+    append_assoc code (entries ++ codes ".END" ∷ []) texts ∙ ap (λ ls. code ++ ls) (append_assoc entries (codes ".END" ∷ []) texts)
+    ∙ code_then used p.exit p.start p.items (entries ++ codes ".END" ∷ texts) in
     let said_join : (map Code rows ++ es) ++ End ∷ said ≡ map Code rows ++ (es ++ End ∷ said) = append_assoc (map Code rows) es (End ∷ said) in
     let whole : Show (n + 1) ((code ++ (entries ++ codes ".END" ∷ [])) ++ texts) ((map Code rows ++ es) ++ End ∷ said) =
-    subst (λ ls. Show (n + 1) ls ((map Code rows ++ es) ++ End ∷ said)) (sym texts_join) (subst (λ ss. Show (n + 1) (lines_then used p.exit p.start p.items (entries ++ codes ".END" ∷ texts)) ss) (sym said_join) body) in
+    subst (λ ls. Show (n + 1) ls ((map Code rows ++ es) ++ End ∷ said)) (sym texts_join)
+    (subst (λ ss. Show (n + 1) (lines_then used p.exit p.start p.items (entries ++ codes ".END" ∷ texts)) ss) (sym said_join) body) in
     shows n begin (Begin k p.level p.parameters p.locals) ((code ++ (entries ++ codes ".END" ∷ [])) ++ texts) ((map Code rows ++ es) ++ End ∷ said)
     (begin_line n k p.level p.parameters p.locals l w.procedure.level w.procedure.parameters.0 w.procedure.parameters.1 w.procedure.locals.0 w.procedure.locals.1) whole

@@ -1,5 +1,6 @@
 -- The text that is shown for a program spells it.
-use Rattle.std.proofs.Common.{◌≡◌, ◌<◌, ◌≤◌, ℕ, zero, suc, ◌+◌, ◌-◌, Bool, true, false, eqb, List, [], ◌∷◌, ◌++◌, length, map, reverse, refl, sym, ap, subst, ◌∙◌, arith, None, append_assoc}
+use Rattle.std.proofs.Common.{◌≡◌, ◌<◌, ◌≤◌, ℕ, zero, suc, ◌+◌, ◌-◌, Bool, true, false, eqb, List, [], ◌∷◌}
+use Rattle.std.proofs.Common.{◌++◌, length, map, reverse, refl, sym, ap, subst, ◌∙◌, arith, None, append_assoc}
 use Rattle.std.specs.Prelude.{◌==◌, codes, nat_eq, slice_index}
 use Rattle.std.specs.List.{list_all, AllByRecursion, AllZip, IsDistinct, slice_split, onto_first}
 use Rattle.std.specs.Option.{option_to_list}
@@ -9,7 +10,8 @@ use Rattle.std.proofs.lemmas.List.{length-append}
 use Rattle.std.proofs.lemmas.Bool.{eqb-true}
 use Rattle.std.proofs.lemmas.Bool.Decides.{nat_tests}
 use Rattle.pm_disasm.specs.Program as program
-use Rattle.pm_disasm.specs.Program.{Procedure, IsProcedure, IsSegment, IsProgram, FitSlots, AscendFrom, FollowFrom, code_end, dictionary_bytes, procedures_bytes, procedures_end, segment_bytes}
+use Rattle.pm_disasm.specs.Program.{Procedure, IsProcedure, IsSegment, IsProgram, FitSlots, AscendFrom, FollowFrom}
+use Rattle.pm_disasm.specs.Program.{code_end, dictionary_bytes, procedures_bytes, procedures_end, segment_bytes}
 use Rattle.pm_disasm.specs.Shown.{joined, procedure_lines, procedures_lines, segment_line, segments_lines, program_text}
 use Rattle.pm_source.specs.Words.{cut}
 use Rattle.pm_source.specs.Source.{Source, SourceSegment, Statement, IsSource, head_statements, statements_from, statements}
@@ -100,7 +102,8 @@ said_characters n (l ∷ ls) said h =
 
     go : (b : Bool) → list_all is_character l ≡ b → list_all is_character l ≡ true
     go true e = e
-    go false e = absurd (let last : Bool = bytes_eq (cut (uncommented false l)).word (codes ".END") in let strange : line_of n l ≡ Wrong last = rw e refl in wrong (line_of n l) last strange h)
+    go false e = absurd (let last : Bool = bytes_eq (cut (uncommented false l)).word (codes ".END") in let strange : line_of n l
+        ≡ Wrong last = rw e refl in wrong (line_of n l) last strange h)
 
 -- the source of shown procedures and segments, and the lines behind them
 shown_sources : ℕ → List Procedure → List Source
@@ -113,19 +116,25 @@ sources_after n (p ∷ ps) = sources_after (procedure_after n p) ps
 
 shown_segments : ℕ → List program.Segment → List SourceSegment
 shown_segments n [] = []
-shown_segments n (s ∷ ss) = record { number = s.number; name = s.name; procedures = shown_sources (n + 1) s.procedures } ∷ shown_segments (sources_after (n + 1) s.procedures) ss
+shown_segments n (s ∷ ss) =
+    record { number = s.number; name = s.name; procedures = shown_sources (n + 1) s.procedures } ∷ shown_segments (sources_after (n + 1) s.procedures) ss
 
-shows_procedures : (n k : ℕ) (ps : List Procedure) (texts : List (List ℕ)) (said : List Statement) → AllByRecursion IsWhole ps → k + length ps ≤ 256 → Show (sources_after n ps) texts said
+shows_procedures : (n k : ℕ) (ps : List Procedure) (texts : List (List ℕ)) (said : List Statement) → AllByRecursion IsWhole ps → k + length ps ≤ 256
+    → Show (sources_after n ps) texts said
     → Show n (procedures_lines k ps ++ texts) (statements_from k (shown_sources n ps) ++ said)
 unfolding shown_sources sources_after
 shows_procedures n k [] texts said w l s = s
 shows_procedures n k (p ∷ ps) texts said w l s =
     let m : ℕ = procedure_after n p in
-    let more : Show m (procedures_lines (k + 1) ps ++ texts) (statements_from (k + 1) (shown_sources m ps) ++ said) = shows_procedures m (k + 1) ps texts said w.1 (omega (arith, l)) s in
-    let first : Show n (procedure_lines k p ++ (procedures_lines (k + 1) ps ++ texts)) (head_statements k (shown_source n p) ++ End ∷ (statements_from (k + 1) (shown_sources m ps) ++ said)) =
+    let more : Show m (procedures_lines (k + 1) ps ++ texts) (statements_from (k + 1) (shown_sources m ps) ++ said) =
+    shows_procedures m (k + 1) ps texts said w.1 (omega (arith, l)) s in
+    let first : Show n (procedure_lines k p ++ (procedures_lines (k + 1) ps ++ texts))
+    (head_statements k (shown_source n p) ++ End ∷ (statements_from (k + 1) (shown_sources m ps) ++ said)) =
     shows_procedure n k p (procedures_lines (k + 1) ps ++ texts) (statements_from (k + 1) (shown_sources m ps) ++ said) w.0 (omega (arith, l)) more in
-    subst (λ ls. Show n ls ((head_statements k (shown_source n p) ++ End ∷ statements_from (k + 1) (shown_sources m ps)) ++ said)) (sym (append_assoc (procedure_lines k p) (procedures_lines (k + 1) ps) texts))
-    (subst (λ ss. Show n (procedure_lines k p ++ (procedures_lines (k + 1) ps ++ texts)) ss) (sym (append_assoc (head_statements k (shown_source n p)) (End ∷ statements_from (k + 1) (shown_sources m ps)) said)) first)
+    subst (λ ls. Show n ls ((head_statements k (shown_source n p) ++ End ∷ statements_from (k + 1) (shown_sources m ps)) ++ said))
+    (sym (append_assoc (procedure_lines k p) (procedures_lines (k + 1) ps) texts))
+    (subst (λ ss. Show n (procedure_lines k p ++ (procedures_lines (k + 1) ps ++ texts)) ss)
+    (sym (append_assoc (head_statements k (shown_source n p)) (End ∷ statements_from (k + 1) (shown_sources m ps)) said)) first)
 
 -- a segment of a program, its procedures not too long
 pub record IsWholeSegment (s : program.Segment) : Type 0 where
@@ -138,9 +147,11 @@ shows_segments n [] w = refl
 shows_segments n (s ∷ ss) w =
     let m : ℕ = sources_after (n + 1) s.procedures in
     let more : Show m (segments_lines ss) (statements (shown_segments m ss)) = shows_segments m ss w.1 in
-    let procedures : Show (n + 1) (procedures_lines 1 s.procedures ++ segments_lines ss) (statements_from 1 (shown_sources (n + 1) s.procedures) ++ statements (shown_segments m ss)) =
+    let procedures : Show (n + 1) (procedures_lines 1 s.procedures ++ segments_lines ss)
+    (statements_from 1 (shown_sources (n + 1) s.procedures) ++ statements (shown_segments m ss)) =
     shows_procedures (n + 1) 1 s.procedures (segments_lines ss) (statements (shown_segments m ss)) w.0.procedures (omega (arith, w.0.segment.few)) more in
-    shows n (segment_line s.number s.name) (Segment s.number s.name) (procedures_lines 1 s.procedures ++ segments_lines ss) (statements_from 1 (shown_sources (n + 1) s.procedures) ++ statements (shown_segments m ss))
+    shows n (segment_line s.number s.name) (Segment s.number s.name) (procedures_lines 1 s.procedures ++ segments_lines ss)
+    (statements_from 1 (shown_sources (n + 1) s.procedures) ++ statements (shown_segments m ss))
     (segment_line_again n s.number s.name w.0.segment.number w.0.segment.name) procedures
 
 -- what the source means, and that it is sound
@@ -157,10 +168,13 @@ sources_sound n (p ∷ ps) w = (source_sound n p w.0, sources_sound (procedure_a
 segments_mean : (n : ℕ) (ss : List program.Segment) → AllByRecursion IsWholeSegment ss → AllZip MeansSegment (shown_segments n ss) ss
 unfolding shown_segments
 segments_mean n [] w = tt
-segments_mean n (s ∷ ss) w =
-    (record { number = refl; name = refl; procedures = sources_mean (n + 1) s.procedures w.0.procedures; follow = w.0.segment.follow }, segments_mean (sources_after (n + 1) s.procedures) ss w.1)
+segments_mean n (s ∷ ss) w = (
+  record { number = refl; name = refl; procedures = sources_mean (n + 1) s.procedures w.0.procedures; follow = w.0.segment.follow },
+  segments_mean (sources_after (n + 1) s.procedures) ss w.1,
+)
 
-segments_sound : (n : ℕ) (ss : List program.Segment) → AllByRecursion IsWholeSegment ss → AllByRecursion (λ s. AllByRecursion IsSource s.procedures) (shown_segments n ss)
+segments_sound : (n : ℕ) (ss : List program.Segment) → AllByRecursion IsWholeSegment ss
+    → AllByRecursion (λ s. AllByRecursion IsSource s.procedures) (shown_segments n ss)
 unfolding shown_segments
 segments_sound n [] w = tt
 segments_sound n (s ∷ ss) w = (sources_sound (n + 1) s.procedures w.0.procedures, segments_sound (sources_after (n + 1) s.procedures) ss w.1)
@@ -200,18 +214,21 @@ numbers_differ least (s ∷ ss) h = (others s.number (s.number + 1) ss (omega ar
 
 none_with : (k least : ℕ) (ss : List SourceSegment) → k < least → Ascends least ss → segment_with k ss ≡ None
 none_with k least [] l h = refl
-none_with k least (s ∷ ss) l h = let other = differ_up k s.number (omega (arith, l, h.0)) in rw other (none_with k (s.number + 1) ss (omega (arith, l, h.0)) h.1)
+none_with k least (s ∷ ss) l h =
+    let other = differ_up k s.number (omega (arith, l, h.0)) in rw other (none_with k (s.number + 1) ss (omega (arith, l, h.0)) h.1)
 
 dropped : (n count : ℕ) (s : SourceSegment) (ss : List SourceSegment) → s.number < n → segments_from n count (s ∷ ss) ≡ segments_from n count ss
 dropped n zero s ss l = refl
-dropped n (suc count) s ss l = let other = differ s.number n l in rw other (ap (λ rest. option_to_list (segment_with n ss) ++ rest) (dropped (n + 1) count s ss (omega (arith, l))))
+dropped n (suc count) s ss l =
+    let other = differ s.number n l in rw other (ap (λ rest. option_to_list (segment_with n ss) ++ rest) (dropped (n + 1) count s ss (omega (arith, l))))
 
 -- Segments that ascend are themselves by ascending number.
 in_order : (n count : ℕ) (ss : List SourceSegment) → Ascends n ss → AllByRecursion (IsBelow (n + count)) ss → segments_from n count ss ≡ ss
 in_order n zero [] h b = refl
 in_order n zero (s ∷ ss) h b = absurd (omega (arith, h.0, b.0))
 in_order n (suc count) [] h b = in_order (n + 1) count [] tt tt
-in_order n (suc count) (s ∷ ss) h b = go (eqb s.number n) refl (λ rest high. in_order (n + 1) count ss rest high) (λ rest high. in_order (n + 1) count (s ∷ ss) rest high)
+in_order n (suc count) (s ∷ ss) h b =
+    go (eqb s.number n) refl (λ rest high. in_order (n + 1) count ss rest high) (λ rest high. in_order (n + 1) count (s ∷ ss) rest high)
   where
     raised : (ts : List SourceSegment) → AllByRecursion (IsBelow (n + suc count)) ts → AllByRecursion (IsBelow (n + 1 + count)) ts
     raised [] b = tt
@@ -234,13 +251,15 @@ in_order n (suc count) (s ∷ ss) h b = go (eqb s.number n) refl (λ rest high. 
         rw e (rw none (g (omega (arith, less), h.1) (raised (s ∷ ss) b)))
 
 -- procedures of a program whose segments are short
-wholes : (ps : List Procedure) (last : ℕ) → last < 100000 → AllByRecursion IsProcedure ps → AllByRecursion (λ p. code_end p ≤ last) ps → AllByRecursion IsWhole ps
+wholes : (ps : List Procedure) (last : ℕ) → last < 100000 → AllByRecursion IsProcedure ps → AllByRecursion (λ p. code_end p ≤ last) ps
+    → AllByRecursion IsWhole ps
 wholes [] last l h e = tt
 wholes (p ∷ ps) last l h e = (record { procedure = h.0; short = omega (arith, l, e.0) }, wholes ps last l h.1 e.1)
 
 whole_segment : (s : program.Segment) → IsSegment s → length (segment_bytes s) ≤ 65534 → IsWholeSegment s
 whole_segment s h l =
-    let parts = length-append (procedures_bytes 1 s.procedures) (dictionary_bytes (procedures_end 0 s.procedures) (reverse s.procedures) ++ s.number ∷ length s.procedures ∷ []) in
+    let parts = length-append (procedures_bytes 1 s.procedures) (dictionary_bytes (procedures_end 0 s.procedures) (reverse s.procedures)
+    ++ s.number ∷ length s.procedures ∷ []) in
     record {
       segment = h;
       procedures = wholes s.procedures 65534 (omega arith) h.procedures (ends_within 0 1 65534 s.procedures h.follow (omega (arith, parts, l)));

@@ -2,10 +2,11 @@
 use Rattle.std.proofs.Common.{◌≡◌, ◌≤◌, ℕ, ◌+◌, ◌*◌, ◌%◌, List, [], ◌∷◌, ◌++◌, length, reverse, refl, ap, arith, length-append}
 use Rattle.std.specs.Prelude.{◌==◌}
 use Rattle.std.proofs.lemmas.List.{length-reverse}
-use Rattle.pm_opcode.specs.Spelling.{padding, flip, spelling}
+use Rattle.pm_opcode.specs.Spelling.{pad_byte, flip, spelling}
 use Rattle.pm_disasm.specs.Item.{Item, size}
 use Rattle.pm_disasm.specs.Item.Item.{Plain, Jump, Case, OneByte}
-use Rattle.pm_disasm.specs.Program.{Procedure, Segment, FollowFrom, code_of, code_end, end_of, entry_bytes, attribute_bytes, dictionary_bytes, jtab_of, procedure_bytes, procedures_bytes, procedures_end, segment_bytes}
+use Rattle.pm_disasm.specs.Program.{Procedure, Segment, FollowFrom, code_of, code_end, end_of, entry_bytes, attribute_bytes}
+use Rattle.pm_disasm.specs.Program.{dictionary_bytes, jtab_of, procedure_bytes, procedures_bytes, procedures_end, segment_bytes}
 use Rattle.pm_disasm.proofs.Sizes.{length-code}
 use Rattle.pm_source.specs.Source.{Row, row_items}
 use Rattle.pm_source.specs.Source as source
@@ -19,12 +20,26 @@ procedure_length number p =
     let entries : List ℕ = entry_bytes (code_end p) (reverse p.entries) in
     let last : List ℕ = attribute_bytes number p in
     let ten : length last ≡ 10 = refl in
-    omega (arith, length-append (code_of p) (entries ++ last), length-append entries last, length-code p.start p.items, entries_length (code_end p) (reverse p.entries), length-reverse p.entries, ten)
+    omega (
+      arith,
+      length-append (code_of p) (entries ++ last),
+      length-append entries last,
+      length-code p.start p.items,
+      entries_length (code_end p) (reverse p.entries),
+      length-reverse p.entries,
+      ten,
+    )
 
 procedures_length : (number at : ℕ) (ps : List Procedure) → FollowFrom at ps → at + length (procedures_bytes number ps) ≡ procedures_end at ps
 procedures_length number at [] f = omega arith
 procedures_length number at (p ∷ ps) f =
-    omega (arith, length-append (procedure_bytes number p) (procedures_bytes (number + 1) ps), f.0, procedure_length number p, procedures_length (number + 1) (jtab_of p + 2) ps f.1)
+    omega (
+      arith,
+      length-append (procedure_bytes number p) (procedures_bytes (number + 1) ps),
+      f.0,
+      procedure_length number p,
+      procedures_length (number + 1) (jtab_of p + 2) ps f.1,
+    )
 
 -- procedures end within their segment
 pub end_within : (s : Segment) → FollowFrom 0 s.procedures → procedures_end 0 s.procedures ≤ length (segment_bytes s)
@@ -40,7 +55,7 @@ end_later at ps f = omega (arith, procedures_length 1 at ps f)
 size_parity : {P : Type 0} (m n : ℕ) (item : Item P) → m % 2 ≡ n % 2 → size m item ≡ size n item
 size_parity m n (Plain i named) e = ap (λ r. length (spelling (r == 1) 0 i named)) e
 size_parity m n (Jump op target) e = refl
-size_parity m n (Case low high otherwise places) e = ap (λ r. 7 + length (padding (flip (r == 1)) 0) + 2 * length places) e
+size_parity m n (Case low high otherwise places) e = ap (λ r. 7 + length (pad_byte (flip (r == 1)) 0) + 2 * length places) e
 size_parity m n (OneByte b) e = refl
 
 end_parity : {P : Type 0} (m n : ℕ) (items : List (Item P)) → m % 2 ≡ n % 2 → end_of m items % 2 ≡ end_of n items % 2

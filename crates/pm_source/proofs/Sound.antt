@@ -1,10 +1,12 @@
 -- What is read without a fault is a sound program, and its statements are those that were read.
-use Rattle.std.proofs.Common.{◌≡◌, ◌≤◌, ℕ, ◌+◌, ◌%◌, Bool, true, false, eqb, not, List, [], ◌∷◌, ◌++◌, length, map, refl, sym, ap, subst, ◌∙◌, arith, append_assoc, Option, Some, None}
+use Rattle.std.proofs.Common.{◌≡◌, ◌≤◌, ℕ, ◌+◌, ◌%◌, Bool, true, false, eqb, not, List, [], ◌∷◌, ◌++◌, length}
+use Rattle.std.proofs.Common.{map, refl, sym, ap, subst, ◌∙◌, arith, append_assoc, Option, Some, None}
 use Rattle.std.specs.Prelude.{◌&&◌, ◌||◌, nat_eq}
 use Rattle.std.specs.List.{list_any, AllByRecursion, IsDistinct}
 use Rattle.std.specs.Str.{bytes_eq}
 use Rattle.std.proofs.lemmas.Bool.{eq-eqb, eqb-true}
-use Rattle.pm_source.specs.Source.{Name, Row, Statement, Source, SourceSegment, head_statements, entry_statement, statements_from, segment_statements, statements, labels_of, exits_of, code_end, entries_used, IsSource}
+use Rattle.pm_source.specs.Source.{Name, Row, Statement, Source, SourceSegment, head_statements, entry_statement, statements_from}
+use Rattle.pm_source.specs.Source.{segment_statements, statements, labels_of, exits_of, code_end, entries_used, IsSource}
 use Rattle.pm_source.specs.Source.Row.{Items, Exit}
 use Rattle.pm_source.specs.Source.Statement.{Segment, Begin, Code, Entry, End}
 use Rattle.pm_source.specs.Words.{is_empty}
@@ -38,25 +40,36 @@ pub all_append : {A : Type 0} (P : A → Type 0) (xs ys : List A) → AllByRecur
 all_append P [] ys h k = k
 all_append P (x ∷ xs) ys h k = (h.0, all_append P xs ys h.1 k)
 
-segment_step : (segments : List SourceSegment) (n : ℕ) (name : Name) → IsSound (with segments None) → IsFit (with segments None) (Segment n name) → Steps (with segments None) (Segment n name)
+segment_step : (segments : List SourceSegment) (n : ℕ) (name : Name) → IsSound (with segments None) → IsFit (with segments None) (Segment n name)
+    → Steps (with segments None) (Segment n name)
 segment_step segments n name h f =
     let new : SourceSegment = record { number = n; name = name; procedures = [] } in
-    let numbers : IsDistinct nat_eq (map (λ s. s.number) segments ++ n ∷ []) = distinct_push nat_eq (map (λ s. s.number) segments) n h.finished.0 (sym (any_number segments n) ∙ f.new) in
+    let numbers : IsDistinct nat_eq (map (λ s. s.number) segments ++ n ∷ []) =
+    distinct_push nat_eq (map (λ s. s.number) segments) n h.finished.0 (sym (any_number segments n) ∙ f.new) in
     record {
-      sound = record { finished = (subst (IsDistinct nat_eq) (sym (map_append (λ s. s.number) segments (new ∷ []))) numbers, all_append (λ s. AllByRecursion IsSource s.procedures) segments (new ∷ []) h.finished.1 (tt, tt)); begun = tt };
-      more = append_nil (statements (segments ++ new ∷ [])) ∙ statements_append segments (new ∷ []) ∙ ap (λ ss. ss ++ Segment n name ∷ []) (sym (append_nil (statements segments)));
+      sound = record {
+        finished = (
+          subst (IsDistinct nat_eq) (sym (map_append (λ s. s.number) segments (new ∷ []))) numbers,
+          all_append (λ s. AllByRecursion IsSource s.procedures) segments (new ∷ []) h.finished.1 (tt, tt),
+        );
+        begun = tt;
+      };
+      more = append_nil (statements (segments ++ new ∷ [])) ∙ statements_append segments (new ∷ [])
+          ∙ ap (λ ss. ss ++ Segment n name ∷ []) (sym (append_nil (statements segments)));
     }
 
 none_distinct : IsDistinct bytes_eq []
 unfolding IsDistinct
 none_distinct = tt
 
-begin_step : (segments : List SourceSegment) (n level parameters locals : ℕ) → IsSound (with segments None) → IsFit (with segments None) (Begin n level parameters locals) → Steps (with segments None) (Begin n level parameters locals)
+begin_step : (segments : List SourceSegment) (n level parameters locals : ℕ) → IsSound (with segments None)
+    → IsFit (with segments None) (Begin n level parameters locals) → Steps (with segments None) (Begin n level parameters locals)
 begin_step segments n level parameters locals h f =
     let same : n ≡ procedure_count segments + 1 = equal (eqb n (procedure_count segments + 1)) refl f.counted in
     record {
       sound = record { finished = h.finished; begun = (none_distinct, omega arith, some (is_empty segments) refl f.in_place) };
-      more = ap (λ k. statements segments ++ Begin k level parameters locals ∷ []) (sym same) ∙ ap (λ ss. ss ++ Begin n level parameters locals ∷ []) (sym (append_nil (statements segments)));
+      more = ap (λ k. statements segments ++ Begin k level parameters locals ∷ []) (sym same)
+          ∙ ap (λ ss. ss ++ Begin n level parameters locals ∷ []) (sym (append_nil (statements segments)));
     }
   where
     equal : (b : Bool) → eqb n (procedure_count segments + 1) ≡ b → not b ≡ false → n ≡ procedure_count segments + 1
@@ -71,25 +84,31 @@ empty_list : {A : Type 0} (xs : List A) → is_empty xs ≡ true → xs ≡ []
 empty_list [] h = refl
 empty_list (x ∷ xs) h = absurd (cc)
 
-code_more : (segments : List SourceSegment) (p : Source) (row : Row) → p.entries ≡ [] → taken_in (after (with segments (Some p)) (Code row)) ≡ taken_in (with segments (Some p)) ++ Code row ∷ []
+code_more : (segments : List SourceSegment) (p : Source) (row : Row) → p.entries ≡ []
+    → taken_in (after (with segments (Some p)) (Code row)) ≡ taken_in (with segments (Some p)) ++ Code row ∷ []
 code_more segments p row e =
     let n : ℕ = procedure_count segments + 1 in
-    let before : head_statements n p ≡ Begin n p.level p.parameters p.locals ∷ map Code p.code = ap (λ es. Begin n p.level p.parameters p.locals ∷ map Code p.code ++ map entry_statement es) e ∙ ap (λ ss. Begin n p.level p.parameters p.locals ∷ ss) (append_nil (map Code p.code)) in
+    let before : head_statements n p ≡ Begin n p.level p.parameters p.locals ∷ map Code p.code =
+    ap (λ es. Begin n p.level p.parameters p.locals ∷ map Code p.code ++ map entry_statement es) e
+    ∙ ap (λ ss. Begin n p.level p.parameters p.locals ∷ ss) (append_nil (map Code p.code)) in
     let behind : head_statements n (record p { code = p.code ++ row ∷ [] }) ≡ head_statements n p ++ Code row ∷ [] =
     ap (λ es. Begin n p.level p.parameters p.locals ∷ map Code (p.code ++ row ∷ []) ++ map entry_statement es) e
     ∙ ap (λ ss. Begin n p.level p.parameters p.locals ∷ ss) (append_nil (map Code (p.code ++ row ∷ [])) ∙ map_append Code p.code (row ∷ []))
     ∙ ap (λ ss. ss ++ Code row ∷ []) (sym before) in
     ap (λ ss. statements segments ++ ss) behind ∙ sym (append_assoc (statements segments) (head_statements n p) (Code row ∷ []))
 
-code_step : (segments : List SourceSegment) (p : Source) (row : Row) → IsSound (with segments (Some p)) → IsFit (with segments (Some p)) (Code row) → Steps (with segments (Some p)) (Code row)
+code_step : (segments : List SourceSegment) (p : Source) (row : Row) → IsSound (with segments (Some p)) → IsFit (with segments (Some p)) (Code row)
+    → Steps (with segments (Some p)) (Code row)
 code_step segments p row h f = record {
   sound = record { finished = h.finished; begun = (marks row f, exits row f, h.begun.2) };
   more = code_more segments p row (empty_list p.entries f.in_place);
 }
   where
     marks : (row : Row) → IsFit (with segments (Some p)) (Code row) → IsDistinct bytes_eq (labels_of (p.code ++ row ∷ []))
-    marks (Items line None items) f = subst (IsDistinct bytes_eq) (sym (labels_append p.code (Items line None items ∷ []) ∙ append_nil (labels_of p.code))) h.begun.0
-    marks (Items line (Some label) items) f = subst (IsDistinct bytes_eq) (sym (labels_append p.code (Items line (Some label) items ∷ []))) (distinct_push bytes_eq (labels_of p.code) label h.begun.0 (sym (has_label_is label p.code) ∙ f.new))
+    marks (Items line None items) f = subst (IsDistinct bytes_eq) (sym
+        (labels_append p.code (Items line None items ∷ []) ∙ append_nil (labels_of p.code))) h.begun.0
+    marks (Items line (Some label) items) f = subst (IsDistinct bytes_eq) (sym (labels_append p.code (Items line (Some label) items ∷ [])))
+        (distinct_push bytes_eq (labels_of p.code) label h.begun.0 (sym (has_label_is label p.code) ∙ f.new))
     marks Exit f = subst (IsDistinct bytes_eq) (sym (labels_append p.code (Exit ∷ []) ∙ append_nil (labels_of p.code))) h.begun.0
 
     none : (b : Bool) → eqb (exits_of p.code) 0 ≡ b → not b ≡ false → exits_of p.code ≡ 0
@@ -100,23 +119,27 @@ code_step segments p row h f = record {
     exits (Items line label items) f = omega (arith, exits_append p.code (Items line label items ∷ []), h.begun.1)
     exits Exit f = omega (arith, exits_append p.code (Exit ∷ []), none (eqb (exits_of p.code) 0) refl (sym (has_exit_is p.code) ∙ f.new))
 
-entry_step : (segments : List SourceSegment) (p : Source) (line : ℕ) (name : Name) → IsSound (with segments (Some p)) → Steps (with segments (Some p)) (Entry line name)
+entry_step : (segments : List SourceSegment) (p : Source) (line : ℕ) (name : Name) → IsSound (with segments (Some p))
+    → Steps (with segments (Some p)) (Entry line name)
 entry_step segments p line name h =
     let n : ℕ = procedure_count segments + 1 in
     let behind : head_statements n (record p { entries = p.entries ++ (line, name) ∷ [] }) ≡ head_statements n p ++ Entry line name ∷ [] =
-    ap (λ ss. Begin n p.level p.parameters p.locals ∷ ss) (ap (λ ss. map Code p.code ++ ss) (map_append entry_statement p.entries ((line, name) ∷ [])) ∙ sym (append_assoc (map Code p.code) (map entry_statement p.entries) (Entry line name ∷ []))) in
+    ap (λ ss. Begin n p.level p.parameters p.locals ∷ ss) (ap (λ ss. map Code p.code ++ ss) (map_append entry_statement p.entries ((line, name) ∷ []))
+    ∙ sym (append_assoc (map Code p.code) (map entry_statement p.entries) (Entry line name ∷ []))) in
     record {
       sound = record { finished = h.finished; begun = h.begun };
       more = ap (λ ss. statements segments ++ ss) behind ∙ sym (append_assoc (statements segments) (head_statements n p) (Entry line name ∷ []));
     }
 
-from_push : (n : ℕ) (ps : List Source) (p : Source) (m : ℕ) → m ≡ n + length ps → statements_from n (ps ++ p ∷ []) ≡ statements_from n ps ++ (head_statements m p ++ End ∷ [])
+from_push : (n : ℕ) (ps : List Source) (p : Source) (m : ℕ) → m ≡ n + length ps
+    → statements_from n (ps ++ p ∷ []) ≡ statements_from n ps ++ (head_statements m p ++ End ∷ [])
 from_push n [] p m e = ap (λ k. head_statements k p ++ End ∷ []) (omega arith)
 from_push n (q ∷ ps) p m e =
     ap (λ ss. head_statements n q ++ End ∷ ss) (from_push (n + 1) ps p m (omega arith))
     ∙ sym (append_assoc (head_statements n q) (End ∷ statements_from (n + 1) ps) (head_statements m p ++ End ∷ []))
 
-closed_more : (s : SourceSegment) (ss : List SourceSegment) (p : Source) → statements (with_procedure p (s ∷ ss)) ≡ statements (s ∷ ss) ++ (head_statements (procedure_count (s ∷ ss) + 1) p ++ End ∷ [])
+closed_more : (s : SourceSegment) (ss : List SourceSegment) (p : Source)
+    → statements (with_procedure p (s ∷ ss)) ≡ statements (s ∷ ss) ++ (head_statements (procedure_count (s ∷ ss) + 1) p ++ End ∷ [])
 closed_more s [] p =
     let last : List Statement = head_statements (length s.procedures + 1) p ++ End ∷ [] in
     append_nil (segment_statements (record s { procedures = s.procedures ++ p ∷ [] }))
@@ -145,17 +168,22 @@ end_more (s ∷ ss) p e =
     append_nil (statements (with_procedure p (s ∷ ss))) ∙ closed_more s ss p
     ∙ sym (append_assoc (statements (s ∷ ss)) (head_statements (procedure_count (s ∷ ss) + 1) p) (End ∷ []))
 
-end_step : (segments : List SourceSegment) (p : Source) → IsSound (with segments (Some p)) → IsFit (with segments (Some p)) End → Steps (with segments (Some p)) End
+end_step : (segments : List SourceSegment) (p : Source) → IsSound (with segments (Some p)) → IsFit (with segments (Some p)) End
+    → Steps (with segments (Some p)) End
 end_step segments p h f =
     let tests = neither (not (eqb (code_end 0 p.code % 2) 0)) (not (eqb (length p.entries) (entries_used p.code))) f.counted in
     let whole : IsSource p = record {
       labels = h.begun.0;
-      exit = let some : exits_of p.code ≡ 0 → ⊥ = λ e. never (eqb (exits_of p.code) 0) (eq-eqb _ _ e) (sym (has_exit_is p.code) ∙ f.in_place) in omega (arith, h.begun.1, some);
+      exit = let some : exits_of p.code ≡ 0 → ⊥ = λ e. never (eqb (exits_of p.code) 0) (eq-eqb _ _ e) (sym (has_exit_is p.code) ∙ f.in_place) in omega
+          (arith, h.begun.1, some);
       even = equal (eqb (code_end 0 p.code % 2) 0) (code_end 0 p.code % 2) 0 refl tests.0;
       used = equal (eqb (length p.entries) (entries_used p.code)) (length p.entries) (entries_used p.code) refl tests.1;
     } in
     record {
-      sound = record { finished = (subst (IsDistinct nat_eq) (sym (closed_numbers segments p)) h.finished.0, closed_finished segments p h.finished.1 whole); begun = tt };
+      sound = record {
+        finished = (subst (IsDistinct nat_eq) (sym (closed_numbers segments p)) h.finished.0, closed_finished segments p h.finished.1 whole);
+        begun = tt;
+      };
       more = end_more segments p h.begun.2;
     }
   where
@@ -171,7 +199,8 @@ end_step segments p h f =
     never true e f = cc
     never false e f = cc
 
-step : (segments : List SourceSegment) (current : Option Source) (s : Statement) → IsSound (with segments current) → IsFit (with segments current) s → Steps (with segments current) s
+step : (segments : List SourceSegment) (current : Option Source) (s : Statement) → IsSound (with segments current) → IsFit (with segments current) s
+    → Steps (with segments current) s
 step segments None (Segment n name) h f = segment_step segments n name h f
 step segments None (Begin n level parameters locals) h f = begin_step segments n level parameters locals h f
 step segments None (Code row) h f = absurd (let e : false ≡ true = f.in_place in cc)

@@ -26,7 +26,11 @@ procedures_found at (p ∷ ps) h =
     let next : ℕ = source_end at p in
     let parts = both_empty (label_faults at p) (label_faults_from next ps) h in
     let more : MeanFrom next ps = procedures_found next ps parts.1 in
-    record { mean = (labels_found at p parts.0, more.mean); follow = (refl, subst (λ k. FollowFrom k (found_procedures next ps)) (sym (found_behind at p)) more.follow) }
+    record {
+      mean = (labels_found at p parts.0, more.mean);
+      follow =
+          (refl, subst (λ k. FollowFrom k (found_procedures next ps)) (sym (found_behind at p)) more.follow);
+    }
 
 -- a segment whose labels have no fault
 abbrev pub IsClean : SourceSegment → Type 0

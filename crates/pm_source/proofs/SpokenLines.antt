@@ -27,7 +27,8 @@ use Rattle.pm_source.specs.Line.Line.{Says}
 use Rattle.pm_source.specs.Line.Keyword.{OfSegment, OfProcedure, OfExit, OfJump, OfEnd, OfBytes, Mnemonic}
 use Rattle.pm_source.proofs.Cutting.{IsCut, IsFront, cut_behind, by_cut, spoken_line, indented, and_turned}
 use Rattle.pm_source.proofs.Operanded.{IsOperand, IsWord, of_word, operands_shown, operands_rest, words_shown, words_rest, append_nil}
-use Rattle.pm_source.proofs.Numbers.{decimal_word, label_word, label_name, number_shown, byte_shown, slot_shown, size_shown, level_word, level_shown, bound_word, bound_shown}
+use Rattle.pm_source.proofs.Numbers.{decimal_word, label_word, label_name, number_shown, byte_shown, slot_shown}
+use Rattle.pm_source.proofs.Numbers.{size_shown, level_word, level_shown, bound_word, bound_shown}
 use Rattle.pm_source.proofs.Quoting.{shown_target, IsWritable, target_shown, target_word, labels_again, labels_operands, same_count}
 use Rattle.pm_source.proofs.Mnemonics.{IsNamed, IsShort, is_named, is_short, is_plain, plain_is, is_unassigned, no_number}
 use Rattle.pm_source.proofs.ShownInstructions.{IsOfForm, IsReadAs, said_plain, cleared, unnamed, read_as}
@@ -70,7 +71,8 @@ unfolding keyword_of directives
 end_word = refl
 
 -- A line of an item, from what its operands are.
-spoken_item : (n : ℕ) (front : List ℕ) (ts : List (List ℕ)) (keyword : Keyword) (s : Statement) → IsFront front → keyword_of front ≡ Some keyword → AllByRecursion IsOperand ts → said n keyword (operands_text ts) ≡ Some (s, NoFlaw)
+spoken_item : (n : ℕ) (front : List ℕ) (ts : List (List ℕ)) (keyword : Keyword) (s : Statement) → IsFront front → keyword_of front ≡ Some keyword
+    → AllByRecursion IsOperand ts → said n keyword (operands_text ts) ≡ Some (s, NoFlaw)
     → line_of n (32 ∷ 32 ∷ front ++ operands_text ts) ≡ Says s NoFlaw
 spoken_item n front ts keyword s f k o e =
     indented n (32 ∷ front ++ operands_text ts)
@@ -79,8 +81,10 @@ spoken_item n front ts keyword s f k o e =
     ∙ ap (spoken n (operands_text ts)) k
     ∙ ap (saying _) e
 
-instruction_line : (n op first : ℕ) (form : Form) (ts : List (List ℕ)) (item : Item Name) → IsFront (mnemonic_of op) → keyword_of (mnemonic_of op) ≡ Some (Mnemonic first) → form_of first ≡ form → AllByRecursion IsOperand ts
-    → instruction_said form first ts ≡ Some (item, NoFlaw) → line_of n (32 ∷ 32 ∷ mnemonic_of op ++ operands_text ts) ≡ Says (Code (Items n None (item ∷ []))) NoFlaw
+instruction_line : (n op first : ℕ) (form : Form) (ts : List (List ℕ)) (item : Item Name) → IsFront (mnemonic_of op)
+    → keyword_of (mnemonic_of op) ≡ Some (Mnemonic first) → form_of first ≡ form → AllByRecursion IsOperand ts
+    → instruction_said form first ts ≡ Some (item, NoFlaw) → line_of n (32 ∷ 32 ∷ mnemonic_of op ++ operands_text ts)
+    ≡ Says (Code (Items n None (item ∷ []))) NoFlaw
 instruction_line n op first form ts item front keyword f o e =
     let again = operands_shown ts o in
     spoken_item n (mnemonic_of op) ts (Mnemonic first) (Code (Items n None (item ∷ []))) front keyword o (rw (again, f, e) refl)
@@ -105,7 +109,8 @@ abbrev PlainLine : ℕ → Instr → List ℕ → List (List ℕ) → Type 0
 PlainLine n i named ts = line_of n (32 ∷ 32 ∷ mnemonic_of i.op ++ operands_text ts) ≡ Says (Code (Items n None (Plain i named ∷ []))) NoFlaw
 
 -- an instruction without operands, or with the number that stands in its opcode
-bare_line : (n : ℕ) (i : Instr) (named : List ℕ) → i.op < 256 → form_of i.op ≡ forms.Plain → IsOfForm forms.Plain i named → PlainLine n i named (operand_texts forms.Plain i named)
+bare_line : (n : ℕ) (i : Instr) (named : List ℕ) → i.op < 256 → form_of i.op ≡ forms.Plain → IsOfForm forms.Plain i named
+    → PlainLine n i named (operand_texts forms.Plain i named)
 bare_line n i named l f h = go (implied i.op) refl
   where
     whole : said_plain (bare i.op) [] ≡ said_plain i named
@@ -126,7 +131,8 @@ bare_line n i named l f h = go (implied i.op) refl
         let kept : m % 256 ≡ m = omega (arith, small) in
         let opcode = k.opcode in
         let o : AllByRecursion IsOperand (decimal m ∷ []) = (of_word (decimal m) (decimal_word m (omega (arith, small))), tt) in
-        rw e (instruction_line n i.op k.first forms.Plain (decimal m ∷ []) (Plain i named) k.front k.keyword k.form o (rw (known, read) (rw kept (rw (low, high, opcode) whole))))
+        rw e (instruction_line n i.op k.first forms.Plain (decimal m ∷ []) (Plain i named) k.front k.keyword k.form o
+        (rw (known, read) (rw kept (rw (low, high, opcode) whole))))
       where
         at_most : (m : ℕ) → nat_le m 127 ≡ true → m ≤ 127
         at_most m h = grind (arith, nat_tests)
@@ -160,25 +166,35 @@ jump_line n op target f l w =
     let u : is_unassigned (form_of op) ≡ false = ap is_unassigned f in
     let k : IsNamed op = is_named op l u (no_number op l u (ap is_plain f)) in
     let read = target_shown target w in
-    instruction_line n op op forms.Sb (target_text target ∷ []) (Jump op (shown_target target)) k.front k.keyword f (of_word (target_text target) (target_word target w), tt) (rw read refl)
+    instruction_line n op op forms.Sb (target_text target ∷ []) (Jump op (shown_target target)) k.front k.keyword f
+    (of_word (target_text target) (target_word target w), tt) (rw read refl)
 
 case_form : form_of case_opcode ≡ forms.Jumps
 unfolding form_of groups
 case_form = refl
 
-case_line : (n at low high : ℕ) (otherwise : Target ℕ) (places : List ℕ) → IsCase at low high otherwise places → IsWritable otherwise → AllByRecursion (λ p. p < 100000) places
-    → line_of n (32 ∷ 32 ∷ mnemonic_of case_opcode ++ operands_text (item_operands (Case low high otherwise places))) ≡ Says (Code (Items n None (Case low high (shown_target otherwise) (map label_text places) ∷ []))) NoFlaw
+case_line : (n at low high : ℕ) (otherwise : Target ℕ) (places : List ℕ) → IsCase at low high otherwise places → IsWritable otherwise
+    → AllByRecursion (λ p. p < 100000) places
+    → line_of n (32 ∷ 32 ∷ mnemonic_of case_opcode ++ operands_text (item_operands (Case low high otherwise places)))
+    ≡ Says (Code (Items n None (Case low high (shown_target otherwise) (map label_text places) ∷ []))) NoFlaw
 case_line n at low high otherwise places h w s =
     let u : is_unassigned (form_of case_opcode) ≡ false = ap is_unassigned case_form in
     let k : IsNamed case_opcode = is_named case_opcode (omega arith) u (no_number case_opcode (omega arith) u (ap is_plain case_form)) in
-    let o : AllByRecursion IsOperand (item_operands (Case low high otherwise places)) =
-    (of_word (signed_text low) (bound_word low h.least), (of_word (signed_text high) (bound_word high h.greatest), (of_word (target_text otherwise) (target_word otherwise w), labels_operands places s))) in
+    let o : AllByRecursion IsOperand (item_operands (Case low high otherwise places)) = (
+      of_word (signed_text low) (bound_word low h.least),
+      (
+        of_word (signed_text high) (bound_word high h.greatest),
+        (of_word (target_text otherwise) (target_word otherwise w), labels_operands places s),
+      ),
+    ) in
     let least = bound_shown low h.least in
     let greatest = bound_shown high h.greatest in
     let target = target_shown otherwise w in
     let labels = labels_again places s in
-    let count : (length (map label_text places) == jump_count low high) ≡ true = same (length (map label_text places)) (jump_count low high) (same_count places ∙ h.count) in
-    instruction_line n case_opcode case_opcode forms.Jumps (item_operands (Case low high otherwise places)) (Case low high (shown_target otherwise) (map label_text places)) k.front k.keyword case_form o
+    let count : (length (map label_text places) == jump_count low high) ≡ true =
+    same (length (map label_text places)) (jump_count low high) (same_count places ∙ h.count) in
+    instruction_line n case_opcode case_opcode forms.Jumps (item_operands (Case low high otherwise places))
+    (Case low high (shown_target otherwise) (map label_text places)) k.front k.keyword case_form o
     (rw (least, greatest, target, labels) (rw count refl))
   where
     same : (m n : ℕ) → m ≡ n → (m == n) ≡ true
@@ -189,10 +205,12 @@ byte_line n b h =
     let o : AllByRecursion IsOperand (decimal b ∷ []) = (of_word (decimal b) (decimal_word b (omega (arith, h))), tt) in
     let again = operands_shown (decimal b ∷ []) o in
     let read = byte_shown b h in
-    spoken_item n (codes ".BYTE") (decimal b ∷ []) OfBytes (Code (Items n None (OneByte b ∷ []))) (record { some = refl; plain = refl; unmarked = refl }) bytes_word o (rw (again, read) refl)
+    spoken_item n (codes ".BYTE") (decimal b ∷ []) OfBytes (Code (Items n None (OneByte b ∷ [])))
+    (record { some = refl; plain = refl; unmarked = refl }) bytes_word o (rw (again, read) refl)
 
 -- The line of an item is read again.
-pub item_line : (n at : ℕ) (item : Item ℕ) → IsItem at item → IsWritableItem item → line_of n (32 ∷ 32 ∷ shown_item item) ≡ Says (Code (Items n None (labelled_item item ∷ []))) NoFlaw
+pub item_line : (n at : ℕ) (item : Item ℕ) → IsItem at item → IsWritableItem item
+    → line_of n (32 ∷ 32 ∷ shown_item item) ≡ Says (Code (Items n None (labelled_item item ∷ []))) NoFlaw
 unfolding shown_item
 item_line n at (Plain i named) h w = plain_line n i named h
 item_line n at (Jump op target) h w = jump_line n op target h.0 h.1 w
@@ -200,7 +218,8 @@ item_line n at (Case low high otherwise places) h w = case_line n at low high ot
 item_line n at (OneByte b) h w = byte_line n b h
 
 -- A line of a directive, from what its words are.
-directive_line : (n : ℕ) (front : List ℕ) (ws : List (List ℕ)) (keyword : Keyword) (s : Statement) → IsFront front → keyword_of front ≡ Some keyword → AllByRecursion IsWord ws → said n keyword (words_text ws) ≡ Some (s, NoFlaw)
+directive_line : (n : ℕ) (front : List ℕ) (ws : List (List ℕ)) (keyword : Keyword) (s : Statement) → IsFront front → keyword_of front ≡ Some keyword
+    → AllByRecursion IsWord ws → said n keyword (words_text ws) ≡ Some (s, NoFlaw)
     → line_of n (front ++ words_text ws) ≡ Says s NoFlaw
 directive_line n front ws keyword s f k o e = spoken_line n front (words_text ws) f (words_rest ws o) ∙ ap (spoken n (words_text ws)) k ∙ ap (saying _) e
 
@@ -215,19 +234,25 @@ jump_entry_line n place h =
     let w : AllByRecursion IsWord (label_text place ∷ []) = (label_word place (omega arith), tt) in
     let again = words_shown (label_text place ∷ []) w in
     let name = label_name place h in
-    directive_line n (codes ".JUMP") (label_text place ∷ []) OfJump (Entry n (label_text place)) (record { some = refl; plain = refl; unmarked = refl }) jump_word w (rw again (rw name refl))
+    directive_line n (codes ".JUMP") (label_text place ∷ []) OfJump (Entry n (label_text place))
+    (record { some = refl; plain = refl; unmarked = refl }) jump_word w (rw again (rw name refl))
 
 pub begin_line : (n number level parameters locals : ℕ) → number < 256 → level < 256 → parameters < 65536 → parameters % 2 ≡ 0 → locals < 65536 → locals % 2 ≡ 0
-    → line_of n (codes ".PROC" ++ words_text (decimal number ∷ level_text level ∷ decimal parameters ∷ decimal locals ∷ [])) ≡ Says (Begin number level parameters locals) NoFlaw
+    → line_of n (codes ".PROC" ++ words_text (decimal number ∷ level_text level ∷ decimal parameters ∷ decimal locals ∷ []))
+    ≡ Says (Begin number level parameters locals) NoFlaw
 begin_line n number level parameters locals hn hl hp ep hs es =
     let ws : List (List ℕ) = decimal number ∷ level_text level ∷ decimal parameters ∷ decimal locals ∷ [] in
-    let w : AllByRecursion IsWord ws = (decimal_word number (omega arith), (level_word level hl, (decimal_word parameters (omega arith), (decimal_word locals (omega arith), tt)))) in
+    let w : AllByRecursion IsWord ws = (
+      decimal_word number (omega arith),
+      (level_word level hl, (decimal_word parameters (omega arith), (decimal_word locals (omega arith), tt))),
+    ) in
     let again : words (words_text ws) ≡ ws = words_shown ws w in
     let a = byte_shown number hn in
     let b = level_shown level hl in
     let c = size_shown parameters hp ep in
     let d = size_shown locals hs es in
-    directive_line n (codes ".PROC") ws OfProcedure (Begin number level parameters locals) (record { some = refl; plain = refl; unmarked = refl }) procedure_word w (rw again (rw (a, b, c, d) refl))
+    directive_line n (codes ".PROC") ws OfProcedure (Begin number level parameters locals)
+    (record { some = refl; plain = refl; unmarked = refl }) procedure_word w (rw again (rw (a, b, c, d) refl))
 
 -- A line of a label.
 pub label_line : (n place : ℕ) → place < 100000 → line_of n (label_text place ++ 58 ∷ []) ≡ Says (Code (Items n (Some (label_text place)) [])) NoFlaw
@@ -244,17 +269,20 @@ label_line n place h =
 
 segment_name_word : (name : List ℕ) → is_segment_name name ≡ true → IsWord name
 segment_name_word [] h = absurd (cc)
-segment_name_word (c ∷ name) h = record { some = refl; plain = last (nat_le 1 (length (c ∷ name))) (nat_le (length (c ∷ name)) 8) (list_all is_name_character (c ∷ name)) h }
+segment_name_word (c ∷ name) h =
+    record { some = refl; plain = last (nat_le 1 (length (c ∷ name))) (nat_le (length (c ∷ name)) 8) (list_all is_name_character (c ∷ name)) h }
   where
     last : (a b c : Bool) → (a && b && c) ≡ true → c ≡ true
     last true true c e = e
     last true false c e = absurd (cc)
     last false b c e = absurd (cc)
 
-pub segment_line_again : (n k : ℕ) (name : List ℕ) → k < 16 → is_segment_name name ≡ true → line_of n (codes ".SEG" ++ words_text (decimal k ∷ name ∷ [])) ≡ Says (Segment k name) NoFlaw
+pub segment_line_again : (n k : ℕ) (name : List ℕ) → k < 16 → is_segment_name name ≡ true
+    → line_of n (codes ".SEG" ++ words_text (decimal k ∷ name ∷ [])) ≡ Says (Segment k name) NoFlaw
 segment_line_again n k name h s =
     let ws : List (List ℕ) = decimal k ∷ name ∷ [] in
     let w : AllByRecursion IsWord ws = (decimal_word k (omega arith), (segment_name_word name s, tt)) in
     let again : words (words_text ws) ≡ ws = words_shown ws w in
     let read = slot_shown k h in
-    directive_line n (codes ".SEG") ws OfSegment (Segment k name) (record { some = refl; plain = refl; unmarked = refl }) segment_word w (rw again (rw (s, read) refl))
+    directive_line n (codes ".SEG") ws OfSegment (Segment k name) (record { some = refl; plain = refl; unmarked = refl }) segment_word w
+    (rw again (rw (s, read) refl))

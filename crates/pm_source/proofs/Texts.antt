@@ -17,7 +17,8 @@ plain_byte c e =
 hex_small : (c v : ℕ) → lower_hex c ≡ Some v → v < 16
 hex_small c v e = by (nat_le 48 c) (nat_le c 57) (nat_le 97 c) (nat_le c 102) refl refl refl refl e
   where
-    by : (p q r s : Bool) → nat_le 48 c ≡ p → nat_le c 57 ≡ q → nat_le 97 c ≡ r → nat_le c 102 ≡ s → (if p && q then Some (c - 48) else if r && s then Some (c - 87) else None) ≡ Some v → v < 16
+    by : (p q r s : Bool) → nat_le 48 c ≡ p → nat_le c 57 ≡ q → nat_le 97 c ≡ r → nat_le c 102 ≡ s
+        → (if p && q then Some (c - 48) else if r && s then Some (c - 87) else None) ≡ Some v → v < 16
     by true true r s f g h i e = omega (arith, some_is (c - 48) v e, leb-true c 57 g)
     by true false true true f g h i e = omega (arith, some_is (c - 87) v e, leb-true c 102 i)
     by false q true true f g h i e = omega (arith, some_is (c - 87) v e, leb-true c 102 i)
@@ -30,7 +31,8 @@ abbrev one_more : ℕ → List ℕ → Option (List ℕ)
 one_more c cs = Some (c ∷ cs)
 
 -- a character, and bytes behind it
-more_bytes : (c : ℕ) (rest : Option (List ℕ)) (bytes : List ℕ) → c < 256 → ((bytes : List ℕ) → rest ≡ Some bytes → AllByRecursion IsByte bytes) → (rest >>= one_more c) ≡ Some bytes → AllByRecursion IsByte bytes
+more_bytes : (c : ℕ) (rest : Option (List ℕ)) (bytes : List ℕ) → c < 256 → ((bytes : List ℕ) → rest ≡ Some bytes → AllByRecursion IsByte bytes)
+    → (rest >>= one_more c) ≡ Some bytes → AllByRecursion IsByte bytes
 more_bytes c rest bytes h more e =
     let b = bound rest (one_more c) bytes e in
     subst (AllByRecursion IsByte) (some_is (c ∷ b.value) bytes b.next) (h, more b.value b.first)
@@ -62,8 +64,10 @@ unescaped_bytes (c ∷ []) bytes e = by (is_plain c) refl e
 unescaped_bytes (c ∷ d ∷ []) bytes e = plain_bytes c (unescaped (d ∷ [])) bytes (λ cs f. unescaped_bytes (d ∷ []) cs f) e
 unescaped_bytes (c ∷ d ∷ x ∷ rest) bytes e = by (nat_eq c 92) (λ cs f. unescaped_bytes rest cs f) (λ cs f. unescaped_bytes (d ∷ x ∷ rest) cs f) e
   where
-    by : (b : Bool) → ((cs : List ℕ) → unescaped rest ≡ Some cs → AllByRecursion IsByte cs) → ((cs : List ℕ) → unescaped (d ∷ x ∷ rest) ≡ Some cs → AllByRecursion IsByte cs)
-        → (if b then (lower_hex d >>= λ high. lower_hex x >>= λ low. unescaped rest >>= one_more (16 * high + low)) else if is_plain c then (unescaped (d ∷ x ∷ rest) >>= one_more c) else None) ≡ Some bytes
+    by : (b : Bool) → ((cs : List ℕ) → unescaped rest ≡ Some cs → AllByRecursion IsByte cs)
+        → ((cs : List ℕ) → unescaped (d ∷ x ∷ rest) ≡ Some cs → AllByRecursion IsByte cs)
+        → (if b then (lower_hex d >>= λ high. lower_hex x >>= λ low. unescaped rest >>= one_more (16 * high + low)) else if is_plain c then
+        (unescaped (d ∷ x ∷ rest) >>= one_more c) else None) ≡ Some bytes
         → AllByRecursion IsByte bytes
     by true first second e = escaped_bytes d x (unescaped rest) bytes first e
     by false first second e = plain_bytes c (unescaped (d ∷ x ∷ rest)) bytes second e

@@ -1,7 +1,8 @@
 -- The numbers of the faults, and the lines or segments that they name.
 use Rattle.std.specs.Prelude.{ℕ, Option, Some, None}
 use Rattle.pm_source.specs.declared.fault.AsmFault.{AsmFault}
-use Rattle.pm_source.specs.declared.fault.AsmFault.TheVariants.{Syntax, Unknown, Range, NoLabel, Twice, Far, TooLong, NoMemory}
+use Rattle.pm_source.specs.declared.fault.AsmFault.TheVariants.{Syntax, Unknown, Range, NoLabel}
+use Rattle.pm_source.specs.declared.fault.AsmFault.TheVariants.{Twice, Far, TooLong, NoMemory}
 
 abbrev pub number_of : AsmFault → ℕ
 number_of (Syntax line) = 1

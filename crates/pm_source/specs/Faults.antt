@@ -1,5 +1,6 @@
 -- What is wrong in a text, in the order of its lines; and what its lines say.
-use Rattle.std.specs.Prelude.{ℕ, ◌+◌, ◌*◌, ◌%◌, Bool, true, false, not, List, [], ◌∷◌, ◌++◌, length, nat_lt, ◌==◌, ◌||◌, ◌&&◌, if◌then◌else◌, Option, Some, None, is_none, is_some}
+use Rattle.std.specs.Prelude.{ℕ, ◌+◌, ◌*◌, ◌%◌, Bool, true, false, not, List, [], ◌∷◌, ◌++◌, length, nat_lt}
+use Rattle.std.specs.Prelude.{◌==◌, ◌||◌, ◌&&◌, if◌then◌else◌, Option, Some, None, is_none, is_some}
 use Rattle.std.specs.List.{list_any}
 use Rattle.std.specs.Str.Lines.{lines}
 use Rattle.pm_disasm.specs.Item.{Item, Target, size, table_place}
@@ -9,7 +10,8 @@ use Rattle.pm_disasm.specs.Program.{end_of}
 use Rattle.pm_source.specs.declared.fault.AsmFault.{AsmFault}
 use Rattle.pm_source.specs.declared.fault.AsmFault.TheVariants.{Syntax, Unknown, Range, NoLabel, Twice, Far}
 use Rattle.pm_source.specs.Words.{is_empty}
-use Rattle.pm_source.specs.Source.{Name, Row, Statement, Source, SourceSegment, code_end, entries_used, has_exit, has_label, has_label_in, row_items}
+use Rattle.pm_source.specs.Source.{Name, Row, Statement, Source, SourceSegment, code_end}
+use Rattle.pm_source.specs.Source.{entries_used, has_exit, has_label, has_label_in, row_items}
 use Rattle.pm_source.specs.Source.Row.{Items, Exit}
 use Rattle.pm_source.specs.Source.Statement.{Segment, Begin, Code, Entry, End}
 use Rattle.pm_source.specs.Line.{Flaw, Line, line_of}
@@ -54,7 +56,8 @@ abbrev pub new_segment : ℕ → Name → SourceSegment
 new_segment number name = record { number = number; name = name; procedures = [] }
 
 abbrev pub new_procedure : ℕ → ℕ → ℕ → Source
-new_procedure level parameters locals = record { level = level; parameters = parameters; locals = locals; code = []; entries = [] }
+new_procedure level parameters locals =
+    record { level = level; parameters = parameters; locals = locals; code = []; entries = [] }
 
 -- what has been said after one statement more
 abbrev pub after : Reading → Statement → Reading
@@ -68,8 +71,8 @@ abbrev pub if_open : (Source → Bool) → Option Source → Bool
 if_open f None = false
 if_open f (Some p) = f p
 
--- Whether a statement may stand there: a segment outside a procedure, a procedure in a segment and outside another, code in a procedure
--- without an entry so far, an entry in a procedure, and the end of a procedure after its exit code.
+-- Whether a statement may stand there: a segment outside a procedure, a procedure in a segment and outside another,
+-- code in a procedure without an entry so far, an entry in a procedure, and the end of a procedure after its exit code.
 abbrev pub is_in_place : Reading → Statement → Bool
 is_in_place r (Segment number name) = is_none r.current
 is_in_place r (Begin number level parameters locals) = is_none r.current && not (is_empty r.segments)
@@ -88,9 +91,11 @@ is_again r _ = false
 abbrev pub is_uneven : Source → Bool
 is_uneven p = not (code_end 0 p.code % 2 == 0) || not (length p.entries == entries_used p.code)
 
--- A procedure's number that is not the next one, outside a procedure; or at its end an odd length or a wrong count of entries.
+-- A procedure's number that is not the next one, outside a procedure; or at its end an odd length or a wrong count of
+-- entries.
 abbrev pub is_miscounted : Reading → Statement → Bool
-is_miscounted r (Begin number level parameters locals) = is_none r.current && not (number == procedure_count r.segments + 1)
+is_miscounted r (Begin number level parameters locals) =
+    is_none r.current && not (number == procedure_count r.segments + 1)
 is_miscounted r End = if_open is_uneven r.current
 is_miscounted r _ = false
 
@@ -119,9 +124,9 @@ abbrev pub is_out_of_range : Flaw → Bool
 is_out_of_range OutOfRange = true
 is_out_of_range _ = false
 
--- What is wrong in a line, given what the lines before it said and the lines after it: it is ill-formed or out of place, or begins a
--- procedure that no later line ends; its mnemonic, directive or type word is unknown; it says a slot, a label or the exit code again; a
--- number is wrong.
+-- What is wrong in a line, given what the lines before it said and the lines after it: it is ill-formed or out of
+-- place, or begins a procedure that no later line ends; its mnemonic, directive or type word is unknown; it says a
+-- slot, a label or the exit code again; a number is wrong.
 abbrev pub line_faults : ℕ → Reading → Line → List Line → List AsmFault
 line_faults n r Blank rest = []
 line_faults n r (Wrong end) rest = Syntax n ∷ []
@@ -198,16 +203,19 @@ item_faults places line at _ = []
 
 abbrev pub items_faults : Places → ℕ → ℕ → List (Item Name) → List AsmFault
 items_faults places line at [] = []
-items_faults places line at (item ∷ items) = item_faults places line at item ++ items_faults places line (at + size at item) items
+items_faults places line at (item ∷ items) =
+    item_faults places line at item ++ items_faults places line (at + size at item) items
 
 abbrev pub code_faults : Places → ℕ → List Row → List AsmFault
 code_faults places at [] = []
 code_faults places at (Exit ∷ rows) = code_faults places at rows
-code_faults places at (Items line label items ∷ rows) = items_faults places line at items ++ code_faults places (end_of at items) rows
+code_faults places at (Items line label items ∷ rows) =
+    items_faults places line at items ++ code_faults places (end_of at items) rows
 
 abbrev pub entries_faults : Places → List (ℕ × Name) → List AsmFault
 entries_faults places [] = []
-entries_faults places (entry ∷ entries) = only_if (is_unknown_label places entry.1) (NoLabel entry.0) ++ entries_faults places entries
+entries_faults places (entry ∷ entries) =
+    only_if (is_unknown_label places entry.1) (NoLabel entry.0) ++ entries_faults places entries
 
 -- The faults of a procedure's labels, its code beginning at an offset.
 abbrev pub label_faults : ℕ → Source → List AsmFault

@@ -1,8 +1,10 @@
 -- The code file and the listing of a program.
-use Rattle.std.specs.Prelude.{◌≡◌, ℕ, zero, suc, ◌+◌, ◌-◌, ◌/◌, ◌%◌, List, [], ◌∷◌, ◌++◌, length, map, reverse, replicate, nat_lt, if◌then◌else◌, codes, Option, Some, None}
+use Rattle.std.specs.Prelude.{◌≡◌, ℕ, zero, suc, ◌+◌, ◌-◌, ◌/◌, ◌%◌, List, [], ◌∷◌, ◌++◌, length, map}
+use Rattle.std.specs.Prelude.{reverse, replicate, nat_lt, if◌then◌else◌, codes, Option, Some, None}
 use Rattle.pm_codefile.specs.Layout.{layout}
 use Rattle.pm_disasm.specs.Item.{Item, item_bytes, size}
-use Rattle.pm_disasm.specs.Program.{Procedure, Segment, FollowFrom, attribute_bytes, code_end, dictionary_bytes, entry_bytes, jtab_of, procedures_end, segment_bytes}
+use Rattle.pm_disasm.specs.Program.{Procedure, Segment, FollowFrom, attribute_bytes, code_end, dictionary_bytes}
+use Rattle.pm_disasm.specs.Program.{entry_bytes, jtab_of, procedures_end, segment_bytes}
 use Rattle.pm_disasm.specs.Laws.{segment_numbered}
 use Rattle.pm_disasm.specs.Shown.{entry_line, padded, shown_item}
 
@@ -40,21 +42,25 @@ pub record Listed : Type 0 where
 abbrev pub listed_items : ℕ → ℕ → List (Item ℕ) → List Listed
 listed_items number at [] = []
 listed_items number at (item ∷ items) =
-    record { procedure = number; at = at; bytes = item_bytes at item; what = shown_item item } ∷ listed_items number (at + size at item) items
+    record { procedure = number; at = at; bytes = item_bytes at item; what = shown_item item }
+    ∷ listed_items number (at + size at item) items
 
 -- a jump table from its lowest word upward, so its last entry comes first
 abbrev pub listed_entries : ℕ → ℕ → List ℕ → List Listed
 listed_entries number at [] = []
 listed_entries number at (place ∷ places) =
-    record { procedure = number; at = at; bytes = entry_bytes at (place ∷ []); what = entry_line place } ∷ listed_entries number (at + 2) places
+    record { procedure = number; at = at; bytes = entry_bytes at (place ∷ []); what = entry_line place }
+    ∷ listed_entries number (at + 2) places
 
 abbrev pub listed_attributes : ℕ → Procedure → Listed
-listed_attributes number p = record { procedure = number; at = jtab_of p - 8; bytes = attribute_bytes number p; what = codes ".ATTR" }
+listed_attributes number p =
+    record { procedure = number; at = jtab_of p - 8; bytes = attribute_bytes number p; what = codes ".ATTR" }
 
 -- a procedure: its items, its jump table and its attributes, and what follows
 abbrev pub listed_procedure : ℕ → Procedure → List Listed → List Listed
 listed_procedure number p rest =
-    listed_items number p.start p.items ++ (listed_entries number (code_end p) (reverse p.entries) ++ listed_attributes number p ∷ rest)
+    listed_items number p.start p.items ++ (listed_entries number (code_end p) (reverse p.entries)
+    ++ listed_attributes number p ∷ rest)
 
 abbrev pub listed_procedures : ℕ → List Procedure → List Listed → List Listed
 listed_procedures number [] rest = rest
@@ -64,7 +70,13 @@ listed_procedures number (p ∷ ps) rest = listed_procedure number p (listed_pro
 abbrev pub listed_dictionary : Segment → Listed
 listed_dictionary s =
     let at = procedures_end 0 s.procedures in
-    record { procedure = 0; at = at; bytes = dictionary_bytes at (reverse s.procedures) ++ s.number ∷ length s.procedures ∷ []; what = codes ".DICT" }
+    record {
+      procedure = 0;
+      at = at;
+      bytes = dictionary_bytes at (reverse s.procedures)
+          ++ s.number ∷ length s.procedures ∷ [];
+      what = codes ".DICT";
+    }
 
 -- The lines of a segment, in the order of their offsets.
 abbrev pub listed_segment : Segment → List Listed
@@ -78,16 +90,19 @@ abbrev pub pairs_text : List ℕ → List ℕ
 pairs_text [] = []
 pairs_text (b ∷ bs) = 32 ∷ upper_digit (b / 16) ∷ upper_digit (b % 16) ∷ pairs_text bs
 
--- A line: the segment in two digits, the procedure in three, the offset in five, the bytes, and what they are behind two spaces.
+-- A line: the segment in two digits, the procedure in three, the offset in five, the bytes, and what they are behind
+-- two spaces.
 abbrev pub listed_line : ℕ → Listed → List ℕ
 listed_line number l =
-    padded 2 number ++ (32 ∷ padded 3 l.procedure ++ (32 ∷ padded 5 l.at ++ (pairs_text l.bytes ++ (32 ∷ 32 ∷ l.what ++ (10 ∷ [])))))
+    padded 2 number ++ (32 ∷ padded 3 l.procedure ++
+    (32 ∷ padded 5 l.at ++ (pairs_text l.bytes ++ (32 ∷ 32 ∷ l.what ++ (10 ∷ [])))))
 
 abbrev pub listed_lines : ℕ → List Listed → List ℕ
 listed_lines number [] = []
 listed_lines number (l ∷ ls) = listed_line number l ++ listed_lines number ls
 
--- The listing of a program: for each segment, ascending, a line for each item, each jump entry, the attributes, and the dictionary.
+-- The listing of a program: for each segment, ascending, a line for each item, each jump entry, the attributes, and the
+-- dictionary.
 unfoldable pub listing : List Segment → List ℕ
 listing [] = []
 listing (s ∷ ss) = listed_lines s.number (listed_segment s) ++ listing ss

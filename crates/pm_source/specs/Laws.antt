@@ -12,11 +12,14 @@ use Rattle.pm_source.specs.Meaning.{AreSaid, MeansProcedure, Spells, found_proce
 
 -- Where no line has a fault, the lines say segments with labels that are sound, and these are the text's.
 abbrev pub FaultlessIsSaid : Type 0
-FaultlessIsSaid = (text : List ℕ) → faults_of_lines text ≡ [] → AreSaid (lines_of text) (statements (source_of text)) × AreSources (source_of text)
+FaultlessIsSaid =
+    (text : List ℕ) → faults_of_lines text ≡ [] → AreSaid (lines_of text) (statements (source_of text))
+    × AreSources (source_of text)
 
 -- Where lines say sound segments with labels, no line has a fault, and they say no others.
 abbrev pub SaidIsFaultless : Type 0
-SaidIsFaultless = (text : List ℕ) (source : List SourceSegment) → AreSaid (lines_of text) (statements source) → AreSources source
+SaidIsFaultless =
+    (text : List ℕ) (source : List SourceSegment) → AreSaid (lines_of text) (statements source) → AreSources source
     → (faults_of_lines text ≡ []) × (source_of text ≡ source)
 
 -- The labels of a procedure have no fault exactly where it means a procedure of a program, and it means no other.
@@ -24,7 +27,8 @@ abbrev pub LabelsFound : Type 0
 LabelsFound = (at : ℕ) (p : Source) → label_faults at p ≡ [] → MeansProcedure p (found_procedure at p)
 
 abbrev pub FoundIsFaultless : Type 0
-FoundIsFaultless = (p : Source) (q : Procedure) → MeansProcedure p q → (label_faults q.start p ≡ []) × (found_procedure q.start p ≡ q)
+FoundIsFaultless =
+    (p : Source) (q : Procedure) → MeansProcedure p q → (label_faults q.start p ≡ []) × (found_procedure q.start p ≡ q)
 
 -- A text without faults spells its program.
 abbrev pub FaultlessIsSpelled : Type 0
@@ -50,8 +54,8 @@ FileHoldsProgram = (ss : List Segment) → IsProgram ss → FitSlots ss → Hold
 abbrev pub FileIsAccepted : Type 0
 FileIsAccepted = (ss : List Segment) → IsProgram ss → FitSlots ss → file_fault (file_of ss) ≡ None
 
--- The text of a program's code file spells a program of the same code file: of the same segments in their bytes, and the same program
--- where no item is a byte that is no instruction.
+-- The text of a program's code file spells a program of the same code file: of the same segments in their bytes, and
+-- the same program where no item is a byte that is no instruction.
 pub record IsShownAgain (ss ts : List Segment) : Type 0 where
   pub spelled : Spells (file_text (file_of ss)) ts
   pub segments : AllZip IsSameSegment ss ts

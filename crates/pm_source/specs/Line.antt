@@ -1,5 +1,7 @@
 -- One line of a text: what it says.
-use Rattle.std.specs.Prelude.{ℕ, zero, suc, ◌+◌, ◌-◌, ◌*◌, ◌%◌, Bool, true, false, not, List, [], ◌∷◌, ◌++◌, length, map, take, reverse, nat_le, ◌==◌, ◌||◌, ◌&&◌, if◌then◌else◌, Option, Some, None, codes, slice_index}
+use Rattle.std.specs.Prelude.{ℕ, zero, suc, ◌+◌, ◌-◌, ◌*◌, ◌%◌, Bool, true, false, not, List}
+use Rattle.std.specs.Prelude.{[], ◌∷◌, ◌++◌, length, map, take, reverse, nat_le, ◌==◌, ◌||◌}
+use Rattle.std.specs.Prelude.{◌&&◌, if◌then◌else◌, Option, Some, None, codes, slice_index}
 use Rattle.std.specs.Map.{lookup}
 use Rattle.std.specs.List.{list_all, onto_first}
 use Rattle.std.specs.Str.{bytes_eq}
@@ -8,7 +10,7 @@ use Rattle.pm_opcode.specs.declared.operand_form.Form.{Form}
 use Rattle.pm_opcode.specs.declared.operand_form.Form.TheVariants as forms
 use Rattle.pm_opcode.specs.declared.instr.Instr.{Instr}
 use Rattle.pm_opcode.specs.Table.{form_of, mnemonic_of}
-use Rattle.pm_opcode.specs.Spelling.{word, jump_count}
+use Rattle.pm_opcode.specs.Spelling.{spelled_word, jump_count}
 use Rattle.pm_disasm.specs.Item.{Item, Target}
 use Rattle.pm_disasm.specs.Item.Item.{Plain, Jump, Case, OneByte}
 use Rattle.pm_disasm.specs.Item.Target.{To, Through}
@@ -42,12 +44,15 @@ is_character c = (c == 9) || (nat_le 32 c && nat_le c 126)
 -- up to the `;` outside quotes
 abbrev pub uncommented : Bool → List ℕ → List ℕ
 uncommented quoted [] = []
-uncommented quoted (c ∷ cs) = if (c == 59) && not quoted then [] else c ∷ uncommented (if c == 34 then not quoted else quoted) cs
+uncommented quoted (c ∷ cs) =
+    if (c == 59) && not quoted then [] else c ∷ uncommented (if c == 34 then not quoted else quoted) cs
 
 -- the pieces between the commas outside quotes
 abbrev pub pieces : Bool → List ℕ → List (List ℕ)
 pieces quoted [] = [] ∷ []
-pieces quoted (c ∷ cs) = if (c == 44) && not quoted then [] ∷ pieces quoted cs else onto_first c (pieces (if c == 34 then not quoted else quoted) cs)
+pieces quoted (c ∷ cs) =
+    if (c == 44) && not quoted then [] ∷ pieces quoted cs else onto_first c
+    (pieces (if c == 34 then not quoted else quoted) cs)
 
 -- the operands behind a mnemonic; none behind which nothing but blanks stands
 abbrev pub operands : List ℕ → List (List ℕ)
@@ -90,7 +95,8 @@ jump_operand (c ∷ cs) = if c == 94 then (numeral_operand 0 59 256 cs >>= λ k.
     else label_operand (c ∷ cs) >>= λ label. Some (To label.0, label.1)
 
 abbrev pub lower_hex : ℕ → Option ℕ
-lower_hex c = if nat_le 48 c && nat_le c 57 then Some (c - 48) else if nat_le 97 c && nat_le c 102 then Some (c - 87) else None
+lower_hex c =
+    if nat_le 48 c && nat_le c 57 then Some (c - 48) else if nat_le 97 c && nat_le c 102 then Some (c - 87) else None
 
 -- 32 to 126 but the quote and the backslash
 abbrev pub is_plain : ℕ → Bool
@@ -163,7 +169,8 @@ one_number operand op (text ∷ []) = operand text >>= λ a. Some (plain (record
 one_number operand op _ = None
 
 abbrev pub one_long_number : ℕ → List (List ℕ) → Operand (Item Name)
-one_long_number op (text ∷ []) = number_operand text >>= λ a. Some (plain (record (bare op) { a = a.0.0; long = a.0.1 }), a.1)
+one_long_number op (text ∷ []) =
+    number_operand text >>= λ a. Some (plain (record (bare op) { a = a.0.0; long = a.0.1 }), a.1)
 one_long_number op _ = None
 
 abbrev pub two_bytes : ℕ → List (List ℕ) → Operand (Item Name)
@@ -185,7 +192,8 @@ few xs = nat_le (length xs) 255
 
 -- an instruction with a text; one that is too long is left out
 abbrev pub text_item : ℕ → List ℕ → Item Name
-text_item op text = if few text then Plain (record (bare op) { a = length text; count = length text }) text else plain (bare op)
+text_item op text =
+    if few text then Plain (record (bare op) { a = length text; count = length text }) text else plain (bare op)
 
 abbrev pub one_text : ℕ → List (List ℕ) → Operand (Item Name)
 one_text op (text ∷ []) = text_operand text >>= λ t. Some (text_item op t, few t)
@@ -193,11 +201,13 @@ one_text op _ = None
 
 abbrev pub flat_words : List ℕ → List ℕ
 flat_words [] = []
-flat_words (w ∷ ws) = word w ++ flat_words ws
+flat_words (w ∷ ws) = spelled_word w ++ flat_words ws
 
 -- an instruction with words; where they are too many they are left out
 abbrev pub words_item : ℕ → List ℕ → Item Name
-words_item op ws = if few ws then Plain (record (bare op) { a = length ws; count = 2 * length ws }) (flat_words ws) else plain (bare op)
+words_item op ws =
+    if few ws then Plain (record (bare op) { a = length ws; count = 2 * length ws }) (flat_words ws) else plain
+    (bare op)
 
 abbrev pub many_words : ℕ → List (List ℕ) → Operand (Item Name)
 many_words op texts = all_operands word_operand texts >>= λ ws. Some (words_item op ws.0, ws.1 && few ws.0)
@@ -213,7 +223,11 @@ case_jump (text ∷ other ∷ target ∷ labels) = do
   high ← bound_operand other
   otherwise ← jump_operand target
   places ← all_operands label_operand labels
-  Some (Case low.0 high.0 otherwise.0 places.0, low.1 && high.1 && otherwise.1 && (length places.0 == jump_count low.0 high.0))
+  Some (
+    Case low.0 high.0 otherwise.0 places.0,
+    low.1 && high.1 && otherwise.1
+        && (length places.0 == jump_count low.0 high.0),
+  )
 case_jump _ = None
 
 -- An instruction by the form of its operands, but for comparisons.
@@ -249,7 +263,8 @@ checked None = None
 checked (Some x) = Some (x.0, if x.1 then NoFlaw else OutOfRange)
 
 abbrev pub sized_comparison : ℕ → List (List ℕ) → Option ℕ → Said (Item Name)
-sized_comparison op (n ∷ []) (Some type) = checked (number_operand n >>= λ b. Some (plain (record (bare op) { a = type; b = b.0.0; long = b.0.1 }), b.1))
+sized_comparison op (n ∷ []) (Some type) =
+    checked (number_operand n >>= λ b. Some (plain (record (bare op) { a = type; b = b.0.0; long = b.0.1 }), b.1))
 sized_comparison op others (Some type) = None
 sized_comparison op others None = Some (plain (bare op), UnknownType)
 
@@ -317,7 +332,8 @@ slot_operand text = number text >>= λ n. Some (segment_number n, within 0 15 n)
 
 -- a number and a name
 abbrev pub segment_operands : List (List ℕ) → Operand Statement
-segment_operands (n ∷ name ∷ []) = if is_segment_name name then (slot_operand n >>= λ n. Some (Segment n.0 name, n.1)) else None
+segment_operands (n ∷ name ∷ []) =
+    if is_segment_name name then (slot_operand n >>= λ n. Some (Segment n.0 name, n.1)) else None
 segment_operands _ = None
 
 abbrev pub is_even : ℕ → Bool

@@ -1,12 +1,14 @@
 -- The program that a text spells.
-use Rattle.std.specs.Prelude.{◌≡◌, ℕ, zero, suc, ◌+◌, ◌≤◌, List, [], ◌∷◌, ◌++◌, map, ◌==◌, if◌then◌else◌, Option, Some, None}
+use Rattle.std.specs.Prelude.{◌≡◌, ℕ, zero, suc, ◌+◌, ◌≤◌, List, [], ◌∷◌, ◌++◌}
+use Rattle.std.specs.Prelude.{map, ◌==◌, if◌then◌else◌, Option, Some, None}
 use Rattle.std.specs.List.{AllZip}
 use Rattle.std.specs.Option.{option_to_list, unwrap_or}
 use Rattle.pm_disasm.specs.Item.{Item, Target, size, table_place}
 use Rattle.pm_disasm.specs.Item.Item.{Plain, Jump, Case, OneByte}
 use Rattle.pm_disasm.specs.Item.Target.{To, Through}
 use Rattle.pm_disasm.specs.Program as program
-use Rattle.pm_source.specs.Source.{Name, Row, Statement, Source, SourceSegment, statements, items_of, is_exit, row_items, AreSources}
+use Rattle.pm_source.specs.Source.{Name, Row, Statement, Source, SourceSegment, statements}
+use Rattle.pm_source.specs.Source.{items_of, is_exit, row_items, AreSources}
 use Rattle.pm_source.specs.Line.{Line}
 use Rattle.pm_source.specs.Line.Flaw.{NoFlaw}
 use Rattle.pm_source.specs.Line.Line.{Blank, Says}
@@ -28,7 +30,8 @@ Means places (Plain i named) (Plain j bytes) = (i ≡ j) × (named ≡ bytes)
 Means places (OneByte b) (OneByte c) = b ≡ c
 Means places (Jump op target) (Jump code found) = (op ≡ code) × LeadsTo places target found
 Means places (Case low high otherwise labels) (Case least greatest found places_found) =
-    (low ≡ least) × ((high ≡ greatest) × (LeadsTo places otherwise found × AllZip (λ label place. places label ≡ Some place) labels places_found))
+    (low ≡ least) × ((high ≡ greatest) × (LeadsTo places otherwise found
+    × AllZip (λ label place. places label ≡ Some place) labels places_found))
 Means places _ _ = ⊥
 
 -- A short jump reaches 127 bytes forward.
@@ -103,7 +106,8 @@ found_label places name = unwrap_or (places name) 0
 abbrev pub found_item : Places → Item Name → Item ℕ
 found_item places (Plain i named) = Plain i named
 found_item places (Jump op target) = Jump op (found_target places target)
-found_item places (Case low high otherwise labels) = Case low high (found_target places otherwise) (map (found_label places) labels)
+found_item places (Case low high otherwise labels) =
+    Case low high (found_target places otherwise) (map (found_label places) labels)
 found_item places (OneByte b) = OneByte b
 
 abbrev pub found_procedure : ℕ → Source → program.Procedure

@@ -1,5 +1,6 @@
 -- What says nothing in a line, and the order of faults.
-use Rattle.std.specs.Prelude.{◌≡◌, ◌≤◌, ◌⊎◌, ℕ, Bool, false, not, true, List, [], ◌∷◌, ◌++◌, ◌==◌, if◌then◌else◌, is_some, Some}
+use Rattle.std.specs.Prelude.{◌≡◌, ◌≤◌, ◌⊎◌, ℕ, Bool, false, not, true, List}
+use Rattle.std.specs.Prelude.{[], ◌∷◌, ◌++◌, ◌==◌, if◌then◌else◌, is_some, Some}
 use Rattle.std.specs.Char.{is_ascii_digit}
 use Rattle.std.specs.Fmt.{decimal}
 use Rattle.std.specs.List.{AllZip, list_all}
@@ -7,7 +8,8 @@ use Rattle.std.specs.Str.Parse.{digits_value}
 use Rattle.pm_source.specs.declared.fault.AsmFault.{AsmFault}
 use Rattle.pm_source.specs.FaultNumbers.{place_of}
 use Rattle.pm_source.specs.Faults.{faults_of_lines}
-use Rattle.pm_source.specs.Line.{Keyword, comparison, is_character, items_said, jump_operand, line_of, number_operand, operands, procedure_operands, said, segment_operands}
+use Rattle.pm_source.specs.Line.{Keyword, comparison, is_character, items_said, jump_operand, line_of}
+use Rattle.pm_source.specs.Line.{number_operand, operands, procedure_operands, said, segment_operands}
 use Rattle.pm_source.specs.Words.{decimal_number, hexadecimal_number, is_blank, number, words}
 
 -- whether quotes are open behind characters
@@ -63,9 +65,9 @@ BaseSaysNothing = (digits : List ℕ) → is_some (hexadecimal_number digits) �
 abbrev pub IsOneOperand : List ℕ → List ℕ → Type 0
 IsOneOperand t u = (t ≡ u) ⊎ ((is_some (number t) ≡ true) × (number t ≡ number u))
 
--- Instructions and bytes say the same with the same operands, but for how a number is written; and so does the head of a
--- procedure, and that of a segment with the same name. A number with its mark, an entry of the jump table and the size
--- behind a type are read by the value of their number.
+-- Instructions and bytes say the same with the same operands, but for how a number is written; and so does the head of
+-- a procedure, and that of a segment with the same name. A number with its mark, an entry of the jump table and the
+-- size behind a type are read by the value of their number.
 pub record NumbersSayValues : Type 0 where
   pub items : (keyword : Keyword) (rest other : List ℕ) → AllZip IsOneOperand (operands rest) (operands other)
       → items_said keyword rest ≡ items_said keyword other

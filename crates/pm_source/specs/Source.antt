@@ -1,5 +1,6 @@
 -- Programs with their labels, as a text writes them, and the statements that their lines say.
-use Rattle.std.specs.Prelude.{◌≡◌, ℕ, ◌+◌, ◌%◌, Bool, true, false, List, [], ◌∷◌, ◌++◌, length, map, if◌then◌else◌, Option, Some, nat_eq}
+use Rattle.std.specs.Prelude.{◌≡◌, ℕ, ◌+◌, ◌%◌, Bool, true, false, List, [], ◌∷◌}
+use Rattle.std.specs.Prelude.{◌++◌, length, map, if◌then◌else◌, Option, Some, nat_eq}
 use Rattle.std.specs.List.{AllByRecursion, list_any, IsDistinct}
 use Rattle.std.specs.Option.{option_to_list}
 use Rattle.std.specs.Str.{bytes_eq}
@@ -88,8 +89,8 @@ code_end at (row ∷ rows) = code_end (end_of at (row_items row)) rows
 abbrev pub entries_used : List Row → ℕ
 entries_used rows = entries_needed (items_of rows)
 
--- What a procedure must be before its labels are looked up: each label once, the exit code once, an even length, and the entries that
--- its jumps take.
+-- What a procedure must be before its labels are looked up: each label once, the exit code once, an even length, and
+-- the entries that its jumps take.
 pub record IsSource (p : Source) : Type 0 where
   pub labels : IsDistinct bytes_eq (labels_of p.code)
   pub exit : exits_of p.code ≡ 1
@@ -98,7 +99,8 @@ pub record IsSource (p : Source) : Type 0 where
 
 -- The segments' numbers differ.
 abbrev pub AreSources : List SourceSegment → Type 0
-AreSources ss = IsDistinct nat_eq (map (λ s. s.number) ss) × AllByRecursion (λ s. AllByRecursion IsSource s.procedures) ss
+AreSources ss =
+    IsDistinct nat_eq (map (λ s. s.number) ss) × AllByRecursion (λ s. AllByRecursion IsSource s.procedures) ss
 
 abbrev pub has_label : Name → Row → Bool
 has_label name (Items line (Some label) items) = bytes_eq label name

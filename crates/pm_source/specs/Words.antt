@@ -1,5 +1,6 @@
 -- Words, names and numbers of a text.
-use Rattle.std.specs.Prelude.{ℕ, ◌-◌, ◌%◌, Bool, true, false, not, List, [], ◌∷◌, length, reverse, nat_lt, nat_le, min, ◌==◌, ◌||◌, ◌&&◌, if◌then◌else◌, Option, Some, None}
+use Rattle.std.specs.Prelude.{ℕ, ◌-◌, ◌%◌, Bool, true, false, not, List, [], ◌∷◌, length, reverse}
+use Rattle.std.specs.Prelude.{nat_lt, nat_le, min, ◌==◌, ◌||◌, ◌&&◌, if◌then◌else◌, Option, Some, None}
 use Rattle.std.specs.List.{list_all, onto_first}
 use Rattle.std.specs.Char.{is_ascii_digit, is_ascii_hexdigit, is_ascii_alphabetic, is_ascii_alphanumeric}
 use Rattle.std.specs.Str.Parse.{digits_value}
@@ -75,7 +76,8 @@ hexadecimal_number digits =
 -- decimal digits, with `-` before them or not, or `$` and hexadecimal digits
 abbrev pub number : List ℕ → Option Numeral
 number [] = None
-number (c ∷ cs) = if c == 45 then decimal_number true cs else if c == 36 then hexadecimal_number cs else decimal_number false (c ∷ cs)
+number (c ∷ cs) =
+    if c == 45 then decimal_number true cs else if c == 36 then hexadecimal_number cs else decimal_number false (c ∷ cs)
 
 -- whether a number lies from -below to above
 abbrev pub within : ℕ → ℕ → Numeral → Bool

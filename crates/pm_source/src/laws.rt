@@ -1,19 +1,24 @@
 //! Laws of the assembler's text, of what it spells and of its listing. The functions do nothing.
 ghost use Rattle.pm_source.specs.Denoted.{ListingDenotesSegments, ListingIsRead};
 ghost use Rattle.pm_source.specs.Image.{ListingIsPlaced, ListingIsSegment};
-ghost use Rattle.pm_source.specs.Same.{BaseSaysNothing, BlankSaysNothing, BlanksSayNothing, CommentSaysNothing, EndBlankSaysNothing, LineFaultsAscend, NumberWithoutZero, NumbersSayValues, ZeroSaysNothing};
-ghost use Rattle.pm_source.specs.Laws.{FaultlessIsSaid, FaultlessIsSpelled, FileHoldsProgram, FileIsAccepted, FoundIsFaultless, LabelsFound, SaidIsFaultless, SpelledIsFaultless, SpelledIsProgram};
+ghost use Rattle.pm_source.specs.Same.{BaseSaysNothing, BlankSaysNothing, BlanksSayNothing};
+ghost use Rattle.pm_source.specs.Same.{CommentSaysNothing, EndBlankSaysNothing, LineFaultsAscend};
+ghost use Rattle.pm_source.specs.Same.{NumberWithoutZero, NumbersSayValues, ZeroSaysNothing};
+ghost use Rattle.pm_source.specs.Laws.{FaultlessIsSaid, FaultlessIsSpelled, FileHoldsProgram, FileIsAccepted};
+ghost use Rattle.pm_source.specs.Laws.{FoundIsFaultless, LabelsFound, SaidIsFaultless, SpelledIsFaultless};
+ghost use Rattle.pm_source.specs.Laws.{SpelledIsProgram};
 
-/// The bytes of a segment's lines in a listing, joined, are the segment, and each line names the offset at which its bytes stand in it.
+/// The bytes of a segment's lines in a listing, joined, are the segment, and each line names the offset at which its
+/// bytes stand in it.
 #[tactic(auto, using(crate::proofs::Listed::listing_is_segment, crate::proofs::Listed::listing_is_placed))]
 pub fn listing_is_segment()
     ensures law { ListingIsSegment }
     ensures placed { ListingIsPlaced }
 {}
 
-/// The characters of a program's listing, read back, denote its lines: of each its segment, procedure, offset and bytes.
-/// The bytes that they denote for a segment are the segment, and each line names the offset at which its bytes stand in
-/// it.
+/// The characters of a program's listing, read back, denote its lines: of each its segment, procedure, offset and
+/// bytes. The bytes that they denote for a segment are the segment, and each line names the offset at which its bytes
+/// stand in it.
 pub fn listing_is_read()
     ensures law { ListingIsRead }
     ensures segments { ListingDenotesSegments }
@@ -55,8 +60,8 @@ pub fn spelled_is_program()
     ensures law { SpelledIsProgram }
 {}
 
-/// The code file of a program holds it, where no segment has more than 65,534 bytes: each slot has the bytes of the segment of its
-/// number, and its name with spaces at the end, or no segment.
+/// The code file of a program holds it, where no segment has more than 65,534 bytes: each slot has the bytes of the
+/// segment of its number, and its name with spaces at the end, or no segment.
 pub fn file_holds_program()
     ensures law { FileHoldsProgram }
     ensures accepted { FileIsAccepted }
@@ -80,7 +85,8 @@ pub fn blanks_say_nothing()
 {}
 
 /// How a number is written changes nothing of what a line says: neither zeros in front of its digits, nor whether they
-/// are hexadecimal. What stands behind a mnemonic, `.BYTE` or `.PROC` says the same with numbers of the same values, and
+/// are hexadecimal. What stands behind a mnemonic, `.BYTE` or `.PROC` says the same with numbers of the same values,
+/// and
 /// `.SEG` with the same name.
 pub fn numbers_say_values()
     ensures zeros { NumberWithoutZero }

@@ -103,12 +103,12 @@ abbrev pub lies_on : List ℕ → ℕ → ℕ → Bool
 lies_on image block n = nat_le (512 * block + n) (length image)
 
 -- these bytes
-abbrev pub part_of : List ℕ → ℕ → ℕ → List ℕ
-part_of image block n = slice_range image (512 * block) (512 * block + n)
+abbrev pub bytes_from_block : List ℕ → ℕ → ℕ → List ℕ
+bytes_from_block image block n = slice_range image (512 * block) (512 * block + n)
 
 abbrev pub code_in : Option (List ℕ) → ℕ → ℕ → Option (List ℕ)
 code_in None block n = None
-code_in (Some image) block n = if lies_on image block n then Some (part_of image block n) else None
+code_in (Some image) block n = if lies_on image block n then Some (bytes_from_block image block n) else None
 
 -- the n bytes of code from a block of a unit's disk on, as the disk is now; none without a disk or past its end
 unfoldable pub code_on : Devices → ℕ → ℕ → ℕ → Option (List ℕ)

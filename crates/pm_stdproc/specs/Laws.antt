@@ -2,7 +2,7 @@
 use Rattle.std.specs.Prelude.{◌≡◌, ◌⊎◌, ◌<◌, ◌≤◌, ℕ, ◌+◌, ◌-◌, ◌*◌, pos, negsuc, ◌-ℤ◌, Bool, true, false, List}
 use Rattle.pm_words.specs.Words.{IsMemory, byte_at, copied, moved_up, moved_down, scanned, stops}
 use Rattle.pm_volume.specs.Words as disk
-use Rattle.pm_stdproc.specs.Devices.{part_of}
+use Rattle.pm_stdproc.specs.Devices.{bytes_from_block}
 use Rattle.pm_stdproc.specs.Transfers.{can_move, named_bytes}
 use Rattle.pm_stdproc.specs.declared.transfers.Transfer.{Transfer}
 
@@ -70,4 +70,4 @@ ScansStopFirst =
 abbrev pub DisksKeep : Type 0
 DisksKeep =
     (m : List ℕ) (image : List ℕ) (t : Transfer) → IsMemory m → t.address + t.count ≤ 65536 → can_move image t ≡ true →
-    part_of (disk.written image (512 * t.block) (named_bytes m t)) t.block t.count ≡ named_bytes m t
+    bytes_from_block (disk.written image (512 * t.block) (named_bytes m t)) t.block t.count ≡ named_bytes m t

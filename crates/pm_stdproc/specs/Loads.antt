@@ -17,7 +17,7 @@ use Rattle.std.specs.Prelude.{
 use Rattle.std.specs.Borrow.{Bor}
 use Rattle.pm_words.specs.declared.error.ExecError.{ExecError}
 use Rattle.pm_words.specs.declared.error.ExecError.TheVariants.{SystemIo}
-use Rattle.pm_calls.specs.declared.frames.Place.{Place}
+use Rattle.pm_calls.specs.declared.frames.SegmentPlace.{SegmentPlace}
 use Rattle.pm_opcode.specs.declared.operation.Call.{Call}
 use Rattle.pm_opcode.specs.declared.operation.Call.TheVariants.{Clp, Cgp, Cbp, Cip, Cxp}
 use Rattle.pm_calls.specs.Places.{placed}
@@ -31,13 +31,13 @@ found_code (Some code) = Ok (Some code)
 
 -- The code of a slot, from the disk of its unit as that is now: none above 15 and at length 0, for which the call has
 -- its own error. Where no disk is there, or the bytes pass its end, that is an error.
-abbrev pub code_of : Option SlotRow → Devices → Result (Option (List ℕ)) ExecError
-code_of None d = Ok None
-code_of (Some row) d = if row.length == 0 then Ok None else found_code (code_on d row.unit row.block row.length)
+abbrev pub code_of_row : Option SlotRow → Devices → Result (Option (List ℕ)) ExecError
+code_of_row None d = Ok None
+code_of_row (Some row) d = if row.length == 0 then Ok None else found_code (code_on d row.unit row.block row.length)
 
 -- the code that a slot wants: that of its row, where it has no place
-abbrev pub slot_code : ℕ → List (Option Place) → List SlotRow → Devices → Result (Option (List ℕ)) ExecError
-slot_code n places rows d = if is_none (placed places n) then code_of (slice_get rows n) d else Ok None
+abbrev pub slot_code : ℕ → List (Option SegmentPlace) → List SlotRow → Devices → Result (Option (List ℕ)) ExecError
+slot_code n places rows d = if is_none (placed places n) then code_of_row (slice_get rows n) d else Ok None
 
 -- how many bytes the code of a slot has, 0 without a row
 abbrev pub length_of : Option SlotRow → ℕ
@@ -45,7 +45,8 @@ length_of None = 0
 length_of (Some row) = row.length
 
 -- the code that a call loads: that which the slot of a CXP wants; no other call loads
-unfoldable pub code_needed : Call → List (Option Place) → List SlotRow → Devices → Result (Option (List ℕ)) ExecError
+unfoldable pub code_needed : Call → List (Option SegmentPlace) → List SlotRow → Devices
+    → Result (Option (List ℕ)) ExecError
 code_needed (Cxp n p) places rows d = slot_code n places rows d
 code_needed (Clp p) places rows d = Ok None
 code_needed (Cgp p) places rows d = Ok None

@@ -87,8 +87,8 @@ moved move m from to count =
 
 -- MOVELEFT and MOVERIGHT. Source, destination, count: they move byte by byte, the one from the low end, the other from
 -- the high end.
-unfoldable pub move_row : (List ℕ → ℕ → ℕ → ℕ → List ℕ) → MemoryRow
-move_row move m r = do
+unfoldable pub move_bytes_row : (List ℕ → ℕ → ℕ → ℕ → List ℕ) → MemoryRow
+move_bytes_row move m r = do
   count ← pop m r.sp
   to ← pop_place m count.above
   from ← pop_place m to.above
@@ -161,8 +161,8 @@ push_row w m r = do
 unfoldable pub memory_row : OnMemory → MemoryRow
 memory_row CheckIo m r = check_io_row m r
 memory_row New m r = new_row m r
-memory_row MoveLeft m r = move_row moved_up m r
-memory_row MoveRight m r = move_row moved_down m r
+memory_row MoveLeft m r = move_bytes_row moved_up m r
+memory_row MoveRight m r = move_bytes_row moved_down m r
 memory_row Fill m r = fill_row m r
 memory_row Scan m r = scan_row m r
 memory_row Mark m r = mark_row m r

@@ -4,7 +4,7 @@ use Rattle.pm_words.specs.declared.error.ExecError.{ExecError}
 use Rattle.pm_words.specs.declared.error.ExecError.TheVariants as error
 use Rattle.pm_words.specs.Stack.{◌>>=◌, pop}
 use Rattle.pm_calls.specs.declared.registers.Registers.{Registers}
-use Rattle.pm_calls.specs.declared.frames.Place.{Place}
+use Rattle.pm_calls.specs.declared.frames.SegmentPlace.{SegmentPlace}
 use Rattle.pm_calls.specs.Places.{Parts}
 use Rattle.pm_calls.specs.Exits.{exited}
 use Rattle.pm_calls.specs.Keeps.{segment_kept, segment_unkept}
@@ -30,12 +30,12 @@ use Rattle.pm_stdproc.specs.declared.procedures.Procedure.TheVariants.{
 pub record Reach : Type 0 where
   pub memory : List ℕ
   pub registers : Registers
-  pub places : List (Option Place)
+  pub places : List (Option SegmentPlace)
   pub rows : List SlotRow
   pub devices : Devices
 
 -- a memory, registers, places, rows and devices as a standard procedure reaches them
-abbrev pub reach_of : List ℕ → Registers → List (Option Place) → List SlotRow → Devices → Reach
+abbrev pub reach_of : List ℕ → Registers → List (Option SegmentPlace) → List SlotRow → Devices → Reach
 reach_of memory registers places rows devices = record {
   memory = memory;
   registers = registers;
@@ -48,8 +48,8 @@ abbrev pub devices_reached : Reach → Devices
 devices_reached s = s.devices
 
 -- the procedure of a number; all other numbers are procedures that this machine does not have
-unfoldable pub procedure_of : ℕ → Procedure
-procedure_of n =
+unfoldable pub procedure_numbered : ℕ → Procedure
+procedure_numbered n =
     if n == 0 then OnMemory memory.CheckIo
     else (if n == 1 then OnMemory memory.New
     else (if n == 2 then OnMemory memory.MoveLeft
@@ -72,21 +72,21 @@ procedure_of n =
     else (if n == 40 then OnMemory memory.FreeMemory
     else Unimplemented)))))))))))))))))))
 
-abbrev pub parts : Reach → Registers → Parts
-parts s r = record { memory = s.memory; registers = r; places = s.places }
+abbrev pub reach_parts : Reach → Registers → Parts
+reach_parts s r = record { memory = s.memory; registers = r; places = s.places }
 
 -- EXIT. Segment, procedure: the two numbers of the procedure that is left
 unfoldable pub exit_row : Reach → Result Reach ExecError
 exit_row s = do
   procedure ← pop s.memory s.registers.sp
   segment ← pop s.memory procedure.above
-  left ← exited (parts s (record s.registers { sp = segment.above }))
+  left ← exited (reach_parts s (record s.registers { sp = segment.above }))
       (record { segment = segment.word; procedure = procedure.word })
   Ok (record s { memory = left.memory; registers = left.registers; places = left.places })
 
 -- what is new of the memory, the registers and the places
-abbrev pub with_parts : Reach → Parts → Reach
-with_parts s p = record s { memory = p.memory; registers = p.registers; places = p.places }
+abbrev pub with_reach_parts : Reach → Parts → Reach
+with_reach_parts s p = record s { memory = p.memory; registers = p.registers; places = p.places }
 
 -- Load a segment: the program keeps that of a slot once more. Segment: where it stands nowhere, it is loaded from the
 -- disk as that is now.
@@ -94,16 +94,16 @@ unfoldable pub keep_row : Reach → Result Reach ExecError
 keep_row s = do
   segment ← pop s.memory s.registers.sp
   code ← slot_code segment.word s.places s.rows s.devices
-  kept ← segment_kept (parts s (record s.registers { sp = segment.above })) segment.word code
-  Ok (with_parts s kept)
+  kept ← segment_kept (reach_parts s (record s.registers { sp = segment.above })) segment.word code
+  Ok (with_reach_parts s kept)
 
 -- Unload a segment: the program keeps that of a slot once less. Segment
 unfoldable pub unkeep_row : Reach → Result Reach ExecError
 unkeep_row s = do
   segment ← pop s.memory s.registers.sp
   let size = length_of (slice_get s.rows segment.word)
-  left ← segment_unkept (parts s (record s.registers { sp = segment.above })) segment.word size
-  Ok (with_parts s left)
+  left ← segment_unkept (reach_parts s (record s.registers { sp = segment.above })) segment.word size
+  Ok (with_reach_parts s left)
 
 abbrev pub on_memory : Reach → Result (List ℕ × Registers) ExecError → Result Reach ExecError
 on_memory s row = row >>= λ t. Ok (record s { memory = t.0; registers = t.1 })

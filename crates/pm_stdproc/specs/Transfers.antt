@@ -26,7 +26,7 @@ use Rattle.std.specs.Prelude.{
 use Rattle.pm_words.specs.Words.{with_bytes, bytes_at}
 use Rattle.pm_volume.specs.Words as disk
 use Rattle.pm_stdproc.specs.Traps.{Pause, Fails, Waits, Outgrows}
-use Rattle.pm_stdproc.specs.Devices.{Devices, Room, image_at, lies_on, part_of}
+use Rattle.pm_stdproc.specs.Devices.{Devices, Room, image_at, lies_on, bytes_from_block}
 use Rattle.pm_stdproc.specs.declared.ports.Port.{Port}
 use Rattle.pm_stdproc.specs.declared.ports.Port.TheVariants.{Console, Terminal, Absent, Printer, Disk, Unknown}
 use Rattle.pm_stdproc.specs.declared.transfers.Transfer.{Transfer}
@@ -66,17 +66,17 @@ abbrev pub from_disk : Option (List ℕ) → Transfer → List ℕ → Devices �
 from_disk None t m d = idle 9 m d
 from_disk (Some image) t m d =
     if can_move image t then
-    record { memory = with_bytes m t.address (part_of image t.block t.count); devices = d; ioresult = 0 }
+    record { memory = with_bytes m t.address (bytes_from_block image t.block t.count); devices = d; ioresult = 0 }
     else idle 1 m d
 
 -- bytes read from a unit; the console shows what it reads, the terminal does not
-unfoldable pub read : Port → Transfer → List ℕ → Devices → Result Moved Pause
-read Unknown t m d = Ok (idle 2 m d)
-read Absent t m d = Ok (idle 9 m d)
-read Printer t m d = Ok (idle 3 m d)
-read Console t m d = from_queue true t m d
-read Terminal t m d = from_queue false t m d
-read (Disk k) t m d = Ok (from_disk (image_at d k) t m d)
+unfoldable pub unit_read : Port → Transfer → List ℕ → Devices → Result Moved Pause
+unit_read Unknown t m d = Ok (idle 2 m d)
+unit_read Absent t m d = Ok (idle 9 m d)
+unit_read Printer t m d = Ok (idle 3 m d)
+unit_read Console t m d = from_queue true t m d
+unit_read Terminal t m d = from_queue false t m d
+unit_read (Disk k) t m d = Ok (from_disk (image_at d k) t m d)
 
 -- ---- writing
 
@@ -95,13 +95,13 @@ to_disk k (Some image) t m d =
     else idle 1 m d
 
 -- bytes written to a unit; the console and the terminal have one output
-unfoldable pub written : Port → Transfer → List ℕ → Devices → Moved
-written Unknown t m d = idle 2 m d
-written Absent t m d = idle 9 m d
-written Printer t m d = idle 0 m (record d { printer = d.printer ++ named_bytes m t })
-written Console t m d = idle 0 m (record d { console = d.console ++ named_bytes m t })
-written Terminal t m d = idle 0 m (record d { console = d.console ++ named_bytes m t })
-written (Disk k) t m d = to_disk k (image_at d k) t m d
+unfoldable pub unit_written : Port → Transfer → List ℕ → Devices → Moved
+unit_written Unknown t m d = idle 2 m d
+unit_written Absent t m d = idle 9 m d
+unit_written Printer t m d = idle 0 m (record d { printer = d.printer ++ named_bytes m t })
+unit_written Console t m d = idle 0 m (record d { console = d.console ++ named_bytes m t })
+unit_written Terminal t m d = idle 0 m (record d { console = d.console ++ named_bytes m t })
+unit_written (Disk k) t m d = to_disk k (image_at d k) t m d
 
 abbrev pub devices_after : Moved → Devices
 devices_after t = t.devices

@@ -8,7 +8,7 @@ use Rattle.pm_calls.specs.declared.registers.Registers.{Registers}
 use Rattle.pm_stdproc.specs.Traps.{Pause, or_fails}
 use Rattle.pm_stdproc.specs.Devices.{Devices, cleared, known, unit_of}
 use Rattle.pm_stdproc.specs.MemoryRows.{pop_place}
-use Rattle.pm_stdproc.specs.Transfers.{Moved, read, written}
+use Rattle.pm_stdproc.specs.Transfers.{Moved, unit_read, unit_written}
 use Rattle.pm_stdproc.specs.declared.procedures.OnUnits.{OnUnits}
 use Rattle.pm_stdproc.specs.declared.procedures.OnUnits.TheVariants.{Read, Write, Time, Busy, Wait, Clear}
 use Rattle.pm_stdproc.specs.declared.transfers.Order.{Order}
@@ -56,14 +56,14 @@ after_transfer s sp t = record s {
 unfoldable pub read_row : Served → Result Served Pause
 read_row s = do
   o ← or_fails (ordered s.memory s.registers.sp)
-  t ← read (unit_of o.unit) o.transfer s.memory s.devices
+  t ← unit_read (unit_of o.unit) o.transfer s.memory s.devices
   Ok (after_transfer s o.sp t)
 
 -- UNITWRITE
 unfoldable pub write_row : Served → Result Served Pause
 write_row s = do
   o ← or_fails (ordered s.memory s.registers.sp)
-  Ok (after_transfer s o.sp (written (unit_of o.unit) o.transfer s.memory s.devices))
+  Ok (after_transfer s o.sp (unit_written (unit_of o.unit) o.transfer s.memory s.devices))
 
 -- ---- the clock, and questions to a unit
 

@@ -11,7 +11,7 @@ ghost use Rattle.pm_stdproc.specs.MemoryRows.{
   is_positive,
   mark_row,
   memory_row,
-  move_row,
+  move_bytes_row,
   moved,
   new_row,
   passed_by,
@@ -113,9 +113,10 @@ fn move_down(memory: &mut Memory, from: u16, to: u16, count: u16) -> Result<(), 
 }
 
 // MOVELEFT.
-#[tactic(auto, unfolding(crate::specs::MemoryRows::move_row), using(pm_words::proofs::WatchLaws::keeps))]
+#[tactic(auto, unfolding(crate::specs::MemoryRows::move_bytes_row), using(pm_words::proofs::WatchLaws::keeps))]
 fn move_left(memory: &mut Memory, registers: Registers) -> Result<Registers, ExecError>
-    ensures row { Changes result memory.old.words memory.new.words (move_row moved_up memory.old.words registers) }
+    ensures row { Changes result memory.old.words memory.new.words
+        (move_bytes_row moved_up memory.old.words registers) }
     ensures stack { IsStack registers.sp registers.np → IfOk result (λ r. IsStack r.sp r.np) }
     ensures keeps { KeepsWatch memory.old memory.new }
     ensures mp { IfOk result (λ r. r.mp ≡ registers.mp) }
@@ -131,9 +132,10 @@ fn move_left(memory: &mut Memory, registers: Registers) -> Result<Registers, Exe
 }
 
 // MOVERIGHT.
-#[tactic(auto, unfolding(crate::specs::MemoryRows::move_row), using(pm_words::proofs::WatchLaws::keeps))]
+#[tactic(auto, unfolding(crate::specs::MemoryRows::move_bytes_row), using(pm_words::proofs::WatchLaws::keeps))]
 fn move_right(memory: &mut Memory, registers: Registers) -> Result<Registers, ExecError>
-    ensures row { Changes result memory.old.words memory.new.words (move_row moved_down memory.old.words registers) }
+    ensures row { Changes result memory.old.words memory.new.words
+        (move_bytes_row moved_down memory.old.words registers) }
     ensures stack { IsStack registers.sp registers.np → IfOk result (λ r. IsStack r.sp r.np) }
     ensures keeps { KeepsWatch memory.old memory.new }
     ensures mp { IfOk result (λ r. r.mp ≡ registers.mp) }

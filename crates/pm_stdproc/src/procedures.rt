@@ -1,7 +1,7 @@
 //! The numbers of the standard procedures.
 
 ghost use Rattle.std.specs.Prelude.{◌≡◌};
-ghost use Rattle.pm_stdproc.specs.Procedures.{procedure_of};
+ghost use Rattle.pm_stdproc.specs.Procedures.{procedure_numbered};
 
 /// A standard procedure that works on the stack, the heap and the memory alone.
 #[derive(Clone, Copy, Debug, PartialEq, Eq)]
@@ -65,9 +65,9 @@ pub enum Procedure {
 }
 
 /// The procedure of a number.
-#[tactic(auto, unfolding(crate::specs::Procedures::procedure_of))]
+#[tactic(auto, unfolding(crate::specs::Procedures::procedure_numbered))]
 pub fn procedure_of(n: u8) -> Procedure
-    ensures procedure { result ≡ procedure_of n }
+    ensures procedure { result ≡ procedure_numbered n }
 {
     match n {
         0 => Procedure::OnMemory(OnMemory::CheckIo),

@@ -1,12 +1,14 @@
 //! The standard procedures, by their numbers.
 
-ghost use Rattle.std.specs.Prelude.{◌≡◌, ◌≢◌, ◌+◌, ◌%◌, ◌≤◌, ℕ, All, IfOk, OnOk, OnErr};
+ghost use Rattle.std.specs.Prelude.{◌≡◌, ◌≢◌, ◌+◌, ◌%◌, ◌≤◌, ℕ, All, IfOk, List, OnOk, OnErr};
 ghost use Rattle.pm_words.specs.Watch.{KeepsWatch};
 ghost use Rattle.pm_words.specs.Stack.{IsStack};
 ghost use Rattle.pm_calls.specs.Kept.{Agrees};
 ghost use Rattle.pm_stdproc.specs.Traps.{Performs, or_fails};
 ghost use Rattle.pm_stdproc.specs.Devices.{Devices, Room};
-ghost use Rattle.pm_stdproc.specs.Procedures.{devices_reached, keep_row, procedure_of, procedure_row, unkeep_row, reach_of};
+ghost use Rattle.pm_stdproc.specs.Procedures.{devices_reached, exit_row, keep_row, procedure_numbered};
+ghost use Rattle.pm_stdproc.specs.Procedures.{procedure_row, unkeep_row, reach_of};
+ghost use Rattle.pm_stdproc.specs.declared.loads.SlotRow.{SlotRow};
 ghost use Rattle.pm_stdproc.specs.declared.procedures.Procedure.TheVariants.{Unkeep};
 ghost use Rattle.pm_stdproc.specs.UnitRows.{
   busy_row,
@@ -58,6 +60,37 @@ fn order(memory: &Memory, sp: u16) -> Result<Order, ExecError>
     })
 }
 
+// EXIT.
+#[tactic(auto, unfolding(crate::specs::Procedures::exit_row), using(pm_words::proofs::WatchLaws::keeps, pm_calls::proofs::TableLaws::carry))]
+fn exit_row(
+    memory: &mut Memory,
+    registers: &mut Registers,
+    frames: &mut Frames,
+    scratch: &mut Memory,
+) -> Result<(), Trap>
+    ensures stack { IsStack registers.old.sp registers.old.np
+        → OnOk result (IsStack registers.new.sp registers.new.np) }
+    ensures row { (rows : List SlotRow) (devices : Devices) (room : Room) → Performs devices_reached room result
+        (reach_of memory.old.words registers.old frames.old.places rows devices)
+        (reach_of memory.new.words registers.new frames.new.places rows devices)
+        (or_fails (exit_row (reach_of memory.old.words registers.old frames.old.places rows devices))) }
+    ensures refused { OnErr result ((memory.new.words ≡ memory.old.words) × (registers.new ≡ registers.old)
+        × (frames.new.places ≡ frames.old.places)) }
+    ensures agrees { Agrees memory.old frames.old registers.old.mp → Agrees memory.new frames.new registers.new.mp }
+    ensures keeps { KeepsWatch memory.old memory.new }
+    ensures mp { registers.new.mp ≡ registers.old.mp }
+{
+    let procedure = pop(memory, registers.sp)?;
+    let segment = pop(memory, procedure.above)?;
+    let mut inside = Registers {
+        sp: segment.above,
+        ..*registers
+    };
+    frames.exit(memory, &mut inside, segment.word, procedure.word, scratch)?;
+    *registers = inside;
+    Ok(())
+}
+
 // CSP 22. Unload a segment.
 #[tactic(auto, unfolding(crate::specs::Procedures::unkeep_row))]
 fn unkeep_row(
@@ -96,7 +129,7 @@ impl Units {
     /// no memory for bytes that are written or shown, and no room is left for them. After each of these
     /// everything is as it was: the scratch memory keeps what EXIT puts back, and holds anything
     /// afterwards. SP stays even where the length in each row is.
-    #[tactic(auto, unfolding(crate::specs::Procedures::procedure_row, crate::specs::Procedures::exit_row), using(pm_words::proofs::WatchLaws::keeps, pm_calls::proofs::TableLaws::carry))]
+    #[tactic(auto, unfolding(crate::specs::Procedures::procedure_row), using(pm_words::proofs::WatchLaws::keeps, pm_calls::proofs::TableLaws::carry))]
     pub fn perform(
         &mut self,
         n: u8,
@@ -111,12 +144,12 @@ impl Units {
         ensures row { Performs devices_reached self.old.room result
             (reach_of memory.old.words registers.old frames.old.places rows.now self.old.devices)
             (reach_of memory.new.words registers.new frames.new.places rows.now self.new.devices)
-            (procedure_row (procedure_of n)
+            (procedure_row (procedure_numbered n)
             (reach_of memory.old.words registers.old frames.old.places rows.now self.old.devices)) }
         ensures refused { OnErr result ((memory.new.words ≡ memory.old.words) × (registers.new ≡ registers.old)
             × (frames.new.places ≡ frames.old.places) × (self.new ≡ self.old)) }
         ensures agrees { Agrees memory.old frames.old registers.old.mp → Agrees memory.new frames.new registers.new.mp }
-        ensures keeps { procedure_of n ≢ Unkeep → KeepsWatch memory.old memory.new }
+        ensures keeps { procedure_numbered n ≢ Unkeep → KeepsWatch memory.old memory.new }
         ensures mp { registers.new.mp ≡ registers.old.mp }
     {
         match procedure_of(n) {
@@ -125,17 +158,7 @@ impl Units {
                 Ok(())
             }
             Procedure::OnUnits(procedure) => self.on_units(memory, registers, procedure),
-            Procedure::Exit => {
-                let procedure = pop(memory, registers.sp)?;
-                let segment = pop(memory, procedure.above)?;
-                let mut inside = Registers {
-                    sp: segment.above,
-                    ..*registers
-                };
-                frames.exit(memory, &mut inside, segment.word, procedure.word, scratch)?;
-                *registers = inside;
-                Ok(())
-            }
+            Procedure::Exit => exit_row(memory, registers, frames, scratch),
             Procedure::Keep => self.keep_row(memory, registers, frames, rows),
             Procedure::Unkeep => unkeep_row(memory, registers, frames, rows),
             Procedure::Unimplemented => Err(Trap::Exec(ExecError::Unimplemented)),

@@ -9,9 +9,9 @@ ghost use Rattle.pm_stdproc.specs.Transfers.{
   from_disk,
   from_queue,
   named_bytes,
-  read,
+  unit_read,
   to_disk,
-  written,
+  unit_written,
 };
 
 use crate::ports::Port;
@@ -87,7 +87,7 @@ fn can_move(image: &[u8], transfer: Transfer) -> bool
 
 impl Units {
     /// Reads from a unit into the memory, and gives the IORESULT.
-    #[tactic(auto, unfolding(crate::specs::Transfers::read), using(pm_words::proofs::WatchLaws::keeps))]
+    #[tactic(auto, unfolding(crate::specs::Transfers::unit_read), using(pm_words::proofs::WatchLaws::keeps))]
     pub(crate) fn read(
         &mut self,
         memory: &mut Memory,
@@ -97,7 +97,7 @@ impl Units {
         requires place { HasPlace unit }
         requires inside { transfer.address + transfer.count ≤ 65536 }
         ensures read { Transfers self.old.room result memory.old.words self.old.devices memory.new.words
-            self.new.devices (read unit transfer memory.old.words self.old.devices) }
+            self.new.devices (unit_read unit transfer memory.old.words self.old.devices) }
         ensures room { OnErr result (self.new.room ≡ self.old.room) }
         ensures keeps { KeepsWatch memory.old memory.new }
     {
@@ -162,7 +162,7 @@ impl Units {
     }
 
     /// Writes from the memory to a unit, and gives the IORESULT.
-    #[tactic(auto, unfolding(crate::specs::Transfers::written), using(pm_words::proofs::WatchLaws::keeps))]
+    #[tactic(auto, unfolding(crate::specs::Transfers::unit_written), using(pm_words::proofs::WatchLaws::keeps))]
     pub(crate) fn write(
         &mut self,
         memory: &mut Memory,
@@ -172,7 +172,7 @@ impl Units {
         requires place { HasPlace unit }
         requires inside { transfer.address + transfer.count ≤ 65536 }
         ensures written { Transfers self.old.room result memory.old.words self.old.devices memory.new.words
-            self.new.devices (Ok (written unit transfer memory.old.words self.old.devices)) }
+            self.new.devices (Ok (unit_written unit transfer memory.old.words self.old.devices)) }
         ensures room { OnErr result (self.new.room ≡ self.old.room) }
         ensures keeps { KeepsWatch memory.old memory.new }
     {

@@ -49,7 +49,13 @@ impl Model for Units {
     ghost Value = { Held };
 
     ghost view = { λ u. record {
-      devices = record { disks = u.disks; queue = u.queue.items; console = u.console.items; printer = u.printer.items; clock = u.clock };
+      devices = record {
+        disks = u.disks;
+        queue = u.queue.items;
+        console = u.console.items;
+        printer = u.printer.items;
+        clock = u.clock;
+      };
       room = record {
         queue = vec_capacity u.queue - vec_len u.queue;
         console = vec_capacity u.console - vec_len u.console;

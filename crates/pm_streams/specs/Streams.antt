@@ -1,5 +1,6 @@
 -- What a source gave and a sink took.
-use Rattle.std.specs.Prelude.{◌≡◌, ℕ, ◌==◌, ◌<◌, ◌≤◌, ◌⊎◌, Bool, true, false, List, [], ◌∷◌, ◌++◌, length, Option, None}
+use Rattle.std.specs.Prelude.{◌≡◌, ℕ, ◌+◌, ◌==◌, ◌<◌, ◌≤◌, ◌⊎◌, Bool, true}
+use Rattle.std.specs.Prelude.{false, List, [], ◌∷◌, ◌++◌, length, Option, None}
 use Rattle.std.specs.Prelude.{Some, Result, Ok, Err}
 use Rattle.std.specs.Io.KnownBytes.{Appends, Consumes, IsAtEnd, Keeps}
 use Rattle.pm_streams.specs.declared.fault.Fault.{Fault}
@@ -41,3 +42,33 @@ IsCause faults.Write source_failed sink_failed read = (sink_failed ≡ true) × 
     (length read ≤ INPUT_LIMIT)
 IsCause faults.NoMemory source_failed sink_failed read = (sink_failed ≡ false) × (source_failed ≡ false) ×
     (length read ≤ INPUT_LIMIT)
+
+-- ---- counts
+
+-- how many bytes a read gave; an error gave none
+abbrev pub count_of : {E : Type 0} → Result ℕ E → ℕ
+count_of (Ok n) = n
+count_of (Err e) = 0
+
+-- a read raises the count of a source by the bytes that it gave, up to 2^64 - 1
+abbrev pub Counts : {E : Type 0} → ℕ → ℕ → Result ℕ E → Type 0
+Counts old new result = old + count_of result ≤ 18446744073709551615 → new ≡ old + count_of result
+
+-- the same where one byte is wanted
+abbrev pub CountsByte : ℕ → ℕ → Option ℕ → Type 0
+CountsByte old new None = old < 18446744073709551615 → new ≡ old
+CountsByte old new (Some byte) = old < 18446744073709551615 → new ≡ old + 1
+
+-- a source that gave at most 2^63 bytes counts far enough for any input
+abbrev pub CountsOn : ℕ → Type 0
+CountsOn given = given ≤ 9223372036854775808
+
+-- no more bytes than an input may have were given
+abbrev pub IsWithin : ℕ → ℕ → Type 0
+IsWithin old new = CountsOn old → new ≤ old + INPUT_LIMIT
+
+-- a read fault comes only where the source has failed, or gave more bytes than an input may have
+abbrev pub IsBound : Fault → ℕ → ℕ → Bool → Type 0
+IsBound faults.Read old new source_failed = CountsOn old → (source_failed ≡ true) ⊎ (old + INPUT_LIMIT < new)
+IsBound faults.Write old new source_failed = IsWithin old new
+IsBound faults.NoMemory old new source_failed = IsWithin old new

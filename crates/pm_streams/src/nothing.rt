@@ -13,6 +13,8 @@ impl Source for Nothing {
 
     ghost has_failed = { λ _. false };
 
+    ghost given = { λ _. 0 };
+
     fn read(&mut self, _buf: &mut [u8]) -> io::Result<usize> {
         Ok(0)
     }

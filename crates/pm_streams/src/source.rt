@@ -2,7 +2,7 @@
 ghost use Rattle.std.specs.Prelude.{◌≡◌, ⊤, Bool, Option, false, ◌||◌, List, ℕ, is_err, OnOk, OnErr, IfErr, IfOk};
 ghost use Rattle.std.specs.Io.{ReadsAtMost};
 ghost use Rattle.std.specs.Io.KnownBytes.{ReadConsumes, Consumes, Keeps};
-ghost use Rattle.pm_streams.specs.Streams.{ReadsAll, ReadsByte, IsCause};
+ghost use Rattle.pm_streams.specs.Streams.{ReadsAll, ReadsByte, IsCause, Counts, CountsByte, IsWithin, IsBound};
 
 use crate::fault::Fault;
 use std::alloc::Global;
@@ -16,12 +16,16 @@ pub trait Source {
     /// A read has answered an error.
     ghost has_failed: { Self → Bool };
 
+    /// How many bytes it gave. It counts as far as 2^64 - 1.
+    ghost given: { Self → ℕ };
+
     /// Reads some bytes into the front of `buf` and answers how many: none only at the end, or where `buf` is empty. An
     /// error reads nothing.
     fn read(&mut self, buf: &mut [u8]) -> io::Result<usize>
         ensures bound { ReadsAtMost result buf.new }
         ensures bytes { ReadConsumes (remaining self.old) (remaining self.new) result buf.new }
-        ensures failed { has_failed self.new ≡ (has_failed self.old || is_err result) };
+        ensures failed { has_failed self.new ≡ (has_failed self.old || is_err result) }
+        ensures counts { Counts (given self.old) (given self.new) result };
 
     /// Whether a read has answered an error.
     fn failed(&self) -> bool
@@ -58,17 +62,20 @@ impl<R: io::Read> Input for R {
 pub struct Reader<R> {
     inner: R,
     failed: bool,
+    given: u64,
 }
 
 impl<R: Input> Reader<R> {
-    /// A source of the bytes of `inner`, which has not failed.
+    /// A source of the bytes of `inner`, which has not failed and gave none.
     pub fn new(inner: R) -> Reader<R>
         ensures remaining { ⟦<Reader<R> as Source>⟧.remaining result ≡ R.coming inner }
         ensures failed { ⟦<Reader<R> as Source>⟧.has_failed result ≡ false }
+        ensures given { ⟦<Reader<R> as Source>⟧.given result ≡ 0 }
     {
         Reader {
             inner,
             failed: false,
+            given: 0,
         }
     }
 }
@@ -78,14 +85,20 @@ impl<R: Input> Source for Reader<R> {
 
     ghost has_failed = { λ source. source.failed };
 
+    ghost given = { λ source. source.given };
+
     fn read(&mut self, buf: &mut [u8]) -> io::Result<usize>
         ensures bound { ReadsAtMost result buf.new }
         ensures bytes { ReadConsumes (R.coming self.old.inner) (R.coming self.new.inner) result buf.new }
         ensures failed { self.new.failed ≡ (self.old.failed || is_err result) }
+        ensures counts { Counts self.old.given self.new.given result }
         ensures once { R.one_read self.old.inner self.new.inner }
     {
         let outcome = self.inner.read_once(buf);
-        self.failed |= outcome.is_err();
+        match outcome {
+            Ok(count) => self.given = self.given.saturating_add(count as u64),
+            Err(_) => self.failed = true,
+        }
         outcome
     }
 
@@ -106,6 +119,9 @@ pub fn read_all<R: Source>(alloc: Global, source: &mut R) -> Result<Vec<u8>, Fau
     ensures cause { IfErr result (λ fault. (read : List ℕ)
         × Consumes (R.remaining source.old) (R.remaining source.new) read
         × IsCause fault (R.has_failed source.new) false read) }
+    ensures few { OnOk result (IsWithin (R.given source.old) (R.given source.new)) }
+    ensures bound { IfErr result (λ fault.
+        IsBound fault (R.given source.old) (R.given source.new) (R.has_failed source.new)) }
 {
     let mut input = Vec::new(alloc);
     let mut buffer = [0; 4096];
@@ -132,6 +148,7 @@ pub fn read_byte<R: Source>(source: &mut R) -> Result<Option<u8>, Fault>
     ensures failed { R.has_failed source.new ≡ is_err result }
     ensures fault { IfErr result (λ fault. fault ≡ Fault.Read) }
     ensures kept { OnErr result (Keeps (R.remaining source.old) (R.remaining source.new)) }
+    ensures counts { IfOk result (λ byte. CountsByte (R.given source.old) (R.given source.new) byte) }
 {
     let mut buffer = [0; 1];
     match source.read(&mut buffer) {

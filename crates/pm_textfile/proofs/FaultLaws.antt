@@ -1,7 +1,7 @@
 -- The first fault is that of the first line that has one.
 use Rattle.std.proofs.Common.{◌≡◌, ◌⊎◌, inl, inr, ℕ, ◌+◌, List, [], ◌∷◌, ◌++◌, length, ap, ◌∙◌, refl, arith, Option, Some, None, length-append}
 use Rattle.std.specs.List.{AllByRecursion, flat_map}
-use Rattle.pm_textfile.specs.Writing.{IsFirstFault, IsSound, Line, ended, line_fault, lines_fault, lines_of, text_fault}
+use Rattle.pm_textfile.specs.Writing.{IsFirstTextFault, IsSoundLine, TextLine, ended, line_fault, lines_fault, text_lines, text_fault}
 use Rattle.pm_textfile.specs.declared.fault.TextFault.{TextFault}
 use Rattle.pm_textfile.proofs.PageLaws.{line-sound}
 
@@ -10,22 +10,22 @@ none_or_some None = inl refl
 none_or_some (Some e) = inr (e, refl)
 
 -- a line with a fault, behind lines without one, the first of which begins at a place and has a number
-record Found (place number : ℕ) (lines : List Line) (fault : TextFault) : Type 0 where
-  before : List Line
-  line : Line
-  after : List Line
+record Found (place number : ℕ) (lines : List TextLine) (fault : TextFault) : Type 0 where
+  before : List TextLine
+  line : TextLine
+  after : List TextLine
   parts : lines ≡ before ++ line ∷ after
-  sound : AllByRecursion IsSound before
+  sound : AllByRecursion IsSoundLine before
   there : line_fault (place + length (flat_map ended before)) (number + length before) line ≡ Some fault
 
-found_here : (place number : ℕ) (line : Line) (lines : List Line) (fault : TextFault) → line_fault place number line ≡ Some fault
+found_here : (place number : ℕ) (line : TextLine) (lines : List TextLine) (fault : TextFault) → line_fault place number line ≡ Some fault
     → Found place number (line ∷ lines) fault
 found_here place number line lines fault h =
     let p : place + 0 ≡ place = omega arith in
     let n : number + 0 ≡ number = omega arith in
     record { before = []; line = line; after = lines; parts = refl; sound = tt; there = rw (p, n) h }
 
-found_later : (place number : ℕ) (line : Line) (lines : List Line) (fault : TextFault) → line_fault place number line ≡ None
+found_later : (place number : ℕ) (line : TextLine) (lines : List TextLine) (fault : TextFault) → line_fault place number line ≡ None
     → Found (place + length line + 1) (number + 1) lines fault → Found place number (line ∷ lines) fault
 found_later place number line lines fault none k =
     let rest = flat_map ended k.before in
@@ -36,12 +36,12 @@ found_later place number line lines fault none k =
       before = line ∷ k.before;
       line = k.line;
       after = k.after;
-      parts = ap (λ (ls : List Line). line ∷ ls) k.parts;
+      parts = ap (λ (ls : List TextLine). line ∷ ls) k.parts;
       sound = (line-sound place number line none, k.sound);
       there = rw (p, n) k.there;
     }
 
-found : (lines : List Line) (place number : ℕ) (fault : TextFault) → lines_fault place number lines ≡ Some fault → Found place number lines fault
+found : (lines : List TextLine) (place number : ℕ) (fault : TextFault) → lines_fault place number lines ≡ Some fault → Found place number lines fault
 unfolding lines_fault
 found [] place number fault h = cc
 found (line ∷ lines) place number fault h = elim (none_or_some (line_fault place number line)) [
@@ -53,9 +53,9 @@ found (line ∷ lines) place number fault h = elim (none_or_some (line_fault pla
       found_here place number line lines fault (some.1 ∙ h')
 ]
 
-pub first-from_fault : (text : List ℕ) (fault : TextFault) → text_fault text ≡ Some fault → IsFirstFault text fault
+pub first-from_fault : (text : List ℕ) (fault : TextFault) → text_fault text ≡ Some fault → IsFirstTextFault text fault
 first-from_fault text fault h =
-    let k = found (lines_of text) 0 1 fault h in
+    let k = found (text_lines text) 0 1 fault h in
     let p : 0 + length (flat_map ended k.before) ≡ length (flat_map ended k.before) = omega arith in
     let n : 1 + length k.before ≡ length k.before + 1 = omega arith in
     record {

@@ -9,8 +9,8 @@ number_of NoMemory = 2
 number_of (LineTooLong line) = 3
 number_of (BadByte place) = 4
 
-abbrev pub place_of : TextFault → Option ℕ
-place_of NoHeader = None
-place_of NoMemory = None
-place_of (LineTooLong line) = Some line
-place_of (BadByte place) = Some place
+abbrev pub place_of_text_fault : TextFault → Option ℕ
+place_of_text_fault NoHeader = None
+place_of_text_fault NoMemory = None
+place_of_text_fault (LineTooLong line) = Some line
+place_of_text_fault (BadByte place) = Some place

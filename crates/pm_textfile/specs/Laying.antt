@@ -1,10 +1,10 @@
 -- How a writer lays lines on pages, one after the other. What the file of a text is says `Writing`; that this is one
 -- says `encode`.
 use Rattle.std.specs.Prelude.{ℕ, ◌-◌, List, [], ◌∷◌, ◌++◌, length, replicate, nat_le, if◌then◌else◌}
-use Rattle.pm_textfile.specs.Writing.{Line, coded, lines_of}
+use Rattle.pm_textfile.specs.Writing.{TextLine, coded, text_lines}
 
 -- The bytes that lines take, so many bytes being left on the page.
-unfoldable pub laid : ℕ → List Line → List ℕ
+unfoldable pub laid : ℕ → List TextLine → List ℕ
 laid room [] = replicate room 0
 laid room (line ∷ lines) =
     if nat_le (length (coded line)) room then coded line ++ laid (room - length (coded line)) lines
@@ -12,4 +12,4 @@ laid room (line ∷ lines) =
 
 -- The text file of a text: the header, and its lines laid on pages.
 unfoldable pub text_file : List ℕ → List ℕ
-text_file text = replicate 1024 0 ++ laid 0 (lines_of text)
+text_file text = replicate 1024 0 ++ laid 0 (text_lines text)

@@ -7,29 +7,29 @@ use Rattle.pm_textfile.specs.declared.fault.TextFault.{TextFault}
 use Rattle.pm_textfile.specs.declared.fault.TextFault.TheVariants.{BadByte, LineTooLong}
 
 -- A line of a text, without its line feed.
-abbrev pub Line : Type 0
-Line = List ℕ
+abbrev pub TextLine : Type 0
+TextLine = List ℕ
 
 -- A page of a file, by its lines.
 abbrev pub Page : Type 0
 Page = List (List ℕ)
 
 -- The lines with a character in front of the first.
-abbrev pub with_front : ℕ → List Line → List Line
+abbrev pub with_front : ℕ → List TextLine → List TextLine
 with_front c [] = (c ∷ []) ∷ []
 with_front c (line ∷ lines) = (c ∷ line) ∷ lines
 
 -- The lines of a text, the last one ended by a line feed or by the text's end.
-unfoldable pub lines_of : List ℕ → List Line
-lines_of [] = []
-lines_of (c ∷ cs) = if c == 10 then [] ∷ lines_of cs else with_front c (lines_of cs)
+unfoldable pub text_lines : List ℕ → List TextLine
+text_lines [] = []
+text_lines (c ∷ cs) = if c == 10 then [] ∷ text_lines cs else with_front c (text_lines cs)
 
 -- The length of a text's first line.
 abbrev pub line_length : List ℕ → ℕ
 line_length text = prefix_len (λ c. not (c == 10)) text
 
 -- A line with its line feed.
-abbrev pub ended : Line → List ℕ
+abbrev pub ended : TextLine → List ℕ
 ended line = line ++ 10 ∷ []
 
 -- A text with a line feed at its end, if it is not empty.
@@ -39,15 +39,15 @@ completed (c ∷ []) = if c == 10 then c ∷ [] else c ∷ 10 ∷ []
 completed (c ∷ d ∷ cs) = c ∷ completed (d ∷ cs)
 
 -- A byte that stands for itself in a file: all but 0, 13 and 16.
-abbrev pub is_plain : ℕ → Bool
-is_plain c = not (c == 0) && not (c == 13) && not (c == 16)
+abbrev pub stands_for_itself : ℕ → Bool
+stands_for_itself c = not (c == 0) && not (c == 13) && not (c == 16)
 
 -- How many spaces at a line's start an indentation tells: as many as there are, but no more than 223.
-unfoldable pub indentation : Line → ℕ
+unfoldable pub indentation : TextLine → ℕ
 indentation line = prefix_len (λ c. c == 32) (take 223 line)
 
 -- A line in its form in a file: an indentation, if it starts with a space; its other characters; and byte 13.
-unfoldable pub coded : Line → List ℕ
+unfoldable pub coded : TextLine → List ℕ
 coded line =
     if indentation line == 0 then line ++ 13 ∷ []
     else 16 ∷ (32 + indentation line) ∷ drop (indentation line) line ++ 13 ∷ []
@@ -70,45 +70,46 @@ AreTight room (page ∷ pages) =
 
 -- The bytes are a text's file: the header, and pages of the text's lines.
 pub record Writes (text bytes : List ℕ) : Type 0 where
-  pub plain : IsTrue (list_all is_plain text)
+  pub plain : IsTrue (list_all stands_for_itself text)
   pub pages : List Page
-  pub lines : lines_of text ≡ flat_map (λ page. page) pages
+  pub lines : text_lines text ≡ flat_map (λ page. page) pages
   pub tight : AreTight 0 pages
   pub layout : bytes ≡ replicate 1024 0 ++ flat_map page_bytes pages
 
 -- The fault of a line that begins at a place of the text and has a number: its first byte that is not plain; or else it
 -- does not fit on a page in its form.
-unfoldable pub line_fault : ℕ → ℕ → Line → Option TextFault
+unfoldable pub line_fault : ℕ → ℕ → TextLine → Option TextFault
 line_fault place number line =
-    if nat_lt (prefix_len is_plain line) (length line) then Some (BadByte (place + prefix_len is_plain line))
+    if nat_lt (prefix_len stands_for_itself line) (length line) then Some
+    (BadByte (place + prefix_len stands_for_itself line))
     else (if nat_lt 1024 (length (coded line)) then Some (LineTooLong number) else None)
 
 -- A fault, or else what else may be one.
-abbrev pub or_else : Option TextFault → Option TextFault → Option TextFault
-or_else (Some fault) rest = Some fault
-or_else None rest = rest
+abbrev pub or_text_fault : Option TextFault → Option TextFault → Option TextFault
+or_text_fault (Some fault) rest = Some fault
+or_text_fault None rest = rest
 
 -- The first fault of lines, the first of which begins at a place and has a number.
-unfoldable pub lines_fault : ℕ → ℕ → List Line → Option TextFault
+unfoldable pub lines_fault : ℕ → ℕ → List TextLine → Option TextFault
 lines_fault place number [] = None
 lines_fault place number (line ∷ lines) =
-    or_else (line_fault place number line) (lines_fault (place + length line + 1) (number + 1) lines)
+    or_text_fault (line_fault place number line) (lines_fault (place + length line + 1) (number + 1) lines)
 
 -- The first fault of a text. Places count from 0, lines from 1.
 abbrev pub text_fault : List ℕ → Option TextFault
-text_fault text = lines_fault 0 1 (lines_of text)
+text_fault text = lines_fault 0 1 (text_lines text)
 
 -- A line that can stand in a file: each of its bytes is plain, and in its form it fits on a page.
-pub record IsSound (line : Line) : Type 0 where
-  pub plain : list_all is_plain line ≡ true
+pub record IsSoundLine (line : TextLine) : Type 0 where
+  pub plain : list_all stands_for_itself line ≡ true
   pub fits : length (coded line) ≤ 1024
 
 -- The fault is that of the first line that cannot stand in a file, which begins behind those before it and their line
 -- feeds.
-pub record IsFirstFault (text : List ℕ) (fault : TextFault) : Type 0 where
-  pub before : List Line
-  pub line : Line
-  pub after : List Line
-  pub lines : lines_of text ≡ before ++ line ∷ after
-  pub sound : AllByRecursion IsSound before
+pub record IsFirstTextFault (text : List ℕ) (fault : TextFault) : Type 0 where
+  pub before : List TextLine
+  pub line : TextLine
+  pub after : List TextLine
+  pub lines : text_lines text ≡ before ++ line ∷ after
+  pub sound : AllByRecursion IsSoundLine before
   pub there : line_fault (length (flat_map ended before)) (length before + 1) line ≡ Some fault

@@ -16,7 +16,7 @@ ghost use Rattle.std.specs.Prelude.{
   IsErrOf,
   OnOk,
 };
-ghost use Rattle.pm_textfile.specs.Reading.{text_from, text_of};
+ghost use Rattle.pm_textfile.specs.Reading.{text_from, text_of_file};
 
 use crate::PAGE;
 use crate::copies::push_copies;
@@ -25,7 +25,7 @@ use std::alloc::{AllocError, Global};
 
 // Where a reader stands in a text file.
 #[derive(Clone, Copy, PartialEq, Eq)]
-pub(crate) enum Place {
+pub(crate) enum LinePart {
     // At the start of a line: there was no byte but zeros since the last line's end.
     LineStart,
     // Behind the byte 16 that begins an indentation.
@@ -41,7 +41,7 @@ pub(crate) enum Place {
 /// behind it, whatever it is, stand for as many spaces as that byte is above 32. Each other byte stands for itself.
 /// Bytes behind the last 13 are a line too, if not all are 0.
 pub fn decode(alloc: Global, bytes: &[u8]) -> Result<Vec<u8>, TextFault>
-    ensures text { IfOk result (λ text. text.items ≡ text_of bytes.now) }
+    ensures text { IfOk result (λ text. text.items ≡ text_of_file bytes.now) }
     ensures no_header { IsErrOf result TextFault.NoHeader ↔ (length bytes.now < 1024) }
     ensures memory { IfErr result (λ e. 1024 ≤ length bytes.now → e ≡ TextFault.NoMemory) }
 {
@@ -49,7 +49,7 @@ pub fn decode(alloc: Global, bytes: &[u8]) -> Result<Vec<u8>, TextFault>
         return Err(TextFault::NoHeader);
     }
     let mut text = Vec::new(alloc);
-    let mut place = Place::LineStart;
+    let mut place = LinePart::LineStart;
     for byte in &bytes[PAGE..] {
         place = add_byte(&mut text, place, *byte)?;
     }
@@ -59,36 +59,36 @@ pub fn decode(alloc: Global, bytes: &[u8]) -> Result<Vec<u8>, TextFault>
 
 // Adds what a byte stands for.
 #[tactic(auto, unfolding(crate::specs::Reading::text_from))]
-fn add_byte(text: &mut Vec<u8>, place: Place, byte: u8) -> Result<Place, AllocError>
+fn add_byte(text: &mut Vec<u8>, place: LinePart, byte: u8) -> Result<LinePart, AllocError>
     ensures added { IfOk result (λ next. (rest : List ℕ) →
         text.new.items ++ text_from next rest ≡ text.old.items ++ text_from place (byte ∷ rest)) }
 {
     match (place, byte) {
-        (Place::Indentation, _) => {
+        (LinePart::Indentation, _) => {
             push_copies(text, b' ', usize::from(byte.saturating_sub(32)))?;
-            Ok(Place::Line)
+            Ok(LinePart::Line)
         }
         (_, 0) => Ok(place),
         (_, 13) => {
             text.push(b'\n')?;
-            Ok(Place::LineStart)
+            Ok(LinePart::LineStart)
         }
-        (Place::LineStart, 16) => Ok(Place::Indentation),
+        (LinePart::LineStart, 16) => Ok(LinePart::Indentation),
         _ => {
             text.push(byte)?;
-            Ok(Place::Line)
+            Ok(LinePart::Line)
         }
     }
 }
 
 // Ends the line that the bytes stop in.
 #[tactic(auto, unfolding(crate::specs::Reading::text_from))]
-fn end_line(text: &mut Vec<u8>, place: Place) -> Result<(), AllocError>
+fn end_line(text: &mut Vec<u8>, place: LinePart) -> Result<(), AllocError>
     ensures ended { OnOk result (text.new.items ≡ text.old.items ++ text_from place []) }
 {
     match place {
-        Place::LineStart => Ok(()),
-        Place::Indentation | Place::Line => {
+        LinePart::LineStart => Ok(()),
+        LinePart::Indentation | LinePart::Line => {
             text.push(b'\n')?;
             Ok(())
         }

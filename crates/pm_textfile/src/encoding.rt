@@ -23,15 +23,15 @@ ghost use Rattle.std.specs.Prelude.{
   OnOk,
 };
 ghost use Rattle.std.specs.List.{prefix_len};
-ghost use Rattle.pm_textfile.specs.Reading.{text_of};
+ghost use Rattle.pm_textfile.specs.Reading.{text_of_file};
 ghost use Rattle.pm_textfile.specs.Writing.{
-  IsFirstFault,
-  Line,
+  IsFirstTextFault,
+  TextLine,
   Writes,
   coded,
   completed,
   indentation,
-  is_plain,
+  stands_for_itself,
   line_fault,
   line_length,
   text_fault,
@@ -55,10 +55,10 @@ const MOST_SPACES: usize = 223;
 pub fn encode(alloc: Global, text: &[u8]) -> Result<Vec<u8>, TextFault>
     ensures file { IfOk result (λ bytes. Writes text.now bytes.items) }
     ensures exact { IfOk result (λ bytes. bytes.items ≡ text_file text.now) }
-    ensures reads_back { IfOk result (λ bytes. text_of bytes.items ≡ completed text.now) }
+    ensures reads_back { IfOk result (λ bytes. text_of_file bytes.items ≡ completed text.now) }
     ensures sound { OnOk result (text_fault text.now ≡ None) }
     ensures fault { IfErr result (λ e. e ≢ TextFault.NoMemory → text_fault text.now ≡ Some e) }
-    ensures first { IfErr result (λ e. e ≢ TextFault.NoMemory → IsFirstFault text.now e) }
+    ensures first { IfErr result (λ e. e ≢ TextFault.NoMemory → IsFirstTextFault text.now e) }
 {
     let mut pages = Pages::new(alloc)?;
     let mut start = 0;
@@ -86,7 +86,7 @@ fn line_length(text: &[u8]) -> usize
 
 // How many bytes stand before the first that cannot stand in a file.
 fn plain_length(line: &[u8]) -> usize
-    ensures length { result ≡ prefix_len is_plain line.now }
+    ensures length { result ≡ prefix_len stands_for_itself line.now }
     ensures within { result ≤ length line.now }
 {
     line.iter().take_while(|c| is_plain(**c)).count()
@@ -111,7 +111,7 @@ fn check_line(line: &[u8], start: usize, number: usize) -> Result<(), TextFault>
 
 // Whether a byte stands for itself in a file.
 fn is_plain(byte: u8) -> bool
-    ensures value { result ≡ is_plain byte }
+    ensures value { result ≡ stands_for_itself byte }
 {
     !matches!(byte, 0 | 13 | 16)
 }
@@ -163,7 +163,7 @@ impl Pages {
     #[tactic(auto, unfolding(crate::specs::Laying::laid))]
     fn add_line(&mut self, line: &[u8]) -> Result<(), AllocError>
         requires fits { length (coded line.now) ≤ 1024 }
-        ensures laid { OnOk result ((lines : List Line) →
+        ensures laid { OnOk result ((lines : List TextLine) →
             self.new.bytes.items ++ laid self.new.room lines ≡ self.old.bytes.items
             ++ laid self.old.room (line.now ∷ lines)) }
     {

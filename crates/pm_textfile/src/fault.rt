@@ -1,7 +1,7 @@
 //! Why there is no text, or no text file.
 
 ghost use Rattle.std.specs.Prelude.{◌≡◌};
-ghost use Rattle.pm_textfile.specs.Faults.{number_of, place_of};
+ghost use Rattle.pm_textfile.specs.Faults.{number_of, place_of_text_fault};
 
 use std::alloc::AllocError;
 use thiserror::Error;
@@ -38,7 +38,7 @@ impl TextFault {
 
     /// The line of `LineTooLong`, or the place of `BadByte`.
     pub fn place(self) -> Option<usize>
-        ensures value { result ≡ place_of self }
+        ensures value { result ≡ place_of_text_fault self }
     {
         match self {
             TextFault::NoHeader | TextFault::NoMemory => None,

@@ -1,5 +1,6 @@
 -- How a run that is written as it goes goes on by one turn, and how it ends.
-use Rattle.std.proofs.Common.{◌≡◌, ℕ, ◌+◌, ◌-◌, ◌<◌, ◌≤◌, List, [], ◌∷◌, ◌++◌, Option, None, Bool, true, false, length, refl, sym, ap, ◌∙◌, append_assoc, append-nil, inl, subst}
+use Rattle.std.proofs.Common.{◌≡◌, ℕ, ◌+◌, ◌-◌, ◌<◌, ◌≤◌, List, [], ◌∷◌, ◌++◌, Option, None, Bool, true}
+use Rattle.std.proofs.Common.{false, length, refl, sym, ap, ◌∙◌, append_assoc, append-nil, inl, subst}
 use Rattle.std.proofs.lemmas.List.{length-append}
 use Rattle.std.specs.Io.KnownBytes.{Consumes, Appends, Keeps}
 use Rattle.std.proofs.KnownBytes.{Consumes-trans, Consumes-nil, Consumes-kept}
@@ -13,14 +14,16 @@ use Rattle.pm_streams.specs.declared.fault.Fault.{Fault}
 use Rattle.pm_streams.specs.declared.fault.Fault.TheVariants as faults
 use Rattle.pm_streams.specs.declared.source.TheConstants.{INPUT_LIMIT}
 use Rattle.pm_tool.specs.declared.steps.Show.{Show}
-use Rattle.pm_tool.specs.Run.{after_showing, ends, shown_of, shown_by, run_of, IsOver, IsBroken}
+use Rattle.pm_tool.specs.Run.{after_showing, ended_run, shown_of, shown_by, run_of, IsOver, IsBroken}
 use Rattle.pm_streams.specs.Streams.{IsFront, AppendsFront, AppendsBut, IsCause, ReadsByte}
 use Rattle.pm_streams.proofs.Pages.{but_none, but_grown, but_turned, but_front, but_lost, but_cleared}
 use Rattle.pm_tool.proofs.Runs.{run_of-goes, run_of-waits, run_of-stuck, run_of-none}
 use Rattle.pm_streams.proofs.Transfers.{cause_longer, front_trans}
 
--- A run of at most limit steps from began, as far as it was made: bytes were keyed, and what was shown was written but for the page. It goes on as a run of at most n steps from m.
-pub record IsUnderWay (had left held holds : Option (List ℕ)) (page : List ℕ) (taken : ℕ) (show : Show) (limit : ℕ) (began : State) (n : ℕ) (m : State) : Type 0 where
+-- A run of at most limit steps from began, as far as it was made: bytes were keyed, and what was shown was written but for the page. It goes on as a run of at
+-- most n steps from m.
+pub record IsUnderWay (had left held holds : Option (List ℕ)) (page : List ℕ) (taken : ℕ) (show : Show) (limit : ℕ) (began : State) (n : ℕ)
+    (m : State) : Type 0 where
   pub read : List ℕ
   pub shown : List ℕ
   pub count : length read ≡ taken
@@ -42,7 +45,8 @@ under_way_none had held page show limit n began blank e = record {
 module _ (had left held holds : Option (List ℕ)) (page : List ℕ) (taken : ℕ) (show : Show) (limit : ℕ) (began : State) (n : ℕ) (m : State)
     (u : IsUnderWay had left held holds page taken show limit began n m) where
   -- the front of the page is written
-  pub under_way_turned : (holds' : Option (List ℕ)) (rest : List ℕ) → AppendsBut holds holds' rest page → IsUnderWay had left held holds' rest taken show limit began n m
+  pub under_way_turned : (holds' : Option (List ℕ)) (rest : List ℕ) → AppendsBut holds holds' rest page
+      → IsUnderWay had left held holds' rest taken show limit began n m
   under_way_turned holds' rest turned = record {
     read = u.read;
     shown = u.shown;
@@ -53,7 +57,8 @@ module _ (had left held holds : Option (List ℕ)) (page : List ℕ) (taken : �
   }
 
   -- the page is written and cleared
-  pub under_way_cleared : (holds' : Option (List ℕ)) (blank : List ℕ) → Appends holds holds' page → blank ≡ [] → IsUnderWay had left held holds' blank taken show limit began n m
+  pub under_way_cleared : (holds' : Option (List ℕ)) (blank : List ℕ) → Appends holds holds' page → blank ≡ []
+      → IsUnderWay had left held holds' blank taken show limit began n m
   under_way_cleared holds' blank a e = record {
     read = u.read;
     shown = u.shown;
@@ -71,7 +76,8 @@ module _ (had left held holds : Option (List ℕ)) (page : List ℕ) (taken : �
     few = rw u.count few;
     reads = u.reads;
     writes = u.writes;
-    run = λ rest _. u.run rest ∙ rw none (ap (after_showing u.shown) (run_of-none show rest m) ∙ ap (λ t. ends t endings.Limit m rest) (append-nil u.shown));
+    run = λ rest _. u.run rest ∙ rw none (ap (after_showing u.shown) (run_of-none show rest m)
+        ∙ ap (λ t. ended_run t endings.Limit m rest) (append-nil u.shown));
     drained = λ w. cc;
   }
 
@@ -80,7 +86,8 @@ module _ (had left held holds : Option (List ℕ)) (page : List ℕ) (taken : �
   begins front rest f = rw (u.run rest) (front_trans front u.shown (u.shown ++ (run_of show n rest m).shown) f ((run_of show n rest m).shown, refl))
 
   -- the page is lost
-  pub broken_between : (fault : Fault) (source_failed sink_failed : Bool) → source_failed ≡ false → ((read : List ℕ) → length read ≡ taken → IsCause fault source_failed sink_failed read)
+  pub broken_between : (fault : Fault) (source_failed sink_failed : Bool) → source_failed ≡ false
+      → ((read : List ℕ) → length read ≡ taken → IsCause fault source_failed sink_failed read)
       → IsBroken had left held holds show limit began fault source_failed sink_failed
   broken_between fault source_failed sink_failed well cause =
       let lost = but_lost held holds page u.shown u.writes in
@@ -110,7 +117,8 @@ module _ (had left held holds : Option (List ℕ)) (page : List ℕ) (taken : �
       }
 
   -- no byte could be read for a step that waits, and the page is blank
-  pub broken_reading : (left' : Option (List ℕ)) (fault : Fault) (source_failed sink_failed : Bool) → Keeps left left' → fault ≡ faults.Read → source_failed ≡ true → sink_failed ≡ false
+  pub broken_reading : (left' : Option (List ℕ)) (fault : Fault) (source_failed sink_failed : Bool) → Keeps left left' → fault ≡ faults.Read
+      → source_failed ≡ true → sink_failed ≡ false
       → page ≡ [] → (after : State) → 0 < n → stepped m ≡ (after, Waiting) → IsBroken had left' held holds show limit began fault source_failed sink_failed
   broken_reading left' fault source_failed sink_failed k e failed well blank after some step = record {
     read = u.read;
@@ -140,7 +148,8 @@ module _ (had left held holds : Option (List ℕ)) (page : List ℕ) (taken : �
               ∙ ap (λ t. record (run_of show k rest after) { shown = t }) (sym (append_assoc u.shown line (run_of show k rest after).shown));
         }
 
-    pub over_ended : taken ≤ INPUT_LIMIT → stepped m ≡ (after, Ended) → page' ≡ page ++ shown_by show m after Ended → IsOver had left held holds page' show limit began endings.Ended after
+    pub over_ended : taken ≤ INPUT_LIMIT → stepped m ≡ (after, Ended) → page' ≡ page ++ shown_by show m after Ended
+        → IsOver had left held holds page' show limit began endings.Ended after
     over_ended few step grown = record {
       read = u.read;
       shown = u.shown ++ shown_of show m after;
@@ -175,7 +184,8 @@ module _ (had left held holds : Option (List ℕ)) (page : List ℕ) (taken : �
     }
 
     -- the byte that it waited for is keyed
-    pub under_way_key : (left' : Option (List ℕ)) (key : ℕ) (m' : State) → stepped m ≡ (after, Waiting) → Consumes left left' (key ∷ []) → m' ≡ next after (Key key)
+    pub under_way_key : (left' : Option (List ℕ)) (key : ℕ) (m' : State) → stepped m ≡ (after, Waiting) → Consumes left left' (key ∷ [])
+        → m' ≡ next after (Key key)
         → IsUnderWay had left' held holds page (taken + 1) show limit began n m'
     under_way_key left' key m' step reads keyed = record {
       read = u.read ++ key ∷ [];
@@ -188,7 +198,8 @@ module _ (had left held holds : Option (List ℕ)) (page : List ℕ) (taken : �
     }
 
     -- no byte is left
-    pub over_waiting : (left' : Option (List ℕ)) → taken ≤ INPUT_LIMIT → stepped m ≡ (after, Waiting) → ReadsByte left left' None → IsOver had left' held holds page show limit began endings.Waiting after
+    pub over_waiting : (left' : Option (List ℕ)) → taken ≤ INPUT_LIMIT → stepped m ≡ (after, Waiting) → ReadsByte left left' None
+        → IsOver had left' held holds page show limit began endings.Waiting after
     over_waiting left' few step none = record {
       read = u.read;
       shown = u.shown;
@@ -196,6 +207,7 @@ module _ (had left held holds : Option (List ℕ)) (page : List ℕ) (taken : �
       reads = Consumes-kept had left left' u.read u.reads none.0;
       writes = u.writes;
       run = λ rest no. let e = no refl in
-          u.run rest ∙ rw e (ap (after_showing u.shown) (run_of-stuck show n m after some step) ∙ ap (λ t. ends t endings.Waiting after []) (append-nil u.shown));
+          u.run rest ∙ rw e (ap (after_showing u.shown) (run_of-stuck show n m after some step)
+          ∙ ap (λ t. ended_run t endings.Waiting after []) (append-nil u.shown));
       drained = λ _. none.1;
     }

@@ -1,5 +1,6 @@
 -- Jobs on volumes: with no input read, and with all of it.
-use Rattle.std.proofs.Common.{◌≡◌, ℕ, List, [], ◌++◌, Option, None, Some, Result, Ok, Err, Bool, true, false, refl, sym, ap, ◌∙◌, arith, subst, IfSome, unwrap_or, ◌≢◌}
+use Rattle.std.proofs.Common.{◌≡◌, ℕ, List, [], ◌++◌, Option, None, Some, Result, Ok, Err, Bool}
+use Rattle.std.proofs.Common.{true, false, refl, sym, ap, ◌∙◌, arith, subst, IfSome, unwrap_or, ◌≢◌}
 use Rattle.std.specs.Io.KnownBytes.{Consumes, Appends, Keeps}
 use Rattle.std.proofs.KnownBytes.{Appends-nil, Consumes-nil}
 use Rattle.pm_volume.specs.Directory.{image_fault}
@@ -13,7 +14,7 @@ use Rattle.pm_tool.specs.declared.outcome.Outcome.{Outcome}
 use Rattle.pm_tool.specs.declared.outcome.Refusal.TheVariants as refusals
 use Rattle.pm_tool.specs.Files.{said_filed, said_files, said_new, said_repaired, takes_input, with_input}
 use Rattle.pm_tool.specs.Outcomes.{Said, refused, IsOutcome}
-use Rattle.pm_tool.specs.Said.{IsBrokenOff, IsDone, IsSound, Tells}
+use Rattle.pm_tool.specs.Said.{IsBrokenOff, IsDone, IsSoundExit, Tells}
 use Rattle.pm_streams.specs.Streams.{AppendsFront, IsCause, IsFront, ReadsAll}
 use Rattle.pm_tool.proofs.Kept.{broken_writing, done_whole}
 
@@ -28,7 +29,7 @@ keeps_all had input e = rw e refl
 -- nothing was read, and then all was written
 pub done_unread : (had held holds : Option (List ℕ)) (outcome : Outcome) (text : List ℕ → Said)
     → ((input : List ℕ) → Appends held holds (text input).written × IsOutcome outcome (text input) × ((text input).unread ≡ input))
-    → IsSound outcome.exit → IsDone had had held holds outcome text
+    → IsSoundExit outcome.exit → IsDone had had held holds outcome text
 done_unread had held holds outcome text all sound = record {
   tells = tells had;
   few = ([], consumes_none had, omega arith);
@@ -65,7 +66,7 @@ broken_unread had held holds fault source_failed sink_failed text written same f
 
 -- ---- commands
 
-filed_exit : (r : Result Filed FilerFault) (unread : List ℕ) → IsSound (said_filed r unread).exit
+filed_exit : (r : Result Filed FilerFault) (unread : List ℕ) → IsSoundExit (said_filed r unread).exit
 filed_exit (Ok f) unread = refl
 filed_exit (Err fault) unread = refl
 
@@ -84,13 +85,15 @@ module _ (r : Result Filed FilerFault) (held holds : Option (List ℕ)) where
   pub ok_front : (f : Filed) → r ≡ Ok f → AppendsFront held holds (said_filed (Ok f) []).written → AppendsFront held holds (said_filed r []).written
   ok_front f e a = rw e a
 
-  pub ok_outcome : (f : Filed) → r ≡ Ok f → (outcome : Outcome) → ((unread : List ℕ) → IsOutcome outcome (said_filed (Ok f) unread)) → (unread : List ℕ) → IsOutcome outcome (said_filed r unread)
+  pub ok_outcome : (f : Filed) → r ≡ Ok f → (outcome : Outcome) → ((unread : List ℕ) → IsOutcome outcome (said_filed (Ok f) unread)) → (unread : List ℕ)
+      → IsOutcome outcome (said_filed r unread)
   ok_outcome f e outcome out unread = rw e (out unread)
 
   pub err_written : (fault : FilerFault) → r ≡ Err fault → Appends held held (said_filed r []).written
   err_written fault e = rw e (Appends-nil held)
 
-  pub err_outcome : (fault : FilerFault) → r ≡ Err fault → (outcome : Outcome) → ((unread : List ℕ) → IsOutcome outcome (refused (refusals.Filer fault) unread)) → (unread : List ℕ) → IsOutcome outcome (said_filed r unread)
+  pub err_outcome : (fault : FilerFault) → r ≡ Err fault → (outcome : Outcome)
+      → ((unread : List ℕ) → IsOutcome outcome (refused (refusals.Filer fault) unread)) → (unread : List ℕ) → IsOutcome outcome (said_filed r unread)
   err_outcome fault e outcome out unread = rw e (out unread)
 
   pub none_front : AppendsFront held held (said_filed r []).written
@@ -98,11 +101,12 @@ module _ (r : Result Filed FilerFault) (held holds : Option (List ℕ)) where
 
 module _ (image : List ℕ) (order : Order) (had held : Option (List ℕ)) where
   -- the image is no volume
-  pub refused_image : (fault : VolumeFault) → image_fault image ≡ Some fault → (outcome : Outcome) → ((unread : List ℕ) → IsOutcome outcome (refused (refusals.Volume fault) unread))
+  pub refused_image : (fault : VolumeFault) → image_fault image ≡ Some fault → (outcome : Outcome)
+      → ((unread : List ℕ) → IsOutcome outcome (refused (refusals.Volume fault) unread))
       → IsDone had had held held outcome (said_files image order)
   refused_image fault e outcome out = done_unread had held held outcome (said_files image order)
       (λ input. rw e (Appends-nil held, out input, refl))
-      (subst IsSound (sym (out []).exit) refl)
+      (subst IsSoundExit (sym (out []).exit) refl)
 
   module _ (opened : image_fault image ≡ None) where
     said_unread : takes_input order ≡ false → (input : List ℕ) → said_files image order input ≡ said_filed (filed image order) input
@@ -115,9 +119,10 @@ module _ (image : List ℕ) (order : Order) (had held : Option (List ℕ)) where
         → ((unread : List ℕ) → IsOutcome outcome (said_filed (filed image order) unread)) → IsDone had had held holds outcome (said_files image order)
     unread_done none holds outcome writes out = done_unread had held holds outcome (said_files image order)
         (λ input. rw (said_unread none input) (rw (filed_written (filed image order) input) writes, out input, filed_unread (filed image order) input))
-        (subst IsSound (sym (out []).exit) (filed_exit (filed image order) []))
+        (subst IsSoundExit (sym (out []).exit) (filed_exit (filed image order) []))
 
-    pub unread_broken : takes_input order ≡ false → (holds : Option (List ℕ)) (fault : Fault) (source_failed sink_failed : Bool) → AppendsFront held holds (said_filed (filed image order) []).written
+    pub unread_broken : takes_input order ≡ false → (holds : Option (List ℕ)) (fault : Fault) (source_failed sink_failed : Bool)
+        → AppendsFront held holds (said_filed (filed image order) []).written
         → source_failed ≡ false → IsCause fault false sink_failed [] → IsBrokenOff had had held holds fault source_failed sink_failed (said_files image order)
     unread_broken none holds fault source_failed sink_failed front well cause =
         broken_unread had held holds fault source_failed sink_failed (said_files image order) (said_filed (filed image order) []).written
@@ -125,15 +130,19 @@ module _ (image : List ℕ) (order : Order) (had held : Option (List ℕ)) where
 
     module _ (some : takes_input order ≡ true) (left : Option (List ℕ)) (input : List ℕ) (reads : ReadsAll had left input) where
       pub read_done : (holds : Option (List ℕ)) (outcome : Outcome) → Appends held holds (said_filed (filed image (with_input order input)) []).written
-          → ((unread : List ℕ) → IsOutcome outcome (said_filed (filed image (with_input order input)) unread)) → IsDone had left held holds outcome (said_files image order)
+          → ((unread : List ℕ) → IsOutcome outcome (said_filed (filed image (with_input order input)) unread))
+          → IsDone had left held holds outcome (said_files image order)
       read_done holds outcome writes out =
           let told = sym (said_read some input) in
-          done_whole had left input reads (said_files image order) held holds outcome (subst (λ s. Appends held holds s.written) told writes) (subst (IsOutcome outcome) told (out []))
+          done_whole had left input reads (said_files image order) held holds outcome (subst (λ s. Appends held holds s.written) told writes)
+          (subst (IsOutcome outcome) told (out []))
           (ap (λ s. s.unread) (said_read some input) ∙ filed_unread (filed image (with_input order input)) [])
-          (subst IsSound (sym (out []).exit) (filed_exit (filed image (with_input order input)) []))
+          (subst IsSoundExit (sym (out []).exit) (filed_exit (filed image (with_input order input)) []))
 
-      pub read_broken : (holds : Option (List ℕ)) (fault : Fault) (source_failed sink_failed : Bool) → AppendsFront held holds (said_filed (filed image (with_input order input)) []).written
-          → source_failed ≡ false → IsCause fault false sink_failed [] → IsBrokenOff had left held holds fault source_failed sink_failed (said_files image order)
+      pub read_broken : (holds : Option (List ℕ)) (fault : Fault) (source_failed sink_failed : Bool)
+          → AppendsFront held holds (said_filed (filed image (with_input order input)) []).written
+          → source_failed ≡ false → IsCause fault false sink_failed []
+          → IsBrokenOff had left held holds fault source_failed sink_failed (said_files image order)
       read_broken holds fault source_failed sink_failed front well cause =
           broken_writing had left input reads (said_files image order) held holds fault source_failed sink_failed
           (subst (λ s. AppendsFront held holds s.written) (sym (said_read some input)) front) well cause
@@ -149,9 +158,10 @@ pub new_refused : (o : Option VolumeFault) (name : List ℕ) (blocks : ℕ) (fau
 new_refused o name blocks fault e outcome out input = rw e (out input)
 
 pub new_done : (name : List ℕ) (blocks : ℕ) (had held : Option (List ℕ)) (outcome : Outcome)
-    → ((input : List ℕ) → IsOutcome outcome (said_new (blank_fault name blocks) name blocks input)) → IsSound outcome.exit
+    → ((input : List ℕ) → IsOutcome outcome (said_new (blank_fault name blocks) name blocks input)) → IsSoundExit outcome.exit
     → IsDone had had held held outcome (said_new (blank_fault name blocks) name blocks)
-new_done name blocks had held outcome out sound = done_unread had held held outcome _ (λ input. (told (blank_fault name blocks) input, out input, left (blank_fault name blocks) input)) sound
+new_done name blocks had held outcome out sound =
+    done_unread had held held outcome _ (λ input. (told (blank_fault name blocks) input, out input, left (blank_fault name blocks) input)) sound
   where
     told : (o : Option VolumeFault) (input : List ℕ) → Appends held held (said_new o name blocks input).written
     told None input = Appends-nil held
@@ -173,7 +183,7 @@ module _ (r : Result (List ℕ) VolumeFault) where
   repair_refused fault e outcome out input = rw e (out input)
 
 pub repair_done : (r : Result (List ℕ) VolumeFault) (had held : Option (List ℕ)) (outcome : Outcome)
-    → ((input : List ℕ) → IsOutcome outcome (said_repaired r input)) → IsSound outcome.exit → IsDone had had held held outcome (said_repaired r)
+    → ((input : List ℕ) → IsOutcome outcome (said_repaired r input)) → IsSoundExit outcome.exit → IsDone had had held held outcome (said_repaired r)
 repair_done r had held outcome out sound = done_unread had held held outcome (said_repaired r) (λ input. (told r input, out input, left r input)) sound
   where
     told : (o : Result (List ℕ) VolumeFault) (input : List ℕ) → Appends held held (said_repaired o input).written

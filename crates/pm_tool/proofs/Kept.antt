@@ -1,5 +1,6 @@
 -- Jobs that read all of their input before they write.
-use Rattle.std.proofs.Common.{◌≡◌, ℕ, List, [], ◌∷◌, ◌++◌, Option, None, Some, Result, Ok, Err, Bool, false, refl, sym, ap, ◌∙◌, append-nil, arith, subst, IfSome, IfErr}
+use Rattle.std.proofs.Common.{◌≡◌, ℕ, List, [], ◌∷◌, ◌++◌, Option, None, Some, Result, Ok, Err, Bool}
+use Rattle.std.proofs.Common.{false, refl, sym, ap, ◌∙◌, append-nil, arith, subst, IfSome, IfErr}
 use Rattle.std.specs.Io.KnownBytes.{Consumes, Appends, Keeps, IsAtEnd}
 use Rattle.std.proofs.KnownBytes.{Appends-nil}
 use Rattle.pm_machine.specs.State.{State}
@@ -7,17 +8,18 @@ use Rattle.pm_streams.specs.declared.fault.Fault.{Fault}
 use Rattle.pm_tool.specs.declared.outcome.Job.{Job}
 use Rattle.pm_tool.specs.declared.outcome.Outcome.{Outcome}
 use Rattle.pm_tool.specs.declared.outcome.Refusal.{Refusal}
-use Rattle.pm_tool.specs.Hex.{spelled}
+use Rattle.pm_tool.specs.Hex.{hex_spelled}
 use Rattle.pm_tool.specs.Outcomes.{Said, refused, IsOutcome}
 use Rattle.pm_tool.specs.declared.steps.Show.TheVariants.{Trace}
 use Rattle.pm_tool.specs.Run.{run_of}
 use Rattle.pm_streams.proofs.Transfers.{cause_longer}
-use Rattle.pm_tool.specs.Said.{loaded, said, said_run, said_started, IsSound, Tells, IsDone, IsBrokenOff}
+use Rattle.pm_tool.specs.Said.{loaded, job_said, said_run, said_started, IsSoundExit, Tells, IsDone, IsBrokenOff}
 use Rattle.pm_streams.specs.Streams.{IsFront, AppendsFront, IsCause, ReadsAll}
 
 -- where the input is known, it is what was read and what is left
 pub tells_known : (had left held holds : Option (List ℕ)) (read : List ℕ) → Consumes had left read → (outcome : Outcome) (text : List ℕ → Said)
-    → ((rest : List ℕ) → left ≡ Some rest → Tells left held holds outcome (text (read ++ rest))) → IfSome had (λ input. Tells left held holds outcome (text input))
+    → ((rest : List ℕ) → left ≡ Some rest → Tells left held holds outcome (text (read ++ rest)))
+    → IfSome had (λ input. Tells left held holds outcome (text input))
 tells_known None left held holds read reads outcome text f = tt
 tells_known (Some input) None held holds read reads outcome text f = absurd reads
 tells_known (Some input) (Some rest) held holds read reads outcome text f = subst (λ i. Tells (Some rest) held holds outcome (text i)) (sym reads) (f rest refl)
@@ -49,7 +51,8 @@ module _ (had left : Option (List ℕ)) (input : List ℕ) (reads : ReadsAll had
   text_all rest e = ap text (ap (λ r. input ++ r) (no_rest rest e) ∙ append-nil input)
 
   -- all was read, and then all was written
-  pub done_whole : (held holds : Option (List ℕ)) (outcome : Outcome) → Appends held holds (text input).written → IsOutcome outcome (text input) → (text input).unread ≡ [] → IsSound outcome.exit
+  pub done_whole : (held holds : Option (List ℕ)) (outcome : Outcome) → Appends held holds (text input).written → IsOutcome outcome (text input)
+      → (text input).unread ≡ [] → IsSoundExit outcome.exit
       → IsDone had left held holds outcome text
   done_whole held holds outcome writes comes_to none sound = record {
     tells = tells_known had left held holds input reads.0 outcome text (λ rest e.
@@ -60,7 +63,8 @@ module _ (had left : Option (List ℕ)) (input : List ℕ) (reads : ReadsAll had
   }
 
   -- all was read, and then a front was written
-  pub broken_writing : (held holds : Option (List ℕ)) (fault : Fault) (source_failed sink_failed : Bool) → AppendsFront held holds (text input).written → source_failed ≡ false
+  pub broken_writing : (held holds : Option (List ℕ)) (fault : Fault) (source_failed sink_failed : Bool) → AppendsFront held holds (text input).written
+      → source_failed ≡ false
       → IsCause fault false sink_failed [] → IsBrokenOff had left held holds fault source_failed sink_failed text
   broken_writing held holds fault source_failed sink_failed writes well cause = record {
     cut = record {
@@ -77,7 +81,7 @@ module _ (had left : Option (List ℕ)) (input : List ℕ) (reads : ReadsAll had
 -- ---- the trace of the program that the input spells
 
 abbrev text_of : ℕ → List ℕ → Said
-text_of limit input = said_started Trace limit (loaded (spelled input)) []
+text_of limit input = said_started Trace limit (loaded (hex_spelled input)) []
 
 nothing_read : (left : Option (List ℕ)) (read : List ℕ) → Consumes (Some []) left read → read ≡ []
 nothing_read None read c = absurd c
@@ -91,16 +95,18 @@ nothing_left (Some (y ∷ rest)) [] unread c k = cc
 nothing_left (Some (y ∷ rest)) (x ∷ read) unread c k = cc
 
 module _ (had left : Option (List ℕ)) (input : List ℕ) (reads : ReadsAll had left input) (limit : ℕ) where
-  pub raw_refused : (refusal : Refusal) → Err refusal ≡ loaded (spelled input) → (held : Option (List ℕ)) (outcome : Outcome)
-      → ((unread : List ℕ) → IsOutcome outcome (refused refusal unread)) → IsDone had left held held outcome (λ i. said_started Trace limit (loaded (spelled i)) [])
+  pub raw_refused : (refusal : Refusal) → Err refusal ≡ loaded (hex_spelled input) → (held : Option (List ℕ)) (outcome : Outcome)
+      → ((unread : List ℕ) → IsOutcome outcome (refused refusal unread))
+      → IsDone had left held held outcome (λ i. said_started Trace limit (loaded (hex_spelled i)) [])
   raw_refused refusal loads held outcome out =
       let said = ap (λ start. said_started Trace limit start []) loads in
-      done_whole had left input reads (text_of limit) held held outcome (subst (λ s. Appends held held s.written) said (Appends-nil held)) (subst (IsOutcome outcome) said (out []))
-      (ap (λ s. s.unread) (sym said)) (subst IsSound (sym (out []).exit) refl)
+      done_whole had left input reads (text_of limit) held held outcome (subst (λ s. Appends held held s.written) said (Appends-nil held))
+      (subst (IsOutcome outcome) said (out []))
+      (ap (λ s. s.unread) (sym said)) (subst IsSoundExit (sym (out []).exit) refl)
 
-  module _ (machine : State) (loads : Ok machine ≡ loaded (spelled input)) (nothing held holds : Option (List ℕ)) where
+  module _ (machine : State) (loads : Ok machine ≡ loaded (hex_spelled input)) (nothing held holds : Option (List ℕ)) where
     pub raw_done : (outcome : Outcome) → IsDone (Some []) nothing held holds outcome (λ keys. said_run Trace (run_of Trace limit keys machine))
-        → IsDone had left held holds outcome (λ i. said_started Trace limit (loaded (spelled i)) [])
+        → IsDone had left held holds outcome (λ i. said_started Trace limit (loaded (hex_spelled i)) [])
     raw_done outcome d =
         let said = ap (λ start. said_started Trace limit start []) loads in
         done_whole had left input reads (text_of limit) held holds outcome (subst (λ s. Appends held holds s.written) said d.tells.written)
@@ -109,7 +115,7 @@ module _ (had left : Option (List ℕ)) (input : List ℕ) (reads : ReadsAll had
 
     pub raw_broken : (fault : Fault) (source_failed sink_failed : Bool) → source_failed ≡ false
         → IsBrokenOff (Some []) nothing held holds fault false sink_failed (λ keys. said_run Trace (run_of Trace limit keys machine))
-        → IsBrokenOff had left held holds fault source_failed sink_failed (λ i. said_started Trace limit (loaded (spelled i)) [])
+        → IsBrokenOff had left held holds fault source_failed sink_failed (λ i. said_started Trace limit (loaded (hex_spelled i)) [])
     raw_broken fault source_failed sink_failed well b =
         let said = ap (λ start. said_started Trace limit start []) loads in
         let none = nothing_read nothing b.cut.read b.cut.reads in
@@ -118,6 +124,6 @@ module _ (had left : Option (List ℕ)) (input : List ℕ) (reads : ReadsAll had
 
 -- the job is this one
 pub broken_job : (job this : Job) (had left held holds : Option (List ℕ)) (result : Result Outcome Fault) (source_failed sink_failed : Bool)
-    → IfErr result (λ fault. IsBrokenOff had left held holds fault source_failed sink_failed (said this)) → job ≡ this
-    → IfErr result (λ fault. IsBrokenOff had left held holds fault source_failed sink_failed (said job))
+    → IfErr result (λ fault. IsBrokenOff had left held holds fault source_failed sink_failed (job_said this)) → job ≡ this
+    → IfErr result (λ fault. IsBrokenOff had left held holds fault source_failed sink_failed (job_said job))
 broken_job job this had left held holds result source_failed sink_failed broken e = rw e broken

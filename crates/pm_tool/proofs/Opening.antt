@@ -1,9 +1,10 @@
 -- Images that are opened one after the other.
-use Rattle.std.proofs.Common.{◌≡◌, ◌<◌, ℕ, ◌+◌, List, [], ◌∷◌, ◌++◌, Option, None, Some, Vec, vec_items, option_map, length, take, set, refl, sym, ap, ◌∙◌, append_assoc, append-nil, arith}
+use Rattle.std.proofs.Common.{◌≡◌, ◌<◌, ℕ, ◌+◌, List, [], ◌∷◌, ◌++◌, Option, None, Some, Vec, vec_items, option_map}
+use Rattle.std.proofs.Common.{length, take, set, refl, sym, ap, ◌∙◌, append_assoc, append-nil, arith}
 use Rattle.std.proofs.lemmas.List.{take_more_set}
 use Rattle.std.proofs.Math.Seq.{take-length}
 use Rattle.pm_volume.specs.declared.fault.VolumeFault.{VolumeFault}
-use Rattle.pm_tool.specs.Disks.{disk_fault, first_fault, images_of, or_next}
+use Rattle.pm_tool.specs.Disks.{disk_fault, first_disk_fault, images_of, or_next}
 
 module _ {Z : Type 0} (rest rest' : List (Option (Vec ℕ Z))) (image : Option (Vec ℕ Z)) (next : rest ≡ image ∷ rest') where
   -- one place more is taken
@@ -18,29 +19,35 @@ module _ {Z : Type 0} (rest rest' : List (Option (Vec ℕ Z))) (image : Option (
       omega arith
 
   -- the image is a volume
-  pub fault_later : (fault : Option VolumeFault) → fault ≡ first_fault (images_of rest) → disk_fault (option_map vec_items image) ≡ None → fault ≡ first_fault (images_of rest')
+  pub fault_later : (fault : Option VolumeFault) → fault ≡ first_disk_fault (images_of rest) → disk_fault (option_map vec_items image) ≡ None
+      → fault ≡ first_disk_fault (images_of rest')
   fault_later fault so_far sound =
-      so_far ∙ ap (λ images. first_fault (images_of images)) next ∙ ap (λ f. or_next f (first_fault (images_of rest'))) sound
+      so_far ∙ ap (λ images. first_disk_fault (images_of images)) next ∙ ap (λ f. or_next f (first_disk_fault (images_of rest'))) sound
 
   -- the image is none
-  pub fault_here : (fault : Option VolumeFault) (this : VolumeFault) → fault ≡ first_fault (images_of rest) → disk_fault (option_map vec_items image) ≡ Some this → fault ≡ Some this
+  pub fault_here : (fault : Option VolumeFault) (this : VolumeFault) → fault ≡ first_disk_fault (images_of rest)
+      → disk_fault (option_map vec_items image) ≡ Some this → fault ≡ Some this
   fault_here fault this so_far found =
-      so_far ∙ ap (λ images. first_fault (images_of images)) next ∙ ap (λ f. or_next f (first_fault (images_of rest'))) found
+      so_far ∙ ap (λ images. first_disk_fault (images_of images)) next ∙ ap (λ f. or_next f (first_disk_fault (images_of rest'))) found
 
-  pub opened_next : (whole volumes : List (Option (List ℕ))) (place : ℕ) (volume : Option (List ℕ)) → whole ≡ take place volumes ++ images_of rest → place < length volumes
+  pub opened_next : (whole volumes : List (Option (List ℕ))) (place : ℕ) (volume : Option (List ℕ)) → whole ≡ take place volumes ++ images_of rest
+      → place < length volumes
       → volume ≡ option_map vec_items image → whole ≡ take (place + 1) (set volumes place volume) ++ images_of rest'
   opened_next whole volumes place volume so_far below same =
       so_far ∙ ap (λ images. take place volumes ++ images_of images) next ∙ ap (λ v. take place volumes ++ v ∷ images_of rest') (sym same)
-      ∙ sym (append_assoc (take place volumes) (volume ∷ []) (images_of rest')) ∙ ap (λ l. l ++ images_of rest') (sym (take_more_set volumes place volume below))
+      ∙ sym (append_assoc (take place volumes) (volume ∷ []) (images_of rest'))
+      ∙ ap (λ l. l ++ images_of rest') (sym (take_more_set volumes place volume below))
 
 module _ {Z : Type 0} (rest : List (Option (Vec ℕ Z))) (none : length rest ≡ 0) where
   no_more : rest ≡ []
   no_more = elim rest as (λ r. length r ≡ 0 → r ≡ []) [ [] ↦ λ e. refl | x ∷ xs ↦ λ e. absurd (omega arith) ] none
 
-  pub fault_none : (fault : Option VolumeFault) → fault ≡ first_fault (images_of rest) → fault ≡ None
-  fault_none fault so_far = so_far ∙ ap (λ images. first_fault (images_of images)) no_more
+  pub fault_none : (fault : Option VolumeFault) → fault ≡ first_disk_fault (images_of rest) → fault ≡ None
+  fault_none fault so_far = so_far ∙ ap (λ images. first_disk_fault (images_of images)) no_more
 
-  pub opened_all : (whole volumes : List (Option (List ℕ))) (place : ℕ) → whole ≡ take place volumes ++ images_of rest → place + length rest ≡ 6 → length volumes ≡ 6 → volumes ≡ whole
+  pub opened_all : (whole volumes : List (Option (List ℕ))) (place : ℕ) → whole ≡ take place volumes ++ images_of rest → place + length rest ≡ 6
+      → length volumes ≡ 6 → volumes ≡ whole
   opened_all whole volumes place so_far count size =
       let e : place ≡ length volumes = omega arith in
-      sym (so_far ∙ ap (λ images. take place volumes ++ images_of images) no_more ∙ append-nil (take place volumes) ∙ ap (λ k. take k volumes) e ∙ take-length volumes)
+      sym (so_far ∙ ap (λ images. take place volumes ++ images_of images) no_more ∙ append-nil (take place volumes) ∙ ap (λ k. take k volumes) e
+      ∙ take-length volumes)

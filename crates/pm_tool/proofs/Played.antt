@@ -11,8 +11,8 @@ use Rattle.pm_tool.specs.declared.outcome.Refusal.{Refusal}
 use Rattle.pm_tool.specs.declared.steps.Show.{Show}
 use Rattle.pm_tool.specs.declared.steps.Show.TheVariants.{Trace, Console}
 use Rattle.pm_tool.specs.Outcomes.{Said, exit_of, refused, IsOutcome}
-use Rattle.pm_tool.specs.Run.{Run, end_text, ends, run_of, IsOver, IsBroken}
-use Rattle.pm_tool.specs.Said.{said_run, said_started, shown_started, IsSound, IsDone, IsBrokenOff, WritesFirst}
+use Rattle.pm_tool.specs.Run.{Run, end_text, ended_run, run_of, IsOver, IsBroken}
+use Rattle.pm_tool.specs.Said.{said_run, said_started, shown_started, IsSoundExit, IsDone, IsBrokenOff, WritesFirst}
 use Rattle.pm_streams.specs.Streams.{IsFront, AppendsFront, IsCause}
 use Rattle.pm_tool.proofs.Filing.{done_unread}
 use Rattle.pm_tool.proofs.Kept.{if_known, tells_known}
@@ -31,7 +31,7 @@ said_exit : (show : Show) (run : Run) → (said_run show run).exit ≡ exit_of r
 said_exit Trace run = refl
 said_exit (Console save) run = refl
 
-sound_ending : (ending : Ending) → IsSound (exit_of ending)
+sound_ending : (ending : Ending) → IsSoundExit (exit_of ending)
 sound_ending endings.Ended = refl
 sound_ending (endings.Error error) = refl
 sound_ending endings.Limit = refl
@@ -45,16 +45,18 @@ module _ (had left held holds : Option (List ℕ)) (page : List ℕ) (show : Sho
   rest_drained : (rest : List ℕ) → left ≡ Some rest → ending ≡ endings.Waiting → rest ≡ []
   rest_drained rest e w = subst IsAtEnd e (o.drained w)
 
-  said_over : (rest : List ℕ) → (ending ≡ endings.Waiting → rest ≡ []) → text_of show limit began (o.read ++ rest) ≡ said_run show (ends o.shown ending m rest)
+  said_over : (rest : List ℕ) → (ending ≡ endings.Waiting → rest ≡ [])
+      → text_of show limit began (o.read ++ rest) ≡ said_run show (ended_run o.shown ending m rest)
   said_over rest w = ap (said_run show) (o.run rest w)
 
-  written_over : (rest : List ℕ) → (ending ≡ endings.Waiting → rest ≡ []) → (text_of show limit began (o.read ++ rest)).written ≡ o.shown ++ end_text show ending m.steps
-  written_over rest w = ap (λ s. s.written) (said_over rest w) ∙ said_written show (ends o.shown ending m rest)
+  written_over : (rest : List ℕ) → (ending ≡ endings.Waiting → rest ≡ [])
+      → (text_of show limit began (o.read ++ rest)).written ≡ o.shown ++ end_text show ending m.steps
+  written_over rest w = ap (λ s. s.written) (said_over rest w) ∙ said_written show (ended_run o.shown ending m rest)
 
   module _ (holds' : Option (List ℕ)) where
     -- the end was told
     pub done_over : (outcome : Outcome) → Appends holds holds' (page ++ end_text show ending m.steps)
-        → ((shown unread : List ℕ) → IsOutcome outcome (said_run show (ends shown ending m unread)))
+        → ((shown unread : List ℕ) → IsOutcome outcome (said_run show (ended_run shown ending m unread)))
         → IsDone had left held holds' outcome (λ input. said_run show (run_of show limit input began))
     done_over outcome a out =
         let whole = but_grown held holds page o.shown (end_text show ending m.steps) (page ++ end_text show ending m.steps) o.writes refl in
@@ -62,17 +64,21 @@ module _ (had left held holds : Option (List ℕ)) (page : List ℕ) (show : Sho
           tells = tells_known had left held holds' o.read o.reads outcome (text_of show limit began) (λ rest e.
               let w = rest_drained rest e in
               record {
-                written = subst (Appends held holds') (sym (written_over rest w)) (but_all held holds holds' _ (o.shown ++ end_text show ending m.steps) whole a);
+                written = subst (Appends held holds') (sym (written_over rest w))
+                    (but_all held holds holds' _ (o.shown ++ end_text show ending m.steps) whole a);
                 comes_to = subst (IsOutcome outcome) (sym (said_over rest w)) (out o.shown rest);
-                unread = rw (ap (λ s. s.unread) (said_over rest w) ∙ said_unread show (ends o.shown ending m rest)) (subst (Keeps (Some rest)) (sym e) refl);
+                unread = rw (ap (λ s. s.unread) (said_over rest w) ∙ said_unread show (ended_run o.shown ending m rest))
+                    (subst (Keeps (Some rest)) (sym e) refl);
               });
           few = (o.read, o.reads, o.few);
-          exit = subst IsSound (sym ((out [] []).exit ∙ said_exit show (ends [] ending m []))) (sound_ending ending);
+          exit = subst IsSoundExit (sym ((out [] []).exit ∙ said_exit show (ended_run [] ending m []))) (sound_ending ending);
         }
 
     -- the end was not told whole
-    pub broken_telling : (fault : Fault) (source_failed sink_failed : Bool) → AppendsFront holds holds' (page ++ end_text show ending m.steps) → source_failed ≡ false
-        → IsCause fault false sink_failed [] → IsBrokenOff had left held holds' fault source_failed sink_failed (λ input. said_run show (run_of show limit input began))
+    pub broken_telling : (fault : Fault) (source_failed sink_failed : Bool) → AppendsFront holds holds' (page ++ end_text show ending m.steps)
+        → source_failed ≡ false
+        → IsCause fault false sink_failed [] → IsBrokenOff had left held holds' fault source_failed sink_failed
+        (λ input. said_run show (run_of show limit input began))
     broken_telling fault source_failed sink_failed a well cause =
         let whole = but_grown held holds page o.shown (end_text show ending m.steps) (page ++ end_text show ending m.steps) o.writes refl in
         let front = but_front held holds holds' _ (o.shown ++ end_text show ending m.steps) whole a in
@@ -82,7 +88,8 @@ module _ (had left held holds : Option (List ℕ)) (page : List ℕ) (show : Sho
             front = front.0;
             reads = o.reads;
             writes = front.1;
-            so_far = subst (λ r. IsFront front.0 (text_of show limit began r).written) (append-nil o.read) (subst (IsFront front.0) (sym (written_over [] (λ _. refl))) front.2);
+            so_far = subst (λ r. IsFront front.0 (text_of show limit began r).written) (append-nil o.read)
+                (subst (IsFront front.0) (sym (written_over [] (λ _. refl))) front.2);
             whole = if_known left _ (λ rest e. subst (IsFront front.0) (sym (written_over rest (rest_drained rest e))) front.2);
           };
           cause = rw well (cause_longer fault sink_failed o.read o.few cause);
@@ -107,15 +114,19 @@ broken_run had left held holds show limit began fault source_failed sink_failed 
     begins : (input : List ℕ) → IsFront b.front (run_of show limit input began).shown → IsFront b.front (text_of show limit began input).written
     begins input f =
         let run = run_of show limit input began in
-        rw (said_written show run) (front_trans b.front run.shown (run.shown ++ end_text show run.ending run.machine.steps) f (end_text show run.ending run.machine.steps, refl))
+        rw (said_written show run) (front_trans b.front run.shown (run.shown ++ end_text show run.ending run.machine.steps) f
+        (end_text show run.ending run.machine.steps, refl))
 
 -- ---- a machine that starts, or none
 
-pub started_done : (had left held holds : Option (List ℕ)) (show : Show) (limit : ℕ) (start : Result State Refusal) (m : State) (outcome : Outcome) → Ok m ≡ start
-    → IsDone had left held holds outcome (λ input. said_run show (run_of show limit input m)) → IsDone had left held holds outcome (said_started show limit start)
+pub started_done : (had left held holds : Option (List ℕ)) (show : Show) (limit : ℕ) (start : Result State Refusal) (m : State) (outcome : Outcome)
+    → Ok m ≡ start
+    → IsDone had left held holds outcome (λ input. said_run show (run_of show limit input m))
+    → IsDone had left held holds outcome (said_started show limit start)
 started_done had left held holds show limit start m outcome e d = subst (λ s. IsDone had left held holds outcome (said_started show limit s)) e d
 
-pub started_broken : (had left held holds : Option (List ℕ)) (show : Show) (limit : ℕ) (start : Result State Refusal) (m : State) (fault : Fault) (source_failed sink_failed : Bool) → Ok m ≡ start
+pub started_broken : (had left held holds : Option (List ℕ)) (show : Show) (limit : ℕ) (start : Result State Refusal) (m : State) (fault : Fault)
+    (source_failed sink_failed : Bool) → Ok m ≡ start
     → IsBrokenOff had left held holds fault source_failed sink_failed (λ input. said_run show (run_of show limit input m))
     → IsBrokenOff had left held holds fault source_failed sink_failed (said_started show limit start)
 started_broken had left held holds show limit start m fault source_failed sink_failed e b =
@@ -126,9 +137,10 @@ pub started_first : (had left held holds : Option (List ℕ)) (show : Show) (lim
 started_first had left held holds show limit start m e w = subst (λ s. WritesFirst had left held holds (shown_started show limit s)) e w
 
 -- the input is refused before it is read
-pub started_refused : (had held : Option (List ℕ)) (show : Show) (limit : ℕ) (start : Result State Refusal) (refusal : Refusal) (outcome : Outcome) → Err refusal ≡ start
+pub started_refused : (had held : Option (List ℕ)) (show : Show) (limit : ℕ) (start : Result State Refusal) (refusal : Refusal) (outcome : Outcome)
+    → Err refusal ≡ start
     → ((unread : List ℕ) → IsOutcome outcome (refused refusal unread)) → IsDone had had held held outcome (said_started show limit start)
 started_refused had held show limit start refusal outcome e out =
     subst (λ s. IsDone had had held held outcome (said_started show limit s)) e
     (done_unread had held held outcome (said_started show limit (Err refusal)) (λ input. (Appends-nil held, out input, refl))
-    (subst IsSound (sym (out []).exit) refl))
+    (subst IsSoundExit (sym (out []).exit) refl))

@@ -3,7 +3,7 @@ use Rattle.std.proofs.Common.{◌≡◌, ◌<◌, ◌≤◌, ℕ, zero, suc, ◌
 use Rattle.std.proofs.lemmas.List.{drop_all}
 use Rattle.pm_machine.specs.State.{State}
 use Rattle.pm_machine.specs.Steps.{stepped}
-use Rattle.pm_machine.specs.Runs.{AllWent, after}
+use Rattle.pm_machine.specs.Runs.{AllWent, after_steps}
 use Rattle.pm_machine.specs.Quick.{QuickSteps}
 use Rattle.pm_machine.specs.declared.state.Stop.TheVariants.{Went}
 use Rattle.pm_tool.specs.declared.steps.Show.{Show}
@@ -21,27 +21,28 @@ quick_steps_unshown save limit s count t g = record {
   went = g.went;
   left = g.left;
   blank = λ k h.
-      ap (λ d. drop (length d.console) (after (suc k) s).devices.console) (g.devices k (omega (arith, h)))
+      ap (λ d. drop (length d.console) (after_steps (suc k) s).devices.console) (g.devices k (omega (arith, h)))
       ∙ ap (λ d. drop (length s.devices.console) d.console) (g.devices (suc k) (omega (arith, h)))
       ∙ drop_whole s.devices.console;
 }
 
 pub unshown_none : (limit : ℕ) (s : State) → Unshown Trace limit s 0 s
-unfolding after
+unfolding after_steps
 unshown_none limit s = record { within = omega arith; went = λ k h. absurd (omega arith); left = refl; blank = λ k h. absurd (omega arith) }
 
 module _ (had left held holds : Option (List ℕ)) (page : List ℕ) (taken : ℕ) (show : Show) (limit : ℕ) (began : State) (n : ℕ) (m : State)
     (u : IsUnderWay had left held holds page taken show limit began n m) where
-  under_way_after : (count : ℕ) → count ≤ n → AllWent count m → ((k : ℕ) → k < count → shown_of show (after k m) (after (suc k) m) ≡ [])
-      → IsUnderWay had left held holds page taken show limit began (n - count) (after count m)
-  unfolding after
+  under_way_after : (count : ℕ) → count ≤ n → AllWent count m → ((k : ℕ) → k < count → shown_of show (after_steps k m) (after_steps (suc k) m) ≡ [])
+      → IsUnderWay had left held holds page taken show limit began (n - count) (after_steps count m)
+  unfolding after_steps
   under_way_after zero within went blank = let e : n - 0 ≡ n = omega arith in rw e u
   under_way_after (suc k) within went blank =
       let before = under_way_after k (omega (arith, within)) (λ i h. went i (omega (arith, h))) (λ i h. blank i (omega (arith, h))) in
       let some : 0 < n - k = omega (arith, within) in
-      let step : stepped (after k m) ≡ ((stepped (after k m)).0, Went) = ap (λ a. ((stepped (after k m)).0, a)) (went k (omega arith)) in
-      let grown : page ≡ page ++ shown_of show (after k m) (after (suc k) m) = rw (blank k (omega arith)) (sym (append-nil page)) in
-      under_way_went had left held holds page taken show limit began (n - k) (after k m) before page (stepped (after k m)).0 some (n - suc k) step grown (omega arith)
+      let step : stepped (after_steps k m) ≡ ((stepped (after_steps k m)).0, Went) = ap (λ a. ((stepped (after_steps k m)).0, a)) (went k (omega arith)) in
+      let grown : page ≡ page ++ shown_of show (after_steps k m) (after_steps (suc k) m) = rw (blank k (omega arith)) (sym (append-nil page)) in
+      under_way_went had left held holds page taken show limit began (n - k) (after_steps k m) before page (stepped (after_steps k m)).0 some
+      (n - suc k) step grown (omega arith)
 
   pub under_way_unshown : (count j : ℕ) (t : State) → Unshown show n m count t → j ≡ n - count → IsUnderWay had left held holds page taken show limit began j t
   under_way_unshown count j t h e = subst (λ i. IsUnderWay had left held holds page taken show limit began i t) (sym e)

@@ -23,9 +23,11 @@ key_before run byte bytes m e = (Key byte ∷ e.0, record { alone = e.1.alone; l
 none_made : (run : Run) (m : State) → run.machine ≡ m → Made run run.unread m
 none_made run m e = ([], record { alone = refl; left = e; read = refl })
 
-follows_made : (show : Show) (rest : List ℕ → State → Run) (m after : State) (stop : Stop) (bytes : List ℕ) → ((bytes' : List ℕ) (m' : State) → Made (rest bytes' m') bytes' m')
+follows_made : (show : Show) (rest : List ℕ → State → Run) (m after : State) (stop : Stop) (bytes : List ℕ)
+    → ((bytes' : List ℕ) (m' : State) → Made (rest bytes' m') bytes' m')
     → Made (follows show rest m after stop bytes) bytes after
-follows_made show rest m after Went bytes made = ((made bytes after).0, record { alone = (made bytes after).1.alone; left = (made bytes after).1.left; read = (made bytes after).1.read })
+follows_made show rest m after Went bytes made =
+    ((made bytes after).0, record { alone = (made bytes after).1.alone; left = (made bytes after).1.left; read = (made bytes after).1.read })
 follows_made show rest m after Waiting bytes made = none_made (follows show rest m after Waiting bytes) after refl
 follows_made show rest m after Ended bytes made = none_made (follows show rest m after Ended bytes) after refl
 follows_made show rest m after (Halted error) bytes made = none_made (follows show rest m after (Halted error) bytes) after refl
@@ -34,7 +36,8 @@ either_made : (waits : Bool) (run other : Run) (bytes : List ℕ) (m : State) �
 either_made true run other bytes m a b = a
 either_made false run other bytes m a b = b
 
-turn_made : (show : Show) (rest : List ℕ → State → Run) (bytes : List ℕ) (m : State) → ((bytes' : List ℕ) (m' : State) → Made (rest bytes' m') bytes' m') → Made (turn show rest bytes m) bytes m
+turn_made : (show : Show) (rest : List ℕ → State → Run) (bytes : List ℕ) (m : State) → ((bytes' : List ℕ) (m' : State) → Made (rest bytes' m') bytes' m')
+    → Made (turn show rest bytes m) bytes m
 unfolding turn
 turn_made show rest [] m made = step_before _ [] m (follows_made show rest m (stepped m).0 (stepped m).1 [] made)
 turn_made show rest (byte ∷ bytes) m made =
@@ -49,18 +52,22 @@ runs_are_events show (suc n) bytes m = turn_made show (run_of show n) bytes m (�
 
 -- ---- what is shown
 
-follows_alike : (show other : Show) (rest rest' : List ℕ → State → Run) (m after : State) (stop : Stop) (bytes : List ℕ) → ((bytes' : List ℕ) (m' : State) → AreAlike (rest bytes' m') (rest' bytes' m'))
+follows_alike : (show other : Show) (rest rest' : List ℕ → State → Run) (m after : State) (stop : Stop) (bytes : List ℕ)
+    → ((bytes' : List ℕ) (m' : State) → AreAlike (rest bytes' m') (rest' bytes' m'))
     → AreAlike (follows show rest m after stop bytes) (follows other rest' m after stop bytes)
-follows_alike show other rest rest' m after Went bytes alike = record { ending = (alike bytes after).ending; machine = (alike bytes after).machine; unread = (alike bytes after).unread }
+follows_alike show other rest rest' m after Went bytes alike =
+    record { ending = (alike bytes after).ending; machine = (alike bytes after).machine; unread = (alike bytes after).unread }
 follows_alike show other rest rest' m after Waiting bytes alike = record { ending = refl; machine = refl; unread = refl }
 follows_alike show other rest rest' m after Ended bytes alike = record { ending = refl; machine = refl; unread = refl }
 follows_alike show other rest rest' m after (Halted error) bytes alike = record { ending = refl; machine = refl; unread = refl }
 
-either_alike : (waits : Bool) (run run' other other' : Run) → AreAlike run run' → AreAlike other other' → AreAlike (cond waits run other) (cond waits run' other')
+either_alike : (waits : Bool) (run run' other other' : Run) → AreAlike run run' → AreAlike other other'
+    → AreAlike (cond waits run other) (cond waits run' other')
 either_alike true run run' other other' a b = a
 either_alike false run run' other other' a b = b
 
-turn_alike : (show other : Show) (rest rest' : List ℕ → State → Run) (bytes : List ℕ) (m : State) → ((bytes' : List ℕ) (m' : State) → AreAlike (rest bytes' m') (rest' bytes' m'))
+turn_alike : (show other : Show) (rest rest' : List ℕ → State → Run) (bytes : List ℕ) (m : State)
+    → ((bytes' : List ℕ) (m' : State) → AreAlike (rest bytes' m') (rest' bytes' m'))
     → AreAlike (turn show rest bytes m) (turn other rest' bytes m)
 unfolding turn
 turn_alike show other rest rest' [] m alike = follows_alike show other rest rest' m (stepped m).0 (stepped m).1 [] alike

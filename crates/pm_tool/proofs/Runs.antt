@@ -7,7 +7,7 @@ use Rattle.pm_machine.specs.declared.state.Stop.{Stop}
 use Rattle.pm_machine.specs.declared.state.Stop.TheVariants.{Waiting}
 use Rattle.pm_tool.specs.declared.ending.Ending.TheVariants as endings
 use Rattle.pm_tool.specs.declared.steps.Show.{Show}
-use Rattle.pm_tool.specs.Run.{ends, is_waiting, follows, turn, run_of}
+use Rattle.pm_tool.specs.Run.{ended_run, is_waiting, follows, turn, run_of}
 
 -- ---- the definitions, one turn at a time
 
@@ -28,11 +28,11 @@ unfolding run_of turn
 run_of-waits show zero key rest m after h e = absurd (omega arith)
 run_of-waits show (suc n) key rest m after h e = rw e refl
 
-pub run_of-stuck : (show : Show) (n : ℕ) (m after : State) → 0 < n → stepped m ≡ (after, Waiting) → run_of show n [] m ≡ ends [] endings.Waiting after []
+pub run_of-stuck : (show : Show) (n : ℕ) (m after : State) → 0 < n → stepped m ≡ (after, Waiting) → run_of show n [] m ≡ ended_run [] endings.Waiting after []
 unfolding run_of turn
 run_of-stuck show zero m after h e = absurd (omega arith)
 run_of-stuck show (suc n) m after h e = rw e refl
 
-pub run_of-none : (show : Show) (keys : List ℕ) (m : State) → run_of show 0 keys m ≡ ends [] endings.Limit m keys
+pub run_of-none : (show : Show) (keys : List ℕ) (m : State) → run_of show 0 keys m ≡ ended_run [] endings.Limit m keys
 unfolding run_of
 run_of-none show keys m = refl

@@ -1,5 +1,6 @@
 -- How a session that is written as it goes goes on by one byte, and how it ends.
-use Rattle.std.proofs.Common.{◌≡◌, ℕ, ◌+◌, ◌<◌, ◌≤◌, List, [], ◌∷◌, ◌++◌, Option, None, Some, Result, Ok, Err, Bool, true, false, length, refl, sym, ap, ◌∙◌, append_assoc, append-nil, inl, arith, subst}
+use Rattle.std.proofs.Common.{◌≡◌, ℕ, ◌+◌, ◌<◌, ◌≤◌, List, [], ◌∷◌, ◌++◌, Option, None, Some, Result, Ok, Err, Bool}
+use Rattle.std.proofs.Common.{true, false, length, refl, sym, ap, ◌∙◌, append_assoc, append-nil, inl, arith, subst}
 use Rattle.std.proofs.lemmas.List.{length-append}
 use Rattle.std.specs.Prelude.{◌==◌}
 use Rattle.std.specs.Io.KnownBytes.{Consumes, Appends, Keeps, IsAtEnd}
@@ -13,15 +14,16 @@ use Rattle.pm_tool.specs.declared.outcome.Exit.TheVariants as exits
 use Rattle.pm_tool.specs.declared.outcome.Outcome.{Outcome}
 use Rattle.pm_tool.specs.declared.outcome.Refusal.{Refusal}
 use Rattle.pm_streams.specs.declared.source.TheConstants.{INPUT_LIMIT}
-use Rattle.pm_tool.specs.Answers.{after_line}
+use Rattle.pm_tool.specs.Answers.{session_after}
 use Rattle.pm_tool.specs.Outcomes.{IsOutcome, refused}
-use Rattle.pm_tool.specs.Said.{IsBrokenOff, IsDone, IsSound, WritesFirst}
-use Rattle.pm_tool.specs.Sessions.{answer, debugged, is_quit, opened, said_debug}
+use Rattle.pm_tool.specs.Said.{IsBrokenOff, IsDone, IsSoundExit, WritesFirst}
+use Rattle.pm_tool.specs.Sessions.{answer_line, debugged, is_quit, opened, said_debug}
 use Rattle.pm_streams.specs.Streams.{IsFront, AppendsFront, IsCause, ReadsByte}
 use Rattle.pm_tool.specs.Talks.{IsCutOff, IsTold, Told, told, whole_lines}
 use Rattle.pm_tool.proofs.Filing.{done_unread}
 use Rattle.pm_tool.proofs.Kept.{if_known, tells_known}
-use Rattle.pm_tool.proofs.SessionLaws.{after_telling, answer_quit, told_byte, told_from, told_last, told_line, told_none, told_nothing, told_quit, told_start, whole_lines_byte, whole_lines_feed, whole_lines_none}
+use Rattle.pm_tool.proofs.SessionLaws.{after_telling, answer_quit, told_byte, told_from, told_last, told_line, told_none, told_nothing}
+use Rattle.pm_tool.proofs.SessionLaws.{told_quit, told_start, whole_lines_byte, whole_lines_feed, whole_lines_none}
 use Rattle.pm_streams.proofs.Transfers.{cause_longer, front_after, front_trans}
 
 -- a session as far as it went: bytes were read, answers were written, and the last line has these bytes so far
@@ -77,7 +79,8 @@ module _ (had left held holds : Option (List ℕ)) (line : List ℕ) (taken : �
     }
 
     -- the session is broken off behind a byte
-    pub cut_behind : (fault : Fault) (source_failed sink_failed : Bool) → source_failed ≡ false → ((read : List ℕ) → length read ≡ taken + 1 → IsCause fault source_failed sink_failed read)
+    pub cut_behind : (fault : Fault) (source_failed sink_failed : Bool) → source_failed ≡ false
+        → ((read : List ℕ) → length read ≡ taken + 1 → IsCause fault source_failed sink_failed read)
         → IsCutOff had left' held holds began fault source_failed sink_failed
     cut_behind fault source_failed sink_failed well cause = record {
       read = u.read ++ c ∷ [];
@@ -93,10 +96,11 @@ module _ (had left held holds : Option (List ℕ)) (line : List ℕ) (taken : �
 
     module _ (feed : (c == 10) ≡ true) (holds' : Option (List ℕ)) where
       -- a line is answered
-      pub talking_line : (line' : List ℕ) (d' : Session) → is_quit (command_of line) ≡ false → Appends holds holds' (answer (command_of line) d) → line' ≡ []
-          → d' ≡ after_line (command_of line) d → IsTalking had left' held holds' line' (taken + 1) began d'
+      pub talking_line : (line' : List ℕ) (d' : Session) → is_quit (command_of line) ≡ false → Appends holds holds' (answer_line (command_of line) d)
+          → line' ≡ []
+          → d' ≡ session_after (command_of line) d → IsTalking had left' held holds' line' (taken + 1) began d'
       talking_line line' d' q a e s =
-          let text : List ℕ = answer (command_of line) d in
+          let text : List ℕ = answer_line (command_of line) d in
           record {
             read = u.read ++ c ∷ [];
             shown = u.shown ++ text;
@@ -104,17 +108,20 @@ module _ (had left held holds : Option (List ℕ)) (line : List ℕ) (taken : �
             reads = more_reads;
             writes = Appends-trans held holds holds' u.shown text u.writes a;
             run = λ rest. rw (e, s) (more_run rest ∙ ap (after_telling u.shown) (told_line line c rest d feed q)
-                ∙ regroup u.shown text (told rest (after_line (command_of line) d)) ∙ ap (after_telling (u.shown ++ text)) (told_start rest (after_line (command_of line) d)));
+                ∙ regroup u.shown text (told rest (session_after (command_of line) d))
+                ∙ ap (after_telling (u.shown ++ text)) (told_start rest (session_after (command_of line) d)));
             prompt = ap (λ lines. (told lines began).text) (whole_lines_feed u.read c feed ∙ sym (append-nil (u.read ++ c ∷ [])))
-                ∙ ap (λ t. t.text) (more_run [] ∙ ap (after_telling u.shown) (told_line line c [] d feed q) ∙ regroup u.shown text (told [] (after_line (command_of line) d)))
-                ∙ ap (λ t. (u.shown ++ text) ++ t) (told_nothing (after_line (command_of line) d)) ∙ append-nil (u.shown ++ text);
+                ∙ ap (λ t. t.text) (more_run [] ∙ ap (after_telling u.shown) (told_line line c [] d feed q)
+                ∙ regroup u.shown text (told [] (session_after (command_of line) d)))
+                ∙ ap (λ t. (u.shown ++ text) ++ t) (told_nothing (session_after (command_of line) d)) ∙ append-nil (u.shown ++ text);
           }
         where
           regroup : (a b : List ℕ) (t : Told) → after_telling a (after_telling b t) ≡ after_telling (a ++ b) t
           regroup a b t = ap (λ text. record t { text = text }) (sym (append_assoc a b t.text))
 
       -- the session ends by `quit`
-      pub told_by_quit : is_quit (command_of line) ≡ true → Appends holds holds' (answer (command_of line) d) → taken + 1 ≤ INPUT_LIMIT → IsTold had left' held holds' began
+      pub told_by_quit : is_quit (command_of line) ≡ true → Appends holds holds' (answer_line (command_of line) d) → taken + 1 ≤ INPUT_LIMIT
+          → IsTold had left' held holds' began
       told_by_quit q a few = record {
         read = u.read ++ c ∷ [];
         shown = u.shown;
@@ -122,12 +129,14 @@ module _ (had left held holds : Option (List ℕ)) (line : List ℕ) (taken : �
         few = rw more_count few;
         reads = more_reads;
         writes = subst (Appends held holds') (append-nil u.shown) (Appends-trans held holds holds' u.shown [] u.writes (rw (answer_quit line d q) at a));
-        all = λ rest _. more_run rest ∙ ap (after_telling u.shown) (told_quit line c rest d feed q) ∙ ap (λ text. record { text = text; unread = rest }) (append-nil u.shown);
+        all = λ rest _. more_run rest ∙ ap (after_telling u.shown) (told_quit line c rest d feed q)
+            ∙ ap (λ text. record { text = text; unread = rest }) (append-nil u.shown);
         drained = λ e. cc;
       }
 
       -- the answer could not be written
-      pub cut_answering : (fault : Fault) (source_failed sink_failed : Bool) → AppendsFront holds holds' (answer (command_of line) d) → taken + 1 ≤ INPUT_LIMIT → source_failed ≡ false
+      pub cut_answering : (fault : Fault) (source_failed sink_failed : Bool) → AppendsFront holds holds' (answer_line (command_of line) d)
+          → taken + 1 ≤ INPUT_LIMIT → source_failed ≡ false
           → IsCause fault false sink_failed [] → IsCutOff had left' held holds' began fault source_failed sink_failed
       cut_answering fault source_failed sink_failed a few well cause = record {
         read = u.read ++ c ∷ [];
@@ -135,15 +144,16 @@ module _ (had left held holds : Option (List ℕ)) (line : List ℕ) (taken : �
         ended = false;
         reads = more_reads;
         writes = Appends-trans held holds holds' u.shown a.0 u.writes a.1;
-        begins = λ rest _. rw (more_run rest) (front_after u.shown a.0 (told_from line (c ∷ rest) d).text (front_trans a.0 (answer (command_of line) d) (told_from line (c ∷ rest) d).text a.2 (answered rest (is_quit (command_of line)) refl)));
+        begins = λ rest _. rw (more_run rest) (front_after u.shown a.0 (told_from line (c ∷ rest) d).text
+            (front_trans a.0 (answer_line (command_of line) d) (told_from line (c ∷ rest) d).text a.2 (answered rest (is_quit (command_of line)) refl)));
         drained = λ e. cc;
         prompt = λ failed. not_failed source_failed well failed;
         cause = rw well (cause_longer fault sink_failed (u.read ++ c ∷ []) (rw more_count few) cause);
       }
         where
-          answered : (rest : List ℕ) (q : Bool) → is_quit (command_of line) ≡ q → IsFront (answer (command_of line) d) (told_from line (c ∷ rest) d).text
+          answered : (rest : List ℕ) (q : Bool) → is_quit (command_of line) ≡ q → IsFront (answer_line (command_of line) d) (told_from line (c ∷ rest) d).text
           answered rest true e = ((told_from line (c ∷ rest) d).text, rw (answer_quit line d e) refl)
-          answered rest false e = ((told rest (after_line (command_of line) d)).text, ap (λ t. t.text) (told_line line c rest d feed e))
+          answered rest false e = ((told rest (session_after (command_of line) d)).text, ap (λ t. t.text) (told_line line c rest d feed e))
 
   module _ (left' : Option (List ℕ)) (none : ReadsByte left left' None) where
     -- the input ends behind a line feed
@@ -162,19 +172,20 @@ module _ (had left held holds : Option (List ℕ)) (line : List ℕ) (taken : �
 
     module _ (some : 0 < length line) (holds' : Option (List ℕ)) where
       -- the last line has no line feed
-      pub told_at_last : Appends holds holds' (answer (command_of line) d) → taken ≤ INPUT_LIMIT → IsTold had left' held holds' began
+      pub told_at_last : Appends holds holds' (answer_line (command_of line) d) → taken ≤ INPUT_LIMIT → IsTold had left' held holds' began
       told_at_last a few = record {
         read = u.read;
-        shown = u.shown ++ answer (command_of line) d;
+        shown = u.shown ++ answer_line (command_of line) d;
         ended = true;
         few = rw u.count few;
         reads = Consumes-kept had left left' u.read u.reads none.0;
-        writes = Appends-trans held holds holds' u.shown (answer (command_of line) d) u.writes a;
+        writes = Appends-trans held holds holds' u.shown (answer_line (command_of line) d) u.writes a;
         all = λ rest none_left. let empty = none_left refl in rw empty (u.run [] ∙ ap (after_telling u.shown) (told_last line d some));
         drained = λ _. none.1;
       }
 
-      pub cut_at_last : (fault : Fault) (source_failed sink_failed : Bool) → AppendsFront holds holds' (answer (command_of line) d) → taken ≤ INPUT_LIMIT → source_failed ≡ false
+      pub cut_at_last : (fault : Fault) (source_failed sink_failed : Bool) → AppendsFront holds holds' (answer_line (command_of line) d) → taken ≤ INPUT_LIMIT
+          → source_failed ≡ false
           → IsCause fault false sink_failed [] → IsCutOff had left' held holds' began fault source_failed sink_failed
       cut_at_last fault source_failed sink_failed a few well cause = record {
         read = u.read;
@@ -183,14 +194,16 @@ module _ (had left held holds : Option (List ℕ)) (line : List ℕ) (taken : �
         reads = Consumes-kept had left left' u.read u.reads none.0;
         writes = Appends-trans held holds holds' u.shown a.0 u.writes a.1;
         begins = λ rest none_left. let empty = none_left refl in
-            rw empty (subst (IsFront (u.shown ++ a.0)) (sym (ap (λ t. t.text) (u.run [] ∙ ap (after_telling u.shown) (told_last line d some)))) (front_after u.shown a.0 (answer (command_of line) d) a.2));
+            rw empty (subst (IsFront (u.shown ++ a.0)) (sym (ap (λ t. t.text) (u.run [] ∙ ap (after_telling u.shown) (told_last line d some))))
+            (front_after u.shown a.0 (answer_line (command_of line) d) a.2));
         drained = λ _. none.1;
         prompt = λ failed. not_failed source_failed well failed;
         cause = rw well (cause_longer fault sink_failed u.read (rw u.count few) cause);
       }
 
   -- no byte could be read
-  pub cut_reading : (left' : Option (List ℕ)) (fault : Fault) (source_failed sink_failed : Bool) → Keeps left left' → fault ≡ faults.Read → source_failed ≡ true → sink_failed ≡ false
+  pub cut_reading : (left' : Option (List ℕ)) (fault : Fault) (source_failed sink_failed : Bool) → Keeps left left' → fault ≡ faults.Read
+      → source_failed ≡ true → sink_failed ≡ false
       → IsCutOff had left' held holds began fault source_failed sink_failed
   cut_reading left' fault source_failed sink_failed k e failed well = record {
     read = u.read;
@@ -217,8 +230,16 @@ told_unread machine input = refl
 rest_drained : (left : Option (List ℕ)) (rest : List ℕ) → left ≡ Some rest → IsAtEnd left → rest ≡ []
 rest_drained left rest e end = subst IsAtEnd e end
 
-pub done_told : (had left held holds : Option (List ℕ)) (began : Session) (machine : State) (outcome : Outcome) → IsTold had left held holds began → began ≡ opened machine
-    → ((unread written : List ℕ) → IsOutcome outcome (record { written = written; exit = exits.Ended; message = []; image = None; printer = []; unread = unread }))
+pub done_told : (had left held holds : Option (List ℕ)) (began : Session) (machine : State) (outcome : Outcome) → IsTold had left held holds began
+    → began ≡ opened machine
+    → ((unread written : List ℕ) → IsOutcome outcome (record {
+      written = written;
+      exit = exits.Ended;
+      message = [];
+      image = None;
+      printer = [];
+      unread = unread;
+    }))
     → IsDone had left held holds outcome (debugged machine)
 done_told had left held holds began machine outcome o b out = record {
   tells = tells_known had left held holds o.read o.reads outcome (debugged machine) (λ rest e.
@@ -230,11 +251,12 @@ done_told had left held holds began machine outcome o b out = record {
         unread = rw (told_unread machine (o.read ++ rest), ap (λ t. t.unread) here) (subst (Keeps (Some rest)) (sym e) refl);
       });
   few = (o.read, o.reads, o.few);
-  exit = subst IsSound (sym (out [] []).exit) refl;
+  exit = subst IsSoundExit (sym (out [] []).exit) refl;
 }
 
 pub cut_told : (had left held holds : Option (List ℕ)) (began : Session) (machine : State) (fault : Fault) (source_failed sink_failed : Bool)
-    → IsCutOff had left held holds began fault source_failed sink_failed → began ≡ opened machine → IsBrokenOff had left held holds fault source_failed sink_failed (debugged machine)
+    → IsCutOff had left held holds began fault source_failed sink_failed → began ≡ opened machine
+    → IsBrokenOff had left held holds fault source_failed sink_failed (debugged machine)
 cut_told had left held holds began machine fault source_failed sink_failed o b = record {
   cut = record {
     read = o.read;
@@ -256,7 +278,8 @@ pub first_told : (had left held holds : Option (List ℕ)) (began : Session) (ma
 first_told had left held holds began machine fault source_failed sink_failed o b failed = record {
   read = o.read;
   reads = o.reads;
-  writes = subst (Appends held holds) (sym (told_written machine (whole_lines o.read) ∙ ap (λ d. (told (whole_lines o.read) d).text) (sym b) ∙ o.prompt failed)) o.writes;
+  writes = subst (Appends held holds) (sym (told_written machine (whole_lines o.read) ∙ ap (λ d. (told (whole_lines o.read) d).text) (sym b)
+      ∙ o.prompt failed)) o.writes;
 }
 
 -- ---- a machine that starts, or none
@@ -268,13 +291,16 @@ pub debug_done : (had left held holds : Option (List ℕ)) (start : Result State
     → IsDone had left held holds outcome (debugged m) → IsDone had left held holds outcome (said_debug start)
 debug_done had left held holds start m outcome e d = subst (λ s. IsDone had left held holds outcome (said_debug s)) e d
 
-pub debug_broken : (had left held holds : Option (List ℕ)) (start : Result State Refusal) (m : State) (fault : Fault) (source_failed sink_failed : Bool) → Ok m ≡ start
-    → IsBrokenOff had left held holds fault source_failed sink_failed (debugged m) → IsBrokenOff had left held holds fault source_failed sink_failed (said_debug start)
+pub debug_broken : (had left held holds : Option (List ℕ)) (start : Result State Refusal) (m : State) (fault : Fault) (source_failed sink_failed : Bool)
+    → Ok m ≡ start
+    → IsBrokenOff had left held holds fault source_failed sink_failed (debugged m)
+    → IsBrokenOff had left held holds fault source_failed sink_failed (said_debug start)
 debug_broken had left held holds start m fault source_failed sink_failed e b =
     subst (λ s. IsBrokenOff had left held holds fault source_failed sink_failed (said_debug s)) e b
 
 pub debug_first : (had left held holds : Option (List ℕ)) (start : Result State Refusal) (m : State) → Ok m ≡ start
-    → WritesFirst had left held holds (λ read. (debugged m (whole_lines read)).written) → WritesFirst had left held holds (λ read. (said_debug start (whole_lines read)).written)
+    → WritesFirst had left held holds (λ read. (debugged m (whole_lines read)).written)
+    → WritesFirst had left held holds (λ read. (said_debug start (whole_lines read)).written)
 debug_first had left held holds start m e w = subst (λ s. WritesFirst had left held holds (λ read. (said_debug s (whole_lines read)).written)) e w
 
 pub debug_refused : (had held : Option (List ℕ)) (start : Result State Refusal) (refusal : Refusal) (outcome : Outcome) → Err refusal ≡ start
@@ -282,4 +308,4 @@ pub debug_refused : (had held : Option (List ℕ)) (start : Result State Refusal
 debug_refused had held start refusal outcome e out =
     subst (λ s. IsDone had had held held outcome (said_debug s)) e
     (done_unread had held held outcome (said_debug (Err refusal)) (λ input. (Appends-nil held, out input, refl))
-    (subst IsSound (sym (out []).exit) refl))
+    (subst IsSoundExit (sym (out []).exit) refl))

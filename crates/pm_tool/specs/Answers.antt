@@ -12,20 +12,20 @@ use Rattle.pm_debug.specs.Session.{Session}
 use Rattle.pm_debug.specs.Trace.{trace_line}
 use Rattle.pm_debug.specs.Views.{dynamic_chain, local, stack_words, static_chain}
 use Rattle.pm_debug.specs.declared.breaks.Breakpoint.{Breakpoint}
-use Rattle.pm_debug.specs.declared.reason.Reason.{Reason}
-use Rattle.pm_debug.specs.declared.reason.Reason.TheVariants as reasons
-use Rattle.pm_debug.specs.declared.refusal.Refusal.{Refusal}
-use Rattle.pm_debug.specs.declared.refusal.Refusal.TheVariants.{OddAddress}
+use Rattle.pm_debug.specs.declared.reason.BreakReason.{BreakReason}
+use Rattle.pm_debug.specs.declared.reason.BreakReason.TheVariants as reasons
+use Rattle.pm_debug.specs.declared.refusal.DebugRefusal.{DebugRefusal}
+use Rattle.pm_debug.specs.declared.refusal.DebugRefusal.TheVariants.{OddAddress}
 use Rattle.pm_commands.specs.declared.commands.Command.{Command}
 use Rattle.pm_commands.specs.declared.commands.Command.TheVariants as commands
 use Rattle.pm_tool.specs.declared.ending.Ending.TheVariants as endings
 use Rattle.pm_tool.specs.Run.{last_line}
 
-abbrev pub refused_text : Refusal → List ℕ
+abbrev pub refused_text : DebugRefusal → List ℕ
 refused_text refusal = codes "refused " ++ decimal (number_of refusal)
 
 -- done, or refused
-abbrev pub done_text : {A : Type 0} → Result A Refusal → List ℕ
+abbrev pub done_text : {A : Type 0} → Result A DebugRefusal → List ℕ
 done_text (Ok x) = codes "ok"
 done_text (Err refusal) = refused_text refusal
 
@@ -43,19 +43,19 @@ abbrev pub chain_text : Option (List ℕ) → List ℕ
 chain_text (Some frames) = numbers_text frames
 chain_text None = refused_text OddAddress
 
-abbrev pub word_text : Result ℕ Refusal → List ℕ
+abbrev pub word_text : Result ℕ DebugRefusal → List ℕ
 word_text (Ok word) = decimal word
 word_text (Err refusal) = refused_text refusal
 
--- where the segment of a slot stands, for how many calls, and how many times the program keeps it; `none` where it stands
--- nowhere
+-- where the segment of a slot stands, for how many calls, and how many times the program keeps it; `none` where it
+-- stands nowhere
 abbrev pub place_text : Option (ℕ × ℕ) → Option ℕ → List ℕ
 place_text (Some at) (Some keeps) = numbers_text (at.0 ∷ at.1 ∷ keeps ∷ [])
 place_text (Some at) None = codes "none"
 place_text None keeps = codes "none"
 
 -- as the last line of a trace, of the steps of this run alone
-abbrev pub gone_text : Reason → ℕ → List ℕ
+abbrev pub gone_text : BreakReason → ℕ → List ℕ
 gone_text reasons.Break steps = codes "break " ++ decimal steps
 gone_text reasons.Limit steps = last_line endings.Limit steps
 gone_text reasons.Waiting steps = last_line endings.Waiting steps
@@ -64,8 +64,10 @@ gone_text (reasons.Halted error) steps = last_line (endings.Error error) steps
 
 unfoldable pub registers_text : Registers → List ℕ
 registers_text r =
-    codes "IPC " ++ (decimal r.ipc ++ (codes " SP " ++ (decimal r.sp ++ (codes " SEG " ++ (decimal r.seg ++ (codes " JTAB " ++ (decimal r.jtab
-    ++ (codes " MP " ++ (decimal r.mp ++ (codes " BASE " ++ (decimal r.base ++ (codes " NP " ++ (decimal r.np ++ (codes " IO " ++ decimal r.ioresult))))))))))))))
+    codes "IPC " ++ (decimal r.ipc ++ (codes " SP "
+    ++ (decimal r.sp ++ (codes " SEG " ++ (decimal r.seg ++ (codes " JTAB " ++ (decimal r.jtab
+    ++ (codes " MP " ++ (decimal r.mp ++ (codes " BASE "
+    ++ (decimal r.base ++ (codes " NP " ++ (decimal r.np ++ (codes " IO " ++ decimal r.ioresult))))))))))))))
 
 -- what is answered to a command, without a line feed
 unfoldable pub command_text : Command → Session → List ℕ
@@ -84,7 +86,7 @@ command_text commands.Trace d = trace_line d.machine
 command_text commands.Quit d = []
 
 -- the breakpoints after one was set or taken away; a refusal leaves them
-abbrev pub with_breaks : Session → Result (List Breakpoint) Refusal → Session
+abbrev pub with_breaks : Session → Result (List Breakpoint) DebugRefusal → Session
 with_breaks d (Ok breaks) = record d { breaks = breaks }
 with_breaks d (Err refusal) = d
 
@@ -105,10 +107,10 @@ after_command commands.Trace d = d
 after_command commands.Quit d = d
 
 -- a line that is no command
-abbrev pub line_text : Option Command → Session → List ℕ
-line_text None d = codes "?"
-line_text (Some command) d = command_text command d
+abbrev pub answer_text : Option Command → Session → List ℕ
+answer_text None d = codes "?"
+answer_text (Some command) d = command_text command d
 
-abbrev pub after_line : Option Command → Session → Session
-after_line None d = d
-after_line (Some command) d = after_command command d
+abbrev pub session_after : Option Command → Session → Session
+session_after None d = d
+session_after (Some command) d = after_command command d

@@ -1,6 +1,6 @@
 -- The job on a text of the assembler.
 use Rattle.std.specs.Prelude.{ℕ, Bool, List, [], map, Result, Ok, Err, if◌then◌else◌, nat_le}
-use Rattle.pm_asm.specs.Assembled.{assembled}
+use Rattle.pm_asm.specs.Assembled.{assembled, wanted}
 use Rattle.pm_source.specs.declared.fault.AsmFault.{AsmFault}
 use Rattle.pm_tool.specs.declared.outcome.Refusal.TheVariants as refusals
 use Rattle.pm_tool.specs.Outcomes.{Said, refused, wrote}
@@ -10,13 +10,8 @@ abbrev pub character_of : ℕ → ℕ
 character_of byte = if nat_le byte 127 then byte else 127
 
 -- the text that an input is
-unfoldable pub text_of : List ℕ → List ℕ
-text_of input = map character_of input
-
--- the code file of an assembled text; with list its listing in its place
-abbrev pub wanted : Bool → Result (List ℕ × List ℕ) AsmFault → Result (List ℕ) AsmFault
-wanted list (Ok a) = Ok (if list then a.1 else a.0)
-wanted list (Err fault) = Err fault
+unfoldable pub text_of_input : List ℕ → List ℕ
+text_of_input input = map character_of input
 
 -- bytes that are written, or why there are none
 abbrev pub said_wanted : Result (List ℕ) AsmFault → Said
@@ -25,4 +20,4 @@ said_wanted (Err fault) = refused (refusals.Asm fault) []
 
 -- the code file or the listing of the text that the input is
 abbrev pub said_asm : Bool → List ℕ → Said
-said_asm list input = said_wanted (wanted list (assembled (text_of input)))
+said_asm list input = said_wanted (wanted list (assembled (text_of_input input)))

@@ -22,9 +22,9 @@ or_next (Some fault) next = Some fault
 or_next None next = next
 
 -- the first fault of the images, in the order of their units
-abbrev pub first_fault : List (Option (List ℕ)) → Option VolumeFault
-first_fault [] = None
-first_fault (image ∷ images) = or_next (disk_fault image) (first_fault images)
+abbrev pub first_disk_fault : List (Option (List ℕ)) → Option VolumeFault
+first_disk_fault [] = None
+first_disk_fault (image ∷ images) = or_next (disk_fault image) (first_disk_fault images)
 
 -- the machine that starts, or why the input is refused
 abbrev pub started : Result State BootFault → Result State Refusal
@@ -37,7 +37,7 @@ booted_unless None images name = started (boot_start images 4 name 0)
 booted_unless (Some fault) images name = Err (refusals.Volume fault)
 
 abbrev pub booted : List (Option (List ℕ)) → List ℕ → Result State Refusal
-booted images name = booted_unless (first_fault images) images name
+booted images name = booted_unless (first_disk_fault images) images name
 
 -- the state of the machine that was started
 abbrev pub state_in : Result Whole Refusal → Result State Refusal

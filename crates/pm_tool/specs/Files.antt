@@ -4,7 +4,8 @@ use Rattle.pm_volume.specs.Copies.{repaired}
 use Rattle.pm_volume.specs.Directory.{image_fault}
 use Rattle.pm_volume.specs.Headers.{blank_image}
 use Rattle.pm_volume.specs.declared.fault.VolumeFault.{VolumeFault}
-use Rattle.pm_filer.specs.Filed.{Answer, Lines, Bytes, Done, Order, ListFiles, Get, Put, Remove, Change, GetText, PutText, Krunch, Date, Zero, Duplicate, Single, Filed, filed}
+use Rattle.pm_filer.specs.Filed.{Answer, Lines, Bytes, Done, Order, ListFiles, Get, Put, Remove, Change}
+use Rattle.pm_filer.specs.Filed.{GetText, PutText, Krunch, Date, Zero, Duplicate, Single, Filed, filed}
 use Rattle.pm_filer.specs.declared.fault.FilerFault.{FilerFault}
 use Rattle.pm_tool.specs.declared.outcome.Exit.TheVariants as exits
 use Rattle.pm_tool.specs.declared.outcome.Refusal.TheVariants as refusals
@@ -24,7 +25,15 @@ kept_image Done image = Some image
 
 -- a command that was done, or refused
 abbrev pub said_filed : Result Filed FilerFault → List ℕ → Said
-said_filed (Ok f) unread = record { written = answer_bytes f.answer; exit = exits.Ended; message = []; image = kept_image f.answer f.image; printer = []; unread = unread }
+said_filed (Ok f) unread =
+    record {
+      written = answer_bytes f.answer;
+      exit = exits.Ended;
+      message = [];
+      image = kept_image f.answer f.image;
+      printer = [];
+      unread = unread;
+    }
 said_filed (Err fault) unread = refused (refusals.Filer fault) unread
 
 -- whether a command takes the input's bytes
@@ -60,7 +69,8 @@ with_input Single input = Single
 -- a command on an image that is a volume: the input is read to its end where the command takes it, and else not at all
 abbrev pub said_order : List ℕ → Order → List ℕ → Said
 said_order image order input =
-    if takes_input order then said_filed (filed image (with_input order input)) [] else said_filed (filed image order) input
+    if takes_input order then said_filed (filed image (with_input order input)) [] else said_filed
+    (filed image order) input
 
 -- an image that is no volume is refused before the input is read
 abbrev pub said_opened : Option VolumeFault → List ℕ → Order → List ℕ → Said
@@ -73,12 +83,21 @@ said_files image order input = said_opened (image_fault image) image order input
 
 -- a new volume, or why there is none; nothing is read
 abbrev pub said_new : Option VolumeFault → List ℕ → ℕ → List ℕ → Said
-said_new None name blocks input = record { written = []; exit = exits.Ended; message = []; image = Some (blank_image name blocks); printer = []; unread = input }
+said_new None name blocks input =
+    record {
+      written = [];
+      exit = exits.Ended;
+      message = [];
+      image = Some (blank_image name blocks);
+      printer = [];
+      unread = input;
+    }
 said_new (Some fault) name blocks input = refused (refusals.Volume fault) input
 
 -- a volume that was opened, or whose first copy was repaired, or why there is none; nothing is read
 abbrev pub said_repaired : Result (List ℕ) VolumeFault → List ℕ → Said
-said_repaired (Ok image) input = record { written = []; exit = exits.Ended; message = []; image = Some image; printer = []; unread = input }
+said_repaired (Ok image) input =
+    record { written = []; exit = exits.Ended; message = []; image = Some image; printer = []; unread = input }
 said_repaired (Err fault) input = refused (refusals.Volume fault) input
 
 -- the repair of an image

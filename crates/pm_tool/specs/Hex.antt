@@ -1,5 +1,6 @@
 -- Bytes as text: pairs of hexadecimal digits of both cases, and white space before, between and after them.
-use Rattle.std.specs.Prelude.{ℕ, ◌+◌, ◌*◌, ◌==◌, ◌||◌, ◌&&◌, Bool, List, [], ◌∷◌, Option, Some, None, if◌then◌else◌, nat_lt}
+use Rattle.std.specs.Prelude.{ℕ, ◌+◌, ◌*◌, ◌==◌, ◌||◌, ◌&&◌, Bool, List, []}
+use Rattle.std.specs.Prelude.{◌∷◌, Option, Some, None, if◌then◌else◌, nat_lt}
 use Rattle.std.specs.Char.{digit_value}
 
 -- a tab, a line feed, a carriage return or a space
@@ -14,13 +15,14 @@ abbrev pub pair_value : ℕ → ℕ → Option ℕ
 pair_value c d = if is_hex_digit c && is_hex_digit d then Some (16 * digit_value c + digit_value d) else None
 
 -- the byte and then the bytes, if all are there
-abbrev pub joined : Option ℕ → Option (List ℕ) → Option (List ℕ)
-joined (Some byte) (Some bytes) = Some (byte ∷ bytes)
-joined (Some byte) None = None
-joined None bytes = None
+abbrev pub byte_and_bytes : Option ℕ → Option (List ℕ) → Option (List ℕ)
+byte_and_bytes (Some byte) (Some bytes) = Some (byte ∷ bytes)
+byte_and_bytes (Some byte) None = None
+byte_and_bytes None bytes = None
 
 -- the bytes that a text spells; none if a digit stands alone or another byte stands in it
-unfoldable pub spelled : List ℕ → Option (List ℕ)
-spelled [] = Some []
-spelled (c ∷ []) = if is_space c then Some [] else None
-spelled (c ∷ d ∷ text) = if is_space c then spelled (d ∷ text) else joined (pair_value c d) (spelled text)
+unfoldable pub hex_spelled : List ℕ → Option (List ℕ)
+hex_spelled [] = Some []
+hex_spelled (c ∷ []) = if is_space c then Some [] else None
+hex_spelled (c ∷ d ∷ text) =
+    if is_space c then hex_spelled (d ∷ text) else byte_and_bytes (pair_value c d) (hex_spelled text)

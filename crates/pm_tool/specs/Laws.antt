@@ -7,7 +7,7 @@ use Rattle.pm_machine.specs.declared.state.Stop.{Stop}
 use Rattle.pm_machine.specs.declared.state.Stop.TheVariants.{Went, Waiting, Ended, Halted}
 use Rattle.pm_tool.specs.declared.ending.Ending.TheVariants as endings
 use Rattle.pm_tool.specs.declared.steps.Show.{Show}
-use Rattle.pm_tool.specs.Run.{Run, ends, run_of}
+use Rattle.pm_tool.specs.Run.{Run, ended_run, run_of}
 
 -- the bytes that these events key
 abbrev pub keyed_in : List Event → List ℕ
@@ -35,7 +35,9 @@ pub record IsOfEvents (run : Run) (bytes : List ℕ) (m : State) (events : List 
 
 -- each run is one of steps and keys, and the bytes that are keyed are exactly those that are read
 abbrev pub RunsAreEvents : Type 0
-RunsAreEvents = (show : Show) (limit : ℕ) (bytes : List ℕ) (m : State) → (events : List Event) × IsOfEvents (run_of show limit bytes m) bytes m events
+RunsAreEvents =
+    (show : Show) (limit : ℕ) (bytes : List ℕ) (m : State)
+    → (events : List Event) × IsOfEvents (run_of show limit bytes m) bytes m events
 
 -- runs that differ in what they show alone
 pub record AreAlike (run other : Run) : Type 0 where
@@ -45,17 +47,20 @@ pub record AreAlike (run other : Run) : Type 0 where
 
 -- what is shown of a run changes nothing else of it
 abbrev pub ShowingChangesNothing : Type 0
-ShowingChangesNothing = (show other : Show) (limit : ℕ) (bytes : List ℕ) (m : State) → AreAlike (run_of show limit bytes m) (run_of other limit bytes m)
+ShowingChangesNothing =
+    (show other : Show) (limit : ℕ) (bytes : List ℕ) (m : State)
+    → AreAlike (run_of show limit bytes m) (run_of other limit bytes m)
 
 -- ---- runs of the machine
 
--- What a run is, where the machine's own run without input has this count, last answer and state: that run, and no byte is
--- read; but where it waits, the next byte is keyed and what is left of the limit is run from there.
+-- What a run is, where the machine's own run without input has this count, last answer and state: that run, and no byte
+-- is read; but where it waits, the next byte is keyed and what is left of the limit is run from there.
 abbrev pub GoesOn : Show → ℕ → List ℕ → State → ℕ → Stop → State → Type 0
-GoesOn show limit bytes m count Went t = AreAlike (run_of show limit bytes m) (ends [] endings.Limit t bytes)
-GoesOn show limit bytes m count Ended t = AreAlike (run_of show limit bytes m) (ends [] endings.Ended t bytes)
-GoesOn show limit bytes m count (Halted error) t = AreAlike (run_of show limit bytes m) (ends [] (endings.Error error) t bytes)
-GoesOn show limit [] m count Waiting t = AreAlike (run_of show limit [] m) (ends [] endings.Waiting t [])
+GoesOn show limit bytes m count Went t = AreAlike (run_of show limit bytes m) (ended_run [] endings.Limit t bytes)
+GoesOn show limit bytes m count Ended t = AreAlike (run_of show limit bytes m) (ended_run [] endings.Ended t bytes)
+GoesOn show limit bytes m count (Halted error) t =
+    AreAlike (run_of show limit bytes m) (ended_run [] (endings.Error error) t bytes)
+GoesOn show limit [] m count Waiting t = AreAlike (run_of show limit [] m) (ended_run [] endings.Waiting t [])
 GoesOn show limit (byte ∷ bytes) m count Waiting t =
     AreAlike (run_of show limit (byte ∷ bytes) m) (run_of show (limit - count) bytes (next t (Key byte)))
 

@@ -1,5 +1,6 @@
 -- What jobs come to, in numbers and words.
-use Rattle.std.specs.Prelude.{◌≡◌, ℕ, Bool, true, false, List, [], ◌∷◌, ◌++◌, Option, None, Some, codes, vec_items, option_map, string_bytes}
+use Rattle.std.specs.Prelude.{◌≡◌, ℕ, Bool, true, false, List, [], ◌∷◌, ◌++◌, Option}
+use Rattle.std.specs.Prelude.{None, Some, codes, vec_items, option_map, string_bytes}
 use Rattle.std.specs.Fmt.{decimal}
 use Rattle.pm_words.specs.Errors.{number_of}
 use Rattle.pm_machine.specs.Faults.{boot_number}
@@ -8,10 +9,10 @@ use Rattle.pm_machine.specs.declared.state.BootFault.TheVariants as boot
 use Rattle.pm_volume.specs.Faults.{detail_of, number_of as volume_number}
 use Rattle.pm_volume.specs.declared.fault.VolumeFault.{VolumeFault}
 use Rattle.pm_volume.specs.declared.fault.VolumeFault.TheVariants as volume
-use Rattle.pm_textfile.specs.Faults.{place_of, number_of as text_number}
+use Rattle.pm_textfile.specs.Faults.{place_of_text_fault, number_of as text_number}
 use Rattle.pm_textfile.specs.declared.fault.TextFault.{TextFault}
 use Rattle.pm_textfile.specs.declared.fault.TextFault.TheVariants as texts
-use Rattle.pm_codefile.specs.Faults.{slot_of, number_of as code_number}
+use Rattle.pm_codefile.specs.Faults.{slot_of_fault, number_of as code_number}
 use Rattle.pm_codefile.specs.declared.fault.CodeFault.{CodeFault}
 use Rattle.pm_source.specs.FaultNumbers.{number_of as asm_number, place_of as asm_place}
 use Rattle.pm_source.specs.declared.fault.AsmFault.{AsmFault}
@@ -41,15 +42,15 @@ exit_number exits.NoMemory = 5
 exit_number exits.Stopped = 6
 
 -- it came to an end of its own: neither a fault of a stream nor want of memory
-abbrev pub is_sound : Exit → Bool
-is_sound exits.Ended = true
-is_sound exits.Usage = true
-is_sound exits.Refused = true
-is_sound exits.ExecutionError = true
-is_sound exits.ReadFault = false
-is_sound exits.WriteFault = false
-is_sound exits.NoMemory = false
-is_sound exits.Stopped = true
+abbrev pub is_sound_exit : Exit → Bool
+is_sound_exit exits.Ended = true
+is_sound_exit exits.Usage = true
+is_sound_exit exits.Refused = true
+is_sound_exit exits.ExecutionError = true
+is_sound_exit exits.ReadFault = false
+is_sound_exit exits.WriteFault = false
+is_sound_exit exits.NoMemory = false
+is_sound_exit exits.Stopped = true
 
 abbrev pub is_refusal : Exit → Bool
 is_refusal exits.Ended = false
@@ -81,7 +82,8 @@ error_text boot.BadCode = []
 error_text (boot.Exec error) = 32 ∷ decimal (number_of error)
 error_text boot.NoMemory = []
 
--- a space and the entry of the directory, the first copy's fault, the slot, the line or the place, where a fault names one
+-- a space and the entry of the directory, the first copy's fault, the slot, the line or the place, where a fault names
+-- one
 abbrev pub entry_text : Option ℕ → List ℕ
 entry_text None = []
 entry_text (Some entry) = 32 ∷ decimal entry
@@ -92,7 +94,7 @@ volume_text fault = decimal (volume_number fault) ++ entry_text (detail_of fault
 
 -- the number of a text's fault, and the line or place that it names
 abbrev pub text_fault_text : TextFault → List ℕ
-text_fault_text fault = decimal (text_number fault) ++ entry_text (place_of fault)
+text_fault_text fault = decimal (text_number fault) ++ entry_text (place_of_text_fault fault)
 
 -- the number of a filer's fault, and that of the fault within it
 abbrev pub filer_text : FilerFault → List ℕ
@@ -103,7 +105,7 @@ filer_text filer.NoMemory = 52 ∷ []
 
 -- the number of a code file's fault, and the slot that it names
 abbrev pub code_text : CodeFault → List ℕ
-code_text fault = decimal (code_number fault) ++ entry_text (slot_of fault)
+code_text fault = decimal (code_number fault) ++ entry_text (slot_of_fault fault)
 
 -- the number of a fault of the assembler's text, and the line or the segment that it names
 abbrev pub asm_text : AsmFault → List ℕ
@@ -172,28 +174,30 @@ is_want (refusals.Filer fault) = is_filer_want fault
 is_want (refusals.Boot fault) = is_boot_want fault
 
 -- what is said of an end: the text of a fault, or else the message
-abbrev pub text_at : Exit → List ℕ → List ℕ
-text_at exits.Ended message = message
-text_at exits.Usage message = message
-text_at exits.Refused message = message
-text_at exits.ExecutionError message = message
-text_at exits.ReadFault message = fault_text faults.Read
-text_at exits.WriteFault message = fault_text faults.Write
-text_at exits.NoMemory message = fault_text faults.NoMemory
-text_at exits.Stopped message = message
+abbrev pub exit_text : Exit → List ℕ → List ℕ
+exit_text exits.Ended message = message
+exit_text exits.Usage message = message
+exit_text exits.Refused message = message
+exit_text exits.ExecutionError message = message
+exit_text exits.ReadFault message = fault_text faults.Read
+exit_text exits.WriteFault message = fault_text faults.Write
+exit_text exits.NoMemory message = fault_text faults.NoMemory
+exit_text exits.Stopped message = message
 
 abbrev pub outcome_text : Outcome → List ℕ
-outcome_text outcome = text_at outcome.exit (string_bytes outcome.message)
+outcome_text outcome = exit_text outcome.exit (string_bytes outcome.message)
 
 -- a refusal names its fault, which is not want of memory, and the message is its text; no other end names one
 abbrev pub Names : Exit → Option Refusal → List ℕ → Type 0
 Names exit None message = is_refusal exit ≡ false
-Names exit (Some refusal) message = (exit ≡ exits.Refused) × (message ≡ refusal_text refusal) × (is_want refusal ≡ false)
+Names exit (Some refusal) message =
+    (exit ≡ exits.Refused) × (message ≡ refusal_text refusal) × (is_want refusal ≡ false)
 
 abbrev pub SaysWhy : Outcome → Type 0
 SaysWhy outcome = Names outcome.exit outcome.refusal (string_bytes outcome.message)
 
--- what a job says to its input: what it writes, how it ends, its message, image and printer bytes, and what of the input is left unread
+-- what a job says to its input: what it writes, how it ends, its message, image and printer bytes, and what of the
+-- input is left unread
 pub record Said : Type 0 where
   pub written : List ℕ
   pub exit : Exit
@@ -204,7 +208,15 @@ pub record Said : Type 0 where
 
 -- a refused input: nothing is written, and the message says why
 abbrev pub refused : Refusal → List ℕ → Said
-refused refusal unread = record { written = []; exit = exits.Refused; message = refusal_text refusal; image = None; printer = []; unread = unread }
+refused refusal unread =
+    record {
+      written = [];
+      exit = exits.Refused;
+      message = refusal_text refusal;
+      image = None;
+      printer = [];
+      unread = unread;
+    }
 
 -- all of the input was read, and these bytes are written
 abbrev pub wrote : List ℕ → Said

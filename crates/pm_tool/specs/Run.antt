@@ -1,11 +1,12 @@
 -- A run of the machine and what is shown of it.
-use Rattle.std.specs.Prelude.{◌≡◌, ◌≤◌, ◌<◌, ℕ, zero, suc, Bool, true, false, List, [], ◌∷◌, ◌++◌, drop, length, Option, if◌then◌else◌, codes}
+use Rattle.std.specs.Prelude.{◌≡◌, ◌≤◌, ◌<◌, ℕ, zero, suc, Bool, true, false, List}
+use Rattle.std.specs.Prelude.{[], ◌∷◌, ◌++◌, drop, length, Option, if◌then◌else◌, codes}
 use Rattle.std.specs.Fmt.{decimal}
 use Rattle.std.specs.Io.KnownBytes.{Appends, Consumes, IsAtEnd}
 use Rattle.pm_words.specs.Errors.{number_of}
 use Rattle.pm_machine.specs.State.{State}
 use Rattle.pm_machine.specs.Steps.{stepped}
-use Rattle.pm_machine.specs.Runs.{AllWent, after}
+use Rattle.pm_machine.specs.Runs.{AllWent, after_steps}
 use Rattle.pm_machine.specs.Events.{Key, next}
 use Rattle.pm_machine.specs.declared.state.Stop.{Stop}
 use Rattle.pm_machine.specs.declared.state.Stop.TheVariants.{Went, Waiting, Ended, Halted}
@@ -18,7 +19,8 @@ use Rattle.pm_tool.specs.declared.steps.Show.{Show}
 use Rattle.pm_tool.specs.declared.steps.Show.TheVariants.{Trace, Console}
 use Rattle.pm_streams.specs.Streams.{AppendsBut, IsCause, IsFront}
 
--- a run to where it ends: what its steps show, why it ends, the machine then, and the console bytes that are left unread
+-- a run to where it ends: what its steps show, why it ends, the machine then, and the console bytes that are left
+-- unread
 pub record Run : Type 0 where
   pub shown : List ℕ
   pub ending : Ending
@@ -28,10 +30,11 @@ pub record Run : Type 0 where
 abbrev pub after_showing : List ℕ → Run → Run
 after_showing text run = record run { shown = text ++ run.shown }
 
-abbrev pub ends : List ℕ → Ending → State → List ℕ → Run
-ends shown ending machine unread = record { shown = shown; ending = ending; machine = machine; unread = unread }
+abbrev pub ended_run : List ℕ → Ending → State → List ℕ → Run
+ended_run shown ending machine unread = record { shown = shown; ending = ending; machine = machine; unread = unread }
 
--- what is shown of a step from one state to the other: the line of the state before it, or the bytes that it adds to the console
+-- what is shown of a step from one state to the other: the line of the state before it, or the bytes that it adds to
+-- the console
 abbrev pub shown_of : Show → State → State → List ℕ
 shown_of Trace before after = trace_line before ++ (10 ∷ [])
 shown_of (Console save) before after = drop (length before.devices.console) after.devices.console
@@ -50,8 +53,8 @@ is_console (Console save) = true
 pub record Unshown (show : Show) (limit : ℕ) (s : State) (count : ℕ) (t : State) : Type 0 where
   pub within : count ≤ limit
   pub went : AllWent count s
-  pub left : t ≡ after count s
-  pub blank : (k : ℕ) → k < count → shown_of show (after k s) (after (suc k) s) ≡ []
+  pub left : t ≡ after_steps count s
+  pub blank : (k : ℕ) → k < count → shown_of show (after_steps k s) (after_steps (suc k) s) ≡ []
 
 -- a step that waits shows nothing
 abbrev pub shown_by : Show → State → State → Stop → List ℕ
@@ -60,11 +63,13 @@ shown_by show before after stop = if is_waiting stop then [] else shown_of show 
 -- what a step leads to, where rest says how the run goes on
 abbrev pub follows : Show → (List ℕ → State → Run) → State → State → Stop → List ℕ → Run
 follows show rest before after Went keys = after_showing (shown_of show before after) (rest keys after)
-follows show rest before after Ended keys = ends (shown_of show before after) endings.Ended after keys
-follows show rest before after (Halted error) keys = ends (shown_of show before after) (endings.Error error) after keys
-follows show rest before after Waiting keys = ends [] endings.Waiting after keys
+follows show rest before after Ended keys = ended_run (shown_of show before after) endings.Ended after keys
+follows show rest before after (Halted error) keys =
+    ended_run (shown_of show before after) (endings.Error error) after keys
+follows show rest before after Waiting keys = ended_run [] endings.Waiting after keys
 
--- One step, and what it leads to. Each time that it waits the next console byte is keyed and the step is made again, as long as there are any.
+-- One step, and what it leads to. Each time that it waits the next console byte is keyed and the step is made again, as
+-- long as there are any.
 unfoldable pub turn : Show → (List ℕ → State → Run) → List ℕ → State → Run
 turn show rest [] m = follows show rest m (stepped m).0 (stepped m).1 []
 turn show rest (key ∷ keys) m =
@@ -73,7 +78,7 @@ turn show rest (key ∷ keys) m =
 
 -- the run of at most so many steps, with these console bytes to come
 unfoldable pub run_of : Show → ℕ → List ℕ → State → Run
-run_of show zero keys m = ends [] endings.Limit m keys
+run_of show zero keys m = ended_run [] endings.Limit m keys
 run_of show (suc n) keys m = turn show (run_of show n) keys m
 
 -- the last line of a run that ended after so many steps of the machine, without its line feed
@@ -90,19 +95,23 @@ end_text (Console save) ending steps = []
 
 -- ---- a run that is written as it goes
 
--- The run is at its end: these bytes were keyed, and what it shows was written but for what is held back. If it waits, nothing is left to read.
-pub record IsOver (had left held holds : Option (List ℕ)) (held_back : List ℕ) (show : Show) (limit : ℕ) (began : State) (ending : Ending) (machine : State) : Type 0 where
+-- The run is at its end: these bytes were keyed, and what it shows was written but for what is held back. If it waits,
+-- nothing is left to read.
+pub record IsOver (had left held holds : Option (List ℕ)) (held_back : List ℕ) (show : Show) (limit : ℕ)
+    (began : State) (ending : Ending) (machine : State) : Type 0 where
   pub read : List ℕ
   pub shown : List ℕ
   pub few : length read ≤ INPUT_LIMIT
   pub reads : Consumes had left read
   pub writes : AppendsBut held holds held_back shown
-  pub run : (rest : List ℕ) → (ending ≡ endings.Waiting → rest ≡ []) → run_of show limit (read ++ rest) began ≡ ends shown ending machine rest
+  pub run : (rest : List ℕ) → (ending ≡ endings.Waiting → rest ≡ [])
+      → run_of show limit (read ++ rest) began ≡ ended_run shown ending machine rest
   pub drained : ending ≡ endings.Waiting → IsAtEnd left
 
--- The run was broken off: what was written is a front of what it shows, whatever is left to read. Where a read failed, it is all that
--- was shown up to then: a program never waits for input before its output is written.
-pub record IsBroken (had left held holds : Option (List ℕ)) (show : Show) (limit : ℕ) (began : State) (fault : Fault) (source_failed sink_failed : Bool) : Type 0 where
+-- The run was broken off: what was written is a front of what it shows, whatever is left to read. Where a read failed,
+-- it is all that was shown up to then: a program never waits for input before its output is written.
+pub record IsBroken (had left held holds : Option (List ℕ)) (show : Show) (limit : ℕ) (began : State) (fault : Fault)
+    (source_failed sink_failed : Bool) : Type 0 where
   pub read : List ℕ
   pub front : List ℕ
   pub reads : Consumes had left read

@@ -1,5 +1,6 @@
 -- What a job says to its input, and how a job keeps to it.
-use Rattle.std.specs.Prelude.{◌≡◌, ◌⊎◌, ◌↔◌, true, false, ◌≤◌, ℕ, ◌<◌, List, [], ◌++◌, Option, Some, None, Result, Ok, Err, length, Bool, if◌then◌else◌, IfSome, string_bytes}
+use Rattle.std.specs.Prelude.{◌≡◌, ◌⊎◌, ◌↔◌, true, false, ◌≤◌, ℕ, ◌+◌, ◌<◌, List, [], ◌++◌, Option, Some}
+use Rattle.std.specs.Prelude.{None, Result, Ok, Err, length, Bool, if◌then◌else◌, IfSome, string_bytes}
 use Rattle.std.specs.Io.KnownBytes.{Consumes, Appends, Keeps}
 use Rattle.pm_machine.specs.State.{State}
 use Rattle.pm_machine.specs.Start.{raw_start}
@@ -19,14 +20,14 @@ use Rattle.pm_tool.specs.Assembly.{said_asm}
 use Rattle.pm_tool.specs.Code.{said_dis}
 use Rattle.pm_tool.specs.Disks.{booted, images_of, started}
 use Rattle.pm_tool.specs.Files.{said_files, said_new, said_repair}
-use Rattle.pm_tool.specs.Hex.{spelled}
-use Rattle.pm_tool.specs.Outcomes.{Said, exit_of, is_sound, refused, IsOutcome}
+use Rattle.pm_tool.specs.Hex.{hex_spelled}
+use Rattle.pm_tool.specs.Outcomes.{Said, exit_of, is_sound_exit, refused, IsOutcome}
 use Rattle.pm_tool.specs.declared.steps.Show.{Show}
 use Rattle.pm_tool.specs.declared.steps.Show.TheVariants.{Trace, Console}
 use Rattle.pm_tool.specs.Run.{Run, end_text, last_line, run_of}
 use Rattle.pm_tool.specs.Sessions.{said_debug}
 use Rattle.pm_tool.specs.Talks.{whole_lines}
-use Rattle.pm_streams.specs.Streams.{IsFront, IsCause}
+use Rattle.pm_streams.specs.Streams.{IsFront, IsCause, CountsOn}
 
 -- ---- the jobs
 
@@ -46,9 +47,10 @@ traced run = record {
   unread = run.unread;
 }
 
--- a run that is told by its console bytes: its last line is the message, and the image on unit 4 is kept where it is to be saved
-abbrev pub performed : Bool → Run → Said
-performed save run = record {
+-- a run that is told by its console bytes: its last line is the message, and the image on unit 4 is kept where it is to
+-- be saved
+abbrev pub run_said : Bool → Run → Said
+run_said save run = record {
   written = run.shown;
   exit = exit_of run.ending;
   message = last_line run.ending run.machine.steps;
@@ -60,24 +62,28 @@ performed save run = record {
 -- a run, told in one of the two ways
 abbrev pub said_run : Show → Run → Said
 said_run Trace run = traced run
-said_run (Console save) run = performed save run
+said_run (Console save) run = run_said save run
 
 -- the run of a machine whose console bytes are the input, or the refusal
 abbrev pub said_started : Show → ℕ → Result State Refusal → List ℕ → Said
 said_started show limit (Ok machine) input = said_run show (run_of show limit input machine)
 said_started show limit (Err refusal) input = refused refusal input
 
--- What a job says to all of its input. A program that the input spells has no console bytes; to a program of a disk the input is its console's.
-abbrev pub said : Job → List ℕ → Said
-said (jobs.Raw limit) input = said_started Trace limit (loaded (spelled input)) []
-said (jobs.Run disks name limit save) input = said_started (Console save) limit (booted (images_of disks) (string_bytes name)) input
-said (jobs.Trace disks name limit) input = said_started Trace limit (booted (images_of disks) (string_bytes name)) input
-said (jobs.Debug disks name) input = said_debug (booted (images_of disks) (string_bytes name)) input
-said (jobs.Asm list) input = said_asm list input
-said jobs.Dis input = said_dis input
-said (jobs.Files image command) input = said_files image.items (order_of command) input
-said (jobs.New name blocks) input = said_new (blank_fault (string_bytes name) blocks) (string_bytes name) blocks input
-said (jobs.Repair image) input = said_repair image.items input
+-- What a job says to all of its input. A program that the input spells has no console bytes; to a program of a disk the
+-- input is its console's.
+abbrev pub job_said : Job → List ℕ → Said
+job_said (jobs.Raw limit) input = said_started Trace limit (loaded (hex_spelled input)) []
+job_said (jobs.Run disks name limit save) input =
+    said_started (Console save) limit (booted (images_of disks) (string_bytes name)) input
+job_said (jobs.Trace disks name limit) input =
+    said_started Trace limit (booted (images_of disks) (string_bytes name)) input
+job_said (jobs.Debug disks name) input = said_debug (booted (images_of disks) (string_bytes name)) input
+job_said (jobs.Asm list) input = said_asm list input
+job_said jobs.Dis input = said_dis input
+job_said (jobs.Files image command) input = said_files image.items (order_of command) input
+job_said (jobs.New name blocks) input =
+    said_new (blank_fault (string_bytes name) blocks) (string_bytes name) blocks input
+job_said (jobs.Repair image) input = said_repair image.items input
 
 -- what the steps of a machine that starts have shown once these console bytes are keyed and no more are there
 abbrev pub shown_started : Show → ℕ → Result State Refusal → List ℕ → List ℕ
@@ -92,7 +98,8 @@ pub record Tells (left held holds : Option (List ℕ)) (outcome : Outcome) (told
   pub comes_to : IsOutcome outcome told
   pub unread : Keeps (Some told.unread) left
 
--- what was written is a front of what is said to the bytes that were read, taken as the whole input, and to all of the input where that is known
+-- what was written is a front of what is said to the bytes that were read, taken as the whole input, and to all of the
+-- input where that is known
 pub record IsCut (had left held holds : Option (List ℕ)) (text : List ℕ → Said) : Type 0 where
   pub read : List ℕ
   pub front : List ℕ
@@ -102,28 +109,35 @@ pub record IsCut (had left held holds : Option (List ℕ)) (text : List ℕ → 
   pub whole : IfSome left (λ rest. IsFront front (text (read ++ rest)).written)
 
 -- neither a fault of a stream nor want of memory
-abbrev pub IsSound : Exit → Type 0
-IsSound exit = is_sound exit ≡ true
+abbrev pub IsSoundExit : Exit → Type 0
+IsSoundExit exit = is_sound_exit exit ≡ true
 
 -- a fault of a stream, or want of memory
 abbrev pub IsCutShort : Exit → Type 0
-IsCutShort exit = is_sound exit ≡ false
+IsCutShort exit = is_sound_exit exit ≡ false
 
--- A read fault is answered exactly where a source has failed or too many bytes were read, and a write fault exactly where
--- a sink has failed.
+-- A read fault is answered exactly where a source has failed or too many bytes were read, and a write fault exactly
+-- where a sink has failed.
 abbrev pub FailsExactly : Option (List ℕ) → Option (List ℕ) → Bool → Bool → Exit → Type 0
 FailsExactly had left source_failed sink_failed exit = (read : List ℕ) × Consumes had left read
     × (exit ≡ exits.ReadFault ↔ (source_failed ≡ true) ⊎ (INPUT_LIMIT < length read))
     × (exit ≡ exits.WriteFault ↔ sink_failed ≡ true)
 
+-- By the count of a source: a read fault is answered exactly where it has failed or gave more bytes than an input may
+-- have.
+abbrev pub CountsExactly : ℕ → ℕ → Bool → Exit → Type 0
+CountsExactly old new source_failed exit = CountsOn old →
+    (exit ≡ exits.ReadFault ↔ (source_failed ≡ true) ⊎ (old + INPUT_LIMIT < new))
+
 -- what holds of a job that comes to its end
 pub record IsDone (had left held holds : Option (List ℕ)) (outcome : Outcome) (text : List ℕ → Said) : Type 0 where
   pub tells : IfSome had (λ input. Tells left held holds outcome (text input))
   pub few : (read : List ℕ) × Consumes had left read × (length read ≤ INPUT_LIMIT)
-  pub exit : IsSound outcome.exit
+  pub exit : IsSoundExit outcome.exit
 
 -- what holds of a job that is broken off
-pub record IsBrokenOff (had left held holds : Option (List ℕ)) (fault : Fault) (source_failed sink_failed : Bool) (text : List ℕ → Said) : Type 0 where
+pub record IsBrokenOff (had left held holds : Option (List ℕ)) (fault : Fault) (source_failed sink_failed : Bool)
+    (text : List ℕ → Said) : Type 0 where
   pub cut : IsCut had left held holds text
   pub cause : IsCause fault source_failed sink_failed cut.read
 
@@ -133,8 +147,8 @@ pub record WritesFirst (had left held holds : Option (List ℕ)) (shown : List �
   pub reads : Consumes had left read
   pub writes : Appends held holds (shown read)
 
--- Where a read failed: a program never waits for input before its output is written, and no line of a session is read before the one
--- before it is answered. The other jobs write nothing before they have read all.
+-- Where a read failed: a program never waits for input before its output is written, and no line of a session is read
+-- before the one before it is answered. The other jobs write nothing before they have read all.
 abbrev pub IsPrompt : Job → Option (List ℕ) → Option (List ℕ) → Option (List ℕ) → Option (List ℕ) → Type 0
 IsPrompt (jobs.Raw limit) had left held holds = Unit {0}
 IsPrompt (jobs.Run disks name limit save) had left held holds =
@@ -142,7 +156,8 @@ IsPrompt (jobs.Run disks name limit save) had left held holds =
 IsPrompt (jobs.Trace disks name limit) had left held holds =
     WritesFirst had left held holds (shown_started Trace limit (booted (images_of disks) (string_bytes name)))
 IsPrompt (jobs.Debug disks name) had left held holds =
-    WritesFirst had left held holds (λ read. (said_debug (booted (images_of disks) (string_bytes name)) (whole_lines read)).written)
+    WritesFirst had left held holds (λ read. (said_debug (booted (images_of disks) (string_bytes name))
+    (whole_lines read)).written)
 IsPrompt (jobs.Asm list) had left held holds = Unit {0}
 IsPrompt jobs.Dis had left held holds = Unit {0}
 IsPrompt (jobs.Files image command) had left held holds = Unit {0}

@@ -1,14 +1,15 @@
 -- The session of a debugger: each line of the input is answered in its turn, up to `quit` or the input's end.
-use Rattle.std.specs.Prelude.{ℕ, ◌+◌, Bool, true, false, List, [], ◌∷◌, ◌++◌, drop, length, Option, Some, None, Result, Ok, Err, if◌then◌else◌}
+use Rattle.std.specs.Prelude.{ℕ, ◌+◌, Bool, true, false, List, [], ◌∷◌, ◌++◌, drop}
+use Rattle.std.specs.Prelude.{length, Option, Some, None, Result, Ok, Err, if◌then◌else◌}
 use Rattle.pm_machine.specs.State.{State}
 use Rattle.pm_debug.specs.Session.{Session}
 use Rattle.pm_commands.specs.declared.commands.Command.{Command}
 use Rattle.pm_commands.specs.declared.commands.Command.TheVariants as commands
 use Rattle.pm_commands.specs.Commands.{command_of}
-use Rattle.pm_commands.specs.Words.{lines_of}
+use Rattle.pm_commands.specs.Words.{lines_of_input}
 use Rattle.pm_tool.specs.declared.outcome.Exit.TheVariants as exits
 use Rattle.pm_tool.specs.declared.outcome.Refusal.{Refusal}
-use Rattle.pm_tool.specs.Answers.{after_line, line_text}
+use Rattle.pm_tool.specs.Answers.{session_after, answer_text}
 use Rattle.pm_tool.specs.Outcomes.{Said, refused}
 
 abbrev pub is_quit : Option Command → Bool
@@ -28,14 +29,15 @@ is_quit (Some commands.Trace) = false
 is_quit (Some commands.Quit) = true
 
 -- the answer to a line, with its line feed; `quit` has none
-abbrev pub answer : Option Command → Session → List ℕ
-answer command d = if is_quit command then [] else line_text command d ++ 10 ∷ []
+abbrev pub answer_line : Option Command → Session → List ℕ
+answer_line command d = if is_quit command then [] else answer_text command d ++ 10 ∷ []
 
 -- the answers to lines, up to the first `quit`
 unfoldable pub answers : List (List ℕ) → Session → List ℕ
 answers [] d = []
 answers (line ∷ lines) d =
-    if is_quit (command_of line) then [] else answer (command_of line) d ++ answers lines (after_line (command_of line) d)
+    if is_quit (command_of line) then [] else answer_line (command_of line) d
+    ++ answers lines (session_after (command_of line) d)
 
 -- what of an input with these lines stands behind the first `quit`
 unfoldable pub behind_quit : List (List ℕ) → List ℕ → List ℕ
@@ -50,12 +52,12 @@ opened machine = record { machine = machine; breaks = [] }
 -- the session over a machine: it ends well, whatever the machine did
 abbrev pub debugged : State → List ℕ → Said
 debugged machine input = record {
-  written = answers (lines_of input) (opened machine);
+  written = answers (lines_of_input input) (opened machine);
   exit = exits.Ended;
   message = [];
   image = None;
   printer = [];
-  unread = behind_quit (lines_of input) input;
+  unread = behind_quit (lines_of_input input) input;
 }
 
 -- the session over the machine that starts, or the refusal

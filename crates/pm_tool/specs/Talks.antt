@@ -1,8 +1,9 @@
 -- A session that is written as it goes.
-use Rattle.std.specs.Prelude.{◌≡◌, ◌≤◌, ◌==◌, ℕ, Bool, true, List, [], ◌∷◌, ◌++◌, length, reverse, if◌then◌else◌, Option}
+use Rattle.std.specs.Prelude.{◌≡◌, ◌≤◌, ◌==◌, ℕ, Bool, true, List, [], ◌∷◌}
+use Rattle.std.specs.Prelude.{◌++◌, length, reverse, if◌then◌else◌, Option}
 use Rattle.std.specs.Io.KnownBytes.{Appends, Consumes, IsAtEnd}
 use Rattle.pm_debug.specs.Session.{Session}
-use Rattle.pm_commands.specs.Words.{lines_of}
+use Rattle.pm_commands.specs.Words.{lines_of_input}
 use Rattle.pm_streams.specs.declared.fault.Fault.{Fault}
 use Rattle.pm_streams.specs.declared.source.TheConstants.{INPUT_LIMIT}
 use Rattle.pm_tool.specs.Sessions.{answers, behind_quit}
@@ -14,7 +15,7 @@ pub record Told : Type 0 where
   pub unread : List ℕ
 
 unfoldable pub told : List ℕ → Session → Told
-told input d = record { text = answers (lines_of input) d; unread = behind_quit (lines_of input) input }
+told input d = record { text = answers (lines_of_input input) d; unread = behind_quit (lines_of_input input) input }
 
 -- of a text from its end on: what it has from its last line feed on
 unfoldable pub from_feed : List ℕ → List ℕ
@@ -33,12 +34,14 @@ pub record IsTold (had left held holds : Option (List ℕ)) (began : Session) : 
   pub few : length read ≤ INPUT_LIMIT
   pub reads : Consumes had left read
   pub writes : Appends held holds shown
-  pub all : (rest : List ℕ) → (ended ≡ true → rest ≡ []) → told (read ++ rest) began ≡ record { text = shown; unread = rest }
+  pub all : (rest : List ℕ) → (ended ≡ true → rest ≡ [])
+      → told (read ++ rest) began ≡ record { text = shown; unread = rest }
   pub drained : ended ≡ true → IsAtEnd left
 
--- The session was broken off: what was written is a front of the answers, whatever is left to read. Where a read failed, it is the
--- answers to all whole lines that were read: no line is wanted before the one before it is answered.
-pub record IsCutOff (had left held holds : Option (List ℕ)) (began : Session) (fault : Fault) (source_failed sink_failed : Bool) : Type 0 where
+-- The session was broken off: what was written is a front of the answers, whatever is left to read. Where a read
+-- failed, it is the answers to all whole lines that were read: no line is wanted before the one before it is answered.
+pub record IsCutOff (had left held holds : Option (List ℕ)) (began : Session) (fault : Fault)
+    (source_failed sink_failed : Bool) : Type 0 where
   pub read : List ℕ
   pub front : List ℕ
   pub ended : Bool

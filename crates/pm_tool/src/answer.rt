@@ -1,18 +1,20 @@
 //! What the debugger answers to a command.
-ghost use Rattle.std.specs.Prelude.{◌≡◌, ◌++◌, ◌∷◌, [], IfOk, OnOk, Option, List, ℕ, string_bytes, codes, if◌then◌else◌};
+ghost use Rattle.std.specs.Prelude.{◌≡◌, ◌++◌, ◌∷◌, [], IfOk, OnOk, Option};
+ghost use Rattle.std.specs.Prelude.{List, ℕ, string_bytes, codes, if◌then◌else◌};
 ghost use Rattle.pm_debug.specs.Session.{session_of};
 ghost use Rattle.pm_words.specs.Stack.{is_even};
 ghost use Rattle.pm_machine.specs.Events.{Key, Poke, next};
 ghost use Rattle.pm_debug.specs.Views.{ShowsChain};
-ghost use Rattle.pm_tool.specs.Answers.{after_command, after_line, chain_text, command_text, done_text, gone_text, line_text, numbers_text, place_text, refused_text, registers_text, word_text};
+ghost use Rattle.pm_tool.specs.Answers.{after_command, session_after, chain_text, command_text, done_text, gone_text};
+ghost use Rattle.pm_tool.specs.Answers.{answer_text, numbers_text, place_text, refused_text, registers_text, word_text};
 
 use crate::ending::{Ending, LastLine};
 use pm_commands::Command;
-use pm_debug::{Debugger, Reason, Refusal};
+use pm_debug::{BreakReason, DebugRefusal, Debugger};
 use pm_machine::Registers;
 use std::alloc::{AllocError, Global};
 
-fn refused(alloc: Global, refusal: Refusal) -> Result<String, AllocError>
+fn refused(alloc: Global, refusal: DebugRefusal) -> Result<String, AllocError>
     ensures text { IfOk result (λ text. string_bytes text ≡ refused_text refusal) }
 {
     let number = refusal.number();
@@ -20,7 +22,7 @@ fn refused(alloc: Global, refusal: Refusal) -> Result<String, AllocError>
 }
 
 /// Done, or refused.
-fn done(alloc: Global, outcome: Result<(), Refusal>) -> Result<String, AllocError>
+fn done(alloc: Global, outcome: Result<(), DebugRefusal>) -> Result<String, AllocError>
     ensures text { IfOk result (λ text. string_bytes text ≡ done_text outcome) }
 {
     match outcome {
@@ -44,18 +46,19 @@ fn numbers(alloc: Global, numbers: &[u16]) -> Result<String, AllocError>
 }
 
 /// The frames of a chain, or its refusal.
-fn chain(alloc: Global, chain: Result<Vec<u16>, Refusal>) -> Result<String, AllocError>
-    ensures text { IfOk result (λ text. (frames : Option (List ℕ)) → ShowsChain (λ v. v.items) chain frames → string_bytes text ≡ chain_text frames) }
+fn chain(alloc: Global, chain: Result<Vec<u16>, DebugRefusal>) -> Result<String, AllocError>
+    ensures text { IfOk result (λ text. (frames : Option (List ℕ)) → ShowsChain (λ v. v.items) chain frames
+        → string_bytes text ≡ chain_text frames) }
 {
     match chain {
         Ok(frames) => numbers(alloc, &frames),
-        Err(Refusal::NoMemory) => Err(AllocError),
+        Err(DebugRefusal::NoMemory) => Err(AllocError),
         Err(refusal) => refused(alloc, refusal),
     }
 }
 
 /// A word, or its refusal.
-fn word(alloc: Global, word: Result<u16, Refusal>) -> Result<String, AllocError>
+fn word(alloc: Global, word: Result<u16, DebugRefusal>) -> Result<String, AllocError>
     ensures text { IfOk result (λ text. string_bytes text ≡ word_text word) }
 {
     match word {
@@ -65,15 +68,15 @@ fn word(alloc: Global, word: Result<u16, Refusal>) -> Result<String, AllocError>
 }
 
 /// Why a run ended, and after how many steps.
-fn gone(alloc: Global, steps: u64, reason: Reason) -> Result<String, AllocError>
+fn gone(alloc: Global, steps: u64, reason: BreakReason) -> Result<String, AllocError>
     ensures text { IfOk result (λ text. string_bytes text ≡ gone_text reason steps) }
 {
     let ending = match reason {
-        Reason::Break => return format!(in alloc; "break {steps}"),
-        Reason::Limit => Ending::Limit,
-        Reason::Waiting => Ending::Waiting,
-        Reason::Ended => Ending::Ended,
-        Reason::Halted(error) => Ending::Error(error),
+        BreakReason::Break => return format!(in alloc; "break {steps}"),
+        BreakReason::Limit => Ending::Limit,
+        BreakReason::Waiting => Ending::Waiting,
+        BreakReason::Ended => Ending::Ended,
+        BreakReason::Halted(error) => Ending::Error(error),
     };
     let last = LastLine { ending, steps };
     format!(in alloc; "{last}")
@@ -110,20 +113,22 @@ fn registers(alloc: Global, registers: Registers) -> Result<String, AllocError>
 }
 
 /// Writes a word of the memory, at an even address.
-fn poke(debugger: &mut Debugger, address: u16, word: u16) -> Result<(), Refusal>
-    ensures text { done_text result ≡ (if is_even address then codes "ok" else refused_text Refusal.OddAddress) }
-    ensures session { (session_of debugger.new) ≡ record (session_of debugger.old) { machine = next debugger.old.machine.state (Poke address word) } }
+fn poke(debugger: &mut Debugger, address: u16, word: u16) -> Result<(), DebugRefusal>
+    ensures text { done_text result ≡ (if is_even address then codes "ok" else refused_text DebugRefusal.OddAddress) }
+    ensures session { (session_of debugger.new) ≡ record
+        (session_of debugger.old) { machine = next debugger.old.machine.state (Poke address word) } }
 {
     if debugger.machine().poke(address, word) {
         Ok(())
     } else {
-        Err(Refusal::OddAddress)
+        Err(DebugRefusal::OddAddress)
     }
 }
 
 /// Lets one more byte wait on the console.
 fn key(debugger: &mut Debugger, byte: u8) -> Result<(), AllocError>
-    ensures session { OnOk result ((session_of debugger.new) ≡ record (session_of debugger.old) { machine = next debugger.old.machine.state (Key byte) }) }
+    ensures session { OnOk result ((session_of debugger.new)
+        ≡ record (session_of debugger.old) { machine = next debugger.old.machine.state (Key byte) }) }
 {
     debugger.machine().key(byte)?;
     Ok(())
@@ -175,8 +180,8 @@ pub(crate) fn answer(
     debugger: &mut Debugger,
     command: Option<Command>,
 ) -> Result<String, AllocError>
-    ensures text { IfOk result (λ text. string_bytes text ≡ line_text command (session_of debugger.old) ++ 10 ∷ []) }
-    ensures session { OnOk result ((session_of debugger.new) ≡ after_line command (session_of debugger.old)) }
+    ensures text { IfOk result (λ text. string_bytes text ≡ answer_text command (session_of debugger.old) ++ 10 ∷ []) }
+    ensures session { OnOk result ((session_of debugger.new) ≡ session_after command (session_of debugger.old)) }
 {
     let mut text = match command {
         Some(command) => do_command(alloc, debugger, command)?,

@@ -1,12 +1,14 @@
 //! The job on a text of the assembler.
-ghost use Rattle.std.specs.Prelude.{◌≡◌, false, Ok, Err, IfOk, IfErr, OnOk, string_bytes};
-ghost use Rattle.pm_asm.specs.Assembled.{assembled};
-ghost use Rattle.pm_tool.specs.Assembly.{character_of, said_asm, text_of, wanted};
+ghost use Rattle.std.specs.Prelude.{◌≡◌, ◌≢◌, false, Ok, Err, IfOk, IfErr, OnOk, string_bytes};
+ghost use Rattle.pm_asm.specs.Assembled.{assembled, wanted};
+ghost use Rattle.pm_source.specs.declared.fault.AsmFault.TheVariants.{NoMemory};
+ghost use Rattle.pm_tool.specs.Assembly.{character_of, said_asm, text_of_input};
 ghost use Rattle.pm_tool.specs.Outcomes.{SaysWhy};
 ghost use Rattle.pm_tool.specs.Said.{IsBrokenOff, IsDone};
+ghost use Rattle.pm_streams.specs.Streams.{IsWithin, IsBound};
 
 use crate::outcome::{Exit, Outcome, Refusal, refuse_line};
-use pm_asm::{AsmFault, Assembly};
+use pm_asm::{AsmFault, assemble_file, assemble_listing};
 use pm_streams::{Fault, Sink, Source, read_all, write_all};
 use std::alloc::{AllocError, Global};
 
@@ -18,9 +20,9 @@ fn character(byte: u8) -> char
 }
 
 /// The text that an input is.
-#[tactic(auto, unfolding(crate::specs::Assembly::text_of))]
+#[tactic(auto, unfolding(crate::specs::Assembly::text_of_input))]
 fn text_of(alloc: Global, input: &[u8]) -> Result<String, AllocError>
-    ensures text { IfOk result (λ text. string_bytes text ≡ text_of input.now) }
+    ensures text { IfOk result (λ text. string_bytes text ≡ text_of_input input.now) }
 {
     let mut text = String::new(alloc);
     for byte in input {
@@ -29,15 +31,28 @@ fn text_of(alloc: Global, input: &[u8]) -> Result<String, AllocError>
     Ok(text)
 }
 
+/// The bytes of the code file of a text; with `list` those of its listing. The other of the two is not made.
+fn made(alloc: Global, text: &str, list: bool) -> Result<Vec<u8>, AsmFault>
+    ensures bytes { IfOk result (λ bytes. wanted list (assembled text.now) ≡ Ok bytes.items) }
+    ensures refused { IfErr result (λ fault. fault ≢ NoMemory → assembled text.now ≡ Err fault) }
+{
+    if list {
+        let listing = assemble_listing(alloc, text)?;
+        return Ok(listing.into_bytes());
+    }
+    assemble_file(alloc, text)
+}
+
 /// The bytes of the code file of the text that an input is; with `list` those of its listing.
 fn wanted(alloc: Global, input: &[u8], list: bool) -> Result<Result<Vec<u8>, AsmFault>, AllocError>
-    ensures bytes { IfOk result (λ bytes. IfOk bytes (λ bytes. wanted list (assembled (text_of input.now)) ≡ Ok bytes.items)) }
-    ensures fault { IfOk result (λ bytes. IfErr bytes (λ fault. wanted list (assembled (text_of input.now)) ≡ Err fault)) }
+    ensures bytes { IfOk result (λ bytes. IfOk bytes
+        (λ bytes. wanted list (assembled (text_of_input input.now)) ≡ Ok bytes.items)) }
+    ensures fault { IfOk result (λ bytes. IfErr bytes
+        (λ fault. wanted list (assembled (text_of_input input.now)) ≡ Err fault)) }
 {
     let text = text_of(alloc, input)?;
-    match pm_asm::assemble(alloc, &text) {
-        Ok(Assembly { listing, .. }) if list => Ok(Ok(listing.into_bytes())),
-        Ok(Assembly { file, .. }) => Ok(Ok(file)),
+    match made(alloc, &text, list) {
+        Ok(bytes) => Ok(Ok(bytes)),
         Err(AsmFault::NoMemory) => Err(AllocError),
         Err(fault) => Ok(Err(fault)),
     }
@@ -70,6 +85,9 @@ pub(crate) fn assemble<R: Source, W: Sink>(
     ensures broken { IfErr result (λ fault. IsBrokenOff (R.remaining source.old) (R.remaining source.new)
         (W.contents sink.old) (W.contents sink.new) fault (R.has_failed source.new) (W.has_failed sink.new) (said_asm list)) }
     ensures told { IfOk result SaysWhy }
+    ensures few { OnOk result (IsWithin (R.given source.old) (R.given source.new)) }
+    ensures bound { IfErr result (λ fault.
+        IsBound fault (R.given source.old) (R.given source.new) (R.has_failed source.new)) }
 {
     let input = read_all(alloc, source)?;
     let bytes = match wanted(alloc, &input, list)? {

@@ -3,6 +3,7 @@ ghost use Rattle.std.specs.Prelude.{◌≡◌, false, IfOk, IfErr, OnOk};
 ghost use Rattle.pm_tool.specs.Code.{said_dis};
 ghost use Rattle.pm_tool.specs.Outcomes.{SaysWhy};
 ghost use Rattle.pm_tool.specs.Said.{IsBrokenOff, IsDone};
+ghost use Rattle.pm_streams.specs.Streams.{IsWithin, IsBound};
 
 use crate::outcome::{Exit, Outcome, Refusal, refuse};
 use pm_codefile::CodeFile;
@@ -23,6 +24,9 @@ pub(crate) fn disassemble<R: Source, W: Sink>(
     ensures broken { IfErr result (λ fault. IsBrokenOff (R.remaining source.old) (R.remaining source.new)
         (W.contents sink.old) (W.contents sink.new) fault (R.has_failed source.new) (W.has_failed sink.new) said_dis) }
     ensures told { IfOk result SaysWhy }
+    ensures few { OnOk result (IsWithin (R.given source.old) (R.given source.new)) }
+    ensures bound { IfErr result (λ fault.
+        IsBound fault (R.given source.old) (R.given source.new) (R.has_failed source.new)) }
 {
     let input = read_all(alloc, source)?;
     let file = match CodeFile::read(&input) {

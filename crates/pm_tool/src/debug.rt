@@ -3,12 +3,12 @@ ghost use Rattle.std.specs.Prelude.{◌≡◌, false, true, not, [], List, ℕ, 
 ghost use Rattle.std.specs.Io.KnownBytes.{Appends};
 ghost use Rattle.pm_debug.specs.Session.{session_of};
 ghost use Rattle.pm_commands.specs.Commands.{command_of};
-ghost use Rattle.pm_tool.specs.Answers.{after_line};
+ghost use Rattle.pm_tool.specs.Answers.{session_after};
 ghost use Rattle.pm_tool.specs.Disks.{booted, images_of};
 ghost use Rattle.pm_tool.specs.Outcomes.{SaysWhy};
 ghost use Rattle.pm_tool.specs.Said.{IsBrokenOff, IsDone, WritesFirst};
-ghost use Rattle.pm_tool.specs.Sessions.{answer, debugged, is_quit, said_debug};
-ghost use Rattle.pm_streams.specs.Streams.{AppendsFront, IsCause};
+ghost use Rattle.pm_tool.specs.Sessions.{answer_line, debugged, is_quit, said_debug};
+ghost use Rattle.pm_streams.specs.Streams.{AppendsFront, IsCause, IsWithin, IsBound};
 ghost use Rattle.pm_tool.specs.Talks.{IsCutOff, IsTold, whole_lines};
 
 use crate::answer::answer;
@@ -35,10 +35,13 @@ fn turn<W: Sink>(
 ) -> Result<bool, Fault>
     requires well { W.has_failed sink.old ≡ false }
     ensures going { IfOk result (λ going. going ≡ not (is_quit (command_of line.now))) }
-    ensures written { OnOk result (Appends (W.contents sink.old) (W.contents sink.new) (answer (command_of line.now) (session_of debugger.old))) }
-    ensures session { IfOk result (λ going. going ≡ true → (session_of debugger.new) ≡ after_line (command_of line.now) (session_of debugger.old)) }
+    ensures written { OnOk result (Appends (W.contents sink.old) (W.contents sink.new)
+        (answer_line (command_of line.now) (session_of debugger.old))) }
+    ensures session { IfOk result (λ going. going ≡ true
+        → (session_of debugger.new) ≡ session_after (command_of line.now) (session_of debugger.old)) }
     ensures well { OnOk result (W.has_failed sink.new ≡ false) }
-    ensures front { OnErr result (AppendsFront (W.contents sink.old) (W.contents sink.new) (answer (command_of line.now) (session_of debugger.old))) }
+    ensures front { OnErr result (AppendsFront (W.contents sink.old) (W.contents sink.new)
+        (answer_line (command_of line.now) (session_of debugger.old))) }
     ensures cause { IfErr result (λ fault. IsCause fault false (W.has_failed sink.new) []) }
 {
     let command = command_of(line);
@@ -64,6 +67,9 @@ fn talk<R: Source, W: Sink>(
     ensures well { OnOk result ((R.has_failed source.new ≡ false) × (W.has_failed sink.new ≡ false)) }
     ensures cut { IfErr result (λ fault. IsCutOff (R.remaining source.old) (R.remaining source.new)
         (W.contents sink.old) (W.contents sink.new) (session_of debugger.old) fault (R.has_failed source.new) (W.has_failed sink.new)) }
+    ensures few { OnOk result (IsWithin (R.given source.old) (R.given source.new)) }
+    ensures bound { IfErr result (λ fault.
+        IsBound fault (R.given source.old) (R.given source.new) (R.has_failed source.new)) }
 {
     let mut line = Vec::new(alloc);
     let mut taken = 0;
@@ -104,9 +110,13 @@ fn session<R: Source, W: Sink>(
     ensures well { OnOk result ((R.has_failed source.new ≡ false) × (W.has_failed sink.new ≡ false)) }
     ensures broken { IfErr result (λ fault. IsBrokenOff (R.remaining source.old) (R.remaining source.new)
         (W.contents sink.old) (W.contents sink.new) fault (R.has_failed source.new) (W.has_failed sink.new) (debugged machine.state)) }
-    ensures prompt { OnErr result (R.has_failed source.new ≡ true → WritesFirst (R.remaining source.old) (R.remaining source.new)
+    ensures prompt { OnErr result (R.has_failed source.new ≡ true
+        → WritesFirst (R.remaining source.old) (R.remaining source.new)
         (W.contents sink.old) (W.contents sink.new) (λ read. (debugged machine.state (whole_lines read)).written)) }
     ensures told { IfOk result SaysWhy }
+    ensures few { OnOk result (IsWithin (R.given source.old) (R.given source.new)) }
+    ensures bound { IfErr result (λ fault.
+        IsBound fault (R.given source.old) (R.given source.new) (R.has_failed source.new)) }
 {
     let mut debugger = Debugger::new(machine);
     talk(alloc, source, sink, &mut debugger)?;
@@ -128,9 +138,14 @@ pub(crate) fn debug<R: Source, W: Sink>(
     ensures well { OnOk result ((R.has_failed source.new ≡ false) × (W.has_failed sink.new ≡ false)) }
     ensures broken { IfErr result (λ fault. IsBrokenOff (R.remaining source.old) (R.remaining source.new)
         (W.contents sink.old) (W.contents sink.new) fault (R.has_failed source.new) (W.has_failed sink.new) (said_debug (booted (images_of disks) name.now))) }
-    ensures prompt { OnErr result (R.has_failed source.new ≡ true → WritesFirst (R.remaining source.old) (R.remaining source.new)
-        (W.contents sink.old) (W.contents sink.new) (λ read. (said_debug (booted (images_of disks) name.now) (whole_lines read)).written)) }
+    ensures prompt { OnErr result (R.has_failed source.new ≡ true
+        → WritesFirst (R.remaining source.old) (R.remaining source.new)
+        (W.contents sink.old) (W.contents sink.new) (λ read.
+        (said_debug (booted (images_of disks) name.now) (whole_lines read)).written)) }
     ensures told { IfOk result SaysWhy }
+    ensures few { OnOk result (IsWithin (R.given source.old) (R.given source.new)) }
+    ensures bound { IfErr result (λ fault.
+        IsBound fault (R.given source.old) (R.given source.new) (R.has_failed source.new)) }
 {
     let machine = match boot(alloc, disks, name)? {
         Ok(machine) => machine,

@@ -1,9 +1,11 @@
 //! Jobs, from the bytes that are read to the bytes that are written.
 ghost use Rattle.std.specs.Prelude.{◌≡◌, ◌↔◌, false, true, [], List, ℕ, None, IfOk, IfErr, OnOk, OnErr, IfSome, codes};
 ghost use Rattle.pm_tool.specs.Disks.{state_in};
-ghost use Rattle.pm_tool.specs.Hex.{spelled};
+ghost use Rattle.pm_tool.specs.Hex.{hex_spelled};
 ghost use Rattle.pm_tool.specs.Outcomes.{SaysWhy, fault_exit, outcome_text};
-ghost use Rattle.pm_tool.specs.Said.{loaded, said, said_started, IsSound, IsCutShort, IsDone, IsBrokenOff, Tells, IsCut, IsPrompt, FailsExactly};
+ghost use Rattle.pm_tool.specs.Said.{loaded, job_said, said_started, IsSoundExit, IsCutShort, IsDone};
+ghost use Rattle.pm_tool.specs.Said.{IsBrokenOff, Tells, IsCut, IsPrompt, FailsExactly, CountsExactly};
+ghost use Rattle.pm_streams.specs.Streams.{IsWithin, IsBound};
 
 use crate::assembly::assemble;
 use crate::code::disassemble;
@@ -19,7 +21,7 @@ use std::alloc::{AllocError, Global};
 
 /// The machine at its start on the program that the text spells, or why there is none.
 fn load(alloc: Global, text: &[u8]) -> Result<Result<Machine, Refusal>, AllocError>
-    ensures machine { IfOk result (λ machine. state_in machine ≡ loaded (spelled text.now)) }
+    ensures machine { IfOk result (λ machine. state_in machine ≡ loaded (hex_spelled text.now)) }
 {
     let Some(program) = hex::decode(alloc, text)? else {
         return Ok(Err(Refusal::Hex));
@@ -41,11 +43,16 @@ fn raw<R: Source, W: Sink>(
     requires source_well { R.has_failed source.old ≡ false }
     requires sink_well { W.has_failed sink.old ≡ false }
     ensures done { IfOk result (λ outcome. IsDone (R.remaining source.old) (R.remaining source.new)
-        (W.contents sink.old) (W.contents sink.new) outcome (λ input. said_started Show.Trace limit (loaded (spelled input)) [])) }
+        (W.contents sink.old) (W.contents sink.new) outcome
+        (λ input. said_started Show.Trace limit (loaded (hex_spelled input)) [])) }
     ensures told { IfOk result SaysWhy }
     ensures well { OnOk result ((R.has_failed source.new ≡ false) × (W.has_failed sink.new ≡ false)) }
     ensures broken { IfErr result (λ fault. IsBrokenOff (R.remaining source.old) (R.remaining source.new)
-        (W.contents sink.old) (W.contents sink.new) fault (R.has_failed source.new) (W.has_failed sink.new) (λ input. said_started Show.Trace limit (loaded (spelled input)) [])) }
+        (W.contents sink.old) (W.contents sink.new) fault (R.has_failed source.new) (W.has_failed sink.new)
+        (λ input. said_started Show.Trace limit (loaded (hex_spelled input)) [])) }
+    ensures few { OnOk result (IsWithin (R.given source.old) (R.given source.new)) }
+    ensures bound { IfErr result (λ fault.
+        IsBound fault (R.given source.old) (R.given source.new) (R.has_failed source.new)) }
 {
     let input = read_all(alloc, source)?;
     let machine = match load(alloc, &input)? {
@@ -66,13 +73,16 @@ fn do_job<R: Source, W: Sink>(
     requires source_well { R.has_failed source.old ≡ false }
     requires sink_well { W.has_failed sink.old ≡ false }
     ensures done { IfOk result (λ outcome. IsDone (R.remaining source.old) (R.remaining source.new)
-        (W.contents sink.old) (W.contents sink.new) outcome (said job)) }
+        (W.contents sink.old) (W.contents sink.new) outcome (job_said job)) }
     ensures told { IfOk result SaysWhy }
     ensures well { OnOk result ((R.has_failed source.new ≡ false) × (W.has_failed sink.new ≡ false)) }
     ensures broken { IfErr result (λ fault. IsBrokenOff (R.remaining source.old) (R.remaining source.new)
-        (W.contents sink.old) (W.contents sink.new) fault (R.has_failed source.new) (W.has_failed sink.new) (said job)) }
+        (W.contents sink.old) (W.contents sink.new) fault (R.has_failed source.new) (W.has_failed sink.new) (job_said job)) }
     ensures prompt { OnErr result (R.has_failed source.new ≡ true →
         IsPrompt job (R.remaining source.old) (R.remaining source.new) (W.contents sink.old) (W.contents sink.new)) }
+    ensures few { OnOk result (IsWithin (R.given source.old) (R.given source.new)) }
+    ensures bound { IfErr result (λ fault.
+        IsBound fault (R.given source.old) (R.given source.new) (R.has_failed source.new)) }
 {
     match job {
         Job::Raw { limit } => raw(alloc, source, sink, limit),
@@ -128,20 +138,26 @@ pub fn run<R: Source, W: Sink>(alloc: Global, source: &mut R, sink: &mut W, job:
     requires sink_well { W.has_failed sink.old ≡ false }
 
     // What is written, answered and left unread is exactly what is said to the input.
-    ensures exact { IsSound result.exit → IfSome (R.remaining source.old)
-        (λ input. Tells (R.remaining source.new) (W.contents sink.old) (W.contents sink.new) result (said job input)) }
+    ensures exact { IsSoundExit result.exit → IfSome (R.remaining source.old)
+        (λ input. Tells (R.remaining source.new) (W.contents sink.old) (W.contents sink.new) result
+        (job_said job input)) }
 
     // After a fault of a stream or want of memory, what was written is a front of that.
     ensures cut { IsCutShort result.exit →
-        IsCut (R.remaining source.old) (R.remaining source.new) (W.contents sink.old) (W.contents sink.new) (said job) }
+        IsCut (R.remaining source.old) (R.remaining source.new) (W.contents sink.old) (W.contents sink.new) (job_said job) }
 
-    // Where a read failed, all that the program had shown by then was written, and every whole line of a session was answered: output
-    // is written before more input is wanted.
+    // Where a read failed, all that the program had shown by then was written, and every whole line of a session was
+    // answered: output is written before more input is wanted.
     ensures prompt { R.has_failed source.new ≡ true →
         IsPrompt job (R.remaining source.old) (R.remaining source.new) (W.contents sink.old) (W.contents sink.new) }
 
-    // A fault of a stream is answered exactly where a read or a write failed or the input is too long, and the text says which.
-    ensures fails { FailsExactly (R.remaining source.old) (R.remaining source.new) (R.has_failed source.new) (W.has_failed sink.new) result.exit }
+    // A fault of a stream is answered exactly where a read or a write failed or the input is too long, and the text
+    // says which.
+    ensures fails { FailsExactly (R.remaining source.old) (R.remaining source.new) (R.has_failed source.new)
+        (W.has_failed sink.new) result.exit }
+
+    // The same of a read fault by the source's own count, whether it tells its bytes or not.
+    ensures counted { CountsExactly (R.given source.old) (R.given source.new) (R.has_failed source.new) result.exit }
     ensures fault { result.exit ≡ Exit.ReadFault → outcome_text result ≡ codes "read fault" }
     ensures write { result.exit ≡ Exit.WriteFault → outcome_text result ≡ codes "write fault" }
     ensures memory { result.exit ≡ Exit.NoMemory → outcome_text result ≡ codes "no memory" }

@@ -3,31 +3,32 @@ ghost use Rattle.std.specs.Prelude.{◌≡◌, false, [], Ok, List, ℕ, IfOk, I
 ghost use Rattle.std.specs.Io.KnownBytes.{Appends};
 ghost use Rattle.pm_filer.specs.Filed.{answer_of, filed, order_of};
 ghost use Rattle.pm_volume.specs.Headers.{blank_fault};
-ghost use Rattle.pm_tool.specs.Files.{said_new, answer_bytes, said_filed, said_files, said_order, said_repair, takes_input, with_input};
+ghost use Rattle.pm_tool.specs.Files.{said_new, answer_bytes, said_filed, said_files};
+ghost use Rattle.pm_tool.specs.Files.{said_order, said_repair, takes_input, with_input};
 ghost use Rattle.pm_tool.specs.Outcomes.{IsOutcome, SaysWhy};
-ghost use Rattle.pm_tool.specs.Said.{IsBrokenOff, IsDone, IsSound};
-ghost use Rattle.pm_streams.specs.Streams.{AppendsFront, IsCause};
+ghost use Rattle.pm_tool.specs.Said.{IsBrokenOff, IsDone, IsSoundExit};
+ghost use Rattle.pm_streams.specs.Streams.{AppendsFront, IsCause, IsWithin, IsBound};
 
 use crate::outcome::{Exit, Outcome, Refusal, refuse};
-use pm_filer::{Command, FilerFault, Reply, apply};
+use pm_filer::{FileCommand, FilerFault, Reply, apply};
 use pm_streams::{Fault, Sink, Source, read_all, write_all};
 use pm_volume::{Volume, VolumeFault};
 use std::alloc::{AllocError, Global};
 
 /// Whether a command takes the input's bytes.
-fn takes_input(command: &Command) -> bool
+fn takes_input(command: &FileCommand) -> bool
     ensures value { result ≡ takes_input (order_of command.now) }
 {
-    matches!(command, Command::Put(..) | Command::PutText(..))
+    matches!(command, FileCommand::Put(..) | FileCommand::PutText(..))
 }
 
 /// A command with the input's bytes in the place of its own.
-fn with_input(command: Command, input: Vec<u8>) -> Command
+fn with_input(command: FileCommand, input: Vec<u8>) -> FileCommand
     ensures order { order_of result ≡ with_input (order_of command) input.items }
 {
     match command {
-        Command::Put(name, kind, _) => Command::Put(name, kind, input),
-        Command::PutText(name, _) => Command::PutText(name, input),
+        FileCommand::Put(name, kind, _) => FileCommand::Put(name, kind, input),
+        FileCommand::PutText(name, _) => FileCommand::PutText(name, input),
         other => other,
     }
 }
@@ -40,10 +41,13 @@ fn answer<W: Sink>(
     reply: Reply,
 ) -> Result<Outcome, Fault>
     requires well { W.has_failed sink.old ≡ false }
-    ensures written { OnOk result (Appends (W.contents sink.old) (W.contents sink.new) (answer_bytes (answer_of reply))) }
-    ensures outcome { IfOk result (λ outcome. (unread : List ℕ) → IsOutcome outcome (said_filed (Ok (record { image = volume; answer = answer_of reply })) unread)) }
+    ensures written { OnOk result (Appends (W.contents sink.old) (W.contents sink.new)
+        (answer_bytes (answer_of reply))) }
+    ensures outcome { IfOk result (λ outcome. (unread : List ℕ)
+        → IsOutcome outcome (said_filed (Ok (record { image = volume; answer = answer_of reply })) unread)) }
     ensures well { OnOk result (W.has_failed sink.new ≡ false) }
-    ensures front { OnErr result (AppendsFront (W.contents sink.old) (W.contents sink.new) (answer_bytes (answer_of reply))) }
+    ensures front { OnErr result (AppendsFront (W.contents sink.old) (W.contents sink.new)
+        (answer_bytes (answer_of reply))) }
     ensures cause { IfErr result (λ fault. IsCause fault false (W.has_failed sink.new) []) }
     ensures told { IfOk result SaysWhy }
 {
@@ -60,13 +64,16 @@ fn file<W: Sink>(
     alloc: Global,
     sink: &mut W,
     mut volume: Volume,
-    command: Command,
+    command: FileCommand,
 ) -> Result<Outcome, Fault>
     requires well { W.has_failed sink.old ≡ false }
-    ensures written { OnOk result (Appends (W.contents sink.old) (W.contents sink.new) (said_filed (filed volume (order_of command)) []).written) }
-    ensures outcome { IfOk result (λ outcome. (unread : List ℕ) → IsOutcome outcome (said_filed (filed volume (order_of command)) unread)) }
+    ensures written { OnOk result (Appends (W.contents sink.old) (W.contents sink.new)
+        (said_filed (filed volume (order_of command)) []).written) }
+    ensures outcome { IfOk result (λ outcome. (unread : List ℕ)
+        → IsOutcome outcome (said_filed (filed volume (order_of command)) unread)) }
     ensures well { OnOk result (W.has_failed sink.new ≡ false) }
-    ensures front { OnErr result (AppendsFront (W.contents sink.old) (W.contents sink.new) (said_filed (filed volume (order_of command)) []).written) }
+    ensures front { OnErr result (AppendsFront (W.contents sink.old) (W.contents sink.new)
+        (said_filed (filed volume (order_of command)) []).written) }
     ensures cause { IfErr result (λ fault. IsCause fault false (W.has_failed sink.new) []) }
     ensures told { IfOk result SaysWhy }
 {
@@ -83,7 +90,7 @@ pub(crate) fn files<R: Source, W: Sink>(
     source: &mut R,
     sink: &mut W,
     image: Vec<u8>,
-    command: Command,
+    command: FileCommand,
 ) -> Result<Outcome, Fault>
     requires source_well { R.has_failed source.old ≡ false }
     requires sink_well { W.has_failed sink.old ≡ false }
@@ -93,6 +100,9 @@ pub(crate) fn files<R: Source, W: Sink>(
     ensures broken { IfErr result (λ fault. IsBrokenOff (R.remaining source.old) (R.remaining source.new)
         (W.contents sink.old) (W.contents sink.new) fault (R.has_failed source.new) (W.has_failed sink.new) (said_files image.items (order_of command))) }
     ensures told { IfOk result SaysWhy }
+    ensures few { OnOk result (IsWithin (R.given source.old) (R.given source.new)) }
+    ensures bound { IfErr result (λ fault.
+        IsBound fault (R.given source.old) (R.given source.new) (R.has_failed source.new)) }
 {
     let volume = match Volume::open(image) {
         Ok(volume) => volume,
@@ -109,8 +119,9 @@ pub(crate) fn files<R: Source, W: Sink>(
 
 /// A new volume without files.
 pub(crate) fn new_volume(alloc: Global, name: &str, blocks: u16) -> Result<Outcome, AllocError>
-    ensures outcome { IfOk result (λ outcome. (input : List ℕ) → IsOutcome outcome (said_new (blank_fault name.now blocks) name.now blocks input)) }
-    ensures sound { IfOk result (λ outcome. IsSound outcome.exit) }
+    ensures outcome { IfOk result (λ outcome. (input : List ℕ)
+        → IsOutcome outcome (said_new (blank_fault name.now blocks) name.now blocks input)) }
+    ensures sound { IfOk result (λ outcome. IsSoundExit outcome.exit) }
     ensures told { IfOk result SaysWhy }
 {
     match Volume::blank(alloc, name, blocks) {
@@ -123,7 +134,7 @@ pub(crate) fn new_volume(alloc: Global, name: &str, blocks: u16) -> Result<Outco
 /// An image as a volume, its first copy repaired where it alone is damaged.
 pub(crate) fn repair_volume(alloc: Global, image: Vec<u8>) -> Result<Outcome, AllocError>
     ensures outcome { IfOk result (λ outcome. (input : List ℕ) → IsOutcome outcome (said_repair image.items input)) }
-    ensures sound { IfOk result (λ outcome. IsSound outcome.exit) }
+    ensures sound { IfOk result (λ outcome. IsSoundExit outcome.exit) }
     ensures told { IfOk result SaysWhy }
 {
     match Volume::repair(image) {

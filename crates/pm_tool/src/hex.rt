@@ -1,7 +1,8 @@
 //! Bytes as text: pairs of hexadecimal digits and white space.
-ghost use Rattle.std.specs.Prelude.{◌≡◌, ◌+◌, ◌*◌, ◌<◌, ◌&&◌, IfOk, MatchOption, option_map, Some, None, nat_lt, SomeIff};
+ghost use Rattle.std.specs.Prelude.{◌≡◌, ◌+◌, ◌*◌, ◌<◌, ◌&&◌, IfOk, MatchOption};
+ghost use Rattle.std.specs.Prelude.{option_map, Some, None, nat_lt, SomeIff};
 ghost use Rattle.std.specs.Char.{digit_value};
-ghost use Rattle.pm_tool.specs.Hex.{is_space, is_hex_digit, pair_value, spelled};
+ghost use Rattle.pm_tool.specs.Hex.{is_space, is_hex_digit, pair_value, hex_spelled};
 
 use std::alloc::{AllocError, Global};
 
@@ -23,7 +24,7 @@ fn pair(high: u8, low: u8) -> Option<u8>
 
 /// The bytes that a text spells, if it spells any.
 pub(crate) fn decode(alloc: Global, text: &[u8]) -> Result<Option<Vec<u8>>, AllocError>
-    ensures bytes { IfOk result (λ bytes. option_map (λ v. v.items) bytes ≡ spelled text.now) }
+    ensures bytes { IfOk result (λ bytes. option_map (λ v. v.items) bytes ≡ hex_spelled text.now) }
 {
     let mut bytes = Vec::new(alloc);
     let mut rest = text;

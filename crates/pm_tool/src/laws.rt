@@ -1,8 +1,8 @@
 //! Laws of runs. The functions do nothing.
 ghost use Rattle.pm_tool.specs.Laws.{RunsAreEvents, RunsGoByTheMachine, ShowingChangesNothing};
 
-/// A run leaves the machine as a list of steps and keys leaves it, and the bytes that are keyed are exactly those that are
-/// read.
+/// A run leaves the machine as a list of steps and keys leaves it, and the bytes that are keyed are exactly those that
+/// are read.
 #[tactic(auto, using(crate::proofs::RunLaws::runs_are_events))]
 pub fn runs_are_events()
     ensures law { RunsAreEvents }
@@ -14,8 +14,8 @@ pub fn showing_changes_nothing()
     ensures law { ShowingChangesNothing }
 {}
 
-/// A run is that of the machine without input as far as it goes; where that waits, the next byte is keyed, and what is left
-/// of the limit is run from there.
+/// A run is that of the machine without input as far as it goes; where that waits, the next byte is keyed, and what is
+/// left of the limit is run from there.
 #[tactic(auto, using(crate::proofs::MachineRuns::runs_go_by_the_machine))]
 pub fn runs_go_by_the_machine()
     ensures law { RunsGoByTheMachine }

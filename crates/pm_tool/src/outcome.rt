@@ -1,10 +1,11 @@
 //! Jobs, and what they come to.
 ghost use Rattle.std.specs.Prelude.{◌≡◌, [], List, ℕ, Some, None, IfOk, option_map, string_bytes, vec_items};
-ghost use Rattle.pm_tool.specs.Outcomes.{asm_text, code_text, exit_number, fault_exit, is_want, outcome_text, refusal_text, text_fault_text, volume_text, IsOutcome, SaysWhy, refused};
+ghost use Rattle.pm_tool.specs.Outcomes.{asm_text, code_text, exit_number, fault_exit, is_want, outcome_text};
+ghost use Rattle.pm_tool.specs.Outcomes.{refusal_text, text_fault_text, volume_text, IsOutcome, SaysWhy, refused};
 
 use pm_asm::AsmFault;
 use pm_codefile::CodeFault;
-use pm_filer::{Command, FilerFault};
+use pm_filer::{FileCommand, FilerFault};
 use pm_machine::BootFault;
 use pm_streams::Fault;
 use pm_textfile::TextFault;
@@ -15,64 +16,68 @@ use std::fmt;
 /// What is to be done.
 #[derive(Debug, Drop, PartialEq, Eq)]
 pub enum Job {
-    /// The input spells a program: its bytes are pairs of hexadecimal digits of both cases, with white space (tabs, line
-    /// feeds, carriage returns and spaces) anywhere but within a pair. The output is the trace of at most `limit` steps.
-    /// Any other input is refused by `refused hex 1`, and a program of more than 60,000 bytes by `refused boot 3`.
+    /// The input spells a program: its bytes are pairs of hexadecimal digits of both cases, with white space (tabs,
+    /// line feeds, carriage returns and spaces) anywhere but within a pair. The output is the trace of at most `limit`
+    /// steps. Any other input is refused by `refused hex 1`, and a program of more than 60,000 bytes by `refused boot
+    /// 3`.
     Raw {
         limit: u32,
     },
-    /// A program runs: the code file `name` on the disk of unit 4. The disks are those of the units 4, 5, 9, 10, 11 and 12, and
-    /// are opened in that order: an image that is no volume is refused by `refused volume N`, and a program that does not start
-    /// by `refused boot N`, both before any input is read. The input is the console's: each time that the program waits for
-    /// console bytes, one is read. The output is what the program writes to the console. The message is the last line of a
-    /// trace; the outcome has the printer's bytes and, with `save`, the image on unit 4 as the program left it.
+    /// A program runs: the code file `name` on the disk of unit 4. The disks are those of the units 4, 5, 9, 10, 11 and
+    /// 12, and are opened in that order: an image that is no volume is refused by `refused volume N`, and a program
+    /// that does not start by `refused boot N`, both before any input is read. The input is the console's: each time
+    /// that the program waits for console bytes, one is read. The output is what the program writes to the console. The
+    /// message is the last line of a trace; the outcome has the printer's bytes and, with `save`, the image on unit 4
+    /// as the program left it.
     Run {
         disks: [Option<Vec<u8>>; 6],
         name: String,
         limit: u32,
         save: bool,
     },
-    /// The same program runs, and the output is its trace alone: a line for each step that does not wait, of the state before it,
-    /// and a last line: `ended K`, `error N K`, `limit K` after `limit` steps, or `waiting K` where no input is left.
+    /// The same program runs, and the output is its trace alone: a line for each step that does not wait, of the state
+    /// before it, and a last line: `ended K`, `error N K`, `limit K` after `limit` steps, or `waiting K` where no input
+    /// is left.
     Trace {
         disks: [Option<Vec<u8>>; 6],
         name: String,
         limit: u32,
     },
-    /// A debugger of the same program, which is not run by itself: each line of the input is a command, and is answered by one
-    /// line, before the next is read. The session ends behind the line of `quit`, or with the input, and the job then ends
-    /// well, whatever the machine did. The console's bytes are not shown, and none of the input is its.
+    /// A debugger of the same program, which is not run by itself: each line of the input is a command, and is answered
+    /// by one line, before the next is read. The session ends behind the line of `quit`, or with the input, and the job
+    /// then ends well, whatever the machine did. The console's bytes are not shown, and none of the input is its.
     Debug {
         disks: [Option<Vec<u8>>; 6],
         name: String,
     },
-    /// The input is a text of the assembler, each byte above 127 being character 127, and the output is the code file of its
-    /// program, or with `list` its listing alone. Any other text is refused by `refused asm N LINE`, with the number of its first
-    /// fault and its line, and one with a segment that is too long by `refused asm 7 SEGMENT`.
+    /// The input is a text of the assembler, each byte above 127 being character 127, and the output is the code file
+    /// of its program, or with `list` its listing alone. Any other text is refused by `refused asm N LINE`, with the
+    /// number of its first fault and its line, and one with a segment that is too long by `refused asm 7 SEGMENT`.
     Asm {
         list: bool,
     },
-    /// The input is a code file, and the output is its text: its segments by ascending slot, each with its procedures. An input
-    /// that is no code file is refused by `refused code N`, with the slot that the fault names.
+    /// The input is a code file, and the output is its text: its segments by ascending slot, each with its procedures.
+    /// An input that is no code file is refused by `refused code N`, with the slot that the fault names.
     Dis,
-    /// A command on the volume that an image is. The input's bytes stand in the place of a put's, of bytes or text, and no
-    /// other command reads any. The output is the list, the bytes or the text of a file; after a change the outcome has the
-    /// image that is to be kept. An image that is no volume is refused by `refused volume N`, before the input is read; a command that the volume
-    /// refuses by `refused filer 1 N`, N being the number of the volume's fault; a text or a text file by `refused filer 2 N`,
-    /// with the number of its fault and the line or place; a date by `refused filer 3`.
+    /// A command on the volume that an image is. The input's bytes stand in the place of a put's, of bytes or text, and
+    /// no other command reads any. The output is the list, the bytes or the text of a file; after a change the outcome
+    /// has the image that is to be kept. An image that is no volume is refused by `refused volume N`, before the input
+    /// is read; a command that the volume refuses by `refused filer 1 N`, N being the number of the volume's fault; a
+    /// text or a text file by `refused filer 2 N`, with the number of its fault and the line or place; a date by
+    /// `refused filer 3`.
     Files {
         image: Vec<u8>,
-        command: Command,
+        command: FileCommand,
     },
-    /// A new volume of this name and so many blocks, without files, whose image the outcome has. The input is not read. A text
-    /// that is no name is refused by `refused volume 10`, and fewer than 6 blocks by `refused volume 3`.
+    /// A new volume of this name and so many blocks, without files, whose image the outcome has. The input is not read.
+    /// A text that is no name is refused by `refused volume 10`, and fewer than 6 blocks by `refused volume 3`.
     New {
         name: String,
         blocks: u16,
     },
-    /// An image whose first copy of the directory alone is damaged, with the good second copy in that place; an image that is
-    /// a volume stays as it is. The outcome has the image that is to be kept. The input is not read. Any other image is refused
-    /// by `refused volume N`.
+    /// An image whose first copy of the directory alone is damaged, with the good second copy in that place; an image
+    /// that is a volume stays as it is. The outcome has the image that is to be kept. The input is not read. Any other
+    /// image is refused by `refused volume N`.
     Repair {
         image: Vec<u8>,
     },
@@ -131,8 +136,8 @@ impl Exit {
 #[derive(Drop)]
 pub struct Outcome {
     pub exit: Exit,
-    /// What is said of it, with no line feed at the end. It may be empty, and is so after a fault: `text` has what is said
-    /// then.
+    /// What is said of it, with no line feed at the end. It may be empty, and is so after a fault: `text` has what is
+    /// said then.
     pub message: String,
     /// The image of a volume to be kept, if there is one.
     pub image: Option<Vec<u8>>,

@@ -1,11 +1,12 @@
 //! Programs, and what is told of their runs.
-ghost use Rattle.std.specs.Prelude.{◌≡◌, false, true, [], ◌++◌, List, ℕ, Some, None, IfOk, IfErr, OnOk, OnErr, option_map, vec_items};
-ghost use Rattle.pm_tool.specs.Disks.{booted, state_in, disk_fault, first_fault, images_of};
+ghost use Rattle.std.specs.Prelude.{◌≡◌, false, true, [], ◌++◌, List, ℕ, Some, None};
+ghost use Rattle.std.specs.Prelude.{IfOk, IfErr, OnOk, OnErr, option_map, vec_items};
+ghost use Rattle.pm_tool.specs.Disks.{booted, state_in, disk_fault, first_disk_fault, images_of};
 ghost use Rattle.std.specs.Io.KnownBytes.{Appends};
 ghost use Rattle.pm_tool.specs.Outcomes.{IsOutcome, SaysWhy};
-ghost use Rattle.pm_tool.specs.Run.{end_text, ends, run_of};
+ghost use Rattle.pm_tool.specs.Run.{end_text, ended_run, run_of};
 ghost use Rattle.pm_tool.specs.Said.{IsBrokenOff, IsDone, WritesFirst, said_run, said_started, shown_started};
-ghost use Rattle.pm_streams.specs.Streams.{AppendsFront, IsCause};
+ghost use Rattle.pm_streams.specs.Streams.{AppendsFront, IsCause, IsWithin, IsBound};
 
 use crate::ending::{Ending, LastLine};
 use crate::outcome::{Outcome, Refusal, refuse};
@@ -25,10 +26,13 @@ fn tell<W: Sink>(
     mut page: Vec<u8>,
 ) -> Result<Outcome, Fault>
     requires well { W.has_failed sink.old ≡ false }
-    ensures written { OnOk result (Appends (W.contents sink.old) (W.contents sink.new) (page.items ++ end_text show ending machine.old.state.steps)) }
-    ensures outcome { IfOk result (λ outcome. (shown unread : List ℕ) → IsOutcome outcome (said_run show (ends shown ending machine.old.state unread))) }
+    ensures written { OnOk result (Appends (W.contents sink.old) (W.contents sink.new)
+        (page.items ++ end_text show ending machine.old.state.steps)) }
+    ensures outcome { IfOk result (λ outcome. (shown unread : List ℕ)
+        → IsOutcome outcome (said_run show (ended_run shown ending machine.old.state unread))) }
     ensures well { OnOk result (W.has_failed sink.new ≡ false) }
-    ensures front { OnErr result (AppendsFront (W.contents sink.old) (W.contents sink.new) (page.items ++ end_text show ending machine.old.state.steps)) }
+    ensures front { OnErr result (AppendsFront (W.contents sink.old) (W.contents sink.new)
+        (page.items ++ end_text show ending machine.old.state.steps)) }
     ensures cause { IfErr result (λ fault. IsCause fault false (W.has_failed sink.new) []) }
     ensures told { IfOk result SaysWhy }
 {
@@ -76,13 +80,19 @@ pub(crate) fn play<R: Source, W: Sink>(
     requires source_well { R.has_failed source.old ≡ false }
     requires sink_well { W.has_failed sink.old ≡ false }
     ensures done { IfOk result (λ outcome. IsDone (R.remaining source.old) (R.remaining source.new)
-        (W.contents sink.old) (W.contents sink.new) outcome (λ input. said_run show (run_of show limit input machine.state))) }
+        (W.contents sink.old) (W.contents sink.new) outcome
+        (λ input. said_run show (run_of show limit input machine.state))) }
     ensures well { OnOk result ((R.has_failed source.new ≡ false) × (W.has_failed sink.new ≡ false)) }
     ensures broken { IfErr result (λ fault. IsBrokenOff (R.remaining source.old) (R.remaining source.new)
-        (W.contents sink.old) (W.contents sink.new) fault (R.has_failed source.new) (W.has_failed sink.new) (λ input. said_run show (run_of show limit input machine.state))) }
-    ensures prompt { OnErr result (R.has_failed source.new ≡ true → WritesFirst (R.remaining source.old) (R.remaining source.new)
+        (W.contents sink.old) (W.contents sink.new) fault (R.has_failed source.new) (W.has_failed sink.new)
+        (λ input. said_run show (run_of show limit input machine.state))) }
+    ensures prompt { OnErr result (R.has_failed source.new ≡ true
+        → WritesFirst (R.remaining source.old) (R.remaining source.new)
         (W.contents sink.old) (W.contents sink.new) (λ input. (run_of show limit input machine.state).shown)) }
     ensures told { IfOk result SaysWhy }
+    ensures few { OnOk result (IsWithin (R.given source.old) (R.given source.new)) }
+    ensures bound { IfErr result (λ fault.
+        IsBound fault (R.given source.old) (R.given source.new) (R.has_failed source.new)) }
 {
     let mut page = Vec::new(alloc);
     let ending = drive(alloc, source, sink, &mut machine, show, limit, &mut page)?;
@@ -108,8 +118,8 @@ fn volume_of(image: Option<Vec<u8>>) -> Result<Option<Volume>, VolumeFault>
 /// The volumes that the images are, or the first fault.
 fn volumes_of(disks: [Option<Vec<u8>>; 6]) -> Result<[Option<Volume>; 6], VolumeFault>
     ensures volumes { IfOk result (λ volumes. volumes ≡ images_of disks) }
-    ensures sound { OnOk result (first_fault (images_of disks) ≡ None) }
-    ensures fault { IfErr result (λ fault. first_fault (images_of disks) ≡ Some fault) }
+    ensures sound { OnOk result (first_disk_fault (images_of disks) ≡ None) }
+    ensures fault { IfErr result (λ fault. first_disk_fault (images_of disks) ≡ Some fault) }
 {
     let mut volumes = [None, None, None, None, None, None];
     let mut place = 0;
@@ -156,9 +166,13 @@ pub(crate) fn program<R: Source, W: Sink>(
     ensures well { OnOk result ((R.has_failed source.new ≡ false) × (W.has_failed sink.new ≡ false)) }
     ensures broken { IfErr result (λ fault. IsBrokenOff (R.remaining source.old) (R.remaining source.new)
         (W.contents sink.old) (W.contents sink.new) fault (R.has_failed source.new) (W.has_failed sink.new) (said_started show limit (booted (images_of disks) name.now))) }
-    ensures prompt { OnErr result (R.has_failed source.new ≡ true → WritesFirst (R.remaining source.old) (R.remaining source.new)
+    ensures prompt { OnErr result (R.has_failed source.new ≡ true
+        → WritesFirst (R.remaining source.old) (R.remaining source.new)
         (W.contents sink.old) (W.contents sink.new) (shown_started show limit (booted (images_of disks) name.now))) }
     ensures told { IfOk result SaysWhy }
+    ensures few { OnOk result (IsWithin (R.given source.old) (R.given source.new)) }
+    ensures bound { IfErr result (λ fault.
+        IsBound fault (R.given source.old) (R.given source.new) (R.has_failed source.new)) }
 {
     let machine = match boot(alloc, disks, name)? {
         Ok(machine) => machine,

@@ -3,7 +3,7 @@ ghost use Rattle.std.specs.Prelude.{◌≡◌, false, true, [], ◌++◌, drop, 
 ghost use Rattle.std.specs.Io.KnownBytes.{Appends};
 ghost use Rattle.pm_machine.specs.Steps.{stepped};
 ghost use Rattle.pm_tool.specs.Run.{IsBroken, IsOver, Unshown, is_console, shown_by};
-ghost use Rattle.pm_streams.specs.Streams.{AppendsBut, AppendsFront, IsCause};
+ghost use Rattle.pm_streams.specs.Streams.{AppendsBut, AppendsFront, IsCause, IsWithin, IsBound};
 
 use crate::ending::Ending;
 use pm_debug::TraceLine;
@@ -28,7 +28,8 @@ fn traced_step(
     page: &mut Vec<u8>,
 ) -> Result<Stop, AllocError>
     ensures next { IfOk result (λ stop. stepped machine.old.state ≡ (machine.new.state, stop)) }
-    ensures page { IfOk result (λ stop. page.new.items ≡ page.old.items ++ shown_by Show.Trace machine.old.state machine.new.state stop) }
+    ensures page { IfOk result (λ stop. page.new.items
+        ≡ page.old.items ++ shown_by Show.Trace machine.old.state machine.new.state stop) }
 {
     line.clear();
     let before = TraceLine::new(machine);
@@ -43,7 +44,8 @@ fn traced_step(
 /// Makes one step. What it adds to the console goes onto the page, unless the step waits.
 fn console_step(machine: &mut Machine, page: &mut Vec<u8>) -> Result<Stop, AllocError>
     ensures next { IfOk result (λ stop. stepped machine.old.state ≡ (machine.new.state, stop)) }
-    ensures page { IfOk result (λ stop. page.new.items ≡ page.old.items ++ shown_by (Show.Console false) machine.old.state machine.new.state stop) }
+    ensures page { IfOk result (λ stop. page.new.items
+        ≡ page.old.items ++ shown_by (Show.Console false) machine.old.state machine.new.state stop) }
 {
     let before = machine.console().len();
     let stop = machine.step()?;
@@ -62,7 +64,8 @@ fn step(
     page: &mut Vec<u8>,
 ) -> Result<Stop, AllocError>
     ensures next { IfOk result (λ stop. stepped machine.old.state ≡ (machine.new.state, stop)) }
-    ensures page { IfOk result (λ stop. page.new.items ≡ page.old.items ++ shown_by show machine.old.state machine.new.state stop) }
+    ensures page { IfOk result (λ stop. page.new.items
+        ≡ page.old.items ++ shown_by show machine.old.state machine.new.state stop) }
 {
     match show {
         Show::Trace => traced_step(machine, line, page),
@@ -100,7 +103,8 @@ fn write_page<W: Sink>(sink: &mut W, page: &mut Vec<u8>) -> Result<(), Fault>
 /// Writes the page and clears it, once it is full: a trace is written by pages, and console bytes are written at once.
 fn turn_page<W: Sink>(sink: &mut W, page: &mut Vec<u8>, show: Show) -> Result<(), Fault>
     requires well { W.has_failed sink.old ≡ false }
-    ensures written { OnOk result (AppendsBut (W.contents sink.old) (W.contents sink.new) page.new.items page.old.items) }
+    ensures written { OnOk result (AppendsBut (W.contents sink.old)
+        (W.contents sink.new) page.new.items page.old.items) }
     ensures at_once { is_console show ≡ true → OnOk result (page.new.items ≡ []) }
     ensures well { OnOk result (W.has_failed sink.new ≡ false) }
     ensures front { OnErr result (AppendsFront (W.contents sink.old) (W.contents sink.new) page.old.items) }
@@ -116,8 +120,8 @@ fn turn_page<W: Sink>(sink: &mut W, page: &mut Vec<u8>, show: Show) -> Result<()
     Ok(())
 }
 
-/// Makes at most `limit` steps and writes what they show, but for what it leaves on the page. Each time that the machine
-/// waits, the page is written and the machine gets the next byte of the input.
+/// Makes at most `limit` steps and writes what they show, but for what it leaves on the page. Each time that the
+/// machine waits, the page is written and the machine gets the next byte of the input.
 pub(crate) fn drive<R: Source, W: Sink>(
     alloc: Global,
     source: &mut R,
@@ -136,6 +140,9 @@ pub(crate) fn drive<R: Source, W: Sink>(
     ensures sink_well { OnOk result (W.has_failed sink.new ≡ false) }
     ensures broken { IfErr result (λ fault. IsBroken (R.remaining source.old) (R.remaining source.new)
         (W.contents sink.old) (W.contents sink.new) show limit machine.old.state fault (R.has_failed source.new) (W.has_failed sink.new)) }
+    ensures few { OnOk result (IsWithin (R.given source.old) (R.given source.new)) }
+    ensures bound { IfErr result (λ fault.
+        IsBound fault (R.given source.old) (R.given source.new) (R.has_failed source.new)) }
 {
     let mut line = String::new(alloc);
     let mut went = 0;

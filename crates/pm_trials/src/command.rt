@@ -7,7 +7,7 @@ use std::io;
 
 /// A command line, standard input, and whether the standard streams are a terminal.
 #[derive(Clone, Copy)]
-pub struct Command<'a> {
+pub struct CommandLine<'a> {
     /// The program's name and the words, with a blank between each two.
     pub words: &'a str,
     pub typed: &'a [u8],
@@ -22,7 +22,12 @@ pub struct Came {
 }
 
 /// Does a command line on a disk; the call of this number fails, and no other.
-pub fn come(alloc: Global, mut disk: Disk, command: Command<'_>, fails_at: Option<usize>) -> Came {
+pub fn come(
+    alloc: Global,
+    mut disk: Disk,
+    command: CommandLine<'_>,
+    fails_at: Option<usize>,
+) -> Came {
     disk.fails_at = fails_at;
     let cell = RefCell::new(disk);
     let status = program(&FakeRuntime {

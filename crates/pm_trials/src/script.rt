@@ -1,5 +1,5 @@
 //! The lines of a script.
-use crate::command::{Came, Command, come, copy};
+use crate::command::{Came, CommandLine, come, copy};
 use crate::sweep::sweep;
 use pm_fake::Disk;
 use std::alloc::Global;
@@ -67,7 +67,7 @@ impl Trials {
 
     /// Does a command line.
     fn run(&mut self, words: &str) -> io::Result<bool> {
-        let command = Command {
+        let command = CommandLine {
             words,
             typed: self.typed.as_slice(),
             on_terminal: self.on_terminal,
@@ -82,7 +82,7 @@ impl Trials {
     /// Does a command line, and once more for each of its calls, which fails. `paths`: the files that it writes, in
     /// this order.
     fn run_each(&mut self, words: &str, paths: &str) -> io::Result<bool> {
-        let command = Command {
+        let command = CommandLine {
             words,
             typed: self.typed.as_slice(),
             on_terminal: self.on_terminal,
@@ -127,11 +127,12 @@ impl Trials {
             "<<" => {
                 self.typed = std::mem::replace(&mut disk.out, Vec::new(self.alloc));
             }
-            "hold" | "private" | "read-only" => {
+            "hold" | "private" | "read-only" | "folder" => {
                 for inode in disk.inodes.iter_mut() {
                     inode.locked = word == "hold";
                     inode.is_private = word == "private";
                     inode.is_read_only = word == "read-only";
+                    inode.is_folder = word == "folder";
                 }
             }
             _ => return Ok(false),
@@ -205,9 +206,9 @@ impl Trials {
     /// between them; `usage WORDS`: one of wrong words; - `< TEXT`: a line of its standard input; `<<`: what
     /// standard output took is its standard input; - `> TEXT`, `] TEXT`, `! TEXT`: what standard output, the same
     /// without a line feed, and standard error took; - `disk`: no files; `closed`: the folder takes no new name;
-    /// `hold`, `private`, `read-only`: another program holds all files, they may not be read, or not be written;
-    /// `terminal on`, `terminal off`; - `copy FROM TO`, `poke FILE PLACE TEXT`, `link FILE NAME`, `store FILE`,
-    /// which keeps what standard output took.
+    /// `hold`, `private`, `read-only`, `folder`: another program holds all files, they may not be read, or not be
+    /// written, or are folders; `terminal on`, `terminal off`; - `copy FROM TO`, `poke FILE PLACE TEXT`,
+    /// `link FILE NAME`, `store FILE`, which keeps what standard output took.
     ///
     /// Those that are true or not: `= STATUS`, beside which both streams took what stands above; `status STATUS` alone;
     /// `same FILE FILE`, `text FILE TEXT`, `size FILE BYTES`, `names COUNT`; `field LINE PLACE WORD` of standard
@@ -223,9 +224,15 @@ impl Trials {
             ">" => add(&mut self.out, rest, true).map(|_| true),
             "]" => add(&mut self.out, rest, false).map(|_| true),
             "!" => add(&mut self.err, rest, true).map(|_| true),
-            "disk" | "closed" | "terminal" | "<" | "<<" | "hold" | "private" | "read-only" => {
-                self.set(word, rest)
-            }
+            "disk"
+            | "closed"
+            | "terminal"
+            | "<"
+            | "<<"
+            | "hold"
+            | "private"
+            | "read-only"
+            | "folder" => { self.set(word, rest) }
             "copy" | "poke" | "link" | "store" => self.change(word, first, second),
             _ => Ok(self.holds(word, first, second)),
         }

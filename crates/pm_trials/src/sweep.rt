@@ -1,5 +1,5 @@
 //! Each call of a command line fails in turn.
-use crate::command::{Came, Command, come, copy};
+use crate::command::{Came, CommandLine, come, copy};
 use pm_fake::Disk;
 use std::alloc::Global;
 use std::io;
@@ -63,7 +63,7 @@ fn is_broken_off(good: &Came, came: &Came, number: usize) -> bool {
 pub fn sweep(
     alloc: Global,
     old: &Disk,
-    command: Command<'_>,
+    command: CommandLine<'_>,
     paths: &str,
 ) -> io::Result<(bool, Came)> {
     let good = come(alloc, copy(alloc, old)?, command, None);

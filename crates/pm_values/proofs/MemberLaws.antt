@@ -34,7 +34,7 @@ use Rattle.std.proofs.lemmas.Bool.{cases_lt}
 use Rattle.std.proofs.lemmas.Bool.Decides.{nat_tests}
 use Rattle.std.proofs.lemmas.List.{get_or_past}
 use Rattle.std.proofs.lemmas.Nat.Bits.{bit_at-suc, bit_at-zero, bit_at_lowest}
-use Rattle.pm_values.specs.Laws.{IntersectionCommutes, PartsUnite, SetIsItsTest, UnionCommutes, intersected, removed}
+use Rattle.pm_values.specs.Laws.{IntersectionCommutes, PartsUnite, SetIsItsTest, UnionCommutes, intersected, set_removed}
 use Rattle.pm_values.specs.Sets.{bits_from, is_member, set_from}
 use Rattle.pm_values.proofs.SetLaws.{length-set_from}
 
@@ -141,7 +141,7 @@ parts true true true false y f g h = refl
 
 pub parts_unite : PartsUnite
 parts_unite xs ys e =
-    let rest = removed xs ys in
+    let rest = set_removed xs ys in
     let taken = intersected xs ys in
     let more : length rest ≡ length xs = length-set_from (length xs) 0 (λ e. is_member xs e && not (is_member ys e)) in
     let fewer : length taken ≡ min (length xs) (length ys) = length-set_from (min (length xs) (length ys)) 0 (λ e. is_member xs e && is_member ys e) in

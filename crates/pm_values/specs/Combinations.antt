@@ -17,7 +17,7 @@ test_of Union s t = s || t
 test_of Difference s t = s && not t
 
 -- a word of it
-abbrev pub word_of : Combination → ℕ → ℕ → ℕ
-word_of Intersection a b = bit_and a b
-word_of Union a b = bit_or a b
-word_of Difference a b = bit_and a (bit_not w16 b)
+abbrev pub combined_word : Combination → ℕ → ℕ → ℕ
+combined_word Intersection a b = bit_and a b
+combined_word Union a b = bit_or a b
+combined_word Difference a b = bit_and a (bit_not w16 b)

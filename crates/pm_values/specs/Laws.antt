@@ -42,8 +42,8 @@ abbrev pub intersected : List ℕ → List ℕ → List ℕ
 intersected xs ys = set_of (min (length xs) (length ys)) (λ e. is_member xs e && is_member ys e)
 
 -- the words of the numbers in the one set and not in the other
-abbrev pub removed : List ℕ → List ℕ → List ℕ
-removed xs ys = set_of (length xs) (λ e. is_member xs e && not (is_member ys e))
+abbrev pub set_removed : List ℕ → List ℕ → List ℕ
+set_removed xs ys = set_of (length xs) (λ e. is_member xs e && not (is_member ys e))
 
 -- two sets unite, and intersect, to the same words in either order
 abbrev pub UnionCommutes : Type 0
@@ -54,7 +54,7 @@ IntersectionCommutes = (xs ys : List ℕ) → intersected xs ys ≡ intersected 
 
 -- what is left of a set, united with what was taken from it, is the set
 abbrev pub PartsUnite : Type 0
-PartsUnite = (xs ys : List ℕ) (e : ℕ) → is_member (united (removed xs ys) (intersected xs ys)) e ≡ is_member xs e
+PartsUnite = (xs ys : List ℕ) (e : ℕ) → is_member (united (set_removed xs ys) (intersected xs ys)) e ≡ is_member xs e
 
 -- a subset is one by its numbers, however many words the sets have
 abbrev pub SubsetIsOfNumbers : Type 0

@@ -75,8 +75,8 @@ in_set_row m sp np = do
   push m a.above np (truth (nat_lt a.word 32768 && is_member s.members a.word))
 
 -- a set as it stands on the stack: the count of its words, then the words
-abbrev pub counted : List ℕ → List ℕ
-counted ws = length ws ∷ ws
+abbrev pub with_length : List ℕ → List ℕ
+with_length ws = length ws ∷ ws
 
 -- Set, set: a set made of the lower set's members and the upper set's. The count of its words is made of their counts,
 -- and the test says which numbers are in it, by whether they are in the one and in the other.
@@ -84,7 +84,7 @@ abbrev pub two_sets_row : (ℕ → ℕ → ℕ) → (Bool → Bool → Bool) →
 two_sets_row count test m sp np = do
   t ← pop_set m sp
   s ← pop_set m t.above
-  push_words m s.above np (counted (set_of (count (length s.members) (length t.members))
+  push_words m s.above np (with_length (set_of (count (length s.members) (length t.members))
       (λ e. test (is_member s.members e) (is_member t.members e))))
 
 -- INT. .., set, set -> .., set: the numbers in both sets, in as many words as the smaller has
@@ -109,7 +109,7 @@ unfoldable pub singleton_row : StackRow
 singleton_row m sp np = do
   a ← pop m sp
   _ ← demand (nat_le a.word 4079) InvalidIndex
-  push_words m a.above np (counted (interval a.word a.word))
+  push_words m a.above np (with_length (interval a.word a.word))
 
 -- SRS. .., low, high -> .., set: the set of the numbers from low to high; if low is above high, the set of no words
 unfoldable pub subrange_row : StackRow
@@ -118,7 +118,7 @@ subrange_row m sp np = do
   a ← pop m b.above
   set ← if int_lt (signed b.word) (signed a.word) then Ok [] else (demand (nat_le a.word 4079 && nat_le b.word 4079)
       InvalidIndex >>= λ _. Ok (interval a.word b.word))
-  push_words m a.above np (counted set)
+  push_words m a.above np (with_length set)
 
 -- ADJ. .., set -> .., n words: its members in so many words, without a count
 unfoldable pub adjust_row : ℕ → StackRow

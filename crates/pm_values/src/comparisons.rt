@@ -59,7 +59,8 @@ fn compare_strings(
     np: u16,
     relation: Relation,
 ) -> Result<u16, ExecError>
-    ensures row { Changes result memory.old.words memory.new.words (compare_strings_row relation memory.old.words sp np) }
+    ensures row { Changes result memory.old.words memory.new.words
+        (compare_strings_row relation memory.old.words sp np) }
     ensures stack { IsStack sp np → IfOk result (λ sp. IsStack sp np) }
     ensures keeps { KeepsWatch memory.old memory.new }
 {

@@ -20,11 +20,11 @@ ghost use Rattle.std.specs.Prelude.{
 ghost use Rattle.pm_words.specs.Watch.{KeepsWatch};
 ghost use Rattle.pm_words.specs.Stack.{IsStack, Changes};
 ghost use Rattle.pm_words.specs.Words.{words_at};
-ghost use Rattle.pm_values.specs.Combinations.{count_of, test_of, word_of};
+ghost use Rattle.pm_values.specs.Combinations.{count_of, test_of, combined_word};
 ghost use Rattle.pm_values.specs.Sets.{
   adjust_row,
   bits_from,
-  counted,
+  with_length,
   difference_row,
   in_set_row,
   intersect_row,
@@ -59,6 +59,14 @@ enum Combination {
     Difference,
 }
 
+// Where a set stands on the stack: its words from an even address on, how many they are, and the SP above it.
+#[derive(Clone, Copy)]
+struct SetPlace {
+    address: u16,
+    count: u16,
+    above: u16,
+}
+
 /// A set taken from the stack, and the SP above it.
 #[derive(Drop)]
 pub struct StackSet {
@@ -75,9 +83,9 @@ pub fn in_set(memory: &mut Memory, sp: u16, np: u16) -> Result<u16, ExecError>
     ensures stack { IsStack sp np → IfOk result (λ sp. IsStack sp np) }
     ensures keeps { KeepsWatch memory.old memory.new }
 {
-    let set = take_set(memory, sp)?;
+    let set = find_set(memory, sp)?;
     let value = pop(memory, set.above)?;
-    let found = value.word < 32768 && contains(&set.words, value.word);
+    let found = value.word < 32768 && contains(memory, set, value.word);
     push(memory, value.above, np, u16::from(found))
 }
 
@@ -159,8 +167,8 @@ pub fn adjust(memory: &mut Memory, sp: u16, np: u16, words: u8) -> Result<u16, E
     ensures stack { IsStack sp np → IfOk result (λ sp. IsStack sp np) }
     ensures keeps { KeepsWatch memory.old memory.new }
 {
-    let set = take_set(memory, sp)?;
-    let members = resized(&set.words, usize::from(words));
+    let set = find_set(memory, sp)?;
+    let members = resized(memory, set, usize::from(words));
     push_words(memory, set.above, np, &members)
 }
 
@@ -177,19 +185,25 @@ fn combine(
     ensures stack { IsStack sp np → IfOk result (λ sp. IsStack sp np) }
     ensures keeps { KeepsWatch memory.old memory.new }
 {
-    let upper = take_set(memory, sp)?;
-    let lower = take_set(memory, upper.above)?;
-    let set = combined(combination, &lower.words, &upper.words);
+    let _ = memory.bytes(); // for its first clause
+    let upper = find_set(memory, sp)?;
+    let lower = find_set(memory, upper.above)?;
+    let set = combined(memory, combination, lower, upper);
     push_words(memory, lower.above, np, &set)
 }
 
-/// Takes a set from the stack.
+// The set on the stack, left where it stands.
+#[inline(always)]
 #[tactic(auto, unfolding(crate::specs::Sets::pop_set))]
-pub fn take_set(memory: &Memory, sp: u16) -> Result<StackSet, ExecError>
+fn find_set(memory: &Memory, sp: u16) -> Result<SetPlace, ExecError>
     ensures set { MatchResult result
-        (λ s. pop_set memory.now.words sp ≡ Ok (record { members = s.words.items; above = s.above }))
+        (λ s. pop_set memory.now.words sp
+        ≡ Ok (record { members = words_at memory.now.words s.address s.count; above = s.above }))
         (λ e. pop_set memory.now.words sp ≡ Err e) }
-    ensures even { IfOk result (λ s. s.above % 2 ≡ 0) }
+    ensures even { IfOk result (λ s. s.address % 2 ≡ 0) }
+    ensures few { IfOk result (λ s. s.count ≤ 255) }
+    ensures inside { IfOk result (λ s. s.address + 2 * s.count ≤ STACK_END) }
+    ensures above { IfOk result (λ s. s.above ≡ s.address + 2 * s.count) }
     ensures stack { (np : ℕ) → IsStack sp np → IfOk result (λ s. IsStack s.above np) }
 {
     let count = pop(memory, sp)?;
@@ -199,10 +213,40 @@ pub fn take_set(memory: &Memory, sp: u16) -> Result<StackSet, ExecError>
     if 2 * count.word > STACK_END - count.above {
         return Err(ExecError::InvalidMemory);
     }
-    let words = words_on_stack(memory, count.above, count.word)?;
+    Ok(SetPlace {
+        address: count.above,
+        count: count.word,
+        above: count.above + 2 * count.word,
+    })
+}
+
+// A word of a set that stands in memory, 0 past its end.
+#[inline(always)]
+fn set_word(memory: &Memory, set: SetPlace, index: usize) -> u16
+    requires even { set.address % 2 ≡ 0 }
+    requires inside { set.address + 2 * set.count ≤ STACK_END }
+    ensures word { result ≡ slice_index (words_at memory.now.words set.address set.count) index }
+{
+    let _ = memory.bytes(); // for its first clause
+    if index >= usize::from(set.count) {
+        return 0;
+    }
+    memory.word(set.address + 2 * index as u16).unwrap_or(0)
+}
+
+/// Takes a set from the stack.
+pub fn take_set(memory: &Memory, sp: u16) -> Result<StackSet, ExecError>
+    ensures set { MatchResult result
+        (λ s. pop_set memory.now.words sp ≡ Ok (record { members = s.words.items; above = s.above }))
+        (λ e. pop_set memory.now.words sp ≡ Err e) }
+    ensures even { IfOk result (λ s. s.above % 2 ≡ 0) }
+    ensures stack { (np : ℕ) → IsStack sp np → IfOk result (λ s. IsStack s.above np) }
+{
+    let set = find_set(memory, sp)?;
+    let words = words_on_stack(memory, set.address, set.count)?;
     Ok(StackSet {
         words,
-        above: count.above + 2 * count.word,
+        above: set.above,
     })
 }
 
@@ -226,12 +270,14 @@ fn words_on_stack(
     Ok(words)
 }
 
-// Whether a number is in a set.
+// Whether a number is in a set that stands in memory.
 #[tactic(auto, unfolding(crate::specs::Sets::is_member))]
-fn contains(words: &[u16], value: u16) -> bool
-    ensures member { result ≡ is_member words.now value }
+fn contains(memory: &Memory, set: SetPlace, value: u16) -> bool
+    requires even { set.address % 2 ≡ 0 }
+    requires inside { set.address + 2 * set.count ≤ STACK_END }
+    ensures member { result ≡ is_member (words_at memory.now.words set.address set.count) value }
 {
-    (word_or_zero(words, usize::from(value / 16)) >> (value % 16)) % 2 == 1
+    (set_word(memory, set, usize::from(value / 16)) >> (value % 16)) % 2 == 1
 }
 
 /// The word at a place, 0 past the end.
@@ -241,19 +287,34 @@ pub fn word_or_zero(words: &[u16], index: usize) -> u16
     words.get(index).copied().unwrap_or(0)
 }
 
-// The set that two sets make, its count first.
-fn combined(combination: Combination, lower: &[u16], upper: &[u16]) -> ArrayVec<u16, COUNTED_WORDS>
-    requires lower { length lower.now ≤ 255 }
-    requires upper { length upper.now ≤ 255 }
+// The set that two sets in memory make, its count first.
+#[inline(always)]
+fn combined(
+    memory: &Memory,
+    combination: Combination,
+    lower: SetPlace,
+    upper: SetPlace,
+) -> ArrayVec<u16, COUNTED_WORDS>
+    requires lower_even { lower.address % 2 ≡ 0 }
+    requires lower_few { lower.count ≤ 255 }
+    requires lower_inside { lower.address + 2 * lower.count ≤ STACK_END }
+    requires upper_even { upper.address % 2 ≡ 0 }
+    requires upper_few { upper.count ≤ 255 }
+    requires upper_inside { upper.address + 2 * upper.count ≤ STACK_END }
     ensures few { length result.items ≤ 256 }
-    ensures words { result.items ≡ counted (set_of (count_of combination (length lower.now) (length upper.now))
-        (λ e. test_of combination (is_member lower.now e) (is_member upper.now e))) }
+    ensures words { result.items ≡ with_length (set_of (count_of combination lower.count upper.count)
+        (λ e. test_of combination (is_member (words_at memory.now.words lower.address lower.count) e)
+        (is_member (words_at memory.now.words upper.address upper.count) e))) }
 {
-    let count = combined_count(combination, lower.len(), upper.len());
+    let count = combined_count(
+        combination,
+        usize::from(lower.count),
+        usize::from(upper.count),
+    );
     let mut words = ArrayVec::new();
     words.push(count as u16);
     for i in 0..count {
-        let (lower, upper) = (word_or_zero(lower, i), word_or_zero(upper, i));
+        let (lower, upper) = (set_word(memory, lower, i), set_word(memory, upper, i));
         words.push(combined_word(combination, lower, upper));
     }
     words
@@ -272,7 +333,7 @@ fn combined_count(combination: Combination, lower: usize, upper: usize) -> usize
 
 // The word that two words of sets make.
 fn combined_word(combination: Combination, lower: u16, upper: u16) -> u16
-    ensures word { result ≡ word_of combination lower upper }
+    ensures word { result ≡ combined_word combination lower upper }
 {
     match combination {
         Combination::Intersection => lower & upper,
@@ -286,7 +347,7 @@ fn interval(low: u16, high: u16) -> ArrayVec<u16, COUNTED_WORDS>
     requires order { low ≤ high }
     requires bound { high ≤ 4079 }
     ensures few { length result.items ≤ 256 }
-    ensures words { result.items ≡ counted (interval low high) }
+    ensures words { result.items ≡ with_length (interval low high) }
 {
     let count = high / 16 + 1;
     let mut words = ArrayVec::new();
@@ -308,15 +369,19 @@ fn interval_word(low: u16, high: u16, first: u16) -> u16
     ((1u32 << to) - (1u32 << from)) as u16
 }
 
-// The members of a set in `count` words.
-fn resized(words: &[u16], count: usize) -> ArrayVec<u16, SET_WORDS>
+// The members of a set in memory in `count` words.
+#[inline(always)]
+fn resized(memory: &Memory, set: SetPlace, count: usize) -> ArrayVec<u16, SET_WORDS>
+    requires even { set.address % 2 ≡ 0 }
+    requires inside { set.address + 2 * set.count ≤ STACK_END }
     requires few { count ≤ 255 }
     ensures few { length result.items ≤ 256 }
-    ensures words { result.items ≡ set_of count (λ e. is_member words.now e) }
+    ensures words { result.items ≡ set_of count
+        (λ e. is_member (words_at memory.now.words set.address set.count) e) }
 {
     let mut members = ArrayVec::new();
     for i in 0..count {
-        members.push(word_or_zero(words, i));
+        members.push(set_word(memory, set, i));
     }
     members
 }

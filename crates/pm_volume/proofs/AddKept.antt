@@ -1,6 +1,6 @@
 -- What an added file leaves as it was.
 use Rattle.std.proofs.Common.{◌≡◌, ◌<◌, ◌≤◌, ◌⊎◌, ℕ, ◌+◌, ◌-◌, ◌*◌, ◌/◌, List, [], ◌∷◌, ◌∙◌, inl, inr, length, get_or, refl, arith}
-use Rattle.pm_volume.specs.Changes.{FitsSlot, blocks_for, new_entry, slot_of, with_directory, with_file, with_slot}
+use Rattle.pm_volume.specs.Changes.{FitsSlot, blocks_for, new_entry, entry_slot, with_directory, with_file, with_slot}
 use Rattle.pm_volume.specs.Directory.{IsVolume, directory_of, file_count}
 use Rattle.pm_volume.specs.Files.{files_of}
 use Rattle.pm_volume.specs.Kept.{ChangesOnly, KeepsFiles, Span, blocks_span, count_span, slots_span}
@@ -24,14 +24,14 @@ module _ (image name bytes : List ℕ) (kind date : ℕ) (g : Gap) (v : IsVolume
   entry = new_entry g name kind (length bytes) date
 
   d : List ℕ
-  d = with_slot (directory_of image) g.place (slot_of entry)
+  d = with_slot (directory_of image) g.place (entry_slot entry)
 
   r : IsRoomFor image (blocks_for (length bytes)) g
   r = IsRoomFor-placed image name (blocks_for (length bytes)) g v p
 
   size : length d ≡ 2048
   unfolding d entry
-  size = length-with_slot (directory_of image) (slot_of entry) g.place (length-directory image v.long) (length-slot_of entry fit) r.few r.first r.last
+  size = length-with_slot (directory_of image) (entry_slot entry) g.place (length-directory image v.long) (length-slot_of entry fit) r.few r.first r.last
 
   room : 512 * g.begin + 512 * blocks_for (length bytes) ≤ length image
   room = omega (arith, r.within, r.fits)
@@ -55,7 +55,7 @@ module _ (image name bytes : List ℕ) (kind date : ℕ) (g : Gap) (v : IsVolume
         rest = λ place out.
             outside place (rw (← end) out.1.1.0)
             ∙ with_directory_same image d place v.long size (λ from to.
-            with_slot_outside (directory_of image) (slot_of entry) g.place (length-directory image v.long) (length-slot_of entry fit) r.few r.first r.last
+            with_slot_outside (directory_of image) (entry_slot entry) g.place (length-directory image v.long) (length-slot_of entry fit) r.few r.first r.last
             (place - 1024)
             (shifted 1024 16 18 place from out.0) (shifted 1024 (26 * g.place) (26 * (file_count (directory_of image) + 2)) place from out.1.0));
       }

@@ -3,7 +3,7 @@ use Rattle.std.proofs.Common.{◌≡◌, ◌≤◌, ℕ, ◌+◌, ◌-◌, ◌*�
 use Rattle.std.proofs.lemmas.Bool.{cases_lt, le-leb, lt-leb}
 use Rattle.std.proofs.lemmas.List.{take_all}
 use Rattle.std.specs.List.{insert}
-use Rattle.pm_volume.specs.Changes.{FitsSlot, blocks_for, new_entry, slot_of, with_file, with_slot}
+use Rattle.pm_volume.specs.Changes.{FitsSlot, blocks_for, new_entry, entry_slot, with_file, with_slot}
 use Rattle.pm_volume.specs.Directory.{IsVolume, directory_of}
 use Rattle.pm_volume.specs.Files.{file_bytes, files_of}
 use Rattle.pm_volume.specs.declared.gap.Gap.{Gap}
@@ -25,7 +25,7 @@ module _ (image name bytes : List ℕ) (kind date : ℕ) (g : Gap) (v : IsVolume
   files-added =
       let e = new_entry g name kind (length bytes) date in
       let d = directory_of image in
-      let slot = slot_of e in
+      let slot = entry_slot e in
       let r = IsRoomFor-placed image name (blocks_for (length bytes)) g v p in
       let whole : length d ≡ 2048 = length-directory image v.long in
       let size = length-slot_of e fit in
@@ -42,7 +42,7 @@ module _ (image name bytes : List ℕ) (kind date : ℕ) (g : Gap) (v : IsVolume
   bytes-added =
       let e = new_entry g name kind (length bytes) date in
       let d = directory_of image in
-      let slot = slot_of e in
+      let slot = entry_slot e in
       let r = IsRoomFor-placed image name (blocks_for (length bytes)) g v p in
       let whole : length d ≡ 2048 = length-directory image v.long in
       let new = length-with_slot d slot g.place whole (length-slot_of e fit) r.few r.first r.last in

@@ -10,7 +10,7 @@ use Rattle.pm_volume.specs.Entries.{AreInOrder}
 use Rattle.pm_volume.specs.Files.{files_of}
 use Rattle.pm_volume.specs.Kept.{ChangesOnly, KeepsFile, KeepsFiles, past_span, second_span}
 use Rattle.pm_volume.specs.Made.{begun_at}
-use Rattle.pm_volume.specs.Words.{with_word}
+use Rattle.pm_volume.specs.Words.{with_word_in}
 use Rattle.pm_volume.specs.declared.entry.Entry.{Entry}
 use Rattle.pm_volume.proofs.CopyLaws.{KeepsFile-both}
 use Rattle.pm_volume.proofs.HeaderLaws.{entry_in-behind}
@@ -25,22 +25,22 @@ module _ (d : List ℕ) (past : ℕ) (whole : length d ≡ 2048) where
   room : 2 + length (little_bytes 2 past) ≤ length d
   room = omega (arith, whole)
 
-  pub length-begun : length (with_word d 2 past) ≡ 2048
+  pub length-begun : length (with_word_in d 2 past) ≡ 2048
   length-begun = length-written d 2 (little_bytes 2 past) room ∙ whole
 
-  files-begun : file_count d ≤ 77 → files_in (with_word d 2 past) ≡ files_in d
+  files-begun : file_count d ≤ 77 → files_in (with_word_in d 2 past) ≡ files_in d
   files-begun few =
-      let count : file_count (with_word d 2 past) ≡ file_count d = word_in-above d 2 (little_bytes 2 past) 16 room (omega arith) in
-      ap (entries_from (with_word d 2 past) 1) count
-      ∙ entries_from-same (with_word d 2 past) d (file_count d) 1 1
+      let count : file_count (with_word_in d 2 past) ≡ file_count d = word_in-above d 2 (little_bytes 2 past) 16 room (omega arith) in
+      ap (entries_from (with_word_in d 2 past) 1) count
+      ∙ entries_from-same (with_word_in d 2 past) d (file_count d) 1 1
       (λ k below. entry_in-behind d 2 (little_bytes 2 past) room (1 + k) (omega arith) (omega (arith, whole)))
 
-  begins-begun : past < 65536 → files_begin (with_word d 2 past) ≡ past
+  begins-begun : past < 65536 → files_begin (with_word_in d 2 past) ≡ past
   begins-begun fits = word_in-written d 2 past (omega (arith, whole)) fits
 
   IsDirectory-begun : (blocks : ℕ) → (past ≡ 6) ⊎ (past ≡ 10) → past < 65536 → past ≤ block_count d → AreInOrder (block_count d) past (files_in d) →
       IsDirectory d blocks
-      → IsDirectory (with_word d 2 past) blocks
+      → IsDirectory (with_word_in d 2 past) blocks
   IsDirectory-begun blocks begins fits holds order old =
       let name = get_written_above d 2 (little_bytes 2 past) 6 room (omega arith) in
       let total = word_in-above d 2 (little_bytes 2 past) 14 room (omega arith) in
@@ -58,11 +58,11 @@ module _ (d : List ℕ) (past : ℕ) (whole : length d ≡ 2048) where
 module _ (image : List ℕ) (v : IsVolume image) (past : ℕ) (begins : (past ≡ 6) ⊎ (past ≡ 10)) (fits : past < 65536)
     (holds : past ≤ block_count (directory_of image))
     (order : AreInOrder (block_count (directory_of image)) past (files_of image)) where
-  size : length (with_word (directory_of image) 2 past) ≡ 2048
+  size : length (with_word_in (directory_of image) 2 past) ≡ 2048
   size = length-begun (directory_of image) past (length-directory image v.long)
 
-  own : directory_of (begun_at image past) ≡ with_word (directory_of image) 2 past
-  own = directory-with image (with_word (directory_of image) 2 past) v.long size
+  own : directory_of (begun_at image past) ≡ with_word_in (directory_of image) 2 past
+  own = directory-with image (with_word_in (directory_of image) 2 past) v.long size
 
   pub begins-image : files_begin (directory_of (begun_at image past)) ≡ past
   begins-image = ap files_begin own ∙ begins-begun (directory_of image) past (length-directory image v.long) fits
@@ -70,18 +70,18 @@ module _ (image : List ℕ) (v : IsVolume image) (past : ℕ) (begins : (past �
   pub IsVolume-begun : IsVolume (begun_at image past)
   IsVolume-begun =
       let d = directory_of image in
-      IsVolume-with image (with_word d 2 past) v size
+      IsVolume-with image (with_word_in d 2 past) v size
       (IsDirectory-begun d past (length-directory image v.long) (length image / 512) begins fits holds order v.has_directory)
 
   pub files-image : files_of (begun_at image past) ≡ files_of image
   files-image = ap files_in own ∙ files-begun (directory_of image) past (length-directory image v.long) v.has_directory.few
 
   pub KeepsFiles-begun : KeepsFiles image (begun_at image past)
-  KeepsFiles-begun = KeepsFiles-with_directory image (with_word (directory_of image) 2 past) v size
+  KeepsFiles-begun = KeepsFiles-with_directory image (with_word_in (directory_of image) 2 past) v size
 
   pub ChangesOnly-begun : ChangesOnly (past_span ∷ []) image (begun_at image past)
   ChangesOnly-begun =
-      ChangesOnly-with_directory image (with_word (directory_of image) 2 past) (past_span ∷ []) v.long size
+      ChangesOnly-with_directory image (with_word_in (directory_of image) 2 past) (past_span ∷ []) v.long size
       (λ place out from to. get_written_outside (directory_of image) 2 (little_bytes 2 past) (place - 1024) (omega (arith, length-directory image v.long))
       (shifted 1024 2 4 place from out.0))
 

@@ -3,8 +3,8 @@ use Rattle.byteorder.specs.Endian.{little_bytes}
 use Rattle.std.proofs.Math.Nat.{mod-eq_of_lt}
 use Rattle.std.proofs.Common.{◌≡◌, ◌≤◌, ℕ, ◌+◌, ◌-◌, ◌%◌, List, ◌∙◌, ap, refl, length, get_or, slice_range, arith}
 use Rattle.std.proofs.lemmas.List.{take_all}
-use Rattle.pm_volume.specs.Changes.{FitsSlot, no_slot, slot_of}
-use Rattle.pm_volume.specs.Words.{with_word, word_in, written}
+use Rattle.pm_volume.specs.Changes.{FitsSlot, no_slot, entry_slot}
+use Rattle.pm_volume.specs.Words.{with_word_in, word_in, written}
 use Rattle.pm_volume.specs.Entries.{entry_of}
 use Rattle.pm_volume.specs.declared.entry.Entry.{Entry}
 use Rattle.pm_volume.proofs.WrittenLaws.{get_written_below, get_written_in, length-written, same_parts, word_in-below, word_in-written}
@@ -15,22 +15,22 @@ length-no_slot = refl
 
 module _ (e : Entry) (f : FitsSlot e) where
   s1 : List ℕ
-  s1 = with_word no_slot 0 e.first
+  s1 = with_word_in no_slot 0 e.first
 
   s2 : List ℕ
-  s2 = with_word s1 2 e.end
+  s2 = with_word_in s1 2 e.end
 
   s3 : List ℕ
-  s3 = with_word s2 4 e.kind
+  s3 = with_word_in s2 4 e.kind
 
   s4 : List ℕ
   s4 = written s3 6 e.name
 
   s5 : List ℕ
-  s5 = with_word s4 22 e.last_bytes
+  s5 = with_word_in s4 22 e.last_bytes
 
   s6 : List ℕ
-  s6 = with_word s5 24 e.date
+  s6 = with_word_in s5 24 e.date
 
   l1 : length s1 ≡ 26
   unfolding s1
@@ -104,10 +104,10 @@ module _ (e : Entry) (f : FitsSlot e) where
       ∙ ap (λ (i : ℕ). get_or e.name i 0) at)
       ∙ take_all 16 e.name (omega (arith, f.name))
 
-  pub length-slot_of : length (slot_of e) ≡ 26
-  unfolding slot_of s1 s2 s3 s4 s5 s6
+  pub length-slot_of : length (entry_slot e) ≡ 26
+  unfolding entry_slot s1 s2 s3 s4 s5 s6
   length-slot_of = l6
 
-  pub entry_of-slot_of : entry_of (slot_of e) ≡ e
-  unfolding slot_of entry_of s1 s2 s3 s4 s5 s6
+  pub entry_of-slot_of : entry_of (entry_slot e) ≡ e
+  unfolding entry_slot entry_of s1 s2 s3 s4 s5 s6
   entry_of-slot_of = rw (name_read, kind_read, first_read, end_read, last_bytes_read, date_read) refl

@@ -1,14 +1,14 @@
 -- A volume with one more file is a volume.
 use Rattle.std.proofs.Common.{◌≡◌, ◌<◌, ◌≤◌, ◌⊎◌, inl, inr, ℕ, ◌+◌, ◌-◌, ◌*◌, ◌/◌, List, ◌∙◌, ap, refl, length, replicate, get_or, arith}
 use Rattle.std.proofs.lemmas.List.{length-replicate, take_all}
-use Rattle.pm_volume.specs.Changes.{blocks_for, slot_of, with_directory, with_file, with_slot}
+use Rattle.pm_volume.specs.Changes.{blocks_for, entry_slot, with_directory, with_file, with_slot}
 use Rattle.pm_volume.specs.Words.{written}
 use Rattle.pm_volume.specs.Directory.{IsDirectory, IsVolume, directory_of}
 use Rattle.pm_volume.specs.declared.entry.Entry.{Entry}
 use Rattle.pm_volume.proofs.WrittenLaws.{get_written_above, get_written_below, get_written_in, length-written, same_parts}
 
 module _ (image : List ℕ) (n : ℕ) (e : Entry) (bytes d : List ℕ) (long : 3072 ≤ length image)
-    (made : d ≡ with_slot (directory_of image) n (slot_of e)) (size : length d ≡ 2048) (after : 6 ≤ e.first)
+    (made : d ≡ with_slot (directory_of image) n (entry_slot e)) (size : length d ≡ 2048) (after : 6 ≤ e.first)
     (room : 512 * e.first + 512 * blocks_for (length bytes) ≤ length image) where
   zeros : List ℕ
   zeros = replicate (512 * blocks_for (length bytes) - length bytes) 0

@@ -8,7 +8,7 @@ use Rattle.pm_volume.specs.Entries.{AreInOrder, entry_of}
 use Rattle.pm_volume.specs.Headers.{blank_image, last_date_of, new_directory}
 use Rattle.pm_volume.specs.Files.{files_of}
 use Rattle.pm_volume.specs.Names.{name_field}
-use Rattle.pm_volume.specs.Words.{with_word, word_in, written, zeros}
+use Rattle.pm_volume.specs.Words.{with_word_in, word_in, written, zeros}
 use Rattle.pm_volume.proofs.ImageLaws.{IsVolume-from_directory, IsVolume-with, directory-with}
 use Rattle.pm_volume.proofs.NameLaws.{length-name_field}
 use Rattle.pm_volume.proofs.SlotChanges.{entries_from-same}
@@ -35,18 +35,18 @@ module _ (d : List ℕ) (date : ℕ) (whole : length d ≡ 2048) where
   room : 20 + length (little_bytes 2 date) ≤ length d
   room = omega arith
 
-  pub length-dated : length (with_word d 20 date) ≡ 2048
+  pub length-dated : length (with_word_in d 20 date) ≡ 2048
   length-dated = length-written d 20 (little_bytes 2 date) room ∙ whole
 
   -- the files are the same
-  pub files-dated : file_count d ≤ 77 → files_in (with_word d 20 date) ≡ files_in d
+  pub files-dated : file_count d ≤ 77 → files_in (with_word_in d 20 date) ≡ files_in d
   files-dated few =
-      let count : file_count (with_word d 20 date) ≡ file_count d = word_in-below d 20 (little_bytes 2 date) 16 room (omega arith) in
-      ap (entries_from (with_word d 20 date) 1) count
-      ∙ entries_from-same (with_word d 20 date) d (file_count d) 1 1 (λ k below.
+      let count : file_count (with_word_in d 20 date) ≡ file_count d = word_in-below d 20 (little_bytes 2 date) 16 room (omega arith) in
+      ap (entries_from (with_word_in d 20 date) 1) count
+      ∙ entries_from-same (with_word_in d 20 date) d (file_count d) 1 1 (λ k below.
       entry_in-behind d 20 (little_bytes 2 date) room (1 + k) (omega arith) (omega arith))
 
-  pub IsDirectory-dated : (blocks : ℕ) → IsDirectory d blocks → IsDirectory (with_word d 20 date) blocks
+  pub IsDirectory-dated : (blocks : ℕ) → IsDirectory d blocks → IsDirectory (with_word_in d 20 date) blocks
   IsDirectory-dated blocks old =
       let name = get_written_below d 20 (little_bytes 2 date) 6 room (omega arith) in
       let begins = word_in-below d 20 (little_bytes 2 date) 2 room (omega arith) in
@@ -87,16 +87,16 @@ module _ (past : ℕ) (name : List ℕ) (blocks date : ℕ) (short : length name
   length-field = length-name_field 7 name short
 
   d1 : List ℕ
-  d1 = with_word (zeros 2048) 2 past
+  d1 = with_word_in (zeros 2048) 2 past
 
   d2 : List ℕ
   d2 = written d1 6 field
 
   d3 : List ℕ
-  d3 = with_word d2 14 blocks
+  d3 = with_word_in d2 14 blocks
 
   d4 : List ℕ
-  d4 = with_word d3 20 date
+  d4 = with_word_in d3 20 date
 
   r1 : 2 + length (little_bytes 2 past) ≤ length (zeros 2048)
   r1 = omega (arith, length-zeros 2048)
@@ -183,7 +183,7 @@ module _ (past : ℕ) (name : List ℕ) (blocks date : ℕ) (short : length name
 
 -- the images of a new date and of a new directory, before the second copy is made the same
 abbrev pub dated_first : List ℕ → ℕ → List ℕ
-dated_first image date = with_directory image (with_word (directory_of image) 20 date)
+dated_first image date = with_directory image (with_word_in (directory_of image) 20 date)
 
 abbrev pub zeroed_first : List ℕ → List ℕ → List ℕ
 zeroed_first image name =
@@ -196,13 +196,13 @@ module _ (image : List ℕ) (v : IsVolume image) where
   IsVolume-dated date =
       let d = directory_of image in
       let whole = length-directory image v.long in
-      IsVolume-with image (with_word d 20 date) v (length-dated d date whole) (IsDirectory-dated d date whole (length image / 512) v.has_directory)
+      IsVolume-with image (with_word_in d 20 date) v (length-dated d date whole) (IsDirectory-dated d date whole (length image / 512) v.has_directory)
 
   pub files-dated_first : (date : ℕ) → files_of (dated_first image date) ≡ files_of image
   files-dated_first date =
       let d = directory_of image in
       let whole = length-directory image v.long in
-      ap files_in (directory-with image (with_word d 20 date) v.long (length-dated d date whole)) ∙ files-dated d date whole v.has_directory.few
+      ap files_in (directory-with image (with_word_in d 20 date) v.long (length-dated d date whole)) ∙ files-dated d date whole v.has_directory.few
 
   -- a volume without its files
   module _ (name : List ℕ) (some : 1 ≤ length name) (short : length name ≤ 7) where

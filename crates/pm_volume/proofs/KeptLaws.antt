@@ -11,7 +11,7 @@ use Rattle.pm_volume.specs.Files.{file_bytes, files_of}
 use Rattle.pm_volume.specs.Headers.{last_date_of, new_directory}
 use Rattle.pm_volume.specs.Kept.{ChangesOnly, IsOutside, KeepsFile, KeepsFiles, Span, count_span, date_span, directory_span, name_span, slots_span}
 use Rattle.pm_volume.specs.Names.{name_field}
-use Rattle.pm_volume.specs.Words.{with_word, written}
+use Rattle.pm_volume.specs.Words.{with_word_in, written}
 use Rattle.pm_volume.specs.declared.entry.Entry.{Entry}
 use Rattle.pm_volume.proofs.DirectoryLaws.{past_directory}
 use Rattle.pm_volume.proofs.HeaderLaws.{dated_first, length-dated, length-new_directory, zeroed_first}
@@ -106,7 +106,7 @@ module _ (image : List ℕ) (v : IsVolume image) where
   ChangesOnly-dated date =
       let d = directory_of image in
       let whole = length-directory image v.long in
-      ChangesOnly-with_directory image (with_word d 20 date) (date_span ∷ []) v.long (length-dated d date whole)
+      ChangesOnly-with_directory image (with_word_in d 20 date) (date_span ∷ []) v.long (length-dated d date whole)
       (λ place out from to. get_written_outside d 20 (little_bytes 2 date) (place - 1024) (omega arith) (shifted 1024 20 22 place from out.0))
 
   -- a new directory

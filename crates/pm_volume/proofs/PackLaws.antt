@@ -7,7 +7,7 @@ use Rattle.pm_volume.specs.Directory.{directory_of, entries_from, entry_in}
 use Rattle.pm_volume.specs.Entries.{entry_of}
 use Rattle.pm_volume.specs.Kept.{blocks_of}
 use Rattle.pm_volume.specs.Packing.{moved_entry, with_moved, with_places}
-use Rattle.pm_volume.specs.Words.{with_word, word_in, written}
+use Rattle.pm_volume.specs.Words.{with_word_in, word_in, written}
 use Rattle.pm_volume.specs.declared.entry.Entry.{Entry}
 use Rattle.pm_volume.proofs.HeaderLaws.{entry_in-behind}
 use Rattle.pm_volume.proofs.ImageLaws.{directory-with}
@@ -20,7 +20,7 @@ use Rattle.pm_volume.proofs.WrittenLaws.{word_in-below, word_in-written}
 -- a directory with other block numbers in a slot
 module _ (d : List ℕ) (n first end : ℕ) (whole : length d ≡ 2048) (slot : n ≤ 77) where
   d1 : List ℕ
-  d1 = with_word d (26 * n) first
+  d1 = with_word_in d (26 * n) first
 
   r1 : 26 * n + length (little_bytes 2 first) ≤ length d
   r1 = omega (arith, whole, slot)

@@ -3,7 +3,7 @@ use Rattle.std.proofs.Common.{◌≡◌, ◌==◌, ◌<◌, ◌≤◌, ◌⊎◌
 use Rattle.std.proofs.lemmas.Bool.{cases_Bool}
 use Rattle.std.specs.List.{AllZip}
 use Rattle.pm_volume.specs.Directory.{directory_of, entries_from, entry_in}
-use Rattle.pm_volume.specs.Entries.{AreInOrder, IsSound, entry_of}
+use Rattle.pm_volume.specs.Entries.{AreInOrder, IsSoundEntry, entry_of}
 use Rattle.pm_volume.specs.Kept.{ChangesOnly, IsOutside, blocks_of}
 use Rattle.pm_volume.specs.Packing.{moved_entry, new_place, packed, packed_image, packed_spans, with_moved}
 use Rattle.pm_volume.specs.declared.entry.Entry.{Entry}
@@ -56,7 +56,7 @@ length-packed from (e ∷ es) = ap suc (length-packed (new_place from e + (e.end
 
 -- the files from slot n on, in order: the one in slot n and the rest
 pub order-more : (d : List ℕ) (blocks from n end : ℕ) → n < end → AreInOrder blocks from (entries_from d n (end - n))
-    → IsSound from (entry_in d n) × ((entry_in d n).end ≤ blocks) × AreInOrder blocks (entry_in d n).end (entries_from d (n + 1) (end - (n + 1)))
+    → IsSoundEntry from (entry_in d n) × ((entry_in d n).end ≤ blocks) × AreInOrder blocks (entry_in d n).end (entries_from d (n + 1) (end - (n + 1)))
 unfolding AreInOrder
 order-more d blocks from n end below order =
     let more = entries_from-more d n end below in
@@ -83,7 +83,7 @@ module _ (image : List ℕ) (blocks n from end : ℕ) (long : 3072 ≤ length im
   file : Entry
   file = entry_in (directory_of image) n
 
-  sound : IsSound from file × (file.end ≤ blocks) × AreInOrder blocks file.end (entries_from (directory_of image) (n + 1) (end - (n + 1)))
+  sound : IsSoundEntry from file × (file.end ≤ blocks) × AreInOrder blocks file.end (entries_from (directory_of image) (n + 1) (end - (n + 1)))
   unfolding file
   sound = order-more (directory_of image) blocks from n end below order
 
@@ -179,7 +179,7 @@ slot_same xs ys n left right few same =
 
 -- the file in slot n moved, and then those behind it
 module _ (image : List ℕ) (n left from blocks : ℕ) (es : List Entry) (new : List ℕ) (long : 3072 ≤ length image) (room : 512 * blocks ≤ length image)
-    (fits : blocks < 65536) (few : n + suc left ≤ 78) (past : 6 ≤ from) (sound : IsSound from (entry_in (directory_of image) n))
+    (fits : blocks < 65536) (few : n + suc left ≤ 78) (past : 6 ≤ from) (sound : IsSoundEntry from (entry_in (directory_of image) n))
     (within : (entry_in (directory_of image) n).end ≤ blocks) (order : AreInOrder blocks (entry_in (directory_of image) n).end es)
     (count : length es ≡ left) where
   e : Entry

@@ -5,7 +5,7 @@ use Rattle.std.proofs.Math.Seq.{set-append_seam}
 use Rattle.std.proofs.lemmas.List.{get_or-drop, get_or-take, take_all}
 use Rattle.pm_volume.specs.Changes.{with_name}
 use Rattle.pm_volume.specs.Directory.{IsDirectory, IsVolume, block_count, directory_of, entries_from, entry_in, file_count, files_begin, files_in}
-use Rattle.pm_volume.specs.Entries.{AreInOrder, IsSound, entry_of}
+use Rattle.pm_volume.specs.Entries.{AreInOrder, IsSoundEntry, entry_of}
 use Rattle.pm_volume.specs.Files.{files_of}
 use Rattle.pm_volume.specs.Names.{name_field}
 use Rattle.pm_volume.specs.Words.{word_in, written}
@@ -29,7 +29,7 @@ slot_word d n place below =
     rw (slot_byte d n place (omega arith), slot_byte d n (place + 1) (omega arith), at) refl
 
 -- files in order stay so where one gets another name
-order-named : (blocks from : ℕ) (xs : List Entry) (e e' : Entry) (ys : List Entry) → ((f : ℕ) → IsSound f e → IsSound f e')
+order-named : (blocks from : ℕ) (xs : List Entry) (e e' : Entry) (ys : List Entry) → ((f : ℕ) → IsSoundEntry f e → IsSoundEntry f e')
     → e'.end ≡ e.end → AreInOrder blocks from (xs ++ e ∷ ys) → AreInOrder blocks from (xs ++ e' ∷ ys)
 unfolding AreInOrder
 order-named blocks from [] e e' ys sound end order = (sound from order.0, omega (arith, end, order.1), rw end order.2)

@@ -8,7 +8,7 @@ use Rattle.pm_volume.specs.Files.{file_bytes, files_of}
 use Rattle.pm_volume.specs.Headers.{dated_image, last_date_of, new_directory, zeroed_image}
 use Rattle.pm_volume.specs.Kept.{date_span, directory_span, name_span}
 use Rattle.pm_volume.specs.Names.{name_field}
-use Rattle.pm_volume.specs.Words.{with_word}
+use Rattle.pm_volume.specs.Words.{with_word_in}
 use Rattle.pm_volume.specs.declared.gap.Gap.{Gap}
 use Rattle.pm_volume.proofs.AddKept.{ChangesOnly-added, KeepsFiles-added, added_first}
 use Rattle.pm_volume.proofs.AddLaws.{bytes-added, files-added}
@@ -83,7 +83,7 @@ module _ (image : List ℕ) (v : IsVolume image) where
       let only = ChangesOnly-dated image v date in
       Changed-mirrored (date_span ∷ []) (files_of image) image (dated_first image date) v (IsVolume-dated image v date)
       (begins-kept (date_span ∷ []) image (dated_first image date) only (inl (omega arith), tt) (inl (omega arith), tt))
-      (files-dated_first image v date) (KeepsFiles-with_directory image (with_word d 20 date) v (length-dated d date (length-directory image v.long))) only
+      (files-dated_first image v date) (KeepsFiles-with_directory image (with_word_in d 20 date) v (length-dated d date (length-directory image v.long))) only
 
   pub Changed-zeroed : (name : List ℕ) → 1 ≤ length name → length name ≤ 7 → block_count (directory_of image) < 65536
       → Changed (directory_span ∷ []) [] image (zeroed_image image name)

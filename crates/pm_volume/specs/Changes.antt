@@ -11,7 +11,7 @@ use Rattle.pm_volume.specs.Directory.{files_in}
 use Rattle.pm_volume.specs.Files.{file_named, files_of, is_named}
 use Rattle.pm_volume.specs.Kept.{Span, blocks_span, count_span, slots_span}
 use Rattle.pm_volume.specs.Names.{is_new_name, name_field}
-use Rattle.pm_volume.specs.Words.{with_word, written}
+use Rattle.pm_volume.specs.Words.{with_word_in, written}
 use Rattle.pm_volume.specs.declared.entry.Entry.{Entry}
 use Rattle.pm_volume.specs.declared.fault.VolumeFault.{VolumeFault}
 use Rattle.pm_volume.specs.declared.fault.VolumeFault.TheVariants.{BadName, DirectoryFull, Duplicate, NoFile, NoRoom}
@@ -30,8 +30,8 @@ abbrev pub slots : List ℕ → ℕ → ℕ → List ℕ
 slots directory n m = slice_range directory (SLOT * n) (SLOT * m)
 
 -- the directory with another number of files
-abbrev pub with_count : List ℕ → ℕ → List ℕ
-with_count directory count = with_word directory HEADER_FILES count
+abbrev pub with_file_count : List ℕ → ℕ → List ℕ
+with_file_count directory count = with_word_in directory HEADER_FILES count
 
 -- a slot without an entry
 unfoldable pub no_slot : List ℕ
@@ -41,19 +41,20 @@ no_slot = replicate SLOT 0
 unfoldable pub with_slot : List ℕ → ℕ → List ℕ → List ℕ
 with_slot directory n slot =
     let count = file_count directory in
-    with_count (written directory (SLOT * n) (slot ++ slots directory n (count + 1))) (count + 1)
+    with_file_count (written directory (SLOT * n) (slot ++ slots directory n (count + 1))) (count + 1)
 
 -- the directory with slot n taken out, the slot that falls free being zero
 unfoldable pub without_slot : List ℕ → ℕ → List ℕ
 without_slot directory n =
     let count = file_count directory in
-    with_count (written directory (SLOT * n) (slots directory (n + 1) (count + 1) ++ no_slot)) (count - 1)
+    with_file_count (written directory (SLOT * n) (slots directory (n + 1) (count + 1) ++ no_slot)) (count - 1)
 
 -- the slot of an entry
-unfoldable pub slot_of : Entry → List ℕ
-slot_of e =
-    let begun = with_word (with_word (with_word no_slot ENTRY_FIRST e.first) ENTRY_END e.end) ENTRY_KIND e.kind in
-    with_word (with_word (written begun ENTRY_NAME e.name) ENTRY_LAST_BYTES e.last_bytes) ENTRY_DATE e.date
+unfoldable pub entry_slot : Entry → List ℕ
+entry_slot e =
+    let begun = with_word_in
+    (with_word_in (with_word_in no_slot ENTRY_FIRST e.first) ENTRY_END e.end) ENTRY_KIND e.kind in
+    with_word_in (with_word_in (written begun ENTRY_NAME e.name) ENTRY_LAST_BYTES e.last_bytes) ENTRY_DATE e.date
 
 -- an entry whose fields fit in a slot
 pub record FitsSlot (e : Entry) : Type 0 where
@@ -105,7 +106,7 @@ new_entry g name kind size date =
 unfoldable pub with_file : List ℕ → ℕ → Entry → List ℕ → List ℕ
 with_file image n e bytes =
     let begin = BLOCK * e.first in
-    let listed = with_directory image (with_slot (directory_of image) n (slot_of e)) in
+    let listed = with_directory image (with_slot (directory_of image) n (entry_slot e)) in
     written (written listed begin bytes) (begin + length bytes)
     (replicate (BLOCK * blocks_for (length bytes) - length bytes) 0)
 

@@ -4,7 +4,7 @@ use Rattle.pm_volume.specs.Directory.{block_count, directory_of, files_begin}
 use Rattle.pm_volume.specs.Changes.{with_directory}
 use Rattle.pm_volume.specs.Copies.{mirrored}
 use Rattle.pm_volume.specs.Names.{is_new_name, name_field}
-use Rattle.pm_volume.specs.Words.{with_word, word_in, written, zeros}
+use Rattle.pm_volume.specs.Words.{with_word_in, word_in, written, zeros}
 use Rattle.pm_volume.specs.declared.fault.VolumeFault.{VolumeFault}
 use Rattle.pm_volume.specs.declared.fault.VolumeFault.TheVariants.{BadHeader, BadName}
 use Rattle.pm_volume.specs.declared.fields.TheConstants.{DIRECTORY_SIZE, HEADER_BLOCKS, HEADER_DATE, HEADER_FILES_BEGIN}
@@ -19,9 +19,9 @@ last_date_of directory = word_in directory HEADER_DATE
 -- zero
 unfoldable pub new_directory : ℕ → List ℕ → ℕ → ℕ → List ℕ
 new_directory past name blocks date =
-    with_word
-    (with_word
-    (written (with_word (zeros DIRECTORY_SIZE) HEADER_FILES_BEGIN past) HEADER_NAME
+    with_word_in
+    (with_word_in
+    (written (with_word_in (zeros DIRECTORY_SIZE) HEADER_FILES_BEGIN past) HEADER_NAME
     (name_field LONGEST_VOLUME_NAME name))
     HEADER_BLOCKS blocks)
     HEADER_DATE date
@@ -46,4 +46,4 @@ zeroed_image image name =
 
 -- the image with another last date
 abbrev pub dated_image : List ℕ → ℕ → List ℕ
-dated_image image date = mirrored (with_directory image (with_word (directory_of image) HEADER_DATE date))
+dated_image image date = mirrored (with_directory image (with_word_in (directory_of image) HEADER_DATE date))

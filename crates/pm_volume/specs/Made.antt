@@ -7,7 +7,7 @@ use Rattle.pm_volume.specs.Copies.{has_second, mirrored}
 use Rattle.pm_volume.specs.Directory.{block_count, directory_of}
 use Rattle.pm_volume.specs.Files.{files_of}
 use Rattle.pm_volume.specs.Headers.{zeroed_image}
-use Rattle.pm_volume.specs.Words.{with_word, written, zeros}
+use Rattle.pm_volume.specs.Words.{with_word_in, written, zeros}
 use Rattle.pm_volume.specs.declared.entry.Entry.{Entry}
 use Rattle.pm_volume.specs.Names.{is_new_name}
 use Rattle.pm_volume.specs.declared.fault.VolumeFault.{VolumeFault}
@@ -32,8 +32,8 @@ removed_at image (Some slot) = Ok (mirrored (without_file image slot))
 removed_at image None = Err NoFile
 
 -- the image without the first file of this name
-unfoldable pub removed : List ℕ → List ℕ → Result (List ℕ) VolumeFault
-removed image name = removed_at image (slot_named (directory_of image) name)
+unfoldable pub file_removed : List ℕ → List ℕ → Result (List ℕ) VolumeFault
+file_removed image name = removed_at image (slot_named (directory_of image) name)
 
 abbrev pub renamed_at : List ℕ → List ℕ → Result ℕ VolumeFault → Result (List ℕ) VolumeFault
 renamed_at image name (Ok slot) = Ok (mirrored (with_name image slot name))
@@ -49,7 +49,7 @@ zeroed image name = if is_new_name LONGEST_VOLUME_NAME name then Ok (zeroed_imag
 
 -- an image whose files begin at another block
 abbrev pub begun_at : List ℕ → ℕ → List ℕ
-begun_at image past = with_directory image (with_word (directory_of image) HEADER_FILES_BEGIN past)
+begun_at image past = with_directory image (with_word_in (directory_of image) HEADER_FILES_BEGIN past)
 
 -- whether a file begins below block 10, where a second copy ends
 abbrev pub is_occupied : List ℕ → Bool

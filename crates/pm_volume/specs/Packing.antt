@@ -6,7 +6,7 @@ use Rattle.pm_volume.specs.Copies.{and_second, mirrored}
 use Rattle.pm_volume.specs.Directory.{directory_of, entry_in, file_count, files_begin}
 use Rattle.pm_volume.specs.Files.{file_bytes, files_of}
 use Rattle.pm_volume.specs.Kept.{ChangesOnly, Span, blocks_of, blocks_span, places_span}
-use Rattle.pm_volume.specs.Words.{with_word, written}
+use Rattle.pm_volume.specs.Words.{with_word_in, written}
 use Rattle.pm_volume.specs.declared.entry.Entry.{Entry}
 use Rattle.pm_volume.specs.declared.fields.TheConstants.{ENTRY_END, SLOT}
 use Rattle.pm_base.specs.declared.blocks.TheConstants.{BLOCK}
@@ -48,7 +48,7 @@ pub record Krunches (old new : List ℕ) : Type 0 where
 
 -- a directory with other block numbers in slot n
 unfoldable pub with_places : List ℕ → ℕ → ℕ → ℕ → List ℕ
-with_places directory n first end = with_word (with_word directory (SLOT * n) first) (SLOT * n + ENTRY_END) end
+with_places directory n first end = with_word_in (with_word_in directory (SLOT * n) first) (SLOT * n + ENTRY_END) end
 
 -- the image with the blocks of the file in slot n at another place
 unfoldable pub with_moved : List ℕ → ℕ → Entry → ℕ → List ℕ

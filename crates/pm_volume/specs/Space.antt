@@ -7,8 +7,8 @@ use Rattle.pm_volume.specs.declared.gap.Gap.{Gap}
 use Rattle.pm_volume.specs.declared.fields.TheConstants.{HEADER_NAME}
 
 -- the characters of the volume's name
-abbrev pub name_of : List ℕ → List ℕ
-name_of image =
+abbrev pub volume_name : List ℕ → List ℕ
+volume_name image =
     slice_range (directory_of image) (HEADER_NAME + 1) (HEADER_NAME + 1 + slice_index (directory_of image) HEADER_NAME)
 
 -- the blocks of a gap

@@ -14,7 +14,7 @@ ghost use Rattle.pm_volume.specs.Copies.{has_second, mirrored};
 ghost use Rattle.pm_volume.specs.Directory.{directory_of, file_count};
 ghost use Rattle.pm_volume.specs.Headers.{new_directory};
 ghost use Rattle.pm_volume.specs.Made.{begun_at, singled};
-ghost use Rattle.pm_volume.specs.Words.{with_word, zeros};
+ghost use Rattle.pm_volume.specs.Words.{with_word_in, zeros};
 ghost use Rattle.pm_volume.specs.declared.fields.TheConstants.{
   DIRECTORY_END,
   HEADER_DATE,
@@ -104,7 +104,7 @@ pub(crate) fn name_file(image: &mut [u8], slot: u16, name: &[u8])
 pub(crate) fn date_volume(image: &mut [u8], date: u16)
     requires whole { DIRECTORY_END ≤ length image.old }
     ensures image { image.new
-        ≡ mirrored (with_directory image.old (with_word (directory_of image.old) HEADER_DATE date)) }
+        ≡ mirrored (with_directory image.old (with_word_in (directory_of image.old) HEADER_DATE date)) }
 {
     set_word(&mut image[DIRECTORY..DIRECTORY_END], HEADER_DATE, date);
     mirror(image);

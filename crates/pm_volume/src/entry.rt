@@ -2,7 +2,7 @@
 
 ghost use Rattle.std.specs.Prelude.{◌≡◌, ◌≤◌, ◌++◌, drop, length};
 ghost use Rattle.std.specs.Str.{str_to_ascii_uppercase};
-ghost use Rattle.pm_volume.specs.Entries.{entry_of, is_sound};
+ghost use Rattle.pm_volume.specs.Entries.{entry_of, is_sound_entry};
 ghost use Rattle.pm_volume.specs.Names.{characters_of, is_new_name, is_same_name, name_field};
 ghost use Rattle.pm_volume.specs.declared.fields.TheConstants.{LONGEST_NAME, LONGEST_VOLUME_NAME, SLOT};
 
@@ -30,7 +30,7 @@ pub struct Entry {
 }
 
 impl Entry {
-    ghost use Rattle.pm_volume.specs.Changes.{slot_of};
+    ghost use Rattle.pm_volume.specs.Changes.{entry_slot};
 
     // The entry that the 26 bytes of a directory's slot hold.
     #[tactic(auto, unfolding(crate::specs::Entries::entry_of))]
@@ -51,9 +51,9 @@ impl Entry {
     }
 
     // The 26 bytes of the entry's slot.
-    #[tactic(auto, unfolding(crate::specs::Changes::slot_of))]
+    #[tactic(auto, unfolding(crate::specs::Changes::entry_slot))]
     pub(crate) fn slot(&self) -> [u8; 26]
-        ensures fields { result ≡ slot_of self.now }
+        ensures fields { result ≡ entry_slot self.now }
         ensures size { length result ≡ SLOT }
     {
         let mut slot = [0; SLOT];
@@ -67,9 +67,9 @@ impl Entry {
     }
 
     // Whether the entry may stand after files that end at a block.
-    #[tactic(auto, unfolding(crate::specs::Entries::is_sound))]
+    #[tactic(auto, unfolding(crate::specs::Entries::is_sound_entry))]
     pub(crate) fn is_sound(&self, from: u16) -> bool
-        ensures sound { result ≡ is_sound from self.now }
+        ensures sound { result ≡ is_sound_entry from self.now }
     {
         matches!(self.name[0], 1..=15)
             && from <= self.first

@@ -4,7 +4,7 @@ ghost use Rattle.std.specs.Prelude.{◌≡◌, ◌+◌, ◌-◌, ◌<◌, ◌≤
 ghost use Rattle.pm_volume.specs.Changes.{with_directory};
 ghost use Rattle.pm_volume.specs.Directory.{IsVolume, block_count, directory_of, entry_in, file_count, files_begin};
 ghost use Rattle.pm_volume.specs.Packing.{new_place, packed_image, with_moved, with_places};
-ghost use Rattle.pm_volume.specs.Words.{with_word, written};
+ghost use Rattle.pm_volume.specs.Words.{with_word_in, written};
 ghost use Rattle.pm_volume.specs.declared.fields.TheConstants.{DIRECTORY_END, MOST_FILES, PAST_DIRECTORY};
 ghost use Rattle.pm_base.specs.declared.blocks.TheConstants.{BLOCK};
 

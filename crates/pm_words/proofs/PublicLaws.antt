@@ -3,7 +3,8 @@ use Rattle.std.proofs.Common.{◌≡◌, ◌≢◌, ◌<◌, ◌≤◌, ◌⊎�
 use Rattle.std.specs.List.{All}
 use Rattle.pm_words.specs.Words.{IsMemory, byte_at, copied, with_bytes, with_word, word_at}
 use Rattle.pm_words.specs.Laws.{BytesAreCopied, BytesAreWritten, MovesAreCopies, WordIsWritten, WordsAreTheirBytes}
-use Rattle.pm_words.proofs.Laws.{IsMemory-with_bytes, IsMemory-with_word, byte_at-even, byte_at-odd, byte_at-with_bytes, byte_at-with_bytes_other, word_at-bytes, word_at-with_word_other, word_at-written}
+use Rattle.pm_words.proofs.Laws.{IsMemory-with_bytes, IsMemory-with_word, byte_at-even, byte_at-odd, byte_at-with_bytes}
+use Rattle.pm_words.proofs.Laws.{byte_at-with_bytes_other, word_at-bytes, word_at-with_word_other, word_at-written}
 use Rattle.pm_words.proofs.RangeLaws.{IsMemory-copied, byte_at-copied, byte_at-copied_other, moved_down-copied, moved_up-copied}
 
 pub words_are_their_bytes : WordsAreTheirBytes

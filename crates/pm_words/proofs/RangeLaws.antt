@@ -1,14 +1,17 @@
 -- The laws of ranges: what a word or a byte is after a copy, and when two moves are one.
-use Rattle.std.proofs.Common.{◌≡◌, ◌≢◌, ℕ, zero, suc, ◌+◌, ◌-◌, ◌*◌, ◌/◌, ◌%◌, ◌<◌, ◌≤◌, ◌⊎◌, List, [], ◌∷◌, length, drop, get_or, replicate, refl, sym, ap, ◌∙◌, subst, arith, inl, inr, ⊎_elim, nat_lt}
+use Rattle.std.proofs.Common.{◌≡◌, ◌≢◌, ℕ, zero, suc, ◌+◌, ◌-◌, ◌*◌, ◌/◌, ◌%◌, ◌<◌, ◌≤◌, ◌⊎◌, List, [], ◌∷◌, length}
+use Rattle.std.proofs.Common.{drop, get_or, replicate, refl, sym, ap, ◌∙◌, subst, arith, inl, inr, ⊎_elim, nat_lt}
 use Rattle.std.specs.Prelude.{IsTrue, ◌↔◌}
 use Rattle.std.specs.List.{All}
 use Rattle.std.proofs.lemmas.Bool.{cases_lt, cases_eq, false≢true}
 use Rattle.std.proofs.lemmas.List.{append-nil, ext_get_or, get_or-take, get_or-drop, length-take-le, length-drop, length-replicate, take-append-drop}
 use Rattle.std.proofs.lemmas.List.Elements.{All-take, All-drop, All-cons, All-nil, All-replicate}
 use Rattle.pm_words.specs.Watch.{IsSomeWatched, KeepsWatch, times}
-use Rattle.pm_words.specs.Words.{Contents, filled, IsMemory, byte_at, bytes_at, bytes_of, copied, moved_down, moved_up, with_byte, with_bytes, with_word, word_at}
+use Rattle.pm_words.specs.Words.{Contents, filled, IsMemory, byte_at, bytes_at, bytes_of, copied}
+use Rattle.pm_words.specs.Words.{moved_down, moved_up, with_byte, with_bytes, with_word, word_at}
 use Rattle.pm_words.proofs.Pairs.{words_of-bytes_of}
-use Rattle.pm_words.proofs.Laws.{AreMemoryBytes-bytes_of, IsMemory-with_bytes, byte_at-even, byte_at-odd, byte_at-with_bytes, byte_at-with_bytes_other, word_at-bytes, word_at-with_word, word_at-with_word_other}
+use Rattle.pm_words.proofs.Laws.{AreMemoryBytes-bytes_of, IsMemory-with_bytes, byte_at-even, byte_at-odd, byte_at-with_bytes}
+use Rattle.pm_words.proofs.Laws.{byte_at-with_bytes_other, word_at-bytes, word_at-with_word, word_at-with_word_other}
 
 -- the bytes of a memory are bytes, and those of a range as many as were asked for
 pub All-bytes_at : (ws : List ℕ) (a n : ℕ) → IsMemory ws → All (λ b. b < 256) (bytes_at ws a n)
@@ -53,28 +56,32 @@ byte_at-with_word_other ws a x w even away =
     (cases_eq (x % 2) 0)
 
 -- a word of which no byte is written stays
-pub word_at-with_bytes_other : (ws ys : List ℕ) (a x : ℕ) → IsMemory ws → a + length ys ≤ 65536 → All (λ b. b < 256) ys → x % 2 ≡ 0 → (x + 1 < a) ⊎ (a + length ys ≤ x) → word_at (with_bytes ws a ys) x ≡ word_at ws x
+pub word_at-with_bytes_other : (ws ys : List ℕ) (a x : ℕ) → IsMemory ws → a + length ys ≤ 65536 → All (λ b. b < 256) ys → x % 2 ≡ 0
+    → (x + 1 < a) ⊎ (a + length ys ≤ x) → word_at (with_bytes ws a ys) x ≡ word_at ws x
 word_at-with_bytes_other ws ys a x h room fit even away =
     let low = byte_at-with_bytes_other ws ys a x h room fit (⊎_elim (λ l. inl (omega arith)) (λ r. inr r) away) in
     let high = byte_at-with_bytes_other ws ys a (x + 1) h room fit (⊎_elim (λ l. inl l) (λ r. inr (omega arith)) away) in
     rw (word_at-bytes (with_bytes ws a ys) x even, word_at-bytes ws x even, low, high) refl
 
 -- the bytes of a copy
-pub byte_at-copied : (ws : List ℕ) (from to n x : ℕ) → IsMemory ws → from + n ≤ 65536 → to + n ≤ 65536 → to ≤ x → x < to + n → byte_at (copied ws from to n) x ≡ byte_at ws (from + (x - to))
+pub byte_at-copied : (ws : List ℕ) (from to n x : ℕ) → IsMemory ws → from + n ≤ 65536 → to + n ≤ 65536 → to ≤ x → x < to + n
+    → byte_at (copied ws from to n) x ≡ byte_at ws (from + (x - to))
 unfolding copied
 byte_at-copied ws from to n x h source room low high =
     let size = length-bytes_at ws from n h source in
     byte_at-with_bytes ws (bytes_at ws from n) to x h (omega arith) (All-bytes_at ws from n h) low (omega arith)
     ∙ get_or-bytes_at ws from n (x - to) (omega arith)
 
-pub byte_at-copied_other : (ws : List ℕ) (from to n x : ℕ) → IsMemory ws → from + n ≤ 65536 → to + n ≤ 65536 → (x < to) ⊎ (to + n ≤ x) → byte_at (copied ws from to n) x ≡ byte_at ws x
+pub byte_at-copied_other : (ws : List ℕ) (from to n x : ℕ) → IsMemory ws → from + n ≤ 65536 → to + n ≤ 65536 → (x < to) ⊎ (to + n ≤ x)
+    → byte_at (copied ws from to n) x ≡ byte_at ws x
 unfolding copied
 byte_at-copied_other ws from to n x h source room away =
     let size = length-bytes_at ws from n h source in
     byte_at-with_bytes_other ws (bytes_at ws from n) to x h (omega arith) (All-bytes_at ws from n h) (⊎_elim (λ l. inl l) (λ r. inr (omega arith)) away)
 
 -- the words of a copy from an even address to an even one
-pub word_at-copied : (ws : List ℕ) (from to n x : ℕ) → IsMemory ws → from + n ≤ 65536 → to + n ≤ 65536 → from % 2 ≡ 0 → to % 2 ≡ 0 → x % 2 ≡ 0 → to ≤ x → x + 1 < to + n → word_at (copied ws from to n) x ≡ word_at ws (from + (x - to))
+pub word_at-copied : (ws : List ℕ) (from to n x : ℕ) → IsMemory ws → from + n ≤ 65536 → to + n ≤ 65536 → from % 2 ≡ 0 → to % 2 ≡ 0 → x % 2 ≡ 0 → to ≤ x
+    → x + 1 < to + n → word_at (copied ws from to n) x ≡ word_at ws (from + (x - to))
 word_at-copied ws from to n x h source room f t even low high =
     let first = byte_at-copied ws from to n x h source room low (omega arith) in
     let second = byte_at-copied ws from to n (x + 1) h source room (omega arith) high in
@@ -82,7 +89,8 @@ word_at-copied ws from to n x h source room f t even low high =
     let next : from + (x + 1 - to) ≡ from + (x - to) + 1 = omega arith in
     rw (word_at-bytes (copied ws from to n) x even, word_at-bytes ws (from + (x - to)) place, first, second, next) refl
 
-pub word_at-copied_other : (ws : List ℕ) (from to n x : ℕ) → IsMemory ws → from + n ≤ 65536 → to + n ≤ 65536 → x % 2 ≡ 0 → (x + 1 < to) ⊎ (to + n ≤ x) → word_at (copied ws from to n) x ≡ word_at ws x
+pub word_at-copied_other : (ws : List ℕ) (from to n x : ℕ) → IsMemory ws → from + n ≤ 65536 → to + n ≤ 65536 → x % 2 ≡ 0 → (x + 1 < to) ⊎ (to + n ≤ x)
+    → word_at (copied ws from to n) x ≡ word_at ws x
 unfolding copied
 word_at-copied_other ws from to n x h source room even away =
     let size = length-bytes_at ws from n h source in
@@ -106,7 +114,8 @@ word_at-twice ws i = let half : 2 * i / 2 ≡ i = omega arith in rw half refl
 pub same_memories : (ws vs : List ℕ) → IsMemory ws → IsMemory vs → ((a : ℕ) → a < 65536 → byte_at ws a ≡ byte_at vs a) → ws ≡ vs
 same_memories ws vs h k same =
     ext_get_or 0 ws vs (h.size ∙ sym k.size)
-    (λ i l. sym (word_at-twice ws i) ∙ (same_word ws vs (2 * i) (omega arith) (same (2 * i) (omega (arith, h.size))) (same (2 * i + 1) (omega (arith, h.size))) ∙ word_at-twice vs i))
+    (λ i l. sym (word_at-twice ws i) ∙ (same_word ws vs (2 * i) (omega arith) (same (2 * i) (omega (arith, h.size))) (same (2 * i + 1) (omega (arith, h.size)))
+    ∙ word_at-twice vs i))
 
 -- ---- moves
 
@@ -141,7 +150,8 @@ copied-none ws from to =
     rw (append-nil, e, take-append-drop to (bytes_of ws)) (words_of-bytes_of ws)
 
 -- one byte copied first, and then the rest, is the copy of all where nothing is read that was written
-copied-first : (ws : List ℕ) (from to n : ℕ) → IsMemory ws → from + suc n ≤ 65536 → to + suc n ≤ 65536 → (to ≤ from) ⊎ (from + suc n ≤ to) → copied (with_byte ws to (byte_at ws from)) (suc from) (suc to) n ≡ copied ws from to (suc n)
+copied-first : (ws : List ℕ) (from to n : ℕ) → IsMemory ws → from + suc n ≤ 65536 → to + suc n ≤ 65536 → (to ≤ from) ⊎ (from + suc n ≤ to)
+    → copied (with_byte ws to (byte_at ws from)) (suc from) (suc to) n ≡ copied ws from to (suc n)
 copied-first ws from to n h source room apart =
     let below : byte_at ws from < 256 = byte_at-below ws from h (omega arith) in
     let here : to < 65536 = omega arith in
@@ -170,16 +180,19 @@ copied-first ws from to n h source room apart =
     (cases_lt x to))
 
 -- a move of ascending bytes is a copy where the target is below the source, or apart from it
-pub moved_up-copied : (n : ℕ) (ws : List ℕ) (from to : ℕ) → IsMemory ws → from + n ≤ 65536 → to + n ≤ 65536 → (to ≤ from) ⊎ (from + n ≤ to) → moved_up ws from to n ≡ copied ws from to n
+pub moved_up-copied : (n : ℕ) (ws : List ℕ) (from to : ℕ) → IsMemory ws → from + n ≤ 65536 → to + n ≤ 65536 → (to ≤ from) ⊎ (from + n ≤ to)
+    → moved_up ws from to n ≡ copied ws from to n
 unfolding moved_up
 moved_up-copied zero ws from to h source room apart = sym (copied-none ws from to)
 moved_up-copied (suc n) ws from to h source room apart =
     let below : byte_at ws from < 256 = byte_at-below ws from h (omega arith) in
-    moved_up-copied n (with_byte ws to (byte_at ws from)) (suc from) (suc to) (IsMemory-with_byte ws to (byte_at ws from) h (omega arith) below) (omega arith) (omega arith) (⊎_elim (λ l. inl (omega arith)) (λ r. inr (omega arith)) apart)
+    moved_up-copied n (with_byte ws to (byte_at ws from)) (suc from) (suc to) (IsMemory-with_byte ws to (byte_at ws from) h (omega arith) below) (omega arith)
+    (omega arith) (⊎_elim (λ l. inl (omega arith)) (λ r. inr (omega arith)) apart)
     ∙ copied-first ws from to n h source room apart
 
 -- one byte copied last, and the others before it, is the copy of all where nothing is read that was written
-copied-last : (ws : List ℕ) (from to n : ℕ) → IsMemory ws → from + suc n ≤ 65536 → to + suc n ≤ 65536 → (from ≤ to) ⊎ (to + suc n ≤ from) → copied (with_byte ws (to + n) (byte_at ws (from + n))) from to n ≡ copied ws from to (suc n)
+copied-last : (ws : List ℕ) (from to n : ℕ) → IsMemory ws → from + suc n ≤ 65536 → to + suc n ≤ 65536 → (from ≤ to) ⊎ (to + suc n ≤ from)
+    → copied (with_byte ws (to + n) (byte_at ws (from + n))) from to n ≡ copied ws from to (suc n)
 copied-last ws from to n h source room apart =
     let below : byte_at ws (from + n) < 256 = byte_at-below ws (from + n) h (omega arith) in
     let here : to + n < 65536 = omega arith in
@@ -208,12 +221,14 @@ copied-last ws from to n h source room apart =
     (cases_lt x to))
 
 -- a move of descending bytes is a copy where the target is above the source, or apart from it
-pub moved_down-copied : (n : ℕ) (ws : List ℕ) (from to : ℕ) → IsMemory ws → from + n ≤ 65536 → to + n ≤ 65536 → (from ≤ to) ⊎ (to + n ≤ from) → moved_down ws from to n ≡ copied ws from to n
+pub moved_down-copied : (n : ℕ) (ws : List ℕ) (from to : ℕ) → IsMemory ws → from + n ≤ 65536 → to + n ≤ 65536 → (from ≤ to) ⊎ (to + n ≤ from)
+    → moved_down ws from to n ≡ copied ws from to n
 unfolding moved_down
 moved_down-copied zero ws from to h source room apart = sym (copied-none ws from to)
 moved_down-copied (suc n) ws from to h source room apart =
     let below : byte_at ws (from + n) < 256 = byte_at-below ws (from + n) h (omega arith) in
-    moved_down-copied n (with_byte ws (to + n) (byte_at ws (from + n))) from to (IsMemory-with_byte ws (to + n) (byte_at ws (from + n)) h (omega arith) below) (omega arith) (omega arith) (⊎_elim (λ l. inl l) (λ r. inr (omega arith)) apart)
+    moved_down-copied n (with_byte ws (to + n) (byte_at ws (from + n))) from to (IsMemory-with_byte ws (to + n) (byte_at ws (from + n)) h (omega arith) below)
+    (omega arith) (omega arith) (⊎_elim (λ l. inl l) (λ r. inr (omega arith)) apart)
     ∙ copied-last ws from to n h source room apart
 
 -- the laws of single bytes and of copies, for callers
@@ -228,7 +243,8 @@ unfolding word_at
 word_at-half ws x = let half : 2 * (x / 2) / 2 ≡ x / 2 = omega arith in rw half refl
 
 -- a word of which no byte is written keeps its value
-watched_word_stays : (ws ys : List ℕ) (a x : ℕ) → IsMemory ws → a + length ys ≤ 65536 → All (λ b. b < 256) ys → ((y : ℕ) → a ≤ y → y < a + length ys → y / 2 ≡ x / 2 → ⊥) → word_at (with_bytes ws a ys) x ≡ word_at ws x
+watched_word_stays : (ws ys : List ℕ) (a x : ℕ) → IsMemory ws → a + length ys ≤ 65536 → All (λ b. b < 256) ys
+    → ((y : ℕ) → a ≤ y → y < a + length ys → y / 2 ≡ x / 2 → ⊥) → word_at (with_bytes ws a ys) x ≡ word_at ws x
 watched_word_stays ws ys a x h room fit none =
     let half : 2 * (x / 2) / 2 ≡ x / 2 = omega arith in
     let next : (2 * (x / 2) + 1) / 2 ≡ x / 2 = omega arith in
@@ -243,7 +259,8 @@ watched_word_stays ws ys a x h room fit none =
         (λ more. ⊎_elim (λ inside. absurd (none y more inside e)) (λ past. inr past) (cases_lt y (a + length ys)))
         (cases_lt y a)
 
-pub KeepsWatch-with_bytes : (m n : Contents) (a : ℕ) (ys : List ℕ) → IsMemory m.words → a + length ys ≤ 65536 → All (λ b. b < 256) ys → n.words ≡ with_bytes m.words a ys → n.watched ≡ m.watched → IsTrue n.touched ↔ (IsTrue m.touched ⊎ IsSomeWatched m.watched a (length ys)) → KeepsWatch m n
+pub KeepsWatch-with_bytes : (m n : Contents) (a : ℕ) (ys : List ℕ) → IsMemory m.words → a + length ys ≤ 65536 → All (λ b. b < 256) ys
+    → n.words ≡ with_bytes m.words a ys → n.watched ≡ m.watched → IsTrue n.touched ↔ (IsTrue m.touched ⊎ IsSomeWatched m.watched a (length ys)) → KeepsWatch m n
 KeepsWatch-with_bytes m n a ys h room fit words watched touched = record {
   watched = watched;
   touched = λ t. touched.1 (inl t);
@@ -253,14 +270,16 @@ KeepsWatch-with_bytes m n a ys h room fit words watched touched = record {
 }
 
 -- a copy keeps the watch
-pub KeepsWatch-copied : (m n : Contents) (from to k : ℕ) → IsMemory m.words → from + k ≤ 65536 → to + k ≤ 65536 → n.words ≡ copied m.words from to k → n.watched ≡ m.watched → IsTrue n.touched ↔ (IsTrue m.touched ⊎ IsSomeWatched m.watched to k) → KeepsWatch m n
+pub KeepsWatch-copied : (m n : Contents) (from to k : ℕ) → IsMemory m.words → from + k ≤ 65536 → to + k ≤ 65536 → n.words ≡ copied m.words from to k
+    → n.watched ≡ m.watched → IsTrue n.touched ↔ (IsTrue m.touched ⊎ IsSomeWatched m.watched to k) → KeepsWatch m n
 unfolding copied
 KeepsWatch-copied m n from to k h source room words watched touched =
     let size = length-bytes_at m.words from k h source in
     KeepsWatch-with_bytes m n to (bytes_at m.words from k) h (omega arith) (All-bytes_at m.words from k h) words watched (rw size touched)
 
 -- and so does a fill
-pub KeepsWatch-filled : (m n : Contents) (a k b : ℕ) → IsMemory m.words → a + k ≤ 65536 → b < 256 → n.words ≡ filled m.words a k b → n.watched ≡ m.watched → IsTrue n.touched ↔ (IsTrue m.touched ⊎ IsSomeWatched m.watched a k) → KeepsWatch m n
+pub KeepsWatch-filled : (m n : Contents) (a k b : ℕ) → IsMemory m.words → a + k ≤ 65536 → b < 256 → n.words ≡ filled m.words a k b → n.watched ≡ m.watched
+    → IsTrue n.touched ↔ (IsTrue m.touched ⊎ IsSomeWatched m.watched a k) → KeepsWatch m n
 unfolding filled
 KeepsWatch-filled m n a k b h room fit words watched touched =
     let size = length-replicate k b in

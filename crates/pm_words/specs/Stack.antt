@@ -1,17 +1,13 @@
--- Steps that may fail, and the stack's own steps. The stack grows down: SP is the address of the word
+-- The steps of a row on the stack. The stack grows down: SP is the address of the word
 -- on its top, words are pushed below it, and it ends at 65,504, above which no word is popped.
-use Rattle.std.specs.Prelude.{ℕ, ◌+◌, ◌-◌, ◌%◌, ◌≤◌, ◌≡◌, ◌==◌, Bool, List, Result, Ok, Err, if◌then◌else◌, ◌&&◌, ◌*◌, nat_le, nat_lt}
+use Rattle.std.specs.Prelude.{ℕ, ◌+◌, ◌-◌, ◌%◌, ◌≤◌, ◌≡◌, ◌==◌, Bool, List, Result}
+use Rattle.std.specs.Prelude.{Ok, Err, if◌then◌else◌, ◌&&◌, ◌*◌, nat_le, nat_lt}
+pub use Rattle.pm_base.specs.Steps.{◌>>=◌}
 use Rattle.pm_words.specs.declared.error.ExecError.{ExecError}
 use Rattle.pm_words.specs.declared.error.ExecError.TheVariants.{InvalidMemory, StackOverflow}
 use Rattle.pm_words.specs.Words.{word_at, with_word}
 use Rattle.pm_words.specs.declared.stack.Popped.{Popped}
 use Rattle.pm_words.specs.declared.layout.TheConstants.{HIGHEST_WORD, STACK_END}
-
--- one step after another: the first error is the answer
-infixl 10 ◌>>=◌
-abbrev pub ◌>>=◌ : {A B E : Type 0} → Result A E → (A → Result B E) → Result B E
-(Ok x) >>= f = f x
-(Err e) >>= f = Err e
 
 -- a rule that has to hold, and the error where it does not
 abbrev pub demand : {E : Type 0} → Bool → E → Result (Unit {0}) E
@@ -42,7 +38,8 @@ store m a w = if is_even a then Ok (with_word m a w) else Err InvalidMemory
 
 -- the word on the stack at sp, and the sp above it, which is at most 65,504
 abbrev pub pop : List ℕ → ℕ → Result Popped ExecError
-pop m sp = if nat_lt HIGHEST_WORD sp then Err InvalidMemory else (load m sp >>= λ w. Ok (record { word = w; above = sp + 2 }))
+pop m sp =
+    if nat_lt HIGHEST_WORD sp then Err InvalidMemory else (load m sp >>= λ w. Ok (record { word = w; above = sp + 2 }))
 
 -- the memory with a word put on the stack, and the new sp, which is at least np
 abbrev pub push : List ℕ → ℕ → ℕ → ℕ → Result (List ℕ × ℕ) ExecError

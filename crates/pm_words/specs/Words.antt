@@ -2,7 +2,9 @@
 use Rattle.std.specs.Cmp.Lexicographic.{slice_cmp}
 use Rattle.std.specs.Ordering.{nat_cmp}
 use Rattle.std.specs.declared.cmp.Ordering.{Ordering}
-use Rattle.std.specs.Prelude.{◌≡◌, ◌==◌, ◌<◌, ℕ, ◌+◌, ◌-◌, ◌*◌, ◌/◌, ◌%◌, ◌≤◌, Bool, not, ℤ, ◌-ℤ◌, pos, negsuc, zero, suc, reverse, List, [], ◌∷◌, ◌++◌, All, length, take, drop, replicate, slice_index, slice_set, Option, Some, None, position, unwrap_or, if◌then◌else◌}
+use Rattle.std.specs.Prelude.{◌≡◌, ◌==◌, ◌<◌, ℕ, ◌+◌, ◌-◌, ◌*◌, ◌/◌, ◌%◌, ◌≤◌, Bool, not, ℤ, ◌-ℤ◌, pos, negsuc}
+use Rattle.std.specs.Prelude.{zero, suc, reverse, List, [], ◌∷◌, ◌++◌, All, length, take, drop, replicate}
+use Rattle.std.specs.Prelude.{slice_index, slice_set, Option, Some, None, position, unwrap_or, if◌then◌else◌}
 
 -- the bytes of a whole memory
 pub record AreMemoryBytes (bs : List ℕ) : Type 0 where

@@ -23,7 +23,8 @@ pub fn bytes_are_written()
     ensures law { BytesAreWritten }
 {}
 
-/// Bytes that are copied are those that stood at their source, also where the ranges overlap, and no other byte changes.
+/// Bytes that are copied are those that stood at their source, also where the ranges overlap, and no other byte
+/// changes.
 pub fn bytes_are_copied()
     ensures law { BytesAreCopied }
 {}

@@ -1,6 +1,7 @@
 //! Ranges of bytes.
 
-ghost use Rattle.std.specs.Prelude.{◌≡◌, ◌+◌, ◌/◌, ◌%◌, ◌∷◌, [], ◌⊎◌, ◌<◌, ◌≤◌, ◌↔◌, All, IfOk, IfSome, IsTrue, length, position, replicate, reverse};
+ghost use Rattle.std.specs.Prelude.{◌≡◌, ◌+◌, ◌/◌, ◌%◌, ◌∷◌, [], ◌⊎◌, ◌<◌, ◌≤◌, ◌↔◌, All};
+ghost use Rattle.std.specs.Prelude.{IfOk, IfSome, IsTrue, length, position, replicate, reverse};
 ghost use Rattle.pm_words.specs.Words.{IsInMemory, overwritten, passed, stops};
 
 use byteorder::{ByteOrder, LittleEndian};

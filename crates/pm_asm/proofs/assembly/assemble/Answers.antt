@@ -25,7 +25,9 @@ pub returns-in_err-check_labels-clause-refused : goal.returns-in_err-check_label
 returns-in_err-check_labels-clause-refused c =
     let p = err_from_is_err_and c.from_residual-in_err-check_labels.result c.from_residual-in_err-check_labels.ensures.1 in
     let read = ap segments_seen c.deref.ensures.value ∙ c.in_ok-segments.ensures.read in
-    rw (p.1, p.2) (λ other. label_refused c.args.text.now (segments_seen c.deref.result.now) c.in_err-check_labels.field-0.0 c.in_ok-segments.ensures.faultless read c.in_err-check_labels.ensures.fault other)
+    rw (p.1, p.2)
+    (λ other. label_refused c.args.text.now
+    (segments_seen c.deref.result.now) c.in_err-check_labels.field-0.0 c.in_ok-segments.ensures.faultless read c.in_err-check_labels.ensures.fault other)
 
 pub returns-in_err-check_labels-clause-unspelled : goal.returns-in_err-check_labels-clause-unspelled
 returns-in_err-check_labels-clause-unspelled c =
@@ -33,7 +35,8 @@ returns-in_err-check_labels-clause-unspelled c =
     let read = ap segments_seen c.deref.ensures.value ∙ c.in_ok-segments.ensures.read in
     rw (p.1, p.2) (λ other. (
     let fault = c.in_err-check_labels.field-0.0 in
-    refused_spells_nothing c.args.text.now fault (label_refused c.args.text.now (segments_seen c.deref.result.now) fault c.in_ok-segments.ensures.faultless read c.in_err-check_labels.ensures.fault other)
+    refused_spells_nothing c.args.text.now fault (label_refused c.args.text.now
+    (segments_seen c.deref.result.now) fault c.in_ok-segments.ensures.faultless read c.in_err-check_labels.ensures.fault other)
     ))
 
 pub returns-in_err-check_lengths-clause-refused : goal.returns-in_err-check_lengths-clause-refused

@@ -18,7 +18,8 @@ pub push_procedure-requires-clause-short : goal.push_procedure-requires-clause-s
 push_procedure-requires-clause-short c =
     let next = there c.args.procedures.now c.loop-done.done c.index-procedures-done.result c.loop-done-test.true c.index-procedures-done.is in
     let at : ℕ = length c.loop-done.out.items in
-    procedure_short at (procedure_seen c.index-procedures-done.result) (map procedure_seen (drop (c.loop-done.done + 1) c.args.procedures.now)) (subst (λ ps. procedures_end at (found_procedures at (map procedure_seen ps)) ≤ LONGEST) next c.loop-done.invariant.short)
+    procedure_short at (procedure_seen c.index-procedures-done.result) (map procedure_seen (drop (c.loop-done.done + 1) c.args.procedures.now))
+    (subst (λ ps. procedures_end at (found_procedures at (map procedure_seen ps)) ≤ LONGEST) next c.loop-done.invariant.short)
 
 pub loop-done-preserved : goal.loop-done-preserved
 loop-done-preserved c =
@@ -38,6 +39,8 @@ loop-done-preserved c =
           ∙ procedure_table before after number p rest c.loop-done.tables.items (c.len.result - 2) added (ap (λ n. n - 2) ends)
           ∙ ap (λ ps. c.loop-done.tables.items ++ map jtab_of (found_procedures (length before) (map procedure_seen ps))) (sym next)
           ∙ c.loop-done.invariant.tables;
-      good = procedure_good before after number p rest added (subst (λ ps. AllByRecursion IsProcedure (found_procedures (length before) (map procedure_seen ps))) next c.loop-done.invariant.good);
-      short = subst (λ n. n ≤ LONGEST) (sym (procedure_ends before after number p rest added)) (subst (λ ps. procedures_end (length before) (found_procedures (length before) (map procedure_seen ps)) ≤ LONGEST) next c.loop-done.invariant.short);
+      good = procedure_good before after number p rest added (subst
+          (λ ps. AllByRecursion IsProcedure (found_procedures (length before) (map procedure_seen ps))) next c.loop-done.invariant.good);
+      short = subst (λ n. n ≤ LONGEST) (sym (procedure_ends before after number p rest added))
+          (subst (λ ps. procedures_end (length before) (found_procedures (length before) (map procedure_seen ps)) ≤ LONGEST) next c.loop-done.invariant.short);
     }

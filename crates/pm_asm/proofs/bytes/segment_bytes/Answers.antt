@@ -11,7 +11,8 @@ pub push_procedures-requires-clause-short : goal.push_procedures-requires-clause
 push_procedures-requires-clause-short c =
     let s = segment_seen c.args.segment.now in
     let start : List ℕ = c.new-bytes.result.items in
-    subst (λ ps. procedures_end (length start) (found_procedures (length start) (map procedure_seen ps)) ≤ LONGEST) (sym c.deref.ensures.value) (segment_ends s start c.new-bytes.ensures.items c.requires.segment c.requires.short)
+    subst (λ ps. procedures_end (length start) (found_procedures (length start) (map procedure_seen ps)) ≤ LONGEST) (sym c.deref.ensures.value)
+    (segment_ends s start c.new-bytes.ensures.items c.requires.segment c.requires.short)
 
 pub push_procedures-requires-clause-few : goal.push_procedures-requires-clause-few
 push_procedures-requires-clause-few c =

@@ -54,8 +54,17 @@ returns c =
     let end : n ≡ 16 = omega arith in
     let first : length c.loop-n.names ≤ n = omega arith in
     let second : length c.loop-n.lengths ≤ n = omega arith in
-    let names : c.loop-n.names ≡ map name_of_segment (slots_of 0 16 ts) = sym (take_all n c.loop-n.names first) ∙ c.loop-n.invariant.names ∙ ap (λ k. map name_of_segment (slots_of 0 k ts)) end in
-    let lengths : c.loop-n.lengths ≡ map count (slots_of 0 16 ts) = sym (take_all n c.loop-n.lengths second) ∙ c.loop-n.invariant.lengths ∙ ap (λ k. map count (slots_of 0 k ts)) end in
-    let joined : c.deref-2.result.now ≡ joined_bytes (slots_of 0 16 ts) = c.deref-2.ensures.value ∙ c.loop-n.invariant.joined ∙ ap (λ k. joined_bytes (slots_of 0 k ts)) end in
-    let whole : layout c.loop-n.names c.loop-n.lengths c.deref-2.result.now ≡ file_of ts = ap (λ xs. layout xs c.loop-n.lengths c.deref-2.result.now) names ∙ ap (λ xs. layout (map name_of_segment (slots_of 0 16 ts)) xs c.deref-2.result.now) lengths ∙ ap (layout (map name_of_segment (slots_of 0 16 ts)) (map count (slots_of 0 16 ts))) joined in
-    record { file = if_ok_map c.write.result (λ file. file.items ≡ layout c.loop-n.names c.loop-n.lengths c.deref-2.result.now) (λ file. file.items ≡ file_of ts) (λ file h. h ∙ whole) c.write.ensures.layout }
+    let names : c.loop-n.names ≡ map name_of_segment (slots_of 0 16 ts) =
+    sym (take_all n c.loop-n.names first) ∙ c.loop-n.invariant.names ∙ ap (λ k. map name_of_segment (slots_of 0 k ts)) end in
+    let lengths : c.loop-n.lengths ≡ map count (slots_of 0 16 ts) =
+    sym (take_all n c.loop-n.lengths second) ∙ c.loop-n.invariant.lengths ∙ ap (λ k. map count (slots_of 0 k ts)) end in
+    let joined : c.deref-2.result.now ≡ joined_bytes (slots_of 0 16 ts) =
+    c.deref-2.ensures.value ∙ c.loop-n.invariant.joined ∙ ap (λ k. joined_bytes (slots_of 0 k ts)) end in
+    let whole : layout c.loop-n.names c.loop-n.lengths c.deref-2.result.now ≡ file_of ts =
+    ap (λ xs. layout xs c.loop-n.lengths c.deref-2.result.now) names
+    ∙ ap (λ xs. layout (map name_of_segment (slots_of 0 16 ts)) xs c.deref-2.result.now) lengths
+    ∙ ap (layout (map name_of_segment (slots_of 0 16 ts)) (map count (slots_of 0 16 ts))) joined in
+    record {
+      file = if_ok_map c.write.result (λ file. file.items ≡ layout c.loop-n.names c.loop-n.lengths c.deref-2.result.now)
+          (λ file. file.items ≡ file_of ts) (λ file h. h ∙ whole) c.write.ensures.layout;
+    }

@@ -9,10 +9,13 @@ use Rattle.pm_asm.proofs.image.slot_of.Goals as goal
 use Rattle.pm_asm.specs.declared.lengths.TheConstants.{LONGEST}
 
 pub returns-in_default-clause-name : goal.returns-in_default-clause-name
-returns-in_default-clause-name c = sym (ap name_of_segment (slot_empty c.args.number (segments_seen c.args.segments.now) c.requires.number c.in_default.ensures.segment))
+returns-in_default-clause-name c =
+    sym (ap name_of_segment (slot_empty c.args.number (segments_seen c.args.segments.now) c.requires.number c.in_default.ensures.segment))
 
 pub returns-in_default-clause-bytes : goal.returns-in_default-clause-bytes
-returns-in_default-clause-bytes c = c.new.ensures.items ∙ sym (ap bytes_of_segment (slot_empty c.args.number (segments_seen c.args.segments.now) c.requires.number c.in_default.ensures.segment))
+returns-in_default-clause-bytes c =
+    c.new.ensures.items ∙ sym (ap bytes_of_segment (slot_empty c.args.number
+    (segments_seen c.args.segments.now) c.requires.number c.in_default.ensures.segment))
 
 pub padded_name-name-requires : goal.padded_name-name-requires
 padded_name-name-requires c =
@@ -49,4 +52,5 @@ pub returns-clause-short : goal.returns-clause-short
 returns-clause-short c =
     let s = segment_seen c.in-Some.segment.now in
     let there = slot_there c.args.number (segments_seen c.args.segments.now) s c.requires.number c.in-Some.ensures.segment in
-    subst (λ bs. length bs ≤ LONGEST) (sym c.in_ok-bytes.ensures.bytes) (numbered_all (λ t. length (segment_bytes t) ≤ LONGEST) c.args.number (program_seen c.args.segments.now) (found_segment s) there c.requires.short)
+    subst (λ bs. length bs ≤ LONGEST) (sym c.in_ok-bytes.ensures.bytes)
+    (numbered_all (λ t. length (segment_bytes t) ≤ LONGEST) c.args.number (program_seen c.args.segments.now) (found_segment s) there c.requires.short)

@@ -8,6 +8,7 @@ use Rattle.pm_asm.proofs.labels.check_code.Given as goal
 -- only the rows that are left have faults, and these end where all end
 abbrev pub invariant-loop-row : goal.invariant-loop-row
 invariant-loop-row l = record {
-  faults : code_faults (places_in l.code) l.at (map row_seen (drop l.row-index l.code.rows.now)) ≡ code_faults (places_in l.code) l.code.start (map row_seen l.code.rows.now);
+  faults : code_faults (places_in l.code) l.at (map row_seen (drop l.row-index l.code.rows.now))
+      ≡ code_faults (places_in l.code) l.code.start (map row_seen l.code.rows.now);
   ends : code_end l.at (map row_seen (drop l.row-index l.code.rows.now)) ≡ end_in l.code;
 }

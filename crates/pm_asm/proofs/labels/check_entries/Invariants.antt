@@ -6,4 +6,5 @@ use Rattle.pm_asm.proofs.labels.check_entries.Given as goal
 
 -- only the entries that are left have faults
 abbrev pub invariant-loop-entry : goal.invariant-loop-entry
-invariant-loop-entry l = entries_faults (places_in l.code) (map entry_seen (drop l.entry-index l.entries)) ≡ entries_faults (places_in l.code) (map entry_seen l.entries)
+invariant-loop-entry l =
+    entries_faults (places_in l.code) (map entry_seen (drop l.entry-index l.entries)) ≡ entries_faults (places_in l.code) (map entry_seen l.entries)

@@ -19,4 +19,5 @@ first_left fault at i ps p whole l e w h =
 pub returns-in_err-check_procedure-clause-fault : goal.returns-in_err-check_procedure-clause-fault
 returns-in_err-check_procedure-clause-fault c =
     let p = err_from_is_err_and c.from_residual.result c.from_residual.ensures.1 in
-    rw (p.1, p.2) (λ known. first_left _ c.loop-procedure.at c.loop-procedure.procedure-index c.args.procedures.now c.procedure-item.result _ (omega arith) c.procedure-item.is c.loop-procedure.invariant (c.in_err-check_procedure.ensures.fault known))
+    rw (p.1, p.2) (λ known. first_left _ c.loop-procedure.at c.loop-procedure.procedure-index c.args.procedures.now c.procedure-item.result _
+    (omega arith) c.procedure-item.is c.loop-procedure.invariant (c.in_err-check_procedure.ensures.fault known))

@@ -5,4 +5,5 @@ use Rattle.pm_asm.proofs.labels.check_procedures.Given as goal
 
 -- only the procedures that are left have faults
 abbrev pub invariant-loop-procedure : goal.invariant-loop-procedure
-invariant-loop-procedure l = label_faults_from l.at (map procedure_seen (drop l.procedure-index l.procedures)) ≡ label_faults_from 0 (map procedure_seen l.procedures)
+invariant-loop-procedure l =
+    label_faults_from l.at (map procedure_seen (drop l.procedure-index l.procedures)) ≡ label_faults_from 0 (map procedure_seen l.procedures)

@@ -18,9 +18,11 @@ loop-number-preserved c =
     elim c.match-segment_with.branch [
       | in-Some+in_ok-is_long+else-branch w ↦ (
           let short = sym w.in_ok-is_long.ensures.value ∙ w.if-branch.false in
-          sym (short_here c.loop-number.number (segments_seen c.args.segments.now) (segment_seen w.in-Some.segment.now) (omega arith) (sym w.in-Some.ensures.segment) short)
+          sym (short_here c.loop-number.number (segments_seen c.args.segments.now) (segment_seen w.in-Some.segment.now) (omega arith)
+          (sym w.in-Some.ensures.segment) short)
           ∙ c.loop-number.invariant)
-      | in_default w ↦ sym (none_long c.loop-number.number (segments_seen c.args.segments.now) (omega arith) (sym w.in_default.ensures.segment)) ∙ c.loop-number.invariant
+      | in_default w ↦ sym (none_long c.loop-number.number (segments_seen c.args.segments.now) (omega arith) (sym w.in_default.ensures.segment))
+          ∙ c.loop-number.invariant
     ]
 
 pub returns-clause-short : goal.returns-clause-short
@@ -30,4 +32,5 @@ returns-clause-short c =
 
 pub returns-in_err-is_long-clause-too_long : goal.returns-in_err-is_long-clause-too_long
 returns-in_err-is_long-clause-too_long c =
-    λ want. any_with is_countless_long c.loop-number.number (segments_seen c.args.segments.now) (segment_seen c.in-Some.segment.now) (sym c.in-Some.ensures.segment) (lt-ltb _ _ c.in_err-is_long.ensures.too_long)
+    λ want. any_with is_countless_long c.loop-number.number (segments_seen c.args.segments.now) (segment_seen c.in-Some.segment.now)
+    (sym c.in-Some.ensures.segment) (lt-ltb _ _ c.in_err-is_long.ensures.too_long)

@@ -12,13 +12,17 @@ use Rattle.pm_asm.proofs.listing.item_text.Goals as goal
 pub item-requires : goal.item-requires
 item-requires c =
     let item = found_item (places_in c.args.code.labels) (item_seen c.args.item.now) in
-    let read : item_at c.args.code.bytes.now c.args.at ≡ Some item = item_there c.args.code.bytes.now c.args.at item c.requires.stands c.requires.item (is_other (places_in c.args.code.labels) c.args.item.now c.in_default.not-OneByte) in
+    let read : item_at c.args.code.bytes.now c.args.at ≡ Some item =
+    item_there c.args.code.bytes.now c.args.at item c.requires.stands c.requires.item
+    (is_other (places_in c.args.code.labels) c.args.item.now c.in_default.not-OneByte) in
     record { short = omega (arith, c.requires.short); there = ap is_some read }
 
 pub returns-in_default : goal.returns-in_default
 returns-in_default c =
     let item = found_item (places_in c.args.code.labels) (item_seen c.args.item.now) in
-    let read : item_at c.args.code.bytes.now c.args.at ≡ Some item = item_there c.args.code.bytes.now c.args.at item c.requires.stands c.requires.item (is_other (places_in c.args.code.labels) c.args.item.now c.in_default.not-OneByte) in
+    let read : item_at c.args.code.bytes.now c.args.at ≡ Some item =
+    item_there c.args.code.bytes.now c.args.at item c.requires.stands c.requires.item
+    (is_other (places_in c.args.code.labels) c.args.item.now c.in_default.not-OneByte) in
     record {
       text = if_ok_map c.item.result
           (λ text. Some (string_bytes text) ≡ option_map shown_item (item_at c.args.code.bytes.now c.args.at))

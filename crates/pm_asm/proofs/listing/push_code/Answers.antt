@@ -33,7 +33,8 @@ push_row-requires-clause-stand c =
     let row = row_seen c.row-item.result in
     let next = there c.args.code.labels.rows.now k c.row-item.result c.loop-row-test.true c.row-item.is in
     let stand = subst (λ rs. Stands s at (code_bytes at (map (found_item places) (items_of (map row_seen rs))))) next c.loop-row.invariant.stand in
-    parts_first s at (map (found_item places) (row_items row)) (map (found_item places) (items_of rows)) (subst (λ is. Stands s at (code_bytes at is)) (rows_split places row rows) stand)
+    parts_first s at (map (found_item places) (row_items row)) (map (found_item places) (items_of rows))
+    (subst (λ is. Stands s at (code_bytes at is)) (rows_split places row rows) stand)
 
 pub loop-row-preserved : goal.loop-row-preserved
 loop-row-preserved c =
@@ -50,18 +51,21 @@ loop-row-preserved c =
     let rest = map (found_item places) (items_of rows) in
     let split = rows_split places row rows in
     let good = subst (AreItems at) split (subst (λ rs. AreItems at (map (found_item places) (items_of (map row_seen rs)))) next c.loop-row.invariant.good) in
-    let stand = subst (λ is. Stands s at (code_bytes at is)) split (subst (λ rs. Stands s at (code_bytes at (map (found_item places) (items_of (map row_seen rs))))) next c.loop-row.invariant.stand) in
+    let stand = subst (λ is. Stands s at (code_bytes at is)) split
+    (subst (λ rs. Stands s at (code_bytes at (map (found_item places) (items_of (map row_seen rs))))) next c.loop-row.invariant.stand) in
     let before : List ℕ = string_bytes c.loop-row.text in
     let after : List ℕ = string_bytes c.push_row.new.text in
     let ends = c.in_ok-end.ensures.end in
     record {
       good = subst (λ n. AreItems n rest) (sym ends) (are_split at here rest good).1;
       stand = subst (λ n. Stands s n (code_bytes n rest)) (sym ends) (parts_next s at here rest stand);
-      last = ap (λ n. end_of n rest) ends ∙ sym (end-append at here rest) ∙ ap (end_of at) (sym split) ∙ ap (λ rs. end_of at (map (found_item places) (items_of (map row_seen rs)))) (sym next) ∙ c.loop-row.invariant.last;
+      last = ap (λ n. end_of n rest) ends ∙ sym (end-append at here rest) ∙ ap (end_of at) (sym split)
+          ∙ ap (λ rs. end_of at (map (found_item places) (items_of (map row_seen rs)))) (sym next) ∙ c.loop-row.invariant.last;
       written = λ more.
           ap (λ n. after ++ listed_lines segment (listed_items procedure n rest ++ more)) ends
           ∙ c.in_ok-end.ensures.text (listed_items procedure (end_of at here) rest ++ more)
-          ∙ ap (λ ls. before ++ listed_lines segment ls) (sym (append_assoc (listed_items procedure at here) (listed_items procedure (end_of at here) rest) more) ∙ ap (λ ls. ls ++ more) (sym (items_listed procedure at here rest)))
+          ∙ ap (λ ls. before ++ listed_lines segment ls) (sym (append_assoc (listed_items procedure at here)
+          (listed_items procedure (end_of at here) rest) more) ∙ ap (λ ls. ls ++ more) (sym (items_listed procedure at here rest)))
           ∙ ap (λ is. before ++ listed_lines segment (listed_items procedure at is ++ more)) (sym split)
           ∙ ap (λ rs. before ++ listed_lines segment (listed_items procedure at (map (found_item places) (items_of (map row_seen rs))) ++ more)) (sym next)
           ∙ c.loop-row.invariant.written more;

@@ -13,7 +13,8 @@ overflow_add-next c =
     let split = last_first c.args.entries.now n c.loop-done.done c.loop-done-test.true refl in
     let rest : List ℕ = reverse (take (n - (c.loop-done.done + 1)) c.args.entries.now) in
     let first : ℕ = get_or c.args.entries.now (n - 1 - c.loop-done.done) 0 in
-    let stand : Stands s at (back_to at first) = stands_first s at (back_to at first) (entry_bytes (at + 2) rest) (subst (λ ps. Stands s at (entry_bytes at ps)) split c.loop-done.invariant.stand) in
+    let stand : Stands s at (back_to at first) = stands_first s at (back_to at first) (entry_bytes (at + 2) rest)
+    (subst (λ ps. Stands s at (entry_bytes at ps)) split c.loop-done.invariant.stand) in
     let within : at + 2 ≤ length s = stands_within s at (back_to at first) stand (omega arith) in
     omega (arith, within, c.requires.short)
 
@@ -25,7 +26,10 @@ push_entry-requires c =
     let split = last_first c.args.entries.now n c.loop-done.done c.loop-done-test.true refl in
     let rest : List ℕ = reverse (take (n - (c.loop-done.done + 1)) c.args.entries.now) in
     let first : ℕ = get_or c.args.entries.now (n - 1 - c.loop-done.done) 0 in
-    record { stands = stands_first s at (back_to at first) (entry_bytes (at + 2) rest) (subst (λ ps. Stands s at (entry_bytes at ps)) split c.loop-done.invariant.stand) }
+    record {
+      stands = stands_first s at (back_to at first) (entry_bytes (at + 2) rest)
+          (subst (λ ps. Stands s at (entry_bytes at ps)) split c.loop-done.invariant.stand);
+    }
 
 pub loop-done-preserved : goal.loop-done-preserved
 loop-done-preserved c =
@@ -41,7 +45,9 @@ loop-done-preserved c =
     let before : List ℕ = string_bytes c.loop-done.text in
     let after : List ℕ = string_bytes c.push_entry.new.text in
     record {
-      stand = subst (λ m. Stands s m (entry_bytes m rest)) (sym ends) (stands_next s at (at + 2) (back_to at first) (entry_bytes (at + 2) rest) refl (subst (λ ps. Stands s at (entry_bytes at ps)) split c.loop-done.invariant.stand));
+      stand = subst (λ m. Stands s m (entry_bytes m rest)) (sym ends)
+          (stands_next s at (at + 2) (back_to at first) (entry_bytes (at + 2) rest) refl
+          (subst (λ ps. Stands s at (entry_bytes at ps)) split c.loop-done.invariant.stand));
       written = λ more.
           ap (λ m. after ++ listed_lines segment (listed_entries procedure m rest ++ more)) ends
           ∙ c.in_ok-push_entry.ensures.text (listed_entries procedure (at + 2) rest ++ more)

@@ -9,7 +9,8 @@ use Rattle.pm_asm.proofs.listing.push_entry.Goals as goal
 
 pub slice_bounds-push_line-end : goal.slice_bounds-push_line-end
 slice_bounds-push_line-end c =
-    let within : c.args.place.at + 2 ≤ length c.args.bytes.now = stands_within c.args.bytes.now c.args.place.at (entry_bytes c.args.place.at (c.args.leads ∷ [])) c.requires.stands (omega arith) in
+    let within : c.args.place.at + 2 ≤ length c.args.bytes.now = stands_within c.args.bytes.now c.args.place.at
+    (entry_bytes c.args.place.at (c.args.leads ∷ [])) c.requires.stands (omega arith) in
     search rules
 
 pub returns : goal.returns
@@ -24,7 +25,14 @@ returns c =
     record {
       text = on_ok_map c.push_line.result
           (after ≡ before ++ line (take (at + 2 - at) (drop at c.args.bytes.now)) c.deref.result.now)
-          ((rest : List Listed) → after ++ listed_lines c.args.place.segment rest ≡ before ++ listed_lines c.args.place.segment (listed_entries c.args.place.procedure at (c.args.leads ∷ []) ++ rest))
-          (λ e rest. line_more c.args.place.segment (record { procedure = c.args.place.procedure; at = at; bytes = bytes; what = entry_line c.args.leads }) before after rest (e ∙ ap (λ bs. before ++ line bs c.deref.result.now) part ∙ ap (λ ws. before ++ line bytes ws) what))
+          ((rest : List Listed) → after ++ listed_lines c.args.place.segment rest
+          ≡ before ++ listed_lines c.args.place.segment (listed_entries c.args.place.procedure at (c.args.leads ∷ []) ++ rest))
+          (λ e rest. line_more c.args.place.segment (record {
+            procedure = c.args.place.procedure;
+            at = at;
+            bytes = bytes;
+            what = entry_line c.args.leads;
+          }) before after rest (e ∙ ap (λ bs. before ++ line bs c.deref.result.now) part
+          ∙ ap (λ ws. before ++ line bytes ws) what))
           c.push_line.ensures.text;
     }

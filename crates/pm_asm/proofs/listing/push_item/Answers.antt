@@ -24,8 +24,10 @@ returns-clause-text c =
     let bytes : List ℕ = item_bytes at item in
     let before : List ℕ = string_bytes c.args.text.now in
     let sized : c.in_ok-end.field-0 ≡ size at (item_seen c.args.item.now) = search rules in
-    let long : at + c.in_ok-end.field-0 ≡ at + length bytes = ap (λ n. at + n) (sized ∙ sym (found_size (places_in c.args.code.labels) at (item_seen c.args.item.now)) ∙ sym (length-item at item)) in
+    let long : at + c.in_ok-end.field-0 ≡ at + length bytes = ap (λ n. at + n)
+    (sized ∙ sym (found_size (places_in c.args.code.labels) at (item_seen c.args.item.now)) ∙ sym (length-item at item)) in
     let part = stands_part c.args.code.bytes.now at (at + c.in_ok-end.field-0) bytes c.requires.stands long in
     c.in_ok-push_line.ensures.text
     ∙ ap (λ bs. before ++ listed_line c.args.code.segment (record { procedure = c.args.code.procedure; at = at; bytes = bs; what = c.deref.result.now })) part
-    ∙ ap (λ ws. before ++ listed_line c.args.code.segment (record { procedure = c.args.code.procedure; at = at; bytes = bytes; what = ws })) (c.deref.ensures ∙ c.in_ok-what.ensures.text)
+    ∙ ap (λ ws. before ++ listed_line c.args.code.segment (record { procedure = c.args.code.procedure; at = at; bytes = bytes; what = ws }))
+    (c.deref.ensures ∙ c.in_ok-what.ensures.text)

@@ -31,11 +31,14 @@ loop-item-preserved c =
     let ends = c.in_ok-end.ensures.end ∙ ap (λ n. at + n) (sym (found_size places at (item_seen c.item-item.result))) in
     record {
       good = subst (λ n. AreItems n rest) (sym ends) good.1;
-      stand = subst (λ n. Stands s n (code_bytes n rest)) (sym ends) (stands_next s at (at + size at item) (item_bytes at item) (code_bytes (at + size at item) rest) (ap (λ n. at + n) (sym (length-item at item))) stand);
+      stand = subst (λ n. Stands s n (code_bytes n rest)) (sym ends)
+          (stands_next s at (at + size at item) (item_bytes at item) (code_bytes (at + size at item) rest)
+          (ap (λ n. at + n) (sym (length-item at item))) stand);
       last = ap (λ n. end_of n rest) ends ∙ ap (λ is. end_of at (map (found_item places) (map item_seen is))) (sym next) ∙ c.loop-item.invariant.last;
       written = λ more.
           ap (λ n. after ++ listed_lines segment (listed_items procedure n rest ++ more)) ends
-          ∙ line_more segment (record { procedure = procedure; at = at; bytes = item_bytes at item; what = shown_item item }) before after (listed_items procedure (at + size at item) rest ++ more) c.in_ok-end.ensures.text
+          ∙ line_more segment (record { procedure = procedure; at = at; bytes = item_bytes at item; what = shown_item item }) before after
+          (listed_items procedure (at + size at item) rest ++ more) c.in_ok-end.ensures.text
           ∙ ap (λ is. before ++ listed_lines segment (listed_items procedure at (map (found_item places) (map item_seen is)) ++ more)) (sym next)
           ∙ c.loop-item.invariant.written more;
     }

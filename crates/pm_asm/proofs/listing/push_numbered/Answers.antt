@@ -14,7 +14,10 @@ use Rattle.pm_asm.specs.declared.lengths.TheConstants.{LONGEST}
 pub returns-in_default : goal.returns-in_default
 returns-in_default c =
     let before : List ℕ = string_bytes c.args.text.now in
-    record { text = sym (append-nil before) ∙ ap (λ bs. before ++ bs) (sym listing_none ∙ ap (λ o. listing (map found_segment (option_to_list o))) c.in_default.ensures.segment) }
+    record {
+      text = sym (append-nil before) ∙ ap (λ bs. before ++ bs)
+          (sym listing_none ∙ ap (λ o. listing (map found_segment (option_to_list o))) c.in_default.ensures.segment);
+    }
 
 pub push_segment-requires-clause-segment : goal.push_segment-requires-clause-segment
 push_segment-requires-clause-segment c =
@@ -37,6 +40,7 @@ returns c =
       text = on_ok_map c.push_segment.result
           (after ≡ before ++ listed_lines s.number (listed_segment (found_segment s)))
           (after ≡ before ++ listing (map found_segment (option_to_list (segment_with c.args.number (segments_seen c.args.segments.now)))))
-          (λ e. e ∙ ap (λ bs. before ++ bs) (sym (listing_one (found_segment s)) ∙ ap (λ o. listing (map found_segment (option_to_list o))) c.in-Some.ensures.segment))
+          (λ e. e ∙ ap (λ bs. before ++ bs) (sym (listing_one (found_segment s))
+          ∙ ap (λ o. listing (map found_segment (option_to_list o))) c.in-Some.ensures.segment))
           c.push_segment.ensures.text;
     }

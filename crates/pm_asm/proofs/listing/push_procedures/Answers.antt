@@ -45,7 +45,9 @@ loop-done-preserved c =
     let ends = c.in_ok-at.ensures.end in
     record {
       good = subst (λ n. AllByRecursion IsProcedure (found_procedures n rest)) (sym ends) good.1;
-      stand = subst (λ n. Stands s n (procedures_bytes (number + 1) (found_procedures n rest))) (sym ends) (stands_next s at (source_end at p) (procedure_bytes number (found_procedure at p)) (procedures_bytes (number + 1) (found_procedures (source_end at p) rest)) (procedure_size at number p) stand);
+      stand = subst (λ n. Stands s n (procedures_bytes (number + 1) (found_procedures n rest))) (sym ends)
+          (stands_next s at (source_end at p) (procedure_bytes number (found_procedure at p))
+          (procedures_bytes (number + 1) (found_procedures (source_end at p) rest)) (procedure_size at number p) stand);
       last = ap (λ n. procedures_end n (found_procedures n rest)) ends
           ∙ ap (λ n. procedures_end n (found_procedures (source_end at p) rest)) (sym (found_behind at p))
           ∙ ap (λ ps. procedures_end at (found_procedures at (map procedure_seen ps))) (sym next)

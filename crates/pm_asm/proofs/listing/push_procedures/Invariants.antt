@@ -11,7 +11,9 @@ abbrev pub invariant-loop-done : goal.invariant-loop-done
 invariant-loop-done l = record {
   good : AllByRecursion IsProcedure (found_procedures l.at (map procedure_seen (drop l.done l.procedures)));
   stand : Stands l.bytes l.at (procedures_bytes (l.done + 1) (found_procedures l.at (map procedure_seen (drop l.done l.procedures))));
-  last : procedures_end l.at (found_procedures l.at (map procedure_seen (drop l.done l.procedures))) ≡ procedures_end 0 (found_procedures 0 (map procedure_seen l.procedures));
-  written : (rest : List Listed) → string_bytes l.text ++ listed_lines l.segment (listed_procedures (l.done + 1) (found_procedures l.at (map procedure_seen (drop l.done l.procedures))) rest)
+  last : procedures_end l.at (found_procedures l.at (map procedure_seen (drop l.done l.procedures)))
+      ≡ procedures_end 0 (found_procedures 0 (map procedure_seen l.procedures));
+  written : (rest : List Listed) → string_bytes l.text ++ listed_lines l.segment
+      (listed_procedures (l.done + 1) (found_procedures l.at (map procedure_seen (drop l.done l.procedures))) rest)
       ≡ string_bytes l.fn.text ++ listed_lines l.segment (listed_procedures 1 (found_procedures 0 (map procedure_seen l.procedures)) rest);
 }

@@ -33,11 +33,14 @@ loop-row-preserved c = λ name.
           let absent : get_by (λ key. slice_cmp nat_cmp label key.now) c.loop-row.table ≡ None = grind (arith, common_steps) in
           let said = btree_map_updates_str label c.loop-row.table w.insert.new.self _ w.in_ok-insert.ensures.updates name in
           rw (w.table-is) (put_row rows k at _ row name (bytes_eq label name) had _ _ next ends (labelled ∙ ap (is_name name) w.in-Some.is)
-          (λ h. let same : label ≡ name = (bytes_eq-Decides label name).0 h in ap (λ t. get_by (λ key. slice_cmp nat_cmp t key.now) c.loop-row.table) (sym same) ∙ absent) said all)
+          (λ h. let same : label ≡ name = (bytes_eq-Decides label name).0 h in ap (λ t. get_by (λ key. slice_cmp nat_cmp t key.now) c.loop-row.table)
+          (sym same) ∙ absent) said all)
       | in-Some+else-not-contains_key w ↦
           let label = w.in-Some.label.now in
           let found : is_some (get_by (λ key. slice_cmp nat_cmp label key.now) c.loop-row.table) ≡ true = grind (arith, common_steps) in
           rw (w.table-is) (stay_row rows k at _ row name (bytes_eq label name) had _ next ends (labelled ∙ ap (is_name name) w.in-Some.is)
-          (λ h. let same : label ≡ name = (bytes_eq-Decides label name).0 h in ap (λ t. is_some (get_by (λ key. slice_cmp nat_cmp t key.now) c.loop-row.table)) (sym same) ∙ found) all)
-      | in_default w ↦ rw (w.table-is) (stay_row rows k at _ row name false had _ next ends (labelled ∙ ap (is_name name) w.in_default.is) (λ h. absurd (cc h)) all)
+          (λ h. let same : label ≡ name = (bytes_eq-Decides label name).0 h in ap (λ t. is_some (get_by (λ key. slice_cmp nat_cmp t key.now) c.loop-row.table))
+          (sym same) ∙ found) all)
+      | in_default w ↦ rw (w.table-is) (stay_row rows k at _ row name false had _ next ends (labelled ∙ ap (is_name name) w.in_default.is)
+          (λ h. absurd (cc h)) all)
     ]

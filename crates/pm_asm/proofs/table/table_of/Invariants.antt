@@ -9,4 +9,6 @@ use Rattle.pm_asm.proofs.table.table_of.Given as goal
 
 -- a label stands where the table says, or else in the lines that are left
 abbrev pub invariant-loop-row : goal.invariant-loop-row
-invariant-loop-row l = (name : List ℕ) → or_else (get_by (λ key. slice_cmp nat_cmp name key.now) l.table) (left l.at l.row-index l.rows name) ≡ place_of l.start (map row_seen l.rows) name
+invariant-loop-row l =
+    (name : List ℕ) → or_else (get_by (λ key. slice_cmp nat_cmp name key.now) l.table) (left l.at l.row-index l.rows name)
+    ≡ place_of l.start (map row_seen l.rows) name

@@ -1,6 +1,6 @@
 use Rattle.std.proofs.Common.{◌≡◌, ◌-◌, zero, refl, sym, ◌∙◌, arith}
 use borrow.Author.Count.{below_more}
-use Rattle.pm_codefile.specs.Dictionary.{first_fault}
+use Rattle.pm_codefile.specs.Dictionary.{first_slot_fault}
 use Rattle.pm_codefile.proofs.Faults.{first-from_slot, first_fault-here, first_fault-more}
 use Rattle.pm_codefile.proofs.file.first_fault.Goals as goal
 
@@ -14,7 +14,7 @@ pub returns-in-Some-clause-fault : goal.returns-in-Some-clause-fault
 returns-in-Some-clause-fault c = sym (c.loop-n.invariant.rest ∙ first_fault-here _ _ _ _ (omega arith) (sym c.in-Some.ensures.fault))
 
 pub returns-clause-fault : goal.returns-clause-fault
-unfolding first_fault
+unfolding first_slot_fault
 returns-clause-fault c =
     let none : 16 - c.loop-n.n ≡ zero = omega arith in
     sym (c.loop-n.invariant.rest ∙ rw none refl)

@@ -1,7 +1,7 @@
 use Rattle.std.proofs.Common.{◌≤◌, length, arith}
 use Rattle.std.proofs.lemmas.List.{append_assoc}
 use Rattle.std.proofs.lemmas.Grind.{common_steps}
-use Rattle.pm_codefile.specs.Layout.{padded}
+use Rattle.pm_codefile.specs.Layout.{in_blocks}
 use Rattle.pm_codefile.proofs.Layouts.{padded-more, sum-more}
 use Rattle.pm_codefile.proofs.layout.put_segments.Goals as goal
 
@@ -24,7 +24,7 @@ loop-count-preserved c =
     }
 
 pub returns : goal.returns
-unfolding padded
+unfolding in_blocks
 returns c =
     let past : length c.args.lengths.now ≤ c.loop-count.count-index = omega arith in
     grind (arith, common_steps, c.loop-count.invariant.whole)

@@ -1,22 +1,22 @@
 use Rattle.std.proofs.Common.{rules, arith, ◌≡◌, ◌∷◌, ◌+◌, length, length-append, []}
-use Rattle.pm_commands.specs.Words.{words}
+use Rattle.pm_commands.specs.Words.{words_of_line}
 use Rattle.pm_commands.proofs.CommandLaws.{numbers_are, numbers_too_many, numbers_none, numbers_next}
 use Rattle.pm_commands.proofs.commands.numbers.Goals as goal
 
 pub returns-in_default-number-clause-none : goal.returns-in_default-number-clause-none
 returns-in_default-number-clause-none c =
-    numbers_none _ _ _ _ c.words.invariant.rest c.in-Some.word.now (words c.in-Some.tail.now) (search rules) (search rules)
+    numbers_none _ _ _ _ c.words.invariant.rest c.in-Some.word.now (words_of_line c.in-Some.tail.now) (search rules) (search rules)
 
 pub returns-then-len-ge3-clause-none : goal.returns-then-len-ge3-clause-none
 returns-then-len-ge3-clause-none c =
-    numbers_too_many _ _ _ _ c.words.invariant.rest c.in-Some.word.now (words c.in-Some.tail.now) (search rules) (omega arith)
+    numbers_too_many _ _ _ _ c.words.invariant.rest c.in-Some.word.now (words_of_line c.in-Some.tail.now) (search rules) (omega arith)
 
 pub words-preserved : goal.words-preserved
 words-preserved c =
     let size : length c.push.new.self.items ≡ length c.words.numbers.items + 1 = c.push.ensures.len in
     record {
       rest = rw c.push.ensures.items
-          (numbers_next _ _ _ _ c.words.invariant.rest c.in-Some.word.now (words c.in-Some.tail.now) (search rules) c.in-Some-number.number _
+          (numbers_next _ _ _ _ c.words.invariant.rest c.in-Some.word.now (words_of_line c.in-Some.tail.now) (search rules) c.in-Some-number.number _
           (omega (arith, length-append c.words.numbers.items (c.in-Some-number.number ∷ []))) (search rules));
       few = omega (arith, size);
     }

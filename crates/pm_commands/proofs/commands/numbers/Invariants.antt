@@ -1,13 +1,13 @@
 use Rattle.std.proofs.Common.{◌≡◌, ◌≤◌, ◌-◌, length}
 use Rattle.pm_commands.specs.Commands.{numbers}
-use Rattle.pm_commands.specs.Words.{words}
+use Rattle.pm_commands.specs.Words.{words_of_line}
 use Rattle.pm_commands.proofs.CommandLaws.{behind}
 use Rattle.pm_commands.proofs.commands.numbers.Given as goal
 
 -- the numbers so far, and those of the rest, are the line's
 abbrev pub invariant-words : goal.invariant-words
 invariant-words l = record {
-  rest : numbers 3 (words l.line) ≡ behind l.numbers.items (numbers (3 - length l.numbers.items) (words l.rest));
+  rest : numbers 3 (words_of_line l.line) ≡ behind l.numbers.items (numbers (3 - length l.numbers.items) (words_of_line l.rest));
   few : length l.numbers.items ≤ 3;
 }
 

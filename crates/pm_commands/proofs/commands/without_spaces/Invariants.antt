@@ -1,11 +1,11 @@
 use Rattle.std.proofs.Common.{◌≡◌, ◌≤◌, length}
-use Rattle.pm_commands.specs.Words.{words}
+use Rattle.pm_commands.specs.Words.{words_of_line}
 use Rattle.pm_commands.proofs.commands.without_spaces.Given as goal
 
 -- the words stay the same
 abbrev pub invariant-spaces : goal.invariant-spaces
 invariant-spaces l = record {
-  words : words l.rest ≡ words l.line;
+  words : words_of_line l.rest ≡ words_of_line l.line;
   shorter : length l.rest ≤ length l.line;
 }
 

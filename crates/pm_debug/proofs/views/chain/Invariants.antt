@@ -5,4 +5,5 @@ use Rattle.pm_debug.proofs.views.chain.Given as goal
 
 -- the frames so far, and the chain from here on, are the whole chain
 abbrev pub invariant-loop-count : goal.invariant-loop-count
-invariant-loop-count l = record { rest : chain l.memory.words l.distance l.limit l.first ≡ behind l.frames.items (chain l.memory.words l.distance (l.limit - l.count) l.frame) }
+invariant-loop-count l =
+    record { rest : chain l.memory.words l.distance l.limit l.first ≡ behind l.frames.items (chain l.memory.words l.distance (l.limit - l.count) l.frame) }

@@ -8,7 +8,8 @@ pub returns-then-not-leads_inside-clause-inside : goal.returns-then-not-leads_in
 returns-then-not-leads_inside-clause-inside c =
     let a = c.args.a.now in
     let k = c.loop-entry.entry in
-    let word : c.word-distance.result ≡ word_in c.args.segment.now (a.jtab - 10 - 2 * k) = c.word-distance.ensures.word ∙ ap (word_in c.args.segment.now) (omega arith) in
+    let word : c.word-distance.result ≡ word_in c.args.segment.now (a.jtab - 10 - 2 * k) =
+    c.word-distance.ensures.word ∙ ap (word_in c.args.segment.now) (omega arith) in
     entry_out c.args.segment.now a _ k c.args.count c.word-distance.result c.leads_inside.result _ c.loop-entry-test.true word c.leads_inside.ensures.inside c.if-not-leads_inside.true c.loop-entry.invariant.inside
 
 pub loop-entry-preserved : goal.loop-entry-preserved

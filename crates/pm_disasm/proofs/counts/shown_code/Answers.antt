@@ -13,7 +13,13 @@ returns-in-Some c =
     let a = c.args.a.now in
     let k = c.loop-count.count in
     let fits = sym (ap is_some c.in-Some.is) ∙ c.in_ok-reading.ensures.fits in
-    record { shown = (k, count_fits segment a k (omega arith) fits c.loop-count.invariant, given (IsReading segment a k) c.in_ok-reading.field-0 c.in-Some.reading c.in-Some.is c.in_ok-reading.ensures.reading) }
+    record {
+      shown = (
+        k,
+        count_fits segment a k (omega arith) fits c.loop-count.invariant,
+        given (IsReading segment a k) c.in_ok-reading.field-0 c.in-Some.reading c.in-Some.is c.in_ok-reading.ensures.reading,
+      );
+    }
 
 pub loop-count-preserved : goal.loop-count-preserved
 loop-count-preserved c =
@@ -34,7 +40,9 @@ returns c =
       shown = (
         0,
         none_fits segment a c.loop-count.count (omega arith) c.loop-count.invariant,
-        is_reading segment a 0 _ _ _ c.from-enter.result c.from-enter.ensures c.requires.table c.requires.short (c.in_ok-push.ensures.items ∙ ap (λ v. v ++ a.exit ∷ []) c.new-forced.ensures.items) (omega arith) (omega (arith, c.requires.table.enter)) refl c.deref-2.ensures.value refl
+        is_reading segment a 0 _ _ _ c.from-enter.result c.from-enter.ensures c.requires.table c.requires.short
+            (c.in_ok-push.ensures.items ∙ ap (λ v. v ++ a.exit ∷ []) c.new-forced.ensures.items) (omega arith)
+            (omega (arith, c.requires.table.enter)) refl c.deref-2.ensures.value refl
             (record { parts = read.parts; boundaries = read.boundaries; follow = read.follow; from = read.begin; size = read.size }),
       );
     }
@@ -42,4 +50,6 @@ returns c =
 pub split-requires-clause-fronts : goal.split-requires-clause-fronts
 split-requires-clause-fronts c =
     let segment = c.args.segment.now in
-    fronts_tell _ segment _ c.from-end.result (subst (λ fs. AreFronts fs segment) (sym c.deref.ensures.value) c.requires.decoded.fronts) (from_bytes segment (IsBytes-from_index segment (λ i. omega (arith, c.type_inv.segment i)))) (omega (arith, c.requires.table.within, c.from-end.ensures)) refl
+    fronts_tell _ segment _ c.from-end.result (subst (λ fs. AreFronts fs segment) (sym c.deref.ensures.value) c.requires.decoded.fronts)
+    (from_bytes segment (IsBytes-from_index segment (λ i. omega (arith, c.type_inv.segment i))))
+    (omega (arith, c.requires.table.within, c.from-end.ensures)) refl

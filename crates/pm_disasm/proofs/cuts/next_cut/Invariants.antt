@@ -5,4 +5,6 @@ use Rattle.pm_disasm.proofs.cuts.next_cut.Given as goal
 
 -- the least place so far, or one of those that are left, lies before an end exactly where one of all does
 abbrev pub invariant-loop-place : goal.invariant-loop-place
-invariant-loop-place l = (end : ℕ) → end < 2 ^ 64 → (nat_lt l.next end || list_any (λ place. nat_lt l.at place && nat_lt place end) (drop l.place-index l.forced)) ≡ list_any (λ place. nat_lt l.at place && nat_lt place end) l.forced
+invariant-loop-place l =
+    (end : ℕ) → end < 2 ^ 64 → (nat_lt l.next end || list_any (λ place. nat_lt l.at place && nat_lt place end) (drop l.place-index l.forced))
+    ≡ list_any (λ place. nat_lt l.at place && nat_lt place end) l.forced

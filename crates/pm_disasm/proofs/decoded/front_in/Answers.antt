@@ -17,5 +17,7 @@ returns-clause-within c =
     let t : nat_le f.size (length bytes - c.args.at) ≡ true = le-leb _ _ small in
     let kept : Some (front_seen f) ≡ up_to (length bytes - c.args.at) (Some (front_seen f)) = rw t refl in
     let there : Some (front_seen f) ≡ front c.args.at (drop c.args.at bytes) =
-    kept ∙ ap (λ o. up_to (length bytes - c.args.at) (option_map front_seen o)) (sym c.in-Some.is) ∙ c.requires.fronts.each c.args.at c.requires.inside in
-    (some_size bytes c.args.at f (from_bytes bytes (IsBytes-from_index bytes (λ i. omega (arith, c.type_inv.bytes i)))) there, omega (arith, small, c.requires.inside))
+    kept ∙ ap (λ o. up_to (length bytes - c.args.at) (option_map front_seen o)) (sym c.in-Some.is) ∙ c.requires.fronts.each c.args.at c.requires.inside in (
+      some_size bytes c.args.at f (from_bytes bytes (IsBytes-from_index bytes (λ i. omega (arith, c.type_inv.bytes i)))) there,
+      omega (arith, small, c.requires.inside),
+    )

@@ -25,7 +25,8 @@ returns-clause-front c =
     let i : Instr = c.in-Ok.instr in
     let read : reading c.args.bytes.now c.args.at ≡ Ok i = sym c.in-Ok.ensures.exact in
     let zero = sym c.has_zero_padding.ensures.zero ∙ c.if-not-has_zero_padding.false in
-    sym (front_read c.args.bytes.now c.args.at i read c.in-Ok.ensures.found ∙ rw zero (rw (c.item_of-item.ensures.item, c.named_bytes-named.ensures.named) refl))
+    sym (front_read c.args.bytes.now c.args.at i read c.in-Ok.ensures.found
+    ∙ rw zero (rw (c.item_of-item.ensures.item, c.named_bytes-named.ensures.named) refl))
 
 pub returns-clause-within : goal.returns-clause-within
 returns-clause-within c = let b = bounds c.args.bytes.now c.args.at c.in-Ok.instr c.in-Ok.ensures.found in (b.some, b.within)

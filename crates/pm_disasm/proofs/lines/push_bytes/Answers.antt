@@ -18,7 +18,8 @@ loop-byte-preserved c =
     let place = c.loop-byte.place in
     let b : ℕ = get_or bytes k 0 in
     let before : List ℕ = string_bytes c.loop-byte.text in
-    let line : string_bytes c.writeln.new.self ≡ (before ++ joined (lines_at_by test exit place [])) ++ (codes "  .BYTE " ++ (decimal b ++ 10 ∷ [])) = rw (c.in_ok-writeln.ensures.bytes, c.in_ok-push_place.ensures.text) (simp append_assoc refl) in
+    let line : string_bytes c.writeln.new.self ≡ (before ++ joined (lines_at_by test exit place [])) ++ (codes "  .BYTE " ++ (decimal b ++ 10 ∷ [])) =
+    rw (c.in_ok-writeln.ensures.bytes, c.in_ok-push_place.ensures.text) (simp append_assoc refl) in
     record {
       place = omega (arith, c.loop-byte.invariant.place);
       written = λ rest.

@@ -9,6 +9,7 @@ use Rattle.pm_disasm.proofs.lines.push_bytes.Given as goal
 abbrev pub invariant-loop-byte : goal.invariant-loop-byte
 invariant-loop-byte l = record {
   place : l.place ≡ l.at + l.byte-index;
-  written : (rest : Items) → string_bytes l.text ++ joined (code_lines_by (has l.marks.named.now) l.marks.exit l.place (map OneByte (drop l.byte-index l.bytes) ++ rest))
+  written : (rest : Items) → string_bytes l.text ++ joined (code_lines_by (has l.marks.named.now) l.marks.exit l.place
+      (map OneByte (drop l.byte-index l.bytes) ++ rest))
       ≡ string_bytes l.fn.text ++ joined (code_lines_by (has l.marks.named.now) l.marks.exit l.at (map OneByte l.bytes ++ rest));
 }

@@ -8,5 +8,7 @@ use Rattle.pm_disasm.proofs.lines.push_code.Given as goal
 abbrev pub invariant-loop-part : goal.invariant-loop-part
 invariant-loop-part l =
     (at : ℕ) × Follow at l.end (map part_seen (drop l.part-index l.parts))
-    × (string_bytes l.text ++ joined (code_lines_by (has l.marks.named.now) l.marks.exit at (written_by (has l.boundaries) l.allowed (map part_seen (drop l.part-index l.parts))))
-    ≡ string_bytes l.fn.text ++ joined (code_lines_by (has l.marks.named.now) l.marks.exit l.boundaries.begin (written_by (has l.boundaries) l.allowed (map part_seen l.parts))))
+    × (string_bytes l.text ++ joined (code_lines_by (has l.marks.named.now) l.marks.exit at
+    (written_by (has l.boundaries) l.allowed (map part_seen (drop l.part-index l.parts))))
+    ≡ string_bytes l.fn.text ++ joined (code_lines_by (has l.marks.named.now) l.marks.exit l.boundaries.begin
+    (written_by (has l.boundaries) l.allowed (map part_seen l.parts))))

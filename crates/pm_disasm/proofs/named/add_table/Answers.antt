@@ -10,7 +10,10 @@ add-requires c =
     let k = c.loop-k.k in
     let place : c.table_place.result ≡ (at + 2 * k + 65536 - (get_or bytes (2 * k) 0 + 256 * get_or bytes (2 * k + 1) 0)) % 65536 = cc in
     let within = table_within (has c.args.boundaries.now) bytes at k c.table_place.result (omega arith) place c.loop-k.invariant.within in
-    record { inside = inside_alike c.loop-k.named c.args.boundaries.now c.table_place.result c.loop-k.invariant.alike (inside c.args.boundaries.now c.table_place.result within.0) }
+    record {
+      inside = inside_alike c.loop-k.named c.args.boundaries.now c.table_place.result c.loop-k.invariant.alike
+          (inside c.args.boundaries.now c.table_place.result within.0);
+    }
 
 pub loop-k-preserved : goal.loop-k-preserved
 loop-k-preserved c =

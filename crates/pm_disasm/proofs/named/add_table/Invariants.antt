@@ -12,5 +12,6 @@ abbrev pub invariant-loop-k : goal.invariant-loop-k
 invariant-loop-k l = record {
   alike : IsAlike l.named l.boundaries;
   within : list_all (has l.boundaries) (table_places (l.at + 2 * l.k) (words_of (drop (2 * l.k) l.words))) ≡ true;
-  places : (p : ℕ) → (is_among (table_places (l.at + 2 * l.k) (words_of (drop (2 * l.k) l.words))) p || has l.named p) ≡ (is_among (table_places l.at (words_of l.words)) p || has l.fn.named p);
+  places : (p : ℕ) → (is_among (table_places (l.at + 2 * l.k) (words_of (drop (2 * l.k) l.words))) p || has l.named p)
+      ≡ (is_among (table_places l.at (words_of l.words)) p || has l.fn.named p);
 }

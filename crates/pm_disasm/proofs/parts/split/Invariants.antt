@@ -16,7 +16,8 @@ invariant-parts l = record {
   split : map part_seen l.parts.items ++ parts l.forced 0 l.at (drop l.at l.bytes) ≡ parts l.forced 0 l.begin (drop l.begin l.bytes);
   begun : l.boundaries.begin ≡ l.begin;
   sized : length l.boundaries.marks.items ≡ length l.bytes - l.begin + 1;
-  places : (place : ℕ) → (has l.boundaries place || is_among (ends_of (length l.bytes) (parts l.forced 0 l.at (drop l.at l.bytes))) place) ≡ is_among (ends_of (length l.bytes) (parts l.forced 0 l.begin (drop l.begin l.bytes))) place;
+  places : (place : ℕ) → (has l.boundaries place || is_among (ends_of (length l.bytes) (parts l.forced 0 l.at (drop l.at l.bytes))) place)
+      ≡ is_among (ends_of (length l.bytes) (parts l.forced 0 l.begin (drop l.begin l.bytes))) place;
 }
 
 abbrev pub decreases-parts : goal.decreases-parts

@@ -4,4 +4,5 @@ use Rattle.pm_disasm.proofs.procedures.push_entries.Given as goal
 
 -- the text so far with the lines of the entries that are left is the whole
 abbrev pub invariant-loop-entry : goal.invariant-loop-entry
-invariant-loop-entry l = string_bytes l.text ++ joined (map entry_line (drop l.entry-index l.entries)) ≡ string_bytes l.fn.text ++ joined (map entry_line l.entries)
+invariant-loop-entry l =
+    string_bytes l.text ++ joined (map entry_line (drop l.entry-index l.entries)) ≡ string_bytes l.fn.text ++ joined (map entry_line l.entries)

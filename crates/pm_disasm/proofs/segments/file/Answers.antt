@@ -3,4 +3,6 @@ use Rattle.pm_disasm.proofs.Tabled.{next_slot}
 use Rattle.pm_disasm.proofs.segments.file.Goals as goal
 
 pub loop-n-preserved : goal.loop-n-preserved
-loop-n-preserved c = next_slot c.args.file.now c.loop-n.n (string_bytes c.push_slot.new.text) (string_bytes c.loop-n.text) _ (omega arith) c.in_ok-push_slot.ensures.text c.loop-n.invariant
+loop-n-preserved c =
+    next_slot c.args.file.now c.loop-n.n (string_bytes c.push_slot.new.text) (string_bytes c.loop-n.text) _
+    (omega arith) c.in_ok-push_slot.ensures.text c.loop-n.invariant

@@ -4,4 +4,6 @@ use Rattle.pm_disasm.proofs.segments.push_marked.Given as goal
 
 -- the text so far with the bytes that are left is the whole
 abbrev pub invariant-loop-byte : goal.invariant-loop-byte
-invariant-loop-byte l = string_bytes l.text ++ map (λ c. if is_name_character c then c else 63) (drop l.byte-index l.name) ≡ string_bytes l.fn.text ++ map (λ c. if is_name_character c then c else 63) l.name
+invariant-loop-byte l =
+    string_bytes l.text ++ map (λ c. if is_name_character c then c else 63) (drop l.byte-index l.name)
+    ≡ string_bytes l.fn.text ++ map (λ c. if is_name_character c then c else 63) l.name

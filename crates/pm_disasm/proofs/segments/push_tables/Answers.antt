@@ -15,7 +15,9 @@ loop-done-preserved c =
     let more : done < procedures_in segment = omega (arith, c.loop-done-test.true, c.procedures-done-end.ensures.count) in
     elim c.match-attributes.branch [
       | in-Some+in_ok-push_table-in-Some w ↦ (let found = sym c.attributes.ensures.value ∙ w.in-Some.is in
-          next_table segment done (procedures_in segment) _ (string_bytes c.loop-done.text) _ (table_lines segment w.in-Some.a) more (ap (table_lines_or segment (done + 1)) found) (ap string_bytes w.text-is ∙ w.in_ok-push_table-in-Some.ensures.text) c.loop-done.invariant)
+          next_table segment done (procedures_in segment) _ (string_bytes c.loop-done.text) _ (table_lines segment w.in-Some.a) more
+          (ap (table_lines_or segment (done + 1)) found) (ap string_bytes w.text-is ∙ w.in_ok-push_table-in-Some.ensures.text) c.loop-done.invariant)
       | in-None+in_ok-writeln-in-None w ↦ (let none = sym c.attributes.ensures.value ∙ w.in-None.is in
-          next_table segment done (procedures_in segment) _ (string_bytes c.loop-done.text) _ (missing_line (done + 1)) more (ap (table_lines_or segment (done + 1)) none) (ap string_bytes w.text-is ∙ w.in_ok-writeln-in-None.ensures.bytes) c.loop-done.invariant)
+          next_table segment done (procedures_in segment) _ (string_bytes c.loop-done.text) _ (missing_line (done + 1)) more
+          (ap (table_lines_or segment (done + 1)) none) (ap string_bytes w.text-is ∙ w.in_ok-writeln-in-None.ensures.bytes) c.loop-done.invariant)
     ]

@@ -6,4 +6,6 @@ use Rattle.pm_disasm.proofs.written.entries_needed.Given as goal
 
 -- the greatest count so far and that of the parts that are left make the whole
 abbrev pub invariant-loop-part : goal.invariant-loop-part
-invariant-loop-part l = max l.needed (entries_needed (written_by (has l.boundaries) true (map part_seen (drop l.part-index l.parts)))) ≡ entries_needed (written_by (has l.boundaries) true (map part_seen l.parts))
+invariant-loop-part l =
+    max l.needed (entries_needed (written_by (has l.boundaries) true (map part_seen (drop l.part-index l.parts))))
+    ≡ entries_needed (written_by (has l.boundaries) true (map part_seen l.parts))

@@ -10,7 +10,10 @@ returns-then-not-contains c =
     let at = c.args.table.at in
     let k = c.loop-k.k in
     let place : c.table_place.result ≡ (at + 2 * k + 65536 - (get_or bytes (2 * k) 0 + 256 * get_or bytes (2 * k + 1) 0)) % 65536 = cc in
-    record { leads = table_out (has c.args.boundaries.now) bytes at k c.table_place.result _ (omega arith) place (sym c.contains.ensures.has ∙ c.if-not-contains.true) c.loop-k.invariant }
+    record {
+      leads = table_out (has c.args.boundaries.now) bytes at k c.table_place.result _ (omega arith) place
+          (sym c.contains.ensures.has ∙ c.if-not-contains.true) c.loop-k.invariant;
+    }
 
 pub loop-k-preserved : goal.loop-k-preserved
 loop-k-preserved c =
@@ -18,7 +21,8 @@ loop-k-preserved c =
     let at = c.args.table.at in
     let k = c.loop-k.k in
     let place : c.table_place.result ≡ (at + 2 * k + 65536 - (get_or bytes (2 * k) 0 + 256 * get_or bytes (2 * k + 1) 0)) % 65536 = cc in
-    table_in (has c.args.boundaries.now) bytes at k c.table_place.result _ (omega arith) place (sym c.contains.ensures.has ∙ c.if-not-contains.false) c.loop-k.invariant
+    table_in (has c.args.boundaries.now) bytes at k c.table_place.result _ (omega arith) place
+    (sym c.contains.ensures.has ∙ c.if-not-contains.false) c.loop-k.invariant
 
 pub returns : goal.returns
 returns c =

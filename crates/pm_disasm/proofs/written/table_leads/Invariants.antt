@@ -7,4 +7,6 @@ use Rattle.pm_disasm.proofs.written.table_leads.Given as goal
 
 -- all places are boundaries if those that are left are
 abbrev pub invariant-loop-k : goal.invariant-loop-k
-invariant-loop-k l = list_all (has l.boundaries) (table_places (l.at + 2 * l.k) (words_of (drop (2 * l.k) l.words))) ≡ list_all (has l.boundaries) (table_places l.at (words_of l.words))
+invariant-loop-k l =
+    list_all (has l.boundaries) (table_places (l.at + 2 * l.k) (words_of (drop (2 * l.k) l.words)))
+    ≡ list_all (has l.boundaries) (table_places l.at (words_of l.words))

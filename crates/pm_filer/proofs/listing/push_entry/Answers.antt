@@ -1,10 +1,10 @@
 use Rattle.std.proofs.Common.{refl, append_assoc}
-use Rattle.pm_filer.specs.Listing.{entry_line}
+use Rattle.pm_filer.specs.Listing.{file_line}
 use Rattle.pm_filer.proofs.Columns.{shown_length}
 use Rattle.pm_filer.proofs.listing.push_entry.Goals as goal
 
 pub returns : goal.returns
-unfolding entry_line
+unfolding file_line
 returns c =
     record {
       text = rw (

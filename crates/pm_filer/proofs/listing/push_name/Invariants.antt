@@ -1,7 +1,7 @@
 use Rattle.std.proofs.Common.{◌≡◌, ◌++◌, drop, string_bytes}
-use Rattle.pm_filer.specs.Listing.{shown_name}
+use Rattle.pm_filer.specs.Listing.{printable_name}
 use Rattle.pm_filer.proofs.listing.push_name.Given as goal
 
 -- the text so far with the bytes that are left is the whole
 abbrev pub invariant-loop-byte : goal.invariant-loop-byte
-invariant-loop-byte l = string_bytes l.text ++ shown_name (drop l.byte-index l.name) ≡ string_bytes l.fn.text ++ shown_name l.name
+invariant-loop-byte l = string_bytes l.text ++ printable_name (drop l.byte-index l.name) ≡ string_bytes l.fn.text ++ printable_name l.name

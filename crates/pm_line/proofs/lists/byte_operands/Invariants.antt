@@ -5,4 +5,5 @@ use Rattle.pm_line.proofs.lists.byte_operands.Given as goal
 
 -- the operands so far before those of the texts that are left
 abbrev pub invariant-loop-text : goal.invariant-loop-text
-invariant-loop-text l = onto_operands l.bytes.items l.in_range (all_operands byte_operand (texts_seen (drop l.text-index l.texts))) ≡ all_operands byte_operand (texts_seen l.texts)
+invariant-loop-text l =
+    onto_operands l.bytes.items l.in_range (all_operands byte_operand (texts_seen (drop l.text-index l.texts))) ≡ all_operands byte_operand (texts_seen l.texts)

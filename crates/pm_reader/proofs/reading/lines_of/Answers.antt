@@ -18,7 +18,8 @@ loop-part-preserved c =
     let here : (n < length texts) × (part ≡ get_or texts n part) = rw (c.loop-part.invariant.count) turn in
     record {
       count = ap (λ k. k + 1) c.loop-part.invariant.count ∙ sym (length_push c.loop-part.yielded c.in-Some.part);
-      said = line_more texts n part _ _ _ _ here (c.in_ok-line.ensures.line ∙ ap (line_of (n + 1)) c.as_bytes.ensures.value) c.in_ok-push.ensures.items c.loop-part.invariant.said;
+      said = line_more texts n part _ _ _ _ here (c.in_ok-line.ensures.line
+          ∙ ap (line_of (n + 1)) c.as_bytes.ensures.value) c.in_ok-push.ensures.items c.loop-part.invariant.said;
     }
 
 pub returns : goal.returns

@@ -8,6 +8,7 @@ use Rattle.pm_reader.proofs.reading.read.Given as goal
 abbrev pub invariant-loop-line : goal.invariant-loop-line
 invariant-loop-line l = record {
   count : l.number ≡ length l.yielded;
-  faults : faults_from (l.number + 1) (reader_seen l.reader) (map line_seen (drop l.number l.fn.lines.items)) ≡ faults_from 1 start (map line_seen l.fn.lines.items);
+  faults : faults_from (l.number + 1) (reader_seen l.reader) (map line_seen (drop l.number l.fn.lines.items))
+      ≡ faults_from 1 start (map line_seen l.fn.lines.items);
   said : after_lines (reader_seen l.reader) (map line_seen (drop l.number l.fn.lines.items)) ≡ after_lines start (map line_seen l.fn.lines.items);
 }

@@ -12,4 +12,5 @@ returns-in_err-item_size-clause-too_long c =
 pub returns-in_err-end-clause-too_long : goal.returns-in_err-end-clause-too_long
 returns-in_err-end-clause-too_long c =
     let next = there c.args.items.now c.loop-item.item-index c.item-item.result c.loop-item-test.true c.item-item.is in
-    λ none. too_long_item item_seen _ c.loop-item.end _ _ c.item-item.result _ next c.loop-item.invariant (omega (arith, c.in_err-end.ensures, c.in_ok-item_size.ensures.size))
+    λ none. too_long_item item_seen _ c.loop-item.end _ _ c.item-item.result _ next c.loop-item.invariant
+    (omega (arith, c.in_err-end.ensures, c.in_ok-item_size.ensures.size))

@@ -1,5 +1,6 @@
-use Rattle.std.proofs.Common.{◌≡◌, ◌-◌, ◌≤◌, false, length, vec_len}
+use Rattle.std.proofs.Common.{◌≡◌, ◌+◌, ◌-◌, ◌≤◌, false, length, vec_len}
 use Rattle.std.specs.Io.KnownBytes.{Consumes}
+use Rattle.pm_streams.specs.Streams.{CountsOn}
 use Rattle.pm_streams.proofs.source.read_all.Given as goal
 
 abbrev pub invariant-reading : goal.invariant-reading
@@ -8,6 +9,7 @@ invariant-reading g l = record {
   well : g.R.Source.has_failed l.source ≡ false;
   few : vec_len l.input ≤ 16777216;
   room : length l.buffer ≡ 4096;
+  counted : CountsOn (g.R.Source.given l.fn.source) → g.R.Source.given l.source ≡ g.R.Source.given l.fn.source + vec_len l.input;
 }
 
 abbrev pub decreases-reading : goal.decreases-reading

@@ -1,7 +1,7 @@
 use Rattle.std.proofs.Common.{◌∙◌, ◌++◌, ℕ, List, length, ap, sym, slice_range, arith}
 use Rattle.std.proofs.lemmas.List.{at_drop_all, take_rest}
 use Rattle.pm_textfile.specs.Reading.{text_from}
-use Rattle.pm_textfile.specs.declared.decoding.Place.TheVariants.{LineStart}
+use Rattle.pm_textfile.specs.declared.decoding.LinePart.TheVariants.{LineStart}
 use Rattle.pm_textfile.proofs.decoding.decode.Goals as goal
 
 pub returns-clause-text : goal.returns-clause-text

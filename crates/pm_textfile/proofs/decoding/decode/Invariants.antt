@@ -1,6 +1,6 @@
 use Rattle.std.proofs.Common.{◌≡◌, ◌++◌, drop}
 use Rattle.pm_textfile.specs.Reading.{text_from}
-use Rattle.pm_textfile.specs.declared.decoding.Place.TheVariants.{LineStart}
+use Rattle.pm_textfile.specs.declared.decoding.LinePart.TheVariants.{LineStart}
 use Rattle.pm_textfile.proofs.decoding.decode.Given as goal
 
 -- the text so far and that of the rest are the whole text

@@ -2,7 +2,7 @@ use Rattle.std.proofs.Common.{◌≡◌, ◌∙◌, sym, ap, None, replicate, dr
 use Rattle.std.proofs.lemmas.List.{at_drop_all, take_rest}
 use Rattle.std.proofs.lemmas.Result.{err_from_is_err_and}
 use Rattle.pm_textfile.specs.Laying.{laid, text_file}
-use Rattle.pm_textfile.specs.Writing.{Line, line_length, lines_fault, lines_of, text_fault}
+use Rattle.pm_textfile.specs.Writing.{TextLine, line_length, lines_fault, text_lines, text_fault}
 use Rattle.pm_textfile.proofs.LineLaws.{coded-fits, fault_of_line, lines_fault-next, lines_of-drop}
 use Rattle.pm_textfile.proofs.FaultLaws.{first-from_fault}
 use Rattle.pm_textfile.proofs.PageLaws.{Writes-from_laid}
@@ -18,13 +18,13 @@ loop-start-preserved c =
     let long = c.line_length.ensures.length ∙ ap line_length (take_rest text start) in
     let step = lines_of-drop text start n (omega arith) long in
     let line = take ((start + n) - start) (drop start text) in
-    let rest = lines_of (drop ((start + n) + 1) text) in
+    let rest = text_lines (drop ((start + n) + 1) text) in
     let size : length line ≡ n = omega (arith, length-take ((start + n) - start) (drop start text), length-drop start text) in
     let sound = c.in_ok-check_line.ensures.sound in
     let old = c.loop-start.pages in
     record {
       written = c.in_ok-add_line.ensures.laid rest
-          ∙ ap (λ (ls : List Line). old.bytes.items ++ laid old.room ls) (sym step) ∙ c.loop-start.invariant.written;
+          ∙ ap (λ (ls : List TextLine). old.bytes.items ++ laid old.room ls) (sym step) ∙ c.loop-start.invariant.written;
       faults = ap (λ (k : ℕ). lines_fault ((start + k) + 1) (c.loop-start.number + 1) rest) (sym size)
           ∙ sym (lines_fault-next start c.loop-start.number line rest sound)
           ∙ ap (lines_fault start c.loop-start.number) (sym step) ∙ c.loop-start.invariant.faults;
@@ -37,17 +37,17 @@ add_line-requires c = record { fits = coded-fits _ _ _ c.in_ok-check_line.ensure
 
 -- no line is left at the end, so no fault was found
 no_fault : (c : In_ok-fill) → text_fault c.args.text.now ≡ None
-unfolding lines_of lines_fault
+unfolding text_lines lines_fault
 no_fault c =
     sym c.loop-start.invariant.faults
-    ∙ at_drop_all (λ rest. lines_fault c.loop-start.start c.loop-start.number (lines_of rest)) c.args.text.now c.loop-start.start (omega arith)
+    ∙ at_drop_all (λ rest. lines_fault c.loop-start.start c.loop-start.number (text_lines rest)) c.args.text.now c.loop-start.start (omega arith)
 
 -- and what is laid is the last page's rest
-pages_laid : (c : In_ok-fill) → c.fill.new.self.bytes.items ≡ replicate 1024 0 ++ laid 0 (lines_of c.args.text.now)
-unfolding lines_of laid
+pages_laid : (c : In_ok-fill) → c.fill.new.self.bytes.items ≡ replicate 1024 0 ++ laid 0 (text_lines c.args.text.now)
+unfolding text_lines laid
 pages_laid c =
     let old = c.loop-start.pages in
-    let done = at_drop_all (λ rest. laid old.room (lines_of rest)) c.args.text.now c.loop-start.start (omega arith) in
+    let done = at_drop_all (λ rest. laid old.room (text_lines rest)) c.args.text.now c.loop-start.start (omega arith) in
     c.in_ok-fill.ensures.filled ∙ ap (λ (bs : List ℕ). old.bytes.items ++ bs) (sym done) ∙ c.loop-start.invariant.written
 
 pub returns-clause-sound : goal.returns-clause-sound

@@ -1,9 +1,9 @@
 use Rattle.std.proofs.Common.{◌≡◌, ◌∙◌, refl, sym, ap, subst, Ok, Err, option_map, string_bytes, arith}
 use Rattle.std.specs.Prelude.{vec_items}
 use Rattle.std.specs.Io.KnownBytes.{Appends}
-use Rattle.pm_asm.specs.Assembled.{assembled}
+use Rattle.pm_asm.specs.Assembled.{assembled, wanted}
 use Rattle.pm_tool.specs.declared.outcome.Refusal.TheVariants as refusals
-use Rattle.pm_tool.specs.Assembly.{said_asm, said_wanted, text_of, wanted}
+use Rattle.pm_tool.specs.Assembly.{said_asm, said_wanted, text_of_input}
 use Rattle.pm_streams.specs.Streams.{AppendsFront}
 use Rattle.std.proofs.lemmas.Result.{err_from_is_err_and}
 use Rattle.pm_tool.proofs.Coded.{bytes_broken, bytes_written, input_refused}
@@ -33,22 +33,29 @@ returns-in_err-refuse_line-in-Err-clause-broken g c =
 pub returns-in-Err-clause-done : goal.returns-in-Err-clause-done
 returns-in-Err-clause-done g c =
     let input = c.in_ok-input.input.items in
-    let fault : wanted c.args.list (assembled (text_of input)) ≡ Err c.in-Err.fault = ap (λ i. wanted c.args.list (assembled (text_of i))) (sym c.deref.ensures.value) ∙ (rw c.in-Err.is at c.in_ok-bytes.ensures.fault) in
-    input_refused _ _ input c.in_ok-input.ensures.all _ (said_asm c.args.list) (refusals.Asm c.in-Err.fault) (sym (ap said_wanted fault)) _ c.in_ok-refuse_line-in-Err.ensures.outcome
+    let fault : wanted c.args.list (assembled (text_of_input input)) ≡ Err c.in-Err.fault =
+    ap (λ i. wanted c.args.list (assembled (text_of_input i))) (sym c.deref.ensures.value) ∙ (rw c.in-Err.is at c.in_ok-bytes.ensures.fault) in
+    input_refused _ _ input c.in_ok-input.ensures.all _ (said_asm c.args.list) (refusals.Asm c.in-Err.fault)
+    (sym (ap said_wanted fault)) _ c.in_ok-refuse_line-in-Err.ensures.outcome
 
 pub returns-in_err-write_all-clause-broken : goal.returns-in_err-write_all-clause-broken
 returns-in_err-write_all-clause-broken g c =
     let r = c.from_residual-in_err-write_all in
     let p = err_from_is_err_and r.result r.ensures.1 in
     let input = c.in_ok-input.input.items in
-    let bytes : wanted c.args.list (assembled (text_of input)) ≡ Ok c.in-Ok.bytes.items = ap (λ i. wanted c.args.list (assembled (text_of i))) (sym c.deref.ensures.value) ∙ (rw c.in-Ok.is at c.in_ok-bytes.ensures.bytes) in
-    rw (p.1, p.2) (bytes_broken _ _ input c.in_ok-input.ensures.all _ (said_asm c.args.list) c.in-Ok.bytes.items (sym (ap said_wanted bytes)) _ _ _ _ (subst (AppendsFront _ _) c.deref-2.ensures.value c.in_err-write_all.ensures.front) c.in_ok-input.ensures.well (rw c.in_err-write_all.ensures.fault (c.in_err-write_all.ensures.failed, refl, omega arith)))
+    let bytes : wanted c.args.list (assembled (text_of_input input)) ≡ Ok c.in-Ok.bytes.items =
+    ap (λ i. wanted c.args.list (assembled (text_of_input i))) (sym c.deref.ensures.value) ∙ (rw c.in-Ok.is at c.in_ok-bytes.ensures.bytes) in
+    rw (p.1, p.2) (bytes_broken _ _ input c.in_ok-input.ensures.all _ (said_asm c.args.list) c.in-Ok.bytes.items (sym (ap said_wanted bytes)) _ _ _ _
+    (subst (AppendsFront _ _) c.deref-2.ensures.value c.in_err-write_all.ensures.front) c.in_ok-input.ensures.well
+    (rw c.in_err-write_all.ensures.fault (c.in_err-write_all.ensures.failed, refl, omega arith)))
 
 pub returns-clause-done : goal.returns-clause-done
 returns-clause-done g c =
     let input = c.in_ok-input.input.items in
-    let bytes : wanted c.args.list (assembled (text_of input)) ≡ Ok c.in-Ok.bytes.items = ap (λ i. wanted c.args.list (assembled (text_of i))) (sym c.deref.ensures.value) ∙ (rw c.in-Ok.is at c.in_ok-bytes.ensures.bytes) in
-    bytes_written _ _ input c.in_ok-input.ensures.all _ (said_asm c.args.list) c.in-Ok.bytes.items (sym (ap said_wanted bytes)) _ c.plain.result (subst (Appends _ _) c.deref-2.ensures.value c.in_ok-write_all.ensures.all) (record {
+    let bytes : wanted c.args.list (assembled (text_of_input input)) ≡ Ok c.in-Ok.bytes.items =
+    ap (λ i. wanted c.args.list (assembled (text_of_input i))) (sym c.deref.ensures.value) ∙ (rw c.in-Ok.is at c.in_ok-bytes.ensures.bytes) in
+    bytes_written _ _ input c.in_ok-input.ensures.all _ (said_asm c.args.list) c.in-Ok.bytes.items (sym (ap said_wanted bytes)) _ c.plain.result
+    (subst (Appends _ _) c.deref-2.ensures.value c.in_ok-write_all.ensures.all) (record {
       exit = c.plain.ensures.exit;
       message = ap string_bytes c.plain.ensures.message ∙ c.new.ensures.bytes;
       image = ap (option_map vec_items) c.plain.ensures.image;

@@ -28,7 +28,8 @@ pub returns-in-Err-clause-done : goal.returns-in-Err-clause-done
 returns-in-Err-clause-done g c =
     let input = c.in_ok-input.input.items in
     let fault = sym (ap file_fault c.deref.ensures.value) ∙ c.in-Err.ensures.fault in
-    input_refused _ _ input c.in_ok-input.ensures.all _ said_dis (refusals.Code c.in-Err.fault) (ap (λ o. said_code o input) (sym fault)) _ c.in_ok-refuse-in-Err.ensures.outcome
+    input_refused _ _ input c.in_ok-input.ensures.all _ said_dis (refusals.Code c.in-Err.fault)
+    (ap (λ o. said_code o input) (sym fault)) _ c.in_ok-refuse-in-Err.ensures.outcome
 
 pub returns-in_err-text-clause-broken : goal.returns-in_err-text-clause-broken
 returns-in_err-text-clause-broken g c =
@@ -43,15 +44,20 @@ returns-in_err-write_all-clause-broken g c =
     let p = err_from_is_err_and r.result r.ensures.1 in
     let input = c.in_ok-input.input.items in
     let sound : file_fault input ≡ None = sym (ap file_fault c.deref.ensures.value) ∙ c.in-Ok.ensures.accepted.0 (search rules) in
-    let text : c.as_bytes.result.now ≡ file_text input = c.as_bytes.ensures.value ∙ c.in_ok-text.ensures.text ∙ ap file_text (c.in-Ok.ensures.read ∙ c.deref.ensures.value) in
-    rw (p.1, p.2) (bytes_broken _ _ input c.in_ok-input.ensures.all _ said_dis (file_text input) (ap (λ o. said_code o input) (sym sound)) _ _ _ _ (subst (AppendsFront _ _) text c.in_err-write_all.ensures.front) c.in_ok-input.ensures.well (rw c.in_err-write_all.ensures.fault (c.in_err-write_all.ensures.failed, refl, omega arith)))
+    let text : c.as_bytes.result.now ≡ file_text input = c.as_bytes.ensures.value ∙ c.in_ok-text.ensures.text
+    ∙ ap file_text (c.in-Ok.ensures.read ∙ c.deref.ensures.value) in
+    rw (p.1, p.2) (bytes_broken _ _ input c.in_ok-input.ensures.all _ said_dis (file_text input) (ap (λ o. said_code o input) (sym sound)) _ _ _ _
+    (subst (AppendsFront _ _) text c.in_err-write_all.ensures.front) c.in_ok-input.ensures.well
+    (rw c.in_err-write_all.ensures.fault (c.in_err-write_all.ensures.failed, refl, omega arith)))
 
 pub returns-clause-done : goal.returns-clause-done
 returns-clause-done g c =
     let input = c.in_ok-input.input.items in
     let sound : file_fault input ≡ None = sym (ap file_fault c.deref.ensures.value) ∙ c.in-Ok.ensures.accepted.0 (search rules) in
-    let text : c.as_bytes.result.now ≡ file_text input = c.as_bytes.ensures.value ∙ c.in_ok-text.ensures.text ∙ ap file_text (c.in-Ok.ensures.read ∙ c.deref.ensures.value) in
-    bytes_written _ _ input c.in_ok-input.ensures.all _ said_dis (file_text input) (ap (λ o. said_code o input) (sym sound)) _ c.plain.result (subst (Appends _ _) text c.in_ok-write_all.ensures.all) (record {
+    let text : c.as_bytes.result.now ≡ file_text input = c.as_bytes.ensures.value ∙ c.in_ok-text.ensures.text
+    ∙ ap file_text (c.in-Ok.ensures.read ∙ c.deref.ensures.value) in
+    bytes_written _ _ input c.in_ok-input.ensures.all _ said_dis (file_text input) (ap (λ o. said_code o input) (sym sound)) _ c.plain.result
+    (subst (Appends _ _) text c.in_ok-write_all.ensures.all) (record {
       exit = c.plain.ensures.exit;
       message = ap string_bytes c.plain.ensures.message ∙ c.new.ensures.bytes;
       image = ap (option_map vec_items) c.plain.ensures.image;

@@ -1,7 +1,8 @@
 use Rattle.std.proofs.Common.{rules, arith, inr}
 use Rattle.std.proofs.lemmas.Bool.Decides.{nat_tests}
 use Rattle.std.proofs.lemmas.Result.{err_from_is_err_and}
-use Rattle.pm_tool.proofs.Talked.{talking_none, talking_byte, talking_line, told_by_quit, told_at_end, told_at_last, cut_behind, cut_answering, cut_at_last, cut_reading}
+use Rattle.pm_tool.proofs.Talked.{talking_none, talking_byte, talking_line, told_by_quit, told_at_end}
+use Rattle.pm_tool.proofs.Talked.{told_at_last, cut_behind, cut_answering, cut_at_last, cut_reading}
 use Rattle.pm_tool.proofs.debug.talk.Goals as goal
 
 pub bytes-init : goal.bytes-init
@@ -10,12 +11,14 @@ bytes-init g c = record {
   source_well = c.requires.source_well;
   sink_well = c.requires.sink_well;
   few = omega arith;
+  counted = λ low. omega arith;
 }
 
 pub returns-in_err-byte-clause-cut : goal.returns-in_err-byte-clause-cut
 returns-in_err-byte-clause-cut g c =
     let p = err_from_is_err_and c.from_residual.result c.from_residual.ensures.1 in
-    rw (p.1, p.2) (cut_reading _ _ _ _ _ _ _ _ c.bytes.invariant.talking _ _ _ _ c.in_err-byte.ensures.kept c.in_err-byte.ensures.fault c.in_err-byte.ensures.failed c.bytes.invariant.sink_well)
+    rw (p.1, p.2)
+    (cut_reading _ _ _ _ _ _ _ _ c.bytes.invariant.talking _ _ _ _ c.in_err-byte.ensures.kept c.in_err-byte.ensures.fault c.in_err-byte.ensures.failed c.bytes.invariant.sink_well)
 
 pub returns-then-taken-eq-INPUT_LIMIT-clause-cut :
     goal.returns-then-taken-eq-INPUT_LIMIT-clause-cut
@@ -42,14 +45,17 @@ bytes-preserved-then-byte-eq10 g c = record {
   source_well = c.in_ok-byte.ensures.failed;
   sink_well = c.in_ok-turn.ensures.well;
   few = omega arith;
+  counted = λ low. search rules;
 }
 
 pub bytes-preserved : goal.bytes-preserved
 bytes-preserved g c = record {
-  talking = talking_byte _ _ _ _ _ _ _ _ c.bytes.invariant.talking _ c.in-Some.byte (rw c.in-Some.is at c.in_ok-byte.ensures.byte) _ (grind (arith, nat_tests)) (search rules);
+  talking = talking_byte _ _ _ _ _ _ _ _ c.bytes.invariant.talking _ c.in-Some.byte (rw c.in-Some.is at c.in_ok-byte.ensures.byte) _ (grind (arith, nat_tests))
+      (search rules);
   source_well = c.in_ok-byte.ensures.failed;
   sink_well = c.bytes.invariant.sink_well;
   few = omega arith;
+  counted = λ low. search rules;
 }
 
 pub returns-in_default-push-clause-cut : goal.returns-in_default-push-clause-cut

@@ -1,4 +1,5 @@
-use Rattle.std.proofs.Common.{◌≡◌, ◌-◌, ◌≤◌, false}
+use Rattle.std.proofs.Common.{◌≡◌, ◌+◌, ◌-◌, ◌≤◌, false}
+use Rattle.pm_streams.specs.Streams.{CountsOn}
 use Rattle.pm_streams.specs.declared.source.TheConstants.{INPUT_LIMIT}
 use Rattle.pm_debug.specs.Session.{session_of}
 use Rattle.pm_tool.proofs.Talked.{IsTalking}
@@ -11,6 +12,7 @@ invariant-bytes g l = record {
   source_well : g.R.Source.has_failed l.source ≡ false;
   sink_well : g.W.Sink.has_failed l.sink ≡ false;
   few : l.taken ≤ INPUT_LIMIT;
+  counted : CountsOn (g.R.Source.given l.fn.source) → g.R.Source.given l.source ≡ g.R.Source.given l.fn.source + l.taken;
 }
 
 abbrev pub decreases-bytes : goal.decreases-bytes

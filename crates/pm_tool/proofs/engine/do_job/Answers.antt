@@ -10,13 +10,19 @@ pub returns-in-Raw-clause-broken : goal.returns-in-Raw-clause-broken
 returns-in-Raw-clause-broken g c = broken_job c.args.job (jobs.Raw c.in-Raw.limit) _ _ _ _ _ _ _ c.raw.ensures.broken c.in-Raw.is
 
 pub returns-in-Run-clause-broken : goal.returns-in-Run-clause-broken
-returns-in-Run-clause-broken g c = broken_job c.args.job (jobs.Run c.in-Run.disks c.in-Run.name c.in-Run.limit c.in-Run.save) _ _ _ _ _ _ _ (rw c.as_str.ensures.value at c.program.ensures.broken) c.in-Run.is
+returns-in-Run-clause-broken g c =
+    broken_job c.args.job (jobs.Run c.in-Run.disks c.in-Run.name c.in-Run.limit c.in-Run.save) _ _ _ _ _ _ _
+    (rw c.as_str.ensures.value at c.program.ensures.broken) c.in-Run.is
 
 pub returns-in-Trace-clause-broken : goal.returns-in-Trace-clause-broken
-returns-in-Trace-clause-broken g c = broken_job c.args.job (jobs.Trace c.in-Trace.disks c.in-Trace.name c.in-Trace.limit) _ _ _ _ _ _ _ (rw c.as_str-in-Trace.ensures.value at c.program-in-Trace.ensures.broken) c.in-Trace.is
+returns-in-Trace-clause-broken g c =
+    broken_job c.args.job (jobs.Trace c.in-Trace.disks c.in-Trace.name c.in-Trace.limit) _ _ _ _ _ _ _
+    (rw c.as_str-in-Trace.ensures.value at c.program-in-Trace.ensures.broken) c.in-Trace.is
 
 pub returns-in-Debug-clause-broken : goal.returns-in-Debug-clause-broken
-returns-in-Debug-clause-broken g c = broken_job c.args.job (jobs.Debug c.in-Debug.disks c.in-Debug.name) _ _ _ _ _ _ _ (rw c.as_str-in-Debug.ensures.value at c.debug.ensures.broken) c.in-Debug.is
+returns-in-Debug-clause-broken g c =
+    broken_job c.args.job (jobs.Debug c.in-Debug.disks c.in-Debug.name) _ _ _ _ _ _ _
+    (rw c.as_str-in-Debug.ensures.value at c.debug.ensures.broken) c.in-Debug.is
 
 pub returns-in-Asm-clause-broken : goal.returns-in-Asm-clause-broken
 returns-in-Asm-clause-broken g c = broken_job c.args.job (jobs.Asm c.in-Asm.list) _ _ _ _ _ _ _ c.assemble.ensures.broken c.in-Asm.is

@@ -31,7 +31,8 @@ pub returns-in_err-outcome-clause-broken : goal.returns-in_err-outcome-clause-br
 returns-in_err-outcome-clause-broken g c =
     let r = c.from_residual-in_err-outcome in
     let p = err_from_is_err_and r.result r.ensures.1 in
-    rw (p.1, p.2) (raw_broken _ _ c.in_ok-input.input.items c.in_ok-input.ensures.all c.args.limit c.in-Ok.machine.state (search rules) _ _ _ _ _ _ c.in_ok-input.ensures.well c.in_err-outcome.ensures.broken)
+    rw (p.1, p.2) (raw_broken _ _ c.in_ok-input.input.items c.in_ok-input.ensures.all c.args.limit c.in-Ok.machine.state
+    (search rules) _ _ _ _ _ _ c.in_ok-input.ensures.well c.in_err-outcome.ensures.broken)
 
 pub returns-clause-done : goal.returns-clause-done
 returns-clause-done g c =

@@ -5,7 +5,8 @@ use Rattle.pm_tool.proofs.Filing.{ok_outcome, err_written, err_outcome, none_fro
 use Rattle.pm_tool.proofs.files.file.Goals as goal
 
 pub returns-in-Ok-clause-outcome : goal.returns-in-Ok-clause-outcome
-returns-in-Ok-clause-outcome g c = ok_outcome _ (g.W.Sink.contents c.args.sink.now) (g.W.Sink.contents c.args.sink.now) _ c.in-Ok.ensures.done _ c.in_ok-answer-in-Ok.ensures.outcome
+returns-in-Ok-clause-outcome g c =
+    ok_outcome _ (g.W.Sink.contents c.args.sink.now) (g.W.Sink.contents c.args.sink.now) _ c.in-Ok.ensures.done _ c.in_ok-answer-in-Ok.ensures.outcome
 
 pub returns-in_err-refuse-in-Err-clause-front : goal.returns-in_err-refuse-in-Err-clause-front
 returns-in_err-refuse-in-Err-clause-front g c =
@@ -14,7 +15,10 @@ returns-in_err-refuse-in-Err-clause-front g c =
     rw p.1 (none_front (filed c.args.volume (order_of c.args.command)) (g.W.Sink.contents c.args.sink.now) (g.W.Sink.contents c.args.sink.now))
 
 pub returns-clause-written : goal.returns-clause-written
-returns-clause-written g c = err_written _ (g.W.Sink.contents c.args.sink.now) (g.W.Sink.contents c.args.sink.now) c.in-Err.fault (c.in-Err.ensures.refused (search rules))
+returns-clause-written g c =
+    err_written _ (g.W.Sink.contents c.args.sink.now) (g.W.Sink.contents c.args.sink.now) c.in-Err.fault (c.in-Err.ensures.refused (search rules))
 
 pub returns-clause-outcome : goal.returns-clause-outcome
-returns-clause-outcome g c = err_outcome _ (g.W.Sink.contents c.args.sink.now) (g.W.Sink.contents c.args.sink.now) c.in-Err.fault (c.in-Err.ensures.refused (search rules)) _ c.in_ok-refuse-in-Err.ensures.outcome
+returns-clause-outcome g c =
+    err_outcome _ (g.W.Sink.contents c.args.sink.now) (g.W.Sink.contents c.args.sink.now) c.in-Err.fault
+    (c.in-Err.ensures.refused (search rules)) _ c.in_ok-refuse-in-Err.ensures.outcome

@@ -16,11 +16,13 @@ pub returns-in_err-outcome-clause-broken : goal.returns-in_err-outcome-clause-br
 returns-in_err-outcome-clause-broken g c =
     let r = c.from_residual-in_err-outcome in
     let p = err_from_is_err_and r.result r.ensures.1 in
-    rw (p.1, p.2) (unread_broken c.args.image.items _ _ _ (search rules) (search rules) _ _ _ _ (rw (← c.in-Ok.ensures.opened) c.in_err-outcome.ensures.front) c.requires.source_well c.in_err-outcome.ensures.cause)
+    rw (p.1, p.2) (unread_broken c.args.image.items _ _ _ (search rules) (search rules) _ _ _ _
+    (rw (← c.in-Ok.ensures.opened) c.in_err-outcome.ensures.front) c.requires.source_well c.in_err-outcome.ensures.cause)
 
 pub returns-then-not-takes_input-clause-done : goal.returns-then-not-takes_input-clause-done
 returns-then-not-takes_input-clause-done g c =
-    unread_done c.args.image.items _ _ _ (search rules) (search rules) _ _ (rw (← c.in-Ok.ensures.opened) c.in_ok-outcome.ensures.written) (rw (← c.in-Ok.ensures.opened) c.in_ok-outcome.ensures.outcome)
+    unread_done c.args.image.items _ _ _ (search rules) (search rules) _ _ (rw (← c.in-Ok.ensures.opened) c.in_ok-outcome.ensures.written)
+    (rw (← c.in-Ok.ensures.opened) c.in_ok-outcome.ensures.outcome)
 
 pub returns-in_err-input-clause-broken : goal.returns-in_err-input-clause-broken
 returns-in_err-input-clause-broken g c =
@@ -33,8 +35,14 @@ pub returns-in_err-outcome-2-clause-broken : goal.returns-in_err-outcome-2-claus
 returns-in_err-outcome-2-clause-broken g c =
     let r = c.from_residual-in_err-outcome-2 in
     let p = err_from_is_err_and r.result r.ensures.1 in
-    rw (p.1, p.2) (read_broken c.args.image.items _ _ _ (search rules) (search rules) _ c.in_ok-input.input.items c.in_ok-input.ensures.all _ _ _ _ (rw (← c.in-Ok.ensures.opened, ← c.with_input.ensures.order) c.in_err-outcome-2.ensures.front) c.in_ok-input.ensures.well c.in_err-outcome-2.ensures.cause)
+    rw (p.1, p.2) (read_broken c.args.image.items _ _ _ (search rules) (search rules) _ c.in_ok-input.input.items c.in_ok-input.ensures.all _ _ _ _
+    (rw (
+      ← c.in-Ok.ensures.opened,
+      ← c.with_input.ensures.order,
+    ) c.in_err-outcome-2.ensures.front) c.in_ok-input.ensures.well c.in_err-outcome-2.ensures.cause)
 
 pub returns-clause-done : goal.returns-clause-done
 returns-clause-done g c =
-    read_done c.args.image.items _ _ _ (search rules) (search rules) _ c.in_ok-input.input.items c.in_ok-input.ensures.all _ _ (rw (← c.in-Ok.ensures.opened, ← c.with_input.ensures.order) c.in_ok-outcome-2.ensures.written) (rw (← c.in-Ok.ensures.opened, ← c.with_input.ensures.order) c.in_ok-outcome-2.ensures.outcome)
+    read_done c.args.image.items _ _ _ (search rules) (search rules) _ c.in_ok-input.input.items c.in_ok-input.ensures.all _ _
+    (rw (← c.in-Ok.ensures.opened, ← c.with_input.ensures.order) c.in_ok-outcome-2.ensures.written)
+    (rw (← c.in-Ok.ensures.opened, ← c.with_input.ensures.order) c.in_ok-outcome-2.ensures.outcome)

@@ -1,7 +1,7 @@
 use Rattle.std.proofs.Common.{arith, ap, sym, refl, ◌∙◌}
 use Rattle.std.proofs.lemmas.Result.{err_from_is_err_and}
 use Rattle.std.proofs.lemmas.List.{length-set}
-use Rattle.pm_tool.specs.Disks.{first_fault, images_of}
+use Rattle.pm_tool.specs.Disks.{first_disk_fault, images_of}
 use Rattle.pm_tool.proofs.Opening.{place_below, place_next, fault_later, fault_here, opened_next, fault_none, opened_all}
 use Rattle.pm_tool.proofs.programs.volumes_of.Goals as goal
 
@@ -11,7 +11,7 @@ opening-init c =
     let six = c.into_iter-image-iterator.ensures.into_iter_gives.1 in
     record {
       opened = ap images_of (sym all);
-      sound = ap (λ disks. first_fault (images_of disks)) (sym all);
+      sound = ap (λ disks. first_disk_fault (images_of disks)) (sym all);
       count = omega arith;
       size = refl;
     }
@@ -45,7 +45,8 @@ opening-preserved c =
     let below = place_below _ _ c.in-Some.image c.in-Some.ensures.steps c.opening.place c.opening.invariant.count in
     let size = c.opening.invariant.size in
     record {
-      opened = opened_next _ _ c.in-Some.image c.in-Some.ensures.steps _ c.opening.volumes c.opening.place c.in_ok-volumes.field-0 c.opening.invariant.opened (omega arith) c.in_ok-volumes.ensures.volume;
+      opened = opened_next _ _ c.in-Some.image c.in-Some.ensures.steps _ c.opening.volumes c.opening.place c.in_ok-volumes.field-0 c.opening.invariant.opened
+          (omega arith) c.in_ok-volumes.ensures.volume;
       sound = fault_later _ _ c.in-Some.image c.in-Some.ensures.steps _ c.opening.invariant.sound c.in_ok-volumes.ensures.sound;
       count = place_next _ _ c.in-Some.image c.in-Some.ensures.steps c.opening.place c.opening.invariant.count;
       size = length-set _ _ _ ∙ size;

@@ -1,4 +1,5 @@
 use Rattle.std.proofs.Common.{◌≡◌, ◌+◌, ◌-◌, ◌≤◌, false}
+use Rattle.pm_streams.specs.Streams.{CountsOn}
 use Rattle.pm_streams.specs.declared.source.TheConstants.{INPUT_LIMIT}
 use Rattle.pm_tool.proofs.Driven.{IsUnderWay}
 use Rattle.pm_tool.proofs.steps.drive.Given as goal
@@ -10,6 +11,7 @@ invariant-steps g l = record {
   source_well : g.R.Source.has_failed l.source ≡ false;
   sink_well : g.W.Sink.has_failed l.sink ≡ false;
   few : l.taken ≤ INPUT_LIMIT;
+  counted : CountsOn (g.R.Source.given l.fn.source) → g.R.Source.given l.source ≡ g.R.Source.given l.fn.source + l.taken;
   within : l.went ≤ l.limit;
 }
 

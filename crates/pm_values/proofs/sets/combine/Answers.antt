@@ -1,6 +1,18 @@
+use Rattle.std.proofs.Common.{◌+◌, ◌/◌, ◌≤◌, length, arith}
+use Rattle.pm_words.proofs.Laws.{length-words_at}
 use Rattle.pm_values.proofs.sets.combine.Goals as goal
 
 pub returns-clause-row : goal.returns-clause-row
 returns-clause-row c =
-    let written = rw (c.deref-3.ensures.0, c.combined-set.ensures.words, c.deref.ensures.0, c.deref-2.ensures.0) at c.push_words.ensures.row in
-    rw (c.in_ok-upper.ensures.set, c.in_ok-lower.ensures.set) written
+    let m = c.args.memory.now.words in
+    let lower = c.in_ok-lower.lower in
+    let upper = c.in_ok-upper.upper in
+    let below : lower.address / 2 + lower.count ≤ length m = omega (arith, c.bytes.ensures.memory.size, c.in_ok-lower.ensures.inside) in
+    let above : upper.address / 2 + upper.count ≤ length m = omega (arith, c.bytes.ensures.memory.size, c.in_ok-upper.ensures.inside) in
+    let written = rw (c.deref.ensures.0, c.combined-set.ensures.words) at c.push_words.ensures.row in
+    rw (
+      c.in_ok-upper.ensures.set,
+      c.in_ok-lower.ensures.set,
+      length-words_at m lower.address lower.count below,
+      length-words_at m upper.address upper.count above,
+    ) written

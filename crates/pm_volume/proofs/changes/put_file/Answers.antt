@@ -1,6 +1,6 @@
 use Rattle.std.proofs.Common.{◌≡◌, ◌+◌, ◌-◌, ◌*◌, ◌∙◌, ap, sym, ℕ, List, length, replicate, refl, arith}
 use Rattle.pm_volume.specs.Copies.{mirrored}
-use Rattle.pm_volume.specs.Changes.{blocks_for, slot_of, with_file, with_slot}
+use Rattle.pm_volume.specs.Changes.{blocks_for, entry_slot, with_file, with_slot}
 use Rattle.pm_volume.specs.Words.{written}
 use Rattle.pm_volume.specs.Directory.{directory_of}
 use Rattle.pm_volume.proofs.SlotChanges.{length-with_slot}
@@ -26,9 +26,9 @@ returns c =
           let wrote =
           rw (c.set_bytes.ensures.written, c.insert_slot.ensures.inserted, c.slot-slot.ensures.fields, c.from-begin.ensures, c.blocks_for.ensures.count) at
           c.clear.ensures.written in
-          let size : length (slot_of e) ≡ 26 = ap length (sym c.slot-slot.ensures.fields) ∙ c.slot-slot.ensures.size in
-          let new = length-with_slot d (slot_of e) c.args.n (length-directory image c.requires.whole) size c.requires.few c.requires.from c.requires.to in
+          let size : length (entry_slot e) ≡ 26 = ap length (sym c.slot-slot.ensures.fields) ∙ c.slot-slot.ensures.size in
+          let new = length-with_slot d (entry_slot e) c.args.n (length-directory image c.requires.whole) size c.requires.few c.requires.from c.requires.to in
           let left : (begin + 512 * blocks_for (length bytes)) - (begin + length bytes) ≡ 512 * blocks_for (length bytes) - length bytes = omega arith in
           c.mirror.ensures.mirrored ∙ ap mirrored
-          (filed image (with_slot d c.args.n (slot_of e)) bytes _ _ begin _ _ wrote (listed image (with_slot d c.args.n (slot_of e)) new) left);
+          (filed image (with_slot d c.args.n (entry_slot e)) bytes _ _ begin _ _ wrote (listed image (with_slot d c.args.n (entry_slot e)) new) left);
     }

@@ -24,5 +24,7 @@ pub returns-in-Err-clause-done : goal.returns-in-Err-clause-done
 returns-in-Err-clause-done c = λ h.
     let entered = c.in-Err.ensures.entered (Agrees-keeps _ _ _ _ c.put_code.ensures.keeps h) in
     let some : 0 < length c.args.code.now = search rules in
-    let room : c.args.registers.now.np + length c.args.code.now ≤ c.args.registers.now.sp = search rules in
-    (called_loading-refused _ _ _ _ _ some room (rw c.put_code.ensures.written at entered.0), rw (c.copy_from-in-Err.ensures.words, c.copy_from.ensures.words, c.enter.ensures.places) refl)
+    let room : c.args.registers.now.np + length c.args.code.now ≤ c.args.registers.now.sp = search rules in (
+      called_loading-refused _ _ _ _ _ some room (rw c.put_code.ensures.written at entered.0),
+      rw (c.copy_from-in-Err.ensures.words, c.copy_from.ensures.words, c.enter.ensures.places) refl,
+    )

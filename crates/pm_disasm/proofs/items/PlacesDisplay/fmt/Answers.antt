@@ -13,7 +13,8 @@ loop-k-preserved g c plain =
     let k = c.loop-k.k in
     let low = c.from.ensures in
     let high = c.from-in-loop-k.ensures in
-    let text : codes ", " ++ label_text c.table_place.result ≡ codes ", " ++ label_text ((at + 2 * k + 65536 - (get_or bytes (2 * k) 0 + 256 * get_or bytes (2 * k + 1) 0)) % 65536) = cc in (
+    let text : codes ", " ++ label_text c.table_place.result ≡ codes ", "
+    ++ label_text ((at + 2 * k + 65536 - (get_or bytes (2 * k) 0 + 256 * get_or bytes (2 * k + 1) 0)) % 65536) = cc in (
       before.0 ++ (codes ", " ++ label_text ((at + 2 * k + 65536 - (get_or bytes (2 * k) 0 + 256 * get_or bytes (2 * k + 1) 0)) % 65536)),
       has_written_append _ _ _ _ _ _ before.1 (has_written_of_eq _ _ _ _ _ text (c.write.ensures.writes before.1.plain (search rules))),
       place_written bytes before.0 _ at k (omega arith) before.2,

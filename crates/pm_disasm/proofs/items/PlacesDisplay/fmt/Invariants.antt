@@ -10,4 +10,5 @@ use Rattle.pm_disasm.proofs.items.PlacesDisplay.fmt.Given as goal
 abbrev pub invariant-loop-k : goal.invariant-loop-k
 invariant-loop-k g l =
     IsPlainFormatter l.initial.f → (done : List ℕ) × (HasWritten g.W.Write.write_str_gives l.initial.f done l.f)
-    × (done ++ more_operands (map label_text (table_places (l.at + 2 * l.k) (words_of (drop (2 * l.k) l.words)))) ≡ more_operands (map label_text (table_places l.at (words_of l.words))))
+    × (done ++ more_operands (map label_text (table_places (l.at + 2 * l.k) (words_of (drop (2 * l.k) l.words))))
+    ≡ more_operands (map label_text (table_places l.at (words_of l.words))))

@@ -16,7 +16,8 @@ loop-k-preserved g c plain =
       | then-k-eq0 w ↦ ap (λ lead. lead.now) w.lead-is ∙ lead_text-first k w.if-k-eq0.true
       | else-k-eq0 w ↦ ap (λ lead. lead.now) w.lead-is ∙ lead_text-more k w.if-k-eq0.false
     ] in
-    let text : c.if-k-eq0.lead.now ++ decimal (c.from.result + 256 * c.from-in-loop-k.result) ≡ lead_text k ++ decimal (get_or bytes (2 * k) 0 + 256 * get_or bytes (2 * k + 1) 0) = cc in (
+    let text : c.if-k-eq0.lead.now ++ decimal (c.from.result + 256 * c.from-in-loop-k.result)
+    ≡ lead_text k ++ decimal (get_or bytes (2 * k) 0 + 256 * get_or bytes (2 * k + 1) 0) = cc in (
       before.0 ++ (lead_text k ++ decimal (get_or bytes (2 * k) 0 + 256 * get_or bytes (2 * k + 1) 0)),
       has_written_append _ _ _ _ _ _ before.1 (has_written_of_eq _ _ _ _ _ text (c.write.ensures.writes before.1.plain (search rules))),
       word_written bytes before.0 _ k (omega arith) before.2,

@@ -15,7 +15,8 @@ invariant_of-result c = record {
       elim c.match-label_of.branch [
         | in-Some+in_ok-insert w ↦
             let said = btree_map_updates_str w.in-Some.label.now c.args.self.labels w.insert.new.self _ w.in_ok-insert.ensures.updates name in
-            rw (w.labels-is) (with_label name w.in-Some.label.now rows c.push.new.self.items c.args.row _ _ _ more (labelled ∙ ap (is_name name) w.in-Some.is) was said)
+            rw (w.labels-is) (with_label name w.in-Some.label.now rows c.push.new.self.items c.args.row _ _ _ more
+            (labelled ∙ ap (is_name name) w.in-Some.is) was said)
         | in_default w ↦ rw (w.labels-is) (without_label name rows c.push.new.self.items c.args.row _ more (labelled ∙ ap (is_name name) w.in_default.is) was)
       ];
 }

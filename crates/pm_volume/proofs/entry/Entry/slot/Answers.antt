@@ -1,9 +1,9 @@
 use Rattle.std.proofs.Common.{refl}
-use Rattle.pm_volume.specs.Changes.{no_slot, slot_of}
+use Rattle.pm_volume.specs.Changes.{no_slot, entry_slot}
 use Rattle.pm_volume.proofs.entry.Entry.slot.Goals as goal
 
 pub returns-clause-fields : goal.returns-clause-fields
-unfolding slot_of no_slot
+unfolding entry_slot no_slot
 returns-clause-fields c =
     rw (
       c.set_word-5.ensures.written,

@@ -1,0 +1,37 @@
+-- Laws of what calls and returns leave of the memory.
+use Rattle.std.specs.Prelude.{◌≡◌, ◌<◌, ◌≤◌, ◌⊎◌, ℕ, ◌+◌, ◌-◌, ◌*◌, Bool, List, Option, Ok}
+use Rattle.pm_words.specs.Words.{IsMemory, byte_at}
+use Rattle.pm_calls.specs.declared.frames.Table.{Table}
+use Rattle.pm_opcode.specs.declared.operation.Call.{Call}
+use Rattle.pm_calls.specs.Places.{Parts}
+use Rattle.pm_calls.specs.Tables.{attributes}
+use Rattle.pm_calls.specs.Calls.{Reached, called, procedure_called}
+use Rattle.pm_calls.specs.Returns.{returned}
+use Rattle.pm_calls.specs.Laws.{IsCode, Reaches}
+
+-- an address that is none of the n bytes from a on
+abbrev pub LiesOutside : ℕ → ℕ → ℕ → Type 0
+LiesOutside a n x = (x < a) ⊎ (a + n ≤ x)
+
+-- The parts before a call, in the procedure and after the return. An address lies outside the frame, which reaches from
+-- the SP that the procedure begins with to the end of its variables; outside the code that was loaded, which ends at
+-- the SP before the call; and outside the words that are returned, which stand at the SP after the return.
+pub record IsOutsideCall (c d e : Parts) (table : Table) (loaded words x : ℕ) : Type 0 where
+  pub frame : (x < d.registers.sp) ⊎ (d.registers.mp + (12 + table.parameters + table.locals) ≤ x)
+  pub code : LiesOutside (c.registers.sp - loaded) loaded x
+  pub result : LiesOutside e.registers.sp (2 * words) x
+
+-- a call of the procedure with this table, and its return, leave each byte outside as it was
+pub record LeavesTheRest (c d e : Parts) (call : Call) (code : Option (List ℕ)) (words : ℕ) : Type 0 where
+  pub at : Reached
+  pub reached : Reaches c call code at
+  pub table : Table
+  pub found : attributes at.memory at.place (procedure_called call) ≡ Ok table
+  pub rest : (x : ℕ) → IsOutsideCall c d e table at.loaded words x → byte_at e.memory x ≡ byte_at c.memory x
+
+-- A call and its return leave all memory outside the frame, the loaded code and the result as it was.
+abbrev pub CallAndReturnLeaveTheRest : Type 0
+CallAndReturnLeaveTheRest =
+    (c d e : Parts) (call : Call) (code : Option (List ℕ)) (words : ℕ) (base : Bool) →
+    IsMemory c.memory → IsMemory d.memory → IsCode code →
+    called c call code ≡ Ok d → returned d words base ≡ Ok e → LeavesTheRest c d e call code words

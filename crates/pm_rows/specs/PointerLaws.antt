@@ -1,0 +1,21 @@
+-- Laws of words that are moved between the stack and memory.
+use Rattle.std.specs.Prelude.{◌≡◌, ◌<◌, ◌≤◌, ◌⊎◌, ℕ, ◌+◌, ◌*◌, List, Ok}
+use Rattle.pm_words.specs.Words.{IsMemory, word_at}
+use Rattle.pm_words.specs.Stack.{push}
+use Rattle.pm_rows.specs.Pointers.{load_words_row, store_words_row}
+
+-- n words from one address on are those that stood from another one on
+abbrev pub AreSameWords : List ℕ → ℕ → List ℕ → ℕ → ℕ → Type 0
+AreSameWords m a n b count = (k : ℕ) → k < count → word_at n (b + 2 * k) ≡ word_at m (a + 2 * k)
+
+-- STM stores n words, the address is put on the stack again, and LDM loads them: the same words stand on the stack as
+-- before, in the same order. The words go elsewhere than where the address stands.
+abbrev pub StoredWordsAreLoaded : Type 0
+StoredWordsAreLoaded =
+    (m stored named loaded : List ℕ) (n sp np below address top : ℕ) →
+    IsMemory m → IsMemory named →
+    (word_at m (sp + 2 * n) + 2 * n ≤ sp + 2 * n) ⊎ (sp + 2 * n + 2 ≤ word_at m (sp + 2 * n)) →
+    store_words_row n m sp np ≡ Ok (stored, below) →
+    push stored below np (word_at m (sp + 2 * n)) ≡ Ok (named, address) →
+    load_words_row n named address np ≡ Ok (loaded, top) →
+    AreSameWords m sp loaded top n

@@ -61,8 +61,12 @@ for path in sorted(glob.glob("crates/*/src/**/*.rt", recursive=True)):
     while number < len(source):
         head = re.match(r"( *)(?:pub(?:\([a-z]+\))? )?fn (\w+)", source[number])
         if head:
-            last = number
-            while last < len(source) and source[last] != head.group(1) + "}" and not source[last].endswith("{}"):
+            last, ends = number, (head.group(1) + "}", head.group(1) + "{")
+            has_body = False
+            while last < len(source) and source[last] != ends[0] and not source[last].endswith("{}"):
+                has_body = has_body or source[last] == ends[1] or source[last].endswith(" {")
+                if not has_body and source[last].endswith(";"): # of a trait, without a body
+                    break
                 last += 1
             if last - number + 1 > 40:
                 tell("function", "%s:%d %s has %d lines" % (path, number + 1, head.group(2), last - number + 1))

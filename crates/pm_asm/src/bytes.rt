@@ -75,7 +75,8 @@ fn push_case<'a>(
         (found_target (places_in labels) (target_seen otherwise))
         (map (found_label (places_in labels)) (texts_seen names.now)) }
     ensures bytes { OnOk result (out.new.items ≡ out.old.items ++ item_bytes (length out.old.items)
-        (Case bounds.0 bounds.1 (found_target (places_in labels.entry) (target_seen otherwise.entry)) (map (found_label (places_in labels.entry)) (texts_seen names.now)))) }
+        (Case bounds.0 bounds.1 (found_target (places_in labels.entry) (target_seen otherwise.entry))
+        (map (found_label (places_in labels.entry)) (texts_seen names.now)))) }
 {
     let at = out.len();
     out.push(CASE_JUMP)?;

@@ -237,7 +237,8 @@ pub fn do_trace<S: Store, I: Source, O: Sink>(
     requires sink_well { O.has_failed sink.old ≡ false }
     ensures stays { S.files store.new ≡ S.files store.old }
     ensures said { IfOk result (λ outcome. IsSoundExit outcome.exit → IfSome (I.remaining source.old) (λ input.
-        TellsTrace (S.files store.old) (I.remaining source.new) (O.contents sink.old) (O.contents sink.new) outcome program input)) }
+        TellsTrace (S.files store.old) (I.remaining source.new) (O.contents sink.old) (O.contents sink.new) outcome
+        program input)) }
 {
     let disks = images(alloc, store, program.disk.as_str(), &program.others)?;
     let Program { name, limit, .. } = program;
@@ -259,7 +260,8 @@ pub fn do_debug<S: Store, I: Source, O: Sink>(
     requires sink_well { O.has_failed sink.old ≡ false }
     ensures stays { S.files store.new ≡ S.files store.old }
     ensures said { IfOk result (λ outcome. IsSoundExit outcome.exit → IfSome (I.remaining source.old) (λ input.
-        TellsDebug (S.files store.old) (I.remaining source.new) (O.contents sink.old) (O.contents sink.new) outcome program input)) }
+        TellsDebug (S.files store.old) (I.remaining source.new) (O.contents sink.old) (O.contents sink.new) outcome
+        program input)) }
 {
     let disks = images(alloc, store, program.disk.as_str(), &program.others)?;
     let Program { name, .. } = program;

@@ -292,4 +292,5 @@ shows_procedure n k p texts said w l s =
     subst (λ ls. Show (n + 1) ls ((map Code rows ++ es) ++ End ∷ said)) (sym texts_join)
     (subst (λ ss. Show (n + 1) (lines_then used p.exit p.start p.items (entries ++ codes ".END" ∷ texts)) ss) (sym said_join) body) in
     shows n begin (Begin k p.level p.parameters p.locals) ((code ++ (entries ++ codes ".END" ∷ [])) ++ texts) ((map Code rows ++ es) ++ End ∷ said)
-    (begin_line n k p.level p.parameters p.locals l w.procedure.level w.procedure.parameters.0 w.procedure.parameters.1 w.procedure.locals.0 w.procedure.locals.1) whole
+    (begin_line n k p.level p.parameters p.locals l w.procedure.level w.procedure.parameters.0 w.procedure.parameters.1 w.procedure.locals.0
+    w.procedure.locals.1) whole

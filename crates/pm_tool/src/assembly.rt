@@ -83,7 +83,8 @@ pub(crate) fn assemble<R: Source, W: Sink>(
         (W.contents sink.old) (W.contents sink.new) outcome (said_asm list)) }
     ensures well { OnOk result ((R.has_failed source.new ≡ false) × (W.has_failed sink.new ≡ false)) }
     ensures broken { IfErr result (λ fault. IsBrokenOff (R.remaining source.old) (R.remaining source.new)
-        (W.contents sink.old) (W.contents sink.new) fault (R.has_failed source.new) (W.has_failed sink.new) (said_asm list)) }
+        (W.contents sink.old) (W.contents sink.new) fault (R.has_failed source.new) (W.has_failed sink.new)
+        (said_asm list)) }
     ensures told { IfOk result SaysWhy }
     ensures few { OnOk result (IsWithin (R.given source.old) (R.given source.new)) }
     ensures bound { IfErr result (λ fault.

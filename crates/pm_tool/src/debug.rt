@@ -66,7 +66,8 @@ fn talk<R: Source, W: Sink>(
         (W.contents sink.old) (W.contents sink.new) (session_of debugger.old)) }
     ensures well { OnOk result ((R.has_failed source.new ≡ false) × (W.has_failed sink.new ≡ false)) }
     ensures cut { IfErr result (λ fault. IsCutOff (R.remaining source.old) (R.remaining source.new)
-        (W.contents sink.old) (W.contents sink.new) (session_of debugger.old) fault (R.has_failed source.new) (W.has_failed sink.new)) }
+        (W.contents sink.old) (W.contents sink.new) (session_of debugger.old) fault (R.has_failed source.new)
+        (W.has_failed sink.new)) }
     ensures few { OnOk result (IsWithin (R.given source.old) (R.given source.new)) }
     ensures bound { IfErr result (λ fault.
         IsBound fault (R.given source.old) (R.given source.new) (R.has_failed source.new)) }
@@ -109,7 +110,8 @@ fn session<R: Source, W: Sink>(
         (W.contents sink.old) (W.contents sink.new) outcome (debugged machine.state)) }
     ensures well { OnOk result ((R.has_failed source.new ≡ false) × (W.has_failed sink.new ≡ false)) }
     ensures broken { IfErr result (λ fault. IsBrokenOff (R.remaining source.old) (R.remaining source.new)
-        (W.contents sink.old) (W.contents sink.new) fault (R.has_failed source.new) (W.has_failed sink.new) (debugged machine.state)) }
+        (W.contents sink.old) (W.contents sink.new) fault (R.has_failed source.new) (W.has_failed sink.new)
+        (debugged machine.state)) }
     ensures prompt { OnErr result (R.has_failed source.new ≡ true
         → WritesFirst (R.remaining source.old) (R.remaining source.new)
         (W.contents sink.old) (W.contents sink.new) (λ read. (debugged machine.state (whole_lines read)).written)) }
@@ -137,7 +139,8 @@ pub(crate) fn debug<R: Source, W: Sink>(
         (W.contents sink.old) (W.contents sink.new) outcome (said_debug (booted (images_of disks) name.now))) }
     ensures well { OnOk result ((R.has_failed source.new ≡ false) × (W.has_failed sink.new ≡ false)) }
     ensures broken { IfErr result (λ fault. IsBrokenOff (R.remaining source.old) (R.remaining source.new)
-        (W.contents sink.old) (W.contents sink.new) fault (R.has_failed source.new) (W.has_failed sink.new) (said_debug (booted (images_of disks) name.now))) }
+        (W.contents sink.old) (W.contents sink.new) fault (R.has_failed source.new) (W.has_failed sink.new)
+        (said_debug (booted (images_of disks) name.now))) }
     ensures prompt { OnErr result (R.has_failed source.new ≡ true
         → WritesFirst (R.remaining source.old) (R.remaining source.new)
         (W.contents sink.old) (W.contents sink.new) (λ read.

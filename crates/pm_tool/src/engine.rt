@@ -77,7 +77,8 @@ fn do_job<R: Source, W: Sink>(
     ensures told { IfOk result SaysWhy }
     ensures well { OnOk result ((R.has_failed source.new ≡ false) × (W.has_failed sink.new ≡ false)) }
     ensures broken { IfErr result (λ fault. IsBrokenOff (R.remaining source.old) (R.remaining source.new)
-        (W.contents sink.old) (W.contents sink.new) fault (R.has_failed source.new) (W.has_failed sink.new) (job_said job)) }
+        (W.contents sink.old) (W.contents sink.new) fault (R.has_failed source.new) (W.has_failed sink.new)
+        (job_said job)) }
     ensures prompt { OnErr result (R.has_failed source.new ≡ true →
         IsPrompt job (R.remaining source.old) (R.remaining source.new) (W.contents sink.old) (W.contents sink.new)) }
     ensures few { OnOk result (IsWithin (R.given source.old) (R.given source.new)) }
@@ -144,7 +145,8 @@ pub fn run<R: Source, W: Sink>(alloc: Global, source: &mut R, sink: &mut W, job:
 
     // After a fault of a stream or want of memory, what was written is a front of that.
     ensures cut { IsCutShort result.exit →
-        IsCut (R.remaining source.old) (R.remaining source.new) (W.contents sink.old) (W.contents sink.new) (job_said job) }
+        IsCut (R.remaining source.old) (R.remaining source.new) (W.contents sink.old) (W.contents sink.new)
+        (job_said job) }
 
     // Where a read failed, all that the program had shown by then was written, and every whole line of a session was
     // answered: output is written before more input is wanted.

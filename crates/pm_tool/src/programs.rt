@@ -162,10 +162,12 @@ pub(crate) fn program<R: Source, W: Sink>(
     requires source_well { R.has_failed source.old ≡ false }
     requires sink_well { W.has_failed sink.old ≡ false }
     ensures done { IfOk result (λ outcome. IsDone (R.remaining source.old) (R.remaining source.new)
-        (W.contents sink.old) (W.contents sink.new) outcome (said_started show limit (booted (images_of disks) name.now))) }
+        (W.contents sink.old) (W.contents sink.new) outcome
+        (said_started show limit (booted (images_of disks) name.now))) }
     ensures well { OnOk result ((R.has_failed source.new ≡ false) × (W.has_failed sink.new ≡ false)) }
     ensures broken { IfErr result (λ fault. IsBrokenOff (R.remaining source.old) (R.remaining source.new)
-        (W.contents sink.old) (W.contents sink.new) fault (R.has_failed source.new) (W.has_failed sink.new) (said_started show limit (booted (images_of disks) name.now))) }
+        (W.contents sink.old) (W.contents sink.new) fault (R.has_failed source.new) (W.has_failed sink.new)
+        (said_started show limit (booted (images_of disks) name.now))) }
     ensures prompt { OnErr result (R.has_failed source.new ≡ true
         → WritesFirst (R.remaining source.old) (R.remaining source.new)
         (W.contents sink.old) (W.contents sink.new) (shown_started show limit (booted (images_of disks) name.now))) }

@@ -135,11 +135,13 @@ pub(crate) fn drive<R: Source, W: Sink>(
     requires sink_well { W.has_failed sink.old ≡ false }
     requires blank { page.old.items ≡ [] }
     ensures over { IfOk result (λ ending. IsOver (R.remaining source.old) (R.remaining source.new)
-        (W.contents sink.old) (W.contents sink.new) page.new.items show limit machine.old.state ending machine.new.state) }
+        (W.contents sink.old) (W.contents sink.new) page.new.items show limit machine.old.state ending
+        machine.new.state) }
     ensures source_well { OnOk result (R.has_failed source.new ≡ false) }
     ensures sink_well { OnOk result (W.has_failed sink.new ≡ false) }
     ensures broken { IfErr result (λ fault. IsBroken (R.remaining source.old) (R.remaining source.new)
-        (W.contents sink.old) (W.contents sink.new) show limit machine.old.state fault (R.has_failed source.new) (W.has_failed sink.new)) }
+        (W.contents sink.old) (W.contents sink.new) show limit machine.old.state fault (R.has_failed source.new)
+        (W.has_failed sink.new)) }
     ensures few { OnOk result (IsWithin (R.given source.old) (R.given source.new)) }
     ensures bound { IfErr result (λ fault.
         IsBound fault (R.given source.old) (R.given source.new) (R.has_failed source.new)) }

@@ -45,7 +45,8 @@ returns-in_err-check_lengths-clause-refused c =
     let text = c.args.text.now in
     let segments = c.in_ok-segments.segments.items in
     let fault = c.in_err-check_lengths.field-0.0 in
-    let ready = seen_ready text segments c.deref.result.now c.in_ok-segments.ensures.faultless c.in_ok-segments.ensures.read c.deref.ensures.value c.in_ok-check_labels.ensures.faultless in
+    let ready = seen_ready text segments c.deref.result.now c.in_ok-segments.ensures.faultless c.in_ok-segments.ensures.read c.deref.ensures.value
+    c.in_ok-check_labels.ensures.faultless in
     let long = subst (λ s. IsTooLong (found_program (segments_seen s)) fault) c.deref-2.ensures.value c.in_err-check_lengths.ensures.fault in
     rw (p.1, p.2) (λ other. too_long_refused text (segments_seen segments) fault ready long other)
 
@@ -55,7 +56,8 @@ returns-in_err-check_lengths-clause-unspelled c =
     let text = c.args.text.now in
     let segments = c.in_ok-segments.segments.items in
     let fault = c.in_err-check_lengths.field-0.0 in
-    let ready = seen_ready text segments c.deref.result.now c.in_ok-segments.ensures.faultless c.in_ok-segments.ensures.read c.deref.ensures.value c.in_ok-check_labels.ensures.faultless in
+    let ready = seen_ready text segments c.deref.result.now c.in_ok-segments.ensures.faultless c.in_ok-segments.ensures.read c.deref.ensures.value
+    c.in_ok-check_labels.ensures.faultless in
     let long = subst (λ s. IsTooLong (found_program (segments_seen s)) fault) c.deref-2.ensures.value c.in_err-check_lengths.ensures.fault in
     rw (p.1, p.2) (λ other. refused_spells_nothing text fault (too_long_refused text (segments_seen segments) fault ready long other))
 
@@ -63,7 +65,8 @@ pub code_file-requires-clause-program : goal.code_file-requires-clause-program
 code_file-requires-clause-program c =
     let text = c.args.text.now in
     let segments = c.in_ok-segments.segments.items in
-    let ready = seen_ready text segments c.deref.result.now c.in_ok-segments.ensures.faultless c.in_ok-segments.ensures.read c.deref.ensures.value c.in_ok-check_labels.ensures.faultless in
+    let ready = seen_ready text segments c.deref.result.now c.in_ok-segments.ensures.faultless c.in_ok-segments.ensures.read c.deref.ensures.value
+    c.in_ok-check_labels.ensures.faultless in
     let short = subst (λ s. AreShort (found_program (segments_seen s))) c.deref-2.ensures.value c.in_ok-check_lengths.ensures.short in
     subst (λ s. IsProgram (found_program (segments_seen s))) (sym c.deref-3.ensures.value) (ready_program text (segments_seen segments) ready short)
 
@@ -71,7 +74,8 @@ pub listing_of-requires-clause-program : goal.listing_of-requires-clause-program
 listing_of-requires-clause-program c =
     let text = c.args.text.now in
     let segments = c.in_ok-segments.segments.items in
-    let ready = seen_ready text segments c.deref.result.now c.in_ok-segments.ensures.faultless c.in_ok-segments.ensures.read c.deref.ensures.value c.in_ok-check_labels.ensures.faultless in
+    let ready = seen_ready text segments c.deref.result.now c.in_ok-segments.ensures.faultless c.in_ok-segments.ensures.read c.deref.ensures.value
+    c.in_ok-check_labels.ensures.faultless in
     let short = subst (λ s. AreShort (found_program (segments_seen s))) c.deref-2.ensures.value c.in_ok-check_lengths.ensures.short in
     subst (λ s. IsProgram (found_program (segments_seen s))) (sym c.deref-4.ensures.value) (ready_program text (segments_seen segments) ready short)
 
@@ -79,7 +83,8 @@ pub returns-clause-assembled : goal.returns-clause-assembled
 returns-clause-assembled c =
     let text = c.args.text.now in
     let segments = c.in_ok-segments.segments.items in
-    let ready = seen_ready text segments c.deref.result.now c.in_ok-segments.ensures.faultless c.in_ok-segments.ensures.read c.deref.ensures.value c.in_ok-check_labels.ensures.faultless in
+    let ready = seen_ready text segments c.deref.result.now c.in_ok-segments.ensures.faultless c.in_ok-segments.ensures.read c.deref.ensures.value
+    c.in_ok-check_labels.ensures.faultless in
     let short = subst (λ s. AreShort (found_program (segments_seen s))) c.deref-2.ensures.value c.in_ok-check_lengths.ensures.short in
     let image : c.in_ok-file.file.items ≡ file_of (found_program (segments_seen c.deref-3.result.now)) = search rules in
     let lines : string_bytes c.in_ok-listing.listing ≡ listing (found_program (segments_seen c.deref-4.result.now)) = search rules in
@@ -91,7 +96,8 @@ pub returns-clause-spelled : goal.returns-clause-spelled
 returns-clause-spelled c =
     let text = c.args.text.now in
     let segments = c.in_ok-segments.segments.items in
-    let ready = seen_ready text segments c.deref.result.now c.in_ok-segments.ensures.faultless c.in_ok-segments.ensures.read c.deref.ensures.value c.in_ok-check_labels.ensures.faultless in
+    let ready = seen_ready text segments c.deref.result.now c.in_ok-segments.ensures.faultless c.in_ok-segments.ensures.read c.deref.ensures.value
+    c.in_ok-check_labels.ensures.faultless in
     let short = subst (λ s. AreShort (found_program (segments_seen s))) c.deref-2.ensures.value c.in_ok-check_lengths.ensures.short in
     let image : c.in_ok-file.file.items ≡ file_of (found_program (segments_seen c.deref-3.result.now)) = search rules in
     let lines : string_bytes c.in_ok-listing.listing ≡ listing (found_program (segments_seen c.deref-4.result.now)) = search rules in

@@ -47,5 +47,7 @@ returns c =
     let tables = c.in_ok-push_distances.ensures.bytes ∙ ap (λ ps. code ++ entry_bytes (length code) (reverse ps)) c.deref-2.ensures.value in
     record {
       bytes = on_ok_map _ _ _
-          (procedure_pushed before p code c.in_ok-places.places.items c.push_distances.new.out.items c.push_attributes.new.out.items c.args.number c.len-start.result c.in_ok-exit.exit (map row_seen c.deref-rows.result.now) laid begins (ap (map row_seen) c.deref-rows.ensures.value) tables c.in_ok-exit.ensures.place) c.push_attributes.ensures.bytes;
+          (procedure_pushed before p code c.in_ok-places.places.items c.push_distances.new.out.items c.push_attributes.new.out.items c.args.number
+          c.len-start.result c.in_ok-exit.exit (map row_seen c.deref-rows.result.now) laid begins (ap (map row_seen) c.deref-rows.ensures.value) tables
+          c.in_ok-exit.ensures.place) c.push_attributes.ensures.bytes;
     }

@@ -24,7 +24,8 @@ returns-in_err-check_lengths-clause-refused c =
     let text = c.args.text.now in
     let segments = c.in_ok-segments.segments.items in
     let fault = c.in_err-check_lengths.field-0.0 in
-    let ready = seen_ready text segments c.deref.result.now c.in_ok-segments.ensures.faultless c.in_ok-segments.ensures.read c.deref.ensures.value c.in_ok-check_labels.ensures.faultless in
+    let ready = seen_ready text segments c.deref.result.now c.in_ok-segments.ensures.faultless c.in_ok-segments.ensures.read c.deref.ensures.value
+    c.in_ok-check_labels.ensures.faultless in
     let long = subst (λ s. IsTooLong (found_program (segments_seen s)) fault) c.deref-2.ensures.value c.in_err-check_lengths.ensures.fault in
     rw (p.1, p.2) (λ other. too_long_refused text (segments_seen segments) fault ready long other)
 
@@ -35,13 +36,15 @@ pub returns-clause-faultless : goal.returns-clause-faultless
 returns-clause-faultless c =
     let text = c.args.text.now in
     let segments = c.in_ok-segments.segments.items in
-    let ready = seen_ready text segments c.deref.result.now c.in_ok-segments.ensures.faultless c.in_ok-segments.ensures.read c.deref.ensures.value c.in_ok-check_labels.ensures.faultless in
+    let ready = seen_ready text segments c.deref.result.now c.in_ok-segments.ensures.faultless c.in_ok-segments.ensures.read c.deref.ensures.value
+    c.in_ok-check_labels.ensures.faultless in
     ready_faultless text (segments_seen segments) ready
 
 pub returns-clause-short : goal.returns-clause-short
 returns-clause-short c =
     let text = c.args.text.now in
     let segments = c.in_ok-segments.segments.items in
-    let ready = seen_ready text segments c.deref.result.now c.in_ok-segments.ensures.faultless c.in_ok-segments.ensures.read c.deref.ensures.value c.in_ok-check_labels.ensures.faultless in
+    let ready = seen_ready text segments c.deref.result.now c.in_ok-segments.ensures.faultless c.in_ok-segments.ensures.read c.deref.ensures.value
+    c.in_ok-check_labels.ensures.faultless in
     let short = subst (λ s. AreShort (found_program (segments_seen s))) c.deref-2.ensures.value c.in_ok-check_lengths.ensures.short in
     ready_short text (segments_seen segments) ready short

@@ -10,7 +10,8 @@ returns-then-not-leads_inside-clause-inside c =
     let k = c.loop-entry.entry in
     let word : c.word-distance.result ≡ word_in c.args.segment.now (a.jtab - 10 - 2 * k) =
     c.word-distance.ensures.word ∙ ap (word_in c.args.segment.now) (omega arith) in
-    entry_out c.args.segment.now a _ k c.args.count c.word-distance.result c.leads_inside.result _ c.loop-entry-test.true word c.leads_inside.ensures.inside c.if-not-leads_inside.true c.loop-entry.invariant.inside
+    entry_out c.args.segment.now a _ k c.args.count c.word-distance.result c.leads_inside.result _ c.loop-entry-test.true word c.leads_inside.ensures.inside
+    c.if-not-leads_inside.true c.loop-entry.invariant.inside
 
 pub loop-entry-preserved : goal.loop-entry-preserved
 loop-entry-preserved c =
@@ -20,6 +21,8 @@ loop-entry-preserved c =
     let word : c.word-distance.result ≡ word_in segment (a.jtab - 10 - 2 * k) = c.word-distance.ensures.word ∙ ap (word_in segment) (omega arith) in
     record {
       taken = ap (λ (v : _). v ++ entry_places segment a.jtab (k + 1) (c.args.count - (k + 1))) c.in_ok-push-2.ensures.items
-          ∙ entry_taken segment a k c.args.count c.word-distance.result _ c.loop-entry.forced.items _ c.loop-entry-test.true word refl c.loop-entry.invariant.taken;
-      inside = entry_in segment a _ k c.args.count c.word-distance.result c.leads_inside.result _ c.loop-entry-test.true word c.leads_inside.ensures.inside c.if-not-leads_inside.false c.loop-entry.invariant.inside;
+          ∙ entry_taken segment a k c.args.count c.word-distance.result _ c.loop-entry.forced.items _ c.loop-entry-test.true word refl
+          c.loop-entry.invariant.taken;
+      inside = entry_in segment a _ k c.args.count c.word-distance.result c.leads_inside.result _ c.loop-entry-test.true word c.leads_inside.ensures.inside
+          c.if-not-leads_inside.false c.loop-entry.invariant.inside;
     }

@@ -14,7 +14,8 @@ loop-part-preserved c =
     let n = c.loop-part.number in
     let part = c.in-Some.part.now in
     let road = YieldsList-from_lines c.args.text.now (ap lines_rest c.into_iter-part-iterator.ensures.into_iter_gives ∙ c.lines-part-items.ensures.rest) in
-    let turn = YieldsList-turn road c.loop-part.yielded c.loop-part.part-iterator c.loop-part.yielded_by c.next.result c.next.new.self c.in-Some.part c.in-Some.is c.next.ensures.steps in
+    let turn = YieldsList-turn road c.loop-part.yielded c.loop-part.part-iterator c.loop-part.yielded_by c.next.result c.next.new.self c.in-Some.part
+    c.in-Some.is c.next.ensures.steps in
     let here : (n < length texts) × (part ≡ get_or texts n part) = rw (c.loop-part.invariant.count) turn in
     record {
       count = ap (λ k. k + 1) c.loop-part.invariant.count ∙ sym (length_push c.loop-part.yielded c.in-Some.part);
@@ -26,6 +27,7 @@ pub returns : goal.returns
 returns c =
     let texts = lines c.args.text.now in
     let road = YieldsList-from_lines c.args.text.now (ap lines_rest c.into_iter-part-iterator.ensures.into_iter_gives ∙ c.lines-part-items.ensures.rest) in
-    let end = YieldsList-end road c.loop-part.yielded c.loop-part.part-iterator c.loop-part.yielded_by c.next.result c.next.new.self c.in-None.is c.next.ensures.steps in
+    let end = YieldsList-end road c.loop-part.yielded c.loop-part.part-iterator c.loop-part.yielded_by c.next.result c.next.new.self c.in-None.is
+    c.next.ensures.steps in
     let few : length texts ≤ c.loop-part.number = omega (arith, end.1, c.loop-part.invariant.count) in
     record { lines = lines_whole texts c.loop-part.number _ _ few c.loop-part.invariant.said }

@@ -13,7 +13,8 @@ loop-line-preserved c =
     let lines = c.args.lines.items in
     let n = c.loop-line.number in
     let turn = YieldsList-turn (YieldsList-from_vec {s = c.into_iter-line-iterator.result} lines (search rules)
-    (search rules)) c.loop-line.yielded c.loop-line.line-iterator c.loop-line.yielded_by c.next.result c.next.new.self c.in-Some.line c.in-Some.is c.next.ensures.steps in
+    (search rules)) c.loop-line.yielded c.loop-line.line-iterator c.loop-line.yielded_by c.next.result c.next.new.self c.in-Some.line c.in-Some.is
+    c.next.ensures.steps in
     let here : (n < length lines) × (c.in-Some.line ≡ get_or lines n c.in-Some.line) = rw (c.loop-line.invariant.count) turn in
     let last : IsUntil (map line_seen lines) c.until_last_end-until.result = rw (c.deref.ensures.value) at c.until_last_end-until.ensures.until in
     let none = c.in_ok-step.ensures.faultless _ (later lines (n + 1) _ last) in
@@ -28,7 +29,8 @@ returns-in_err-step-clause-fault c =
     let lines = c.args.lines.items in
     let n = c.loop-line.number in
     let turn = YieldsList-turn (YieldsList-from_vec {s = c.into_iter-line-iterator.result} lines (search rules)
-    (search rules)) c.loop-line.yielded c.loop-line.line-iterator c.loop-line.yielded_by c.next.result c.next.new.self c.in-Some.line c.in-Some.is c.next.ensures.steps in
+    (search rules)) c.loop-line.yielded c.loop-line.line-iterator c.loop-line.yielded_by c.next.result c.next.new.self c.in-Some.line c.in-Some.is
+    c.next.ensures.steps in
     let here : (n < length lines) × (c.in-Some.line ≡ get_or lines n c.in-Some.line) = rw (c.loop-line.invariant.count) turn in
     let last : IsUntil (map line_seen lines) c.until_last_end-until.result = rw (c.deref.ensures.value) at c.until_last_end-until.ensures.until in
     let p = err_from_is_err_and c.from_residual.result c.from_residual.ensures.1 in

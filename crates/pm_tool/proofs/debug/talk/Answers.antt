@@ -18,7 +18,8 @@ pub returns-in_err-byte-clause-cut : goal.returns-in_err-byte-clause-cut
 returns-in_err-byte-clause-cut g c =
     let p = err_from_is_err_and c.from_residual.result c.from_residual.ensures.1 in
     rw (p.1, p.2)
-    (cut_reading _ _ _ _ _ _ _ _ c.bytes.invariant.talking _ _ _ _ c.in_err-byte.ensures.kept c.in_err-byte.ensures.fault c.in_err-byte.ensures.failed c.bytes.invariant.sink_well)
+    (cut_reading _ _ _ _ _ _ _ _ c.bytes.invariant.talking _ _ _ _ c.in_err-byte.ensures.kept c.in_err-byte.ensures.fault c.in_err-byte.ensures.failed
+    c.bytes.invariant.sink_well)
 
 pub returns-then-taken-eq-INPUT_LIMIT-clause-cut :
     goal.returns-then-taken-eq-INPUT_LIMIT-clause-cut

@@ -53,3 +53,17 @@ five_digits n h =
     ∙ ap (λ u. u ++ (48 + n / 10 % 10) ∷ []) (padded_step 1 (n / 10 / 10) (omega arith)
     ∙ ap (λ u. u ++ (48 + n / 10 / 10 % 10) ∷ []) (padded_step 0 (n / 10 / 10 / 10) (omega arith)
     ∙ ap (λ u. u ++ (48 + n / 10 / 10 / 10 % 10) ∷ []) (padded_last (n / 10 / 10 / 10 / 10) (omega arith)))))
+
+-- a count in eight digits
+pub eight_digits : (n : ℕ) → n < 100000000 → padded 8 n ≡ (48 + n / 10 / 10 / 10 / 10 / 10 / 10 / 10) ∷ (48 + n / 10 / 10 / 10 / 10 / 10 / 10 % 10)
+    ∷ (48 + n / 10 / 10 / 10 / 10 / 10 % 10) ∷ (48 + n / 10 / 10 / 10 / 10 % 10) ∷ (48 + n / 10 / 10 / 10 % 10) ∷ (48 + n / 10 / 10 % 10)
+    ∷ (48 + n / 10 % 10) ∷ (48 + n % 10) ∷ []
+eight_digits n h =
+    padded_step 6 n (omega arith)
+    ∙ ap (λ u. u ++ (48 + n % 10) ∷ []) (padded_step 5 (n / 10) (omega arith)
+    ∙ ap (λ u. u ++ (48 + n / 10 % 10) ∷ []) (padded_step 4 (n / 10 / 10) (omega arith)
+    ∙ ap (λ u. u ++ (48 + n / 10 / 10 % 10) ∷ []) (padded_step 3 (n / 10 / 10 / 10) (omega arith)
+    ∙ ap (λ u. u ++ (48 + n / 10 / 10 / 10 % 10) ∷ []) (padded_step 2 (n / 10 / 10 / 10 / 10) (omega arith)
+    ∙ ap (λ u. u ++ (48 + n / 10 / 10 / 10 / 10 % 10) ∷ []) (padded_step 1 (n / 10 / 10 / 10 / 10 / 10) (omega arith)
+    ∙ ap (λ u. u ++ (48 + n / 10 / 10 / 10 / 10 / 10 % 10) ∷ []) (padded_step 0 (n / 10 / 10 / 10 / 10 / 10 / 10) (omega arith)
+    ∙ ap (λ u. u ++ (48 + n / 10 / 10 / 10 / 10 / 10 / 10 % 10) ∷ []) (padded_last (n / 10 / 10 / 10 / 10 / 10 / 10 / 10) (omega arith))))))))

@@ -1,12 +1,37 @@
 //! Numbers with zeros in front.
 
-ghost use Rattle.std.specs.Prelude.{◌≡◌, ◌∷◌, Some};
+ghost use Rattle.std.specs.Prelude.{◌≡◌, ◌<◌, ◌∷◌, Some};
 ghost use Rattle.std.specs.List.{AllByRecursion, flat_map};
 ghost use Rattle.std.specs.Str.{IsAscii};
 ghost use Rattle.pm_disasm.specs.Shown.{padded};
 ghost use Rattle.pm_debug.specs.Trace.{top_text};
 
 use std::fmt;
+
+/// A count in eight digits.
+#[tactic(auto, using(crate::proofs::Zeros::eight_digits))]
+fn eight_digits(count: u32) -> [u8; 8]
+    requires few { count < 100000000 }
+    ensures digits { result ≡ padded 8 count }
+    ensures ascii { IsAscii result }
+{
+    let tens = count / 10;
+    let hundreds = tens / 10;
+    let thousands = hundreds / 10;
+    let fifth = thousands / 10;
+    let sixth = fifth / 10;
+    let seventh = sixth / 10;
+    [
+        b'0' + (seventh / 10) as u8,
+        b'0' + (seventh % 10) as u8,
+        b'0' + (sixth % 10) as u8,
+        b'0' + (fifth % 10) as u8,
+        b'0' + (thousands % 10) as u8,
+        b'0' + (hundreds % 10) as u8,
+        b'0' + (tens % 10) as u8,
+        b'0' + (count % 10) as u8,
+    ]
+}
 
 /// A count of steps in at least eight digits.
 #[derive(Clone, Copy)]
@@ -18,8 +43,21 @@ impl fmt::Display for Count {
     #[tactic(auto, using(pm_disasm::proofs::Digits::padded_written))]
     fn fmt<W: fmt::Write>(&self, f: &mut fmt::Formatter<W>) -> fmt::Result {
         let count = self.0;
-        write!(f, "{count:08}")
+        if count >= 100_000_000 {
+            return write!(f, "{count:08}");
+        }
+        let digits = eight_digits(count as u32);
+        f.write_str(ascii_text(&digits))
     }
+}
+
+/// Characters as a text.
+#[tactic(auto, using(crate::proofs::Columns::ascii_utf8))]
+fn ascii_text(characters: &[u8]) -> &str
+    requires ascii { IsAscii characters.now }
+    ensures text { result.now ≡ characters.now }
+{
+    str::from_utf8(characters).unwrap()
 }
 
 /// A space and five characters.

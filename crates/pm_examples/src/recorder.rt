@@ -120,11 +120,7 @@ impl<'a> Given<'a> {
 }
 
 impl Source for Given<'_> {
-    ghost remaining = { λ _. None };
-
-    ghost has_failed = { λ source. source.failed };
-
-    ghost given = { λ source. source.given };
+    ghost seen = { λ source. record { remaining = None; failed = source.failed; given = source.given } };
 
     fn read(&mut self, buf: &mut [u8]) -> io::Result<usize> {
         let outcome = self.give(buf);
@@ -168,9 +164,7 @@ impl<'a> Taken<'a> {
 }
 
 impl Sink for Taken<'_> {
-    ghost contents = { λ _. None };
-
-    ghost has_failed = { λ sink. sink.failed };
+    ghost seen = { λ sink. record { contents = None; failed = sink.failed } };
 
     fn write(&mut self, buf: &[u8]) -> io::Result<usize> {
         let outcome = self.take(buf);

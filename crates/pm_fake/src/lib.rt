@@ -5,6 +5,6 @@ mod disk;
 mod runtime;
 mod streams;
 
-pub use disk::{Disk, Inode, Name};
+pub use disk::{Act, Disk, Inode, Meanwhile, Name};
 pub use runtime::{FakeFile, FakeRuntime};
 pub use streams::Typed;

@@ -26,9 +26,9 @@ fn overwrite<R: Files>(rt: &R, path: &str, bytes: &[u8]) -> io::Result<()> {
 }
 
 /// Whether a folder takes no new name, or the file is one that no other can stand in for.
-fn is_denied(error: &io::Error) -> bool {
+fn is_denied(kind: ErrorKind) -> bool {
     matches!(
-        error.kind(),
+        kind,
         ErrorKind::PermissionDenied
             | ErrorKind::ResourceBusy
             | ErrorKind::ReadOnlyFilesystem
@@ -87,11 +87,11 @@ fn open_beside<R: Host>(rt: &R, path: &str) -> io::Result<R::File> {
     Err(io::Error::from(ErrorKind::WouldBlock))
 }
 
-/// Fills a file beside another and puts it in its place.
+/// Fills a file that is to stand in the place of another.
 fn fill<R: Host>(
     rt: &R,
     file: &mut R::File,
-    (beside, path): (&str, &str),
+    beside: &str,
     old: &Option<Metadata>,
     bytes: &[u8],
 ) -> io::Result<()> {
@@ -100,19 +100,29 @@ fn fill<R: Host>(
         dress(rt, beside, file, old)?;
     }
     file.write_all(bytes)?;
-    file.sync_all()?;
-    fs::rename(rt, beside, path)
+    file.sync_all()
+}
+
+/// Puts a filled file in the place of a path, unless another one was held there and has lost its name.
+fn take_place<R: Host>(rt: &R, place: &WritePath<R::File>, path: &str) -> Result<(), DiskFault> {
+    held_or_none(rt, place)?;
+    fs::rename(rt, place.beside.as_str(), path).map_err(DiskFault::of_write)
 }
 
 /// Puts a new file with the bytes in the place of a path, or leaves all as it was.
 fn put_beside<R: Host>(
     rt: &R,
-    (beside, path): (&str, &str),
+    place: &WritePath<R::File>,
+    path: &str,
     old: &Option<Metadata>,
     bytes: &[u8],
-) -> io::Result<()> {
-    let mut file = open_beside(rt, beside)?;
-    let done = fill(rt, &mut file, (beside, path), old, bytes);
+) -> Result<(), DiskFault> {
+    let beside = place.beside.as_str();
+    let mut file = open_beside(rt, beside).map_err(DiskFault::of_write)?;
+    let done = match fill(rt, &mut file, beside, old, bytes) {
+        Ok(()) => take_place(rt, place, path),
+        Err(error) => Err(DiskFault::of_write(error)),
+    };
     if done.is_ok() {
         sync_folder(rt, path);
     } else {
@@ -140,33 +150,46 @@ fn found<R: Host>(rt: &R, path: &str) -> io::Result<Option<Metadata>> {
     }
 }
 
-fn write<R: Host>(
-    rt: &R,
-    place: &WritePath<R::File>,
-    old: &Option<Metadata>,
-    bytes: &[u8],
-) -> io::Result<()> {
-    let name = place.name.as_str();
-    let Some(path) = &place.path else {
-        return overwrite(rt, name, bytes);
-    };
-    if let Some(old) = old {
-        if is_fixed(rt, name, old)? {
-            return overwrite(rt, name, bytes);
-        }
-    }
-    let paths = (place.beside.as_str(), path.as_str());
-    match put_beside(rt, paths, old, bytes) {
-        Err(error) if is_denied(&error) => overwrite(rt, name, bytes),
-        done => done,
-    }
-}
-
 /// Whether the file that is held has been replaced by another.
 fn is_replaced<R: Host>(rt: &R, place: &WritePath<R::File>) -> io::Result<bool> {
     match (&place.held, &place.path) {
         (Some(held), Some(path)) => Ok(!rt.is_named(path.as_str(), held)?),
         _ => Ok(false),
+    }
+}
+
+/// The file that a path names, if there is one. `Replaced` where another one was held.
+fn held_or_none<R: Host>(
+    rt: &R,
+    place: &WritePath<R::File>,
+) -> Result<Option<Metadata>, DiskFault> {
+    let old = found(rt, place.name.as_str()).map_err(DiskFault::of_write)?;
+    if old.is_some() && is_replaced(rt, place).map_err(DiskFault::of_write)? {
+        return Err(DiskFault::Replaced);
+    }
+    Ok(old)
+}
+
+fn write<R: Host>(
+    rt: &R,
+    place: &WritePath<R::File>,
+    old: &Option<Metadata>,
+    bytes: &[u8],
+) -> Result<(), DiskFault> {
+    let name = place.name.as_str();
+    let Some(path) = &place.path else {
+        return overwrite(rt, name, bytes).map_err(DiskFault::of_write);
+    };
+    if let Some(old) = old {
+        if is_fixed(rt, name, old).map_err(DiskFault::of_write)? {
+            return overwrite(rt, name, bytes).map_err(DiskFault::of_write);
+        }
+    }
+    match put_beside(rt, place, path.as_str(), old, bytes) {
+        Err(DiskFault::Write(kind)) if is_denied(kind) => {
+            overwrite(rt, name, bytes).map_err(DiskFault::of_write)
+        }
+        done => done,
     }
 }
 
@@ -179,9 +202,6 @@ pub(crate) fn replace<R: Host>(
     place: &WritePath<R::File>,
     bytes: &[u8],
 ) -> Result<(), DiskFault> {
-    let old = found(rt, place.name.as_str()).map_err(DiskFault::of_write)?;
-    if old.is_some() && is_replaced(rt, place).map_err(DiskFault::of_write)? {
-        return Err(DiskFault::Replaced);
-    }
-    write(rt, place, &old, bytes).map_err(DiskFault::of_write)
+    let old = held_or_none(rt, place)?;
+    write(rt, place, &old, bytes)
 }

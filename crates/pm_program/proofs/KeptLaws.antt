@@ -3,7 +3,8 @@ use Rattle.std.proofs.Common.{◌≡◌, ℕ, List, Option, None, Some, subst, I
 use Rattle.std.specs.declared.alloc.Global.{Global}
 use Rattle.pm_files.specs.Held.{Files, Keeps}
 use Rattle.pm_tool.specs.Outcomes.{Said, IsOutcome}
-use Rattle.pm_tool.specs.Said.{job_said, Tells}
+use Rattle.pm_streams.specs.Streams.{Streams}
+use Rattle.pm_tool.specs.Said.{job_said, Tells, TellsAll}
 use Rattle.pm_tool.specs.declared.outcome.Job.{Job}
 use Rattle.pm_tool.specs.declared.outcome.Outcome.{Outcome}
 use Rattle.pm_program.specs.Kept.{KeepsRun, KeepsRunSaid, KeepsSaid, KeepsTold, PrintsIf, ReadsEach, SaysOf, TellsOf, has_run, paths_of}
@@ -65,12 +66,17 @@ known_run_said (Some input) left held holds old ready read new program kept disk
 )
 
 -- where the input is known, a job tells what is said to it of the images that were read
-pub known_tells : (job : List (Option (Vec ℕ Global)) → Job) (had left held holds : Option (List ℕ)) (files : Files)
+pub known_tells : (job : List (Option (Vec ℕ Global)) → Job) (old new : Streams) (files : Files)
     (program : Program) (disks : List (Option (Vec ℕ Global))) (outcome : Outcome) (from : List ℕ)
     → from ≡ string_bytes program.disk
-    → IfSome had (λ input. Tells left held holds outcome (job_said (job disks) input))
+    → TellsAll old new outcome (job_said (job disks))
     → ReadsEach files (paths_of from program.others) (images_of disks)
-    → IfSome had (λ input. TellsOf job files left held holds outcome program input)
-known_tells job None left held holds files program disks outcome from is_from tells reads = tt
-known_tells job (Some input) left held holds files program disks outcome from is_from tells reads =
-    (disks, subst (λ path. ReadsEach files (paths_of path program.others) (images_of disks)) is_from reads, tells)
+    → IfSome old.source.remaining (λ input. TellsOf job files old new outcome program input)
+known_tells job old new files program disks outcome from is_from tells reads = known old.source.remaining tells
+  where
+    known : (had : Option (List ℕ))
+        → IfSome had (λ input. Tells new.source.remaining old.sink.contents new.sink.contents outcome (job_said (job disks) input))
+        → IfSome had (λ input. TellsOf job files old new outcome program input)
+    known None told = tt
+    known (Some input) told =
+        (disks, subst (λ path. ReadsEach files (paths_of path program.others) (images_of disks)) is_from reads, told)

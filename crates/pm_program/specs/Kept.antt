@@ -8,6 +8,7 @@ use Rattle.pm_volume.specs.Headers.{blank_fault}
 use Rattle.pm_tool.specs.Files.{said_files, said_new, said_repair}
 use Rattle.pm_tool.specs.Disks.{images_of}
 use Rattle.pm_tool.specs.Outcomes.{Said}
+use Rattle.pm_streams.specs.Streams.{Streams}
 use Rattle.pm_tool.specs.Said.{Tells, job_said}
 use Rattle.pm_tool.specs.declared.outcome.Exit.{Exit}
 use Rattle.pm_tool.specs.declared.outcome.Exit.TheVariants as exits
@@ -110,18 +111,16 @@ KeepsRunSaid old new program kept input = (disks : List (Option (Vec ℕ Global)
 
 -- A job of a program on the images that its paths hold, each on its unit: what is written, answered and left unread is
 -- what is said of them and of the input.
-abbrev pub TellsOf : (List (Option (Vec ℕ Global)) → Job) → Files → Option (List ℕ) → Option (List ℕ) → Option (List ℕ)
-    → Outcome → Program → List ℕ → Type 0
-TellsOf job files left held holds outcome program input = (disks : List (Option (Vec ℕ Global)))
+abbrev pub TellsOf : (List (Option (Vec ℕ Global)) → Job) → Files → Streams → Streams → Outcome → Program → List ℕ
+    → Type 0
+TellsOf job files old new outcome program input = (disks : List (Option (Vec ℕ Global)))
     × ReadsEach files (paths_of (string_bytes program.disk) program.others) (images_of disks)
-    × Tells left held holds outcome (job_said (job disks) input)
+    × Tells new.source.remaining old.sink.contents new.sink.contents outcome (job_said (job disks) input)
 
-abbrev pub TellsTrace : Files → Option (List ℕ) → Option (List ℕ) → Option (List ℕ) → Outcome → Program → List ℕ
-    → Type 0
-TellsTrace files left held holds outcome program input =
-    TellsOf (λ disks. jobs.Trace disks program.name program.limit) files left held holds outcome program input
+abbrev pub TellsTrace : Files → Streams → Streams → Outcome → Program → List ℕ → Type 0
+TellsTrace files old new outcome program input =
+    TellsOf (λ disks. jobs.Trace disks program.name program.limit) files old new outcome program input
 
-abbrev pub TellsDebug : Files → Option (List ℕ) → Option (List ℕ) → Option (List ℕ) → Outcome → Program → List ℕ
-    → Type 0
-TellsDebug files left held holds outcome program input =
-    TellsOf (λ disks. jobs.Debug disks program.name) files left held holds outcome program input
+abbrev pub TellsDebug : Files → Streams → Streams → Outcome → Program → List ℕ → Type 0
+TellsDebug files old new outcome program input =
+    TellsOf (λ disks. jobs.Debug disks program.name) files old new outcome program input

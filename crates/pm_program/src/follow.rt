@@ -1,5 +1,5 @@
 //! A plan is followed: its streams, its files, its job.
-ghost use Rattle.std.specs.Prelude.{◌≡◌, false};
+ghost use Rattle.pm_streams.specs.Streams.{AreWell, both};
 
 use crate::console::{Keys, Lined, Prompted};
 use crate::end::{Conflict, End};
@@ -74,8 +74,7 @@ fn act<S: Store, I: Source, O: Sink>(
     sink: &mut O,
     plan: Plan,
 ) -> Result<Outcome, DiskFault>
-    requires source_well { I.has_failed source.old ≡ false }
-    requires sink_well { O.has_failed sink.old ≡ false }
+    requires well { AreWell (both (I.seen source.old) (O.seen sink.old)) }
 {
     match plan {
         Plan::Job(job) => Ok(pm_tool::run(alloc, source, sink, job)),

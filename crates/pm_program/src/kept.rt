@@ -2,6 +2,7 @@
 ghost use Rattle.std.specs.Prelude.{◌≡◌, false, IfOk, IfSome, OnErr, OnOk, string_bytes, option_map, vec_items};
 ghost use Rattle.pm_tool.specs.Said.{IsSoundExit};
 ghost use Rattle.pm_files.specs.Held.{Keeps};
+ghost use Rattle.pm_streams.specs.Streams.{AreWell, both};
 ghost use Rattle.pm_program.specs.Kept.{KeepsRun, KeepsFront, KeepsSaid, PrintsIf, SaysOf, has_run};
 ghost use Rattle.pm_program.specs.Kept.{KeepsRunSaid, Reads, ReadsEach, TellsDebug, TellsTrace, paths_of};
 ghost use Rattle.pm_tool.specs.Disks.{images_of};
@@ -52,11 +53,10 @@ pub fn do_files<S: Store, I: Source, O: Sink>(
     path: &str,
     verb: Verb,
 ) -> Result<Outcome, DiskFault>
-    requires source_well { I.has_failed source.old ≡ false }
-    requires sink_well { O.has_failed sink.old ≡ false }
+    requires well { AreWell (both (I.seen source.old) (O.seen sink.old)) }
     ensures kept { IfOk result (λ outcome.
         Keeps (S.files store.old) (S.files store.new) path.now (option_map vec_items outcome.image)) }
-    ensures said { IfOk result (λ outcome. IsSoundExit outcome.exit → IfSome (I.remaining source.old) (λ input.
+    ensures said { IfOk result (λ outcome. IsSoundExit outcome.exit → IfSome (I.seen source.old).remaining (λ input.
         KeepsSaid (S.files store.old) (S.files store.new) path.now verb input)) }
     ensures stays { OnErr result (S.files store.new ≡ S.files store.old) }
 {
@@ -195,11 +195,10 @@ pub fn do_run<S: Store, I: Source, O: Sink>(
     program: Program,
     kept: KeptOfRun,
 ) -> Result<Outcome, DiskFault>
-    requires source_well { I.has_failed source.old ≡ false }
-    requires sink_well { O.has_failed sink.old ≡ false }
+    requires well { AreWell (both (I.seen source.old) (O.seen sink.old)) }
     ensures kept { IfOk result (λ outcome.
         KeepsRun (S.files store.old) (S.files store.new) (string_bytes program.disk) kept.printing outcome) }
-    ensures said { IfOk result (λ outcome. IsSoundExit outcome.exit → IfSome (I.remaining source.old) (λ input.
+    ensures said { IfOk result (λ outcome. IsSoundExit outcome.exit → IfSome (I.seen source.old).remaining (λ input.
         KeepsRunSaid (S.files store.old) (S.files store.new) program kept input)) }
     ensures front { OnErr result (KeepsFront (S.files store.old) (S.files store.new) (string_bytes program.disk)) }
 {
@@ -233,12 +232,11 @@ pub fn do_trace<S: Store, I: Source, O: Sink>(
     sink: &mut O,
     program: Program,
 ) -> Result<Outcome, DiskFault>
-    requires source_well { I.has_failed source.old ≡ false }
-    requires sink_well { O.has_failed sink.old ≡ false }
+    requires well { AreWell (both (I.seen source.old) (O.seen sink.old)) }
     ensures stays { S.files store.new ≡ S.files store.old }
-    ensures said { IfOk result (λ outcome. IsSoundExit outcome.exit → IfSome (I.remaining source.old) (λ input.
-        TellsTrace (S.files store.old) (I.remaining source.new) (O.contents sink.old) (O.contents sink.new) outcome
-        program input)) }
+    ensures said { IfOk result (λ outcome. IsSoundExit outcome.exit → IfSome (I.seen source.old).remaining (λ input.
+        TellsTrace (S.files store.old) (both (I.seen source.old) (O.seen sink.old))
+        (both (I.seen source.new) (O.seen sink.new)) outcome program input)) }
 {
     let disks = images(alloc, store, program.disk.as_str(), &program.others)?;
     let Program { name, limit, .. } = program;
@@ -256,12 +254,11 @@ pub fn do_debug<S: Store, I: Source, O: Sink>(
     sink: &mut O,
     program: Program,
 ) -> Result<Outcome, DiskFault>
-    requires source_well { I.has_failed source.old ≡ false }
-    requires sink_well { O.has_failed sink.old ≡ false }
+    requires well { AreWell (both (I.seen source.old) (O.seen sink.old)) }
     ensures stays { S.files store.new ≡ S.files store.old }
-    ensures said { IfOk result (λ outcome. IsSoundExit outcome.exit → IfSome (I.remaining source.old) (λ input.
-        TellsDebug (S.files store.old) (I.remaining source.new) (O.contents sink.old) (O.contents sink.new) outcome
-        program input)) }
+    ensures said { IfOk result (λ outcome. IsSoundExit outcome.exit → IfSome (I.seen source.old).remaining (λ input.
+        TellsDebug (S.files store.old) (both (I.seen source.old) (O.seen sink.old))
+        (both (I.seen source.new) (O.seen sink.new)) outcome program input)) }
 {
     let disks = images(alloc, store, program.disk.as_str(), &program.others)?;
     let Program { name, .. } = program;

@@ -7,6 +7,34 @@ use Rattle.pm_streams.specs.declared.fault.Fault.{Fault}
 use Rattle.pm_streams.specs.declared.fault.Fault.TheVariants as faults
 use Rattle.pm_streams.specs.declared.source.TheConstants.{INPUT_LIMIT}
 
+-- what a source is seen as
+pub record Incoming : Type 0 where
+  -- the bytes that are still to come, where they are known
+  pub remaining : Option (List ℕ)
+  -- a read has answered an error
+  pub failed : Bool
+  -- how many bytes it gave; it counts as far as 2^64 - 1
+  pub given : ℕ
+
+-- what a sink is seen as
+pub record Outgoing : Type 0 where
+  -- the bytes that were written, where they are known
+  pub contents : Option (List ℕ)
+  -- a write has answered an error, or has taken no byte
+  pub failed : Bool
+
+-- the two streams of a job
+pub record Streams : Type 0 where
+  pub source : Incoming
+  pub sink : Outgoing
+
+abbrev pub both : Incoming → Outgoing → Streams
+both source sink = record { source = source; sink = sink }
+
+-- neither stream has failed
+abbrev pub AreWell : Streams → Type 0
+AreWell s = (s.source.failed ≡ false) × (s.sink.failed ≡ false)
+
 -- a write that failed: it answered an error, or took no byte
 abbrev pub took_nothing : {E : Type 0} → Result ℕ E → Bool
 took_nothing (Ok n) = n == 0
@@ -72,3 +100,30 @@ abbrev pub IsBound : Fault → ℕ → ℕ → Bool → Type 0
 IsBound faults.Read old new source_failed = CountsOn old → (source_failed ≡ true) ⊎ (old + INPUT_LIMIT < new)
 IsBound faults.Write old new source_failed = IsWithin old new
 IsBound faults.NoMemory old new source_failed = IsWithin old new
+
+-- What a job that may be broken off read, by the count of its source.
+abbrev pub IsCounted : {A : Type 0} → Incoming → Incoming → Result A Fault → Type 0
+IsCounted old new (Ok a) = IsWithin old.given new.given
+IsCounted old new (Err fault) = IsBound fault old.given new.given new.failed
+
+-- ---- one byte of an input that has a bound
+
+-- The next byte of an input, of which so many had been taken before and so many are taken then, if one is left.
+abbrev pub TakesByte : Incoming → Incoming → ℕ → ℕ → Option ℕ → Type 0
+TakesByte old new before after None =
+    ReadsByte old.remaining new.remaining None × CountsByte old.given new.given None × (after ≡ before)
+TakesByte old new before after (Some byte) =
+    ReadsByte old.remaining new.remaining (Some byte) × CountsByte old.given new.given (Some byte)
+    × (after ≡ before + 1) × (before < INPUT_LIMIT)
+
+-- some byte was read
+abbrev pub IsByteMore : Incoming → Incoming → Type 0
+IsByteMore old new =
+    (byte : ℕ) × Consumes old.remaining new.remaining (byte ∷ []) × CountsByte old.given new.given (Some byte)
+
+-- No byte could be taken: the read failed and took none, or the input had given all the bytes that it may have, and one
+-- more came.
+abbrev pub TakesNone : Incoming → Incoming → ℕ → Type 0
+TakesNone old new before =
+    ((new.failed ≡ true) × Keeps old.remaining new.remaining)
+    ⊎ ((new.failed ≡ false) × (INPUT_LIMIT ≤ before) × IsByteMore old new)

@@ -10,4 +10,4 @@ mod source;
 pub use fault::Fault;
 pub use nothing::Nothing;
 pub use sink::{Output, Sink, Writer, write_all};
-pub use source::{INPUT_LIMIT, Input, Reader, Source, read_all, read_byte};
+pub use source::{INPUT_LIMIT, Input, Reader, Source, next_byte, read_all};

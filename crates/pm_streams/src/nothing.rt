@@ -9,11 +9,7 @@ use std::io;
 pub struct Nothing;
 
 impl Source for Nothing {
-    ghost remaining = { λ _. Some [] };
-
-    ghost has_failed = { λ _. false };
-
-    ghost given = { λ _. 0 };
+    ghost seen = { λ _. record { remaining = Some []; failed = false; given = 0 } };
 
     fn read(&mut self, _buf: &mut [u8]) -> io::Result<usize> {
         Ok(0)

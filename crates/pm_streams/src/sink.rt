@@ -2,28 +2,26 @@
 ghost use Rattle.std.specs.Prelude.{◌≡◌, ⊤, Bool, Option, false, ◌||◌, List, ℕ, is_err, OnOk, IfErr};
 ghost use Rattle.std.specs.Io.{WritesAtMost};
 ghost use Rattle.std.specs.Io.KnownBytes.{WriteAppends, Appends};
-ghost use Rattle.pm_streams.specs.Streams.{took_nothing, AppendsFront};
+ghost use Rattle.pm_streams.specs.Streams.{Outgoing, took_nothing, AppendsFront};
 
 use crate::fault::Fault;
 use std::io;
 
 /// What a job writes its output to.
 pub trait Sink {
-    /// The bytes that were written, where they are known.
-    ghost contents: { Self → Option (List ℕ) };
-
-    /// A write has answered an error, or has taken no byte.
-    ghost has_failed: { Self → Bool };
+    /// The bytes that were written, where they are known; and whether a write has answered an error or has taken no
+    /// byte.
+    ghost seen: { Self → Outgoing };
 
     /// Writes some bytes of the front of `buf` and answers how many. An error writes nothing.
     fn write(&mut self, buf: &[u8]) -> io::Result<usize>
         ensures bound { WritesAtMost result buf.now }
-        ensures bytes { WriteAppends (contents self.old) (contents self.new) result buf.now }
-        ensures failed { has_failed self.new ≡ (has_failed self.old || took_nothing result) };
+        ensures bytes { WriteAppends (seen self.old).contents (seen self.new).contents result buf.now }
+        ensures failed { (seen self.new).failed ≡ ((seen self.old).failed || took_nothing result) };
 
     /// Whether a write has answered an error or has taken no byte.
     fn failed(&self) -> bool
-        ensures value { result ≡ has_failed self.now };
+        ensures value { result ≡ (seen self.now).failed };
 }
 
 /// A writer, and what one call of it comes to. Each writer is one.
@@ -61,8 +59,8 @@ pub struct Writer<W> {
 impl<W: Output> Writer<W> {
     /// A sink that writes to `inner`, and has not failed.
     pub fn new(inner: W) -> Writer<W>
-        ensures contents { ⟦<Writer<W> as Sink>⟧.contents result ≡ W.taken inner }
-        ensures failed { ⟦<Writer<W> as Sink>⟧.has_failed result ≡ false }
+        ensures contents { (⟦<Writer<W> as Sink>⟧.seen result).contents ≡ W.taken inner }
+        ensures failed { (⟦<Writer<W> as Sink>⟧.seen result).failed ≡ false }
     {
         Writer {
             inner,
@@ -72,9 +70,7 @@ impl<W: Output> Writer<W> {
 }
 
 impl<W: Output> Sink for Writer<W> {
-    ghost contents = { λ sink. W.taken sink.inner };
-
-    ghost has_failed = { λ sink. sink.failed };
+    ghost seen = { λ sink. record { contents = W.taken sink.inner; failed = sink.failed } };
 
     fn write(&mut self, buf: &[u8]) -> io::Result<usize>
         ensures bound { WritesAtMost result buf.now }
@@ -95,11 +91,11 @@ impl<W: Output> Sink for Writer<W> {
 /// Writes all of `bytes`, by as many writes as it takes. The sink may not have failed before. `Write` where a write
 /// fails or takes no byte: a front of the bytes is written then.
 pub fn write_all<W: Sink>(sink: &mut W, bytes: &[u8]) -> Result<(), Fault>
-    requires well { W.has_failed sink.old ≡ false }
-    ensures all { OnOk result (Appends (W.contents sink.old) (W.contents sink.new) bytes.now) }
+    requires well { (W.seen sink.old).failed ≡ false }
+    ensures all { OnOk result (Appends (W.seen sink.old).contents (W.seen sink.new).contents bytes.now) }
     ensures fault { IfErr result (λ fault. fault ≡ Fault.Write) }
-    ensures front { AppendsFront (W.contents sink.old) (W.contents sink.new) bytes.now }
-    ensures failed { W.has_failed sink.new ≡ is_err result }
+    ensures front { AppendsFront (W.seen sink.old).contents (W.seen sink.new).contents bytes.now }
+    ensures failed { (W.seen sink.new).failed ≡ is_err result }
 {
     let mut rest = bytes;
     'writing: while !rest.is_empty() {

@@ -2,7 +2,8 @@
 ghost use Rattle.std.specs.Prelude.{◌≡◌, ⊤, Bool, Option, false, ◌||◌, List, ℕ, is_err, OnOk, OnErr, IfErr, IfOk};
 ghost use Rattle.std.specs.Io.{ReadsAtMost};
 ghost use Rattle.std.specs.Io.KnownBytes.{ReadConsumes, Consumes, Keeps};
-ghost use Rattle.pm_streams.specs.Streams.{ReadsAll, ReadsByte, IsCause, Counts, CountsByte, IsWithin, IsBound};
+ghost use Rattle.pm_streams.specs.Streams.{Incoming, ReadsAll, ReadsByte, IsCause, Counts, CountsByte, IsCounted};
+ghost use Rattle.pm_streams.specs.Streams.{TakesByte, TakesNone};
 
 use crate::fault::Fault;
 use std::alloc::Global;
@@ -10,26 +11,21 @@ use std::io;
 
 /// What a job reads its input from.
 pub trait Source {
-    /// The bytes that are still to come, where they are known.
-    ghost remaining: { Self → Option (List ℕ) };
-
-    /// A read has answered an error.
-    ghost has_failed: { Self → Bool };
-
-    /// How many bytes it gave. It counts as far as 2^64 - 1.
-    ghost given: { Self → ℕ };
+    /// The bytes that are still to come, where they are known; whether a read has answered an error; and how many bytes
+    /// it gave.
+    ghost seen: { Self → Incoming };
 
     /// Reads some bytes into the front of `buf` and answers how many: none only at the end, or where `buf` is empty. An
     /// error reads nothing.
     fn read(&mut self, buf: &mut [u8]) -> io::Result<usize>
         ensures bound { ReadsAtMost result buf.new }
-        ensures bytes { ReadConsumes (remaining self.old) (remaining self.new) result buf.new }
-        ensures failed { has_failed self.new ≡ (has_failed self.old || is_err result) }
-        ensures counts { Counts (given self.old) (given self.new) result };
+        ensures bytes { ReadConsumes (seen self.old).remaining (seen self.new).remaining result buf.new }
+        ensures failed { (seen self.new).failed ≡ ((seen self.old).failed || is_err result) }
+        ensures counts { Counts (seen self.old).given (seen self.new).given result };
 
     /// Whether a read has answered an error.
     fn failed(&self) -> bool
-        ensures value { result ≡ has_failed self.now };
+        ensures value { result ≡ (seen self.now).failed };
 }
 
 /// A reader, and what one call of it comes to. Each reader is one.
@@ -68,9 +64,9 @@ pub struct Reader<R> {
 impl<R: Input> Reader<R> {
     /// A source of the bytes of `inner`, which has not failed and gave none.
     pub fn new(inner: R) -> Reader<R>
-        ensures remaining { ⟦<Reader<R> as Source>⟧.remaining result ≡ R.coming inner }
-        ensures failed { ⟦<Reader<R> as Source>⟧.has_failed result ≡ false }
-        ensures given { ⟦<Reader<R> as Source>⟧.given result ≡ 0 }
+        ensures remaining { (⟦<Reader<R> as Source>⟧.seen result).remaining ≡ R.coming inner }
+        ensures failed { (⟦<Reader<R> as Source>⟧.seen result).failed ≡ false }
+        ensures given { (⟦<Reader<R> as Source>⟧.seen result).given ≡ 0 }
     {
         Reader {
             inner,
@@ -81,11 +77,8 @@ impl<R: Input> Reader<R> {
 }
 
 impl<R: Input> Source for Reader<R> {
-    ghost remaining = { λ source. R.coming source.inner };
-
-    ghost has_failed = { λ source. source.failed };
-
-    ghost given = { λ source. source.given };
+    ghost seen = { λ source.
+        record { remaining = R.coming source.inner; failed = source.failed; given = source.given } };
 
     fn read(&mut self, buf: &mut [u8]) -> io::Result<usize>
         ensures bound { ReadsAtMost result buf.new }
@@ -113,15 +106,14 @@ pub const INPUT_LIMIT: usize = 16_777_216;
 /// Reads all that is left. The source may not have failed before. `Read` where a read fails, or more than `INPUT_LIMIT`
 /// bytes come; `NoMemory` where memory is refused. What was read by then is lost.
 pub fn read_all<R: Source>(alloc: Global, source: &mut R) -> Result<Vec<u8>, Fault>
-    requires well { R.has_failed source.old ≡ false }
-    ensures all { IfOk result (λ input. ReadsAll (R.remaining source.old) (R.remaining source.new) input.items) }
-    ensures well { OnOk result (R.has_failed source.new ≡ false) }
+    requires well { (R.seen source.old).failed ≡ false }
+    ensures all { IfOk result (λ input.
+        ReadsAll (R.seen source.old).remaining (R.seen source.new).remaining input.items) }
+    ensures well { OnOk result ((R.seen source.new).failed ≡ false) }
     ensures cause { IfErr result (λ fault. (read : List ℕ)
-        × Consumes (R.remaining source.old) (R.remaining source.new) read
-        × IsCause fault (R.has_failed source.new) false read) }
-    ensures few { OnOk result (IsWithin (R.given source.old) (R.given source.new)) }
-    ensures bound { IfErr result (λ fault.
-        IsBound fault (R.given source.old) (R.given source.new) (R.has_failed source.new)) }
+        × Consumes (R.seen source.old).remaining (R.seen source.new).remaining read
+        × IsCause fault (R.seen source.new).failed false read) }
+    ensures counts { IsCounted (R.seen source.old) (R.seen source.new) result }
 {
     let mut input = Vec::new(alloc);
     let mut buffer = [0; 4096];
@@ -140,15 +132,15 @@ pub fn read_all<R: Source>(alloc: Global, source: &mut R) -> Result<Vec<u8>, Fau
     Ok(input)
 }
 
-/// Reads one byte, if one is left. The source may not have failed before. `Read` where the read fails, and then no byte
-/// is taken.
-pub fn read_byte<R: Source>(source: &mut R) -> Result<Option<u8>, Fault>
-    requires well { R.has_failed source.old ≡ false }
-    ensures byte { IfOk result (λ byte. ReadsByte (R.remaining source.old) (R.remaining source.new) byte) }
-    ensures failed { R.has_failed source.new ≡ is_err result }
+// Reads one byte, if one is left. The source may not have failed before. `Read` where the read fails, and then no byte
+// is taken.
+fn read_byte<R: Source>(source: &mut R) -> Result<Option<u8>, Fault>
+    requires well { (R.seen source.old).failed ≡ false }
+    ensures byte { IfOk result (λ byte. ReadsByte (R.seen source.old).remaining (R.seen source.new).remaining byte) }
+    ensures failed { (R.seen source.new).failed ≡ is_err result }
     ensures fault { IfErr result (λ fault. fault ≡ Fault.Read) }
-    ensures kept { OnErr result (Keeps (R.remaining source.old) (R.remaining source.new)) }
-    ensures counts { IfOk result (λ byte. CountsByte (R.given source.old) (R.given source.new) byte) }
+    ensures kept { OnErr result (Keeps (R.seen source.old).remaining (R.seen source.new).remaining) }
+    ensures counts { IfOk result (λ byte. CountsByte (R.seen source.old).given (R.seen source.new).given byte) }
 {
     let mut buffer = [0; 1];
     match source.read(&mut buffer) {
@@ -156,4 +148,25 @@ pub fn read_byte<R: Source>(source: &mut R) -> Result<Option<u8>, Fault>
         Ok(_) => Ok(Some(buffer[0])),
         Err(_) => Err(Fault::Read),
     }
+}
+
+/// Reads one byte of an input of which `taken` were read before, if one is left, and counts it. The source may not have
+/// failed before. `Read` where the read fails, and then no byte is taken; or where it is one byte more than
+/// `INPUT_LIMIT`.
+pub fn next_byte<R: Source>(source: &mut R, taken: &mut usize) -> Result<Option<u8>, Fault>
+    requires well { (R.seen source.old).failed ≡ false }
+    ensures byte { IfOk result (λ byte.
+        TakesByte (R.seen source.old) (R.seen source.new) taken.old taken.new byte) }
+    ensures well { OnOk result ((R.seen source.new).failed ≡ false) }
+    ensures fault { IfErr result (λ fault. fault ≡ Fault.Read) }
+    ensures none { OnErr result (TakesNone (R.seen source.old) (R.seen source.new) taken.old) }
+{
+    let byte = read_byte(source)?;
+    if byte.is_some() {
+        if *taken >= INPUT_LIMIT {
+            return Err(Fault::Read);
+        }
+        *taken += 1;
+    }
+    Ok(byte)
 }

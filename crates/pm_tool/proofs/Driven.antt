@@ -1,6 +1,6 @@
 -- How a run that is written as it goes goes on by one turn, and how it ends.
 use Rattle.std.proofs.Common.{◌≡◌, ℕ, ◌+◌, ◌-◌, ◌<◌, ◌≤◌, List, [], ◌∷◌, ◌++◌, Option, None, Bool, true}
-use Rattle.std.proofs.Common.{false, length, refl, sym, ap, ◌∙◌, append_assoc, append-nil, inl, subst}
+use Rattle.std.proofs.Common.{false, length, refl, sym, ap, ◌∙◌, append_assoc, append-nil, arith, inl, inr, subst}
 use Rattle.std.proofs.lemmas.List.{length-append}
 use Rattle.std.specs.Io.KnownBytes.{Consumes, Appends, Keeps}
 use Rattle.std.proofs.KnownBytes.{Consumes-trans, Consumes-nil, Consumes-kept}
@@ -15,7 +15,7 @@ use Rattle.pm_streams.specs.declared.fault.Fault.TheVariants as faults
 use Rattle.pm_streams.specs.declared.source.TheConstants.{INPUT_LIMIT}
 use Rattle.pm_tool.specs.declared.steps.Show.{Show}
 use Rattle.pm_tool.specs.Run.{after_showing, ended_run, shown_of, shown_by, run_of, IsOver, IsBroken}
-use Rattle.pm_streams.specs.Streams.{IsFront, AppendsFront, AppendsBut, IsCause, ReadsByte}
+use Rattle.pm_streams.specs.Streams.{Incoming, IsFront, AppendsFront, AppendsBut, IsCause, ReadsByte, TakesNone}
 use Rattle.pm_streams.proofs.Pages.{but_none, but_grown, but_turned, but_front, but_lost, but_cleared}
 use Rattle.pm_tool.proofs.Runs.{run_of-goes, run_of-waits, run_of-stuck, run_of-none}
 use Rattle.pm_streams.proofs.Transfers.{cause_longer, front_trans}
@@ -211,3 +211,17 @@ module _ (had left held holds : Option (List ℕ)) (page : List ℕ) (taken : �
           ∙ ap (λ t. ended_run t endings.Waiting after []) (append-nil u.shown));
       drained = λ _. none.1;
     }
+
+-- The page is blank, and no byte could be taken for a step that waits.
+pub broken_taking : (had : Option (List ℕ)) (old new : Incoming) (held holds : Option (List ℕ)) (page : List ℕ) (taken : ℕ) (show : Show) (limit : ℕ)
+    (began : State) (n : ℕ) (m : State) → IsUnderWay had old.remaining held holds page taken show limit began n m → TakesNone old new taken
+    → (fault : Fault) (sink_failed : Bool) → fault ≡ faults.Read → sink_failed ≡ false → page ≡ [] → (after : State) → 0 < n → stepped m ≡ (after, Waiting)
+    → IsBroken had new.remaining held holds show limit began fault new.failed sink_failed
+broken_taking had old new held holds page taken show limit began n m u none fault sink_failed e well blank after some step = elim none [
+  | inl k ↦ broken_reading had old.remaining held holds page taken show limit began n m u new.remaining fault new.failed sink_failed k.1 e k.0 well blank
+      after some step
+  | inr k ↦ broken_between had new.remaining held holds page (taken + 1) show limit began n (next after (Key k.2.0))
+      (under_way_key had old.remaining held holds page taken show limit began n m u page after some new.remaining k.2.0 (next after (Key k.2.0)) step
+      k.2.1 refl)
+      fault new.failed sink_failed k.0 (λ read count. rw e (well, inr (omega (arith, k.1, count))))
+]

@@ -1,6 +1,6 @@
 -- How a session that is written as it goes goes on by one byte, and how it ends.
 use Rattle.std.proofs.Common.{◌≡◌, ℕ, ◌+◌, ◌<◌, ◌≤◌, List, [], ◌∷◌, ◌++◌, Option, None, Some, Result, Ok, Err, Bool}
-use Rattle.std.proofs.Common.{true, false, length, refl, sym, ap, ◌∙◌, append_assoc, append-nil, inl, arith, subst}
+use Rattle.std.proofs.Common.{true, false, length, refl, sym, ap, ◌∙◌, append_assoc, append-nil, inl, inr, arith, subst}
 use Rattle.std.proofs.lemmas.List.{length-append}
 use Rattle.std.specs.Prelude.{◌==◌}
 use Rattle.std.specs.Io.KnownBytes.{Consumes, Appends, Keeps, IsAtEnd}
@@ -18,7 +18,7 @@ use Rattle.pm_tool.specs.Answers.{session_after}
 use Rattle.pm_tool.specs.Outcomes.{IsOutcome, refused}
 use Rattle.pm_tool.specs.Said.{IsBrokenOff, IsDone, IsSoundExit, WritesFirst}
 use Rattle.pm_tool.specs.Sessions.{answer_line, debugged, is_quit, opened, said_debug}
-use Rattle.pm_streams.specs.Streams.{IsFront, AppendsFront, IsCause, ReadsByte}
+use Rattle.pm_streams.specs.Streams.{Incoming, IsFront, AppendsFront, IsCause, ReadsByte, TakesNone}
 use Rattle.pm_tool.specs.Talks.{IsCutOff, IsTold, Told, told, whole_lines}
 use Rattle.pm_tool.proofs.Filing.{done_unread}
 use Rattle.pm_tool.proofs.Kept.{if_known, tells_known}
@@ -216,6 +216,17 @@ module _ (had left held holds : Option (List ℕ)) (line : List ℕ) (taken : �
     prompt = λ _. u.prompt;
     cause = rw e (well, inl failed);
   }
+
+-- no byte could be taken
+pub cut_taking : (had : Option (List ℕ)) (old new : Incoming) (held holds : Option (List ℕ)) (line : List ℕ) (taken : ℕ) (began d : Session)
+    → IsTalking had old.remaining held holds line taken began d → TakesNone old new taken → (fault : Fault) (sink_failed : Bool) → fault ≡ faults.Read
+    → sink_failed ≡ false
+    → IsCutOff had new.remaining held holds began fault new.failed sink_failed
+cut_taking had old new held holds line taken began d u none fault sink_failed e well = elim none [
+  | inl k ↦ cut_reading had old.remaining held holds line taken began d u new.remaining fault new.failed sink_failed k.1 e k.0 well
+  | inr k ↦ cut_behind had old.remaining held holds line taken began d u new.remaining k.2.0 k.2.1 fault new.failed sink_failed k.0
+      (λ read count. rw e (well, inr (omega (arith, k.1, count))))
+]
 
 -- ---- what the job comes to
 

@@ -17,7 +17,7 @@ use Rattle.pm_tool.specs.declared.ending.Ending.{Ending}
 use Rattle.pm_tool.specs.declared.ending.Ending.TheVariants as endings
 use Rattle.pm_tool.specs.declared.steps.Show.{Show}
 use Rattle.pm_tool.specs.declared.steps.Show.TheVariants.{Trace, Console}
-use Rattle.pm_streams.specs.Streams.{AppendsBut, IsCause, IsFront}
+use Rattle.pm_streams.specs.Streams.{Streams, AppendsBut, IsCause, IsFront}
 
 -- a run to where it ends: what its steps show, why it ends, the machine then, and the console bytes that are left
 -- unread
@@ -119,3 +119,13 @@ pub record IsBroken (had left held holds : Option (List ℕ)) (show : Show) (lim
   pub begins : (rest : List ℕ) → IsFront front (run_of show limit (read ++ rest) began).shown
   pub prompt : source_failed ≡ true → (run_of show limit read began).shown ≡ front
   pub cause : IsCause fault source_failed sink_failed read
+
+-- ---- the same of two streams, as a run finds and leaves them
+
+abbrev pub ComesToEnd : Streams → Streams → List ℕ → Show → ℕ → State → Ending → State → Type 0
+ComesToEnd old new held_back show limit began ending machine = IsOver old.source.remaining new.source.remaining
+    old.sink.contents new.sink.contents held_back show limit began ending machine
+
+abbrev pub StopsShort : Streams → Streams → Show → ℕ → State → Fault → Type 0
+StopsShort old new show limit began fault = IsBroken old.source.remaining new.source.remaining old.sink.contents
+    new.sink.contents show limit began fault new.source.failed new.sink.failed

@@ -27,7 +27,7 @@ use Rattle.pm_tool.specs.declared.steps.Show.TheVariants.{Trace, Console}
 use Rattle.pm_tool.specs.Run.{Run, end_text, last_line, run_of}
 use Rattle.pm_tool.specs.Sessions.{said_debug}
 use Rattle.pm_tool.specs.Talks.{whole_lines}
-use Rattle.pm_streams.specs.Streams.{IsFront, IsCause, CountsOn}
+use Rattle.pm_streams.specs.Streams.{Streams, IsFront, IsCause, CountsOn}
 
 -- ---- the jobs
 
@@ -118,16 +118,16 @@ IsCutShort exit = is_sound_exit exit ≡ false
 
 -- A read fault is answered exactly where a source has failed or too many bytes were read, and a write fault exactly
 -- where a sink has failed.
-abbrev pub FailsExactly : Option (List ℕ) → Option (List ℕ) → Bool → Bool → Exit → Type 0
-FailsExactly had left source_failed sink_failed exit = (read : List ℕ) × Consumes had left read
-    × (exit ≡ exits.ReadFault ↔ (source_failed ≡ true) ⊎ (INPUT_LIMIT < length read))
-    × (exit ≡ exits.WriteFault ↔ sink_failed ≡ true)
+abbrev pub FailsExactly : Streams → Streams → Exit → Type 0
+FailsExactly old new exit = (read : List ℕ) × Consumes old.source.remaining new.source.remaining read
+    × (exit ≡ exits.ReadFault ↔ (new.source.failed ≡ true) ⊎ (INPUT_LIMIT < length read))
+    × (exit ≡ exits.WriteFault ↔ new.sink.failed ≡ true)
 
 -- By the count of a source: a read fault is answered exactly where it has failed or gave more bytes than an input may
 -- have.
-abbrev pub CountsExactly : ℕ → ℕ → Bool → Exit → Type 0
-CountsExactly old new source_failed exit = CountsOn old →
-    (exit ≡ exits.ReadFault ↔ (source_failed ≡ true) ⊎ (old + INPUT_LIMIT < new))
+abbrev pub CountsExactly : Streams → Streams → Exit → Type 0
+CountsExactly old new exit = CountsOn old.source.given →
+    (exit ≡ exits.ReadFault ↔ (new.source.failed ≡ true) ⊎ (old.source.given + INPUT_LIMIT < new.source.given))
 
 -- what holds of a job that comes to its end
 pub record IsDone (had left held holds : Option (List ℕ)) (outcome : Outcome) (text : List ℕ → Said) : Type 0 where
@@ -147,19 +147,46 @@ pub record WritesFirst (had left held holds : Option (List ℕ)) (shown : List �
   pub reads : Consumes had left read
   pub writes : Appends held holds (shown read)
 
+-- ---- the same of two streams, as a job finds and leaves them
+
+-- what is written, answered and left unread is what is said to the input
+abbrev pub TellsAll : Streams → Streams → Outcome → (List ℕ → Said) → Type 0
+TellsAll old new outcome text = IfSome old.source.remaining
+    (λ input. Tells new.source.remaining old.sink.contents new.sink.contents outcome (text input))
+
+-- what was written is a front of what is said
+abbrev pub TellsFront : Streams → Streams → (List ℕ → Said) → Type 0
+TellsFront old new text =
+    IsCut old.source.remaining new.source.remaining old.sink.contents new.sink.contents text
+
+-- a job comes to its end
+abbrev pub Finishes : Streams → Streams → Outcome → (List ℕ → Said) → Type 0
+Finishes old new outcome text =
+    IsDone old.source.remaining new.source.remaining old.sink.contents new.sink.contents outcome text
+
+-- a job is broken off
+abbrev pub BreaksOff : Streams → Streams → Fault → (List ℕ → Said) → Type 0
+BreaksOff old new fault text = IsBrokenOff old.source.remaining new.source.remaining old.sink.contents
+    new.sink.contents fault new.source.failed new.sink.failed text
+
+-- where a read failed, all that was shown by then was written
+abbrev pub WritesInTime : Streams → Streams → (List ℕ → List ℕ) → Type 0
+WritesInTime old new shown = new.source.failed ≡ true
+    → WritesFirst old.source.remaining new.source.remaining old.sink.contents new.sink.contents shown
+
 -- Where a read failed: a program never waits for input before its output is written, and no line of a session is read
 -- before the one before it is answered. The other jobs write nothing before they have read all.
-abbrev pub IsPrompt : Job → Option (List ℕ) → Option (List ℕ) → Option (List ℕ) → Option (List ℕ) → Type 0
-IsPrompt (jobs.Raw limit) had left held holds = Unit {0}
-IsPrompt (jobs.Run disks name limit save) had left held holds =
-    WritesFirst had left held holds (shown_started (Console save) limit (booted (images_of disks) (string_bytes name)))
-IsPrompt (jobs.Trace disks name limit) had left held holds =
-    WritesFirst had left held holds (shown_started Trace limit (booted (images_of disks) (string_bytes name)))
-IsPrompt (jobs.Debug disks name) had left held holds =
-    WritesFirst had left held holds (λ read. (said_debug (booted (images_of disks) (string_bytes name))
-    (whole_lines read)).written)
-IsPrompt (jobs.Asm list) had left held holds = Unit {0}
-IsPrompt jobs.Dis had left held holds = Unit {0}
-IsPrompt (jobs.Files image command) had left held holds = Unit {0}
-IsPrompt (jobs.New name blocks) had left held holds = Unit {0}
-IsPrompt (jobs.Repair image) had left held holds = Unit {0}
+abbrev pub IsPrompt : Job → Streams → Streams → Type 0
+IsPrompt (jobs.Raw limit) old new = Unit {0}
+IsPrompt (jobs.Run disks name limit save) old new =
+    WritesInTime old new (shown_started (Console save) limit (booted (images_of disks) (string_bytes name)))
+IsPrompt (jobs.Trace disks name limit) old new =
+    WritesInTime old new (shown_started Trace limit (booted (images_of disks) (string_bytes name)))
+IsPrompt (jobs.Debug disks name) old new =
+    WritesInTime old new
+    (λ read. (said_debug (booted (images_of disks) (string_bytes name)) (whole_lines read)).written)
+IsPrompt (jobs.Asm list) old new = Unit {0}
+IsPrompt jobs.Dis old new = Unit {0}
+IsPrompt (jobs.Files image command) old new = Unit {0}
+IsPrompt (jobs.New name blocks) old new = Unit {0}
+IsPrompt (jobs.Repair image) old new = Unit {0}

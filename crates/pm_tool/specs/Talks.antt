@@ -7,7 +7,7 @@ use Rattle.pm_commands.specs.Words.{lines_of_input}
 use Rattle.pm_streams.specs.declared.fault.Fault.{Fault}
 use Rattle.pm_streams.specs.declared.source.TheConstants.{INPUT_LIMIT}
 use Rattle.pm_tool.specs.Sessions.{answers, behind_quit}
-use Rattle.pm_streams.specs.Streams.{IsCause, IsFront}
+use Rattle.pm_streams.specs.Streams.{Streams, IsCause, IsFront}
 
 -- the answers to an input, and what of it is left unread
 pub record Told : Type 0 where
@@ -51,3 +51,13 @@ pub record IsCutOff (had left held holds : Option (List ℕ)) (began : Session) 
   pub drained : ended ≡ true → IsAtEnd left
   pub prompt : source_failed ≡ true → (told (whole_lines read) began).text ≡ front
   pub cause : IsCause fault source_failed sink_failed read
+
+-- ---- the same of two streams, as a session finds and leaves them
+
+abbrev pub IsAnswered : Streams → Streams → Session → Type 0
+IsAnswered old new began =
+    IsTold old.source.remaining new.source.remaining old.sink.contents new.sink.contents began
+
+abbrev pub IsInterrupted : Streams → Streams → Session → Fault → Type 0
+IsInterrupted old new began fault = IsCutOff old.source.remaining new.source.remaining old.sink.contents
+    new.sink.contents began fault new.source.failed new.sink.failed

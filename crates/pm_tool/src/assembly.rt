@@ -4,8 +4,8 @@ ghost use Rattle.pm_asm.specs.Assembled.{assembled, wanted};
 ghost use Rattle.pm_source.specs.declared.fault.AsmFault.TheVariants.{NoMemory};
 ghost use Rattle.pm_tool.specs.Assembly.{character_of, said_asm, text_of_input};
 ghost use Rattle.pm_tool.specs.Outcomes.{SaysWhy};
-ghost use Rattle.pm_tool.specs.Said.{IsBrokenOff, IsDone};
-ghost use Rattle.pm_streams.specs.Streams.{IsWithin, IsBound};
+ghost use Rattle.pm_tool.specs.Said.{BreaksOff, Finishes};
+ghost use Rattle.pm_streams.specs.Streams.{AreWell, IsCounted, both};
 
 use crate::outcome::{Exit, Outcome, Refusal, refuse_line};
 use pm_asm::{AsmFault, assemble_file, assemble_listing};
@@ -77,18 +77,15 @@ pub(crate) fn assemble<R: Source, W: Sink>(
     sink: &mut W,
     list: bool,
 ) -> Result<Outcome, Fault>
-    requires source_well { R.has_failed source.old ≡ false }
-    requires sink_well { W.has_failed sink.old ≡ false }
-    ensures done { IfOk result (λ outcome. IsDone (R.remaining source.old) (R.remaining source.new)
-        (W.contents sink.old) (W.contents sink.new) outcome (said_asm list)) }
-    ensures well { OnOk result ((R.has_failed source.new ≡ false) × (W.has_failed sink.new ≡ false)) }
-    ensures broken { IfErr result (λ fault. IsBrokenOff (R.remaining source.old) (R.remaining source.new)
-        (W.contents sink.old) (W.contents sink.new) fault (R.has_failed source.new) (W.has_failed sink.new)
+    requires well { AreWell (both (R.seen source.old) (W.seen sink.old)) }
+    ensures done { IfOk result (λ outcome. Finishes (both (R.seen source.old) (W.seen sink.old))
+        (both (R.seen source.new) (W.seen sink.new)) outcome (said_asm list)) }
+    ensures well { OnOk result (AreWell (both (R.seen source.new) (W.seen sink.new))) }
+    ensures broken { IfErr result (λ fault. BreaksOff (both (R.seen source.old) (W.seen sink.old))
+        (both (R.seen source.new) (W.seen sink.new)) fault
         (said_asm list)) }
     ensures told { IfOk result SaysWhy }
-    ensures few { OnOk result (IsWithin (R.given source.old) (R.given source.new)) }
-    ensures bound { IfErr result (λ fault.
-        IsBound fault (R.given source.old) (R.given source.new) (R.has_failed source.new)) }
+    ensures counts { IsCounted (R.seen source.old) (R.seen source.new) result }
 {
     let input = read_all(alloc, source)?;
     let bytes = match wanted(alloc, &input, list)? {

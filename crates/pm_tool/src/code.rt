@@ -2,8 +2,8 @@
 ghost use Rattle.std.specs.Prelude.{◌≡◌, false, IfOk, IfErr, OnOk};
 ghost use Rattle.pm_tool.specs.Code.{said_dis};
 ghost use Rattle.pm_tool.specs.Outcomes.{SaysWhy};
-ghost use Rattle.pm_tool.specs.Said.{IsBrokenOff, IsDone};
-ghost use Rattle.pm_streams.specs.Streams.{IsWithin, IsBound};
+ghost use Rattle.pm_tool.specs.Said.{BreaksOff, Finishes};
+ghost use Rattle.pm_streams.specs.Streams.{AreWell, IsCounted, both};
 
 use crate::outcome::{Exit, Outcome, Refusal, refuse};
 use pm_codefile::CodeFile;
@@ -16,17 +16,14 @@ pub(crate) fn disassemble<R: Source, W: Sink>(
     source: &mut R,
     sink: &mut W,
 ) -> Result<Outcome, Fault>
-    requires source_well { R.has_failed source.old ≡ false }
-    requires sink_well { W.has_failed sink.old ≡ false }
-    ensures done { IfOk result (λ outcome. IsDone (R.remaining source.old) (R.remaining source.new)
-        (W.contents sink.old) (W.contents sink.new) outcome said_dis) }
-    ensures well { OnOk result ((R.has_failed source.new ≡ false) × (W.has_failed sink.new ≡ false)) }
-    ensures broken { IfErr result (λ fault. IsBrokenOff (R.remaining source.old) (R.remaining source.new)
-        (W.contents sink.old) (W.contents sink.new) fault (R.has_failed source.new) (W.has_failed sink.new) said_dis) }
+    requires well { AreWell (both (R.seen source.old) (W.seen sink.old)) }
+    ensures done { IfOk result (λ outcome. Finishes (both (R.seen source.old) (W.seen sink.old))
+        (both (R.seen source.new) (W.seen sink.new)) outcome said_dis) }
+    ensures well { OnOk result (AreWell (both (R.seen source.new) (W.seen sink.new))) }
+    ensures broken { IfErr result (λ fault. BreaksOff (both (R.seen source.old) (W.seen sink.old))
+        (both (R.seen source.new) (W.seen sink.new)) fault said_dis) }
     ensures told { IfOk result SaysWhy }
-    ensures few { OnOk result (IsWithin (R.given source.old) (R.given source.new)) }
-    ensures bound { IfErr result (λ fault.
-        IsBound fault (R.given source.old) (R.given source.new) (R.has_failed source.new)) }
+    ensures counts { IsCounted (R.seen source.old) (R.seen source.new) result }
 {
     let input = read_all(alloc, source)?;
     let file = match CodeFile::read(&input) {

@@ -1,15 +1,15 @@
 //! The session of a debugger.
-ghost use Rattle.std.specs.Prelude.{◌≡◌, false, true, not, [], List, ℕ, IfOk, IfErr, OnOk, OnErr};
+ghost use Rattle.std.specs.Prelude.{◌≡◌, false, true, not, [], List, ℕ, IfOk, IfErr, OnOk, OnErr, string_bytes};
 ghost use Rattle.std.specs.Io.KnownBytes.{Appends};
 ghost use Rattle.pm_debug.specs.Session.{session_of};
 ghost use Rattle.pm_commands.specs.Commands.{command_of};
 ghost use Rattle.pm_tool.specs.Answers.{session_after};
 ghost use Rattle.pm_tool.specs.Disks.{booted, images_of};
 ghost use Rattle.pm_tool.specs.Outcomes.{SaysWhy};
-ghost use Rattle.pm_tool.specs.Said.{IsBrokenOff, IsDone, WritesFirst};
+ghost use Rattle.pm_tool.specs.Said.{BreaksOff, Finishes, WritesInTime};
 ghost use Rattle.pm_tool.specs.Sessions.{answer_line, debugged, is_quit, said_debug};
-ghost use Rattle.pm_streams.specs.Streams.{AppendsFront, IsCause, IsWithin, IsBound};
-ghost use Rattle.pm_tool.specs.Talks.{IsCutOff, IsTold, whole_lines};
+ghost use Rattle.pm_streams.specs.Streams.{AppendsFront, IsCause, IsCounted, AreWell, both};
+ghost use Rattle.pm_tool.specs.Talks.{IsAnswered, IsInterrupted, whole_lines};
 
 use crate::answer::answer;
 use crate::outcome::{Exit, Outcome, refuse};
@@ -17,7 +17,7 @@ use crate::programs::boot;
 use pm_commands::{Command, command_of};
 use pm_debug::Debugger;
 use pm_machine::Machine;
-use pm_streams::{Fault, INPUT_LIMIT, Sink, Source, read_byte, write_all};
+use pm_streams::{Fault, Sink, Source, next_byte, write_all};
 use std::alloc::Global;
 
 fn is_quit(command: Option<Command>) -> bool
@@ -33,16 +33,16 @@ fn turn<W: Sink>(
     debugger: &mut Debugger,
     line: &[u8],
 ) -> Result<bool, Fault>
-    requires well { W.has_failed sink.old ≡ false }
+    requires well { (W.seen sink.old).failed ≡ false }
     ensures going { IfOk result (λ going. going ≡ not (is_quit (command_of line.now))) }
-    ensures written { OnOk result (Appends (W.contents sink.old) (W.contents sink.new)
+    ensures written { OnOk result (Appends (W.seen sink.old).contents (W.seen sink.new).contents
         (answer_line (command_of line.now) (session_of debugger.old))) }
     ensures session { IfOk result (λ going. going ≡ true
         → (session_of debugger.new) ≡ session_after (command_of line.now) (session_of debugger.old)) }
-    ensures well { OnOk result (W.has_failed sink.new ≡ false) }
-    ensures front { OnErr result (AppendsFront (W.contents sink.old) (W.contents sink.new)
+    ensures well { OnOk result ((W.seen sink.new).failed ≡ false) }
+    ensures front { OnErr result (AppendsFront (W.seen sink.old).contents (W.seen sink.new).contents
         (answer_line (command_of line.now) (session_of debugger.old))) }
-    ensures cause { IfErr result (λ fault. IsCause fault false (W.has_failed sink.new) []) }
+    ensures cause { IfErr result (λ fault. IsCause fault false (W.seen sink.new).failed []) }
 {
     let command = command_of(line);
     if is_quit(command) {
@@ -60,25 +60,17 @@ fn talk<R: Source, W: Sink>(
     sink: &mut W,
     debugger: &mut Debugger,
 ) -> Result<(), Fault>
-    requires source_well { R.has_failed source.old ≡ false }
-    requires sink_well { W.has_failed sink.old ≡ false }
-    ensures told { OnOk result (IsTold (R.remaining source.old) (R.remaining source.new)
-        (W.contents sink.old) (W.contents sink.new) (session_of debugger.old)) }
-    ensures well { OnOk result ((R.has_failed source.new ≡ false) × (W.has_failed sink.new ≡ false)) }
-    ensures cut { IfErr result (λ fault. IsCutOff (R.remaining source.old) (R.remaining source.new)
-        (W.contents sink.old) (W.contents sink.new) (session_of debugger.old) fault (R.has_failed source.new)
-        (W.has_failed sink.new)) }
-    ensures few { OnOk result (IsWithin (R.given source.old) (R.given source.new)) }
-    ensures bound { IfErr result (λ fault.
-        IsBound fault (R.given source.old) (R.given source.new) (R.has_failed source.new)) }
+    requires well { AreWell (both (R.seen source.old) (W.seen sink.old)) }
+    ensures told { OnOk result (IsAnswered (both (R.seen source.old) (W.seen sink.old))
+        (both (R.seen source.new) (W.seen sink.new)) (session_of debugger.old)) }
+    ensures well { OnOk result (AreWell (both (R.seen source.new) (W.seen sink.new))) }
+    ensures cut { IfErr result (λ fault. IsInterrupted (both (R.seen source.old) (W.seen sink.old))
+        (both (R.seen source.new) (W.seen sink.new)) (session_of debugger.old) fault) }
+    ensures counts { IsCounted (R.seen source.old) (R.seen source.new) result }
 {
     let mut line = Vec::new(alloc);
     let mut taken = 0;
-    'bytes: while let Some(byte) = read_byte(source)? {
-        if taken == INPUT_LIMIT {
-            return Err(Fault::Read);
-        }
-        taken += 1;
+    'bytes: while let Some(byte) = next_byte(source, &mut taken)? {
         if byte == b'\n' {
             if !turn(alloc, sink, debugger, &line)? {
                 return Ok(());
@@ -104,21 +96,16 @@ fn session<R: Source, W: Sink>(
     sink: &mut W,
     machine: Machine,
 ) -> Result<Outcome, Fault>
-    requires source_well { R.has_failed source.old ≡ false }
-    requires sink_well { W.has_failed sink.old ≡ false }
-    ensures done { IfOk result (λ outcome. IsDone (R.remaining source.old) (R.remaining source.new)
-        (W.contents sink.old) (W.contents sink.new) outcome (debugged machine.state)) }
-    ensures well { OnOk result ((R.has_failed source.new ≡ false) × (W.has_failed sink.new ≡ false)) }
-    ensures broken { IfErr result (λ fault. IsBrokenOff (R.remaining source.old) (R.remaining source.new)
-        (W.contents sink.old) (W.contents sink.new) fault (R.has_failed source.new) (W.has_failed sink.new)
-        (debugged machine.state)) }
-    ensures prompt { OnErr result (R.has_failed source.new ≡ true
-        → WritesFirst (R.remaining source.old) (R.remaining source.new)
-        (W.contents sink.old) (W.contents sink.new) (λ read. (debugged machine.state (whole_lines read)).written)) }
+    requires well { AreWell (both (R.seen source.old) (W.seen sink.old)) }
+    ensures done { IfOk result (λ outcome. Finishes (both (R.seen source.old) (W.seen sink.old))
+        (both (R.seen source.new) (W.seen sink.new)) outcome (debugged machine.state)) }
+    ensures well { OnOk result (AreWell (both (R.seen source.new) (W.seen sink.new))) }
+    ensures broken { IfErr result (λ fault. BreaksOff (both (R.seen source.old) (W.seen sink.old))
+        (both (R.seen source.new) (W.seen sink.new)) fault (debugged machine.state)) }
+    ensures prompt { OnErr result (WritesInTime (both (R.seen source.old) (W.seen sink.old))
+        (both (R.seen source.new) (W.seen sink.new)) (λ read. (debugged machine.state (whole_lines read)).written)) }
     ensures told { IfOk result SaysWhy }
-    ensures few { OnOk result (IsWithin (R.given source.old) (R.given source.new)) }
-    ensures bound { IfErr result (λ fault.
-        IsBound fault (R.given source.old) (R.given source.new) (R.has_failed source.new)) }
+    ensures counts { IsCounted (R.seen source.old) (R.seen source.new) result }
 {
     let mut debugger = Debugger::new(machine);
     talk(alloc, source, sink, &mut debugger)?;
@@ -131,26 +118,23 @@ pub(crate) fn debug<R: Source, W: Sink>(
     source: &mut R,
     sink: &mut W,
     disks: [Option<Vec<u8>>; 6],
-    name: &str,
+    name: String,
 ) -> Result<Outcome, Fault>
-    requires source_well { R.has_failed source.old ≡ false }
-    requires sink_well { W.has_failed sink.old ≡ false }
-    ensures done { IfOk result (λ outcome. IsDone (R.remaining source.old) (R.remaining source.new)
-        (W.contents sink.old) (W.contents sink.new) outcome (said_debug (booted (images_of disks) name.now))) }
-    ensures well { OnOk result ((R.has_failed source.new ≡ false) × (W.has_failed sink.new ≡ false)) }
-    ensures broken { IfErr result (λ fault. IsBrokenOff (R.remaining source.old) (R.remaining source.new)
-        (W.contents sink.old) (W.contents sink.new) fault (R.has_failed source.new) (W.has_failed sink.new)
-        (said_debug (booted (images_of disks) name.now))) }
-    ensures prompt { OnErr result (R.has_failed source.new ≡ true
-        → WritesFirst (R.remaining source.old) (R.remaining source.new)
-        (W.contents sink.old) (W.contents sink.new) (λ read.
-        (said_debug (booted (images_of disks) name.now) (whole_lines read)).written)) }
+    requires well { AreWell (both (R.seen source.old) (W.seen sink.old)) }
+    ensures done { IfOk result (λ outcome. Finishes (both (R.seen source.old) (W.seen sink.old))
+        (both (R.seen source.new) (W.seen sink.new)) outcome
+        (said_debug (booted (images_of disks) (string_bytes name)))) }
+    ensures well { OnOk result (AreWell (both (R.seen source.new) (W.seen sink.new))) }
+    ensures broken { IfErr result (λ fault. BreaksOff (both (R.seen source.old) (W.seen sink.old))
+        (both (R.seen source.new) (W.seen sink.new)) fault
+        (said_debug (booted (images_of disks) (string_bytes name)))) }
+    ensures prompt { OnErr result (WritesInTime (both (R.seen source.old) (W.seen sink.old))
+        (both (R.seen source.new) (W.seen sink.new)) (λ read.
+        (said_debug (booted (images_of disks) (string_bytes name)) (whole_lines read)).written)) }
     ensures told { IfOk result SaysWhy }
-    ensures few { OnOk result (IsWithin (R.given source.old) (R.given source.new)) }
-    ensures bound { IfErr result (λ fault.
-        IsBound fault (R.given source.old) (R.given source.new) (R.has_failed source.new)) }
+    ensures counts { IsCounted (R.seen source.old) (R.seen source.new) result }
 {
-    let machine = match boot(alloc, disks, name)? {
+    let machine = match boot(alloc, disks, name.as_str())? {
         Ok(machine) => machine,
         Err(refusal) => return Ok(refuse(alloc, refusal)?),
     };

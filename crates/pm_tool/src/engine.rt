@@ -3,9 +3,9 @@ ghost use Rattle.std.specs.Prelude.{◌≡◌, ◌↔◌, false, true, [], List,
 ghost use Rattle.pm_tool.specs.Disks.{state_in};
 ghost use Rattle.pm_tool.specs.Hex.{hex_spelled};
 ghost use Rattle.pm_tool.specs.Outcomes.{SaysWhy, fault_exit, outcome_text};
-ghost use Rattle.pm_tool.specs.Said.{loaded, job_said, said_started, IsSoundExit, IsCutShort, IsDone};
-ghost use Rattle.pm_tool.specs.Said.{IsBrokenOff, Tells, IsCut, IsPrompt, FailsExactly, CountsExactly};
-ghost use Rattle.pm_streams.specs.Streams.{IsWithin, IsBound};
+ghost use Rattle.pm_tool.specs.Said.{loaded, job_said, said_started, IsSoundExit, IsCutShort, Finishes};
+ghost use Rattle.pm_tool.specs.Said.{BreaksOff, TellsAll, TellsFront, IsPrompt, FailsExactly, CountsExactly};
+ghost use Rattle.pm_streams.specs.Streams.{AreWell, IsCounted, both};
 
 use crate::assembly::assemble;
 use crate::code::disassemble;
@@ -40,19 +40,16 @@ fn raw<R: Source, W: Sink>(
     sink: &mut W,
     limit: u32,
 ) -> Result<Outcome, Fault>
-    requires source_well { R.has_failed source.old ≡ false }
-    requires sink_well { W.has_failed sink.old ≡ false }
-    ensures done { IfOk result (λ outcome. IsDone (R.remaining source.old) (R.remaining source.new)
-        (W.contents sink.old) (W.contents sink.new) outcome
+    requires well { AreWell (both (R.seen source.old) (W.seen sink.old)) }
+    ensures done { IfOk result (λ outcome. Finishes (both (R.seen source.old) (W.seen sink.old))
+        (both (R.seen source.new) (W.seen sink.new)) outcome
         (λ input. said_started Show.Trace limit (loaded (hex_spelled input)) [])) }
     ensures told { IfOk result SaysWhy }
-    ensures well { OnOk result ((R.has_failed source.new ≡ false) × (W.has_failed sink.new ≡ false)) }
-    ensures broken { IfErr result (λ fault. IsBrokenOff (R.remaining source.old) (R.remaining source.new)
-        (W.contents sink.old) (W.contents sink.new) fault (R.has_failed source.new) (W.has_failed sink.new)
+    ensures well { OnOk result (AreWell (both (R.seen source.new) (W.seen sink.new))) }
+    ensures broken { IfErr result (λ fault. BreaksOff (both (R.seen source.old) (W.seen sink.old))
+        (both (R.seen source.new) (W.seen sink.new)) fault
         (λ input. said_started Show.Trace limit (loaded (hex_spelled input)) [])) }
-    ensures few { OnOk result (IsWithin (R.given source.old) (R.given source.new)) }
-    ensures bound { IfErr result (λ fault.
-        IsBound fault (R.given source.old) (R.given source.new) (R.has_failed source.new)) }
+    ensures counts { IsCounted (R.seen source.old) (R.seen source.new) result }
 {
     let input = read_all(alloc, source)?;
     let machine = match load(alloc, &input)? {
@@ -70,20 +67,16 @@ fn do_job<R: Source, W: Sink>(
     sink: &mut W,
     job: Job,
 ) -> Result<Outcome, Fault>
-    requires source_well { R.has_failed source.old ≡ false }
-    requires sink_well { W.has_failed sink.old ≡ false }
-    ensures done { IfOk result (λ outcome. IsDone (R.remaining source.old) (R.remaining source.new)
-        (W.contents sink.old) (W.contents sink.new) outcome (job_said job)) }
+    requires well { AreWell (both (R.seen source.old) (W.seen sink.old)) }
+    ensures done { IfOk result (λ outcome. Finishes (both (R.seen source.old) (W.seen sink.old))
+        (both (R.seen source.new) (W.seen sink.new)) outcome (job_said job)) }
     ensures told { IfOk result SaysWhy }
-    ensures well { OnOk result ((R.has_failed source.new ≡ false) × (W.has_failed sink.new ≡ false)) }
-    ensures broken { IfErr result (λ fault. IsBrokenOff (R.remaining source.old) (R.remaining source.new)
-        (W.contents sink.old) (W.contents sink.new) fault (R.has_failed source.new) (W.has_failed sink.new)
-        (job_said job)) }
-    ensures prompt { OnErr result (R.has_failed source.new ≡ true →
-        IsPrompt job (R.remaining source.old) (R.remaining source.new) (W.contents sink.old) (W.contents sink.new)) }
-    ensures few { OnOk result (IsWithin (R.given source.old) (R.given source.new)) }
-    ensures bound { IfErr result (λ fault.
-        IsBound fault (R.given source.old) (R.given source.new) (R.has_failed source.new)) }
+    ensures well { OnOk result (AreWell (both (R.seen source.new) (W.seen sink.new))) }
+    ensures broken { IfErr result (λ fault. BreaksOff (both (R.seen source.old) (W.seen sink.old))
+        (both (R.seen source.new) (W.seen sink.new)) fault (job_said job)) }
+    ensures prompt { OnErr result (IsPrompt job (both (R.seen source.old) (W.seen sink.old))
+        (both (R.seen source.new) (W.seen sink.new))) }
+    ensures counts { IsCounted (R.seen source.old) (R.seen source.new) result }
 {
     match job {
         Job::Raw { limit } => raw(alloc, source, sink, limit),
@@ -92,27 +85,14 @@ fn do_job<R: Source, W: Sink>(
             name,
             limit,
             save,
-        } => program(
-            alloc,
-            source,
-            sink,
-            disks,
-            name.as_str(),
-            Show::Console { save },
-            limit,
-        ),
-        Job::Trace { disks, name, limit } => {
-            program(
-                alloc,
-                source,
-                sink,
-                disks,
-                name.as_str(),
-                Show::Trace,
-                limit,
-            )
+        } => {
+            let show = Show::Console { save };
+            program(alloc, source, sink, disks, name, show, limit)
         }
-        Job::Debug { disks, name } => debug(alloc, source, sink, disks, name.as_str()),
+        Job::Trace { disks, name, limit } => {
+            program(alloc, source, sink, disks, name, Show::Trace, limit)
+        }
+        Job::Debug { disks, name } => debug(alloc, source, sink, disks, name),
         Job::Asm { list } => assemble(alloc, source, sink, list),
         Job::Dis => disassemble(alloc, source, sink),
         Job::Files { image, command } => files(alloc, source, sink, image, command),
@@ -135,31 +115,30 @@ fn broken_off(alloc: Global, fault: Fault) -> Outcome
 ///
 /// Neither stream may have failed before. An input of more than `INPUT_LIMIT` bytes is a read fault.
 pub fn run<R: Source, W: Sink>(alloc: Global, source: &mut R, sink: &mut W, job: Job) -> Outcome
-    requires source_well { R.has_failed source.old ≡ false }
-    requires sink_well { W.has_failed sink.old ≡ false }
+    requires well { AreWell (both (R.seen source.old) (W.seen sink.old)) }
 
     // What is written, answered and left unread is exactly what is said to the input.
-    ensures exact { IsSoundExit result.exit → IfSome (R.remaining source.old)
-        (λ input. Tells (R.remaining source.new) (W.contents sink.old) (W.contents sink.new) result
-        (job_said job input)) }
+    ensures exact { IsSoundExit result.exit → TellsAll (both (R.seen source.old) (W.seen sink.old))
+        (both (R.seen source.new) (W.seen sink.new)) result (job_said job) }
 
     // After a fault of a stream or want of memory, what was written is a front of that.
     ensures cut { IsCutShort result.exit →
-        IsCut (R.remaining source.old) (R.remaining source.new) (W.contents sink.old) (W.contents sink.new)
+        TellsFront (both (R.seen source.old) (W.seen sink.old)) (both (R.seen source.new) (W.seen sink.new))
         (job_said job) }
 
     // Where a read failed, all that the program had shown by then was written, and every whole line of a session was
     // answered: output is written before more input is wanted.
-    ensures prompt { R.has_failed source.new ≡ true →
-        IsPrompt job (R.remaining source.old) (R.remaining source.new) (W.contents sink.old) (W.contents sink.new) }
+    ensures prompt { IsPrompt job (both (R.seen source.old) (W.seen sink.old))
+        (both (R.seen source.new) (W.seen sink.new)) }
 
     // A fault of a stream is answered exactly where a read or a write failed or the input is too long, and the text
     // says which.
-    ensures fails { FailsExactly (R.remaining source.old) (R.remaining source.new) (R.has_failed source.new)
-        (W.has_failed sink.new) result.exit }
+    ensures fails { FailsExactly (both (R.seen source.old) (W.seen sink.old))
+        (both (R.seen source.new) (W.seen sink.new)) result.exit }
 
     // The same of a read fault by the source's own count, whether it tells its bytes or not.
-    ensures counted { CountsExactly (R.given source.old) (R.given source.new) (R.has_failed source.new) result.exit }
+    ensures counted { CountsExactly (both (R.seen source.old) (W.seen sink.old))
+        (both (R.seen source.new) (W.seen sink.new)) result.exit }
     ensures fault { result.exit ≡ Exit.ReadFault → outcome_text result ≡ codes "read fault" }
     ensures write { result.exit ≡ Exit.WriteFault → outcome_text result ≡ codes "write fault" }
     ensures memory { result.exit ≡ Exit.NoMemory → outcome_text result ≡ codes "no memory" }

@@ -6,8 +6,8 @@ ghost use Rattle.pm_volume.specs.Headers.{blank_fault};
 ghost use Rattle.pm_tool.specs.Files.{said_new, answer_bytes, said_filed, said_files};
 ghost use Rattle.pm_tool.specs.Files.{said_order, said_repair, takes_input, with_input};
 ghost use Rattle.pm_tool.specs.Outcomes.{IsOutcome, SaysWhy};
-ghost use Rattle.pm_tool.specs.Said.{IsBrokenOff, IsDone, IsSoundExit};
-ghost use Rattle.pm_streams.specs.Streams.{AppendsFront, IsCause, IsWithin, IsBound};
+ghost use Rattle.pm_tool.specs.Said.{BreaksOff, Finishes, IsSoundExit};
+ghost use Rattle.pm_streams.specs.Streams.{AppendsFront, AreWell, IsCause, IsCounted, both};
 
 use crate::outcome::{Exit, Outcome, Refusal, refuse};
 use pm_filer::{FileCommand, FilerFault, Reply, apply};
@@ -40,15 +40,15 @@ fn answer<W: Sink>(
     volume: Volume,
     reply: Reply,
 ) -> Result<Outcome, Fault>
-    requires well { W.has_failed sink.old ≡ false }
-    ensures written { OnOk result (Appends (W.contents sink.old) (W.contents sink.new)
+    requires well { (W.seen sink.old).failed ≡ false }
+    ensures written { OnOk result (Appends (W.seen sink.old).contents (W.seen sink.new).contents
         (answer_bytes (answer_of reply))) }
     ensures outcome { IfOk result (λ outcome. (unread : List ℕ)
         → IsOutcome outcome (said_filed (Ok (record { image = volume; answer = answer_of reply })) unread)) }
-    ensures well { OnOk result (W.has_failed sink.new ≡ false) }
-    ensures front { OnErr result (AppendsFront (W.contents sink.old) (W.contents sink.new)
+    ensures well { OnOk result ((W.seen sink.new).failed ≡ false) }
+    ensures front { OnErr result (AppendsFront (W.seen sink.old).contents (W.seen sink.new).contents
         (answer_bytes (answer_of reply))) }
-    ensures cause { IfErr result (λ fault. IsCause fault false (W.has_failed sink.new) []) }
+    ensures cause { IfErr result (λ fault. IsCause fault false (W.seen sink.new).failed []) }
     ensures told { IfOk result SaysWhy }
 {
     match reply {
@@ -66,15 +66,15 @@ fn file<W: Sink>(
     mut volume: Volume,
     command: FileCommand,
 ) -> Result<Outcome, Fault>
-    requires well { W.has_failed sink.old ≡ false }
-    ensures written { OnOk result (Appends (W.contents sink.old) (W.contents sink.new)
+    requires well { (W.seen sink.old).failed ≡ false }
+    ensures written { OnOk result (Appends (W.seen sink.old).contents (W.seen sink.new).contents
         (said_filed (filed volume (order_of command)) []).written) }
     ensures outcome { IfOk result (λ outcome. (unread : List ℕ)
         → IsOutcome outcome (said_filed (filed volume (order_of command)) unread)) }
-    ensures well { OnOk result (W.has_failed sink.new ≡ false) }
-    ensures front { OnErr result (AppendsFront (W.contents sink.old) (W.contents sink.new)
+    ensures well { OnOk result ((W.seen sink.new).failed ≡ false) }
+    ensures front { OnErr result (AppendsFront (W.seen sink.old).contents (W.seen sink.new).contents
         (said_filed (filed volume (order_of command)) []).written) }
-    ensures cause { IfErr result (λ fault. IsCause fault false (W.has_failed sink.new) []) }
+    ensures cause { IfErr result (λ fault. IsCause fault false (W.seen sink.new).failed []) }
     ensures told { IfOk result SaysWhy }
 {
     match apply(alloc, &mut volume, command) {
@@ -92,18 +92,15 @@ pub(crate) fn files<R: Source, W: Sink>(
     image: Vec<u8>,
     command: FileCommand,
 ) -> Result<Outcome, Fault>
-    requires source_well { R.has_failed source.old ≡ false }
-    requires sink_well { W.has_failed sink.old ≡ false }
-    ensures done { IfOk result (λ outcome. IsDone (R.remaining source.old) (R.remaining source.new)
-        (W.contents sink.old) (W.contents sink.new) outcome (said_files image.items (order_of command))) }
-    ensures well { OnOk result ((R.has_failed source.new ≡ false) × (W.has_failed sink.new ≡ false)) }
-    ensures broken { IfErr result (λ fault. IsBrokenOff (R.remaining source.old) (R.remaining source.new)
-        (W.contents sink.old) (W.contents sink.new) fault (R.has_failed source.new) (W.has_failed sink.new)
+    requires well { AreWell (both (R.seen source.old) (W.seen sink.old)) }
+    ensures done { IfOk result (λ outcome. Finishes (both (R.seen source.old) (W.seen sink.old))
+        (both (R.seen source.new) (W.seen sink.new)) outcome (said_files image.items (order_of command))) }
+    ensures well { OnOk result (AreWell (both (R.seen source.new) (W.seen sink.new))) }
+    ensures broken { IfErr result (λ fault. BreaksOff (both (R.seen source.old) (W.seen sink.old))
+        (both (R.seen source.new) (W.seen sink.new)) fault
         (said_files image.items (order_of command))) }
     ensures told { IfOk result SaysWhy }
-    ensures few { OnOk result (IsWithin (R.given source.old) (R.given source.new)) }
-    ensures bound { IfErr result (λ fault.
-        IsBound fault (R.given source.old) (R.given source.new) (R.has_failed source.new)) }
+    ensures counts { IsCounted (R.seen source.old) (R.seen source.new) result }
 {
     let volume = match Volume::open(image) {
         Ok(volume) => volume,

@@ -1,12 +1,13 @@
 //! Programs, and what is told of their runs.
 ghost use Rattle.std.specs.Prelude.{◌≡◌, false, true, [], ◌++◌, List, ℕ, Some, None};
-ghost use Rattle.std.specs.Prelude.{IfOk, IfErr, OnOk, OnErr, option_map, vec_items};
+ghost use Rattle.std.specs.Prelude.{IfOk, IfErr, OnOk, OnErr, option_map, string_bytes, vec_items};
 ghost use Rattle.pm_tool.specs.Disks.{booted, state_in, disk_fault, first_disk_fault, images_of};
 ghost use Rattle.std.specs.Io.KnownBytes.{Appends};
 ghost use Rattle.pm_tool.specs.Outcomes.{IsOutcome, SaysWhy};
 ghost use Rattle.pm_tool.specs.Run.{end_text, ended_run, run_of};
-ghost use Rattle.pm_tool.specs.Said.{IsBrokenOff, IsDone, WritesFirst, said_run, said_started, shown_started};
-ghost use Rattle.pm_streams.specs.Streams.{AppendsFront, IsCause, IsWithin, IsBound};
+ghost use Rattle.pm_tool.specs.Said.{BreaksOff, Finishes, WritesInTime};
+ghost use Rattle.pm_tool.specs.Said.{run_said, said_run, said_started, shown_started};
+ghost use Rattle.pm_streams.specs.Streams.{AppendsFront, IsCause, IsCounted, AreWell, both};
 
 use crate::ending::{Ending, LastLine};
 use crate::outcome::{Outcome, Refusal, refuse};
@@ -15,6 +16,35 @@ use pm_machine::{BootFault, Machine};
 use pm_streams::{Fault, Sink, Source, write_all};
 use pm_volume::{Disk, Volume, VolumeFault};
 use std::alloc::{AllocError, Global};
+
+/// What a run comes to that is told by its console bytes: its last line, what was printed, and the image on unit 4,
+/// where it is to be saved.
+fn left_by_run(
+    alloc: Global,
+    machine: &mut Machine,
+    save: bool,
+    last: LastLine,
+) -> Result<Outcome, AllocError>
+    ensures outcome { last.steps ≡ machine.old.state.steps → IfOk result (λ outcome. (shown unread : List ℕ)
+        → IsOutcome outcome (run_said save (ended_run shown last.ending machine.old.state unread))) }
+    ensures told { IfOk result SaysWhy }
+{
+    let message = format!(in alloc; "{last}")?;
+    let printer = Vec::from_slice(alloc, machine.printer())?;
+    let image = if save {
+        machine.eject(4).map(Disk::into_bytes)
+    } else {
+        None
+    };
+    Ok(Outcome {
+        exit: last.ending.exit(),
+        message,
+        image,
+        printer,
+        refusal: None,
+        line: None,
+    })
+}
 
 /// Writes the end of what is shown of a run, after what is left on the page, and answers what the run comes to.
 fn tell<W: Sink>(
@@ -25,15 +55,15 @@ fn tell<W: Sink>(
     ending: Ending,
     mut page: Vec<u8>,
 ) -> Result<Outcome, Fault>
-    requires well { W.has_failed sink.old ≡ false }
-    ensures written { OnOk result (Appends (W.contents sink.old) (W.contents sink.new)
+    requires well { (W.seen sink.old).failed ≡ false }
+    ensures written { OnOk result (Appends (W.seen sink.old).contents (W.seen sink.new).contents
         (page.items ++ end_text show ending machine.old.state.steps)) }
     ensures outcome { IfOk result (λ outcome. (shown unread : List ℕ)
         → IsOutcome outcome (said_run show (ended_run shown ending machine.old.state unread))) }
-    ensures well { OnOk result (W.has_failed sink.new ≡ false) }
-    ensures front { OnErr result (AppendsFront (W.contents sink.old) (W.contents sink.new)
+    ensures well { OnOk result ((W.seen sink.new).failed ≡ false) }
+    ensures front { OnErr result (AppendsFront (W.seen sink.old).contents (W.seen sink.new).contents
         (page.items ++ end_text show ending machine.old.state.steps)) }
-    ensures cause { IfErr result (λ fault. IsCause fault false (W.has_failed sink.new) []) }
+    ensures cause { IfErr result (λ fault. IsCause fault false (W.seen sink.new).failed []) }
     ensures told { IfOk result SaysWhy }
 {
     let last = LastLine {
@@ -49,21 +79,7 @@ fn tell<W: Sink>(
         }
         Show::Console { save } => {
             write_all(sink, &page)?;
-            let message = format!(in alloc; "{last}")?;
-            let printer = Vec::from_slice(alloc, machine.printer())?;
-            let image = if save {
-                machine.eject(4).map(Disk::into_bytes)
-            } else {
-                None
-            };
-            Ok(Outcome {
-                exit: ending.exit(),
-                message,
-                image,
-                printer,
-                refusal: None,
-                line: None,
-            })
+            Ok(left_by_run(alloc, machine, save, last)?)
         }
     }
 }
@@ -77,25 +93,20 @@ pub(crate) fn play<R: Source, W: Sink>(
     show: Show,
     limit: u32,
 ) -> Result<Outcome, Fault>
-    requires source_well { R.has_failed source.old ≡ false }
-    requires sink_well { W.has_failed sink.old ≡ false }
-    ensures done { IfOk result (λ outcome. IsDone (R.remaining source.old) (R.remaining source.new)
-        (W.contents sink.old) (W.contents sink.new) outcome
+    requires well { AreWell (both (R.seen source.old) (W.seen sink.old)) }
+    ensures done { IfOk result (λ outcome. Finishes (both (R.seen source.old) (W.seen sink.old))
+        (both (R.seen source.new) (W.seen sink.new)) outcome
         (λ input. said_run show (run_of show limit input machine.state))) }
-    ensures well { OnOk result ((R.has_failed source.new ≡ false) × (W.has_failed sink.new ≡ false)) }
-    ensures broken { IfErr result (λ fault. IsBrokenOff (R.remaining source.old) (R.remaining source.new)
-        (W.contents sink.old) (W.contents sink.new) fault (R.has_failed source.new) (W.has_failed sink.new)
+    ensures well { OnOk result (AreWell (both (R.seen source.new) (W.seen sink.new))) }
+    ensures broken { IfErr result (λ fault. BreaksOff (both (R.seen source.old) (W.seen sink.old))
+        (both (R.seen source.new) (W.seen sink.new)) fault
         (λ input. said_run show (run_of show limit input machine.state))) }
-    ensures prompt { OnErr result (R.has_failed source.new ≡ true
-        → WritesFirst (R.remaining source.old) (R.remaining source.new)
-        (W.contents sink.old) (W.contents sink.new) (λ input. (run_of show limit input machine.state).shown)) }
+    ensures prompt { OnErr result (WritesInTime (both (R.seen source.old) (W.seen sink.old))
+        (both (R.seen source.new) (W.seen sink.new)) (λ input. (run_of show limit input machine.state).shown)) }
     ensures told { IfOk result SaysWhy }
-    ensures few { OnOk result (IsWithin (R.given source.old) (R.given source.new)) }
-    ensures bound { IfErr result (λ fault.
-        IsBound fault (R.given source.old) (R.given source.new) (R.has_failed source.new)) }
+    ensures counts { IsCounted (R.seen source.old) (R.seen source.new) result }
 {
-    let mut page = Vec::new(alloc);
-    let ending = drive(alloc, source, sink, &mut machine, show, limit, &mut page)?;
+    let (ending, page) = drive(alloc, source, sink, &mut machine, show, limit)?;
     let outcome = tell(alloc, sink, &mut machine, show, ending, page)?;
     Ok(outcome)
 }
@@ -155,28 +166,25 @@ pub(crate) fn program<R: Source, W: Sink>(
     source: &mut R,
     sink: &mut W,
     disks: [Option<Vec<u8>>; 6],
-    name: &str,
+    name: String,
     show: Show,
     limit: u32,
 ) -> Result<Outcome, Fault>
-    requires source_well { R.has_failed source.old ≡ false }
-    requires sink_well { W.has_failed sink.old ≡ false }
-    ensures done { IfOk result (λ outcome. IsDone (R.remaining source.old) (R.remaining source.new)
-        (W.contents sink.old) (W.contents sink.new) outcome
-        (said_started show limit (booted (images_of disks) name.now))) }
-    ensures well { OnOk result ((R.has_failed source.new ≡ false) × (W.has_failed sink.new ≡ false)) }
-    ensures broken { IfErr result (λ fault. IsBrokenOff (R.remaining source.old) (R.remaining source.new)
-        (W.contents sink.old) (W.contents sink.new) fault (R.has_failed source.new) (W.has_failed sink.new)
-        (said_started show limit (booted (images_of disks) name.now))) }
-    ensures prompt { OnErr result (R.has_failed source.new ≡ true
-        → WritesFirst (R.remaining source.old) (R.remaining source.new)
-        (W.contents sink.old) (W.contents sink.new) (shown_started show limit (booted (images_of disks) name.now))) }
+    requires well { AreWell (both (R.seen source.old) (W.seen sink.old)) }
+    ensures done { IfOk result (λ outcome. Finishes (both (R.seen source.old) (W.seen sink.old))
+        (both (R.seen source.new) (W.seen sink.new)) outcome
+        (said_started show limit (booted (images_of disks) (string_bytes name)))) }
+    ensures well { OnOk result (AreWell (both (R.seen source.new) (W.seen sink.new))) }
+    ensures broken { IfErr result (λ fault. BreaksOff (both (R.seen source.old) (W.seen sink.old))
+        (both (R.seen source.new) (W.seen sink.new)) fault
+        (said_started show limit (booted (images_of disks) (string_bytes name)))) }
+    ensures prompt { OnErr result (WritesInTime (both (R.seen source.old) (W.seen sink.old))
+        (both (R.seen source.new) (W.seen sink.new))
+        (shown_started show limit (booted (images_of disks) (string_bytes name)))) }
     ensures told { IfOk result SaysWhy }
-    ensures few { OnOk result (IsWithin (R.given source.old) (R.given source.new)) }
-    ensures bound { IfErr result (λ fault.
-        IsBound fault (R.given source.old) (R.given source.new) (R.has_failed source.new)) }
+    ensures counts { IsCounted (R.seen source.old) (R.seen source.new) result }
 {
-    let machine = match boot(alloc, disks, name)? {
+    let machine = match boot(alloc, disks, name.as_str())? {
         Ok(machine) => machine,
         Err(refusal) => return Ok(refuse(alloc, refusal)?),
     };

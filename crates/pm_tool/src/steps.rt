@@ -2,13 +2,13 @@
 ghost use Rattle.std.specs.Prelude.{◌≡◌, false, true, [], ◌++◌, drop, length, IfOk, IfErr, OnOk, OnErr};
 ghost use Rattle.std.specs.Io.KnownBytes.{Appends};
 ghost use Rattle.pm_machine.specs.Steps.{stepped};
-ghost use Rattle.pm_tool.specs.Run.{IsBroken, IsOver, Unshown, is_console, shown_by};
-ghost use Rattle.pm_streams.specs.Streams.{AppendsBut, AppendsFront, IsCause, IsWithin, IsBound};
+ghost use Rattle.pm_tool.specs.Run.{ComesToEnd, StopsShort, Unshown, is_console, shown_by};
+ghost use Rattle.pm_streams.specs.Streams.{AppendsBut, AppendsFront, IsCause, IsCounted, AreWell, both};
 
 use crate::ending::Ending;
 use pm_debug::TraceLine;
 use pm_machine::{Machine, Stop};
-use pm_streams::{Fault, INPUT_LIMIT, Sink, Source, read_byte, write_all};
+use pm_streams::{Fault, Sink, Source, next_byte, write_all};
 use std::alloc::{AllocError, Global};
 
 /// What is shown of a run.
@@ -88,12 +88,12 @@ const PAGE: usize = 4096;
 
 /// Writes the page and clears it.
 fn write_page<W: Sink>(sink: &mut W, page: &mut Vec<u8>) -> Result<(), Fault>
-    requires well { W.has_failed sink.old ≡ false }
-    ensures written { OnOk result (Appends (W.contents sink.old) (W.contents sink.new) page.old.items) }
+    requires well { (W.seen sink.old).failed ≡ false }
+    ensures written { OnOk result (Appends (W.seen sink.old).contents (W.seen sink.new).contents page.old.items) }
     ensures cleared { OnOk result (page.new.items ≡ []) }
-    ensures well { OnOk result (W.has_failed sink.new ≡ false) }
-    ensures front { OnErr result (AppendsFront (W.contents sink.old) (W.contents sink.new) page.old.items) }
-    ensures cause { IfErr result (λ fault. IsCause fault false (W.has_failed sink.new) []) }
+    ensures well { OnOk result ((W.seen sink.new).failed ≡ false) }
+    ensures front { OnErr result (AppendsFront (W.seen sink.old).contents (W.seen sink.new).contents page.old.items) }
+    ensures cause { IfErr result (λ fault. IsCause fault false (W.seen sink.new).failed []) }
 {
     write_all(sink, page)?;
     page.clear();
@@ -102,13 +102,13 @@ fn write_page<W: Sink>(sink: &mut W, page: &mut Vec<u8>) -> Result<(), Fault>
 
 /// Writes the page and clears it, once it is full: a trace is written by pages, and console bytes are written at once.
 fn turn_page<W: Sink>(sink: &mut W, page: &mut Vec<u8>, show: Show) -> Result<(), Fault>
-    requires well { W.has_failed sink.old ≡ false }
-    ensures written { OnOk result (AppendsBut (W.contents sink.old)
-        (W.contents sink.new) page.new.items page.old.items) }
+    requires well { (W.seen sink.old).failed ≡ false }
+    ensures written { OnOk result (AppendsBut (W.seen sink.old).contents
+        (W.seen sink.new).contents page.new.items page.old.items) }
     ensures at_once { is_console show ≡ true → OnOk result (page.new.items ≡ []) }
-    ensures well { OnOk result (W.has_failed sink.new ≡ false) }
-    ensures front { OnErr result (AppendsFront (W.contents sink.old) (W.contents sink.new) page.old.items) }
-    ensures cause { IfErr result (λ fault. IsCause fault false (W.has_failed sink.new) []) }
+    ensures well { OnOk result ((W.seen sink.new).failed ≡ false) }
+    ensures front { OnErr result (AppendsFront (W.seen sink.old).contents (W.seen sink.new).contents page.old.items) }
+    ensures cause { IfErr result (λ fault. IsCause fault false (W.seen sink.new).failed []) }
 {
     let full = match show {
         Show::Trace => PAGE,
@@ -120,7 +120,7 @@ fn turn_page<W: Sink>(sink: &mut W, page: &mut Vec<u8>, show: Show) -> Result<()
     Ok(())
 }
 
-/// Makes at most `limit` steps and writes what they show, but for what it leaves on the page. Each time that the
+/// Makes at most `limit` steps and writes what they show, but for the page that it gives back. Each time that the
 /// machine waits, the page is written and the machine gets the next byte of the input.
 pub(crate) fn drive<R: Source, W: Sink>(
     alloc: Global,
@@ -129,47 +129,36 @@ pub(crate) fn drive<R: Source, W: Sink>(
     machine: &mut Machine,
     show: Show,
     limit: u32,
-    page: &mut Vec<u8>,
-) -> Result<Ending, Fault>
-    requires source_well { R.has_failed source.old ≡ false }
-    requires sink_well { W.has_failed sink.old ≡ false }
-    requires blank { page.old.items ≡ [] }
-    ensures over { IfOk result (λ ending. IsOver (R.remaining source.old) (R.remaining source.new)
-        (W.contents sink.old) (W.contents sink.new) page.new.items show limit machine.old.state ending
-        machine.new.state) }
-    ensures source_well { OnOk result (R.has_failed source.new ≡ false) }
-    ensures sink_well { OnOk result (W.has_failed sink.new ≡ false) }
-    ensures broken { IfErr result (λ fault. IsBroken (R.remaining source.old) (R.remaining source.new)
-        (W.contents sink.old) (W.contents sink.new) show limit machine.old.state fault (R.has_failed source.new)
-        (W.has_failed sink.new)) }
-    ensures few { OnOk result (IsWithin (R.given source.old) (R.given source.new)) }
-    ensures bound { IfErr result (λ fault.
-        IsBound fault (R.given source.old) (R.given source.new) (R.has_failed source.new)) }
+) -> Result<(Ending, Vec<u8>), Fault>
+    requires well { AreWell (both (R.seen source.old) (W.seen sink.old)) }
+    ensures over { IfOk result (λ r. ComesToEnd (both (R.seen source.old) (W.seen sink.old))
+        (both (R.seen source.new) (W.seen sink.new)) r.1.items show limit machine.old.state r.0 machine.new.state) }
+    ensures well { OnOk result (AreWell (both (R.seen source.new) (W.seen sink.new))) }
+    ensures broken { IfErr result (λ fault. StopsShort (both (R.seen source.old) (W.seen sink.old))
+        (both (R.seen source.new) (W.seen sink.new)) show limit machine.old.state fault) }
+    ensures counts { IsCounted (R.seen source.old) (R.seen source.new) result }
 {
     let mut line = String::new(alloc);
+    let mut page = Vec::new(alloc);
     let mut went = 0;
     let mut taken = 0;
     'steps: while went < limit {
-        match step(machine, show, &mut line, page)? {
+        match step(machine, show, &mut line, &mut page)? {
             Stop::Went => {
                 went += 1;
-                turn_page(sink, page, show)?;
+                turn_page(sink, &mut page, show)?;
                 went += unshown_steps(machine, show, limit - went);
             }
-            Stop::Ended => return Ok(Ending::Ended),
-            Stop::Halted(error) => return Ok(Ending::Error(error)),
+            Stop::Ended => return Ok((Ending::Ended, page)),
+            Stop::Halted(error) => return Ok((Ending::Error(error), page)),
             Stop::Waiting => {
-                write_page(sink, page)?;
-                let Some(byte) = read_byte(source)? else {
-                    return Ok(Ending::Waiting);
+                write_page(sink, &mut page)?;
+                let Some(byte) = next_byte(source, &mut taken)? else {
+                    return Ok((Ending::Waiting, page));
                 };
-                if taken == INPUT_LIMIT {
-                    return Err(Fault::Read);
-                }
-                taken += 1;
                 machine.key(byte)?;
             }
         }
     }
-    Ok(Ending::Limit)
+    Ok((Ending::Limit, page))
 }

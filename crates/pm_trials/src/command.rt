@@ -42,12 +42,18 @@ pub fn come(
     Came { status, disk }
 }
 
-/// A disk with the same files, each with one name, of which nothing has been asked.
+/// A disk with the same files as another program finds them, each with one name, of which nothing has been asked.
 pub fn copy(alloc: Global, disk: &Disk) -> io::Result<Disk> {
     let mut copy = Disk::new(alloc);
     for name in disk.names.iter() {
         if let Some(bytes) = disk.bytes(name.path.as_str()) {
             copy.put(alloc, name.path.as_str(), bytes)?;
+        }
+        if let (Some(made), Some(inode)) = (copy.inodes.last_mut(), disk.inodes.get(name.inode)) {
+            made.locked = inode.locked;
+            made.is_private = inode.is_private;
+            made.is_read_only = inode.is_read_only;
+            made.is_folder = inode.is_folder;
         }
     }
     Ok(copy)

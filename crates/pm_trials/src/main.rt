@@ -3,6 +3,7 @@
 #![tactic(auto)]
 
 mod command;
+mod meanwhile;
 mod script;
 mod sweep;
 
@@ -16,6 +17,7 @@ fn main(rt: HostRuntime) -> io::Result<()> {
         if !trials.line(line.as_str())? {
             println!(rt; "not so: {line}\n{trials}")?;
         }
+        print!(rt; "{}", trials.take_told())?;
     }
     println!(rt; "command lines: {}", trials.count())
 }

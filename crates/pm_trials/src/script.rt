@@ -1,5 +1,6 @@
 //! The lines of a script.
-use crate::command::{Came, CommandLine, come, copy};
+use crate::command::{Came, CommandLine, come};
+use crate::meanwhile::{Deed, deed_of, meanwhile};
 use crate::sweep::sweep;
 use pm_fake::Disk;
 use std::alloc::Global;
@@ -18,6 +19,10 @@ pub struct Trials {
     err: Vec<u8>,
     /// Whether the standard streams are a terminal.
     on_terminal: bool,
+    /// What another program does during the next command line of `$~`.
+    deed: Option<Deed>,
+    /// What is to be printed.
+    told: String,
     count: u32,
 }
 
@@ -47,6 +52,8 @@ impl Trials {
             out: Vec::new(alloc),
             err: Vec::new(alloc),
             on_terminal: false,
+            deed: None,
+            told: String::new(alloc),
             count: 0,
         }
     }
@@ -54,6 +61,11 @@ impl Trials {
     /// How many command lines were done, those with a failing call not counted.
     pub fn count(&self) -> u32 {
         self.count
+    }
+
+    /// What is to be printed, once.
+    pub fn take_told(&mut self) -> String {
+        std::mem::replace(&mut self.told, String::new(self.alloc))
     }
 
     /// Keeps what a command line came to.
@@ -90,6 +102,35 @@ impl Trials {
         let (holds, came) = sweep(self.alloc, &self.came.disk, command, paths)?;
         self.keep(came);
         Ok(holds)
+    }
+
+    /// Does a command line while another program acts before each of its calls in turn, and tells what stands at these
+    /// paths then. The files stay.
+    fn run_beside(&mut self, words: &str, paths: &str) -> io::Result<bool> {
+        let command = CommandLine {
+            words,
+            typed: self.typed.as_slice(),
+            on_terminal: self.on_terminal,
+        };
+        let Some(deed) = self.deed.take() else {
+            return Ok(false);
+        };
+        let told = meanwhile(self.alloc, &self.came.disk, command, &deed, paths)?;
+        self.told.push_str(words)?;
+        self.told.push_str("\n")?;
+        self.told.push_str(told.as_str())?;
+        self.typed.clear();
+        self.count = self.count.wrapping_add(1);
+        Ok(true)
+    }
+
+    /// What another program is going to do, from its line.
+    fn begin_deed(&mut self, rest: &str) -> io::Result<bool> {
+        let (word, path) = rest.split_once(' ').unwrap_or((rest, ""));
+        self.deed = deed_of(self.alloc, &self.came.disk, word, path)?;
+        self.told.push_str(rest)?;
+        self.told.push_str(": ")?;
+        Ok(self.deed.is_some())
     }
 
     /// Does a command line of wrong words. Whether it came to status 1 and a text on standard error, and did no more.
@@ -203,9 +244,12 @@ impl Trials {
     /// Does a line of the script. Whether it is one, and true. `#` begins a comment. The words that do something:
     ///
     /// - `$ WORDS`, `$$ FILES WORDS`: a command line; the same with each call failing in turn, FILES with commas
-    /// between them; `usage WORDS`: one of wrong words; - `< TEXT`: a line of its standard input; `<<`: what
-    /// standard output took is its standard input; - `> TEXT`, `] TEXT`, `! TEXT`: what standard output, the same
-    /// without a line feed, and standard error took; - `disk`: no files; `closed`: the folder takes no new name;
+    /// between them; `usage WORDS`: one of wrong words; - `~ put FILE FROM`, `~ replace FILE FROM`, `~ remove FILE`,
+    /// `~ lock FILE`, `~ unlock FILE`, and then `$~ FILES WORDS`: a command line during which another program does
+    /// that, before each call in turn; it prints what stands under FILES then; - `< TEXT`: a line of its standard
+    /// input; `<<`: what standard output took is its standard input; - `> TEXT`, `] TEXT`, `! TEXT`: what standard
+    /// output, the same without a line feed, and standard error took; - `disk`: no files; `closed`: the folder takes no
+    /// new name;
     /// `hold`, `private`, `read-only`, `folder`: another program holds all files, they may not be read, or not be
     /// written, or are folders; `terminal on`, `terminal off`; - `copy FROM TO`, `poke FILE PLACE TEXT`,
     /// `link FILE NAME`, `store FILE`, which keeps what standard output took.
@@ -220,6 +264,8 @@ impl Trials {
             "" | "#" => Ok(true),
             "$" => self.run(rest),
             "$$" => self.run_each(second, first),
+            "$~" => self.run_beside(second, first),
+            "~" => self.begin_deed(rest),
             "usage" => self.run_wrong(rest),
             ">" => add(&mut self.out, rest, true).map(|_| true),
             "]" => add(&mut self.out, rest, false).map(|_| true),

@@ -1,9 +1,12 @@
 use Rattle.std.proofs.Common.{rules}
 use Rattle.pm_tool.specs.declared.outcome.Job.TheVariants as jobs
+use Rattle.pm_streams.specs.Streams.{both}
 use Rattle.pm_program.proofs.KeptLaws.{known_tells}
 use Rattle.pm_program.proofs.kept.do_debug.Goals as goal
 
 pub returns-clause-said : goal.returns-clause-said
-returns-clause-said g c = λ sound. known_tells (λ disks. jobs.Debug disks c.args.program.name) _ _ _ _ (g.S.Store.files c.args.store.now)
+returns-clause-said g c = λ sound. known_tells (λ disks. jobs.Debug disks c.args.program.name)
+    (both (g.I.Source.seen c.args.source.now) (g.O.Sink.seen c.args.sink.now)) (both (g.I.Source.seen c.run.new.source) (g.O.Sink.seen c.run.new.sink))
+    (g.S.Store.files c.args.store.now)
     c.args.program c.in_ok-disks.disks c.run.result c.as_str.result.now (search rules)
     (c.run.ensures.exact sound) c.in_ok-disks.ensures.values

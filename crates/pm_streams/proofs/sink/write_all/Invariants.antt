@@ -4,8 +4,8 @@ use Rattle.pm_streams.proofs.sink.write_all.Given as goal
 
 abbrev pub invariant-writing : goal.invariant-writing
 invariant-writing g l = record {
-  so_far : Written (g.W.Sink.contents l.fn.sink) (g.W.Sink.contents l.sink) l.bytes l.rest;
-  well : g.W.Sink.has_failed l.sink ≡ false;
+  so_far : Written (g.W.Sink.seen l.fn.sink).contents (g.W.Sink.seen l.sink).contents l.bytes l.rest;
+  well : (g.W.Sink.seen l.sink).failed ≡ false;
 }
 
 abbrev pub decreases-writing : goal.decreases-writing

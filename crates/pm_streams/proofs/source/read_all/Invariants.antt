@@ -5,11 +5,11 @@ use Rattle.pm_streams.proofs.source.read_all.Given as goal
 
 abbrev pub invariant-reading : goal.invariant-reading
 invariant-reading g l = record {
-  so_far : Consumes (g.R.Source.remaining l.fn.source) (g.R.Source.remaining l.source) l.input.items;
-  well : g.R.Source.has_failed l.source ≡ false;
+  so_far : Consumes (g.R.Source.seen l.fn.source).remaining (g.R.Source.seen l.source).remaining l.input.items;
+  well : (g.R.Source.seen l.source).failed ≡ false;
   few : vec_len l.input ≤ 16777216;
   room : length l.buffer ≡ 4096;
-  counted : CountsOn (g.R.Source.given l.fn.source) → g.R.Source.given l.source ≡ g.R.Source.given l.fn.source + vec_len l.input;
+  counted : CountsOn (g.R.Source.seen l.fn.source).given → (g.R.Source.seen l.source).given ≡ (g.R.Source.seen l.fn.source).given + vec_len l.input;
 }
 
 abbrev pub decreases-reading : goal.decreases-reading

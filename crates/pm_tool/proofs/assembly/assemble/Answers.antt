@@ -14,21 +14,21 @@ pub returns-in_err-input-clause-broken : goal.returns-in_err-input-clause-broken
 returns-in_err-input-clause-broken g c =
     let p = err_from_is_err_and c.from_residual.result c.from_residual.ensures.1 in
     let e = c.in_err-input.ensures.cause in
-    rw (p.1, p.2) (broken_unwritten _ _ _ _ _ _ _ e.0 e.1 (rw c.requires.sink_well e.2))
+    rw (p.1, p.2) (broken_unwritten _ _ _ _ _ _ _ e.0 e.1 (rw c.requires.well.1 e.2))
 
 pub returns-in_err-bytes-clause-broken : goal.returns-in_err-bytes-clause-broken
 returns-in_err-bytes-clause-broken g c =
     let r = c.from_residual-in_err-bytes in
     let p = err_from_is_err_and r.result r.ensures.1 in
     let reads = c.in_ok-input.ensures.all in
-    rw (p.1, p.2) (broken_unwritten _ _ _ _ _ _ _ c.in_ok-input.input.items reads.0 (c.requires.sink_well, c.in_ok-input.ensures.well, reads.2))
+    rw (p.1, p.2) (broken_unwritten _ _ _ _ _ _ _ c.in_ok-input.input.items reads.0 (c.requires.well.1, c.in_ok-input.ensures.well, reads.2))
 
 pub returns-in_err-refuse_line-in-Err-clause-broken : goal.returns-in_err-refuse_line-in-Err-clause-broken
 returns-in_err-refuse_line-in-Err-clause-broken g c =
     let r = c.from_residual-in_err-refuse_line-in-Err in
     let p = err_from_is_err_and r.result r.ensures.1 in
     let reads = c.in_ok-input.ensures.all in
-    rw (p.1, p.2) (broken_unwritten _ _ _ _ _ _ _ c.in_ok-input.input.items reads.0 (c.requires.sink_well, c.in_ok-input.ensures.well, reads.2))
+    rw (p.1, p.2) (broken_unwritten _ _ _ _ _ _ _ c.in_ok-input.input.items reads.0 (c.requires.well.1, c.in_ok-input.ensures.well, reads.2))
 
 pub returns-in-Err-clause-done : goal.returns-in-Err-clause-done
 returns-in-Err-clause-done g c =

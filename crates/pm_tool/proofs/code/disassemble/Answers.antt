@@ -15,14 +15,14 @@ pub returns-in_err-input-clause-broken : goal.returns-in_err-input-clause-broken
 returns-in_err-input-clause-broken g c =
     let p = err_from_is_err_and c.from_residual.result c.from_residual.ensures.1 in
     let e = c.in_err-input.ensures.cause in
-    rw (p.1, p.2) (broken_unwritten _ _ _ _ _ _ _ e.0 e.1 (rw c.requires.sink_well e.2))
+    rw (p.1, p.2) (broken_unwritten _ _ _ _ _ _ _ e.0 e.1 (rw c.requires.well.1 e.2))
 
 pub returns-in_err-refuse-in-Err-clause-broken : goal.returns-in_err-refuse-in-Err-clause-broken
 returns-in_err-refuse-in-Err-clause-broken g c =
     let r = c.from_residual-in_err-refuse-in-Err in
     let p = err_from_is_err_and r.result r.ensures.1 in
     let reads = c.in_ok-input.ensures.all in
-    rw (p.1, p.2) (broken_unwritten _ _ _ _ _ _ _ c.in_ok-input.input.items reads.0 (c.requires.sink_well, c.in_ok-input.ensures.well, reads.2))
+    rw (p.1, p.2) (broken_unwritten _ _ _ _ _ _ _ c.in_ok-input.input.items reads.0 (c.requires.well.1, c.in_ok-input.ensures.well, reads.2))
 
 pub returns-in-Err-clause-done : goal.returns-in-Err-clause-done
 returns-in-Err-clause-done g c =
@@ -36,7 +36,7 @@ returns-in_err-text-clause-broken g c =
     let r = c.from_residual-in_err-text in
     let p = err_from_is_err_and r.result r.ensures.1 in
     let reads = c.in_ok-input.ensures.all in
-    rw (p.1, p.2) (broken_unwritten _ _ _ _ _ _ _ c.in_ok-input.input.items reads.0 (c.requires.sink_well, c.in_ok-input.ensures.well, reads.2))
+    rw (p.1, p.2) (broken_unwritten _ _ _ _ _ _ _ c.in_ok-input.input.items reads.0 (c.requires.well.1, c.in_ok-input.ensures.well, reads.2))
 
 pub returns-in_err-write_all-clause-broken : goal.returns-in_err-write_all-clause-broken
 returns-in_err-write_all-clause-broken g c =

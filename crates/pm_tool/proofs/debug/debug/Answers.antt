@@ -8,13 +8,13 @@ use Rattle.pm_tool.proofs.debug.debug.Goals as goal
 pub returns-in_err-machine-clause-broken : goal.returns-in_err-machine-clause-broken
 returns-in_err-machine-clause-broken g c =
     let p = err_from_is_err_and c.from_residual.result c.from_residual.ensures.1 in
-    rw (p.1, p.2) (broken_unwritten _ _ _ _ _ _ _ [] (consumes_none _) (c.requires.sink_well, c.requires.source_well, omega arith))
+    rw (p.1, p.2) (broken_unwritten _ _ _ _ _ _ _ [] (consumes_none _) (c.requires.well.1, c.requires.well.0, omega arith))
 
 pub returns-in_err-refuse-in-Err-clause-broken : goal.returns-in_err-refuse-in-Err-clause-broken
 returns-in_err-refuse-in-Err-clause-broken g c =
     let r = c.from_residual-in_err-refuse-in-Err in
     let p = err_from_is_err_and r.result r.ensures.1 in
-    rw (p.1, p.2) (broken_unwritten _ _ _ _ _ _ _ [] (consumes_none _) (c.requires.sink_well, c.requires.source_well, omega arith))
+    rw (p.1, p.2) (broken_unwritten _ _ _ _ _ _ _ [] (consumes_none _) (c.requires.well.1, c.requires.well.0, omega arith))
 
 pub returns-in-Err-clause-done : goal.returns-in-Err-clause-done
 returns-in-Err-clause-done g c = debug_refused _ _ _ c.in-Err.refusal _ (search rules) c.in_ok-refuse-in-Err.ensures.outcome

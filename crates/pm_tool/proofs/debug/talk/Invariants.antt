@@ -7,12 +7,13 @@ use Rattle.pm_tool.proofs.debug.talk.Given as goal
 
 abbrev pub invariant-bytes : goal.invariant-bytes
 invariant-bytes g l = record {
-  talking : IsTalking (g.R.Source.remaining l.fn.source) (g.R.Source.remaining l.source) (g.W.Sink.contents l.fn.sink) (g.W.Sink.contents l.sink)
+  talking : IsTalking (g.R.Source.seen l.fn.source).remaining (g.R.Source.seen l.source).remaining
+      (g.W.Sink.seen l.fn.sink).contents (g.W.Sink.seen l.sink).contents
       l.line.items l.taken (session_of l.fn.debugger) (session_of l.debugger);
-  source_well : g.R.Source.has_failed l.source ≡ false;
-  sink_well : g.W.Sink.has_failed l.sink ≡ false;
+  source_well : (g.R.Source.seen l.source).failed ≡ false;
+  sink_well : (g.W.Sink.seen l.sink).failed ≡ false;
   few : l.taken ≤ INPUT_LIMIT;
-  counted : CountsOn (g.R.Source.given l.fn.source) → g.R.Source.given l.source ≡ g.R.Source.given l.fn.source + l.taken;
+  counted : CountsOn (g.R.Source.seen l.fn.source).given → (g.R.Source.seen l.source).given ≡ (g.R.Source.seen l.fn.source).given + l.taken;
 }
 
 abbrev pub decreases-bytes : goal.decreases-bytes

@@ -12,17 +12,17 @@ returns-in-Raw-clause-broken g c = broken_job c.args.job (jobs.Raw c.in-Raw.limi
 pub returns-in-Run-clause-broken : goal.returns-in-Run-clause-broken
 returns-in-Run-clause-broken g c =
     broken_job c.args.job (jobs.Run c.in-Run.disks c.in-Run.name c.in-Run.limit c.in-Run.save) _ _ _ _ _ _ _
-    (rw c.as_str.ensures.value at c.program.ensures.broken) c.in-Run.is
+    c.program.ensures.broken c.in-Run.is
 
 pub returns-in-Trace-clause-broken : goal.returns-in-Trace-clause-broken
 returns-in-Trace-clause-broken g c =
     broken_job c.args.job (jobs.Trace c.in-Trace.disks c.in-Trace.name c.in-Trace.limit) _ _ _ _ _ _ _
-    (rw c.as_str-in-Trace.ensures.value at c.program-in-Trace.ensures.broken) c.in-Trace.is
+    c.program-in-Trace.ensures.broken c.in-Trace.is
 
 pub returns-in-Debug-clause-broken : goal.returns-in-Debug-clause-broken
 returns-in-Debug-clause-broken g c =
     broken_job c.args.job (jobs.Debug c.in-Debug.disks c.in-Debug.name) _ _ _ _ _ _ _
-    (rw c.as_str-in-Debug.ensures.value at c.debug.ensures.broken) c.in-Debug.is
+    c.debug.ensures.broken c.in-Debug.is
 
 pub returns-in-Asm-clause-broken : goal.returns-in-Asm-clause-broken
 returns-in-Asm-clause-broken g c = broken_job c.args.job (jobs.Asm c.in-Asm.list) _ _ _ _ _ _ _ c.assemble.ensures.broken c.in-Asm.is
@@ -37,13 +37,13 @@ pub returns-in_err-new_volume-in-New-clause-broken : goal.returns-in_err-new_vol
 returns-in_err-new_volume-in-New-clause-broken g c =
     let r = c.from_residual in
     let p = err_from_is_err_and r.result r.ensures.1 in
-    rw (p.1, p.2) (broken_unwritten _ _ _ _ _ _ _ [] (consumes_none _) (c.requires.sink_well, c.requires.source_well, omega arith))
+    rw (p.1, p.2) (broken_unwritten _ _ _ _ _ _ _ [] (consumes_none _) (c.requires.well.1, c.requires.well.0, omega arith))
 
 pub returns-in_err-repair_volume-in-Repair-clause-broken : goal.returns-in_err-repair_volume-in-Repair-clause-broken
 returns-in_err-repair_volume-in-Repair-clause-broken g c =
     let r = c.from_residual-in_err-repair_volume-in-Repair in
     let p = err_from_is_err_and r.result r.ensures.1 in
-    rw (p.1, p.2) (broken_unwritten _ _ _ _ _ _ _ [] (consumes_none _) (c.requires.sink_well, c.requires.source_well, omega arith))
+    rw (p.1, p.2) (broken_unwritten _ _ _ _ _ _ _ [] (consumes_none _) (c.requires.well.1, c.requires.well.0, omega arith))
 
 pub returns-in_ok-repair_volume-in-Repair-clause-done : goal.returns-in_ok-repair_volume-in-Repair-clause-done
 returns-in_ok-repair_volume-in-Repair-clause-done g c =

@@ -13,7 +13,7 @@ returns-in_err-outcome-clause-broken g c =
     let p = err_from_is_err_and r.result r.ensures.1 in
     rw (p.1, p.2)
     (broken_telling _ _ _ _ _ c.args.show c.args.limit c.args.machine.state c.in_ok-ending.ending c.drive.new.machine.state c.in_ok-ending.ensures.over
-    _ _ _ _ c.in_err-outcome.ensures.front c.in_ok-ending.ensures.source_well c.in_err-outcome.ensures.cause)
+    _ _ _ _ c.in_err-outcome.ensures.front c.in_ok-ending.ensures.well.0 c.in_err-outcome.ensures.cause)
 
 pub returns-clause-done : goal.returns-clause-done
 returns-clause-done g c =

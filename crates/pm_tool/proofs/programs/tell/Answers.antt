@@ -8,3 +8,6 @@ returns-in_err-line-in-Trace-clause-front g c =
     let r = c.from_residual in
     let p = err_from_is_err_and r.result r.ensures.1 in
     rw p.1 ([], Appends-nil _, (_, refl))
+
+pub returns-clause-outcome : goal.returns-clause-outcome
+returns-clause-outcome g c = λ shown unread. rw c.in-Console.is (c.in_ok-left_by_run-in-Console.ensures.outcome c.steps.ensures.value shown unread)

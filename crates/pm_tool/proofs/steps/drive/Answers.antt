@@ -1,15 +1,15 @@
-use Rattle.std.proofs.Common.{rules, arith, inr, refl, ◌-◌, ◌+◌}
+use Rattle.std.proofs.Common.{rules, arith, refl, ◌-◌, ◌+◌}
 use Rattle.std.proofs.lemmas.Result.{err_from_is_err_and}
 use Rattle.pm_tool.proofs.Driven.{under_way_none, under_way_turned, under_way_cleared, under_way_went, under_way_waited, under_way_key}
-use Rattle.pm_tool.proofs.Driven.{over_limit, over_ended, over_halted, over_waiting, broken_between, broken_writing, broken_reading}
+use Rattle.pm_tool.proofs.Driven.{over_limit, over_ended, over_halted, over_waiting, broken_between, broken_writing, broken_taking}
 use Rattle.pm_tool.proofs.QuickSteps.{under_way_unshown}
 use Rattle.pm_tool.proofs.steps.drive.Goals as goal
 
 pub steps-init : goal.steps-init
 steps-init g c = record {
-  under_way = under_way_none _ _ _ _ _ _ _ c.requires.blank (omega arith);
-  source_well = c.requires.source_well;
-  sink_well = c.requires.sink_well;
+  under_way = under_way_none _ _ _ _ _ _ _ (search rules) (omega arith);
+  source_well = c.requires.well.0;
+  sink_well = c.requires.well.1;
   few = omega arith;
   counted = λ low. omega arith;
   within = omega arith;
@@ -73,12 +73,11 @@ pub returns-in_err-byte-in-Waiting-clause-broken :
 returns-in_err-byte-in-Waiting-clause-broken g c =
     let r = c.from_residual-in_err-byte-in-Waiting in
     let p = err_from_is_err_and r.result r.ensures.1 in
-    rw (p.1, p.2) (broken_reading _ _ _ _ _ _ _ _ _ _ _
+    rw (p.1, p.2) (broken_taking _ (g.R.Source.seen c.steps.source) (g.R.Source.seen c.next_byte.new.source) _ _ _ _ _ _ _ _ _
     (under_way_cleared _ _ _ _ _ _ _ _ _ _ _
     (under_way_waited _ _ _ _ _ _ _ _ _ _ _ c.steps.invariant.under_way c.step.new.page.items c.step.new.machine.state (omega arith) (search rules))
     _ _ c.in_ok-write_page-in-Waiting.ensures.written c.in_ok-write_page-in-Waiting.ensures.cleared)
-    _ _ _ _ c.in_err-byte-in-Waiting.ensures.kept c.in_err-byte-in-Waiting.ensures.fault c.in_err-byte-in-Waiting.ensures.failed
-    c.in_ok-write_page-in-Waiting.ensures.well
+    c.in_err-byte-in-Waiting.ensures.none _ _ c.in_err-byte-in-Waiting.ensures.fault c.in_ok-write_page-in-Waiting.ensures.well
     c.in_ok-write_page-in-Waiting.ensures.cleared c.step.new.machine.state (omega arith) (search rules))
 
 pub returns-in_default-clause-over : goal.returns-in_default-clause-over
@@ -88,32 +87,20 @@ returns-in_default-clause-over g c =
     (under_way_waited _ _ _ _ _ _ _ _ _ _ _ c.steps.invariant.under_way c.step.new.page.items c.step.new.machine.state (omega arith) (search rules))
     _ _ c.in_ok-write_page-in-Waiting.ensures.written c.in_ok-write_page-in-Waiting.ensures.cleared)
     c.write_page.new.page.items c.step.new.machine.state (omega arith) _ c.steps.invariant.few (search rules)
-    (rw c.in_default.is at c.in_ok-byte-in-Waiting.ensures.byte)
-
-pub returns-then-taken-eq-INPUT_LIMIT-clause-broken :
-    goal.returns-then-taken-eq-INPUT_LIMIT-clause-broken
-returns-then-taken-eq-INPUT_LIMIT-clause-broken g c =
-    broken_between _ _ _ _ _ _ _ _ _ _ _
-    (under_way_key _ _ _ _ _ _ _ _ _ _ _
-    (under_way_cleared _ _ _ _ _ _ _ _ _ _ _
-    (under_way_waited _ _ _ _ _ _ _ _ _ _ _ c.steps.invariant.under_way c.step.new.page.items c.step.new.machine.state (omega arith) (search rules))
-    _ _ c.in_ok-write_page-in-Waiting.ensures.written c.in_ok-write_page-in-Waiting.ensures.cleared)
-    c.write_page.new.page.items c.step.new.machine.state (omega arith) _ c.in-Some.byte _ (search rules)
-    (rw c.in-Some.is at c.in_ok-byte-in-Waiting.ensures.byte) refl)
-    _ _ _ c.in_ok-byte-in-Waiting.ensures.failed (λ read e. (c.in_ok-write_page-in-Waiting.ensures.well, inr (omega arith)))
+    (rw c.in_default.is at c.in_ok-byte-in-Waiting.ensures.byte).0
 
 pub steps-preserved : goal.steps-preserved
 steps-preserved g c = record {
-  under_way =
-      under_way_key _ _ _ _ _ _ _ _ _ _ _
+  under_way = rw (rw c.in-Some.is at c.in_ok-byte-in-Waiting.ensures.byte).2
+      (under_way_key _ _ _ _ _ _ _ _ _ _ _
       (under_way_cleared _ _ _ _ _ _ _ _ _ _ _
       (under_way_waited _ _ _ _ _ _ _ _ _ _ _ c.steps.invariant.under_way c.step.new.page.items c.step.new.machine.state (omega arith) (search rules))
       _ _ c.in_ok-write_page-in-Waiting.ensures.written c.in_ok-write_page-in-Waiting.ensures.cleared)
       c.write_page.new.page.items c.step.new.machine.state (omega arith) _ c.in-Some.byte _ (search rules)
-      (rw c.in-Some.is at c.in_ok-byte-in-Waiting.ensures.byte) c.in_ok-key-in-Waiting.ensures.event;
-  source_well = c.in_ok-byte-in-Waiting.ensures.failed;
+      (rw c.in-Some.is at c.in_ok-byte-in-Waiting.ensures.byte).0 c.in_ok-key-in-Waiting.ensures.event);
+  source_well = c.in_ok-byte-in-Waiting.ensures.well;
   sink_well = c.in_ok-write_page-in-Waiting.ensures.well;
-  few = omega arith;
+  few = omega (arith, rw c.in-Some.is at c.in_ok-byte-in-Waiting.ensures.byte);
   counted = λ low. search rules;
   within = c.steps.invariant.within;
 }
@@ -128,5 +115,9 @@ returns-in_err-key-in-Waiting-clause-broken g c =
     (under_way_waited _ _ _ _ _ _ _ _ _ _ _ c.steps.invariant.under_way c.step.new.page.items c.step.new.machine.state (omega arith) (search rules))
     _ _ c.in_ok-write_page-in-Waiting.ensures.written c.in_ok-write_page-in-Waiting.ensures.cleared)
     c.write_page.new.page.items c.step.new.machine.state (omega arith) _ c.in-Some.byte _ (search rules)
-    (rw c.in-Some.is at c.in_ok-byte-in-Waiting.ensures.byte) refl)
-    _ _ _ c.in_ok-byte-in-Waiting.ensures.failed (λ read e. (c.in_ok-write_page-in-Waiting.ensures.well, c.in_ok-byte-in-Waiting.ensures.failed, omega arith)))
+    (rw c.in-Some.is at c.in_ok-byte-in-Waiting.ensures.byte).0 refl)
+    _ _ _ c.in_ok-byte-in-Waiting.ensures.well (λ read e. (
+      c.in_ok-write_page-in-Waiting.ensures.well,
+      c.in_ok-byte-in-Waiting.ensures.well,
+      omega (arith, rw c.in-Some.is at c.in_ok-byte-in-Waiting.ensures.byte),
+    )))

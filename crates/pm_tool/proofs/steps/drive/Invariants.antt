@@ -6,12 +6,13 @@ use Rattle.pm_tool.proofs.steps.drive.Given as goal
 
 abbrev pub invariant-steps : goal.invariant-steps
 invariant-steps g l = record {
-  under_way : IsUnderWay (g.R.Source.remaining l.fn.source) (g.R.Source.remaining l.source) (g.W.Sink.contents l.fn.sink) (g.W.Sink.contents l.sink)
+  under_way : IsUnderWay (g.R.Source.seen l.fn.source).remaining (g.R.Source.seen l.source).remaining
+      (g.W.Sink.seen l.fn.sink).contents (g.W.Sink.seen l.sink).contents
       l.page.items l.taken l.show l.limit l.fn.machine.state (l.limit - l.went) l.machine.state;
-  source_well : g.R.Source.has_failed l.source ≡ false;
-  sink_well : g.W.Sink.has_failed l.sink ≡ false;
+  source_well : (g.R.Source.seen l.source).failed ≡ false;
+  sink_well : (g.W.Sink.seen l.sink).failed ≡ false;
   few : l.taken ≤ INPUT_LIMIT;
-  counted : CountsOn (g.R.Source.given l.fn.source) → g.R.Source.given l.source ≡ g.R.Source.given l.fn.source + l.taken;
+  counted : CountsOn (g.R.Source.seen l.fn.source).given → (g.R.Source.seen l.source).given ≡ (g.R.Source.seen l.fn.source).given + l.taken;
   within : l.went ≤ l.limit;
 }
 

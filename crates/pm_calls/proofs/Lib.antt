@@ -10,3 +10,4 @@ pub mod PlaceLaws
 pub mod LowLaws
 pub mod KeepLaws
 pub mod RestLaws
+pub mod ExitLaws

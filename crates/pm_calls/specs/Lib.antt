@@ -8,3 +8,4 @@ pub mod Keeps
 pub mod Exits
 pub mod Laws
 pub mod MemoryLaws
+pub mod ExitLaws

@@ -3,6 +3,7 @@
 
 mod bases;
 mod calls;
+pub mod exit_laws;
 mod exits;
 mod frame;
 mod frames;

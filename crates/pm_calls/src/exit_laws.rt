@@ -1,0 +1,10 @@
+//! Laws of EXIT. The functions do nothing.
+
+ghost use Rattle.pm_calls.specs.ExitLaws.{ExitChangesSavedIpsAlone};
+
+/// EXIT changes no word of the memory but the saved IPC of the frames that it leaves, and sets each of these to where
+/// the procedure that its frame keeps is left. Of the registers it changes IPC alone, and no place.
+#[tactic(auto, using(crate::proofs::ExitLaws::exit_changes_saved_ips_alone))]
+pub fn exit_changes_saved_ips_alone()
+    ensures law { ExitChangesSavedIpsAlone }
+{}

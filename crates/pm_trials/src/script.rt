@@ -196,6 +196,12 @@ impl Trials {
                 self.came.disk.link(self.alloc, path, rest)?;
                 Ok(true)
             }
+            "zeros" => {
+                let mut zeros = Vec::new(self.alloc);
+                zeros.resize(number(rest), 0)?;
+                self.came.disk.put(self.alloc, path, zeros.as_slice())?;
+                Ok(true)
+            }
             _ => Ok(false),
         }
     }
@@ -243,16 +249,17 @@ impl Trials {
 
     /// Does a line of the script. Whether it is one, and true. `#` begins a comment. The words that do something:
     ///
-    /// - `$ WORDS`, `$$ FILES WORDS`: a command line; the same with each call failing in turn, FILES with commas
-    /// between them; `usage WORDS`: one of wrong words; - `~ put FILE FROM`, `~ replace FILE FROM`, `~ remove FILE`,
-    /// `~ lock FILE`, `~ unlock FILE`, and then `$~ FILES WORDS`: a command line during which another program does
-    /// that, before each call in turn; it prints what stands under FILES then; - `< TEXT`: a line of its standard
-    /// input; `<<`: what standard output took is its standard input; - `> TEXT`, `] TEXT`, `! TEXT`: what standard
-    /// output, the same without a line feed, and standard error took; - `disk`: no files; `closed`: the folder takes no
-    /// new name;
-    /// `hold`, `private`, `read-only`, `folder`: another program holds all files, they may not be read, or not be
-    /// written, or are folders; `terminal on`, `terminal off`; - `copy FROM TO`, `poke FILE PLACE TEXT`,
-    /// `link FILE NAME`, `store FILE`, which keeps what standard output took.
+    /// - `$ WORDS`: a command line. `$$ FILES WORDS`: the same, and once more with each call failing, FILES with commas
+    ///   between them. `usage WORDS`: one of wrong words.
+    /// - `~ put FILE FROM`, `~ replace FILE FROM`, `~ remove FILE`, `~ lock FILE`, `~ unlock FILE`, and then
+    ///   `$~ FILES WORDS`: a command line during which another program does that, before each call in turn. It prints
+    ///   what stands under FILES then.
+    /// - `< TEXT`: a line of its standard input. `<<`: what standard output took is its standard input.
+    /// - `> TEXT`, `] TEXT`, `! TEXT`: what standard output, the same without a line feed, and standard error took.
+    /// - `disk`: no files. `closed`: the folder takes no new name. `hold`, `private`, `read-only`, `folder`: another
+    ///   program holds all files, they may not be read, or not be written, or are folders. `terminal on`, `terminal off`.
+    /// - `copy FROM TO`, `poke FILE PLACE TEXT`, `link FILE NAME`; `zeros FILE COUNT`, a file of so many zeros;
+    ///   `store FILE`, which keeps what standard output took.
     ///
     /// Those that are true or not: `= STATUS`, beside which both streams took what stands above; `status STATUS` alone;
     /// `same FILE FILE`, `text FILE TEXT`, `size FILE BYTES`, `names COUNT`; `field LINE PLACE WORD` of standard
@@ -279,7 +286,7 @@ impl Trials {
             | "private"
             | "read-only"
             | "folder" => { self.set(word, rest) }
-            "copy" | "poke" | "link" | "store" => self.change(word, first, second),
+            "copy" | "poke" | "link" | "store" | "zeros" => self.change(word, first, second),
             _ => Ok(self.holds(word, first, second)),
         }
     }

@@ -57,7 +57,7 @@ fn ascii_text(characters: &[u8]) -> &str
     requires ascii { IsAscii characters.now }
     ensures text { result.now ≡ characters.now }
 {
-    str::from_utf8(characters).unwrap()
+    unsafe { str::from_utf8_unchecked(characters) }
 }
 
 /// A space and five characters.
@@ -99,5 +99,5 @@ pub(crate) fn joined(columns: &[Column]) -> &str
     requires ascii { AllByRecursion IsAscii columns.now }
     ensures text { result.now ≡ flat_map (λ column. column) columns.now }
 {
-    str::from_utf8(columns.as_flattened()).unwrap()
+    unsafe { str::from_utf8_unchecked(columns.as_flattened()) }
 }

@@ -257,7 +257,7 @@ impl Trials {
     /// - `< TEXT`: a line of its standard input. `<<`: what standard output took is its standard input.
     /// - `> TEXT`, `] TEXT`, `! TEXT`: what standard output, the same without a line feed, and standard error took.
     /// - `disk`: no files. `closed`: the folder takes no new name. `hold`, `private`, `read-only`, `folder`: another
-    ///   program holds all files, they may not be read, or not be written, or are folders. `terminal on`, `terminal off`.
+    ///   program holds all files, they may not be read, or not be written, or are folders. `terminal on`, or `off`.
     /// - `copy FROM TO`, `poke FILE PLACE TEXT`, `link FILE NAME`; `zeros FILE COUNT`, a file of so many zeros;
     ///   `store FILE`, which keeps what standard output took.
     ///

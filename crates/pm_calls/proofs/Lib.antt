@@ -11,3 +11,4 @@ pub mod LowLaws
 pub mod KeepLaws
 pub mod RestLaws
 pub mod ExitLaws
+pub mod ExitReturns

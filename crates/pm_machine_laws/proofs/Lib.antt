@@ -1,4 +1,5 @@
 pub mod ShapeLaws
+pub mod WriteLaws
 pub mod Places
 pub mod CountLaws
 pub mod Bytes

@@ -1,4 +1,5 @@
 pub mod Shapes
+pub mod Writes
 pub mod Loads
 pub mod Numbers
 pub mod Keeping

@@ -6,3 +6,4 @@ pub mod keeping;
 pub mod loads;
 pub mod numbers;
 pub mod shapes;
+pub mod writes;

@@ -1,2 +1,3 @@
 pub mod WordLists
 pub mod StoredWords
+pub mod StackRows

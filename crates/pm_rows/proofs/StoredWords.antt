@@ -22,13 +22,13 @@ allowed : {A : Type 0} (b : Bool) (e : ExecError) (x y : A) → cond b (Ok x) (E
 allowed true e x y h = (refl, ok_same x y h)
 allowed false e x y h = cc
 
-record IsPopped (m : List ℕ) (sp : ℕ) (p : Popped) : Type 0 where
+pub record IsPopped (m : List ℕ) (sp : ℕ) (p : Popped) : Type 0 where
   pub room : sp ≤ 65502
   pub even : sp % 2 ≡ 0
   pub word : p.word ≡ word_at m sp
   pub above : p.above ≡ sp + 2
 
-popped : (m : List ℕ) (sp : ℕ) (p : Popped) → pop m sp ≡ Ok p → IsPopped m sp p
+pub popped : (m : List ℕ) (sp : ℕ) (p : Popped) → pop m sp ≡ Ok p → IsPopped m sp p
 popped m sp p h =
     let first = not_refused (nat_lt 65502 sp) InvalidMemory _ p h in
     let second = bound (load m sp) _ p first.1 in

@@ -6,3 +6,4 @@ pub mod Values
 pub mod Literals
 pub mod Jumps
 pub mod PointerLaws
+pub mod StackLaws

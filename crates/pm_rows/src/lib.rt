@@ -8,5 +8,6 @@ pub mod jumps;
 pub mod literals;
 pub mod pointer_laws;
 pub mod pointers;
+pub mod stack_laws;
 pub mod values;
 pub mod variables;

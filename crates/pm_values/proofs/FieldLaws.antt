@@ -1,6 +1,6 @@
 -- A word stays one when a field of it is replaced.
-use Rattle.std.proofs.Common.{◌≡◌, ℕ, ◌+◌, ◌-◌, ◌*◌, ◌/◌, ◌%◌, ◌^◌, ◌<◌, ◌≤◌, inl, inr, sym, ap, ◌∙◌, arith}
-use Rattle.std.proofs.Math.Nat.{div-le_self, mod-le, div-add-mod', mod-lt, mul-le-mul_right}
+use Rattle.std.proofs.Common.{◌≡◌, ◌⊎◌, ℕ, ◌+◌, ◌-◌, ◌*◌, ◌/◌, ◌%◌, ◌^◌, ◌<◌, ◌≤◌, inl, inr, sym, ap, ◌∙◌, arith}
+use Rattle.std.proofs.Math.Nat.{add-mul-div_right, add-mul-mod_self_right, div-div-eq-div-mul, div-le_self, mod-le, div-add-mod', mod-lt, mul-le-mul_right}
 use Rattle.std.proofs.lemmas.Bool.{cases_lt}
 use Rattle.std.specs.Int.{bit_at}
 use Rattle.std.proofs.lemmas.Nat.Bits.{bit_at_cat_high, bit_at_cat_low}
@@ -76,3 +76,46 @@ other_bits_stay w r k v i away =
           ∙ sym (bit_at_cat_low (w / 2 ^ r / 2 ^ k * 2 ^ k + (w / 2 ^ r) % 2 ^ k) r (w % 2 ^ r) i below)
       | inr above ↦ bit_above _ _ _ r k i new low above ∙ sym (bit_above _ _ _ r k i old low above)
     ] ∙ ap (λ x. bit_at x i) whole)
+
+-- ---- another field
+
+-- a field below bit r is that of what stands below it
+field_below : (h l r s k : ℕ) → s + k ≤ r → field_of (h * 2 ^ r + l) s k ≡ field_of l s k
+unfolding field_of
+field_below h l r s k fit =
+    let split : r ≡ (r - s - k) + (k + s) = omega arith in
+    let whole : 2 ^ r ≡ 2 ^ (r - s - k) * (2 ^ k * 2 ^ s) = ap (λ n. 2 ^ n) split ∙ pow-add 2 (r - s - k) (k + s)
+    ∙ ap (λ x. 2 ^ (r - s - k) * x) (pow-add 2 k s) in
+    let turned : h * 2 ^ r + l ≡ l + h * 2 ^ (r - s - k) * 2 ^ k * 2 ^ s = ap (λ x. h * x + l) whole ∙ omega arith in
+    ap (λ x. (x / 2 ^ s) % 2 ^ k) turned
+    ∙ ap (λ x. x % 2 ^ k) (add-mul-div_right l (h * 2 ^ (r - s - k) * 2 ^ k) (pow_pos s))
+    ∙ add-mul-mod_self_right (l / 2 ^ s) (h * 2 ^ (r - s - k)) (2 ^ k)
+
+-- a field from bit t on is that of what stands above it
+field_above : (h l t s k : ℕ) → l < 2 ^ t → t ≤ s → field_of (h * 2 ^ t + l) s k ≡ field_of h (s - t) k
+unfolding field_of
+field_above h l t s k low fit =
+    let split : s ≡ t + (s - t) = omega arith in
+    let whole : 2 ^ s ≡ 2 ^ t * 2 ^ (s - t) = ap (λ n. 2 ^ n) split ∙ pow-add 2 t (s - t) in
+    ap (λ x. (h * 2 ^ t + l) / x % 2 ^ k) whole
+    ∙ ap (λ x. x % 2 ^ k) (sym (div-div-eq-div-mul (h * 2 ^ t + l) (2 ^ t) (2 ^ (s - t))) ∙ ap (λ x. x / 2 ^ (s - t)) (div-mul-add h (2 ^ t) l low))
+
+-- a store into a field leaves every field of the same width beside it
+pub other_fields_stay : (w r k v s : ℕ) → (s + k ≤ r) ⊎ (r + k ≤ s) → field_of (with_field w r k v) s k ≡ field_of w s k
+other_fields_stay w r k v s away =
+    let outer : w / 2 ^ r * 2 ^ r + w % 2 ^ r ≡ w = div-add-mod' w (2 ^ r) in
+    let whole : (w / 2 ^ r / 2 ^ k * 2 ^ k + (w / 2 ^ r) % 2 ^ k) * 2 ^ r + w % 2 ^ r ≡ w = ap
+    (λ x. x * 2 ^ r + w % 2 ^ r) (div-add-mod' (w / 2 ^ r) (2 ^ k)) ∙ outer in
+    let low : w % 2 ^ r < 2 ^ r = mod-lt w (pow_pos r) in
+    let new : v % 2 ^ k < 2 ^ k = mod-lt v (pow_pos k) in
+    let old : (w / 2 ^ r) % 2 ^ k < 2 ^ k = mod-lt (w / 2 ^ r) (pow_pos k) in
+    ap (λ x. field_of x s k) (with_field-parts w r k v) ∙ elim away [
+      | inl below ↦ field_below (w / 2 ^ r / 2 ^ k * 2 ^ k + v % 2 ^ k) (w % 2 ^ r) r s k below
+          ∙ sym (field_below (w / 2 ^ r) (w % 2 ^ r) r s k below) ∙ ap (λ x. field_of x s k) outer
+      | inr above ↦ field_twice (w / 2 ^ r / 2 ^ k) (v % 2 ^ k) (w % 2 ^ r) r s k new low above
+          ∙ sym (field_twice (w / 2 ^ r / 2 ^ k) ((w / 2 ^ r) % 2 ^ k) (w % 2 ^ r) r s k old low above) ∙ ap (λ x. field_of x s k) whole
+    ]
+  where
+    field_twice : (h u l r s k : ℕ) → u < 2 ^ k → l < 2 ^ r → r + k ≤ s → field_of ((h * 2 ^ k + u) * 2 ^ r + l) s k ≡ field_of h (s - r - k) k
+    field_twice h u l r s k fit low place =
+        field_above (h * 2 ^ k + u) l r s k low (omega arith) ∙ field_above h u k (s - r) k fit (omega arith)

@@ -4,6 +4,7 @@
 mod comparisons;
 mod fields;
 pub mod laws;
+pub mod packed_laws;
 mod sets;
 mod stack;
 mod strings;

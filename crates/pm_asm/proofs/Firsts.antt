@@ -1,6 +1,6 @@
 -- The first of what is wrong.
 use Rattle.std.proofs.Common.{◌≡◌, ℕ, List, ◌∷◌, ◌++◌, refl, Some}
-use Rattle.pm_disasm.specs.Program.{end_of}
+use Rattle.pm_code.specs.Program.{end_of}
 use Rattle.pm_reader.proofs.Firsts.{first_front}
 use Rattle.pm_reader.specs.Firsts.{first_of}
 use Rattle.pm_asm.specs.Firsts.{row_faults}

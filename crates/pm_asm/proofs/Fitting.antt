@@ -1,6 +1,6 @@
 -- Segments that fit the slots of a code file.
 use Rattle.std.proofs.Common.{List, [], ◌∷◌, arith}
-use Rattle.pm_disasm.specs.Program.{FitSlots, Segment}
+use Rattle.pm_code.specs.Program.{FitSlots, Segment}
 use Rattle.pm_asm.specs.Lengths.{AreShort}
 use Rattle.pm_asm.specs.declared.lengths.TheConstants.{LONGEST}
 

@@ -3,13 +3,13 @@ use Rattle.std.proofs.Common.{◌≡◌, ℕ, List, [], refl, sym, ap, subst, �
 use Rattle.std.specs.Prelude.{option_map}
 use Rattle.std.specs.Option.{unwrap_or}
 use Rattle.pm_codefile.specs.Dictionary.{segment_in}
-use Rattle.pm_disasm.specs.Laws.{segment_numbered}
-use Rattle.pm_disasm.specs.Program.{Segment, segment_bytes}
+use Rattle.pm_code.specs.Program.{segment_numbered}
+use Rattle.pm_code.specs.Program.{Segment, segment_bytes}
 use Rattle.pm_asm.proofs.Fitting.{short_fits}
 use Rattle.pm_source.specs.Denoted.{ArePlacedFrom, denoted, denoted_bytes, of_segment}
-use Rattle.pm_source.specs.Image.{bytes_of_segment}
+use Rattle.pm_code.specs.Image.{bytes_of_segment}
 use Rattle.pm_source.proofs.Denoting.{listing_denotes_segments}
-use Rattle.pm_source.proofs.Held.{file_holds_program}
+use Rattle.pm_code.proofs.Held.{file_holds_program}
 use Rattle.pm_source.proofs.Programs.{spelled_is_program}
 use Rattle.pm_asm.specs.Assembled.{AssembledIsListed, Assembles, assembled}
 use Rattle.pm_asm.proofs.Outcomes.{assembled_is_spelled}

@@ -2,11 +2,11 @@
 use Rattle.std.proofs.Common.{◌≡◌, ◌≢◌, ℕ, false, List, [], ◌∷◌, length, refl, sym, ap, ◌∙◌, subst, Option, Some, None}
 use Rattle.std.specs.Prelude.{nat_lt, if◌then◌else◌, Ok, Err}
 use Rattle.std.proofs.lemmas.Bool.{le-ltb}
-use Rattle.pm_disasm.specs.Program.{Segment, IsProgram, segment_bytes}
+use Rattle.pm_code.specs.Program.{Segment, IsProgram, segment_bytes}
 use Rattle.pm_source.specs.declared.fault.AsmFault.{AsmFault}
 use Rattle.pm_source.specs.declared.fault.AsmFault.TheVariants.{TooLong, NoMemory}
 use Rattle.pm_source.specs.Faults.{faults}
-use Rattle.pm_source.specs.Image.{file_of, listing}
+use Rattle.pm_code.specs.Image.{file_of, listing}
 use Rattle.pm_source.specs.Meaning.{program_of}
 use Rattle.pm_source.proofs.Spelled.{faultless_is_spelled, spelled_is_faultless}
 use Rattle.pm_asm.proofs.Fitting.{short_fits}

@@ -1,20 +1,19 @@
 -- The stages of assembling: what is read, its labels, and its lengths.
-use Rattle.std.proofs.Common.{◌≡◌, ◌≢◌, ℕ, List, [], ◌∷◌, sym, ap, subst, ◌∙◌, Some}
-use Rattle.std.specs.Prelude.{if◌then◌else◌, Ok, Err}
-use Rattle.pm_disasm.specs.Program.{IsProgram}
+use Rattle.std.proofs.Common.{◌≡◌, ◌≢◌, ℕ, List, [], ◌∷◌, map, sym, ap, subst, ◌∙◌, Some}
+use Rattle.std.specs.Prelude.{if◌then◌else◌, Err}
+use Rattle.pm_code.specs.Program.{Segment}
 use Rattle.pm_source.specs.declared.fault.AsmFault.{AsmFault}
 use Rattle.pm_source.specs.declared.fault.AsmFault.TheVariants.{NoMemory}
 use Rattle.pm_source.specs.Faults.{all_label_faults, faults, faults_of_lines, source_of}
-use Rattle.pm_source.specs.Image.{file_of, listing}
-use Rattle.pm_source.specs.Meaning.{program_of}
+use Rattle.pm_source.specs.Meaning.{ascending, found_segment, program_of}
 use Rattle.pm_source.specs.Source.{SourceSegment}
 use Rattle.pm_source.specs.Words.{is_empty}
-use Rattle.pm_reader.specs.declared.source.Segment as code
 use Rattle.pm_reader.specs.Firsts.{IsFirstOf, first_of}
-use Rattle.pm_reader.specs.Views.{segments_seen}
-use Rattle.pm_asm.specs.Assembled.{Assembles, assembled}
-use Rattle.pm_asm.specs.Lengths.{AreShort, IsTooLong, found_program}
-use Rattle.pm_asm.proofs.Outcomes.{fault_refused, faultless_is_program, is_assembled, is_spelled, long_refused}
+use Rattle.pm_asm.specs.Assembled.{assembled}
+use Rattle.pm_asm.specs.Lengths.{AreShort, IsTooLong}
+use Rattle.pm_asm.specs.Found.{by_number}
+use Rattle.pm_asm.proofs.Ordered.{found_ascending}
+use Rattle.pm_asm.proofs.Outcomes.{fault_refused, long_refused}
 
 -- the faults of a text, those of its lines and of its labels
 abbrev faults_with : List AsmFault → List SourceSegment → List AsmFault
@@ -29,9 +28,12 @@ label_faults_alone : (text : List ℕ) (ss : List SourceSegment) → faults_of_l
 unfolding faults
 label_faults_alone text ss lines read = ap (λ fs. faults_with fs (source_of text)) lines ∙ ap all_label_faults (sym read)
 
-pub program_read : (text : List ℕ) (ss : List SourceSegment) → ss ≡ source_of text → found_program ss ≡ program_of text
+-- the segments that are found, by ascending number, are the program of the text
+pub program_found : (text : List ℕ) (ss : List SourceSegment) (found ordered : List Segment) → ss ≡ source_of text → found ≡ map found_segment ss
+    → ordered ≡ by_number 0 16 found → ordered ≡ program_of text
 unfolding program_of
-program_read text ss read = ap found_program read
+program_found text ss found ordered read are sorted =
+    sorted ∙ ap (by_number 0 16) are ∙ found_ascending ss ∙ ap (λ s. map found_segment (ascending s)) read
 
 pub line_refused : (text : List ℕ) (fault : AsmFault) → IsFirstOf fault (faults_of_lines text) → fault ≢ NoMemory → assembled text ≡ Err fault
 unfolding faults
@@ -47,37 +49,10 @@ pub record IsReady (text : List ℕ) (ss : List SourceSegment) : Type 0 where
   pub read : ss ≡ source_of text
   pub labels : all_label_faults ss ≡ []
 
--- of segments of the code, whose labels are looked up by reference
-pub seen_ready : (text : List ℕ) (segments lent : List code.Segment) → faults_of_lines text ≡ [] → segments_seen segments ≡ source_of text
-    → lent ≡ segments → all_label_faults (segments_seen lent) ≡ [] → IsReady text (segments_seen segments)
-seen_ready text segments lent lines read same labels =
-    record { lines = lines; read = read; labels = ap (λ s. all_label_faults (segments_seen s)) (sym same) ∙ labels }
-
 pub ready_faultless : (text : List ℕ) (ss : List SourceSegment) → IsReady text ss → faults text ≡ []
 ready_faultless text ss r = label_faults_alone text ss r.lines r.read ∙ r.labels
 
-pub ready_short : (text : List ℕ) (ss : List SourceSegment) → IsReady text ss → AreShort (found_program ss) → AreShort (program_of text)
-ready_short text ss r short = subst AreShort (program_read text ss r.read) short
-
-pub too_long_refused : (text : List ℕ) (ss : List SourceSegment) (fault : AsmFault) → IsReady text ss → IsTooLong (found_program ss) fault → fault ≢ NoMemory
-    → assembled text ≡ Err fault
-too_long_refused text ss fault r long other =
-    long_refused text fault (ready_faultless text ss r) (subst (λ p. IsTooLong p fault) (program_read text ss r.read) long) other
-
-pub ready_program : (text : List ℕ) (ss : List SourceSegment) → IsReady text ss → AreShort (found_program ss) → IsProgram (found_program ss)
-ready_program text ss r short =
-    subst IsProgram (sym (program_read text ss r.read)) (faultless_is_program text (ready_faultless text ss r) (ready_short text ss r short))
-
-pub ready_assembled : (text file shown : List ℕ) (ss : List SourceSegment) → IsReady text ss → AreShort (found_program ss) → file ≡ file_of (found_program ss)
-    → shown ≡ listing (found_program ss)
-    → assembled text ≡ Ok (file, shown)
-ready_assembled text file shown ss r short image lines =
-    let same = program_read text ss r.read in
-    is_assembled text file shown (ready_faultless text ss r) (ready_short text ss r short) (image ∙ ap file_of same) (lines ∙ ap listing same)
-
-pub ready_spelled : (text file shown : List ℕ) (ss : List SourceSegment) → IsReady text ss → AreShort (found_program ss) → file ≡ file_of (found_program ss)
-    → shown ≡ listing (found_program ss)
-    → Assembles text file shown
-ready_spelled text file shown ss r short image lines =
-    let same = program_read text ss r.read in
-    is_spelled text file shown (ready_faultless text ss r) (ready_short text ss r short) (image ∙ ap file_of same) (lines ∙ ap listing same)
+pub too_long_refused : (text : List ℕ) (ss : List SourceSegment) (ordered : List Segment) (fault : AsmFault) → IsReady text ss → ordered ≡ program_of text
+    → IsTooLong ordered fault → fault ≢ NoMemory → assembled text ≡ Err fault
+too_long_refused text ss ordered fault r same long other =
+    long_refused text fault (ready_faultless text ss r) (subst (λ p. IsTooLong p fault) same long) other

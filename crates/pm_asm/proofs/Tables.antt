@@ -1,7 +1,7 @@
 -- A table of labels, one line of code more.
 use Rattle.std.proofs.Common.{◌≡◌, ℕ, ◌+◌, ◌∙◌, Bool, true, false, List, ◌∷◌, drop, map, refl, ap, sym, Option, Some, None}
 use Rattle.std.specs.Prelude.{if◌then◌else◌, is_some}
-use Rattle.pm_disasm.specs.Program.{end_of}
+use Rattle.pm_code.specs.Program.{end_of}
 use Rattle.pm_line.specs.declared.item.Row.{Row}
 use Rattle.pm_line.specs.Views.{row_seen}
 use Rattle.pm_source.specs.Faults.{place_of}

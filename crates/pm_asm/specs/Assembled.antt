@@ -2,13 +2,12 @@
 use Rattle.std.specs.Prelude.{◌≡◌, ◌↔◌, ◌<◌, ℕ, Bool, if◌then◌else◌, List, [], Option, Some, None, Result, Ok, Err}
 use Rattle.std.specs.Option.{unwrap_or}
 use Rattle.pm_codefile.specs.Dictionary.{segment_in}
-use Rattle.pm_disasm.specs.Program.{Segment}
-use Rattle.pm_disasm.specs.Shown.{file_text}
+use Rattle.pm_code.specs.Program.{Segment}
 use Rattle.pm_source.specs.declared.fault.AsmFault.{AsmFault}
 use Rattle.pm_source.specs.declared.fault.AsmFault.TheVariants.{TooLong}
 use Rattle.pm_source.specs.Denoted.{ArePlacedFrom, denoted, denoted_bytes, of_segment}
 use Rattle.pm_source.specs.Faults.{faults}
-use Rattle.pm_source.specs.Image.{file_of, listing}
+use Rattle.pm_code.specs.Image.{file_of, listing}
 use Rattle.pm_source.specs.Meaning.{Spells, program_of}
 use Rattle.pm_reader.specs.Firsts.{first_of}
 use Rattle.pm_asm.specs.Lengths.{AreShort, first_long}
@@ -63,8 +62,3 @@ RefusedSpellsNothing = (text : List ℕ) (fault : AsmFault) → assembled text �
 abbrev pub AssembledIsListed : Type 0
 AssembledIsListed = (text file shown : List ℕ) (n : ℕ) → n < 16 → assembled text ≡ Ok (file, shown)
     → (denoted_bytes n shown ≡ unwrap_or (segment_in file n) []) × ArePlacedFrom 0 (of_segment n (denoted shown))
-
--- The text that is shown for an assembled code file is assembled to the same code file.
-abbrev pub AssembledIsShownAgain : Type 0
-AssembledIsShownAgain = (text file shown : List ℕ) → assembled text ≡ Ok (file, shown)
-    → (again : List ℕ) × (assembled (file_text file) ≡ Ok (file, again))

@@ -1,16 +1,34 @@
-//! From a text to its code file and listing.
+//! From a text to its program, and from this to its code file and its listing.
 
-ghost use Rattle.std.specs.Prelude.{◌≡◌, ◌≢◌, string_bytes, Ok, Err, IfOk, IfErr};
+ghost use Rattle.std.specs.Prelude.{◌≡◌, ◌≢◌, [], string_bytes, false, true, Ok, Err, IfOk, IfErr, OnOk};
+ghost use Rattle.pm_code.specs.Views.{program_seen};
 ghost use Rattle.pm_source.specs.declared.fault.AsmFault.TheVariants.{NoMemory};
-ghost use Rattle.pm_asm.specs.Assembled.{Assembles, SpellsNothing, assembled};
+ghost use Rattle.pm_source.specs.Faults.{faults};
+ghost use Rattle.pm_source.specs.Meaning.{program_of};
+ghost use Rattle.pm_asm.specs.Assembled.{Assembles, SpellsNothing, assembled, wanted};
+ghost use Rattle.pm_asm.specs.Lengths.{AreShort};
 
-use crate::image::code_file;
-use crate::labels::check_labels;
 use crate::lengths::check_lengths;
-use crate::listing::listing_of;
+use crate::order::ascending;
+use crate::program::resolve_segments;
+use pm_code::{Segment, code_file, listing_of};
 use pm_reader::source_of;
 use pm_source::AsmFault;
 use std::alloc::Global;
+
+/// The program of a text that has no fault and no segment of more than 60,000 bytes.
+fn program_of(alloc: Global, text: &str) -> Result<Vec<Segment>, AsmFault>
+    ensures program { IfOk result (λ program. program_seen program.items ≡ program_of text.now) }
+    ensures faultless { OnOk result (faults text.now ≡ []) }
+    ensures short { OnOk result (AreShort (program_of text.now)) }
+    ensures refused { IfErr result (λ fault. fault ≢ NoMemory → assembled text.now ≡ Err fault) }
+{
+    let segments = source_of(alloc, text)?;
+    let found = resolve_segments(alloc, &segments)?;
+    let program = ascending(alloc, found).map_err(|_| AsmFault::NoMemory)?;
+    check_lengths(&program)?;
+    Ok(program)
+}
 
 /// A code file and its listing.
 #[derive(Debug, Drop)]
@@ -35,10 +53,28 @@ pub fn assemble(alloc: Global, text: &str) -> Result<Assembly, AsmFault>
     ensures spelled { IfOk result (λ a. Assembles text.now a.file.items (string_bytes a.listing)) }
     ensures unspelled { IfErr result (λ fault. fault ≢ NoMemory → SpellsNothing text.now) }
 {
-    let segments = source_of(alloc, text)?;
-    check_labels(alloc, &segments)?;
-    check_lengths(&segments)?;
-    let file = code_file(alloc, &segments).map_err(|_| AsmFault::NoMemory)?;
-    let listing = listing_of(alloc, &segments).map_err(|_| AsmFault::NoMemory)?;
+    let program = program_of(alloc, text)?;
+    let file = code_file(alloc, &program).map_err(|_| AsmFault::NoMemory)?;
+    let listing = listing_of(alloc, &program).map_err(|_| AsmFault::NoMemory)?;
     Ok(Assembly { file, listing })
+}
+
+/// The code file of a text's program; its listing is not made. The refusals are those of `assemble`.
+pub fn assemble_file(alloc: Global, text: &str) -> Result<Vec<u8>, AsmFault>
+    ensures file { IfOk result (λ file. wanted false (assembled text.now) ≡ Ok file.items) }
+    ensures refused { IfErr result (λ fault. fault ≢ NoMemory → assembled text.now ≡ Err fault) }
+{
+    let program = program_of(alloc, text)?;
+    let file = code_file(alloc, &program).map_err(|_| AsmFault::NoMemory)?;
+    Ok(file)
+}
+
+/// The listing of a text's program; its code file is not made. The refusals are those of `assemble`.
+pub fn assemble_listing(alloc: Global, text: &str) -> Result<String, AsmFault>
+    ensures listing { IfOk result (λ listing. wanted true (assembled text.now) ≡ Ok (string_bytes listing)) }
+    ensures refused { IfErr result (λ fault. fault ≢ NoMemory → assembled text.now ≡ Err fault) }
+{
+    let program = program_of(alloc, text)?;
+    let listing = listing_of(alloc, &program).map_err(|_| AsmFault::NoMemory)?;
+    Ok(listing)
 }

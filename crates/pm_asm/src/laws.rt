@@ -1,5 +1,5 @@
 //! Laws of what assembling gives. The functions do nothing.
-ghost use Rattle.pm_asm.specs.Assembled.{AssembledIsListed, AssembledIsShownAgain};
+ghost use Rattle.pm_asm.specs.Assembled.{AssembledIsListed};
 ghost use Rattle.pm_asm.specs.Assembled.{AssembledIsSpelled, RefusedSpellsNothing};
 
 /// A text is assembled exactly where it spells a program of which no segment has more than 60,000 bytes: what it gives
@@ -17,9 +17,4 @@ pub fn refused_spells_nothing()
 /// lines names the offset at which its bytes stand in it.
 pub fn assembled_is_listed()
     ensures law { AssembledIsListed }
-{}
-
-/// The text that the disassembler shows for an assembled code file is assembled to the same code file.
-pub fn assembled_is_shown_again()
-    ensures law { AssembledIsShownAgain }
 {}

@@ -6,12 +6,12 @@ use Rattle.std.specs.List.{list_any, AllByRecursion}
 use Rattle.std.proofs.Math.Seq.{take-append_seam}
 use Rattle.std.proofs.lemmas.Bool.{le-ltb, eqb-true}
 use Rattle.std.proofs.lemmas.Bool.Decides.{nat_tests}
-use Rattle.pm_disasm.specs.Item.{Item, item_bytes, size}
-use Rattle.pm_disasm.specs.Program.{code_bytes, end_of, boundaries, is_among, IsIn, AreItems, AreInstructions}
+use Rattle.pm_code.specs.Item.{Item, item_bytes, size}
+use Rattle.pm_code.specs.Program.{code_bytes, end_of, boundaries, is_among, IsIn, AreItems, AreInstructions}
 use Rattle.pm_disasm.specs.Split.{uncut, taken, Part, part_of, bytes_after_first, parts}
-use Rattle.pm_disasm.proofs.Sizes.{length-item, size-some, length-code}
+use Rattle.pm_code.proofs.Sizes.{length-item, size-some, length-code}
 use Rattle.pm_disasm.proofs.Read.{instruction_is_read}
-use Rattle.pm_disasm.proofs.Boundaries.{either}
+use Rattle.pm_code.proofs.ItemBytes.{either}
 
 -- the parts that items are
 abbrev pub parts_of_items : ℕ → List (Item ℕ) → List Part

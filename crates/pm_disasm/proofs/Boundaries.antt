@@ -5,11 +5,12 @@ use Rattle.std.specs.Prelude.{◌&&◌, ◌||◌, nat_lt}
 use Rattle.std.specs.List.{list_any, list_all, AllByRecursion}
 use Rattle.std.proofs.lemmas.Bool.{lt-ltb, eq-eqb, eqb-true, and_parts, cases_lt, true≢false}
 use Rattle.std.proofs.lemmas.Grind.{common_steps}
-use Rattle.pm_disasm.specs.Item.{Item, size, IsByte}
-use Rattle.pm_disasm.specs.Item.Item.{OneByte}
-use Rattle.pm_disasm.specs.Program.{boundaries, end_of, is_among, IsIn, NamesWithin, item_places}
+use Rattle.pm_code.specs.Item.{Item, size, IsByte}
+use Rattle.pm_code.specs.Item.Item.{OneByte}
+use Rattle.pm_code.specs.Program.{boundaries, end_of, is_among, IsIn, NamesWithin, item_places}
 use Rattle.pm_disasm.specs.Split.{Front, front, uncut, taken, Part, part_of, bytes_after_first, parts}
 use Rattle.pm_disasm.specs.Split.{is_allowed_item, leads, written_as, written, ends_of, items_in}
+use Rattle.pm_code.proofs.ItemBytes.{all-append, either}
 use Rattle.pm_disasm.proofs.Fronts.{Fronts, fronts}
 use Rattle.pm_disasm.proofs.Joined.{still, Joins, part_joins}
 
@@ -54,10 +55,6 @@ whole forced at (Some f) = kept (list_any (λ place. nat_lt at place && nat_lt p
 pub or_right : (a b : Bool) → b ≡ true → (a || b) ≡ true
 or_right true b e = refl
 or_right false b e = e
-
-pub either : (a b : Bool) → (a || b) ≡ true → (a ≡ true) ⊎ (b ≡ true)
-either true b e = inl refl
-either false b e = inr e
 
 -- A forced place at the code or behind is where a part begins, or the end.
 forced_ends : (forced : List ℕ) (skip at : ℕ) (bytes : List ℕ) (place end : ℕ) → AllByRecursion IsByte bytes → IsIn forced place → at + skip ≤ place
@@ -171,10 +168,6 @@ part_named ends allowed bytes (Some item) = chosen (leads ends allowed item) ref
     chosen : (b : Bool) → leads ends allowed item ≡ b → AllByRecursion (NamesWithin ends) (cond b (item ∷ []) (map OneByte bytes))
     chosen true e = (leads_named ends allowed item e, tt)
     chosen false e = bytes_named ends bytes
-
-pub all-append : {A : Type 0} (P : A → Type 0) (xs ys : List A) → AllByRecursion P xs → AllByRecursion P ys → AllByRecursion P (xs ++ ys)
-all-append P [] ys h k = k
-all-append P (x ∷ xs) ys h k = (h.0, all-append P xs ys h.1 k)
 
 all_named : (ends : List ℕ) (allowed : Bool) (ps : List Part) → AllByRecursion (NamesWithin ends) (written ends allowed ps)
 all_named ends allowed [] = tt

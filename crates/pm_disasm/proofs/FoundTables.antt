@@ -8,10 +8,11 @@ use Rattle.std.proofs.lemmas.Bool.{and_from, le-leb, eq-eqb}
 use Rattle.pm_opcode.specs.Spelling.{spelled_word}
 use Rattle.pm_codefile.specs.Dictionary.{word_in}
 use Rattle.pm_codefile.specs.Segments.{attributes_in, demanded, less_or_none, procedures_in}
-use Rattle.pm_disasm.specs.Program.{Procedure, attribute_bytes, back_to, code_end, entry_bytes, jtab_of}
+use Rattle.pm_code.specs.Program.{Procedure, attribute_bytes, back_to, code_end, entry_bytes, jtab_of}
 use Rattle.pm_disasm.specs.Laws.{StandsIn, attributes_of}
 use Rattle.pm_disasm.proofs.Again.{later, earlier}
-use Rattle.pm_disasm.proofs.Stored.{stored_word, length-entry_bytes}
+use Rattle.pm_disasm.proofs.Stored.{stored_word}
+use Rattle.pm_code.proofs.Stored.{length-entry_bytes}
 use Rattle.pm_disasm.proofs.OwnCount.{table_there}
 
 given_true : (b : Bool) → b ≡ true → demanded b ≡ Some tt

@@ -5,11 +5,11 @@ use Rattle.std.specs.Prelude.{◌&&◌, nat_lt}
 use Rattle.std.specs.List.{list_any, AllByRecursion}
 use Rattle.std.proofs.lemmas.List.{take-append-drop}
 use Rattle.std.proofs.lemmas.Grind.{common_steps}
-use Rattle.pm_disasm.specs.Item.{Item, item_bytes, size, IsByte}
-use Rattle.pm_disasm.specs.Item.Item.{OneByte}
-use Rattle.pm_disasm.specs.Program.{code_bytes, end_of, AreItems}
+use Rattle.pm_code.specs.Item.{Item, item_bytes, size, IsByte}
+use Rattle.pm_code.specs.Item.Item.{OneByte}
+use Rattle.pm_code.specs.Program.{code_bytes, end_of, AreItems}
 use Rattle.pm_disasm.specs.Split.{Front, front, uncut, taken, part_of, bytes_after_first, parts, leads, written_as, written, ends_of, items_in}
-use Rattle.pm_disasm.proofs.Sizes.{code-append, end-append}
+use Rattle.pm_code.proofs.Sizes.{code-append, end-append}
 use Rattle.pm_disasm.proofs.Fronts.{Fronts, Spells, fronts, take-bytes}
 
 -- Items of bytes that begin at an offset.

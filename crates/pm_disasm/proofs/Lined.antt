@@ -3,9 +3,9 @@ use Rattle.std.proofs.Common.{◌≡◌, ℕ, ◌+◌, Bool, true, false, List, 
 use Rattle.std.proofs.Common.{ap, ◌∙◌, append_assoc, append-nil, subst, IfSome, Option, Some, None}
 use Rattle.std.specs.Prelude.{codes, ◌==◌}
 use Rattle.std.specs.Fmt.{decimal}
-use Rattle.pm_disasm.specs.Item.{Item, size}
-use Rattle.pm_disasm.specs.Item.Item.{OneByte}
-use Rattle.pm_disasm.specs.Shown.{joined, label_text, put_if, shown_item}
+use Rattle.pm_code.specs.Item.{Item, size}
+use Rattle.pm_code.specs.Item.Item.{OneByte}
+use Rattle.pm_code.specs.Shown.{joined, label_text, put_if, shown_item}
 use Rattle.pm_disasm.specs.Follow.{code_lines_by, item_led, leading, lines_at_by}
 
 joined_put : (b : Bool) (x : List ℕ) (xs : List (List ℕ)) → joined (put_if b x xs) ≡ joined (put_if b x []) ++ joined xs

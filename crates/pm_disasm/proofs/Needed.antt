@@ -1,8 +1,8 @@
 -- What is written for parts, part by part.
 use Rattle.std.proofs.Common.{◌≡◌, ℕ, Bool, true, max, List, [], ◌∷◌, ◌++◌, map, refl, sym, ap, ◌∙◌, arith, Option, Some, None}
-use Rattle.pm_disasm.specs.Item.{Item}
-use Rattle.pm_disasm.specs.Item.Item.{OneByte}
-use Rattle.pm_disasm.specs.Program.{entries_needed, entries_used}
+use Rattle.pm_code.specs.Item.{Item}
+use Rattle.pm_code.specs.Item.Item.{OneByte}
+use Rattle.pm_code.specs.Program.{entries_needed, entries_used}
 use Rattle.pm_disasm.specs.Split.{Part}
 use Rattle.pm_disasm.specs.Follow.{item_led, items_or_bytes, written_by}
 

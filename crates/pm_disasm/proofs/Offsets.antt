@@ -8,7 +8,7 @@ use Rattle.std.proofs.Math.ListN.{get_or-map}
 use Rattle.std.proofs.lemmas.List.{drop-take, length-map, map-append, take-append-drop}
 use Rattle.std.proofs.lemmas.Bool.{le-leb, leb-true}
 use Rattle.pm_opcode.specs.Spelling.{is_odd, spelling}
-use Rattle.pm_disasm.specs.Item.{IsByte}
+use Rattle.pm_code.specs.Item.{IsByte}
 use Rattle.pm_disasm.specs.declared.front.Front as code
 use Rattle.pm_disasm.specs.Split.{Front, front}
 use Rattle.pm_disasm.specs.Offsets.{AreFronts, TellFronts, fronts_of, up_to}

@@ -8,11 +8,11 @@ use Rattle.std.proofs.Math.Seq.{take-append-add, take-length, drop-append_seam}
 use Rattle.std.proofs.lemmas.Int.{of_z-to_z}
 use Rattle.std.proofs.lemmas.Bool.{and_from, le-leb, eq-eqb}
 use Rattle.std.proofs.lemmas.Bool.Decides.{nat_tests}
-use Rattle.pm_disasm.specs.Program.{Procedure, IsProcedure, IsIn, AreInstructions, code_of, code_end}
-use Rattle.pm_disasm.specs.Program.{places_of, entry_bytes, attribute_bytes, jtab_of, entries_needed}
+use Rattle.pm_code.specs.Program.{Procedure, IsProcedure, IsIn, AreInstructions, code_of, code_end}
+use Rattle.pm_code.specs.Program.{places_of, entry_bytes, attribute_bytes, jtab_of, entries_needed}
 use Rattle.pm_disasm.specs.Split.{items_in, entry_places, are_after, end_with, code_with, procedure_with, fits}
 use Rattle.pm_disasm.specs.Laws.{StandsIn, attributes_of, OwnCountFits, SmallerCountFails}
-use Rattle.pm_disasm.proofs.Sizes.{length-code}
+use Rattle.pm_code.proofs.Sizes.{length-code}
 use Rattle.pm_disasm.proofs.Boundaries.{all-map}
 use Rattle.pm_disasm.proofs.Again.{later, earlier}
 use Rattle.pm_disasm.proofs.Own.{items_again, at_least_as_many}

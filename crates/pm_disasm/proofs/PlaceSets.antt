@@ -6,10 +6,10 @@ use Rattle.std.specs.List.{list_all}
 use Rattle.std.proofs.lemmas.Bool.{and_parts, leb-true, cases_lt, true≢false}
 use Rattle.pm_words.specs.Words.{words_of}
 use Rattle.pm_disasm.specs.declared.places.PlaceSet.{PlaceSet}
-use Rattle.pm_disasm.specs.Item.{Item}
-use Rattle.pm_disasm.specs.Item.Item.{OneByte}
-use Rattle.pm_disasm.specs.Program.{is_among, item_places}
-use Rattle.pm_disasm.specs.Shown.{named_places}
+use Rattle.pm_code.specs.Item.{Item}
+use Rattle.pm_code.specs.Item.Item.{OneByte}
+use Rattle.pm_code.specs.Program.{is_among, item_places}
+use Rattle.pm_code.specs.Shown.{named_places}
 use Rattle.pm_disasm.specs.Split.{Part, table_places}
 use Rattle.pm_disasm.specs.Follow.{item_led, items_or_bytes, written_by}
 use Rattle.pm_disasm.specs.Views.{IsAlike, IsInside, has}

@@ -16,12 +16,13 @@ use Rattle.pm_opcode.specs.Standing.{clear, placed_at}
 use Rattle.pm_opcode.specs.Reading.{reading}
 use Rattle.pm_opcode.proofs.ReadAgain.{spelled_read, named_at}
 use Rattle.pm_words.specs.Words.{words_of}
-use Rattle.pm_disasm.specs.Item.{Item, Target, IsItem, IsPlain, IsCase, IsNear, item_bytes, size}
-use Rattle.pm_disasm.specs.Item.{is_instruction, names_place, jump_byte, table_place, table_words}
-use Rattle.pm_disasm.specs.Item.Item.{Plain, Jump, Case, OneByte}
-use Rattle.pm_disasm.specs.Item.Target.{To, Through}
+use Rattle.pm_code.specs.Item.{Item, Target, IsItem, IsPlain, IsCase, IsNear, item_bytes, size}
+use Rattle.pm_code.specs.Item.{is_instruction, names_place, jump_byte, table_place, table_words}
+use Rattle.pm_code.specs.Item.Item.{Plain, Jump, Case, OneByte}
+use Rattle.pm_code.specs.Item.Target.{To, Through}
 use Rattle.pm_disasm.specs.Split.{Front, front, front_by, item_of, has_zero_padding, standing_at, target_of, jump_item, table_places, by_operands}
-use Rattle.pm_disasm.proofs.Sizes.{length-table_words, length-item}
+use Rattle.pm_code.proofs.ItemBytes.{jump_byte-is_byte}
+use Rattle.pm_code.proofs.Sizes.{length-table_words, length-item}
 
 pub drop-standing : (at : ℕ) (bytes : List ℕ) → drop at (standing_at at bytes) ≡ bytes
 drop-standing at bytes = ap (λ n. drop n (standing_at at bytes)) (sym (length-replicate at 0)) ∙ drop-append_seam (replicate at 0) bytes
@@ -129,10 +130,6 @@ target_again next (Through k) h =
     let u : (((246 - 2 * k) % 2 == 0) && nat_le (246 - 2 * k) 246) ≡ true = grind (arith, nat_tests) in
     let e : (246 - (246 - 2 * k)) / 2 ≡ k = omega (arith, h) in
     rw (t, u) (rw e refl)
-
-pub jump_byte-is_byte : (next : ℕ) (target : Target ℕ) → IsNear next target → jump_byte next target < 256
-jump_byte-is_byte next (To place) h = omega (arith, h.0, h.1)
-jump_byte-is_byte next (Through k) h = omega arith
 
 pub signed_byte-low : (b : ℕ) → b < 256 → signed_byte b % 256 ≡ b
 signed_byte-low b h = elim (cases_lt b 128) [

@@ -8,9 +8,9 @@ use Rattle.std.proofs.lemmas.List.{drop-take}
 use Rattle.pm_codefile.specs.declared.table.Attributes.{Attributes}
 use Rattle.pm_codefile.specs.Dictionary.{word_in}
 use Rattle.pm_disasm.specs.declared.counts.Reading.{Reading}
-use Rattle.pm_disasm.specs.Item.{Item, size}
-use Rattle.pm_disasm.specs.Program.{entries_needed, is_among, item_places}
-use Rattle.pm_disasm.specs.Shown.{code_lines, lines_at, put_if, shown_item, label_text}
+use Rattle.pm_code.specs.Item.{Item, size}
+use Rattle.pm_code.specs.Program.{entries_needed, is_among, item_places}
+use Rattle.pm_code.specs.Shown.{code_lines, lines_at, put_if, shown_item, label_text}
 use Rattle.pm_disasm.specs.Split.{Part, are_after, code_with, end_with, ends_of, entry_places, fits, is_allowed_item}
 use Rattle.pm_disasm.specs.Split.{least_from, parts, procedure_of, procedure_with, with_count, written, written_as}
 use Rattle.pm_disasm.specs.Follow.{Follow, code_lines_by, item_led, items_or_bytes, leading, lines_at_by, written_by}

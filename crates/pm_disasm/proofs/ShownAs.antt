@@ -8,17 +8,18 @@ use Rattle.std.proofs.lemmas.List.{length-take, length-drop, length-reverse}
 use Rattle.std.proofs.lemmas.Bool.{and_parts, leb-true, eqb-true, eq-eqb}
 use Rattle.pm_opcode.specs.Spelling.{spelled_word}
 use Rattle.pm_codefile.specs.Dictionary.{word_in}
-use Rattle.pm_disasm.specs.Item.{IsByte}
-use Rattle.pm_disasm.specs.Program.{Procedure, IsProcedure, IsIn, is_among, code_of, code_end, places_of, entry_bytes}
-use Rattle.pm_disasm.specs.Program.{attribute_bytes, back_to, jtab_of, procedure_bytes, entries_needed}
+use Rattle.pm_code.specs.Item.{IsByte}
+use Rattle.pm_code.specs.Program.{Procedure, IsProcedure, IsIn, is_among, code_of, code_end, places_of, entry_bytes}
+use Rattle.pm_code.specs.Program.{attribute_bytes, back_to, jtab_of, procedure_bytes, entries_needed}
 use Rattle.pm_disasm.specs.Split.{entry_places, are_after, end_with, code_with, procedure_with, fits}
 use Rattle.pm_disasm.specs.Laws.{StandsIn, attributes_of}
-use Rattle.pm_disasm.proofs.Sizes.{length-code}
+use Rattle.pm_code.proofs.Sizes.{length-code}
 use Rattle.pm_disasm.proofs.Fronts.{take-bytes, drop-bytes}
 use Rattle.pm_disasm.proofs.Joined.{Joins, code_joined}
 use Rattle.pm_disasm.proofs.Boundaries.{forced_written, jumps_written, or_right}
 use Rattle.pm_disasm.proofs.Again.{later}
-use Rattle.pm_disasm.proofs.Stored.{entries_again, length-entry_places, length-entry_bytes}
+use Rattle.pm_disasm.proofs.Stored.{entries_again, length-entry_places}
+use Rattle.pm_code.proofs.Stored.{length-entry_bytes}
 use Rattle.pm_disasm.proofs.OwnCount.{code_there, behind_code, level_again}
 
 -- What a count of entries has to meet for a procedure to be shown with it.

@@ -7,11 +7,17 @@ use Rattle.std.proofs.lemmas.List.{reverse-append, reverse-reverse}
 use Rattle.std.proofs.lemmas.Bool.{and_parts, cases_lt, eq-eqb, leb-true}
 use Rattle.std.proofs.lemmas.Bool.Decides.{nat_tests}
 use Rattle.pm_codefile.specs.Dictionary.{segment_in, slot_in}
-use Rattle.pm_disasm.specs.Program.{Segment, IsSegment, FitSlots, AscendFrom, is_name_character, is_segment_name, segment_bytes}
-use Rattle.pm_disasm.specs.Shown.{cut, file_text, joined, name_of, or_mark, procedures_lines, program_text, segment_line}
-use Rattle.pm_disasm.specs.Shown.{segment_lines, segments_lines, shown_name, slot_lines, slots_lines}
-use Rattle.pm_disasm.specs.Laws.{Holds, IsSameSegment, ProgramIsShown, segment_numbered}
-use Rattle.pm_disasm.proofs.Boundaries.{all-append}
+use Rattle.pm_code.specs.Program.{Segment, IsSegment, FitSlots, AscendFrom, is_name_character, is_segment_name}
+use Rattle.pm_code.specs.Program.{segment_bytes}
+use Rattle.pm_disasm.specs.Shown.{cut, file_text, or_mark}
+use Rattle.pm_code.specs.Shown.{joined, procedures_lines, program_text, segment_line}
+use Rattle.pm_code.specs.Laws.{name_of}
+use Rattle.pm_code.specs.Shown.{segment_lines, segments_lines}
+use Rattle.pm_disasm.specs.Shown.{shown_name, slot_lines, slots_lines}
+use Rattle.pm_code.specs.Laws.{Holds, IsSameSegment}
+use Rattle.pm_disasm.specs.Laws.{ProgramIsShown}
+use Rattle.pm_code.specs.Program.{segment_numbered}
+use Rattle.pm_code.proofs.ItemBytes.{all-append}
 use Rattle.pm_disasm.proofs.ShownSegment.{ShownWell, shown_segment, shown_well}
 
 all-reverse : (P : ℕ → Type 0) (xs : List ℕ) → AllByRecursion P xs → AllByRecursion P (reverse xs)

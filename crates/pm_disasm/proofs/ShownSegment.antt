@@ -7,15 +7,20 @@ use Rattle.std.proofs.lemmas.Bool.{le-ltb}
 use Rattle.pm_codefile.specs.declared.table.Attributes.{Attributes}
 use Rattle.pm_codefile.specs.Dictionary.{word_in}
 use Rattle.pm_codefile.specs.Segments.{attributes_in, procedures_in}
-use Rattle.pm_disasm.specs.Program.{Procedure, Segment, IsProcedure, IsSegment, AreInstructions, FollowFrom, back_to, dictionary_bytes}
-use Rattle.pm_disasm.specs.Program.{entry_bytes, jtab_of, procedure_bytes, procedures_bytes, procedures_end, segment_bytes}
+use Rattle.pm_code.specs.Program.{Procedure, Segment, IsProcedure, IsSegment, AreInstructions, FollowFrom, back_to}
+use Rattle.pm_code.specs.Program.{dictionary_bytes}
+use Rattle.pm_code.specs.Program.{entry_bytes, jtab_of, procedure_bytes, procedures_bytes, procedures_end}
+use Rattle.pm_code.specs.Program.{segment_bytes}
 use Rattle.pm_disasm.specs.Split.{procedure_of}
-use Rattle.pm_disasm.specs.Shown.{missing_line, procedure_lines, procedures_lines, table_lines_or, tables_lines}
-use Rattle.pm_disasm.specs.Laws.{attributes_of, IsShownAs, IsSameSegment}
+use Rattle.pm_disasm.specs.Shown.{missing_line, table_lines_or, tables_lines}
+use Rattle.pm_code.specs.Shown.{procedure_lines, procedures_lines}
+use Rattle.pm_disasm.specs.Laws.{attributes_of, IsShownAs}
+use Rattle.pm_code.specs.Laws.{IsSameSegment}
 use Rattle.pm_disasm.proofs.Again.{later}
 use Rattle.pm_disasm.proofs.Stored.{Table, first_word, other_words}
 use Rattle.pm_disasm.proofs.LeastCount.{procedure_is_shown}
-use Rattle.pm_disasm.proofs.Laid.{AllStand, all_stand, are_segment_bytes, dictionary_there, dictionary_reversed, tables_before}
+use Rattle.pm_disasm.proofs.Standing.{AllStand, all_stand, dictionary_there}
+use Rattle.pm_code.proofs.Laid.{are_segment_bytes, dictionary_reversed, tables_before}
 use Rattle.pm_disasm.proofs.FoundTables.{table_found, stored_byte}
 
 -- what is shown for procedures that are numbered from one number on

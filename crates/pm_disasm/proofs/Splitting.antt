@@ -3,11 +3,11 @@ use Rattle.std.proofs.Common.{◌≡◌, ◌<◌, ◌≤◌, ℕ, zero, suc, ◌
 use Rattle.std.proofs.Common.{sym, ap, ◌∙◌, arith, drop-cons, drop-drop, take, subst, length-take-le, IfSome, Option, Some, None}
 use Rattle.std.specs.List.{AllByRecursion}
 use Rattle.std.specs.Prelude.{◌||◌, ◌==◌}
-use Rattle.pm_disasm.specs.Item.{Item, IsByte, size}
+use Rattle.pm_code.specs.Item.{Item, IsByte, size}
 use Rattle.pm_disasm.specs.Follow.{Follow}
 use Rattle.pm_disasm.proofs.Fronts.{Fronts, Spells, fronts}
 use Rattle.pm_disasm.proofs.Joined.{still}
-use Rattle.pm_disasm.specs.Program.{is_among}
+use Rattle.pm_code.specs.Program.{is_among}
 use Rattle.pm_disasm.specs.Split.{Front, Part, bytes_after_first, ends_of, front, part_of, parts, taken}
 
 -- bytes that belong to a part before are passed over

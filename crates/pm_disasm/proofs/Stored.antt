@@ -9,9 +9,10 @@ use Rattle.std.proofs.lemmas.Bool.{and_from, and_parts, le-leb, leb-true}
 use Rattle.pm_opcode.specs.Spelling.{spelled_word}
 use Rattle.pm_codefile.specs.Dictionary.{word_in}
 use Rattle.pm_codefile.proofs.Written.{word_in-right}
-use Rattle.pm_disasm.specs.Item.{IsByte}
-use Rattle.pm_disasm.specs.Program.{back_to, entry_bytes}
+use Rattle.pm_code.specs.Item.{IsByte}
+use Rattle.pm_code.specs.Program.{back_to, entry_bytes}
 use Rattle.pm_disasm.specs.Split.{entry_places, are_after}
+use Rattle.pm_code.proofs.Stored.{entries-first, length-entry_bytes}
 use Rattle.pm_disasm.proofs.Fronts.{drop-bytes}
 
 word_in-drop : (n p : ℕ) (bs : List ℕ) → word_in bs (n + p) ≡ word_in (drop n bs) p
@@ -35,23 +36,6 @@ stored_word segment xs rest at p w e f =
     ∙ (let same : length xs ≡ length xs + 0 = omega arith in ap (word_in (xs ++ (spelled_word w ++ rest))) same)
     ∙ word_in-right xs (spelled_word w ++ rest) (length xs) 0 refl
     ∙ word_first w rest
-
-pub length-entry_bytes : (at : ℕ) (places : List ℕ) → length (entry_bytes at places) ≡ 2 * length places
-length-entry_bytes at [] = refl
-length-entry_bytes at (place ∷ places) = omega (arith, length-entry_bytes (at + 2) places)
-
-pub entries-append : (at : ℕ) (xs ys : List ℕ) → entry_bytes at (xs ++ ys) ≡ entry_bytes at xs ++ entry_bytes (at + 2 * length xs) ys
-entries-append at [] ys = ap (λ n. entry_bytes n ys) (omega arith)
-entries-append at (x ∷ xs) ys =
-    ap (λ bs. back_to at x ++ bs) (entries-append (at + 2) xs ys ∙ ap (λ n. entry_bytes (at + 2) xs ++ entry_bytes n ys) (omega arith))
-
--- the first entry stands highest
-pub entries-first : (at place : ℕ) (places : List ℕ) → entry_bytes at (reverse (place ∷ places))
-    ≡ entry_bytes at (reverse places) ++ back_to (at + 2 * length places) place
-entries-first at place places =
-    ap (entry_bytes at) (reverse-append (place ∷ []) places)
-    ∙ entries-append at (reverse places) (place ∷ [])
-    ∙ ap (λ n. entry_bytes at (reverse places) ++ entry_bytes (at + 2 * n) (place ∷ [])) (length-reverse places)
 
 -- the table of entries from entry k on, with what stands behind it, and where they all stand
 pub record Table (segment : List ℕ) (at jtab k : ℕ) (places rest : List ℕ) : Type 0 where

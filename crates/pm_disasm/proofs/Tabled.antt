@@ -1,6 +1,8 @@
 -- A table that is found lies in its segment.
 use Rattle.std.proofs.lemmas.List.{reverse-append, reverse-reverse, take_more}
-use Rattle.pm_disasm.specs.Shown.{cut, joined, name_of, slot_lines, slots_lines, table_lines_or, tables_lines}
+use Rattle.pm_disasm.specs.Shown.{cut, slot_lines, slots_lines, table_lines_or, tables_lines}
+use Rattle.pm_code.specs.Shown.{joined}
+use Rattle.pm_code.specs.Laws.{name_of}
 use Rattle.pm_disasm.proofs.ShownCode.{joined-append}
 use Rattle.std.proofs.Common.{◌≡◌, ◌<◌, ◌≤◌, List, [], ◌∷◌, take, reverse, get_or, cond, ◌++◌, suc, append_assoc, ℕ, ◌+◌}
 use Rattle.std.proofs.Common.{◌-◌, ◌*◌, ◌%◌, Bool, true, false, length, refl, sym, ap, ◌∙◌, arith, Option, Some, None}

@@ -8,11 +8,11 @@ use Rattle.std.proofs.lemmas.Bool.{and_parts, cases_Bool, cases_lt, eqb-true, le
 use Rattle.std.proofs.lemmas.List.{drop-take, length-map}
 use Rattle.pm_codefile.specs.declared.table.Attributes.{Attributes}
 use Rattle.pm_disasm.specs.declared.decoded.Decoded.{Decoded}
-use Rattle.pm_disasm.specs.Item.{IsByte, Item}
-use Rattle.pm_disasm.specs.Item.Item.{OneByte}
+use Rattle.pm_code.specs.Item.{IsByte, Item}
+use Rattle.pm_code.specs.Item.Item.{OneByte}
 use Rattle.pm_disasm.specs.Chosen.{IsTable}
 use Rattle.pm_disasm.specs.Offsets.{IsDecoded, front_count, item_count, up_to}
-use Rattle.pm_disasm.specs.Program.{entries_needed, entries_used}
+use Rattle.pm_code.specs.Program.{entries_needed, entries_used}
 use Rattle.pm_disasm.specs.Split.{Front, Part, are_after, bytes_after_first, code_with, end_with, ends_of, entry_places}
 use Rattle.pm_disasm.specs.Split.{fits, front, leads, part_of, parts, procedure_with, taken, uncut, written, written_as}
 use Rattle.pm_disasm.specs.Views.{front_seen, has}

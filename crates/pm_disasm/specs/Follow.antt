@@ -2,10 +2,10 @@
 use Rattle.std.specs.Prelude.{◌≡◌, ◌≤◌, ℕ, ◌+◌, Bool, ◌&&◌, ◌==◌, List, [], ◌∷◌, ◌++◌}
 use Rattle.std.specs.Prelude.{length, map, if◌then◌else◌, codes, Option, Some, None, IfSome}
 use Rattle.std.specs.List.{list_all}
-use Rattle.pm_disasm.specs.Item.{Item, size}
-use Rattle.pm_disasm.specs.Item.Item.{OneByte}
-use Rattle.pm_disasm.specs.Program.{item_places}
-use Rattle.pm_disasm.specs.Shown.{label_text, put_if, shown_item}
+use Rattle.pm_code.specs.Item.{Item, size}
+use Rattle.pm_code.specs.Item.Item.{OneByte}
+use Rattle.pm_code.specs.Program.{item_places}
+use Rattle.pm_code.specs.Shown.{label_text, put_if, shown_item}
 use Rattle.pm_disasm.specs.Split.{Part, is_allowed_item}
 
 abbrev pub Items : Type 0

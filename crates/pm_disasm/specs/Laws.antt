@@ -5,12 +5,15 @@ use Rattle.std.specs.Int.{w8, cast_signed}
 use Rattle.std.specs.List.{AllByRecursion, AllZip}
 use Rattle.pm_codefile.specs.declared.table.Attributes.{Attributes}
 use Rattle.pm_codefile.specs.Dictionary.{segment_in, slot_in}
-use Rattle.pm_disasm.specs.Item.{Item, IsItem, IsByte, item_bytes, size, is_instruction}
-use Rattle.pm_disasm.specs.Program.{Procedure, Segment, AreItems, AreInstructions, FitSlots, IsIn, IsProcedure}
-use Rattle.pm_disasm.specs.Program.{IsProgram, NamesWithin, boundaries, code_bytes, jtab_of, procedure_bytes}
-use Rattle.pm_disasm.specs.Program.{segment_bytes}
+use Rattle.pm_code.specs.Item.{Item, IsItem, IsByte, item_bytes, size, is_instruction}
+use Rattle.pm_code.specs.Program.{Procedure, Segment, AreItems, AreInstructions, FitSlots, IsIn, IsProcedure}
+use Rattle.pm_code.specs.Program.{IsProgram, NamesWithin, boundaries, code_bytes, jtab_of, procedure_bytes}
+use Rattle.pm_code.specs.Program.{segment_bytes}
 use Rattle.pm_disasm.specs.Split.{Front, fits, front, items_in, procedure_of, procedure_with}
-use Rattle.pm_disasm.specs.Shown.{file_text, name_of, program_text}
+use Rattle.pm_code.specs.Laws.{Holds, IsSameSegment}
+use Rattle.pm_disasm.specs.Shown.{file_text}
+use Rattle.pm_code.specs.Laws.{name_of}
+use Rattle.pm_code.specs.Shown.{program_text}
 
 -- An instruction is read in its own bytes, whatever follows.
 abbrev pub InstructionIsRead : Type 0
@@ -86,26 +89,6 @@ abbrev pub ProcedureIsShown : Type 0
 ProcedureIsShown =
     (segment : List ℕ) (number : ℕ) (p : Procedure) → StandsIn segment number p
     → IsShownAs number p (procedure_of segment (attributes_of number p))
-
--- the segment of a number
-abbrev pub segment_numbered : ℕ → List Segment → Option Segment
-segment_numbered n [] = None
-segment_numbered n (s ∷ ss) = if s.number == n then Some s else segment_numbered n ss
-
--- A code file holds a program: a slot has the bytes of the segment of its number, and its name with spaces at the end,
--- or no segment.
-pub record Holds (file : List ℕ) (ss : List Segment) : Type 0 where
-  pub segments : (n : ℕ) → n < 16 → segment_in file n ≡ option_map segment_bytes (segment_numbered n ss)
-  pub names : (n : ℕ) (s : Segment) → segment_numbered n ss ≡ Some s
-      → name_of (slot_in file n) ≡ s.name ++ replicate (8 - length s.name) 32
-
--- Segments of one number and name with the same bytes; and the same segments, where the items of the first are all
--- instructions.
-pub record IsSameSegment (s t : Segment) : Type 0 where
-  pub number : t.number ≡ s.number
-  pub name : t.name ≡ s.name
-  pub bytes : segment_bytes t ≡ segment_bytes s
-  pub same : AllByRecursion (λ (p : Procedure). AreInstructions p.items) s.procedures → t ≡ s
 
 -- The text of a code file that holds a program is that of a program with the same bytes.
 abbrev pub ProgramIsShown : Type 0

@@ -5,8 +5,8 @@ use Rattle.std.specs.List.{list_any}
 use Rattle.pm_disasm.specs.declared.decoded.Decoded.{Decoded}
 use Rattle.pm_disasm.specs.declared.front.Front.{Front}
 use Rattle.pm_disasm.specs.declared.places.PlaceSet.{PlaceSet}
-use Rattle.pm_disasm.specs.Item.{Item}
-use Rattle.pm_disasm.specs.Program.{entries_used}
+use Rattle.pm_code.specs.Item.{Item}
+use Rattle.pm_code.specs.Program.{entries_used}
 use Rattle.pm_disasm.specs.Split as split
 use Rattle.pm_disasm.specs.Views.{front_seen, has}
 

@@ -1,4 +1,4 @@
--- Programs and code files as text.
+-- Code files as text.
 use Rattle.std.specs.Prelude.{ℕ, zero, suc, ◌+◌, ◌-◌, Bool, List, [], ◌∷◌, ◌++◌, length, map, replicate}
 use Rattle.std.specs.Prelude.{reverse, nat_lt, ◌==◌, if◌then◌else◌, codes, Option, Some, None}
 use Rattle.std.specs.Fmt.{decimal}
@@ -8,102 +8,14 @@ use Rattle.pm_codefile.specs.declared.table.Attributes.{Attributes}
 use Rattle.pm_codefile.specs.declared.file.Slot.{Slot}
 use Rattle.pm_codefile.specs.Dictionary.{segment_in, slot_in}
 use Rattle.pm_codefile.specs.Segments.{attributes_in, procedures_in}
-use Rattle.pm_disasm.specs.Text.{operands_text, operand_texts, signed_text}
-use Rattle.pm_disasm.specs.Item.{Item, Target, case_opcode, size}
-use Rattle.pm_disasm.specs.Item.Item.{Plain, Jump, Case, OneByte}
-use Rattle.pm_disasm.specs.Item.Target.{To, Through}
-use Rattle.pm_disasm.specs.Program.{Procedure, Segment, is_among, is_name_character, item_places}
+use Rattle.pm_code.specs.Text.{operands_text, operand_texts, signed_text}
+use Rattle.pm_code.specs.Item.{Item, Target, case_opcode, size}
+use Rattle.pm_code.specs.Item.Item.{Plain, Jump, Case, OneByte}
+use Rattle.pm_code.specs.Item.Target.{To, Through}
+use Rattle.pm_code.specs.Program.{Procedure, Segment, is_among, is_name_character, item_places}
 use Rattle.pm_disasm.specs.Split.{procedure_of}
-
--- words behind a word, each behind a space
-abbrev pub words_text : List (List ℕ) → List ℕ
-words_text [] = []
-words_text (t ∷ ts) = 32 ∷ t ++ words_text ts
-
--- a label: `L` and its place in five digits
-abbrev pub label_text : ℕ → List ℕ
-label_text place = 76 ∷ padded 5 place
-
--- where a jump leads: a label, or `^` and the entry
-abbrev pub target_text : Target ℕ → List ℕ
-target_text (To place) = label_text place
-target_text (Through k) = 94 ∷ decimal k
-
--- the word at the front of an item
-abbrev pub front_text : Item ℕ → List ℕ
-front_text (Plain i named) = mnemonic_of i.op
-front_text (Jump op target) = mnemonic_of op
-front_text (Case low high otherwise places) = mnemonic_of case_opcode
-front_text (OneByte b) = codes ".BYTE"
-
--- the operands behind it, each as a text
-abbrev pub item_operands : Item ℕ → List (List ℕ)
-item_operands (Plain i named) = operand_texts (form_of i.op) i named
-item_operands (Jump op target) = target_text target ∷ []
-item_operands (Case low high otherwise places) =
-    signed_text low ∷ signed_text high ∷ target_text otherwise ∷ map label_text places
-item_operands (OneByte b) = decimal b ∷ []
-
--- The text of an item.
-unfoldable pub shown_item : Item ℕ → List ℕ
-shown_item item = front_text item ++ operands_text (item_operands item)
-
--- the places that items name
-abbrev pub named_places : List (Item ℕ) → List ℕ
-named_places [] = []
-named_places (item ∷ items) = item_places item ++ named_places items
-
-abbrev pub put_if : {A : Type 0} → Bool → A → List A → List A
-put_if b x xs = if b then x ∷ xs else xs
-
--- the label of a place if it is used, and the exit code if it is there, and what follows
-abbrev pub lines_at : List ℕ → ℕ → ℕ → List (List ℕ) → List (List ℕ)
-lines_at used exit at rest =
-    put_if (is_among used at) (label_text at ++ 58 ∷ []) (put_if (exit == at) (codes ".EXIT") rest)
-
--- the lines of items that begin at an offset
-abbrev pub code_lines : List ℕ → ℕ → ℕ → List (Item ℕ) → List (List ℕ)
-code_lines used exit at [] = lines_at used exit at []
-code_lines used exit at (item ∷ items) =
-    lines_at used exit at ((32 ∷ 32 ∷ shown_item item) ∷ code_lines used exit (at + size at item) items)
-
--- a level, a byte, as a signed number
-abbrev pub level_text : ℕ → List ℕ
-level_text level = if nat_lt level 128 then decimal level else 45 ∷ decimal (256 - level)
-
-abbrev pub entry_line : ℕ → List ℕ
-entry_line place = codes ".JUMP" ++ words_text (label_text place ∷ [])
-
--- A procedure: its number, level and sizes, its code with the labels that a jump or an entry names, its entries from
--- the first on.
-abbrev pub procedure_lines : ℕ → Procedure → List (List ℕ)
-procedure_lines number p =
-    (codes ".PROC" ++ words_text (decimal number ∷ level_text p.level ∷ decimal p.parameters ∷ decimal p.locals ∷ []))
-    ∷ (code_lines (named_places p.items ++ p.entries) p.exit p.start p.items
-    ++ (map entry_line p.entries ++ codes ".END" ∷ []))
-
-abbrev pub procedures_lines : ℕ → List Procedure → List (List ℕ)
-procedures_lines number [] = []
-procedures_lines number (p ∷ ps) = procedure_lines number p ++ procedures_lines (number + 1) ps
-
-abbrev pub segment_line : ℕ → List ℕ → List ℕ
-segment_line number name = codes ".SEG" ++ words_text (decimal number ∷ name ∷ [])
-
-abbrev pub segment_lines : Segment → List (List ℕ)
-segment_lines s = segment_line s.number s.name ∷ procedures_lines 1 s.procedures
-
-abbrev pub segments_lines : List Segment → List (List ℕ)
-segments_lines [] = []
-segments_lines (s ∷ ss) = segment_lines s ++ segments_lines ss
-
--- lines, each with a line feed at its end
-abbrev pub joined : List (List ℕ) → List ℕ
-joined [] = []
-joined (line ∷ lines) = line ++ (10 ∷ joined lines)
-
--- The text of a program.
-unfoldable pub program_text : List Segment → List ℕ
-program_text ss = joined (segments_lines ss)
+use Rattle.pm_code.specs.Shown.{joined, procedure_lines, segment_line}
+use Rattle.pm_code.specs.Laws.{name_of}
 
 -- a procedure that cannot be shown
 abbrev pub missing_line : ℕ → List (List ℕ)
@@ -137,10 +49,6 @@ or_mark (c ∷ cs) = c ∷ cs
 
 abbrev pub shown_name : List ℕ → List ℕ
 shown_name name = or_mark (map (λ c. if is_name_character c then c else 63) (reverse (cut (reverse name))))
-
-abbrev pub name_of : Option Slot → List ℕ
-name_of None = []
-name_of (Some slot) = slot.name
 
 -- a slot's segment, if it has one
 abbrev pub slot_lines : ℕ → List ℕ → Option (List ℕ) → List (List ℕ)

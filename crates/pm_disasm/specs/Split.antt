@@ -14,10 +14,10 @@ use Rattle.pm_opcode.specs.Reading.{reading}
 use Rattle.pm_words.specs.Words.{words_of}
 use Rattle.pm_codefile.specs.declared.table.Attributes.{Attributes}
 use Rattle.pm_codefile.specs.Dictionary.{word_in}
-use Rattle.pm_disasm.specs.Item.{Item, Target, jump_opcode}
-use Rattle.pm_disasm.specs.Item.Item.{Plain, Jump, Case, OneByte}
-use Rattle.pm_disasm.specs.Item.Target.{To, Through}
-use Rattle.pm_disasm.specs.Program.{Procedure, entries_needed, is_among, item_places}
+use Rattle.pm_code.specs.Item.{Item, Target, jump_opcode}
+use Rattle.pm_code.specs.Item.Item.{Plain, Jump, Case, OneByte}
+use Rattle.pm_code.specs.Item.Target.{To, Through}
+use Rattle.pm_code.specs.Program.{Procedure, entries_needed, is_among, item_places}
 
 -- An instruction at the front of bytes: how many bytes it has, and the item that it is; none where a jump of it leads
 -- neither forward nor through an entry, or where the third word of an XJP holds no UJP.

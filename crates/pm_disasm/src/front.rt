@@ -6,11 +6,12 @@ ghost use Rattle.pm_opcode.specs.declared.operand_form.Form.TheVariants as forms
 ghost use Rattle.pm_opcode.specs.Table.{form_of};
 ghost use Rattle.pm_opcode.specs.Spelling.{is_odd, named_by};
 ghost use Rattle.pm_disasm.specs.Split.{front, has_zero_padding, item_of, target_of};
-ghost use Rattle.pm_disasm.specs.Views.{front_seen, item_seen, target_seen};
+ghost use Rattle.pm_code.specs.Views.{placed_target};
+ghost use Rattle.pm_disasm.specs.Views.{front_seen, found_seen};
 
-use crate::items::{Item, Table, Target};
-use crate::opcodes::JUMP;
+use crate::found::{Found, Table};
 use crate::place::named_bytes;
+use pm_code::{JUMP, Target};
 use pm_opcode::{Form, Instr, decode, form_at};
 
 /// What is read at a place of code.
@@ -19,13 +20,13 @@ pub(crate) struct Front<'a> {
     /// How many bytes the instruction has.
     pub size: usize,
     /// The item that it is; None where a jump of it leads neither forward nor through an entry.
-    pub item: Option<Item<'a>>,
+    pub item: Option<Found<'a>>,
 }
 
 /// The target of a short jump by its byte, which counts from a place.
-fn target_of(next: usize, byte: u8) -> Option<Target>
+fn target_of(next: usize, byte: u8) -> Option<Target<usize>>
     requires next { next < 2 ^ 32 }
-    ensures target { option_map target_seen result ≡ target_of next byte }
+    ensures target { option_map placed_target result ≡ target_of next byte }
 {
     if byte < 128 {
         return Some(Target::To(next + usize::from(byte)));
@@ -57,10 +58,10 @@ fn byte_or_zero(bytes: &[u8], place: usize) -> u8
 }
 
 /// The item of a case jump, whose bytes end before a place.
-fn case_of<'a>(instr: Instr, named: &'a [u8], end: usize) -> Option<Item<'a>>
+fn case_of<'a>(instr: Instr, named: &'a [u8], end: usize) -> Option<Found<'a>>
     requires end { end < 2 ^ 32 }
     requires table { instr.count ≤ end }
-    ensures item { option_map item_seen result ≡ item_of forms.Jumps instr named.now end }
+    ensures item { option_map found_seen result ≡ item_of forms.Jumps instr named.now end }
 {
     let distance = (instr.c / 256) as u8;
     if instr.c % 256 != u16::from(JUMP) {
@@ -72,19 +73,19 @@ fn case_of<'a>(instr: Instr, named: &'a [u8], end: usize) -> Option<Item<'a>>
         at: at as u32,
         words: named,
     };
-    Some(Item::Case(instr.a, instr.b, otherwise, words))
+    Some(Found::Case(instr.a, instr.b, otherwise, words))
 }
 
 /// The item of an instruction that names these bytes and ends before a place.
-fn item_of<'a>(instr: Instr, named: &'a [u8], end: usize) -> Option<Item<'a>>
+fn item_of<'a>(instr: Instr, named: &'a [u8], end: usize) -> Option<Found<'a>>
     requires end { end < 2 ^ 32 }
     requires table { instr.count ≤ end }
-    ensures item { option_map item_seen result ≡ item_of (form_of instr.op) instr named.now end }
+    ensures item { option_map found_seen result ≡ item_of (form_of instr.op) instr named.now end }
 {
     match form_at(instr.op) {
         Form::Sb => {
             let target = target_of(end, (instr.a % 256) as u8)?;
-            Some(Item::Jump(instr.op, target))
+            Some(Found::Jump(instr.op, target))
         }
         Form::Jumps => case_of(instr, named, end),
         _ => {
@@ -93,7 +94,7 @@ fn item_of<'a>(instr: Instr, named: &'a [u8], end: usize) -> Option<Item<'a>>
                 len: 0,
                 ..instr
             };
-            Some(Item::Plain(instr, named))
+            Some(Found::Plain(instr, named))
         }
     }
 }

@@ -4,14 +4,11 @@
 mod counts;
 mod cuts;
 mod decoded;
+mod found;
 mod front;
-mod instruction;
-mod items;
 pub mod laws;
 mod lines;
 mod named;
-mod opcodes;
-mod operands;
 mod parts;
 mod place;
 mod places;
@@ -20,10 +17,8 @@ mod segments;
 mod text;
 mod written;
 
-pub use instruction::Instruction;
-pub use opcodes::{CASE_JUMP, JUMP};
 pub use place::Line;
-pub use segments::{file, is_name_character, item, procedure};
+pub use segments::{file, item, procedure};
 pub use text::line;
 
 #[cfg(test)]

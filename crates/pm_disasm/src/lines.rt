@@ -2,17 +2,18 @@
 
 ghost use Rattle.std.specs.Prelude.{◌≡◌, ◌<◌, ◌^◌, ◌+◌, ◌++◌, [], ◌∷◌, List, ℕ, length};
 ghost use Rattle.std.specs.Prelude.{map, string_bytes, option_map, IfSome, OnOk};
-ghost use Rattle.pm_disasm.specs.Item.{size};
-ghost use Rattle.pm_disasm.specs.Item.Item.{OneByte};
+ghost use Rattle.pm_code.specs.Item.{size};
+ghost use Rattle.pm_code.specs.Item.Item.{OneByte};
 ghost use Rattle.pm_disasm.specs.Follow.{Follow, Items, code_lines_by, items_or_bytes, lines_at_by, written_by};
-ghost use Rattle.pm_disasm.specs.Shown.{joined};
-ghost use Rattle.pm_disasm.specs.Views.{has, item_seen, part_seen};
+ghost use Rattle.pm_code.specs.Shown.{joined};
+ghost use Rattle.pm_disasm.specs.Views.{has, found_seen, part_seen};
 
-use crate::items::{Item, Label};
+use crate::found::Found;
 use crate::parts::Part;
 use crate::places::PlaceSet;
 use crate::written::item_led;
-use std::alloc::AllocError;
+use pm_code::Label;
+use std::alloc::{AllocError, Global};
 use std::fmt::Write;
 
 /// Which places have lines of their own.
@@ -61,19 +62,21 @@ fn push_bytes(
     Ok(())
 }
 
-/// Adds an item that stands at a place.
+/// Adds an instruction that stands at a place.
 fn push_item(
+    alloc: Global,
     text: &mut String,
-    item: Item<'_>,
+    found: Found<'_>,
     at: usize,
     marks: Marks<'_>,
 ) -> Result<(), AllocError>
     ensures text { OnOk result ((rest : Items) → string_bytes text.new
         ++ joined (code_lines_by (has marks.entry.named.now) marks.entry.exit
-        (at + size at (item_seen item.entry)) rest)
+        (at + size at (found_seen found.entry)) rest)
         ≡ string_bytes text.old ++ joined (code_lines_by (has marks.entry.named.now) marks.entry.exit at
-        (item_seen item.entry ∷ rest))) }
+        (found_seen found.entry ∷ rest))) }
 {
+    let item = found.item(alloc)?;
     push_place(text, at, marks)?;
     writeln!(text, "  {item}")?;
     Ok(())
@@ -81,21 +84,22 @@ fn push_item(
 
 /// Adds the items or bytes that are written for a part.
 fn push_part(
+    alloc: Global,
     text: &mut String,
     part: Part<'_>,
-    item: Option<Item<'_>>,
+    item: Option<Found<'_>>,
     marks: Marks<'_>,
 ) -> Result<(), AllocError>
     requires short { part.at + length part.bytes.now < 2 ^ 32 }
-    requires sized { IfSome item (λ item. size part.at (item_seen item) ≡ length part.bytes.now) }
+    requires sized { IfSome item (λ item. size part.at (found_seen item) ≡ length part.bytes.now) }
     ensures text { OnOk result ((rest : Items) → string_bytes text.new
         ++ joined (code_lines_by (has marks.entry.named.now) marks.entry.exit
         (part.entry.at + length part.entry.bytes.now) rest)
         ≡ string_bytes text.old ++ joined (code_lines_by (has marks.entry.named.now) marks.entry.exit part.entry.at
-        (items_or_bytes part.entry.bytes.now (option_map item_seen item.entry) ++ rest))) }
+        (items_or_bytes part.entry.bytes.now (option_map found_seen item.entry) ++ rest))) }
 {
     match item {
-        Some(item) => push_item(text, item, part.at, marks)?,
+        Some(item) => push_item(alloc, text, item, part.at, marks)?,
         None => push_bytes(text, part.bytes, part.at, marks)?,
     }
     Ok(())
@@ -103,6 +107,7 @@ fn push_part(
 
 /// Adds the lines of code, which begins and ends at these places.
 pub(crate) fn push_code(
+    alloc: Global,
     text: &mut String,
     parts: &[Part<'_>],
     boundaries: &PlaceSet,
@@ -119,7 +124,7 @@ pub(crate) fn push_code(
 {
     for part in parts {
         let item = item_led(*part, boundaries, allowed);
-        push_part(text, *part, item, marks)?;
+        push_part(alloc, text, *part, item, marks)?;
     }
     push_place(text, end, marks)
 }

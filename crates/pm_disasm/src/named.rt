@@ -4,22 +4,24 @@ ghost use Rattle.std.specs.Prelude.{◌≡◌, ◌<◌, ◌≤◌, ◌^◌, ◌+
 ghost use Rattle.std.specs.List.{AllByRecursion, list_all};
 ghost use Rattle.pm_words.specs.Words.{words_of};
 ghost use Rattle.pm_disasm.specs.Follow.{written_by};
-ghost use Rattle.pm_disasm.specs.Program.{is_among, item_places, target_places};
-ghost use Rattle.pm_disasm.specs.Shown.{named_places};
+ghost use Rattle.pm_code.specs.Program.{is_among, item_places, target_places};
+ghost use Rattle.pm_code.specs.Shown.{named_places};
 ghost use Rattle.pm_disasm.specs.Split.{table_places};
-ghost use Rattle.pm_disasm.specs.Views.{IsAlike, IsInside, has, item_seen, part_seen, target_seen};
+ghost use Rattle.pm_code.specs.Views.{placed_target};
+ghost use Rattle.pm_disasm.specs.Views.{IsAlike, IsInside, has, found_seen, part_seen};
 
-use crate::items::{Item, Table, Target, table_place};
+use crate::found::{Found, Table, table_place};
 use crate::parts::Part;
 use crate::places::PlaceSet;
 use crate::written::item_led;
+use pm_code::Target;
 use std::alloc::{AllocError, Global};
 
 /// Adds the place that a jump leads to by a label.
-fn add_target(named: &mut PlaceSet, boundaries: &PlaceSet, target: Target)
+fn add_target(named: &mut PlaceSet, boundaries: &PlaceSet, target: Target<usize>)
     requires alike { IsAlike named.old boundaries.now }
-    requires leads { list_all (has boundaries.now) (target_places (target_seen target)) ≡ true }
-    ensures has { (p : ℕ) → has named.new p ≡ (is_among (target_places (target_seen target)) p || has named.old p) }
+    requires leads { list_all (has boundaries.now) (target_places (placed_target target)) ≡ true }
+    ensures has { (p : ℕ) → has named.new p ≡ (is_among (target_places (placed_target target)) p || has named.old p) }
     ensures alike { IsAlike named.new boundaries.now }
 {
     if let Target::To(place) = target {
@@ -44,16 +46,16 @@ fn add_table(named: &mut PlaceSet, boundaries: &PlaceSet, table: Table<'_>)
 }
 
 /// Adds the places that an item names.
-fn add_item(named: &mut PlaceSet, boundaries: &PlaceSet, item: Item<'_>)
+fn add_item(named: &mut PlaceSet, boundaries: &PlaceSet, item: Found<'_>)
     requires alike { IsAlike named.old boundaries.now }
-    requires leads { list_all (has boundaries.now) (item_places (item_seen item)) ≡ true }
-    ensures has { (p : ℕ) → has named.new p ≡ (is_among (item_places (item_seen item.entry)) p || has named.old p) }
+    requires leads { list_all (has boundaries.now) (item_places (found_seen item)) ≡ true }
+    ensures has { (p : ℕ) → has named.new p ≡ (is_among (item_places (found_seen item.entry)) p || has named.old p) }
     ensures alike { IsAlike named.new boundaries.now }
 {
     match item {
-        Item::Plain(_, _) => {}
-        Item::Jump(_, target) => add_target(named, boundaries, target),
-        Item::Case(_, _, otherwise, table) => {
+        Found::Plain(_, _) => {}
+        Found::Jump(_, target) => add_target(named, boundaries, target),
+        Found::Case(_, _, otherwise, table) => {
             add_target(named, boundaries, otherwise);
             add_table(named, boundaries, table);
         }

@@ -8,8 +8,8 @@ ghost use Rattle.pm_disasm.specs.Views.{IsSetOf, front_seen, part_seen};
 
 use crate::cuts::Cuts;
 use crate::decoded::front_in;
+use crate::found::Found;
 use crate::front::Front;
-use crate::items::Item;
 use crate::places::PlaceSet;
 use std::alloc::{AllocError, Global};
 
@@ -21,7 +21,7 @@ pub(crate) struct Part<'a> {
     /// Its bytes.
     pub bytes: &'a [u8],
     /// The item that it is if its jumps lead to boundaries; without one it is written as bytes.
-    pub item: Option<Item<'a>>,
+    pub item: Option<Found<'a>>,
 }
 
 /// The instruction at a place, unless a forced place lies strictly inside.

@@ -4,7 +4,7 @@ ghost use Rattle.std.specs.Prelude.{◌≡◌, length, IsTrue, Some};
 ghost use Rattle.pm_opcode.specs.Spelling.{has_spelling, named_by};
 ghost use Rattle.pm_disasm.specs.Text.{line_text};
 
-use crate::instruction::Instruction;
+use pm_code::Instruction;
 use pm_opcode::{Form, Instr, decode, form_at};
 use pm_words::Memory;
 use std::fmt;

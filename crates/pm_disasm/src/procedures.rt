@@ -6,18 +6,20 @@ ghost use Rattle.std.specs.Fmt.{decimal};
 ghost use Rattle.pm_codefile.specs.Segments.{attributes_in};
 ghost use Rattle.pm_disasm.specs.Chosen.{IsReading, IsTable};
 ghost use Rattle.pm_disasm.specs.Offsets.{IsDecoded};
-ghost use Rattle.pm_disasm.specs.Program.{is_among};
-ghost use Rattle.pm_disasm.specs.Shown.{entry_line, joined, level_text, missing_line, named_places};
-ghost use Rattle.pm_disasm.specs.Shown.{procedure_lines, table_lines, words_text};
+ghost use Rattle.pm_code.specs.Program.{is_among};
+ghost use Rattle.pm_code.specs.Shown.{entry_line, joined, level_text, named_places};
+ghost use Rattle.pm_disasm.specs.Shown.{missing_line};
+ghost use Rattle.pm_code.specs.Shown.{procedure_lines, words_text};
+ghost use Rattle.pm_disasm.specs.Shown.{table_lines};
 ghost use Rattle.pm_disasm.specs.Split.{entry_places, procedure_of, procedure_with};
 ghost use Rattle.pm_disasm.specs.Views.{IsSetOf};
 
 use crate::counts::{Shown, shown_code};
 use crate::decoded::Decoded;
-use crate::items::Label;
 use crate::lines::{Marks, push_code};
 use crate::named::{add_entries, places_named};
 use crate::places::PlaceSet;
+use pm_code::Label;
 use pm_codefile::Attributes;
 use std::alloc::{AllocError, Global};
 use std::fmt;
@@ -128,12 +130,12 @@ fn push_shown<'a>(
     writeln!(text, "{header}")?;
     let shown = shown_code(alloc, segment, decoded, &a)?;
     let named = places_shown(alloc, segment, &a, &shown)?;
-    let marks = Marks {
-        named: &named,
-        exit: usize::from(a.exit),
-    };
+    let exit = usize::from(a.exit);
+    let named = &named;
+    let marks = Marks { named, exit };
     let (code, end) = (&shown.reading.code, shown.reading.end);
     push_code(
+        alloc,
         text,
         &code.parts,
         &code.boundaries,

@@ -4,14 +4,17 @@ ghost use Rattle.std.specs.Prelude.{◌≡◌, ◌<◌, ◌≤◌, ◌^◌, ◌%
 ghost use Rattle.std.specs.Prelude.{map, option_map, length, reverse, string_bytes, IfOk, OnOk};
 ghost use Rattle.pm_codefile.specs.Dictionary.{segment_in, slot_in};
 ghost use Rattle.pm_codefile.specs.Segments.{attributes_in, procedures_in};
-ghost use Rattle.pm_disasm.specs.Program.{is_name_character};
+ghost use Rattle.pm_code.specs.Program.{is_name_character};
 ghost use Rattle.pm_disasm.specs.Laws.{item_at};
-ghost use Rattle.pm_disasm.specs.Shown.{cut, file_text, joined, name_of, procedure_text, shown_item};
+ghost use Rattle.pm_disasm.specs.Shown.{cut, file_text, procedure_text};
+ghost use Rattle.pm_code.specs.Shown.{joined, shown_item};
+ghost use Rattle.pm_code.specs.Laws.{name_of};
 ghost use Rattle.pm_disasm.specs.Shown.{shown_name, slot_lines, slots_lines, tables_lines};
 
 use crate::decoded::decode_segment;
 use crate::front::{Front, front_at};
 use crate::procedures::push_table;
+use pm_code::is_name_character;
 use pm_codefile::{Attributes, CodeFile, attributes, procedures};
 use std::alloc::{AllocError, Global};
 use std::fmt::Write;
@@ -25,13 +28,6 @@ fn without_spaces(name: &[u8]) -> &[u8]
         count -= 1;
     }
     &name[..count]
-}
-
-/// Whether a byte may stand in a segment's name in a text: 33 to 126 but `;`, `,` and `"`.
-pub fn is_name_character(byte: u8) -> bool
-    ensures character { result ≡ is_name_character byte }
-{
-    (33..=126).contains(&byte) && byte != b';' && byte != b',' && byte != b'"'
 }
 
 /// Adds the bytes of a name, each that may not stand in one as a question mark.
@@ -146,7 +142,10 @@ pub fn item(alloc: Global, segment: &[u8], at: u16) -> Result<String, AllocError
                 item: Some(item),
                 ..
             },
-        ) => format!(in alloc; "{item}"),
+        ) => {
+            let item = item.item(alloc)?;
+            format!(in alloc; "{item}")
+        }
         _ => Ok(String::new(alloc)),
     }
 }

@@ -5,20 +5,22 @@ ghost use Rattle.std.specs.Prelude.{ℕ, true, length, map, option_map, IfSome};
 ghost use Rattle.std.specs.List.{AllByRecursion, list_all};
 ghost use Rattle.pm_words.specs.Words.{words_of};
 ghost use Rattle.pm_disasm.specs.Follow.{item_led, leading, written_by};
-ghost use Rattle.pm_disasm.specs.Program.{entries_for, entries_needed, entries_used};
-ghost use Rattle.pm_disasm.specs.Program.{is_among, item_places, target_places};
-ghost use Rattle.pm_disasm.specs.Shown.{named_places};
+ghost use Rattle.pm_code.specs.Program.{entries_for, entries_needed, entries_used};
+ghost use Rattle.pm_code.specs.Program.{is_among, item_places, target_places};
+ghost use Rattle.pm_code.specs.Shown.{named_places};
 ghost use Rattle.pm_disasm.specs.Split.{is_allowed, is_allowed_item, table_places};
-ghost use Rattle.pm_disasm.specs.Views.{IsSetOf, has, item_seen, part_seen, target_seen};
+ghost use Rattle.pm_code.specs.Views.{placed_target};
+ghost use Rattle.pm_disasm.specs.Views.{IsSetOf, has, found_seen, part_seen};
 
-use crate::items::{Item, Table, Target, table_place};
+use crate::found::{Found, Table, table_place};
 use crate::parts::Part;
 use crate::places::PlaceSet;
+use pm_code::Target;
 
 /// Whether a jump can be written: by a label at a boundary, or through an entry where that is allowed.
-fn target_leads(target: Target, boundaries: &PlaceSet, allowed: bool) -> bool
-    ensures leads { result ≡ (is_allowed allowed (target_seen target)
-        && list_all (has boundaries.now) (target_places (target_seen target))) }
+fn target_leads(target: Target<usize>, boundaries: &PlaceSet, allowed: bool) -> bool
+    ensures leads { result ≡ (is_allowed allowed (placed_target target)
+        && list_all (has boundaries.now) (target_places (placed_target target))) }
 {
     match target {
         Target::To(place) => boundaries.contains(place),
@@ -43,22 +45,26 @@ fn table_leads(table: Table<'_>, boundaries: &PlaceSet) -> bool
 }
 
 /// Whether the jumps of an item can be written.
-fn leads(item: Item<'_>, boundaries: &PlaceSet, allowed: bool) -> bool
-    ensures leads { result ≡ leading (has boundaries.now) allowed (item_seen item.entry) }
+fn leads(item: Found<'_>, boundaries: &PlaceSet, allowed: bool) -> bool
+    ensures leads { result ≡ leading (has boundaries.now) allowed (found_seen item.entry) }
 {
     match item {
-        Item::Plain(_, _) => true,
-        Item::Jump(_, target) => target_leads(target, boundaries, allowed),
-        Item::Case(_, _, otherwise, table) => {
+        Found::Plain(_, _) => true,
+        Found::Jump(_, target) => target_leads(target, boundaries, allowed),
+        Found::Case(_, _, otherwise, table) => {
             target_leads(otherwise, boundaries, allowed) && table_leads(table, boundaries)
         }
     }
 }
 
 /// The item that is written for a part; None where it is written as bytes.
-pub(crate) fn item_led<'a>(part: Part<'a>, boundaries: &PlaceSet, allowed: bool) -> Option<Item<'a>>
-    ensures item { option_map item_seen result ≡ item_led (has boundaries.now) allowed (part_seen part.entry).item }
-    ensures leads { IfSome result (λ item. list_all (has boundaries.now) (item_places (item_seen item)) ≡ true) }
+pub(crate) fn item_led<'a>(
+    part: Part<'a>,
+    boundaries: &PlaceSet,
+    allowed: bool,
+) -> Option<Found<'a>>
+    ensures item { option_map found_seen result ≡ item_led (has boundaries.now) allowed (part_seen part.entry).item }
+    ensures leads { IfSome result (λ item. list_all (has boundaries.now) (item_places (found_seen item)) ≡ true) }
 {
     let item = part.item?;
     if !leads(item, boundaries, allowed) {
@@ -68,19 +74,19 @@ pub(crate) fn item_led<'a>(part: Part<'a>, boundaries: &PlaceSet, allowed: bool)
 }
 
 /// How many entries a jump table has to have for an item.
-pub(crate) fn entries_used(item: Item<'_>) -> usize
-    ensures entries { result ≡ entries_used (item_seen item.entry) }
+pub(crate) fn entries_used(item: Found<'_>) -> usize
+    ensures entries { result ≡ entries_used (found_seen item.entry) }
 {
     match item {
-        Item::Plain(_, _) => 0,
-        Item::Jump(_, target) => entries_for(target),
-        Item::Case(_, _, otherwise, _) => entries_for(otherwise),
+        Found::Plain(_, _) => 0,
+        Found::Jump(_, target) => entries_for(target),
+        Found::Case(_, _, otherwise, _) => entries_for(otherwise),
     }
 }
 
 /// How many entries a jump table has to have for a jump.
-fn entries_for(target: Target) -> usize
-    ensures entries { result ≡ entries_for (target_seen target) }
+fn entries_for(target: Target<usize>) -> usize
+    ensures entries { result ≡ entries_for (placed_target target) }
 {
     match target {
         Target::To(_) => 0,

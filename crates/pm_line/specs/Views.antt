@@ -3,10 +3,8 @@ use Rattle.std.specs.Prelude.{ℕ, ◌+◌, Bool, true, not, List, [], ◌∷◌
 use Rattle.std.specs.Prelude.{Some, None, map, length, option_map, false, if◌then◌else◌}
 use Rattle.std.specs.Borrow.{Bor}
 use Rattle.std.specs.List.{onto_first}
-use Rattle.pm_line.specs.declared.item.Target.{Target}
-use Rattle.pm_line.specs.declared.item.Target.TheVariants as targets
-use Rattle.pm_line.specs.declared.item.Item.{Item}
-use Rattle.pm_line.specs.declared.item.Item.TheVariants as items
+use Rattle.pm_code.specs.declared.item.Target.{Target}
+use Rattle.pm_code.specs.declared.item.Item.{Item}
 use Rattle.pm_line.specs.declared.item.Row.{Row}
 use Rattle.pm_line.specs.declared.item.Row.TheVariants as rows
 use Rattle.pm_line.specs.declared.item.Statement.{Statement}
@@ -18,9 +16,8 @@ use Rattle.pm_line.specs.declared.item.Line.TheVariants as lines
 use Rattle.pm_line.specs.declared.keyword.Keyword.{Keyword}
 use Rattle.pm_line.specs.declared.keyword.Keyword.TheVariants as keywords
 use Rattle.pm_line.specs.declared.operand.Number.{Number}
-use Rattle.pm_disasm.specs.Item as model
-use Rattle.pm_disasm.specs.Item.Item.{Plain, Jump, Case, OneByte}
-use Rattle.pm_disasm.specs.Item.Target.{To, Through}
+use Rattle.pm_code.specs.Item as model
+use Rattle.pm_code.specs.Views.{item_seen, target_seen}
 use Rattle.pm_source.specs.Words.{Cut, is_blank}
 use Rattle.pm_source.specs.Source as source
 use Rattle.pm_source.specs.Source.{Name}
@@ -38,18 +35,15 @@ text_seen t = t.now
 abbrev pub texts_seen : List (Bor (List ℕ)) → List (List ℕ)
 texts_seen ts = map text_seen ts
 
-abbrev pub target_seen : Target → model.Target Name
-target_seen (targets.To label) = To label.now
-target_seen (targets.Through k) = Through k
+abbrev pub labelled_target : Target (Bor (List ℕ)) → model.Target Name
+labelled_target target = target_seen text_seen target
 
-abbrev pub item_seen : Item → model.Item Name
-item_seen (items.Plain instr named) = Plain instr named.items
-item_seen (items.Jump op target) = Jump op (target_seen target)
-item_seen (items.Case low high otherwise labels) = Case low high (target_seen otherwise) (texts_seen labels.items)
-item_seen (items.OneByte b) = OneByte b
+-- An item by its labels.
+abbrev pub labelled_item : Item (Bor (List ℕ)) → model.Item Name
+labelled_item item = item_seen text_seen item
 
-abbrev pub items_seen : {R : Type 0} → Vec Item R → List (model.Item Name)
-items_seen list = map item_seen list.items
+abbrev pub items_seen : {R : Type 0} → Vec (Item (Bor (List ℕ))) R → List (model.Item Name)
+items_seen list = map labelled_item list.items
 
 abbrev pub row_seen : Row → source.Row
 row_seen (rows.Items line label list) = Items line (option_map text_seen label) (items_seen list)

@@ -5,13 +5,14 @@ ghost use Rattle.std.specs.Map.{lookup};
 ghost use Rattle.std.specs.Str.{bytes_eq};
 ghost use Rattle.pm_source.specs.Line.{checked, comparison, instruction_said, one_comparison};
 ghost use Rattle.pm_source.specs.Line.{sized_comparison, sized_type_words, type_words};
-ghost use Rattle.pm_line.specs.Views.{flaw_seen, item_seen, range_flaw, said_seen, texts_seen};
+ghost use Rattle.pm_line.specs.Views.{flaw_seen, labelled_item, range_flaw, said_seen, texts_seen};
 
 use crate::counted::only;
 use crate::instruction::{bare, instruction, plain};
-use crate::item::{Flaw, Item};
+use crate::item::Flaw;
 use crate::operand::number_operand;
 use crate::words::words;
+use pm_code::Item;
 use pm_opcode::{Form, Instr};
 use std::alloc::{AllocError, Global};
 
@@ -60,8 +61,8 @@ fn sized_comparison<'a>(
     op: u8,
     others: &[&'a [u8]],
     sized: Option<u8>,
-) -> Option<(Item<'a>, Flaw)>
-    ensures item { said_seen item_seen result ≡ sized_comparison op (texts_seen others.now) sized }
+) -> Option<(Item<&'a [u8]>, Flaw)>
+    ensures item { said_seen labelled_item result ≡ sized_comparison op (texts_seen others.now) sized }
 {
     let Some(sized) = sized else {
         return Some((plain(alloc, bare(op)), Flaw::UnknownType));
@@ -78,8 +79,8 @@ fn sized_comparison<'a>(
 }
 
 /// A comparison by the words of its operand.
-fn comparison<'a>(alloc: Global, op: u8, words: &[&'a [u8]]) -> Option<(Item<'a>, Flaw)>
-    ensures item { said_seen item_seen result ≡ comparison op (texts_seen words.now) }
+fn comparison<'a>(alloc: Global, op: u8, words: &[&'a [u8]]) -> Option<(Item<&'a [u8]>, Flaw)>
+    ensures item { said_seen labelled_item result ≡ comparison op (texts_seen words.now) }
 {
     let [name, others @ ..] = words else {
         return None;
@@ -95,8 +96,8 @@ fn comparison<'a>(alloc: Global, op: u8, words: &[&'a [u8]]) -> Option<(Item<'a>
 }
 
 #[tactic(auto, using(crate::proofs::Counts::no_comparison))]
-fn one_comparison<'a>(alloc: Global, op: u8, texts: &[&'a [u8]]) -> Said<Item<'a>>
-    ensures item { IfOk result (λ item. said_seen item_seen item ≡ one_comparison op (texts_seen texts.now)) }
+fn one_comparison<'a>(alloc: Global, op: u8, texts: &[&'a [u8]]) -> Said<Item<&'a [u8]>>
+    ensures item { IfOk result (λ item. said_seen labelled_item item ≡ one_comparison op (texts_seen texts.now)) }
 {
     let Some(text) = only(texts) else {
         return Ok(None);
@@ -111,8 +112,9 @@ pub(crate) fn instruction_said<'a>(
     form: Form,
     op: u8,
     texts: &[&'a [u8]],
-) -> Said<Item<'a>>
-    ensures item { IfOk result (λ item. said_seen item_seen item ≡ instruction_said form op (texts_seen texts.now)) }
+) -> Said<Item<&'a [u8]>>
+    ensures item { IfOk result (λ item. said_seen labelled_item item
+        ≡ instruction_said form op (texts_seen texts.now)) }
 {
     if let Form::Typed = form {
         return one_comparison(alloc, op, texts);

@@ -5,14 +5,14 @@
 
 ghost use Rattle.std.specs.Prelude.{◌≡◌, true, option_map};
 ghost use Rattle.std.specs.List.{list_all};
-ghost use Rattle.pm_disasm.specs.Program.{is_name_character, is_segment_name};
+ghost use Rattle.pm_code.specs.Program.{is_name_character, is_segment_name};
 ghost use Rattle.pm_source.specs.Line.{entry_operands, no_operands, procedure_operands, segment_operands};
 ghost use Rattle.pm_line.specs.Views.{operand_seen, statement_seen, texts_seen};
 
 use crate::counted::{four, only, pair};
 use crate::item::Statement;
 use crate::operand::{byte_operand, label_operand, level_operand, size_operand, slot_operand};
-use pm_disasm::is_name_character;
+use pm_code::is_name_character;
 
 fn are_name_characters(name: &[u8]) -> bool
     ensures characters { result ≡ list_all is_name_character name.now }

@@ -7,15 +7,15 @@ ghost use Rattle.std.specs.Prelude.{◌≡◌, ◌<◌, ◌≤◌, ◌+◌, opti
 ghost use Rattle.pm_source.specs.Line.{bare, bare_instruction, byte_and_number, byte_operand, case_jump};
 ghost use Rattle.pm_source.specs.Line.{instruction, many_words, one_jump, one_long_number, one_number, one_text};
 ghost use Rattle.pm_source.specs.Line.{plain, short_instruction, short_range, two_bytes, word_operand};
-ghost use Rattle.pm_line.specs.Views.{item_seen, operand_seen, texts_seen};
+ghost use Rattle.pm_line.specs.Views.{labelled_item, operand_seen, texts_seen};
 
 use crate::counted::{only, pair};
-use crate::item::Item;
 use crate::lists::{flat_words, label_operands, word_operands};
 use crate::number::{is_within, number, stored};
 use crate::operand::{
     bound_operand, byte_operand, jump_operand, number_operand, text_operand, word_operand,
 };
+use pm_code::Item;
 use pm_opcode::{Form, Instr, jumps_between};
 use std::alloc::{AllocError, Global};
 
@@ -39,8 +39,8 @@ pub(crate) fn bare(op: u8) -> Instr
 }
 
 /// An item that names no bytes.
-pub(crate) fn plain<'a>(alloc: Global, instr: Instr) -> Item<'a>
-    ensures item { item_seen result ≡ plain instr }
+pub(crate) fn plain<'a>(alloc: Global, instr: Instr) -> Item<&'a [u8]>
+    ensures item { labelled_item result ≡ plain instr }
 {
     Item::Plain(instr, Vec::new(alloc))
 }
@@ -65,9 +65,9 @@ fn short_instruction<'a>(
     op: u8,
     range: (u8, u8),
     texts: &[&'a [u8]],
-) -> Option<(Item<'a>, bool)>
+) -> Option<(Item<&'a [u8]>, bool)>
     requires small { op + range.1 < 256 }
-    ensures item { operand_seen item_seen result ≡ short_instruction op range (texts_seen texts.now) }
+    ensures item { operand_seen labelled_item result ≡ short_instruction op range (texts_seen texts.now) }
 {
     let text = only(texts)?;
     let n = number(text)?;
@@ -79,8 +79,8 @@ fn short_instruction<'a>(
 }
 
 /// An instruction without operands, or one whose number stands in its opcode.
-fn bare_instruction<'a>(alloc: Global, op: u8, texts: &[&'a [u8]]) -> Option<(Item<'a>, bool)>
-    ensures item { operand_seen item_seen result ≡ bare_instruction op (short_range op) (texts_seen texts.now) }
+fn bare_instruction<'a>(alloc: Global, op: u8, texts: &[&'a [u8]]) -> Option<(Item<&'a [u8]>, bool)>
+    ensures item { operand_seen labelled_item result ≡ bare_instruction op (short_range op) (texts_seen texts.now) }
 {
     if let Some(range) = short_range(op) {
         return short_instruction(alloc, op, range, texts);
@@ -92,8 +92,8 @@ fn bare_instruction<'a>(alloc: Global, op: u8, texts: &[&'a [u8]]) -> Option<(It
 }
 
 #[tactic(auto, using(crate::proofs::Counts::no_byte))]
-fn one_byte<'a>(alloc: Global, op: u8, texts: &[&'a [u8]]) -> Option<(Item<'a>, bool)>
-    ensures item { operand_seen item_seen result ≡ one_number byte_operand op (texts_seen texts.now) }
+fn one_byte<'a>(alloc: Global, op: u8, texts: &[&'a [u8]]) -> Option<(Item<&'a [u8]>, bool)>
+    ensures item { operand_seen labelled_item result ≡ one_number byte_operand op (texts_seen texts.now) }
 {
     let text = only(texts)?;
     let (byte, in_range) = byte_operand(text)?;
@@ -102,8 +102,8 @@ fn one_byte<'a>(alloc: Global, op: u8, texts: &[&'a [u8]]) -> Option<(Item<'a>, 
 }
 
 #[tactic(auto, using(crate::proofs::Counts::no_word))]
-fn one_word<'a>(alloc: Global, op: u8, texts: &[&'a [u8]]) -> Option<(Item<'a>, bool)>
-    ensures item { operand_seen item_seen result ≡ one_number word_operand op (texts_seen texts.now) }
+fn one_word<'a>(alloc: Global, op: u8, texts: &[&'a [u8]]) -> Option<(Item<&'a [u8]>, bool)>
+    ensures item { operand_seen labelled_item result ≡ one_number word_operand op (texts_seen texts.now) }
 {
     let text = only(texts)?;
     let (a, in_range) = word_operand(text)?;
@@ -111,8 +111,8 @@ fn one_word<'a>(alloc: Global, op: u8, texts: &[&'a [u8]]) -> Option<(Item<'a>, 
 }
 
 #[tactic(auto, using(crate::proofs::Counts::no_long_number))]
-fn one_long_number<'a>(alloc: Global, op: u8, texts: &[&'a [u8]]) -> Option<(Item<'a>, bool)>
-    ensures item { operand_seen item_seen result ≡ one_long_number op (texts_seen texts.now) }
+fn one_long_number<'a>(alloc: Global, op: u8, texts: &[&'a [u8]]) -> Option<(Item<&'a [u8]>, bool)>
+    ensures item { operand_seen labelled_item result ≡ one_long_number op (texts_seen texts.now) }
 {
     let text = only(texts)?;
     let (n, in_range) = number_operand(text)?;
@@ -125,8 +125,8 @@ fn one_long_number<'a>(alloc: Global, op: u8, texts: &[&'a [u8]]) -> Option<(Ite
 }
 
 #[tactic(auto, using(crate::proofs::Counts::no_bytes))]
-fn two_bytes<'a>(alloc: Global, op: u8, texts: &[&'a [u8]]) -> Option<(Item<'a>, bool)>
-    ensures item { operand_seen item_seen result ≡ two_bytes op (texts_seen texts.now) }
+fn two_bytes<'a>(alloc: Global, op: u8, texts: &[&'a [u8]]) -> Option<(Item<&'a [u8]>, bool)>
+    ensures item { operand_seen labelled_item result ≡ two_bytes op (texts_seen texts.now) }
 {
     let (text, other) = pair(texts)?;
     let (a, first_good) = byte_operand(text)?;
@@ -140,8 +140,8 @@ fn two_bytes<'a>(alloc: Global, op: u8, texts: &[&'a [u8]]) -> Option<(Item<'a>,
 }
 
 #[tactic(auto, using(crate::proofs::Counts::no_byte_and_number))]
-fn byte_and_number<'a>(alloc: Global, op: u8, texts: &[&'a [u8]]) -> Option<(Item<'a>, bool)>
-    ensures item { operand_seen item_seen result ≡ byte_and_number op (texts_seen texts.now) }
+fn byte_and_number<'a>(alloc: Global, op: u8, texts: &[&'a [u8]]) -> Option<(Item<&'a [u8]>, bool)>
+    ensures item { operand_seen labelled_item result ≡ byte_and_number op (texts_seen texts.now) }
 {
     let (text, other) = pair(texts)?;
     let (a, first_good) = byte_operand(text)?;
@@ -157,8 +157,8 @@ fn byte_and_number<'a>(alloc: Global, op: u8, texts: &[&'a [u8]]) -> Option<(Ite
 
 /// An instruction with a text of at most 255 bytes; a longer one is out of range.
 #[tactic(auto, using(crate::proofs::Counts::no_text))]
-fn one_text<'a>(alloc: Global, op: u8, texts: &[&'a [u8]]) -> Operand<Item<'a>>
-    ensures item { IfOk result (λ item. operand_seen item_seen item ≡ one_text op (texts_seen texts.now)) }
+fn one_text<'a>(alloc: Global, op: u8, texts: &[&'a [u8]]) -> Operand<Item<&'a [u8]>>
+    ensures item { IfOk result (λ item. operand_seen labelled_item item ≡ one_text op (texts_seen texts.now)) }
 {
     let Some(text) = only(texts) else {
         return Ok(None);
@@ -178,8 +178,8 @@ fn one_text<'a>(alloc: Global, op: u8, texts: &[&'a [u8]]) -> Operand<Item<'a>>
 }
 
 /// An instruction with at most 255 words; more are out of range.
-fn many_words<'a>(alloc: Global, op: u8, texts: &[&'a [u8]]) -> Operand<Item<'a>>
-    ensures item { IfOk result (λ item. operand_seen item_seen item ≡ many_words op (texts_seen texts.now)) }
+fn many_words<'a>(alloc: Global, op: u8, texts: &[&'a [u8]]) -> Operand<Item<&'a [u8]>>
+    ensures item { IfOk result (λ item. operand_seen labelled_item item ≡ many_words op (texts_seen texts.now)) }
 {
     let Some((words, in_range)) = word_operands(alloc, texts)? else {
         return Ok(None);
@@ -197,8 +197,8 @@ fn many_words<'a>(alloc: Global, op: u8, texts: &[&'a [u8]]) -> Operand<Item<'a>
 }
 
 #[tactic(auto, using(crate::proofs::Counts::no_jump))]
-fn one_jump<'a>(op: u8, texts: &[&'a [u8]]) -> Option<(Item<'a>, bool)>
-    ensures item { operand_seen item_seen result ≡ one_jump op (texts_seen texts.now) }
+fn one_jump<'a>(op: u8, texts: &[&'a [u8]]) -> Option<(Item<&'a [u8]>, bool)>
+    ensures item { operand_seen labelled_item result ≡ one_jump op (texts_seen texts.now) }
 {
     let text = only(texts)?;
     let (target, in_range) = jump_operand(text)?;
@@ -207,8 +207,8 @@ fn one_jump<'a>(op: u8, texts: &[&'a [u8]]) -> Option<(Item<'a>, bool)>
 
 /// A case jump: its bounds, where it leads out of bounds, and a label for each number from bound to bound.
 #[tactic(auto, using(crate::proofs::Counts::no_case_texts))]
-fn case_jump<'a>(alloc: Global, texts: &[&'a [u8]]) -> Operand<Item<'a>>
-    ensures item { IfOk result (λ item. operand_seen item_seen item ≡ case_jump (texts_seen texts.now)) }
+fn case_jump<'a>(alloc: Global, texts: &[&'a [u8]]) -> Operand<Item<&'a [u8]>>
+    ensures item { IfOk result (λ item. operand_seen labelled_item item ≡ case_jump (texts_seen texts.now)) }
 {
     let [text, other, target, labels @ ..] = texts else {
         return Ok(None);
@@ -228,7 +228,7 @@ fn case_jump<'a>(alloc: Global, texts: &[&'a [u8]]) -> Operand<Item<'a>>
         low,
         high,
         otherwise,
-        labels,
+        places: labels,
     };
     Ok(Some((item, low_good && high_good && target_good && is_counted)))
 }
@@ -239,8 +239,8 @@ pub(crate) fn instruction<'a>(
     form: Form,
     op: u8,
     texts: &[&'a [u8]],
-) -> Operand<Item<'a>>
-    ensures item { IfOk result (λ item. operand_seen item_seen item ≡ instruction form op (texts_seen texts.now)) }
+) -> Operand<Item<&'a [u8]>>
+    ensures item { IfOk result (λ item. operand_seen labelled_item item ≡ instruction form op (texts_seen texts.now)) }
 {
     let item = match form {
         Form::Plain => bare_instruction(alloc, op, texts),

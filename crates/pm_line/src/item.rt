@@ -1,37 +1,6 @@
 //! What lines say.
 
-use pm_opcode::Instr;
-
-/// Where a jump leads.
-#[derive(Clone, Copy, Debug, PartialEq, Eq)]
-pub enum Target<'a> {
-    /// The place of a label.
-    To(&'a [u8]),
-    /// The place that an entry of the jump table names.
-    Through(u8),
-}
-
-/// An item of code, with labels for places.
-#[derive(Debug, Drop)]
-pub enum Item<'a> {
-    /// An instruction that names no place, with the bytes that it names.
-    Plain(Instr, Vec<u8>),
-    /// A short jump, by its opcode.
-    Jump(u8, Target<'a>),
-    /// A case jump.
-    Case {
-        /// Its low bound, as a word.
-        low: u16,
-        /// Its high bound, as a word.
-        high: u16,
-        /// Where it leads out of bounds.
-        otherwise: Target<'a>,
-        /// The labels of its table.
-        labels: Vec<&'a [u8]>,
-    },
-    /// A byte that stands for itself.
-    OneByte(u8),
-}
+use pm_code::Item;
 
 /// A line of a procedure's code.
 #[derive(Debug, Drop)]
@@ -43,7 +12,7 @@ pub enum Row<'a> {
         /// The label before the items.
         label: Option<&'a [u8]>,
         /// The items, in order.
-        items: Vec<Item<'a>>,
+        items: Vec<Item<&'a [u8]>>,
     },
     /// The place of the exit code.
     Exit,

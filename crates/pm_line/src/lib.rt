@@ -16,5 +16,5 @@ mod pieces;
 mod spoken;
 mod words;
 
-pub use item::{Flaw, Item, Line, Row, Statement, Target};
+pub use item::{Flaw, Line, Row, Statement};
 pub use spoken::line;

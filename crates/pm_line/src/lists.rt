@@ -1,12 +1,12 @@
 //! Operands in any number.
 
 ghost use Rattle.std.specs.Prelude.{◌≡◌, length, map, option_map, IfOk};
-ghost use Rattle.pm_disasm.specs.Item.Item.{OneByte};
+ghost use Rattle.pm_code.specs.Item.Item.{OneByte};
 ghost use Rattle.pm_source.specs.Line.{all_operands, byte_operand, flat_words, label_operand, word_operand};
 ghost use Rattle.pm_line.specs.Views.{items_seen, labels_seen, operand_seen, texts_seen, vec_seen};
 
-use crate::item::Item;
 use crate::operand::{byte_operand, label_operand, word_operand};
+use pm_code::Item;
 use std::alloc::{AllocError, Global};
 
 /// Words, and whether each is in range.
@@ -85,7 +85,7 @@ pub(crate) fn flat_words(alloc: Global, words: &[u16]) -> Result<Vec<u8>, AllocE
 }
 
 /// Bytes as items.
-pub(crate) fn byte_items<'a>(alloc: Global, bytes: &[u8]) -> Result<Vec<Item<'a>>, AllocError>
+pub(crate) fn byte_items<'a>(alloc: Global, bytes: &[u8]) -> Result<Vec<Item<&'a [u8]>>, AllocError>
     ensures items { IfOk result (λ items. items_seen items ≡ map OneByte bytes.now) }
 {
     let mut items = Vec::new(alloc);

@@ -5,11 +5,11 @@ ghost use Rattle.pm_source.specs.Line.{bound_operand, byte_operand, is_plain, ju
 ghost use Rattle.pm_source.specs.Line.{lower_hex, number_operand, numeral_operand, size_operand};
 ghost use Rattle.pm_source.specs.Line.{slot_operand, text_operand, unescaped, word_operand};
 ghost use Rattle.pm_line.specs.Views.{first_unescaped, number_seen, onto_bytes, operand_seen};
-ghost use Rattle.pm_line.specs.Views.{target_seen, text_seen, unescaped_if};
+ghost use Rattle.pm_line.specs.Views.{labelled_target, text_seen, unescaped_if};
 
-use crate::item::Target;
 use crate::number::{is_within, number, stored};
 use crate::words::is_name;
+use pm_code::Target;
 use std::alloc::{AllocError, Global};
 
 /// A number, and whether it is written with two bytes though it is below 128.
@@ -112,8 +112,8 @@ pub(crate) fn label_operand(text: &[u8]) -> Option<(&[u8], bool)>
 }
 
 /// A label, or `^k` for entry k of the jump table, up to 59.
-pub(crate) fn jump_operand(text: &[u8]) -> Option<(Target<'_>, bool)>
-    ensures operand { operand_seen target_seen result ≡ jump_operand text.now }
+pub(crate) fn jump_operand(text: &[u8]) -> Option<(Target<&[u8]>, bool)>
+    ensures operand { operand_seen labelled_target result ≡ jump_operand text.now }
 {
     match text {
         [b'^', digits @ ..] => {

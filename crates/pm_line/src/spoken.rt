@@ -10,16 +10,17 @@ ghost use Rattle.pm_line.specs.Views.{operand_seen, said_seen, statement_seen, t
 
 use crate::comparison::{Said, flaw_of, instruction_said};
 use crate::directive::{entry_operands, no_operands, procedure_operands, segment_operands};
-use crate::item::{Flaw, Item, Line, Row, Statement};
+use crate::item::{Flaw, Line, Row, Statement};
 use crate::keyword::{Keyword, keyword_of};
 use crate::lists::{byte_items, byte_operands};
 use crate::pieces::{operands, uncommented};
 use crate::words::{cut, is_name, words};
+use pm_code::Item;
 use pm_opcode::form_at;
 use std::alloc::{AllocError, Global};
 
 /// The items that `.BYTE` says.
-fn bytes_said<'a>(alloc: Global, texts: &[&'a [u8]]) -> Said<Vec<Item<'a>>>
+fn bytes_said<'a>(alloc: Global, texts: &[&'a [u8]]) -> Said<Vec<Item<&'a [u8]>>>
     ensures items { IfOk result (λ list. said_seen items_seen list ≡ checked (bytes_said (texts_seen texts.now))) }
 {
     if texts.is_empty() {
@@ -32,7 +33,7 @@ fn bytes_said<'a>(alloc: Global, texts: &[&'a [u8]]) -> Said<Vec<Item<'a>>>
 }
 
 /// The items that a keyword and the text behind it say.
-fn items_said<'a>(alloc: Global, keyword: Keyword, rest: &'a [u8]) -> Said<Vec<Item<'a>>>
+fn items_said<'a>(alloc: Global, keyword: Keyword, rest: &'a [u8]) -> Said<Vec<Item<&'a [u8]>>>
     ensures items { IfOk result (λ list. said_seen items_seen list ≡ items_said (keyword_seen keyword) rest.now) }
 {
     match keyword {
@@ -54,7 +55,7 @@ fn items_said<'a>(alloc: Global, keyword: Keyword, rest: &'a [u8]) -> Said<Vec<I
 fn code_said<'a>(
     line: usize,
     label: Option<&'a [u8]>,
-    items: Option<(Vec<Item<'a>>, Flaw)>,
+    items: Option<(Vec<Item<&'a [u8]>>, Flaw)>,
 ) -> Option<(Statement<'a>, Flaw)>
     ensures said { said_seen statement_seen result
         ≡ code_said line (option_map text_seen label.entry) (said_seen items_seen items.entry) }

@@ -4,9 +4,9 @@ use Rattle.std.specs.Prelude.{option_map}
 use Rattle.std.proofs.lemmas.Bool.{cases_Bool}
 use Rattle.pm_words.specs.Words.{IsMemory, bytes_at}
 use Rattle.pm_codefile.specs.Dictionary.{segment_in}
-use Rattle.pm_disasm.specs.Laws.{segment_numbered}
-use Rattle.pm_disasm.specs.Program.{Segment, segment_bytes}
-use Rattle.pm_source.proofs.Listed.{listing_is_segment}
+use Rattle.pm_code.specs.Program.{segment_numbered}
+use Rattle.pm_code.specs.Program.{Segment, segment_bytes}
+use Rattle.pm_code.proofs.Listed.{listing_is_segment}
 use Rattle.pm_machine.specs.State.{State}
 use Rattle.pm_machine_laws.specs.Loads.{StandsBelow}
 use Rattle.pm_machine_laws.proofs.LoadLaws.{boots_load_segment, steps_load}

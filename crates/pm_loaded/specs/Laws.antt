@@ -6,9 +6,9 @@ use Rattle.pm_volume.specs.declared.entry.Entry.{Entry}
 use Rattle.pm_volume.specs.Files.{file_bytes, file_named}
 use Rattle.pm_codefile.specs.Dictionary.{file_fault}
 use Rattle.pm_stdproc.specs.Devices.{image_on, unit_of}
-use Rattle.pm_disasm.specs.Laws.{segment_numbered}
-use Rattle.pm_disasm.specs.Program.{Segment}
-use Rattle.pm_source.specs.Image.{listed_bytes, listed_segment, listing}
+use Rattle.pm_code.specs.Program.{segment_numbered}
+use Rattle.pm_code.specs.Program.{Segment}
+use Rattle.pm_code.specs.Image.{listed_bytes, listed_segment, listing}
 use Rattle.pm_source.specs.Meaning.{Spells}
 use Rattle.pm_asm.specs.Assembled.{assembled}
 use Rattle.pm_machine.specs.declared.state.Stop.TheVariants.{Went}

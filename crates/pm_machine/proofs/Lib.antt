@@ -1,6 +1,7 @@
 pub mod EventLaws
 pub mod LoadLaws
 pub mod RunLaws
+pub mod UntilLaws
 pub mod StepLaws
 pub mod Computed
 pub mod QuickLaws

@@ -1,5 +1,5 @@
 -- Laws of steps and runs.
-use Rattle.std.specs.Prelude.{◌≡◌, ◌≢◌, ℕ, ◌+◌, ◌%◌, List, Result, Ok, Err}
+use Rattle.std.specs.Prelude.{◌≡◌, ◌≢◌, ◌↔◌, ◌<◌, ℕ, ◌+◌, ◌%◌, Bool, true, false, List, Result, Ok, Err}
 use Rattle.pm_words.specs.declared.error.ExecError.{ExecError}
 use Rattle.pm_words.specs.Words.{word_at}
 use Rattle.pm_opcode.specs.declared.instr.Instr.{Instr}
@@ -11,6 +11,8 @@ use Rattle.pm_calls.specs.declared.registers.Registers.{Registers}
 use Rattle.pm_stdproc.specs.Procedures.{procedure_numbered}
 use Rattle.pm_stdproc.specs.declared.procedures.OnUnits.TheVariants as units
 use Rattle.pm_stdproc.specs.declared.procedures.Procedure.TheVariants.{OnUnits}
+use Rattle.pm_machine.specs.declared.state.RunEnd.{RunEnd}
+use Rattle.pm_machine.specs.declared.state.RunEnd.TheVariants as ends
 use Rattle.pm_machine.specs.declared.state.Status.TheVariants as status
 use Rattle.pm_machine.specs.declared.state.Stop.{Stop}
 use Rattle.pm_machine.specs.declared.state.Stop.TheVariants as stop
@@ -18,7 +20,7 @@ use Rattle.pm_machine.specs.State.{State}
 use Rattle.pm_rows.specs.Arithmetic.{arithmetic_row}
 use Rattle.pm_rows.specs.Pointers.{increment_row, indirect_row, index_row}
 use Rattle.pm_machine.specs.Rows.{fetched}
-use Rattle.pm_machine.specs.Runs.{Ran}
+use Rattle.pm_machine.specs.Runs.{Passes, Ran, RunOutcome, StoppedAfter, after_steps, never, run_until}
 use Rattle.pm_machine.specs.Steps.{stepped}
 use Rattle.pm_rows.specs.Variables.{variable_address_row, load_row}
 
@@ -45,6 +47,34 @@ pub record SameOutcome (c d : ℕ) (a b : Stop) (t u : State) : Type 0 where
 abbrev pub RunsAreOne : Type 0
 RunsAreOne =
     (limit c d : ℕ) (s t u : State) (a b : Stop) → Ran limit s c a t → Ran limit s d b u → SameOutcome c d a b t u
+
+-- ---- runs that a test may stop
+
+-- how a run ends of which n steps were made: with all steps that it may make; before a step at which the test holds; or
+-- with a step before which it does not hold, and which does not answer that it went
+abbrev pub EndsSo : (ℕ → State → Bool) → ℕ → ℕ → State → RunEnd → ℕ → State → Type 0
+EndsSo test limit n s ends.Limit count t = (n ≡ limit) × (count ≡ n) × (t ≡ after_steps n s)
+EndsSo test limit n s ends.Stopped count t = (n < limit) × (test n t ≡ true) × (count ≡ n) × (t ≡ after_steps n s)
+EndsSo test limit n s (ends.Answered answer) count t =
+    (answer ≢ stop.Went) × (test n (after_steps n s) ≡ false) × StoppedAfter n limit s count answer t
+
+-- a run makes some steps, each of which went, with the test before none of them, and ends so
+abbrev pub RunsEndSo : Type 0
+RunsEndSo =
+    (test : ℕ → State → Bool) (limit : ℕ) (s : State)
+    → (n : ℕ) × Passes test n s × EndsSo test limit n s (run_until test limit s).end (run_until test limit s).count
+    (run_until test limit s).state
+
+-- what a run that nothing stops before a step comes to, by its last answer
+abbrev pub as_outcome : ℕ → Stop → State → RunOutcome
+as_outcome count stop.Went t = record { count = count; end = ends.Limit; state = t }
+as_outcome count answer t = record { count = count; end = ends.Answered answer; state = t }
+
+-- the run of the machine is the one that nothing stops before a step
+abbrev pub RunsAreUnstopped : Type 0
+RunsAreUnstopped =
+    (limit count : ℕ) (s t : State) (answer : Stop) →
+    Ran limit s count answer t ↔ (run_until never limit s ≡ as_outcome count answer t)
 
 -- ---- steps
 

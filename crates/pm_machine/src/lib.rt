@@ -8,12 +8,15 @@ mod machine;
 mod procedures;
 mod quick;
 mod quick_calls;
+mod runs;
 mod state;
 pub mod step_laws;
+mod stop_test;
 mod views;
 pub mod worked;
 
 pub use machine::Machine;
 pub use pm_calls::Registers;
 pub use pm_stdproc::SlotRow;
-pub use state::{BootFault, Status, Stop};
+pub use state::{BootFault, RunEnd, Status, Stop};
+pub use stop_test::{Never, StopTest};

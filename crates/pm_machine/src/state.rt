@@ -31,6 +31,17 @@ pub enum Stop {
     Halted(ExecError),
 }
 
+/// Why a run made no step more.
+#[derive(Clone, Copy, Debug, PartialEq, Eq)]
+pub enum RunEnd {
+    /// It made as many steps as it may.
+    Limit,
+    /// Its test stopped it before a step.
+    Stopped,
+    /// A step did not answer `Went`.
+    Answered(Stop),
+}
+
 /// Why no machine starts.
 #[derive(Clone, Copy, Debug, Drop, Error, PartialEq, Eq)]
 pub enum BootFault {

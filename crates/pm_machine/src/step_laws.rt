@@ -1,6 +1,7 @@
 //! Laws of runs, of steps and of rows. The functions do nothing.
 
-ghost use Rattle.pm_machine.specs.RunLaws.{RestStays, RowsKeepBelow, RunsAreOne, RunsGoOn, RunsStay, StepsKeepDisks};
+ghost use Rattle.pm_machine.specs.RunLaws.{RestStays, RowsKeepBelow, RunsAreOne, RunsAreUnstopped, RunsEndSo};
+ghost use Rattle.pm_machine.specs.RunLaws.{RunsGoOn, RunsStay, StepsKeepDisks};
 
 /// A run that its limit stopped, and one that goes on from there, are one run of both limits.
 #[tactic(auto, using(crate::proofs::RunLaws::runs_go_on))]
@@ -18,6 +19,19 @@ pub fn runs_stay()
 #[tactic(auto, using(crate::proofs::RunLaws::runs_are_one))]
 pub fn runs_are_one()
     ensures law { RunsAreOne }
+{}
+
+/// A run that a test may stop makes steps that went, with the test before none of them, and ends at
+/// its limit, before a step at which the test holds, or with the answer of a step.
+#[tactic(auto, using(crate::proofs::UntilLaws::runs_end_so))]
+pub fn runs_end_so()
+    ensures law { RunsEndSo }
+{}
+
+/// The run of the machine is the one that nothing stops before a step.
+#[tactic(auto, using(crate::proofs::UntilLaws::runs_are_unstopped))]
+pub fn runs_are_unstopped()
+    ensures law { RunsAreUnstopped }
 {}
 
 /// A step leaves a machine that has ended or halted as it is.

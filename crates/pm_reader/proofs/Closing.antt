@@ -5,11 +5,11 @@ use Rattle.std.specs.Option.{option_map}
 use Rattle.std.proofs.lemmas.List.{map-append}
 use Rattle.pm_source.specs.Source.{Source, SourceSegment}
 use Rattle.pm_source.specs.Faults.{Reading, with_procedure, closed}
-use Rattle.pm_reader.specs.declared.source.Procedure.{Procedure}
-use Rattle.pm_reader.specs.declared.source.Segment.{Segment}
+use Rattle.pm_reader.specs.declared.source.LabelledProcedure.{LabelledProcedure}
+use Rattle.pm_reader.specs.declared.source.LabelledSegment.{LabelledSegment}
 use Rattle.pm_reader.specs.declared.current.Current.{Current}
 use Rattle.pm_reader.specs.Reader.{current_seen}
-use Rattle.pm_reader.specs.Views.{procedure_seen, segment_seen, segments_seen}
+use Rattle.pm_reader.specs.Views.{labelled_procedure, labelled_segment, labelled_segments}
 
 with_last : (p : Source) (ss : List SourceSegment) (s : SourceSegment)
     → with_procedure p (ss ++ s ∷ []) ≡ ss ++ record s { procedures = s.procedures ++ p ∷ [] } ∷ []
@@ -24,22 +24,25 @@ abbrev pub with_procedures : SourceSegment → List Source → SourceSegment
 with_procedures s ps = record s { procedures = ps }
 
 -- a segment with one procedure more, as it is seen
-pub one_more : (last : Segment) (ps : List Procedure) (p : Procedure) → ps ≡ last.procedures.items ++ p ∷ [] →
-    with_procedures (segment_seen last) (map procedure_seen ps) ≡ with_procedures (segment_seen last)
-    (map procedure_seen last.procedures.items ++ procedure_seen p ∷ [])
+pub one_more : (last : LabelledSegment) (ps : List LabelledProcedure) (p : LabelledProcedure) → ps ≡ last.procedures.items ++ p ∷ []
+    → with_procedures (labelled_segment last) (map labelled_procedure ps) ≡ with_procedures (labelled_segment last)
+    (map labelled_procedure last.procedures.items ++ labelled_procedure p ∷ [])
 one_more last ps p e =
-    ap (λ qs. with_procedures (segment_seen last) qs) (ap (λ qs. map procedure_seen qs) e ∙ map-append procedure_seen last.procedures.items (p ∷ []))
+    ap (λ qs. with_procedures (labelled_segment last) qs)
+    (ap (λ qs. map labelled_procedure qs) e ∙ map-append labelled_procedure last.procedures.items (p ∷ []))
 
 -- the last segment with the procedure that ended
-pub ended_last : (olds news kept : List Segment) (last changed : Segment) (opened now : Option Current) (o : Current)
+pub ended_last : (olds news kept : List LabelledSegment) (last changed : LabelledSegment) (opened now : Option Current) (o : Current)
     → opened ≡ Some o → now ≡ None → olds ≡ kept ++ last ∷ [] → news ≡ kept ++ changed ∷ []
-    → segment_seen changed ≡ with_procedures (segment_seen last) (map procedure_seen last.procedures.items ++ current_seen o ∷ [])
-    → reading (segments_seen news) (option_map current_seen now) ≡ closed (segments_seen olds) (option_map current_seen opened)
+    → labelled_segment changed ≡ with_procedures (labelled_segment last) (map labelled_procedure last.procedures.items ++ current_seen o ∷ [])
+    → reading (labelled_segments news) (option_map current_seen now) ≡ closed (labelled_segments olds) (option_map current_seen opened)
 ended_last olds news kept last changed opened now o was none before behind more =
     let q = current_seen o in
-    let old : segments_seen olds ≡ segments_seen kept ++ segment_seen last ∷ [] = ap segments_seen before ∙ map-append segment_seen kept (last ∷ []) in
-    let new : segments_seen news ≡ segments_seen kept ++ segment_seen changed ∷ [] = ap segments_seen behind ∙ map-append segment_seen kept (changed ∷ []) in
-    let ended : segments_seen news ≡ with_procedure q (segments_seen olds) =
-    new ∙ (ap (λ s. segments_seen kept ++ s ∷ []) more ∙ sym (ap (with_procedure q) old ∙ with_last q (segments_seen kept) (segment_seen last))) in
-    ap (λ x. reading (segments_seen news) (option_map current_seen x)) none
-    ∙ (ap (λ ss. reading ss None) ended ∙ sym (ap (λ x. closed (segments_seen olds) (option_map current_seen x)) was))
+    let old : labelled_segments olds ≡ labelled_segments kept ++ labelled_segment last ∷ [] =
+    ap labelled_segments before ∙ map-append labelled_segment kept (last ∷ []) in
+    let new : labelled_segments news ≡ labelled_segments kept ++ labelled_segment changed ∷ [] =
+    ap labelled_segments behind ∙ map-append labelled_segment kept (changed ∷ []) in
+    let ended : labelled_segments news ≡ with_procedure q (labelled_segments olds) =
+    new ∙ (ap (λ s. labelled_segments kept ++ s ∷ []) more ∙ sym (ap (with_procedure q) old ∙ with_last q (labelled_segments kept) (labelled_segment last))) in
+    ap (λ x. reading (labelled_segments news) (option_map current_seen x)) none
+    ∙ (ap (λ ss. reading ss None) ended ∙ sym (ap (λ x. closed (labelled_segments olds) (option_map current_seen x)) was))

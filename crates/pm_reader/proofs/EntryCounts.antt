@@ -1,7 +1,7 @@
 -- How many entries code takes, row by row.
 use Rattle.std.proofs.Common.{◌≡◌, ℕ, List, [], ◌∷◌, ◌++◌, ◌∙◌, max, ap, sym, arith}
-use Rattle.pm_disasm.specs.Item.{Item}
-use Rattle.pm_disasm.specs.Program.{entries_needed}
+use Rattle.pm_code.specs.Item.{Item}
+use Rattle.pm_code.specs.Program.{entries_needed}
 use Rattle.pm_source.specs.Source.{Name, Row, row_items, items_of, entries_used}
 
 needed-append : (xs ys : List (Item Name)) → entries_needed (xs ++ ys) ≡ max (entries_needed xs) (entries_needed ys)

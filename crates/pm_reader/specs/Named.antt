@@ -5,8 +5,8 @@ use Rattle.std.specs.BTreeMap.{BTreeMap, get_by}
 use Rattle.std.specs.Cmp.Lexicographic.{slice_cmp}
 use Rattle.std.specs.Ordering.{nat_cmp}
 use Rattle.std.specs.Str.{bytes_eq}
-use Rattle.pm_reader.specs.declared.source.Procedure.{Procedure}
-use Rattle.pm_reader.specs.Views.{procedure_seen}
+use Rattle.pm_reader.specs.declared.source.LabelledProcedure.{LabelledProcedure}
+use Rattle.pm_reader.specs.Views.{labelled_procedure}
 use Rattle.pm_source.specs.Source.{Name, has_label_in}
 
 -- whether a label is this name, byte for byte
@@ -15,6 +15,6 @@ is_name name None = false
 is_name name (Some label) = bytes_eq label.now name
 
 -- A table has the labels of a procedure's code, and no other.
-abbrev pub HasLabelsOf : Procedure → BTreeMap (Bor (List ℕ)) ℕ → Type 0
+abbrev pub HasLabelsOf : LabelledProcedure → BTreeMap (Bor (List ℕ)) ℕ → Type 0
 HasLabelsOf p labels = (name : List ℕ)
-    → is_some (get_by (λ key. slice_cmp nat_cmp name key.now) labels) ≡ has_label_in name (procedure_seen p)
+    → is_some (get_by (λ key. slice_cmp nat_cmp name key.now) labels) ≡ has_label_in name (labelled_procedure p)

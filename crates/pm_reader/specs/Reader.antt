@@ -4,18 +4,18 @@ use Rattle.std.specs.Option.{option_map}
 use Rattle.pm_reader.specs.declared.current.Current.{Current}
 use Rattle.pm_reader.specs.declared.reader.Reader.{Reader}
 use Rattle.pm_reader.specs.Firsts.{IsFirstOf}
-use Rattle.pm_reader.specs.Views.{procedure_seen, segments_seen}
+use Rattle.pm_reader.specs.Views.{labelled_procedure, labelled_segments}
 use Rattle.pm_source.specs.declared.fault.AsmFault.{AsmFault}
 use Rattle.pm_source.specs.Faults.{Reading}
 use Rattle.pm_source.specs.Source.{Source, code_end}
 
 -- what the lines so far have said of a procedure
 abbrev pub current_seen : Current → Source
-current_seen current = procedure_seen current.procedure
+current_seen current = labelled_procedure current.procedure
 
 -- what the lines so far have said
 abbrev pub reader_seen : Reader → Reading
-reader_seen r = record { segments = segments_seen r.segments.items; current = option_map current_seen r.current }
+reader_seen r = record { segments = labelled_segments r.segments.items; current = option_map current_seen r.current }
 
 -- where the code of a procedure that goes on ends
 abbrev pub open_end : Option Source → ℕ

@@ -1,16 +1,16 @@
 -- What the values of the code stand for.
 use Rattle.std.specs.Prelude.{ℕ, List, map}
 use Rattle.pm_reader.specs.declared.source.Entry.{Entry}
-use Rattle.pm_reader.specs.declared.source.Procedure.{Procedure}
-use Rattle.pm_reader.specs.declared.source.Segment.{Segment}
+use Rattle.pm_reader.specs.declared.source.LabelledProcedure.{LabelledProcedure}
+use Rattle.pm_reader.specs.declared.source.LabelledSegment.{LabelledSegment}
 use Rattle.pm_line.specs.Views.{row_seen}
 use Rattle.pm_source.specs.Source.{Name, Source, SourceSegment}
 
 abbrev pub entry_seen : Entry → ℕ × Name
 entry_seen entry = (entry.line, entry.label.now)
 
-abbrev pub procedure_seen : Procedure → Source
-procedure_seen p = record {
+abbrev pub labelled_procedure : LabelledProcedure → Source
+labelled_procedure p = record {
   level = p.level;
   parameters = p.parameters;
   locals = p.locals;
@@ -18,9 +18,10 @@ procedure_seen p = record {
   entries = map entry_seen p.entries.items;
 }
 
-abbrev pub segment_seen : Segment → SourceSegment
-segment_seen s = record { number = s.number; name = s.name.now; procedures = map procedure_seen s.procedures.items }
+abbrev pub labelled_segment : LabelledSegment → SourceSegment
+labelled_segment s =
+    record { number = s.number; name = s.name.now; procedures = map labelled_procedure s.procedures.items }
 
 -- What segments of the code stand for.
-abbrev pub segments_seen : List Segment → List SourceSegment
-segments_seen segments = map segment_seen segments
+abbrev pub labelled_segments : List LabelledSegment → List SourceSegment
+labelled_segments segments = map labelled_segment segments

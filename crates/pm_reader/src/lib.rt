@@ -1,7 +1,6 @@
 //! The reader of the assembler: the segments that a text says, read line by line, or its first fault of reading.
 //!
-//! `source_of` reads a text. What it answers borrows from the text, and labels are not looked up yet. `item_size`,
-//! `row_end` and
+//! `source_of` reads a text. What it answers borrows from the text, and labels are not looked up yet. `row_end` and
 //! `source_end` tell how many bytes its parts will have.
 #![tactic(auto)]
 
@@ -16,5 +15,5 @@ mod source;
 
 pub use labels::label_of;
 pub use reading::source_of;
-pub use sizes::{item_size, row_end, source_end};
-pub use source::{Entry, Procedure, Segment};
+pub use sizes::{row_end, source_end};
+pub use source::{Entry, LabelledProcedure, LabelledSegment};

@@ -5,14 +5,14 @@ ghost use Rattle.std.specs.List.{list_any};
 ghost use Rattle.pm_line.specs.Views.{row_seen};
 ghost use Rattle.pm_source.specs.Source.{code_end, has_exit, has_label_in, is_exit};
 ghost use Rattle.pm_source.specs.Faults.{after_code, is_uneven, new_procedure};
-ghost use Rattle.pm_reader.specs.Views.{procedure_seen};
+ghost use Rattle.pm_reader.specs.Views.{labelled_procedure};
 ghost use Rattle.pm_reader.specs.Reader.{IsCountless, current_seen};
 
 use crate::current::Current;
 use crate::entries::rows_entries;
 use crate::labels::label_of;
 use crate::sizes::code_end;
-use crate::source::Procedure;
+use crate::source::LabelledProcedure;
 use pm_line::Row;
 use std::alloc::{AllocError, Global};
 use std::collections::BTreeMap;
@@ -31,11 +31,11 @@ fn any_exit(rows: &[Row<'_>]) -> bool
     rows.iter().any(|row| row_is_exit(row))
 }
 
-impl Procedure<'_> {
+impl LabelledProcedure<'_> {
     /// Whether the exit code stands in it.
     #[tactic(auto, using(crate::proofs::Seen::any_of_views))]
     pub(crate) fn has_exit(&self) -> bool
-        ensures exit { result ≡ has_exit (procedure_seen self.now) }
+        ensures exit { result ≡ has_exit (labelled_procedure self.now) }
     {
         any_exit(&self.code)
     }
@@ -43,8 +43,8 @@ impl Procedure<'_> {
     /// Whether the code has an odd length, or takes other entries than there are; none where memory cannot hold the
     /// code.
     pub(crate) fn is_uneven(&self) -> Option<bool>
-        ensures uneven { IfSome result (λ uneven. uneven ≡ is_uneven (procedure_seen self.now)) }
-        ensures too_long { result ≡ None → IsCountless (code_end 0 (procedure_seen self.now).code) }
+        ensures uneven { IfSome result (λ uneven. uneven ≡ is_uneven (labelled_procedure self.now)) }
+        ensures too_long { result ≡ None → IsCountless (code_end 0 (labelled_procedure self.now).code) }
     {
         let end = code_end(0, &self.code)?;
         Some(end % 2 != 0 || self.entries.len() != rows_entries(&self.code))
@@ -57,7 +57,7 @@ impl<'a> Current<'a> {
         ensures new { current_seen result ≡ new_procedure level parameters locals }
     {
         Current {
-            procedure: Procedure {
+            procedure: LabelledProcedure {
                 level,
                 parameters,
                 locals,

@@ -8,13 +8,13 @@ ghost use Rattle.pm_source.specs.Line.Line.{Says};
 ghost use Rattle.pm_source.specs.Faults as faults;
 ghost use Rattle.pm_source.specs.Faults.{after, after_line, closed, ends, is_again, is_in_place};
 ghost use Rattle.pm_source.specs.Faults.{is_miscounted, line_faults, procedure_count, start};
-ghost use Rattle.pm_reader.specs.Views.{segments_seen};
+ghost use Rattle.pm_reader.specs.Views.{labelled_segments};
 ghost use Rattle.pm_reader.specs.Firsts.{IsFirstOf};
 ghost use Rattle.pm_source.specs.declared.fault.AsmFault.TheVariants.{NoMemory};
 ghost use Rattle.pm_reader.specs.Reader.{reader_seen, Answers, IsCountless, open_end};
 
 use crate::current::Current;
-use crate::source::{Entry, Segment};
+use crate::source::{Entry, LabelledSegment};
 use pm_line::{Flaw, Line, Row, Statement};
 use pm_source::AsmFault;
 use std::alloc::{AllocError, Global};
@@ -22,20 +22,20 @@ use std::alloc::{AllocError, Global};
 /// What the lines so far have said: the segments with their ended procedures, and the procedure that has not ended.
 #[derive(Debug, Drop)]
 pub(crate) struct Reader<'a> {
-    segments: Vec<Segment<'a>>,
+    segments: Vec<LabelledSegment<'a>>,
     current: Option<Current<'a>>,
 }
 
 /// Whether a segment has a number.
-fn any_number(segments: &[Segment<'_>], number: u8) -> bool
+fn any_number(segments: &[LabelledSegment<'_>], number: u8) -> bool
     ensures number { result ≡ list_any (λ s. s.number == number) segments.now }
 {
     segments.iter().any(|segment| segment.number == number)
 }
 
 /// How many procedures the last segment has.
-fn last_count(segments: &[Segment<'_>]) -> usize
-    ensures count { result ≡ procedure_count (segments_seen segments.now) }
+fn last_count(segments: &[LabelledSegment<'_>]) -> usize
+    ensures count { result ≡ procedure_count (labelled_segments segments.now) }
 {
     match segments.last() {
         Some(segment) => segment.procedures.len(),
@@ -177,8 +177,8 @@ impl<'a> Reader<'a> {
     }
 
     /// The segments, without a procedure that has not ended.
-    pub(crate) fn into_segments(self) -> Vec<Segment<'a>>
-        ensures segments { segments_seen result.items ≡ (reader_seen self.entry).segments }
+    pub(crate) fn into_segments(self) -> Vec<LabelledSegment<'a>>
+        ensures segments { labelled_segments result.items ≡ (reader_seen self.entry).segments }
     {
         self.segments
     }
@@ -204,7 +204,7 @@ impl<'a> Reader<'a> {
     {
         match statement {
             Statement::Segment { number, name } => {
-                self.segments.push(Segment {
+                self.segments.push(LabelledSegment {
                     number,
                     name,
                     procedures: Vec::new(alloc),

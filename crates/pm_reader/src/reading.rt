@@ -5,10 +5,10 @@ ghost use Rattle.std.specs.List.{list_any};
 ghost use Rattle.pm_line.specs.Views.{line_seen};
 ghost use Rattle.pm_source.specs.Faults.{after_lines, ends, faults_from, faults_of_lines, lines_of, source_of, start};
 ghost use Rattle.pm_reader.specs.Firsts.{IsFirstOf};
-ghost use Rattle.pm_reader.specs.Views.{segments_seen};
+ghost use Rattle.pm_reader.specs.Views.{labelled_segments};
 
 use crate::reader::{Reader, is_end};
-use crate::source::Segment;
+use crate::source::LabelledSegment;
 use pm_line::{Line, line};
 use pm_source::AsmFault;
 use std::alloc::{AllocError, Global};
@@ -38,9 +38,9 @@ fn until_last_end(lines: &[Line<'_>]) -> usize
 }
 
 /// Reads lines, numbered from 1, in order; the first fault ends it.
-fn read<'a>(alloc: Global, lines: Vec<Line<'a>>) -> Result<Vec<Segment<'a>>, AsmFault>
+fn read<'a>(alloc: Global, lines: Vec<Line<'a>>) -> Result<Vec<LabelledSegment<'a>>, AsmFault>
     ensures faultless { OnOk result (faults_from 1 start (map line_seen lines.entry.items) ≡ []) }
-    ensures read { IfOk result (λ ss. segments_seen ss.items
+    ensures read { IfOk result (λ ss. labelled_segments ss.items
         ≡ (after_lines start (map line_seen lines.entry.items)).segments) }
     ensures fault { IfErr result (λ fault. IsFirstOf fault (faults_from 1 start (map line_seen lines.entry.items))) }
 {
@@ -74,9 +74,9 @@ fn lines_of<'a>(alloc: Global, text: &'a str) -> Result<Vec<Line<'a>>, AllocErro
 ///
 /// - the first of the lines' faults (`Syntax`, `Unknown`, `Range`, `Twice`), with its line, numbered from 1;
 /// - `NoMemory`: memory could not grow, or cannot hold code as long as the text says.
-pub fn source_of<'a>(alloc: Global, text: &'a str) -> Result<Vec<Segment<'a>>, AsmFault>
+pub fn source_of<'a>(alloc: Global, text: &'a str) -> Result<Vec<LabelledSegment<'a>>, AsmFault>
     ensures faultless { OnOk result (faults_of_lines text.now ≡ []) }
-    ensures read { IfOk result (λ ss. segments_seen ss.items ≡ source_of text.now) }
+    ensures read { IfOk result (λ ss. labelled_segments ss.items ≡ source_of text.now) }
     ensures fault { IfErr result (λ fault. IsFirstOf fault (faults_of_lines text.now)) }
 {
     let lines = lines_of(alloc, text).map_err(|_| AsmFault::NoMemory)?;

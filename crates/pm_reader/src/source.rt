@@ -13,7 +13,7 @@ pub struct Entry<'a> {
 
 /// A procedure with its labels.
 #[derive(Debug, Drop)]
-pub struct Procedure<'a> {
+pub struct LabelledProcedure<'a> {
     /// Its level, a byte in two's complement.
     pub level: u8,
     /// The size of its parameters, in bytes.
@@ -28,11 +28,11 @@ pub struct Procedure<'a> {
 
 /// A segment with its procedures, which are numbered from 1.
 #[derive(Debug, Drop)]
-pub struct Segment<'a> {
+pub struct LabelledSegment<'a> {
     /// Its number.
     pub number: u8,
     /// Its name, 1 to 8 bytes.
     pub name: &'a [u8],
     /// Its procedures.
-    pub procedures: Vec<Procedure<'a>>,
+    pub procedures: Vec<LabelledProcedure<'a>>,
 }

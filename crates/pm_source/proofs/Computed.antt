@@ -1,14 +1,10 @@
--- The lines, the faults and the listing are computed.
+-- The lines and the faults are computed.
 use Rattle.std.proofs.Common.{refl}
-use Rattle.std.specs.Fmt.{digits}
 use Rattle.pm_opcode.specs.Table.{form_of, groups, implied, mnemonic_of}
-use Rattle.pm_disasm.specs.Shown.{padded, shown_item}
-use Rattle.pm_disasm.specs.Text.{item_text}
 use Rattle.pm_source.specs.Faults.{faults}
-use Rattle.pm_source.specs.Image.{listing}
 use Rattle.pm_source.specs.Line.{directives, keyword_of, line_of}
 use Rattle.pm_source.specs.Words.{cut}
-use Rattle.pm_source.specs.Worked.{WorkedFaults, WorkedLines, WorkedListing}
+use Rattle.pm_source.specs.Worked.{WorkedFaults, WorkedLines}
 
 pub worked_lines : WorkedLines
 unfolding line_of cut keyword_of directives mnemonic_of form_of groups implied
@@ -62,7 +58,3 @@ worked_faults = record {
   later = refl;
   both = refl;
 }
-
-pub worked_listing : WorkedListing
-unfolding listing digits padded shown_item item_text mnemonic_of form_of groups implied
-worked_listing = record { lines = refl }

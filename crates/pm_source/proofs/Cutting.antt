@@ -4,7 +4,7 @@ use Rattle.std.specs.Prelude.{◌&&◌, ◌==◌}
 use Rattle.std.specs.List.{list_all}
 use Rattle.std.proofs.lemmas.List.Folds.{list_all-append}
 use Rattle.std.proofs.lemmas.Bool.Decides.{nat_tests}
-use Rattle.pm_disasm.specs.Program.{is_name_character}
+use Rattle.pm_code.specs.Program.{is_name_character}
 use Rattle.pm_source.specs.Words.{is_blank, is_empty, unindented, cut_word, onto_word, cut, ends_word}
 use Rattle.pm_source.specs.Line.{is_character, uncommented, label_of, spoken, keyword_of, line_by, line_of}
 

@@ -5,8 +5,8 @@ use Rattle.std.specs.Prelude.{zero, suc, nat_eq, ◌==◌, if◌then◌else◌}
 use Rattle.std.specs.List.{AllByRecursion, IsDistinct, list_any}
 use Rattle.std.specs.Option.{option_to_list}
 use Rattle.std.proofs.lemmas.Bool.{eq-eqb, cases_lt}
-use Rattle.pm_disasm.specs.Item.{Item, size}
-use Rattle.pm_disasm.specs.Program.{end_of, jtab_of}
+use Rattle.pm_code.specs.Item.{Item, size}
+use Rattle.pm_code.specs.Program.{end_of, jtab_of}
 use Rattle.pm_source.specs.Source.{Name, Row, Source, SourceSegment, items_of, row_items, code_end}
 use Rattle.pm_source.specs.Faults.{Places, place_of, source_end}
 use Rattle.pm_source.specs.Meaning.{found_item, found_label, found_procedure, segment_with, segments_from, ascending}

@@ -6,7 +6,7 @@ use Rattle.pm_opcode.specs.declared.operand_form.Form.{Form}
 use Rattle.pm_opcode.specs.declared.operand_form.Form.TheVariants as forms
 use Rattle.pm_opcode.specs.declared.instr.Instr.{Instr}
 use Rattle.pm_opcode.specs.Table.{form_of, groups}
-use Rattle.pm_disasm.specs.Item.{Item}
+use Rattle.pm_code.specs.Item.{Item}
 use Rattle.pm_source.specs.declared.number.Numeral.{Numeral}
 use Rattle.pm_source.specs.Words.{within, stored, number}
 use Rattle.pm_source.specs.Source.{Name}

@@ -9,9 +9,9 @@ use Rattle.pm_opcode.specs.declared.instr.Instr.{Instr}
 use Rattle.pm_opcode.specs.Table.{form_of}
 use Rattle.pm_opcode.specs.Spelling.{jump_count, in_range}
 use Rattle.pm_opcode.specs.Standing.{clear}
-use Rattle.pm_disasm.specs.Item.{Item, Target, IsByte, IsPlain, names_place}
-use Rattle.pm_disasm.specs.Item.Item.{Plain, Jump, Case, OneByte}
-use Rattle.pm_disasm.specs.Item.Target.{To, Through}
+use Rattle.pm_code.specs.Item.{Item, Target, IsByte, IsPlain, names_place}
+use Rattle.pm_code.specs.Item.Item.{Plain, Jump, Case, OneByte}
+use Rattle.pm_code.specs.Item.Target.{To, Through}
 use Rattle.pm_source.specs.Source.{Name}
 use Rattle.pm_codefile.specs.Segments.{◌>>=◌}
 use Rattle.pm_source.specs.Line.{Operand, numeral_operand, byte_operand, word_operand, bound_operand}

@@ -10,8 +10,8 @@ use Rattle.pm_opcode.specs.declared.operand_form.Form.TheVariants as forms
 use Rattle.pm_opcode.specs.Table.{form_of}
 use Rattle.pm_opcode.specs.Spelling.{jump_count, in_range}
 use Rattle.pm_opcode.specs.Standing.{clear}
-use Rattle.pm_disasm.specs.Item.{Item, Target, IsByte}
-use Rattle.pm_disasm.specs.Item.Item.{Plain, Jump, Case}
+use Rattle.pm_code.specs.Item.{Item, Target, IsByte}
+use Rattle.pm_code.specs.Item.Item.{Plain, Jump, Case}
 use Rattle.pm_source.specs.Words.{words}
 use Rattle.pm_source.specs.Source.{Name}
 use Rattle.pm_codefile.specs.Segments.{◌>>=◌}

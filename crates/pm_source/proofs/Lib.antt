@@ -1,4 +1,3 @@
-pub mod Listed
 pub mod Denoting
 pub mod Labels
 pub mod Unlabelled
@@ -30,8 +29,6 @@ pub mod ShownExits
 pub mod ShownLengths
 pub mod ShownProcedures
 pub mod ShownPrograms
-pub mod Held
-pub mod Round
 pub mod Computed
 pub mod SameLines
 pub mod EndBlanks

@@ -10,7 +10,7 @@ use Rattle.std.proofs.lemmas.Bool.Decides.{nat_tests}
 use Rattle.pm_opcode.specs.declared.operand_form.Form.{Form}
 use Rattle.pm_opcode.specs.declared.operand_form.Form.TheVariants as forms
 use Rattle.pm_opcode.specs.Table.{groups, form_of, implied, mnemonic_of}
-use Rattle.pm_disasm.specs.Program.{is_name_character}
+use Rattle.pm_code.specs.Program.{is_name_character}
 use Rattle.pm_source.specs.Words.{is_empty}
 use Rattle.pm_source.specs.Line.{directives, keyword_of, keyword_or, mnemonic_keyword, named_from, label_of, short_range}
 use Rattle.pm_source.specs.Line.Keyword.{Mnemonic}

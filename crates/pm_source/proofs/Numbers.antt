@@ -11,9 +11,9 @@ use Rattle.std.proofs.lemmas.List.Folds.{list_all-append}
 use Rattle.std.proofs.lemmas.Bool.{ltb-false}
 use Rattle.std.proofs.lemmas.Bool.Decides.{nat_tests}
 use Rattle.std.proofs.lemmas.Grind.{common_steps}
-use Rattle.pm_disasm.specs.Program.{is_name_character}
-use Rattle.pm_disasm.specs.Text.{signed_text}
-use Rattle.pm_disasm.specs.Shown.{padded, label_text, level_text}
+use Rattle.pm_code.specs.Program.{is_name_character}
+use Rattle.pm_code.specs.Text.{signed_text}
+use Rattle.pm_code.specs.Shown.{padded, label_text, level_text}
 use Rattle.pm_source.specs.Words.{number, decimal_number, is_empty, is_name, continues_name}
 use Rattle.pm_source.specs.Line.{byte_operand, slot_operand, word_operand, bound_operand, numeral_operand, size_operand, is_even}
 use Rattle.pm_source.proofs.Cutting.{and_parts, and_turned}

@@ -13,9 +13,9 @@ use Rattle.pm_codefile.specs.Segments.{◌>>=◌}
 use Rattle.pm_opcode.specs.declared.operand_form.Form.{Form}
 use Rattle.pm_opcode.specs.declared.operand_form.Form.TheVariants as forms
 use Rattle.pm_opcode.specs.Table.{form_of}
-use Rattle.pm_disasm.specs.Item.Item.{OneByte}
-use Rattle.pm_disasm.specs.Item.Target.{Through}
-use Rattle.pm_disasm.specs.Program.{is_name_character}
+use Rattle.pm_code.specs.Item.Item.{OneByte}
+use Rattle.pm_code.specs.Item.Target.{Through}
+use Rattle.pm_code.specs.Program.{is_name_character}
 use Rattle.pm_source.specs.declared.number.Numeral.{Numeral}
 use Rattle.pm_source.specs.Words.{begins_name, decimal_number, hexadecimal_number, is_empty, number, stored, within, words}
 use Rattle.pm_source.specs.Line.{Keyword, Operand, all_operands, bare_instruction, byte_and_number, byte_operand, bytes_said, case_jump, checked, comparison}

@@ -3,9 +3,9 @@ use Rattle.std.proofs.Common.{◌≡◌, ℕ, Bool, true, false, List, [], ◌�
 use Rattle.std.specs.List.{list_all, onto_first, AllByRecursion}
 use Rattle.std.proofs.lemmas.List.{reverse-reverse, reverse-append}
 use Rattle.std.proofs.lemmas.List.Folds.{list_all-append}
-use Rattle.pm_disasm.specs.Program.{is_name_character}
-use Rattle.pm_disasm.specs.Text.{operands_text, more_operands}
-use Rattle.pm_disasm.specs.Shown.{words_text}
+use Rattle.pm_code.specs.Program.{is_name_character}
+use Rattle.pm_code.specs.Text.{operands_text, more_operands}
+use Rattle.pm_code.specs.Shown.{words_text}
 use Rattle.pm_source.specs.Words.{is_blank, unindented, trimmed, is_empty, ends_word, words}
 use Rattle.pm_source.specs.Line.{is_character, uncommented, pieces, operands}
 use Rattle.pm_source.proofs.Cutting.{IsWordly, wordly, and_parts, and_turned, word_characters, word_passes, IsRest}

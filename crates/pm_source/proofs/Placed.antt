@@ -3,11 +3,11 @@ use Rattle.std.proofs.Common.{◌≡◌, ◌<◌, ◌≤◌, ℕ, ◌+◌, ◌%�
 use Rattle.std.specs.Prelude.{max, ◌||◌, ◌==◌, if◌then◌else◌}
 use Rattle.std.specs.List.{AllByRecursion, AllZip}
 use Rattle.std.proofs.lemmas.Bool.{eq-eqb, eqb-true}
-use Rattle.pm_disasm.specs.Item.{Item, Target, size, table_place, IsItem, IsNear}
-use Rattle.pm_disasm.specs.Item.Item.{Plain, Jump, Case, OneByte}
-use Rattle.pm_disasm.specs.Item.Target.{To, Through}
-use Rattle.pm_disasm.specs.Program.{AreItems, IsIn, IsProcedure, NamesWithin, boundaries, end_of}
-use Rattle.pm_disasm.specs.Program.{entries_needed, entries_used, is_among, item_places, target_places}
+use Rattle.pm_code.specs.Item.{Item, Target, size, table_place, IsItem, IsNear}
+use Rattle.pm_code.specs.Item.Item.{Plain, Jump, Case, OneByte}
+use Rattle.pm_code.specs.Item.Target.{To, Through}
+use Rattle.pm_code.specs.Program.{AreItems, IsIn, IsProcedure, NamesWithin, boundaries, end_of}
+use Rattle.pm_code.specs.Program.{entries_needed, entries_used, is_among, item_places, target_places}
 use Rattle.pm_source.specs.Source.{Name, Row, Source, code_end, has_label, is_exit, items_of, row_items, IsSource}
 use Rattle.pm_source.specs.Faults.{Places, place_of, label_faults}
 use Rattle.pm_source.specs.Meaning.{AreNear, IsNearFrom, LeadsTo, Means, MeansProcedure, ReachesFrom}

@@ -9,12 +9,12 @@ use Rattle.std.proofs.lemmas.List.{reverse-reverse, reverse-append}
 use Rattle.std.proofs.lemmas.List.Folds.{list_all-append}
 use Rattle.std.proofs.lemmas.Bool.Decides.{nat_tests}
 use Rattle.std.proofs.lemmas.Grind.{common_steps}
-use Rattle.pm_disasm.specs.Item.{Target, IsByte}
-use Rattle.pm_disasm.specs.Item.Target.{To, Through}
-use Rattle.pm_disasm.specs.Program.{is_name_character}
-use Rattle.pm_disasm.specs.Text as text
-use Rattle.pm_disasm.specs.Text.{number_text, hex_digit, escaped, quoted}
-use Rattle.pm_disasm.specs.Shown.{label_text, target_text}
+use Rattle.pm_code.specs.Item.{Target, IsByte}
+use Rattle.pm_code.specs.Item.Target.{To, Through}
+use Rattle.pm_code.specs.Program.{is_name_character}
+use Rattle.pm_code.specs.Text as text
+use Rattle.pm_code.specs.Text.{number_text, hex_digit, escaped, quoted}
+use Rattle.pm_code.specs.Shown.{label_text, target_text}
 use Rattle.pm_source.specs.Words.{is_empty, unindented}
 use Rattle.pm_source.specs.Source.{Name}
 use Rattle.pm_source.specs.Line.{is_character, uncommented, pieces, number_operand, jump_operand, label_operand, all_operands}

@@ -7,11 +7,11 @@ use Rattle.std.specs.Str.Lines.{lines}
 use Rattle.std.specs.Map.{lookup}
 use Rattle.std.specs.Str.{bytes_eq}
 use Rattle.pm_opcode.specs.Table.{form_of, mnemonic_of}
-use Rattle.pm_disasm.specs.Item.{Item, IsByte}
-use Rattle.pm_disasm.specs.Item.Item.{OneByte}
+use Rattle.pm_code.specs.Item.{Item, IsByte}
+use Rattle.pm_code.specs.Item.Item.{OneByte}
 use Rattle.pm_source.proofs.Goods.{IsGood, all_ranged, byte_ranged}
 use Rattle.pm_source.proofs.Instructions.{checked_is, found_in, instruction_good}
-use Rattle.pm_disasm.specs.Program.{is_segment_name}
+use Rattle.pm_code.specs.Program.{is_segment_name}
 use Rattle.pm_source.specs.Words.{Cut, is_empty, is_name, cut, words}
 use Rattle.pm_source.specs.Source.{Name, Statement}
 use Rattle.pm_source.specs.Source.Row.{Items, Exit}

@@ -5,9 +5,9 @@ use Rattle.std.specs.List.{AllByRecursion, IsDistinct}
 use Rattle.std.specs.Str.{bytes_eq}
 use Rattle.std.proofs.lemmas.Bool.{eqb-true}
 use Rattle.std.proofs.lemmas.Bool.Decides.{nat_tests}
-use Rattle.pm_disasm.specs.Item.{Item, size}
-use Rattle.pm_disasm.specs.Program.{is_among, IsIn, boundaries, end_of}
-use Rattle.pm_disasm.specs.Shown.{label_text, put_if}
+use Rattle.pm_code.specs.Item.{Item, size}
+use Rattle.pm_code.specs.Program.{is_among, IsIn, boundaries, end_of}
+use Rattle.pm_code.specs.Shown.{label_text, put_if}
 use Rattle.pm_source.specs.Source.{Name, Row, labels_of, exits_of}
 use Rattle.pm_source.specs.Source.Row.{Items, Exit}
 use Rattle.pm_source.specs.Meaning.{exit_place}

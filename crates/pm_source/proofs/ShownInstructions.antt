@@ -12,9 +12,9 @@ use Rattle.pm_opcode.specs.declared.operand_form.Form.TheVariants as forms
 use Rattle.pm_opcode.specs.declared.instr.Instr.{Instr}
 use Rattle.pm_opcode.specs.Spelling.{in_range, is_sized, is_unsized}
 use Rattle.pm_opcode.specs.Standing.{clear}
-use Rattle.pm_disasm.specs.Item.{Item, IsByte, names_place}
-use Rattle.pm_disasm.specs.Item.Item.{Plain}
-use Rattle.pm_disasm.specs.Text.{operand_texts, number_text, type_text}
+use Rattle.pm_code.specs.Item.{Item, IsByte, names_place}
+use Rattle.pm_code.specs.Item.Item.{Plain}
+use Rattle.pm_code.specs.Text.{operand_texts, number_text, type_text}
 use Rattle.pm_source.specs.Source.{Name}
 use Rattle.pm_source.specs.Words.{words}
 use Rattle.pm_source.specs.Line.{Said, bare, flat_words, instruction_said, one_comparison, comparison}

@@ -7,12 +7,13 @@ use Rattle.std.specs.Fmt.{decimal}
 use Rattle.std.proofs.lemmas.Bool.{eqb-true}
 use Rattle.std.proofs.lemmas.Bool.Decides.{nat_tests}
 use Rattle.pm_opcode.specs.Spelling.{spelling, pad_byte, flip, is_odd}
-use Rattle.pm_disasm.specs.Item.{Item, IsItem, size}
-use Rattle.pm_disasm.specs.Item.Item.{Plain, Jump, Case, OneByte}
-use Rattle.pm_disasm.specs.Item.Target.{To, Through}
-use Rattle.pm_disasm.specs.Program.{Procedure, IsProcedure, is_among, IsIn, boundaries, end_of, code_end, AreItems}
-use Rattle.pm_disasm.specs.Program.{NamesWithin, item_places, places_of, entries_needed, entries_used}
-use Rattle.pm_disasm.specs.Shown.{label_text, level_text, words_text, named_places, code_lines, entry_line, procedure_lines}
+use Rattle.pm_code.specs.Item.{Item, IsItem, size}
+use Rattle.pm_code.specs.Item.Item.{Plain, Jump, Case, OneByte}
+use Rattle.pm_code.specs.Item.Target.{To, Through}
+use Rattle.pm_code.specs.Program.{Procedure, IsProcedure, is_among, IsIn, boundaries, end_of, code_end, AreItems}
+use Rattle.pm_code.specs.Program.{NamesWithin, item_places, places_of, entries_needed, entries_used}
+use Rattle.pm_code.specs.Shown.{label_text, level_text, words_text, named_places, code_lines, entry_line}
+use Rattle.pm_code.specs.Shown.{procedure_lines}
 use Rattle.pm_source.specs.Source as source
 use Rattle.pm_source.specs.Source.{Name, Row, Source, Statement, IsSource, entry_statement, head_statements, items_of}
 use Rattle.pm_source.specs.Source.Statement.{Begin, Code, Entry, End}

@@ -8,10 +8,10 @@ use Rattle.std.proofs.lemmas.Slice.Eq.{bytes_eq-Decides}
 use Rattle.std.proofs.lemmas.Bool.{eqb-true}
 use Rattle.std.proofs.lemmas.Bool.Decides.{nat_tests}
 use Rattle.pm_opcode.specs.Spelling.{pad_byte, flip, is_odd}
-use Rattle.pm_disasm.specs.Item.{Item, size}
-use Rattle.pm_disasm.specs.Item.Item.{Plain, Jump, Case, OneByte}
-use Rattle.pm_disasm.specs.Program.{is_among, IsIn, boundaries, end_of, AreItems}
-use Rattle.pm_disasm.specs.Shown.{label_text, shown_item, put_if, lines_at, code_lines}
+use Rattle.pm_code.specs.Item.{Item, size}
+use Rattle.pm_code.specs.Item.Item.{Plain, Jump, Case, OneByte}
+use Rattle.pm_code.specs.Program.{is_among, IsIn, boundaries, end_of, AreItems}
+use Rattle.pm_code.specs.Shown.{label_text, shown_item, put_if, lines_at, code_lines}
 use Rattle.pm_source.specs.Source.{Name, Row, Statement, code_end, items_of}
 use Rattle.pm_source.specs.Source.Row.{Items, Exit}
 use Rattle.pm_source.specs.Source.Statement.{Code}

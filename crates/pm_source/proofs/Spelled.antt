@@ -2,7 +2,7 @@
 use Rattle.std.proofs.Common.{◌≡◌, ◌<◌, ℕ, ◌+◌, List, [], ◌∷◌, ◌++◌, map, refl, sym, ap, subst, ◌∙◌}
 use Rattle.std.specs.Prelude.{if◌then◌else◌}
 use Rattle.std.specs.List.{AllByRecursion, AllZip}
-use Rattle.pm_disasm.specs.Program.{Procedure, Segment, FollowFrom, jtab_of}
+use Rattle.pm_code.specs.Program.{Procedure, Segment, FollowFrom, jtab_of}
 use Rattle.pm_source.specs.declared.fault.AsmFault.{AsmFault}
 use Rattle.pm_source.specs.Words.{is_empty}
 use Rattle.pm_source.specs.Source.{Source, SourceSegment, statements, segment_statements}

@@ -3,7 +3,7 @@ use Rattle.std.proofs.Common.{◌≡◌, ◌<◌, ℕ, ◌+◌, ◌-◌, ◌*◌
 use Rattle.std.specs.Prelude.{reverse, nat_eq, nat_le, ◌&&◌, ◌||◌, ◌==◌, not, if◌then◌else◌}
 use Rattle.std.specs.List.{AllByRecursion}
 use Rattle.std.proofs.lemmas.Bool.{leb-true}
-use Rattle.pm_disasm.specs.Item.{IsByte}
+use Rattle.pm_code.specs.Item.{IsByte}
 use Rattle.pm_codefile.specs.Segments.{◌>>=◌}
 use Rattle.pm_source.specs.Line.{is_plain, lower_hex, unescaped, unquoted, text_operand, flat_words}
 use Rattle.pm_source.proofs.Numerals.{bound, both, some_is}

@@ -4,10 +4,10 @@ use Rattle.std.specs.Prelude.{◌||◌, is_none}
 use Rattle.std.specs.List.{AllZip, list_any}
 use Rattle.std.specs.Option.{unwrap_or}
 use Rattle.std.proofs.lemmas.Bool.{le-ltb}
-use Rattle.pm_disasm.specs.Item.{Item, Target, size, table_place}
-use Rattle.pm_disasm.specs.Item.Item.{Plain, Jump, Case, OneByte}
-use Rattle.pm_disasm.specs.Item.Target.{To, Through}
-use Rattle.pm_disasm.specs.Program.{Procedure, end_of}
+use Rattle.pm_code.specs.Item.{Item, Target, size, table_place}
+use Rattle.pm_code.specs.Item.Item.{Plain, Jump, Case, OneByte}
+use Rattle.pm_code.specs.Item.Target.{To, Through}
+use Rattle.pm_code.specs.Program.{Procedure, end_of}
 use Rattle.pm_source.specs.declared.fault.AsmFault.TheVariants.{NoLabel}
 use Rattle.pm_source.specs.Source.{Name, Row, items_of}
 use Rattle.pm_source.specs.Source.Row.{Items, Exit}

@@ -2,9 +2,9 @@
 use Rattle.std.specs.Prelude.{◌≡◌, ℕ, ◌+◌, ◌==◌, List, [], ◌∷◌, ◌++◌, length, map, if◌then◌else◌}
 use Rattle.std.specs.Str.Lines.{lines}
 use Rattle.std.specs.Str.Parse.{digits_value}
-use Rattle.pm_disasm.specs.Laws.{segment_numbered}
-use Rattle.pm_disasm.specs.Program.{Segment, FitSlots, IsProgram}
-use Rattle.pm_source.specs.Image.{Listed, bytes_of_segment, listed_segment, listing}
+use Rattle.pm_code.specs.Program.{segment_numbered}
+use Rattle.pm_code.specs.Program.{Segment, FitSlots, IsProgram}
+use Rattle.pm_code.specs.Image.{Listed, bytes_of_segment, listed_segment, listing}
 use Rattle.pm_source.specs.Words.{Cut, cut}
 
 -- What a line of a listing denotes: a segment, a procedure, an offset in the segment, and the bytes that stand there.

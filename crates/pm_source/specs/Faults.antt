@@ -3,10 +3,10 @@ use Rattle.std.specs.Prelude.{ℕ, ◌+◌, ◌*◌, ◌%◌, Bool, true, false,
 use Rattle.std.specs.Prelude.{◌==◌, ◌||◌, ◌&&◌, if◌then◌else◌, Option, Some, None, is_none, is_some}
 use Rattle.std.specs.List.{list_any}
 use Rattle.std.specs.Str.Lines.{lines}
-use Rattle.pm_disasm.specs.Item.{Item, Target, size, table_place}
-use Rattle.pm_disasm.specs.Item.Item.{Jump, Case}
-use Rattle.pm_disasm.specs.Item.Target.{To, Through}
-use Rattle.pm_disasm.specs.Program.{end_of}
+use Rattle.pm_code.specs.Item.{Item, Target, size, table_place}
+use Rattle.pm_code.specs.Item.Item.{Jump, Case}
+use Rattle.pm_code.specs.Item.Target.{To, Through}
+use Rattle.pm_code.specs.Program.{end_of}
 use Rattle.pm_source.specs.declared.fault.AsmFault.{AsmFault}
 use Rattle.pm_source.specs.declared.fault.AsmFault.TheVariants.{Syntax, Unknown, Range, NoLabel, Twice, Far}
 use Rattle.pm_source.specs.Words.{is_empty}

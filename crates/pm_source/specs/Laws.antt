@@ -2,12 +2,12 @@
 use Rattle.std.specs.Prelude.{◌≡◌, ℕ, List, [], None}
 use Rattle.pm_codefile.specs.Dictionary.{file_fault}
 use Rattle.std.specs.List.{AllByRecursion, AllZip}
-use Rattle.pm_disasm.specs.Program.{Procedure, Segment, IsProgram, AreInstructions, FitSlots}
-use Rattle.pm_disasm.specs.Laws.{Holds, IsSameSegment}
-use Rattle.pm_disasm.specs.Shown.{file_text, program_text}
+use Rattle.pm_code.specs.Program.{Procedure, Segment, IsProgram, AreInstructions, FitSlots}
+use Rattle.pm_code.specs.Laws.{Holds, IsSameSegment}
+use Rattle.pm_code.specs.Shown.{program_text}
 use Rattle.pm_source.specs.Source.{Source, SourceSegment, statements, AreSources}
 use Rattle.pm_source.specs.Faults.{faults, faults_of_lines, label_faults, lines_of, source_of}
-use Rattle.pm_source.specs.Image.{file_of}
+use Rattle.pm_code.specs.Image.{file_of}
 use Rattle.pm_source.specs.Meaning.{AreSaid, MeansProcedure, Spells, found_procedure, program_of}
 
 -- Where no line has a fault, the lines say segments with labels that are sound, and these are the text's.
@@ -45,22 +45,3 @@ SpelledIsFaultless = (text : List ℕ) (ss : List Segment) → Spells text ss �
 -- The text that is shown for a program spells that program.
 abbrev pub ShownIsSpelled : Type 0
 ShownIsSpelled = (ss : List Segment) → IsProgram ss → FitSlots ss → Spells (program_text ss) ss
-
--- The code file of a program holds it: the segment of each number in its slot, with its name.
-abbrev pub FileHoldsProgram : Type 0
-FileHoldsProgram = (ss : List Segment) → IsProgram ss → FitSlots ss → Holds (file_of ss) ss
-
--- The code file of a program is a code file.
-abbrev pub FileIsAccepted : Type 0
-FileIsAccepted = (ss : List Segment) → IsProgram ss → FitSlots ss → file_fault (file_of ss) ≡ None
-
--- The text of a program's code file spells a program of the same code file: of the same segments in their bytes, and
--- the same program where no item is a byte that is no instruction.
-pub record IsShownAgain (ss ts : List Segment) : Type 0 where
-  pub spelled : Spells (file_text (file_of ss)) ts
-  pub segments : AllZip IsSameSegment ss ts
-  pub file : file_of ts ≡ file_of ss
-  pub same : AllByRecursion (λ s. AllByRecursion (λ (p : Procedure). AreInstructions p.items) s.procedures) ss → ts ≡ ss
-
-abbrev pub ShownFileIsSpelled : Type 0
-ShownFileIsSpelled = (ss : List Segment) → IsProgram ss → FitSlots ss → (ts : List Segment) × IsShownAgain ss ts

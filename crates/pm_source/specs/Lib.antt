@@ -4,7 +4,6 @@ pub mod Line
 pub mod Faults
 pub mod FaultNumbers
 pub mod Meaning
-pub mod Image
 pub mod Denoted
 pub mod Laws
 pub mod Worked

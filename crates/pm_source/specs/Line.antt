@@ -11,10 +11,10 @@ use Rattle.pm_opcode.specs.declared.operand_form.Form.TheVariants as forms
 use Rattle.pm_opcode.specs.declared.instr.Instr.{Instr}
 use Rattle.pm_opcode.specs.Table.{form_of, mnemonic_of}
 use Rattle.pm_opcode.specs.Spelling.{spelled_word, jump_count}
-use Rattle.pm_disasm.specs.Item.{Item, Target}
-use Rattle.pm_disasm.specs.Item.Item.{Plain, Jump, Case, OneByte}
-use Rattle.pm_disasm.specs.Item.Target.{To, Through}
-use Rattle.pm_disasm.specs.Program.{is_segment_name}
+use Rattle.pm_code.specs.Item.{Item, Target}
+use Rattle.pm_code.specs.Item.Item.{Plain, Jump, Case, OneByte}
+use Rattle.pm_code.specs.Item.Target.{To, Through}
+use Rattle.pm_code.specs.Program.{is_segment_name}
 use Rattle.pm_source.specs.declared.number.Numeral.{Numeral}
 use Rattle.pm_source.specs.Words.{Cut, is_empty, unindented, trimmed, cut, words, is_name, number, within, stored}
 use Rattle.pm_source.specs.Source.{Name, Statement}

@@ -3,10 +3,10 @@ use Rattle.std.specs.Prelude.{◌≡◌, ℕ, zero, suc, ◌+◌, ◌≤◌, Lis
 use Rattle.std.specs.Prelude.{map, ◌==◌, if◌then◌else◌, Option, Some, None}
 use Rattle.std.specs.List.{AllZip}
 use Rattle.std.specs.Option.{option_to_list, unwrap_or}
-use Rattle.pm_disasm.specs.Item.{Item, Target, size, table_place}
-use Rattle.pm_disasm.specs.Item.Item.{Plain, Jump, Case, OneByte}
-use Rattle.pm_disasm.specs.Item.Target.{To, Through}
-use Rattle.pm_disasm.specs.Program as program
+use Rattle.pm_code.specs.Item.{Item, Target, size, table_place}
+use Rattle.pm_code.specs.Item.Item.{Plain, Jump, Case, OneByte}
+use Rattle.pm_code.specs.Item.Target.{To, Through}
+use Rattle.pm_code.specs.Program as program
 use Rattle.pm_source.specs.Source.{Name, Row, Statement, Source, SourceSegment, statements}
 use Rattle.pm_source.specs.Source.{items_of, is_exit, row_items, AreSources}
 use Rattle.pm_source.specs.Line.{Line}

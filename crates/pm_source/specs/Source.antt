@@ -4,8 +4,8 @@ use Rattle.std.specs.Prelude.{◌++◌, length, map, if◌then◌else◌, Option
 use Rattle.std.specs.List.{AllByRecursion, list_any, IsDistinct}
 use Rattle.std.specs.Option.{option_to_list}
 use Rattle.std.specs.Str.{bytes_eq}
-use Rattle.pm_disasm.specs.Item.{Item}
-use Rattle.pm_disasm.specs.Program.{end_of, entries_needed}
+use Rattle.pm_code.specs.Item.{Item}
+use Rattle.pm_code.specs.Program.{end_of, entries_needed}
 
 abbrev pub Name : Type 0
 Name = List ℕ

@@ -1,12 +1,10 @@
--- Lines, faults and a listing computed: what the definitions give for a few of them, worked out by hand.
+-- Lines and faults computed: what the definitions give for a few of them, worked out by hand.
 use Rattle.std.specs.Prelude.{◌≡◌, ℕ, Bool, true, false, List, [], ◌∷◌, ◌++◌, codes, Some, None}
-use Rattle.pm_disasm.specs.Item.{Item}
-use Rattle.pm_disasm.specs.Item.Item.{Plain, Jump, Case, OneByte}
-use Rattle.pm_disasm.specs.Item.Target.{To, Through}
-use Rattle.pm_disasm.specs.Program.{Segment as Shown}
+use Rattle.pm_code.specs.Item.{Item}
+use Rattle.pm_code.specs.Item.Item.{Plain, Jump, Case, OneByte}
+use Rattle.pm_code.specs.Item.Target.{To, Through}
 use Rattle.pm_source.specs.declared.fault.AsmFault.TheVariants.{Syntax, Unknown, Range, NoLabel, Twice, Far}
 use Rattle.pm_source.specs.Faults.{faults}
-use Rattle.pm_source.specs.Image.{listing}
 use Rattle.pm_source.specs.Line.{Flaw, Line, bare, line_of}
 use Rattle.pm_source.specs.Line.Flaw.{NoFlaw, OutOfRange, UnknownType}
 use Rattle.pm_source.specs.Line.Line.{Blank, Wrong, Strange, Says}
@@ -110,27 +108,3 @@ pub record WorkedFaults : Type 0 where
   -- a case jump with a label that stands nowhere, whose other jump leads backward
   pub both : faults (in_procedure (codes "L: XJP 1, 1, L, M" ∷ codes ".EXIT" ∷ codes ".END" ∷ []))
       ≡ NoLabel 3 ∷ Far 3 ∷ []
-
--- a segment of one procedure with one instruction, RBP 0, at its exit code
-abbrev pub least_segment : Shown
-least_segment = record {
-  number = 1;
-  name = codes "A";
-  procedures = record {
-    level = 0;
-    parameters = 0;
-    locals = 0;
-    start = 0;
-    items = Plain (bare 193) [] ∷ [];
-    exit = 0;
-    entries = [];
-  } ∷ [];
-}
-
--- A listing, each byte worked out from the format of a segment.
-pub record WorkedListing : Type 0 where
-  pub lines : listing (least_segment ∷ []) ≡ text_of (
-      codes "01 001 00000 C1 00  RBP 0"
-      ∷ codes "01 001 00002 00 00 00 00 06 00 08 00 01 00  .ATTR"
-      ∷ codes "01 000 00012 02 00 01 01  .DICT"
-      ∷ [])

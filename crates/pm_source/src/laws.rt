@@ -1,20 +1,11 @@
 //! Laws of the assembler's text, of what it spells and of its listing. The functions do nothing.
 ghost use Rattle.pm_source.specs.Denoted.{ListingDenotesSegments, ListingIsRead};
-ghost use Rattle.pm_source.specs.Image.{ListingIsPlaced, ListingIsSegment};
 ghost use Rattle.pm_source.specs.Same.{BaseSaysNothing, BlankSaysNothing, BlanksSayNothing};
 ghost use Rattle.pm_source.specs.Same.{CommentSaysNothing, EndBlankSaysNothing, LineFaultsAscend};
 ghost use Rattle.pm_source.specs.Same.{NumberWithoutZero, NumbersSayValues, ZeroSaysNothing};
-ghost use Rattle.pm_source.specs.Laws.{FaultlessIsSaid, FaultlessIsSpelled, FileHoldsProgram, FileIsAccepted};
+ghost use Rattle.pm_source.specs.Laws.{FaultlessIsSaid, FaultlessIsSpelled};
 ghost use Rattle.pm_source.specs.Laws.{FoundIsFaultless, LabelsFound, SaidIsFaultless, SpelledIsFaultless};
 ghost use Rattle.pm_source.specs.Laws.{SpelledIsProgram};
-
-/// The bytes of a segment's lines in a listing, joined, are the segment, and each line names the offset at which its
-/// bytes stand in it.
-#[tactic(auto, using(crate::proofs::Listed::listing_is_segment, crate::proofs::Listed::listing_is_placed))]
-pub fn listing_is_segment()
-    ensures law { ListingIsSegment }
-    ensures placed { ListingIsPlaced }
-{}
 
 /// The characters of a program's listing, read back, denote its lines: of each its segment, procedure, offset and
 /// bytes. The bytes that they denote for a segment are the segment, and each line names the offset at which its bytes
@@ -58,13 +49,6 @@ pub fn spelled_is_faultless()
 /// What a text spells is a program, where no segment has more than 65,534 bytes.
 pub fn spelled_is_program()
     ensures law { SpelledIsProgram }
-{}
-
-/// The code file of a program holds it, where no segment has more than 65,534 bytes: each slot has the bytes of the
-/// segment of its number, and its name with spaces at the end, or no segment.
-pub fn file_holds_program()
-    ensures law { FileHoldsProgram }
-    ensures accepted { FileIsAccepted }
 {}
 
 /// A comment behind a line whose quotes are closed, and a blank in front of a line or behind it, change nothing of what

@@ -1,6 +1,6 @@
-//! What the definitions give for a few lines, texts and a program, computed. The functions do nothing.
+//! What the definitions give for a few lines, and texts, computed. The functions do nothing.
 
-ghost use Rattle.pm_source.specs.Worked.{WorkedFaults, WorkedLines, WorkedListing};
+ghost use Rattle.pm_source.specs.Worked.{WorkedFaults, WorkedLines};
 
 /// What a few lines say, by their characters.
 #[tactic(auto, using(crate::proofs::Computed::worked_lines))]
@@ -12,10 +12,4 @@ pub fn worked_lines()
 #[tactic(auto, using(crate::proofs::Computed::worked_faults))]
 pub fn worked_faults()
     ensures law { WorkedFaults }
-{}
-
-/// The listing of a segment, by its characters.
-#[tactic(auto, using(crate::proofs::Computed::worked_listing))]
-pub fn worked_listing()
-    ensures law { WorkedListing }
 {}

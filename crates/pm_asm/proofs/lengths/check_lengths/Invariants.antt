@@ -1,9 +1,14 @@
-use Rattle.std.proofs.Common.{◌≡◌}
-use Rattle.pm_reader.specs.Views.{segments_seen}
-use Rattle.pm_asm.specs.Lengths.{first_long, found_program}
-use Rattle.pm_asm.proofs.FoundLengths.{long_from}
+use Rattle.std.proofs.Common.{◌≡◌, drop}
+use Rattle.std.specs.List.{AllByRecursion, list_any}
+use Rattle.pm_code.specs.Program.{FollowFrom}
+use Rattle.pm_code.specs.Views.{program_seen}
+use Rattle.pm_asm.specs.Lengths.{first_long, is_countless_long}
 use Rattle.pm_asm.proofs.lengths.check_lengths.Given as goal
 
--- the first segment that is too long is among those that are left
-abbrev pub invariant-loop-number : goal.invariant-loop-number
-invariant-loop-number l = long_from l.number (segments_seen l.segments) ≡ first_long (found_program (segments_seen l.segments))
+-- the first segment that is too long is among those that are left, and so is one whose length cannot be counted
+abbrev pub invariant-loop-segment : goal.invariant-loop-segment
+invariant-loop-segment l = record {
+  long : first_long (program_seen (drop l.segment-index l.program)) ≡ first_long (program_seen l.program);
+  countless : list_any is_countless_long (program_seen (drop l.segment-index l.program)) ≡ list_any is_countless_long (program_seen l.program);
+  follow : AllByRecursion (λ s. FollowFrom 0 s.procedures) (program_seen (drop l.segment-index l.program));
+}

@@ -7,11 +7,11 @@ use Rattle.std.specs.Option.{is_some}
 use Rattle.std.proofs.lemmas.Slice.Eq.{bytes_eq-Decides}
 use Rattle.std.proofs.lemmas.Grind.{common_steps}
 use Rattle.std.proofs.lemmas.Map.Text.{btree_map_updates_str}
-use Rattle.pm_disasm.specs.Program.{end_of}
+use Rattle.pm_code.specs.Program.{end_of}
 use Rattle.pm_line.specs.Views.{row_seen}
 use Rattle.pm_source.specs.Source.{row_items}
 use Rattle.pm_reader.specs.Named.{is_name}
-use Rattle.pm_reader.proofs.Least.{there}
+use Rattle.pm_code.proofs.Lists.{there}
 use Rattle.pm_asm.proofs.Tables.{put_row, stay_row}
 use Rattle.pm_asm.proofs.table.table_of.Goals as goal
 use Rattle.pm_asm.proofs.table.table_of.Goals.{in-Some+then-not-contains_key+in_ok-insert, in-Some+else-not-contains_key, in_default}

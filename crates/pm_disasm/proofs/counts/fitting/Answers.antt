@@ -1,5 +1,5 @@
 use Rattle.std.proofs.Common.{◌∙◌, arith, sym, ap, is_some, true, map}
-use Rattle.pm_disasm.specs.Program.{entries_needed}
+use Rattle.pm_code.specs.Program.{entries_needed}
 use Rattle.pm_disasm.specs.Follow.{written_by}
 use Rattle.pm_disasm.specs.Views.{has, part_seen}
 use Rattle.pm_disasm.specs.Chosen.{IsReading}

@@ -2,9 +2,9 @@ use Rattle.std.proofs.Common.{◌≡◌, ◌+◌, ◌++◌, ◌∷◌, [], List,
 use Rattle.std.specs.Prelude.{codes}
 use Rattle.std.specs.Fmt.{decimal}
 use Rattle.std.proofs.lemmas.List.{at_drop_more}
-use Rattle.pm_disasm.specs.Item.Item.{OneByte}
+use Rattle.pm_code.specs.Item.Item.{OneByte}
 use Rattle.pm_disasm.specs.Follow.{code_lines_by, lines_at_by}
-use Rattle.pm_disasm.specs.Shown.{joined}
+use Rattle.pm_code.specs.Shown.{joined}
 use Rattle.pm_disasm.specs.Views.{has}
 use Rattle.pm_disasm.proofs.Lined.{byte_joined}
 use Rattle.pm_disasm.proofs.lines.push_bytes.Goals as goal

@@ -1,7 +1,7 @@
 use Rattle.std.proofs.Common.{◌≡◌, ◌+◌, ◌++◌, drop, map, string_bytes}
-use Rattle.pm_disasm.specs.Item.Item.{OneByte}
+use Rattle.pm_code.specs.Item.Item.{OneByte}
 use Rattle.pm_disasm.specs.Follow.{Items, code_lines_by}
-use Rattle.pm_disasm.specs.Shown.{joined}
+use Rattle.pm_code.specs.Shown.{joined}
 use Rattle.pm_disasm.specs.Views.{has}
 use Rattle.pm_disasm.proofs.lines.push_bytes.Given as goal
 

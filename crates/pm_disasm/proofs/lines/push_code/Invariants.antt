@@ -1,6 +1,6 @@
 use Rattle.std.proofs.Common.{◌≡◌, ◌++◌, ℕ, drop, map, string_bytes}
 use Rattle.pm_disasm.specs.Follow.{Follow, code_lines_by, written_by}
-use Rattle.pm_disasm.specs.Shown.{joined}
+use Rattle.pm_code.specs.Shown.{joined}
 use Rattle.pm_disasm.specs.Views.{has, part_seen}
 use Rattle.pm_disasm.proofs.lines.push_code.Given as goal
 

@@ -1,7 +1,7 @@
 use Rattle.std.proofs.Common.{◌≡◌, ℕ, drop}
 use Rattle.std.specs.Prelude.{◌||◌}
 use Rattle.std.specs.List.{AllByRecursion}
-use Rattle.pm_disasm.specs.Program.{is_among}
+use Rattle.pm_code.specs.Program.{is_among}
 use Rattle.pm_disasm.specs.Views.{IsAlike, IsInside, has}
 use Rattle.pm_disasm.proofs.named.add_entries.Given as goal
 

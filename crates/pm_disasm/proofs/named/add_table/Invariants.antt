@@ -2,7 +2,7 @@ use Rattle.std.proofs.Common.{◌≡◌, ◌+◌, ◌*◌, ℕ, true, drop}
 use Rattle.std.specs.Prelude.{◌||◌}
 use Rattle.std.specs.List.{list_all}
 use Rattle.pm_words.specs.Words.{words_of}
-use Rattle.pm_disasm.specs.Program.{is_among}
+use Rattle.pm_code.specs.Program.{is_among}
 use Rattle.pm_disasm.specs.Split.{table_places}
 use Rattle.pm_disasm.specs.Views.{IsAlike, has}
 use Rattle.pm_disasm.proofs.named.add_table.Given as goal

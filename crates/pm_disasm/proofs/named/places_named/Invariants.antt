@@ -1,8 +1,8 @@
 use Rattle.std.proofs.Common.{◌≡◌, ℕ, drop, map}
 use Rattle.std.specs.Prelude.{◌||◌}
 use Rattle.pm_disasm.specs.Follow.{written_by}
-use Rattle.pm_disasm.specs.Program.{is_among}
-use Rattle.pm_disasm.specs.Shown.{named_places}
+use Rattle.pm_code.specs.Program.{is_among}
+use Rattle.pm_code.specs.Shown.{named_places}
 use Rattle.pm_disasm.specs.Views.{IsAlike, has, part_seen}
 use Rattle.pm_disasm.proofs.named.places_named.Given as goal
 

@@ -1,13 +1,13 @@
 use Rattle.std.proofs.Common.{◌≡◌, ◌+◌, ◌∷◌, ◌++◌, List, [], drop, length, map, sym, ap, ◌∙◌, arith, append_assoc, append-nil, subst, length-drop}
 use Rattle.std.specs.List.{AllByRecursion}
 use Rattle.pm_opcode.proofs.ReadTakes.{IsBytes-from_index}
-use Rattle.pm_disasm.specs.Item.{IsByte}
+use Rattle.pm_code.specs.Item.{IsByte}
 use Rattle.pm_disasm.specs.Follow.{Follow}
 use Rattle.pm_disasm.proofs.Fronts.{drop-bytes, from_bytes}
 use Rattle.std.proofs.lemmas.List.{drop_all, map-append}
 use Rattle.std.specs.Prelude.{◌||◌}
 use Rattle.pm_disasm.specs.Offsets.{IsNextCut}
-use Rattle.pm_disasm.specs.Program.{is_among}
+use Rattle.pm_code.specs.Program.{is_among}
 use Rattle.pm_disasm.specs.Split.{Part, bytes_after_first, ends_of, part_of, parts, taken}
 use Rattle.pm_disasm.specs.Views.{has, part_seen}
 use Rattle.pm_disasm.proofs.Splitting.{next_part, next_places, parts_follow}

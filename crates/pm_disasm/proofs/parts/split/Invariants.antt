@@ -1,7 +1,7 @@
 use Rattle.std.proofs.Common.{◌≡◌, ◌≤◌, ◌+◌, ◌-◌, ◌++◌, ℕ, drop, length, map}
 use Rattle.std.specs.Prelude.{◌||◌}
 use Rattle.pm_disasm.specs.Offsets.{IsNextCut}
-use Rattle.pm_disasm.specs.Program.{is_among}
+use Rattle.pm_code.specs.Program.{is_among}
 use Rattle.pm_disasm.specs.Split.{ends_of, parts}
 use Rattle.pm_disasm.specs.Views.{has, part_seen}
 use Rattle.pm_disasm.proofs.parts.split.Given as goal

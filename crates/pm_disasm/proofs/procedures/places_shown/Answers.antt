@@ -1,8 +1,8 @@
 use Rattle.std.proofs.Common.{◌≡◌, ◌∙◌, drop, map, sym, ap, subst}
 use Rattle.std.specs.Prelude.{◌||◌}
 use Rattle.std.specs.List.{AllByRecursion}
-use Rattle.pm_disasm.specs.Program.{is_among}
-use Rattle.pm_disasm.specs.Shown.{named_places}
+use Rattle.pm_code.specs.Program.{is_among}
+use Rattle.pm_code.specs.Shown.{named_places}
 use Rattle.pm_disasm.specs.Split.{entry_places}
 use Rattle.pm_disasm.specs.Follow.{written_by}
 use Rattle.pm_disasm.specs.Chosen.{IsReading}

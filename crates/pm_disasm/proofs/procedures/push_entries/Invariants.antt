@@ -1,5 +1,5 @@
 use Rattle.std.proofs.Common.{◌≡◌, ◌++◌, drop, map, string_bytes}
-use Rattle.pm_disasm.specs.Shown.{entry_line, joined}
+use Rattle.pm_code.specs.Shown.{entry_line, joined}
 use Rattle.pm_disasm.proofs.procedures.push_entries.Given as goal
 
 -- the text so far with the lines of the entries that are left is the whole

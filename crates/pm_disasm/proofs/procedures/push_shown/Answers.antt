@@ -1,7 +1,7 @@
 use Rattle.std.proofs.Common.{◌≡◌, ◌∙◌, ◌++◌, ◌∷◌, [], arith, ℕ, List, drop, map, refl, sym, ap, string_bytes}
 use Rattle.std.specs.Prelude.{codes, slice_index, ◌+◌}
 use Rattle.std.specs.Fmt.{decimal}
-use Rattle.pm_disasm.specs.Shown.{entry_line, joined, level_text, procedure_lines, words_text}
+use Rattle.pm_code.specs.Shown.{entry_line, joined, level_text, procedure_lines, words_text}
 use Rattle.pm_disasm.specs.Split.{entry_places, procedure_with}
 use Rattle.pm_disasm.specs.Follow.{code_lines_by, written_by}
 use Rattle.pm_disasm.specs.Chosen.{IsReading}
@@ -29,7 +29,7 @@ returns c =
     (ap (slice_index segment) (ap (λ n. n + 1) c.from.ensures) ∙ sym (c.requires.table.level (omega (arith, c.type_inv.segment (a.jtab + 1))))) in
     let second : string_bytes c.push_code.new.text ≡ string_bytes c.writeln.new.self ++ code = c.in_ok-push_code.ensures.text
     ∙ ap (λ e. string_bytes c.writeln.new.self ++ joined (code_lines_by (has c.in_ok-named.named) e r.code.boundaries.begin
-    (written_by (has r.code.boundaries) shown.allowed (map part_seen c.deref.result.now)))) c.from-2.ensures
+    (written_by (has r.code.boundaries) shown.allowed (map part_seen c.deref.result.now)))) c.from-exit.ensures
     ∙ ap (λ b. string_bytes c.writeln.new.self ++ joined (code_lines_by (has c.in_ok-named.named) a.exit b
     (written_by (has r.code.boundaries) shown.allowed (map part_seen c.deref.result.now)))) read.begin
     ∙ ap (λ ps. string_bytes c.writeln.new.self ++ joined (code_lines_by (has c.in_ok-named.named) a.exit a.enter

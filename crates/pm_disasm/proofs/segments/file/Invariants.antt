@@ -1,5 +1,6 @@
 use Rattle.std.proofs.Common.{◌≡◌, ◌-◌, ◌++◌, string_bytes}
-use Rattle.pm_disasm.specs.Shown.{joined, slots_lines}
+use Rattle.pm_code.specs.Shown.{joined}
+use Rattle.pm_disasm.specs.Shown.{slots_lines}
 use Rattle.pm_disasm.proofs.segments.file.Given as goal
 
 -- the text so far with the slots that are left is the whole

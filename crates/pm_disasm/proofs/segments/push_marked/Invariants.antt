@@ -1,5 +1,5 @@
 use Rattle.std.proofs.Common.{◌≡◌, ◌++◌, drop, map, string_bytes, if◌then◌else◌}
-use Rattle.pm_disasm.specs.Program.{is_name_character}
+use Rattle.pm_code.specs.Program.{is_name_character}
 use Rattle.pm_disasm.proofs.segments.push_marked.Given as goal
 
 -- the text so far with the bytes that are left is the whole

@@ -1,6 +1,7 @@
 use Rattle.std.proofs.Common.{◌≡◌, ◌+◌, ◌-◌, ◌++◌, string_bytes}
 use Rattle.pm_codefile.specs.Segments.{procedures_in}
-use Rattle.pm_disasm.specs.Shown.{joined, tables_lines}
+use Rattle.pm_code.specs.Shown.{joined}
+use Rattle.pm_disasm.specs.Shown.{tables_lines}
 use Rattle.pm_disasm.proofs.segments.push_tables.Given as goal
 
 -- the text so far with the procedures that are left is the whole

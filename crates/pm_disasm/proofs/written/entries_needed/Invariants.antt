@@ -1,6 +1,6 @@
 use Rattle.std.proofs.Common.{◌≡◌, max, true, drop, map}
 use Rattle.pm_disasm.specs.Follow.{written_by}
-use Rattle.pm_disasm.specs.Program.{entries_needed}
+use Rattle.pm_code.specs.Program.{entries_needed}
 use Rattle.pm_disasm.specs.Views.{has, part_seen}
 use Rattle.pm_disasm.proofs.written.entries_needed.Given as goal
 

@@ -1,5 +1,5 @@
 use Rattle.std.proofs.Common.{◌≡◌, ◌++◌, map, drop}
-use Rattle.pm_disasm.specs.Item.Item.{OneByte}
+use Rattle.pm_code.specs.Item.Item.{OneByte}
 use Rattle.pm_line.specs.Views.{items_seen}
 use Rattle.pm_line.proofs.lists.byte_items.Given as goal
 

@@ -1,7 +1,7 @@
 use Rattle.std.proofs.Common.{◌≡◌, ◌+◌, ◌∙◌, map, max, drop, get_or, ap, sym, rules}
 use Rattle.std.proofs.lemmas.List.{at_drop_more}
 use Rattle.pm_line.specs.Views.{row_seen}
-use Rattle.pm_disasm.specs.Program.{entries_needed}
+use Rattle.pm_code.specs.Program.{entries_needed}
 use Rattle.pm_source.specs.Source.{entries_used, row_items}
 use Rattle.pm_reader.proofs.EntryCounts.{used-more}
 use Rattle.pm_reader.proofs.entries.rows_entries.Goals as goal

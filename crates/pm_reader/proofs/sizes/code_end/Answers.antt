@@ -1,6 +1,7 @@
 use Rattle.std.proofs.Common.{refl}
 use Rattle.pm_line.specs.Views.{row_seen}
-use Rattle.pm_reader.proofs.Least.{there, too_long_row}
+use Rattle.pm_code.proofs.Lists.{there}
+use Rattle.pm_reader.proofs.Least.{too_long_row}
 use Rattle.pm_reader.proofs.sizes.code_end.Goals as goal
 
 pub returns-in_err-end-clause-too_long : goal.returns-in_err-end-clause-too_long

@@ -1,6 +1,0 @@
-use Rattle.std.proofs.Common.{◌≡◌, ◌++◌, drop, string_bytes}
-use Rattle.pm_source.specs.Image.{pairs_text}
-use Rattle.pm_asm.proofs.listing.push_pairs.Given as goal
-
-abbrev pub invariant-loop-byte : goal.invariant-loop-byte
-invariant-loop-byte l = string_bytes l.text ++ pairs_text (drop l.byte-index l.bytes) ≡ string_bytes l.fn.text ++ pairs_text l.bytes

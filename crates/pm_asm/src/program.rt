@@ -1,0 +1,129 @@
+//! The program that segments with labels mean.
+
+ghost use Rattle.std.specs.Prelude.{◌≡◌, ◌≢◌, [], IfOk, IfErr, OnOk, map};
+ghost use Rattle.pm_code.specs.Views.{procedure_seen, program_seen, segment_seen};
+ghost use Rattle.pm_source.specs.declared.fault.AsmFault.TheVariants.{NoMemory};
+ghost use Rattle.pm_source.specs.Faults.{all_label_faults, label_faults, label_faults_from};
+ghost use Rattle.pm_source.specs.Meaning.{found_procedure, found_procedures, found_segment};
+ghost use Rattle.pm_reader.specs.Firsts.{IsFirstOf};
+ghost use Rattle.pm_reader.specs.Views.{labelled_procedure, labelled_segment, labelled_segments};
+ghost use Rattle.pm_asm.specs.Found.{exit_in};
+
+use crate::code::Code;
+use crate::resolved::{resolve_code, resolve_entries};
+use crate::table::table_of;
+use pm_code::{Procedure, Segment};
+use pm_line::Row;
+use pm_reader::{LabelledProcedure, LabelledSegment, row_end, source_end};
+use pm_source::AsmFault;
+use std::alloc::Global;
+
+/// The place of the exit code. It fails only where the code is longer than memory can be.
+fn exit_place(code: &Code<'_, '_>) -> Result<usize, AsmFault>
+    ensures place { IfOk result (λ place. place ≡ exit_in code.now) }
+    ensures refused { IfErr result (λ fault. fault ≡ NoMemory) }
+{
+    let mut at = code.start;
+    for row in code.rows {
+        if let Row::Exit = row {
+            return Ok(at);
+        }
+        at = row_end(at, row).ok_or(AsmFault::NoMemory)?;
+    }
+    Ok(at)
+}
+
+/// A procedure that begins at an offset of its segment, with the places of its labels. Refused by the first of their
+/// faults.
+#[tactic(auto, using(pm_reader::proofs::Firsts::first_front))]
+fn resolve_procedure(
+    alloc: Global,
+    at: usize,
+    procedure: &LabelledProcedure<'_>,
+) -> Result<Procedure, AsmFault>
+    ensures faultless { OnOk result (label_faults at (labelled_procedure procedure.now) ≡ []) }
+    ensures found { IfOk result (λ found. procedure_seen found
+        ≡ found_procedure at (labelled_procedure procedure.now)) }
+    ensures fault { IfErr result (λ fault. IsFirstOf fault (label_faults at (labelled_procedure procedure.now))) }
+{
+    let rows: &[Row<'_>] = &procedure.code;
+    let table = table_of(alloc, at, rows).map_err(|_| AsmFault::NoMemory)?;
+    let code = Code {
+        start: at,
+        rows,
+        table: &table,
+    };
+    let items = resolve_code(alloc, &code)?;
+    let entries = resolve_entries(alloc, &code, &procedure.entries)?;
+    let exit = exit_place(&code)?;
+    Ok(Procedure {
+        level: procedure.level,
+        parameters: procedure.parameters,
+        locals: procedure.locals,
+        start: at,
+        items,
+        exit,
+        entries,
+    })
+}
+
+/// The procedures of a segment, with the places of their labels. Refused by the first of their faults.
+#[tactic(auto, using(crate::proofs::Firsts::procedure_first))]
+fn resolve_procedures(
+    alloc: Global,
+    procedures: &[LabelledProcedure<'_>],
+) -> Result<Vec<Procedure>, AsmFault>
+    ensures faultless { OnOk result (label_faults_from 0 (map labelled_procedure procedures.now) ≡ []) }
+    ensures found { IfOk result (λ found. map procedure_seen found.items
+        ≡ found_procedures 0 (map labelled_procedure procedures.now)) }
+    ensures fault { IfErr result (λ fault. IsFirstOf fault
+        (label_faults_from 0 (map labelled_procedure procedures.now))) }
+{
+    let mut found = Vec::new(alloc);
+    let mut at = 0;
+    for procedure in procedures {
+        let one = resolve_procedure(alloc, at, procedure)?;
+        found.push(one).map_err(|_| AsmFault::NoMemory)?;
+        at = source_end(at, procedure).ok_or(AsmFault::NoMemory)?;
+    }
+    Ok(found)
+}
+
+/// A segment, with the places of its labels. Refused by the first of their faults.
+fn resolve_segment(alloc: Global, segment: &LabelledSegment<'_>) -> Result<Segment, AsmFault>
+    ensures faultless { OnOk result (label_faults_from 0 (labelled_segment segment.now).procedures ≡ []) }
+    ensures found { IfOk result (λ found. segment_seen found ≡ found_segment (labelled_segment segment.now)) }
+    ensures fault { IfErr result (λ fault. IsFirstOf fault
+        (label_faults_from 0 (labelled_segment segment.now).procedures)) }
+{
+    let procedures = resolve_procedures(alloc, &segment.procedures)?;
+    let mut name = Vec::new(alloc);
+    name.extend_from_slice(segment.name)
+        .map_err(|_| AsmFault::NoMemory)?;
+    Ok(Segment {
+        number: segment.number,
+        name,
+        procedures,
+    })
+}
+
+/// Segments in the order of the text, with the places of their labels. Refused by the first of their faults: the line
+/// of a label that does not stand in its procedure, or of a short jump that leads backward or more than 127 bytes
+/// forward. `NoMemory`: memory could not grow, or cannot hold code as long as the segments say.
+#[tactic(auto, using(pm_reader::proofs::Firsts::first_front))]
+pub(crate) fn resolve_segments(
+    alloc: Global,
+    segments: &[LabelledSegment<'_>],
+) -> Result<Vec<Segment>, AsmFault>
+    ensures faultless { OnOk result (all_label_faults (labelled_segments segments.now) ≡ []) }
+    ensures found { IfOk result (λ found. program_seen found.items
+        ≡ map found_segment (labelled_segments segments.now)) }
+    ensures fault { IfErr result (λ fault. IsFirstOf fault (all_label_faults (labelled_segments segments.now))) }
+{
+    let mut found = Vec::new(alloc);
+    for segment in segments {
+        let one = resolve_segment(alloc, segment)?;
+        found.push(one).map_err(|_| AsmFault::NoMemory)?;
+    }
+    Ok(found)
+}

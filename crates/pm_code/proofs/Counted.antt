@@ -1,0 +1,27 @@
+-- Items, procedures and segments that end too late to be counted.
+use Rattle.std.proofs.Common.{◌≡◌, ◌+◌, ◌*◌, ◌<◌, ◌≤◌, ℕ, List, [], ◌∷◌, map, length, arith, ap}
+use Rattle.std.specs.List.{AllByRecursion}
+use Rattle.pm_code.specs.Item.{Item, size}
+use Rattle.pm_code.specs.Program.{FollowFrom, Procedure, end_of, jtab_of, procedures_end}
+use Rattle.pm_code.proofs.Sizes.{length-code}
+
+pub end_after : {P : Type 0} (at : ℕ) (items : List (Item P)) → at ≤ end_of at items
+end_after at [] = omega arith
+end_after at (item ∷ items) = let h = end_after (at + size at item) items in omega arith
+
+-- the items that are left begin with one that is too long, or that ends too late
+pub too_long_item : {A P : Type 0} (f : A → Item P) (most at end : ℕ) (items : List A) (item : A) (rest : List A) → items ≡ item ∷ rest
+    → end_of at (map f items) ≡ end
+    → most < at + size at (f item) → most < end
+too_long_item f most at end items item rest e all h =
+    let after = end_after (at + size at (f item)) (map f rest) in
+    let whole = rw e at all in
+    omega arith
+
+-- procedures end no earlier than they begin
+pub procedures_after : (at : ℕ) (ps : List Procedure) → FollowFrom at ps → at ≤ procedures_end at ps
+procedures_after at [] h = omega arith
+procedures_after at (p ∷ ps) h =
+    let code = end_after p.start p.items in
+    let rest = procedures_after (jtab_of p + 2) ps h.1 in
+    omega (arith, h.0, code, rest)

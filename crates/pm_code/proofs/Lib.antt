@@ -1,0 +1,15 @@
+pub mod Words
+pub mod Digits
+pub mod Sizes
+pub mod Stored
+pub mod ItemBytes
+pub mod Laid
+pub mod Spelled
+pub mod Lists
+pub mod Pushed
+pub mod Slotted
+pub mod ListedMore
+pub mod Counted
+pub mod Listed
+pub mod Held
+pub mod Computed

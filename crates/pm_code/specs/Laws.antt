@@ -1,0 +1,36 @@
+-- A program in its code file.
+use Rattle.std.specs.Prelude.{◌≡◌, ℕ, ◌-◌, ◌<◌, List, [], ◌∷◌, ◌++◌, length, replicate, Option, Some, None, option_map}
+use Rattle.std.specs.List.{AllByRecursion}
+use Rattle.pm_codefile.specs.declared.file.Slot.{Slot}
+use Rattle.pm_codefile.specs.Dictionary.{file_fault, segment_in, slot_in}
+use Rattle.pm_code.specs.Program.{AreInstructions, FitSlots, IsProgram, Procedure, Segment, segment_bytes}
+use Rattle.pm_code.specs.Program.{segment_numbered}
+use Rattle.pm_code.specs.Image.{file_of}
+
+-- the name in a slot
+abbrev pub name_of : Option Slot → List ℕ
+name_of None = []
+name_of (Some slot) = slot.name
+
+-- A code file holds a program: a slot has the bytes of the segment of its number, and its name with spaces at the end,
+-- or no segment.
+pub record Holds (file : List ℕ) (ss : List Segment) : Type 0 where
+  pub segments : (n : ℕ) → n < 16 → segment_in file n ≡ option_map segment_bytes (segment_numbered n ss)
+  pub names : (n : ℕ) (s : Segment) → segment_numbered n ss ≡ Some s
+      → name_of (slot_in file n) ≡ s.name ++ replicate (8 - length s.name) 32
+
+-- Segments of one number and name with the same bytes; and the same segments, where the items of the first are all
+-- instructions.
+pub record IsSameSegment (s t : Segment) : Type 0 where
+  pub number : t.number ≡ s.number
+  pub name : t.name ≡ s.name
+  pub bytes : segment_bytes t ≡ segment_bytes s
+  pub same : AllByRecursion (λ (p : Procedure). AreInstructions p.items) s.procedures → t ≡ s
+
+-- The code file of a program holds it: the segment of each number in its slot, with its name.
+abbrev pub FileHoldsProgram : Type 0
+FileHoldsProgram = (ss : List Segment) → IsProgram ss → FitSlots ss → Holds (file_of ss) ss
+
+-- The code file of a program is a code file.
+abbrev pub FileIsAccepted : Type 0
+FileIsAccepted = (ss : List Segment) → IsProgram ss → FitSlots ss → file_fault (file_of ss) ≡ None

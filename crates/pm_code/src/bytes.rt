@@ -1,0 +1,242 @@
+//! The bytes of code. Each function adds to the bytes of a segment so far, whose count is the offset of what it adds.
+
+ghost use Rattle.std.specs.Prelude.{◌≡◌, ◌<◌, ◌≤◌, ◌+◌, ◌*◌, ◌++◌, ◌∷◌, [], length, map, reverse, IfOk, OnOk};
+ghost use Rattle.std.specs.List.{AllByRecursion};
+ghost use Rattle.pm_opcode.specs.Spelling.{flip, is_odd, pad_byte, spelled_word};
+ghost use Rattle.pm_code.specs.Item.{IsCase, IsItem, IsNear, IsPlain, item_bytes, jump_byte, table_words};
+ghost use Rattle.pm_code.specs.Item.Item.{Case, Plain};
+ghost use Rattle.pm_code.specs.Program.{AreItems, FollowFrom, IsProcedure, IsSegment, attribute_bytes, back_to};
+ghost use Rattle.pm_code.specs.Program.{code_bytes, entry_bytes, jtab_of, procedure_bytes, procedures_bytes};
+ghost use Rattle.pm_code.specs.Program.{procedures_end, segment_bytes};
+ghost use Rattle.pm_code.specs.Views.{placed_item, placed_target, procedure_seen, segment_seen};
+
+use crate::item::{Item, Target};
+use crate::opcodes::{CASE_JUMP, JUMP};
+use crate::program::{Procedure, Segment};
+use pm_opcode::{Encode, Instr, encode};
+use std::alloc::{AllocError, Global};
+
+/// Adds a word, its low byte first.
+fn push_word(out: &mut Vec<u8>, value: u16) -> Result<(), AllocError>
+    ensures bytes { OnOk result (out.new.items ≡ out.old.items ++ spelled_word value) }
+{
+    out.push((value % 256) as u8)?;
+    out.push((value / 256) as u8)?;
+    Ok(())
+}
+
+/// Adds the padding of a case jump whose opcode stands at an offset.
+fn push_padding(out: &mut Vec<u8>, at: usize) -> Result<(), AllocError>
+    ensures bytes { OnOk result (out.new.items ≡ out.old.items ++ pad_byte (flip (is_odd at)) 0) }
+{
+    if at % 2 == 0 {
+        out.push(0)?;
+    }
+    Ok(())
+}
+
+/// The byte of a short jump that counts from an offset.
+fn jump_byte(next: usize, target: Target<usize>) -> u8
+    requires near { IsNear next (placed_target target) }
+    ensures byte { result ≡ jump_byte next (placed_target target) }
+{
+    match target {
+        Target::To(place) => (place - next) as u8,
+        Target::Through(entry) => 246 - 2 * entry,
+    }
+}
+
+/// Adds the table of a case jump: each word says how far its place lies below it, modulo 65,536.
+fn push_table(out: &mut Vec<u8>, places: &[usize]) -> Result<(), AllocError>
+    requires within { AllByRecursion (λ place. place < 65536) places.now }
+    ensures bytes { OnOk result (out.new.items ≡ out.old.items ++ table_words (length out.old.items) places.now) }
+{
+    for place in places {
+        let distance = (out.len() + 65536 - *place) % 65536;
+        push_word(out, distance as u16)?;
+    }
+    Ok(())
+}
+
+/// Adds a case jump with its bounds, its jump out of them and its table.
+fn push_case(
+    out: &mut Vec<u8>,
+    bounds: (u16, u16),
+    otherwise: Target<usize>,
+    places: &[usize],
+) -> Result<(), AllocError>
+    requires case { IsCase (length out.old.items) bounds.0 bounds.1 (placed_target otherwise) places.now }
+    ensures bytes { OnOk result (out.new.items ≡ out.old.items ++ item_bytes (length out.old.items)
+        (Case bounds.0 bounds.1 (placed_target otherwise) places.now)) }
+{
+    let at = out.len();
+    out.push(CASE_JUMP)?;
+    push_padding(out, at)?;
+    push_word(out, bounds.0)?;
+    push_word(out, bounds.1)?;
+    let byte = jump_byte(out.len() + 2, otherwise);
+    out.push(JUMP)?;
+    out.push(byte)?;
+    push_table(out, places)
+}
+
+/// Adds an instruction that names no place. It has a spelling, so that nothing but want of memory stops it.
+#[tactic(auto, using(crate::proofs::Spelled::plain_spelled))]
+fn push_plain(out: &mut Vec<u8>, instr: &Instr, named: &[u8]) -> Result<(), AllocError>
+    requires plain { IsPlain instr.now named.now }
+    ensures bytes { OnOk result (out.new.items ≡ out.old.items
+        ++ item_bytes (length out.old.items) (Plain instr.now named.now)) }
+{
+    let at = out.len();
+    match encode(instr, named, at, out) {
+        Ok(()) => Ok(()),
+        Err(Encode::NoMemory) => Err(AllocError),
+        Err(Encode::OutOfRange) => unreachable!(),
+    }
+}
+
+/// Adds an item.
+pub(crate) fn push_item(out: &mut Vec<u8>, item: &Item<usize>) -> Result<(), AllocError>
+    requires item { IsItem (length out.old.items) (placed_item item.now) }
+    ensures bytes { OnOk result (out.new.items ≡ out.old.items
+        ++ item_bytes (length out.old.items) (placed_item item.now)) }
+{
+    let at = out.len();
+    match item {
+        Item::Plain(instr, named) => push_plain(out, instr, named),
+        Item::Jump(opcode, target) => {
+            let byte = jump_byte(at + 2, *target);
+            out.push(*opcode)?;
+            out.push(byte)?;
+            Ok(())
+        }
+        Item::Case {
+            low,
+            high,
+            otherwise,
+            places,
+        } => push_case(out, (*low, *high), *otherwise, places),
+        Item::OneByte(byte) => Ok(out.push(*byte)?),
+    }
+}
+
+/// Adds code.
+fn push_code(out: &mut Vec<u8>, items: &[Item<usize>]) -> Result<(), AllocError>
+    requires items { AreItems (length out.old.items) (map placed_item items.now) }
+    ensures bytes { OnOk result (out.new.items ≡ out.old.items
+        ++ code_bytes (length out.old.items) (map placed_item items.now)) }
+{
+    for item in items {
+        push_item(out, item)?;
+    }
+    Ok(())
+}
+
+/// Adds a word that says how far a place lies below it.
+pub(crate) fn push_distance(out: &mut Vec<u8>, place: usize) -> Result<(), AllocError>
+    requires short { length out.old.items < 65536 }
+    ensures bytes { OnOk result (out.new.items ≡ out.old.items ++ back_to (length out.old.items) place) }
+{
+    let distance = out.len().saturating_sub(place);
+    push_word(out, distance as u16)
+}
+
+/// Adds words that say how far places lie below them, that of the last place first.
+pub(crate) fn push_distances(out: &mut Vec<u8>, places: &[usize]) -> Result<(), AllocError>
+    requires short { length out.old.items + 2 * length places.now ≤ 65536 }
+    ensures bytes { OnOk result (out.new.items ≡ out.old.items
+        ++ entry_bytes (length out.old.items) (reverse places.now)) }
+{
+    let count = places.len();
+    for done in 0..count {
+        push_distance(out, places[count - 1 - done])?;
+    }
+    Ok(())
+}
+
+/// Adds the ten bytes of a procedure's attributes.
+#[tactic(auto, using(crate::proofs::Pushed::attributes_pushed))]
+pub(crate) fn push_attributes(
+    out: &mut Vec<u8>,
+    number: u8,
+    procedure: &Procedure,
+) -> Result<(), AllocError>
+    requires there { jtab_of (procedure_seen procedure.now) ≡ length out.old.items + 8 }
+    requires short { length out.old.items + 8 < 65536 }
+    ensures bytes { OnOk result (out.new.items ≡ out.old.items
+        ++ attribute_bytes number (procedure_seen procedure.now)) }
+{
+    push_word(out, procedure.locals)?;
+    push_word(out, procedure.parameters)?;
+    push_distance(out, procedure.exit)?;
+    push_distance(out, procedure.start)?;
+    out.push(number)?;
+    out.push(procedure.level)?;
+    Ok(())
+}
+
+/// Adds a procedure: its code, its jump table and its attributes.
+fn push_procedure(out: &mut Vec<u8>, number: u8, procedure: &Procedure) -> Result<(), AllocError>
+    requires procedure { IsProcedure (procedure_seen procedure.now) }
+    requires start { procedure.now.start ≡ length out.old.items }
+    requires short { jtab_of (procedure_seen procedure.now) ≤ 65534 }
+    ensures bytes { OnOk result (out.new.items ≡ out.old.items
+        ++ procedure_bytes number (procedure_seen procedure.now)) }
+{
+    push_code(out, &procedure.items)?;
+    push_distances(out, &procedure.entries)?;
+    push_attributes(out, number, procedure)
+}
+
+/// Adds procedures that are numbered from 1, and answers where their tables stand.
+fn push_procedures(
+    alloc: Global,
+    out: &mut Vec<u8>,
+    procedures: &[Procedure],
+) -> Result<Vec<usize>, AllocError>
+    requires procedures { AllByRecursion IsProcedure (map procedure_seen procedures.now) }
+    requires follow { FollowFrom (length out.old.items) (map procedure_seen procedures.now) }
+    requires short { procedures_end (length out.old.items) (map procedure_seen procedures.now) ≤ 65534 }
+    requires few { length procedures.now < 256 }
+    ensures bytes { OnOk result (out.new.items ≡ out.old.items
+        ++ procedures_bytes 1 (map procedure_seen procedures.now)) }
+    ensures tables { IfOk result (λ tables. tables.items ≡ map jtab_of (map procedure_seen procedures.now)) }
+{
+    let mut tables = Vec::new(alloc);
+    for done in 0..procedures.len() {
+        push_procedure(out, (done + 1) as u8, &procedures[done])?;
+        tables.push(out.len() - 2)?;
+    }
+    Ok(tables)
+}
+
+/// Adds the dictionary of a segment whose tables stand at these places, and the word with its number and the count of
+/// its procedures.
+pub(crate) fn push_dictionary(
+    out: &mut Vec<u8>,
+    number: u8,
+    tables: &[usize],
+) -> Result<(), AllocError>
+    requires few { length tables.now < 256 }
+    requires short { length out.old.items + 2 * length tables.now ≤ 65536 }
+    ensures bytes { OnOk result (out.new.items ≡ out.old.items
+        ++ (entry_bytes (length out.old.items) (reverse tables.now) ++ number ∷ length tables.now ∷ [])) }
+{
+    push_distances(out, tables)?;
+    out.push(number)?;
+    out.push(tables.len() as u8)?;
+    Ok(())
+}
+
+/// The bytes of a segment: its procedures, its dictionary, and the word with its number and the count of its
+/// procedures.
+pub(crate) fn segment_bytes(alloc: Global, segment: &Segment) -> Result<Vec<u8>, AllocError>
+    requires segment { IsSegment (segment_seen segment.now) }
+    requires short { length (segment_bytes (segment_seen segment.now)) ≤ 65534 }
+    ensures bytes { IfOk result (λ bytes. bytes.items ≡ segment_bytes (segment_seen segment.now)) }
+{
+    let mut bytes = Vec::new(alloc);
+    let tables = push_procedures(alloc, &mut bytes, &segment.procedures)?;
+    push_dictionary(&mut bytes, segment.number, &tables)?;
+    Ok(bytes)
+}

@@ -1,0 +1,121 @@
+//! How many bytes code has. Each answer is `None` only where it would pass `usize::MAX`: memory cannot hold such code.
+
+ghost use Rattle.std.specs.Prelude.{◌≡◌, ◌<◌, ◌+◌, None, IfSome, length, map};
+ghost use Rattle.pm_opcode.specs.Spelling.{is_odd, is_sized, spelled_number, pad_byte, spelling};
+ghost use Rattle.pm_code.specs.Item.{size};
+ghost use Rattle.pm_code.specs.Program.{FollowFrom, end_of, jtab_of, procedures_end, segment_bytes};
+ghost use Rattle.pm_code.specs.Views.{item_seen, placed_item, procedure_seen, segment_seen};
+
+use crate::item::Item;
+use crate::program::{Procedure, Segment};
+use pm_opcode::{Form, Instr, form_at};
+
+/// How many bytes a number has.
+fn number_size(value: u16, long: bool) -> usize
+    ensures size { result ≡ length (spelled_number value long) }
+{
+    if long || value >= 128 { 2 } else { 1 }
+}
+
+/// How many bytes the padding before an odd address has.
+fn padding_size(odd: bool) -> usize
+    ensures size { result ≡ length (pad_byte odd 0) }
+{
+    if odd { 1 } else { 0 }
+}
+
+/// Whether the operands of a comparison of this type have a size.
+fn has_size(operand_type: u16) -> bool
+    ensures sized { result ≡ is_sized operand_type }
+{
+    operand_type == 10 || operand_type == 12
+}
+
+/// How many bytes an instruction has at an offset, with the bytes that it names.
+fn spelling_size(at: usize, instr: &Instr, named: &[u8]) -> Option<usize>
+    ensures size { IfSome result (λ n. n ≡ length (spelling (is_odd at) 0 instr.now named.now)) }
+    ensures too_long { result ≡ None → 18446744073709551615 < length (spelling (is_odd at) 0 instr.now named.now) }
+{
+    let odd = at % 2 == 1;
+    match form_at(instr.op) {
+        Form::Plain | Form::Unassigned => Some(1),
+        Form::Ub | Form::Sb | Form::Db => Some(2),
+        Form::UbUb | Form::W => Some(3),
+        Form::B => Some(1 + number_size(instr.a, instr.long)),
+        Form::UbB | Form::DbB => Some(2 + number_size(instr.b, instr.long)),
+        Form::Typed if has_size(instr.a) => Some(2 + number_size(instr.b, instr.long)),
+        Form::Typed => Some(2),
+        Form::Chars => named.len().checked_add(2),
+        Form::Words => named.len().checked_add(2 + padding_size(odd)),
+        Form::Jumps => named.len().checked_add(7 + padding_size(!odd)),
+    }
+}
+
+impl<P> Item<P> {
+    /// How many bytes it has where it begins at an offset of its segment, wherever its jumps lead; an even or an odd
+    /// offset decides the padding. `None` only where it would pass `usize::MAX`.
+    pub fn size(&self, at: usize) -> Option<usize>
+        ensures size { IfSome result (λ n. n ≡ size at (item_seen (λ p. p) self.now)) }
+        ensures too_long { result ≡ None → 18446744073709551615 < size at (item_seen (λ p. p) self.now) }
+    {
+        match self {
+            Item::Plain(instr, named) => spelling_size(at, instr, named),
+            Item::Jump(_, _) => Some(2),
+            Item::Case { places, .. } => {
+                let fixed = 7 + padding_size(at % 2 != 1);
+                places.len().checked_mul(2)?.checked_add(fixed)
+            }
+            Item::OneByte(_) => Some(1),
+        }
+    }
+}
+
+/// Where items end that begin at an offset of their segment. `None` only where it would pass `usize::MAX`.
+pub fn items_end<P>(at: usize, items: &[Item<P>]) -> Option<usize>
+    ensures end { IfSome result (λ n. n ≡ end_of at (map (item_seen (λ p. p)) items.now)) }
+    ensures too_long { result ≡ None → 18446744073709551615 < end_of at (map (item_seen (λ p. p)) items.now) }
+{
+    let mut end = at;
+    for item in items {
+        end = end.checked_add(item.size(end)?)?;
+    }
+    Some(end)
+}
+
+/// The offset where a procedure ends: behind its code, two bytes for each entry of its jump table, and ten bytes of
+/// attributes.
+fn procedure_end(procedure: &Procedure) -> Option<usize>
+    ensures end { IfSome result (λ n. n ≡ jtab_of (procedure_seen procedure.now) + 2) }
+    ensures too_long { result ≡ None → 18446744073709551615 < jtab_of (procedure_seen procedure.now) + 2 }
+{
+    let code = items_end(procedure.start, &procedure.items)?;
+    let entries = procedure.entries.len().checked_mul(2)?;
+    let end = code.checked_add(entries)?.checked_add(10)?;
+    Some(end)
+}
+
+/// Where the procedures of a segment end, of which each begins where the one before ends.
+fn procedures_end(procedures: &[Procedure]) -> Option<usize>
+    requires follow { FollowFrom 0 (map procedure_seen procedures.now) }
+    ensures end { IfSome result (λ end. end ≡ procedures_end 0 (map procedure_seen procedures.now)) }
+    ensures too_long { result ≡ None → 18446744073709551615 < procedures_end 0 (map procedure_seen procedures.now) }
+{
+    let mut end = 0;
+    for procedure in procedures {
+        end = procedure_end(procedure)?;
+    }
+    Some(end)
+}
+
+/// How many bytes a segment has: its procedures, of which each begins where the one before ends, a word for each, and
+/// one more. `None` only where it would pass `usize::MAX`.
+pub fn segment_length(segment: &Segment) -> Option<usize>
+    requires follow { FollowFrom 0 (segment_seen segment.now).procedures }
+    ensures size { IfSome result (λ n. n ≡ length (segment_bytes (segment_seen segment.now))) }
+    ensures too_long { result ≡ None → 18446744073709551615 < length (segment_bytes (segment_seen segment.now)) }
+{
+    let end = procedures_end(&segment.procedures)?;
+    let words = segment.procedures.len().checked_mul(2)?;
+    let length = end.checked_add(words)?.checked_add(2)?;
+    Some(length)
+}

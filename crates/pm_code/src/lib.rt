@@ -1,0 +1,28 @@
+//! Programs: items of code, procedures, segments; their bytes, their text, their listing and their code file.
+#![tactic(auto)]
+
+mod bytes;
+mod entries;
+mod image;
+mod instruction;
+mod item;
+pub mod laws;
+mod lengths;
+mod listing;
+mod names;
+mod opcodes;
+mod operands;
+mod program;
+mod shown;
+pub mod worked;
+
+pub use entries::entries_needed;
+pub use image::code_file;
+pub use instruction::Instruction;
+pub use item::{Item, Target};
+pub use lengths::{items_end, segment_length};
+pub use listing::listing_of;
+pub use names::is_name_character;
+pub use opcodes::{CASE_JUMP, JUMP};
+pub use program::{Procedure, Segment};
+pub use shown::Label;

@@ -1,0 +1,11 @@
+//! Names of segments.
+
+ghost use Rattle.std.specs.Prelude.{◌≡◌};
+ghost use Rattle.pm_code.specs.Program.{is_name_character};
+
+/// Whether a byte may stand in a segment's name in a text: 33 to 126 but `;`, `,` and `"`.
+pub fn is_name_character(byte: u8) -> bool
+    ensures character { result ≡ is_name_character byte }
+{
+    (33..=126).contains(&byte) && byte != b';' && byte != b',' && byte != b'"'
+}

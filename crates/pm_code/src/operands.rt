@@ -1,0 +1,148 @@
+//! The operands of instructions as text.
+
+ghost use Rattle.std.specs.Prelude.{◌≡◌, ◌<◌, map, Some};
+ghost use Rattle.std.specs.Fmt.{decimal};
+ghost use Rattle.pm_opcode.specs.Table.{implied};
+ghost use Rattle.pm_code.specs.Text.{escaped, implied_texts, is_plain, number_text, operands_text, quoted};
+ghost use Rattle.pm_code.specs.Text.{signed_text, type_text};
+ghost use Rattle.pm_words.specs.Words.{words_of};
+
+use pm_opcode::implied_number;
+use std::fmt;
+
+/// A word as a signed number.
+#[derive(Clone, Copy)]
+pub(crate) struct Signed(pub u16);
+
+impl fmt::Display for Signed {
+    ghost output = { λ s. Some (signed_text s.0) };
+
+    fn fmt<W: fmt::Write>(&self, f: &mut fmt::Formatter<W>) -> fmt::Result {
+        let word = self.0;
+        if word < 32768 {
+            write!(f, "{word}")
+        } else {
+            let size = 65536 - u32::from(word);
+            write!(f, "-{size}")
+        }
+    }
+}
+
+/// A number of one or two bytes.
+#[derive(Clone, Copy)]
+pub(crate) struct Number {
+    pub value: u16,
+    /// It has two bytes.
+    pub long: bool,
+}
+
+impl fmt::Display for Number {
+    ghost output = { λ n. Some (number_text n.value n.long) };
+
+    fn fmt<W: fmt::Write>(&self, f: &mut fmt::Formatter<W>) -> fmt::Result {
+        let value = self.value;
+        if self.long && value < 128 {
+            write!(f, "{value}!")
+        } else {
+            write!(f, "{value}")
+        }
+    }
+}
+
+/// The type of a comparison's operands, with their size where it has one.
+#[derive(Clone, Copy)]
+pub(crate) struct OperandType {
+    pub code: u16,
+    pub size: Number,
+}
+
+impl fmt::Display for OperandType {
+    ghost output = { λ t. Some (type_text t.code t.size.value t.size.long) };
+
+    fn fmt<W: fmt::Write>(&self, f: &mut fmt::Formatter<W>) -> fmt::Result {
+        let size = self.size;
+        match self.code {
+            2 => write!(f, "REAL"),
+            4 => write!(f, "STR"),
+            6 => write!(f, "BOOL"),
+            8 => write!(f, "SET"),
+            10 => write!(f, "BYTES {size}"),
+            12 => write!(f, "WORDS {size}"),
+            code => write!(f, "{code}"),
+        }
+    }
+}
+
+/// The operand of an opcode that says a number itself, behind a space.
+#[derive(Clone, Copy)]
+pub(crate) struct Implied(pub u8);
+
+impl fmt::Display for Implied {
+    ghost output = { λ i. Some (operands_text (implied_texts (implied i.0))) };
+
+    fn fmt<W: fmt::Write>(&self, f: &mut fmt::Formatter<W>) -> fmt::Result {
+        match implied_number(self.0) {
+            None => Ok(()),
+            Some(n) => write!(f, " {n}"),
+        }
+    }
+}
+
+fn is_plain_byte(byte: u8) -> bool
+    ensures plain { result ≡ is_plain byte }
+{
+    byte != b'"' && byte != b'\\' && byte >= 32 && byte <= 126
+}
+
+/// A byte between quotes.
+#[derive(Clone, Copy)]
+struct Escaped(u8);
+
+impl fmt::Display for Escaped {
+    ghost output = { λ e. Some (escaped e.0) };
+
+    #[tactic(auto, using(std::proofs::lemmas::Fmt::hex_byte))]
+    fn fmt<W: fmt::Write>(&self, f: &mut fmt::Formatter<W>) -> fmt::Result {
+        let byte = self.0;
+        if is_plain_byte(byte) {
+            write!(f, "{}", char::from(byte))
+        } else {
+            write!(f, "\\{byte:02x}")
+        }
+    }
+}
+
+/// Bytes between quotes.
+#[derive(Clone, Copy)]
+pub(crate) struct Quoted<'a>(pub &'a [u8]);
+
+impl fmt::Display for Quoted<'_> {
+    ghost output = { λ q. Some (quoted q.0.now) };
+
+    fn fmt<W: fmt::Write>(&self, f: &mut fmt::Formatter<W>) -> fmt::Result {
+        let bytes = self.0;
+        write!(f, "\"")?;
+        for byte in bytes {
+            write!(f, "{}", Escaped(*byte))?;
+        }
+        write!(f, "\"")
+    }
+}
+
+/// Words, the first behind a space and each other behind a comma.
+#[derive(Clone, Copy)]
+pub(crate) struct Words<'a>(pub &'a [u8]);
+
+impl fmt::Display for Words<'_> {
+    ghost output = { λ w. Some (operands_text (map decimal (words_of w.0.now))) };
+
+    fn fmt<W: fmt::Write>(&self, f: &mut fmt::Formatter<W>) -> fmt::Result {
+        let bytes = self.0;
+        for k in 0..bytes.len() / 2 {
+            let word = u16::from(bytes[2 * k]) + 256 * u16::from(bytes[2 * k + 1]);
+            let lead = if k == 0 { " " } else { ", " };
+            write!(f, "{lead}{word}")?;
+        }
+        Ok(())
+    }
+}

@@ -1,0 +1,81 @@
+//! What is found at a place of code.
+
+ghost use Rattle.std.specs.Prelude.{◌≡◌, ◌<◌, ◌%◌, ◌+◌, ◌-◌, ◌*◌, ◌^◌, IfOk};
+ghost use Rattle.pm_code.specs.Views.{placed_item};
+ghost use Rattle.pm_words.specs.Words.{words_of};
+ghost use Rattle.pm_disasm.specs.Split.{table_places};
+ghost use Rattle.pm_disasm.specs.Views.{found_seen};
+
+use pm_code::{Item, Target};
+use pm_opcode::Instr;
+use std::alloc::{AllocError, Global};
+
+/// The table of a case jump: words that stand from a place of the segment on.
+#[derive(Clone, Copy)]
+pub(crate) struct Table<'a> {
+    /// The place of the first word.
+    pub at: u32,
+    /// The bytes of the words.
+    pub words: &'a [u8],
+}
+
+/// The place that a word of a table names: so far below the word, modulo 65,536.
+pub(crate) fn table_place(at: u32, index: usize, word: u16) -> usize
+    requires index { 2 * index < 2 ^ 63 }
+    ensures place { result ≡ (at + 2 * index + 65536 - word) % 65536 }
+{
+    (at as usize + 2 * index + 65536 - usize::from(word)) % 65536
+}
+
+impl Table<'_> {
+    /// The places that its words name.
+    fn places(self, alloc: Global) -> Result<Vec<usize>, AllocError>
+        ensures places { IfOk result (λ places. places.items
+            ≡ table_places self.entry.at (words_of self.entry.words.now)) }
+    {
+        let at = self.at;
+        let words = self.words;
+        let mut places = Vec::new(alloc);
+        for k in 0..words.len() / 2 {
+            let word = u16::from(words[2 * k]) + 256 * u16::from(words[2 * k + 1]);
+            places.push(table_place(at, k, word))?;
+        }
+        Ok(places)
+    }
+}
+
+/// An instruction that is found: an item of a program, if it is written as one. It borrows the bytes that it names.
+#[derive(Clone, Copy)]
+pub(crate) enum Found<'a> {
+    /// An instruction that names no place, and the bytes that it names.
+    Plain(Instr, &'a [u8]),
+    /// A short jump: its opcode and where it leads.
+    Jump(u8, Target<usize>),
+    /// A case jump: its bounds, where the jump out of them leads, and its table.
+    Case(u16, u16, Target<usize>, Table<'a>),
+}
+
+impl Found<'_> {
+    /// The item that it is.
+    pub(crate) fn item(self, alloc: Global) -> Result<Item<usize>, AllocError>
+        ensures item { IfOk result (λ item. placed_item item ≡ found_seen self.entry) }
+    {
+        match self {
+            Found::Plain(instr, named) => {
+                let mut copy = Vec::new(alloc);
+                copy.extend_from_slice(named)?;
+                Ok(Item::Plain(instr, copy))
+            }
+            Found::Jump(opcode, target) => Ok(Item::Jump(opcode, target)),
+            Found::Case(low, high, otherwise, table) => {
+                let places = table.places(alloc)?;
+                Ok(Item::Case {
+                    low,
+                    high,
+                    otherwise,
+                    places,
+                })
+            }
+        }
+    }
+}

@@ -11,6 +11,3 @@ columns_ascii (c ∷ cs) h = IsAscii-append c (flat_map (λ column. column) cs) 
 
 pub columns_utf8 : (cs : List (List ℕ)) → AllByRecursion IsAscii cs → IsUtf8 (flat_map (λ column. column) cs)
 columns_utf8 cs h = IsUtf8-from_ascii (flat_map (λ column. column) cs) (columns_ascii cs h)
-
-pub ascii_utf8 : (characters : List ℕ) → IsAscii characters → IsUtf8 characters
-ascii_utf8 characters h = IsUtf8-from_ascii characters h

@@ -1,5 +1,7 @@
 pub mod Zeros
 pub mod Columns
-pub mod StepLaws
-pub mod GoLaws
 pub mod ChainLaws
+pub mod GoLaws
+pub mod Decimals
+pub mod ShortText
+pub mod StateLine

@@ -6,7 +6,7 @@ use Rattle.std.specs.Fmt.{decimal}
 use Rattle.std.proofs.lemmas.Bool.{ltb-false}
 use Rattle.std.proofs.lemmas.Bool.Decides.{nat_tests}
 use Rattle.std.proofs.lemmas.Fmt.{decimal_digit, decimal_step}
-use Rattle.pm_disasm.specs.Shown.{padded}
+use Rattle.pm_code.specs.Shown.{padded}
 
 zeros : ℕ → List ℕ
 zeros k = replicate k 48
@@ -54,16 +54,18 @@ five_digits n h =
     ∙ ap (λ u. u ++ (48 + n / 10 / 10 % 10) ∷ []) (padded_step 0 (n / 10 / 10 / 10) (omega arith)
     ∙ ap (λ u. u ++ (48 + n / 10 / 10 / 10 % 10) ∷ []) (padded_last (n / 10 / 10 / 10 / 10) (omega arith)))))
 
--- a count in eight digits
-pub eight_digits : (n : ℕ) → n < 100000000 → padded 8 n ≡ (48 + n / 10 / 10 / 10 / 10 / 10 / 10 / 10) ∷ (48 + n / 10 / 10 / 10 / 10 / 10 / 10 % 10)
-    ∷ (48 + n / 10 / 10 / 10 / 10 / 10 % 10) ∷ (48 + n / 10 / 10 / 10 / 10 % 10) ∷ (48 + n / 10 / 10 / 10 % 10) ∷ (48 + n / 10 / 10 % 10)
-    ∷ (48 + n / 10 % 10) ∷ (48 + n % 10) ∷ []
-eight_digits n h =
-    padded_step 6 n (omega arith)
-    ∙ ap (λ u. u ++ (48 + n % 10) ∷ []) (padded_step 5 (n / 10) (omega arith)
-    ∙ ap (λ u. u ++ (48 + n / 10 % 10) ∷ []) (padded_step 4 (n / 10 / 10) (omega arith)
-    ∙ ap (λ u. u ++ (48 + n / 10 / 10 % 10) ∷ []) (padded_step 3 (n / 10 / 10 / 10) (omega arith)
-    ∙ ap (λ u. u ++ (48 + n / 10 / 10 / 10 % 10) ∷ []) (padded_step 2 (n / 10 / 10 / 10 / 10) (omega arith)
-    ∙ ap (λ u. u ++ (48 + n / 10 / 10 / 10 / 10 % 10) ∷ []) (padded_step 1 (n / 10 / 10 / 10 / 10 / 10) (omega arith)
-    ∙ ap (λ u. u ++ (48 + n / 10 / 10 / 10 / 10 / 10 % 10) ∷ []) (padded_step 0 (n / 10 / 10 / 10 / 10 / 10 / 10) (omega arith)
-    ∙ ap (λ u. u ++ (48 + n / 10 / 10 / 10 / 10 / 10 / 10 % 10) ∷ []) (padded_last (n / 10 / 10 / 10 / 10 / 10 / 10 / 10) (omega arith))))))))
+-- a count in seven digits
+pub seven_digits : (n : ℕ) → n < 10000000 → padded 7 n ≡ (48 + n / 10 / 10 / 10 / 10 / 10 / 10) ∷ (48 + n / 10 / 10 / 10 / 10 / 10 % 10)
+    ∷ (48 + n / 10 / 10 / 10 / 10 % 10) ∷ (48 + n / 10 / 10 / 10 % 10) ∷ (48 + n / 10 / 10 % 10) ∷ (48 + n / 10 % 10) ∷ (48 + n % 10) ∷ []
+seven_digits n h =
+    padded_step 5 n (omega arith)
+    ∙ ap (λ u. u ++ (48 + n % 10) ∷ []) (padded_step 4 (n / 10) (omega arith)
+    ∙ ap (λ u. u ++ (48 + n / 10 % 10) ∷ []) (padded_step 3 (n / 10 / 10) (omega arith)
+    ∙ ap (λ u. u ++ (48 + n / 10 / 10 % 10) ∷ []) (padded_step 2 (n / 10 / 10 / 10) (omega arith)
+    ∙ ap (λ u. u ++ (48 + n / 10 / 10 / 10 % 10) ∷ []) (padded_step 1 (n / 10 / 10 / 10 / 10) (omega arith)
+    ∙ ap (λ u. u ++ (48 + n / 10 / 10 / 10 / 10 % 10) ∷ []) (padded_step 0 (n / 10 / 10 / 10 / 10 / 10) (omega arith)
+    ∙ ap (λ u. u ++ (48 + n / 10 / 10 / 10 / 10 / 10 % 10) ∷ []) (padded_last (n / 10 / 10 / 10 / 10 / 10 / 10) (omega arith)))))))
+
+-- the last of eight digits behind the others
+pub last_of_eight : (n : ℕ) → n < 100000000 → padded 8 n ≡ padded 7 (n / 10) ++ (48 + n % 10) ∷ []
+last_of_eight n h = padded_step 6 n (omega arith)

@@ -2,7 +2,7 @@
 use Rattle.std.specs.Prelude.{ℕ, ◌==◌, List, [], ◌∷◌, ◌++◌, codes, Option, None, Some, if◌then◌else◌}
 use Rattle.pm_words.specs.Words.{word_at}
 use Rattle.pm_machine.specs.State.{State}
-use Rattle.pm_disasm.specs.Shown.{padded}
+use Rattle.pm_code.specs.Shown.{padded}
 use Rattle.pm_disasm.specs.Text.{line_text}
 use Rattle.pm_words.specs.declared.layout.TheConstants.{STACK_END}
 

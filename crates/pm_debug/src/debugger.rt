@@ -5,7 +5,8 @@ ghost use Rattle.std.specs.Borrow.{sem};
 ghost use Rattle.pm_debug.specs.Breaks.{break_at, with_break, without_break};
 ghost use Rattle.pm_debug.specs.Lending.{LendsMachine};
 ghost use Rattle.pm_debug.specs.Refusals.{or_refused};
-ghost use Rattle.pm_debug.specs.Runs.{GaveUpUnbroken, gone};
+ghost use Rattle.pm_debug.specs.Runs.{breaks_after, gone};
+ghost use Rattle.pm_machine.specs.Runs.{GaveUp};
 ghost use Rattle.pm_debug.specs.Trace.{trace_line};
 ghost use Rattle.pm_debug.specs.Views.{ShowsChain, dynamic_chain, local, stack_words, static_chain};
 
@@ -115,7 +116,7 @@ impl Debugger {
         ensures breaks { self.new.breaks ≡ self.old.breaks }
         ensures gone { IfOk result (λ r. gone self.old.breaks limit self.old.machine.state
             ≡ record { steps = r.0; reason = r.1; machine = self.new.machine.state }) }
-        ensures err { OnErr result (GaveUpUnbroken self.old.breaks limit self.old.machine self.new.machine) }
+        ensures err { OnErr result (GaveUp (breaks_after self.old.breaks) limit self.old.machine self.new.machine) }
     {
         let gone = run(&mut self.machine, &self.breaks, limit)?;
         Ok(gone)

@@ -3,27 +3,25 @@
 ghost use Rattle.std.specs.Prelude.{◌≡◌, ◌<◌, ◌∷◌, Some};
 ghost use Rattle.std.specs.List.{AllByRecursion, flat_map};
 ghost use Rattle.std.specs.Str.{IsAscii};
-ghost use Rattle.pm_disasm.specs.Shown.{padded};
+ghost use Rattle.pm_code.specs.Shown.{padded};
 ghost use Rattle.pm_debug.specs.Trace.{top_text};
 
 use std::fmt;
 
-/// A count in eight digits.
-#[tactic(auto, using(crate::proofs::Zeros::eight_digits))]
-fn eight_digits(count: u32) -> [u8; 8]
-    requires few { count < 100000000 }
-    ensures digits { result ≡ padded 8 count }
-    ensures ascii { IsAscii result }
+/// A count in seven digits.
+#[inline(never)]
+#[tactic(auto, using(crate::proofs::Zeros::seven_digits))]
+pub(crate) fn seven_digits(count: u32) -> [u8; 7]
+    requires few { count < 10000000 }
+    ensures digits { result ≡ padded 7 count }
 {
     let tens = count / 10;
     let hundreds = tens / 10;
     let thousands = hundreds / 10;
     let fifth = thousands / 10;
     let sixth = fifth / 10;
-    let seventh = sixth / 10;
     [
-        b'0' + (seventh / 10) as u8,
-        b'0' + (seventh % 10) as u8,
+        b'0' + (sixth / 10) as u8,
         b'0' + (sixth % 10) as u8,
         b'0' + (fifth % 10) as u8,
         b'0' + (thousands % 10) as u8,
@@ -40,24 +38,11 @@ pub(crate) struct Count(pub u64);
 impl fmt::Display for Count {
     ghost output = { λ c. Some (padded 8 c.0) };
 
-    #[tactic(auto, using(pm_disasm::proofs::Digits::padded_written))]
+    #[tactic(auto, using(pm_code::proofs::Digits::padded_written))]
     fn fmt<W: fmt::Write>(&self, f: &mut fmt::Formatter<W>) -> fmt::Result {
         let count = self.0;
-        if count >= 100_000_000 {
-            return write!(f, "{count:08}");
-        }
-        let digits = eight_digits(count as u32);
-        f.write_str(ascii_text(&digits))
+        write!(f, "{count:08}")
     }
-}
-
-/// Characters as a text.
-#[tactic(auto, using(crate::proofs::Columns::ascii_utf8))]
-fn ascii_text(characters: &[u8]) -> &str
-    requires ascii { IsAscii characters.now }
-    ensures text { result.now ≡ characters.now }
-{
-    unsafe { str::from_utf8_unchecked(characters) }
 }
 
 /// A space and five characters.
@@ -99,5 +84,5 @@ pub(crate) fn joined(columns: &[Column]) -> &str
     requires ascii { AllByRecursion IsAscii columns.now }
     ensures text { result.now ≡ flat_map (λ column. column) columns.now }
 {
-    unsafe { str::from_utf8_unchecked(columns.as_flattened()) }
+    str::from_utf8(columns.as_flattened()).unwrap()
 }

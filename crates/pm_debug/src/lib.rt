@@ -4,11 +4,15 @@
 mod breaks;
 mod debugger;
 mod digits;
+mod kept_digits;
+pub mod laws;
+mod number_text;
 mod reason;
 mod refusal;
 mod run;
 mod state_line;
 mod text;
+mod tracer;
 mod views;
 
 pub use breaks::Breakpoint;
@@ -17,6 +21,7 @@ pub use reason::BreakReason;
 pub use refusal::DebugRefusal;
 pub use state_line::TraceLine;
 pub use text::trace_line;
+pub use tracer::Tracer;
 
 #[cfg(test)]
 mod tests;

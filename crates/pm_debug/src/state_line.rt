@@ -52,7 +52,7 @@ impl fmt::Display for TraceLine<'_> {
 
 /// The word at the top of the stack.
 #[tactic(auto, unfolding(crate::specs::Trace::top_word))]
-fn top(memory: &Memory, sp: u16) -> Option<u16>
+pub(crate) fn top(memory: &Memory, sp: u16) -> Option<u16>
     requires even { sp % 2 ≡ 0 }
     ensures word { result ≡ top_word memory.now.words sp }
 {

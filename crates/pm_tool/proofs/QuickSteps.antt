@@ -26,6 +26,18 @@ quick_steps_unshown save limit s count t g = record {
       ∙ drop_whole s.devices.console;
 }
 
+-- one step that was made the quick way, or none
+pub quick_step_went : (s : State) (count : ℕ) (t : State) → QuickSteps 1 s count t → count ≡ 1 → stepped s ≡ (t, Went)
+unfolding after_steps
+quick_step_went s count t g e =
+    let went : (stepped s).1 ≡ Went = g.went 0 (omega (arith, e)) in
+    let left : t ≡ (stepped s).0 = g.left ∙ ap (λ k. after_steps k s) e in
+    rw left (ap (λ a. ((stepped s).0, a)) went)
+
+pub quick_step_none : (s : State) (count : ℕ) (t : State) → QuickSteps 1 s count t → count ≡ 0 → t ≡ s
+unfolding after_steps
+quick_step_none s count t g none = g.left ∙ ap (λ k. after_steps k s) none
+
 pub unshown_none : (limit : ℕ) (s : State) → Unshown Trace limit s 0 s
 unfolding after_steps
 unshown_none limit s = record { within = omega arith; went = λ k h. absurd (omega arith); left = refl; blank = λ k h. absurd (omega arith) }

@@ -6,7 +6,7 @@ ghost use Rattle.pm_tool.specs.Run.{ComesToEnd, StopsShort, Unshown, is_console,
 ghost use Rattle.pm_streams.specs.Streams.{AppendsBut, AppendsFront, IsCause, IsCounted, AreWell, both};
 
 use crate::ending::Ending;
-use pm_debug::TraceLine;
+use pm_debug::Tracer;
 use pm_machine::{Machine, Stop};
 use pm_streams::{Fault, Sink, Source, next_byte, write_all};
 use std::alloc::{AllocError, Global};
@@ -20,23 +20,33 @@ pub(crate) enum Show {
     Console { save: bool },
 }
 
+/// Makes one step, the quick way where that can.
+fn next_step(machine: &mut Machine) -> Result<Stop, AllocError>
+    ensures next { IfOk result (λ stop. stepped machine.old.state ≡ (machine.new.state, stop)) }
+{
+    if machine.quick_steps(1) == 1 {
+        return Ok(Stop::Went);
+    }
+    let stop = machine.step()?;
+    Ok(stop)
+}
+
 /// Makes one step. Its line goes onto the page, unless the step waits.
 #[inline(never)]
 fn traced_step(
     machine: &mut Machine,
-    line: &mut String,
+    tracer: &mut Tracer,
     page: &mut Vec<u8>,
 ) -> Result<Stop, AllocError>
     ensures next { IfOk result (λ stop. stepped machine.old.state ≡ (machine.new.state, stop)) }
     ensures page { IfOk result (λ stop. page.new.items
         ≡ page.old.items ++ shown_by Show.Trace machine.old.state machine.new.state stop) }
 {
-    line.clear();
-    let before = TraceLine::new(machine);
-    writeln!(line, "{before}")?;
-    let stop = machine.step()?;
-    if !matches!(stop, Stop::Waiting) {
-        page.extend_from_slice(line.as_bytes())?;
+    let start = page.len();
+    tracer.add_line(page, machine)?;
+    let stop = next_step(machine)?;
+    if matches!(stop, Stop::Waiting) {
+        page.truncate(start);
     }
     Ok(stop)
 }
@@ -60,7 +70,7 @@ fn console_step(machine: &mut Machine, page: &mut Vec<u8>) -> Result<Stop, Alloc
 fn step(
     machine: &mut Machine,
     show: Show,
-    line: &mut String,
+    tracer: &mut Tracer,
     page: &mut Vec<u8>,
 ) -> Result<Stop, AllocError>
     ensures next { IfOk result (λ stop. stepped machine.old.state ≡ (machine.new.state, stop)) }
@@ -68,7 +78,7 @@ fn step(
         ≡ page.old.items ++ shown_by show machine.old.state machine.new.state stop) }
 {
     match show {
-        Show::Trace => traced_step(machine, line, page),
+        Show::Trace => traced_step(machine, tracer, page),
         Show::Console { .. } => console_step(machine, page),
     }
 }
@@ -138,12 +148,12 @@ pub(crate) fn drive<R: Source, W: Sink>(
         (both (R.seen source.new) (W.seen sink.new)) show limit machine.old.state fault) }
     ensures counts { IsCounted (R.seen source.old) (R.seen source.new) result }
 {
-    let mut line = String::new(alloc);
+    let mut tracer = Tracer::new(alloc);
     let mut page = Vec::new(alloc);
     let mut went = 0;
     let mut taken = 0;
     'steps: while went < limit {
-        match step(machine, show, &mut line, &mut page)? {
+        match step(machine, show, &mut tracer, &mut page)? {
             Stop::Went => {
                 went += 1;
                 turn_page(sink, &mut page, show)?;

@@ -1,0 +1,92 @@
+//! Digits that are kept, since they seldom change from one line of a trace to the next.
+
+ghost use Rattle.std.specs.Prelude.{◌≡◌, ◌<◌, ◌∷◌};
+ghost use Rattle.pm_code.specs.Shown.{padded};
+
+use crate::digits::{Column, column, seven_digits};
+use std::marker::Model;
+
+/// A word and its column, seen as the word.
+#[derive(Drop)]
+pub(crate) struct KeptColumn {
+    word: u16,
+    column: Column,
+}
+
+impl Model for KeptColumn {
+    ghost use Rattle.std.specs.Prelude.{ℕ, ◌≡◌, ◌∷◌};
+    ghost use Rattle.pm_code.specs.Shown.{padded};
+
+    ghost Value = { ℕ };
+
+    ghost view = { λ k. k.word };
+
+    ghost invariant = { λ k. record {
+      digits : k.column ≡ 32 ∷ padded 5 k.word;
+    } };
+}
+
+impl KeptColumn {
+    /// The column of 0.
+    pub(crate) fn new() -> KeptColumn {
+        KeptColumn {
+            word: 0,
+            column: column(0),
+        }
+    }
+
+    /// The column of a word, which is kept.
+    #[inline(always)]
+    pub(crate) fn of(&mut self, word: u16) -> Column
+        ensures digits { result ≡ 32 ∷ padded 5 word }
+    {
+        if self.word != word {
+            self.word = word;
+            self.column = column(word);
+        }
+        self.column
+    }
+}
+
+/// A number of tens and its seven digits, seen as the number.
+#[derive(Drop)]
+pub(crate) struct KeptTens {
+    tens: u32,
+    digits: [u8; 7],
+}
+
+impl Model for KeptTens {
+    ghost use Rattle.std.specs.Prelude.{ℕ, ◌≡◌, ◌∷◌};
+    ghost use Rattle.pm_code.specs.Shown.{padded};
+
+    ghost Value = { ℕ };
+
+    ghost view = { λ k. k.tens };
+
+    ghost invariant = { λ k. record {
+      digits : k.digits ≡ padded 7 k.tens;
+    } };
+}
+
+impl KeptTens {
+    /// The digits of 0.
+    pub(crate) fn new() -> KeptTens {
+        KeptTens {
+            tens: 0,
+            digits: seven_digits(0),
+        }
+    }
+
+    /// A number of tens in seven digits, which are kept.
+    #[inline(always)]
+    pub(crate) fn of(&mut self, tens: u32) -> [u8; 7]
+        requires few { tens < 10000000 }
+        ensures digits { result ≡ padded 7 tens }
+    {
+        if self.tens != tens {
+            self.tens = tens;
+            self.digits = seven_digits(tens);
+        }
+        self.digits
+    }
+}

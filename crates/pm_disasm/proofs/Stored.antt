@@ -4,7 +4,7 @@ use Rattle.std.proofs.Common.{drop, get_or, reverse, refl, sym, ap, ◌∙◌, a
 use Rattle.std.specs.Prelude.{nat_le}
 use Rattle.std.specs.List.{AllByRecursion}
 use Rattle.std.proofs.Math.Seq.{take-add}
-use Rattle.std.proofs.lemmas.List.{get_or-drop, reverse-append, length-reverse}
+use Rattle.std.proofs.lemmas.List.{get_or-drop, length-reverse}
 use Rattle.std.proofs.lemmas.Bool.{and_from, and_parts, le-leb, leb-true}
 use Rattle.pm_opcode.specs.Spelling.{spelled_word}
 use Rattle.pm_codefile.specs.Dictionary.{word_in}

@@ -1,18 +1,15 @@
 -- What the text of code says of its bytes.
-use Rattle.std.specs.Prelude.{◌≡◌, ℕ, ◌+◌, ◌-◌, ◌<◌, ◌≤◌, Bool, true, false, List, [], ◌∷◌, ◌++◌, length}
-use Rattle.std.specs.Prelude.{drop, replicate, ◌==◌, if◌then◌else◌, Option, Some, None, option_map}
+use Rattle.std.specs.Prelude.{◌≡◌, ℕ, ◌+◌, ◌<◌, ◌≤◌, Bool, true, false, List, ◌++◌, length}
+use Rattle.std.specs.Prelude.{drop, Option, Some, None}
 use Rattle.std.specs.Int.{w8, cast_signed}
 use Rattle.std.specs.List.{AllByRecursion, AllZip}
 use Rattle.pm_codefile.specs.declared.table.Attributes.{Attributes}
-use Rattle.pm_codefile.specs.Dictionary.{segment_in, slot_in}
 use Rattle.pm_code.specs.Item.{Item, IsItem, IsByte, item_bytes, size, is_instruction}
 use Rattle.pm_code.specs.Program.{Procedure, Segment, AreItems, AreInstructions, FitSlots, IsIn, IsProcedure}
 use Rattle.pm_code.specs.Program.{IsProgram, NamesWithin, boundaries, code_bytes, jtab_of, procedure_bytes}
-use Rattle.pm_code.specs.Program.{segment_bytes}
 use Rattle.pm_disasm.specs.Split.{Front, fits, front, items_in, procedure_of, procedure_with}
 use Rattle.pm_code.specs.Laws.{Holds, IsSameSegment}
 use Rattle.pm_disasm.specs.Shown.{file_text}
-use Rattle.pm_code.specs.Laws.{name_of}
 use Rattle.pm_code.specs.Shown.{program_text}
 
 -- An instruction is read in its own bytes, whatever follows.

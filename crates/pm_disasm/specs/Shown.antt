@@ -1,18 +1,12 @@
 -- Code files as text.
-use Rattle.std.specs.Prelude.{ℕ, zero, suc, ◌+◌, ◌-◌, Bool, List, [], ◌∷◌, ◌++◌, length, map, replicate}
+use Rattle.std.specs.Prelude.{ℕ, zero, suc, ◌+◌, List, [], ◌∷◌, ◌++◌, map}
 use Rattle.std.specs.Prelude.{reverse, nat_lt, ◌==◌, if◌then◌else◌, codes, Option, Some, None}
 use Rattle.std.specs.Fmt.{decimal}
 unfoldable pub use Rattle.pm_base.specs.Decimals.{padded}
-use Rattle.pm_opcode.specs.Table.{mnemonic_of, form_of}
 use Rattle.pm_codefile.specs.declared.table.Attributes.{Attributes}
-use Rattle.pm_codefile.specs.declared.file.Slot.{Slot}
 use Rattle.pm_codefile.specs.Dictionary.{segment_in, slot_in}
 use Rattle.pm_codefile.specs.Segments.{attributes_in, procedures_in}
-use Rattle.pm_code.specs.Text.{operands_text, operand_texts, signed_text}
-use Rattle.pm_code.specs.Item.{Item, Target, case_opcode, size}
-use Rattle.pm_code.specs.Item.Item.{Plain, Jump, Case, OneByte}
-use Rattle.pm_code.specs.Item.Target.{To, Through}
-use Rattle.pm_code.specs.Program.{Procedure, Segment, is_among, is_name_character, item_places}
+use Rattle.pm_code.specs.Program.{is_name_character}
 use Rattle.pm_disasm.specs.Split.{procedure_of}
 use Rattle.pm_code.specs.Shown.{joined, procedure_lines, segment_line}
 use Rattle.pm_code.specs.Laws.{name_of}

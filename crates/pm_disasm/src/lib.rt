@@ -14,6 +14,7 @@ mod place;
 mod places;
 mod procedures;
 mod segments;
+mod shown_tables;
 mod text;
 mod written;
 

@@ -14,6 +14,7 @@ ghost use Rattle.pm_disasm.specs.Shown.{shown_name, slot_lines, slots_lines, tab
 use crate::decoded::decode_segment;
 use crate::front::{Front, front_at};
 use crate::procedures::push_table;
+use crate::shown_tables::push_table_once;
 use pm_code::is_name_character;
 use pm_codefile::{Attributes, CodeFile, attributes, procedures};
 use std::alloc::{AllocError, Global};
@@ -65,10 +66,11 @@ fn push_tables(alloc: Global, text: &mut String, segment: &[u8]) -> Result<(), A
         ≡ string_bytes text.old ++ joined (tables_lines segment.now 1 (procedures_in segment.now))) }
 {
     let decoded = decode_segment(alloc, segment)?;
+    let mut shown = Vec::new(alloc);
     for done in 0..procedures(segment) {
         let number = done + 1;
         match attributes(segment, number) {
-            Some(a) => push_table(alloc, text, segment, &decoded, &a)?,
+            Some(a) => push_table_once(alloc, text, segment, &decoded, &mut shown, a)?,
             None => writeln!(text, "; procedure {number}")?,
         }
     }

@@ -1,0 +1,68 @@
+//! Tables of a segment that were shown already.
+
+ghost use Rattle.std.specs.Prelude.{◌≡◌, ◌≤◌, ◌++◌, List, ℕ, length, string_bytes, IfSome, OnOk};
+ghost use Rattle.std.specs.List.{AllByRecursion};
+ghost use Rattle.pm_disasm.specs.Chosen.{IsTable};
+ghost use Rattle.pm_disasm.specs.Offsets.{IsDecoded};
+ghost use Rattle.pm_code.specs.Shown.{joined};
+ghost use Rattle.pm_disasm.specs.Shown.{table_lines};
+ghost use Rattle.pm_disasm.specs.ShownTables.{IsShownTable};
+
+use crate::decoded::Decoded;
+use crate::procedures::push_table;
+use pm_codefile::Attributes;
+use std::alloc::{AllocError, Global};
+
+/// A procedure's table, and the text that is shown for it.
+#[derive(Drop)]
+pub(crate) struct ShownTable {
+    /// The table.
+    pub table: Attributes,
+    /// The text.
+    pub text: String,
+}
+
+/// The text that is shown for a table, if it is among those that were shown.
+fn text_of<'a>(shown: &'a [ShownTable], a: &Attributes) -> Option<&'a str>
+    ensures text { (segment : List ℕ) → AllByRecursion (IsShownTable segment) shown.now
+        → IfSome result (λ text. text.now ≡ joined (table_lines segment a.now)) }
+{
+    for known in shown {
+        if known.table == *a {
+            return Some(known.text.as_str());
+        }
+    }
+    None
+}
+
+/// Adds what is shown for a procedure by its table, a copy where the same table was shown before, and keeps it. Many
+/// words of a dictionary may lead to one table.
+pub(crate) fn push_table_once<'a>(
+    alloc: Global,
+    text: &mut String,
+    segment: &'a [u8],
+    decoded: &Decoded<'a>,
+    shown: &mut Vec<ShownTable>,
+    a: Attributes,
+) -> Result<(), AllocError>
+    requires table { IsTable segment.now a }
+    requires decoded { IsDecoded decoded.now segment.now }
+    requires short { length segment.now ≤ 65534 }
+    requires shown { AllByRecursion (IsShownTable segment.now) shown.old.items }
+    ensures text { OnOk result (string_bytes text.new
+        ≡ string_bytes text.old ++ joined (table_lines segment.now a)) }
+    ensures shown { OnOk result (AllByRecursion (IsShownTable segment.now) shown.new.items) }
+{
+    if let Some(known) = text_of(shown, &a) {
+        text.push_str(known)?;
+        return Ok(());
+    }
+    let mut own = String::new(alloc);
+    push_table(alloc, &mut own, segment, decoded, &a)?;
+    text.push_str(own.as_str())?;
+    shown.push(ShownTable {
+        table: a,
+        text: own,
+    })?;
+    Ok(())
+}

@@ -5,3 +5,4 @@ pub mod GoLaws
 pub mod Decimals
 pub mod ShortText
 pub mod StateLine
+pub mod Pairs

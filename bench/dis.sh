@@ -8,6 +8,7 @@
 #   tables  255 dictionary words that lead to the one table of `counts`, so that its procedure is shown 255 times
 #   worst   255 that lead to the one table of `jumps`
 #   shared  16 slots that share the segment of `tables`
+#   distinct 255 tables at places of their own, each with the code of `jumps` from offset 0 on
 here=$(dirname "$(readlink -f "$0")")/..
 pmach=${1:-$here/pmach}
 runs=${RUNS:-3}
@@ -71,6 +72,15 @@ jumping() { jumps && nops $(($1 - 240)) && times 60 '\x00\x01' && table "$1" "${
 tables() { counts "$1" 255; }
 worst() { jumping "$1" 255; }
 
+# distinct SIZE: words that name themselves, so that each even place from BASE on is a table whose code begins at 0
+distinct() {
+    local base=$(($1 + 136)) at p
+    nops $(($1 - 240)) && times 60 '\xd7\xd7' && jumps
+    for ((at = $1; at < base + 510; at += 2)); do word "$at"; done
+    for ((p = 255; p > 0; p--)); do word $((base + 510 + 2 * (255 - p) - (base + 2 * (p - 1)))); done
+    printf '\x01\xff'
+}
+
 # timed: the least seconds of processor time
 timed() {
     local k
@@ -104,3 +114,4 @@ doubled jumps jumping 29930 1
 doubled tables tables 29730 1
 doubled worst worst 14866 1
 doubled shared tables 7434 16
+doubled distinct distinct 14866 1

@@ -200,3 +200,22 @@ is_taken segment a t n r w h s c e d =
     let m : n ≡ entries_needed (procedure_with segment a true t).items = e ∙ ap entries_needed (items_read segment a t r true w s) in
     let same : (t == entries_needed (procedure_with segment a true t).items) ≡ true = eq-eqb _ _ (sym d ∙ m) in
     sym (fits_if segment a t h ∙ rw (c, same) refl)
+
+-- a count of entries does not fit of which more are taken, whatever test of boundaries decides what is written
+pub more_taken : (segment : List ℕ) (a : Attributes) (t : ℕ) (fs bs : List ℕ) → a.enter ≤ a.exit → a.enter ≤ end_with a t
+    → fs ≡ forced_with segment a t → bs ≡ take (end_with a t) segment
+    → ((test : ℕ → Bool) → t < entries_needed (written_by test true (parts fs 0 a.enter (drop a.enter bs))))
+    → fits segment a t ≡ false
+more_taken segment a t fs bs h inside placed cut more =
+    let ps : List Part = parts_with segment a t in
+    let code : drop a.enter bs ≡ code_with segment a t = ap (drop a.enter) cut ∙ code_there segment a t inside in
+    let whole : parts fs 0 a.enter (drop a.enter bs) ≡ ps =
+    ap (λ xs. parts xs 0 a.enter (drop a.enter bs)) placed ∙ ap (parts (forced_with segment a t) 0 a.enter) code in
+    let ends : List ℕ = ends_of (a.enter + length (code_with segment a t)) ps in
+    let above : t < entries_needed (written_by (is_among ends) true ps) =
+    subst (λ qs. t < entries_needed (written_by (is_among ends) true qs)) whole (more (is_among ends)) in
+    let beyond : t < entries_needed (procedure_with segment a true t).items =
+    subst (λ items. t < entries_needed items) (same_written (is_among ends) ends true ps (λ x. refl)) above in
+    fits_if segment a t h
+    ∙ ap (λ b. can_read segment a t && b) (differ t (entries_needed (procedure_with segment a true t).items) (λ e. absurd (omega (arith, beyond, e))))
+    ∙ and_false (can_read segment a t)

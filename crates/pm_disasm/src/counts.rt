@@ -1,7 +1,7 @@
 //! The count of entries of a procedure's jump table, which its bytes do not say.
 
 ghost use Rattle.std.specs.Prelude.{◌≡◌, ◌<◌, ◌≤◌, ◌^◌, ◌+◌, ◌-◌, ◌*◌, ◌∷◌, [], ◌&&◌};
-ghost use Rattle.std.specs.Prelude.{ℕ, nat_le, true, is_some, length, IfOk, IfSome};
+ghost use Rattle.std.specs.Prelude.{ℕ, nat_le, true, false, is_some, length, IfOk, IfSome};
 ghost use Rattle.pm_codefile.specs.Dictionary.{word_in};
 ghost use Rattle.pm_disasm.specs.Chosen.{IsReading, IsTable, are_inside, can_read, forced_with};
 ghost use Rattle.pm_disasm.specs.Offsets.{IsDecoded};
@@ -9,6 +9,7 @@ ghost use Rattle.pm_disasm.specs.Split.{end_with, fits, procedure_of, procedure_
 
 use crate::decoded::Decoded;
 use crate::parts::{Code, split};
+use crate::taking::takes_more;
 use crate::written::entries_needed;
 use byteorder::{ByteOrder, LittleEndian};
 use pm_codefile::Attributes;
@@ -69,35 +70,52 @@ fn forced_places(
     Ok(Some(forced))
 }
 
-/// The code as it is read with a count of entries, if none leads elsewhere and the exit code does not lie behind the
-/// code's end.
+/// The exit code and the places of the entries with a count of entries, if code can be read so: no entry leads
+/// elsewhere, and the exit code does not lie behind the code's end.
+fn places_within(
+    alloc: Global,
+    segment: &[u8],
+    a: &Attributes,
+    count: u16,
+) -> Result<Option<Vec<u16>>, AllocError>
+    requires table { IsTable segment.now a.now }
+    ensures places { IfOk result (λ r. IfSome r (λ v. v.items ≡ forced_with segment.now a.now count)) }
+    ensures inside { IfOk result (λ r. is_some r ≡ can_read segment.now a.now count) }
+{
+    if usize::from(a.jtab) < usize::from(a.enter) + 8 + 2 * usize::from(count) {
+        return Ok(None);
+    }
+    if a.exit > a.jtab - 8 - 2 * count {
+        return Ok(None);
+    }
+    forced_places(alloc, segment, a, count)
+}
+
+/// The code as it is read with a count of entries, whose places are these, if no short jump takes more entries.
 fn read_with<'a>(
     alloc: Global,
     segment: &'a [u8],
     decoded: &Decoded<'a>,
     a: &Attributes,
     count: u16,
+    forced: Vec<u16>,
 ) -> Result<Option<Reading<'a>>, AllocError>
     requires table { IsTable segment.now a.now }
     requires decoded { IsDecoded decoded.now segment.now }
     requires short { length segment.now ≤ 65534 }
     requires order { a.now.enter ≤ a.now.exit }
+    requires possible { can_read segment.now a.now count ≡ true }
+    requires places { forced.items ≡ forced_with segment.now a.now count }
     ensures reading { IfOk result (λ r. IfSome r (λ r. IsReading segment.now a.now count r)) }
-    ensures inside { IfOk result (λ r. is_some r ≡ can_read segment.now a.now count) }
+    ensures refused { IfOk result (λ r. is_some r ≡ false → fits segment.now a.now count ≡ false) }
 {
-    if usize::from(a.jtab) < usize::from(a.enter) + 8 + 2 * usize::from(count) {
-        return Ok(None);
-    }
-    let end = a.jtab - 8 - 2 * count;
-    if a.exit > end {
-        return Ok(None);
-    }
-    let Some(forced) = forced_places(alloc, segment, a, count)? else {
-        return Ok(None);
-    };
-    let end = usize::from(end);
+    let end = usize::from(a.jtab - 8 - 2 * count);
     let enter = usize::from(a.enter);
-    let code = split(alloc, &segment[..end], &decoded.fronts, enter, &forced)?;
+    let bytes = &segment[..end];
+    if takes_more(bytes, &decoded.fronts, enter, &forced, usize::from(count)) {
+        return Ok(None);
+    }
+    let code = split(alloc, bytes, &decoded.fronts, enter, &forced)?;
     Ok(Some(Reading { forced, end, code }))
 }
 
@@ -120,7 +138,10 @@ fn fitting<'a>(
     if !decoded.counts.contains(usize::from(count)) {
         return Ok(None);
     }
-    let Some(reading) = read_with(alloc, segment, decoded, a, count)? else {
+    let Some(forced) = places_within(alloc, segment, a, count)? else {
+        return Ok(None);
+    };
+    let Some(reading) = read_with(alloc, segment, decoded, a, count, forced)? else {
         return Ok(None);
     };
     let needed = entries_needed(&reading.code.parts, &reading.code.boundaries);

@@ -15,6 +15,7 @@ mod places;
 mod procedures;
 mod segments;
 mod shown_tables;
+mod taking;
 mod text;
 mod written;
 

@@ -14,8 +14,8 @@ returns-then-needed-from-clause-fits c =
     let segment = c.args.segment.now in
     let a = c.args.a.now in
     let t = c.args.count in
-    let r = c.in-Some.reading in
-    let read = given (IsReading segment a t) c.in_ok-reading.field-0 r c.in-Some.is c.in_ok-reading.ensures.reading in
+    let r = c.in-Some-2.reading in
+    let read = given (IsReading segment a t) c.in_ok-reading.field-0 r c.in-Some-2.is c.in_ok-reading.ensures.reading in
     let needed = c.entries_needed-needed.ensures.entries ∙ ap (λ ps. entries_needed
     (written_by (has r.code.boundaries) true (map part_seen ps))) c.deref.ensures.value in
     not_taken segment a t c.entries_needed-needed.result r c.requires.table c.requires.order read needed (λ e. c.if-needed-from.true (e ∙ sym c.from-2.ensures))
@@ -25,11 +25,11 @@ returns-clause-fits c =
     let segment = c.args.segment.now in
     let a = c.args.a.now in
     let t = c.args.count in
-    let r = c.in-Some.reading in
-    let read = given (IsReading segment a t) c.in_ok-reading.field-0 r c.in-Some.is c.in_ok-reading.ensures.reading in
+    let r = c.in-Some-2.reading in
+    let read = given (IsReading segment a t) c.in_ok-reading.field-0 r c.in-Some-2.is c.in_ok-reading.ensures.reading in
     let needed = c.entries_needed-needed.ensures.entries ∙ ap (λ ps. entries_needed
     (written_by (has r.code.boundaries) true (map part_seen ps))) c.deref.ensures.value in
-    let possible = sym c.in_ok-reading.ensures.inside ∙ ap is_some c.in-Some.is in
+    let possible = sym c.in_ok-forced.ensures.inside ∙ ap is_some c.in-Some.is in
     is_taken segment a t c.entries_needed-needed.result r c.requires.table c.requires.order read possible needed (c.if-needed-from.false ∙ c.from-2.ensures)
 
 pub returns-then-not-contains-clause-fits : goal.returns-then-not-contains-clause-fits

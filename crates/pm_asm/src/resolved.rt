@@ -23,6 +23,7 @@ use pm_line::Row;
 use pm_reader::{Entry, row_end};
 use pm_source::AsmFault;
 use std::alloc::Global;
+use std::slice::from_ref;
 
 /// Where the table of a case jump begins: behind the opcode, the padding and three words. `None` only where it would
 /// pass `usize::MAX`.
@@ -164,6 +165,7 @@ fn resolve_row<'a>(
     ensures fault { IfErr result (λ fault. IsFirstOf fault (row_faults (places_in code.now) at (row_seen row.now))) }
 {
     match row {
+        Row::One { line, item, .. } => resolve_items(alloc, code, *line, at, from_ref(item), out),
         Row::Items { line, items, .. } => resolve_items(alloc, code, *line, at, items, out),
         Row::Exit => Ok(()),
     }

@@ -6,3 +6,4 @@ pub mod Counts
 pub mod Cuts
 pub mod Named
 pub mod Wholes
+pub mod EndLines

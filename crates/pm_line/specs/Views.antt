@@ -13,6 +13,8 @@ use Rattle.pm_line.specs.declared.item.Flaw.{Flaw}
 use Rattle.pm_line.specs.declared.item.Flaw.TheVariants as flaws
 use Rattle.pm_line.specs.declared.item.Line.{Line}
 use Rattle.pm_line.specs.declared.item.Line.TheVariants as lines
+use Rattle.pm_line.specs.declared.spoken.SaidItems.{SaidItems}
+use Rattle.pm_line.specs.declared.spoken.SaidItems.TheVariants as alone
 use Rattle.pm_line.specs.declared.keyword.Keyword.{Keyword}
 use Rattle.pm_line.specs.declared.keyword.Keyword.TheVariants as keywords
 use Rattle.pm_line.specs.declared.operand.Number.{Number}
@@ -45,7 +47,13 @@ labelled_item item = item_seen text_seen item
 abbrev pub items_seen : {R : Type 0} → Vec (Item (Bor (List ℕ))) R → List (model.Item Name)
 items_seen list = map labelled_item list.items
 
+-- The items that a line says.
+abbrev pub said_items_seen : SaidItems → List (model.Item Name)
+said_items_seen (alone.One item) = labelled_item item ∷ []
+said_items_seen (alone.Many list) = items_seen list
+
 abbrev pub row_seen : Row → source.Row
+row_seen (rows.One line label item) = Items line (option_map text_seen label) (labelled_item item ∷ [])
 row_seen (rows.Items line label list) = Items line (option_map text_seen label) (items_seen list)
 row_seen rows.Exit = Exit
 

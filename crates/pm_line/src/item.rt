@@ -1,10 +1,24 @@
 //! What lines say.
 
+ghost use Rattle.std.specs.Prelude.{◌≡◌, map};
+ghost use Rattle.pm_line.specs.Views.{labelled_item, row_seen};
+ghost use Rattle.pm_source.specs.Source.{row_items};
+
 use pm_code::Item;
+use std::slice::from_ref;
 
 /// A line of a procedure's code.
 #[derive(Debug, Drop)]
 pub enum Row<'a> {
+    /// One item, with a label before it or without. It takes no memory besides.
+    One {
+        /// The line's number.
+        line: usize,
+        /// The label before the item.
+        label: Option<&'a [u8]>,
+        /// The item.
+        item: Item<&'a [u8]>,
+    },
     /// A label, items, or both.
     Items {
         /// The line's number.
@@ -16,6 +30,19 @@ pub enum Row<'a> {
     },
     /// The place of the exit code.
     Exit,
+}
+
+impl<'a> Row<'a> {
+    /// Its items, in order. The place of the exit code has none.
+    pub fn items(&self) -> &[Item<&'a [u8]>]
+        ensures items { map labelled_item result.now ≡ row_items (row_seen self.now) }
+    {
+        match self {
+            Row::One { item, .. } => from_ref(item),
+            Row::Items { items, .. } => items,
+            Row::Exit => &[],
+        }
+    }
 }
 
 /// A well-formed line that is not blank.

@@ -1,6 +1,7 @@
 //! Lines of the assembler's text: what each says.
 //!
-//! `line` reads one line. What it answers borrows from the text: names and labels are slices of the line.
+//! `line` reads one line. What it answers borrows from the text: names and labels are slices of the line. `line_ends`
+//! tells alone whether it ends a procedure.
 #![tactic(auto)]
 
 mod comparison;
@@ -17,4 +18,4 @@ mod spoken;
 mod words;
 
 pub use item::{Flaw, Line, Row, Statement};
-pub use spoken::line;
+pub use spoken::{line, line_ends};

@@ -88,7 +88,7 @@ pub(crate) fn flat_words(alloc: Global, words: &[u16]) -> Result<Vec<u8>, AllocE
 pub(crate) fn byte_items<'a>(alloc: Global, bytes: &[u8]) -> Result<Vec<Item<&'a [u8]>>, AllocError>
     ensures items { IfOk result (λ items. items_seen items ≡ map OneByte bytes.now) }
 {
-    let mut items = Vec::new(alloc);
+    let mut items = Vec::with_capacity(alloc, bytes.len())?;
     for byte in bytes {
         items.push(Item::OneByte(*byte))?;
     }

@@ -2,10 +2,11 @@
 
 ghost use Rattle.std.specs.Prelude.{◌≡◌, ℕ, List, true, option_map, IfOk};
 ghost use Rattle.std.specs.List.{list_all};
+ghost use Rattle.pm_source.specs.Faults.{ends};
 ghost use Rattle.pm_source.specs.Words.{words};
 ghost use Rattle.pm_source.specs.Line.{bytes_said, checked, code_said, is_character, items_said};
 ghost use Rattle.pm_source.specs.Line.{label_of, labelled, line_of, line_of_words, said, spoken};
-ghost use Rattle.pm_line.specs.Views.{cut_seen, is_directive, items_seen, keyword_seen, line_seen};
+ghost use Rattle.pm_line.specs.Views.{cut_seen, is_directive, keyword_seen, line_seen, said_items_seen};
 ghost use Rattle.pm_line.specs.Views.{operand_seen, said_seen, statement_seen, text_seen, texts_seen};
 
 use crate::comparison::{Said, flaw_of, instruction_said};
@@ -19,9 +20,16 @@ use pm_code::Item;
 use pm_opcode::form_at;
 use std::alloc::{AllocError, Global};
 
+/// The items that a line says: one needs no list.
+#[derive(Drop)]
+enum SaidItems<'a> {
+    One(Item<&'a [u8]>),
+    Many(Vec<Item<&'a [u8]>>),
+}
+
 /// The items that `.BYTE` says.
-fn bytes_said<'a>(alloc: Global, texts: &[&'a [u8]]) -> Said<Vec<Item<&'a [u8]>>>
-    ensures items { IfOk result (λ list. said_seen items_seen list ≡ checked (bytes_said (texts_seen texts.now))) }
+fn bytes_said<'a>(alloc: Global, texts: &[&'a [u8]]) -> Said<SaidItems<'a>>
+    ensures items { IfOk result (λ list. said_seen said_items_seen list ≡ checked (bytes_said (texts_seen texts.now))) }
 {
     if texts.is_empty() {
         return Ok(None);
@@ -29,12 +37,16 @@ fn bytes_said<'a>(alloc: Global, texts: &[&'a [u8]]) -> Said<Vec<Item<&'a [u8]>>
     let Some((bytes, in_range)) = byte_operands(alloc, texts)? else {
         return Ok(None);
     };
-    Ok(Some((byte_items(alloc, &bytes)?, flaw_of(in_range))))
+    let items = match bytes.as_slice() {
+        [byte] => SaidItems::One(Item::OneByte(*byte)),
+        bytes => SaidItems::Many(byte_items(alloc, bytes)?),
+    };
+    Ok(Some((items, flaw_of(in_range))))
 }
 
 /// The items that a keyword and the text behind it say.
-fn items_said<'a>(alloc: Global, keyword: Keyword, rest: &'a [u8]) -> Said<Vec<Item<&'a [u8]>>>
-    ensures items { IfOk result (λ list. said_seen items_seen list ≡ items_said (keyword_seen keyword) rest.now) }
+fn items_said<'a>(alloc: Global, keyword: Keyword, rest: &'a [u8]) -> Said<SaidItems<'a>>
+    ensures items { IfOk result (λ list. said_seen said_items_seen list ≡ items_said (keyword_seen keyword) rest.now) }
 {
     match keyword {
         Keyword::Bytes => bytes_said(alloc, &operands(alloc, rest)?),
@@ -43,9 +55,7 @@ fn items_said<'a>(alloc: Global, keyword: Keyword, rest: &'a [u8]) -> Said<Vec<I
             let Some((item, flaw)) = instruction_said(alloc, form_at(op), op, &texts)? else {
                 return Ok(None);
             };
-            let mut items = Vec::new(alloc);
-            items.push(item)?;
-            Ok(Some((items, flaw)))
+            Ok(Some((SaidItems::One(item), flaw)))
         }
         _ => Ok(None),
     }
@@ -55,13 +65,16 @@ fn items_said<'a>(alloc: Global, keyword: Keyword, rest: &'a [u8]) -> Said<Vec<I
 fn code_said<'a>(
     line: usize,
     label: Option<&'a [u8]>,
-    items: Option<(Vec<Item<&'a [u8]>>, Flaw)>,
+    items: Option<(SaidItems<'a>, Flaw)>,
 ) -> Option<(Statement<'a>, Flaw)>
     ensures said { said_seen statement_seen result
-        ≡ code_said line (option_map text_seen label.entry) (said_seen items_seen items.entry) }
+        ≡ code_said line (option_map text_seen label.entry) (said_seen said_items_seen items.entry) }
 {
     let (items, flaw) = items?;
-    let row = Row::Items { line, label, items };
+    let row = match items {
+        SaidItems::One(item) => Row::One { line, label, item },
+        SaidItems::Many(items) => Row::Items { line, label, items },
+    };
     Some((Statement::Code(row), flaw))
 }
 
@@ -125,7 +138,7 @@ fn labelled<'a>(
     ensures line { IfOk result (λ l. line_seen l ≡ labelled line label.now rest.now word.now) }
 {
     let items = if word.is_empty() {
-        Some((Vec::new(alloc), Flaw::NoFlaw))
+        Some((SaidItems::Many(Vec::new(alloc)), Flaw::NoFlaw))
     } else {
         let Some(keyword) = keyword_of(word) else {
             return Ok(Line::Strange);
@@ -174,6 +187,14 @@ fn line_of_words<'a>(
     };
     let (word, rest) = cut(rest);
     labelled(alloc, number, label, word, rest)
+}
+
+/// Whether a line ends a procedure, whatever else is wrong in it: its first word is `.END`. What else it says is not
+/// read, so that it costs no memory.
+pub fn line_ends(text: &[u8]) -> bool
+    ensures ends { (number : ℕ) → result ≡ ends (line_of number text.now) }
+{
+    cut(uncommented(text)).0 == b".END".as_slice()
 }
 
 /// What a line says, by its number and its characters, without the line feed.

@@ -1,25 +1,58 @@
 -- The lines of a text, one by one.
-use Rattle.std.proofs.Common.{◌≡◌, ℕ, ◌+◌, ◌<◌, ◌≤◌, List, [], ◌∷◌, ◌++◌, ◌∙◌, length, drop, map, get_or, append_assoc, ap, sym}
-use Rattle.std.proofs.lemmas.List.{at_drop_more, at_drop_all, map-append, append-nil}
-use Rattle.pm_line.specs.declared.item.Line.{Line as Told}
-use Rattle.pm_line.specs.Views.{line_seen}
+use Rattle.std.proofs.Common.{◌≡◌, ℕ, zero, suc, ◌+◌, ◌<◌, ◌≤◌, Bool, true, false, List, [], ◌∷◌, ◌++◌, ◌∙◌, length, drop, take, get_or, ap, sym, refl, subst, arith}
+use Rattle.std.specs.Prelude.{nat_lt, if◌then◌else◌}
+use Rattle.std.specs.List.{list_any}
+use Rattle.std.proofs.lemmas.List.{at_drop_more, at_drop_all, length-take}
 use Rattle.pm_source.specs.Line.{Line, line_of}
-use Rattle.pm_source.specs.Faults.{lines_from}
+use Rattle.pm_source.specs.Faults.{ends, lines_from}
+use Rattle.pm_reader.proofs.Ends.{IsUntil, until_here, until_before}
 
--- one line more
-pub line_more : (texts : List (List ℕ)) (n : ℕ) (text : List ℕ) (before after : List Told) (line : Told) (whole : List Line)
-    → (n < length texts) × (text ≡ get_or texts n text) → line_seen line ≡ line_of (n + 1) text → after ≡ before ++ line ∷ []
-    → map line_seen before ++ lines_from (n + 1) (drop n texts) ≡ whole → map line_seen after ++ lines_from (n + 1 + 1) (drop (n + 1) texts) ≡ whole
-line_more texts n text before after line whole turn said more all =
-    let rest = lines_from (n + 1 + 1) (drop (n + 1) texts) in
-    let seen = map line_seen before in
-    let front : lines_from (n + 1) (drop n texts) ≡ line_of (n + 1) text ∷ rest =
-    at_drop_more (lines_from (n + 1)) texts n text turn.0 ∙ ap (λ t. line_of (n + 1) t ∷ rest) (sym turn.1) in
-    ap (λ ls. map line_seen ls ++ rest) more
-    ∙ (ap (λ ls. ls ++ rest) (map-append line_seen before (line ∷ []))
-    ∙ (append_assoc seen (line_seen line ∷ []) rest
-    ∙ (ap (λ l. seen ++ l ∷ rest) said ∙ (sym (ap (λ ls. seen ++ ls) front) ∙ all))))
+-- the lines from one on
+abbrev pub seen_from : ℕ → List (List ℕ) → List Line
+seen_from n texts = lines_from (n + 1) (drop n texts)
 
--- no line is left
-pub lines_whole : (texts : List (List ℕ)) (n : ℕ) (said whole : List Line) → length texts ≤ n → said ++ lines_from (n + 1) (drop n texts) ≡ whole → said ≡ whole
-lines_whole texts n said whole h all = sym (append-nil said) ∙ (sym (ap (λ ls. said ++ ls) (at_drop_all (lines_from (n + 1)) texts n h)) ∙ all)
+pub front : (texts : List (List ℕ)) (n : ℕ) (text : List ℕ) → (n < length texts) × (text ≡ get_or texts n text)
+    → seen_from n texts ≡ line_of (n + 1) text ∷ seen_from (n + 1) texts
+front texts n text turn =
+    at_drop_more (lines_from (n + 1)) texts n text turn.0 ∙ ap (λ t. line_of (n + 1) t ∷ seen_from (n + 1) texts) (sym turn.1)
+
+pub none_left : (texts : List (List ℕ)) (n : ℕ) → length texts ≤ n → seen_from n texts ≡ []
+none_left texts n h = at_drop_all (lines_from (n + 1)) texts n h
+
+drop_from : (k n : ℕ) (texts : List (List ℕ)) → drop n (lines_from k texts) ≡ lines_from (n + k) (drop n texts)
+drop_from k zero texts = ap (λ m. lines_from m texts) (omega arith)
+drop_from k (suc n) [] = refl
+drop_from k (suc n) (text ∷ texts) =
+    drop_from (k + 1) n texts ∙ ap (λ m. lines_from m (drop n texts)) (omega arith)
+
+-- whether a later line ends a procedure
+pub later : (texts : List (List ℕ)) (n until : ℕ) → IsUntil (lines_from 1 texts) until → nat_lt n until ≡ list_any ends (seen_from n texts)
+later texts n until last = sym (last n) ∙ ap (list_any ends) (drop_from 1 n texts)
+
+length_from : (k : ℕ) (texts : List (List ℕ)) → length (lines_from k texts) ≡ length texts
+length_from k [] = refl
+length_from k (text ∷ texts) = ap suc (length_from (k + 1) texts)
+
+take_from : (k n : ℕ) (texts : List (List ℕ)) (text : List ℕ) → (n < length texts) × (text ≡ get_or texts n text)
+    → lines_from k (take (suc n) texts) ≡ lines_from k (take n texts) ++ line_of (n + k) text ∷ []
+take_from k n [] text turn = absurd (omega (arith, turn.0))
+take_from k zero (t ∷ texts) text turn =
+    ap (λ x. line_of k x ∷ []) (sym turn.1) ∙ ap (λ m. line_of m text ∷ []) (omega arith)
+take_from k (suc n) (t ∷ texts) text turn =
+    ap (λ ls. line_of k t ∷ ls) (take_from (k + 1) n texts text (omega (arith, turn.0), turn.1)
+    ∙ ap (λ m. lines_from (k + 1) (take n texts) ++ line_of m text ∷ []) (omega arith))
+
+-- the last line that ends a procedure, with one line more
+pub until_more : (texts : List (List ℕ)) (n : ℕ) (text : List ℕ) (until : ℕ) (b : Bool) → (n < length texts) × (text ≡ get_or texts n text)
+    → ends (line_of (n + 1) text) ≡ b → until ≤ n → IsUntil (lines_from 1 (take n texts)) until
+    → IsUntil (lines_from 1 (take (n + 1) texts)) (if b then n + 1 else until)
+until_more texts n text until b turn e few last =
+    let lines = lines_from 1 (take n texts) in
+    let next : n + 1 ≡ suc n = omega arith in
+    let long : length lines ≡ n = length_from 1 (take n texts) ∙ omega (arith, length-take n texts, turn.0) in
+    subst (λ ls. IsUntil ls (if b then n + 1 else until)) (sym (ap (λ m. lines_from 1 (take m texts)) next ∙ take_from 1 n texts text turn)) (by b e lines long last)
+  where
+    by : (b : Bool) → ends (line_of (n + 1) text) ≡ b → (lines : List Line) → length lines ≡ n → IsUntil lines until
+        → IsUntil (lines ++ line_of (n + 1) text ∷ []) (if b then n + 1 else until)
+    by true e lines long last = subst (λ m. IsUntil (lines ++ line_of (n + 1) text ∷ []) (m + 1)) long (until_here lines (line_of (n + 1) text) e)
+    by false e lines long last = until_before lines (line_of (n + 1) text) until e (omega (arith, long, few)) last

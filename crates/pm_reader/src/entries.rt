@@ -12,10 +12,7 @@ use pm_line::Row;
 fn row_entries(row: &Row<'_>) -> usize
     ensures entries { result ≡ entries_needed (row_items (row_seen row.now)) }
 {
-    match row {
-        Row::Items { items, .. } => entries_needed(items),
-        Row::Exit => 0,
-    }
+    entries_needed(row.items())
 }
 
 /// How many entries code takes.

@@ -12,10 +12,7 @@ pub fn label_of<'a>(row: &Row<'a>) -> Option<&'a [u8]>
     ensures label { (name : List ℕ) → has_label name (row_seen row.now) ≡ is_name name result }
 {
     match row {
-        Row::Items {
-            label: Some(label),
-            ..
-        } => Some(*label),
-        Row::Items { label: None, .. } | Row::Exit => None,
+        Row::One { label, .. } | Row::Items { label, .. } => *label,
+        Row::Exit => None,
     }
 }

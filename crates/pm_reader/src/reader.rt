@@ -4,6 +4,7 @@ ghost use Rattle.std.specs.Prelude.{◌≡◌, ◌==◌, ◌+◌, List, [], Some
 ghost use Rattle.std.specs.List.{list_any};
 ghost use Rattle.pm_line.specs.Views.{statement_seen, flaw_seen, line_seen};
 ghost use Rattle.pm_source.specs.Line as text;
+ghost use Rattle.pm_source.specs.Line.{line_of};
 ghost use Rattle.pm_source.specs.Line.Line.{Says};
 ghost use Rattle.pm_source.specs.Faults as faults;
 ghost use Rattle.pm_source.specs.Faults.{after, after_line, closed, ends, is_again, is_in_place};
@@ -15,7 +16,7 @@ ghost use Rattle.pm_reader.specs.Reader.{reader_seen, Answers, IsCountless, open
 
 use crate::current::Current;
 use crate::source::{Entry, LabelledSegment};
-use pm_line::{Flaw, Line, Row, Statement};
+use pm_line::{Flaw, Line, Row, Statement, line};
 use pm_source::AsmFault;
 use std::alloc::{AllocError, Global};
 
@@ -58,7 +59,7 @@ fn is_begin(statement: &Statement<'_>) -> bool
 }
 
 /// Whether a statement is the end of a procedure.
-pub(crate) fn is_end(statement: &Statement<'_>) -> bool
+fn is_end(statement: &Statement<'_>) -> bool
     ensures end { result ≡ faults.is_end (statement_seen statement.now) }
 {
     matches!(statement, Statement::End)
@@ -88,7 +89,11 @@ impl<'a> Reader<'a> {
             (Statement::Segment { number, .. }, _) => any_number(&self.segments, *number),
             (
                 Statement::Code(
-                    Row::Items {
+                    Row::One {
+                        label: Some(label),
+                        ..
+                    }
+                    | Row::Items {
                         label: Some(label),
                         ..
                     },
@@ -255,7 +260,7 @@ impl<'a> Reader<'a> {
 
     /// Takes in a line without fault, by its number and whether a later line ends a procedure; its first fault is
     /// refused.
-    pub(crate) fn step(
+    fn step(
         &mut self,
         alloc: Global,
         number: usize,
@@ -274,5 +279,26 @@ impl<'a> Reader<'a> {
             return Err(fault);
         }
         self.take(alloc, line).map_err(|_| AsmFault::NoMemory)
+    }
+
+    /// Reads a line, by its number and whether a later line ends a procedure, and takes in what it says; its first
+    /// fault is refused.
+    pub(crate) fn read_line(
+        &mut self,
+        alloc: Global,
+        number: usize,
+        part: &'a [u8],
+        ends_later: bool,
+    ) -> Result<(), AsmFault>
+        ensures faultless { (rest : List text.Line) → ends_later ≡ list_any ends rest
+            → OnOk result (line_faults number (reader_seen self.old) (line_of number part.now) rest ≡ []) }
+        ensures taken { OnOk result (reader_seen self.new
+            ≡ after_line (reader_seen self.old) (line_of number part.now)) }
+        ensures fault { (rest : List text.Line) → ends_later ≡ list_any ends rest
+            → IfErr result (λ fault. IsFirstOf fault (line_faults number (reader_seen self.old)
+            (line_of number part.now) rest)) }
+    {
+        let line = line(alloc, number, part).map_err(|_| AsmFault::NoMemory)?;
+        self.step(alloc, number, line, ends_later)
     }
 }

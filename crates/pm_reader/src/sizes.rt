@@ -17,10 +17,7 @@ pub fn row_end(at: usize, row: &Row<'_>) -> Option<usize>
     ensures end { IfSome result (λ n. n ≡ end_of at (row_items (row_seen row.now))) }
     ensures too_long { result ≡ None → 18446744073709551615 < end_of at (row_items (row_seen row.now)) }
 {
-    match row {
-        Row::Items { items, .. } => items_end(at, items),
-        Row::Exit => Some(at),
-    }
+    items_end(at, row.items())
 }
 
 /// Where code ends that begins at an offset.

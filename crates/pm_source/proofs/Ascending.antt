@@ -11,14 +11,14 @@ use Rattle.pm_source.specs.Line.{Line}
 use Rattle.pm_source.specs.Line.Line.{Blank, Wrong, Strange, Says}
 use Rattle.pm_source.specs.Same.{AscendFrom, LineFaultsAscend}
 
-abbrev AreAt : ℕ → List AsmFault → Type 0
+abbrev pub AreAt : ℕ → List AsmFault → Type 0
 AreAt n faults = AllByRecursion (λ fault. place_of fault ≡ Some n) faults
 
-both : (n : ℕ) (xs ys : List AsmFault) → AreAt n xs → AreAt n ys → AreAt n (xs ++ ys)
+pub both : (n : ℕ) (xs ys : List AsmFault) → AreAt n xs → AreAt n ys → AreAt n (xs ++ ys)
 both n [] ys h k = k
 both n (x ∷ xs) ys h k = (h.0, both n xs ys h.1 k)
 
-one : (n : ℕ) (b : Bool) (fault : AsmFault) → place_of fault ≡ Some n → AreAt n (only_if b fault)
+pub one : (n : ℕ) (b : Bool) (fault : AsmFault) → place_of fault ≡ Some n → AreAt n (only_if b fault)
 one n true fault h = (h, tt)
 one n false fault h = tt
 
@@ -31,11 +31,11 @@ line_at n r (Says said flaw) rest =
     (both n _ _ (one n (is_unknown flaw) (Unknown n) refl)
     (both n _ _ (one n (is_again r said) (Twice n) refl) (one n (is_out_of_range flaw || is_miscounted r said) (Range n) refl)))
 
-lower : (k n : ℕ) (faults : List AsmFault) → k ≤ n → AscendFrom n faults → AscendFrom k faults
+pub lower : (k n : ℕ) (faults : List AsmFault) → k ≤ n → AscendFrom n faults → AscendFrom k faults
 lower k n [] h a = tt
 lower k n (fault ∷ faults) h a = let above = a.1.1.0 in (a.0, (a.1.0, (omega (arith, h, above), a.1.1.1)))
 
-before : (n : ℕ) (faults more : List AsmFault) → AreAt n faults → AscendFrom n more → AscendFrom n (faults ++ more)
+pub before : (n : ℕ) (faults more : List AsmFault) → AreAt n faults → AscendFrom n more → AscendFrom n (faults ++ more)
 before n [] more h a = a
 before n (fault ∷ faults) more h a = (n, (h.0, (omega arith, before n faults more h.1 a)))
 

@@ -35,3 +35,4 @@ pub mod EndBlanks
 pub mod OneOperand
 pub mod Between
 pub mod Ascending
+pub mod AscendingLabels

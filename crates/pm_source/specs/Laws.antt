@@ -1,13 +1,9 @@
 -- Texts and what they spell.
-use Rattle.std.specs.Prelude.{◌≡◌, ℕ, List, [], None}
-use Rattle.pm_codefile.specs.Dictionary.{file_fault}
-use Rattle.std.specs.List.{AllByRecursion, AllZip}
-use Rattle.pm_code.specs.Program.{Procedure, Segment, IsProgram, AreInstructions, FitSlots}
-use Rattle.pm_code.specs.Laws.{Holds, IsSameSegment}
+use Rattle.std.specs.Prelude.{◌≡◌, ℕ, List, []}
+use Rattle.pm_code.specs.Program.{Procedure, Segment, IsProgram, FitSlots}
 use Rattle.pm_code.specs.Shown.{program_text}
 use Rattle.pm_source.specs.Source.{Source, SourceSegment, statements, AreSources}
 use Rattle.pm_source.specs.Faults.{faults, faults_of_lines, label_faults, lines_of, source_of}
-use Rattle.pm_code.specs.Image.{file_of}
 use Rattle.pm_source.specs.Meaning.{AreSaid, MeansProcedure, Spells, found_procedure, program_of}
 
 -- Where no line has a fault, the lines say segments with labels that are sound, and these are the text's.

@@ -7,7 +7,7 @@ use Rattle.std.specs.List.{AllZip, list_all}
 use Rattle.std.specs.Str.Parse.{digits_value}
 use Rattle.pm_source.specs.declared.fault.AsmFault.{AsmFault}
 use Rattle.pm_source.specs.FaultNumbers.{place_of}
-use Rattle.pm_source.specs.Faults.{faults_of_lines}
+use Rattle.pm_source.specs.Faults.{faults, faults_of_lines}
 use Rattle.pm_source.specs.Line.{Keyword, comparison, is_character, items_said, jump_operand, line_of}
 use Rattle.pm_source.specs.Line.{number_operand, operands, procedure_operands, said, segment_operands}
 use Rattle.pm_source.specs.Words.{decimal_number, hexadecimal_number, is_blank, number, words}
@@ -88,3 +88,8 @@ AscendFrom n (fault ∷ faults) = (m : ℕ) × ((place_of fault ≡ Some m) × (
 -- The faults of a text's lines ascend, so the first of them is one of the least line.
 abbrev pub LineFaultsAscend : Type 0
 LineFaultsAscend = (text : List ℕ) → AscendFrom 1 (faults_of_lines text)
+
+-- The faults of a text ascend, those of its lines and those of its labels, so the first of them is one of the least
+-- line.
+abbrev pub FaultsAscend : Type 0
+FaultsAscend = (text : List ℕ) → AscendFrom 1 (faults text)

@@ -1,7 +1,7 @@
 //! Laws of the assembler's text, of what it spells and of its listing. The functions do nothing.
 ghost use Rattle.pm_source.specs.Denoted.{ListingDenotesSegments, ListingIsRead};
 ghost use Rattle.pm_source.specs.Same.{BaseSaysNothing, BlankSaysNothing, BlanksSayNothing};
-ghost use Rattle.pm_source.specs.Same.{CommentSaysNothing, EndBlankSaysNothing, LineFaultsAscend};
+ghost use Rattle.pm_source.specs.Same.{CommentSaysNothing, EndBlankSaysNothing, FaultsAscend, LineFaultsAscend};
 ghost use Rattle.pm_source.specs.Same.{NumberWithoutZero, NumbersSayValues, ZeroSaysNothing};
 ghost use Rattle.pm_source.specs.Laws.{FaultlessIsSaid, FaultlessIsSpelled};
 ghost use Rattle.pm_source.specs.Laws.{FoundIsFaultless, LabelsFound, SaidIsFaultless, SpelledIsFaultless};
@@ -82,4 +82,10 @@ pub fn numbers_say_values()
 #[tactic(auto, using(crate::proofs::Ascending::line_faults_ascend))]
 pub fn line_faults_ascend()
     ensures law { LineFaultsAscend }
+{}
+
+/// The faults of a text ascend: those of its lines, and where no line has one, those of its labels. None is of a line
+/// before that of the fault before it, so that the first one is of the least line that has one.
+pub fn faults_ascend()
+    ensures law { FaultsAscend }
 {}

@@ -1,8 +1,13 @@
-use Rattle.std.proofs.Common.{◌≤◌, map, take}
-use Rattle.pm_line.specs.Views.{line_seen}
+use Rattle.std.proofs.Common.{◌≡◌, ◌≤◌, length, take}
+use Rattle.std.specs.Str.Lines.{lines}
+use Rattle.pm_source.specs.Faults.{lines_from}
 use Rattle.pm_reader.proofs.Ends.{IsUntil}
 use Rattle.pm_reader.proofs.reading.until_last_end.Given as goal
 
 -- the last of the lines so far
-abbrev pub invariant-loop-i : goal.invariant-loop-i
-invariant-loop-i l = record { within : l.until ≤ l.i; last : IsUntil (map line_seen (take l.i l.lines)) l.until }
+abbrev pub invariant-loop-part : goal.invariant-loop-part
+invariant-loop-part l = record {
+  count : l.number ≡ length l.yielded;
+  within : l.until ≤ l.number;
+  last : IsUntil (lines_from 1 (take l.number (lines l.text))) l.until;
+}

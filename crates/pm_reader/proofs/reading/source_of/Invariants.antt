@@ -1,0 +1,14 @@
+use Rattle.std.proofs.Common.{◌≡◌, ◌+◌, length}
+use Rattle.std.specs.Str.Lines.{lines}
+use Rattle.pm_source.specs.Faults.{faults_from, faults_of_lines, after_lines, lines_of, start}
+use Rattle.pm_reader.specs.Reader.{reader_seen}
+use Rattle.pm_reader.proofs.Numbering.{seen_from}
+use Rattle.pm_reader.proofs.reading.source_of.Given as goal
+
+-- what is left says the rest, and has the faults that there are
+abbrev pub invariant-loop-part : goal.invariant-loop-part
+invariant-loop-part l = record {
+  count : l.number ≡ length l.yielded;
+  faults : faults_from (l.number + 1) (reader_seen l.reader) (seen_from l.number (lines l.text)) ≡ faults_of_lines l.text;
+  said : after_lines (reader_seen l.reader) (seen_from l.number (lines l.text)) ≡ after_lines start (lines_of l.text);
+}

@@ -5,7 +5,7 @@ use Rattle.std.specs.declared.alloc.Global.{Global}
 use Rattle.pm_files.specs.Held.{Files, HoldsFile, Keeps, Puts}
 use Rattle.pm_filer.specs.Filed.{order_of}
 use Rattle.pm_volume.specs.Headers.{blank_fault}
-use Rattle.pm_tool.specs.Files.{said_files, said_new, said_repair}
+use Rattle.pm_tool.specs.Batches.{said_files, said_new, said_repair}
 use Rattle.pm_tool.specs.Disks.{images_of}
 use Rattle.pm_tool.specs.Outcomes.{Said}
 use Rattle.pm_streams.specs.Streams.{Streams}

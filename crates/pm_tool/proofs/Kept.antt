@@ -1,19 +1,17 @@
 -- Jobs that read all of their input before they write.
-use Rattle.std.proofs.Common.{◌≡◌, ℕ, List, [], ◌∷◌, ◌++◌, Option, None, Some, Result, Ok, Err, Bool}
-use Rattle.std.proofs.Common.{false, refl, sym, ap, ◌∙◌, append-nil, arith, subst, IfSome, IfErr}
+use Rattle.std.proofs.Common.{◌≡◌, ℕ, List, [], ◌∷◌, ◌++◌, Option, None, Some, Result, Bool}
+use Rattle.std.proofs.Common.{false, refl, sym, ap, ◌∙◌, append-nil, subst, IfSome, IfErr}
 use Rattle.std.specs.Io.KnownBytes.{Consumes, Appends, Keeps, IsAtEnd}
 use Rattle.std.proofs.KnownBytes.{Appends-nil}
-use Rattle.pm_machine.specs.State.{State}
 use Rattle.pm_streams.specs.declared.fault.Fault.{Fault}
-use Rattle.pm_tool.specs.declared.outcome.Job.{Job}
+use Rattle.pm_tool.specs.declared.work.Work.{Work}
 use Rattle.pm_tool.specs.declared.outcome.Outcome.{Outcome}
-use Rattle.pm_tool.specs.declared.outcome.Refusal.{Refusal}
 use Rattle.pm_tool.specs.Hex.{hex_spelled}
-use Rattle.pm_tool.specs.Outcomes.{Said, refused, IsOutcome}
+use Rattle.pm_tool.specs.Outcomes.{Said, IsOutcome}
 use Rattle.pm_tool.specs.declared.steps.Show.TheVariants.{Trace}
-use Rattle.pm_tool.specs.Run.{run_of}
 use Rattle.pm_streams.proofs.Transfers.{cause_longer}
-use Rattle.pm_tool.specs.Said.{loaded, job_said, said_run, said_started, IsSoundExit, Tells, IsDone, IsBrokenOff}
+use Rattle.pm_tool.specs.Disks.{loaded}
+use Rattle.pm_tool.specs.Said.{said_started, said_work, IsSoundExit, Tells, IsDone, IsBrokenOff}
 use Rattle.pm_streams.specs.Streams.{IsFront, AppendsFront, IsCause, ReadsAll}
 
 -- where the input is known, it is what was read and what is left
@@ -94,36 +92,23 @@ nothing_left (Some []) read unread c k = sym k
 nothing_left (Some (y ∷ rest)) [] unread c k = cc
 nothing_left (Some (y ∷ rest)) (x ∷ read) unread c k = cc
 
-module _ (had left : Option (List ℕ)) (input : List ℕ) (reads : ReadsAll had left input) (limit : ℕ) where
-  pub raw_refused : (refusal : Refusal) → Err refusal ≡ loaded (hex_spelled input) → (held : Option (List ℕ)) (outcome : Outcome)
-      → ((unread : List ℕ) → IsOutcome outcome (refused refusal unread))
-      → IsDone had left held held outcome (λ i. said_started Trace limit (loaded (hex_spelled i)) [])
-  raw_refused refusal loads held outcome out =
-      let said = ap (λ start. said_started Trace limit start []) loads in
-      done_whole had left input reads (text_of limit) held held outcome (subst (λ s. Appends held held s.written) said (Appends-nil held))
-      (subst (IsOutcome outcome) said (out []))
-      (ap (λ s. s.unread) (sym said)) (subst IsSoundExit (sym (out []).exit) refl)
+module _ (had left : Option (List ℕ)) (input : List ℕ) (reads : ReadsAll had left input) (limit : ℕ) (nothing held holds : Option (List ℕ)) where
+  pub raw_done : (outcome : Outcome) → IsDone (Some []) nothing held holds outcome (said_started Trace limit (loaded (hex_spelled input)))
+      → IsDone had left held holds outcome (λ i. said_started Trace limit (loaded (hex_spelled i)) [])
+  raw_done outcome d =
+      done_whole had left input reads (text_of limit) held holds outcome d.tells.written d.tells.comes_to
+      (nothing_left nothing d.few.0 _ d.few.1 d.tells.unread) d.exit
 
-  module _ (machine : State) (loads : Ok machine ≡ loaded (hex_spelled input)) (nothing held holds : Option (List ℕ)) where
-    pub raw_done : (outcome : Outcome) → IsDone (Some []) nothing held holds outcome (λ keys. said_run Trace (run_of Trace limit keys machine))
-        → IsDone had left held holds outcome (λ i. said_started Trace limit (loaded (hex_spelled i)) [])
-    raw_done outcome d =
-        let said = ap (λ start. said_started Trace limit start []) loads in
-        done_whole had left input reads (text_of limit) held holds outcome (subst (λ s. Appends held holds s.written) said d.tells.written)
-        (subst (IsOutcome outcome) said d.tells.comes_to)
-        (ap (λ s. s.unread) (sym said) ∙ nothing_left nothing d.few.0 _ d.few.1 d.tells.unread) d.exit
+  pub raw_broken : (fault : Fault) (source_failed sink_failed : Bool) → source_failed ≡ false
+      → IsBrokenOff (Some []) nothing held holds fault false sink_failed (said_started Trace limit (loaded (hex_spelled input)))
+      → IsBrokenOff had left held holds fault source_failed sink_failed (λ i. said_started Trace limit (loaded (hex_spelled i)) [])
+  raw_broken fault source_failed sink_failed well b =
+      let none = nothing_read nothing b.cut.read b.cut.reads in
+      broken_writing had left input reads (text_of limit) held holds fault source_failed sink_failed
+      (b.cut.front, b.cut.writes, rw none at b.cut.so_far) well (rw none at b.cause)
 
-    pub raw_broken : (fault : Fault) (source_failed sink_failed : Bool) → source_failed ≡ false
-        → IsBrokenOff (Some []) nothing held holds fault false sink_failed (λ keys. said_run Trace (run_of Trace limit keys machine))
-        → IsBrokenOff had left held holds fault source_failed sink_failed (λ i. said_started Trace limit (loaded (hex_spelled i)) [])
-    raw_broken fault source_failed sink_failed well b =
-        let said = ap (λ start. said_started Trace limit start []) loads in
-        let none = nothing_read nothing b.cut.read b.cut.reads in
-        broken_writing had left input reads (text_of limit) held holds fault source_failed sink_failed
-        (b.cut.front, b.cut.writes, subst (λ s. IsFront b.cut.front s.written) said (rw none at b.cut.so_far)) well (rw none at b.cause)
-
--- the job is this one
-pub broken_job : (job this : Job) (had left held holds : Option (List ℕ)) (result : Result Outcome Fault) (source_failed sink_failed : Bool)
-    → IfErr result (λ fault. IsBrokenOff had left held holds fault source_failed sink_failed (job_said this)) → job ≡ this
-    → IfErr result (λ fault. IsBrokenOff had left held holds fault source_failed sink_failed (job_said job))
-broken_job job this had left held holds result source_failed sink_failed broken e = rw e broken
+-- the job has this to do
+pub broken_work : (work this : Work) (had left held holds : Option (List ℕ)) (result : Result Outcome Fault) (source_failed sink_failed : Bool)
+    → IfErr result (λ fault. IsBrokenOff had left held holds fault source_failed sink_failed (said_work this)) → work ≡ this
+    → IfErr result (λ fault. IsBrokenOff had left held holds fault source_failed sink_failed (said_work work))
+broken_work work this had left held holds result source_failed sink_failed broken e = rw e broken

@@ -3,8 +3,8 @@ pub mod Runs
 pub mod Driven
 pub mod QuickSteps
 pub mod Kept
-pub mod Filing
-pub mod Coded
+pub mod Unread
+pub mod Batched
 pub mod Played
 pub mod Opening
 pub mod RunLaws

@@ -1,5 +1,5 @@
 -- From a run of the machine to what is said.
-use Rattle.std.proofs.Common.{◌≡◌, ℕ, List, [], ◌++◌, Option, Some, Bool, false, Result, Ok, Err, refl, sym, ap, ◌∙◌, append-nil, arith, subst}
+use Rattle.std.proofs.Common.{◌≡◌, ℕ, List, [], ◌++◌, Option, Some, Bool, false, Result, Ok, Err, refl, sym, ap, ◌∙◌, append-nil, subst}
 use Rattle.std.specs.Io.KnownBytes.{Appends, Keeps, IsAtEnd}
 use Rattle.std.proofs.KnownBytes.{Appends-nil}
 use Rattle.pm_machine.specs.State.{State}
@@ -12,9 +12,12 @@ use Rattle.pm_tool.specs.declared.steps.Show.{Show}
 use Rattle.pm_tool.specs.declared.steps.Show.TheVariants.{Trace, Console}
 use Rattle.pm_tool.specs.Outcomes.{Said, exit_of, refused, IsOutcome}
 use Rattle.pm_tool.specs.Run.{Run, end_text, ended_run, run_of, IsOver, IsBroken}
-use Rattle.pm_tool.specs.Said.{said_run, said_started, shown_started, IsSoundExit, IsDone, IsBrokenOff, WritesFirst}
+use Rattle.pm_tool.specs.declared.talk.Talk.{Talk}
+use Rattle.pm_tool.specs.declared.talk.Talk.TheVariants as talks
+use Rattle.pm_tool.specs.Sessions.{said_debug}
+use Rattle.pm_tool.specs.Said.{said_run, said_started, said_talk, shown_started, IsSoundExit, IsDone, IsBrokenOff, WritesFirst}
 use Rattle.pm_streams.specs.Streams.{IsFront, AppendsFront, IsCause}
-use Rattle.pm_tool.proofs.Filing.{done_unread}
+use Rattle.pm_tool.proofs.Unread.{done_unread}
 use Rattle.pm_tool.proofs.Kept.{if_known, tells_known}
 use Rattle.pm_streams.proofs.Pages.{but_all, but_front, but_grown}
 use Rattle.pm_streams.proofs.Transfers.{cause_longer, front_trans}
@@ -136,11 +139,15 @@ pub started_first : (had left held holds : Option (List ℕ)) (show : Show) (lim
     → WritesFirst had left held holds (λ input. (run_of show limit input m).shown) → WritesFirst had left held holds (shown_started show limit start)
 started_first had left held holds show limit start m e w = subst (λ s. WritesFirst had left held holds (shown_started show limit s)) e w
 
--- the input is refused before it is read
-pub started_refused : (had held : Option (List ℕ)) (show : Show) (limit : ℕ) (start : Result State Refusal) (refusal : Refusal) (outcome : Outcome)
+-- none starts: the job is refused before any input is read
+pub talk_refused : (talk : Talk) (had held : Option (List ℕ)) (start : Result State Refusal) (refusal : Refusal) (outcome : Outcome)
     → Err refusal ≡ start
-    → ((unread : List ℕ) → IsOutcome outcome (refused refusal unread)) → IsDone had had held held outcome (said_started show limit start)
-started_refused had held show limit start refusal outcome e out =
+    → ((unread : List ℕ) → IsOutcome outcome (refused refusal unread)) → IsDone had had held held outcome (said_talk talk start)
+talk_refused (talks.Run show limit) had held start refusal outcome e out =
     subst (λ s. IsDone had had held held outcome (said_started show limit s)) e
     (done_unread had held held outcome (said_started show limit (Err refusal)) (λ input. (Appends-nil held, out input, refl))
+    (subst IsSoundExit (sym (out []).exit) refl))
+talk_refused talks.Session had held start refusal outcome e out =
+    subst (λ s. IsDone had had held held outcome (said_debug s)) e
+    (done_unread had held held outcome (said_debug (Err refusal)) (λ input. (Appends-nil held, out input, refl))
     (subst IsSoundExit (sym (out []).exit) refl))

@@ -1,5 +1,5 @@
 -- How a session that is written as it goes goes on by one byte, and how it ends.
-use Rattle.std.proofs.Common.{◌≡◌, ℕ, ◌+◌, ◌<◌, ◌≤◌, List, [], ◌∷◌, ◌++◌, Option, None, Some, Result, Ok, Err, Bool}
+use Rattle.std.proofs.Common.{◌≡◌, ℕ, ◌+◌, ◌<◌, ◌≤◌, List, [], ◌∷◌, ◌++◌, Option, None, Some, Result, Ok, Bool}
 use Rattle.std.proofs.Common.{true, false, length, refl, sym, ap, ◌∙◌, append_assoc, append-nil, inl, inr, arith, subst}
 use Rattle.std.proofs.lemmas.List.{length-append}
 use Rattle.std.specs.Prelude.{◌==◌}
@@ -15,12 +15,11 @@ use Rattle.pm_tool.specs.declared.outcome.Outcome.{Outcome}
 use Rattle.pm_tool.specs.declared.outcome.Refusal.{Refusal}
 use Rattle.pm_streams.specs.declared.source.TheConstants.{INPUT_LIMIT}
 use Rattle.pm_tool.specs.Answers.{session_after}
-use Rattle.pm_tool.specs.Outcomes.{IsOutcome, refused}
+use Rattle.pm_tool.specs.Outcomes.{IsOutcome}
 use Rattle.pm_tool.specs.Said.{IsBrokenOff, IsDone, IsSoundExit, WritesFirst}
 use Rattle.pm_tool.specs.Sessions.{answer_line, debugged, is_quit, opened, said_debug}
 use Rattle.pm_streams.specs.Streams.{Incoming, IsFront, AppendsFront, IsCause, ReadsByte, TakesNone}
 use Rattle.pm_tool.specs.Talks.{IsCutOff, IsTold, Told, told, whole_lines}
-use Rattle.pm_tool.proofs.Filing.{done_unread}
 use Rattle.pm_tool.proofs.Kept.{if_known, tells_known}
 use Rattle.pm_tool.proofs.SessionLaws.{after_telling, answer_quit, told_byte, told_from, told_last, told_line, told_none, told_nothing}
 use Rattle.pm_tool.proofs.SessionLaws.{told_quit, told_start, whole_lines_byte, whole_lines_feed, whole_lines_none}
@@ -313,10 +312,3 @@ pub debug_first : (had left held holds : Option (List ℕ)) (start : Result Stat
     → WritesFirst had left held holds (λ read. (debugged m (whole_lines read)).written)
     → WritesFirst had left held holds (λ read. (said_debug start (whole_lines read)).written)
 debug_first had left held holds start m e w = subst (λ s. WritesFirst had left held holds (λ read. (said_debug s (whole_lines read)).written)) e w
-
-pub debug_refused : (had held : Option (List ℕ)) (start : Result State Refusal) (refusal : Refusal) (outcome : Outcome) → Err refusal ≡ start
-    → ((unread : List ℕ) → IsOutcome outcome (refused refusal unread)) → IsDone had had held held outcome (said_debug start)
-debug_refused had held start refusal outcome e out =
-    subst (λ s. IsDone had had held held outcome (said_debug s)) e
-    (done_unread had held held outcome (said_debug (Err refusal)) (λ input. (Appends-nil held, out input, refl))
-    (subst IsSoundExit (sym (out []).exit) refl))

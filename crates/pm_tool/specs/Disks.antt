@@ -1,12 +1,17 @@
 -- The images of a program's disks, and the machine that starts on them.
-use Rattle.std.specs.Prelude.{ℕ, List, [], ◌∷◌, Option, Some, None, Result, Ok, Err, Vec, vec_items, option_map, map}
+use Rattle.std.specs.Prelude.{ℕ, List, [], ◌∷◌, Option, Some, None, Result, Ok, Err}
+use Rattle.std.specs.Prelude.{Vec, vec_items, option_map, map, string_bytes}
 use Rattle.pm_volume.specs.Directory.{image_fault}
 use Rattle.pm_volume.specs.declared.fault.VolumeFault.{VolumeFault}
 use Rattle.pm_machine.specs.State.{State, Whole}
 use Rattle.pm_machine.specs.Boot.{boot_start}
+use Rattle.pm_machine.specs.Start.{raw_start}
 use Rattle.pm_machine.specs.declared.state.BootFault.{BootFault}
 use Rattle.pm_tool.specs.declared.outcome.Refusal.{Refusal}
 use Rattle.pm_tool.specs.declared.outcome.Refusal.TheVariants as refusals
+use Rattle.pm_tool.specs.declared.programs.Start.{Start}
+use Rattle.pm_tool.specs.declared.programs.Start.TheVariants as starts
+use Rattle.pm_tool.specs.Hex.{hex_spelled}
 
 -- the images, as lists of bytes
 abbrev pub images_of : {Z : Type 0} → List (Option (Vec ℕ Z)) → List (Option (List ℕ))
@@ -38,6 +43,16 @@ booted_unless (Some fault) images name = Err (refusals.Volume fault)
 
 abbrev pub booted : List (Option (List ℕ)) → List ℕ → Result State Refusal
 booted images name = booted_unless (first_disk_fault images) images name
+
+-- the machine that starts on the program that was read, if one was
+abbrev pub loaded : Option (List ℕ) → Result State Refusal
+loaded None = Err refusals.Hex
+loaded (Some program) = started (raw_start program)
+
+-- the machine that a job starts
+abbrev pub machine_at : Start → Result State Refusal
+machine_at (starts.Bare text) = loaded (hex_spelled text.items)
+machine_at (starts.Booted disks name) = booted (images_of disks) (string_bytes name)
 
 -- the state of the machine that was started
 abbrev pub state_in : Result Whole Refusal → Result State Refusal

@@ -1,40 +1,32 @@
 -- The jobs on volumes.
-use Rattle.std.specs.Prelude.{ℕ, Bool, true, false, List, [], Option, Some, None, Result, Ok, Err, if◌then◌else◌}
-use Rattle.pm_volume.specs.Copies.{repaired}
+use Rattle.std.specs.Prelude.{ℕ, Bool, true, false, List, Option, Some, None, Result, Ok, Err}
 use Rattle.pm_volume.specs.Directory.{image_fault}
 use Rattle.pm_volume.specs.Headers.{blank_image}
 use Rattle.pm_volume.specs.declared.fault.VolumeFault.{VolumeFault}
 use Rattle.pm_filer.specs.Filed.{Answer, Lines, Bytes, Done, Order, ListFiles, Get, Put, Remove, Change}
 use Rattle.pm_filer.specs.Filed.{GetText, PutText, Krunch, Date, Zero, Duplicate, Single, Filed, filed}
 use Rattle.pm_filer.specs.declared.fault.FilerFault.{FilerFault}
-use Rattle.pm_tool.specs.declared.outcome.Exit.TheVariants as exits
 use Rattle.pm_tool.specs.declared.outcome.Refusal.TheVariants as refusals
-use Rattle.pm_tool.specs.Outcomes.{Said, refused}
+use Rattle.pm_tool.specs.Products.{Product, Written, Image, Refused}
 
--- the bytes that are written for an answer
-abbrev pub answer_bytes : Answer → List ℕ
-answer_bytes (Lines text) = text
-answer_bytes (Bytes bytes) = bytes
-answer_bytes Done = []
+-- the volume that an image is, or why it is none
+abbrev pub opened_unless : Option VolumeFault → List ℕ → Result (List ℕ) VolumeFault
+opened_unless None image = Ok image
+opened_unless (Some fault) image = Err fault
 
--- the image that is to be kept: after a change, and not after a list or the bytes of a file
-abbrev pub kept_image : Answer → List ℕ → Option (List ℕ)
-kept_image (Lines text) image = None
-kept_image (Bytes bytes) image = None
-kept_image Done image = Some image
+abbrev pub opened_image : List ℕ → Result (List ℕ) VolumeFault
+opened_image image = opened_unless (image_fault image) image
+
+-- what a command answered, or the image after a change
+abbrev pub answered : Answer → List ℕ → Product
+answered (Lines text) image = Written text
+answered (Bytes bytes) image = Written bytes
+answered Done image = Image image
 
 -- a command that was done, or refused
-abbrev pub said_filed : Result Filed FilerFault → List ℕ → Said
-said_filed (Ok f) unread =
-    record {
-      written = answer_bytes f.answer;
-      exit = exits.Ended;
-      message = [];
-      image = kept_image f.answer f.image;
-      printer = [];
-      unread = unread;
-    }
-said_filed (Err fault) unread = refused (refusals.Filer fault) unread
+abbrev pub made_filed : Result Filed FilerFault → Product
+made_filed (Ok f) = answered f.answer f.image
+made_filed (Err fault) = Refused (refusals.Filer fault)
 
 -- whether a command takes the input's bytes
 abbrev pub takes_input : Order → Bool
@@ -66,40 +58,17 @@ with_input (Zero name) input = Zero name
 with_input Duplicate input = Duplicate
 with_input Single input = Single
 
--- a command on an image that is a volume: the input is read to its end where the command takes it, and else not at all
-abbrev pub said_order : List ℕ → Order → List ℕ → Said
-said_order image order input =
-    if takes_input order then said_filed (filed image (with_input order input)) [] else said_filed
-    (filed image order) input
+-- a command, with the input's bytes where it takes them, on the volume that an image is
+abbrev pub made_file : Result (List ℕ) VolumeFault → Order → List ℕ → Product
+made_file (Ok volume) order input = made_filed (filed volume (with_input order input))
+made_file (Err fault) order input = Refused (refusals.Volume fault)
 
--- an image that is no volume is refused before the input is read
-abbrev pub said_opened : Option VolumeFault → List ℕ → Order → List ℕ → Said
-said_opened None image order input = said_order image order input
-said_opened (Some fault) image order input = refused (refusals.Volume fault) input
+-- a new volume, or why there is none
+abbrev pub made_new : Option VolumeFault → List ℕ → ℕ → Product
+made_new None name blocks = Image (blank_image name blocks)
+made_new (Some fault) name blocks = Refused (refusals.Volume fault)
 
--- a command on an image
-abbrev pub said_files : List ℕ → Order → List ℕ → Said
-said_files image order input = said_opened (image_fault image) image order input
-
--- a new volume, or why there is none; nothing is read
-abbrev pub said_new : Option VolumeFault → List ℕ → ℕ → List ℕ → Said
-said_new None name blocks input =
-    record {
-      written = [];
-      exit = exits.Ended;
-      message = [];
-      image = Some (blank_image name blocks);
-      printer = [];
-      unread = input;
-    }
-said_new (Some fault) name blocks input = refused (refusals.Volume fault) input
-
--- a volume that was opened, or whose first copy was repaired, or why there is none; nothing is read
-abbrev pub said_repaired : Result (List ℕ) VolumeFault → List ℕ → Said
-said_repaired (Ok image) input =
-    record { written = []; exit = exits.Ended; message = []; image = Some image; printer = []; unread = input }
-said_repaired (Err fault) input = refused (refusals.Volume fault) input
-
--- the repair of an image
-abbrev pub said_repair : List ℕ → List ℕ → Said
-said_repair image input = said_repaired (repaired image) input
+-- a volume that is kept, or why there is none
+abbrev pub made_volume : Result (List ℕ) VolumeFault → Product
+made_volume (Ok image) = Image image
+made_volume (Err fault) = Refused (refusals.Volume fault)

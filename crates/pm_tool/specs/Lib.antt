@@ -2,9 +2,12 @@ pub mod Hex
 pub mod Run
 pub mod Outcomes
 pub mod Disks
+pub mod Products
 pub mod Code
 pub mod Assembly
 pub mod Files
+pub mod Batches
+pub mod Work
 pub mod Said
 pub mod Laws
 pub mod Answers

@@ -218,10 +218,6 @@ refused refusal unread =
       unread = unread;
     }
 
--- all of the input was read, and these bytes are written
-abbrev pub wrote : List ℕ → Said
-wrote bytes = record { written = bytes; exit = exits.Ended; message = []; image = None; printer = []; unread = [] }
-
 -- the outcome is what is said
 pub record IsOutcome (outcome : Outcome) (told : Said) : Type 0 where
   pub exit : outcome.exit ≡ told.exit

@@ -1,25 +1,23 @@
 -- What a job says to its input, and how a job keeps to it.
 use Rattle.std.specs.Prelude.{◌≡◌, ◌⊎◌, ◌↔◌, true, false, ◌≤◌, ℕ, ◌+◌, ◌<◌, List, [], ◌++◌, Option, Some}
-use Rattle.std.specs.Prelude.{None, Result, Ok, Err, length, Bool, if◌then◌else◌, IfSome, string_bytes}
+use Rattle.std.specs.Prelude.{None, Result, Ok, Err, length, Bool, if◌then◌else◌, IfSome}
 use Rattle.std.specs.Io.KnownBytes.{Consumes, Appends, Keeps}
 use Rattle.pm_machine.specs.State.{State}
-use Rattle.pm_machine.specs.Start.{raw_start}
 use Rattle.pm_stdproc.specs.Devices.{ejected_image}
 use Rattle.pm_streams.specs.declared.fault.Fault.{Fault}
 use Rattle.pm_tool.specs.declared.outcome.Exit.{Exit}
 use Rattle.pm_tool.specs.declared.outcome.Exit.TheVariants as exits
 use Rattle.pm_tool.specs.declared.outcome.Job.{Job}
-use Rattle.pm_tool.specs.declared.outcome.Job.TheVariants as jobs
+use Rattle.pm_tool.specs.declared.work.Work.{Work}
+use Rattle.pm_tool.specs.declared.work.Work.TheVariants as works
 use Rattle.pm_tool.specs.declared.outcome.Outcome.{Outcome}
 use Rattle.pm_tool.specs.declared.outcome.Refusal.{Refusal}
-use Rattle.pm_tool.specs.declared.outcome.Refusal.TheVariants as refusals
 use Rattle.pm_streams.specs.declared.source.TheConstants.{INPUT_LIMIT}
-use Rattle.pm_filer.specs.Filed.{order_of}
-use Rattle.pm_volume.specs.Headers.{blank_fault}
-use Rattle.pm_tool.specs.Assembly.{said_asm}
-use Rattle.pm_tool.specs.Code.{said_dis}
-use Rattle.pm_tool.specs.Disks.{booted, images_of, started}
-use Rattle.pm_tool.specs.Files.{said_files, said_new, said_repair}
+use Rattle.pm_tool.specs.declared.talk.Talk.{Talk}
+use Rattle.pm_tool.specs.declared.talk.Talk.TheVariants as talks
+use Rattle.pm_tool.specs.Batches.{said_batch}
+use Rattle.pm_tool.specs.Disks.{loaded, machine_at}
+use Rattle.pm_tool.specs.Work.{work_of}
 use Rattle.pm_tool.specs.Hex.{hex_spelled}
 use Rattle.pm_tool.specs.Outcomes.{Said, exit_of, is_sound_exit, refused, IsOutcome}
 use Rattle.pm_tool.specs.declared.steps.Show.{Show}
@@ -30,11 +28,6 @@ use Rattle.pm_tool.specs.Talks.{whole_lines}
 use Rattle.pm_streams.specs.Streams.{Streams, IsFront, IsCause, CountsOn}
 
 -- ---- the jobs
-
--- the machine that starts on the program that was read, if one was
-abbrev pub loaded : Option (List ℕ) → Result State Refusal
-loaded None = Err refusals.Hex
-loaded (Some program) = started (raw_start program)
 
 -- a run that is told by its trace
 abbrev pub traced : Run → Said
@@ -69,26 +62,31 @@ abbrev pub said_started : Show → ℕ → Result State Refusal → List ℕ →
 said_started show limit (Ok machine) input = said_run show (run_of show limit input machine)
 said_started show limit (Err refusal) input = refused refusal input
 
--- What a job says to all of its input. A program that the input spells has no console bytes; to a program of a disk the
--- input is its console's.
+-- a machine that starts, or none, and how it is talked with
+abbrev pub said_talk : Talk → Result State Refusal → List ℕ → Said
+said_talk (talks.Run show limit) start input = said_started show limit start input
+said_talk talks.Session start input = said_debug start input
+
+-- What is said to all of the input. A program that the input spells has no console bytes; to a program of a disk the
+-- input is its console's, and to a debugger it is its commands.
+abbrev pub said_work : Work → List ℕ → Said
+said_work (works.Raw limit) input = said_started Trace limit (loaded (hex_spelled input)) []
+said_work (works.Talk start talk) input = said_talk talk (machine_at start) input
+said_work (works.Batch job) input = said_batch job input
+
+-- what a job says to all of its input
 abbrev pub job_said : Job → List ℕ → Said
-job_said (jobs.Raw limit) input = said_started Trace limit (loaded (hex_spelled input)) []
-job_said (jobs.Run disks name limit save) input =
-    said_started (Console save) limit (booted (images_of disks) (string_bytes name)) input
-job_said (jobs.Trace disks name limit) input =
-    said_started Trace limit (booted (images_of disks) (string_bytes name)) input
-job_said (jobs.Debug disks name) input = said_debug (booted (images_of disks) (string_bytes name)) input
-job_said (jobs.Asm list) input = said_asm list input
-job_said jobs.Dis input = said_dis input
-job_said (jobs.Files image command) input = said_files image.items (order_of command) input
-job_said (jobs.New name blocks) input =
-    said_new (blank_fault (string_bytes name) blocks) (string_bytes name) blocks input
-job_said (jobs.Repair image) input = said_repair image.items input
+job_said job input = said_work (work_of job) input
 
 -- what the steps of a machine that starts have shown once these console bytes are keyed and no more are there
 abbrev pub shown_started : Show → ℕ → Result State Refusal → List ℕ → List ℕ
 shown_started show limit (Ok machine) input = (run_of show limit input machine).shown
 shown_started show limit (Err refusal) input = []
+
+-- all that is shown when these bytes were read and one more is wanted
+abbrev pub shown_talk : Talk → Result State Refusal → List ℕ → List ℕ
+shown_talk (talks.Run show limit) start read = shown_started show limit start read
+shown_talk talks.Session start read = (said_debug start (whole_lines read)).written
 
 -- ---- keeping to it
 
@@ -176,17 +174,10 @@ WritesInTime old new shown = new.source.failed ≡ true
 
 -- Where a read failed: a program never waits for input before its output is written, and no line of a session is read
 -- before the one before it is answered. The other jobs write nothing before they have read all.
+abbrev pub IsPromptWork : Work → Streams → Streams → Type 0
+IsPromptWork (works.Raw limit) old new = Unit {0}
+IsPromptWork (works.Talk start talk) old new = WritesInTime old new (shown_talk talk (machine_at start))
+IsPromptWork (works.Batch job) old new = Unit {0}
+
 abbrev pub IsPrompt : Job → Streams → Streams → Type 0
-IsPrompt (jobs.Raw limit) old new = Unit {0}
-IsPrompt (jobs.Run disks name limit save) old new =
-    WritesInTime old new (shown_started (Console save) limit (booted (images_of disks) (string_bytes name)))
-IsPrompt (jobs.Trace disks name limit) old new =
-    WritesInTime old new (shown_started Trace limit (booted (images_of disks) (string_bytes name)))
-IsPrompt (jobs.Debug disks name) old new =
-    WritesInTime old new
-    (λ read. (said_debug (booted (images_of disks) (string_bytes name)) (whole_lines read)).written)
-IsPrompt (jobs.Asm list) old new = Unit {0}
-IsPrompt jobs.Dis old new = Unit {0}
-IsPrompt (jobs.Files image command) old new = Unit {0}
-IsPrompt (jobs.New name blocks) old new = Unit {0}
-IsPrompt (jobs.Repair image) old new = Unit {0}
+IsPrompt job old new = IsPromptWork (work_of job) old new

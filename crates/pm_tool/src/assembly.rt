@@ -1,15 +1,13 @@
 //! The job on a text of the assembler.
-ghost use Rattle.std.specs.Prelude.{◌≡◌, ◌≢◌, false, Ok, Err, IfOk, IfErr, OnOk, string_bytes};
+ghost use Rattle.std.specs.Prelude.{◌≡◌, ◌≢◌, Ok, Err, IfOk, IfErr, string_bytes};
 ghost use Rattle.pm_asm.specs.Assembled.{assembled, wanted};
 ghost use Rattle.pm_source.specs.declared.fault.AsmFault.TheVariants.{NoMemory};
-ghost use Rattle.pm_tool.specs.Assembly.{character_of, said_asm, text_of_input};
-ghost use Rattle.pm_tool.specs.Outcomes.{SaysWhy};
-ghost use Rattle.pm_tool.specs.Said.{BreaksOff, Finishes};
-ghost use Rattle.pm_streams.specs.Streams.{AreWell, IsCounted, both};
+ghost use Rattle.pm_tool.specs.Assembly.{character_of, made_asm, text_of_input};
+ghost use Rattle.pm_tool.specs.Products.{product_of};
 
-use crate::outcome::{Exit, Outcome, Refusal, refuse_line};
+use crate::batch::Made;
+use crate::outcome::Refusal;
 use pm_asm::{AsmFault, assemble_file, assemble_listing};
-use pm_streams::{Fault, Sink, Source, read_all, write_all};
 use std::alloc::{AllocError, Global};
 
 /// The character of the text that a byte is: one above 127 is character 127.
@@ -70,31 +68,15 @@ fn line_of(alloc: Global, input: &[u8], fault: AsmFault) -> Option<String> {
     text_of(alloc, line).ok()
 }
 
-/// Writes the code file of the text that the input is, or with `list` its listing.
-pub(crate) fn assemble<R: Source, W: Sink>(
-    alloc: Global,
-    source: &mut R,
-    sink: &mut W,
-    list: bool,
-) -> Result<Outcome, Fault>
-    requires well { AreWell (both (R.seen source.old) (W.seen sink.old)) }
-    ensures done { IfOk result (λ outcome. Finishes (both (R.seen source.old) (W.seen sink.old))
-        (both (R.seen source.new) (W.seen sink.new)) outcome (said_asm list)) }
-    ensures well { OnOk result (AreWell (both (R.seen source.new) (W.seen sink.new))) }
-    ensures broken { IfErr result (λ fault. BreaksOff (both (R.seen source.old) (W.seen sink.old))
-        (both (R.seen source.new) (W.seen sink.new)) fault
-        (said_asm list)) }
-    ensures told { IfOk result SaysWhy }
-    ensures counts { IsCounted (R.seen source.old) (R.seen source.new) result }
+/// The code file of the text that the input is, or with `list` its listing.
+pub(crate) fn assemble(alloc: Global, input: &[u8], list: bool) -> Result<Made, AllocError>
+    ensures made { IfOk result (λ made. product_of made ≡ made_asm list input.now) }
 {
-    let input = read_all(alloc, source)?;
-    let bytes = match wanted(alloc, &input, list)? {
-        Ok(bytes) => bytes,
+    match wanted(alloc, input, list)? {
+        Ok(bytes) => Ok(Made::Bytes(bytes)),
         Err(fault) => {
-            let line = line_of(alloc, &input, fault);
-            return Ok(refuse_line(alloc, Refusal::Asm(fault), line)?);
+            let line = line_of(alloc, input, fault);
+            Ok(Made::Refused(Refusal::Asm(fault), line))
         }
-    };
-    write_all(sink, &bytes)?;
-    Ok(Outcome::plain(alloc, Exit::Ended, String::new(alloc)))
+    }
 }

@@ -1,22 +1,16 @@
 //! The session of a debugger.
-ghost use Rattle.std.specs.Prelude.{◌≡◌, false, true, not, [], List, ℕ, IfOk, IfErr, OnOk, OnErr, string_bytes};
+ghost use Rattle.std.specs.Prelude.{◌≡◌, false, true, not, [], IfOk, IfErr, OnOk, OnErr};
 ghost use Rattle.std.specs.Io.KnownBytes.{Appends};
 ghost use Rattle.pm_debug.specs.Session.{session_of};
 ghost use Rattle.pm_commands.specs.Commands.{command_of};
 ghost use Rattle.pm_tool.specs.Answers.{session_after};
-ghost use Rattle.pm_tool.specs.Disks.{booted, images_of};
-ghost use Rattle.pm_tool.specs.Outcomes.{SaysWhy};
-ghost use Rattle.pm_tool.specs.Said.{BreaksOff, Finishes, WritesInTime};
-ghost use Rattle.pm_tool.specs.Sessions.{answer_line, debugged, is_quit, said_debug};
+ghost use Rattle.pm_tool.specs.Sessions.{answer_line, is_quit};
 ghost use Rattle.pm_streams.specs.Streams.{AppendsFront, IsCause, IsCounted, AreWell, both};
-ghost use Rattle.pm_tool.specs.Talks.{IsAnswered, IsInterrupted, whole_lines};
+ghost use Rattle.pm_tool.specs.Talks.{IsAnswered, IsInterrupted};
 
 use crate::answer::answer;
-use crate::outcome::{Exit, Outcome, refuse};
-use crate::programs::boot;
 use pm_commands::{Command, command_of};
 use pm_debug::Debugger;
-use pm_machine::Machine;
 use pm_streams::{Fault, Sink, Source, next_byte, write_all};
 use std::alloc::Global;
 
@@ -54,7 +48,7 @@ fn turn<W: Sink>(
 }
 
 /// Reads lines and answers them, up to `quit` or the end of the input.
-fn talk<R: Source, W: Sink>(
+pub(crate) fn converse<R: Source, W: Sink>(
     alloc: Global,
     source: &mut R,
     sink: &mut W,
@@ -87,57 +81,4 @@ fn talk<R: Source, W: Sink>(
     }
     turn(alloc, sink, debugger, &line)?;
     Ok(())
-}
-
-/// The session over a machine.
-fn session<R: Source, W: Sink>(
-    alloc: Global,
-    source: &mut R,
-    sink: &mut W,
-    machine: Machine,
-) -> Result<Outcome, Fault>
-    requires well { AreWell (both (R.seen source.old) (W.seen sink.old)) }
-    ensures done { IfOk result (λ outcome. Finishes (both (R.seen source.old) (W.seen sink.old))
-        (both (R.seen source.new) (W.seen sink.new)) outcome (debugged machine.state)) }
-    ensures well { OnOk result (AreWell (both (R.seen source.new) (W.seen sink.new))) }
-    ensures broken { IfErr result (λ fault. BreaksOff (both (R.seen source.old) (W.seen sink.old))
-        (both (R.seen source.new) (W.seen sink.new)) fault (debugged machine.state)) }
-    ensures prompt { OnErr result (WritesInTime (both (R.seen source.old) (W.seen sink.old))
-        (both (R.seen source.new) (W.seen sink.new)) (λ read. (debugged machine.state (whole_lines read)).written)) }
-    ensures told { IfOk result SaysWhy }
-    ensures counts { IsCounted (R.seen source.old) (R.seen source.new) result }
-{
-    let mut debugger = Debugger::new(machine);
-    talk(alloc, source, sink, &mut debugger)?;
-    Ok(Outcome::plain(alloc, Exit::Ended, String::new(alloc)))
-}
-
-/// The session over a program of unit 4.
-pub(crate) fn debug<R: Source, W: Sink>(
-    alloc: Global,
-    source: &mut R,
-    sink: &mut W,
-    disks: [Option<Vec<u8>>; 6],
-    name: String,
-) -> Result<Outcome, Fault>
-    requires well { AreWell (both (R.seen source.old) (W.seen sink.old)) }
-    ensures done { IfOk result (λ outcome. Finishes (both (R.seen source.old) (W.seen sink.old))
-        (both (R.seen source.new) (W.seen sink.new)) outcome
-        (said_debug (booted (images_of disks) (string_bytes name)))) }
-    ensures well { OnOk result (AreWell (both (R.seen source.new) (W.seen sink.new))) }
-    ensures broken { IfErr result (λ fault. BreaksOff (both (R.seen source.old) (W.seen sink.old))
-        (both (R.seen source.new) (W.seen sink.new)) fault
-        (said_debug (booted (images_of disks) (string_bytes name)))) }
-    ensures prompt { OnErr result (WritesInTime (both (R.seen source.old) (W.seen sink.old))
-        (both (R.seen source.new) (W.seen sink.new)) (λ read.
-        (said_debug (booted (images_of disks) (string_bytes name)) (whole_lines read)).written)) }
-    ensures told { IfOk result SaysWhy }
-    ensures counts { IsCounted (R.seen source.old) (R.seen source.new) result }
-{
-    let machine = match boot(alloc, disks, name.as_str())? {
-        Ok(machine) => machine,
-        Err(refusal) => return Ok(refuse(alloc, refusal)?),
-    };
-    let outcome = session(alloc, source, sink, machine)?;
-    Ok(outcome)
 }

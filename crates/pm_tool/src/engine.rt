@@ -1,37 +1,20 @@
 //! Jobs, from the bytes that are read to the bytes that are written.
-ghost use Rattle.std.specs.Prelude.{◌≡◌, ◌↔◌, false, true, [], List, ℕ, None, IfOk, IfErr, OnOk, OnErr, IfSome, codes};
-ghost use Rattle.pm_tool.specs.Disks.{state_in};
+ghost use Rattle.std.specs.Prelude.{◌≡◌, false, true, [], None, IfOk, IfErr, OnOk, OnErr, codes};
+ghost use Rattle.pm_tool.specs.Disks.{loaded};
 ghost use Rattle.pm_tool.specs.Hex.{hex_spelled};
 ghost use Rattle.pm_tool.specs.Outcomes.{SaysWhy, fault_exit, outcome_text};
-ghost use Rattle.pm_tool.specs.Said.{loaded, job_said, said_started, IsSoundExit, IsCutShort, Finishes};
+ghost use Rattle.pm_tool.specs.Said.{job_said, said_started, IsSoundExit, IsCutShort, Finishes};
 ghost use Rattle.pm_tool.specs.Said.{BreaksOff, TellsAll, TellsFront, IsPrompt, FailsExactly, CountsExactly};
 ghost use Rattle.pm_streams.specs.Streams.{AreWell, IsCounted, both};
 
-use crate::assembly::assemble;
-use crate::code::disassemble;
-use crate::debug::debug;
-use crate::files::{files, new_volume, repair_volume};
-use crate::hex;
-use crate::outcome::{Exit, Job, Outcome, Refusal, refuse};
-use crate::programs::{play, program};
+use crate::batch::do_batch;
+use crate::outcome::{Exit, Job, Outcome};
+use crate::programs::Start;
 use crate::steps::Show;
-use pm_machine::{BootFault, Machine};
+use crate::talk::{Talk, do_talk};
+use crate::work::{Work, work_of};
 use pm_streams::{Fault, Nothing, Sink, Source, read_all};
-use std::alloc::{AllocError, Global};
-
-/// The machine at its start on the program that the text spells, or why there is none.
-fn load(alloc: Global, text: &[u8]) -> Result<Result<Machine, Refusal>, AllocError>
-    ensures machine { IfOk result (λ machine. state_in machine ≡ loaded (hex_spelled text.now)) }
-{
-    let Some(program) = hex::decode(alloc, text)? else {
-        return Ok(Err(Refusal::Hex));
-    };
-    match Machine::raw(alloc, &program) {
-        Ok(machine) => Ok(Ok(machine)),
-        Err(BootFault::NoMemory) => Err(AllocError),
-        Err(fault) => Ok(Err(Refusal::Boot(fault))),
-    }
-}
+use std::alloc::Global;
 
 /// Writes the trace of the program that the input spells.
 fn raw<R: Source, W: Sink>(
@@ -51,12 +34,12 @@ fn raw<R: Source, W: Sink>(
         (λ input. said_started Show.Trace limit (loaded (hex_spelled input)) [])) }
     ensures counts { IsCounted (R.seen source.old) (R.seen source.new) result }
 {
-    let input = read_all(alloc, source)?;
-    let machine = match load(alloc, &input)? {
-        Ok(machine) => machine,
-        Err(refusal) => return Ok(refuse(alloc, refusal)?),
+    let text = read_all(alloc, source)?;
+    let run = Talk::Run {
+        show: Show::Trace,
+        limit,
     };
-    let outcome = play(alloc, &mut Nothing, sink, machine, Show::Trace, limit)?;
+    let outcome = do_talk(alloc, &mut Nothing, sink, Start::Bare { text }, run)?;
     Ok(outcome)
 }
 
@@ -78,26 +61,10 @@ fn do_job<R: Source, W: Sink>(
         (both (R.seen source.new) (W.seen sink.new))) }
     ensures counts { IsCounted (R.seen source.old) (R.seen source.new) result }
 {
-    match job {
-        Job::Raw { limit } => raw(alloc, source, sink, limit),
-        Job::Run {
-            disks,
-            name,
-            limit,
-            save,
-        } => {
-            let show = Show::Console { save };
-            program(alloc, source, sink, disks, name, show, limit)
-        }
-        Job::Trace { disks, name, limit } => {
-            program(alloc, source, sink, disks, name, Show::Trace, limit)
-        }
-        Job::Debug { disks, name } => debug(alloc, source, sink, disks, name),
-        Job::Asm { list } => assemble(alloc, source, sink, list),
-        Job::Dis => disassemble(alloc, source, sink),
-        Job::Files { image, command } => files(alloc, source, sink, image, command),
-        Job::New { name, blocks } => Ok(new_volume(alloc, name.as_str(), blocks)?),
-        Job::Repair { image } => Ok(repair_volume(alloc, image)?),
+    match work_of(job) {
+        Work::Raw { limit } => raw(alloc, source, sink, limit),
+        Work::Talk(start, talk) => do_talk(alloc, source, sink, start, talk),
+        Work::Batch(batch) => do_batch(alloc, source, sink, batch),
     }
 }
 

@@ -1,22 +1,30 @@
 //! Jobs on volumes.
-ghost use Rattle.std.specs.Prelude.{◌≡◌, false, [], Ok, List, ℕ, IfOk, IfErr, OnOk, OnErr};
-ghost use Rattle.std.specs.Io.KnownBytes.{Appends};
-ghost use Rattle.pm_filer.specs.Filed.{answer_of, filed, order_of};
+ghost use Rattle.std.specs.Prelude.{◌≡◌, IfOk};
+ghost use Rattle.pm_filer.specs.Filed.{answer_of, order_of};
+ghost use Rattle.pm_volume.specs.Copies.{repaired};
 ghost use Rattle.pm_volume.specs.Headers.{blank_fault};
-ghost use Rattle.pm_tool.specs.Files.{said_new, answer_bytes, said_filed, said_files};
-ghost use Rattle.pm_tool.specs.Files.{said_order, said_repair, takes_input, with_input};
-ghost use Rattle.pm_tool.specs.Outcomes.{IsOutcome, SaysWhy};
-ghost use Rattle.pm_tool.specs.Said.{BreaksOff, Finishes, IsSoundExit};
-ghost use Rattle.pm_streams.specs.Streams.{AppendsFront, AreWell, IsCause, IsCounted, both};
+ghost use Rattle.pm_tool.specs.Files.{answered, made_file, made_new, made_volume, opened_image};
+ghost use Rattle.pm_tool.specs.Files.{takes_input, with_input};
+ghost use Rattle.pm_tool.specs.Products.{product_of};
 
-use crate::outcome::{Exit, Outcome, Refusal, refuse};
+use crate::batch::Made;
+use crate::outcome::Refusal;
 use pm_filer::{FileCommand, FilerFault, Reply, apply};
-use pm_streams::{Fault, Sink, Source, read_all, write_all};
 use pm_volume::{Volume, VolumeFault};
 use std::alloc::{AllocError, Global};
 
+/// The volume that an image is, or why it is none.
+pub(crate) fn open(image: Vec<u8>) -> Result<Volume, VolumeFault>
+    ensures opened { result ≡ opened_image image.items }
+{
+    match Volume::open(image) {
+        Ok(volume) => Ok(volume),
+        Err((fault, _)) => Err(fault),
+    }
+}
+
 /// Whether a command takes the input's bytes.
-fn takes_input(command: &FileCommand) -> bool
+pub(crate) fn takes_input(command: &FileCommand) -> bool
     ensures value { result ≡ takes_input (order_of command.now) }
 {
     matches!(command, FileCommand::Put(..) | FileCommand::PutText(..))
@@ -33,110 +41,55 @@ fn with_input(command: FileCommand, input: Vec<u8>) -> FileCommand
     }
 }
 
-/// Writes what a command answered, and keeps the image of a volume that it changed.
-fn answer<W: Sink>(
-    alloc: Global,
-    sink: &mut W,
-    volume: Volume,
-    reply: Reply,
-) -> Result<Outcome, Fault>
-    requires well { (W.seen sink.old).failed ≡ false }
-    ensures written { OnOk result (Appends (W.seen sink.old).contents (W.seen sink.new).contents
-        (answer_bytes (answer_of reply))) }
-    ensures outcome { IfOk result (λ outcome. (unread : List ℕ)
-        → IsOutcome outcome (said_filed (Ok (record { image = volume; answer = answer_of reply })) unread)) }
-    ensures well { OnOk result ((W.seen sink.new).failed ≡ false) }
-    ensures front { OnErr result (AppendsFront (W.seen sink.old).contents (W.seen sink.new).contents
-        (answer_bytes (answer_of reply))) }
-    ensures cause { IfErr result (λ fault. IsCause fault false (W.seen sink.new).failed []) }
-    ensures told { IfOk result SaysWhy }
+/// What a command answered, or the image of a volume that it changed.
+fn answer(volume: Volume, reply: Reply) -> Made
+    ensures made { product_of result ≡ answered (answer_of reply) volume }
 {
     match reply {
-        Reply::Lines(text) => write_all(sink, text.as_bytes())?,
-        Reply::Bytes(bytes) => write_all(sink, &bytes)?,
-        Reply::Done => return Ok(Outcome::keeping(alloc, volume.into_bytes())),
-    }
-    Ok(Outcome::plain(alloc, Exit::Ended, String::new(alloc)))
-}
-
-/// Does a command on a volume.
-fn file<W: Sink>(
-    alloc: Global,
-    sink: &mut W,
-    mut volume: Volume,
-    command: FileCommand,
-) -> Result<Outcome, Fault>
-    requires well { (W.seen sink.old).failed ≡ false }
-    ensures written { OnOk result (Appends (W.seen sink.old).contents (W.seen sink.new).contents
-        (said_filed (filed volume (order_of command)) []).written) }
-    ensures outcome { IfOk result (λ outcome. (unread : List ℕ)
-        → IsOutcome outcome (said_filed (filed volume (order_of command)) unread)) }
-    ensures well { OnOk result ((W.seen sink.new).failed ≡ false) }
-    ensures front { OnErr result (AppendsFront (W.seen sink.old).contents (W.seen sink.new).contents
-        (said_filed (filed volume (order_of command)) []).written) }
-    ensures cause { IfErr result (λ fault. IsCause fault false (W.seen sink.new).failed []) }
-    ensures told { IfOk result SaysWhy }
-{
-    match apply(alloc, &mut volume, command) {
-        Ok(reply) => Ok(answer(alloc, sink, volume, reply)?),
-        Err(FilerFault::NoMemory) => Err(Fault::NoMemory),
-        Err(fault) => Ok(refuse(alloc, Refusal::Filer(fault))?),
+        Reply::Lines(text) => Made::Bytes(text.into_bytes()),
+        Reply::Bytes(bytes) => Made::Bytes(bytes),
+        Reply::Done => Made::Image(volume.into_bytes()),
     }
 }
 
-/// Does a command on the volume that an image is.
-pub(crate) fn files<R: Source, W: Sink>(
+/// Does a command on the volume that an image is, with the input's bytes where it takes them.
+pub(crate) fn file(
     alloc: Global,
-    source: &mut R,
-    sink: &mut W,
-    image: Vec<u8>,
+    opened: Result<Volume, VolumeFault>,
     command: FileCommand,
-) -> Result<Outcome, Fault>
-    requires well { AreWell (both (R.seen source.old) (W.seen sink.old)) }
-    ensures done { IfOk result (λ outcome. Finishes (both (R.seen source.old) (W.seen sink.old))
-        (both (R.seen source.new) (W.seen sink.new)) outcome (said_files image.items (order_of command))) }
-    ensures well { OnOk result (AreWell (both (R.seen source.new) (W.seen sink.new))) }
-    ensures broken { IfErr result (λ fault. BreaksOff (both (R.seen source.old) (W.seen sink.old))
-        (both (R.seen source.new) (W.seen sink.new)) fault
-        (said_files image.items (order_of command))) }
-    ensures told { IfOk result SaysWhy }
-    ensures counts { IsCounted (R.seen source.old) (R.seen source.new) result }
+    input: Vec<u8>,
+) -> Result<Made, AllocError>
+    ensures made { IfOk result (λ made. product_of made ≡ made_file opened (order_of command) input.items) }
 {
-    let volume = match Volume::open(image) {
+    let mut volume = match opened {
         Ok(volume) => volume,
-        Err((fault, _)) => return Ok(refuse(alloc, Refusal::Volume(fault))?),
+        Err(fault) => return Ok(Made::Refused(Refusal::Volume(fault), None)),
     };
-    if !takes_input(&command) {
-        let outcome = file(alloc, sink, volume, command)?;
-        return Ok(outcome);
+    match apply(alloc, &mut volume, with_input(command, input)) {
+        Ok(reply) => Ok(answer(volume, reply)),
+        Err(FilerFault::NoMemory) => Err(AllocError),
+        Err(fault) => Ok(Made::Refused(Refusal::Filer(fault), None)),
     }
-    let input = read_all(alloc, source)?;
-    let outcome = file(alloc, sink, volume, with_input(command, input))?;
-    Ok(outcome)
 }
 
 /// A new volume without files.
-pub(crate) fn new_volume(alloc: Global, name: &str, blocks: u16) -> Result<Outcome, AllocError>
-    ensures outcome { IfOk result (λ outcome. (input : List ℕ)
-        → IsOutcome outcome (said_new (blank_fault name.now blocks) name.now blocks input)) }
-    ensures sound { IfOk result (λ outcome. IsSoundExit outcome.exit) }
-    ensures told { IfOk result SaysWhy }
+pub(crate) fn new_volume(alloc: Global, name: &str, blocks: u16) -> Result<Made, AllocError>
+    ensures made { IfOk result (λ made.
+        product_of made ≡ made_new (blank_fault name.now blocks) name.now blocks) }
 {
     match Volume::blank(alloc, name, blocks) {
-        Ok(volume) => Ok(Outcome::keeping(alloc, volume.into_bytes())),
+        Ok(volume) => Ok(Made::Image(volume.into_bytes())),
         Err(VolumeFault::NoMemory) => Err(AllocError),
-        Err(fault) => Ok(refuse(alloc, Refusal::Volume(fault))?),
+        Err(fault) => Ok(Made::Refused(Refusal::Volume(fault), None)),
     }
 }
 
 /// An image as a volume, its first copy repaired where it alone is damaged.
-pub(crate) fn repair_volume(alloc: Global, image: Vec<u8>) -> Result<Outcome, AllocError>
-    ensures outcome { IfOk result (λ outcome. (input : List ℕ) → IsOutcome outcome (said_repair image.items input)) }
-    ensures sound { IfOk result (λ outcome. IsSoundExit outcome.exit) }
-    ensures told { IfOk result SaysWhy }
+pub(crate) fn repair_volume(image: Vec<u8>) -> Made
+    ensures made { product_of result ≡ made_volume (repaired image.items) }
 {
     match Volume::repair(image) {
-        Ok(repaired) => Ok(Outcome::keeping(alloc, repaired.into_bytes())),
-        Err((fault, _)) => Ok(refuse(alloc, Refusal::Volume(fault))?),
+        Ok(repaired) => Made::Image(repaired.into_bytes()),
+        Err((fault, _)) => Made::Refused(Refusal::Volume(fault), None),
     }
 }

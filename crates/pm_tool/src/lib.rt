@@ -3,6 +3,7 @@
 
 mod answer;
 mod assembly;
+mod batch;
 mod code;
 mod debug;
 mod ending;
@@ -14,6 +15,8 @@ mod outcome;
 mod programs;
 mod reason;
 mod steps;
+mod talk;
+mod work;
 
 pub use engine::run;
 pub use outcome::{Exit, Job, Outcome, Refusal};

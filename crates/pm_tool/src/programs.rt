@@ -1,114 +1,27 @@
-//! Programs, and what is told of their runs.
-ghost use Rattle.std.specs.Prelude.{◌≡◌, false, true, [], ◌++◌, List, ℕ, Some, None};
-ghost use Rattle.std.specs.Prelude.{IfOk, IfErr, OnOk, OnErr, option_map, string_bytes, vec_items};
-ghost use Rattle.pm_tool.specs.Disks.{booted, state_in, disk_fault, first_disk_fault, images_of};
-ghost use Rattle.std.specs.Io.KnownBytes.{Appends};
-ghost use Rattle.pm_tool.specs.Outcomes.{IsOutcome, SaysWhy};
-ghost use Rattle.pm_tool.specs.Run.{end_text, ended_run, run_of};
-ghost use Rattle.pm_tool.specs.Said.{BreaksOff, Finishes, WritesInTime};
-ghost use Rattle.pm_tool.specs.Said.{run_said, said_run, said_started, shown_started};
-ghost use Rattle.pm_streams.specs.Streams.{AppendsFront, IsCause, IsCounted, AreWell, both};
+//! The machines that programs start on.
+ghost use Rattle.std.specs.Prelude.{◌≡◌, Some, None, IfOk, IfErr, OnOk, option_map, vec_items};
+ghost use Rattle.pm_tool.specs.Disks.{booted, state_in, disk_fault, first_disk_fault, images_of, machine_at};
+ghost use Rattle.pm_tool.specs.Disks.{loaded};
+ghost use Rattle.pm_tool.specs.Hex.{hex_spelled};
 
-use crate::ending::{Ending, LastLine};
-use crate::outcome::{Outcome, Refusal, refuse};
-use crate::steps::{Show, drive};
+use crate::hex;
+use crate::outcome::Refusal;
 use pm_machine::{BootFault, Machine};
-use pm_streams::{Fault, Sink, Source, write_all};
-use pm_volume::{Disk, Volume, VolumeFault};
+use pm_volume::{Volume, VolumeFault};
 use std::alloc::{AllocError, Global};
 
-/// What a run comes to that is told by its console bytes: its last line, what was printed, and the image on unit 4,
-/// where it is to be saved.
-fn left_by_run(
-    alloc: Global,
-    machine: &mut Machine,
-    save: bool,
-    last: LastLine,
-) -> Result<Outcome, AllocError>
-    ensures outcome { last.steps ≡ machine.old.state.steps → IfOk result (λ outcome. (shown unread : List ℕ)
-        → IsOutcome outcome (run_said save (ended_run shown last.ending machine.old.state unread))) }
-    ensures told { IfOk result SaysWhy }
-{
-    let message = format!(in alloc; "{last}")?;
-    let printer = Vec::from_slice(alloc, machine.printer())?;
-    let image = if save {
-        machine.eject(4).map(Disk::into_bytes)
-    } else {
-        None
-    };
-    Ok(Outcome {
-        exit: last.ending.exit(),
-        message,
-        image,
-        printer,
-        refusal: None,
-        line: None,
-    })
-}
-
-/// Writes the end of what is shown of a run, after what is left on the page, and answers what the run comes to.
-fn tell<W: Sink>(
-    alloc: Global,
-    sink: &mut W,
-    machine: &mut Machine,
-    show: Show,
-    ending: Ending,
-    mut page: Vec<u8>,
-) -> Result<Outcome, Fault>
-    requires well { (W.seen sink.old).failed ≡ false }
-    ensures written { OnOk result (Appends (W.seen sink.old).contents (W.seen sink.new).contents
-        (page.items ++ end_text show ending machine.old.state.steps)) }
-    ensures outcome { IfOk result (λ outcome. (shown unread : List ℕ)
-        → IsOutcome outcome (said_run show (ended_run shown ending machine.old.state unread))) }
-    ensures well { OnOk result ((W.seen sink.new).failed ≡ false) }
-    ensures front { OnErr result (AppendsFront (W.seen sink.old).contents (W.seen sink.new).contents
-        (page.items ++ end_text show ending machine.old.state.steps)) }
-    ensures cause { IfErr result (λ fault. IsCause fault false (W.seen sink.new).failed []) }
-    ensures told { IfOk result SaysWhy }
-{
-    let last = LastLine {
-        ending,
-        steps: machine.steps(),
-    };
-    match show {
-        Show::Trace => {
-            let line = format!(in alloc; "{last}\n")?;
-            page.extend_from_slice(line.as_bytes())?;
-            write_all(sink, &page)?;
-            Ok(Outcome::plain(alloc, ending.exit(), String::new(alloc)))
-        }
-        Show::Console { save } => {
-            write_all(sink, &page)?;
-            Ok(left_by_run(alloc, machine, save, last)?)
-        }
-    }
-}
-
-/// Runs a machine whose console bytes are the input, and tells of it.
-pub(crate) fn play<R: Source, W: Sink>(
-    alloc: Global,
-    source: &mut R,
-    sink: &mut W,
-    mut machine: Machine,
-    show: Show,
-    limit: u32,
-) -> Result<Outcome, Fault>
-    requires well { AreWell (both (R.seen source.old) (W.seen sink.old)) }
-    ensures done { IfOk result (λ outcome. Finishes (both (R.seen source.old) (W.seen sink.old))
-        (both (R.seen source.new) (W.seen sink.new)) outcome
-        (λ input. said_run show (run_of show limit input machine.state))) }
-    ensures well { OnOk result (AreWell (both (R.seen source.new) (W.seen sink.new))) }
-    ensures broken { IfErr result (λ fault. BreaksOff (both (R.seen source.old) (W.seen sink.old))
-        (both (R.seen source.new) (W.seen sink.new)) fault
-        (λ input. said_run show (run_of show limit input machine.state))) }
-    ensures prompt { OnErr result (WritesInTime (both (R.seen source.old) (W.seen sink.old))
-        (both (R.seen source.new) (W.seen sink.new)) (λ input. (run_of show limit input machine.state).shown)) }
-    ensures told { IfOk result SaysWhy }
-    ensures counts { IsCounted (R.seen source.old) (R.seen source.new) result }
-{
-    let (ending, page) = drive(alloc, source, sink, &mut machine, show, limit)?;
-    let outcome = tell(alloc, sink, &mut machine, show, ending, page)?;
-    Ok(outcome)
+/// What a machine starts on.
+#[derive(Drop)]
+pub(crate) enum Start {
+    /// The program that a text spells.
+    Bare {
+        text: Vec<u8>,
+    },
+    /// The program of a code file on unit 4.
+    Booted {
+        disks: [Option<Vec<u8>>; 6],
+        name: String,
+    },
 }
 
 /// The volume that an image is, where there is one.
@@ -142,7 +55,7 @@ fn volumes_of(disks: [Option<Vec<u8>>; 6]) -> Result<[Option<Volume>; 6], Volume
 }
 
 /// The machine at the start of a program of unit 4, or why there is none.
-pub(crate) fn boot(
+fn boot(
     alloc: Global,
     disks: [Option<Vec<u8>>; 6],
     name: &str,
@@ -160,34 +73,26 @@ pub(crate) fn boot(
     }
 }
 
-/// Runs a program of unit 4 whose console bytes are the input, and tells of it.
-pub(crate) fn program<R: Source, W: Sink>(
-    alloc: Global,
-    source: &mut R,
-    sink: &mut W,
-    disks: [Option<Vec<u8>>; 6],
-    name: String,
-    show: Show,
-    limit: u32,
-) -> Result<Outcome, Fault>
-    requires well { AreWell (both (R.seen source.old) (W.seen sink.old)) }
-    ensures done { IfOk result (λ outcome. Finishes (both (R.seen source.old) (W.seen sink.old))
-        (both (R.seen source.new) (W.seen sink.new)) outcome
-        (said_started show limit (booted (images_of disks) (string_bytes name)))) }
-    ensures well { OnOk result (AreWell (both (R.seen source.new) (W.seen sink.new))) }
-    ensures broken { IfErr result (λ fault. BreaksOff (both (R.seen source.old) (W.seen sink.old))
-        (both (R.seen source.new) (W.seen sink.new)) fault
-        (said_started show limit (booted (images_of disks) (string_bytes name)))) }
-    ensures prompt { OnErr result (WritesInTime (both (R.seen source.old) (W.seen sink.old))
-        (both (R.seen source.new) (W.seen sink.new))
-        (shown_started show limit (booted (images_of disks) (string_bytes name)))) }
-    ensures told { IfOk result SaysWhy }
-    ensures counts { IsCounted (R.seen source.old) (R.seen source.new) result }
+/// The machine at its start on the program that the text spells, or why there is none.
+fn load(alloc: Global, text: &[u8]) -> Result<Result<Machine, Refusal>, AllocError>
+    ensures machine { IfOk result (λ machine. state_in machine ≡ loaded (hex_spelled text.now)) }
 {
-    let machine = match boot(alloc, disks, name.as_str())? {
-        Ok(machine) => machine,
-        Err(refusal) => return Ok(refuse(alloc, refusal)?),
+    let Some(program) = hex::decode(alloc, text)? else {
+        return Ok(Err(Refusal::Hex));
     };
-    let outcome = play(alloc, source, sink, machine, show, limit)?;
-    Ok(outcome)
+    match Machine::raw(alloc, &program) {
+        Ok(machine) => Ok(Ok(machine)),
+        Err(BootFault::NoMemory) => Err(AllocError),
+        Err(fault) => Ok(Err(Refusal::Boot(fault))),
+    }
+}
+
+/// The machine that starts, or why there is none.
+pub(crate) fn start_on(alloc: Global, start: Start) -> Result<Result<Machine, Refusal>, AllocError>
+    ensures machine { IfOk result (λ machine. state_in machine ≡ machine_at start) }
+{
+    match start {
+        Start::Bare { text } => load(alloc, &text),
+        Start::Booted { disks, name } => boot(alloc, disks, name.as_str()),
+    }
 }

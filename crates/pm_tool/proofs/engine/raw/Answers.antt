@@ -1,39 +1,20 @@
-use Rattle.std.proofs.Common.{rules}
 use Rattle.std.proofs.lemmas.Result.{err_from_is_err_and}
-use Rattle.pm_tool.proofs.Kept.{broken_unwritten, raw_refused, raw_done, raw_broken}
+use Rattle.pm_tool.proofs.Kept.{broken_unwritten, raw_done, raw_broken}
 use Rattle.pm_tool.proofs.engine.raw.Goals as goal
 
-pub returns-in_err-input-clause-broken : goal.returns-in_err-input-clause-broken
-returns-in_err-input-clause-broken g c =
+pub returns-in_err-text-clause-broken : goal.returns-in_err-text-clause-broken
+returns-in_err-text-clause-broken g c =
     let p = err_from_is_err_and c.from_residual.result c.from_residual.ensures.1 in
-    let e = c.in_err-input.ensures.cause in
+    let e = c.in_err-text.ensures.cause in
     rw (p.1, p.2) (broken_unwritten _ _ _ _ _ _ _ e.0 e.1 (rw c.requires.well.1 e.2))
-
-pub returns-in_err-machine-clause-broken : goal.returns-in_err-machine-clause-broken
-returns-in_err-machine-clause-broken g c =
-    let r = c.from_residual-in_err-machine in
-    let p = err_from_is_err_and r.result r.ensures.1 in
-    let reads = c.in_ok-input.ensures.all in
-    rw (p.1, p.2) (broken_unwritten _ _ _ _ _ _ _ c.in_ok-input.input.items reads.0 (c.requires.well.1, c.in_ok-input.ensures.well, reads.2))
-
-pub returns-in_err-refuse-in-Err-clause-broken : goal.returns-in_err-refuse-in-Err-clause-broken
-returns-in_err-refuse-in-Err-clause-broken g c =
-    let r = c.from_residual-in_err-refuse-in-Err in
-    let p = err_from_is_err_and r.result r.ensures.1 in
-    let reads = c.in_ok-input.ensures.all in
-    rw (p.1, p.2) (broken_unwritten _ _ _ _ _ _ _ c.in_ok-input.input.items reads.0 (c.requires.well.1, c.in_ok-input.ensures.well, reads.2))
-
-pub returns-in-Err-clause-done : goal.returns-in-Err-clause-done
-returns-in-Err-clause-done g c =
-    raw_refused _ _ c.in_ok-input.input.items c.in_ok-input.ensures.all c.args.limit c.in-Err.refusal (search rules) _ _ c.in_ok-refuse-in-Err.ensures.outcome
 
 pub returns-in_err-outcome-clause-broken : goal.returns-in_err-outcome-clause-broken
 returns-in_err-outcome-clause-broken g c =
     let r = c.from_residual-in_err-outcome in
     let p = err_from_is_err_and r.result r.ensures.1 in
-    rw (p.1, p.2) (raw_broken _ _ c.in_ok-input.input.items c.in_ok-input.ensures.all c.args.limit c.in-Ok.machine.state
-    (search rules) _ _ _ _ _ _ c.in_ok-input.ensures.well c.in_err-outcome.ensures.broken)
+    rw (p.1, p.2) (raw_broken _ _ c.in_ok-text.text.items c.in_ok-text.ensures.all c.args.limit
+    _ _ _ _ _ _ c.in_ok-text.ensures.well c.in_err-outcome.ensures.broken)
 
 pub returns-clause-done : goal.returns-clause-done
 returns-clause-done g c =
-    raw_done _ _ c.in_ok-input.input.items c.in_ok-input.ensures.all c.args.limit c.in-Ok.machine.state (search rules) _ _ _ _ c.in_ok-outcome.ensures.done
+    raw_done _ _ c.in_ok-text.text.items c.in_ok-text.ensures.all c.args.limit _ _ _ _ c.in_ok-outcome.ensures.done

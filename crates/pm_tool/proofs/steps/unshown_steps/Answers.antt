@@ -1,5 +1,4 @@
-use Rattle.pm_tool.specs.declared.steps.Show.TheVariants.{Trace}
-use Rattle.pm_tool.proofs.QuickSteps.{quick_steps_unshown, unshown_none}
+use Rattle.pm_tool.proofs.QuickSteps.{unshown_none}
 use Rattle.pm_tool.proofs.steps.unshown_steps.Goals as goal
 
 pub returns-in-Trace : goal.returns-in-Trace

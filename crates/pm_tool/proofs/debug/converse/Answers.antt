@@ -3,7 +3,7 @@ use Rattle.std.proofs.lemmas.Bool.Decides.{nat_tests}
 use Rattle.std.proofs.lemmas.Result.{err_from_is_err_and}
 use Rattle.pm_tool.proofs.Talked.{talking_none, talking_byte, talking_line, told_by_quit, told_at_end}
 use Rattle.pm_tool.proofs.Talked.{told_at_last, cut_behind, cut_answering, cut_at_last, cut_taking}
-use Rattle.pm_tool.proofs.debug.talk.Goals as goal
+use Rattle.pm_tool.proofs.debug.converse.Goals as goal
 
 pub bytes-init : goal.bytes-init
 bytes-init g c = record {

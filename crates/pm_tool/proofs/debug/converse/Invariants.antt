@@ -3,7 +3,7 @@ use Rattle.pm_streams.specs.Streams.{CountsOn}
 use Rattle.pm_streams.specs.declared.source.TheConstants.{INPUT_LIMIT}
 use Rattle.pm_debug.specs.Session.{session_of}
 use Rattle.pm_tool.proofs.Talked.{IsTalking}
-use Rattle.pm_tool.proofs.debug.talk.Given as goal
+use Rattle.pm_tool.proofs.debug.converse.Given as goal
 
 abbrev pub invariant-bytes : goal.invariant-bytes
 invariant-bytes g l = record {

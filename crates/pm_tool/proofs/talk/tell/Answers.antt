@@ -1,7 +1,7 @@
 use Rattle.std.proofs.Common.{[], refl}
 use Rattle.std.proofs.lemmas.Result.{err_from_is_err_and}
 use Rattle.std.proofs.KnownBytes.{Appends-nil}
-use Rattle.pm_tool.proofs.programs.tell.Goals as goal
+use Rattle.pm_tool.proofs.talk.tell.Goals as goal
 
 pub returns-in_err-line-in-Trace-clause-front : goal.returns-in_err-line-in-Trace-clause-front
 returns-in_err-line-in-Trace-clause-front g c =

@@ -1,0 +1,22 @@
+-- The two shapes of jobs.
+use Rattle.pm_tool.specs.declared.batch.Batch.TheVariants as batches
+use Rattle.pm_tool.specs.declared.outcome.Job.{Job}
+use Rattle.pm_tool.specs.declared.outcome.Job.TheVariants as jobs
+use Rattle.pm_tool.specs.declared.programs.Start.TheVariants as starts
+use Rattle.pm_tool.specs.declared.steps.Show.TheVariants.{Trace, Console}
+use Rattle.pm_tool.specs.declared.talk.Talk.TheVariants as talks
+use Rattle.pm_tool.specs.declared.work.Work.{Work}
+use Rattle.pm_tool.specs.declared.work.Work.TheVariants as works
+use Rattle.pm_tool.specs.Files.{opened_image}
+
+-- what a job has to do: to talk with a machine, or to turn bytes into bytes
+abbrev pub work_of : Job → Work
+work_of (jobs.Raw limit) = works.Raw limit
+work_of (jobs.Run disks name limit save) = works.Talk (starts.Booted disks name) (talks.Run (Console save) limit)
+work_of (jobs.Trace disks name limit) = works.Talk (starts.Booted disks name) (talks.Run Trace limit)
+work_of (jobs.Debug disks name) = works.Talk (starts.Booted disks name) talks.Session
+work_of (jobs.Asm list) = works.Batch (batches.Asm list)
+work_of jobs.Dis = works.Batch batches.Dis
+work_of (jobs.Files image command) = works.Batch (batches.Files (opened_image image.items) command)
+work_of (jobs.New name blocks) = works.Batch (batches.New name blocks)
+work_of (jobs.Repair image) = works.Batch (batches.Repair image)

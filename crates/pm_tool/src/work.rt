@@ -1,0 +1,52 @@
+//! The two shapes of jobs.
+ghost use Rattle.std.specs.Prelude.{◌≡◌};
+ghost use Rattle.pm_tool.specs.Work.{work_of};
+
+use crate::batch::Batch;
+use crate::files::open;
+use crate::outcome::Job;
+use crate::programs::Start;
+use crate::steps::Show;
+use crate::talk::Talk;
+
+/// A job, by its shape.
+#[derive(Drop)]
+pub(crate) enum Work {
+    /// The text of a program is read, and then its run is traced.
+    Raw { limit: u32 },
+    /// The machine that starts is talked with.
+    Talk(Start, Talk),
+    /// Bytes are turned into bytes.
+    Batch(Batch),
+}
+
+/// What a job has to do.
+pub(crate) fn work_of(job: Job) -> Work
+    ensures work { result ≡ work_of job }
+{
+    match job {
+        Job::Raw { limit } => Work::Raw { limit },
+        Job::Run {
+            disks,
+            name,
+            limit,
+            save,
+        } => {
+            let show = Show::Console { save };
+            Work::Talk(Start::Booted { disks, name }, Talk::Run { show, limit })
+        }
+        Job::Trace { disks, name, limit } => {
+            let show = Show::Trace;
+            Work::Talk(Start::Booted { disks, name }, Talk::Run { show, limit })
+        }
+        Job::Debug { disks, name } => Work::Talk(Start::Booted { disks, name }, Talk::Session),
+        Job::Asm { list } => Work::Batch(Batch::Asm { list }),
+        Job::Dis => Work::Batch(Batch::Dis),
+        Job::Files { image, command } => {
+            let opened = open(image);
+            Work::Batch(Batch::Files { opened, command })
+        }
+        Job::New { name, blocks } => Work::Batch(Batch::New { name, blocks }),
+        Job::Repair { image } => Work::Batch(Batch::Repair { image }),
+    }
+}

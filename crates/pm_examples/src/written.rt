@@ -65,7 +65,7 @@ fn letters_are_written_at_once(rt: HostRuntime) -> Result<(), Fail> {
 const LINE: usize = 52;
 
 /// The bytes at which a page is full.
-const PAGE: usize = 4096;
+const PAGE: usize = 65_536;
 
 /// A page and a line, and no more, is the most that is kept before it is written; and no write is of less than a page.
 fn is_page(rt: &impl Abort, call: &Call) {
@@ -79,18 +79,18 @@ fn is_page(rt: &impl Abort, call: &Call) {
     );
 }
 
-/// 1,000 steps are twelve pages of 79 lines, and the rest with the last line.
+/// 3,000 steps are two pages of 1,261 lines, and the rest with the last line.
 #[test]
 fn traces_are_written_in_pages(rt: HostRuntime) {
-    let ran = recorded_run(rt.alloc(), Job::Raw { limit: 1000 }, b"B9 FE 02 00", WELL);
+    let ran = recorded_run(rt.alloc(), Job::Raw { limit: 3000 }, b"B9 FE 02 00", WELL);
     ran.is(&rt, 6, "", (false, false));
-    assert_eq!(rt; ran.written.len(), 1000 * LINE + 11);
+    assert_eq!(rt; ran.written.len(), 3000 * LINE + 11);
     let Some((last, pages)) = ran.calls.split_last() else {
         return;
     };
     assert_eq!(rt;
         (last.kind, last.before),
-        (Kind::Write(52 * LINE + 11), 948 * LINE)
+        (Kind::Write(478 * LINE + 11), 2522 * LINE)
     );
     for call in pages {
         is_page(&rt, call);

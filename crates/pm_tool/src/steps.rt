@@ -94,7 +94,7 @@ fn unshown_steps(machine: &mut Machine, show: Show, limit: u32) -> u32
 }
 
 /// The bytes at which a page of a trace is full.
-const PAGE: usize = 4096;
+const PAGE: usize = 65_536;
 
 /// Writes the page and clears it.
 fn write_page<W: Sink>(sink: &mut W, page: &mut Vec<u8>) -> Result<(), Fault>

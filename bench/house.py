@@ -88,7 +88,7 @@ for pattern, most in (("crates/*/src/**/*.rt", 120), ("crates/*/specs/**/*.antt"
 
 NUMBERS = r"\b(65_?492|65_?502|65_?504|60_?000|172|185)\b"
 for path in sorted(glob.glob("crates/*/src/**/*.rt", recursive=True)):
-    if re.search(r"(layout|fields|worked|tests|table|quick)\.rt$", path) or "/pm_examples/" in path:
+    if re.search(r"(layout|fields|worked|tests|table|quick\w*)\.rt$", path) or "/pm_examples/" in path:
         continue
     for number, line in enumerate(lines(path)):
         if re.search(NUMBERS, line.split("//")[0]) and not re.match(r"\s*(const|pub const|pub\(crate\) const)", line):

@@ -1,13 +1,15 @@
 //! Steps that go the quick way: each opcode that has one goes it, and so does a whole program. No contract says so,
 //! since a machine that makes none of its steps so makes the same steps.
 use crate::calls::{CALLS, TOP};
+use crate::code::{KEEPS, booted};
 use crate::tested::Tested;
 use pm_machine::{BootFault, Stop};
 use std::alloc::Global;
 use std::process::Abort;
+use std::test::Fail;
 
 /// Each program ends at an XIT, which is no quick step, after so many quick ones.
-const PROGRAMS: [(&[u8], u64); 8] = [
+const PROGRAMS: [(&[u8], u64); 15] = [
     // arithmetic, logic and comparisons of integers, LDCN and LDCI
     (
         &[
@@ -68,6 +70,60 @@ const PROGRAMS: [(&[u8], u64); 8] = [
         ],
         11,
     ),
+    // ABI, SQI
+    (&[0x05, 0x80, 0x98, 0xD6], 3),
+    // LDC at an even address and at an odd one, UNI; SGS, INT; SRS, DIF; ADJ; INN
+    (
+        &[
+            0xB3, 0x01, 0x07, 0x00, 0x01, 0xB3, 0x01, 0x00, 0x03, 0x00, 0x01, 0x9C, 0x01, 0x97,
+            0x8C, 0x00, 0x02, 0x94, 0x85, 0xA0, 0x01, 0x03, 0x03, 0x97, 0x8B, 0xD6,
+        ],
+        17,
+    ),
+    // LSA, IXS; SAS; LPA
+    (
+        &[
+            0xA6, 0x02, 0x41, 0x42, 0x01, 0x9B, 0xA5, 0x01, 0xA6, 0x02, 0x41, 0x42, 0xAA, 0x0A,
+            0xD0, 0x02, 0x41, 0x42, 0xD6,
+        ],
+        7,
+    ),
+    // EQU of strings, sets, bytes and words, and each comparison of truth values
+    (
+        &[
+            0xA6, 0x01, 0x41, 0xA6, 0x01, 0x41, 0xAF, 0x04, 0x01, 0x97, 0x01, 0x97, 0xAF, 0x08,
+            0xA5, 0x01, 0xA5, 0x01, 0xAF, 0x0A, 0x02, 0xA5, 0x01, 0xA5, 0x01, 0xAF, 0x0C, 0x01,
+            0x01, 0xAF, 0x06, 0x01, 0xB0, 0x06, 0x01, 0xB1, 0x06, 0x01, 0xB4, 0x06, 0x01, 0xB5,
+            0x06, 0x01, 0xB7, 0x06, 0xD6,
+        ],
+        26,
+    ),
+    // LDM, STM, MOV; IXP, LDP, STP
+    (
+        &[
+            0xA5, 0x01, 0xBC, 0x01, 0xA5, 0x01, 0x05, 0xBD, 0x01, 0xA5, 0x01, 0xA5, 0x02, 0xA8,
+            0x01, 0xA5, 0x01, 0x02, 0xC0, 0x04, 0x04, 0xBA, 0xA5, 0x01, 0x02, 0xC0, 0x04, 0x04,
+            0x05, 0xBB, 0xD6,
+        ],
+        17,
+    ),
+    // XJP at an odd address by its table, out of its bounds, and at an even address
+    (
+        &[
+            0x01, 0xAC, 0x00, 0x00, 0x01, 0x00, 0xB9, 0x00, 0xFC, 0xFF, 0xFE, 0xFF, 0x05, 0xAC,
+            0x00, 0x00, 0x00, 0x00, 0xB9, 0x02, 0xFE, 0xFF, 0x00, 0x00, 0xAC, 0x00, 0x00, 0x00,
+            0x00, 0x00, 0xB9, 0x00, 0xFE, 0xFF, 0xD6,
+        ],
+        8,
+    ),
+    // MOVELEFT, MOVERIGHT, FILLCHAR, IORESULT
+    (
+        &[
+            0xA5, 0x01, 0x00, 0xA5, 0x02, 0x00, 0x02, 0x9E, 0x02, 0xA5, 0x01, 0x00, 0xA5, 0x02,
+            0x00, 0x02, 0x9E, 0x03, 0xA5, 0x01, 0x00, 0x02, 0x41, 0x9E, 0x0A, 0x9E, 0x22, 0xD6,
+        ],
+        18,
+    ),
 ];
 
 /// All steps of the program but its last one are quick, and so many.
@@ -112,6 +168,40 @@ fn calls_go_quickly(rt: HostRuntime) -> Result<(), BootFault> {
         machine.has_sp(&rt, 65480);
         machine.steps_to(&rt, Stop::Ended);
     }
+    Ok(())
+}
+
+/// CBP of procedures of level 0, and RBP.
+#[test]
+fn base_calls_go_quickly(rt: HostRuntime) -> Result<(), BootFault> {
+    let mut code = CALLS;
+    for at in [0, 2, 4] {
+        code[at] = 0xC2;
+    }
+    for at in [6, 18] {
+        code[at] = 0xC1;
+    }
+    for at in [17, 29] {
+        code[at] = 0;
+    }
+    let mut machine = Tested::raw(rt.alloc(), &code)?;
+    machine.pokes(&rt, TOP.0, TOP.1);
+    machine.makes_quick(&rt, 1000, 5);
+    machine.steps_to(&rt, Stop::Ended);
+    Ok(())
+}
+
+/// A segment that the program keeps: CXP of it is quick, and so is RBP, but not to the system. Load and unload a
+/// segment are not.
+#[test]
+fn calls_of_segments_go_quickly(rt: HostRuntime) -> Result<(), Fail> {
+    let mut machine = booted(rt.alloc(), [28, 16, 0], &KEEPS)?;
+    machine.makes_quick(&rt, 1000, 1);
+    machine.steps_to(&rt, Stop::Went);
+    machine.makes_quick(&rt, 1000, 5);
+    machine.steps_to(&rt, Stop::Went);
+    machine.makes_quick(&rt, 1000, 0);
+    machine.steps_to(&rt, Stop::Ended);
     Ok(())
 }
 

@@ -13,7 +13,9 @@ mod units;
 pub mod worked;
 
 pub use loads::{SlotRow, code_for};
+pub use memory_rows::perform as perform_on_memory;
 pub use ports::{MountFault, Port, unit_of};
+pub use procedures::{OnMemory, OnUnits, Procedure, procedure_of};
 pub use trap::Trap;
 pub use units::Units;
 

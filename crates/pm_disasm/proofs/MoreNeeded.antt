@@ -1,9 +1,8 @@
 -- Parts that take more entries than there are.
-use Rattle.std.proofs.Common.{◌≡◌, ◌<◌, ◌≤◌, ℕ, ◌+◌, Bool, true, max, List, [], ◌∷◌, ◌++◌, map, drop, length, refl, sym, ap, ◌∙◌, arith, Option, Some, None}
+use Rattle.std.proofs.Common.{◌≡◌, ℕ, Bool, true, max, List, [], ◌∷◌, ◌++◌, arith}
 use Rattle.pm_code.specs.Item.{Item}
-use Rattle.pm_code.specs.Item.Item.{OneByte}
-use Rattle.pm_code.specs.Program.{entries_needed, entries_used}
-use Rattle.pm_disasm.specs.Split.{Part, parts}
+use Rattle.pm_code.specs.Program.{entries_needed}
+use Rattle.pm_disasm.specs.Split.{Part}
 use Rattle.pm_disasm.specs.Follow.{item_led, items_or_bytes, written_by}
 
 both_need : (xs ys : List (Item ℕ)) → entries_needed (xs ++ ys) ≡ max (entries_needed xs) (entries_needed ys)

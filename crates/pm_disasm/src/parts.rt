@@ -46,7 +46,12 @@ fn taken<'a>(
 }
 
 /// The part at a place: the instruction that is taken, else one byte.
-pub(crate) fn part_at<'a>(bytes: &'a [u8], fronts: &[Option<Front<'a>>], at: usize, cuts: Cuts<'_>) -> Part<'a>
+pub(crate) fn part_at<'a>(
+    bytes: &'a [u8],
+    fronts: &[Option<Front<'a>>],
+    at: usize,
+    cuts: Cuts<'_>,
+) -> Part<'a>
     requires short { length bytes.now < 2 ^ 32 }
     requires fronts { TellFronts fronts.now bytes.now }
     requires inside { at < length bytes.now }

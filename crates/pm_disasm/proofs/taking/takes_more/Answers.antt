@@ -1,6 +1,6 @@
-use Rattle.std.proofs.Common.{◌≡◌, ◌+◌, ◌<◌, ◌≤◌, ◌∷◌, List, drop, length, sym, ap, ◌∙◌, arith, subst, true, max}
+use Rattle.std.proofs.Common.{◌≡◌, ◌+◌, ◌∷◌, drop, length, sym, ap, ◌∙◌, arith, subst, true}
 use Rattle.pm_code.specs.Program.{entries_needed}
-use Rattle.pm_disasm.specs.Follow.{item_led, items_or_bytes, written_by}
+use Rattle.pm_disasm.specs.Follow.{written_by}
 use Rattle.pm_disasm.specs.Offsets.{IsNextCut}
 use Rattle.pm_disasm.specs.Split.{Part, bytes_after_first, part_of, parts, taken}
 use Rattle.pm_disasm.specs.Views.{part_seen}

@@ -175,15 +175,13 @@ fn calls_go_quickly(rt: HostRuntime) -> Result<(), BootFault> {
 #[test]
 fn base_calls_go_quickly(rt: HostRuntime) -> Result<(), BootFault> {
     let mut code = CALLS;
-    for at in [0, 2, 4] {
-        code[at] = 0xC2;
-    }
-    for at in [6, 18] {
-        code[at] = 0xC1;
-    }
-    for at in [17, 29] {
-        code[at] = 0;
-    }
+    code[0] = 0xC2;
+    code[2] = 0xC2;
+    code[4] = 0xC2;
+    code[6] = 0xC1;
+    code[17] = 0;
+    code[18] = 0xC1;
+    code[29] = 0;
     let mut machine = Tested::raw(rt.alloc(), &code)?;
     machine.pokes(&rt, TOP.0, TOP.1);
     machine.makes_quick(&rt, 1000, 5);

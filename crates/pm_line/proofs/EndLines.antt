@@ -2,14 +2,13 @@
 use Rattle.std.proofs.Common.{◌≡◌, ℕ, Bool, true, false, List, [], ◌∷◌, refl, sym, ap, ◌∙◌, subst, Option, Some, None}
 use Rattle.std.specs.Prelude.{codes, if◌then◌else◌}
 use Rattle.std.specs.List.{list_all}
-use Rattle.std.specs.Map.{lookup}
 use Rattle.std.specs.Str.{bytes_eq}
 use Rattle.std.proofs.lemmas.Slice.Eq.{bytes_eq-Decides}
 use Rattle.pm_codefile.specs.Segments.{◌>>=◌}
 use Rattle.pm_code.specs.Item.{Item}
 use Rattle.pm_code.specs.Program.{is_segment_name}
 use Rattle.pm_source.specs.Faults.{ends, is_end}
-use Rattle.pm_source.specs.Words.{Cut, cut, is_empty, is_name, words}
+use Rattle.pm_source.specs.Words.{Cut, cut, is_name, words}
 use Rattle.pm_source.specs.Source.{Name, Statement}
 use Rattle.pm_source.specs.Source.Row.{Exit}
 use Rattle.pm_source.specs.Source.Statement.{Code, End}
@@ -18,7 +17,7 @@ use Rattle.pm_source.specs.Line.{is_character, keyword_of, keyword_or, label_of,
 use Rattle.pm_source.specs.Line.{mnemonic_keyword, named_from, no_operands, numeral_operand, procedure_operands, said, saying, segment_operands}
 use Rattle.pm_source.specs.Line.{size_operand, slot_operand, spoken, uncommented}
 use Rattle.pm_source.specs.Line.Keyword.{OfSegment, OfProcedure, OfExit, OfJump, OfEnd, OfBytes, Mnemonic}
-use Rattle.pm_source.specs.Line.Line.{Blank, Wrong, Says}
+use Rattle.pm_source.specs.Line.Line.{Wrong}
 
 -- what is said is the end of a procedure, or it is not
 abbrev OperandEnds : Bool → Operand Statement → Type 0

@@ -1,7 +1,6 @@
 -- Code ends no earlier than it begins.
-use Rattle.std.proofs.Common.{◌≡◌, ◌+◌, ◌<◌, ◌≤◌, ℕ, List, [], ◌∷◌, ◌∙◌, map, drop, length, get_or, ap, sym, arith}
+use Rattle.std.proofs.Common.{◌≡◌, ◌<◌, ◌≤◌, ℕ, List, [], ◌∷◌, map, arith}
 use Rattle.pm_code.proofs.Counted.{end_after}
-use Rattle.pm_code.specs.Item.{Item, size}
 use Rattle.pm_code.specs.Program.{end_of}
 use Rattle.pm_source.specs.Source.{Row, code_end, row_items}
 

@@ -1,5 +1,6 @@
 -- The lines of a text, one by one.
-use Rattle.std.proofs.Common.{◌≡◌, ℕ, zero, suc, ◌+◌, ◌<◌, ◌≤◌, Bool, true, false, List, [], ◌∷◌, ◌++◌, ◌∙◌, length, drop, take, get_or, ap, sym, refl, subst, arith}
+use Rattle.std.proofs.Common.{◌≡◌, ℕ, zero, suc, ◌+◌, ◌<◌, ◌≤◌, Bool, true, false, List, [], ◌∷◌, ◌++◌, ◌∙◌}
+use Rattle.std.proofs.Common.{length, drop, take, get_or, ap, sym, refl, subst, arith}
 use Rattle.std.specs.Prelude.{nat_lt, if◌then◌else◌}
 use Rattle.std.specs.List.{list_any}
 use Rattle.std.proofs.lemmas.List.{at_drop_more, at_drop_all, length-take}
@@ -50,7 +51,8 @@ until_more texts n text until b turn e few last =
     let lines = lines_from 1 (take n texts) in
     let next : n + 1 ≡ suc n = omega arith in
     let long : length lines ≡ n = length_from 1 (take n texts) ∙ omega (arith, length-take n texts, turn.0) in
-    subst (λ ls. IsUntil ls (if b then n + 1 else until)) (sym (ap (λ m. lines_from 1 (take m texts)) next ∙ take_from 1 n texts text turn)) (by b e lines long last)
+    subst (λ ls. IsUntil ls (if b then n + 1 else until))
+    (sym (ap (λ m. lines_from 1 (take m texts)) next ∙ take_from 1 n texts text turn)) (by b e lines long last)
   where
     by : (b : Bool) → ends (line_of (n + 1) text) ≡ b → (lines : List Line) → length lines ≡ n → IsUntil lines until
         → IsUntil (lines ++ line_of (n + 1) text ∷ []) (if b then n + 1 else until)

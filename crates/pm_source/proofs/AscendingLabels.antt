@@ -16,7 +16,8 @@ use Rattle.pm_source.specs.Source.{Name, Row, Source, SourceSegment, Statement, 
 use Rattle.pm_source.specs.Source.Row.{Items, Exit}
 use Rattle.pm_source.specs.Source.Statement.{Code, Entry, End}
 use Rattle.pm_source.specs.Line.{Keyword, Line, Operand, Said, checked, code_said, ends_procedure, entry_operands, items_said, keyword_of}
-use Rattle.pm_source.specs.Line.{is_character, label_of, uncommented, label_operand, labelled, labelled_by, line_by, line_of, line_of_words, no_operands, numeral_operand}
+use Rattle.pm_source.specs.Line.{is_character, label_of, uncommented, label_operand, labelled, labelled_by, line_by}
+use Rattle.pm_source.specs.Line.{line_of, line_of_words, no_operands, numeral_operand}
 use Rattle.pm_source.specs.Line.{procedure_operands, said, saying, segment_operands, size_operand, slot_operand, spoken}
 use Rattle.pm_source.specs.Line.Keyword.{OfSegment, OfProcedure, OfExit, OfJump, OfEnd, OfBytes, Mnemonic}
 use Rattle.pm_source.specs.Line.Line.{Blank, Wrong, Strange, Says}

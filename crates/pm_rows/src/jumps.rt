@@ -92,6 +92,7 @@ fn short(
 }
 
 // The place of a word in the order of signed words.
+#[inline(always)]
 fn rank(word: u16) -> u16
     ensures rank { result ≡ rank word }
 {
@@ -99,6 +100,7 @@ fn rank(word: u16) -> u16
 }
 
 // Where a case jump leads for a value.
+#[inline(always)]
 fn case_target(
     memory: &Memory,
     low: u16,
@@ -118,6 +120,7 @@ fn case_target(
 }
 
 // XJP. .., value -> ..
+#[inline(always)]
 #[tactic(auto, unfolding(crate::specs::Jumps::case_row))]
 fn case(
     memory: &Memory,

@@ -7,7 +7,8 @@
     numbers         that have a name: ends of the stack, the most bytes of bare code, opcodes of jumps (tables of
                     opcodes, table.rt and quick.rt, have their own)
     the page        of the instructions, of which crates/pm_page/stdin is a copy
-    names           that docs/PROMISES.md and the tables of definitions have and the source, or the file beside, has not
+    names           that docs/PROMISES.md, its annex and the tables of definitions have and the source, or the file beside,
+                    has not
     the map         of docs/ARCHITECTURE.md: floors and edges beside crates.txt, and a row for each crate
 The status is 1 where anything is found."""
 import collections
@@ -140,7 +141,8 @@ for path in glob.glob("crates/*/specs/**/*.antt", recursive=True):
     known |= set(re.findall(r"^ *(?:(?:abbrev|unfoldable) )?pub (?:record |data )?([^\s:()]+)", "\n".join(lines(path)), re.M))
 known |= {path.split("/")[1] for path in glob.glob("crates/*/")}
 known |= {os.path.basename(path)[:-5] for path in glob.glob("crates/*/must-fail/*.edit")}
-pages = {"docs/PROMISES.md": "\n".join(lines("docs/PROMISES.md"))}
+PROMISES = ("docs/PROMISES.md", "docs/PLANTED.md")
+pages = {page: "\n".join(lines(page)) for page in PROMISES}
 RULES = ("MACHINE", "INSTRUCTIONS", "PROCEDURES", "FILES", "ASSEMBLY")
 for page in ["docs/%s.md" % name for name in RULES]:
     section = re.search(r"## Definitions\n(.*?)(?=\n## |\Z)", "\n".join(lines(page)), re.S)
@@ -160,7 +162,7 @@ for page, text in pages.items():
 # In a table of definitions each row names files, and each name of the row is defined in one of them. A file without a
 # folder stands in that of the one before it, or in the folder that the text above the table names.
 for page, text in pages.items():
-    if page == "docs/PROMISES.md":
+    if page in PROMISES:
         continue
     folder = re.search(r"`(pm_\w+/specs)`", text)
     for row in re.findall(r"^\| (?!Section|Procedure|---)(.*) \|$", text, re.M):

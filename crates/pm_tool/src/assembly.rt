@@ -17,7 +17,7 @@ fn character(byte: u8) -> char
     char::from(byte.min(127))
 }
 
-/// The text that an input is.
+/// The text that bytes are, in memory of its own.
 #[tactic(auto, unfolding(crate::specs::Assembly::text_of_input))]
 fn text_of(alloc: Global, input: &[u8]) -> Result<String, AllocError>
     ensures text { IfOk result (λ text. string_bytes text ≡ text_of_input input.now) }
@@ -27,6 +27,20 @@ fn text_of(alloc: Global, input: &[u8]) -> Result<String, AllocError>
         text.push(character(*byte))?;
     }
     Ok(text)
+}
+
+/// The text that an input is. One of characters up to 127 stays where it stands.
+#[tactic(auto, using(crate::proofs::Characters::ascii_stays))]
+fn text_in_place(alloc: Global, input: Vec<u8>) -> Result<String, AllocError>
+    ensures text { IfOk result (λ text. string_bytes text ≡ text_of_input input.items) }
+{
+    if !input.is_ascii() {
+        return text_of(alloc, &input);
+    }
+    match String::from_utf8(input) {
+        Ok(text) => Ok(text),
+        Err(_) => unreachable!(),
+    }
 }
 
 /// The bytes of the code file of a text; with `list` those of its listing. The other of the two is not made.
@@ -41,15 +55,12 @@ fn made(alloc: Global, text: &str, list: bool) -> Result<Vec<u8>, AsmFault>
     assemble_file(alloc, text)
 }
 
-/// The bytes of the code file of the text that an input is; with `list` those of its listing.
-fn wanted(alloc: Global, input: &[u8], list: bool) -> Result<Result<Vec<u8>, AsmFault>, AllocError>
-    ensures bytes { IfOk result (λ bytes. IfOk bytes
-        (λ bytes. wanted list (assembled (text_of_input input.now)) ≡ Ok bytes.items)) }
-    ensures fault { IfOk result (λ bytes. IfErr bytes
-        (λ fault. wanted list (assembled (text_of_input input.now)) ≡ Err fault)) }
+/// The bytes of the code file of a text, with `list` those of its listing, or why there are none.
+fn wanted(alloc: Global, text: &str, list: bool) -> Result<Result<Vec<u8>, AsmFault>, AllocError>
+    ensures bytes { IfOk result (λ bytes. IfOk bytes (λ bytes. wanted list (assembled text.now) ≡ Ok bytes.items)) }
+    ensures fault { IfOk result (λ bytes. IfErr bytes (λ fault. wanted list (assembled text.now) ≡ Err fault)) }
 {
-    let text = text_of(alloc, input)?;
-    match made(alloc, &text, list) {
+    match made(alloc, text, list) {
         Ok(bytes) => Ok(Ok(bytes)),
         Err(AsmFault::NoMemory) => Err(AllocError),
         Err(fault) => Ok(Err(fault)),
@@ -57,25 +68,24 @@ fn wanted(alloc: Global, input: &[u8], list: bool) -> Result<Result<Vec<u8>, Asm
 }
 
 /// The line of the text that a fault names, if it names one and there is memory for it.
-fn line_of(alloc: Global, input: &[u8], fault: AsmFault) -> Option<String> {
+fn line_of(alloc: Global, text: &str, fault: AsmFault) -> Option<String> {
     let number = match fault {
         AsmFault::TooLong(_) => return None,
         fault => fault.place()?,
     };
-    let line = input
-        .split(|byte| *byte == b'\n')
-        .nth(number.checked_sub(1)?)?;
-    text_of(alloc, line).ok()
+    let line = text.split('\n').nth(number.checked_sub(1)?)?;
+    String::from_str(alloc, line).ok()
 }
 
 /// The code file of the text that the input is, or with `list` its listing.
-pub(crate) fn assemble(alloc: Global, input: &[u8], list: bool) -> Result<Made, AllocError>
-    ensures made { IfOk result (λ made. product_of made ≡ made_asm list input.now) }
+pub(crate) fn assemble(alloc: Global, input: Vec<u8>, list: bool) -> Result<Made, AllocError>
+    ensures made { IfOk result (λ made. product_of made ≡ made_asm list input.items) }
 {
-    match wanted(alloc, input, list)? {
+    let text = text_in_place(alloc, input)?;
+    match wanted(alloc, &text, list)? {
         Ok(bytes) => Ok(Made::Bytes(bytes)),
         Err(fault) => {
-            let line = line_of(alloc, input, fault);
+            let line = line_of(alloc, &text, fault);
             Ok(Made::Refused(Refusal::Asm(fault), line))
         }
     }

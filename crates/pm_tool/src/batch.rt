@@ -70,7 +70,7 @@ fn make(alloc: Global, job: Batch, input: Vec<u8>) -> Result<Made, AllocError>
     ensures made { IfOk result (λ made. product_of made ≡ made_of job input.items) }
 {
     match job {
-        Batch::Asm { list } => assemble(alloc, &input, list),
+        Batch::Asm { list } => assemble(alloc, input, list),
         Batch::Dis => disassemble(alloc, &input),
         Batch::Files { opened, command } => file(alloc, opened, command, input),
         Batch::New { name, blocks } => new_volume(alloc, name.as_str(), blocks),

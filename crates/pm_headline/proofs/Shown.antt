@@ -16,11 +16,11 @@ use Rattle.pm_debug.specs.declared.refusal.DebugRefusal.{DebugRefusal}
 use Rattle.pm_debug.specs.Breaks.{break_at, with_break, without_break}
 use Rattle.pm_debug.specs.Runs.{breaks_after, gone, gone_by, has_ended}
 use Rattle.pm_debug.specs.Session.{Session}
-use Rattle.pm_commands.specs.declared.commands.Command.{Command}
-use Rattle.pm_commands.specs.declared.commands.Command.TheVariants as commands
-use Rattle.pm_commands.specs.Commands.{command_of}
-use Rattle.pm_tool.specs.Answers.{after_command, answer_text, session_after, with_breaks}
-use Rattle.pm_tool.specs.Sessions.{answers, is_quit, opened}
+use Rattle.pm_session.specs.declared.commands.Command.{Command}
+use Rattle.pm_session.specs.declared.commands.Command.TheVariants as commands
+use Rattle.pm_session.specs.Commands.{command_of}
+use Rattle.pm_session.specs.Answers.{after_command, answer_text, session_after, with_breaks}
+use Rattle.pm_session.specs.Sessions.{answers, is_quit, opened}
 use Rattle.pm_headline.specs.Shown.{AreEventsOf, AreEventsOfLines, GoesOnAfter, SessionsShowTheTable}
 
 -- ---- steps of a run

@@ -3,10 +3,10 @@ use Rattle.std.specs.Prelude.{◌≡◌, ◌≤◌, ℕ, false, List, [], ◌∷
 use Rattle.pm_machine.specs.State.{State}
 use Rattle.pm_machine.specs.Events.{Event, Step, Key, Poke, after_all}
 use Rattle.pm_debug.specs.Session.{Session}
-use Rattle.pm_commands.specs.declared.commands.Command.{Command}
-use Rattle.pm_commands.specs.declared.commands.Command.TheVariants as commands
-use Rattle.pm_commands.specs.Commands.{command_of}
-use Rattle.pm_tool.specs.Sessions.{answers, is_quit, opened}
+use Rattle.pm_session.specs.declared.commands.Command.{Command}
+use Rattle.pm_session.specs.declared.commands.Command.TheVariants as commands
+use Rattle.pm_session.specs.Commands.{command_of}
+use Rattle.pm_session.specs.Sessions.{answers, is_quit, opened}
 
 -- The events of a command, of a line that is none no events: a poke and a key are one, `go` is steps, at most so many
 -- as it says, and all others only show, or set and clear breakpoints.

@@ -9,7 +9,7 @@ use Rattle.pm_machine.specs.State.{State}
 use Rattle.pm_machine.specs.Steps.{stepped}
 use Rattle.pm_machine.specs.Events.{Key, next}
 use Rattle.pm_machine.specs.declared.state.Stop.TheVariants.{Went, Waiting, Ended, Halted}
-use Rattle.pm_tool.specs.declared.ending.Ending.TheVariants as endings
+use Rattle.pm_session.specs.declared.ending.Ending.TheVariants as endings
 use Rattle.pm_streams.specs.declared.fault.Fault.{Fault}
 use Rattle.pm_streams.specs.declared.fault.Fault.TheVariants as faults
 use Rattle.pm_streams.specs.declared.source.TheConstants.{INPUT_LIMIT}

@@ -8,7 +8,6 @@ pub mod Batched
 pub mod Played
 pub mod Opening
 pub mod RunLaws
-pub mod SessionLaws
 pub mod Talked
 pub mod MachineRuns
 pub mod Characters

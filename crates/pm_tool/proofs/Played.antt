@@ -3,8 +3,8 @@ use Rattle.std.proofs.Common.{◌≡◌, ℕ, List, [], ◌++◌, Option, Some, 
 use Rattle.std.specs.Io.KnownBytes.{Appends, Keeps, IsAtEnd}
 use Rattle.std.proofs.KnownBytes.{Appends-nil}
 use Rattle.pm_machine.specs.State.{State}
-use Rattle.pm_tool.specs.declared.ending.Ending.{Ending}
-use Rattle.pm_tool.specs.declared.ending.Ending.TheVariants as endings
+use Rattle.pm_session.specs.declared.ending.Ending.{Ending}
+use Rattle.pm_session.specs.declared.ending.Ending.TheVariants as endings
 use Rattle.pm_streams.specs.declared.fault.Fault.{Fault}
 use Rattle.pm_tool.specs.declared.outcome.Outcome.{Outcome}
 use Rattle.pm_tool.specs.declared.outcome.Refusal.{Refusal}
@@ -14,8 +14,7 @@ use Rattle.pm_tool.specs.Outcomes.{Said, exit_of, refused, IsOutcome}
 use Rattle.pm_tool.specs.Run.{Run, end_text, ended_run, run_of, IsOver, IsBroken}
 use Rattle.pm_tool.specs.declared.talk.Talk.{Talk}
 use Rattle.pm_tool.specs.declared.talk.Talk.TheVariants as talks
-use Rattle.pm_tool.specs.Sessions.{said_debug}
-use Rattle.pm_tool.specs.Said.{said_run, said_started, said_talk, shown_started, IsSoundExit, IsDone, IsBrokenOff, WritesFirst}
+use Rattle.pm_tool.specs.Said.{said_debug, said_run, said_started, said_talk, shown_started, IsSoundExit, IsDone, IsBrokenOff, WritesFirst}
 use Rattle.pm_streams.specs.Streams.{IsFront, AppendsFront, IsCause}
 use Rattle.pm_tool.proofs.Unread.{done_unread}
 use Rattle.pm_tool.proofs.Kept.{if_known, tells_known}

@@ -5,7 +5,7 @@ use Rattle.pm_machine.specs.Steps.{stepped}
 use Rattle.pm_machine.specs.Events.{Key, next}
 use Rattle.pm_machine.specs.declared.state.Stop.{Stop}
 use Rattle.pm_machine.specs.declared.state.Stop.TheVariants.{Waiting}
-use Rattle.pm_tool.specs.declared.ending.Ending.TheVariants as endings
+use Rattle.pm_session.specs.declared.ending.Ending.TheVariants as endings
 use Rattle.pm_tool.specs.declared.steps.Show.{Show}
 use Rattle.pm_tool.specs.Run.{ended_run, is_waiting, follows, turn, run_of}
 

@@ -7,22 +7,22 @@ use Rattle.std.specs.Io.KnownBytes.{Consumes, Appends, Keeps, IsAtEnd}
 use Rattle.std.proofs.KnownBytes.{Consumes-trans, Consumes-nil, Consumes-kept, Appends-trans, Appends-nil}
 use Rattle.pm_machine.specs.State.{State}
 use Rattle.pm_debug.specs.Session.{Session}
-use Rattle.pm_commands.specs.Commands.{command_of}
+use Rattle.pm_session.specs.Commands.{command_of}
 use Rattle.pm_streams.specs.declared.fault.Fault.{Fault}
 use Rattle.pm_streams.specs.declared.fault.Fault.TheVariants as faults
 use Rattle.pm_tool.specs.declared.outcome.Exit.TheVariants as exits
 use Rattle.pm_tool.specs.declared.outcome.Outcome.{Outcome}
 use Rattle.pm_tool.specs.declared.outcome.Refusal.{Refusal}
 use Rattle.pm_streams.specs.declared.source.TheConstants.{INPUT_LIMIT}
-use Rattle.pm_tool.specs.Answers.{session_after}
+use Rattle.pm_session.specs.Answers.{session_after}
 use Rattle.pm_tool.specs.Outcomes.{IsOutcome}
-use Rattle.pm_tool.specs.Said.{IsBrokenOff, IsDone, IsSoundExit, WritesFirst}
-use Rattle.pm_tool.specs.Sessions.{answer_line, debugged, is_quit, opened, said_debug}
+use Rattle.pm_tool.specs.Said.{IsBrokenOff, IsDone, IsSoundExit, WritesFirst, debugged, said_debug}
+use Rattle.pm_session.specs.Sessions.{Told, answer_line, is_quit, opened, told, whole_lines}
 use Rattle.pm_streams.specs.Streams.{Incoming, IsFront, AppendsFront, IsCause, ReadsByte, TakesNone}
-use Rattle.pm_tool.specs.Talks.{IsCutOff, IsTold, Told, told, whole_lines}
+use Rattle.pm_tool.specs.Talks.{IsCutOff, IsTold}
 use Rattle.pm_tool.proofs.Kept.{if_known, tells_known}
-use Rattle.pm_tool.proofs.SessionLaws.{after_telling, answer_quit, told_byte, told_from, told_last, told_line, told_none, told_nothing}
-use Rattle.pm_tool.proofs.SessionLaws.{told_quit, told_start, whole_lines_byte, whole_lines_feed, whole_lines_none}
+use Rattle.pm_session.proofs.SessionLaws.{after_telling, answer_quit, told_byte, told_from, told_last, told_line, told_none, told_nothing}
+use Rattle.pm_session.proofs.SessionLaws.{told_quit, told_start, whole_lines_byte, whole_lines_feed, whole_lines_none}
 use Rattle.pm_streams.proofs.Transfers.{cause_longer, front_after, front_trans}
 
 -- a session as far as it went: bytes were read, answers were written, and the last line has these bytes so far

@@ -10,6 +10,4 @@ pub mod Batches
 pub mod Work
 pub mod Said
 pub mod Laws
-pub mod Answers
-pub mod Sessions
 pub mod Talks

@@ -26,8 +26,8 @@ use Rattle.pm_tool.specs.declared.outcome.Exit.{Exit}
 use Rattle.pm_tool.specs.declared.outcome.Exit.TheVariants as exits
 use Rattle.pm_tool.specs.declared.outcome.Refusal.{Refusal}
 use Rattle.pm_tool.specs.declared.outcome.Refusal.TheVariants as refusals
-use Rattle.pm_tool.specs.declared.ending.Ending.{Ending}
-use Rattle.pm_tool.specs.declared.ending.Ending.TheVariants as endings
+use Rattle.pm_session.specs.declared.ending.Ending.{Ending}
+use Rattle.pm_session.specs.declared.ending.Ending.TheVariants as endings
 use Rattle.pm_tool.specs.declared.outcome.Outcome.{Outcome}
 
 -- the exit status

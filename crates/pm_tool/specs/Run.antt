@@ -1,9 +1,7 @@
 -- A run of the machine and what is shown of it.
 use Rattle.std.specs.Prelude.{◌≡◌, ◌≤◌, ◌<◌, ℕ, zero, suc, Bool, true, false, List}
-use Rattle.std.specs.Prelude.{[], ◌∷◌, ◌++◌, drop, length, Option, if◌then◌else◌, codes}
-use Rattle.std.specs.Fmt.{decimal}
+use Rattle.std.specs.Prelude.{[], ◌∷◌, ◌++◌, drop, length, Option, if◌then◌else◌}
 use Rattle.std.specs.Io.KnownBytes.{Appends, Consumes, IsAtEnd}
-use Rattle.pm_words.specs.Errors.{number_of}
 use Rattle.pm_machine.specs.State.{State}
 use Rattle.pm_machine.specs.Steps.{stepped}
 use Rattle.pm_machine.specs.Runs.{AllWent, after_steps}
@@ -13,8 +11,9 @@ use Rattle.pm_machine.specs.declared.state.Stop.TheVariants.{Went, Waiting, Ende
 use Rattle.pm_debug.specs.Trace.{trace_line}
 use Rattle.pm_streams.specs.declared.fault.Fault.{Fault}
 use Rattle.pm_streams.specs.declared.source.TheConstants.{INPUT_LIMIT}
-use Rattle.pm_tool.specs.declared.ending.Ending.{Ending}
-use Rattle.pm_tool.specs.declared.ending.Ending.TheVariants as endings
+use Rattle.pm_session.specs.Endings.{last_line}
+use Rattle.pm_session.specs.declared.ending.Ending.{Ending}
+use Rattle.pm_session.specs.declared.ending.Ending.TheVariants as endings
 use Rattle.pm_tool.specs.declared.steps.Show.{Show}
 use Rattle.pm_tool.specs.declared.steps.Show.TheVariants.{Trace, Console}
 use Rattle.pm_streams.specs.Streams.{Streams, AppendsBut, IsCause, IsFront}
@@ -80,13 +79,6 @@ turn show rest (key ∷ keys) m =
 unfoldable pub run_of : Show → ℕ → List ℕ → State → Run
 run_of show zero keys m = ended_run [] endings.Limit m keys
 run_of show (suc n) keys m = turn show (run_of show n) keys m
-
--- the last line of a run that ended after so many steps of the machine, without its line feed
-abbrev pub last_line : Ending → ℕ → List ℕ
-last_line endings.Ended steps = codes "ended " ++ decimal steps
-last_line (endings.Error error) steps = codes "error " ++ (decimal (number_of error) ++ (32 ∷ decimal steps))
-last_line endings.Limit steps = codes "limit " ++ decimal steps
-last_line endings.Waiting steps = codes "waiting " ++ decimal steps
 
 -- what is written after the steps: the last line ends a trace
 abbrev pub end_text : Show → Ending → ℕ → List ℕ

@@ -22,9 +22,10 @@ use Rattle.pm_tool.specs.Hex.{hex_spelled}
 use Rattle.pm_tool.specs.Outcomes.{Said, exit_of, is_sound_exit, refused, IsOutcome}
 use Rattle.pm_tool.specs.declared.steps.Show.{Show}
 use Rattle.pm_tool.specs.declared.steps.Show.TheVariants.{Trace, Console}
-use Rattle.pm_tool.specs.Run.{Run, end_text, last_line, run_of}
-use Rattle.pm_tool.specs.Sessions.{said_debug}
-use Rattle.pm_tool.specs.Talks.{whole_lines}
+use Rattle.pm_tool.specs.Run.{Run, end_text, run_of}
+use Rattle.pm_session.specs.Endings.{last_line}
+use Rattle.pm_session.specs.Sessions.{answers, behind_quit, opened, whole_lines}
+use Rattle.pm_session.specs.Words.{lines_of_input}
 use Rattle.pm_streams.specs.Streams.{Streams, IsFront, IsCause, CountsOn}
 
 -- ---- the jobs
@@ -61,6 +62,22 @@ said_run (Console save) run = run_said save run
 abbrev pub said_started : Show → ℕ → Result State Refusal → List ℕ → Said
 said_started show limit (Ok machine) input = said_run show (run_of show limit input machine)
 said_started show limit (Err refusal) input = refused refusal input
+
+-- the session over a machine: it ends well, whatever the machine did
+abbrev pub debugged : State → List ℕ → Said
+debugged machine input = record {
+  written = answers (lines_of_input input) (opened machine);
+  exit = exits.Ended;
+  message = [];
+  image = None;
+  printer = [];
+  unread = behind_quit (lines_of_input input) input;
+}
+
+-- the session over the machine that starts, or the refusal
+abbrev pub said_debug : Result State Refusal → List ℕ → Said
+said_debug (Ok machine) input = debugged machine input
+said_debug (Err refusal) input = refused refusal input
 
 -- a machine that starts, or none, and how it is talked with
 abbrev pub said_talk : Talk → Result State Refusal → List ℕ → Said

@@ -1,30 +1,11 @@
 -- A session that is written as it goes.
-use Rattle.std.specs.Prelude.{◌≡◌, ◌≤◌, ◌==◌, ℕ, Bool, true, List, [], ◌∷◌}
-use Rattle.std.specs.Prelude.{◌++◌, length, reverse, if◌then◌else◌, Option}
+use Rattle.std.specs.Prelude.{◌≡◌, ◌≤◌, ℕ, Bool, true, List, [], ◌++◌, length, Option}
 use Rattle.std.specs.Io.KnownBytes.{Appends, Consumes, IsAtEnd}
 use Rattle.pm_debug.specs.Session.{Session}
-use Rattle.pm_commands.specs.Words.{lines_of_input}
 use Rattle.pm_streams.specs.declared.fault.Fault.{Fault}
 use Rattle.pm_streams.specs.declared.source.TheConstants.{INPUT_LIMIT}
-use Rattle.pm_tool.specs.Sessions.{answers, behind_quit}
+use Rattle.pm_session.specs.Sessions.{told, whole_lines}
 use Rattle.pm_streams.specs.Streams.{Streams, IsCause, IsFront}
-
--- the answers to an input, and what of it is left unread
-pub record Told : Type 0 where
-  pub text : List ℕ
-  pub unread : List ℕ
-
-unfoldable pub told : List ℕ → Session → Told
-told input d = record { text = answers (lines_of_input input) d; unread = behind_quit (lines_of_input input) input }
-
--- of a text from its end on: what it has from its last line feed on
-unfoldable pub from_feed : List ℕ → List ℕ
-from_feed [] = []
-from_feed (c ∷ text) = if c == 10 then c ∷ text else from_feed text
-
--- a text without what stands behind its last line feed
-unfoldable pub whole_lines : List ℕ → List ℕ
-whole_lines text = reverse (from_feed (reverse text))
 
 -- The session is over: these bytes were read, and these were written. Where it ended with the input, none are left.
 pub record IsTold (had left held holds : Option (List ℕ)) (began : Session) : Type 0 where

@@ -2,23 +2,16 @@
 ghost use Rattle.std.specs.Prelude.{◌≡◌, false, true, not, [], IfOk, IfErr, OnOk, OnErr};
 ghost use Rattle.std.specs.Io.KnownBytes.{Appends};
 ghost use Rattle.pm_debug.specs.Session.{session_of};
-ghost use Rattle.pm_commands.specs.Commands.{command_of};
-ghost use Rattle.pm_tool.specs.Answers.{session_after};
-ghost use Rattle.pm_tool.specs.Sessions.{answer_line, is_quit};
+ghost use Rattle.pm_session.specs.Commands.{command_of};
+ghost use Rattle.pm_session.specs.Answers.{session_after};
+ghost use Rattle.pm_session.specs.Sessions.{answer_line, is_quit};
 ghost use Rattle.pm_streams.specs.Streams.{AppendsFront, IsCause, IsCounted, AreWell, both};
 ghost use Rattle.pm_tool.specs.Talks.{IsAnswered, IsInterrupted};
 
-use crate::answer::answer;
-use pm_commands::{Command, command_of};
 use pm_debug::Debugger;
+use pm_session::answer;
 use pm_streams::{Fault, Sink, Source, next_byte, write_all};
 use std::alloc::Global;
-
-fn is_quit(command: Option<Command>) -> bool
-    ensures quit { result ≡ is_quit command }
-{
-    matches!(command, Some(Command::Quit))
-}
 
 /// Answers one line: whether the session goes on.
 fn turn<W: Sink>(
@@ -38,11 +31,9 @@ fn turn<W: Sink>(
         (answer_line (command_of line.now) (session_of debugger.old))) }
     ensures cause { IfErr result (λ fault. IsCause fault false (W.seen sink.new).failed []) }
 {
-    let command = command_of(line);
-    if is_quit(command) {
+    let Some(text) = answer(alloc, debugger, line)? else {
         return Ok(false);
-    }
-    let text = answer(alloc, debugger, command)?;
+    };
     write_all(sink, text.as_bytes())?;
     Ok(true)
 }

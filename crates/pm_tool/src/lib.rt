@@ -1,12 +1,10 @@
 //! The engine of the program: one job, from the bytes that are read to the bytes that are written.
 #![tactic(auto)]
 
-mod answer;
 mod assembly;
 mod batch;
 mod code;
 mod debug;
-mod ending;
 mod engine;
 mod files;
 mod hex;

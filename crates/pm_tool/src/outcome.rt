@@ -1,12 +1,14 @@
 //! Jobs, and what they come to.
-ghost use Rattle.std.specs.Prelude.{◌≡◌, [], List, ℕ, Some, None, IfOk, option_map, string_bytes, vec_items};
-ghost use Rattle.pm_tool.specs.Outcomes.{asm_text, code_text, exit_number, fault_exit, is_want, outcome_text};
-ghost use Rattle.pm_tool.specs.Outcomes.{refusal_text, text_fault_text, volume_text, IsOutcome, SaysWhy, refused};
+ghost use Rattle.std.specs.Prelude.{◌≡◌, false, [], List, ℕ, Some, None, IfOk, option_map, string_bytes, vec_items};
+ghost use Rattle.pm_tool.specs.Outcomes.{asm_text, code_text, exit_number, exit_of, fault_exit, is_refusal, is_want};
+ghost use Rattle.pm_tool.specs.Outcomes.{outcome_text, refusal_text, text_fault_text, volume_text};
+ghost use Rattle.pm_tool.specs.Outcomes.{IsOutcome, SaysWhy, refused};
 
 use pm_asm::AsmFault;
 use pm_codefile::CodeFault;
 use pm_filer::{FileCommand, FilerFault};
 use pm_machine::BootFault;
+use pm_session::Ending;
 use pm_streams::Fault;
 use pm_textfile::TextFault;
 use pm_volume::VolumeFault;
@@ -128,6 +130,18 @@ impl Exit {
             Fault::Read => Exit::ReadFault,
             Fault::Write => Exit::WriteFault,
             Fault::NoMemory => Exit::NoMemory,
+        }
+    }
+
+    /// How a job ends whose run ends so.
+    pub(crate) fn of_ending(ending: Ending) -> Exit
+        ensures value { result ≡ exit_of ending }
+        ensures ran { is_refusal result ≡ false }
+    {
+        match ending {
+            Ending::Ended => Exit::Ended,
+            Ending::Error(_) => Exit::ExecutionError,
+            Ending::Limit | Ending::Waiting => Exit::Stopped,
         }
     }
 }

@@ -8,12 +8,12 @@ ghost use Rattle.pm_tool.specs.Said.{BreaksOff, Finishes, WritesInTime, run_said
 ghost use Rattle.pm_streams.specs.Streams.{AppendsFront, AreWell, IsCause, IsCounted, both};
 
 use crate::debug::converse;
-use crate::ending::{Ending, LastLine};
 use crate::outcome::{Exit, Outcome, refuse};
 use crate::programs::{Start, start_on};
 use crate::steps::{Show, drive};
 use pm_debug::Debugger;
 use pm_machine::Machine;
+use pm_session::{Ending, LastLine};
 use pm_streams::{Fault, Sink, Source, write_all};
 use pm_volume::Disk;
 use std::alloc::{AllocError, Global};
@@ -47,7 +47,7 @@ fn left_by_run(
         None
     };
     Ok(Outcome {
-        exit: last.ending.exit(),
+        exit: Exit::of_ending(last.ending),
         message,
         image,
         printer,
@@ -85,7 +85,7 @@ fn tell<W: Sink>(
             let line = format!(in alloc; "{last}\n")?;
             page.extend_from_slice(line.as_bytes())?;
             write_all(sink, &page)?;
-            Ok(Outcome::plain(alloc, ending.exit(), String::new(alloc)))
+            Ok(Outcome::plain(alloc, Exit::of_ending(ending), String::new(alloc)))
         }
         Show::Console { save } => {
             write_all(sink, &page)?;

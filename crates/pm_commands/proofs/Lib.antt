@@ -1,2 +1,0 @@
-pub mod WordLaws
-pub mod CommandLaws

@@ -1,0 +1,160 @@
+-- The answers to an input, byte by byte.
+use Rattle.std.proofs.Common.{◌≡◌, ◌∙◌, ◌+◌, ◌<◌, ap, sym, refl, arith, ℕ, Bool, true, false}
+use Rattle.std.proofs.Common.{List, [], ◌∷◌, ◌++◌, length, drop, reverse, append_assoc, append-nil, Option, Some}
+use Rattle.std.proofs.lemmas.List.{reverse-append, reverse-reverse}
+use Rattle.std.specs.Prelude.{◌==◌, if◌then◌else◌}
+use Rattle.std.proofs.Math.Seq.{drop-append-add}
+use Rattle.pm_debug.specs.Session.{Session}
+use Rattle.pm_session.specs.declared.commands.Command.{Command}
+use Rattle.pm_session.specs.declared.commands.Command.TheVariants as commands
+use Rattle.pm_session.specs.Commands.{command_of}
+use Rattle.pm_session.specs.Words.{lines_of_input, pieces_between, without_empty_end}
+use Rattle.pm_session.proofs.WordLaws.{pieces_byte, pieces_mark, pieces_none, pieces_some, with_front, with_front-byte, with_front-none}
+use Rattle.pm_session.specs.Answers.{after_command, session_after, answer_text}
+use Rattle.pm_session.specs.Sessions.{Told, answer_line, answers, behind_quit, from_feed, is_quit, told, whole_lines}
+
+-- the answers to these lines of an input
+abbrev pub told_lines : List (List ℕ) → List ℕ → Session → Told
+told_lines lines input d = record { text = answers lines d; unread = behind_quit lines input }
+
+-- the lines of the rest of an input behind the bytes of a line
+abbrev pub lines_behind : List ℕ → List ℕ → List (List ℕ)
+lines_behind line rest = without_empty_end (with_front line (pieces_between 10 rest))
+
+abbrev pub told_from : List ℕ → List ℕ → Session → Told
+told_from line rest d = told_lines (lines_behind line rest) (line ++ rest) d
+
+abbrev pub after_telling : List ℕ → Told → Told
+after_telling text t = record t { text = text ++ t.text }
+
+pub told_start : (input : List ℕ) (d : Session) → told input d ≡ told_from [] input d
+unfolding told lines_of_input
+told_start input d = ap (λ ps. told_lines (without_empty_end ps) input d) (with_front-none (pieces_between 10 input) (pieces_some 10 input))
+
+-- a byte that ends no line
+pub told_byte : (line : List ℕ) (c : ℕ) (rest : List ℕ) (d : Session) → (c == 10) ≡ false → told_from line (c ∷ rest) d ≡ told_from (line ++ c ∷ []) rest d
+told_byte line c rest d h =
+    ap (λ ps. told_lines (without_empty_end ps) (line ++ c ∷ rest) d)
+    (ap (with_front line) (pieces_byte 10 c rest h) ∙ with_front-byte line c (pieces_between 10 rest))
+    ∙ ap (λ input. told_lines (lines_behind (line ++ c ∷ []) rest) input d) (sym (append_assoc line (c ∷ []) rest))
+
+end_behind : (line : List ℕ) (ps : List (List ℕ)) → 0 < length ps → without_empty_end (line ∷ ps) ≡ line ∷ without_empty_end ps
+unfolding without_empty_end
+end_behind line [] h = absurd (omega arith)
+end_behind [] (p ∷ ps) h = refl
+end_behind (c ∷ line) (p ∷ ps) h = refl
+
+lines_feed : (line : List ℕ) (c : ℕ) (rest : List ℕ) → (c == 10) ≡ true → lines_behind line (c ∷ rest) ≡ line ∷ lines_of_input rest
+unfolding lines_of_input
+lines_feed line c rest h =
+    ap (λ ps. without_empty_end (with_front line ps)) (pieces_mark 10 c rest h)
+    ∙ ap (λ l. without_empty_end (l ∷ pieces_between 10 rest)) (append-nil line)
+    ∙ end_behind line (pieces_between 10 rest) (pieces_some 10 rest)
+
+line_dropped : (line : List ℕ) (c : ℕ) (rest : List ℕ) → drop (length line + 1) (line ++ c ∷ rest) ≡ rest
+line_dropped line c rest = drop-append-add line (c ∷ rest) 1
+
+answers_quit : (line : List ℕ) (lines : List (List ℕ)) (d : Session) → is_quit (command_of line) ≡ true → answers (line ∷ lines) d ≡ []
+unfolding answers
+answers_quit line lines d q = rw q refl
+
+answers_more : (line : List ℕ) (lines : List (List ℕ)) (d : Session) → is_quit (command_of line) ≡ false
+    → answers (line ∷ lines) d ≡ answer_line (command_of line) d ++ answers lines (session_after (command_of line) d)
+unfolding answers
+answers_more line lines d q = rw q refl
+
+behind_quit_here : (line : List ℕ) (lines : List (List ℕ)) (input : List ℕ) → is_quit (command_of line) ≡ true
+    → behind_quit (line ∷ lines) input ≡ drop (length line + 1) input
+unfolding behind_quit
+behind_quit_here line lines input q = rw q refl
+
+behind_quit_later : (line : List ℕ) (lines : List (List ℕ)) (input : List ℕ) → is_quit (command_of line) ≡ false
+    → behind_quit (line ∷ lines) input ≡ behind_quit lines (drop (length line + 1) input)
+unfolding behind_quit
+behind_quit_later line lines input q = rw q refl
+
+told_is : (text unread : List ℕ) (t : Told) → t.text ≡ text → t.unread ≡ unread → t ≡ record { text = text; unread = unread }
+told_is text unread t a b = ap (from t.text) b ∙ ap (λ x. from x unread) a
+  where
+    from : List ℕ → List ℕ → Told
+    from text unread = record { text = text; unread = unread }
+
+-- the line feed of `quit`
+pub told_quit : (line : List ℕ) (c : ℕ) (rest : List ℕ) (d : Session) → (c == 10) ≡ true → is_quit (command_of line) ≡ true
+    → told_from line (c ∷ rest) d ≡ record { text = []; unread = rest }
+told_quit line c rest d h q =
+    ap (λ lines. told_lines lines (line ++ c ∷ rest) d) (lines_feed line c rest h)
+    ∙ told_is [] rest (told_lines (line ∷ lines_of_input rest) (line ++ c ∷ rest) d)
+    (answers_quit line (lines_of_input rest) d q)
+    (behind_quit_here line (lines_of_input rest) (line ++ c ∷ rest) q ∙ line_dropped line c rest)
+
+-- the line feed of another line
+pub told_line : (line : List ℕ) (c : ℕ) (rest : List ℕ) (d : Session) → (c == 10) ≡ true → is_quit (command_of line) ≡ false
+    → told_from line (c ∷ rest) d ≡ after_telling (answer_line (command_of line) d) (told rest (session_after (command_of line) d))
+unfolding told
+told_line line c rest d h q =
+    ap (λ lines. told_lines lines (line ++ c ∷ rest) d) (lines_feed line c rest h)
+    ∙ told_is _ _ (told_lines (line ∷ lines_of_input rest) (line ++ c ∷ rest) d)
+    (answers_more line (lines_of_input rest) d q)
+    (behind_quit_later line (lines_of_input rest) (line ++ c ∷ rest) q ∙ ap (behind_quit (lines_of_input rest)) (line_dropped line c rest))
+
+-- the end of the input, behind a line feed
+pub told_none : (d : Session) → told_from [] [] d ≡ record { text = []; unread = [] }
+unfolding without_empty_end answers behind_quit
+told_none d = ap (λ ps. told_lines (without_empty_end (with_front [] ps)) [] d) (pieces_none 10)
+
+last_line_is : (line : List ℕ) → 0 < length line → lines_behind line [] ≡ line ∷ []
+unfolding without_empty_end
+last_line_is [] h = absurd (omega arith)
+last_line_is (c ∷ line) h = ap (λ ps. without_empty_end (with_front (c ∷ line) ps)) (pieces_none 10) ∙ ap (λ l. l ∷ []) (append-nil (c ∷ line))
+
+answers_last : (line : List ℕ) (d : Session) → answers (line ∷ []) d ≡ answer_line (command_of line) d
+unfolding answers
+answers_last line d = by_quit (is_quit (command_of line)) (answer_text (command_of line) d ++ 10 ∷ [])
+  where
+    by_quit : (q : Bool) (text : List ℕ) → (if q then [] else ((if q then [] else text) ++ [])) ≡ (if q then [] else text)
+    by_quit true text = refl
+    by_quit false text = append-nil text
+
+nothing_behind : (line : List ℕ) → behind_quit (line ∷ []) (line ++ []) ≡ []
+unfolding behind_quit
+nothing_behind line = by_quit (is_quit (command_of line)) ∙ drop-append-add line [] 1
+  where
+    by_quit : (q : Bool) → (if q then drop (length line + 1) (line ++ []) else drop (length line + 1) (line ++ [])) ≡ drop (length line + 1) (line ++ [])
+    by_quit true = refl
+    by_quit false = refl
+
+-- the end of the input, behind a line without its line feed
+pub told_last : (line : List ℕ) (d : Session) → 0 < length line → told_from line [] d ≡ record { text = answer_line (command_of line) d; unread = [] }
+told_last line d h =
+    ap (λ lines. told_lines lines (line ++ []) d) (last_line_is line h)
+    ∙ told_is _ _ (told_lines (line ∷ []) (line ++ []) d) (answers_last line d) (nothing_behind line)
+
+pub answer_quit : (line : List ℕ) (d : Session) → is_quit (command_of line) ≡ true → answer_line (command_of line) d ≡ []
+answer_quit line d q = rw q refl
+
+-- `quit` leaves the session as it is
+pub quit_changes_nothing : (command : Option Command) (d : Session) → is_quit command ≡ true → d ≡ session_after command d
+unfolding after_command
+quit_changes_nothing (Some commands.Quit) d q = refl
+quit_changes_nothing _ d q = absurd (cc)
+
+-- ---- whole lines
+
+pub told_nothing : (d : Session) → (told [] d).text ≡ []
+told_nothing d = ap (λ t. t.text) (told_start [] d ∙ told_none d)
+
+pub whole_lines_none : whole_lines [] ≡ []
+unfolding whole_lines from_feed
+whole_lines_none = refl
+
+-- a line feed ends all lines so far
+pub whole_lines_feed : (text : List ℕ) (c : ℕ) → (c == 10) ≡ true → whole_lines (text ++ c ∷ []) ≡ text ++ c ∷ []
+unfolding whole_lines from_feed
+whole_lines_feed text c h =
+    ap (λ r. reverse (from_feed r)) (reverse-append text (c ∷ []))
+    ∙ rw h (ap reverse (sym (reverse-append text (c ∷ []))) ∙ reverse-reverse (text ++ c ∷ []))
+
+pub whole_lines_byte : (text : List ℕ) (c : ℕ) → (c == 10) ≡ false → whole_lines (text ++ c ∷ []) ≡ whole_lines text
+unfolding whole_lines from_feed
+whole_lines_byte text c h = ap (λ r. reverse (from_feed r)) (reverse-append text (c ∷ [])) ∙ rw h refl

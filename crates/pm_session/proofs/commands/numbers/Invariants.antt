@@ -1,0 +1,15 @@
+use Rattle.std.proofs.Common.{◌≡◌, ◌≤◌, ◌-◌, length}
+use Rattle.pm_session.specs.Commands.{numbers}
+use Rattle.pm_session.specs.Words.{words_of_line}
+use Rattle.pm_session.proofs.CommandLaws.{behind}
+use Rattle.pm_session.proofs.commands.numbers.Given as goal
+
+-- the numbers so far, and those of the rest, are the line's
+abbrev pub invariant-words : goal.invariant-words
+invariant-words l = record {
+  rest : numbers 3 (words_of_line l.line) ≡ behind l.numbers.items (numbers (3 - length l.numbers.items) (words_of_line l.rest));
+  few : length l.numbers.items ≤ 3;
+}
+
+abbrev pub decreases-words : goal.decreases-words
+decreases-words l = length l.rest

@@ -1,0 +1,13 @@
+use Rattle.std.proofs.Common.{◌≡◌, ◌≤◌, length}
+use Rattle.pm_session.specs.Words.{words_of_line}
+use Rattle.pm_session.proofs.commands.without_spaces.Given as goal
+
+-- the words stay the same
+abbrev pub invariant-spaces : goal.invariant-spaces
+invariant-spaces l = record {
+  words : words_of_line l.rest ≡ words_of_line l.line;
+  shorter : length l.rest ≤ length l.line;
+}
+
+abbrev pub decreases-spaces : goal.decreases-spaces
+decreases-spaces l = length l.rest

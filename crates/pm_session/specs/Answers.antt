@@ -1,0 +1,116 @@
+-- What a debugger answers to a command, and what a command does.
+use Rattle.std.specs.Prelude.{ℕ, List, [], ◌∷◌, ◌++◌, Option, Some, None, Result, Ok, Err, if◌then◌else◌, codes}
+use Rattle.std.specs.Fmt.{decimal}
+use Rattle.pm_words.specs.Stack.{is_even}
+use Rattle.pm_calls.specs.declared.registers.Registers.{Registers}
+use Rattle.pm_calls.specs.Places.{keeps_of, placed}
+use Rattle.pm_machine.specs.Events.{Key, Poke, next}
+use Rattle.pm_debug.specs.Breaks.{break_at, with_break, without_break}
+use Rattle.pm_debug.specs.Refusals.{number_of, or_refused}
+use Rattle.pm_debug.specs.Runs.{gone}
+use Rattle.pm_debug.specs.Session.{Session}
+use Rattle.pm_debug.specs.Trace.{trace_line}
+use Rattle.pm_debug.specs.Views.{dynamic_chain, local, stack_words, static_chain}
+use Rattle.pm_debug.specs.declared.breaks.Breakpoint.{Breakpoint}
+use Rattle.pm_debug.specs.declared.reason.BreakReason.{BreakReason}
+use Rattle.pm_debug.specs.declared.reason.BreakReason.TheVariants as reasons
+use Rattle.pm_debug.specs.declared.refusal.DebugRefusal.{DebugRefusal}
+use Rattle.pm_debug.specs.declared.refusal.DebugRefusal.TheVariants.{OddAddress}
+use Rattle.pm_session.specs.declared.commands.Command.{Command}
+use Rattle.pm_session.specs.declared.commands.Command.TheVariants as commands
+use Rattle.pm_session.specs.declared.ending.Ending.TheVariants as endings
+use Rattle.pm_session.specs.Endings.{last_line}
+
+abbrev pub refused_text : DebugRefusal → List ℕ
+refused_text refusal = codes "refused " ++ decimal (number_of refusal)
+
+-- done, or refused
+abbrev pub done_text : {A : Type 0} → Result A DebugRefusal → List ℕ
+done_text (Ok x) = codes "ok"
+done_text (Err refusal) = refused_text refusal
+
+abbrev pub more_numbers : List ℕ → List ℕ
+more_numbers [] = []
+more_numbers (n ∷ ns) = 32 ∷ decimal n ++ more_numbers ns
+
+-- numbers with single spaces between them
+abbrev pub numbers_text : List ℕ → List ℕ
+numbers_text [] = []
+numbers_text (n ∷ ns) = decimal n ++ more_numbers ns
+
+-- the frames of a chain; there is none where an odd address is on the way
+abbrev pub chain_text : Option (List ℕ) → List ℕ
+chain_text (Some frames) = numbers_text frames
+chain_text None = refused_text OddAddress
+
+abbrev pub word_text : Result ℕ DebugRefusal → List ℕ
+word_text (Ok word) = decimal word
+word_text (Err refusal) = refused_text refusal
+
+-- where the segment of a slot stands, for how many calls, and how many times the program keeps it; `none` where it
+-- stands nowhere
+abbrev pub place_text : Option (ℕ × ℕ) → Option ℕ → List ℕ
+place_text (Some at) (Some keeps) = numbers_text (at.0 ∷ at.1 ∷ keeps ∷ [])
+place_text (Some at) None = codes "none"
+place_text None keeps = codes "none"
+
+-- as the last line of a trace, of the steps of this run alone
+abbrev pub gone_text : BreakReason → ℕ → List ℕ
+gone_text reasons.Break steps = codes "break " ++ decimal steps
+gone_text reasons.Limit steps = last_line endings.Limit steps
+gone_text reasons.Waiting steps = last_line endings.Waiting steps
+gone_text reasons.Ended steps = last_line endings.Ended steps
+gone_text (reasons.Halted error) steps = last_line (endings.Error error) steps
+
+unfoldable pub registers_text : Registers → List ℕ
+registers_text r =
+    codes "IPC " ++ (decimal r.ipc ++ (codes " SP "
+    ++ (decimal r.sp ++ (codes " SEG " ++ (decimal r.seg ++ (codes " JTAB " ++ (decimal r.jtab
+    ++ (codes " MP " ++ (decimal r.mp ++ (codes " BASE "
+    ++ (decimal r.base ++ (codes " NP " ++ (decimal r.np ++ (codes " IO " ++ decimal r.ioresult))))))))))))))
+
+-- what is answered to a command, without a line feed
+unfoldable pub command_text : Command → Session → List ℕ
+command_text (commands.Break s p o) d = done_text (with_break (break_at s p o) d.breaks)
+command_text (commands.Clear s p o) d = done_text (without_break (break_at s p o) d.breaks)
+command_text (commands.Poke a w) d = if is_even a then codes "ok" else refused_text OddAddress
+command_text (commands.Key b) d = codes "ok"
+command_text (commands.Go n) d = gone_text (gone d.breaks n d.machine).reason (gone d.breaks n d.machine).steps
+command_text (commands.Stack n) d = numbers_text (stack_words d.machine n)
+command_text (commands.Static n) d = chain_text (static_chain d.machine n)
+command_text (commands.Dynamic n) d = chain_text (dynamic_chain d.machine n)
+command_text (commands.Local depth b) d = word_text (or_refused (local d.machine depth b))
+command_text commands.Registers d = registers_text d.machine.registers
+command_text (commands.Place n) d = place_text (placed d.machine.places n) (keeps_of d.machine.places n)
+command_text commands.Trace d = trace_line d.machine
+command_text commands.Quit d = []
+
+-- the breakpoints after one was set or taken away; a refusal leaves them
+abbrev pub with_breaks : Session → Result (List Breakpoint) DebugRefusal → Session
+with_breaks d (Ok breaks) = record d { breaks = breaks }
+with_breaks d (Err refusal) = d
+
+-- the debugger after a command: what only shows leaves it
+unfoldable pub after_command : Command → Session → Session
+after_command (commands.Break s p o) d = with_breaks d (with_break (break_at s p o) d.breaks)
+after_command (commands.Clear s p o) d = with_breaks d (without_break (break_at s p o) d.breaks)
+after_command (commands.Poke a w) d = record d { machine = next d.machine (Poke a w) }
+after_command (commands.Key b) d = record d { machine = next d.machine (Key b) }
+after_command (commands.Go n) d = record d { machine = (gone d.breaks n d.machine).machine }
+after_command (commands.Stack n) d = d
+after_command (commands.Static n) d = d
+after_command (commands.Dynamic n) d = d
+after_command (commands.Local depth b) d = d
+after_command commands.Registers d = d
+after_command (commands.Place n) d = d
+after_command commands.Trace d = d
+after_command commands.Quit d = d
+
+-- a line that is no command
+abbrev pub answer_text : Option Command → Session → List ℕ
+answer_text None d = codes "?"
+answer_text (Some command) d = command_text command d
+
+abbrev pub session_after : Option Command → Session → Session
+session_after None d = d
+session_after (Some command) d = after_command command d

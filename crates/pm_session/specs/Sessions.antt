@@ -1,0 +1,64 @@
+-- The session of a debugger: each line of the input is answered in its turn, up to `quit` or the input's end.
+use Rattle.std.specs.Prelude.{◌==◌, ℕ, ◌+◌, Bool, true, false, List, [], ◌∷◌, ◌++◌, drop}
+use Rattle.std.specs.Prelude.{length, reverse, Option, Some, None, if◌then◌else◌}
+use Rattle.pm_machine.specs.State.{State}
+use Rattle.pm_debug.specs.Session.{Session}
+use Rattle.pm_session.specs.declared.commands.Command.{Command}
+use Rattle.pm_session.specs.declared.commands.Command.TheVariants as commands
+use Rattle.pm_session.specs.Commands.{command_of}
+use Rattle.pm_session.specs.Words.{lines_of_input}
+use Rattle.pm_session.specs.Answers.{session_after, answer_text}
+
+abbrev pub is_quit : Option Command → Bool
+is_quit None = false
+is_quit (Some (commands.Break s p o)) = false
+is_quit (Some (commands.Clear s p o)) = false
+is_quit (Some (commands.Poke a w)) = false
+is_quit (Some (commands.Key b)) = false
+is_quit (Some (commands.Go n)) = false
+is_quit (Some (commands.Stack n)) = false
+is_quit (Some (commands.Static n)) = false
+is_quit (Some (commands.Dynamic n)) = false
+is_quit (Some (commands.Local depth b)) = false
+is_quit (Some commands.Registers) = false
+is_quit (Some (commands.Place n)) = false
+is_quit (Some commands.Trace) = false
+is_quit (Some commands.Quit) = true
+
+-- the answer to a line, with its line feed; `quit` has none
+abbrev pub answer_line : Option Command → Session → List ℕ
+answer_line command d = if is_quit command then [] else answer_text command d ++ 10 ∷ []
+
+-- the answers to lines, up to the first `quit`
+unfoldable pub answers : List (List ℕ) → Session → List ℕ
+answers [] d = []
+answers (line ∷ lines) d =
+    if is_quit (command_of line) then [] else answer_line (command_of line) d
+    ++ answers lines (session_after (command_of line) d)
+
+-- what of an input with these lines stands behind the first `quit`
+unfoldable pub behind_quit : List (List ℕ) → List ℕ → List ℕ
+behind_quit [] input = input
+behind_quit (line ∷ lines) input =
+    if is_quit (command_of line) then drop (length line + 1) input else behind_quit lines (drop (length line + 1) input)
+
+-- a debugger of a machine, without breakpoints
+abbrev pub opened : State → Session
+opened machine = record { machine = machine; breaks = [] }
+
+-- the answers to an input, and what of it is left unread
+pub record Told : Type 0 where
+  pub text : List ℕ
+  pub unread : List ℕ
+
+unfoldable pub told : List ℕ → Session → Told
+told input d = record { text = answers (lines_of_input input) d; unread = behind_quit (lines_of_input input) input }
+
+-- of a text from its end on: what it has from its last line feed on
+unfoldable pub from_feed : List ℕ → List ℕ
+from_feed [] = []
+from_feed (c ∷ text) = if c == 10 then c ∷ text else from_feed text
+
+-- a text without what stands behind its last line feed
+unfoldable pub whole_lines : List ℕ → List ℕ
+whole_lines text = reverse (from_feed (reverse text))

@@ -1,0 +1,222 @@
+//! What the debugger answers to a line.
+ghost use Rattle.std.specs.Prelude.{◌≡◌, ◌++◌, ◌∷◌, [], false, true, IfOk, IfNone, IfSome, OnOk};
+ghost use Rattle.std.specs.Prelude.{Option, List, ℕ, string_bytes, codes, if◌then◌else◌};
+ghost use Rattle.pm_debug.specs.Session.{session_of};
+ghost use Rattle.pm_words.specs.Stack.{is_even};
+ghost use Rattle.pm_machine.specs.Events.{Key, Poke, next};
+ghost use Rattle.pm_debug.specs.Views.{ShowsChain};
+ghost use Rattle.pm_session.specs.Answers.{after_command, session_after, chain_text, command_text, done_text};
+ghost use Rattle.pm_session.specs.Answers.{gone_text, answer_text, numbers_text, place_text, refused_text};
+ghost use Rattle.pm_session.specs.Answers.{registers_text, word_text};
+ghost use Rattle.pm_session.specs.Commands.{command_of};
+ghost use Rattle.pm_session.specs.Sessions.{answer_line, is_quit};
+
+use crate::commands::{Command, command_of};
+use crate::ending::{Ending, LastLine};
+use pm_debug::{BreakReason, DebugRefusal, Debugger};
+use pm_machine::Registers;
+use std::alloc::{AllocError, Global};
+
+fn refused(alloc: Global, refusal: DebugRefusal) -> Result<String, AllocError>
+    ensures text { IfOk result (λ text. string_bytes text ≡ refused_text refusal) }
+{
+    let number = refusal.number();
+    format!(in alloc; "refused {number}")
+}
+
+/// Done, or refused.
+fn done(alloc: Global, outcome: Result<(), DebugRefusal>) -> Result<String, AllocError>
+    ensures text { IfOk result (λ text. string_bytes text ≡ done_text outcome) }
+{
+    match outcome {
+        Ok(()) => format!(in alloc; "ok"),
+        Err(refusal) => refused(alloc, refusal),
+    }
+}
+
+/// Numbers with single spaces between them.
+fn numbers(alloc: Global, numbers: &[u16]) -> Result<String, AllocError>
+    ensures text { IfOk result (λ text. string_bytes text ≡ numbers_text numbers.now) }
+{
+    let Some((first, rest)) = numbers.split_first() else {
+        return Ok(String::new(alloc));
+    };
+    let mut text = format!(in alloc; "{first}")?;
+    for number in rest {
+        write!(text, " {number}")?;
+    }
+    Ok(text)
+}
+
+/// The frames of a chain, or its refusal.
+fn chain(alloc: Global, chain: Result<Vec<u16>, DebugRefusal>) -> Result<String, AllocError>
+    ensures text { IfOk result (λ text. (frames : Option (List ℕ)) → ShowsChain (λ v. v.items) chain frames
+        → string_bytes text ≡ chain_text frames) }
+{
+    match chain {
+        Ok(frames) => numbers(alloc, &frames),
+        Err(DebugRefusal::NoMemory) => Err(AllocError),
+        Err(refusal) => refused(alloc, refusal),
+    }
+}
+
+/// A word, or its refusal.
+fn word(alloc: Global, word: Result<u16, DebugRefusal>) -> Result<String, AllocError>
+    ensures text { IfOk result (λ text. string_bytes text ≡ word_text word) }
+{
+    match word {
+        Ok(word) => format!(in alloc; "{word}"),
+        Err(refusal) => refused(alloc, refusal),
+    }
+}
+
+/// Why a run ended, and after how many steps.
+fn gone(alloc: Global, steps: u64, reason: BreakReason) -> Result<String, AllocError>
+    ensures text { IfOk result (λ text. string_bytes text ≡ gone_text reason steps) }
+{
+    let ending = match reason {
+        BreakReason::Break => return format!(in alloc; "break {steps}"),
+        BreakReason::Limit => Ending::Limit,
+        BreakReason::Waiting => Ending::Waiting,
+        BreakReason::Ended => Ending::Ended,
+        BreakReason::Halted(error) => Ending::Error(error),
+    };
+    let last = LastLine { ending, steps };
+    format!(in alloc; "{last}")
+}
+
+/// Where a segment stands, for how many calls, and how many times the program keeps it.
+fn place(alloc: Global, place: Option<(u16, u16)>, keeps: Option<u16>) -> Result<String, AllocError>
+    ensures text { IfOk result (λ text. string_bytes text ≡ place_text place keeps) }
+{
+    match (place, keeps) {
+        (Some((at, count)), Some(keeps)) => numbers(alloc, &[at, count, keeps]),
+        _ => format!(in alloc; "none"),
+    }
+}
+
+/// The registers, each behind its name.
+#[tactic(auto, unfolding(crate::specs::Answers::registers_text))]
+fn registers(alloc: Global, registers: Registers) -> Result<String, AllocError>
+    ensures text { IfOk result (λ text. string_bytes text ≡ registers_text registers) }
+{
+    let Registers {
+        sp,
+        ipc,
+        seg,
+        jtab,
+        mp,
+        base,
+        np,
+        ioresult,
+    } = registers;
+    format!(in alloc;
+        "IPC {ipc} SP {sp} SEG {seg} JTAB {jtab} MP {mp} BASE {base} NP {np} IO {ioresult}"
+    )
+}
+
+/// Writes a word of the memory, at an even address.
+fn poke(debugger: &mut Debugger, address: u16, word: u16) -> Result<(), DebugRefusal>
+    ensures text { done_text result ≡ (if is_even address then codes "ok" else refused_text DebugRefusal.OddAddress) }
+    ensures session { (session_of debugger.new) ≡ record
+        (session_of debugger.old) { machine = next debugger.old.machine.state (Poke address word) } }
+{
+    if debugger.machine().poke(address, word) {
+        Ok(())
+    } else {
+        Err(DebugRefusal::OddAddress)
+    }
+}
+
+/// Lets one more byte wait on the console.
+fn key(debugger: &mut Debugger, byte: u8) -> Result<(), AllocError>
+    ensures session { OnOk result ((session_of debugger.new)
+        ≡ record (session_of debugger.old) { machine = next debugger.old.machine.state (Key byte) }) }
+{
+    debugger.machine().key(byte)?;
+    Ok(())
+}
+
+/// Does a command, and gives its answer without a line feed.
+#[tactic(auto, unfolding(crate::specs::Answers::command_text, crate::specs::Answers::after_command))]
+fn do_command(
+    alloc: Global,
+    debugger: &mut Debugger,
+    command: Command,
+) -> Result<String, AllocError>
+    ensures text { IfOk result (λ text. string_bytes text ≡ command_text command (session_of debugger.old)) }
+    ensures session { OnOk result ((session_of debugger.new) ≡ after_command command (session_of debugger.old)) }
+{
+    match command {
+        Command::Break(segment, procedure, offset) => {
+            done(alloc, debugger.set_break(segment, procedure, offset))
+        }
+        Command::Clear(segment, procedure, offset) => {
+            done(alloc, debugger.clear_break(segment, procedure, offset))
+        }
+        Command::Poke(address, word) => done(alloc, poke(debugger, address, word)),
+        Command::Key(byte) => {
+            key(debugger, byte)?;
+            done(alloc, Ok(()))
+        }
+        Command::Go(limit) => {
+            let (steps, reason) = debugger.go(u64::from(limit))?;
+            gone(alloc, steps, reason)
+        }
+        Command::Stack(n) => numbers(alloc, &debugger.stack(alloc, n)?),
+        Command::Static(limit) => chain(alloc, debugger.static_chain(alloc, limit)),
+        Command::Dynamic(limit) => chain(alloc, debugger.dynamic_chain(alloc, limit)),
+        Command::Local(depth, b) => word(alloc, debugger.local(depth, b)),
+        Command::Registers => registers(alloc, debugger.machine().registers()),
+        Command::Place(n) => {
+            let machine = debugger.machine();
+            place(alloc, machine.place(n), machine.keeps(n))
+        }
+        Command::Trace => debugger.trace_line(alloc),
+        Command::Quit => Ok(String::new(alloc)),
+    }
+}
+
+/// Does a command, and gives its answer with a line feed. A line that is none has an answer too.
+fn answer_to(
+    alloc: Global,
+    debugger: &mut Debugger,
+    command: Option<Command>,
+) -> Result<String, AllocError>
+    ensures text { IfOk result (λ text. string_bytes text ≡ answer_text command (session_of debugger.old) ++ 10 ∷ []) }
+    ensures session { OnOk result ((session_of debugger.new) ≡ session_after command (session_of debugger.old)) }
+{
+    let mut text = match command {
+        Some(command) => do_command(alloc, debugger, command)?,
+        None => format!(in alloc; "?")?,
+    };
+    text.push_str("\n")?;
+    Ok(text)
+}
+
+fn is_quit(command: Option<Command>) -> bool
+    ensures quit { result ≡ is_quit command }
+{
+    matches!(command, Some(Command::Quit))
+}
+
+/// Does the command that a line is, without its line feed, and gives the answer, with a line feed. `quit` has none.
+pub fn answer(
+    alloc: Global,
+    debugger: &mut Debugger,
+    line: &[u8],
+) -> Result<Option<String>, AllocError>
+    ensures quit { IfOk result (λ text. IfNone text (is_quit (command_of line.now) ≡ true)) }
+    ensures going { IfOk result (λ text. IfSome text (λ text. is_quit (command_of line.now) ≡ false)) }
+    ensures text { IfOk result (λ text. IfSome text
+        (λ text. string_bytes text ≡ answer_line (command_of line.now) (session_of debugger.old))) }
+    ensures session { OnOk result ((session_of debugger.new)
+        ≡ session_after (command_of line.now) (session_of debugger.old)) }
+{
+    let command = command_of(line);
+    if is_quit(command) {
+        return Ok(None);
+    }
+    let text = answer_to(alloc, debugger, command)?;
+    Ok(Some(text))
+}

@@ -1,0 +1,43 @@
+//! How runs end, in a line.
+ghost use Rattle.std.specs.Prelude.{Some};
+ghost use Rattle.pm_session.specs.Endings.{last_line};
+
+use pm_words::ExecError;
+use std::fmt;
+
+/// Why a run ended.
+#[derive(Clone, Copy, Debug, PartialEq, Eq)]
+pub enum Ending {
+    /// The program came to its end.
+    Ended,
+    /// It stopped at an execution error.
+    Error(ExecError),
+    /// It made as many steps as it might.
+    Limit,
+    /// It waits for a byte of the console, and there is none.
+    Waiting,
+}
+
+/// The last line of a run: why it ended, and after how many steps of the machine.
+#[derive(Clone, Copy)]
+pub struct LastLine {
+    pub ending: Ending,
+    pub steps: u64,
+}
+
+impl fmt::Display for LastLine {
+    ghost output = { λ line. Some (last_line line.ending line.steps) };
+
+    fn fmt<W: fmt::Write>(&self, f: &mut fmt::Formatter<W>) -> fmt::Result {
+        let steps = self.steps;
+        match self.ending {
+            Ending::Ended => write!(f, "ended {steps}"),
+            Ending::Error(error) => {
+                let number = error.number();
+                write!(f, "error {number} {steps}")
+            }
+            Ending::Limit => write!(f, "limit {steps}"),
+            Ending::Waiting => write!(f, "waiting {steps}"),
+        }
+    }
+}

@@ -1,0 +1,10 @@
+//! A session of the debugger: the words of a line, the command that it is, and what is answered to it.
+#![tactic(auto)]
+
+mod answers;
+mod commands;
+mod ending;
+
+pub use answers::answer;
+pub use commands::{Command, command_of};
+pub use ending::{Ending, LastLine};

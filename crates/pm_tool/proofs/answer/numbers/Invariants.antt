@@ -1,7 +1,0 @@
-use Rattle.std.proofs.Common.{◌≡◌, ◌++◌, drop, string_bytes}
-use Rattle.pm_tool.specs.Answers.{more_numbers, numbers_text}
-use Rattle.pm_tool.proofs.answer.numbers.Given as goal
-
--- the numbers so far, and the others, are all of the text
-abbrev pub invariant-loop-number : goal.invariant-loop-number
-invariant-loop-number l = record { rest : string_bytes l.text ++ more_numbers (drop l.number-index l.rest) ≡ numbers_text l.numbers }

@@ -1,8 +1,0 @@
-use Rattle.std.proofs.Common.{append_assoc}
-use Rattle.std.proofs.lemmas.Result.{IfOk-weaker}
-use Rattle.pm_tool.specs.Answers.{registers_text}
-use Rattle.pm_tool.proofs.answer.registers.Goals as goal
-
-pub returns : goal.returns
-unfolding registers_text
-returns c = record { text = IfOk-weaker c.format.result _ _ (λ text h. simp append_assoc at h) c.format.ensures.ok }

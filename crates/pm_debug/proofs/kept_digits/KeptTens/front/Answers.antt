@@ -1,4 +1,4 @@
-use Rattle.std.proofs.Common.{◌≡◌, ◌/◌, refl, arith}
+use Rattle.std.proofs.Common.{◌/◌, refl, arith}
 use Rattle.pm_debug.proofs.Zeros.{last_of_eight, seven_digits}
 use Rattle.pm_debug.proofs.kept_digits.KeptTens.front.Goals as goal
 

@@ -1,6 +1,6 @@
 //! Numbers with zeros in front.
 
-ghost use Rattle.std.specs.Prelude.{◌≡◌, ◌<◌, ◌+◌, ◌/◌, ◌%◌, ◌∷◌, [], Some};
+ghost use Rattle.std.specs.Prelude.{◌≡◌, ◌<◌, ◌+◌, ◌/◌, ◌%◌, ◌∷◌, ◌++◌, [], Some};
 ghost use Rattle.std.specs.List.{AllByRecursion, flat_map};
 ghost use Rattle.std.specs.Str.{IsAscii};
 ghost use Rattle.pm_code.specs.Shown.{padded};
@@ -67,30 +67,30 @@ impl fmt::Display for Count {
     }
 }
 
-/// A space and five characters.
+/// Five characters and a space.
 pub(crate) type Column = [u8; 6];
 
 /// A word in five digits.
 #[inline(always)]
 #[tactic(auto, using(crate::proofs::Zeros::digits_by_pairs))]
 pub(crate) fn column(word: u16) -> Column
-    ensures digits { result ≡ 32 ∷ padded 5 word }
+    ensures digits { result ≡ padded 5 word ++ 32 ∷ [] }
     ensures ascii { IsAscii result }
 {
     let hundreds = word / 100;
     let [thousands, third] = pair(hundreds % 100);
     let [tens, last] = pair(word % 100);
     let first = b'0' + (hundreds / 100) as u8;
-    [b' ', first, thousands, third, tens, last]
+    [first, thousands, third, tens, last, b' ']
 }
 
 /// A word in five digits, or five dashes where there is none.
 pub(crate) fn column_or_dashes(word: Option<u16>) -> Column
-    ensures text { result ≡ 32 ∷ top_text word }
+    ensures text { result ≡ top_text word ++ 32 ∷ [] }
     ensures ascii { IsAscii result }
 {
     match word {
-        None => *b" -----",
+        None => *b"----- ",
         Some(word) => column(word),
     }
 }

@@ -1,6 +1,6 @@
 //! Digits that are kept, since they seldom change from one line of a trace to the next.
 
-ghost use Rattle.std.specs.Prelude.{◌≡◌, ◌<◌, ◌∷◌};
+ghost use Rattle.std.specs.Prelude.{◌≡◌, ◌<◌, ◌∷◌, ◌++◌, []};
 ghost use Rattle.pm_code.specs.Shown.{padded};
 
 use crate::digits::{Column, column, seven_digits};
@@ -14,7 +14,7 @@ pub(crate) struct KeptColumn {
 }
 
 impl Model for KeptColumn {
-    ghost use Rattle.std.specs.Prelude.{ℕ, ◌≡◌, ◌∷◌};
+    ghost use Rattle.std.specs.Prelude.{ℕ, ◌≡◌, ◌∷◌, ◌++◌, []};
     ghost use Rattle.pm_code.specs.Shown.{padded};
 
     ghost Value = { ℕ };
@@ -22,7 +22,7 @@ impl Model for KeptColumn {
     ghost view = { λ k. k.word };
 
     ghost invariant = { λ k. record {
-      digits : k.column ≡ 32 ∷ padded 5 k.word;
+      digits : k.column ≡ padded 5 k.word ++ 32 ∷ [];
     } };
 }
 
@@ -38,7 +38,7 @@ impl KeptColumn {
     /// The column of a word, which is kept.
     #[inline(always)]
     pub(crate) fn of(&mut self, word: u16) -> Column
-        ensures digits { result ≡ 32 ∷ padded 5 word }
+        ensures digits { result ≡ padded 5 word ++ 32 ∷ [] }
     {
         if self.word != word {
             self.word = word;
@@ -77,9 +77,9 @@ impl KeptTens {
         }
     }
 
-    /// A number of tens in seven digits, which are kept.
+    // A number of tens in seven digits, which are kept.
     #[inline(always)]
-    pub(crate) fn of(&mut self, tens: u32) -> [u8; 7]
+    fn of(&mut self, tens: u32) -> [u8; 7]
         requires few { tens < 10000000 }
         ensures digits { result ≡ padded 7 tens }
     {
@@ -88,5 +88,15 @@ impl KeptTens {
             self.digits = seven_digits(tens);
         }
         self.digits
+    }
+
+    /// A count in eight digits, and a space. The digits of its tens are kept.
+    #[inline(always)]
+    pub(crate) fn front(&mut self, count: u32) -> [u8; 9]
+        requires few { count < 100000000 }
+        ensures digits { result ≡ padded 8 count ++ 32 ∷ [] }
+    {
+        let [a, b, c, d, e, f, g] = self.of(count / 10);
+        [a, b, c, d, e, f, g, b'0' + (count % 10) as u8, b' ']
     }
 }

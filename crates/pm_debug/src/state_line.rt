@@ -46,7 +46,7 @@ impl fmt::Display for TraceLine<'_> {
         ];
         let columns = joined(&columns);
         let line = Line::new(memory, registers.ipc);
-        write!(f, "{steps}{columns} {line}")
+        write!(f, "{steps} {columns}{line}")
     }
 }
 

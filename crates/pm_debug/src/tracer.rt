@@ -48,7 +48,7 @@ impl Tracer {
         if count >= 100_000_000 {
             return self.add_long_line(page, machine);
         }
-        let tens = self.tens.of((count / 10) as u32);
+        let front = self.tens.front(count as u32);
         let registers = machine.registers();
         let memory = machine.memory();
         let columns = [
@@ -59,10 +59,8 @@ impl Tracer {
             self.np.of(registers.np),
             column_or_dashes(top(memory, registers.sp)),
         ];
-        page.extend_from_slice(&tens)?;
-        page.push(b'0' + (count % 10) as u8)?;
+        page.extend_from_slice(&front)?;
         page.extend_from_slice(columns.as_flattened())?;
-        page.push(b' ')?;
         self.add_place(page, memory, registers.ipc)?;
         page.push(b'\n')?;
         Ok(())

@@ -14,6 +14,7 @@ ghost use Rattle.std.specs.Prelude.{
   Ok,
   Err,
   length,
+  [],
   nat_le,
   slice_index,
 };
@@ -188,7 +189,8 @@ fn combine(
     let _ = memory.bytes(); // for its first clause
     let upper = find_set(memory, sp)?;
     let lower = find_set(memory, upper.above)?;
-    let set = combined(memory, combination, lower, upper);
+    let mut set = ArrayVec::new();
+    combined(memory, combination, lower, upper, &mut set);
     push_words(memory, lower.above, np, &set)
 }
 
@@ -287,22 +289,25 @@ pub fn word_or_zero(words: &[u16], index: usize) -> u16
     words.get(index).copied().unwrap_or(0)
 }
 
-// The set that two sets in memory make, its count first.
+// Puts the set that two sets in memory make into an empty list of words, its count first. The list is the caller's, so
+// that it is not copied.
 #[inline(always)]
 fn combined(
     memory: &Memory,
     combination: Combination,
     lower: SetPlace,
     upper: SetPlace,
-) -> ArrayVec<u16, COUNTED_WORDS>
+    words: &mut ArrayVec<u16, COUNTED_WORDS>,
+)
+    requires empty { words.old.items ≡ [] }
     requires lower_even { lower.address % 2 ≡ 0 }
     requires lower_few { lower.count ≤ 255 }
     requires lower_inside { lower.address + 2 * lower.count ≤ STACK_END }
     requires upper_even { upper.address % 2 ≡ 0 }
     requires upper_few { upper.count ≤ 255 }
     requires upper_inside { upper.address + 2 * upper.count ≤ STACK_END }
-    ensures few { length result.items ≤ 256 }
-    ensures words { result.items ≡ with_length (set_of (count_of combination lower.count upper.count)
+    ensures few { length words.new.items ≤ 256 }
+    ensures words { words.new.items ≡ with_length (set_of (count_of combination lower.count upper.count)
         (λ e. test_of combination (is_member (words_at memory.now.words lower.address lower.count) e)
         (is_member (words_at memory.now.words upper.address upper.count) e))) }
 {
@@ -311,13 +316,11 @@ fn combined(
         usize::from(lower.count),
         usize::from(upper.count),
     );
-    let mut words = ArrayVec::new();
     words.push(count as u16);
     for i in 0..count {
         let (lower, upper) = (set_word(memory, lower, i), set_word(memory, upper, i));
         words.push(combined_word(combination, lower, upper));
     }
-    words
 }
 
 // Of how many words the set is that two sets make.

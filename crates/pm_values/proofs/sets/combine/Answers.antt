@@ -9,7 +9,7 @@ returns-clause-row c =
     let upper = c.in_ok-upper.upper in
     let below : lower.address / 2 + lower.count ≤ length m = omega (arith, c.bytes.ensures.memory.size, c.in_ok-lower.ensures.inside) in
     let above : upper.address / 2 + upper.count ≤ length m = omega (arith, c.bytes.ensures.memory.size, c.in_ok-upper.ensures.inside) in
-    let written = rw (c.deref.ensures.0, c.combined-set.ensures.words) at c.push_words.ensures.row in
+    let written = rw (c.deref.ensures.0, c.combined.ensures.words) at c.push_words.ensures.row in
     rw (
       c.in_ok-upper.ensures.set,
       c.in_ok-lower.ensures.set,

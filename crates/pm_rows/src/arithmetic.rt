@@ -1,8 +1,8 @@
 //! The rows on words as integers.
 
-ghost use Rattle.std.specs.Prelude.{◌≡◌, IfOk};
+ghost use Rattle.std.specs.Prelude.{◌≡◌};
 ghost use Rattle.pm_words.specs.Watch.{KeepsWatch};
-ghost use Rattle.pm_words.specs.Stack.{IsStack, Changes};
+ghost use Rattle.pm_words.specs.Top.{MovesTop};
 ghost use Rattle.pm_rows.specs.Integers.{unary, binary, relation};
 ghost use Rattle.pm_rows.specs.Arithmetic.{
   arithmetic_row,
@@ -14,8 +14,7 @@ ghost use Rattle.pm_rows.specs.Arithmetic.{
 };
 
 use pm_opcode::{Arithmetic, Binary, Relation, Unary};
-use pm_words::stack::{pop, push};
-use pm_words::{ExecError, Memory};
+use pm_words::{ExecError, Memory, Top};
 
 // The word that an operation makes of one word.
 #[inline(always)]
@@ -88,94 +87,93 @@ fn holds(operation: Relation, a: u16, b: u16) -> bool
 // SLDC, LDCI and LDCN. .. -> .., word
 #[inline(always)]
 #[tactic(auto, unfolding(crate::specs::Arithmetic::constant_row), using(pm_words::proofs::WatchLaws::keeps))]
-fn constant(memory: &mut Memory, sp: u16, np: u16, word: u16) -> Result<u16, ExecError>
-    ensures row { Changes result memory.old.words memory.new.words (constant_row word memory.old.words sp np) }
-    ensures stack { IsStack sp np → IfOk result (λ sp. IsStack sp np) }
+fn constant(memory: &mut Memory, top: Top, word: u16) -> Result<Top, ExecError>
+    ensures row { MovesTop result top memory.old.words memory.new.words
+        (constant_row word memory.old.words top.sp top.np) }
     ensures keeps { KeepsWatch memory.old memory.new }
 {
-    push(memory, sp, np, word)
+    let mut stack = top;
+    stack.push(memory, word)?;
+    Ok(stack)
 }
 
 // ABI, NGI, SQI and LNOT. .., a -> .., b
 #[inline(always)]
 #[tactic(auto, unfolding(crate::specs::Arithmetic::unary_row), using(pm_words::proofs::WatchLaws::keeps))]
-fn unary(memory: &mut Memory, sp: u16, np: u16, operation: Unary) -> Result<u16, ExecError>
-    ensures row { Changes result memory.old.words memory.new.words (unary_row operation memory.old.words sp np) }
-    ensures stack { IsStack sp np → IfOk result (λ sp. IsStack sp np) }
+fn unary(memory: &mut Memory, top: Top, operation: Unary) -> Result<Top, ExecError>
+    ensures row { MovesTop result top memory.old.words memory.new.words
+        (unary_row operation memory.old.words top.sp top.np) }
     ensures keeps { KeepsWatch memory.old memory.new }
 {
-    let a = pop(memory, sp)?;
-    push(memory, a.above, np, word_of_one(operation, a.word))
+    let mut stack = top;
+    let a = stack.pop(memory)?;
+    stack.push(memory, word_of_one(operation, a))?;
+    Ok(stack)
 }
 
 // ADI, SBI, MPI, DVI, MODI, LAND and LOR. .., a, b -> .., c
 #[inline(always)]
 #[tactic(auto, unfolding(crate::specs::Arithmetic::binary_row), using(pm_words::proofs::WatchLaws::keeps))]
-fn binary(memory: &mut Memory, sp: u16, np: u16, operation: Binary) -> Result<u16, ExecError>
-    ensures row { Changes result memory.old.words memory.new.words (binary_row operation memory.old.words sp np) }
-    ensures stack { IsStack sp np → IfOk result (λ sp. IsStack sp np) }
+fn binary(memory: &mut Memory, top: Top, operation: Binary) -> Result<Top, ExecError>
+    ensures row { MovesTop result top memory.old.words memory.new.words
+        (binary_row operation memory.old.words top.sp top.np) }
     ensures keeps { KeepsWatch memory.old memory.new }
 {
-    let b = pop(memory, sp)?;
-    let a = pop(memory, b.above)?;
-    let c = word_of_two(operation, a.word, b.word)?;
-    push(memory, a.above, np, c)
+    let mut stack = top;
+    let b = stack.pop(memory)?;
+    let a = stack.pop(memory)?;
+    let c = word_of_two(operation, a, b)?;
+    stack.push(memory, c)?;
+    Ok(stack)
 }
 
 // EQUI, NEQI, LESI, LEQI, GRTI and GEQI. .., a, b -> .., 1 or 0
 #[inline(always)]
 #[tactic(auto, unfolding(crate::specs::Arithmetic::relation_row), using(pm_words::proofs::WatchLaws::keeps))]
-fn relation(memory: &mut Memory, sp: u16, np: u16, operation: Relation) -> Result<u16, ExecError>
-    ensures row { Changes result memory.old.words memory.new.words (relation_row operation memory.old.words sp np) }
-    ensures stack { IsStack sp np → IfOk result (λ sp. IsStack sp np) }
+fn relation(memory: &mut Memory, top: Top, operation: Relation) -> Result<Top, ExecError>
+    ensures row { MovesTop result top memory.old.words memory.new.words
+        (relation_row operation memory.old.words top.sp top.np) }
     ensures keeps { KeepsWatch memory.old memory.new }
 {
-    let b = pop(memory, sp)?;
-    let a = pop(memory, b.above)?;
-    push(
-        memory,
-        a.above,
-        np,
-        u16::from(holds(operation, a.word, b.word)),
-    )
+    let mut stack = top;
+    let b = stack.pop(memory)?;
+    let a = stack.pop(memory)?;
+    stack.push(memory, u16::from(holds(operation, a, b)))?;
+    Ok(stack)
 }
 
 // CHK. .., a, b, c -> .., a
 #[tactic(auto, unfolding(crate::specs::Arithmetic::check_row), using(pm_words::proofs::WatchLaws::keeps))]
-fn check(memory: &mut Memory, sp: u16, np: u16) -> Result<u16, ExecError>
-    ensures row { Changes result memory.old.words memory.new.words (check_row memory.old.words sp np) }
-    ensures stack { IsStack sp np → IfOk result (λ sp. IsStack sp np) }
+fn check(memory: &mut Memory, top: Top) -> Result<Top, ExecError>
+    ensures row { MovesTop result top memory.old.words memory.new.words (check_row memory.old.words top.sp top.np) }
     ensures keeps { KeepsWatch memory.old memory.new }
 {
-    let c = pop(memory, sp)?;
-    let b = pop(memory, c.above)?;
-    let a = pop(memory, b.above)?;
-    let value = a.word.cast_signed();
-    if b.word.cast_signed() > value || value > c.word.cast_signed() {
+    let mut stack = top;
+    let c = stack.pop(memory)?;
+    let b = stack.pop(memory)?;
+    let a = stack.pop(memory)?;
+    let value = a.cast_signed();
+    if b.cast_signed() > value || value > c.cast_signed() {
         return Err(ExecError::InvalidIndex);
     }
-    push(memory, a.above, np, a.word)
+    stack.push(memory, a)?;
+    Ok(stack)
 }
 
-/// Does an operation on words as integers, and gives the new SP. An error changes nothing.
+/// Does an operation on words as integers, and gives the new top. An error changes nothing.
 #[inline(always)]
 #[tactic(auto, unfolding(crate::specs::Arithmetic::arithmetic_row), using(pm_words::proofs::WatchLaws::keeps))]
-pub fn perform(
-    memory: &mut Memory,
-    sp: u16,
-    np: u16,
-    operation: Arithmetic,
-) -> Result<u16, ExecError>
-    ensures row { Changes result memory.old.words memory.new.words (arithmetic_row operation memory.old.words sp np) }
-    ensures stack { IsStack sp np → IfOk result (λ sp. IsStack sp np) }
+pub fn perform(memory: &mut Memory, top: Top, operation: Arithmetic) -> Result<Top, ExecError>
+    ensures row { MovesTop result top memory.old.words memory.new.words
+        (arithmetic_row operation memory.old.words top.sp top.np) }
     ensures keeps { KeepsWatch memory.old memory.new }
 {
     match operation {
-        Arithmetic::Constant(word) => constant(memory, sp, np, word),
-        Arithmetic::Nil => constant(memory, sp, np, 0),
-        Arithmetic::OnOne(operation) => unary(memory, sp, np, operation),
-        Arithmetic::OnTwo(operation) => binary(memory, sp, np, operation),
-        Arithmetic::Compare(operation) => relation(memory, sp, np, operation),
-        Arithmetic::Check => check(memory, sp, np),
+        Arithmetic::Constant(word) => constant(memory, top, word),
+        Arithmetic::Nil => constant(memory, top, 0),
+        Arithmetic::OnOne(operation) => unary(memory, top, operation),
+        Arithmetic::OnTwo(operation) => binary(memory, top, operation),
+        Arithmetic::Compare(operation) => relation(memory, top, operation),
+        Arithmetic::Check => check(memory, top),
     }
 }

@@ -1,15 +1,14 @@
 //! The rows on what stands in the code.
 
-ghost use Rattle.std.specs.Prelude.{◌≡◌, ◌+◌, ◌-◌, ◌*◌, ◌%◌, ◌≤◌, IfOk, length, reverse};
+ghost use Rattle.std.specs.Prelude.{◌≡◌, ◌+◌, ◌-◌, ◌*◌, ◌%◌, ◌≤◌, length, reverse};
 ghost use Rattle.pm_words.specs.Watch.{KeepsWatch};
-ghost use Rattle.pm_words.specs.Stack.{IsStack, Changes};
+ghost use Rattle.pm_words.specs.Top.{MovesTop};
 ghost use Rattle.pm_words.specs.Words.{with_words, words_at};
 ghost use Rattle.pm_rows.specs.Literals.{literal_address_row, literal_row, words_row};
 
 use arrayvec::ArrayVec;
 use pm_opcode::Literal;
-use pm_words::stack::push;
-use pm_words::{ExecError, Memory};
+use pm_words::{ExecError, Memory, Top};
 
 // The words from an even address on.
 fn words_in(memory: &Memory, start: u32, count: u8) -> ArrayVec<u16, 255>
@@ -44,11 +43,12 @@ fn put_words(memory: &mut Memory, sp: u16, words: &[u16])
 
 // LDC. .. -> .., the words
 #[tactic(auto, unfolding(crate::specs::Literals::words_row), using(pm_words::proofs::WatchLaws::keeps))]
-fn words(memory: &mut Memory, sp: u16, np: u16, start: u32, count: u8) -> Result<u16, ExecError>
-    ensures row { Changes result memory.old.words memory.new.words (words_row start count memory.old.words sp np) }
-    ensures stack { IsStack sp np → IfOk result (λ sp. IsStack sp np) }
+fn words(memory: &mut Memory, top: Top, start: u32, count: u8) -> Result<Top, ExecError>
+    ensures row { MovesTop result top memory.old.words memory.new.words
+        (words_row start count memory.old.words top.sp top.np) }
     ensures keeps { KeepsWatch memory.old memory.new }
 {
+    let (sp, np) = (top.sp(), top.np());
     let size = 2 * u16::from(count);
     if start % 2 != 0 || u64::from(start) + u64::from(size) > 65536 || sp % 2 != 0 {
         return Err(ExecError::InvalidMemory);
@@ -58,33 +58,34 @@ fn words(memory: &mut Memory, sp: u16, np: u16, start: u32, count: u8) -> Result
     }
     let words = words_in(memory, start, count);
     put_words(memory, sp, &words);
-    Ok(sp - size)
+    Ok(Top::of(sp - size, np))
 }
 
 // LSA and LPA. .. -> .., address
 #[tactic(auto, unfolding(crate::specs::Literals::literal_address_row), using(pm_words::proofs::WatchLaws::keeps))]
-fn address(memory: &mut Memory, sp: u16, np: u16, address: u16) -> Result<u16, ExecError>
-    ensures row { Changes result memory.old.words memory.new.words
-        (literal_address_row address memory.old.words sp np) }
-    ensures stack { IsStack sp np → IfOk result (λ sp. IsStack sp np) }
+fn address(memory: &mut Memory, top: Top, address: u16) -> Result<Top, ExecError>
+    ensures row { MovesTop result top memory.old.words memory.new.words
+        (literal_address_row address memory.old.words top.sp top.np) }
     ensures keeps { KeepsWatch memory.old memory.new }
 {
-    push(memory, sp, np, address)
+    let mut stack = top;
+    stack.push(memory, address)?;
+    Ok(stack)
 }
 
-/// Pushes what stands in the code, and gives the new SP. An error changes nothing.
+/// Pushes what stands in the code, and gives the new top. An error changes nothing.
 #[tactic(auto, unfolding(crate::specs::Literals::literal_row), using(pm_words::proofs::WatchLaws::keeps))]
-pub fn perform(memory: &mut Memory, sp: u16, np: u16, operation: Literal) -> Result<u16, ExecError>
-    ensures row { Changes result memory.old.words memory.new.words (literal_row operation memory.old.words sp np) }
-    ensures stack { IsStack sp np → IfOk result (λ sp. IsStack sp np) }
+pub fn perform(memory: &mut Memory, top: Top, operation: Literal) -> Result<Top, ExecError>
+    ensures row { MovesTop result top memory.old.words memory.new.words
+        (literal_row operation memory.old.words top.sp top.np) }
     ensures keeps { KeepsWatch memory.old memory.new }
 {
     match operation {
         Literal::String(start) => {
             let characters = (start % 65536) as u16;
-            address(memory, sp, np, characters.wrapping_sub(1))
+            address(memory, top, characters.wrapping_sub(1))
         }
-        Literal::Characters(start) => address(memory, sp, np, (start % 65536) as u16),
-        Literal::Words { start, count } => { words(memory, sp, np, start, (count / 2 % 256) as u8) }
+        Literal::Characters(start) => address(memory, top, (start % 65536) as u16),
+        Literal::Words { start, count } => { words(memory, top, start, (count / 2 % 256) as u8) }
     }
 }

@@ -3,11 +3,13 @@
 ghost use Rattle.std.specs.Prelude.{◌≡◌, IfOk};
 ghost use Rattle.pm_words.specs.Watch.{KeepsWatch};
 ghost use Rattle.pm_words.specs.Stack.{IsStack, Changes};
+ghost use Rattle.pm_words.specs.Top.{MovesTop};
 ghost use Rattle.pm_rows.specs.Values.{field_row, set_row, value_row};
 
 use pm_opcode::{Byte, Field, Set, Text, Value};
-use pm_words::{ExecError, Memory};
+use pm_words::{ExecError, Memory, Top};
 
+// On numbers, as the functions of pm_values: a call of one of these then needs no frame.
 #[tactic(auto, unfolding(crate::specs::Values::set_row), using(pm_words::proofs::WatchLaws::keeps))]
 fn set(memory: &mut Memory, sp: u16, np: u16, operation: Set) -> Result<u16, ExecError>
     ensures row { Changes result memory.old.words memory.new.words (set_row operation memory.old.words sp np) }
@@ -40,10 +42,9 @@ fn field(memory: &mut Memory, sp: u16, np: u16, operation: Field) -> Result<u16,
     }
 }
 
-/// Does an operation on values in memory, and gives the new SP. An error changes nothing.
 #[inline(always)]
 #[tactic(auto, unfolding(crate::specs::Values::value_row), using(pm_words::proofs::WatchLaws::keeps))]
-pub fn perform(memory: &mut Memory, sp: u16, np: u16, operation: Value) -> Result<u16, ExecError>
+fn value(memory: &mut Memory, sp: u16, np: u16, operation: Value) -> Result<u16, ExecError>
     ensures row { Changes result memory.old.words memory.new.words (value_row operation memory.old.words sp np) }
     ensures stack { IsStack sp np → IfOk result (λ sp. IsStack sp np) }
     ensures keeps { KeepsWatch memory.old memory.new }
@@ -57,4 +58,16 @@ pub fn perform(memory: &mut Memory, sp: u16, np: u16, operation: Value) -> Resul
         Value::Field(operation) => field(memory, sp, np, operation),
         Value::Compare(relation, kind) => { pm_values::compare(memory, sp, np, relation, kind) }
     }
+}
+
+/// Does an operation on values in memory, and gives the new top. An error changes nothing.
+#[inline(always)]
+pub fn perform(memory: &mut Memory, top: Top, operation: Value) -> Result<Top, ExecError>
+    ensures row { MovesTop result top memory.old.words memory.new.words
+        (value_row operation memory.old.words top.sp top.np) }
+    ensures keeps { KeepsWatch memory.old memory.new }
+{
+    let np = top.np();
+    let sp = value(memory, top.sp(), np, operation)?;
+    Ok(Top::of(sp, np))
 }

@@ -3,4 +3,5 @@ pub mod Watch
 pub mod Errors
 pub mod Signed
 pub mod Stack
+pub mod Top
 pub mod Laws

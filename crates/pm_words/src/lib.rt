@@ -7,7 +7,9 @@ mod memory;
 pub mod memory_laws;
 mod ranges;
 pub mod stack;
+mod top;
 mod watch;
 
 pub use error::ExecError;
 pub use memory::Memory;
+pub use top::Top;

@@ -9,7 +9,7 @@ ghost use Rattle.pm_rows.specs.Values.{field_row, set_row, value_row};
 use pm_opcode::{Byte, Field, Set, Text, Value};
 use pm_words::{ExecError, Memory, Top};
 
-// On numbers, as the functions of pm_values: a call of one of these then needs no frame.
+// SP and NP as numbers, as the functions of pm_values take them.
 #[tactic(auto, unfolding(crate::specs::Values::set_row), using(pm_words::proofs::WatchLaws::keeps))]
 fn set(memory: &mut Memory, sp: u16, np: u16, operation: Set) -> Result<u16, ExecError>
     ensures row { Changes result memory.old.words memory.new.words (set_row operation memory.old.words sp np) }

@@ -1,6 +1,8 @@
 -- The laws of a frame's words.
-use Rattle.std.proofs.Common.{◌≡◌, ℕ, ◌+◌, ◌-◌, ◌%◌, ◌≤◌, List, ◌∙◌, refl, arith}
-use Rattle.pm_words.specs.Words.{IsMemory, word_at, with_word}
+use Rattle.std.proofs.Common.{take, ◌≡◌, ℕ, ◌+◌, ◌-◌, ◌%◌, ◌≤◌, List, ◌∙◌, refl, arith}
+use Rattle.std.proofs.lemmas.List.{append-nil, take-append-drop}
+use Rattle.pm_words.specs.Words.{IsMemory, bytes_at, bytes_of, copied, with_bytes, words_of, word_at, with_word}
+use Rattle.pm_words.proofs.Pairs.{words_of-bytes_of}
 use Rattle.pm_words.proofs.Laws.{word_at-with_word, word_at-with_word_other}
 use Rattle.pm_calls.specs.declared.registers.Registers.{Registers}
 use Rattle.pm_calls.specs.Calls.{with_control}
@@ -20,3 +22,10 @@ with_control-link m f static above r h even room =
 -- a word below a frame leaves the static link
 pub below-link : (m : List ℕ) (f w link : ℕ) → f % 2 ≡ 0 → 2 ≤ f → word_at m f ≡ link → word_at (with_word m (f - 2) w) f ≡ link
 below-link m f w link even room h = word_at-with_word_other m (f - 2) f w (omega arith) even (λ e. absurd (omega arith)) ∙ h
+
+-- a copy of no byte
+pub no_bytes_copied : (ws : List ℕ) (from to n : ℕ) → n ≡ 0 → copied ws from to n ≡ ws
+unfolding copied bytes_at with_bytes
+no_bytes_copied ws from to n none =
+    let same : to + 0 ≡ to = omega arith in
+    rw (none, same, append-nil (take to (bytes_of ws)), take-append-drop to (bytes_of ws)) (words_of-bytes_of ws)

@@ -2,7 +2,7 @@
 
 ghost use Rattle.std.specs.Prelude.{◌≡◌, ◌+◌, ◌%◌, ◌≤◌, IfOk, IsTrue, OnErr};
 ghost use Rattle.pm_words.specs.Watch.{KeepsWatch};
-ghost use Rattle.pm_words.specs.Words.{word_at};
+ghost use Rattle.pm_words.specs.Words.{copied, word_at};
 ghost use Rattle.pm_words.specs.Stack.{Changes, IsStack};
 ghost use Rattle.pm_calls.specs.Tables.{IsEvenTable};
 ghost use Rattle.pm_calls.specs.Calls.{frame_top, framed, inside, kept_below, with_control, with_frame, with_old_base};
@@ -30,6 +30,19 @@ fn put_control(memory: &mut Memory, frame: u16, link: u16, registers: Registers,
     memory.set_word(frame + 10, above);
 }
 
+// Copies the parameters of a frame, if there are any.
+#[inline(always)]
+#[tactic(auto, using(pm_words::proofs::WatchLaws::keeps))]
+fn put_parameters(memory: &mut Memory, from: u16, to: u16, count: u16)
+    requires within { (from + count ≤ STACK_END) × (to + count ≤ STACK_END) }
+    ensures words { memory.new.words ≡ copied memory.old.words from to count }
+    ensures keeps { KeepsWatch memory.old memory.new }
+{
+    if count > 0 {
+        memory.copy(from, to, count);
+    }
+}
+
 // Writes a frame: the parameters, then the six control words, and for a base call the old BASE below them.
 #[tactic(auto, using(pm_words::proofs::WatchLaws::keeps))]
 fn put_frame(
@@ -49,7 +62,7 @@ fn put_frame(
     ensures link { word_at memory.new.words frame ≡ link }
     ensures keeps { KeepsWatch memory.old memory.new }
 {
-    memory.copy(registers.sp, frame + 12, parameters);
+    put_parameters(memory, registers.sp, frame + 12, parameters);
     put_control(memory, frame, link, registers, registers.sp + parameters);
     if base {
         memory.set_word(frame - 2, registers.base);

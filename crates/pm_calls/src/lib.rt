@@ -14,9 +14,8 @@ pub mod memory_laws;
 mod registers;
 mod returns;
 mod tables;
+mod valid_registers;
 
 pub use frames::{Frames, KeptTable, SegmentPlace, Table};
 pub use registers::Registers;
-
-#[cfg(test)]
-mod tests;
+pub use valid_registers::ValidRegisters;

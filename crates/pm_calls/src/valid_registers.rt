@@ -1,0 +1,93 @@
+//! Registers whose SP and NP are even, with NP ≤ SP ≤ 65,504.
+
+ghost use Rattle.std.specs.Prelude.{◌≡◌};
+ghost use Rattle.pm_words.specs.Stack.{IsStack};
+
+use crate::Registers;
+use pm_words::Top;
+use std::marker::Model;
+
+/// Registers on which a row works: SP and NP are even, and NP ≤ SP ≤ 65,504.
+#[derive(Clone, Copy)]
+pub struct ValidRegisters {
+    pub(crate) registers: Registers,
+}
+
+impl Model for ValidRegisters {
+    ghost use Rattle.pm_words.specs.Stack.{IsStack};
+    ghost use Rattle.pm_calls.specs.declared.registers.Registers.{Registers};
+
+    ghost Value = { Registers };
+
+    ghost view = { λ v. v.registers };
+
+    ghost inverse = { λ r. record { registers = r } };
+
+    ghost invariant = { λ v. IsStack v.registers.sp v.registers.np };
+}
+
+impl ValidRegisters {
+    /// Registers that are so. It costs no test: that they are is to be shown.
+    #[inline(always)]
+    pub fn of(registers: Registers) -> ValidRegisters
+        requires stack { IsStack registers.sp registers.np }
+        ensures registers { result ≡ registers }
+    {
+        ValidRegisters { registers }
+    }
+
+    /// The registers.
+    #[inline(always)]
+    pub fn registers(self) -> Registers
+        ensures registers { result ≡ self }
+        ensures stack { IsStack self.sp self.np }
+    {
+        self.registers
+    }
+
+    /// SP and NP as one value.
+    #[inline(always)]
+    pub fn top(self) -> Top
+        ensures sp { result.sp ≡ self.sp }
+        ensures np { result.np ≡ self.np }
+    {
+        Top::of(self.registers.sp, self.registers.np)
+    }
+
+    /// The same with another SP and NP.
+    #[inline(always)]
+    pub fn with_top(self, top: Top) -> ValidRegisters
+        ensures registers { result ≡ record self { sp = top.sp; np = top.np } }
+    {
+        let registers = Registers {
+            sp: top.sp(),
+            np: top.np(),
+            ..self.registers
+        };
+        ValidRegisters { registers }
+    }
+
+    /// The same with another IPC.
+    #[inline(always)]
+    pub fn with_ipc(self, ipc: u16) -> ValidRegisters
+        ensures registers { result ≡ record self { ipc = ipc } }
+    {
+        let registers = Registers {
+            ipc,
+            ..self.registers
+        };
+        ValidRegisters { registers }
+    }
+
+    /// The same with another IORESULT.
+    #[inline(always)]
+    pub fn with_ioresult(self, ioresult: u16) -> ValidRegisters
+        ensures registers { result ≡ record self { ioresult = ioresult } }
+    {
+        let registers = Registers {
+            ioresult,
+            ..self.registers
+        };
+        ValidRegisters { registers }
+    }
+}

@@ -2,20 +2,20 @@
 
 ghost use Rattle.std.specs.Prelude.{◌≡◌, IfOk};
 ghost use Rattle.pm_opcode.specs.Spelling.{rank};
-ghost use Rattle.pm_words.specs.Stack.{IsStack};
 ghost use Rattle.pm_rows.specs.Jumps.{case_row, case_target, entry_target, jump_row, jumped, short_row, target};
 
-use pm_calls::Registers;
+use pm_calls::ValidRegisters;
 use pm_opcode::{Condition, Jump};
-use pm_words::stack::{load, pop};
+use pm_words::stack::load;
 use pm_words::{ExecError, Memory};
 
 // Where a jump leads: forward from the next instruction, or by an entry of the jump table.
 #[inline(always)]
 #[tactic(auto, unfolding(crate::specs::Jumps::target))]
-fn target(memory: &Memory, registers: Registers, offset: u16) -> Result<u16, ExecError>
+fn target(memory: &Memory, registers: ValidRegisters, offset: u16) -> Result<u16, ExecError>
     ensures target { result ≡ target memory.now.words registers offset }
 {
+    let registers = registers.registers();
     if offset < 32768 {
         return Ok(registers.ipc.wrapping_add(offset));
     }
@@ -39,18 +39,17 @@ fn entry_target(memory: &Memory, entry: u16) -> Result<u16, ExecError>
 fn jump_if(
     taken: bool,
     memory: &Memory,
-    registers: Registers,
+    registers: ValidRegisters,
     offset: u16,
-) -> Result<Registers, ExecError>
+) -> Result<ValidRegisters, ExecError>
     ensures row { result ≡ jumped taken memory.now.words registers offset }
-    ensures stack { IsStack registers.sp registers.np → IfOk result (λ r. IsStack r.sp r.np) }
     ensures mp { IfOk result (λ r. r.mp ≡ registers.mp) }
 {
     if !taken {
         return Ok(registers);
     }
     let ipc = target(memory, registers, offset)?;
-    Ok(Registers { ipc, ..registers })
+    Ok(registers.with_ipc(ipc))
 }
 
 // UJP, FJP, EFJ and NFJ. The registers after a jump of two bytes.
@@ -58,35 +57,31 @@ fn jump_if(
 #[tactic(auto, unfolding(crate::specs::Jumps::short_row))]
 fn short(
     memory: &Memory,
-    registers: Registers,
+    registers: ValidRegisters,
     condition: Condition,
     offset: u16,
-) -> Result<Registers, ExecError>
+) -> Result<ValidRegisters, ExecError>
     ensures row { result ≡ short_row condition memory.now.words registers offset }
-    ensures stack { IsStack registers.sp registers.np → IfOk result (λ r. IsStack r.sp r.np) }
     ensures mp { IfOk result (λ r. r.mp ≡ registers.mp) }
 {
     match condition {
         Condition::Always => jump_if(true, memory, registers, offset),
         Condition::IfFalse => {
-            let a = pop(memory, registers.sp)?;
-            let sp = a.above;
-            let past = Registers { sp, ..registers };
-            jump_if(a.word % 2 == 0, memory, past, offset)
+            let mut top = registers.top();
+            let a = top.pop(memory)?;
+            jump_if(a % 2 == 0, memory, registers.with_top(top), offset)
         }
         Condition::IfDifferent => {
-            let b = pop(memory, registers.sp)?;
-            let a = pop(memory, b.above)?;
-            let sp = a.above;
-            let past = Registers { sp, ..registers };
-            jump_if(a.word != b.word, memory, past, offset)
+            let mut top = registers.top();
+            let b = top.pop(memory)?;
+            let a = top.pop(memory)?;
+            jump_if(a != b, memory, registers.with_top(top), offset)
         }
         Condition::IfEqual => {
-            let b = pop(memory, registers.sp)?;
-            let a = pop(memory, b.above)?;
-            let sp = a.above;
-            let past = Registers { sp, ..registers };
-            jump_if(a.word == b.word, memory, past, offset)
+            let mut top = registers.top();
+            let b = top.pop(memory)?;
+            let a = top.pop(memory)?;
+            jump_if(a == b, memory, registers.with_top(top), offset)
         }
     }
 }
@@ -124,22 +119,18 @@ fn case_target(
 #[tactic(auto, unfolding(crate::specs::Jumps::case_row))]
 fn case(
     memory: &Memory,
-    registers: Registers,
+    registers: ValidRegisters,
     low: u16,
     high: u16,
     table: u32,
-) -> Result<Registers, ExecError>
+) -> Result<ValidRegisters, ExecError>
     ensures row { result ≡ case_row low high table memory.now.words registers }
-    ensures stack { IsStack registers.sp registers.np → IfOk result (λ r. IsStack r.sp r.np) }
     ensures mp { IfOk result (λ r. r.mp ≡ registers.mp) }
 {
-    let value = pop(memory, registers.sp)?;
-    let ipc = case_target(memory, low, high, table, value.word)?;
-    Ok(Registers {
-        sp: value.above,
-        ipc,
-        ..registers
-    })
+    let mut top = registers.top();
+    let value = top.pop(memory)?;
+    let ipc = case_target(memory, low, high, table, value)?;
+    Ok(registers.with_top(top).with_ipc(ipc))
 }
 
 /// The registers after a jump; IPC is the next instruction before it. An error changes nothing.
@@ -147,11 +138,10 @@ fn case(
 #[tactic(auto, unfolding(crate::specs::Jumps::jump_row))]
 pub fn perform(
     memory: &Memory,
-    registers: Registers,
+    registers: ValidRegisters,
     operation: Jump,
-) -> Result<Registers, ExecError>
+) -> Result<ValidRegisters, ExecError>
     ensures row { result ≡ jump_row operation memory.now.words registers }
-    ensures stack { IsStack registers.sp registers.np → IfOk result (λ r. IsStack r.sp r.np) }
     ensures mp { IfOk result (λ r. r.mp ≡ registers.mp) }
 {
     match operation {

@@ -18,6 +18,3 @@ pub use ports::{MountFault, Port, unit_of};
 pub use procedures::{OnMemory, OnUnits, Procedure, procedure_of};
 pub use trap::Trap;
 pub use units::Units;
-
-#[cfg(test)]
-mod tests;

@@ -1,8 +1,9 @@
 //! The standard procedures that work on the stack, the heap and the memory alone.
 
-ghost use Rattle.std.specs.Prelude.{◌≡◌, IfOk, ℕ};
+ghost use Rattle.std.specs.Prelude.{◌≡◌, ◌-◌, ◌/◌, IfOk};
 ghost use Rattle.pm_words.specs.Watch.{KeepsWatch};
-ghost use Rattle.pm_words.specs.Stack.{Changes, IsStack, Stores};
+ghost use Rattle.pm_words.specs.Stack.{Changes, Stores};
+ghost use Rattle.pm_words.specs.Top.{Pops};
 ghost use Rattle.pm_words.specs.Words.{moved_up, moved_down};
 ghost use Rattle.pm_stdproc.specs.MemoryRows.{
   check_io_row,
@@ -22,21 +23,19 @@ ghost use Rattle.pm_stdproc.specs.MemoryRows.{
 };
 
 use crate::procedures::OnMemory;
-use pm_calls::Registers;
-use pm_words::stack::{Popped, load, pop, push, store};
-use pm_words::{ExecError, Memory};
+use pm_calls::ValidRegisters;
+use pm_words::stack::{load, store};
+use pm_words::{ExecError, Memory, Top};
 
-/// A byte place on the stack: its address, and the SP above it.
-pub fn pop_place(memory: &Memory, sp: u16) -> Result<Popped, ExecError>
-    ensures place { result ≡ pop_place memory.now.words sp }
-    ensures stack { (np : ℕ) → IsStack sp np → IfOk result (λ p. IsStack p.above np) }
+/// Takes a byte place, base and index, from the stack: its address; an error changes nothing.
+pub fn pop_place(top: &mut Top, memory: &Memory) -> Result<u16, ExecError>
+    ensures place { Pops result top.old top.new (pop_place memory.now.words top.old.sp) }
 {
-    let index = pop(memory, sp)?;
-    let base = pop(memory, index.above)?;
-    Ok(Popped {
-        word: base.word.wrapping_add(index.word),
-        above: base.above,
-    })
+    let mut stack = *top;
+    let index = stack.pop(memory)?;
+    let base = stack.pop(memory)?;
+    *top = stack;
+    Ok(base.wrapping_add(index))
 }
 
 // Whether a word is above 0 as a signed number.
@@ -48,13 +47,12 @@ fn is_positive(word: u16) -> bool
 
 // IOCHECK.
 #[tactic(auto, unfolding(crate::specs::MemoryRows::check_io_row), using(pm_words::proofs::WatchLaws::keeps))]
-fn check_io(memory: &mut Memory, registers: Registers) -> Result<Registers, ExecError>
+fn check_io(memory: &mut Memory, registers: ValidRegisters) -> Result<ValidRegisters, ExecError>
     ensures row { Changes result memory.old.words memory.new.words (check_io_row memory.old.words registers) }
-    ensures stack { IsStack registers.sp registers.np → IfOk result (λ r. IsStack r.sp r.np) }
     ensures keeps { KeepsWatch memory.old memory.new }
     ensures mp { IfOk result (λ r. r.mp ≡ registers.mp) }
 {
-    if registers.ioresult != 0 {
+    if registers.registers().ioresult != 0 {
         return Err(ExecError::UserIo);
     }
     Ok(registers)
@@ -62,28 +60,24 @@ fn check_io(memory: &mut Memory, registers: Registers) -> Result<Registers, Exec
 
 // NEW.
 #[tactic(auto, unfolding(crate::specs::MemoryRows::new_row), using(pm_words::proofs::WatchLaws::keeps))]
-fn new(memory: &mut Memory, registers: Registers) -> Result<Registers, ExecError>
+fn new(memory: &mut Memory, registers: ValidRegisters) -> Result<ValidRegisters, ExecError>
     ensures row { Changes result memory.old.words memory.new.words (new_row memory.old.words registers) }
-    ensures stack { IsStack registers.sp registers.np → IfOk result (λ r. IsStack r.sp r.np) }
     ensures keeps { KeepsWatch memory.old memory.new }
     ensures mp { IfOk result (λ r. r.mp ≡ registers.mp) }
 {
-    let Registers { sp, np, .. } = registers;
-    let count = pop(memory, sp)?;
-    let address = pop(memory, count.above)?;
-    if address.word % 2 != 0 {
+    let mut stack = registers.top();
+    let count = stack.pop(memory)?;
+    let address = stack.pop(memory)?;
+    if address % 2 != 0 {
         return Err(ExecError::InvalidMemory);
     }
-    let top = u32::from(np) + 2 * u32::from(count.word);
-    if top > u32::from(address.above) {
+    let np = stack.np();
+    let heap = u32::from(np) + 2 * u32::from(count);
+    if heap > u32::from(stack.sp()) {
         return Err(ExecError::StackOverflow);
     }
-    store(memory, address.word, np)?;
-    Ok(Registers {
-        sp: address.above,
-        np: top as u16,
-        ..registers
-    })
+    store(memory, address, np)?;
+    Ok(registers.with_top(Top::of(stack.sp(), heap as u16)))
 }
 
 // Moves bytes one by one, the lowest first.
@@ -114,40 +108,34 @@ fn move_down(memory: &mut Memory, from: u16, to: u16, count: u16) -> Result<(), 
 
 // MOVELEFT.
 #[tactic(auto, unfolding(crate::specs::MemoryRows::move_bytes_row), using(pm_words::proofs::WatchLaws::keeps))]
-fn move_left(memory: &mut Memory, registers: Registers) -> Result<Registers, ExecError>
+fn move_left(memory: &mut Memory, registers: ValidRegisters) -> Result<ValidRegisters, ExecError>
     ensures row { Changes result memory.old.words memory.new.words
         (move_bytes_row moved_up memory.old.words registers) }
-    ensures stack { IsStack registers.sp registers.np → IfOk result (λ r. IsStack r.sp r.np) }
     ensures keeps { KeepsWatch memory.old memory.new }
     ensures mp { IfOk result (λ r. r.mp ≡ registers.mp) }
 {
-    let count = pop(memory, registers.sp)?;
-    let to = pop_place(memory, count.above)?;
-    let from = pop_place(memory, to.above)?;
-    move_up(memory, from.word, to.word, count.word)?;
-    Ok(Registers {
-        sp: from.above,
-        ..registers
-    })
+    let mut stack = registers.top();
+    let count = stack.pop(memory)?;
+    let to = pop_place(&mut stack, memory)?;
+    let from = pop_place(&mut stack, memory)?;
+    move_up(memory, from, to, count)?;
+    Ok(registers.with_top(stack))
 }
 
 // MOVERIGHT.
 #[tactic(auto, unfolding(crate::specs::MemoryRows::move_bytes_row), using(pm_words::proofs::WatchLaws::keeps))]
-fn move_right(memory: &mut Memory, registers: Registers) -> Result<Registers, ExecError>
+fn move_right(memory: &mut Memory, registers: ValidRegisters) -> Result<ValidRegisters, ExecError>
     ensures row { Changes result memory.old.words memory.new.words
         (move_bytes_row moved_down memory.old.words registers) }
-    ensures stack { IsStack registers.sp registers.np → IfOk result (λ r. IsStack r.sp r.np) }
     ensures keeps { KeepsWatch memory.old memory.new }
     ensures mp { IfOk result (λ r. r.mp ≡ registers.mp) }
 {
-    let count = pop(memory, registers.sp)?;
-    let to = pop_place(memory, count.above)?;
-    let from = pop_place(memory, to.above)?;
-    move_down(memory, from.word, to.word, count.word)?;
-    Ok(Registers {
-        sp: from.above,
-        ..registers
-    })
+    let mut stack = registers.top();
+    let count = stack.pop(memory)?;
+    let to = pop_place(&mut stack, memory)?;
+    let from = pop_place(&mut stack, memory)?;
+    move_down(memory, from, to, count)?;
+    Ok(registers.with_top(stack))
 }
 
 // Fills a range with one byte.
@@ -165,20 +153,17 @@ fn fill_with(memory: &mut Memory, at: u16, count: u16, byte: u8) -> Result<(), E
 
 // FILLCHAR.
 #[tactic(auto, unfolding(crate::specs::MemoryRows::fill_row), using(pm_words::proofs::WatchLaws::keeps))]
-fn fill(memory: &mut Memory, registers: Registers) -> Result<Registers, ExecError>
+fn fill(memory: &mut Memory, registers: ValidRegisters) -> Result<ValidRegisters, ExecError>
     ensures row { Changes result memory.old.words memory.new.words (fill_row memory.old.words registers) }
-    ensures stack { IsStack registers.sp registers.np → IfOk result (λ r. IsStack r.sp r.np) }
     ensures keeps { KeepsWatch memory.old memory.new }
     ensures mp { IfOk result (λ r. r.mp ≡ registers.mp) }
 {
-    let character = pop(memory, registers.sp)?;
-    let count = pop(memory, character.above)?;
-    let at = pop_place(memory, count.above)?;
-    fill_with(memory, at.word, count.word, (character.word % 256) as u8)?;
-    Ok(Registers {
-        sp: at.above,
-        ..registers
-    })
+    let mut stack = registers.top();
+    let character = stack.pop(memory)?;
+    let count = stack.pop(memory)?;
+    let at = pop_place(&mut stack, memory)?;
+    fill_with(memory, at, count, (character % 256) as u8)?;
+    Ok(registers.with_top(stack))
 }
 
 // How many bytes a scan passes.
@@ -191,88 +176,85 @@ fn passed_by(memory: &Memory, at: u16, limit: u16, byte: u8, equal: bool) -> Res
 
 // SCAN.
 #[tactic(auto, unfolding(crate::specs::MemoryRows::scan_row), using(pm_words::proofs::WatchLaws::keeps))]
-fn scan(memory: &mut Memory, registers: Registers) -> Result<Registers, ExecError>
+fn scan(memory: &mut Memory, registers: ValidRegisters) -> Result<ValidRegisters, ExecError>
     ensures row { Changes result memory.old.words memory.new.words (scan_row memory.old.words registers) }
-    ensures stack { IsStack registers.sp registers.np → IfOk result (λ r. IsStack r.sp r.np) }
     ensures keeps { KeepsWatch memory.old memory.new }
     ensures mp { IfOk result (λ r. r.mp ≡ registers.mp) }
 {
-    let mask = pop(memory, registers.sp)?;
-    let at = pop_place(memory, mask.above)?;
-    let character = pop(memory, at.above)?;
-    let kind = pop(memory, character.above)?;
-    let limit = pop(memory, kind.above)?;
-    let passed = passed_by(
-        memory,
-        at.word,
-        limit.word,
-        (character.word % 256) as u8,
-        kind.word % 2 == 0,
-    )?;
-    let sp = push(memory, limit.above, registers.np, passed)?;
-    Ok(Registers { sp, ..registers })
+    let mut stack = registers.top();
+    let _mask = stack.pop(memory)?;
+    let at = pop_place(&mut stack, memory)?;
+    let character = stack.pop(memory)?;
+    let kind = stack.pop(memory)?;
+    let limit = stack.pop(memory)?;
+    let passed = passed_by(memory, at, limit, (character % 256) as u8, kind % 2 == 0)?;
+    stack.push(memory, passed)?;
+    Ok(registers.with_top(stack))
 }
 
 // MARK.
 #[tactic(auto, unfolding(crate::specs::MemoryRows::mark_row), using(pm_words::proofs::WatchLaws::keeps))]
-fn mark(memory: &mut Memory, registers: Registers) -> Result<Registers, ExecError>
+fn mark(memory: &mut Memory, registers: ValidRegisters) -> Result<ValidRegisters, ExecError>
     ensures row { Changes result memory.old.words memory.new.words (mark_row memory.old.words registers) }
-    ensures stack { IsStack registers.sp registers.np → IfOk result (λ r. IsStack r.sp r.np) }
     ensures keeps { KeepsWatch memory.old memory.new }
     ensures mp { IfOk result (λ r. r.mp ≡ registers.mp) }
 {
-    let address = pop(memory, registers.sp)?;
-    store(memory, address.word, registers.np)?;
-    Ok(Registers {
-        sp: address.above,
-        ..registers
-    })
+    let mut stack = registers.top();
+    let address = stack.pop(memory)?;
+    store(memory, address, stack.np())?;
+    Ok(registers.with_top(stack))
 }
 
 // RELEASE.
 #[tactic(auto, unfolding(crate::specs::MemoryRows::release_row), using(pm_words::proofs::WatchLaws::keeps))]
-fn release(memory: &mut Memory, registers: Registers) -> Result<Registers, ExecError>
+fn release(memory: &mut Memory, registers: ValidRegisters) -> Result<ValidRegisters, ExecError>
     ensures row { Changes result memory.old.words memory.new.words (release_row memory.old.words registers) }
-    ensures stack { IsStack registers.sp registers.np → IfOk result (λ r. IsStack r.sp r.np) }
     ensures keeps { KeepsWatch memory.old memory.new }
     ensures mp { IfOk result (λ r. r.mp ≡ registers.mp) }
 {
-    let address = pop(memory, registers.sp)?;
-    let np = load(memory, address.word)?;
+    let mut stack = registers.top();
+    let address = stack.pop(memory)?;
+    let np = load(memory, address)?;
     if np % 2 != 0 {
         return Err(ExecError::InvalidMemory);
     }
-    if np > address.above {
+    if np > stack.sp() {
         return Err(ExecError::StackOverflow);
     }
-    Ok(Registers {
-        sp: address.above,
-        np,
-        ..registers
-    })
+    Ok(registers.with_top(Top::of(stack.sp(), np)))
 }
 
 // IORESULT and MEMAVAIL. Puts a word on the stack.
 #[tactic(auto, unfolding(crate::specs::MemoryRows::push_row), using(pm_words::proofs::WatchLaws::keeps))]
-fn put(memory: &mut Memory, registers: Registers, word: u16) -> Result<Registers, ExecError>
+fn put(
+    memory: &mut Memory,
+    registers: ValidRegisters,
+    word: u16,
+) -> Result<ValidRegisters, ExecError>
     ensures row { Changes result memory.old.words memory.new.words (push_row word memory.old.words registers) }
-    ensures stack { IsStack registers.sp registers.np → IfOk result (λ r. IsStack r.sp r.np) }
     ensures keeps { KeepsWatch memory.old memory.new }
     ensures mp { IfOk result (λ r. r.mp ≡ registers.mp) }
 {
-    let sp = push(memory, registers.sp, registers.np, word)?;
-    Ok(Registers { sp, ..registers })
+    let mut stack = registers.top();
+    stack.push(memory, word)?;
+    Ok(registers.with_top(stack))
+}
+
+// MEMAVAIL. The words between NP and SP.
+fn free_words(top: Top) -> u16
+    ensures words { result ≡ (top.sp - top.np) / 2 }
+{
+    (top.sp() - top.np()) / 2
 }
 
 /// One of these procedures: it gives the registers after it; an error leaves the memory as it was.
 #[tactic(auto, unfolding(crate::specs::MemoryRows::memory_row), using(pm_words::proofs::WatchLaws::keeps))]
 pub fn perform(
     memory: &mut Memory,
-    registers: Registers,
+    registers: ValidRegisters,
     procedure: OnMemory,
-) -> Result<Registers, ExecError>
+) -> Result<ValidRegisters, ExecError>
     ensures row { Changes result memory.old.words memory.new.words (memory_row procedure memory.old.words registers) }
-    ensures stack { IsStack registers.sp registers.np → IfOk result (λ r. IsStack r.sp r.np) }
     ensures keeps { KeepsWatch memory.old memory.new }
     ensures mp { IfOk result (λ r. r.mp ≡ registers.mp) }
 {
@@ -285,12 +267,8 @@ pub fn perform(
         OnMemory::Scan => scan(memory, registers),
         OnMemory::Mark => mark(memory, registers),
         OnMemory::Release => release(memory, registers),
-        OnMemory::IoResult => put(memory, registers, registers.ioresult),
+        OnMemory::IoResult => put(memory, registers, registers.registers().ioresult),
         OnMemory::Halt => Err(ExecError::Halt),
-        OnMemory::FreeMemory => put(
-            memory,
-            registers,
-            registers.sp.saturating_sub(registers.np) / 2,
-        ),
+        OnMemory::FreeMemory => put(memory, registers, free_words(registers.top())),
     }
 }

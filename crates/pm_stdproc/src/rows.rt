@@ -1,8 +1,7 @@
 //! The standard procedures, by their numbers.
 
-ghost use Rattle.std.specs.Prelude.{◌≡◌, ◌≢◌, ◌+◌, ◌%◌, ◌≤◌, ℕ, All, IfOk, List, OnOk, OnErr};
+ghost use Rattle.std.specs.Prelude.{◌≡◌, ◌≢◌, ◌+◌, ◌%◌, ◌≤◌, All, IfOk, List, OnErr};
 ghost use Rattle.pm_words.specs.Watch.{KeepsWatch};
-ghost use Rattle.pm_words.specs.Stack.{IsStack};
 ghost use Rattle.pm_calls.specs.Kept.{Agrees};
 ghost use Rattle.pm_stdproc.specs.Traps.{Performs, or_fails};
 ghost use Rattle.pm_stdproc.specs.Devices.{Devices, Room};
@@ -30,33 +29,34 @@ use crate::procedures::{OnUnits, Procedure, procedure_of};
 use crate::transfers::{Order, Transfer};
 use crate::trap::Trap;
 use crate::units::Units;
-use pm_calls::{Frames, Registers};
-use pm_words::stack::{pop, push};
-use pm_words::{ExecError, Memory};
+use pm_calls::{Frames, ValidRegisters};
+use pm_words::{ExecError, Memory, Top};
 
-// The operands of a transfer.
+// Takes the operands of a transfer from the stack.
 #[tactic(auto, unfolding(crate::specs::UnitRows::ordered))]
-fn order(memory: &Memory, sp: u16) -> Result<Order, ExecError>
-    ensures order { result ≡ ordered memory.now.words sp }
+fn order(top: &mut Top, memory: &Memory) -> Result<Order, ExecError>
+    ensures order { result ≡ ordered memory.now.words top.old.sp }
     ensures inside { IfOk result (λ o. o.transfer.address + o.transfer.count ≤ 65536) }
-    ensures stack { (np : ℕ) → IsStack sp np → IfOk result (λ o. IsStack o.sp np) }
+    ensures sp { IfOk result (λ o. top.new.sp ≡ o.sp) }
+    ensures np { top.new.np ≡ top.old.np }
 {
-    let mode = pop(memory, sp)?;
-    let block = pop(memory, mode.above)?;
-    let count = pop(memory, block.above)?;
-    let address = pop_place(memory, count.above)?;
-    let unit = pop(memory, address.above)?;
-    if u32::from(address.word) + u32::from(count.word) > 65536 {
+    let _mode = top.pop(memory)?;
+    let block = top.pop(memory)?;
+    let count = top.pop(memory)?;
+    let address = pop_place(top, memory)?;
+    let unit = top.pop(memory)?;
+    if u32::from(address) + u32::from(count) > 65536 {
         return Err(ExecError::InvalidMemory);
     }
+    let transfer = Transfer {
+        address,
+        count,
+        block,
+    };
     Ok(Order {
-        transfer: Transfer {
-            address: address.word,
-            count: count.word,
-            block: block.word,
-        },
-        unit: unit.word,
-        sp: unit.above,
+        transfer,
+        unit,
+        sp: top.sp(),
     })
 }
 
@@ -64,12 +64,10 @@ fn order(memory: &Memory, sp: u16) -> Result<Order, ExecError>
 #[tactic(auto, unfolding(crate::specs::Procedures::exit_row), using(pm_words::proofs::WatchLaws::keeps, pm_calls::proofs::TableLaws::carry))]
 fn exit_row(
     memory: &mut Memory,
-    registers: &mut Registers,
+    registers: &mut ValidRegisters,
     frames: &mut Frames,
     scratch: &mut Memory,
 ) -> Result<(), Trap>
-    ensures stack { IsStack registers.old.sp registers.old.np
-        → OnOk result (IsStack registers.new.sp registers.new.np) }
     ensures row { (rows : List SlotRow) (devices : Devices) (room : Room) → Performs devices_reached room result
         (reach_of memory.old.words registers.old frames.old.places rows devices)
         (reach_of memory.new.words registers.new frames.new.places rows devices)
@@ -80,14 +78,12 @@ fn exit_row(
     ensures keeps { KeepsWatch memory.old memory.new }
     ensures mp { registers.new.mp ≡ registers.old.mp }
 {
-    let procedure = pop(memory, registers.sp)?;
-    let segment = pop(memory, procedure.above)?;
-    let mut inside = Registers {
-        sp: segment.above,
-        ..*registers
-    };
-    frames.exit(memory, &mut inside, segment.word, procedure.word, scratch)?;
-    *registers = inside;
+    let mut stack = registers.top();
+    let procedure = stack.pop(memory)?;
+    let segment = stack.pop(memory)?;
+    let mut inside = registers.with_top(stack).registers();
+    frames.exit(memory, &mut inside, segment, procedure, scratch)?;
+    *registers = ValidRegisters::of(inside);
     Ok(())
 }
 
@@ -95,12 +91,11 @@ fn exit_row(
 #[tactic(auto, unfolding(crate::specs::Procedures::unkeep_row))]
 fn unkeep_row(
     memory: &mut Memory,
-    registers: &mut Registers,
+    registers: &mut ValidRegisters,
     frames: &mut Frames,
     rows: &[SlotRow; 16],
 ) -> Result<(), Trap>
-    ensures stack { All (λ row. row.length % 2 ≡ 0) rows.now → IsStack registers.old.sp registers.old.np
-        → OnOk result (IsStack registers.new.sp registers.new.np) }
+    requires even_rows { All (λ row. row.length % 2 ≡ 0) rows.now }
     ensures row { (devices : Devices) (room : Room) → Performs devices_reached room result
         (reach_of memory.old.words registers.old frames.old.places rows.now devices)
         (reach_of memory.new.words registers.new frames.new.places rows.now devices)
@@ -111,14 +106,11 @@ fn unkeep_row(
     ensures agrees { Agrees memory.old frames.old registers.old.mp → Agrees memory.new frames.new registers.new.mp }
     ensures mp { registers.new.mp ≡ registers.old.mp }
 {
-    let segment = pop(memory, registers.sp)?;
-    let mut inside = Registers {
-        sp: segment.above,
-        ..*registers
-    };
-    let n = segment.word;
+    let mut stack = registers.top();
+    let n = stack.pop(memory)?;
+    let mut inside = registers.with_top(stack).registers();
     frames.unkeep(memory, &mut inside, n, length_of(n, rows))?;
-    *registers = inside;
+    *registers = ValidRegisters::of(inside);
     Ok(())
 }
 
@@ -128,19 +120,18 @@ impl Units {
     /// procedure's row; `Waiting` where a unit has too few bytes to be read; `NoMemory` where there is
     /// no memory for bytes that are written or shown, and no room is left for them. After each of these
     /// everything is as it was: the scratch memory keeps what EXIT puts back, and holds anything
-    /// afterwards. SP stays even where the length in each row is.
+    /// afterwards. The length in each row has to be even.
     #[tactic(auto, unfolding(crate::specs::Procedures::procedure_row), using(pm_words::proofs::WatchLaws::keeps, pm_calls::proofs::TableLaws::carry))]
     pub fn perform(
         &mut self,
         n: u8,
         memory: &mut Memory,
-        registers: &mut Registers,
+        registers: &mut ValidRegisters,
         frames: &mut Frames,
         rows: &[SlotRow; 16],
         scratch: &mut Memory,
     ) -> Result<(), Trap>
-        ensures stack { All (λ row. row.length % 2 ≡ 0) rows.now → IsStack registers.old.sp registers.old.np
-            → OnOk result (IsStack registers.new.sp registers.new.np) }
+        requires even_rows { All (λ row. row.length % 2 ≡ 0) rows.now }
         ensures row { Performs devices_reached self.old.room result
             (reach_of memory.old.words registers.old frames.old.places rows.now self.old.devices)
             (reach_of memory.new.words registers.new frames.new.places rows.now self.new.devices)
@@ -170,12 +161,11 @@ impl Units {
     fn keep_row(
         &self,
         memory: &mut Memory,
-        registers: &mut Registers,
+        registers: &mut ValidRegisters,
         frames: &mut Frames,
         rows: &[SlotRow; 16],
     ) -> Result<(), Trap>
-        ensures stack { All (λ row. row.length % 2 ≡ 0) rows.now → IsStack registers.old.sp registers.old.np
-            → OnOk result (IsStack registers.new.sp registers.new.np) }
+        requires even_rows { All (λ row. row.length % 2 ≡ 0) rows.now }
         ensures row { Performs devices_reached self.now.room result
             (reach_of memory.old.words registers.old frames.old.places rows.now self.now.devices)
             (reach_of memory.new.words registers.new frames.new.places rows.now self.now.devices)
@@ -187,14 +177,12 @@ impl Units {
         ensures keeps { KeepsWatch memory.old memory.new }
         ensures mp { registers.new.mp ≡ registers.old.mp }
     {
-        let segment = pop(memory, registers.sp)?;
-        let code = slot_code(segment.word, frames, rows, self)?;
-        let mut inside = Registers {
-            sp: segment.above,
-            ..*registers
-        };
-        frames.keep(memory, &mut inside, segment.word, code)?;
-        *registers = inside;
+        let mut stack = registers.top();
+        let n = stack.pop(memory)?;
+        let code = slot_code(n, frames, rows, self)?;
+        let mut inside = registers.with_top(stack).registers();
+        frames.keep(memory, &mut inside, n, code)?;
+        *registers = ValidRegisters::of(inside);
         Ok(())
     }
 
@@ -203,11 +191,9 @@ impl Units {
     fn on_units(
         &mut self,
         memory: &mut Memory,
-        registers: &mut Registers,
+        registers: &mut ValidRegisters,
         procedure: OnUnits,
     ) -> Result<(), Trap>
-        ensures stack { IsStack registers.old.sp registers.old.np → OnOk result
-            (IsStack registers.new.sp registers.new.np) }
         ensures row { Performs devices_served self.old.room result
             (served memory.old.words registers.old self.old.devices)
             (served memory.new.words registers.new self.new.devices)
@@ -228,9 +214,7 @@ impl Units {
 
     // UNITREAD.
     #[tactic(auto, unfolding(crate::specs::UnitRows::read_row), using(pm_words::proofs::WatchLaws::keeps))]
-    fn read_row(&mut self, memory: &mut Memory, registers: &mut Registers) -> Result<(), Trap>
-        ensures stack { IsStack registers.old.sp registers.old.np → OnOk result
-            (IsStack registers.new.sp registers.new.np) }
+    fn read_row(&mut self, memory: &mut Memory, registers: &mut ValidRegisters) -> Result<(), Trap>
         ensures row { Performs devices_served self.old.room result
             (served memory.old.words registers.old self.old.devices)
             (served memory.new.words registers.new self.new.devices)
@@ -239,17 +223,16 @@ impl Units {
         ensures keeps { KeepsWatch memory.old memory.new }
         ensures mp { registers.new.mp ≡ registers.old.mp }
     {
-        let order = order(memory, registers.sp)?;
-        registers.ioresult = self.read(memory, unit_of(order.unit), order.transfer)?;
-        registers.sp = order.sp;
+        let mut stack = registers.top();
+        let order = order(&mut stack, memory)?;
+        let ioresult = self.read(memory, unit_of(order.unit), order.transfer)?;
+        *registers = registers.with_top(stack).with_ioresult(ioresult);
         Ok(())
     }
 
     // UNITWRITE.
     #[tactic(auto, unfolding(crate::specs::UnitRows::write_row), using(pm_words::proofs::WatchLaws::keeps))]
-    fn write_row(&mut self, memory: &mut Memory, registers: &mut Registers) -> Result<(), Trap>
-        ensures stack { IsStack registers.old.sp registers.old.np → OnOk result
-            (IsStack registers.new.sp registers.new.np) }
+    fn write_row(&mut self, memory: &mut Memory, registers: &mut ValidRegisters) -> Result<(), Trap>
         ensures row { Performs devices_served self.old.room result
             (served memory.old.words registers.old self.old.devices)
             (served memory.new.words registers.new self.new.devices)
@@ -258,17 +241,16 @@ impl Units {
         ensures keeps { KeepsWatch memory.old memory.new }
         ensures mp { registers.new.mp ≡ registers.old.mp }
     {
-        let order = order(memory, registers.sp)?;
-        registers.ioresult = self.write(memory, unit_of(order.unit), order.transfer)?;
-        registers.sp = order.sp;
+        let mut stack = registers.top();
+        let order = order(&mut stack, memory)?;
+        let ioresult = self.write(memory, unit_of(order.unit), order.transfer)?;
+        *registers = registers.with_top(stack).with_ioresult(ioresult);
         Ok(())
     }
 
     // TIME.
     #[tactic(auto, unfolding(crate::specs::UnitRows::time_row), using(pm_words::proofs::WatchLaws::keeps))]
-    fn time_row(&mut self, memory: &mut Memory, registers: &mut Registers) -> Result<(), Trap>
-        ensures stack { IsStack registers.old.sp registers.old.np → OnOk result
-            (IsStack registers.new.sp registers.new.np) }
+    fn time_row(&mut self, memory: &mut Memory, registers: &mut ValidRegisters) -> Result<(), Trap>
         ensures row { Performs devices_served self.old.room result
             (served memory.old.words registers.old self.old.devices)
             (served memory.new.words registers.new self.new.devices)
@@ -277,22 +259,21 @@ impl Units {
         ensures keeps { KeepsWatch memory.old memory.new }
         ensures mp { registers.new.mp ≡ registers.old.mp }
     {
-        let low = pop(memory, registers.sp)?;
-        let high = pop(memory, low.above)?;
-        if high.word % 2 != 0 || low.word % 2 != 0 {
+        let mut stack = registers.top();
+        let low = stack.pop(memory)?;
+        let high = stack.pop(memory)?;
+        if high % 2 != 0 || low % 2 != 0 {
             return Err(Trap::Exec(ExecError::InvalidMemory));
         }
-        memory.set_word(high.word, (self.clock / 65536) as u16);
-        memory.set_word(low.word, (self.clock % 65536) as u16);
-        registers.sp = high.above;
+        memory.set_word(high, (self.clock / 65536) as u16);
+        memory.set_word(low, (self.clock % 65536) as u16);
+        *registers = registers.with_top(stack);
         Ok(())
     }
 
     // UNITBUSY.
     #[tactic(auto, unfolding(crate::specs::UnitRows::busy_row), using(pm_words::proofs::WatchLaws::keeps))]
-    fn busy_row(&mut self, memory: &mut Memory, registers: &mut Registers) -> Result<(), Trap>
-        ensures stack { IsStack registers.old.sp registers.old.np → OnOk result
-            (IsStack registers.new.sp registers.new.np) }
+    fn busy_row(&mut self, memory: &mut Memory, registers: &mut ValidRegisters) -> Result<(), Trap>
         ensures row { Performs devices_served self.old.room result
             (served memory.old.words registers.old self.old.devices)
             (served memory.new.words registers.new self.new.devices)
@@ -301,18 +282,17 @@ impl Units {
         ensures keeps { KeepsWatch memory.old memory.new }
         ensures mp { registers.new.mp ≡ registers.old.mp }
     {
-        let unit = pop(memory, registers.sp)?;
-        let sp = push(memory, unit.above, registers.np, 0)?;
-        registers.sp = sp;
-        registers.ioresult = known(unit_of(unit.word));
+        let mut stack = registers.top();
+        let unit = stack.pop(memory)?;
+        stack.push(memory, 0)?;
+        let ioresult = known(unit_of(unit));
+        *registers = registers.with_top(stack).with_ioresult(ioresult);
         Ok(())
     }
 
     // UNITWAIT.
     #[tactic(auto, unfolding(crate::specs::UnitRows::wait_row), using(pm_words::proofs::WatchLaws::keeps))]
-    fn wait_row(&mut self, memory: &mut Memory, registers: &mut Registers) -> Result<(), Trap>
-        ensures stack { IsStack registers.old.sp registers.old.np → OnOk result
-            (IsStack registers.new.sp registers.new.np) }
+    fn wait_row(&mut self, memory: &mut Memory, registers: &mut ValidRegisters) -> Result<(), Trap>
         ensures row { Performs devices_served self.old.room result
             (served memory.old.words registers.old self.old.devices)
             (served memory.new.words registers.new self.new.devices)
@@ -321,17 +301,16 @@ impl Units {
         ensures keeps { KeepsWatch memory.old memory.new }
         ensures mp { registers.new.mp ≡ registers.old.mp }
     {
-        let unit = pop(memory, registers.sp)?;
-        registers.sp = unit.above;
-        registers.ioresult = known(unit_of(unit.word));
+        let mut stack = registers.top();
+        let unit = stack.pop(memory)?;
+        let ioresult = known(unit_of(unit));
+        *registers = registers.with_top(stack).with_ioresult(ioresult);
         Ok(())
     }
 
     // UNITCLEAR.
     #[tactic(auto, unfolding(crate::specs::UnitRows::clear_row), using(pm_words::proofs::WatchLaws::keeps))]
-    fn clear_row(&mut self, memory: &mut Memory, registers: &mut Registers) -> Result<(), Trap>
-        ensures stack { IsStack registers.old.sp registers.old.np → OnOk result
-            (IsStack registers.new.sp registers.new.np) }
+    fn clear_row(&mut self, memory: &mut Memory, registers: &mut ValidRegisters) -> Result<(), Trap>
         ensures row { Performs devices_served self.old.room result
             (served memory.old.words registers.old self.old.devices)
             (served memory.new.words registers.new self.new.devices)
@@ -340,9 +319,10 @@ impl Units {
         ensures keeps { KeepsWatch memory.old memory.new }
         ensures mp { registers.new.mp ≡ registers.old.mp }
     {
-        let unit = pop(memory, registers.sp)?;
-        registers.ioresult = self.clear(unit_of(unit.word));
-        registers.sp = unit.above;
+        let mut stack = registers.top();
+        let unit = stack.pop(memory)?;
+        let ioresult = self.clear(unit_of(unit));
+        *registers = registers.with_top(stack).with_ioresult(ioresult);
         Ok(())
     }
 }

@@ -77,7 +77,7 @@ for path in sorted(glob.glob("crates/*/src/**/*.rt", recursive=True)):
 for folder in sorted(glob.glob("crates/*")):
     count = sum(len(re.findall(r"^ *(?:pub(?:\([a-z]+\))? )?fn ", "\n".join(lines(path)), re.M))
                 for path in glob.glob(folder + "/src/**/*.rt", recursive=True) if not path.endswith("tests.rt"))
-    if count > 100 and not folder.endswith("pm_examples"):
+    if count > 100 and not folder.endswith("_examples"):
         tell("crate", "%s has %d functions" % (folder, count))
 
 for pattern, most in (("crates/*/src/**/*.rt", 120), ("crates/*/specs/**/*.antt", 120), ("crates/*/proofs/**/*.antt", 160),
@@ -89,7 +89,7 @@ for pattern, most in (("crates/*/src/**/*.rt", 120), ("crates/*/specs/**/*.antt"
 
 NUMBERS = r"\b(65_?492|65_?502|65_?504|60_?000|172|185)\b"
 for path in sorted(glob.glob("crates/*/src/**/*.rt", recursive=True)):
-    if re.search(r"(layout|fields|worked|tests|table|quick\w*)\.rt$", path) or "/pm_examples/" in path:
+    if re.search(r"(layout|fields|worked|tests|table|quick\w*)\.rt$", path) or "_examples/" in path:
         continue
     for number, line in enumerate(lines(path)):
         if re.search(NUMBERS, line.split("//")[0]) and not re.match(r"\s*(const|pub const|pub\(crate\) const)", line):

@@ -1,6 +1,7 @@
 #!/bin/bash
-# Programs against themselves, as the tests `twice` of pm_examples have them, but with each of the 32,768 words written
-# with its own value before each step, and not every 64th in turn. Of an unproved build, in a copy of the sources.
+# Programs against themselves, as the tests `twice` of pm_machine_examples have them, but with each of the 32,768 words
+# written with its own value before each step, and not every 64th in turn. Of an unproved build, in a copy of the
+# sources.
 set -eu
 top=$(cd "$(dirname "$0")/.." && pwd)
 scratch=$(mktemp -d)
@@ -14,7 +15,7 @@ for crate in "$top"/crates/*; do
     done
 done
 git -C "$scratch" init -q
-cd "$scratch/crates/pm_examples/src"
+cd "$scratch/crates/pm_machine_examples/src"
 modules="calls code tested twice"
 for file in *.rt; do
     case " $modules " in

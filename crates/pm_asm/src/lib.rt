@@ -14,6 +14,3 @@ mod table;
 pub use assembly::{Assembly, assemble, assemble_file, assemble_listing};
 pub use lengths::LONGEST;
 pub use pm_source::AsmFault;
-
-#[cfg(test)]
-mod tests;

@@ -14,6 +14,3 @@ pub use file::{CodeFile, Slot};
 pub use layout::write;
 pub use segments::{attributes, procedures};
 pub use table::Attributes;
-
-#[cfg(test)]
-mod tests;

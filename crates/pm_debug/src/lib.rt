@@ -22,6 +22,3 @@ pub use refusal::DebugRefusal;
 pub use state_line::TraceLine;
 pub use text::trace_line;
 pub use tracer::Tracer;
-
-#[cfg(test)]
-mod tests;

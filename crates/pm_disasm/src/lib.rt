@@ -22,6 +22,3 @@ mod written;
 pub use place::Line;
 pub use segments::{file, item, procedure};
 pub use text::line;
-
-#[cfg(test)]
-mod tests;

@@ -1,13 +1,12 @@
 //! The most that a job takes, and a program with all of its devices.
-use crate::broken::image;
+use crate::files::{new_image, text};
 use crate::jobs::job_run;
+use crate::runs::image;
 use pm_tool::{Job, Reader, Writer, run};
-use pm_volume::Volume;
 use std::alloc::Global;
 use std::io;
 use std::io::Read;
 use std::process::Abort;
-use std::test::Fail;
 
 /// So many blanks.
 #[derive(Drop)]
@@ -62,45 +61,45 @@ const PROGRAM: [u8; 138] = [
 ];
 
 /// The image of a new volume of this name.
-fn named(alloc: Global, name: &str) -> Result<Option<Vec<u8>>, Fail> {
-    Ok(Some(Volume::blank(alloc, name, 6)?.into_bytes()))
+fn named(rt: &impl Abort, alloc: Global, name: &str) -> Option<Vec<u8>> {
+    Some(new_image(rt, alloc, name, 6))
 }
 
 /// The job that runs the program on this image, with five other disks.
-fn six_disks(alloc: Global, image: Vec<u8>, save: bool) -> Result<Job, Fail> {
-    Ok(Job::Run {
+fn six_disks(rt: &impl Abort, alloc: Global, image: Vec<u8>, save: bool) -> Job {
+    Job::Run {
         disks: [
             Some(image),
-            named(alloc, "V5")?,
-            named(alloc, "V9")?,
-            named(alloc, "VA")?,
-            named(alloc, "VB")?,
-            named(alloc, "VC")?,
+            named(rt, alloc, "V5"),
+            named(rt, alloc, "V9"),
+            named(rt, alloc, "VA"),
+            named(rt, alloc, "VB"),
+            named(rt, alloc, "VC"),
         ],
-        name: String::from_str(alloc, "P")?,
+        name: text(rt, alloc, "P"),
         limit: 100,
         save,
-    })
+    }
 }
 
 /// The image with which a run begins, and the one that it leaves.
-fn images(alloc: Global) -> Result<(Vec<u8>, Vec<u8>), Fail> {
-    let image = image(alloc, [138, 0, 0], &PROGRAM)?;
-    let mut left = image.clone()?;
+fn images(rt: &impl Abort, alloc: Global) -> (Vec<u8>, Vec<u8>) {
+    let image = image(rt, alloc, 2, [138, 0, 0], &PROGRAM);
+    let mut left = image.clone().expect(rt, "memory");
     if let Some(place) = left.as_mut_slice().get_mut(41984..41986) {
         place.copy_from_slice(b"OK");
     }
-    Ok((image, left))
+    (image, left)
 }
 
 /// Each disk is on its own unit, the printer's bytes are in the outcome, and the image that is saved is the one that
 /// the program left, byte for byte.
 #[test]
-fn all_devices(rt: HostRuntime) -> Result<(), Fail> {
+fn all_devices(rt: HostRuntime) {
     let alloc = rt.alloc();
-    let (image, left) = images(alloc)?;
+    let (image, left) = images(&rt, alloc);
     assert!(rt; image != left);
-    let ran = job_run(alloc, six_disks(alloc, image, true)?, b"");
+    let ran = job_run(alloc, six_disks(&rt, alloc, image, true), b"");
     assert_eq!(rt;
         (ran.outcome.exit.number(), ran.outcome.text()),
         (0, "ended 85")
@@ -108,17 +107,15 @@ fn all_devices(rt: HostRuntime) -> Result<(), Fail> {
     assert_eq!(rt; ran.written.as_slice(), b"V5V9VAVBVC".as_slice());
     assert_eq!(rt; ran.outcome.printer.as_slice(), b"OK".as_slice());
     assert!(rt; ran.into_image() == Some(left));
-    Ok(())
 }
 
 /// What is printed is in the outcome also where no image is.
 #[test]
-fn no_image_unless_asked_for(rt: HostRuntime) -> Result<(), Fail> {
+fn no_image_unless_asked_for(rt: HostRuntime) {
     let alloc = rt.alloc();
-    let (image, _) = images(alloc)?;
-    let ran = job_run(alloc, six_disks(alloc, image, false)?, b"");
+    let (image, _) = images(&rt, alloc);
+    let ran = job_run(alloc, six_disks(&rt, alloc, image, false), b"");
     assert_eq!(rt; ran.outcome.exit.number(), 0);
     assert_eq!(rt; ran.outcome.printer.as_slice(), b"OK".as_slice());
     assert!(rt; ran.into_image().is_none());
-    Ok(())
 }

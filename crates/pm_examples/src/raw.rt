@@ -1,19 +1,9 @@
 //! Runs of bare code, from hexadecimal digits to a trace.
 use crate::jobs::tells;
+use pm_part_examples::programs::{ADDITION, ADDITION_TRACE};
 use pm_tool::Job;
 use std::alloc::{AllocError, Global};
 use std::process::Abort;
-
-/// Adds two to three.
-pub(crate) const ADDITION: &str = "02 03 82 D6\n";
-
-pub(crate) const ADDITION_TRACE: &str = "\
-00000000 01024 65492 65492 65492 01028 65492 SLDC 2
-00000001 01025 65490 65492 65492 01028 00002 SLDC 3
-00000002 01026 65488 65492 65492 01028 00003 ADI
-00000003 01027 65490 65492 65492 01028 00005 XIT
-ended 4
-";
 
 const TWO_STEPS: &str = "\
 00000000 01024 65492 65492 65492 01028 65492 SLDC 2
@@ -67,7 +57,7 @@ const ADDITIONS: [&str; 3] = ["020382D6", "\t02\r\n03 82d6", "\n\n02 0382 \r\t D
 /// Digits are of both cases, and white space stands anywhere but within a pair, or nowhere.
 #[test]
 fn digits(rt: HostRuntime) {
-    for text in ADDITIONS {
+    for text in &ADDITIONS {
         runs(
             &rt,
             rt.alloc(),
@@ -91,7 +81,7 @@ const NO_DIGITS: [&str; 8] = [
 
 #[test]
 fn no_digits(rt: HostRuntime) {
-    for text in NO_DIGITS {
+    for text in &NO_DIGITS {
         runs(
             &rt,
             rt.alloc(),

@@ -1,14 +1,13 @@
 //! Images, code files and programs that are refused, each beside the number of its fault.
 ghost use Rattle.std.specs.Prelude.{◌≡◌, length, sum};
 
+use crate::files::{new_image, text};
 use crate::jobs::tells;
 use crate::runs::disks;
 use pm_filer::FileCommand;
 use pm_tool::Job;
-use pm_volume::Volume;
 use std::alloc::Global;
 use std::process::Abort;
-use std::test::Fail;
 
 /// Bytes that are written over those of an image, from a place on.
 type Change = (usize, &'static [u8]);
@@ -58,22 +57,21 @@ fn change(rt: &impl Abort, image: &mut [u8], change: Change) {
     }
 }
 
-fn changed(rt: &impl Abort, alloc: Global, changes: &[Change]) -> Result<Vec<u8>, Fail> {
-    let mut image = Volume::blank(alloc, "WORK", 20)?.into_bytes();
+fn changed(rt: &impl Abort, alloc: Global, changes: &[Change]) -> Vec<u8> {
+    let mut image = new_image(rt, alloc, "WORK", 20);
     for step in changes {
         change(rt, &mut image, *step);
     }
-    Ok(image)
+    image
 }
 
 #[test]
-fn images(rt: HostRuntime) -> Result<(), Fail> {
+fn images(rt: HostRuntime) {
     let alloc = rt.alloc();
     for (changes, message) in IMAGES {
-        lists(&rt, alloc, changed(&rt, alloc, changes)?, (2, *message, ""));
+        lists(&rt, alloc, changed(&rt, alloc, changes), (2, *message, ""));
     }
     lists(&rt, alloc, Vec::new(alloc), (2, "refused volume 2", ""));
-    Ok(())
 }
 
 const LIST: &str = "\
@@ -84,42 +82,34 @@ files 1 free 0 largest 0
 
 /// The same file from block 6 to the end of the volume is good.
 #[test]
-fn a_file_to_the_end(rt: HostRuntime) -> Result<(), Fail> {
+fn a_file_to_the_end(rt: HostRuntime) {
     let alloc = rt.alloc();
     let changes = [ONE_FILE, (1050, &AT_5), (1050, &[6, 0, 20, 0])];
-    lists(&rt, alloc, changed(&rt, alloc, &changes)?, (0, "", LIST));
-    Ok(())
+    lists(&rt, alloc, changed(&rt, alloc, &changes), (0, "", LIST));
 }
 
 /// A segment 1 with which a program does not start.
-fn no_start(
-    rt: &impl Abort,
-    alloc: Global,
-    lengths: [u16; 3],
-    segment: &[u8],
-    message: &str,
-) -> Result<(), Fail>
+fn no_start(rt: &impl Abort, alloc: Global, lengths: [u16; 3], segment: &[u8], message: &str)
     requires joined { sum lengths ≡ length segment.now }
 {
     let job = Job::Run {
-        disks: disks(alloc, 2, lengths, segment)?,
-        name: String::from_str(alloc, "P")?,
+        disks: disks(rt, alloc, 2, lengths, segment),
+        name: text(rt, alloc, "P"),
         limit: 100,
         save: true,
     };
     tells(rt, alloc, job, b"xyz", (2, message, "", 3));
-    Ok(())
 }
 
 /// No procedure; a procedure without a table; variables of 65,534 bytes.
 #[test]
-fn programs(rt: HostRuntime) -> Result<(), Fail> {
+fn programs(rt: HostRuntime) {
     let alloc = rt.alloc();
-    no_start(&rt, alloc, [2, 0, 0], &[1, 0], "refused boot 4 2")?;
+    no_start(&rt, alloc, [2, 0, 0], &[1, 0], "refused boot 4 2");
     let native = [0, 0, 2, 0, 1, 1];
-    no_start(&rt, alloc, [6, 0, 0], &native, "refused boot 4 11")?;
+    no_start(&rt, alloc, [6, 0, 0], &native, "refused boot 4 11");
     let wide = [0xC1, 0, 0xFE, 0xFF, 0, 0, 6, 0, 8, 0, 1, 0, 2, 0, 1, 1];
-    no_start(&rt, alloc, [16, 0, 0], &wide, "refused boot 4 4")
+    no_start(&rt, alloc, [16, 0, 0], &wide, "refused boot 4 4");
 }
 
 /// Slot 5 of a dictionary has this block and this length.

@@ -1,14 +1,13 @@
 //! Sessions of the debugger, as jobs.
 ghost use Rattle.std.specs.Prelude.{◌≡◌, length, sum};
 
-use crate::code::{EXITS, SEGMENTS};
+use crate::files::text;
 use crate::jobs::{Told, tells};
-use crate::runs::{ECHO, disks};
-use crate::streams::{Full, ShortReader, ShortWriter};
-use pm_tool::{Job, Reader, Writer, run};
+use crate::runs::disks;
+use pm_part_examples::programs::{ECHO, EXITS, SEGMENTS};
+use pm_tool::Job;
 use std::alloc::Global;
 use std::process::Abort;
-use std::test::Fail;
 
 /// A breakpoint, chains before and after a word is written, and refusals.
 const COMMANDS: &str = "\
@@ -91,12 +90,12 @@ ended 0
 ?
 ";
 
-fn debug_job(alloc: Global, lengths: [u16; 3], segments: &[u8]) -> Result<Job, Fail>
+fn debug_job(rt: &impl Abort, alloc: Global, lengths: [u16; 3], segments: &[u8]) -> Job
     requires joined { sum lengths ≡ length segments.now }
 {
-    let disks = disks(alloc, 2, lengths, segments)?;
-    let name = String::from_str(alloc, "P")?;
-    Ok(Job::Debug { disks, name })
+    let disks = disks(rt, alloc, 2, lengths, segments);
+    let name = text(rt, alloc, "P");
+    Job::Debug { disks, name }
 }
 
 fn session(
@@ -106,16 +105,15 @@ fn session(
     segments: &[u8],
     input: &str,
     told: Told<'_>,
-) -> Result<(), Fail>
+)
     requires joined { sum lengths ≡ length segments.now }
 {
-    let job = debug_job(alloc, lengths, segments)?;
+    let job = debug_job(rt, alloc, lengths, segments);
     tells(rt, alloc, job, input.as_bytes(), told);
-    Ok(())
 }
 
 #[test]
-fn answers(rt: HostRuntime) -> Result<(), Fail> {
+fn answers(rt: HostRuntime) {
     session(
         &rt,
         rt.alloc(),
@@ -123,7 +121,7 @@ fn answers(rt: HostRuntime) -> Result<(), Fail> {
         &EXITS,
         COMMANDS,
         (0, "", ANSWERS, 0),
-    )?;
+    );
     session(
         &rt,
         rt.alloc(),
@@ -131,11 +129,11 @@ fn answers(rt: HostRuntime) -> Result<(), Fail> {
         &EXITS,
         "quit\nstack 1\n",
         (0, "", "", 8),
-    )
+    );
 }
 
 #[test]
-fn answers_odd_lines(rt: HostRuntime) -> Result<(), Fail> {
+fn answers_odd_lines(rt: HostRuntime) {
     session(
         &rt,
         rt.alloc(),
@@ -143,16 +141,16 @@ fn answers_odd_lines(rt: HostRuntime) -> Result<(), Fail> {
         &SEGMENTS,
         ODD_COMMANDS,
         (0, "", ODD_ANSWERS, 0),
-    )
+    );
 }
 
 /// A machine that fails, and one that waits: its bytes come from `key` alone.
 #[test]
-fn answers_whatever_the_machine_did(rt: HostRuntime) -> Result<(), Fail> {
+fn answers_whatever_the_machine_did(rt: HostRuntime) {
     let mut other = EXITS;
     other[36 + 17] = 7;
     let told = (0, "", "error 3 5\nerror 3 0\n", 0);
-    session(&rt, rt.alloc(), [36, 38, 0], &other, "go 100\ngo 1\n", told)?;
+    session(&rt, rt.alloc(), [36, 38, 0], &other, "go 100\ngo 1\n", told);
     let told = (0, "", "waiting 6\nok\nended 9\n", 0);
     session(
         &rt,
@@ -161,57 +159,5 @@ fn answers_whatever_the_machine_did(rt: HostRuntime) -> Result<(), Fail> {
         &ECHO,
         "go 1000\nkey 46\ngo 1000",
         told,
-    )
-}
-
-/// After so many reads a read fails.
-fn read_fails(rt: &impl Abort, alloc: Global, good: usize) -> Result<(), Fail> {
-    let job = debug_job(alloc, [36, 38, 0], &EXITS)?;
-    let mut written = Vec::new(alloc);
-    let mut source = Reader::new(ShortReader {
-        bytes: COMMANDS.as_bytes(),
-        good,
-    });
-    let mut sink = Writer::new(&mut written);
-    let outcome = run(alloc, &mut source, &mut sink, job);
-    assert_eq!(rt; outcome.exit.number(), 4, "after {good} reads");
-    assert_eq!(rt; outcome.text(), "read fault");
-    assert!(rt; ANSWERS.as_bytes().starts_with(&written));
-    Ok(())
-}
-
-/// There is a read for each byte up to the line feed of `quit`, and no other.
-#[test]
-fn each_read_fails(rt: HostRuntime) -> Result<(), Fail> {
-    for good in 0..COMMANDS.len() {
-        read_fails(&rt, rt.alloc(), good)?;
-    }
-    Ok(())
-}
-
-/// After so many bytes a write fails.
-fn write_fails(rt: &impl Abort, alloc: Global, good: usize, full: Full) -> Result<(), Fail> {
-    let job = debug_job(alloc, [36, 38, 0], &EXITS)?;
-    let mut written = ShortWriter {
-        bytes: Vec::new(alloc),
-        good,
-        full,
-    };
-    let mut source = Reader::new(COMMANDS.as_bytes());
-    let mut sink = Writer::new(&mut written);
-    let outcome = run(alloc, &mut source, &mut sink, job);
-    assert_eq!(rt; outcome.exit.number(), 4, "after {good} bytes");
-    assert_eq!(rt; outcome.text(), "write fault");
-    assert_eq!(rt; written.bytes.len(), good);
-    assert!(rt; ANSWERS.as_bytes().starts_with(&written.bytes));
-    Ok(())
-}
-
-#[test]
-fn each_write_fails(rt: HostRuntime) -> Result<(), Fail> {
-    for good in 0..ANSWERS.len() {
-        write_fails(&rt, rt.alloc(), good, Full::Errs)?;
-        write_fails(&rt, rt.alloc(), good, Full::TakesNothing)?;
-    }
-    Ok(())
+    );
 }

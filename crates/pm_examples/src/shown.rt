@@ -1,53 +1,13 @@
 //! The text of code files.
 ghost use Rattle.std.specs.Prelude.{◌≡◌, length, sum};
 
-use crate::code::SEGMENTS;
 use crate::jobs::tells;
 use pm_codefile::{CodeFile, attributes};
+use pm_part_examples::programs::{LONG, LONG_TEXT, NAMES, SEGMENTS, TEXT};
 use pm_tool::Job;
 use std::alloc::Global;
 use std::process::Abort;
 use std::test::Fail;
-
-/// Three names, of the slots 1, 2 and 3, and blanks.
-pub(crate) const NAMES: [[u8; 8]; 16] = [
-    *b"        ",
-    *b"MAIN    ",
-    *b"A       ",
-    *b"B       ",
-    *b"        ",
-    *b"        ",
-    *b"        ",
-    *b"        ",
-    *b"        ",
-    *b"        ",
-    *b"        ",
-    *b"        ",
-    *b"        ",
-    *b"        ",
-    *b"        ",
-    *b"        ",
-];
-
-pub(crate) const TEXT: &str = "\
-.SEG 1 MAIN
-.PROC 1 0 0 0
-  CXP 2, 1
-  CXP 3, 1
-.EXIT
-  RBP 0
-.END
-.SEG 2 A
-.PROC 1 0 0 4
-.EXIT
-  RBP 0
-.END
-.SEG 3 B
-.PROC 1 0 0 8
-.EXIT
-  RBP 0
-.END
-";
 
 /// A jump through an entry that the table has not.
 const NO_ENTRY: [u8; 18] = [
@@ -80,22 +40,6 @@ L00000:
   NOP
   NOP
 .JUMP L00000
-.END
-";
-
-/// A number below 128 in two bytes.
-pub(crate) const LONG: [u8; 20] = [
-    0xA9, 0x80, 0x05, 0xD7, 0xC1, 0x00, 0x00, 0x00, 0x00, 0x00, 0x06, 0x00, 0x0C, 0x00, 0x01, 0x00,
-    0x02, 0x00, 0x01, 0x01,
-];
-
-pub(crate) const LONG_TEXT: &str = "\
-.SEG 1 MAIN
-.PROC 1 0 0 0
-  LDO 5!
-  NOP
-.EXIT
-  RBP 0
 .END
 ";
 

@@ -1,10 +1,11 @@
 //! Commands of a first hour, as jobs: traces of bare code, files of a volume, programs, and what each writes.
+use crate::files::{changed, new_image, put_text, text};
 use crate::jobs::{Told, job_run, tells};
 use pm_filer::FileCommand;
+use pm_part_examples::programs::LISTING;
 use pm_tool::Job;
-use std::alloc::{AllocError, Global};
+use std::alloc::Global;
 use std::process::Abort;
-use std::test::Fail;
 
 fn raw(rt: &impl Abort, alloc: Global, limit: u32, hex: &str, told: Told<'_>) {
     tells(rt, alloc, Job::Raw { limit }, hex.as_bytes(), told);
@@ -33,53 +34,23 @@ limit 2
     raw(&rt, rt.alloc(), 2, "B9 FE 02 00\n", (6, "", jumps, 0));
 }
 
-/// The image of a new volume WORK of 40 blocks.
-fn work(alloc: Global) -> Result<Vec<u8>, Fail> {
-    let name = String::from_str(alloc, "WORK")?;
-    let ran = job_run(alloc, Job::New { name, blocks: 40 }, b"");
-    Ok(ran.into_image().ok_or("no image")?)
-}
-
-/// The image after a command.
-fn after(
-    alloc: Global,
-    image: Vec<u8>,
-    command: FileCommand,
-    input: &[u8],
-) -> Result<Vec<u8>, Fail> {
-    let ran = job_run(alloc, Job::Files { image, command }, input);
-    Ok(ran.into_image().ok_or("no image")?)
-}
-
-fn put(alloc: Global, name: &str, kind: u8) -> Result<FileCommand, AllocError> {
-    Ok(FileCommand::Put(String::from_str(alloc, name)?, kind, Vec::new(alloc)))
-}
-
-fn put_text(alloc: Global, name: &str) -> Result<FileCommand, AllocError> {
-    Ok(FileCommand::PutText(String::from_str(alloc, name)?, Vec::new(alloc)))
+fn put(rt: &impl Abort, alloc: Global, name: &str, kind: u8) -> FileCommand {
+    FileCommand::Put(text(rt, alloc, name), kind, Vec::new(alloc))
 }
 
 /// A volume with a text and a file of three bytes.
-fn two_files(alloc: Global) -> Result<Vec<u8>, Fail> {
-    let image = after(
-        alloc,
-        work(alloc)?,
-        put_text(alloc, "HELLO.TEXT")?,
-        b"hello\n",
-    )?;
-    after(alloc, image, put(alloc, "TABLE.DATA", 5)?, &[1, 2, 3])
+fn two_files(rt: &impl Abort, alloc: Global) -> Vec<u8> {
+    let work = new_image(rt, alloc, "WORK", 40);
+    let hello = put_text(rt, alloc, "HELLO.TEXT");
+    let image = changed(rt, alloc, work, hello, b"hello\n");
+    let table = put(rt, alloc, "TABLE.DATA", 5);
+    changed(rt, alloc, image, table, &[1, 2, 3])
 }
 
 /// What a command on the two files comes to.
-fn answers(
-    rt: &impl Abort,
-    alloc: Global,
-    command: FileCommand,
-    told: Told<'_>,
-) -> Result<(), Fail> {
-    let image = two_files(alloc)?;
+fn answers(rt: &impl Abort, alloc: Global, command: FileCommand, told: Told<'_>) {
+    let image = two_files(rt, alloc);
     tells(rt, alloc, Job::Files { image, command }, b"", told);
-    Ok(())
 }
 
 const LIST: &str = "\
@@ -90,13 +61,13 @@ files 2 free 29 largest 29
 ";
 
 #[test]
-fn files_of_a_volume(rt: HostRuntime) -> Result<(), Fail> {
+fn files_of_a_volume(rt: HostRuntime) {
     let alloc = rt.alloc();
-    answers(&rt, alloc, FileCommand::List, (0, "", LIST, 0))?;
-    let text = FileCommand::GetText(String::from_str(alloc, "hello.text")?);
-    answers(&rt, alloc, text, (0, "", "hello\n", 0))?;
-    let none = FileCommand::Get(String::from_str(alloc, "NONE")?);
-    answers(&rt, alloc, none, (2, "refused filer 1 11", "", 0))
+    answers(&rt, alloc, FileCommand::List, (0, "", LIST, 0));
+    let hello = FileCommand::GetText(text(&rt, alloc, "hello.text"));
+    answers(&rt, alloc, hello, (0, "", "hello\n", 0));
+    let none = FileCommand::Get(text(&rt, alloc, "NONE"));
+    answers(&rt, alloc, none, (2, "refused filer 1 11", "", 0));
 }
 
 const OK: &str = "\
@@ -161,20 +132,6 @@ const LOADS: &str = "\
 .END
 ";
 
-const LISTING: &str = "\
-01 001 00000 CD 02 01  CXP 2, 1
-01 001 00003 CD 03 01  CXP 3, 1
-01 001 00006 C1 00  RBP 0
-01 001 00008 00 00 00 00 06 00 0E 00 01 00  .ATTR
-01 000 00018 02 00 01 01  .DICT
-02 001 00000 C1 00  RBP 0
-02 001 00002 04 00 00 00 06 00 08 00 01 00  .ATTR
-02 000 00012 02 00 02 01  .DICT
-03 001 00000 C1 00  RBP 0
-03 001 00002 08 00 00 00 06 00 08 00 01 00  .ATTR
-03 000 00012 02 00 03 01  .DICT
-";
-
 const SHOWN: &str = "\
 .SEG 1 LOADS
 .PROC 1 0 0 0
@@ -220,67 +177,51 @@ fn text_and_code(rt: HostRuntime) {
 }
 
 /// The disks with a volume on unit 4 that has the program P of a text.
-fn disks(alloc: Global, text: &str) -> Result<[Option<Vec<u8>>; 6], Fail> {
-    let image = after(alloc, work(alloc)?, put(alloc, "P", 2)?, &code(alloc, text))?;
-    Ok([Some(image), None, None, None, None, None])
+fn disks(rt: &impl Abort, alloc: Global, text: &str) -> [Option<Vec<u8>>; 6] {
+    let work = new_image(rt, alloc, "WORK", 40);
+    let image = changed(rt, alloc, work, put(rt, alloc, "P", 2), &code(alloc, text));
+    [Some(image), None, None, None, None, None]
 }
 
 /// What a run of the program of a text comes to.
-fn runs(
-    rt: &impl Abort,
-    alloc: Global,
-    text: &str,
-    input: &[u8],
-    told: Told<'_>,
-) -> Result<(), Fail> {
+fn runs(rt: &impl Abort, alloc: Global, program: &str, input: &[u8], told: Told<'_>) {
     let job = Job::Run {
-        disks: disks(alloc, text)?,
-        name: String::from_str(alloc, "P")?,
+        disks: disks(rt, alloc, program),
+        name: text(rt, alloc, "P"),
         limit: 1_000_000,
         save: false,
     };
     tells(rt, alloc, job, input, told);
-    Ok(())
 }
 
 #[test]
-fn programs(rt: HostRuntime) -> Result<(), Fail> {
+fn programs(rt: HostRuntime) {
     let alloc = rt.alloc();
-    runs(&rt, alloc, LOADS, b"", (0, "ended 5", "", 0))?;
-    runs(&rt, alloc, OK, b"", (0, "ended 9", "OK", 0))?;
+    runs(&rt, alloc, LOADS, b"", (0, "ended 5", "", 0));
+    runs(&rt, alloc, OK, b"", (0, "ended 9", "OK", 0));
     let typed = b"p-code. And more";
-    runs(&rt, alloc, ECHO, typed, (0, "ended 93", "p-code.", 9))
+    runs(&rt, alloc, ECHO, typed, (0, "ended 93", "p-code.", 9));
 }
 
 #[test]
-fn trace_of_a_program(rt: HostRuntime) -> Result<(), Fail> {
+fn trace_of_a_program(rt: HostRuntime) {
     let alloc = rt.alloc();
-    let disks = disks(alloc, LOADS)?;
-    let name = String::from_str(alloc, "P")?;
-    let limit = 1_000_000;
-    tells(
-        &rt,
-        alloc,
-        Job::Trace { disks, name, limit },
-        b"",
-        (0, "", TRACE, 0),
-    );
-    Ok(())
+    let job = Job::Trace {
+        disks: disks(&rt, alloc, LOADS),
+        name: text(&rt, alloc, "P"),
+        limit: 1_000_000,
+    };
+    tells(&rt, alloc, job, b"", (0, "", TRACE, 0));
 }
 
 #[test]
-fn session(rt: HostRuntime) -> Result<(), Fail> {
+fn session(rt: HostRuntime) {
     let alloc = rt.alloc();
-    let disks = disks(alloc, LOADS)?;
-    let name = String::from_str(alloc, "P")?;
+    let job = Job::Debug {
+        disks: disks(&rt, alloc, LOADS),
+        name: text(&rt, alloc, "P"),
+    };
     let input = b"break 2 1 0\ngo 100\ndynamic 10\nstack 3\nquit\n";
     let answers = "ok\nbreak 1\n65424 65458 65492\n65458 65492 65458\n";
-    tells(
-        &rt,
-        alloc,
-        Job::Debug { disks, name },
-        input,
-        (0, "", answers, 0),
-    );
-    Ok(())
+    tells(&rt, alloc, job, input, (0, "", answers, 0));
 }

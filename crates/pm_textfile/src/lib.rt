@@ -16,6 +16,3 @@ pub use fault::TextFault;
 
 // How many bytes the header has, and each page.
 const PAGE: usize = 1024;
-
-#[cfg(test)]
-mod tests;

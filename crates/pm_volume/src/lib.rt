@@ -24,6 +24,3 @@ pub use entry::Entry;
 pub use fault::VolumeFault;
 pub use space::Space;
 pub use volume::Volume;
-
-#[cfg(test)]
-mod tests;

@@ -1,0 +1,125 @@
+"""gate.py: what a run of the gate took, crate by crate, from a log of `rt ci` whose lines begin with HH:MM:SS. By hand.
+
+    rt ci 2>&1 | while read -r line; do echo "$(date +%T) $line"; done >gate.log
+    python3 bench/gate.py gate.log
+
+A line for each crate of crates.txt: the minute of the run at which its proof ended, the minutes between the end of the
+last proof that it stands on and that (what it waited for a processor counts in them), the minute at which its tests were
+proved and their number, the minute at which its edits were begun and how many there are. A crate that an earlier run
+proved is `kept`, and what is not in the log yet is left open. Of edits `rt ci` says at its end alone what each came to,
+all at once: the lines below the table count these, and say when the whole was over, and by which crates the longest
+chain of proofs went that ended last."""
+import collections
+import glob
+import os
+import re
+import sys
+
+DAY = 24 * 60 * 60
+
+
+def stamped(path):
+    """Each line of a log that begins with a time of day: the seconds since the first one, and the rest of the line."""
+    first, last, days = None, 0, 0
+    with open(path, encoding="utf-8", errors="replace") as log:
+        for line in log:
+            found = re.match(r"(\d\d):(\d\d):(\d\d) (.*)", line)
+            if not found:
+                continue
+            hours, minutes, seconds = (int(it) for it in found.groups()[:3])
+            now = 3600 * hours + 60 * minutes + seconds
+            first = now if first is None else first
+            days += DAY if now < last else 0 # past midnight
+            last = now
+            yield now + days - first, found.group(4)
+
+
+def read(path):
+    """What a log says of each crate: when it was proved (-1: by an earlier run), its tests, its edits begun and what they came to."""
+    said = {it: {} for it in ("proved", "tests", "begun", "edits", "passed", "failed")}
+    came, end, verdict = collections.Counter(), 0, None
+    for now, line in stamped(path):
+        end = now
+        found = re.match(r"rt: (\w+) is kept:", line)
+        if found:
+            said["proved"][found.group(1)] = -1
+        found = re.match(r"rt: (\w+) (proved|NOT PROVED)", line)
+        if found:
+            said["proved" if found.group(2) == "proved" else "failed"][found.group(1)] = now
+        found = re.match(r"rt: (\w+): its tests are (proved|NOT PROVED)", line)
+        if found:
+            said["tests" if found.group(2) == "proved" else "failed"][found.group(1)] = now
+        found = re.match(r"rt: (\w+): trying its must-fail edits \((\d+)\)", line)
+        if found:
+            said["begun"][found.group(1)] = now, int(found.group(2))
+        found = re.match(r"rt: must-fail (\w+)/\S+: (refused|NOT REFUSED|BAD EDIT|NOT TRIED)", line)
+        if found:
+            said["edits"][found.group(1)] = now
+            came[found.group(2)] += 1
+        found = re.match(r"(\d+ passed, \d+ failed)", line)
+        verdict = found.group(1) if found else verdict
+    return said, came, end, verdict
+
+
+def crates():
+    """Each crate of crates.txt, with those of the repository that it stands on."""
+    with open("crates.txt", encoding="utf-8") as file:
+        rows = [line.partition(":") for line in file.read().split("\n") if line and not line.startswith("#")]
+    names = [name.split()[0] for name, _, _ in rows]
+    return {name: [it for it in below.split() if it in names] for name, (_, _, below) in zip(names, rows)}
+
+
+def count_tests(crate):
+    paths = glob.glob("crates/%s/src/**/*.rt" % crate, recursive=True)
+    return sum(open(path, encoding="utf-8").read().count("#[test]") for path in paths)
+
+
+def minute(seconds):
+    return "" if seconds is None else "kept" if seconds < 0 else "%.1f" % (seconds / 60)
+
+
+def row(crate, below, said):
+    proved, tests = said["proved"].get(crate), count_tests(crate)
+    ends = [said["proved"].get(it) for it in below]
+    took = (proved - max([0, *ends])) if proved is not None and proved >= 0 and None not in ends else None
+    edits = len(glob.glob("crates/%s/must-fail/*.edit" % crate))
+    begun = said["begun"].get(crate)
+    state = "failed" if crate in said["failed"] else minute(proved)
+    return (crate, state, minute(took), minute(said["tests"].get(crate)) if tests else "", tests or "",
+            minute(begun and begun[0]), edits or "")
+
+
+def chain(stands, said):
+    """The crates by which the proof, or the tests, that ended last had to wait, and when each ended."""
+    ends = {("the tests of ", it): now for it, now in said["tests"].items()}
+    ends.update({("", it): now for it, now in said["proved"].items() if now >= 0})
+    if not ends:
+        return []
+    (what, crate), now = max(ends.items(), key=lambda it: it[1])
+    steps = []
+    while crate:
+        steps.append("%s%s %s" % (what, crate, minute(now)))
+        below = [(said["proved"].get(it, -1), it) for it in stands.get(crate, [])]
+        now, crate = max(below, default=(-1, None))
+        what, crate = "", crate if now >= 0 else None
+    return steps[::-1]
+
+
+def main(path):
+    os.chdir(os.path.join(os.path.dirname(os.path.abspath(__file__)), ".."))
+    stands = crates()
+    said, came, end, verdict = read(path)
+    print("| Crate | Proved at | After the last below | Its tests at | Tests | Edits begun at | Edits |")
+    print("|---|---|---|---|---|---|---|")
+    for crate, below in stands.items():
+        print("| %s |" % " | ".join(str(it) for it in row(crate, below, said)))
+    print()
+    print("%s after %s minutes; edits tried in this run: %d" %
+          (verdict or "not at its end", minute(end), sum(count for _, count in said["begun"].values())))
+    print("edits told: %s" % (", ".join("%d %s" % (count, kind) for kind, count in sorted(came.items())) or "none yet"))
+    print("the longest chain, by when each ended: %s" % (", ".join(chain(stands, said)) or "none yet"))
+
+
+if len(sys.argv) != 2:
+    sys.exit(__doc__)
+main(os.path.abspath(sys.argv[1]))

@@ -1,0 +1,246 @@
+//! Programs against themselves: each goes step by step in two machines, and in one of them words are written with their
+//! own values before each step. That drops what is kept of links and tables, and nothing that is seen may differ.
+ghost use Rattle.std.specs.Prelude.{◌≡◌, length, sum};
+
+use crate::calls::{CALLS, STORED_LINK, TOP};
+use crate::code::{KEEPS, volume};
+use pm_calls::Registers;
+use pm_debug::{DebugRefusal, Debugger};
+use pm_machine::{Machine, Stop};
+use pm_part_examples::programs::{EXITS, SEGMENTS};
+use pm_words::ExecError;
+use std::alloc::Global;
+use std::process::Abort;
+use std::test::Fail;
+
+/// In so many steps each word is written: every 64th before a step, and the next ones before the next step.
+/// `bench/twice.sh` writes each word before each step.
+const TURN: u16 = 64;
+
+/// A program in two machines.
+#[derive(Drop)]
+struct Twice {
+    plain: Debugger,
+    written: Debugger,
+    made: u16,
+}
+
+fn raw(alloc: Global, code: &[u8], pokes: &[(u16, u16)]) -> Result<Debugger, Fail> {
+    let mut machine = Machine::raw(alloc, code)?;
+    for (address, word) in pokes {
+        machine.poke(*address, *word);
+    }
+    Ok(Debugger::new(machine))
+}
+
+fn booted(alloc: Global, lengths: [u16; 3], segments: &[u8]) -> Result<Debugger, Fail>
+    requires joined { sum lengths ≡ length segments.now }
+{
+    let volume = volume(alloc, 2, lengths, segments)?;
+    match Machine::boot(
+        alloc,
+        [Some(volume), None, None, None, None, None],
+        4,
+        "P",
+        0,
+    ) {
+        Ok(machine) => Ok(Debugger::new(machine)),
+        Err((fault, _)) => Err(fault)?,
+    }
+}
+
+/// Memory and the rest of what a machine shows are the same.
+fn are_same(rt: &impl Abort, one: &Machine, other: &Machine) {
+    assert_eq!(rt; one.registers(), other.registers());
+    assert_eq!(rt;
+        (one.steps(), one.status()),
+        (other.steps(), other.status())
+    );
+    assert!(rt; one.memory().bytes() == other.memory().bytes());
+    assert_eq!(rt; one.console(), other.console());
+    assert_eq!(rt; one.printer(), other.printer());
+    for n in 0..16 {
+        assert_eq!(rt; one.place(n), other.place(n));
+        assert_eq!(rt; one.keeps(n), other.keeps(n));
+    }
+}
+
+/// The stack and both chains.
+type Chains = (
+    Vec<u16>,
+    Result<Vec<u16>, DebugRefusal>,
+    Result<Vec<u16>, DebugRefusal>,
+);
+
+fn chains(alloc: Global, debugger: &Debugger) -> Result<Chains, Fail> {
+    Ok((
+        debugger.stack(alloc, 20)?,
+        debugger.static_chain(alloc, 20),
+        debugger.dynamic_chain(alloc, 20),
+    ))
+}
+
+/// Variables of frames up the static links.
+fn locals(debugger: &mut Debugger) -> [Result<u16, DebugRefusal>; 4] {
+    [
+        debugger.local(0, 1),
+        debugger.local(1, 1),
+        debugger.local(2, 2),
+        debugger.local(9, 1),
+    ]
+}
+
+impl Twice {
+    fn new(plain: Debugger, written: Debugger) -> Twice {
+        Twice {
+            plain,
+            written,
+            made: 0,
+        }
+    }
+
+    /// Writes words of the one machine with their own values.
+    fn write(&mut self, rt: &impl Abort) {
+        let first = self.made % TURN;
+        let machine = self.written.machine();
+        for n in 0..32768 / TURN {
+            let address = n.wrapping_mul(TURN).wrapping_add(first).wrapping_mul(2);
+            let word = machine.memory().word(address).unwrap_or(0);
+            assert!(rt; machine.poke(address, word));
+        }
+    }
+
+    fn is_same(&mut self, rt: &impl Abort, alloc: Global) -> Result<(), Fail> {
+        are_same(rt, self.plain.machine(), self.written.machine());
+        assert!(rt; chains(alloc, &self.plain)? == chains(alloc, &self.written)?);
+        assert_eq!(rt; locals(&mut self.plain), locals(&mut self.written));
+        Ok(())
+    }
+
+    /// One step of each, which come to the same.
+    fn step(&mut self, rt: &impl Abort, alloc: Global) -> Result<Stop, Fail> {
+        self.write(rt);
+        let stop = self.plain.machine().step()?;
+        assert_eq!(rt; self.written.machine().step()?, stop);
+        self.made = self.made.wrapping_add(1);
+        self.is_same(rt, alloc)?;
+        Ok(stop)
+    }
+
+    /// At most so many steps; how the last one ended.
+    fn run(&mut self, rt: &impl Abort, alloc: Global, limit: u16) -> Result<Stop, Fail> {
+        self.is_same(rt, alloc)?;
+        for _ in 0..limit {
+            let stop = self.step(rt, alloc)?;
+            if stop != Stop::Went {
+                return Ok(stop);
+            }
+        }
+        Ok(Stop::Went)
+    }
+
+    /// The program ends with this step.
+    fn ends(&mut self, rt: &impl Abort, alloc: Global, steps: u16) -> Result<Registers, Fail> {
+        assert_eq!(rt; self.run(rt, alloc, 100)?, Stop::Ended);
+        assert_eq!(rt; self.made, steps);
+        Ok(self.plain.machine().registers())
+    }
+}
+
+#[test]
+fn stored_link(rt: HostRuntime) -> Result<(), Fail> {
+    let alloc = rt.alloc();
+    let pokes = [(3012, 77)];
+    let mut twice = Twice::new(
+        raw(alloc, &STORED_LINK, &pokes)?,
+        raw(alloc, &STORED_LINK, &pokes)?,
+    );
+    let registers = twice.ends(&rt, alloc, 6)?;
+    assert_eq!(rt; registers.sp, 65488);
+    Ok(())
+}
+
+/// Two nested procedures, of which the outer one calls the inner one twice.
+#[test]
+fn nested_calls(rt: HostRuntime) -> Result<(), Fail> {
+    let alloc = rt.alloc();
+    let mut twice = Twice::new(raw(alloc, &CALLS, &[TOP])?, raw(alloc, &CALLS, &[TOP])?);
+    let registers = twice.ends(&rt, alloc, 6)?;
+    assert_eq!(rt; registers.sp, 65492);
+    Ok(())
+}
+
+/// EXIT through two segments.
+#[test]
+fn exits(rt: HostRuntime) -> Result<(), Fail> {
+    let alloc = rt.alloc();
+    let mut twice = Twice::new(
+        booted(alloc, [36, 38, 0], &EXITS)?,
+        booted(alloc, [36, 38, 0], &EXITS)?,
+    );
+    twice.ends(&rt, alloc, 10)?;
+    Ok(())
+}
+
+/// Two segments that are loaded one after the other at one place.
+#[test]
+fn segments(rt: HostRuntime) -> Result<(), Fail> {
+    let alloc = rt.alloc();
+    let mut twice = Twice::new(
+        booted(alloc, [22, 16, 16], &SEGMENTS)?,
+        booted(alloc, [22, 16, 16], &SEGMENTS)?,
+    );
+    twice.ends(&rt, alloc, 5)?;
+    Ok(())
+}
+
+/// A segment that is kept, called twice and given up.
+#[test]
+fn kept_segment(rt: HostRuntime) -> Result<(), Fail> {
+    let alloc = rt.alloc();
+    let mut twice = Twice::new(
+        booted(alloc, [28, 16, 0], &KEEPS)?,
+        booted(alloc, [28, 16, 0], &KEEPS)?,
+    );
+    twice.ends(&rt, alloc, 9)?;
+    Ok(())
+}
+
+/// Code that stores over code to come: a word of it becomes 2 and 3, and they are added.
+const OWN_CODE: [u8; 12] = [
+    0xC7, 0x08, 0x04, 0xC7, 0x02, 0x03, 0x9A, 0xD7, 0xD6, 0xD6, 0x82, 0xD6,
+];
+
+#[test]
+fn own_code(rt: HostRuntime) -> Result<(), Fail> {
+    let alloc = rt.alloc();
+    let mut twice = Twice::new(raw(alloc, &OWN_CODE, &[])?, raw(alloc, &OWN_CODE, &[])?);
+    let registers = twice.ends(&rt, alloc, 8)?;
+    let machine = twice.plain.machine();
+    assert_eq!(rt; machine.memory().word(registers.sp), Some(5));
+    Ok(())
+}
+
+/// Bytes that look like nothing in particular, from a number on.
+fn generated(seed: u16) -> [u8; 64] {
+    let mut x = seed;
+    let mut bytes = [0; 64];
+    for byte in bytes.iter_mut() {
+        x = x.wrapping_mul(25173).wrapping_add(13849);
+        *byte = (x >> 8) as u8;
+    }
+    bytes
+}
+
+/// A hundred codes of any bytes, each of at most twenty steps.
+#[test]
+fn any_bytes(rt: HostRuntime) -> Result<(), Fail> {
+    let alloc = rt.alloc();
+    assert_eq!(rt; generated(1).get(..3), Some([152, 238, 78].as_slice()));
+    for seed in 1..=100 {
+        let code = generated(seed);
+        let mut twice = Twice::new(raw(alloc, &code, &[])?, raw(alloc, &code, &[])?);
+        twice.run(&rt, alloc, 20)?;
+    }
+    Ok(())
+}

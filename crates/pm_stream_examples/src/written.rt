@@ -1,0 +1,128 @@
+//! What is written when. No clause can say it, since a sink knows no steps.
+use crate::broken::{COMMANDS, Tried, image};
+use crate::recorder::{Call, Kind, Manner, Recorded, recorded_run};
+use pm_tool::Job;
+use std::alloc::Global;
+use std::process::Abort;
+use std::test::Fail;
+
+/// Each call moves all bytes that it can, and none fails.
+const WELL: Manner = Manner {
+    most: usize::MAX,
+    fails_at: None,
+    takes_nothing: false,
+};
+
+/// Writes A to the console and then B, in seven steps each.
+const FIRST: [u8; 20] = [
+    0x01, 0xD0, 0x01, 0x41, 0x00, 0x01, 0x00, 0x00, 0x9E, 0x06, // B
+    0x01, 0xD0, 0x01, 0x42, 0x00, 0x01, 0x00, 0x00, 0x9E, 0x06,
+];
+
+/// Writes C, reads a byte of unit 2, which shows none, and ends, with what stands behind the code of a segment of 556
+/// bytes.
+const LAST: [u8; 36] = [
+    0x01, 0xD0, 0x01, 0x43, 0x00, 0x01, 0x00, 0x00, 0x9E, 0x06, // the read
+    0x02, 0xC7, 0xD0, 0x07, 0x00, 0x01, 0x00, 0x00, 0x9E, 0x05, 0xC1, 0x00, 0x00, 0x00, 0x00, 0x00,
+    0x06, 0x00, 0x24, 0x02, 0x01, 0x00, 0x02, 0x00, 0x01, 0x01,
+];
+
+/// A program that writes A, B and, 500 steps later, C; and then reads a byte.
+fn three_letters(alloc: Global) -> Result<Job, Fail> {
+    let mut segment = [0xD7; 556];
+    segment[..20].copy_from_slice(&FIRST);
+    segment[520..].copy_from_slice(&LAST);
+    let image = image(alloc, [556, 0], &segment)?;
+    Ok(Job::Run {
+        disks: [Some(image), None, None, None, None, None],
+        name: String::from_str(alloc, "P")?,
+        limit: 1000,
+        save: false,
+    })
+}
+
+/// A letter is written by the step that shows it, and so before what is shown next, however soon, and before a read.
+#[test]
+fn letters_are_written_at_once(rt: HostRuntime) -> Result<(), Fail> {
+    let ran = recorded_run(rt.alloc(), three_letters(rt.alloc())?, b"x", WELL);
+    ran.is(&rt, 0, "ended 529", (false, false));
+    ran.has_written(&rt, Some(b"ABC"));
+    let kind = Kind::Write(1);
+    let calls = [
+        Call { kind, before: 0 },
+        Call { kind, before: 1 },
+        Call { kind, before: 2 },
+        Call {
+            kind: Kind::Read,
+            before: 3,
+        },
+    ];
+    assert_eq!(rt; ran.calls.as_slice(), calls.as_slice());
+    Ok(())
+}
+
+/// The bytes of a line of the trace of a jump to itself.
+const LINE: usize = 52;
+
+/// The bytes at which a page is full.
+const PAGE: usize = 65_536;
+
+/// A page and a line, and no more, is the most that is kept before it is written; and no write is of less than a page.
+fn is_page(rt: &impl Abort, call: &Call) {
+    let Kind::Write(offered) = call.kind else {
+        assert!(rt; call.before == 0, "a read behind a write");
+        return;
+    };
+    assert!(rt;
+        offered >= PAGE && offered < PAGE + LINE,
+        "a page of {offered} bytes"
+    );
+}
+
+/// 3,000 steps are two pages of 1,261 lines, and the rest with the last line.
+#[test]
+fn traces_are_written_in_pages(rt: HostRuntime) {
+    let ran = recorded_run(rt.alloc(), Job::Raw { limit: 3000 }, b"B9 FE 02 00", WELL);
+    ran.is(&rt, 6, "", (false, false));
+    assert_eq!(rt; ran.written.len(), 3000 * LINE + 11);
+    let Some((last, pages)) = ran.calls.split_last() else {
+        return;
+    };
+    assert_eq!(rt;
+        (last.kind, last.before),
+        (Kind::Write(478 * LINE + 11), 2522 * LINE)
+    );
+    for call in pages {
+        is_page(&rt, call);
+    }
+}
+
+/// How many lines end in these bytes.
+fn lines(bytes: Option<&[u8]>) -> Option<usize> {
+    Some(bytes?.iter().filter(|byte| **byte == b'\n').count())
+}
+
+/// Before each byte of the commands is read, each line before it is answered.
+fn answers_before_it_reads(rt: &impl Abort, ran: &Recorded) {
+    let reads = ran.calls.iter().filter(|call| call.kind == Kind::Read);
+    for (number, read) in reads.enumerate() {
+        let asked = lines(COMMANDS.as_bytes().get(..number));
+        assert_eq!(rt;
+            lines(ran.written.get(..read.before)),
+            asked,
+            "read {number}"
+        );
+    }
+}
+
+#[test]
+fn sessions_answer_before_they_read(rt: HostRuntime) -> Result<(), Fail> {
+    let alloc = rt.alloc();
+    let image = Tried::Session.image(alloc)?;
+    let ran = Tried::Session.ran(alloc, &image, WELL)?;
+    answers_before_it_reads(&rt, &ran);
+    let slow = Manner { most: 1, ..WELL };
+    let ran = Tried::Session.ran(alloc, &image, slow)?;
+    answers_before_it_reads(&rt, &ran);
+    Ok(())
+}

@@ -1,6 +1,6 @@
 //! The start of a program from a code file on a volume.
 
-ghost use Rattle.std.specs.Prelude.{◌≡◌, ◌<◌, ◌%◌, All, IfOk, IfErr, IfSome, OnOk, length, option_map};
+ghost use Rattle.std.specs.Prelude.{◌≡◌, ◌<◌, ◌%◌, IfOk, IfErr, IfSome, OnOk, length, option_map};
 ghost use Rattle.pm_words.specs.Stack.{IsStack};
 ghost use Rattle.pm_calls.specs.Calls.{Leaves, called};
 ghost use Rattle.pm_machine.specs.Agreeing.{InStep};
@@ -14,7 +14,7 @@ use crate::state::BootFault;
 use pm_calls::{Frames, Registers};
 use pm_codefile::CodeFile;
 use pm_opcode::Call;
-use pm_stdproc::{Port, SlotRow, unit_of};
+use pm_stdproc::{Port, SlotRow, SlotRows, unit_of};
 use pm_volume::kinds::CODE;
 use pm_volume::{Entry, Volume};
 use pm_words::layout::{HEAP, SYSTEM_FRAME};
@@ -28,7 +28,7 @@ pub struct Begun {
     pub scratch: Memory,
     pub registers: Registers,
     pub frames: Frames,
-    pub rows: [SlotRow; 16],
+    pub rows: SlotRows,
 }
 
 // The volume on a disk unit.
@@ -93,15 +93,14 @@ fn row_of(unit: u8, first: u16, file: &CodeFile<'_>, n: u8) -> SlotRow
 }
 
 // Where the code of each slot stands on the disk.
-fn rows_of(unit: u8, first: u16, file: &CodeFile<'_>) -> [SlotRow; 16]
+fn rows_of(unit: u8, first: u16, file: &CodeFile<'_>) -> SlotRows
     ensures rows { result ≡ rows_below unit first file.now 16 }
-    ensures even { All (λ row. row.length % 2 ≡ 0) result }
 {
     let mut rows = [NO_ROW; 16];
     for n in 0..16 {
         rows[n] = row_of(unit, first, file, n as u8);
     }
-    rows
+    SlotRows::of(rows)
 }
 
 // What a machine has before its first call.
@@ -129,7 +128,7 @@ fn start(alloc: Global) -> Result<Begun, AllocError>
         scratch,
         registers,
         frames: Frames::new(),
-        rows: [NO_ROW; 16],
+        rows: SlotRows::of([NO_ROW; 16]),
     })
 }
 
@@ -164,7 +163,6 @@ pub fn begin(
     ensures begins { Begins result (code_file volumes.now unit name.now) (begun volumes.now unit name.now) }
     ensures stack { IfOk result (λ b. IsStack b.registers.sp b.registers.np) }
     ensures agrees { IfOk result (λ b. InStep b.memory b.frames b.registers.mp) }
-    ensures rows { IfOk result (λ b. All (λ row. row.length % 2 ≡ 0) b.rows) }
 {
     let (entry, file) = code_file(volumes, unit, name)?;
     let mut start = start(alloc)?;

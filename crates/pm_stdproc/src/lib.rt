@@ -12,7 +12,7 @@ mod trap;
 mod units;
 pub mod worked;
 
-pub use loads::{SlotRow, code_for};
+pub use loads::{SlotRow, SlotRows, code_for};
 pub use memory_rows::perform as perform_on_memory;
 pub use ports::{MountFault, Port, unit_of};
 pub use procedures::{OnMemory, OnUnits, Procedure, procedure_of};

@@ -1,6 +1,6 @@
 //! The standard procedures, by their numbers.
 
-ghost use Rattle.std.specs.Prelude.{◌≡◌, ◌≢◌, ◌+◌, ◌%◌, ◌≤◌, All, IfOk, List, OnErr};
+ghost use Rattle.std.specs.Prelude.{◌≡◌, ◌≢◌, ◌+◌, ◌≤◌, IfOk, List, OnErr};
 ghost use Rattle.pm_words.specs.Watch.{KeepsWatch};
 ghost use Rattle.pm_calls.specs.Kept.{Agrees};
 ghost use Rattle.pm_stdproc.specs.Traps.{Performs, or_fails};
@@ -22,7 +22,7 @@ ghost use Rattle.pm_stdproc.specs.UnitRows.{
   write_row,
 };
 
-use crate::loads::{SlotRow, length_of, slot_code};
+use crate::loads::{SlotRows, length_of, slot_code};
 use crate::memory_rows::{self, pop_place};
 use crate::ports::{known, unit_of};
 use crate::procedures::{OnUnits, Procedure, procedure_of};
@@ -93,9 +93,8 @@ fn unkeep_row(
     memory: &mut Memory,
     registers: &mut ValidRegisters,
     frames: &mut Frames,
-    rows: &[SlotRow; 16],
+    rows: &SlotRows,
 ) -> Result<(), Trap>
-    requires even_rows { All (λ row. row.length % 2 ≡ 0) rows.now }
     ensures row { (devices : Devices) (room : Room) → Performs devices_reached room result
         (reach_of memory.old.words registers.old frames.old.places rows.now devices)
         (reach_of memory.new.words registers.new frames.new.places rows.now devices)
@@ -120,7 +119,7 @@ impl Units {
     /// procedure's row; `Waiting` where a unit has too few bytes to be read; `NoMemory` where there is
     /// no memory for bytes that are written or shown, and no room is left for them. After each of these
     /// everything is as it was: the scratch memory keeps what EXIT puts back, and holds anything
-    /// afterwards. The length in each row has to be even.
+    /// afterwards.
     #[tactic(auto, unfolding(crate::specs::Procedures::procedure_row), using(pm_words::proofs::WatchLaws::keeps, pm_calls::proofs::TableLaws::carry))]
     pub fn perform(
         &mut self,
@@ -128,10 +127,9 @@ impl Units {
         memory: &mut Memory,
         registers: &mut ValidRegisters,
         frames: &mut Frames,
-        rows: &[SlotRow; 16],
+        rows: &SlotRows,
         scratch: &mut Memory,
     ) -> Result<(), Trap>
-        requires even_rows { All (λ row. row.length % 2 ≡ 0) rows.now }
         ensures row { Performs devices_reached self.old.room result
             (reach_of memory.old.words registers.old frames.old.places rows.now self.old.devices)
             (reach_of memory.new.words registers.new frames.new.places rows.now self.new.devices)
@@ -163,9 +161,8 @@ impl Units {
         memory: &mut Memory,
         registers: &mut ValidRegisters,
         frames: &mut Frames,
-        rows: &[SlotRow; 16],
+        rows: &SlotRows,
     ) -> Result<(), Trap>
-        requires even_rows { All (λ row. row.length % 2 ≡ 0) rows.now }
         ensures row { Performs devices_reached self.now.room result
             (reach_of memory.old.words registers.old frames.old.places rows.now self.now.devices)
             (reach_of memory.new.words registers.new frames.new.places rows.now self.now.devices)

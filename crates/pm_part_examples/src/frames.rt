@@ -93,14 +93,14 @@ impl Parts {
 
     // Keeps slot 3, whose code is lent.
     fn keep_segment(&mut self) -> Result<(), ExecError> {
-        if !is_stack(&self.registers) {
+        if self.registers.sp % 2 != 0 || self.registers.sp > 65504 {
             return Err(ExecError::InvalidMemory);
         }
         self.frames
             .keep(&mut self.memory, &mut self.registers, 3, Some(&CODE))
     }
 
-    // A return, to a procedure of another segment or of the same one.
+    // A return by RBP or by RNP.
     fn ret(&mut self, base: bool) -> Result<(), ExecError> {
         self.frames
             .ret(&mut self.memory, &mut self.registers, 0, base)

@@ -1,5 +1,4 @@
 //! Each procedure on the units once, and each public call.
-
 use crate::bench::{Bench, rows};
 use pm_stdproc::{MountFault, Trap};
 use pm_volume::Volume;

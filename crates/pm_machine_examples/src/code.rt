@@ -2,6 +2,7 @@
 ghost use Rattle.std.specs.Prelude.{◌≡◌, length, sum};
 
 use crate::tested::Tested;
+use crate::volumes::volume;
 use pm_machine::{BootFault, Machine, Stop};
 use pm_part_examples::programs::{EXITS, LETTERS, SEGMENTS};
 use pm_volume::Volume;
@@ -16,23 +17,6 @@ pub(crate) const KEEPS: [u8; 44] = [
     0x00, 0x00, 0x06, 0x00, 0x14, 0x00, 0x01, 0x00, 0x02, 0x00, 0x01, 0x01, // segment 2
     0xC1, 0x00, 0x04, 0x00, 0x00, 0x00, 0x06, 0x00, 0x08, 0x00, 0x01, 0x00, 0x02, 0x00, 0x02, 0x01,
 ];
-
-/// A volume with a code file `P` of this kind, whose slots 1, 2 and 3 have these lengths.
-pub(crate) fn volume(
-    alloc: Global,
-    kind: u8,
-    lengths: [u16; 3],
-    segments: &[u8],
-) -> Result<Volume, Fail>
-    requires joined { sum lengths ≡ length segments.now }
-{
-    let [a, b, c] = lengths;
-    let lengths = [0, a, b, c, 0, 0, 0, 0, 0, 0, 0, 0, 0, 0, 0, 0];
-    let file = pm_codefile::write(alloc, &[[32; 8]; 16], &lengths, segments)?;
-    let mut volume = Volume::blank(alloc, "WORK", 83)?;
-    volume.add("P", kind, &file, 0)?;
-    Ok(volume)
-}
 
 /// The machine that a volume with a code file `P` boots, with these lengths of the slots 1, 2 and 3.
 pub(crate) fn booted(alloc: Global, lengths: [u16; 3], segments: &[u8]) -> Result<Tested, Fail>

@@ -1,5 +1,6 @@
 //! Calls of a debugger.
-use crate::code::volume;
+use crate::lines::{SUM, SUM_LINES};
+use crate::volumes::{boots, volume};
 use pm_debug::{BreakReason, DebugRefusal, Debugger};
 use pm_machine::{Machine, Stop};
 use pm_part_examples::programs::EXITS;
@@ -10,11 +11,7 @@ use std::test::Fail;
 /// A debugger of the program that leaves a segment by EXIT.
 fn debugger(alloc: Global) -> Result<Debugger, Fail> {
     let volume = volume(alloc, 2, [36, 38, 0], &EXITS)?;
-    let volumes = [Some(volume), None, None, None, None, None];
-    match Machine::boot(alloc, volumes, 4, "P", 0) {
-        Ok(machine) => Ok(Debugger::new(machine)),
-        Err((fault, _)) => Err(fault)?,
-    }
+    Ok(Debugger::new(boots(alloc, volume)?))
 }
 
 fn goes(
@@ -27,37 +24,8 @@ fn goes(
     Ok(())
 }
 
-fn statics(
-    rt: &impl Abort,
-    alloc: Global,
-    debugger: &Debugger,
-    limit: u16,
-    wanted: &[u16],
-) -> Result<(), Fail> {
-    assert_eq!(rt; debugger.static_chain(alloc, limit)?.as_slice(), wanted);
-    Ok(())
-}
-
-fn dynamics(
-    rt: &impl Abort,
-    alloc: Global,
-    debugger: &Debugger,
-    limit: u16,
-    wanted: &[u16],
-) -> Result<(), Fail> {
-    assert_eq!(rt; debugger.dynamic_chain(alloc, limit)?.as_slice(), wanted);
-    Ok(())
-}
-
-fn stacks(
-    rt: &impl Abort,
-    alloc: Global,
-    debugger: &Debugger,
-    n: u16,
-    wanted: &[u16],
-) -> Result<(), Fail> {
-    assert_eq!(rt; debugger.stack(alloc, n)?.as_slice(), wanted);
-    Ok(())
+fn shows(rt: &impl Abort, words: &[u16], wanted: &[u16]) {
+    assert_eq!(rt; words, wanted);
 }
 
 /// The third step is the call that leads to the place of the breakpoint.
@@ -72,19 +40,20 @@ fn stopped(rt: &impl Abort, alloc: Global) -> Result<Debugger, Fail> {
 fn shows_chains(rt: HostRuntime) -> Result<(), Fail> {
     let alloc = rt.alloc();
     let mut debugger = stopped(&rt, alloc)?;
-    dynamics(
+    let all = [65366, 65380, 65430, 65444, 65492];
+    shows(&rt, &debugger.dynamic_chain(alloc, 10)?, &all);
+    shows(
         &rt,
-        alloc,
-        &debugger,
-        10,
-        &[65366, 65380, 65430, 65444, 65492],
-    )?;
-    statics(&rt, alloc, &debugger, 10, &[65366, 65380, 65492])?;
+        &debugger.static_chain(alloc, 10)?,
+        &[65366, 65380, 65492],
+    );
     assert!(rt; debugger.machine().poke(65366, 65430));
-    statics(&rt, alloc, &debugger, 10, &[65366, 65430, 65444, 65492])?;
-    statics(&rt, alloc, &debugger, 2, &[65366, 65430])?;
-    statics(&rt, alloc, &debugger, 0, &[])?;
-    stacks(&rt, alloc, &debugger, 1, &[65430])
+    let others = [65366, 65430, 65444, 65492];
+    shows(&rt, &debugger.static_chain(alloc, 10)?, &others);
+    shows(&rt, &debugger.static_chain(alloc, 2)?, &[65366, 65430]);
+    shows(&rt, &debugger.static_chain(alloc, 0)?, &[]);
+    shows(&rt, &debugger.stack(alloc, 1)?, &[65430]);
+    Ok(())
 }
 
 /// An odd link is shown where it is the last, and nothing is shown behind it.
@@ -93,7 +62,7 @@ fn refuses_odd_frames(rt: HostRuntime) -> Result<(), Fail> {
     let alloc = rt.alloc();
     let mut debugger = stopped(&rt, alloc)?;
     assert!(rt; debugger.machine().poke(65366, 3));
-    statics(&rt, alloc, &debugger, 2, &[65366, 3])?;
+    shows(&rt, &debugger.static_chain(alloc, 2)?, &[65366, 3]);
     assert_eq!(rt;
         debugger.static_chain(alloc, 3).err(),
         Some(DebugRefusal::OddAddress)
@@ -166,20 +135,12 @@ fn goes_from_a_break(rt: HostRuntime) -> Result<(), Fail> {
 #[test]
 fn shows_a_sum(rt: HostRuntime) -> Result<(), Fail> {
     let alloc = rt.alloc();
-    let mut debugger = Debugger::new(Machine::raw(alloc, &[0x02, 0x03, 0x82, 0xD6])?);
+    let mut debugger = Debugger::new(Machine::raw(alloc, &SUM)?);
     let line = debugger.trace_line(alloc)?;
-    assert_eq!(rt;
-        line.as_str(),
-        "00000000 01024 65492 65492 65492 01028 65492 SLDC 2"
-    );
+    assert_eq!(rt; line.as_str(), SUM_LINES[0]);
     goes(&rt, &mut debugger, 2, (2, BreakReason::Limit))?;
-    stacks(
-        &rt,
-        alloc,
-        &debugger,
-        100,
-        &[3, 2, 65492, 65492, 0, 0, 0, 65504],
-    )?;
+    let words = [3, 2, 65492, 65492, 0, 0, 0, 65504];
+    shows(&rt, &debugger.stack(alloc, 100)?, &words);
     let mut machine = debugger.into_machine();
     assert_eq!(rt; machine.run(100)?, (2, Stop::Ended));
     Ok(())

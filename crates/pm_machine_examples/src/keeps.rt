@@ -107,18 +107,26 @@ fn a_kept_segment_may_be_overwritten(rt: HostRuntime) -> Result<(), Fail> {
     Ok(())
 }
 
+/// Segment 1 does this first and then calls segment 2, which keeps itself (21) or gives itself up (22). After three steps
+/// segment 2 runs, and is kept once.
+fn loaded(rt: &impl Abort, alloc: Global, does: [u8; 3], procedure: u8) -> Result<Tested, Fail> {
+    let [a, b, c] = does;
+    let segments: [u8; 42] = [
+        a, b, c, 0xCD, 0x02, 0x01, 0xC1, 0x00, 0x00, 0x00, 0x00, 0x00, 0x06, 0x00, 0x0E, 0x00,
+        0x01, 0x00, 0x02, 0x00, 0x01, 0x01, // segment 2
+        0x02, 0x9E, procedure, 0xC1, 0x00, 0x00, 0x00, 0x00, 0x00, 0x00, 0x07, 0x00, 0x0C, 0x00,
+        0x01, 0x00, 0x02, 0x00, 0x02, 0x01,
+    ];
+    let mut machine = booted(alloc, [22, 20, 0], &segments)?;
+    goes(rt, &mut machine, 3);
+    machine.has_keeps(rt, 2, Some((65454, 1)), Some(1));
+    Ok(machine)
+}
+
 /// A procedure keeps its own segment, which a call had loaded: it stands where the call put it.
 #[test]
 fn keeps_a_loaded_segment(rt: HostRuntime) -> Result<(), Fail> {
-    let segments: [u8; 42] = [
-        0xCD, 0x02, 0x01, 0xCD, 0x02, 0x01, 0xC1, 0x00, 0x00, 0x00, 0x00, 0x00, 0x06, 0x00, 0x0E,
-        0x00, 0x01, 0x00, 0x02, 0x00, 0x01, 0x01, // segment 2
-        0x02, 0x9E, 0x15, 0xC1, 0x00, 0x00, 0x00, 0x00, 0x00, 0x00, 0x07, 0x00, 0x0C, 0x00, 0x01,
-        0x00, 0x02, 0x00, 0x02, 0x01,
-    ];
-    let mut machine = booted(rt.alloc(), [22, 20, 0], &segments)?;
-    goes(&rt, &mut machine, 3);
-    machine.has_keeps(&rt, 2, Some((65454, 1)), Some(1));
+    let mut machine = loaded(&rt, rt.alloc(), [0xCD, 0x02, 0x01], 21)?;
     goes(&rt, &mut machine, 1);
     machine.has_keeps(&rt, 2, Some((65454, 0)), Some(1));
     machine.has_sp(&rt, 65456);
@@ -128,15 +136,7 @@ fn keeps_a_loaded_segment(rt: HostRuntime) -> Result<(), Fail> {
 /// A segment that is given up while a call of it runs stands until that returns, and SP stays.
 #[test]
 fn gives_up_a_running_segment(rt: HostRuntime) -> Result<(), Fail> {
-    let segments: [u8; 42] = [
-        0x02, 0x9E, 0x15, 0xCD, 0x02, 0x01, 0xC1, 0x00, 0x00, 0x00, 0x00, 0x00, 0x06, 0x00, 0x0E,
-        0x00, 0x01, 0x00, 0x02, 0x00, 0x01, 0x01, // segment 2
-        0x02, 0x9E, 0x16, 0xC1, 0x00, 0x00, 0x00, 0x00, 0x00, 0x00, 0x07, 0x00, 0x0C, 0x00, 0x01,
-        0x00, 0x02, 0x00, 0x02, 0x01,
-    ];
-    let mut machine = booted(rt.alloc(), [22, 20, 0], &segments)?;
-    goes(&rt, &mut machine, 3);
-    machine.has_keeps(&rt, 2, Some((65454, 1)), Some(1));
+    let mut machine = loaded(&rt, rt.alloc(), [0x02, 0x9E, 0x15], 22)?;
     let sp = machine.registers().sp;
     goes(&rt, &mut machine, 2);
     machine.has_keeps(&rt, 2, Some((65454, 1)), Some(0));

@@ -1,6 +1,7 @@
 //! Worked examples, as tests: a machine and its debugger.
 #![tactic(auto)]
 
+pub mod any_bytes;
 #[cfg(test)]
 mod calls;
 #[cfg(test)]
@@ -25,3 +26,4 @@ mod tested;
 mod texts;
 #[cfg(test)]
 mod twice;
+pub mod volumes;

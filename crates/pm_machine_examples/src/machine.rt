@@ -1,21 +1,15 @@
 //! Calls of a machine and of its memory.
+use crate::lines::{SUM, SUM_LINES};
 use crate::tested::Tested;
 use pm_machine::Stop;
 use pm_words::Memory;
 use std::process::Abort;
 use std::test::Fail;
 
-/// Adds two to three.
-const ADDITION: [u8; 4] = [0x02, 0x03, 0x82, 0xD6];
-
 #[test]
 fn runs(rt: HostRuntime) -> Result<(), Fail> {
-    let mut machine = Tested::raw(rt.alloc(), &ADDITION)?;
-    machine.shows(
-        &rt,
-        rt.alloc(),
-        "00000000 01024 65492 65492 65492 01028 65492 SLDC 2",
-    )?;
+    let mut machine = Tested::raw(rt.alloc(), &SUM)?;
+    machine.shows(&rt, rt.alloc(), SUM_LINES[0])?;
     machine.runs_to(&rt, 0, 0, Stop::Went);
     machine.runs_to(&rt, 2, 2, Stop::Went);
     machine.runs_to(&rt, 100, 2, Stop::Ended);

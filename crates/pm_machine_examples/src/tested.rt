@@ -1,4 +1,5 @@
 //! A machine under test: each call asserts what it comes to, so that a test is a list of calls.
+use crate::volumes::boots;
 use pm_calls::Registers;
 use pm_debug::trace_line;
 use pm_machine::{BootFault, Machine, Stop};
@@ -23,11 +24,8 @@ impl Tested {
 
     /// The machine that a volume on unit 4 boots with its file `P`.
     pub(crate) fn booted(alloc: Global, volume: Volume) -> Result<Tested, BootFault> {
-        let volumes = [Some(volume), None, None, None, None, None];
-        match Machine::boot(alloc, volumes, 4, "P", 0) {
-            Ok(machine) => Ok(Tested { machine }),
-            Err((fault, _)) => Err(fault),
-        }
+        let machine = boots(alloc, volume)?;
+        Ok(Tested { machine })
     }
 
     /// Writes words, as an operator.

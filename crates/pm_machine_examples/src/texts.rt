@@ -8,7 +8,7 @@ use std::alloc::Global;
 use std::process::Abort;
 use std::test::Fail;
 
-/// Two segments: a procedure of the second leaves procedure 2 of the first.
+/// Two segments, up to the number of a procedure: one of the second segment leaves that procedure of the first.
 const LEAVES: &str = "\
 .SEG 1 MAIN
 .PROC 1 0 0 0
@@ -32,38 +32,10 @@ const LEAVES: &str = "\
 .END
 .PROC 2 1 0 0
  SLDC 1
- SLDC 2
- CSP 4
-.EXIT
- RNP 0
-.END
 ";
 
-/// The same with a procedure 7, which there is not.
-const LEAVES_NONE: &str = "\
-.SEG 1 MAIN
-.PROC 1 0 0 0
- CLP 2
-.EXIT
- RBP 0
-.END
-.PROC 2 1 0 0
- CXP 2, 1
- XIT
-.EXIT
- RNP 0
-.END
-.SEG 2 OTHER
-.PROC 1 0 0 0
- CLP 2
- XIT
- NOP
-.EXIT
- RBP 0
-.END
-.PROC 2 1 0 0
- SLDC 1
- SLDC 7
+/// What stands behind the number.
+const LEAVES_END: &str = "\
  CSP 4
 .EXIT
  RNP 0
@@ -87,9 +59,13 @@ fn runs(rt: &impl Abort, alloc: Global, text: &str, steps: u64, stop: Stop) -> R
 
 #[test]
 fn programs(rt: HostRuntime) -> Result<(), Fail> {
-    runs(&rt, rt.alloc(), LEAVES, 10, Stop::Ended)?;
+    let alloc = rt.alloc();
+    let leaves = format!(in alloc; "{LEAVES} SLDC 2\n{LEAVES_END}")?;
+    runs(&rt, alloc, &leaves, 10, Stop::Ended)?;
+    // there is no procedure 7
+    let leaves_none = format!(in alloc; "{LEAVES} SLDC 7\n{LEAVES_END}")?;
     let none = Stop::Halted(ExecError::NoProcedure);
-    runs(&rt, rt.alloc(), LEAVES_NONE, 5, none)
+    runs(&rt, alloc, &leaves_none, 5, none)
 }
 
 /// Procedure 2 puts the SP of its caller above the segment that runs, by variable 0 of its frame,

@@ -2,8 +2,10 @@
 //! own values before each step. That drops what is kept of links and tables, and nothing that is seen may differ.
 ghost use Rattle.std.specs.Prelude.{◌≡◌, length, sum};
 
+use crate::any_bytes::generated;
 use crate::calls::{CALLS, STORED_LINK, TOP};
-use crate::code::{KEEPS, volume};
+use crate::code::KEEPS;
+use crate::volumes::{boots, volume};
 use pm_calls::Registers;
 use pm_debug::{DebugRefusal, Debugger};
 use pm_machine::{Machine, Stop};
@@ -23,30 +25,6 @@ struct Twice {
     plain: Debugger,
     written: Debugger,
     made: u16,
-}
-
-fn raw(alloc: Global, code: &[u8], pokes: &[(u16, u16)]) -> Result<Debugger, Fail> {
-    let mut machine = Machine::raw(alloc, code)?;
-    for (address, word) in pokes {
-        machine.poke(*address, *word);
-    }
-    Ok(Debugger::new(machine))
-}
-
-fn booted(alloc: Global, lengths: [u16; 3], segments: &[u8]) -> Result<Debugger, Fail>
-    requires joined { sum lengths ≡ length segments.now }
-{
-    let volume = volume(alloc, 2, lengths, segments)?;
-    match Machine::boot(
-        alloc,
-        [Some(volume), None, None, None, None, None],
-        4,
-        "P",
-        0,
-    ) {
-        Ok(machine) => Ok(Debugger::new(machine)),
-        Err((fault, _)) => Err(fault)?,
-    }
 }
 
 /// Memory and the rest of what a machine shows are the same.
@@ -91,12 +69,32 @@ fn locals(debugger: &mut Debugger) -> [Result<u16, DebugRefusal>; 4] {
 }
 
 impl Twice {
-    fn new(plain: Debugger, written: Debugger) -> Twice {
+    fn new(plain: Machine, written: Machine) -> Twice {
         Twice {
-            plain,
-            written,
+            plain: Debugger::new(plain),
+            written: Debugger::new(written),
             made: 0,
         }
+    }
+
+    /// Bare code, of which words are written over before the first step.
+    fn raw(alloc: Global, code: &[u8], pokes: &[(u16, u16)]) -> Result<Twice, Fail> {
+        let mut plain = Machine::raw(alloc, code)?;
+        let mut written = Machine::raw(alloc, code)?;
+        for (address, word) in pokes {
+            plain.poke(*address, *word);
+            written.poke(*address, *word);
+        }
+        Ok(Twice::new(plain, written))
+    }
+
+    /// The program of a code file, with these lengths of the slots 1, 2 and 3.
+    fn booted(alloc: Global, lengths: [u16; 3], segments: &[u8]) -> Result<Twice, Fail>
+        requires joined { sum lengths ≡ length segments.now }
+    {
+        let plain = boots(alloc, volume(alloc, 2, lengths, segments)?)?;
+        let written = boots(alloc, volume(alloc, 2, lengths, segments)?)?;
+        Ok(Twice::new(plain, written))
     }
 
     /// Writes words of the one machine with their own values.
@@ -150,11 +148,7 @@ impl Twice {
 #[test]
 fn stored_link(rt: HostRuntime) -> Result<(), Fail> {
     let alloc = rt.alloc();
-    let pokes = [(3012, 77)];
-    let mut twice = Twice::new(
-        raw(alloc, &STORED_LINK, &pokes)?,
-        raw(alloc, &STORED_LINK, &pokes)?,
-    );
+    let mut twice = Twice::raw(alloc, &STORED_LINK, &[(3012, 77)])?;
     let registers = twice.ends(&rt, alloc, 6)?;
     assert_eq!(rt; registers.sp, 65488);
     Ok(())
@@ -164,7 +158,7 @@ fn stored_link(rt: HostRuntime) -> Result<(), Fail> {
 #[test]
 fn nested_calls(rt: HostRuntime) -> Result<(), Fail> {
     let alloc = rt.alloc();
-    let mut twice = Twice::new(raw(alloc, &CALLS, &[TOP])?, raw(alloc, &CALLS, &[TOP])?);
+    let mut twice = Twice::raw(alloc, &CALLS, &[TOP])?;
     let registers = twice.ends(&rt, alloc, 6)?;
     assert_eq!(rt; registers.sp, 65492);
     Ok(())
@@ -174,10 +168,7 @@ fn nested_calls(rt: HostRuntime) -> Result<(), Fail> {
 #[test]
 fn exits(rt: HostRuntime) -> Result<(), Fail> {
     let alloc = rt.alloc();
-    let mut twice = Twice::new(
-        booted(alloc, [36, 38, 0], &EXITS)?,
-        booted(alloc, [36, 38, 0], &EXITS)?,
-    );
+    let mut twice = Twice::booted(alloc, [36, 38, 0], &EXITS)?;
     twice.ends(&rt, alloc, 10)?;
     Ok(())
 }
@@ -186,10 +177,7 @@ fn exits(rt: HostRuntime) -> Result<(), Fail> {
 #[test]
 fn segments(rt: HostRuntime) -> Result<(), Fail> {
     let alloc = rt.alloc();
-    let mut twice = Twice::new(
-        booted(alloc, [22, 16, 16], &SEGMENTS)?,
-        booted(alloc, [22, 16, 16], &SEGMENTS)?,
-    );
+    let mut twice = Twice::booted(alloc, [22, 16, 16], &SEGMENTS)?;
     twice.ends(&rt, alloc, 5)?;
     Ok(())
 }
@@ -198,10 +186,7 @@ fn segments(rt: HostRuntime) -> Result<(), Fail> {
 #[test]
 fn kept_segment(rt: HostRuntime) -> Result<(), Fail> {
     let alloc = rt.alloc();
-    let mut twice = Twice::new(
-        booted(alloc, [28, 16, 0], &KEEPS)?,
-        booted(alloc, [28, 16, 0], &KEEPS)?,
-    );
+    let mut twice = Twice::booted(alloc, [28, 16, 0], &KEEPS)?;
     twice.ends(&rt, alloc, 9)?;
     Ok(())
 }
@@ -214,22 +199,11 @@ const OWN_CODE: [u8; 12] = [
 #[test]
 fn own_code(rt: HostRuntime) -> Result<(), Fail> {
     let alloc = rt.alloc();
-    let mut twice = Twice::new(raw(alloc, &OWN_CODE, &[])?, raw(alloc, &OWN_CODE, &[])?);
+    let mut twice = Twice::raw(alloc, &OWN_CODE, &[])?;
     let registers = twice.ends(&rt, alloc, 8)?;
     let machine = twice.plain.machine();
     assert_eq!(rt; machine.memory().word(registers.sp), Some(5));
     Ok(())
-}
-
-/// Bytes that look like nothing in particular, from a number on.
-fn generated(seed: u16) -> [u8; 64] {
-    let mut x = seed;
-    let mut bytes = [0; 64];
-    for byte in bytes.iter_mut() {
-        x = x.wrapping_mul(25173).wrapping_add(13849);
-        *byte = (x >> 8) as u8;
-    }
-    bytes
 }
 
 /// A hundred codes of any bytes, each of at most twenty steps.
@@ -239,7 +213,7 @@ fn any_bytes(rt: HostRuntime) -> Result<(), Fail> {
     assert_eq!(rt; generated(1).get(..3), Some([152, 238, 78].as_slice()));
     for seed in 1..=100 {
         let code = generated(seed);
-        let mut twice = Twice::new(raw(alloc, &code, &[])?, raw(alloc, &code, &[])?);
+        let mut twice = Twice::raw(alloc, &code, &[])?;
         twice.run(&rt, alloc, 20)?;
     }
     Ok(())

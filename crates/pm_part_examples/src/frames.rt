@@ -5,6 +5,9 @@ ghost use Rattle.pm_words.specs.Stack.{IsStack};
 use pm_calls::{Frames, Registers};
 use pm_opcode::Call;
 use pm_words::{ExecError, Memory};
+use std::alloc::{AllocError, Global};
+use std::process::Abort;
+use std::test::Fail;
 
 // A segment at 2000 with one procedure, whose table stands at 1900.
 fn put_segment(memory: &mut Memory) {
@@ -37,230 +40,242 @@ fn is_stack(registers: &Registers) -> bool
     sp % 2 == 0 && np % 2 == 0 && np <= sp && sp <= 65504
 }
 
-fn call(
-    frames: &mut Frames,
-    memory: &mut Memory,
-    registers: &mut Registers,
-    scratch: &mut Memory,
-) -> Result<(), ExecError> {
-    if !is_stack(registers) {
-        return Err(ExecError::InvalidMemory);
-    }
-    frames.call(memory, registers, Call::Clp(1), None, scratch)
-}
-
-// A call, and the return from it.
-fn call_and_return(
-    frames: &mut Frames,
-    memory: &mut Memory,
-    registers: &mut Registers,
-    scratch: &mut Memory,
-) -> Result<(), ExecError> {
-    call(frames, memory, registers, scratch)?;
-    frames.ret(memory, registers, 0, false)
-}
-
-#[test]
-fn few_words_are_watched(rt: HostRuntime) {
-    let mut memory = Memory::new(rt.alloc()).expect(&rt, "memory");
-    let mut scratch = Memory::new(rt.alloc()).expect(&rt, "memory");
-    put_segment(&mut memory);
-    let mut frames = Frames::new();
-    let mut registers = registers();
-    call(&mut frames, &mut memory, &mut registers, &mut scratch).expect(&rt, "it goes");
-    call(&mut frames, &mut memory, &mut registers, &mut scratch).expect(&rt, "it goes");
-    call(&mut frames, &mut memory, &mut registers, &mut scratch).expect(&rt, "it goes");
-    assert!(rt; frames.link(&mut memory, registers.mp, 3) == Ok(65492));
-    call(&mut frames, &mut memory, &mut registers, &mut scratch).expect(&rt, "it goes");
-    assert!(rt; frames.bases().len() == 5);
-    assert!(rt; frames.kept().len() == 1);
-    assert!(rt; !memory.touched());
-}
-
-#[test]
-fn kept_links_need_no_memory(rt: HostRuntime) {
-    let mut memory = Memory::new(rt.alloc()).expect(&rt, "memory");
-    let mut scratch = Memory::new(rt.alloc()).expect(&rt, "memory");
-    let mut other = Memory::new(rt.alloc()).expect(&rt, "memory");
-    put_segment(&mut memory);
-    let mut frames = Frames::new();
-    let mut registers = registers();
-    call(&mut frames, &mut memory, &mut registers, &mut scratch).expect(&rt, "it goes");
-    call(&mut frames, &mut memory, &mut registers, &mut scratch).expect(&rt, "it goes");
-    call(&mut frames, &mut memory, &mut registers, &mut scratch).expect(&rt, "it goes");
-    let link = frames.link(&mut memory, registers.mp, 2);
-    assert!(rt; link == Ok(59988));
-    assert!(rt; frames.link(&mut other, registers.mp, 2) == link);
-    memory.set_word(registers.mp, 65492);
-    assert!(rt; frames.link(&mut memory, registers.mp, 1) == Ok(65492));
-}
-
-#[test]
-fn calls_and_returns_keep_what_is_kept(rt: HostRuntime) {
-    let mut memory = Memory::new(rt.alloc()).expect(&rt, "memory");
-    let mut scratch = Memory::new(rt.alloc()).expect(&rt, "memory");
-    put_segment(&mut memory);
-    let mut frames = Frames::new();
-    let mut registers = registers();
-    call(&mut frames, &mut memory, &mut registers, &mut scratch).expect(&rt, "it goes");
-    call(&mut frames, &mut memory, &mut registers, &mut scratch).expect(&rt, "it goes");
-    assert!(rt; frames.link(&mut memory, registers.mp, 2) == Ok(65492));
-    for _i in 0..1000 {
-        call_and_return(&mut frames, &mut memory, &mut registers, &mut scratch).expect(
-            &rt, "it goes",
-        );
-        assert!(rt; !memory.touched());
-        assert!(rt; frames.bases().len() == 3);
-        assert!(rt; frames.kept().len() == 1);
-    }
-}
-
-#[test]
-fn a_deep_descent_keeps_all_bases(rt: HostRuntime) {
-    let mut memory = Memory::new(rt.alloc()).expect(&rt, "memory");
-    let mut scratch = Memory::new(rt.alloc()).expect(&rt, "memory");
-    put_segment(&mut memory);
-    let mut frames = Frames::new();
-    let mut registers = registers();
-    for _round in 0..20 {
-        for depth in 0..50 {
-            call(&mut frames, &mut memory, &mut registers, &mut scratch).expect(&rt, "it goes");
-            assert!(rt; frames.bases().len() == depth + 1 || frames.bases().len() == depth + 2);
-        }
-        assert!(rt; frames.link(&mut memory, registers.mp, 50) == Ok(65492));
-        assert!(rt; frames.bases().len() == 51);
-        for _depth in 0..50 {
-            frames
-                .ret(&mut memory, &mut registers, 0, false)
-                .expect(&rt, "it goes");
-            assert!(rt; !memory.touched());
-        }
-        assert!(rt; registers.mp == 65492);
-        assert!(rt; frames.bases().len() == 1);
-        assert!(rt; frames.kept().len() == 1);
-    }
-}
-
 // The code of a segment with one procedure.
 const CODE: [u8; 16] = [0, 0, 0, 0, 0, 0, 0, 0, 0, 0, 1, 0, 2, 0, 3, 1];
 
-// A call of procedure 1 of slot 3, whose code is lent.
-fn call_segment(
-    frames: &mut Frames,
-    memory: &mut Memory,
-    registers: &mut Registers,
-    scratch: &mut Memory,
-) -> Result<(), ExecError> {
-    if !is_stack(registers) {
-        return Err(ExecError::InvalidMemory);
+// What calls read and write.
+#[derive(Drop)]
+struct Parts {
+    memory: Memory,
+    scratch: Memory,
+    frames: Frames,
+    registers: Registers,
+}
+
+impl Parts {
+    fn new(alloc: Global) -> Result<Parts, AllocError> {
+        let mut memory = Memory::new(alloc)?;
+        put_segment(&mut memory);
+        Ok(Parts {
+            memory,
+            scratch: Memory::new(alloc)?,
+            frames: Frames::new(),
+            registers: registers(),
+        })
     }
-    frames.call(memory, registers, Call::Cxp(3, 1), Some(&CODE), scratch)
+
+    fn call(&mut self) -> Result<(), ExecError> {
+        if !is_stack(&self.registers) {
+            return Err(ExecError::InvalidMemory);
+        }
+        self.frames.call(
+            &mut self.memory,
+            &mut self.registers,
+            Call::Clp(1),
+            None,
+            &mut self.scratch,
+        )
+    }
+
+    // A call of procedure 1 of slot 3, whose code is lent.
+    fn call_segment(&mut self) -> Result<(), ExecError> {
+        if !is_stack(&self.registers) {
+            return Err(ExecError::InvalidMemory);
+        }
+        self.frames.call(
+            &mut self.memory,
+            &mut self.registers,
+            Call::Cxp(3, 1),
+            Some(&CODE),
+            &mut self.scratch,
+        )
+    }
+
+    // Keeps slot 3, whose code is lent.
+    fn keep_segment(&mut self) -> Result<(), ExecError> {
+        if self.registers.sp % 2 != 0 || self.registers.sp > 65504 {
+            return Err(ExecError::InvalidMemory);
+        }
+        self.frames
+            .keep(&mut self.memory, &mut self.registers, 3, Some(&CODE))
+    }
+
+    // A return by RBP or by RNP.
+    fn ret(&mut self, base: bool) -> Result<(), ExecError> {
+        self.frames
+            .ret(&mut self.memory, &mut self.registers, 0, base)
+    }
+
+    fn link(&mut self, n: u16) -> Result<u16, ExecError> {
+        self.frames.link(&mut self.memory, self.registers.mp, n)
+    }
+
+    fn has_bases(&self, rt: &impl Abort, count: usize) {
+        assert!(rt; self.frames.bases().len() == count);
+    }
+
+    fn keeps_tables(&self, rt: &impl Abort, count: usize) {
+        assert!(rt; self.frames.kept().len() == count);
+    }
+
+    // No word that is watched was written.
+    fn is_untouched(&self, rt: &impl Abort) {
+        assert!(rt; !self.memory.touched());
+    }
 }
 
 #[test]
-fn a_forgotten_segment_leaves_no_word_watched(rt: HostRuntime) {
-    let mut memory = Memory::new(rt.alloc()).expect(&rt, "memory");
-    let mut scratch = Memory::new(rt.alloc()).expect(&rt, "memory");
-    put_segment(&mut memory);
-    let mut frames = Frames::new();
-    let mut registers = registers();
-    call(&mut frames, &mut memory, &mut registers, &mut scratch).expect(&rt, "it goes");
+fn few_words_are_watched(rt: HostRuntime) -> Result<(), Fail> {
+    let mut parts = Parts::new(rt.alloc())?;
+    parts.call()?;
+    parts.call()?;
+    parts.call()?;
+    assert!(rt; parts.link(3) == Ok(65492));
+    parts.call()?;
+    parts.has_bases(&rt, 5);
+    parts.keeps_tables(&rt, 1);
+    parts.is_untouched(&rt);
+    Ok(())
+}
+
+#[test]
+fn kept_links_need_no_memory(rt: HostRuntime) -> Result<(), Fail> {
+    let mut parts = Parts::new(rt.alloc())?;
+    let mut other = Memory::new(rt.alloc())?;
+    parts.call()?;
+    parts.call()?;
+    parts.call()?;
+    let mp = parts.registers.mp;
+    let link = parts.link(2);
+    assert!(rt; link == Ok(59988));
+    assert!(rt; parts.frames.link(&mut other, mp, 2) == link);
+    parts.memory.set_word(mp, 65492);
+    assert!(rt; parts.link(1) == Ok(65492));
+    Ok(())
+}
+
+#[test]
+fn calls_and_returns_keep_what_is_kept(rt: HostRuntime) -> Result<(), Fail> {
+    let mut parts = Parts::new(rt.alloc())?;
+    parts.call()?;
+    parts.call()?;
+    assert!(rt; parts.link(2) == Ok(65492));
+    for _i in 0..1000 {
+        parts.call()?;
+        parts.ret(false)?;
+        parts.is_untouched(&rt);
+        parts.has_bases(&rt, 3);
+        parts.keeps_tables(&rt, 1);
+    }
+    Ok(())
+}
+
+// 50 calls, and the returns from them.
+fn descends(rt: &impl Abort, parts: &mut Parts) -> Result<(), ExecError> {
+    for depth in 0..50 {
+        parts.call()?;
+        let bases = parts.frames.bases().len();
+        assert!(rt; bases == depth + 1 || bases == depth + 2);
+    }
+    assert!(rt; parts.link(50) == Ok(65492));
+    parts.has_bases(rt, 51);
+    for _depth in 0..50 {
+        parts.ret(false)?;
+        parts.is_untouched(rt);
+    }
+    assert!(rt; parts.registers.mp == 65492);
+    parts.has_bases(rt, 1);
+    parts.keeps_tables(rt, 1);
+    Ok(())
+}
+
+#[test]
+fn a_deep_descent_keeps_all_bases(rt: HostRuntime) -> Result<(), Fail> {
+    let mut parts = Parts::new(rt.alloc())?;
+    for _round in 0..20 {
+        descends(&rt, &mut parts)?;
+    }
+    Ok(())
+}
+
+#[test]
+fn a_forgotten_segment_leaves_no_word_watched(rt: HostRuntime) -> Result<(), Fail> {
+    let mut parts = Parts::new(rt.alloc())?;
+    parts.call()?;
     for _i in 0..20 {
-        call_segment(&mut frames, &mut memory, &mut registers, &mut scratch).expect(&rt, "it goes");
-        assert!(rt; frames.place(3) == Some((59986, 1)));
-        assert!(rt; frames.kept().len() == 2);
-        frames
-            .ret(&mut memory, &mut registers, 0, true)
-            .expect(&rt, "it goes");
-        assert!(rt; frames.place(3).is_none());
-        assert!(rt; frames.kept().len() == 1);
-        memory.set_word(59986, 7);
-        assert!(rt; !memory.touched());
+        parts.call_segment()?;
+        assert!(rt; parts.frames.place(3) == Some((59986, 1)));
+        parts.keeps_tables(&rt, 2);
+        parts.ret(true)?;
+        assert!(rt; parts.frames.place(3).is_none());
+        parts.keeps_tables(&rt, 1);
+        parts.memory.set_word(59986, 7);
+        parts.is_untouched(&rt);
     }
+    Ok(())
 }
 
 #[test]
-fn calls_of_a_segment_that_stays_touch_nothing(rt: HostRuntime) {
-    let mut memory = Memory::new(rt.alloc()).expect(&rt, "memory");
-    let mut scratch = Memory::new(rt.alloc()).expect(&rt, "memory");
-    put_segment(&mut memory);
-    let mut frames = Frames::new();
-    let mut registers = registers();
-    call_segment(&mut frames, &mut memory, &mut registers, &mut scratch).expect(&rt, "it goes");
-    call(&mut frames, &mut memory, &mut registers, &mut scratch).expect(&rt, "it goes");
+fn calls_of_a_segment_that_stays_touch_nothing(rt: HostRuntime) -> Result<(), Fail> {
+    let mut parts = Parts::new(rt.alloc())?;
+    parts.call_segment()?;
+    parts.call()?;
     for _i in 0..100 {
-        call_segment(&mut frames, &mut memory, &mut registers, &mut scratch).expect(&rt, "it goes");
-        assert!(rt; frames.place(3) == Some((59998, 1)));
-        frames
-            .ret(&mut memory, &mut registers, 0, true)
-            .expect(&rt, "it goes");
-        assert!(rt; !memory.touched());
-        assert!(rt; frames.kept().len() == 1);
+        parts.call_segment()?;
+        assert!(rt; parts.frames.place(3) == Some((59998, 1)));
+        parts.ret(true)?;
+        parts.is_untouched(&rt);
+        parts.keeps_tables(&rt, 1);
     }
-}
-
-// Keeps slot 3, whose code is lent.
-fn keep_segment(
-    frames: &mut Frames,
-    memory: &mut Memory,
-    registers: &mut Registers,
-) -> Result<(), ExecError> {
-    if registers.sp % 2 != 0 || registers.sp > 65504 {
-        return Err(ExecError::InvalidMemory);
-    }
-    frames.keep(memory, registers, 3, Some(&CODE))
+    Ok(())
 }
 
 // A kept segment keeps its table too, and given up it leaves no word watched.
 #[test]
-fn calls_of_a_kept_segment_keep_its_table(rt: HostRuntime) {
-    let mut memory = Memory::new(rt.alloc()).expect(&rt, "memory");
-    let mut scratch = Memory::new(rt.alloc()).expect(&rt, "memory");
-    put_segment(&mut memory);
-    let mut frames = Frames::new();
-    let mut registers = registers();
-    call(&mut frames, &mut memory, &mut registers, &mut scratch).expect(&rt, "it goes");
-    let sp = registers.sp;
-    keep_segment(&mut frames, &mut memory, &mut registers).expect(&rt, "it goes");
+fn calls_of_a_kept_segment_keep_its_table(rt: HostRuntime) -> Result<(), Fail> {
+    let mut parts = Parts::new(rt.alloc())?;
+    parts.call()?;
+    let sp = parts.registers.sp;
+    parts.keep_segment()?;
     for _i in 0..100 {
-        call_segment(&mut frames, &mut memory, &mut registers, &mut scratch).expect(&rt, "it goes");
-        frames
-            .ret(&mut memory, &mut registers, 0, true)
-            .expect(&rt, "it goes");
-        assert!(rt; frames.kept().len() == 2);
-        assert!(rt; !memory.touched());
+        parts.call_segment()?;
+        parts.ret(true)?;
+        parts.keeps_tables(&rt, 2);
+        parts.is_untouched(&rt);
     }
-    assert!(rt; registers.sp == sp.wrapping_sub(16));
-    frames
-        .unkeep(&mut memory, &mut registers, 3, 16)
-        .expect(&rt, "it goes");
-    assert!(rt; registers.sp == sp);
-    assert!(rt; frames.kept().len() == 1);
-    memory.set_word(sp.wrapping_sub(2), 7);
-    assert!(rt; !memory.touched());
+    assert!(rt; parts.registers.sp == sp.wrapping_sub(16));
+    parts
+        .frames
+        .unkeep(&mut parts.memory, &mut parts.registers, 3, 16)?;
+    assert!(rt; parts.registers.sp == sp);
+    parts.keeps_tables(&rt, 1);
+    parts.memory.set_word(sp.wrapping_sub(2), 7);
+    parts.is_untouched(&rt);
+    Ok(())
 }
 
 #[test]
-fn exit_touches_nothing(rt: HostRuntime) {
-    let mut memory = Memory::new(rt.alloc()).expect(&rt, "memory");
-    let mut scratch = Memory::new(rt.alloc()).expect(&rt, "memory");
-    put_segment(&mut memory);
-    let mut frames = Frames::new();
-    let mut registers = registers();
-    call(&mut frames, &mut memory, &mut registers, &mut scratch).expect(&rt, "it goes");
-    call(&mut frames, &mut memory, &mut registers, &mut scratch).expect(&rt, "it goes");
-    assert!(rt; frames.link(&mut memory, registers.mp, 2) == Ok(65492));
-    frames
-        .exit(&mut memory, &mut registers, 1, 1, &mut scratch)
-        .expect(&rt, "it goes");
-    assert!(rt; !memory.touched());
-    assert!(rt; frames.bases().len() == 3);
-    assert!(rt; frames.kept().len() == 1);
+fn exit_touches_nothing(rt: HostRuntime) -> Result<(), Fail> {
+    let mut parts = Parts::new(rt.alloc())?;
+    parts.call()?;
+    parts.call()?;
+    assert!(rt; parts.link(2) == Ok(65492));
+    parts.frames.exit(
+        &mut parts.memory,
+        &mut parts.registers,
+        1,
+        1,
+        &mut parts.scratch,
+    )?;
+    parts.is_untouched(&rt);
+    parts.has_bases(&rt, 3);
+    parts.keeps_tables(&rt, 1);
+    Ok(())
 }
 
 #[test]
-fn sixteen_tables_are_kept(rt: HostRuntime) {
-    let mut memory = Memory::new(rt.alloc()).expect(&rt, "memory");
+fn sixteen_tables_are_kept(rt: HostRuntime) -> Result<(), Fail> {
+    let mut memory = Memory::new(rt.alloc())?;
     // seventeen procedures, whose tables stand at 1900, 1888, ..
     memory.set_word(2000, 17 * 256 + 1);
     for p in 1..18_u16 {
@@ -280,4 +295,5 @@ fn sixteen_tables_are_kept(rt: HostRuntime) {
     assert!(rt; !memory.touched());
     memory.set_word(1888, 5);
     assert!(rt; memory.touched());
+    Ok(())
 }

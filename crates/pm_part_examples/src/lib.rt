@@ -4,6 +4,7 @@
 
 #[cfg(test)]
 mod assembled;
+pub mod bench;
 #[cfg(test)]
 mod code_files;
 #[cfg(test)]

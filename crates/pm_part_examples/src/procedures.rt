@@ -1,91 +1,43 @@
 //! Standard procedures, by number, by unit and at their limits.
-use pm_calls::{Frames, Registers, ValidRegisters};
-use pm_stdproc::{SlotRow, Trap, Units};
+use crate::bench::Bench;
+use pm_stdproc::Trap;
 use pm_volume::Volume;
-use pm_words::{ExecError, Memory, Top};
-use std::alloc::{AllocError, Global};
+use pm_words::{ExecError, Top};
+use std::alloc::Global;
 use std::process::Abort;
 use std::test::Fail;
 
-/// The row of a slot without code.
-const NO_ROW: SlotRow = SlotRow {
-    unit: 0,
-    block: 0,
-    length: 0,
-};
-
-/// The parts of a machine, its stack empty and its heap at 1,024. The clock is 70,000.
-#[derive(Drop)]
-struct Bench {
-    memory: Memory,
-    scratch: Memory,
-    registers: ValidRegisters,
-    frames: Frames,
-    units: Units,
+/// A bench with a volume of 10 blocks on unit 4.
+fn with_disk(alloc: Global) -> Result<Bench, Fail> {
+    let mut bench = Bench::new(alloc)?;
+    let volume = Volume::blank(alloc, "WORK", 10)?;
+    bench.units.mount(4, volume).map_err(|e| e.0)?;
+    Ok(bench)
 }
 
 impl Bench {
-    fn new(alloc: Global) -> Result<Bench, AllocError> {
-        Ok(Bench {
-            memory: Memory::new(alloc)?,
-            scratch: Memory::new(alloc)?,
-            registers: ValidRegisters::of(Registers {
-                sp: 65504,
-                ipc: 0,
-                seg: 0,
-                jtab: 0,
-                mp: 0,
-                base: 0,
-                np: 1024,
-                ioresult: 0,
-            }),
-            frames: Frames::new(),
-            units: Units::new(alloc, 70000),
-        })
-    }
-
-    /// A bench with a volume of 10 blocks on unit 4.
-    fn with_disk(alloc: Global) -> Result<Bench, Fail> {
-        let mut bench = Bench::new(alloc)?;
-        let volume = Volume::blank(alloc, "WORK", 10)?;
-        bench.units.mount(4, volume).map_err(|e| e.0)?;
-        Ok(bench)
-    }
-
     /// Pushes words onto an empty stack, and does a procedure.
-    fn perform(&mut self, n: u8, words: &[u16]) -> Result<(), Trap> {
-        let np = self.registers.top().np();
-        let mut stack = Top::of(65504, np);
-        for word in words {
-            stack.push(&mut self.memory, *word)?;
-        }
-        self.registers = self.registers.with_top(stack);
-        self.units.perform(
-            n,
-            &mut self.memory,
-            &mut self.registers,
-            &mut self.frames,
-            &[NO_ROW; 16],
-            &mut self.scratch,
-        )
+    fn perform_from_empty(&mut self, n: u8, words: &[u16]) -> Result<(), Trap> {
+        self.empty();
+        self.perform(n, words)
     }
 
     /// The procedure answers this.
     fn answers(&mut self, rt: &impl Abort, n: u8, words: &[u16], answer: Result<(), Trap>) {
-        assert_eq!(rt; self.perform(n, words), answer);
+        assert_eq!(rt; self.perform_from_empty(n, words), answer);
     }
 
     /// The procedure is done with this IORESULT, and no word is left on the stack.
     fn comes_to(&mut self, rt: &impl Abort, n: u8, words: &[u16], ioresult: u16) {
         self.registers = self.registers.with_ioresult(77);
-        assert_eq!(rt; self.perform(n, words), DONE);
+        assert_eq!(rt; self.perform_from_empty(n, words), DONE);
         let registers = self.registers.registers();
         assert_eq!(rt; (registers.ioresult, registers.sp), (ioresult, 65504));
     }
 
     /// The procedure is done and leaves this word on the stack.
     fn leaves(&mut self, rt: &impl Abort, n: u8, words: &[u16], word: u16) {
-        assert_eq!(rt; self.perform(n, words), DONE);
+        assert_eq!(rt; self.perform_from_empty(n, words), DONE);
         assert_eq!(rt; self.registers.top().sp(), 65502);
         assert_eq!(rt; self.memory.word(65502), Some(word));
     }
@@ -196,7 +148,7 @@ fn on_disk(rt: &impl Abort, bench: &mut Bench, row: &[u16; 4]) {
 
 #[test]
 fn disk_transfers(rt: HostRuntime) -> Result<(), Fail> {
-    let mut bench = Bench::with_disk(rt.alloc())?;
+    let mut bench = with_disk(rt.alloc())?;
     for row in &ON_DISK {
         on_disk(&rt, &mut bench, row);
     }

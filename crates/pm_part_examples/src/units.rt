@@ -1,110 +1,10 @@
 //! Each procedure on the units once, and each public call.
-
-ghost use Rattle.std.specs.Prelude.{◌≡◌, ◌%◌, All};
-
-use pm_calls::{Frames, Registers, ValidRegisters};
-use pm_stdproc::{MountFault, SlotRow, Trap, Units};
+use crate::bench::{Bench, rows};
+use pm_stdproc::{MountFault, Trap};
 use pm_volume::Volume;
-use pm_words::{ExecError, Memory, Top};
-use std::alloc::{AllocError, Global};
+use pm_words::{ExecError, Top};
+use std::alloc::Global;
 use std::test::Fail;
-
-// The row of a slot without code.
-const NO_ROW: SlotRow = SlotRow {
-    unit: 0,
-    block: 0,
-    length: 0,
-};
-
-// The parts of a machine with an empty stack, and bytes at 2000.
-#[derive(Drop)]
-struct Bench {
-    memory: Memory,
-    scratch: Memory,
-    registers: ValidRegisters,
-    frames: Frames,
-    units: Units,
-}
-
-impl Bench {
-    fn new(alloc: Global, bytes: &[u8]) -> Result<Bench, AllocError> {
-        let mut memory = Memory::new(alloc)?;
-        memory.write(2000, bytes);
-        Ok(Bench {
-            memory,
-            scratch: Memory::new(alloc)?,
-            registers: ValidRegisters::of(Registers {
-                sp: 65504,
-                ipc: 0,
-                seg: 0,
-                jtab: 0,
-                mp: 0,
-                base: 0,
-                np: 1024,
-                ioresult: 0,
-            }),
-            frames: Frames::new(),
-            units: Units::new(alloc, 70000),
-        })
-    }
-
-    // Pushes words, and does a procedure where no slot has code.
-    fn perform(&mut self, n: u8, words: &[u16]) -> Result<(), Trap> {
-        self.perform_with(&[NO_ROW; 16], n, words)
-    }
-
-    // Pushes words, and does a procedure.
-    fn perform_with(&mut self, rows: &[SlotRow; 16], n: u8, words: &[u16]) -> Result<(), Trap>
-        requires even_rows { All (λ row. row.length % 2 ≡ 0) rows.now }
-    {
-        let mut stack = self.registers.top();
-        for word in words {
-            stack.push(&mut self.memory, *word)?;
-        }
-        self.registers = self.registers.with_top(stack);
-        self.units.perform(
-            n,
-            &mut self.memory,
-            &mut self.registers,
-            &mut self.frames,
-            rows,
-            &mut self.scratch,
-        )
-    }
-
-    // Takes all words from the stack.
-    fn empty(&mut self) {
-        let np = self.registers.top().np();
-        self.registers = self.registers.with_top(Top::of(65504, np));
-    }
-
-    fn sp(&self) -> u16 {
-        self.registers.top().sp()
-    }
-
-    fn ioresult(&self) -> u16 {
-        self.registers.registers().ioresult
-    }
-
-    // The bytes at 2000.
-    fn bytes(&self) -> &[u8] {
-        &self.memory.bytes()[2000..2005]
-    }
-}
-
-// Rows of which slot 2 has 16 bytes of unit 4, and slot 3 none of unit 5.
-fn rows() -> [SlotRow; 16]
-    ensures even { All (λ row. row.length % 2 ≡ 0) result }
-{
-    let mut rows = [NO_ROW; 16];
-    rows[2] = SlotRow {
-        unit: 4,
-        block: 2,
-        length: 16,
-    };
-    rows[3] = SlotRow { unit: 5, ..NO_ROW };
-    rows
-}
 
 // A volume of 10 blocks without files.
 fn volume(alloc: Global) -> Result<Volume, Fail> {
@@ -118,10 +18,10 @@ fn volume(alloc: Global) -> Result<Volume, Fail> {
 
 #[test]
 fn moves_of_bytes(rt: HostRuntime) -> Result<(), Fail> {
-    let mut left = Bench::new(rt.alloc(), &[1, 2, 3, 4, 5])?;
+    let mut left = Bench::with_bytes(rt.alloc(), &[1, 2, 3, 4, 5])?;
     left.perform(2, &[2000, 0, 2000, 1, 4])?;
     assert_eq!(rt; left.bytes(), [1, 1, 1, 1, 1].as_slice());
-    let mut right = Bench::new(rt.alloc(), &[1, 2, 3, 4, 5])?;
+    let mut right = Bench::with_bytes(rt.alloc(), &[1, 2, 3, 4, 5])?;
     right.perform(3, &[2000, 0, 2000, 1, 4])?;
     assert_eq!(rt; right.bytes(), [1, 1, 2, 3, 4].as_slice());
     assert_eq!(rt; right.sp(), 65504);
@@ -130,7 +30,7 @@ fn moves_of_bytes(rt: HostRuntime) -> Result<(), Fail> {
 
 #[test]
 fn scans(rt: HostRuntime) -> Result<(), Fail> {
-    let mut bench = Bench::new(rt.alloc(), &[1, 1, 3, 4, 5])?;
+    let mut bench = Bench::with_bytes(rt.alloc(), &[1, 1, 3, 4, 5])?;
     // limit, kind, index, and what is passed: -3 and -2 are 65533 and 65534
     for (limit, kind, index, passed) in [
         (5, 2, 0, 2),
@@ -149,7 +49,7 @@ fn scans(rt: HostRuntime) -> Result<(), Fail> {
 
 #[test]
 fn input_waits_and_is_shown(rt: HostRuntime) -> Result<(), Fail> {
-    let mut bench = Bench::new(rt.alloc(), &[])?;
+    let mut bench = Bench::new(rt.alloc())?;
     bench.units.key(65)?;
     bench.units.key(66)?;
     let order = [1, 2000, 0, 3, 0, 0];
@@ -174,7 +74,7 @@ fn input_waits_and_is_shown(rt: HostRuntime) -> Result<(), Fail> {
 
 #[test]
 fn disks(rt: HostRuntime) -> Result<(), Fail> {
-    let mut bench = Bench::new(rt.alloc(), b"ABCDE")?;
+    let mut bench = Bench::with_bytes(rt.alloc(), b"ABCDE")?;
     bench.units.mount(4, volume(rt.alloc())?).map_err(|e| e.0)?;
     let taken = bench.units.mount(4, volume(rt.alloc())?).err();
     assert_eq!(rt; taken.map(|e| e.0.number()), Some(2));
@@ -207,7 +107,7 @@ fn disks(rt: HostRuntime) -> Result<(), Fail> {
 // The first 16 bytes of a disk are kept as segment 2, twice, and given up.
 #[test]
 fn keeps_a_segment(rt: HostRuntime) -> Result<(), Fail> {
-    let mut bench = Bench::new(rt.alloc(), &[])?;
+    let mut bench = Bench::new(rt.alloc())?;
     let rows = rows();
     let volume = Volume::blank(rt.alloc(), "WORK", 20)?;
     bench.units.mount(4, volume).map_err(|e| e.0)?;
@@ -230,7 +130,7 @@ fn keeps_a_segment(rt: HostRuntime) -> Result<(), Fail> {
 // What 21 and 22 refuse, in their order: the stack, the number, the length, the disk, the room.
 #[test]
 fn refuses_segments(rt: HostRuntime) -> Result<(), Fail> {
-    let mut bench = Bench::new(rt.alloc(), &[])?;
+    let mut bench = Bench::new(rt.alloc())?;
     let rows = rows();
     bench.registers = bench.registers.with_top(Top::of(65504, 65490));
     for (words, fault) in [

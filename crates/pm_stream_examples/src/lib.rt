@@ -5,8 +5,7 @@
 mod broken;
 #[cfg(test)]
 mod faults;
-#[cfg(test)]
-mod recorder;
+pub mod recorder;
 #[cfg(test)]
 mod sessions;
 #[cfg(test)]

@@ -10,7 +10,8 @@ use std::io::ErrorKind;
 
 /// What was called.
 #[derive(Clone, Copy, Debug, PartialEq, Eq)]
-pub(crate) enum Kind {
+pub enum Kind {
+    /// A read.
     Read,
     /// A write that was offered so many bytes.
     Write(usize),
@@ -18,20 +19,22 @@ pub(crate) enum Kind {
 
 /// A call, and how many bytes had been written before it.
 #[derive(Clone, Copy, Debug, PartialEq, Eq)]
-pub(crate) struct Call {
-    pub(crate) kind: Kind,
-    pub(crate) before: usize,
+pub struct Call {
+    /// Which one.
+    pub kind: Kind,
+    /// The bytes before it.
+    pub before: usize,
 }
 
 /// How the streams do what they are called for.
 #[derive(Clone, Copy)]
-pub(crate) struct Manner {
+pub struct Manner {
     /// The most bytes that one call moves.
-    pub(crate) most: usize,
+    pub most: usize,
     /// The number of the call that fails, of the source or of the sink, from 0 on. Calls behind it go on well.
-    pub(crate) fails_at: Option<usize>,
+    pub fails_at: Option<usize>,
     /// Whether a write that fails takes no byte. Else it answers an error, as a read does.
-    pub(crate) takes_nothing: bool,
+    pub takes_nothing: bool,
 }
 
 /// The calls so far, and the bytes that were written.
@@ -177,17 +180,21 @@ impl Sink for Taken<'_> {
     }
 }
 
-/// What a job came to, whether its source failed and whether its sink did, the calls of both, and what was written.
+/// What a job came to, and what its streams were called for.
 #[derive(Drop)]
-pub(crate) struct Recorded {
-    pub(crate) outcome: Outcome,
-    pub(crate) failed: (bool, bool),
-    pub(crate) calls: Vec<Call>,
-    pub(crate) written: Vec<u8>,
+pub struct Recorded {
+    /// The status, the message, and what is kept.
+    pub outcome: Outcome,
+    /// Whether the source failed, and whether the sink did.
+    pub failed: (bool, bool),
+    /// The calls of both.
+    pub calls: Vec<Call>,
+    /// The bytes that the sink took.
+    pub written: Vec<u8>,
 }
 
 /// Runs a job.
-pub(crate) fn recorded_run(alloc: Global, job: Job, input: &[u8], manner: Manner) -> Recorded {
+pub fn recorded_run(alloc: Global, job: Job, input: &[u8], manner: Manner) -> Recorded {
     let record = RefCell::new(Record {
         manner,
         calls: Vec::new(alloc),

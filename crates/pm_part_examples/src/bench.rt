@@ -1,8 +1,7 @@
 //! The parts of a machine, on which standard procedures are done one by one.
-ghost use Rattle.std.specs.Prelude.{◌≡◌, ◌%◌, All};
 
 use pm_calls::{Frames, Registers, ValidRegisters};
-use pm_stdproc::{SlotRow, Trap, Units};
+use pm_stdproc::{SlotRow, SlotRows, Trap, Units};
 use pm_words::{Memory, Top};
 use std::alloc::{AllocError, Global};
 
@@ -14,9 +13,7 @@ pub const NO_ROW: SlotRow = SlotRow {
 };
 
 /// Rows of which slot 2 has 16 bytes of unit 4, and slot 3 none of unit 5.
-pub fn rows() -> [SlotRow; 16]
-    ensures even { All (λ row. row.length % 2 ≡ 0) result }
-{
+pub fn rows() -> SlotRows {
     let mut rows = [NO_ROW; 16];
     rows[2] = SlotRow {
         unit: 4,
@@ -24,7 +21,7 @@ pub fn rows() -> [SlotRow; 16]
         length: 16,
     };
     rows[3] = SlotRow { unit: 5, ..NO_ROW };
-    rows
+    SlotRows::of(rows)
 }
 
 /// The parts of a machine.
@@ -72,13 +69,11 @@ impl Bench {
 
     /// Pushes words, and does a procedure where no slot has code.
     pub fn perform(&mut self, n: u8, words: &[u16]) -> Result<(), Trap> {
-        self.perform_with(&[NO_ROW; 16], n, words)
+        self.perform_with(&SlotRows::of([NO_ROW; 16]), n, words)
     }
 
     /// Pushes words, and does a procedure.
-    pub fn perform_with(&mut self, rows: &[SlotRow; 16], n: u8, words: &[u16]) -> Result<(), Trap>
-        requires even_rows { All (λ row. row.length % 2 ≡ 0) rows.now }
-    {
+    pub fn perform_with(&mut self, rows: &SlotRows, n: u8, words: &[u16]) -> Result<(), Trap> {
         let mut stack = self.registers.top();
         for word in words {
             stack.push(&mut self.memory, *word)?;

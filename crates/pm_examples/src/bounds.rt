@@ -1,27 +1,11 @@
 //! The most that a job takes, and a program with all of its devices.
+use crate::blanks::Blanks;
 use crate::files::{new_image, text};
 use crate::jobs::job_run;
 use crate::runs::image;
 use pm_tool::{Job, Reader, Writer, run};
 use std::alloc::Global;
-use std::io;
-use std::io::Read;
 use std::process::Abort;
-
-/// So many blanks.
-#[derive(Drop)]
-struct Blanks {
-    left: usize,
-}
-
-impl Read for Blanks {
-    fn read(&mut self, buf: &mut [u8]) -> io::Result<usize> {
-        let count = buf.len().min(self.left);
-        buf[..count].fill(b' ');
-        self.left -= count;
-        Ok(count)
-    }
-}
 
 /// Bare code whose text is so many blanks, and which is not run.
 fn reads_blanks(rt: &impl Abort, alloc: Global, count: usize, told: (u8, &str, &str)) {

@@ -3,6 +3,7 @@
 
 #[cfg(test)]
 mod assembly;
+pub mod blanks;
 #[cfg(test)]
 mod bounds;
 #[cfg(test)]

@@ -107,8 +107,8 @@ fn a_kept_segment_may_be_overwritten(rt: HostRuntime) -> Result<(), Fail> {
     Ok(())
 }
 
-/// Segment 1 does this first and then calls segment 2, which keeps itself (21) or gives itself up (22). After three steps
-/// segment 2 runs, and is kept once.
+/// Segment 1 does this first and then calls segment 2, which keeps itself (21) or gives itself up (22). After three
+/// steps segment 2 runs, and is kept once.
 fn loaded(rt: &impl Abort, alloc: Global, does: [u8; 3], procedure: u8) -> Result<Tested, Fail> {
     let [a, b, c] = does;
     let segments: [u8; 42] = [

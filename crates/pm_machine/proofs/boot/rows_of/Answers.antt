@@ -20,13 +20,13 @@ loop-n-preserved c =
           c.row_of.ensures.even);
     }
 
-pub returns-clause-rows : goal.returns-clause-rows
-returns-clause-rows c =
+pub of-requires : goal.of-requires
+of-requires c =
+    let size : length c.loop-n.rows ≡ 16 = c.loop-n.invariant.size in
+    record { even_rows = rw (take_all c.loop-n.n c.loop-n.rows (omega arith)) at c.loop-n.invariant.even }
+
+pub returns : goal.returns
+returns c =
     let all : c.loop-n.n ≡ 16 = omega arith in
     let size : length c.loop-n.rows ≡ 16 = c.loop-n.invariant.size in
-    sym (take_all 16 c.loop-n.rows (omega arith)) ∙ rw all at c.loop-n.invariant.rows
-
-pub returns-clause-even : goal.returns-clause-even
-returns-clause-even c =
-    let size : length c.loop-n.rows ≡ 16 = c.loop-n.invariant.size in
-    rw (take_all c.loop-n.n c.loop-n.rows (omega arith)) at c.loop-n.invariant.even
+    record { rows = c.of.ensures.rows ∙ sym (take_all 16 c.loop-n.rows (omega arith)) ∙ rw all at c.loop-n.invariant.rows }

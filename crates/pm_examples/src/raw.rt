@@ -1,6 +1,6 @@
 //! Runs of bare code, from hexadecimal digits to a trace.
 use crate::jobs::tells;
-use pm_part_examples::programs::{ADDITION, ADDITION_TRACE};
+use pm_text_examples::programs::{ADDITION, ADDITION_TRACE};
 use pm_tool::Job;
 use std::alloc::{AllocError, Global};
 use std::process::Abort;

@@ -5,7 +5,7 @@ use crate::files::{changed, new_image, text};
 use crate::jobs::{Told, job_run, tells};
 use crate::shown::lengths_of;
 use pm_filer::FileCommand;
-use pm_part_examples::programs::{ECHO, EXITS, LETTERS, SEGMENTS};
+use pm_text_examples::programs::{ECHO, EXITS, LETTERS, SEGMENTS};
 use pm_tool::Job;
 use std::alloc::Global;
 use std::process::Abort;

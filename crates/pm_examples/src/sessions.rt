@@ -4,7 +4,7 @@ ghost use Rattle.std.specs.Prelude.{◌≡◌, length, sum};
 use crate::files::text;
 use crate::jobs::{Told, tells};
 use crate::runs::disks;
-use pm_part_examples::programs::{ECHO, EXITS, SEGMENTS};
+use pm_text_examples::programs::{ECHO, EXITS, SEGMENTS};
 use pm_tool::Job;
 use std::alloc::Global;
 use std::process::Abort;

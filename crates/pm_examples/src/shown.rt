@@ -3,7 +3,7 @@ ghost use Rattle.std.specs.Prelude.{◌≡◌, length, sum};
 
 use crate::jobs::tells;
 use pm_codefile::{CodeFile, attributes};
-use pm_part_examples::programs::{LONG, LONG_TEXT, NAMES, SEGMENTS, TEXT};
+use pm_text_examples::programs::{LONG, LONG_TEXT, NAMES, SEGMENTS, TEXT};
 use pm_tool::Job;
 use std::alloc::Global;
 use std::process::Abort;

@@ -2,7 +2,7 @@
 use crate::files::{changed, new_image, put_text, text};
 use crate::jobs::{Told, job_run, tells};
 use pm_filer::FileCommand;
-use pm_part_examples::programs::LISTING;
+use pm_text_examples::programs::LISTING;
 use pm_tool::Job;
 use std::alloc::Global;
 use std::process::Abort;

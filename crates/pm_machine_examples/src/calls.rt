@@ -1,22 +1,11 @@
 //! Calls, returns and variables of frames.
+use crate::codes::{CALLS, STORED_LINK, TOP};
 use crate::tested::Tested;
 use pm_machine::{BootFault, Stop};
 use pm_words::ExecError;
 use std::alloc::Global;
 use std::process::Abort;
 use std::test::Fail;
-
-/// Two procedures, each with a table behind its code: number 1 of level 1 calls number 2 of level 2
-/// twice. The dictionary word of number 1, at 1,056, ends the code; the segment's highest word comes
-/// after it, at 1,058, and is written by the operator.
-pub(crate) const CALLS: [u8; 34] = [
-    0xCE, 0x01, 0xCE, 0x02, 0xCE, 0x02, 0xAD, 0x00, 0x00, 0x00, 0x00, 0x00, 0x06, 0x00, 0x0C, 0x00,
-    0x01, 0x01, 0xAD, 0x00, 0x00, 0x00, 0x00, 0x00, 0x06, 0x00, 0x08, 0x00, 0x02, 0x02, 0x02, 0x00,
-    0x10, 0x00,
-];
-
-/// The segment's highest word: number 1 and two procedures.
-pub(crate) const TOP: (u16, u16) = (1058, 513);
 
 /// SP before each step but the last.
 const STACK_POINTERS: [u16; 5] = [65492, 65480, 65468, 65480, 65468];
@@ -188,11 +177,6 @@ fn faults_of_returns(rt: HostRuntime) {
         goes_or_fails(&rt, rt.alloc(), &code, &pokes, *error);
     }
 }
-
-/// Loads a variable by a static link, stores over the link, and loads again.
-pub(crate) const STORED_LINK: [u8; 14] = [
-    0xB6, 0x01, 0x01, 0xC7, 0xD4, 0xFF, 0xC7, 0xB8, 0x0B, 0x9A, 0xB6, 0x01, 0x01, 0xD6,
-];
 
 /// A link is followed in memory at each use: the first load gives 0, and after the static link of
 /// the running frame was stored over, the second gives another frame's variable.

@@ -1,22 +1,16 @@
 //! Programs of code files: their start, the segments that they load, and EXIT.
 ghost use Rattle.std.specs.Prelude.{◌≡◌, length, sum};
 
+use crate::codes::KEEPS;
 use crate::tested::Tested;
 use crate::volumes::volume;
 use pm_machine::{BootFault, Machine, Stop};
-use pm_part_examples::programs::{EXITS, LETTERS, SEGMENTS};
+use pm_text_examples::programs::{EXITS, LETTERS, SEGMENTS};
 use pm_volume::Volume;
 use pm_words::ExecError;
 use std::alloc::Global;
 use std::process::Abort;
 use std::test::Fail;
-
-/// Segment 1 keeps segment 2, calls it twice, and gives it up.
-pub(crate) const KEEPS: [u8; 44] = [
-    0x02, 0x9E, 0x15, 0xCD, 0x02, 0x01, 0xCD, 0x02, 0x01, 0x02, 0x9E, 0x16, 0xC1, 0x00, 0x00, 0x00,
-    0x00, 0x00, 0x06, 0x00, 0x14, 0x00, 0x01, 0x00, 0x02, 0x00, 0x01, 0x01, // segment 2
-    0xC1, 0x00, 0x04, 0x00, 0x00, 0x00, 0x06, 0x00, 0x08, 0x00, 0x01, 0x00, 0x02, 0x00, 0x02, 0x01,
-];
 
 /// The machine that a volume with a code file `P` boots, with these lengths of the slots 1, 2 and 3.
 pub(crate) fn booted(alloc: Global, lengths: [u16; 3], segments: &[u8]) -> Result<Tested, Fail>

@@ -1,5 +1,6 @@
 //! Segments that a program keeps.
-use crate::code::{KEEPS, booted};
+use crate::code::booted;
+use crate::codes::KEEPS;
 use crate::tested::Tested;
 use crate::texts;
 use pm_machine::Stop;

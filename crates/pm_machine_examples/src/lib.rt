@@ -1,19 +1,15 @@
-//! Worked examples, as tests: a machine and its debugger.
+//! Worked examples, as tests: a machine, step by step.
 #![tactic(auto)]
 
-pub mod any_bytes;
 #[cfg(test)]
 mod calls;
 #[cfg(test)]
 mod code;
-#[cfg(test)]
-mod debugger;
+pub mod codes;
 #[cfg(test)]
 mod devices;
 #[cfg(test)]
 mod keeps;
-#[cfg(test)]
-mod lines;
 #[cfg(test)]
 mod machine;
 #[cfg(test)]
@@ -24,6 +20,4 @@ mod room;
 mod tested;
 #[cfg(test)]
 mod texts;
-#[cfg(test)]
-mod twice;
 pub mod volumes;

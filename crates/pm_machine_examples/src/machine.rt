@@ -1,5 +1,5 @@
 //! Calls of a machine and of its memory.
-use crate::lines::{SUM, SUM_LINES};
+use crate::codes::{SUM, SUM_LINES};
 use crate::tested::Tested;
 use pm_machine::Stop;
 use pm_words::Memory;

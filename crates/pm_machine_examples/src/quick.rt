@@ -1,7 +1,7 @@
 //! Steps that go the quick way: each opcode that has one goes it, and so does a whole program. No contract says so,
 //! since a machine that makes none of its steps so makes the same steps.
-use crate::calls::{CALLS, TOP};
-use crate::code::{KEEPS, booted};
+use crate::code::booted;
+use crate::codes::{CALLS, KEEPS, TOP};
 use crate::tested::Tested;
 use pm_machine::{BootFault, Stop};
 use std::alloc::Global;

@@ -3,7 +3,7 @@
 ghost use Rattle.std.specs.Prelude.{◌≡◌, length, sum};
 
 use crate::recorder::{Call, Kind, Manner, Recorded, recorded_run};
-use pm_part_examples::programs::{ADDITION, ADDITION_TRACE, ECHO, EXITS, LETTERS};
+use pm_text_examples::programs::{ADDITION, ADDITION_TRACE, ECHO, EXITS, LETTERS};
 use pm_tool::Job;
 use pm_volume::Volume;
 use std::alloc::{AllocError, Global};

@@ -1,6 +1,6 @@
 //! Streams that fail at each of their calls in turn.
 use crate::streams::{Full, ShortReader, ShortWriter};
-use pm_part_examples::programs::{ADDITION, ADDITION_TRACE};
+use pm_text_examples::programs::{ADDITION, ADDITION_TRACE};
 use pm_tool::{Job, Outcome, Reader, Sink, Source, Writer, run};
 use std::alloc::Global;
 use std::process::Abort;

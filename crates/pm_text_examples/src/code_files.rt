@@ -1,19 +1,8 @@
 //! A code file that is written and read, and what is refused.
+use crate::one_segment::{NO_NAME, SEGMENT, example};
 use pm_codefile::{Attributes, CodeFault, CodeFile, Slot, attributes, procedures, write};
 use std::alloc::Global;
 use std::test::Fail;
-
-const NO_NAME: [u8; 8] = [b' '; 8];
-
-/// A segment of one procedure, which returns at once.
-const SEGMENT: [u8; 16] = [0xC1, 0, 4, 0, 2, 0, 6, 0, 8, 0, 1, 255, 2, 0, 1, 1];
-
-fn example(alloc: Global) -> Result<Vec<u8>, Fail> {
-    let mut names = [NO_NAME; 16];
-    names[1] = *b"PROGRAM ";
-    let lengths = [0, 16, 0, 0, 0, 0, 0, 0, 0, 0, 0, 0, 0, 0, 0, 0];
-    Ok(write(alloc, &names, &lengths, &SEGMENT)?)
-}
 
 #[test]
 fn written_file_is_read(rt: HostRuntime) -> Result<(), Fail> {

@@ -3,13 +3,12 @@
 ghost use Rattle.std.specs.Prelude.{◌≡◌, length, sum};
 
 use crate::any_bytes::generated;
-use crate::calls::{CALLS, STORED_LINK, TOP};
-use crate::code::KEEPS;
-use crate::volumes::{boots, volume};
 use pm_calls::Registers;
 use pm_debug::{DebugRefusal, Debugger};
 use pm_machine::{Machine, Stop};
-use pm_part_examples::programs::{EXITS, SEGMENTS};
+use pm_machine_examples::codes::{CALLS, KEEPS, STORED_LINK, TOP};
+use pm_machine_examples::volumes::{boots, volume};
+use pm_text_examples::programs::{EXITS, SEGMENTS};
 use pm_words::ExecError;
 use std::alloc::Global;
 use std::process::Abort;

@@ -1,9 +1,9 @@
 //! Calls of a debugger.
-use crate::lines::{SUM, SUM_LINES};
-use crate::volumes::{boots, volume};
 use pm_debug::{BreakReason, DebugRefusal, Debugger};
 use pm_machine::{Machine, Stop};
-use pm_part_examples::programs::EXITS;
+use pm_machine_examples::codes::{SUM, SUM_LINES};
+use pm_machine_examples::volumes::{boots, volume};
+use pm_text_examples::programs::EXITS;
 use std::alloc::Global;
 use std::process::Abort;
 use std::test::Fail;

@@ -1,6 +1,7 @@
 //! Rows on bytes, fields, strings and sets, and comparisons, called one by one: what each test of
 //! them needs. Stacks are written from the top down and end at 65,504; a set is its count and its
 //! words, the least elements first.
+use crate::stacks::sp_of;
 use pm_opcode::{Kind, Relation};
 use pm_values::{
     adjust, assign, compare, difference, in_set, index_field, index_string, intersect, load_byte,
@@ -50,15 +51,6 @@ impl ValueRow {
             ValueRow::StoreByte => store_byte(memory, sp, np),
         }
     }
-}
-
-/// The SP of a stack.
-pub(crate) fn sp_of(stack: &[u16]) -> u16 {
-    let mut sp = 65504u16;
-    for _ in stack {
-        sp = sp.wrapping_sub(2);
-    }
-    sp
 }
 
 /// Bytes at addresses.

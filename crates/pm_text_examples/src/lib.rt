@@ -1,5 +1,5 @@
-//! Worked examples, as tests: texts of instructions, lines and texts of the assembler, code files and text files; and the
-//! programs that tests of other crates use too.
+//! Worked examples, as tests: texts of instructions, lines and texts of the assembler, code files and text files; and
+//! the programs that tests of other crates use too.
 #![tactic(auto)]
 
 #[cfg(test)]

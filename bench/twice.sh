@@ -1,5 +1,5 @@
 #!/bin/bash
-# Programs against themselves, as the tests `twice` of pm_machine_examples have them, but with each of the 32,768 words
+# Programs against themselves, as the tests `twice` of pm_debug_examples have them, but with each of the 32,768 words
 # written with its own value before each step, and not every 64th in turn. Of an unproved build, in a copy of the
 # sources.
 set -eu
@@ -15,18 +15,12 @@ for crate in "$top"/crates/*; do
     done
 done
 git -C "$scratch" init -q
-cd "$scratch/crates/pm_machine_examples/src"
-modules="calls code tested twice"
-for file in *.rt; do
-    case " $modules " in
-    *" ${file%.rt} "*) ;;
-    *) rm "$file" ;;
-    esac
-done
+cd "$scratch/crates/pm_debug_examples/src"
+rm debugger.rt lines.rt
 {
     echo '//! Programs against themselves.'
     echo '#![tactic(auto)]'
-    for module in $modules; do printf '\n#[cfg(test)]\nmod %s;\n' "$module"; done
+    printf '\npub mod any_bytes;\n#[cfg(test)]\nmod twice;\n'
 } >lib.rt
 sed -i 's/^const TURN: u16 = 64;$/const TURN: u16 = 1;/' twice.rt
 grep -q '^const TURN: u16 = 1;$' twice.rt

@@ -90,18 +90,18 @@ impl Record {
 /// The source.
 #[derive(Drop)]
 struct Given<'a> {
-    record: &'a RefCell<Record>,
+    kept: &'a RefCell<Record>,
     rest: &'a [u8],
     failed: bool,
     given: u64,
 }
 
 impl<'a> Given<'a> {
-    fn new(record: &'a RefCell<Record>, rest: &'a [u8]) -> Given<'a>
+    fn new(kept: &'a RefCell<Record>, rest: &'a [u8]) -> Given<'a>
         ensures well { result.failed ≡ false }
     {
         Given {
-            record,
+            kept,
             rest,
             failed: false,
             given: 0,
@@ -113,10 +113,10 @@ impl<'a> Given<'a> {
         ensures failed { self.new.failed ≡ self.old.failed }
         ensures given { self.new.given ≡ self.old.given }
     {
-        let Ok(mut record) = self.record.try_borrow_mut() else {
+        let Ok(mut kept) = self.kept.try_borrow_mut() else {
             return Err(failure());
         };
-        let count = record.give(self.rest, buf)?;
+        let count = kept.give(self.rest, buf)?;
         self.rest = self.rest.get(count..).unwrap_or(&[]);
         Ok(count)
     }
@@ -142,16 +142,16 @@ impl Source for Given<'_> {
 /// The sink.
 #[derive(Drop)]
 struct Taken<'a> {
-    record: &'a RefCell<Record>,
+    kept: &'a RefCell<Record>,
     failed: bool,
 }
 
 impl<'a> Taken<'a> {
-    fn new(record: &'a RefCell<Record>) -> Taken<'a>
+    fn new(kept: &'a RefCell<Record>) -> Taken<'a>
         ensures well { result.failed ≡ false }
     {
         Taken {
-            record,
+            kept,
             failed: false,
         }
     }
@@ -159,8 +159,8 @@ impl<'a> Taken<'a> {
     fn take(&self, buf: &[u8]) -> io::Result<usize>
         ensures bound { WritesAtMost result buf.now }
     {
-        match self.record.try_borrow_mut() {
-            Ok(mut record) => record.take(buf),
+        match self.kept.try_borrow_mut() {
+            Ok(mut kept) => kept.take(buf),
             Err(_) => Err(failure()),
         }
     }
@@ -195,16 +195,16 @@ pub struct Recorded {
 
 /// Runs a job.
 pub fn recorded_run(alloc: Global, job: Job, input: &[u8], manner: Manner) -> Recorded {
-    let record = RefCell::new(Record {
+    let kept = RefCell::new(Record {
         manner,
         calls: Vec::new(alloc),
         written: Vec::new(alloc),
     });
-    let mut source = Given::new(&record, input);
-    let mut sink = Taken::new(&record);
+    let mut source = Given::new(&kept, input);
+    let mut sink = Taken::new(&kept);
     let outcome = run(alloc, &mut source, &mut sink, job);
     let failed = (source.failed(), sink.failed());
-    let Record { calls, written, .. } = record.into_inner();
+    let Record { calls, written, .. } = kept.into_inner();
     Recorded {
         outcome,
         failed,

@@ -1,6 +1,6 @@
 -- The rows on variables. Variable b of a frame at f stands at f + 10 + 2b, so that variable 1 is the word behind the
 -- control words.
-use Rattle.std.specs.Prelude.{ℕ, ◌+◌, ◌*◌, ◌%◌, List, Result, Ok}
+use Rattle.std.specs.Prelude.{ℕ, ◌≡◌, ◌+◌, ◌*◌, ◌%◌, ◌<◌, false, length, List, Result, Ok, ⊤}
 use Rattle.pm_words.specs.declared.error.ExecError.{ExecError}
 use Rattle.pm_words.specs.Stack.{◌>>=◌, load, pop, push, store}
 use Rattle.pm_opcode.specs.declared.operation.Scope.{Scope}
@@ -8,7 +8,10 @@ use Rattle.pm_opcode.specs.declared.operation.Scope.TheVariants.{Global, Local, 
 use Rattle.pm_opcode.specs.declared.operation.Variable.{Variable}
 use Rattle.pm_opcode.specs.declared.operation.Variable.TheVariants.{Address, Load, Store}
 use Rattle.pm_calls.specs.declared.registers.Registers.{Registers}
+use Rattle.pm_words.specs.Words.{Contents}
+use Rattle.pm_calls.specs.Kept.{BeginsWith}
 use Rattle.pm_calls.specs.Links.{link}
+use Rattle.pm_calls.specs.Places.{Standing}
 
 -- the frame that a variable stands in: that of the program, of the procedure, or one so many static links up
 abbrev pub frame_of : Scope → List ℕ → Registers → Result ℕ ExecError
@@ -45,3 +48,16 @@ unfoldable pub variable_row : Variable → List ℕ → Registers → Result (Li
 variable_row (Address scope b) m r = variable_address_row scope b m r
 variable_row (Load scope b) m r = load_row scope b m r
 variable_row (Store scope b) m r = store_row scope b m r
+
+-- where the variable of an operation stands
+abbrev pub scope_of : Variable → Scope
+scope_of (Address scope b) = scope
+scope_of (Load scope b) = scope
+scope_of (Store scope b) = scope
+
+-- the frame is found without a link that is not kept
+abbrev pub IsNear : Scope → Contents → Standing → ℕ → Type 0
+IsNear Global memory frames mp = ⊤
+IsNear Local memory frames mp = ⊤
+IsNear (Intermediate n) memory frames mp =
+    (memory.touched ≡ false) × BeginsWith frames.bases mp × (n < length frames.bases)

@@ -106,8 +106,8 @@ fn unary(memory: &mut Memory, top: Top, operation: Unary) -> Result<Top, ExecErr
     ensures keeps { KeepsWatch memory.old memory.new }
 {
     let mut stack = top;
-    let a = stack.pop(memory)?;
-    stack.push(memory, word_of_one(operation, a))?;
+    let a = stack.one(memory)?;
+    stack.replace_one(memory, word_of_one(operation, a))?;
     Ok(stack)
 }
 
@@ -120,10 +120,9 @@ fn binary(memory: &mut Memory, top: Top, operation: Binary) -> Result<Top, ExecE
     ensures keeps { KeepsWatch memory.old memory.new }
 {
     let mut stack = top;
-    let b = stack.pop(memory)?;
-    let a = stack.pop(memory)?;
+    let (a, b) = stack.two(memory)?;
     let c = word_of_two(operation, a, b)?;
-    stack.push(memory, c)?;
+    stack.replace_two(memory, c)?;
     Ok(stack)
 }
 
@@ -136,13 +135,13 @@ fn relation(memory: &mut Memory, top: Top, operation: Relation) -> Result<Top, E
     ensures keeps { KeepsWatch memory.old memory.new }
 {
     let mut stack = top;
-    let b = stack.pop(memory)?;
-    let a = stack.pop(memory)?;
-    stack.push(memory, u16::from(holds(operation, a, b)))?;
+    let (a, b) = stack.two(memory)?;
+    stack.replace_two(memory, u16::from(holds(operation, a, b)))?;
     Ok(stack)
 }
 
 // CHK. .., a, b, c -> .., a
+#[inline(always)]
 #[tactic(auto, unfolding(crate::specs::Arithmetic::check_row), using(pm_words::proofs::WatchLaws::keeps))]
 fn check(memory: &mut Memory, top: Top) -> Result<Top, ExecError>
     ensures row { MovesTop result top memory.old.words memory.new.words (check_row memory.old.words top.sp top.np) }

@@ -1,13 +1,22 @@
 //! Jumps.
 
-ghost use Rattle.std.specs.Prelude.{◌≡◌, IfOk};
-ghost use Rattle.pm_opcode.specs.Spelling.{rank};
+ghost use Rattle.std.specs.Prelude.{◌≡◌, ◌<◌, IfOk};
+ghost use Rattle.pm_opcode.specs.Spelling.{rank, signed_byte};
 ghost use Rattle.pm_rows.specs.Jumps.{case_row, case_target, entry_target, jump_row, jumped, short_row, target};
 
 use pm_calls::ValidRegisters;
 use pm_opcode::{Condition, Jump};
 use pm_words::stack::load;
 use pm_words::{ExecError, Memory};
+
+/// The word of a signed byte, from 0 to 255: the offset that a jump of two bytes has.
+#[inline(always)]
+pub fn signed(byte: u16) -> u16
+    requires byte { byte < 256 }
+    ensures word { result ≡ signed_byte byte }
+{
+    if byte < 128 { byte } else { byte + 65280 }
+}
 
 // Where a jump leads: forward from the next instruction, or by an entry of the jump table.
 #[inline(always)]

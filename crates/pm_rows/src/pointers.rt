@@ -28,8 +28,8 @@ fn increment(memory: &mut Memory, top: Top, by: u16) -> Result<Top, ExecError>
     ensures keeps { KeepsWatch memory.old memory.new }
 {
     let mut stack = top;
-    let a = stack.pop(memory)?;
-    stack.push(memory, a.wrapping_add(by.wrapping_mul(2)))?;
+    let a = stack.one(memory)?;
+    stack.replace_one(memory, a.wrapping_add(by.wrapping_mul(2)))?;
     Ok(stack)
 }
 
@@ -42,9 +42,9 @@ fn indirect(memory: &mut Memory, top: Top, by: u16) -> Result<Top, ExecError>
     ensures keeps { KeepsWatch memory.old memory.new }
 {
     let mut stack = top;
-    let a = stack.pop(memory)?;
+    let a = stack.one(memory)?;
     let word = load(memory, a.wrapping_add(by.wrapping_mul(2)))?;
-    stack.push(memory, word)?;
+    stack.replace_one(memory, word)?;
     Ok(stack)
 }
 
@@ -66,9 +66,8 @@ fn index(memory: &mut Memory, top: Top, size: u16) -> Result<Top, ExecError>
     ensures keeps { KeepsWatch memory.old memory.new }
 {
     let mut stack = top;
-    let i = stack.pop(memory)?;
-    let a = stack.pop(memory)?;
-    stack.push(memory, item_at(a, size, i))?;
+    let (a, i) = stack.two(memory)?;
+    stack.replace_two(memory, item_at(a, size, i))?;
     Ok(stack)
 }
 

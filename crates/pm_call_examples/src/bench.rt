@@ -28,9 +28,9 @@ pub fn rows() -> SlotRows {
 #[derive(Drop)]
 pub struct Bench {
     /// The memory that procedures read and write.
-    pub memory: Memory,
+    pub memory: Box<Memory>,
     /// Another one, of any words.
-    pub scratch: Memory,
+    pub scratch: Box<Memory>,
     /// The registers.
     pub registers: ValidRegisters,
     /// The segments that are loaded.

@@ -46,8 +46,8 @@ const CODE: [u8; 16] = [0, 0, 0, 0, 0, 0, 0, 0, 0, 0, 1, 0, 2, 0, 3, 1];
 // What calls read and write.
 #[derive(Drop)]
 struct Parts {
-    memory: Memory,
-    scratch: Memory,
+    memory: Box<Memory>,
+    scratch: Box<Memory>,
     frames: Frames,
     registers: Registers,
 }

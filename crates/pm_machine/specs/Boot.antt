@@ -124,7 +124,7 @@ boot_start images unit name clock = do
 
 -- what calls see of a machine that begins
 abbrev pub parts_of : Begun → Parts
-parts_of b = record { memory = b.memory.words; registers = b.registers; places = b.frames.places }
+parts_of b = record { memory = b.memory.value.words; registers = b.registers; places = b.frames.places }
 
 -- a program began, or was refused; memory is missing only where its file was found
 abbrev pub Begins : Result Begun BootFault → Result (Entry × List ℕ) BootFault → Result (Parts × List SlotRow) BootFault

@@ -24,8 +24,8 @@ use std::alloc::{AllocError, Global};
 /// What a machine begins with, but for its units.
 #[derive(Drop)]
 pub struct Begun {
-    pub memory: Memory,
-    pub scratch: Memory,
+    pub memory: Box<Memory>,
+    pub scratch: Box<Memory>,
     pub registers: Registers,
     pub frames: Frames,
     pub rows: SlotRows,
@@ -108,7 +108,7 @@ fn rows_of(unit: u8, first: u16, file: &CodeFile<'_>) -> SlotRows
 fn start(alloc: Global) -> Result<Begun, AllocError>
     ensures parts { IfOk result (λ b. parts_of b ≡ first_parts) }
     ensures stack { IfOk result (λ b. IsStack b.registers.sp b.registers.np) }
-    ensures agrees { IfOk result (λ b. InStep b.memory b.frames b.registers.mp) }
+    ensures agrees { IfOk result (λ b. InStep b.memory.value b.frames b.registers.mp) }
 {
     let mut memory = Memory::new(alloc)?;
     put_system_frame(&mut memory);
@@ -137,8 +137,8 @@ fn start(alloc: Global) -> Result<Begun, AllocError>
 fn first_call(start: &mut Begun, code: Option<&[u8]>) -> Result<(), ExecError>
     requires stack { IsStack start.old.registers.sp start.old.registers.np }
     requires even_code { IfSome code (λ c. length c.now % 2 ≡ 0) }
-    requires agrees { InStep start.old.memory start.old.frames start.old.registers.mp }
-    ensures agrees { InStep start.new.memory start.new.frames start.new.registers.mp }
+    requires agrees { InStep start.old.memory.value start.old.frames start.old.registers.mp }
+    ensures agrees { InStep start.new.memory.value start.new.frames start.new.registers.mp }
     ensures stack { OnOk result (IsStack start.new.registers.sp start.new.registers.np) }
     ensures done { Leaves result (parts_of start.old) (parts_of start.new)
         (called (parts_of start.old) (Cxp 1 1) (option_map (λ c. c.now) code.entry)) }
@@ -162,7 +162,7 @@ pub fn begin(
 ) -> Result<Begun, BootFault>
     ensures begins { Begins result (code_file volumes.now unit name.now) (begun volumes.now unit name.now) }
     ensures stack { IfOk result (λ b. IsStack b.registers.sp b.registers.np) }
-    ensures agrees { IfOk result (λ b. InStep b.memory b.frames b.registers.mp) }
+    ensures agrees { IfOk result (λ b. InStep b.memory.value b.frames b.registers.mp) }
 {
     let (entry, file) = code_file(volumes, unit, name)?;
     let mut start = start(alloc)?;

@@ -5,14 +5,6 @@ ghost use Rattle.std.specs.Prelude.{IfOk, IfSome, IsTrue, length, position, repl
 ghost use Rattle.pm_words.specs.Words.{IsInMemory, overwritten, passed, stops};
 
 use byteorder::{ByteOrder, LittleEndian};
-use std::alloc::{AllocError, Global};
-
-// So many zero bytes.
-pub fn zeros(alloc: Global, count: usize) -> Result<Vec<u8>, AllocError>
-    ensures zeros { IfOk result (λ bytes. bytes.items ≡ replicate count 0) }
-{
-    vec![in alloc; 0; count]
-}
 
 // Whether a range of bytes lies in memory.
 pub fn is_in_memory(address: u16, count: u16) -> bool

@@ -9,13 +9,13 @@ use pm_opcode::{Condition, Jump};
 use pm_words::stack::load;
 use pm_words::{ExecError, Memory};
 
-/// The word of a signed byte, from 0 to 255: the offset that a jump of two bytes has.
+/// The word of a signed byte: the offset that a jump of two bytes has.
 #[inline(always)]
-pub fn signed(byte: u16) -> u16
-    requires byte { byte < 256 }
+pub fn signed(byte: u8) -> u16
     ensures word { result ≡ signed_byte byte }
 {
-    if byte < 128 { byte } else { byte + 65280 }
+    let word = u16::from(byte);
+    if word < 128 { word } else { word + 65280 }
 }
 
 // Where a jump leads: forward from the next instruction, or by an entry of the jump table.

@@ -3,5 +3,4 @@ pub mod LoadLaws
 pub mod RunLaws
 pub mod UntilLaws
 pub mod StepLaws
-pub mod Computed
 pub mod QuickLaws

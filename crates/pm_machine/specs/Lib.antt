@@ -10,5 +10,4 @@ pub mod Boot
 pub mod Runs
 pub mod Laws
 pub mod RunLaws
-pub mod Worked
 pub mod Quick

@@ -16,7 +16,6 @@ mod state;
 pub mod step_laws;
 mod stop_test;
 mod views;
-pub mod worked;
 
 pub use machine::Machine;
 pub use pm_calls::Registers;

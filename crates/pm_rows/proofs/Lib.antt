@@ -1,3 +1,4 @@
 pub mod WordLists
 pub mod StoredWords
 pub mod StackRows
+pub mod Computed

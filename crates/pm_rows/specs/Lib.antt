@@ -7,3 +7,4 @@ pub mod Literals
 pub mod Jumps
 pub mod PointerLaws
 pub mod StackLaws
+pub mod Worked

@@ -11,3 +11,4 @@ pub mod pointers;
 pub mod stack_laws;
 pub mod values;
 pub mod variables;
+pub mod worked;

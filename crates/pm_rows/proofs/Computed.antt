@@ -1,6 +1,6 @@
 -- The results are computed.
 use Rattle.std.proofs.Common.{refl}
-use Rattle.pm_machine.specs.Worked.{WorkedResults}
+use Rattle.pm_rows.specs.Worked.{WorkedResults}
 
 pub worked_results : WorkedResults
 worked_results = record {

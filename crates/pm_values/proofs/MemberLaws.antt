@@ -59,7 +59,7 @@ bits_from-bit p s (suc n) (suc b) h =
     ∙ bits_from-bit p (suc s) n b (omega arith))
 
 -- each word is of its sixteen numbers
-get_or-set_from : (n s i : ℕ) (p : ℕ → Bool) → i < n → get_or (set_from p s n) i 0 ≡ bits_from p (s + 16 * i) 16
+pub get_or-set_from : (n s i : ℕ) (p : ℕ → Bool) → i < n → get_or (set_from p s n) i 0 ≡ bits_from p (s + 16 * i) 16
 unfolding set_from
 get_or-set_from zero s i p h = absurd (omega arith)
 get_or-set_from (suc n) s zero p h = let place : s + 16 * 0 ≡ s = omega arith in rw place refl

@@ -7,6 +7,7 @@ ghost use Rattle.std.specs.Prelude.{
   ◌+◌,
   ◌*◌,
   ◌&&◌,
+  ◌∷◌,
   ℕ,
   IfOk,
   IsOk,
@@ -20,7 +21,8 @@ ghost use Rattle.std.specs.Prelude.{
 };
 ghost use Rattle.pm_words.specs.Watch.{KeepsWatch};
 ghost use Rattle.pm_words.specs.Stack.{IsStack, Changes};
-ghost use Rattle.pm_words.specs.Words.{words_at};
+ghost use Rattle.pm_words.specs.Words.{with_words, words_at};
+ghost use Rattle.pm_values.specs.Several.{push_words};
 ghost use Rattle.pm_values.specs.Combinations.{count_of, test_of, combined_word};
 ghost use Rattle.pm_values.specs.Sets.{
   adjust_row,
@@ -169,8 +171,13 @@ pub fn adjust(memory: &mut Memory, sp: u16, np: u16, words: u8) -> Result<u16, E
     ensures keeps { KeepsWatch memory.old memory.new }
 {
     let set = find_set(memory, sp)?;
-    let members = resized(memory, set, usize::from(words));
-    push_words(memory, set.above, np, &members)
+    let size = 2 * u16::from(words);
+    if u32::from(set.above) < u32::from(np) + u32::from(size) {
+        return Err(ExecError::StackOverflow);
+    }
+    let top = set.above - size;
+    resize(memory, set, top, u16::from(words));
+    Ok(top)
 }
 
 // Replaces two sets by the one that they make.
@@ -189,9 +196,74 @@ fn combine(
     let _ = memory.bytes(); // for its first clause
     let upper = find_set(memory, sp)?;
     let lower = find_set(memory, upper.above)?;
+    if combined_count(
+        combination,
+        usize::from(lower.count),
+        usize::from(upper.count),
+    ) == usize::from(lower.count)
+    {
+        return combine_in_place(memory, np, combination, lower, upper);
+    }
     let mut set = ArrayVec::new();
     combined(memory, combination, lower, upper, &mut set);
     push_words(memory, lower.above, np, &set)
+}
+
+// Replaces two sets by the one that they make where that has as many words as the lower one: it stands in the lower
+// one's place.
+#[inline(always)]
+#[tactic(auto, using(pm_words::proofs::WatchLaws::keeps))]
+fn combine_in_place(
+    memory: &mut Memory,
+    np: u16,
+    combination: Combination,
+    lower: SetPlace,
+    upper: SetPlace,
+) -> Result<u16, ExecError>
+    requires lower_even { lower.address % 2 ≡ 0 }
+    requires lower_above { lower.above ≡ lower.address + 2 * lower.count }
+    requires lower_inside { lower.above ≤ STACK_END }
+    requires upper_even { upper.address % 2 ≡ 0 }
+    requires upper_inside { upper.address + 2 * upper.count ≤ lower.address }
+    ensures row { Changes result memory.old.words memory.new.words (push_words memory.old.words lower.above np
+        (lower.count ∷ set_of lower.count (λ e. test_of combination
+        (is_member (words_at memory.old.words lower.address lower.count) e)
+        (is_member (words_at memory.old.words upper.address upper.count) e)))) }
+    ensures stack { IsStack lower.above np → IfOk result (λ sp. IsStack sp np) }
+    ensures keeps { KeepsWatch memory.old memory.new }
+{
+    let _ = memory.bytes(); // for its first clause
+    if u32::from(lower.address) < u32::from(np) + 2 {
+        return Err(ExecError::StackOverflow);
+    }
+    let top = lower.address - 2;
+    write_combined(memory, combination, lower, upper);
+    memory.set_word(top, lower.count);
+    Ok(top)
+}
+
+// Writes the words that two sets make over those of the lower one.
+#[inline(always)]
+fn write_combined(memory: &mut Memory, combination: Combination, lower: SetPlace, upper: SetPlace)
+    requires lower_even { lower.address % 2 ≡ 0 }
+    requires lower_inside { lower.address + 2 * lower.count ≤ STACK_END }
+    requires upper_even { upper.address % 2 ≡ 0 }
+    requires upper_inside { upper.address + 2 * upper.count ≤ lower.address }
+    ensures words { memory.new.words ≡ with_words memory.old.words lower.address
+        (set_of lower.count (λ e. test_of combination
+        (is_member (words_at memory.old.words lower.address lower.count) e)
+        (is_member (words_at memory.old.words upper.address upper.count) e))) }
+    ensures keeps { KeepsWatch memory.old memory.new }
+{
+    let _ = memory.bytes(); // for its first clause
+    for i in 0..lower.count {
+        let place = usize::from(i);
+        let (low, high) = (
+            set_word(memory, lower, place),
+            set_word(memory, upper, place),
+        );
+        memory.set_word(lower.address + 2 * i, combined_word(combination, low, high));
+    }
 }
 
 // The set on the stack, left where it stands.
@@ -203,6 +275,7 @@ fn find_set(memory: &Memory, sp: u16) -> Result<SetPlace, ExecError>
         ≡ Ok (record { members = words_at memory.now.words s.address s.count; above = s.above }))
         (λ e. pop_set memory.now.words sp ≡ Err e) }
     ensures even { IfOk result (λ s. s.address % 2 ≡ 0) }
+    ensures place { IfOk result (λ s. s.address ≡ sp + 2) }
     ensures few { IfOk result (λ s. s.count ≤ 255) }
     ensures inside { IfOk result (λ s. s.address + 2 * s.count ≤ STACK_END) }
     ensures above { IfOk result (λ s. s.above ≡ s.address + 2 * s.count) }
@@ -372,19 +445,18 @@ fn interval_word(low: u16, high: u16, first: u16) -> u16
     ((1u32 << to) - (1u32 << from)) as u16
 }
 
-// The members of a set in memory in `count` words.
+// Moves the words of a set to an even address, cut or filled up by zeros to `count` words.
 #[inline(always)]
-fn resized(memory: &Memory, set: SetPlace, count: usize) -> ArrayVec<u16, SET_WORDS>
+fn resize(memory: &mut Memory, set: SetPlace, to: u16, count: u16)
     requires even { set.address % 2 ≡ 0 }
+    requires even_to { to % 2 ≡ 0 }
     requires inside { set.address + 2 * set.count ≤ STACK_END }
-    requires few { count ≤ 255 }
-    ensures few { length result.items ≤ 256 }
-    ensures words { result.items ≡ set_of count
-        (λ e. is_member (words_at memory.now.words set.address set.count) e) }
+    requires inside_to { to + 2 * count ≤ STACK_END }
+    ensures words { memory.new.words ≡ with_words memory.old.words to
+        (set_of count (λ e. is_member (words_at memory.old.words set.address set.count) e)) }
+    ensures keeps { KeepsWatch memory.old memory.new }
 {
-    let mut members = ArrayVec::new();
-    for i in 0..count {
-        members.push(set_word(memory, set, i));
-    }
-    members
+    let kept = set.count.min(count);
+    memory.copy(set.address, to, 2 * kept);
+    memory.fill(to + 2 * kept, 2 * (count - kept), 0);
 }

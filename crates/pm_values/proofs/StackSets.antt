@@ -1,5 +1,6 @@
 -- The words of a set that stands in memory.
-use Rattle.std.proofs.Common.{◌≡◌, ◌∙◌, ℕ, ◌+◌, ◌-◌, ◌*◌, ◌/◌, ◌%◌, ◌^◌, ◌<◌, ◌≤◌, ◌⊎◌, inl, inr, ⊎_elim, min, List, [], ◌∷◌, ◌++◌, length, drop, get_or, replicate}
+use Rattle.std.proofs.Common.{◌≡◌, ◌∙◌, ℕ, ◌+◌, ◌-◌, ◌*◌, ◌/◌, ◌%◌, ◌^◌, ◌<◌, ◌≤◌, ◌⊎◌, inl, inr, ⊎_elim, min}
+use Rattle.std.proofs.Common.{List, [], ◌∷◌, ◌++◌, length, drop, get_or, replicate}
 use Rattle.std.proofs.Common.{refl, sym, ap, arith, rules, true, false, nat_le, Ok, Err}
 use Rattle.std.proofs.lemmas.Bool.{cases_lt}
 use Rattle.std.proofs.lemmas.Bool.Decides.{nat_tests}
@@ -222,7 +223,8 @@ combined-more how m now new a n b k i low high h even even_b inside apart l was 
     let word = combined-word how (words_at m a n) (words_at m b k) i (set-fits m a n i h even inside) (set-fits m b k i h even_b (omega arith)) in
     is ∙ (ap (λ w. with_word w (a + 2 * i) (combined_word how low high)) was
     ∙ (with_words-more m (set_of i p) a (a + 2 * i) (combined_word how low high) even (omega (arith, size)) (omega (arith, h.size, size))
-    ∙ (ap (λ w. with_words m a (set_of i p ++ w ∷ [])) (ap (λ x. combined_word how x high) lower ∙ ap (λ x. combined_word how (get_or (words_at m a n) i 0) x) upper)
+    ∙ (ap (λ w. with_words m a (set_of i p ++ w ∷ []))
+    (ap (λ x. combined_word how x high) lower ∙ ap (λ x. combined_word how (get_or (words_at m a n) i 0) x) upper)
     ∙ ap (with_words m a) (set_of-more i _ p word))))
 
 -- the set with its count below it

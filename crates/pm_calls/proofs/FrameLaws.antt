@@ -1,9 +1,11 @@
 -- The laws of a frame's words.
-use Rattle.std.proofs.Common.{take, ◌≡◌, ℕ, ◌+◌, ◌-◌, ◌%◌, ◌≤◌, List, ◌∙◌, refl, arith}
-use Rattle.std.proofs.lemmas.List.{append-nil, take-append-drop}
-use Rattle.pm_words.specs.Words.{IsMemory, bytes_at, bytes_of, copied, with_bytes, words_of, word_at, with_word}
+use Rattle.std.proofs.Common.{take, get_or, ◌≡◌, ℕ, ◌+◌, ◌-◌, ◌*◌, ◌/◌, ◌%◌, ◌<◌, ◌≤◌, List, ◌∙◌, refl, sym, ap, arith, inl, inr, ⊎_elim}
+use Rattle.std.proofs.lemmas.Bool.{cases_lt, cases_eq}
+use Rattle.std.proofs.lemmas.List.{append-nil, ext_get_or, take-append-drop}
+use Rattle.pm_words.specs.Words.{IsMemory, bytes_at, bytes_of, copied, with_bytes, word_at, with_word}
 use Rattle.pm_words.proofs.Pairs.{words_of-bytes_of}
-use Rattle.pm_words.proofs.Laws.{word_at-with_word, word_at-with_word_other}
+use Rattle.pm_words.proofs.Laws.{IsMemory-with_word, word_at-with_word, word_at-with_word_other}
+use Rattle.pm_words.proofs.RangeLaws.{IsMemory-copied, word_at-copied, word_at-copied_other}
 use Rattle.pm_calls.specs.declared.registers.Registers.{Registers}
 use Rattle.pm_calls.specs.Calls.{with_control}
 
@@ -29,3 +31,57 @@ unfolding copied bytes_at with_bytes
 no_bytes_copied ws from to n none =
     let same : to + 0 ≡ to = omega arith in
     rw (none, same, append-nil (take to (bytes_of ws)), take-append-drop to (bytes_of ws)) (words_of-bytes_of ws)
+
+-- ---- a copy word by word
+
+word_at-twice : (ws : List ℕ) (i : ℕ) → word_at ws (2 * i) ≡ get_or ws i 0
+unfolding word_at
+word_at-twice ws i = let half : 2 * i / 2 ≡ i = omega arith in rw half refl
+
+same_words : (ws vs : List ℕ) → IsMemory ws → IsMemory vs → ((x : ℕ) → x % 2 ≡ 0 → x < 65536 → word_at ws x ≡ word_at vs x) → ws ≡ vs
+same_words ws vs h k same =
+    ext_get_or 0 ws vs (h.size ∙ sym k.size)
+    (λ i l. sym (word_at-twice ws i) ∙ (same (2 * i) (omega arith) (omega (arith, h.size)) ∙ word_at-twice vs i))
+
+-- a word more that is copied
+pub copied-word : (ws : List ℕ) (from to n w : ℕ) → IsMemory ws → from % 2 ≡ 0 → to % 2 ≡ 0 → n % 2 ≡ 0 → from + n + 2 ≤ 65536 → to + n + 2 ≤ 65536
+    → w ≡ word_at ws (from + n) → w < 65536 → with_word (copied ws from to n) (to + n) w ≡ copied ws from to (n + 2)
+copied-word ws from to n w h f t even source room is fit =
+    let start : from + n ≤ 65536 = omega arith in
+    let end : to + n ≤ 65536 = omega arith in
+    let source2 : from + (n + 2) ≤ 65536 = omega arith in
+    let room2 : to + (n + 2) ≤ 65536 = omega arith in
+    let k = IsMemory-copied ws from to n h start end in
+    same_words _ _ (IsMemory-with_word _ (to + n) w k fit) (IsMemory-copied ws from to (n + 2) h source2 room2)
+    (λ x ex l. ⊎_elim
+    (λ less. word_at-with_word_other _ (to + n) x w (omega arith) ex (λ e. absurd (omega arith))
+    ∙ (word_at-copied_other ws from to n x h start end ex (inl (omega arith))
+    ∙ sym (word_at-copied_other ws from to (n + 2) x h source2 room2 ex (inl (omega arith)))))
+    (λ more. ⊎_elim
+    (λ inside. word_at-with_word_other _ (to + n) x w (omega arith) ex (λ e. absurd (omega arith))
+    ∙ (word_at-copied ws from to n x h start end f t ex more (omega arith)
+    ∙ sym (word_at-copied ws from to (n + 2) x h source2 room2 f t ex more (omega arith))))
+    (λ past. ⊎_elim
+    (λ same. word_at-with_word _ (to + n) x w same (omega (arith, k.size))
+    ∙ (is ∙ (ap (word_at ws) (omega arith) ∙ sym (word_at-copied ws from to (n + 2) x h source2 room2 f t ex more (omega arith)))))
+    (λ ne. word_at-with_word_other _ (to + n) x w (omega arith) ex ne
+    ∙ (word_at-copied_other ws from to n x h start end ex (inr past)
+    ∙ sym (word_at-copied_other ws from to (n + 2) x h source2 room2 ex (inr (omega arith)))))
+    (cases_eq x (to + n)))
+    (cases_lt x (to + n)))
+    (cases_lt x to))
+
+-- a word that is still to be copied upwards stands as it stood
+pub copied-ahead : (ws : List ℕ) (from to n : ℕ) → IsMemory ws → from % 2 ≡ 0 → n % 2 ≡ 0 → to ≤ from → from + n + 2 ≤ 65536
+    → word_at (copied ws from to n) (from + n) ≡ word_at ws (from + n)
+copied-ahead ws from to n h f even below source =
+    word_at-copied_other ws from to n (from + n) h (omega arith) (omega arith) (omega arith) (inr (omega arith))
+
+-- a word that is copied alone
+pub word_copied : (ws : List ℕ) (from to w : ℕ) → IsMemory ws → from % 2 ≡ 0 → to % 2 ≡ 0 → from + 2 ≤ 65536 → to + 2 ≤ 65536
+    → w ≡ word_at ws from → w < 65536 → with_word ws to w ≡ copied ws from to 2
+word_copied ws from to w h f t source room is fit =
+    let start : from + 0 ≡ from = omega arith in
+    let place : to + 0 ≡ to = omega arith in
+    let more = copied-word ws from to 0 w h f t refl (omega arith) (omega arith) (rw start is) fit in
+    rw (no_bytes_copied ws from to 0 refl, place) at more

@@ -1,9 +1,9 @@
 //! A frame on the stack.
 
-ghost use Rattle.std.specs.Prelude.{◌≡◌, ◌+◌, ◌%◌, ◌≤◌, IfOk, IsTrue, OnErr};
+ghost use Rattle.std.specs.Prelude.{◌≡◌, ◌+◌, ◌*◌, ◌%◌, ◌≤◌, Ok, Err, IsTrue, MatchResult, OnOk, OnErr};
 ghost use Rattle.pm_words.specs.Watch.{KeepsWatch};
 ghost use Rattle.pm_words.specs.Words.{copied, word_at};
-ghost use Rattle.pm_words.specs.Stack.{Changes, IsStack};
+ghost use Rattle.pm_words.specs.Stack.{IsStack};
 ghost use Rattle.pm_calls.specs.Tables.{IsEvenTable};
 ghost use Rattle.pm_calls.specs.Calls.{frame_top, framed, inside, kept_below, with_control, with_frame, with_old_base};
 ghost use Rattle.pm_words.specs.declared.layout.TheConstants.{STACK_END};
@@ -30,16 +30,46 @@ fn put_control(memory: &mut Memory, frame: u16, link: u16, registers: Registers,
     memory.set_word(frame + 10, above);
 }
 
-// Copies the parameters of a frame, if there are any.
+// Copies the parameters of a frame to a place that is not above them: few of them word by word, from the lowest on.
 #[inline(always)]
 #[tactic(auto, using(pm_words::proofs::WatchLaws::keeps))]
 fn put_parameters(memory: &mut Memory, from: u16, to: u16, count: u16)
+    requires even { (from % 2 ≡ 0) × (to % 2 ≡ 0) × (count % 2 ≡ 0) }
+    requires below { to ≤ from }
     requires within { (from + count ≤ STACK_END) × (to + count ≤ STACK_END) }
     ensures words { memory.new.words ≡ copied memory.old.words from to count }
     ensures keeps { KeepsWatch memory.old memory.new }
 {
-    if count > 0 {
-        memory.copy(from, to, count);
+    if count > 16 {
+        put_block(memory, from, to, count);
+    } else {
+        put_words(memory, from, to, count / 2);
+    }
+}
+
+// Copies bytes as a block.
+#[inline(never)]
+fn put_block(memory: &mut Memory, from: u16, to: u16, count: u16)
+    requires within { (from + count ≤ STACK_END) × (to + count ≤ STACK_END) }
+    ensures words { memory.new.words ≡ copied memory.old.words from to count }
+    ensures keeps { KeepsWatch memory.old memory.new }
+{
+    memory.copy(from, to, count);
+}
+
+// Copies words one by one, from the lowest on, to a place that is not above them.
+#[tactic(auto, using(pm_words::proofs::WatchLaws::keeps))]
+fn put_words(memory: &mut Memory, from: u16, to: u16, count: u16)
+    requires even { (from % 2 ≡ 0) × (to % 2 ≡ 0) }
+    requires below { to ≤ from }
+    requires within { (from + 2 * count ≤ STACK_END) × (to + 2 * count ≤ STACK_END) }
+    ensures words { memory.new.words ≡ copied memory.old.words from to (2 * count) }
+    ensures keeps { KeepsWatch memory.old memory.new }
+{
+    let _ = memory.bytes(); // for the size of the memory
+    for i in 0..count {
+        let word = memory.word(from + 2 * i).unwrap_or(0);
+        memory.set_word(to + 2 * i, word);
     }
 }
 
@@ -56,6 +86,7 @@ fn put_frame(
     requires even { frame % 2 ≡ 0 }
     requires above { frame + 12 + parameters ≤ STACK_END }
     requires below { IsTrue base → 2 ≤ frame }
+    requires below_stack { (registers.sp % 2 ≡ 0) × (parameters % 2 ≡ 0) × (frame + 12 ≤ registers.sp) }
     requires within { registers.sp + parameters ≤ STACK_END }
     ensures words { memory.new.words
         ≡ with_old_base base (with_frame memory.old.words frame link registers parameters) frame registers.base }
@@ -81,58 +112,62 @@ fn frame_top(loaded: u16, sp: u16, parameters: u16) -> u32
     }
 }
 
-// The registers in the procedure with this table, whose frame is at `mp`, of the segment at `place`.
-fn inside(base: bool, registers: Registers, place: u16, table: Table, mp: u16) -> Registers
+// Takes the registers into the procedure with this table, whose frame is at `mp`, of the segment at `place`.
+fn go_inside(registers: &mut Registers, base: bool, place: u16, table: Table, mp: u16)
     requires below { kept_below base ≤ mp }
-    ensures inside { result ≡ inside base registers place table mp }
+    ensures inside { registers.new ≡ inside base registers.old place table mp }
 {
-    Registers {
-        sp: if base { mp - 2 } else { mp },
-        ipc: table.enter,
-        seg: place,
-        jtab: table.jtab,
-        mp,
-        base: if base { mp } else { registers.base },
-        ..registers
+    registers.sp = if base { mp - 2 } else { mp };
+    registers.ipc = table.enter;
+    registers.seg = place;
+    registers.jtab = table.jtab;
+    registers.mp = mp;
+    if base {
+        registers.base = mp;
     }
 }
 
 /// Enters a procedure of the segment at `place`, of which `loaded` bytes were loaded for it, once
-/// its table and its static link are known: writes its frame, and gives the registers in it.
+/// its table and its static link are known: writes its frame, and takes the registers into it.
+/// An error changes nothing.
 #[tactic(auto, unfolding(crate::specs::Calls::framed), using(pm_words::proofs::WatchLaws::keeps))]
 pub fn enter(
     memory: &mut Memory,
     place: u16,
     loaded: u16,
-    registers: Registers,
+    registers: &mut Registers,
     base: bool,
     table: Table,
     link: u16,
-) -> Result<Registers, ExecError>
-    requires stack { IsStack registers.sp registers.np }
+) -> Result<(), ExecError>
+    requires stack { IsStack registers.old.sp registers.old.np }
     requires even { IsEvenTable table }
     requires even_code { loaded % 2 ≡ 0 }
-    requires room { loaded ≤ registers.sp }
-    ensures framed { Changes result memory.old.words memory.new.words
-        (framed memory.old.words place loaded registers base table link) }
-    ensures stack { IfOk result (λ r. IsStack r.sp r.np) }
+    requires room { loaded ≤ registers.old.sp }
+    ensures framed { MatchResult result
+        (λ _. framed memory.old.words place loaded registers.old base table link
+        ≡ Ok (memory.new.words, registers.new))
+        (λ e. framed memory.old.words place loaded registers.old base table link ≡ Err e) }
+    ensures stack { OnOk result (IsStack registers.new.sp registers.new.np) }
     ensures keeps { KeepsWatch memory.old memory.new }
-    ensures refused { OnErr result (memory.new ≡ memory.old) }
-    ensures even { IfOk result (λ r. r.mp % 2 ≡ 0) }
-    ensures linked { IfOk result (λ r. word_at memory.new.words r.mp ≡ link) }
-    ensures table { IfOk result (λ r. (r.jtab ≡ table.jtab) × (r.ipc ≡ table.enter)) }
+    ensures refused { OnErr result ((memory.new ≡ memory.old) × (registers.new ≡ registers.old)) }
+    ensures even { OnOk result (registers.new.mp % 2 ≡ 0) }
+    ensures linked { OnOk result (word_at memory.new.words registers.new.mp ≡ link) }
+    ensures table { OnOk result ((registers.new.jtab ≡ table.jtab) × (registers.new.ipc ≡ table.enter)) }
 {
+    let old = *registers;
     let parameters = u32::from(table.parameters);
-    if u32::from(registers.sp) + parameters > u32::from(STACK_END) {
+    if u32::from(old.sp) + parameters > u32::from(STACK_END) {
         return Err(ExecError::InvalidMemory);
     }
-    let top = frame_top(loaded, registers.sp, table.parameters);
+    let top = frame_top(loaded, old.sp, table.parameters);
     let kept = if base { 2 } else { 0 };
     let size = u32::from(table.locals) + parameters + 12;
-    if u32::from(registers.np) + kept + size > top {
+    if u32::from(old.np) + kept + size > top {
         return Err(ExecError::StackOverflow);
     }
     let mp = (top - size) as u16;
-    put_frame(memory, mp, link, registers, table.parameters, base);
-    Ok(inside(base, registers, place, table, mp))
+    put_frame(memory, mp, link, old, table.parameters, base);
+    go_inside(registers, base, place, table, mp);
+    Ok(())
 }

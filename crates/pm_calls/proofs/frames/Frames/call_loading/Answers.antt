@@ -25,6 +25,6 @@ returns-in-Err-clause-done c = λ h.
     let entered = c.in-Err.ensures.entered (Agrees-keeps _ _ _ _ c.put_code.ensures.keeps h) in
     let some : 0 < length c.args.code.now = search rules in
     let room : c.args.registers.now.np + length c.args.code.now ≤ c.args.registers.now.sp = search rules in (
-      called_loading-refused _ _ _ _ _ some room (rw c.put_code.ensures.written at entered.0),
-      rw (c.copy_from-in-Err.ensures.words, c.copy_from.ensures.words, c.enter.ensures.places) refl,
+      called_loading-refused _ _ _ _ _ some room (rw c.put_code.ensures.written at entered),
+      rw (c.copy_from-in-Err.ensures.words, c.copy_from.ensures.words, c.enter.ensures.places, c.in-Err.ensures.refused.1) refl,
     )

@@ -9,45 +9,41 @@ use Rattle.pm_calls.proofs.frames.Frames.enter.Goals as goal
 pub returns-in_err-table-clause-entered : goal.returns-in_err-table-clause-entered
 returns-in_err-table-clause-entered c = λ h.
     let p = err_from_is_err_and c.from_residual.result c.from_residual.ensures.1 in
-    rw (p.1, p.2) (
-      entered-no_table _ _ _ _ c.args.registers _ _ c.procedure_of.ensures.procedure (c.in_err-table.ensures.value _ h),
-      c.attributes.ensures.words,
-    )
+    rw (p.1, p.2) (entered-no_table _ _ _ _ c.args.registers.now _ _ c.procedure_of.ensures.procedure (c.in_err-table.ensures.value _ h))
 
 pub returns-in_err-link-clause-entered : goal.returns-in_err-link-clause-entered
 returns-in_err-link-clause-entered c = λ h.
     let p = err_from_is_err_and c.from_residual-in_err-link.result c.from_residual-in_err-link.ensures.1 in
     let level : to_z w8 (of_z w8 c.in_ok-table.table.level) ≡ c.in_ok-table.table.level = search rules in
     let link = rw (c.attributes.ensures.words, level) at (c.in_err-link.ensures.value (c.attributes.ensures.agrees _ h)) in
-    rw (p.1, p.2) (
-      entered-no_link _ _ _ _ c.args.registers _ _ _ c.procedure_of.ensures.procedure (c.in_ok-table.ensures.value _ h) link,
-      c.static_link.ensures.words ∙ c.attributes.ensures.words,
-    )
+    rw (p.1, p.2) (entered-no_link _ _ _ _ c.args.registers.now _ _ _ c.procedure_of.ensures.procedure (c.in_ok-table.ensures.value _ h) link)
 
-pub returns-in_err-inside-clause-entered : goal.returns-in_err-inside-clause-entered
-returns-in_err-inside-clause-entered c = λ h.
-    let p = err_from_is_err_and c.from_residual-in_err-inside.result c.from_residual-in_err-inside.ensures.1 in
+pub returns-in_err-enter-clause-entered : goal.returns-in_err-enter-clause-entered
+returns-in_err-enter-clause-entered c = λ h.
+    let p = err_from_is_err_and c.from_residual-in_err-enter.result c.from_residual-in_err-enter.ensures.1 in
     let level : to_z w8 (of_z w8 c.in_ok-table.table.level) ≡ c.in_ok-table.table.level = search rules in
     let link = rw (c.attributes.ensures.words, level) at (c.in_ok-link.ensures.value (c.attributes.ensures.agrees _ h)) in
     let words = c.static_link.ensures.words ∙ c.attributes.ensures.words in
-    let framed = rw (words, c.is_base-base.ensures.base, level) at c.in_err-inside.ensures.framed in
-    rw (p.1, p.2) (entered-framed _ _ _ _ c.args.registers _ _ _ c.procedure_of.ensures.procedure (c.in_ok-table.ensures.value _ h) link ∙ framed.0, framed.1)
+    let framed = rw (words, c.is_base-base.ensures.base, level) at c.in_err-enter.ensures.framed in
+    rw (p.1, p.2) (entered-framed _ _ _ _ c.args.registers.now _ _ _ c.procedure_of.ensures.procedure (c.in_ok-table.ensures.value _ h) link ∙ framed)
 
 pub returns-then-is_local-clause-entered : goal.returns-then-is_local-clause-entered
 returns-then-is_local-clause-entered c = λ h.
     let level : to_z w8 (of_z w8 c.in_ok-table.table.level) ≡ c.in_ok-table.table.level = search rules in
     let link = rw (c.attributes.ensures.words, level) at (c.in_ok-link.ensures.value (c.attributes.ensures.agrees _ h)) in
     let words = c.static_link.ensures.words ∙ c.attributes.ensures.words in
-    let framed = rw (words, c.is_base-base.ensures.base, level) at c.in_ok-inside.ensures.framed in
-    rw c.descend.ensures.words (entered-framed _ _ _ _ c.args.registers _ _ _ c.procedure_of.ensures.procedure (c.in_ok-table.ensures.value _ h) link ∙ framed)
+    let framed = rw (words, c.is_base-base.ensures.base, level) at c.in_ok-enter.ensures.framed in
+    rw c.descend.ensures.words
+    (entered-framed _ _ _ _ c.args.registers.now _ _ _ c.procedure_of.ensures.procedure (c.in_ok-table.ensures.value _ h) link ∙ framed)
 
 pub returns-else-is_local-clause-entered : goal.returns-else-is_local-clause-entered
 returns-else-is_local-clause-entered c = λ h.
     let level : to_z w8 (of_z w8 c.in_ok-table.table.level) ≡ c.in_ok-table.table.level = search rules in
     let link = rw (c.attributes.ensures.words, level) at (c.in_ok-link.ensures.value (c.attributes.ensures.agrees _ h)) in
     let words = c.static_link.ensures.words ∙ c.attributes.ensures.words in
-    let framed = rw (words, c.is_base-base.ensures.base, level) at c.in_ok-inside.ensures.framed in
-    rw c.forget.ensures.words (entered-framed _ _ _ _ c.args.registers _ _ _ c.procedure_of.ensures.procedure (c.in_ok-table.ensures.value _ h) link ∙ framed)
+    let framed = rw (words, c.is_base-base.ensures.base, level) at c.in_ok-enter.ensures.framed in
+    rw c.forget.ensures.words
+    (entered-framed _ _ _ _ c.args.registers.now _ _ _ c.procedure_of.ensures.procedure (c.in_ok-table.ensures.value _ h) link ∙ framed)
 
 pub returns-then-is_local-clause-agrees : goal.returns-then-is_local-clause-agrees
 returns-then-is_local-clause-agrees c = λ h.

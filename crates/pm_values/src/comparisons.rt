@@ -1,12 +1,8 @@
 //! The typed comparisons.
 
-ghost use Rattle.std.specs.Prelude.{◌≡◌, ◌≤◌, IfOk, Ok, length};
-ghost use Rattle.std.specs.Cmp.Lexicographic.{slice_cmp};
-ghost use Rattle.std.specs.Ordering.{nat_cmp};
+ghost use Rattle.std.specs.Prelude.{◌≡◌, IfOk};
 ghost use Rattle.pm_words.specs.Watch.{KeepsWatch};
 ghost use Rattle.pm_words.specs.Stack.{IsStack, Changes};
-ghost use Rattle.pm_words.specs.Words.{byte_at};
-ghost use Rattle.pm_values.specs.Strings.{string_at};
 ghost use Rattle.pm_values.specs.Comparisons.{
   compare_booleans_row,
   compare_bytes_row,
@@ -72,29 +68,8 @@ fn compare_strings(
     let left = pop(memory, right.above)?;
     let first = characters(memory, left.word)?;
     let second = characters(memory, right.word)?;
-    let order = string_order(memory, left.word, right.word, first, second);
-    let found = holds(relation, order);
+    let found = holds(relation, first.cmp(second));
     push(memory, left.above, np, u16::from(found))
-}
-
-// The order of the strings at two addresses, by their characters. Where one is as long as the other, that is the order
-// of their bytes in memory, the length first.
-fn string_order(memory: &Memory, left: u16, right: u16, first: &[u8], second: &[u8]) -> Ordering
-    requires first { string_at memory.now.words left ≡ Ok first.now }
-    requires first_length { length first.now ≡ byte_at memory.now.words left }
-    requires second { string_at memory.now.words right ≡ Ok second.now }
-    requires second_length { length second.now ≡ byte_at memory.now.words right }
-    requires few { length first.now ≤ 255 }
-    ensures order { result ≡ slice_cmp nat_cmp first.now second.now }
-{
-    let _ = memory.bytes(); // for its first clause
-    if first.len() != second.len() {
-        return first.cmp(second);
-    }
-    match memory.compare(left, right, first.len() as u16 + 1) {
-        Some(order) => order,
-        None => first.cmp(second),
-    }
 }
 
 // Two truth values, by bit 0 alone.

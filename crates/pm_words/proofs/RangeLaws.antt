@@ -6,13 +6,6 @@ use Rattle.std.specs.List.{All}
 use Rattle.std.proofs.lemmas.Bool.{cases_lt, cases_eq, false≢true}
 use Rattle.std.proofs.lemmas.List.{append-nil, ext_get_or, get_or-take, get_or-drop, length-take-le, length-drop, length-replicate, take-append-drop}
 use Rattle.std.proofs.lemmas.List.Elements.{All-take, All-drop, All-cons, All-nil, All-replicate}
-use Rattle.std.proofs.lemmas.Bool.Decides.{nat_tests}
-use Rattle.std.proofs.lemmas.List.Edits.{get_or-between, length-between}
-use Rattle.std.specs.Prelude.{slice_index, slice_range}
-use Rattle.std.specs.Cmp.Lexicographic.{slice_cmp}
-use Rattle.std.specs.Ordering.{nat_cmp, ordering_then}
-use Rattle.std.specs.declared.cmp.Ordering.TheVariants.{Equal}
-use Rattle.byteorder.specs.Endian.{little_from}
 use Rattle.pm_words.specs.Watch.{IsSomeWatched, KeepsWatch, times}
 use Rattle.pm_words.specs.Words.{Contents, filled, IsMemory, byte_at, bytes_at, bytes_of, copied}
 use Rattle.pm_words.specs.Words.{moved_down, moved_up, with_byte, with_bytes, with_word, word_at}
@@ -291,57 +284,3 @@ unfolding filled
 KeepsWatch-filled m n a k b h room fit words watched touched =
     let size = length-replicate k b in
     KeepsWatch-with_bytes m n a (replicate k b) h (omega arith) (All-replicate (λ x. x < 256) k b fit) words watched (rw size touched)
-
--- ---- the order of bytes
-
--- two lists of bytes are the same in their first n
-abbrev pub AreSame : List ℕ → List ℕ → ℕ → Type 0
-AreSame xs ys n = (k : ℕ) → k < n → slice_index xs k ≡ slice_index ys k
-
--- numbers that are read from bytes are the same only where the bytes are
-same-read : (n i : ℕ) (xs ys : List ℕ) → All (λ b. b < 256) xs → All (λ b. b < 256) ys → i + n ≤ length xs → i + n ≤ length ys
-    → little_from i n xs ≡ little_from i n ys → (k : ℕ) → i ≤ k → k < i + n → get_or xs k 0 ≡ get_or ys k 0
-same-read zero i xs ys f g p q e k low high = absurd (omega arith)
-same-read (suc n) i xs ys f g p q e k low high =
-    let a : get_or xs i 0 < 256 = f i 0 (omega arith) in
-    let b : get_or ys i 0 < 256 = g i 0 (omega arith) in
-    let whole : get_or xs i 0 + 256 * little_from (suc i) n xs ≡ get_or ys i 0 + 256 * little_from (suc i) n ys = e in
-    let first : get_or xs i 0 ≡ get_or ys i 0 = omega (arith, whole, a, b) in
-    let rest : little_from (suc i) n xs ≡ little_from (suc i) n ys = omega (arith, whole, a, b) in
-    ⊎_elim
-    (λ here. let same : k ≡ i = omega (arith, here) in rw same first)
-    (λ later. same-read n (suc i) xs ys f g (omega arith) (omega arith) rest k (omega (arith, later)) (omega arith))
-    (cases_lt k (suc i))
-
--- eight bytes more are the same
-pub AreSame-eight : (xs ys : List ℕ) (i : ℕ) → All (λ b. b < 256) xs → All (λ b. b < 256) ys → 8 * i + 8 ≤ length xs → 8 * i + 8 ≤ length ys
-    → little_from 0 8 (slice_range xs (8 * i) (length xs)) ≡ little_from 0 8 (slice_range ys (8 * i) (length ys)) → AreSame xs ys (8 * i)
-    → AreSame xs ys (8 * (i + 1))
-AreSame-eight xs ys i f g p q e was k l =
-    let long : length (slice_range xs (8 * i) (length xs)) ≡ length xs - 8 * i = length-between xs (8 * i) (length xs) (omega arith) in
-    let wide : length (slice_range ys (8 * i) (length ys)) ≡ length ys - 8 * i = length-between ys (8 * i) (length ys) (omega arith) in
-    ⊎_elim
-    (λ less. was k less)
-    (λ from. let place : 8 * i + (k - 8 * i) ≡ k = omega (arith, from) in
-    let first = get_or-between xs (8 * i) (length xs) (k - 8 * i) 0 (omega (arith, place, l)) in
-    let second = get_or-between ys (8 * i) (length ys) (k - 8 * i) 0 (omega (arith, place, l)) in
-    let same = same-read 8 0 (slice_range xs (8 * i) (length xs)) (slice_range ys (8 * i) (length ys))
-    (All-take (λ b. b < 256) _ _ (All-drop (λ b. b < 256) (8 * i) xs f)) (All-take (λ b. b < 256) _ _ (All-drop (λ b. b < 256) (8 * i) ys g))
-    (omega (arith, long)) (omega (arith, wide)) e (k - 8 * i) (omega arith) (omega (arith, l)) in
-    ap (λ x. get_or xs x 0) (sym place) ∙ (sym first ∙ (same ∙ (second ∙ ap (λ x. get_or ys x 0) place))))
-    (cases_lt k (8 * i))
-
--- a number is in order with itself
-pub nat_cmp-same : (y : ℕ) → nat_cmp y y ≡ Equal
-nat_cmp-same y = grind (arith, nat_tests)
-
--- lists that are the same at the start are in the order of what is left
-pub slice_cmp-rest : (n : ℕ) (xs ys : List ℕ) → n ≤ length xs → n ≤ length ys → AreSame xs ys n
-    → slice_cmp nat_cmp (drop n xs) (drop n ys) ≡ slice_cmp nat_cmp xs ys
-slice_cmp-rest zero xs ys p q h = refl
-slice_cmp-rest (suc n) [] ys p q h = absurd (omega arith)
-slice_cmp-rest (suc n) (x ∷ xs) [] p q h = absurd (omega arith)
-slice_cmp-rest (suc n) (x ∷ xs) (y ∷ ys) p q h =
-    let first : x ≡ y = h 0 (omega arith) in
-    slice_cmp-rest n xs ys (omega arith) (omega arith) (λ k l. h (suc k) (omega arith))
-    ∙ sym (ap (λ o. ordering_then o (slice_cmp nat_cmp xs ys)) (ap (λ z. nat_cmp z y) first ∙ nat_cmp-same y))

@@ -1,13 +1,10 @@
 //! Ranges of bytes.
 
-ghost use Rattle.std.specs.Prelude.{◌≡◌, ◌+◌, ◌*◌, ◌/◌, ◌%◌, ◌∷◌, [], ◌⊎◌, ◌<◌, ◌≤◌, ◌↔◌, All};
-ghost use Rattle.std.specs.Prelude.{ℕ, IfOk, IfSome, IsTrue, length, position, replicate, reverse, slice_index};
-ghost use Rattle.std.specs.Cmp.Lexicographic.{slice_cmp};
-ghost use Rattle.std.specs.Ordering.{nat_cmp};
+ghost use Rattle.std.specs.Prelude.{◌≡◌, ◌+◌, ◌/◌, ◌%◌, ◌∷◌, [], ◌⊎◌, ◌<◌, ◌≤◌, ◌↔◌, All};
+ghost use Rattle.std.specs.Prelude.{IfOk, IfSome, IsTrue, length, position, replicate, reverse};
 ghost use Rattle.pm_words.specs.Words.{IsInMemory, overwritten, passed, stops};
 
 use byteorder::{ByteOrder, LittleEndian};
-use std::cmp::Ordering;
 
 // Whether a range of bytes lies in memory.
 pub fn is_in_memory(address: u16, count: u16) -> bool
@@ -89,28 +86,4 @@ fn last_stop(bytes: &[u8], byte: u8, equal: bool) -> Option<usize>
     ensures within { IfSome result (λ k. k < length bytes.now) }
 {
     bytes.iter().rev().position(|x| stops(equal, byte, *x))
-}
-
-// The order of two lists of bytes, by the first in which they differ. What is the same at their start is passed eight
-// bytes at a time.
-pub fn ordered(left: &[u8], right: &[u8]) -> Ordering
-    ensures order { result ≡ slice_cmp nat_cmp left.now right.now }
-{
-    let passed = 8 * same_eights(left, right);
-    left[passed..].cmp(&right[passed..])
-}
-
-// How many times eight bytes are the same at the start of two lists.
-fn same_eights(left: &[u8], right: &[u8]) -> usize
-    ensures in_left { 8 * result ≤ length left.now }
-    ensures in_right { 8 * result ≤ length right.now }
-    ensures same { (k : ℕ) → k < 8 * result → slice_index left.now k ≡ slice_index right.now k }
-{
-    let eights = left.len().min(right.len()) / 8;
-    for i in 0..eights {
-        if LittleEndian::read_u64(&left[8 * i..]) != LittleEndian::read_u64(&right[8 * i..]) {
-            return i;
-        }
-    }
-    eights
 }

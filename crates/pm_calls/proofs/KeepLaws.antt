@@ -1,16 +1,16 @@
 -- A segment that is given up right after it was kept.
-use Rattle.std.proofs.Common.{◌≡◌, ◌<◌, ◌≤◌, ℕ, ◌+◌, ◌-◌, ◌%◌, ◌==◌, ◌||◌, true, false, nat_lt, nat_le}
+use Rattle.std.proofs.Common.{◌≡◌, ◌<◌, ◌≤◌, ℕ, ◌+◌, ◌-◌, ◌%◌, ◌==◌, ◌||◌, true, nat_lt}
 use Rattle.std.proofs.Common.{List, length, get_or, Option, Some, None, Ok, refl, sym, ap, ◌∙◌, subst, arith}
 use Rattle.std.specs.Prelude.{slice_get, slice_set}
 use Rattle.std.proofs.lemmas.Bool.Decides.{nat_tests}
 use Rattle.std.proofs.lemmas.List.{get_or-set_same, length-set, set-get_or, set-set}
 use Rattle.std.proofs.lemmas.Option.{get_or_from_slice_get, slice_get-get_or, slice_get_within}
-use Rattle.pm_words.specs.declared.error.ExecError.TheVariants.{NoSegment, StackOverflow}
+use Rattle.pm_words.specs.declared.error.ExecError.TheVariants.{StackOverflow}
 use Rattle.pm_words.specs.Words.{with_bytes}
 use Rattle.pm_words.specs.Stack.{minus}
 use Rattle.pm_calls.specs.declared.frames.SegmentPlace.{SegmentPlace}
 use Rattle.pm_calls.specs.Places.{Parts}
-use Rattle.pm_calls.specs.Keeps.{above_code, keep_loading, keep_slot, keep_standing, less_kept, segment_kept, segment_unkept, unkeep_slot, unkeep_standing}
+use Rattle.pm_calls.specs.Keeps.{keep_loading, keep_slot, keep_standing, segment_kept, segment_unkept, unkeep_standing}
 use Rattle.pm_calls.specs.Laws.{IsUsed, UnkeepGivesBack}
 use Rattle.pm_calls.proofs.ReturnLaws.{has_room, ok_same, passed}
 

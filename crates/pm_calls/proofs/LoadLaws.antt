@@ -1,11 +1,10 @@
 -- Where the code of a loaded segment stands after its call.
-use Rattle.std.proofs.Common.{◌≡◌, ◌<◌, ◌≤◌, inr, ℕ, ◌+◌, ◌-◌, ◌*◌, ◌/◌, ◌%◌, Bool, true, false, nat_lt, nat_le}
+use Rattle.std.proofs.Common.{◌≡◌, ◌<◌, ◌≤◌, inr, ℕ, ◌+◌, ◌-◌, ◌*◌, ◌/◌, ◌%◌, Bool, true, false, nat_lt}
 use Rattle.std.proofs.Common.{List, length, drop, get_or, Option, Some, None, Ok, refl, sym, ap, ◌∙◌, arith}
 use Rattle.std.specs.Prelude.{slice_get}
 use Rattle.std.specs.List.{All}
 use Rattle.std.proofs.lemmas.Bool.Decides.{nat_tests}
 use Rattle.std.proofs.lemmas.List.{ext_get_or, get_or-drop, get_or-take, length-drop, length-take-le}
-use Rattle.pm_words.specs.declared.error.ExecError.TheVariants.{NoSegment, StackOverflow}
 use Rattle.pm_words.specs.Words.{IsMemory, byte_at, bytes_at, bytes_of, copied, with_bytes, with_word}
 use Rattle.pm_words.proofs.Pairs.{length-bytes_of}
 use Rattle.pm_words.proofs.Laws.{byte_at-with_bytes}

@@ -1,5 +1,5 @@
 -- Segments that return keep standing below the top of the stack.
-use Rattle.std.proofs.Common.{◌≡◌, inl, inr, ℕ, ◌||◌, true, false, nat_lt, List, length, arith, Option, Some, None}
+use Rattle.std.proofs.Common.{◌≡◌, inl, inr, ℕ, ◌||◌, nat_lt, List, length, arith, Option, Some, None}
 use Rattle.std.specs.Prelude.{option_and_then, position, slice_index_or}
 use Rattle.std.specs.List.{All}
 use Rattle.std.proofs.lemmas.Bool.{cases_Bool}

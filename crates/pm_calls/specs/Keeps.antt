@@ -1,6 +1,6 @@
 -- Segments that the program keeps. A segment that is kept stands where it is, whatever calls of it return.
-use Rattle.std.specs.Prelude.{ℕ, ◌+◌, ◌-◌, ◌&&◌, ◌||◌, List, Option, Some, None, is_none, Result, Ok}
-use Rattle.std.specs.Prelude.{Err, if◌then◌else◌, ◌==◌, nat_lt, nat_le, slice_get, slice_set, length}
+use Rattle.std.specs.Prelude.{ℕ, ◌+◌, ◌-◌, ◌||◌, List, Option, Some, None, is_none, Result, Ok}
+use Rattle.std.specs.Prelude.{Err, if◌then◌else◌, ◌==◌, nat_lt, slice_get, slice_set, length}
 use Rattle.pm_words.specs.declared.error.ExecError.{ExecError}
 use Rattle.pm_words.specs.declared.error.ExecError.TheVariants.{NoSegment, StackOverflow}
 use Rattle.pm_words.specs.Words.{with_bytes}

@@ -14,6 +14,7 @@ use pm_words::layout::STACK_END;
 use pm_words::{ExecError, Memory};
 
 // Writes the six control words of a frame.
+#[inline(always)]
 #[tactic(auto, unfolding(crate::specs::Calls::with_control), using(pm_words::proofs::WatchLaws::keeps))]
 fn put_control(memory: &mut Memory, frame: u16, link: u16, registers: Registers, above: u16)
     requires even { frame % 2 ≡ 0 }
@@ -58,6 +59,7 @@ fn put_block(memory: &mut Memory, from: u16, to: u16, count: u16)
 }
 
 // Copies words one by one, from the lowest on, to a place that is not above them.
+#[inline(always)]
 #[tactic(auto, using(pm_words::proofs::WatchLaws::keeps))]
 fn put_words(memory: &mut Memory, from: u16, to: u16, count: u16)
     requires even { (from % 2 ≡ 0) × (to % 2 ≡ 0) }
@@ -74,6 +76,7 @@ fn put_words(memory: &mut Memory, from: u16, to: u16, count: u16)
 }
 
 // Writes a frame: the parameters, then the six control words, and for a base call the old BASE below them.
+#[inline(always)]
 #[tactic(auto, using(pm_words::proofs::WatchLaws::keeps))]
 fn put_frame(
     memory: &mut Memory,
@@ -101,6 +104,7 @@ fn put_frame(
 }
 
 // Where a frame ends: below the code that was loaded for its call, or above its parameters.
+#[inline(always)]
 fn frame_top(loaded: u16, sp: u16, parameters: u16) -> u32
     requires room { loaded ≤ sp }
     ensures top { result ≡ frame_top loaded sp parameters }
@@ -113,6 +117,7 @@ fn frame_top(loaded: u16, sp: u16, parameters: u16) -> u32
 }
 
 // Takes the registers into the procedure with this table, whose frame is at `mp`, of the segment at `place`.
+#[inline(always)]
 fn go_inside(registers: &mut Registers, base: bool, place: u16, table: Table, mp: u16)
     requires below { kept_below base ≤ mp }
     ensures inside { registers.new ≡ inside base registers.old place table mp }
@@ -130,6 +135,7 @@ fn go_inside(registers: &mut Registers, base: bool, place: u16, table: Table, mp
 /// Enters a procedure of the segment at `place`, of which `loaded` bytes were loaded for it, once
 /// its table and its static link are known: writes its frame, and takes the registers into it.
 /// An error changes nothing.
+#[inline(always)]
 #[tactic(auto, unfolding(crate::specs::Calls::framed), using(pm_words::proofs::WatchLaws::keeps))]
 pub fn enter(
     memory: &mut Memory,

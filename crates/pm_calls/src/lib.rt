@@ -1,6 +1,7 @@
 //! Frames: static links, attribute tables, calls, returns, EXIT, and where segments stand.
 #![tactic(auto)]
 
+mod base_list;
 mod bases;
 mod calls;
 pub mod exit_laws;
@@ -16,6 +17,7 @@ mod returns;
 mod tables;
 mod valid_registers;
 
+pub use base_list::Bases;
 pub use frames::{Frames, KeptTable, SegmentPlace, Table};
 pub use registers::Registers;
 pub use valid_registers::ValidRegisters;

@@ -1,6 +1,7 @@
 -- Jumps. IPC is the next instruction in the registers that they are given.
 use Rattle.std.specs.Prelude.{
   ℕ,
+  ◌≡◌,
   ◌+◌,
   ◌-◌,
   ◌*◌,
@@ -26,6 +27,10 @@ use Rattle.pm_opcode.specs.declared.operation.Jump.{Jump}
 use Rattle.pm_opcode.specs.declared.operation.Jump.TheVariants.{Short, Case}
 use Rattle.pm_opcode.specs.Spelling.{rank}
 use Rattle.pm_calls.specs.declared.registers.Registers.{Registers}
+
+-- the same registers, but for SP and IPC
+abbrev pub OnlySpAndIpcDiffer : Registers → Registers → Type 0
+OnlySpAndIpcDiffer r t = t ≡ record r { sp = t.sp; ipc = t.ipc }
 
 -- an entry of the jump table leads to its address less the word there
 abbrev pub entry_target : List ℕ → ℕ → Result ℕ ExecError

@@ -2,7 +2,16 @@
 
 ghost use Rattle.std.specs.Prelude.{◌≡◌, ◌<◌, IfOk};
 ghost use Rattle.pm_opcode.specs.Spelling.{rank, signed_byte};
-ghost use Rattle.pm_rows.specs.Jumps.{case_row, case_target, entry_target, jump_row, jumped, short_row, target};
+ghost use Rattle.pm_rows.specs.Jumps.{
+  OnlySpAndIpcDiffer,
+  case_row,
+  case_target,
+  entry_target,
+  jump_row,
+  jumped,
+  short_row,
+  target,
+};
 
 use pm_calls::ValidRegisters;
 use pm_opcode::{Condition, Jump};
@@ -52,7 +61,7 @@ fn jump_if(
     offset: u16,
 ) -> Result<ValidRegisters, ExecError>
     ensures row { result ≡ jumped taken memory.now.words registers offset }
-    ensures mp { IfOk result (λ r. r.mp ≡ registers.mp) }
+    ensures others { IfOk result (λ r. OnlySpAndIpcDiffer registers r) }
 {
     if !taken {
         return Ok(registers);
@@ -71,7 +80,7 @@ fn short(
     offset: u16,
 ) -> Result<ValidRegisters, ExecError>
     ensures row { result ≡ short_row condition memory.now.words registers offset }
-    ensures mp { IfOk result (λ r. r.mp ≡ registers.mp) }
+    ensures others { IfOk result (λ r. OnlySpAndIpcDiffer registers r) }
 {
     match condition {
         Condition::Always => jump_if(true, memory, registers, offset),
@@ -134,7 +143,7 @@ fn case(
     table: u32,
 ) -> Result<ValidRegisters, ExecError>
     ensures row { result ≡ case_row low high table memory.now.words registers }
-    ensures mp { IfOk result (λ r. r.mp ≡ registers.mp) }
+    ensures others { IfOk result (λ r. OnlySpAndIpcDiffer registers r) }
 {
     let mut top = registers.top();
     let value = top.pop(memory)?;
@@ -151,7 +160,7 @@ pub fn perform(
     operation: Jump,
 ) -> Result<ValidRegisters, ExecError>
     ensures row { result ≡ jump_row operation memory.now.words registers }
-    ensures mp { IfOk result (λ r. r.mp ≡ registers.mp) }
+    ensures others { IfOk result (λ r. OnlySpAndIpcDiffer registers r) }
 {
     match operation {
         Jump::Short(condition, offset) => short(memory, registers, condition, offset),

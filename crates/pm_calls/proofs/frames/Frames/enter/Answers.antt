@@ -27,8 +27,8 @@ returns-in_err-enter-clause-entered c = λ h.
     let framed = rw (words, c.is_base-base.ensures.base, level) at c.in_err-enter.ensures.framed in
     rw (p.1, p.2) (entered-framed _ _ _ _ c.args.registers.now _ _ _ c.procedure_of.ensures.procedure (c.in_ok-table.ensures.value _ h) link ∙ framed)
 
-pub returns-then-is_local-clause-entered : goal.returns-then-is_local-clause-entered
-returns-then-is_local-clause-entered c = λ h.
+pub returns-then-link-caller-clause-entered : goal.returns-then-link-caller-clause-entered
+returns-then-link-caller-clause-entered c = λ h.
     let level : to_z w8 (of_z w8 c.in_ok-table.table.level) ≡ c.in_ok-table.table.level = search rules in
     let link = rw (c.attributes.ensures.words, level) at (c.in_ok-link.ensures.value (c.attributes.ensures.agrees _ h)) in
     let words = c.static_link.ensures.words ∙ c.attributes.ensures.words in
@@ -36,8 +36,8 @@ returns-then-is_local-clause-entered c = λ h.
     rw c.descend.ensures.words
     (entered-framed _ _ _ _ c.args.registers.now _ _ _ c.procedure_of.ensures.procedure (c.in_ok-table.ensures.value _ h) link ∙ framed)
 
-pub returns-else-is_local-clause-entered : goal.returns-else-is_local-clause-entered
-returns-else-is_local-clause-entered c = λ h.
+pub returns-else-link-caller-clause-entered : goal.returns-else-link-caller-clause-entered
+returns-else-link-caller-clause-entered c = λ h.
     let level : to_z w8 (of_z w8 c.in_ok-table.table.level) ≡ c.in_ok-table.table.level = search rules in
     let link = rw (c.attributes.ensures.words, level) at (c.in_ok-link.ensures.value (c.attributes.ensures.agrees _ h)) in
     let words = c.static_link.ensures.words ∙ c.attributes.ensures.words in
@@ -45,8 +45,8 @@ returns-else-is_local-clause-entered c = λ h.
     rw c.forget.ensures.words
     (entered-framed _ _ _ _ c.args.registers.now _ _ _ c.procedure_of.ensures.procedure (c.in_ok-table.ensures.value _ h) link ∙ framed)
 
-pub returns-then-is_local-clause-agrees : goal.returns-then-is_local-clause-agrees
-returns-then-is_local-clause-agrees c = λ h.
+pub returns-then-link-caller-clause-agrees : goal.returns-then-link-caller-clause-agrees
+returns-then-link-caller-clause-agrees c = λ h.
     let before = Agrees-keeps _ _ _ _ c.enter.ensures.keeps (c.static_link.ensures.agrees (c.attributes.ensures.agrees _ h)) in
     record {
       matches = λ quiet.
@@ -58,8 +58,8 @@ returns-then-is_local-clause-agrees c = λ h.
           };
     }
 
-pub returns-else-is_local-clause-agrees : goal.returns-else-is_local-clause-agrees
-returns-else-is_local-clause-agrees c = λ h.
+pub returns-else-link-caller-clause-agrees : goal.returns-else-link-caller-clause-agrees
+returns-else-link-caller-clause-agrees c = λ h.
     let before = Agrees-keeps _ _ _ _ c.enter.ensures.keeps (c.static_link.ensures.agrees (c.attributes.ensures.agrees _ h)) in
     record {
       matches = λ quiet.

@@ -16,10 +16,10 @@ use pm_words::{ExecError, Memory};
 // Writes the six control words of a frame.
 #[inline(always)]
 #[tactic(auto, unfolding(crate::specs::Calls::with_control), using(pm_words::proofs::WatchLaws::keeps))]
-fn put_control(memory: &mut Memory, frame: u16, link: u16, registers: Registers, above: u16)
+fn put_control(memory: &mut Memory, frame: u16, link: u16, registers: &Registers, above: u16)
     requires even { frame % 2 ≡ 0 }
     requires room { frame + 12 ≤ STACK_END }
-    ensures words { memory.new.words ≡ with_control memory.old.words frame link registers above }
+    ensures words { memory.new.words ≡ with_control memory.old.words frame link registers.now above }
     ensures link { word_at memory.new.words frame ≡ link }
     ensures keeps { KeepsWatch memory.old memory.new }
 {
@@ -82,17 +82,18 @@ fn put_frame(
     memory: &mut Memory,
     frame: u16,
     link: u16,
-    registers: Registers,
+    registers: &Registers,
     parameters: u16,
     base: bool,
 )
     requires even { frame % 2 ≡ 0 }
     requires above { frame + 12 + parameters ≤ STACK_END }
     requires below { IsTrue base → 2 ≤ frame }
-    requires below_stack { (registers.sp % 2 ≡ 0) × (parameters % 2 ≡ 0) × (frame + 12 ≤ registers.sp) }
-    requires within { registers.sp + parameters ≤ STACK_END }
+    requires below_stack { (registers.now.sp % 2 ≡ 0) × (parameters % 2 ≡ 0) × (frame + 12 ≤ registers.now.sp) }
+    requires within { registers.now.sp + parameters ≤ STACK_END }
     ensures words { memory.new.words
-        ≡ with_old_base base (with_frame memory.old.words frame link registers parameters) frame registers.base }
+        ≡ with_old_base base (with_frame memory.old.words frame link registers.now parameters) frame
+        registers.now.base }
     ensures link { word_at memory.new.words frame ≡ link }
     ensures keeps { KeepsWatch memory.old memory.new }
 {
@@ -161,19 +162,18 @@ pub fn enter(
     ensures linked { OnOk result (word_at memory.new.words registers.new.mp ≡ link) }
     ensures table { OnOk result ((registers.new.jtab ≡ table.jtab) × (registers.new.ipc ≡ table.enter)) }
 {
-    let old = *registers;
     let parameters = u32::from(table.parameters);
-    if u32::from(old.sp) + parameters > u32::from(STACK_END) {
+    if u32::from(registers.sp) + parameters > u32::from(STACK_END) {
         return Err(ExecError::InvalidMemory);
     }
-    let top = frame_top(loaded, old.sp, table.parameters);
+    let top = frame_top(loaded, registers.sp, table.parameters);
     let kept = if base { 2 } else { 0 };
     let size = u32::from(table.locals) + parameters + 12;
-    if u32::from(old.np) + kept + size > top {
+    if u32::from(registers.np) + kept + size > top {
         return Err(ExecError::StackOverflow);
     }
     let mp = (top - size) as u16;
-    put_frame(memory, mp, link, old, table.parameters, base);
+    put_frame(memory, mp, link, registers, table.parameters, base);
     go_inside(registers, base, place, table, mp);
     Ok(())
 }

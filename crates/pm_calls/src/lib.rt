@@ -17,7 +17,6 @@ mod returns;
 mod tables;
 mod valid_registers;
 
-pub use base_list::Bases;
 pub use frames::{Frames, KeptTable, SegmentPlace, Table};
 pub use registers::Registers;
 pub use valid_registers::ValidRegisters;

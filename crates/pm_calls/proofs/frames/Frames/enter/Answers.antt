@@ -1,8 +1,8 @@
-use Rattle.std.proofs.Common.{rules, w8, to_z, of_z, ◌≡◌, ◌∙◌, sym}
+use Rattle.std.proofs.Common.{rules, inr, w8, to_z, of_z, ◌≡◌, ◌∙◌, sym}
 use Rattle.std.proofs.lemmas.Result.{err_from_is_err_and}
 use Rattle.pm_calls.proofs.CallLaws.{entered-framed, entered-no_link, entered-no_table}
-use Rattle.pm_calls.proofs.LinkLaws.{AreLinks-none}
-use Rattle.pm_calls.proofs.TableLaws.{Agrees-keeps}
+use Rattle.pm_calls.proofs.LinkLaws.{AreLinks-none, BeginsWithTwo-down}
+use Rattle.pm_calls.proofs.TableLaws.{Agrees-keeps, inside-kept}
 use Rattle.pm_calls.proofs.WatchedLaws.{base_reads-none}
 use Rattle.pm_calls.proofs.frames.Frames.enter.Goals as goal
 
@@ -27,13 +27,22 @@ returns-in_err-enter-clause-entered c = λ h.
     let framed = rw (words, c.is_base-base.ensures.base, level) at c.in_err-enter.ensures.framed in
     rw (p.1, p.2) (entered-framed _ _ _ _ c.args.registers.now _ _ _ c.procedure_of.ensures.procedure (c.in_ok-table.ensures.value _ h) link ∙ framed)
 
+pub returns-then-is_local-clause-entered : goal.returns-then-is_local-clause-entered
+returns-then-is_local-clause-entered c = λ h.
+    let level : to_z w8 (of_z w8 c.in_ok-table.table.level) ≡ c.in_ok-table.table.level = search rules in
+    let link = rw (c.attributes.ensures.words, level) at (c.in_ok-link.ensures.value (c.attributes.ensures.agrees _ h)) in
+    let words = c.static_link.ensures.words ∙ c.attributes.ensures.words in
+    let framed = rw (words, c.is_base-base.ensures.base, level) at c.in_ok-enter.ensures.framed in
+    rw c.descend.ensures.words
+    (entered-framed _ _ _ _ c.args.registers.now _ _ _ c.procedure_of.ensures.procedure (c.in_ok-table.ensures.value _ h) link ∙ framed)
+
 pub returns-then-link-caller-clause-entered : goal.returns-then-link-caller-clause-entered
 returns-then-link-caller-clause-entered c = λ h.
     let level : to_z w8 (of_z w8 c.in_ok-table.table.level) ≡ c.in_ok-table.table.level = search rules in
     let link = rw (c.attributes.ensures.words, level) at (c.in_ok-link.ensures.value (c.attributes.ensures.agrees _ h)) in
     let words = c.static_link.ensures.words ∙ c.attributes.ensures.words in
     let framed = rw (words, c.is_base-base.ensures.base, level) at c.in_ok-enter.ensures.framed in
-    rw c.descend.ensures.words
+    rw (c.descend-then-link-caller.ensures.words, c.start.ensures.words)
     (entered-framed _ _ _ _ c.args.registers.now _ _ _ c.procedure_of.ensures.procedure (c.in_ok-table.ensures.value _ h) link ∙ framed)
 
 pub returns-else-link-caller-clause-entered : goal.returns-else-link-caller-clause-entered
@@ -45,8 +54,8 @@ returns-else-link-caller-clause-entered c = λ h.
     rw c.forget.ensures.words
     (entered-framed _ _ _ _ c.args.registers.now _ _ _ c.procedure_of.ensures.procedure (c.in_ok-table.ensures.value _ h) link ∙ framed)
 
-pub returns-then-link-caller-clause-agrees : goal.returns-then-link-caller-clause-agrees
-returns-then-link-caller-clause-agrees c = λ h.
+pub returns-then-is_local-clause-agrees : goal.returns-then-is_local-clause-agrees
+returns-then-is_local-clause-agrees c = λ h.
     let before = Agrees-keeps _ _ _ _ c.enter.ensures.keeps (c.static_link.ensures.agrees (c.attributes.ensures.agrees _ h)) in
     record {
       matches = λ quiet.
@@ -55,6 +64,19 @@ returns-then-link-caller-clause-agrees c = λ h.
             bases = c.descend.ensures.links m.bases;
             kept = rw c.descend.ensures.words m.kept;
             watched = c.descend.ensures.watched _ m.watched;
+          };
+    }
+
+pub returns-then-link-caller-clause-agrees : goal.returns-then-link-caller-clause-agrees
+returns-then-link-caller-clause-agrees c = λ h.
+    let before = Agrees-keeps _ _ _ _ c.enter.ensures.keeps (c.static_link.ensures.agrees (c.attributes.ensures.agrees _ h)) in
+    record {
+      matches = λ quiet.
+          let m = rw (← c.self.view_is) at (before.matches (sym (c.descend-then-link-caller.ensures.touched ∙ c.start.ensures.touched) ∙ quiet)) in
+          record {
+            bases = c.descend-then-link-caller.ensures.links (c.start.ensures.links _ m.bases);
+            kept = rw (c.descend-then-link-caller.ensures.words, c.start.ensures.words) m.kept;
+            watched = c.descend-then-link-caller.ensures.watched _ (c.start.ensures.watched _ m.watched);
           };
     }
 
@@ -70,3 +92,18 @@ returns-else-link-caller-clause-agrees c = λ h.
             watched = rw (c.forget.ensures.none, base_reads-none) (c.forget.ensures.watched _ m.watched);
           };
     }
+
+pub returns-then-link-caller-clause-near : goal.returns-then-link-caller-clause-near
+returns-then-link-caller-clause-near c = λ other linked.
+    let down = c.descend-then-link-caller.ensures.bases (inr c.start.ensures.begins) in
+    rw down (BeginsWithTwo-down _ _ _ c.start.ensures.begins)
+
+pub returns-then-link-caller-clause-entry : goal.returns-then-link-caller-clause-entry
+returns-then-link-caller-clause-entry c = λ quiet.
+    let known = rw c.procedure_of.ensures.procedure at (c.in_ok-table.ensures.entry quiet) in
+    inside-kept _ _ _ _ known c.in_ok-enter.ensures.table
+
+pub returns-else-link-caller-clause-entry : goal.returns-else-link-caller-clause-entry
+returns-else-link-caller-clause-entry c = λ quiet.
+    let known = rw c.procedure_of.ensures.procedure at (c.in_ok-table.ensures.entry quiet) in
+    inside-kept _ _ _ _ known c.in_ok-enter.ensures.table

@@ -1,7 +1,8 @@
 """house.py: what the house asks of its source and what this script finds against it. By hand; no part of the gate.
 
     definitions     of the same text in specs/ of two crates
-    functions       of more than 40 lines with their signature, and crates of more than 100 functions
+    functions       of more than 40 lines with their signature, without the rows of a table that a macro takes, and crates
+                    of more than 100 functions
     lines           over 120 characters in code, definitions and docs, over 160 in proofs (tables apart, and
                     attributes, which `rt fmt` joins)
     numbers         that have a name: ends of the stack, the most bytes of bare code, opcodes of jumps (tables of
@@ -64,13 +65,17 @@ for path in sorted(glob.glob("crates/*/src/**/*.rt", recursive=True)):
         if head:
             last, ends = number, (head.group(1) + "}", head.group(1) + "{")
             has_body = False
+            rows, table = 0, None
             while last < len(source) and source[last] != ends[0] and not source[last].endswith("{}"):
                 has_body = has_body or source[last] == ends[1] or source[last].endswith(" {")
                 if not has_body and source[last].endswith(";"): # of a trait, without a body
                     break
+                opens = re.match(r"( +)\w+! \{$", source[last])
+                table = opens.group(1) + "}" if opens else None if source[last] == table else table
+                rows += table is not None
                 last += 1
-            if last - number + 1 > 40:
-                tell("function", "%s:%d %s has %d lines" % (path, number + 1, head.group(2), last - number + 1))
+            if last - number + 1 - rows > 40:
+                tell("function", "%s:%d %s has %d lines" % (path, number + 1, head.group(2), last - number + 1 - rows))
             number = last
         number += 1
 

@@ -1,6 +1,6 @@
 -- The rows on variables. Variable b of a frame at f stands at f + 10 + 2b, so that variable 1 is the word behind the
 -- control words.
-use Rattle.std.specs.Prelude.{ℕ, ◌≡◌, ◌+◌, ◌*◌, ◌%◌, ◌<◌, false, length, List, Result, Ok, ⊤}
+use Rattle.std.specs.Prelude.{ℕ, ◌≡◌, ◌+◌, ◌*◌, ◌%◌, ◌<◌, ◌≤◌, false, length, List, Result, Ok, ⊤}
 use Rattle.pm_words.specs.declared.error.ExecError.{ExecError}
 use Rattle.pm_words.specs.Stack.{◌>>=◌, load, pop, push, store}
 use Rattle.pm_opcode.specs.declared.operation.Scope.{Scope}
@@ -9,6 +9,7 @@ use Rattle.pm_opcode.specs.declared.operation.Variable.{Variable}
 use Rattle.pm_opcode.specs.declared.operation.Variable.TheVariants.{Address, Load, Store}
 use Rattle.pm_calls.specs.declared.registers.Registers.{Registers}
 use Rattle.pm_words.specs.Words.{Contents}
+use Rattle.pm_words.specs.declared.layout.TheConstants.{HIGHEST_WORD}
 use Rattle.pm_calls.specs.Kept.{BeginsWith}
 use Rattle.pm_calls.specs.Links.{link}
 use Rattle.pm_calls.specs.Places.{Standing}
@@ -54,6 +55,19 @@ abbrev pub scope_of : Variable → Scope
 scope_of (Address scope b) = scope
 scope_of (Load scope b) = scope
 scope_of (Store scope b) = scope
+
+-- the number of the variable of an operation
+abbrev pub number_of : Variable → ℕ
+number_of (Address scope b) = b
+number_of (Load scope b) = b
+number_of (Store scope b) = b
+
+-- nothing is wrong with an operation on a variable of a frame: there is room for the word that is put, or a word that
+-- is taken, and the frame of a word that is read or written is even
+abbrev pub IsSound : Variable → ℕ → ℕ → ℕ → Type 0
+IsSound (Address scope b) sp np frame = np + 2 ≤ sp
+IsSound (Load scope b) sp np frame = (np + 2 ≤ sp) × (frame % 2 ≡ 0)
+IsSound (Store scope b) sp np frame = (sp ≤ HIGHEST_WORD) × (frame % 2 ≡ 0)
 
 -- the frame is found without a link that is not kept
 abbrev pub IsNear : Scope → Contents → Standing → ℕ → Type 0

@@ -29,6 +29,7 @@ use std::cmp::Ordering;
 /// that are to be less or greater, and for words that are to be anything but equal or not. Then `InvalidMemory` where
 /// there are too few words, or an operand passes the end of memory, or words begin at an odd address; `InvalidIndex`
 /// for a set of more than 255 words. An error changes nothing.
+#[inline(always)]
 #[tactic(auto, unfolding(crate::specs::Comparisons::compare_row), using(pm_words::proofs::WatchLaws::keeps))]
 pub fn compare(
     memory: &mut Memory,

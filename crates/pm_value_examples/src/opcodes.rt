@@ -195,52 +195,78 @@ fn instructions_out_of_range(rt: HostRuntime) -> Result<(), Fail> {
 }
 
 /// What the opcode does with the operands 257 and 300, and 4 named bytes from 8 on.
-fn does(rt: &impl Abort, op: u8, operation: Operation) {
-    let i = naming(op, [257, 300, 0], (8, 4, 0));
-    assert_eq!(rt; Operation::of(&i), operation);
+fn done(op: u8) -> Operation {
+    Operation::of(&naming(op, [257, 300, 0], (8, 4, 0)))
 }
 
 #[test]
 fn operations_on_words(rt: HostRuntime) {
-    does(&rt, 127, Operation::Arithmetic(Arithmetic::Constant(127)));
-    does(
-        &rt,
-        142,
-        Operation::Arithmetic(Arithmetic::OnTwo(Binary::Modulo)),
+    assert!(rt; matches!(done(127), Operation::Arithmetic(Arithmetic::Constant(127))));
+    assert!(rt;
+        matches!(
+            done(142),
+            Operation::Arithmetic(Arithmetic::OnTwo(Binary::Modulo))
+        )
     );
-    does(
-        &rt,
-        216,
-        Operation::Variable(Variable::Load(Scope::Local, 1)),
+    assert!(rt;
+        matches!(
+            done(216),
+            Operation::Variable(Variable::Load(Scope::Local, 1))
+        )
     );
-    does(
-        &rt,
-        247,
-        Operation::Variable(Variable::Load(Scope::Global, 16)),
+    assert!(rt;
+        matches!(
+            done(247),
+            Operation::Variable(Variable::Load(Scope::Global, 16))
+        )
     );
-    let up_one = Variable::Store(Scope::Intermediate(1), 300);
-    does(&rt, 184, Operation::Variable(up_one));
-    does(&rt, 255, Operation::Pointer(Pointer::Load(7)));
+    assert!(rt;
+        matches!(
+            done(184),
+            Operation::Variable(Variable::Store(Scope::Intermediate(1), 300))
+        )
+    );
+    assert!(rt; matches!(done(255), Operation::Pointer(Pointer::Load(7))));
 }
 
 #[test]
 fn operations_on_code(rt: HostRuntime) {
-    let short = Jump::Short(Condition::IfDifferent, 257);
-    does(&rt, 211, Operation::Jump(short));
-    let (low, high, table) = (257, 300, 8);
-    does(&rt, 172, Operation::Jump(Jump::Case { low, high, table }));
-    let words = Literal::Words { start: 8, count: 4 };
-    does(&rt, 179, Operation::Literal(words));
-    does(&rt, 205, Operation::Call(Call::Cxp(1, 44)));
-    does(&rt, 175, Operation::Unimplemented);
-    does(&rt, 129, Operation::Unimplemented);
+    assert!(rt;
+        matches!(
+            done(211),
+            Operation::Jump(Jump::Short(Condition::IfDifferent, 257))
+        )
+    );
+    assert!(rt;
+        matches!(
+            done(172),
+            Operation::Jump(Jump::Case {
+                low: 257,
+                high: 300,
+                table: 8
+            })
+        )
+    );
+    assert!(rt;
+        matches!(
+            done(179),
+            Operation::Literal(Literal::Words { start: 8, count: 4 })
+        )
+    );
+    assert!(rt; matches!(done(205), Operation::Call(Call::Cxp(1, 44))));
+    assert!(rt; matches!(done(175), Operation::Unimplemented));
+    assert!(rt; matches!(done(129), Operation::Unimplemented));
 }
 
 #[test]
 fn rows_of_the_table(rt: HostRuntime) {
-    let words = Value::Compare(Relation::LessOrEqual, Kind::Words(300));
-    let i = of(180, [12, 300, 0], 0);
-    assert_eq!(rt; Operation::of(&i), Operation::Value(words));
+    let compared = Operation::of(&of(180, [12, 300, 0], 0));
+    assert!(rt;
+        matches!(
+            compared,
+            Operation::Value(Value::Compare(Relation::LessOrEqual, Kind::Words(300)))
+        )
+    );
     assert_eq!(rt; row_at(172).mnemonic, "XJP");
     assert_eq!(rt; row_at(215).mnemonic, "NOP");
     assert_eq!(rt; form_at(179), Form::Words);

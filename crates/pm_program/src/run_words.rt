@@ -62,37 +62,61 @@ fn disk<'a>(alloc: Global, id: &'a str, help: &'a str) -> Arg<'a> {
     Arg::new(alloc, id).long(id).value_name("IMAGE").help(help)
 }
 
-fn with_program<'a>(alloc: Global, command: Command<'a>) -> Result<Command<'a>, AllocError> {
-    let name = Arg::new(alloc, "NAME")
-        .required(true)
-        .help("The name of the code file on unit 4");
-    command
-        .arg(disk(alloc, "d4", "The image of the disk on unit 4").required(true))?
-        .arg(disk(alloc, "d5", "The image of the disk on unit 5"))?
-        .arg(disk(alloc, "d9", "The image of the disk on unit 9"))?
-        .arg(disk(alloc, "d10", "The image of the disk on unit 10"))?
-        .arg(disk(alloc, "d11", "The image of the disk on unit 11"))?
-        .arg(disk(alloc, "d12", "The image of the disk on unit 12"))?
-        .arg(limit(alloc))?
-        .arg(name)
+/// The options of the disks that need not be there, and what each says.
+const OTHER_DISKS: &[(&str, &str)] = &[
+    ("d5", "The image of the disk on unit 5"),
+    ("d9", "The image of the disk on unit 9"),
+    ("d10", "The image of the disk on unit 10"),
+    ("d11", "The image of the disk on unit 11"),
+    ("d12", "The image of the disk on unit 12"),
+];
+
+fn with_disks<'a>(alloc: Global, command: Command<'a>) -> Result<Command<'a>, AllocError> {
+    let mut command = command.arg(disk(alloc, "d4", "The image of the disk on unit 4").required(
+        true,
+    ))?;
+    for (id, help) in OTHER_DISKS {
+        command = command.arg(disk(alloc, id, help))?;
+    }
+    Ok(command)
 }
 
-/// The command `run`.
-pub fn run<'a>(alloc: Global) -> Result<Command<'a>, AllocError> {
-    let save = Arg::new(alloc, "save")
+fn name<'a>(alloc: Global) -> Arg<'a> {
+    Arg::new(alloc, "NAME")
+        .required(true)
+        .help("The name of the code file on unit 4")
+}
+
+fn with_program<'a>(alloc: Global, command: Command<'a>) -> Result<Command<'a>, AllocError> {
+    with_disks(alloc, command)?
+        .arg(limit(alloc))?
+        .arg(name(alloc))
+}
+
+fn save<'a>(alloc: Global) -> Arg<'a> {
+    Arg::new(alloc, "save")
         .long("save")
         .action(ArgAction::SetTrue)
         .help(
             "Writes the image of unit 4 back to its file; nothing else that is written to a disk is kept",
-        );
-    let printer = Arg::new(alloc, "printer")
+        )
+}
+
+fn printer<'a>(alloc: Global) -> Arg<'a> {
+    Arg::new(alloc, "printer")
         .long("printer")
         .value_name("PATH")
-        .help("The file that gets the printer's bytes, in the place of what it has");
+        .help("The file that gets the printer's bytes, in the place of what it has")
+}
+
+/// The command `run`.
+pub fn run<'a>(alloc: Global) -> Result<Command<'a>, AllocError> {
     let command = Command::new(alloc, "run").about(
         "Runs a code file of the disk on unit 4, with the standard streams as its console",
     );
-    with_program(alloc, command)?.arg(save)?.arg(printer)
+    with_program(alloc, command)?
+        .arg(save(alloc))?
+        .arg(printer(alloc))
 }
 
 /// The command `trace`.

@@ -6,3 +6,4 @@ pub mod Bytes
 pub mod LoadLaws
 pub mod NumberLaws
 pub mod KeepLaws
+pub mod RowLaws

@@ -3,3 +3,4 @@ pub mod Writes
 pub mod Loads
 pub mod Numbers
 pub mod Keeping
+pub mod Rows

@@ -1,0 +1,85 @@
+-- Laws of single rows of the table in words of their own: which frame a call links its procedure to, what waits after a
+-- unit was cleared, and what a move leaves.
+use Rattle.std.specs.Prelude.{◌≡◌, ◌≢◌, ◌<◌, ◌≤◌, ◌⊎◌, ℕ, ◌+◌, ◌*◌, ◌%◌, List, [], Option, true, false, Ok}
+use Rattle.std.specs.Prelude.{ℤ, pos, negsuc, ◌+ℤ◌, ◌-ℤ◌, int_le}
+use Rattle.pm_words.specs.Words.{IsMemory, word_at}
+use Rattle.pm_words.specs.Stack.{load}
+use Rattle.pm_opcode.specs.declared.operation.Call.{Call}
+use Rattle.pm_opcode.specs.declared.operation.Call.TheVariants.{Clp, Cgp, Cbp, Cip, Cxp}
+use Rattle.pm_calls.specs.declared.registers.Registers.{Registers}
+use Rattle.pm_calls.specs.declared.frames.Table.{Table}
+use Rattle.pm_calls.specs.Places.{Parts}
+use Rattle.pm_calls.specs.Links.{level_of, up}
+use Rattle.pm_calls.specs.Tables.{attributes}
+use Rattle.pm_calls.specs.Calls.{Reached, called, procedure_called}
+use Rattle.pm_calls.specs.Laws.{IsCode, Reaches}
+use Rattle.pm_stdproc.specs.Devices.{Devices, cleared, unit_of}
+use Rattle.pm_rows.specs.Pointers.{move_row}
+
+-- ---- the static link of a call
+
+-- A main procedure, of level 0 or -1, is linked as the running program's is: by the word at BASE.
+pub record LinksAsProgram (m : List ℕ) (r : Registers) (level : ℤ) (link : ℕ) : Type 0 where
+  pub main : (level ≡ pos 0) ⊎ (level ≡ negsuc 0)
+  pub word : load m r.base ≡ Ok link
+
+-- Any other is linked to the frame that its own surrounding procedure runs in: from MP so many links up as the running
+-- procedure lies deeper than that one, at most 127.
+pub record LinksOutward (m : List ℕ) (r : Registers) (level : ℤ) (link : ℕ) : Type 0 where
+  -- the highest word of the running procedure's table
+  pub own : ℕ
+  pub table : load m r.jtab ≡ Ok own
+  pub links : ℕ
+  pub levels : level_of own -ℤ level +ℤ pos 1 ≡ pos links
+  pub few : links ≤ 127
+  pub frame : up m r.mp links ≡ Ok link
+
+-- The static link that a call gives a procedure of this level, memory and registers being those before the frame is
+-- made: of CLP the caller's frame, of CGP the program's.
+abbrev pub LinksTo : Call → List ℕ → Registers → ℤ → ℕ → Type 0
+LinksTo (Clp p) m r level link = link ≡ r.mp
+LinksTo (Cgp p) m r level link = link ≡ r.base
+LinksTo (Cbp p) m r level link = LinksAsProgram m r level link
+LinksTo (Cip p) m r level link = LinksOutward m r level link
+LinksTo (Cxp n p) m r level link =
+    (int_le level (pos 0) ≡ true → LinksAsProgram m r level link)
+    × (int_le level (pos 0) ≡ false → LinksOutward m r level link)
+
+-- a call that is done: the segment that it reached, the procedure's table there, and the word at the new MP
+pub record IsLinked (c : Parts) (call : Call) (code : Option (List ℕ)) (d : Parts) : Type 0 where
+  pub at : Reached
+  pub reached : Reaches c call code at
+  pub table : Table
+  pub found : attributes at.memory at.place (procedure_called call) ≡ Ok table
+  pub link : LinksTo call at.memory c.registers table.level (word_at d.memory d.registers.mp)
+
+-- the word at the new MP is the static link that the kind of the call asks for
+abbrev pub CallsAreLinked : Type 0
+CallsAreLinked =
+    (c d : Parts) (call : Call) (code : Option (List ℕ)) →
+    IsMemory c.memory → IsCode code → called c call code ≡ Ok d → d.registers.mp % 2 ≡ 0 → IsLinked c call code d
+
+-- ---- cleared units
+
+-- No byte waits after unit 1 or 2 was cleared, and nothing else of the devices has changed; to clear another number
+-- changes nothing of them.
+pub record IsCleared (unit : ℕ) (d : Devices) : Type 0 where
+  pub forgets : (unit ≡ 1) ⊎ (unit ≡ 2) → (cleared (unit_of unit) d).1 ≡ record d { queue = [] }
+  pub stays : unit ≢ 1 → unit ≢ 2 → (cleared (unit_of unit) d).1 ≡ d
+
+abbrev pub ClearingForgetsKeys : Type 0
+ClearingForgetsKeys = (unit : ℕ) (d : Devices) → IsCleared unit d
+
+-- ---- moves
+
+-- Each word where a move went is the old one from where it came, wherever both lie; every other word stays.
+pub record IsMoved (m n : List ℕ) (from to words : ℕ) : Type 0 where
+  pub there : (i : ℕ) → i < words → word_at n (to + 2 * i) ≡ word_at m (from + 2 * i)
+  pub elsewhere : (x : ℕ) → x % 2 ≡ 0 → (x + 1 < to) ⊎ (to + 2 * words ≤ x) → word_at n x ≡ word_at m x
+
+-- MOV: the word on the stack is from where, the one above it where to
+abbrev pub MovesReadFirst : Type 0
+MovesReadFirst =
+    (words : ℕ) (m n : List ℕ) (sp np above : ℕ) →
+    IsMemory m → move_row words m sp np ≡ Ok (n, above) →
+    (above ≡ sp + 4) × IsMoved m n (word_at m sp) (word_at m (sp + 2)) words

@@ -40,6 +40,8 @@ times() {
 begin() { # what a group of cases begins with
     names=()
     wanted=()
+    jumps=
+    loops=0
     : >"$scratch/typed"
     printf '.SEG 1 CASES\n.PROC 1 0 4 3000\n' >"$scratch/text"
 }
@@ -50,30 +52,43 @@ case_is() { # NAME SHOWN [TYPED]: ends a case; \r is the end of a line
     printf %b "${3-}" >>"$scratch/typed"
     line 'SLDC 1' 'LPA "\1e"' 'SLDC 0' 'SLDC 1' 'SLDC 0' 'SLDC 0' 'CSP 6'
 }
-run_group() { # [WORD..]: runs the cases, with --save and further words for `run`
-    local shown number=0 even=
-    while :; do
-        { cat "$here/examples/system/system.text" "$scratch/text" && printf '.EXIT\n        RBP 0\n%s.END\n' "$even"; } |
-            "$pmach" asm >"$scratch/code" 2>"$scratch/why" && break
-        [ -z "$even" ] || {
-            cat "$scratch/why"
-            exit 1
-        }
-        even=$'        NOP\n'
-    done
-    [ -e "$image" ] || files new WORK 200
-    files remove CASES 2>/dev/null
+code_of() { # [even]: the code file of the cases, of 40 blocks
+    { cat "$here/examples/system/system.text" "$scratch/text" && printf '.EXIT\n        RBP 0\n%s%s.END\n' "${1-}" "$jumps"; } |
+        "$pmach" asm >"$scratch/code" 2>"$scratch/why" && truncate -s 20480 "$scratch/code"
+}
+run_code() { # WORD..: puts the cases on the disk, and runs them
+    code_of || code_of $'        NOP\n' || {
+        cat "$scratch/why"
+        exit 1
+    }
+    files remove CASES
     files put CASES code <"$scratch/code"
     "$pmach" run --d4 "$image" --save --printer "$scratch/printer" "$@" CASES <"$scratch/typed" >"$scratch/shown" 2>"$scratch/message"
+}
+fresh() { # BLOCKS [VERB..]: a new volume WORK, with a command done first; the cases have blocks 6 to 45
+    files new WORK "$1"
+    [ $# = 1 ] || files "${@:2}"
+    files date 84 12 1
+    head -c 20480 /dev/zero | files put CASES code
+}
+run_group() { # [WORD..]: runs the cases, with further words for `run`
+    local shown number=0 status
+    run_code "$@"
     while [ $number -lt ${#names[@]} ]; do
         IFS= read -r -d $'\036' shown || shown="$shown (ended: $(cat "$scratch/message"))"
         [ "$shown" = "$(printf %bx "${wanted[number]}" | sed '$s/x$//')" ]
-        local status=$?
+        status=$?
         result "${names[number]}" $status
         [ $status = 0 ] || printf '    shown %q\n' "$shown"
         number=$((number + 1))
     done <"$scratch/shown"
-    rm "$image"
+}
+ends() { # NAME SHOWN MESSAGE: of cases that end the run: all that is shown, | for the end of a line; how the message begins
+    run_code
+    [ "$(tr '\r' '|' <"$scratch/shown")" = "$2" ] && [[ $(cat "$scratch/message") = "$3"* ]]
+    local status=$?
+    result "$1" $status
+    [ $status = 0 ] || { tr '\r' '|' <"$scratch/shown" && cat "$scratch/message"; }
 }
 
 # The calls, as the compiler spells them.
@@ -104,26 +119,19 @@ show_top() { # PUSHED..: a number that these lines leave
 }
 io() { show_top 'CSP 34'; }                 # IORESULT
 set_s() { line 'LAO 3' "LSA \"$1\"" 'SAS 255'; }
-ends() { # NAME SHOWN MESSAGE: a case that ends the run; the message begins so
-    "$pmach" asm < <(cat "$here/examples/system/system.text" "$scratch/text" && printf '.EXIT\n        RBP 0\n%s.END\n' "${4-}") \
-        >"$scratch/code" 2>"$scratch/why" || {
-        [ -n "${4-}" ] || {
-            ends "$1" "$2" "$3" $'        NOP\n'
-            return
-        }
-        cat "$scratch/why"
-        exit 1
-    }
-    files new WORK 100
-    files put CASES code <"$scratch/code"
-    "$pmach" run --d4 "$image" CASES <"$scratch/typed" >"$scratch/shown" 2>"$scratch/message"
-    [ "$(tr '\r' '|' <"$scratch/shown")" = "$2" ] && [[ $(cat "$scratch/message") = "$3"* ]]
-    local status=$?
-    result "$1" $status
-    [ $status = 0 ] || { tr '\r' '|' <"$scratch/shown" && cat "$scratch/message"; }
-    rm "$image"
+loop() { # i from 1 on
+    line 'SLDC 1' 'SRO 259'
+    printf 'loop%s:\n' $loops >>"$scratch/text"
+}
+again() { # LIMIT: to the loop, while i is not above it
+    line 'LDO 259' 'SLDC 1' 'ADI' 'SRO 259' 'LDO 259'
+    word "$1"
+    line 'GRTI' "FJP ^$loops"
+    jumps="$jumps.JUMP loop$loops"$'\n'
+    loops=$((loops + 1))
 }
 
+fresh 200
 # 13, WRITE of an integer: value, width, shown
 begin
 while read -r value width shown; do
@@ -450,7 +458,7 @@ while IFS='|' read -r room typed echo then_; do
     line 'LOD 1, 2'
     call 21
     show_s
-    case_is "read of a string of $room: $typed" "$echo[$then_]" "$typed"
+    case_is "read of a string of $room: $typed" "${echo}[$then_]" "$typed"
 done <<'CASES'
 80|HELLO\r|HELLO\r|HELLO
 80|\r|\r|
@@ -531,6 +539,10 @@ line 'LDCI 960' 'SLDC 0' 'LDB' 'SLDC 0'
 call 17
 case_is 'GET(INPUT) and INPUT^' 'EE' E
 read_c
+show_c
+show_ends
+case_is 'READ gives what GET got' 'E00'
+read_c
 read_c
 show_c
 show_ends
@@ -564,7 +576,7 @@ line 'LOD 1, 2' 'LAO 259'
 call 12
 show_i
 show_ends
-case_is 'an integer that the end cuts' '17\x03 17'"11" '17\x03'
+case_is 'an integer that the end cuts' '17\x031711' '17\x03'
 line 'LOD 1, 2'
 call 4
 line 'LOD 1, 2' 'LAO 259' 'CXP 0, 12'
@@ -625,4 +637,767 @@ begin
 line 'LOD 1, 2' 'LAO 259'
 call 12
 printf 'X\r' >"$scratch/typed"
-ends 'IOCHECK behind a bad integer' 'X|' 'error 10 '
+ends 'IOCHECK behind a bad integer' X 'error 10 '
+
+# Files on disks.
+f=261
+g=601
+h=941
+init() { # FILE RECWORDS: 0 INTERACTIVE, -1 blocks, -2 TEXT
+    line "LAO $1"
+    if [ "$2" = -1 ]; then line LDCN; else line "LAO $(($1 + 300))"; fi
+    word "$2"
+    line 'CXP 0, 3'
+}
+open_() { # FILE TITLE OLD: and shows IORESULT
+    line "LAO $1" "LSA \"$2\"" "SLDC $3" 'LDCN' 'CXP 0, 5'
+    io
+}
+reset() { open_ "$1" "$2" 1; }
+rewrite() { open_ "$1" "$2" 0; }
+close() { # FILE HOW: 0, 1 LOCK, 2 PURGE, 3 CRUNCH; and shows IORESULT
+    line "LAO $1" "SLDC $2" 'CXP 0, 6'
+    io
+}
+get() { line "LAO $1" 'CXP 0, 7'; }
+put() { line "LAO $1" 'CXP 0, 8'; }
+seek() {
+    line "LAO $1"
+    word "$2"
+    line 'CXP 0, 9'
+}
+window() { line "LAO $(($1 + 300))"; }
+set_window() { # FILE WORD LINE..: that word of the window, to what the lines leave
+    window "$1"
+    line "INC $2" "${@:3}" STO
+}
+show_window() { # FILE WORD
+    show_top "LAO $(($1 + 300))" "IND $2"
+}
+at_end() { # FILE: EOF
+    out
+    line "LAO $1"
+    function_ 10
+    line 'SLDC 0'
+    call 13
+}
+blocks() { # FILE COUNT BLOCK READ: BLOCKREAD or BLOCKWRITE of a; shows IORESULT:how many
+    line "LAO $1" 'LAO 981' 'SLDC 0' "LDCI $2" "LDCI $3" "SLDC $4"
+    function_ 28
+    line 'SRO 260'
+    io
+    say :
+    show_top 'LDO 260'
+}
+list_is() { # NAME LINE..: the files of the disk but the cases: name, kind, first, blocks, bytes, date; and what is free
+    files list | sed '1d; /^CASES /d; s/  */ /g' >"$scratch/got"
+    printf '%s\n' "${@:2}" | cmp -s - "$scratch/got"
+    local status=$?
+    result "$1" $status
+    [ $status = 0 ] || cat "$scratch/got"
+}
+bytes_are() { # NAME FILE: the bytes of the file are those of standard input
+    files get "$2" >"$scratch/got" </dev/null && cmp -s - "$scratch/got"
+    local status=$?
+    result "$1" $status
+    [ $status = 0 ] || od -A d -t u1 "$scratch/got" | head -n 20
+}
+words() { # NUMBER..: their bytes
+    local number
+    for number; do
+        printf %b "\\x$(printf %02x $((number & 255)))\\x$(printf %02x $((number >> 8 & 255)))"
+    done
+}
+
+# 5 and 6, RESET, REWRITE and CLOSE: titles
+fresh 200
+printf ABC | files put A.DATA data
+printf ABC | files put FIFTEEN.LETTERS data
+begin
+init $f 1
+while IFS='|' read -r title result; do
+    reset $f "$title"
+    close $f 0
+    case_is "reset '$title'" "${result}0"
+done <<'CASES'
+A.DATA|0
+a.data|0
+ a .\09DATA |0
+*A.DATA|0
+*:A.DATA|0
+:A.DATA|0
+WORK:A.DATA|0
+work:a.data|0
+#4:A.DATA|0
+#04:A.DATA|0
+A.DATA[5]|0
+A.DATA[*]|0
+A.DATA[]|0
+FIFTEEN.LETTERS|0
+FIFTEEN.LETTERS[100]|0
+WORK:|0
+#4:|0
+*|0
+A.DAT|9
+A.DATAX|9
+SIXTEEN.LETTERS.|3
+NONE:A.DATA|9
+WORKS:A.DATA|9
+EIGHTLET:A.DATA|3
+SEVENLE:A.DATA|9
+#5:A.DATA|9
+#3:|9
+#7:|9
+#13:A.DATA|9
+#0:A.DATA|9
+#:A.DATA|9
+#4X:A.DATA|9
+REMIN:|9
+A.DATA[|3
+A.DATA[5|3
+A.DATA[X]|3
+A.DATA[5X]|3
+A.DATA[5]X|3
+|3
+ |3
+CASES
+reset $f "$(times 80 A)"
+case_is 'reset of a title of 80' 3
+reset $f "$(times 255 A)"
+case_is 'reset of a title of 255' 3
+reset $f "A$(times 249 ' ').DATA"
+case_is 'reset of a title with 249 blanks' 0
+reset $f A.DATA
+at_end $f
+case_is 'a file that is open stays open' 30
+close $f 0
+at_end $f
+case_is 'CLOSE: EOF is true' 01
+close $f 0
+case_is 'CLOSE of a closed file' 0
+get $f
+io
+put $f
+io
+seek $f 0
+io
+blocks $f 1 0 1
+line "LAO $f" 'CXP 0, 4'
+io
+line "LAO $f" 'LSA "X"' 'SLDC 0' 'CXP 0, 19'
+io
+line "LAO $f" 'LAO 259' 'CXP 0, 12'
+io
+case_is 'GET, PUT, SEEK, BLOCKREAD, RESET, WRITE, READ of a closed file' 9999:0999
+run_group
+list_is 'nothing changed on the disk' 'A.DATA data 46 1 3 084-12-01' 'FIFTEEN.LETTERS data 47 1 3 084-12-01' \
+    'files 3 free 152 largest 152'
+
+# Kinds by the name; sizes; several new files at a time; a full directory is below
+fresh 200
+begin
+init $f 1
+init $g 1
+for title in 'NAME.TEXT[6]' 'NAME.CODE[6]' 'NAME.BACK[6]' 'NAME.INFO[6]' 'NAME.GRAF[6]' 'NAME.FOTO[6]' 'NAME.DATA[6]' 'NAME[6]' '.TEXT[6]'; do
+    rewrite $f "$title"
+    set_window $f 0 'SLDC 65'
+    put $f
+    io
+    close $f 1
+    case_is "rewrite '$title'" 000
+done
+run_group
+list_is 'kinds' 'NAME.TEXT text 46 4 512 084-12-01' 'NAME.CODE code 50 1 2 084-12-01' 'NAME.BACK text 51 4 512 084-12-01' \
+    'NAME.INFO info 55 1 2 084-12-01' 'NAME.GRAF graf 56 1 2 084-12-01' 'NAME.FOTO foto 57 1 2 084-12-01' \
+    'NAME.DATA data 58 1 2 084-12-01' 'NAME data 59 1 2 084-12-01' '.TEXT data 60 1 2 084-12-01' 'files 10 free 139 largest 139'
+
+# Records: 7 to 10 and SEEK, 9
+fresh 200
+begin
+init $f 3
+rewrite $f 'R[20]'
+loop
+set_window $f 0 'LDO 259'
+set_window $f 1 'LDO 259' NGI
+set_window $f 2 'LDO 259' 'LDO 259' MPI
+put $f
+line 'CSP 0'
+again 200
+close $f 1
+case_is '200 records of 6 bytes' 00
+reset $f R
+show_window $f 0
+at_end $f
+get $f
+show_window $f 0
+case_is 'RESET reads the first record, GET the next' 0102
+for place in 0:1 199:200 85:86 86:87 170:171 84:85 0:1; do
+    seek $f "${place%:*}"
+    at_end $f
+    get $f
+    io
+    at_end $f
+    say '='
+    show_window $f 0
+    show_window $f 1
+    case_is "seek ${place%:*}" "000=${place#*:}-${place#*:}"
+done
+get $f
+show_window $f 0
+case_is 'GET behind SEEK and GET is the next record' 2
+seek $f 200
+get $f
+io
+at_end $f
+case_is 'seek behind the last record: GET finds the end' 01
+seek $f 32767
+get $f
+io
+at_end $f
+case_is 'seek 32767: GET finds the end' 01
+seek $f 5
+seek $f -1
+get $f
+show_window $f 0
+case_is 'seek -1 does nothing' 6
+seek $f 86
+get $f
+set_window $f 1 'LDCI 4660'
+seek $f 86
+put $f
+seek $f 85
+get $f
+show_window $f 1
+get $f
+show_window $f 1
+get $f
+show_window $f 1
+case_is 'a record put in its place' -864660-88
+seek $f 199
+get $f
+get $f
+at_end $f
+set_window $f 0 'LDCI 201'
+set_window $f 1 'LDCI 7'
+set_window $f 2 'LDCI 8'
+put $f
+io
+close $f 0
+case_is 'PUT behind the last record makes the file longer' 100
+reset $f R
+seek $f 200
+get $f
+show_window $f 0
+at_end $f
+get $f
+at_end $f
+case_is 'and it is there' 020101
+close $f 0
+run_group
+list_is 'the file of records' 'R data 46 3 182 084-12-01' 'files 2 free 151 largest 151'
+for ((i = 1; i <= 200; i++)); do
+    if [ $i = 87 ]; then words 87 4660 $((87 * 87)); else words $i -$i $((i * i)); fi
+done >"$scratch/records"
+words 201 7 8 >>"$scratch/records"
+bytes_are 'the bytes of the records' R <"$scratch/records"
+
+# A record that is larger than a block; what SEEK computes for large files
+fresh 200
+begin
+init $f 300
+rewrite $f 'BIG[20]'
+loop
+line "LAO $((f + 300))" 'SLDC 0' 'LDCI 600' 'LDO 259' 'CSP 10'
+put $f
+line 'CSP 0'
+again 7
+close $f 1
+reset $f BIG
+for place in 6:7 0:1 3:4; do
+    seek $f "${place%:*}"
+    get $f
+    say '='
+    show_top "LAO $((f + 300))" 'SLDC 0' LDB
+    show_top "LAO $((f + 300))" 'LDCI 599' LDB
+done
+seek $f 7
+get $f
+at_end $f
+case_is 'records of 600 bytes' 000=77=11=441
+run_group
+list_is 'seven records of 600 bytes' 'BIG data 46 9 104 084-12-01' 'files 2 free 145 largest 145'
+for ((i = 1; i <= 7; i++)); do times 600 "$i" | tr 1234567 '\1\2\3\4\5\6\7'; done >"$scratch/records"
+bytes_are 'their bytes' BIG <"$scratch/records"
+
+# 6, CLOSE: what it leaves, where the name is there already
+fresh 200
+for name in NORMAL LOCK PURGE OLDPURGE OLDLOCK CRUNCH; do printf '%s' "$name WAS HERE" | files put $name data; done
+begin
+init $f 1
+init $g 1
+new_file() {
+    rewrite $f "$1"
+    set_window $f 0 'LDCI 16961'
+    put $f
+    close $f "$2"
+}
+new_file 'NORMAL[3]' 0
+case_is 'CLOSE of a new file' 00
+new_file 'LOCK[3]' 1
+case_is 'CLOSE LOCK of a new file' 00
+new_file 'PURGE[3]' 2
+case_is 'CLOSE PURGE of a new file' 00
+new_file 'GONE[3]' 0
+case_is 'CLOSE of a new file with a new name' 00
+new_file 'CRUNCHED[3]' 3
+case_is 'CLOSE CRUNCH of a new file' 00
+reset $f OLDPURGE
+close $f 2
+case_is 'CLOSE PURGE of an old file' 00
+reset $f OLDLOCK
+close $f 1
+case_is 'CLOSE LOCK of an old file' 00
+reset $f CRUNCH
+get $f
+close $f 3
+case_is 'CLOSE CRUNCH of an old file' 00
+rewrite $f 'TWICE[3]'
+rewrite $g 'TWICE[3]'
+close $f 1
+close $g 1
+case_is 'a new file of a name that a new file has' 0300
+rewrite $f 'ONE[2]'
+rewrite $g 'TWO[2]'
+set_window $g 0 'LDCI 17219'
+put $g
+set_window $f 0 'LDCI 16961'
+put $f
+put $f
+close $g 1
+close $f 1
+case_is 'two new files at a time' 0000
+rewrite $f 'EMPTY[2]'
+close $f 1
+case_is 'a new file without records' 00
+run_group
+list_is 'what CLOSE left' 'NORMAL data 46 1 15 084-12-01' 'PURGE data 48 1 14 084-12-01' 'OLDLOCK data 50 1 16 084-12-01' \
+    'CRUNCH data 51 1 4 084-12-01' 'LOCK data 52 1 2 084-12-01' 'CRUNCHED data 53 1 2 084-12-01' \
+    'TWICE data 54 0 512 084-12-01' 'ONE data 54 1 4 084-12-01' 'TWO data 56 1 2 084-12-01' 'EMPTY data 57 0 512 084-12-01' \
+    'files 11 free 146 largest 143'
+bytes_are 'CLOSE keeps the old file' NORMAL < <(printf 'NORMAL WAS HERE')
+bytes_are 'CLOSE LOCK puts the new one in its place' LOCK < <(printf AB)
+bytes_are 'CLOSE CRUNCH ends the file behind what was read' CRUNCH < <(printf CRUN)
+bytes_are 'the first of two new files' ONE < <(printf ABAB)
+bytes_are 'the second' TWO < <(printf CC)
+
+# Texts: what is read
+fresh 200
+printf 'ONE\n\n   THREE\n-12 34\n\020AB' | tr '\020' ' ' | files puttext IN.TEXT
+times 100 'X' | fold -w 10 | sed 's/$/ AND SO ON, SO THAT THERE ARE PAGES OF A TEXT, WHICH HAVE 1,024 BYTES./' | files puttext TEN.TEXT
+printf 'NO LINE' | files put PLAIN data
+begin
+init $f -2
+reset $f IN.TEXT
+line "LAO $f" 'LAO 3' 'SLDC 80'
+call 18
+line "LAO $f"
+call 21
+show_s
+case_is 'the first line of a text' '0[ONE]'
+line "LAO $f" 'LAO 3' 'SLDC 80'
+call 18
+out
+line "LAO $f"
+function_ 11
+line 'SLDC 0'
+call 13
+line "LAO $f"
+call 21
+show_s
+case_is 'an empty line' '1[]'
+line "LAO $f" 'LAO 260'
+call 16
+line "LAO $f" 'LAO 3' 'SLDC 80'
+call 18
+line "LAO $f"
+call 21
+show_s
+case_is 'spaces in front of a line are characters' '[  THREE]'
+line "LAO $f" 'LAO 259'
+call 12
+show_i
+line "LAO $f" 'LAO 259'
+call 12
+show_i
+line "LAO $f"
+call 21
+at_end $f
+case_is 'integers of a text' -12340
+line "LAO $f" 'LAO 3' 'SLDC 80'
+call 18
+show_s
+at_end $f
+line "LAO $f"
+call 21
+at_end $f
+case_is 'the last line, and the end' '[ AB]01'
+close $f 0
+reset $f TEN.TEXT
+line 'SLDC 0' 'SRO 260'
+loop
+line "LAO $f" 'LAO 3' 'SLDC 80'
+call 18
+line "LAO $f"
+call 21
+line 'LDO 260' 'LAO 3' 'SLDC 0' LDB ADI 'SRO 260'
+again 10
+show_top 'LDO 260'
+at_end $f
+case_is 'ten lines of 80, and the end' 008001
+line "LAO $f"
+call 4
+line "LAO $f" 'LAO 3' 'SLDC 10'
+call 18
+show_s
+case_is 'RESET of an open text' '[XXXXXXXXXX]'
+close $f 0
+reset $f PLAIN
+line "LAO $f" 'LAO 3' 'SLDC 80'
+call 18
+show_s
+at_end $f
+case_is 'a file of data as characters' '00[NO LINE]1'
+seek $f 0
+io
+close $f 0
+reset $f IN.TEXT
+seek $f 3
+get $f
+show_top "LAO $((f + 300))" 'SLDC 0' LDB
+case_is 'SEEK in a text does nothing' 000"$(printf %d "'N")"
+run_group
+
+# Texts: what is written, up to a full disk. A page ends behind the line that ends in its last 127 bytes: nine lines of
+# 101 bytes end at byte 909, so each of the 6 pages that 14 blocks have has nine
+fresh 60
+begin
+init $f -2
+init $g -2
+rewrite $f 'OUT.TEXT'
+case_is 'a new text on all free blocks' 0
+rewrite $g 'MORE.TEXT'
+case_is 'a second one has no room' 9
+loop
+line "LAO $f" "LSA \"  $(times 98 L)\"" 'SLDC 0' 'CXP 0, 19' 'CSP 34' 'SRO 260'
+line "LAO $f" 'CXP 0, 22'
+line 'LDO 260' 'SLDC 0' NEQI 'FJP past1' 'UJP past2'
+printf 'past1:\n' >>"$scratch/text"
+again 100
+printf 'past2:\n' >>"$scratch/text"
+show_i
+say ' '
+show_top 'LDO 260'
+at_end $f
+case_is 'the 55th line has no room' '55 91'
+close $f 1
+case_is 'CLOSE LOCK of it' 0
+run_group
+list_is 'the text has all free blocks' 'OUT.TEXT text 46 14 512 084-12-01' 'files 2 free 0 largest 0'
+for ((i = 1; i <= 54; i++)); do echo "  $(times 98 L)"; done >"$scratch/lines"
+files gettext OUT.TEXT | cmp -s - "$scratch/lines"
+result 'its 54 lines' $?
+begin
+init $f -2
+rewrite $f 'OUT.TEXT'
+case_is 'a full disk has no room' 9
+run_group
+
+fresh 61
+begin
+init $f -2
+init $g -2
+rewrite $f 'ODD.TEXT[5]'
+line "LAO $f" 'LDCI -32768' 'SLDC 7'
+call 13
+line "LAO $f" 'SLDC 33' 'SLDC 3'
+call 17
+line "LAO $f" 'LPA "ABC"' 'SLDC 5' 'SLDC 3'
+call 20
+line "LAO $f"
+call 22
+line "LAO $f" 'LSA "END"' 'SLDC 0'
+call 19
+close $f 1
+case_is 'WRITE of each kind into a text' 00
+reset $f ODD.TEXT
+line "LAO $f" 'LAO 3' 'SLDC 80'
+call 18
+show_s
+case_is 'and read again' '0[ -32768  !  ABC]'
+rewrite $g 'HALF.DATA[*]'
+close $g 0
+rewrite $g 'X.TEXT[1]'
+case_is 'a text has two blocks at least' 009
+run_group
+list_is 'the small text' 'ODD.TEXT text 46 4 512 084-12-01' 'files 2 free 11 largest 11'
+printf ' -32768  !  ABC\nEND\n' >"$scratch/lines"
+files gettext ODD.TEXT | cmp -s - "$scratch/lines"
+result 'its two lines' $?
+
+# Room: sizes, the largest gap, half of it, files that grow, a full directory
+fresh 100
+head -c 2048 /dev/zero | files put HOLE4 data
+head -c 512 /dev/zero | files put A data
+head -c 5120 /dev/zero | files put HOLE10 data
+head -c 512 /dev/zero | files put B data
+files remove HOLE4
+files remove HOLE10
+begin
+init $f 256
+init $g 256
+rewrite $f 'FOUR[4]'
+put $f
+put $f
+put $f
+put $f
+io
+put $f
+io
+close $f 1
+case_is 'a size: the first gap that has it, and no more' 0090
+rewrite $f 'FIVE[5]'
+put $f
+close $f 1
+case_is 'a gap of four has no five blocks' 00
+rewrite $f 'HALF[*]'
+put $f
+rewrite $g 'LARGEST'
+put $g
+close $f 1
+close $g 1
+case_is 'half of the largest gap, then the largest' 0000
+reset $f A
+get $f
+put $f
+io
+close $f 0
+case_is 'an old file does not grow over the next one: a gap of no block' 090
+reset $f FIVE
+get $f
+put $f
+io
+close $f 0
+case_is 'an old file grows into the gap behind it' 000
+rewrite $f 'MUCH[39]'
+case_is 'a size that no gap has' 9
+run_group
+list_is 'where they stand' 'FOUR data 46 4 512 084-12-01' 'A data 50 1 512 084-12-01' 'FIVE data 51 2 512 084-12-01' \
+    'B data 61 1 512 084-12-01' 'HALF data 62 1 512 084-12-01' 'LARGEST data 81 1 512 084-12-01' 'files 7 free 44 largest 18'
+fresh 200
+for ((i = 1; i <= 76; i++)); do printf x | files put F$i data; done
+begin
+init $f 1
+rewrite $f 'F77[1]'
+case_is 'a directory of 77 files is full' 9
+reset $f F76
+close $f 2
+rewrite $f 'F77[1]'
+set_window $f 0 'LDCI 16961'
+put $f
+close $f 1
+case_is 'after PURGE of one there is room for one' 0000
+run_group
+[ "$(files list | tail -n 2 | tr '\n' ' ' | sed 's/  */ /g')" = 'F77 data 121 1 2 084-12-01 files 77 free 78 largest 78 ' ]
+result 'the last of the full directory' $?
+
+# 28, BLOCKREAD and BLOCKWRITE
+fresh 200
+head -c 1300 /dev/zero | tr '\0' Z | files put Z data
+begin
+init $h -1
+reset $h Z
+blocks $h 2 -1 1
+at_end $h
+blocks $h 2 -1 1
+at_end $h
+blocks $h 2 -1 1
+at_end $h
+case_is 'three blocks, two at a time' 00:200:110:01
+blocks $h 1 1 1
+show_top 'LAO 981' 'SLDC 0' LDB
+case_is 'block 1 of a file' 0:190
+blocks $h 1 3 1
+blocks $h 0 0 1
+blocks $h -1 0 1
+case_is 'the block behind the last, no blocks, fewer than none' 0:00:00:0
+close $h 0
+reset $h '#4:'
+blocks $h 1 2 1
+show_top 'LAO 981' 'SLDC 7' LDB
+at_end $h
+blocks $h 1 199 1
+at_end $h
+blocks $h 1 200 1
+close $h 0
+case_is 'a unit as blocks' 000:18700:110:00
+rewrite $h 'NEW[3]'
+line 'LAO 981' 'SLDC 0' 'LDCI 1024' 'SLDC 81' 'CSP 10'
+blocks $h 2 -1 0
+blocks $h 1 0 0
+blocks $h 2 2 0
+close $h 1
+case_is 'BLOCKWRITE goes on behind the size, where blocks are free' 00:20:10:20
+run_group
+list_is 'the blocks that were written' 'Z data 46 3 276 084-12-01' 'NEW data 49 4 512 084-12-01' 'files 3 free 147 largest 147'
+bytes_are 'their bytes' NEW < <(times 2048 Q)
+
+# Devices; other units; new files that a program leaves open; the second copy of the directory
+fresh 200
+begin
+init $f -2
+rewrite $f 'PRINTER:'
+line "LAO $f" 'LSA "ON PAPER"' 'SLDC 10'
+call 19
+line "LAO $f"
+call 22
+close $f 0
+case_is 'PRINTER:' 00
+rewrite $f '#6:'
+line "LAO $f" 'LDCI 42' 'SLDC 5'
+call 13
+close $f 0
+case_is '#6:' 00
+rewrite $f 'CONSOLE:'
+line "LAO $f" 'LSA "HERE"' 'SLDC 0'
+call 19
+close $f 0
+case_is CONSOLE: 0HERE0
+reset $f 'SYSTERM:'
+close $f 0
+case_is 'RESET of SYSTERM: as a TEXT reads its first character' 00 T
+line 'LOD 1, 2' 'SLDC 1' 'CXP 0, 6'
+show_ends
+case_is 'INPUT stays open' 00
+run_group
+printf '  ON PAPER\r   42' | cmp -s - "$scratch/printer"
+result 'the paper' $?
+
+other=$scratch/other
+"$pmach" files --image "$other" new DATA 30
+printf 'HELLO FROM 5\n' | "$pmach" files --image "$other" puttext LETTER.TEXT
+fresh 200
+begin
+init $f -2
+for title in DATA:LETTER.TEXT '#5:LETTER.TEXT'; do
+    reset $f $title
+    line "LAO $f" 'LAO 3' 'SLDC 80'
+    call 18
+    show_s
+    close $f 0
+    case_is "$title on unit 5" '0[HELLO FROM 5]0'
+done
+reset $f LETTER.TEXT
+case_is 'a title without a volume is on unit 4' 9
+rewrite $f 'DATA:NEW.TEXT[5]'
+close $f 1
+reset $f DATA:NEW.TEXT
+at_end $f
+close $f 2
+case_is 'a new text on unit 5' 00010
+run_group --d5 "$other"
+
+fresh 200
+files duplicate 2>/dev/null || { files new WORK 200 && files duplicate && files date 84 12 1 && head -c 20480 /dev/zero | files put CASES code; }
+begin
+init $f -2
+rewrite $f 'ONE.TEXT[8]'
+close $f 1
+rewrite $f 'LEFT.TEXT[8]'
+case_is 'a new file that is left open' 000
+run_group
+list_is 'it stands in the directory' 'ONE.TEXT text 50 2 512 084-12-01' 'LEFT.TEXT text 52 8 512 100-00-00' 'files 3 free 140 largest 140'
+cmp -s <(dd if="$image" bs=512 skip=2 count=4 2>/dev/null) <(dd if="$image" bs=512 skip=6 count=4 2>/dev/null)
+result 'and in the second copy' $?
+begin
+init $f -2
+reset $f LEFT.TEXT
+reset $f ONE.TEXT
+case_is 'the next program does not see it' 90
+run_group
+list_is 'it is gone' 'ONE.TEXT text 50 2 512 084-12-01' 'files 2 free 148 largest 148'
+cmp -s <(dd if="$image" bs=512 skip=2 count=4 2>/dev/null) <(dd if="$image" bs=512 skip=6 count=4 2>/dev/null)
+result 'and from the second copy' $?
+
+# The programs of examples/system
+spell() { # FILE: the bytes that it stands for: 13 for the end of a line, \0 and three digits for another
+    [ ! -e "$1" ] || { printf '%bx' "$(cat "$1" && echo x)" | sed '$s/xx$//' | tr '\n' '\r'; }
+}
+"$here/examples/system/disk.sh" "$image"
+for text in "$here"/examples/system/programs/*.text; do
+    base=${text%.text}
+    name=$(basename "$base")
+    spell "$base.in" >"$scratch/typed"
+    spell "$base.out" >"$scratch/wanted"
+    "$pmach" run --d4 "$image" --save "$name" <"$scratch/typed" >"$scratch/shown" 2>"$scratch/message" &&
+        cmp -s "$scratch/shown" "$scratch/wanted"
+    status=$?
+    result "program $name" $status
+    [ $status = 0 ] || { tr '\r' '\n' <"$scratch/shown" && cat "$scratch/message"; }
+done
+printf 'THE PROGRAMS OF THIS DISK\n  HAVE THE SYSTEM SEGMENT\n\nSO THEY RUN.\n' | awk '{ printf "%4d %s\n", NR, $0 }' >"$scratch/lines"
+files gettext COPY.TEXT | cmp -s - "$scratch/lines"
+result 'the text that copytext wrote' $?
+files get PEOPLE.DATA >"$scratch/got"
+person() { # PLACE NAME AGE: the record there; behind the name stands what the window had before
+    cmp -s <(tail -c +$(($1 + 1)) "$scratch/got" | head -c $((${#2} + 1))) <(printf '%b%s' "\\x$(printf %02x ${#2})" "$2") &&
+        cmp -s <(tail -c +$(($1 + 17)) "$scratch/got" | head -c 2) <(words "$3")
+    result "the record of $2 that people wrote" $?
+}
+person 0 ANNA 31
+person 18 BERT 8
+person 36 CHARLES 64
+
+# with-system.sh: what it refuses, and that nothing changes then
+with() { # NAME STATUS TEXT WORD..: the status, and the message begins so
+    local name=$1 status=$2 text=$3
+    shift 3
+    "$here/examples/with-system.sh" "$@" >"$scratch/out" 2>"$scratch/err" </dev/null
+    [ $? = "$status" ] && [ ! -s "$scratch/out" ] && [[ $(cat "$scratch/err") = "$text"* ]]
+    result "$name" $?
+}
+unchanged() {
+    cmp -s "$image" "$scratch/before"
+    result "$1" $?
+}
+files new SMALL 30
+"$pmach" asm <"$here/examples/hanoi.text" | files put HANOI code
+"$pmach" asm <"$here/examples/system/programs/table.text" | files put Table code
+printf text | files put DATA data
+printf short | files put SHORT code
+cp "$image" "$scratch/before"
+with 'no words' 1 usage:
+with 'no such file' 2 'with-system.sh: there is no file NONE' "$image" NONE
+with 'no code' 2 'with-system.sh: DATA is of kind data' "$image" DATA
+with 'no code file' 2 'refused code 1' "$image" SHORT
+PREFIX=TOOLONGNAME with 'a prefix that is none' 1 'with-system.sh: PREFIX' "$image" TABLE
+unchanged 'nothing changed'
+with 'it is put in' 0 '' "$image" table
+files list | awk 'NR > 1 { print $1, $2, $3 }' >"$scratch/got"
+printf '%s\n' 'HANOI code 6' 'DATA data 10' 'SHORT code 11' 'TABLE code 12' 'files 4 free' | cmp -s - "$scratch/got"
+result 'the file keeps its name and kind, the others stay' $?
+cp "$image" "$scratch/before"
+with 'slot 0 is taken' 3 'with-system.sh: slot 0 of TABLE is taken' "$image" TABLE
+unchanged 'nothing changed then'
+with 'no room' 4 'with-system.sh: HANOI stays as it is: refused filer 1 7' "$image" HANOI
+unchanged 'nothing changed without room'
+"$pmach" run --d4 "$image" TABLE 2>/dev/null | cmp -s - <(spell "$here/examples/system/programs/table.out")
+result 'and it runs' $?
+fresh 100
+"$pmach" asm <"$here/examples/system/programs/lister.text" | files put LISTER code
+PREFIX=data with 'a prefix' 0 '' "$image" LISTER
+printf 'LETTER.TEXT\r' | "$pmach" run --d4 "$image" --d5 "$other" LISTER 2>/dev/null |
+    cmp -s - <(printf 'LIST WHAT? LETTER.TEXT\r  1: HELLO FROM 5 (12)\r')
+result 'a title without a volume is on the prefix' $?
+
+echo "$passed passed, $failed failed"
+[ $failed = 0 ]

@@ -1,9 +1,9 @@
 #!/bin/sh
 # Gives a code file of a volume the system segment: examples/with-system.sh IMAGE NAME
 # system/system.text is assembled and put behind the file's segments, and slot 0 of its dictionary says so. The file
-# keeps its name and kind, and gets the volume's last date. Nothing else in the volume changes but where the file stands.
+# keeps its name and kind, and gets the volume's last date. Nothing else in the volume changes but where it stands.
 # Status 2: no such file, or no code file; 3: its slot 0 is taken, and it stays as it is; 4: the volume has no room, and
-# stays as it is. PREFIX names the volume of titles that name none (* is that of unit 4, and what holds without PREFIX);
+# stays as it is. PREFIX names the volume of titles that name none (* is that of unit 4, which holds without PREFIX);
 # PMACH another program than ../pmach.
 set -e
 [ $# = 2 ] || {
@@ -62,7 +62,13 @@ files get -- "$name" >"$scratch/old" </dev/null
 # shellcheck disable=SC2046 # two words
 set -- $(words "$scratch/old" 0 2)
 [ "$2" = 0 ] || fail "slot 0 of $name is taken, by a segment of $2 bytes; it stays as it is" 3
-sed "/; the prefix\$/s/\"[*]\"/\"$prefix\"/" "$here/system/system.text" | "$pmach" asm >"$scratch/system"
+awk -v prefix="$prefix" '
+    /; the prefix$/ {
+        print "        LSA  \"" prefix "\""
+        if (length(prefix) % 2 == 0) print "        NOP"
+        next
+    }
+    { print }' "$here/system/system.text" | "$pmach" asm >"$scratch/system"
 # shellcheck disable=SC2046 # two words
 set -- $(words "$scratch/system" 0 2)
 length=$2

@@ -901,6 +901,32 @@ done >"$scratch/records"
 words 201 7 8 >>"$scratch/records"
 bytes_are 'the bytes of the records' R <"$scratch/records"
 
+# A record that has no room is not lost with those before it
+fresh 49
+begin
+init $f 200
+rewrite $f 'FULL'
+loop
+set_window $f 0 'LDO 259'
+line "LAO $f" 'CXP 0, 8' 'CSP 34' 'SRO 260' 'LDO 260' 'SLDC 0' NEQI 'FJP past1' 'UJP past2'
+printf 'past1:\n' >>"$scratch/text"
+again 100
+printf 'past2:\n' >>"$scratch/text"
+show_i
+say ' '
+show_top 'LDO 260'
+case_is 'records of 400 bytes in three blocks' '04 9'
+close $f 1
+reset $f FULL
+seek $f 2
+get $f
+show_window $f 0
+at_end $f
+get $f
+at_end $f
+case_is 'the three that had room are there' 00301
+run_group
+
 # A record that is larger than a block; what SEEK computes for large files
 fresh 200
 begin
@@ -931,7 +957,7 @@ bytes_are 'their bytes' BIG <"$scratch/records"
 
 # 6, CLOSE: what it leaves, where the name is there already
 fresh 200
-for name in NORMAL LOCK PURGE OLDPURGE OLDLOCK CRUNCH; do printf '%s' "$name WAS HERE" | files put $name data; done
+for name in NORMAL LOCK PURGE OLDPURGE OLDLOCK CRUNCH SOUGHT BEHIND; do printf '%s' "$name WAS HERE" | files put $name data; done
 begin
 init $f 1
 init $g 1
@@ -961,6 +987,14 @@ reset $f CRUNCH
 get $f
 close $f 3
 case_is 'CLOSE CRUNCH of an old file' 00
+reset $f SOUGHT
+seek $f 0
+close $f 3
+case_is 'CLOSE CRUNCH behind SEEK 0 leaves nothing' 00
+reset $f BEHIND
+seek $f 1000
+close $f 3
+case_is 'CLOSE CRUNCH behind SEEK past the end leaves all' 00
 rewrite $f 'TWICE[3]'
 rewrite $g 'TWICE[3]'
 close $f 1
@@ -981,9 +1015,9 @@ close $f 1
 case_is 'a new file without records' 00
 run_group
 list_is 'what CLOSE left' 'NORMAL data 46 1 15 084-12-01' 'PURGE data 48 1 14 084-12-01' 'OLDLOCK data 50 1 16 084-12-01' \
-    'CRUNCH data 51 1 4 084-12-01' 'LOCK data 52 1 2 084-12-01' 'CRUNCHED data 53 1 2 084-12-01' \
-    'TWICE data 54 0 512 084-12-01' 'ONE data 54 1 4 084-12-01' 'TWO data 56 1 2 084-12-01' 'EMPTY data 57 0 512 084-12-01' \
-    'files 11 free 146 largest 143'
+    'CRUNCH data 51 1 4 084-12-01' 'SOUGHT data 52 0 512 084-12-01' 'BEHIND data 53 1 15 084-12-01' 'LOCK data 54 1 2 084-12-01' \
+    'CRUNCHED data 55 1 2 084-12-01' 'TWICE data 56 0 512 084-12-01' 'ONE data 56 1 4 084-12-01' 'TWO data 58 1 2 084-12-01' \
+    'EMPTY data 59 0 512 084-12-01' 'files 13 free 145 largest 141'
 bytes_are 'CLOSE keeps the old file' NORMAL < <(printf 'NORMAL WAS HERE')
 bytes_are 'CLOSE LOCK puts the new one in its place' LOCK < <(printf AB)
 bytes_are 'CLOSE CRUNCH ends the file behind what was read' CRUNCH < <(printf CRUN)

@@ -1,0 +1,28 @@
+//! The cases of examples/conformance/bare.txt: a name, lines of the bytes in hexadecimal, and the trace.
+use crate::bare::add_trace;
+use crate::case::{Came, Case};
+use crate::spelled::hex_bytes;
+use std::alloc::Global;
+use std::io;
+
+/// What is given: the word is two digits.
+pub fn is_given(word: &str) -> bool {
+    word.len() == 2
+}
+
+/// The steps that a program may make.
+const STEPS: u32 = 10_000;
+
+/// What comes of a case.
+pub fn answers(alloc: Global, case: &Case<'_>) -> io::Result<Came> {
+    let mut code = Vec::new(alloc);
+    for line in case.lines.iter() {
+        if is_given(line.word) {
+            code.extend_from_slice(&hex_bytes(alloc, line.text)?)?;
+        }
+    }
+    let mut came = Came::new(alloc);
+    add_trace(alloc, &code, STEPS, &mut came)?;
+    came.answers = std::mem::replace(&mut came.shown, String::new(alloc));
+    Ok(came)
+}

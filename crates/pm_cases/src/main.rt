@@ -1,0 +1,48 @@
+//! Cases whose answers no part of this program made, beside what it answers: a program of the gate. It prints for each
+//! file of data/ how many cases agree, and of the first that does not its name, what was expected and what came.
+#![tactic(auto)]
+
+mod bare;
+mod boots;
+mod case;
+mod code_file;
+mod conformance;
+mod files;
+mod jobs;
+mod keys;
+mod report;
+mod spelled;
+mod texts;
+
+use keys::status_with_key;
+use report::{Kind, replay};
+use std::{fs, io};
+
+/// The files, and what their cases are. The planted ones are wrong on purpose, but for the first of each.
+const FILES: [(&str, Kind); 9] = [
+    ("bare.cases", Kind::Bare),
+    ("boots.cases", Kind::Boots),
+    ("files.cases", Kind::Files),
+    ("texts.cases", Kind::Texts),
+    ("bare.txt", Kind::Conformance),
+    ("planted-bare.cases", Kind::Bare),
+    ("planted-boots.cases", Kind::Boots),
+    ("planted-files.cases", Kind::Files),
+    ("planted-texts.cases", Kind::Texts),
+];
+
+/// XIT, which ends the program, and a division by 0, which halts the machine.
+const ENDS: &[u8] = &[0xd6];
+
+const HALTS: &[u8] = &[0x00, 0x86];
+
+fn main(rt: HostRuntime) -> io::Result<()> {
+    for (path, kind) in FILES {
+        let text = fs::read_to_string(&rt, path)?;
+        let report = replay(rt.alloc(), text.as_str(), kind)?;
+        println!(rt; "{path}: {report}")?;
+    }
+    let ended = status_with_key(rt.alloc(), ENDS)?;
+    let halted = status_with_key(rt.alloc(), HALTS)?;
+    println!(rt; "a key waits: {ended:?}, {halted:?}")
+}

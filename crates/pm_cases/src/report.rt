@@ -1,0 +1,213 @@
+//! The replay of a file: each case beside its answers, and what is said of those that differ.
+use crate::case::{Came, Case, Line};
+use crate::{bare, boots, conformance, files, texts};
+use std::alloc::{AllocError, Global};
+use std::io::ErrorKind;
+use std::{fmt, io};
+
+/// What the cases of a file are.
+#[derive(Clone, Copy)]
+pub enum Kind {
+    Bare,
+    Boots,
+    Files,
+    Texts,
+    Conformance,
+}
+
+impl Kind {
+    /// What stands before the name of a case.
+    fn head(self) -> &'static str {
+        match self {
+            Kind::Conformance => "; ",
+            _ => "case ",
+        }
+    }
+
+    /// Whether a line of a case is given, and no answer.
+    fn is_given(self, case: &Case<'_>, word: &str) -> bool {
+        match self {
+            Kind::Bare => bare::is_given(word),
+            Kind::Boots => boots::is_given(word),
+            Kind::Files => files::is_given(word),
+            Kind::Texts => texts::is_given(case, word),
+            Kind::Conformance => conformance::is_given(word),
+        }
+    }
+
+    /// What comes of a case.
+    fn answers(self, alloc: Global, case: &Case<'_>) -> io::Result<Came> {
+        match self {
+            Kind::Bare => bare::answers(alloc, case),
+            Kind::Boots => boots::answers(alloc, case),
+            Kind::Files => files::answers(alloc, case),
+            Kind::Texts => texts::answers(alloc, case),
+            Kind::Conformance => conformance::answers(alloc, case),
+        }
+    }
+}
+
+/// How many cases of a file agree, how many do not, and what is said of the first of these.
+#[derive(Drop)]
+pub struct Report {
+    agree: u32,
+    differ: u32,
+    first: String,
+}
+
+impl fmt::Display for Report {
+    fn fmt<W: fmt::Write>(&self, f: &mut fmt::Formatter<W>) -> fmt::Result {
+        let agree = self.agree;
+        write!(f, "{agree} agree")?;
+        if self.differ > 0 {
+            let differ = self.differ;
+            let first = self.first.as_str();
+            write!(f, ", {differ} do not. The first:\n{first}")?;
+        }
+        Ok(())
+    }
+}
+
+/// The most lines that are shown of what was expected, of what came, and of a trace.
+const LINES: usize = 8;
+
+const TRACE: usize = 40;
+
+/// What is expected: the lines of the answers, each with its line feed.
+fn expected(alloc: Global, kind: Kind, case: &Case<'_>) -> Result<String, AllocError> {
+    let mut text = String::new(alloc);
+    for line in case.lines.iter() {
+        if !kind.is_given(case, line.word) {
+            text.push_str(line.text)?;
+            text.push_str("\n")?;
+        }
+    }
+    Ok(text)
+}
+
+/// How many lines two texts begin with alike.
+fn alike(one: &str, other: &str) -> usize {
+    let mut count: usize = 0;
+    for (line, beside) in one.lines().zip(other.lines()) {
+        if line != beside {
+            return count;
+        }
+        count = count.saturating_add(1);
+    }
+    count
+}
+
+/// The last line that is given before an answer of this number.
+fn given_before<'a>(kind: Kind, case: &Case<'a>, answer: usize) -> &'a str {
+    let mut given = "";
+    let mut answers: usize = 0;
+    for line in case.lines.iter() {
+        if kind.is_given(case, line.word) {
+            given = line.text;
+        } else {
+            if answers == answer {
+                return given;
+            }
+            answers = answers.saturating_add(1);
+        }
+    }
+    given
+}
+
+/// Adds some lines of a text, with what they are before each.
+fn add_lines(
+    text: &mut String,
+    what: &str,
+    lines: &str,
+    from: usize,
+    most: usize,
+) -> Result<(), AllocError> {
+    for line in lines.lines().skip(from).take(most) {
+        text.push_str(what)?;
+        text.push_str(line)?;
+        text.push_str("\n")?;
+    }
+    Ok(())
+}
+
+/// What is said of a case that does not agree.
+fn told(
+    alloc: Global,
+    kind: Kind,
+    case: &Case<'_>,
+    wanted: &str,
+    came: &Came,
+) -> Result<String, AllocError> {
+    let (number, name) = (case.number, case.name);
+    let equal = alike(wanted, came.answers.as_str());
+    let given = given_before(kind, case, equal);
+    let mut text = format!(in alloc; "  line {number}, {name}\n  behind {given}\n")?;
+    add_lines(&mut text, "  expected: ", wanted, equal, LINES)?;
+    add_lines(
+        &mut text,
+        "  came:     ",
+        came.answers.as_str(),
+        equal,
+        LINES,
+    )?;
+    add_lines(&mut text, "  shown:    ", came.shown.as_str(), 0, TRACE)?;
+    Ok(text)
+}
+
+/// What comes of a case.
+fn came_of(alloc: Global, kind: Kind, case: &Case<'_>) -> io::Result<Came> {
+    match kind.answers(alloc, case) {
+        Err(error) if error.kind() == ErrorKind::InvalidData => {
+            let mut came = Came::new(alloc);
+            came.answer(
+                "none: a line cannot be read, or there is no volume for the program",
+                "",
+            )?;
+            Ok(came)
+        }
+        came => came,
+    }
+}
+
+impl Report {
+    /// Replays a case.
+    fn add(&mut self, alloc: Global, kind: Kind, case: &Case<'_>) -> io::Result<()> {
+        let wanted = expected(alloc, kind, case)?;
+        let came = came_of(alloc, kind, case)?;
+        if wanted.as_str() == came.answers.as_str() {
+            self.agree = self.agree.saturating_add(1);
+            return Ok(());
+        }
+        if self.differ == 0 {
+            self.first = told(alloc, kind, case, wanted.as_str(), &came)?;
+        }
+        self.differ = self.differ.saturating_add(1);
+        Ok(())
+    }
+}
+
+/// Replays the cases of a file.
+pub fn replay(alloc: Global, text: &str, kind: Kind) -> io::Result<Report> {
+    let mut report = Report {
+        agree: 0,
+        differ: 0,
+        first: String::new(alloc),
+    };
+    let mut case = Case::new(alloc, "", 0);
+    for (number, line) in text.lines().enumerate() {
+        if let Some(name) = line.strip_prefix(kind.head()) {
+            case = Case::new(alloc, name, number.saturating_add(1));
+        } else if line.is_empty() {
+            if !case.lines.is_empty() {
+                report.add(alloc, kind, &case)?;
+            }
+            case = Case::new(alloc, "", 0);
+        } else if !case.name.is_empty() {
+            case.lines.push(Line::of(line))?;
+        }
+    }
+    if !case.lines.is_empty() {
+        report.add(alloc, kind, &case)?;
+    }
+    Ok(report)
+}

@@ -8,6 +8,7 @@
     numbers         that have a name: ends of the stack, the most bytes of bare code, opcodes of jumps (tables of
                     opcodes, table.rt and quick.rt, have their own)
     the page        of the instructions, of which crates/pm_page/stdin is a copy
+    the cases       of examples/conformance/bare.txt, of which crates/pm_cases/data/bare.txt is a copy
     names           that docs/PROMISES.md, its annex and the tables of definitions have and the source, or the file beside,
                     has not
     the map         of docs/ARCHITECTURE.md: floors and edges beside crates.txt, and a row for each crate
@@ -136,6 +137,8 @@ for name in stands:
 
 if lines("crates/pm_page/stdin") != lines("docs/INSTRUCTIONS.md"):
     tell("page", "crates/pm_page/stdin is not docs/INSTRUCTIONS.md")
+if lines("crates/pm_cases/data/bare.txt") != lines("examples/conformance/bare.txt"):
+    tell("cases", "crates/pm_cases/data/bare.txt is not examples/conformance/bare.txt")
 
 known = set()
 for path in glob.glob("crates/*/src/**/*.rt", recursive=True):

@@ -1,7 +1,7 @@
 //! Cases of bare code: the trace that the job writes, and the registers and the stack that the machine has at its end.
 use crate::case::{Came, Case};
 use crate::jobs::ran;
-use crate::spelled::{digest_text, hex_bytes, number};
+use crate::spelled::{digest_text, hex_bytes, steps};
 use pm_machine::Machine;
 use pm_tool::Job;
 use std::alloc::Global;
@@ -70,7 +70,7 @@ pub fn answers(alloc: Global, case: &Case<'_>) -> io::Result<Came> {
     let mut came = Came::new(alloc);
     let code = hex_bytes(alloc, case.value("code").unwrap_or(""))?;
     let limit = match case.value("limit") {
-        Some(limit) => number(limit)? as u32,
+        Some(limit) => steps(limit)?,
         None => STEPS,
     };
     add_trace(alloc, &code, limit, &mut came)?;

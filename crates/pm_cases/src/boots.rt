@@ -3,7 +3,7 @@ use crate::case::{Came, Case};
 use crate::code_file::code_file;
 use crate::jobs::{Ran, ran};
 use crate::spelled::{
-    add_escaped, byte, bytes_text, digest_text, hex_bytes, name, not_a_case, number, word,
+    add_escaped, byte, bytes_text, digest_text, hex_bytes, name, not_a_case, steps, word,
 };
 use pm_filer::FileCommand;
 use pm_tool::Job;
@@ -84,7 +84,7 @@ fn started(alloc: Global, case: &Case<'_>) -> io::Result<String> {
 
 fn limit(case: &Case<'_>) -> io::Result<u32> {
     match case.value("limit") {
-        Some(limit) => Ok(number(limit)? as u32),
+        Some(limit) => steps(limit),
         None => Ok(STEPS),
     }
 }

@@ -20,7 +20,7 @@ pub fn set(bytes: &mut Vec<u8>, place: usize, value: u8) -> io::Result<()> {
 /// Sets a word.
 fn set_word(bytes: &mut Vec<u8>, place: usize, word: usize) -> io::Result<()> {
     set(bytes, place, (word % 256) as u8)?;
-    set(bytes, place + 1, (word / 256 % 256) as u8)
+    set(bytes, place.saturating_add(1), (word / 256 % 256) as u8)
 }
 
 /// The bytes of the segment of a slot, if the case has one.
@@ -36,6 +36,17 @@ fn segment(alloc: Global, case: &Case<'_>, slot: usize) -> io::Result<Option<Vec
     Ok(None)
 }
 
+/// Adds zeros up to the end of a block.
+fn fill_block(file: &mut Vec<u8>) -> io::Result<()> {
+    let used = file.len() % BLOCK;
+    if used > 0 {
+        for _ in used..BLOCK {
+            file.push(0)?;
+        }
+    }
+    Ok(())
+}
+
 /// The segments in the canonical layout: a block of the dictionary, with blank names, and each segment by ascending
 /// slot from the next block on.
 fn laid_out(alloc: Global, case: &Case<'_>) -> io::Result<Vec<u8>> {
@@ -47,9 +58,7 @@ fn laid_out(alloc: Global, case: &Case<'_>) -> io::Result<Vec<u8>> {
             set_word(&mut file, 4 * slot, block)?;
             set_word(&mut file, 4 * slot + 2, bytes.len())?;
             file.extend_from_slice(&bytes)?;
-            while file.len() % BLOCK != 0 {
-                file.push(0)?;
-            }
+            fill_block(&mut file)?;
         }
     }
     Ok(file)

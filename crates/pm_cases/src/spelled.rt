@@ -13,6 +13,11 @@ pub fn number(word: &str) -> io::Result<usize> {
     word.parse().map_err(|_| not_a_case())
 }
 
+/// The number of steps that a word spells.
+pub fn steps(text: &str) -> io::Result<u32> {
+    text.parse().map_err(|_| not_a_case())
+}
+
 /// The number of two bytes that a word spells.
 pub fn word(text: &str) -> io::Result<u16> {
     text.parse().map_err(|_| not_a_case())

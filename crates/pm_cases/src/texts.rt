@@ -54,9 +54,9 @@ fn text(alloc: Global, case: &Case<'_>) -> io::Result<Vec<u8>> {
 }
 
 /// The word at a place, 0 behind the end.
-fn word_at(bytes: &[u8], place: usize) -> usize {
+fn word_at(bytes: &[u8], place: usize) -> u16 {
     match bytes.get(place..) {
-        Some([low, high, ..]) => usize::from(*low) + 256 * usize::from(*high),
+        Some([low, high, ..]) => u16::from(*low) + 256 * u16::from(*high),
         _ => 0,
     }
 }
@@ -64,8 +64,8 @@ fn word_at(bytes: &[u8], place: usize) -> usize {
 /// Answers the short segments of a code file.
 fn add_segments(alloc: Global, file: &[u8], came: &mut Came) -> io::Result<()> {
     for slot in 0..16 {
-        let first = 512 * word_at(file, 4 * slot);
-        let count = word_at(file, 4 * slot + 2);
+        let first = 512 * usize::from(word_at(file, 4 * slot));
+        let count = usize::from(word_at(file, 4 * slot + 2));
         if 0 < count
             && count <= LONGEST
             && let Some(bytes) = file.get(first..first + count)

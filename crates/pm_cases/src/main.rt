@@ -9,14 +9,14 @@ mod code_file;
 mod conformance;
 mod files;
 mod jobs;
-mod keys;
 mod report;
 mod spelled;
 mod texts;
+mod unseen;
 
-use keys::status_with_key;
 use report::{Kind, replay};
 use std::{fs, io};
+use unseen::rows;
 
 /// The files, and what their cases are. The planted ones are wrong on purpose, but for the first of each.
 const FILES: [(&str, Kind); 9] = [
@@ -31,18 +31,12 @@ const FILES: [(&str, Kind); 9] = [
     ("planted-texts.cases", Kind::Texts),
 ];
 
-/// XIT, which ends the program, and a division by 0, which halts the machine.
-const ENDS: &[u8] = &[0xd6];
-
-const HALTS: &[u8] = &[0x00, 0x86];
-
 fn main(rt: HostRuntime) -> io::Result<()> {
     for (path, kind) in FILES {
         let text = fs::read_to_string(&rt, path)?;
         let report = replay(rt.alloc(), text.as_str(), kind)?;
         println!(rt; "{path}: {report}")?;
     }
-    let ended = status_with_key(rt.alloc(), ENDS)?;
-    let halted = status_with_key(rt.alloc(), HALTS)?;
-    println!(rt; "a key waits: {ended:?}, {halted:?}")
+    let rows = rows(rt.alloc())?;
+    println!(rt; "{rows}")
 }

@@ -1,6 +1,6 @@
 //! Cases of bare code: the trace that the job writes, and the registers and the stack that the machine has at its end.
 use crate::case::{Came, Case};
-use crate::jobs::ran;
+use crate::jobs::do_job;
 use crate::spelled::{digest_text, hex_bytes, steps};
 use pm_machine::Machine;
 use pm_tool::Job;
@@ -24,7 +24,7 @@ const WORDS: u16 = 8;
 /// Answers the last line of the trace and its digest.
 pub fn add_trace(alloc: Global, code: &[u8], limit: u32, came: &mut Came) -> io::Result<()> {
     let digits = hex::encode(alloc, code)?;
-    let ran = ran(alloc, Job::Raw { limit }, digits.as_bytes());
+    let ran = do_job(alloc, Job::Raw { limit }, digits.as_bytes());
     if ran.written.is_empty() {
         came.answer("end", ran.outcome.text())?;
         return Ok(());

@@ -1,7 +1,7 @@
 //! Cases of programs on a volume: what a run gives, its trace, and one session of the debugger.
 use crate::case::{Came, Case};
 use crate::code_file::code_file;
-use crate::jobs::{Ran, ran};
+use crate::jobs::{Ran, do_job};
 use crate::spelled::{
     add_escaped, byte, bytes_text, digest_text, hex_bytes, name, not_a_case, steps, word,
 };
@@ -32,7 +32,7 @@ type Images = [Option<Vec<u8>>; 6];
 /// A volume without files.
 fn volume(alloc: Global, name: &str, blocks: u16) -> io::Result<Vec<u8>> {
     let name = String::from_str(alloc, name)?;
-    ran(alloc, Job::New { name, blocks }, b"").into_image()
+    do_job(alloc, Job::New { name, blocks }, b"").into_image()
 }
 
 /// The volume of a case, which has the program.
@@ -48,7 +48,7 @@ fn work(alloc: Global, case: &Case<'_>) -> io::Result<Vec<u8>> {
     let command = FileCommand::Put(String::from_str(alloc, "P")?, kind, Vec::new(alloc));
     let image = volume(alloc, "WORK", blocks)?;
     let file = code_file(alloc, case, false)?;
-    ran(alloc, Job::Files { image, command }, &file).into_image()
+    do_job(alloc, Job::Files { image, command }, &file).into_image()
 }
 
 /// The place of a unit's disk among the images.
@@ -121,7 +121,7 @@ fn add_run(alloc: Global, case: &Case<'_>, work: &[u8], came: &mut Came) -> io::
         save: true,
     };
     let keys = hex_bytes(alloc, case.value("keys").unwrap_or(""))?;
-    add_outcome(alloc, &ran(alloc, job, &keys), work, came)
+    add_outcome(alloc, &do_job(alloc, job, &keys), work, came)
 }
 
 /// Answers the digest of its trace.
@@ -132,7 +132,7 @@ fn add_trace(alloc: Global, case: &Case<'_>, work: &[u8], came: &mut Came) -> io
         limit: limit(case)?,
     };
     let keys = hex_bytes(alloc, case.value("keys").unwrap_or(""))?;
-    let ran = ran(alloc, job, &keys);
+    let ran = do_job(alloc, job, &keys);
     came.shown = ran.text(alloc)?;
     let digest = digest_text(alloc, &ran.written)?;
     came.answer("trace", digest.as_str())?;
@@ -157,7 +157,7 @@ fn add_session(alloc: Global, case: &Case<'_>, work: &[u8], came: &mut Came) -> 
         disks: disks(alloc, case, work)?,
         name: started(alloc, case)?,
     };
-    let ran = ran(alloc, job, &typed(alloc, case)?);
+    let ran = do_job(alloc, job, &typed(alloc, case)?);
     let text = ran.text(alloc)?;
     for line in text.as_str().lines() {
         came.answer("<", line)?;

@@ -1,7 +1,7 @@
 //! Cases of volumes: a session of commands on one image.
 use crate::case::{Came, Case, Line};
 use crate::code_file::damage;
-use crate::jobs::{Ran, ran};
+use crate::jobs::{Ran, do_job};
 use crate::spelled::{
     MOST_SHOWN, add_escaped, byte, bytes_text, digest_text, hex_bytes, measured, name, not_a_case,
     number, word,
@@ -174,7 +174,7 @@ impl Session {
     fn command(&mut self, line: Line<'_>) -> io::Result<()> {
         let (command, input) = command(self.alloc, line)?;
         let image = self.image.to_vec(self.alloc)?;
-        let ran = ran(self.alloc, Job::Files { image, command }, &input);
+        let ran = do_job(self.alloc, Job::Files { image, command }, &input);
         match line.word {
             "list" => self.add_list(&ran),
             "get" | "gettext" => self.add_file(&ran),
@@ -187,13 +187,13 @@ impl Session {
         let (volume, blocks) = two(rest)?;
         let name = name(self.alloc, volume)?;
         let blocks = word(blocks)?;
-        self.add(ran(self.alloc, Job::New { name, blocks }, b""))
+        self.add(do_job(self.alloc, Job::New { name, blocks }, b""))
     }
 
     /// Restores the directory from its second copy.
     fn repair(&mut self) -> io::Result<()> {
         let image = self.image.to_vec(self.alloc)?;
-        self.add(ran(self.alloc, Job::Repair { image }, b""))
+        self.add(do_job(self.alloc, Job::Repair { image }, b""))
     }
 
     /// Answers the bytes at a place of the image, as many as the line has.

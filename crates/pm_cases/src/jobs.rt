@@ -12,7 +12,7 @@ pub struct Ran {
 }
 
 /// Does a job.
-pub fn ran(alloc: Global, job: Job, input: &[u8]) -> Ran {
+pub fn do_job(alloc: Global, job: Job, input: &[u8]) -> Ran {
     let mut written = Vec::new(alloc);
     let mut rest = input;
     let mut source = Reader::new(&mut rest);

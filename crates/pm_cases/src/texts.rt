@@ -1,7 +1,7 @@
 //! Cases of texts: what the assembler makes of a text, and the disassembler of a code file.
 use crate::case::{Came, Case, Line};
 use crate::code_file::code_file;
-use crate::jobs::ran;
+use crate::jobs::do_job;
 use crate::spelled::{add_escaped, measured, number};
 use pm_tool::Job;
 use std::alloc::Global;
@@ -87,7 +87,7 @@ fn add_measured(alloc: Global, word: &str, bytes: &[u8], came: &mut Came) -> io:
 
 /// Answers what the disassembler shows of a code file, with its lines where the case has some.
 fn add_shown(alloc: Global, case: &Case<'_>, file: &[u8], came: &mut Came) -> io::Result<()> {
-    let ran = ran(alloc, Job::Dis, file);
+    let ran = do_job(alloc, Job::Dis, file);
     if ran.is_refused() {
         came.answer(
             "refused",
@@ -108,7 +108,7 @@ fn add_shown(alloc: Global, case: &Case<'_>, file: &[u8], came: &mut Came) -> io
 /// Answers what the assembler makes of a text, and what is shown of it then.
 fn add_assembled(alloc: Global, case: &Case<'_>, came: &mut Came) -> io::Result<()> {
     let text = text(alloc, case)?;
-    let made = ran(alloc, Job::Asm { list: false }, &text);
+    let made = do_job(alloc, Job::Asm { list: false }, &text);
     if made.is_refused() {
         came.answer(
             "refused",
@@ -118,7 +118,7 @@ fn add_assembled(alloc: Global, case: &Case<'_>, came: &mut Came) -> io::Result<
     }
     add_segments(alloc, &made.written, came)?;
     add_measured(alloc, "code", &made.written, came)?;
-    let listing = ran(alloc, Job::Asm { list: true }, &text);
+    let listing = do_job(alloc, Job::Asm { list: true }, &text);
     add_measured(alloc, "listing", &listing.written, came)?;
     add_shown(alloc, case, &made.written, came)
 }

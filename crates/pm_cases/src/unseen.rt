@@ -1,6 +1,7 @@
 //! What no job shows, and so no case.
 ghost use Rattle.std.specs.Prelude.{◌≡◌, ◌++◌, ◌∷◌, [], OnOk};
 
+use pm_codefile::CodeFile;
 use pm_machine::{Machine, Status};
 use pm_words::ExecError;
 use std::alloc::{AllocError, Global};
@@ -31,13 +32,26 @@ fn status_with_key(alloc: Global, code: &[u8]) -> io::Result<Option<Status>> {
     Ok(Some(machine.status()))
 }
 
-/// Rows for the machine as jobs do not use it: a key to one that has ended or halted, and the number of the error of
-/// code that cannot be loaded from its disk, which needs a disk that is taken out.
+/// The kind of slot 1 of a file of empty slots, whose byte 194 is 5: the kinds are words from 192 on.
+fn kind_of_slot(alloc: Global) -> io::Result<Option<u16>> {
+    let mut file = vec![in alloc; 0; 512]?;
+    file[194] = 5;
+    let Ok(file) = CodeFile::read(&file) else {
+        return Ok(None);
+    };
+    Ok(file.slot(1).map(|slot| slot.kind))
+}
+
+/// Rows for what no job does or shows: a key to a machine that has ended or halted, the number of the error of code
+/// that cannot be loaded from its disk, which needs a disk that is taken out, and the kind of a slot.
 pub fn rows(alloc: Global) -> io::Result<String> {
     let ended = status_with_key(alloc, ENDS)?;
     let halted = status_with_key(alloc, HALTS)?;
     let error = ExecError::SystemIo.number();
-    Ok(format!(in alloc;
-        "a key waits: {ended:?}, {halted:?}\nno disk to load from: error {error}"
-    )?)
+    let mut text = format!(in alloc;
+        "a key waits: {ended:?}, {halted:?}\nno disk to load from: error {error}\n"
+    )?;
+    let kind = kind_of_slot(alloc)?;
+    write!(text, "kind of a slot: {kind:?}")?;
+    Ok(text)
 }

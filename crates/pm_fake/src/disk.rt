@@ -1,4 +1,5 @@
 //! A disk in memory, which fails at one of the calls that are made of it.
+use pm_files::{Kind, Node};
 use std::alloc::Global;
 use std::io;
 use std::io::ErrorKind;
@@ -7,14 +8,25 @@ use std::io::ErrorKind;
 #[derive(Drop)]
 pub struct Inode {
     pub bytes: Vec<u8>,
-    /// Whether a program holds it.
+    /// Whether another program holds it.
     pub locked: bool,
+    /// The open file by which the program holds it.
+    pub holder: Option<usize>,
     /// Whether it may not be read.
     pub is_private: bool,
     /// Whether it may not be written.
     pub is_read_only: bool,
     /// Whether it is a folder.
     pub is_folder: bool,
+    /// Whether no other file can take its place, as of one that is mounted.
+    pub is_busy: bool,
+    /// Whether another program made it, which may have it open still.
+    pub is_foreign: bool,
+    /// What a symbolic link leads to.
+    pub link: Option<String>,
+    pub owner: u32,
+    pub group: u32,
+    pub mode: u32,
 }
 
 /// A name, and the number of the inode that has it.
@@ -33,6 +45,8 @@ pub enum Act {
     Replace,
     /// It takes the name away.
     Remove,
+    /// It puts a symbolic link in the place of the file.
+    Symlink,
     /// It takes the lock of the file, if nobody has it.
     Lock,
     /// It lets go of the lock, which it has.
@@ -48,6 +62,8 @@ pub struct Meanwhile {
     pub path: String,
     /// The bytes that it puts.
     pub bytes: Vec<u8>,
+    /// What the link leads to that it puts.
+    pub link: String,
 }
 
 /// What a disk holds, what the streams took, and what has been asked of them.
@@ -57,10 +73,22 @@ pub struct Disk {
     pub names: Vec<Name>,
     /// Whether the folder takes no new name.
     pub is_closed: bool,
+    /// Whether names of others cannot be removed from the folder.
+    pub is_sticky: bool,
+    /// Whether no path can be made whole, as where a folder above may not be searched.
+    pub is_blind: bool,
+    /// Whose program runs. 0 may give files to others.
+    pub user: u32,
+    /// Who could do what, at any moment, with a file that the program made.
+    pub widest: u32,
+    /// How many files were opened.
+    pub opened: usize,
     /// The calls so far.
     pub calls: usize,
     /// The call that fails, and no other.
     pub fails_at: Option<usize>,
+    /// The letter whose first call fails, and how.
+    pub fails_of: Option<(char, ErrorKind)>,
     /// What another program is going to do.
     pub meanwhile: Option<Meanwhile>,
     /// A letter for each call.
@@ -88,8 +116,14 @@ impl Disk {
             inodes: Vec::new(alloc),
             names: Vec::new(alloc),
             is_closed: false,
+            is_sticky: false,
+            is_blind: false,
+            user: 0,
+            widest: 0,
+            opened: 0,
             calls: 0,
             fails_at: None,
+            fails_of: None,
             meanwhile: None,
             log: String::new(alloc),
             read: 0,
@@ -104,9 +138,16 @@ impl Disk {
         let made = self.inodes.push(Inode {
             bytes,
             locked: false,
+            holder: None,
             is_private: false,
             is_read_only: false,
             is_folder: false,
+            is_busy: false,
+            is_foreign: false,
+            link: None,
+            owner: self.user,
+            group: self.user,
+            mode: 0o644,
         });
         match made {
             Ok(()) => Ok(inode),
@@ -123,31 +164,46 @@ impl Disk {
     }
 
     /// The file that a path names.
-    fn named(&mut self, path: &str) -> Option<&mut Inode> {
+    pub fn named(&mut self, path: &str) -> Option<&mut Inode> {
         let number = self.find(path)?;
         self.inodes.get_mut(number)
     }
 
+    /// Another program makes a file, or a symbolic link, in the place of what stands under a path.
+    fn set(&mut self, path: String, bytes: Vec<u8>, link: Option<String>) -> io::Result<()> {
+        self.names
+            .retain(|name| name.path.as_str() != path.as_str());
+        let number = self.make(bytes)?;
+        if let Some(inode) = self.inodes.get_mut(number) {
+            inode.is_foreign = true;
+            inode.link = link;
+        }
+        self.call(path, number)
+    }
+
     /// What another program does with a file.
-    fn act(&mut self, act: Act, path: String, bytes: Vec<u8>) -> io::Result<()> {
+    fn act(&mut self, meanwhile: Meanwhile) -> io::Result<()> {
+        let Meanwhile {
+            act,
+            path,
+            bytes,
+            link,
+            ..
+        } = meanwhile;
         match (act, self.named(path.as_str())) {
             (Act::Put, Some(inode)) => {
                 inode.bytes = bytes;
                 Ok(())
             }
-            (Act::Put | Act::Replace, _) => {
-                self.names
-                    .retain(|name| name.path.as_str() != path.as_str());
-                let inode = self.make(bytes)?;
-                self.call(path, inode)
-            }
+            (Act::Put | Act::Replace, _) => self.set(path, bytes, None),
+            (Act::Symlink, _) => self.set(path, bytes, Some(link)),
             (Act::Remove, _) => {
                 self.names
                     .retain(|name| name.path.as_str() != path.as_str());
                 Ok(())
             }
             (Act::Lock | Act::Unlock, Some(inode)) => {
-                inode.locked = act == Act::Lock;
+                inode.locked = act == Act::Lock && inode.holder.is_none();
                 Ok(())
             }
             (Act::Lock | Act::Unlock, None) => Ok(()),
@@ -157,9 +213,7 @@ impl Disk {
     /// Lets another program act, if it is to do so before the call of a number.
     fn let_act(&mut self, now: usize) -> io::Result<()> {
         match self.meanwhile.take() {
-            Some(meanwhile) if meanwhile.before == now => {
-                self.act(meanwhile.act, meanwhile.path, meanwhile.bytes)
-            }
+            Some(meanwhile) if meanwhile.before == now => self.act(meanwhile),
             later => {
                 self.meanwhile = later;
                 Ok(())
@@ -178,16 +232,98 @@ impl Disk {
         if self.fails_at == Some(now) {
             return Err(io::Error::from(ErrorKind::Other));
         }
-        Ok(())
+        match self.fails_of {
+            Some((of, kind)) if of == letter => {
+                self.fails_of = None;
+                Err(io::Error::from(kind))
+            }
+            _ => Ok(()),
+        }
     }
 
-    pub(crate) fn find(&self, path: &str) -> Option<usize> {
+    /// The number of the file, or of the symbolic link, that a path names.
+    pub fn find(&self, path: &str) -> Option<usize> {
         for name in self.names.iter() {
             if name.path.as_str() == path {
                 return Some(name.inode);
             }
         }
         None
+    }
+
+    /// The path behind the symbolic links at a path.
+    pub(crate) fn behind<'a>(&'a self, path: &'a str) -> io::Result<&'a str> {
+        let mut at = path;
+        for _ in 0..40 {
+            let Some(number) = self.find(at) else {
+                return Ok(at);
+            };
+            let Some(inode) = self.inodes.get(number) else {
+                return Ok(at);
+            };
+            match &inode.link {
+                Some(link) => at = link.as_str(),
+                None => return Ok(at),
+            }
+        }
+        Err(io::Error::from(ErrorKind::FilesystemLoop))
+    }
+
+    /// The number of a file that is opened.
+    pub(crate) fn count_open(&mut self) -> usize {
+        self.opened = self.opened.wrapping_add(1);
+        self.opened
+    }
+
+    /// What a path leads to.
+    pub(crate) fn led_to(&self, path: &str) -> io::Result<Option<usize>> {
+        Ok(self.find(self.behind(path)?))
+    }
+
+    /// The folder in which all files stand.
+    pub(crate) fn folder(&self) -> Node {
+        Node {
+            device: 1,
+            number: u64::MAX,
+            kind: Kind::Other,
+            names: 2,
+            owner: 0,
+            group: 0,
+            mode: if self.is_sticky { 0o1777 } else { 0o755 },
+        }
+    }
+
+    /// What a file is, by its number.
+    pub fn node_of(&self, number: usize) -> Option<Node> {
+        let inode = self.inodes.get(number)?;
+        let kind = match &inode.link {
+            Some(_) => Kind::Link,
+            None if inode.is_folder => Kind::Other,
+            None => Kind::File,
+        };
+        let names = self
+            .names
+            .iter()
+            .filter(|name| name.inode == number)
+            .count();
+        Some(Node {
+            device: 1,
+            number: number as u64,
+            kind,
+            names: names as u64,
+            owner: inode.owner,
+            group: inode.group,
+            mode: inode.mode,
+        })
+    }
+
+    /// Whether a name may not be taken away by the user.
+    pub(crate) fn keeps(&self, path: &str) -> bool {
+        let owner = match self.find(path) {
+            Some(number) => self.inodes.get(number).map(|inode| inode.owner),
+            None => None,
+        };
+        self.is_closed || self.is_sticky && self.user != 0 && owner != Some(self.user)
     }
 
     /// The bytes that a path names.
@@ -249,6 +385,16 @@ impl Disk {
         true
     }
 
+    /// Adds a symbolic link.
+    pub fn symlink(&mut self, alloc: Global, path: &str, link: &str) -> io::Result<()> {
+        let link = String::from_str(alloc, link)?;
+        let made = self.add(alloc, path)?;
+        if let Some(inode) = self.inodes.get_mut(made) {
+            inode.link = Some(link);
+        }
+        Ok(())
+    }
+
     /// Gives a file another name.
     pub fn link(&mut self, alloc: Global, path: &str, other: &str) -> io::Result<()> {
         let inode = self.find(path).ok_or(missing())?;
@@ -259,6 +405,7 @@ impl Disk {
     /// Begins anew: no calls, no log, nothing read or written. The files stay.
     pub fn rewind(&mut self) {
         self.calls = 0;
+        self.widest = 0;
         self.log.clear();
         self.read = 0;
         self.out.clear();
@@ -269,6 +416,7 @@ impl Disk {
     pub fn release(&mut self) {
         for inode in self.inodes.iter_mut() {
             inode.locked = false;
+            inode.holder = None;
         }
     }
 }

@@ -1,21 +1,47 @@
 //! A runtime whose files are in memory, and which fails at one of its calls.
 use crate::disk::{Disk, missing, out_of_memory};
-use pm_files::{Host, Stream};
+use pm_files::{Host, Node, Stream};
 use std::alloc::Global;
 use std::cell::RefCell;
 use std::fs::{Metadata, OpenFile, OpenOptions, Permissions};
 use std::io;
 use std::io::{ErrorKind, PipeReader, Read, Seek, SeekFrom, Write};
+use std::os::unix::fs::PermissionsExt;
 use std::path::PathBuf;
 use std::rt::Files;
 
-/// An open file.
-#[derive(Drop)]
+/// An open file, or the folder, whose number is the highest. Its lock goes with it.
 pub struct FakeFile<'a> {
     disk: &'a RefCell<Disk>,
     inode: usize,
     at: usize,
+    /// Which of all files that were opened it is.
+    number: usize,
 }
+
+impl Drop for FakeFile<'_> {
+    fn drop(self) {
+        if let Ok(mut disk) = self.disk.try_borrow_mut() {
+            if let Some(inode) = disk.inodes.get_mut(self.inode) {
+                if inode.holder == Some(self.number) {
+                    inode.holder = None;
+                }
+            }
+        }
+        let FakeFile {
+            disk: _,
+            inode: _,
+            at: _,
+            number: _,
+        } = self;
+    }
+}
+
+/// The number that stands for the folder.
+const FOLDER: usize = usize::MAX;
+
+/// The longest name.
+const NAME_LIMIT: usize = 255;
 
 /// A runtime over a disk in memory.
 #[derive(Clone, Copy)]
@@ -88,8 +114,16 @@ impl Write for FakeFile<'_> {
 }
 
 impl Seek for FakeFile<'_> {
-    fn seek(&mut self, _to: SeekFrom) -> io::Result<u64> {
-        Err(io::Error::from(ErrorKind::Unsupported))
+    fn seek(&mut self, to: SeekFrom) -> io::Result<u64> {
+        let SeekFrom::Start(at) = to else {
+            return Err(io::Error::from(ErrorKind::Unsupported));
+        };
+        let Ok(mut disk) = self.disk.try_borrow_mut() else {
+            return Err(in_use());
+        };
+        disk.tick('e')?;
+        self.at = at as usize;
+        Ok(at)
     }
 }
 
@@ -117,8 +151,9 @@ impl OpenFile for FakeFile<'_> {
     }
 
     fn sync_all(&self) -> io::Result<()> {
+        let letter = if self.inode == FOLDER { 'f' } else { 's' };
         match self.disk.try_borrow_mut() {
-            Ok(mut disk) => disk.tick('s'),
+            Ok(mut disk) => disk.tick(letter),
             Err(_) => Err(in_use()),
         }
     }
@@ -127,11 +162,16 @@ impl OpenFile for FakeFile<'_> {
         self.sync_all()
     }
 
-    fn set_permissions(&self, _perm: Permissions) -> io::Result<()> {
-        match self.disk.try_borrow_mut() {
-            Ok(mut disk) => disk.tick('p'),
-            Err(_) => Err(in_use()),
+    fn set_permissions(&self, perm: Permissions) -> io::Result<()> {
+        let Ok(mut disk) = self.disk.try_borrow_mut() else {
+            return Err(in_use());
+        };
+        disk.tick('p')?;
+        if let Some(inode) = disk.inodes.get_mut(self.inode) {
+            inode.mode = perm.mode();
         }
+        disk.widest |= perm.mode();
+        Ok(())
     }
 }
 
@@ -146,27 +186,28 @@ impl<'a> Files for FakeRuntime<'a> {
             return Err(in_use());
         };
         disk.tick('o')?;
-        let inode = match disk.find(path) {
-            Some(_) if how.asks_create_new() => {
-                return Err(io::Error::from(ErrorKind::AlreadyExists));
-            }
+        if how.asks_create() || how.asks_create_new() || how.asks_truncate() {
+            return Err(io::Error::from(ErrorKind::Unsupported));
+        }
+        let inode = match disk.led_to(path)? {
             Some(inode) => inode,
-            None if disk.is_closed => return Err(closed()),
-            None if how.asks_create() || how.asks_create_new() => disk.add(self.alloc, path)?,
+            None if path == "." => FOLDER,
             None => return Err(missing()),
         };
         if let Some(inode) = disk.inodes.get_mut(inode) {
             if how.asks_read() && inode.is_private || how.asks_write() && inode.is_read_only {
                 return Err(closed());
             }
-            if how.asks_truncate() {
-                inode.bytes.clear();
+            if how.asks_write() && inode.is_folder {
+                return Err(io::Error::from(ErrorKind::IsADirectory));
             }
         }
+        let number = disk.count_open();
         Ok(FakeFile {
             disk: self.disk,
             inode,
             at: 0,
+            number,
         })
     }
 
@@ -179,7 +220,7 @@ impl<'a> Files for FakeRuntime<'a> {
             return Err(in_use());
         };
         disk.tick('M')?;
-        let Some(inode) = disk.find(path) else {
+        let Some(inode) = disk.led_to(path)? else {
             return Err(missing());
         };
         match disk.inodes.get(inode) {
@@ -189,8 +230,8 @@ impl<'a> Files for FakeRuntime<'a> {
         }
     }
 
-    fn symlink_metadata(&self, path: &str) -> io::Result<Metadata> {
-        self.metadata(path)
+    fn symlink_metadata(&self, _path: &str) -> io::Result<Metadata> {
+        Err(io::Error::from(ErrorKind::Unsupported))
     }
 
     fn copy(&self, _from: &str, _to: &str) -> io::Result<u64> {
@@ -202,6 +243,12 @@ impl<'a> Files for FakeRuntime<'a> {
             return Err(in_use());
         };
         disk.tick('n')?;
+        if disk.keeps(from) || disk.keeps(to) {
+            return Err(closed());
+        }
+        if disk.named(to).is_some_and(|inode| inode.is_busy) {
+            return Err(io::Error::from(ErrorKind::ResourceBusy));
+        }
         disk.rename(self.alloc, from, to)
     }
 
@@ -210,6 +257,14 @@ impl<'a> Files for FakeRuntime<'a> {
             return Err(in_use());
         };
         disk.tick('u')?;
+        if disk.keeps(path) {
+            return Err(closed());
+        }
+        if let Some(number) = disk.find(path) {
+            if disk.inodes.get(number).is_some_and(|inode| inode.is_folder) {
+                return Err(io::Error::from(ErrorKind::IsADirectory));
+            }
+        }
         disk.unlink(path)?;
         Ok(())
     }
@@ -235,10 +290,32 @@ impl<'a> Files for FakeRuntime<'a> {
             return Err(in_use());
         };
         disk.tick('c')?;
-        if disk.find(path).is_none() {
+        if disk.is_blind {
+            return Err(closed());
+        }
+        let behind = disk.behind(path)?;
+        if disk.find(behind).is_none() {
             return Err(missing());
         }
-        Ok(PathBuf::from(String::from_str(alloc, path)?))
+        Ok(PathBuf::from(String::from_str(alloc, behind)?))
+    }
+
+    fn read_link<B: std::alloc::Allocator>(&self, alloc: B, path: &str) -> io::Result<PathBuf<B>> {
+        let Ok(mut disk) = self.disk.try_borrow_mut() else {
+            return Err(in_use());
+        };
+        disk.tick('L')?;
+        let Some(number) = disk.find(path) else {
+            return Err(missing());
+        };
+        match disk
+            .inodes
+            .get(number)
+            .and_then(|inode| inode.link.as_ref())
+        {
+            Some(link) => Ok(PathBuf::from(String::from_str(alloc, link.as_str())?)),
+            None => Err(io::Error::from(ErrorKind::InvalidInput)),
+        }
     }
 }
 
@@ -250,45 +327,105 @@ impl std::alloc::Alloc for FakeRuntime<'_> {
     }
 }
 
-impl Host for FakeRuntime<'_> {
-    fn try_lock(&self, file: &FakeFile<'_>) -> io::Result<bool> {
+impl<'a> Host for FakeRuntime<'a> {
+    fn try_lock(&self, file: &FakeFile<'a>) -> io::Result<bool> {
         let Ok(mut disk) = self.disk.try_borrow_mut() else {
             return Err(in_use());
         };
         disk.tick('k')?;
         match disk.inodes.get_mut(file.inode) {
-            Some(inode) if inode.locked => Ok(false),
+            Some(inode) if inode.locked || inode.holder.is_some_and(|by| by != file.number) => {
+                Ok(false)
+            }
             Some(inode) => {
-                inode.locked = true;
+                inode.holder = Some(file.number);
                 Ok(true)
             }
             None => Err(missing()),
         }
     }
 
-    fn is_named(&self, path: &str, file: &FakeFile<'_>) -> io::Result<bool> {
+    fn node(&self, file: &FakeFile<'a>) -> io::Result<Node> {
         let Ok(mut disk) = self.disk.try_borrow_mut() else {
             return Err(in_use());
         };
         disk.tick('i')?;
-        Ok(disk.find(path) == Some(file.inode))
+        disk.node_of(file.inode).ok_or(missing())
     }
 
-    fn names(&self, file: &FakeFile<'_>) -> io::Result<u64> {
+    fn node_at(&self, path: &str, follows: bool) -> io::Result<Option<Node>> {
         let Ok(mut disk) = self.disk.try_borrow_mut() else {
             return Err(in_use());
         };
-        disk.tick('N')?;
-        let inode = file.inode;
-        let count = disk.names.iter().filter(|name| name.inode == inode).count();
-        Ok(count as u64)
+        disk.tick(if follows { 'M' } else { 'N' })?;
+        if path == "." {
+            return Ok(Some(disk.folder()));
+        }
+        let found = if follows {
+            disk.led_to(path)?
+        } else {
+            disk.find(path)
+        };
+        match found {
+            Some(inode) => Ok(disk.node_of(inode)),
+            None => Ok(None),
+        }
+    }
+
+    fn make(&self, path: &str, mode: u32) -> io::Result<FakeFile<'a>> {
+        let Ok(mut disk) = self.disk.try_borrow_mut() else {
+            return Err(in_use());
+        };
+        disk.tick('x')?;
+        if disk.find(path).is_some() {
+            return Err(io::Error::from(ErrorKind::AlreadyExists));
+        }
+        if disk.is_closed {
+            return Err(closed());
+        }
+        if path.len() > NAME_LIMIT {
+            return Err(io::Error::from(ErrorKind::InvalidFilename));
+        }
+        let inode = disk.add(self.alloc, path)?;
+        if let Some(made) = disk.inodes.get_mut(inode) {
+            made.mode = mode & 0o755;
+        }
+        disk.widest |= mode & 0o755;
+        let number = disk.count_open();
+        Ok(FakeFile {
+            disk: self.disk,
+            inode,
+            at: 0,
+            number,
+        })
+    }
+
+    fn set_owner(&self, file: &FakeFile<'a>, owner: u32, group: u32) -> io::Result<()> {
+        let Ok(mut disk) = self.disk.try_borrow_mut() else {
+            return Err(in_use());
+        };
+        disk.tick('h')?;
+        if disk.user != 0 {
+            return Err(closed());
+        }
+        if let Some(inode) = disk.inodes.get_mut(file.inode) {
+            inode.owner = owner;
+            inode.group = group;
+            // As the system does: what may run as its owner may not when it has another one.
+            inode.mode &= 0o1777;
+        }
+        Ok(())
     }
 
     fn is_same(&self, one: &str, other: &str) -> bool {
         let Ok(disk) = self.disk.try_borrow_mut() else {
             return false;
         };
-        one == other || disk.find(one).is_some() && disk.find(one) == disk.find(other)
+        match (disk.led_to(one), disk.led_to(other)) {
+            (Ok(Some(one)), Ok(Some(other))) => one == other,
+            // Devices are no files of the disk.
+            _ => one == other && one.starts_with("/dev/"),
+        }
     }
 
     fn is_terminal(&self, _stream: Stream) -> bool {

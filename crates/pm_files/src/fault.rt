@@ -20,6 +20,8 @@ pub enum DiskFault {
     Write(ErrorKind),
     /// Another file has taken its place since it was read.
     Replaced,
+    /// What stands beside the file, where the new one is to be made, cannot be taken away.
+    InTheWay,
     /// Memory was refused.
     NoMemory,
 }
@@ -44,7 +46,7 @@ impl DiskFault {
     {
         match self {
             DiskFault::Read(_) | DiskFault::TooLong | DiskFault::Busy => Fault::Read,
-            DiskFault::Write(_) | DiskFault::Replaced => Fault::Write,
+            DiskFault::Write(_) | DiskFault::Replaced | DiskFault::InTheWay => Fault::Write,
             DiskFault::NoMemory => Fault::NoMemory,
         }
     }
@@ -56,6 +58,8 @@ impl DiskFault {
             DiskFault::TooLong => "more than 33554432 bytes",
             DiskFault::Busy => "another program is about to write it",
             DiskFault::Replaced => "another program has replaced it",
+            DiskFault::InTheWay =>
+                "it stands where the new file is to be made, and cannot be removed",
             DiskFault::NoMemory => "no memory",
         }
     }

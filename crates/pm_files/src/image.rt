@@ -9,7 +9,7 @@ use std::rt::Files;
 pub const IMAGE_LIMIT: usize = 33_554_432;
 
 /// Reads a whole file.
-fn read_file<F: Read>(alloc: Global, file: &mut F) -> Result<Vec<u8>, DiskFault> {
+pub(crate) fn read_file<F: Read>(alloc: Global, file: &mut F) -> Result<Vec<u8>, DiskFault> {
     let mut image = Vec::new(alloc);
     let mut buffer = [0; 4096];
     for _ in 0..=IMAGE_LIMIT {

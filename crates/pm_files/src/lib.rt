@@ -1,6 +1,7 @@
 //! Images in files: read whole, held by a lock, and replaced whole.
 #![tactic(auto)]
 
+mod closed;
 mod fault;
 mod host;
 mod image;
@@ -8,7 +9,8 @@ mod place;
 mod replacing;
 mod store;
 
+pub use closed::hold_closed;
 pub use fault::DiskFault;
-pub use host::{Host, Stream};
+pub use host::{Host, Kind, Node, Stream};
 pub use image::IMAGE_LIMIT;
 pub use store::{HostStore, Store};

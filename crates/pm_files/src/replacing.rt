@@ -1,22 +1,28 @@
 //! Writing a file whole.
+ghost use Rattle.std.specs.Prelude.{◌≡◌};
+ghost use Rattle.pm_files.specs.Nodes.{claim_of, first_mode, is_still};
+
 use crate::fault::DiskFault;
-use crate::host::Host;
-use crate::place::{TRIES, WritePath};
-use std::fs::{File, Metadata, OpenFile, OpenOptions};
+use crate::host::{Host, Node};
+use crate::place::{TRIES, WritePath, folder_of};
+use std::fs::{File, OpenFile, OpenOptions, Permissions};
 use std::io::{ErrorKind, Write};
-use std::os::unix::fs as fs_unix;
-use std::os::unix::fs::MetadataExt;
+use std::os::unix::fs::PermissionsExt;
 use std::rt::Files;
 use std::{fs, io};
 
-/// Writes bytes over those of a file, which is made where there is none. No byte is cut off before the new ones stand
-/// there, and what is no regular file keeps its length.
-fn overwrite<R: Files>(rt: &R, path: &str, bytes: &[u8]) -> io::Result<()> {
-    let mut file = OpenOptions::new()
-        .write(true)
-        .create(true)
-        .truncate(false)
-        .open(rt, path)?;
+/// The mode of a file that is going to have the mode of another one, until it has it.
+const PRIVATE: u32 = 0o600;
+
+/// The mode of a file that stands for no other one; the system takes from it what the user's mask says.
+const ORDINARY: u32 = 0o666;
+
+/// The bit of a folder's mode that keeps users from removing the files of others.
+const STICKY: u32 = 0o1000;
+
+/// Writes bytes over those of an open file. No byte is cut off before the new ones stand there, and what is no regular
+/// file keeps its length.
+fn overwrite<F: Write + OpenFile>(file: &mut F, bytes: &[u8]) -> io::Result<()> {
     file.write_all(bytes)?;
     if file.metadata()?.is_file() {
         file.set_len(bytes.len() as u64)?;
@@ -39,74 +45,160 @@ fn is_denied(kind: ErrorKind) -> bool {
 
 /// Writes a folder's names to the disk, where the system does that.
 fn sync_folder<R: Files>(rt: &R, path: &str) {
-    let folder = match path.rsplit_once('/') {
-        Some(("", _)) => "/",
-        Some((folder, _)) => folder,
-        None => ".",
-    };
-    if let Ok(folder) = File::open(rt, folder) {
+    if let Ok(folder) = File::open(rt, folder_of(path)) {
         let _ = folder.sync_all();
     }
 }
 
-/// Gives a new file the owner and the mode of the old one.
-fn dress<R: Files>(rt: &R, path: &str, file: &R::File, old: &Metadata) -> io::Result<()> {
-    let new = file.metadata()?;
-    if new.uid() != old.uid() || new.gid() != old.gid() {
-        fs_unix::chown(rt, path, Some(old.uid()), Some(old.gid()))?;
+/// Whether the folder of a path keeps users from removing the files of others.
+fn is_in_sticky<R: Host>(rt: &R, path: &str) -> bool {
+    match rt.node_at(folder_of(path), true) {
+        Ok(Some(folder)) => folder.mode & STICKY != 0,
+        _ => false,
     }
-    file.set_permissions(old.permissions())
 }
 
-/// Opens and locks the file that is to stand in the place of another. What an earlier program left there is used again.
-fn open_beside<R: Host>(rt: &R, path: &str) -> io::Result<R::File> {
+/// Takes away what stands where a new file is to be made. `InTheWay` where that cannot be done.
+fn clear<R: Host>(rt: &R, path: &str) -> Result<(), DiskFault> {
+    match fs::remove_file(rt, path) {
+        Ok(()) => Ok(()),
+        Err(error) => match error.kind() {
+            ErrorKind::NotFound => Ok(()),
+            ErrorKind::PermissionDenied if !is_in_sticky(rt, path) => {
+                Err(DiskFault::of_write(error))
+            }
+            _ => Err(DiskFault::InTheWay),
+        },
+    }
+}
+
+/// Makes and locks the file that is to stand in the place of another. Its name is this program's own: what stands there
+/// is taken away, never opened and never followed.
+fn make_beside<R: Host>(rt: &R, path: &str, mode: u32) -> Result<R::File, DiskFault> {
     for _ in 0..TRIES {
-        let file = OpenOptions::new()
-            .read(true)
-            .write(true)
-            .create(true)
-            .truncate(false)
-            .open(rt, path)?;
-        if !rt.try_lock(&file)? {
-            return Err(io::Error::from(ErrorKind::WouldBlock));
-        }
-        let is_named = rt.is_named(path, &file)?;
-        if is_named && rt.names(&file)? == 1 {
-            return Ok(file);
-        }
-        // The name is this program's own: a link that stands there for another file is taken away, and that file is not
-        // touched.
-        if is_named
-            || rt
-                .symlink_metadata(path)
-                .is_ok_and(|named| named.is_symlink())
-        {
-            fs::remove_file(rt, path)?;
+        match rt.make(path, mode) {
+            Ok(file) => {
+                if rt.try_lock(&file).map_err(DiskFault::of_write)? {
+                    return Ok(file);
+                }
+                clear(rt, path)?;
+            }
+            Err(error) if error.kind() == ErrorKind::AlreadyExists => clear(rt, path)?,
+            Err(error) => return Err(DiskFault::of_write(error)),
         }
     }
-    Err(io::Error::from(ErrorKind::WouldBlock))
+    Err(DiskFault::InTheWay)
 }
 
-/// Fills a file that is to stand in the place of another.
-fn fill<R: Host>(
-    rt: &R,
-    file: &mut R::File,
-    beside: &str,
-    old: &Option<Metadata>,
-    bytes: &[u8],
-) -> io::Result<()> {
-    file.set_len(0)?;
-    if let Some(old) = old {
-        dress(rt, beside, file, old)?;
+/// Gives a new file the owner and the mode of another.
+fn dress<R: Host>(rt: &R, file: &R::File, old: Node) -> io::Result<()> {
+    let new = rt.node(file)?;
+    if new.owner != old.owner || new.group != old.group {
+        rt.set_owner(file, old.owner, old.group)?;
+    }
+    file.set_permissions(Permissions::from_mode(old.mode))
+}
+
+/// Fills a new file, which gets the owner and the mode of another one first, if there is one.
+fn fill<R: Host>(rt: &R, file: &mut R::File, like: Option<Node>, bytes: &[u8]) -> io::Result<()> {
+    if let Some(old) = like {
+        dress(rt, file, old)?;
     }
     file.write_all(bytes)?;
     file.sync_all()
 }
 
-/// Puts a filled file in the place of a path, unless another one was held there and has lost its name.
-fn take_place<R: Host>(rt: &R, place: &WritePath<R::File>, path: &str) -> Result<(), DiskFault> {
-    held_or_none(rt, place)?;
+/// The mode that a new file is made with.
+fn first_mode(like: Option<Node>) -> u32
+    ensures mode { result ≡ first_mode like }
+{
+    match like {
+        Some(_) => PRIVATE,
+        None => ORDINARY,
+    }
+}
+
+/// Whether a name that stood for a file, or for none, stands for it still.
+fn is_still(old: Option<Node>, now: Option<Node>) -> bool
+    ensures still { result ≡ is_still old now }
+{
+    match old {
+        Some(old) => match now {
+            Some(now) => old.is(now),
+            None => false,
+        },
+        None => now.is_none(),
+    }
+}
+
+/// `Replaced` where a path names another file than this one, or one where there was none.
+fn expect<R: Host>(rt: &R, path: &str, follows: bool, old: Option<Node>) -> Result<(), DiskFault> {
+    let now = rt.node_at(path, follows).map_err(DiskFault::of_write)?;
+    if is_still(old, now) {
+        Ok(())
+    } else {
+        Err(DiskFault::Replaced)
+    }
+}
+
+/// `Replaced` where the given name, or the path behind its links, is no longer that of the old file.
+fn expect_old<R: Host>(
+    rt: &R,
+    place: &WritePath<R::File>,
+    path: &str,
+    old: Option<Node>,
+) -> Result<(), DiskFault> {
+    expect(rt, place.name.as_str(), true, old)?;
+    expect(rt, path, false, old)
+}
+
+/// Whether a file stands under a path; `unseen` where the system does not say it.
+fn stands<R: Host>(rt: &R, path: &str, file: Node, unseen: bool) -> bool {
+    match rt.node_at(path, false) {
+        Ok(Some(now)) => now.is(file),
+        Ok(None) => false,
+        Err(_) => unseen,
+    }
+}
+
+/// Gives a filled file the name of another one, if both names are still those of these files.
+fn move_over<R: Host>(
+    rt: &R,
+    place: &WritePath<R::File>,
+    path: &str,
+    new: Node,
+    old: Option<Node>,
+) -> Result<(), DiskFault> {
+    expect(rt, place.beside.as_str(), false, Some(new))?;
+    expect_old(rt, place, path, old)?;
     fs::rename(rt, place.beside.as_str(), path).map_err(DiskFault::of_write)
+}
+
+/// Puts a filled file in the place of a path, and sees that it stands there.
+fn take_place<R: Host>(
+    rt: &R,
+    place: &WritePath<R::File>,
+    path: &str,
+    file: &R::File,
+    old: Option<Node>,
+) -> Result<(), DiskFault> {
+    let new = rt.node(file).map_err(DiskFault::of_write)?;
+    match move_over(rt, place, path, new, old) {
+        Ok(()) if stands(rt, path, new, true) => Ok(()),
+        Ok(()) => Err(DiskFault::Replaced),
+        // Another program that made the same file may have moved this one.
+        Err(_) if stands(rt, path, new, false) => Ok(()),
+        Err(fault) => Err(fault),
+    }
+}
+
+/// Removes a file that this program made, if it still has its name.
+fn remove_own<R: Host>(rt: &R, path: &str, file: &R::File) {
+    if let (Ok(own), Ok(Some(now))) = (rt.node(file), rt.node_at(path, false)) {
+        if now.is(own) {
+            let _ = fs::remove_file(rt, path);
+        }
+    }
 }
 
 /// Puts a new file with the bytes in the place of a path, or leaves all as it was.
@@ -114,80 +206,128 @@ fn put_beside<R: Host>(
     rt: &R,
     place: &WritePath<R::File>,
     path: &str,
-    old: &Option<Metadata>,
+    old: Option<Node>,
+    like: Option<Node>,
     bytes: &[u8],
 ) -> Result<(), DiskFault> {
     let beside = place.beside.as_str();
-    let mut file = open_beside(rt, beside).map_err(DiskFault::of_write)?;
-    let done = match fill(rt, &mut file, beside, old, bytes) {
-        Ok(()) => take_place(rt, place, path),
+    let mut file = make_beside(rt, beside, first_mode(like))?;
+    let done = match fill(rt, &mut file, like, bytes) {
+        Ok(()) => take_place(rt, place, path, &file, old),
         Err(error) => Err(DiskFault::of_write(error)),
     };
     if done.is_ok() {
         sync_folder(rt, path);
     } else {
-        let _ = fs::remove_file(rt, beside);
+        remove_own(rt, beside, &file);
     }
     done
 }
 
-/// Whether no other file can stand in the place of one: it is no regular file, or has other names. An error where
-/// it may not be written.
-fn is_fixed<R: Host>(rt: &R, path: &str, old: &Metadata) -> io::Result<bool> {
-    if !old.is_file() {
-        return Ok(true);
+/// Makes a file with the bytes under its own name, where none can be made beside it.
+fn make_there<R: Host>(rt: &R, path: &str, like: Option<Node>, bytes: &[u8]) -> io::Result<()> {
+    let mut file = rt.make(path, first_mode(like))?;
+    let done = fill(rt, &mut file, like, bytes);
+    if done.is_err() {
+        remove_own(rt, path, &file);
     }
-    let file = OpenOptions::new().write(true).open(rt, path)?;
-    Ok(rt.names(&file)? > 1)
+    done
 }
 
-/// The file that a path names.
-fn found<R: Host>(rt: &R, path: &str) -> io::Result<Option<Metadata>> {
-    match fs::metadata(rt, path) {
-        Ok(old) => Ok(Some(old)),
-        Err(error) if error.kind() == ErrorKind::NotFound => Ok(None),
-        Err(error) => Err(error),
-    }
-}
-
-/// Whether the file that is held has been replaced by another.
-fn is_replaced<R: Host>(rt: &R, place: &WritePath<R::File>) -> io::Result<bool> {
-    match (&place.held, &place.path) {
-        (Some(held), Some(path)) => Ok(!rt.is_named(path.as_str(), held)?),
-        _ => Ok(false),
+/// The file that is held, as it is now.
+fn held_node<R: Host>(rt: &R, place: &WritePath<R::File>) -> io::Result<Option<Node>> {
+    match &place.held {
+        Some(held) => Ok(Some(rt.node(&held.file)?)),
+        None => Ok(None),
     }
 }
 
-/// The file that a path names, if there is one. `Replaced` where another one was held.
-fn held_or_none<R: Host>(
+/// Writes a file that was not there: it gets the owner and the mode of the one that was held.
+fn write_new<R: Host>(rt: &R, place: &WritePath<R::File>, bytes: &[u8]) -> Result<(), DiskFault> {
+    let like = held_node(rt, place).map_err(DiskFault::of_write)?;
+    let Some(path) = &place.path else {
+        return make_there(rt, place.name.as_str(), like, bytes).map_err(DiskFault::of_write);
+    };
+    match put_beside(rt, place, path.as_str(), None, like, bytes) {
+        Err(DiskFault::Write(kind)) if is_denied(kind) => {
+            make_there(rt, path.as_str(), like, bytes).map_err(DiskFault::of_write)
+        }
+        done => done,
+    }
+}
+
+/// What this program has of a file that it is going to write.
+#[derive(Clone, Copy, Debug, PartialEq, Eq)]
+enum Claimed {
+    /// It holds this file.
+    Held,
+    /// It holds another one.
+    Other,
+    /// It holds none, and this one can be locked.
+    Free,
+    /// It holds none, and this one is a device, a pipe or a socket.
+    Shared,
+}
+
+fn claim_of(held: Option<Node>, old: Node) -> Claimed
+    ensures claim { result ≡ claim_of held old }
+{
+    match held {
+        Some(held) if held.is(old) => Claimed::Held,
+        Some(_) => Claimed::Other,
+        None if old.is_file() => Claimed::Free,
+        None => Claimed::Shared,
+    }
+}
+
+/// Whether this program may write a file: it holds it, or has its lock for the time of this. `Replaced` where it holds
+/// another one.
+fn claim<R: Host>(
     rt: &R,
     place: &WritePath<R::File>,
-) -> Result<Option<Metadata>, DiskFault> {
-    let old = found(rt, place.name.as_str()).map_err(DiskFault::of_write)?;
-    if old.is_some() && is_replaced(rt, place).map_err(DiskFault::of_write)? {
-        return Err(DiskFault::Replaced);
+    file: &R::File,
+    old: Node,
+) -> Result<(), DiskFault> {
+    let held = held_node(rt, place).map_err(DiskFault::of_write)?;
+    match claim_of(held, old) {
+        Claimed::Held | Claimed::Shared => Ok(()),
+        Claimed::Other => Err(DiskFault::Replaced),
+        Claimed::Free if rt.try_lock(file).map_err(DiskFault::of_write)? => Ok(()),
+        Claimed::Free => Err(DiskFault::Write(ErrorKind::WouldBlock)),
     }
-    Ok(old)
 }
 
-fn write<R: Host>(
+/// Writes over the bytes of a file, which no other can stand in for. `Replaced` where its name has been taken from it.
+fn write_over<R: Host>(
     rt: &R,
     place: &WritePath<R::File>,
-    old: &Option<Metadata>,
+    mut file: R::File,
+    old: Node,
     bytes: &[u8],
 ) -> Result<(), DiskFault> {
-    let name = place.name.as_str();
-    let Some(path) = &place.path else {
-        return overwrite(rt, name, bytes).map_err(DiskFault::of_write);
-    };
-    if let Some(old) = old {
-        if is_fixed(rt, name, old).map_err(DiskFault::of_write)? {
-            return overwrite(rt, name, bytes).map_err(DiskFault::of_write);
-        }
+    if old.is_file() {
+        expect(rt, place.name.as_str(), true, Some(old))?;
     }
-    match put_beside(rt, place, path.as_str(), old, bytes) {
+    overwrite(&mut file, bytes).map_err(DiskFault::of_write)
+}
+
+/// Writes a file that is there, and open for writing.
+fn write_old<R: Host>(
+    rt: &R,
+    place: &WritePath<R::File>,
+    mut file: R::File,
+    bytes: &[u8],
+) -> Result<(), DiskFault> {
+    let old = rt.node(&file).map_err(DiskFault::of_write)?;
+    claim(rt, place, &file, old)?;
+    let path = match &place.path {
+        Some(path) if old.is_replaced() => path.as_str(),
+        _ => return write_over(rt, place, file, old, bytes),
+    };
+    match put_beside(rt, place, path, Some(old), Some(old), bytes) {
         Err(DiskFault::Write(kind)) if is_denied(kind) => {
-            overwrite(rt, name, bytes).map_err(DiskFault::of_write)
+            expect_old(rt, place, path, Some(old))?;
+            overwrite(&mut file, bytes).map_err(DiskFault::of_write)
         }
         done => done,
     }
@@ -202,6 +342,9 @@ pub(crate) fn replace<R: Host>(
     place: &WritePath<R::File>,
     bytes: &[u8],
 ) -> Result<(), DiskFault> {
-    let old = held_or_none(rt, place)?;
-    write(rt, place, &old, bytes)
+    match OpenOptions::new().write(true).open(rt, place.name.as_str()) {
+        Ok(file) => write_old(rt, place, file, bytes),
+        Err(error) if error.kind() == ErrorKind::NotFound => write_new(rt, place, bytes),
+        Err(error) => Err(DiskFault::of_write(error)),
+    }
 }

@@ -1,5 +1,5 @@
 //! Files as the program sees them: which bytes stand under which path.
-ghost use Rattle.std.specs.Prelude.{◌≡◌, ℕ, List, Option, None, IfOk, OnOk, OnErr};
+ghost use Rattle.std.specs.Prelude.{◌≡◌, ℕ, Bool, List, Option, None, IfOk, IfSome, OnOk, OnErr};
 ghost use Rattle.pm_files.specs.Held.{HoldsFile, Puts};
 
 use crate::fault::DiskFault;
@@ -14,6 +14,12 @@ use std::fs;
 pub trait Store {
     /// What each path holds, where it is known.
     ghost files: { Self → Option (List ℕ → Option (List ℕ)) };
+
+    /// Which paths name one file, where it is known.
+    ghost same: { Self → Option (List ℕ → List ℕ → Bool) };
+
+    /// Which paths name a folder, where it is known.
+    ghost folders: { Self → Option (List ℕ → Bool) };
 
     /// Reads a file of at most `IMAGE_LIMIT` bytes.
     fn read(&mut self, alloc: Global, path: &str) -> Result<Vec<u8>, DiskFault>
@@ -35,10 +41,12 @@ pub trait Store {
         ensures stays { OnErr result (files self.new ≡ files self.old) };
 
     /// Whether two paths name one file.
-    fn is_same(&self, one: &str, other: &str) -> bool;
+    fn is_same(&self, one: &str, other: &str) -> bool
+        ensures value { IfSome (same self.now) (λ same. result ≡ same one.now other.now) };
 
     /// Whether a path names a folder.
-    fn is_folder(&self, path: &str) -> bool;
+    fn is_folder(&self, path: &str) -> bool
+        ensures value { IfSome (folders self.now) (λ folders. result ≡ folders path.now) };
 }
 
 /// The files of a system. Nothing is known of what they hold, since other programs have them too.
@@ -74,14 +82,27 @@ impl<'a, R: Host + AllocGlobal> HostStore<'a, R> {
     }
 
     fn add(&mut self, path: &str, holds: bool) -> Result<(), DiskFault> {
-        let mut place = WritePath::new(self.rt, path)?;
-        if holds {
-            place.hold(self.rt)?;
-        }
+        let place = if holds {
+            WritePath::holding(self.rt, path)?
+        } else {
+            WritePath::new(self.rt, path)?
+        };
         match self.places.push(place) {
             Ok(()) => Ok(()),
             Err(_) => Err(DiskFault::NoMemory),
         }
+    }
+
+    /// Reads a file: the one that is held, or the one that the path names now.
+    fn read_path(&mut self, alloc: Global, path: &str) -> Result<Vec<u8>, DiskFault> {
+        for place in self.places.iter_mut() {
+            if place.name.as_str() == path {
+                if let Some(held) = &mut place.held {
+                    return held.read(alloc);
+                }
+            }
+        }
+        read_image(self.rt, alloc, path)
     }
 
     fn write(&self, path: &str, bytes: &[u8]) -> Result<(), DiskFault> {
@@ -93,13 +114,26 @@ impl<'a, R: Host + AllocGlobal> HostStore<'a, R> {
         let place = WritePath::new(self.rt, path)?;
         replace(self.rt, &place, bytes)
     }
+
+    /// Keeps the path at which the new file of a path would have been made.
+    fn note_beside(&mut self, path: &str) {
+        for place in self.places.iter() {
+            if place.name.as_str() == path {
+                self.refused = String::from_str(self.rt.alloc(), place.beside.as_str()).ok();
+            }
+        }
+    }
 }
 
 impl<R: Host + AllocGlobal> Store for HostStore<'_, R> {
     ghost files = { λ _. None };
 
+    ghost same = { λ _. None };
+
+    ghost folders = { λ _. None };
+
     fn read(&mut self, alloc: Global, path: &str) -> Result<Vec<u8>, DiskFault> {
-        let done = read_image(self.rt, alloc, path);
+        let done = self.read_path(alloc, path);
         self.note(path, done)
     }
 
@@ -114,8 +148,12 @@ impl<R: Host + AllocGlobal> Store for HostStore<'_, R> {
     }
 
     fn put(&mut self, path: &str, bytes: &[u8]) -> Result<(), DiskFault> {
-        let done = self.write(path, bytes);
-        self.note(path, done)
+        let written = self.write(path, bytes);
+        let done = self.note(path, written);
+        if let Err(DiskFault::InTheWay) = done {
+            self.note_beside(path);
+        }
+        done
     }
 
     fn is_same(&self, one: &str, other: &str) -> bool {

@@ -1,6 +1,21 @@
 //! What the program says on standard error at its end.
 use crate::end::End;
 use pm_tool::{Outcome, Reason};
+use std::fmt;
+
+/// A text on a terminal: a question mark stands for each character that would move or colour something there.
+#[derive(Clone, Copy)]
+struct Plain<'a>(&'a str);
+
+impl fmt::Display for Plain<'_> {
+    fn fmt<W: fmt::Write>(&self, f: &mut fmt::Formatter<W>) -> fmt::Result {
+        for letter in self.0.chars() {
+            let acts = letter.is_control() && letter != '\t';
+            f.write_char(if acts { '?' } else { letter })?;
+        }
+        Ok(())
+    }
+}
 
 /// The message of an end. It may be empty.
 fn message(end: &End) -> &str {
@@ -17,7 +32,7 @@ fn explain_refusal<R: Eprint>(rt: &R, outcome: &Outcome) {
         return;
     };
     let _ = match &outcome.line {
-        Some(line) => eprintln!(rt; "pmach: {}: {line}", Reason(refusal)),
+        Some(line) => eprintln!(rt; "pmach: {}: {}", Reason(refusal), Plain(line.as_str())),
         None => eprintln!(rt; "pmach: {}", Reason(refusal)),
     };
 }
@@ -25,7 +40,11 @@ fn explain_refusal<R: Eprint>(rt: &R, outcome: &Outcome) {
 /// Says more of an end: which file it was about and why, or why the input was refused.
 fn explain<R: Eprint>(rt: &R, end: &End) {
     let _ = match end {
-        End::File(fault, Some(path)) => eprintln!(rt; "pmach: {path}: {}", fault.reason()),
+        End::File(fault, Some(path)) => eprintln!(rt;
+            "pmach: {}: {}",
+            Plain(path.as_str()),
+            fault.reason()
+        ),
         End::File(fault, None) => eprintln!(rt; "pmach: {}", fault.reason()),
         End::Outcome(outcome) => {
             explain_refusal(rt, outcome);

@@ -1,5 +1,5 @@
 //! One command line over a disk in memory.
-use pm_fake::{Disk, FakeRuntime};
+use pm_fake::{Disk, FakeRuntime, Inode, Name};
 use pm_program::program;
 use std::alloc::Global;
 use std::cell::RefCell;
@@ -39,22 +39,58 @@ pub fn come(
     });
     let mut disk = cell.into_inner();
     disk.release();
+    disk.fails_of = None;
     Came { status, disk }
 }
 
-/// A disk with the same files as another program finds them, each with one name, of which nothing has been asked.
+/// The bytes of a file that has a name, copied.
+fn bytes_of(alloc: Global, inode: &Inode, is_named: bool) -> io::Result<Vec<u8>> {
+    let mut bytes = Vec::new(alloc);
+    if is_named {
+        bytes.extend_from_slice(inode.bytes.as_slice())?;
+    }
+    Ok(bytes)
+}
+
+/// A file with what another one has.
+fn copy_of(alloc: Global, inode: &Inode, is_named: bool) -> io::Result<Inode> {
+    let link = match &inode.link {
+        Some(link) => Some(String::from_str(alloc, link.as_str())?),
+        None => None,
+    };
+    Ok(Inode {
+        bytes: bytes_of(alloc, inode, is_named)?,
+        locked: inode.locked,
+        holder: None,
+        is_private: inode.is_private,
+        is_read_only: inode.is_read_only,
+        is_folder: inode.is_folder,
+        is_busy: inode.is_busy,
+        is_foreign: inode.is_foreign,
+        link,
+        owner: inode.owner,
+        group: inode.group,
+        mode: inode.mode,
+    })
+}
+
+/// A disk with the same files as another, of which nothing has been asked.
 pub fn copy(alloc: Global, disk: &Disk) -> io::Result<Disk> {
     let mut copy = Disk::new(alloc);
-    for name in disk.names.iter() {
-        if let Some(bytes) = disk.bytes(name.path.as_str()) {
-            copy.put(alloc, name.path.as_str(), bytes)?;
-        }
-        if let (Some(made), Some(inode)) = (copy.inodes.last_mut(), disk.inodes.get(name.inode)) {
-            made.locked = inode.locked;
-            made.is_private = inode.is_private;
-            made.is_read_only = inode.is_read_only;
-            made.is_folder = inode.is_folder;
-        }
+    for (number, inode) in disk.inodes.iter().enumerate() {
+        let is_named = disk.names.iter().any(|name| name.inode == number);
+        copy.inodes.push(copy_of(alloc, inode, is_named)?)?;
     }
+    for name in disk.names.iter() {
+        let path = String::from_str(alloc, name.path.as_str())?;
+        copy.names.push(Name {
+            path,
+            inode: name.inode,
+        })?;
+    }
+    copy.is_closed = disk.is_closed;
+    copy.is_sticky = disk.is_sticky;
+    copy.is_blind = disk.is_blind;
+    copy.user = disk.user;
     Ok(copy)
 }

@@ -11,6 +11,8 @@ pub struct Deed {
     path: String,
     /// The bytes that it puts.
     bytes: Vec<u8>,
+    /// What the link leads to that it puts.
+    link: String,
 }
 
 /// What a word says that another program does.
@@ -19,6 +21,7 @@ fn act_of(word: &str) -> Option<Act> {
         "put" => Some(Act::Put),
         "replace" => Some(Act::Replace),
         "remove" => Some(Act::Remove),
+        "symlink" => Some(Act::Symlink),
         "lock" => Some(Act::Lock),
         "unlock" => Some(Act::Unlock),
         _ => None,
@@ -31,7 +34,8 @@ fn bytes_of(alloc: Global, bytes: &[u8]) -> io::Result<Vec<u8>> {
     Ok(copy)
 }
 
-/// What a line says that another program does: a word, a path, and the path of the file whose bytes it puts.
+/// What a line says that another program does: a word, a path, and the path of the file whose bytes it puts, or to
+/// which its link leads.
 pub fn deed_of(alloc: Global, disk: &Disk, word: &str, rest: &str) -> io::Result<Option<Deed>> {
     let (path, from) = rest.split_once(' ').unwrap_or((rest, ""));
     let Some(act) = act_of(word) else {
@@ -41,6 +45,7 @@ pub fn deed_of(alloc: Global, disk: &Disk, word: &str, rest: &str) -> io::Result
         act,
         path: String::from_str(alloc, path)?,
         bytes: bytes_of(alloc, disk.bytes(from).unwrap_or(b""))?,
+        link: String::from_str(alloc, from)?,
     }))
 }
 
@@ -58,13 +63,47 @@ fn name_of<'a>(old: &'a Disk, now: &Disk, path: &str) -> &'a str {
     "other"
 }
 
+/// Adds what stands under a path: what a link leads to, or where the bytes of a file stood before; `*` where another
+/// program made it; owner, group and mode where they are not 0, 0 and 644.
+fn tell_path(
+    alloc: Global,
+    text: &mut String,
+    old: &Disk,
+    now: &Disk,
+    path: &str,
+) -> io::Result<()> {
+    let number = now.find(path).unwrap_or(usize::MAX);
+    let (Some(inode), Some(node)) = (now.inodes.get(number), now.node_of(number)) else {
+        text.push_str("=none")?;
+        return Ok(());
+    };
+    match &inode.link {
+        Some(link) => {
+            text.push_str("->")?;
+            text.push_str(link.as_str())?;
+        }
+        None => {
+            text.push('=')?;
+            text.push_str(name_of(old, now, path))?;
+        }
+    }
+    if inode.is_foreign {
+        text.push('*')?;
+    }
+    if (node.owner, node.group, node.mode) != (0, 0, 0o644) {
+        let more = format!(in alloc; "({}:{} {:o})", node.owner, node.group, node.mode)?;
+        text.push_str(more.as_str())?;
+    }
+    Ok(())
+}
+
 /// Tells what a command line came to: its status, what stands at these paths, and the first line of its output.
 fn tell(alloc: Global, old: &Disk, came: &Came, paths: &str) -> io::Result<String> {
     let mut text = format!(in alloc; "{}", came.status)?;
     for path in paths.split(',') {
-        let name = name_of(old, &came.disk, path);
-        let part = format!(in alloc; " {path}={name}")?;
-        text.push_str(part.as_str())?;
+        text.push(' ')?;
+        text.push_str(path)?;
+        tell_path(alloc, &mut text, old, &came.disk, path)?;
     }
     let out = std::str::from_utf8(came.disk.out.as_slice()).unwrap_or("");
     if let Some(line) = out.lines().next() {
@@ -88,6 +127,7 @@ fn come_beside(
         act: deed.act,
         path: String::from_str(alloc, deed.path.as_str())?,
         bytes: bytes_of(alloc, deed.bytes.as_slice())?,
+        link: String::from_str(alloc, deed.link.as_str())?,
     });
     Ok(come(alloc, disk, command, None))
 }

@@ -2,8 +2,9 @@
 use crate::command::{Came, CommandLine, come};
 use crate::meanwhile::{Deed, deed_of, meanwhile};
 use crate::sweep::sweep;
-use pm_fake::Disk;
+use pm_fake::{Disk, Inode};
 use std::alloc::Global;
+use std::io::ErrorKind;
 use std::{fmt, io};
 
 /// How far a script is: what stands on the disk, and what the last command line came to.
@@ -37,6 +38,43 @@ fn add(bytes: &mut Vec<u8>, text: &str, ends: bool) -> io::Result<()> {
 /// The number that a word spells.
 fn number(word: &str) -> usize {
     word.parse().unwrap_or(usize::MAX)
+}
+
+/// The number that a word spells in octal digits.
+fn mode(word: &str) -> u32 {
+    u32::from_str_radix(word, 8).unwrap_or(u32::MAX)
+}
+
+/// The number of a user that a word spells.
+fn user(word: &str) -> u32 {
+    word.parse().unwrap_or(u32::MAX)
+}
+
+/// How a call fails, by its word.
+fn kind_of(word: &str) -> ErrorKind {
+    match word {
+        "memory" => ErrorKind::OutOfMemory,
+        "denied" => ErrorKind::PermissionDenied,
+        "full" => ErrorKind::StorageFull,
+        "large" => ErrorKind::FileTooLarge,
+        "folder" => ErrorKind::IsADirectory,
+        "no-folder" => ErrorKind::NotADirectory,
+        "device" => ErrorKind::ReadOnlyFilesystem,
+        "mounted" => ErrorKind::CrossesDevices,
+        _ => ErrorKind::Other,
+    }
+}
+
+/// Says of a file what a word says.
+fn mark(inode: &mut Inode, word: &str) {
+    match word {
+        "hold" => inode.locked = true,
+        "private" => inode.is_private = true,
+        "read-only" => inode.is_read_only = true,
+        "folder" => inode.is_folder = true,
+        "busy" => inode.is_busy = true,
+        _ => inode.is_foreign = true,
+    }
 }
 
 impl Trials {
@@ -163,11 +201,22 @@ impl Trials {
         match word {
             "disk" => *disk = Disk::new(self.alloc),
             "closed" => disk.is_closed = true,
+            "sticky" => disk.is_sticky = true,
+            "blind" => disk.is_blind = true,
+            "user" => disk.user = user(rest),
             "terminal" => self.on_terminal = rest == "on",
             "<" => add(&mut self.typed, rest, true)?,
+            "key" => self.typed.push(rest.parse().unwrap_or(0))?,
             "<<" => {
                 self.typed = std::mem::replace(&mut disk.out, Vec::new(self.alloc));
             }
+            "hold" | "private" | "read-only" | "folder" | "busy" | "foreign" if !rest.is_empty() =>
+                {
+                    match disk.named(rest) {
+                        Some(inode) => mark(inode, word),
+                        None => return Ok(false),
+                    }
+                }
             "hold" | "private" | "read-only" | "folder" => {
                 for inode in disk.inodes.iter_mut() {
                     inode.locked = word == "hold";
@@ -196,6 +245,16 @@ impl Trials {
                 self.came.disk.link(self.alloc, path, rest)?;
                 Ok(true)
             }
+            "symlink" => {
+                self.came.disk.symlink(self.alloc, path, rest)?;
+                Ok(true)
+            }
+            "mode" | "owner" => Ok(self.dress(word, path, rest)),
+            "fail" => {
+                let letter = path.chars().next().unwrap_or(' ');
+                self.came.disk.fails_of = Some((letter, kind_of(rest)));
+                Ok(true)
+            }
             "zeros" => {
                 let mut zeros = Vec::new(self.alloc);
                 zeros.resize(number(rest), 0)?;
@@ -204,6 +263,21 @@ impl Trials {
             }
             _ => Ok(false),
         }
+    }
+
+    /// Gives a file a mode, or an owner and a group.
+    fn dress(&mut self, word: &str, path: &str, rest: &str) -> bool {
+        let (first, second) = rest.split_once(' ').unwrap_or((rest, rest));
+        let Some(inode) = self.came.disk.named(path) else {
+            return false;
+        };
+        if word == "mode" {
+            inode.mode = mode(first);
+        } else {
+            inode.owner = user(first);
+            inode.group = user(second);
+        }
+        true
     }
 
     /// Puts the bytes of a file under another path too.
@@ -229,6 +303,26 @@ impl Trials {
         }
     }
 
+    /// Whether a line is true of one file.
+    fn is_so(&self, word: &str, path: &str, rest: &str) -> bool {
+        let disk = &self.came.disk;
+        let number = disk.find(path).unwrap_or(usize::MAX);
+        let (Some(inode), Some(node)) = (disk.inodes.get(number), disk.node_of(number)) else {
+            return word == "none";
+        };
+        let (owner, group) = rest.split_once(' ').unwrap_or((rest, rest));
+        match word {
+            "own" => !inode.is_foreign,
+            "has-mode" => node.mode == mode(rest),
+            "has-owner" => node.owner == user(owner) && node.group == user(group),
+            "leads" => inode
+                .link
+                .as_ref()
+                .is_some_and(|link| link.as_str() == rest),
+            _ => false,
+        }
+    }
+
     /// Whether a line is true of the last command line and the files.
     fn holds(&self, word: &str, first: &str, second: &str) -> bool {
         let disk = &self.came.disk;
@@ -239,6 +333,9 @@ impl Trials {
             "text" => disk.bytes(first) == Some(second.as_bytes()),
             "size" => disk.bytes(first).map(|bytes| bytes.len()) == Some(number(second)),
             "names" => disk.names.len() == number(first),
+            "widest" => disk.widest == mode(first),
+            "took" => disk.out.len() == number(first),
+            "none" | "own" | "has-mode" | "has-owner" | "leads" => self.is_so(word, first, second),
             "field" => match second.split_once(' ') {
                 Some((place, text)) => self.field(first, place) == Some(text),
                 None => self.field(first, second).is_none(),
@@ -251,19 +348,26 @@ impl Trials {
     ///
     /// - `$ WORDS`: a command line. `$$ FILES WORDS`: the same, and once more with each call failing, FILES with commas
     ///   between them. `usage WORDS`: one of wrong words.
-    /// - `~ put FILE FROM`, `~ replace FILE FROM`, `~ remove FILE`, `~ lock FILE`, `~ unlock FILE`, and then
-    ///   `$~ FILES WORDS`: a command line during which another program does that, before each call in turn. It prints
-    ///   what stands under FILES then.
-    /// - `< TEXT`: a line of its standard input. `<<`: what standard output took is its standard input.
+    /// - `~ put FILE FROM`, `~ replace FILE FROM`, `~ remove FILE`, `~ symlink FILE TO`, `~ lock FILE`, `~ unlock FILE`
+    ///   and then `$~ FILES WORDS`: a command line during which another program does that, before each call in turn. It
+    ///   prints what stands under FILES then.
+    /// - `fail LETTER KIND`: the first call of the next command line that has this letter fails so.
+    /// - `< TEXT`: a line of its standard input. `key CODE`: one byte more of it. `<<`: what standard output took
+    ///   is its standard input.
     /// - `> TEXT`, `] TEXT`, `! TEXT`: what standard output, the same without a line feed, and standard error took.
-    /// - `disk`: no files. `closed`: the folder takes no new name. `hold`, `private`, `read-only`, `folder`: another
-    ///   program holds all files, they may not be read, or not be written, or are folders. `terminal on`, or `off`.
-    /// - `copy FROM TO`, `poke FILE PLACE TEXT`, `link FILE NAME`; `zeros FILE COUNT`, a file of so many zeros;
-    ///   `store FILE`, which keeps what standard output took.
+    /// - `disk`: no files. `closed`: the folder takes no new name. `sticky`: nor does it let a user take away the files
+    ///   of another. `blind`: no path can be made whole. `user NUMBER`: whose program runs. `terminal on`, or `off`.
+    /// - `hold`, `private`, `read-only`, `folder`: another program holds all files, they may not be read, or not be
+    ///   written, or are folders; with a FILE behind it that one alone. `busy FILE`: no other can take its place.
+    ///   `foreign FILE`: another program made it and has it open.
+    /// - `copy FROM TO`, `poke FILE PLACE TEXT`, `link FILE NAME`, `symlink FILE TO`; `zeros FILE COUNT`, a file of so
+    ///   many zeros; `store FILE`, which keeps what standard output took; `mode FILE MODE`, `owner FILE OWNER GROUP`.
     ///
     /// Those that are true or not: `= STATUS`, beside which both streams took what stands above; `status STATUS` alone;
-    /// `same FILE FILE`, `text FILE TEXT`, `size FILE BYTES`, `names COUNT`; `field LINE PLACE WORD` of standard
-    /// output, counted from 0, or `field LINE PLACE` where there is none.
+    /// `same FILE FILE`, `text FILE TEXT`, `size FILE BYTES`, `names COUNT`, `none FILE`; `own FILE`, which no other
+    /// program made; `has-mode FILE MODE`, `has-owner FILE OWNER GROUP`, `leads FILE TO`, of a symbolic link;
+    /// `widest MODE`, all that anybody could do at any moment with a file that the program made; `took BYTES`, standard
+    /// output; `field LINE PLACE WORD` of it, counted from 0, or `field LINE PLACE` where there is none.
     pub fn line(&mut self, line: &str) -> io::Result<bool> {
         let (word, rest) = line.split_once(' ').unwrap_or((line, ""));
         let (first, second) = rest.split_once(' ').unwrap_or((rest, ""));
@@ -281,12 +385,19 @@ impl Trials {
             | "closed"
             | "terminal"
             | "<"
+            | "key"
             | "<<"
             | "hold"
             | "private"
             | "read-only"
-            | "folder" => { self.set(word, rest) }
-            "copy" | "poke" | "link" | "store" | "zeros" => self.change(word, first, second),
+            | "folder"
+            | "busy"
+            | "foreign"
+            | "sticky"
+            | "blind"
+            | "user" => { self.set(word, rest) }
+            "copy" | "poke" | "link" | "symlink" | "store" | "zeros" | "mode" | "owner" | "fail" =>
+                { self.change(word, first, second) }
             _ => Ok(self.holds(word, first, second)),
         }
     }

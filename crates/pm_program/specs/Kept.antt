@@ -3,7 +3,8 @@ use Rattle.std.specs.Prelude.{◌≡◌, ◌⊎◌, ⊤, ℕ, Bool, true, false,
 use Rattle.std.specs.Prelude.{Option, None, Some, Vec, option_map, vec_items, string_bytes}
 use Rattle.std.specs.declared.alloc.Global.{Global}
 use Rattle.pm_files.specs.Held.{Files, HoldsFile, Keeps, Puts}
-use Rattle.pm_filer.specs.Filed.{order_of}
+use Rattle.pm_filer.specs.Filed.{Order, ListFiles, Get, Put, Remove, Change, GetText}
+use Rattle.pm_filer.specs.Filed.{PutText, Krunch, Date, Zero, Duplicate, Single, order_of}
 use Rattle.pm_volume.specs.Headers.{blank_fault}
 use Rattle.pm_tool.specs.Batches.{said_files, said_new, said_repair}
 use Rattle.pm_tool.specs.Disks.{images_of}
@@ -51,6 +52,27 @@ abbrev pub KeepsRun : Files → Files → List ℕ → Printing → Outcome → 
 KeepsRun old new disk printing outcome = (between : Files)
     × Keeps old between disk (option_map vec_items outcome.image)
     × PrintsIf (has_run outcome.exit) between new printing outcome.printer.items
+
+-- a command on a volume may change it
+abbrev pub may_change : Order → Bool
+may_change ListFiles = false
+may_change (Get name) = false
+may_change (Put name kind bytes) = true
+may_change (Remove name) = true
+may_change (Change old new) = true
+may_change (GetText name) = false
+may_change (PutText name text) = true
+may_change Krunch = true
+may_change (Date year month day) = true
+may_change (Zero name) = true
+may_change Duplicate = true
+may_change Single = true
+
+-- a verb takes the lock of its file before it reads it: each that may write the file
+abbrev pub takes_lock : Verb → Bool
+takes_lock (verbs.Command command) = may_change (order_of command)
+takes_lock (verbs.New name blocks) = true
+takes_lock verbs.Repair = true
 
 -- nothing has changed, or the image of unit 4 alone
 abbrev pub KeepsFront : Files → Files → List ℕ → Type 0

@@ -1,11 +1,13 @@
 //! A plan is followed: its streams, its files, its job.
+ghost use Rattle.std.specs.Prelude.{◌≡◌, IfSome, option_map, string_bytes};
 ghost use Rattle.pm_streams.specs.Streams.{AreWell, both};
+ghost use Rattle.pm_program.specs.Conflicts.{conflict_of, is_other, names_image, printer_conflict};
 
 use crate::console::{Keys, Lined, Prompted};
 use crate::end::{Conflict, End};
 use crate::file_words::FilesPlan;
 use crate::kept::{do_debug, do_files, do_run, do_trace};
-use crate::run_words::{Keeping, KeptOfRun, Printing, Program};
+use crate::run_words::{Keeping, KeptOfRun, Others, Printing, Program};
 use crate::words::Plan;
 use pm_files::{DiskFault, Host, HostStore, Store, Stream};
 use pm_streams::{Reader, Sink, Source, Writer};
@@ -105,42 +107,59 @@ fn kept_of<S: Store>(store: &S, keeping: Keeping) -> KeptOfRun {
     KeptOfRun { save, printing }
 }
 
-/// Whether a path names the file of an image on another unit than 4.
-fn is_other<S: Store>(store: &S, program: &Program, path: &str) -> bool {
-    let others = &program.others;
-    for other in [
-        &others.d5,
-        &others.d9,
-        &others.d10,
-        &others.d11,
-        &others.d12,
-    ] {
-        if let Some(other) = other {
-            if store.is_same(path, other.as_str()) {
-                return true;
-            }
-        }
+/// Whether a path names the file of an image, if there is one.
+fn names_image<S: Store>(store: &S, path: &str, image: &Option<String>) -> bool
+    ensures value { IfSome (S.same store.now) (λ same.
+        result ≡ names_image same path.now (option_map string_bytes image.now)) }
+{
+    match image {
+        Some(image) => store.is_same(path, image.as_str()),
+        None => false,
     }
-    false
 }
 
-/// What is wrong with the paths of `run`, if something is.
-fn conflict<S: Store>(store: &S, program: &Program, keeping: &Keeping) -> Option<Conflict> {
-    let disk = program.disk.as_str();
-    if keeping.save && is_other(store, program, disk) {
-        return Some(Conflict::SavedTwice);
-    }
-    let printer = match &keeping.printer {
-        Some(printer) => printer.as_str(),
+/// Whether a path names the file of an image on another unit than 4.
+fn is_other<S: Store>(store: &S, path: &str, others: &Others) -> bool
+    ensures value { IfSome (S.same store.now) (λ same. result ≡ is_other same path.now others.now) }
+{
+    names_image(store, path, &others.d5)
+        || names_image(store, path, &others.d9)
+        || names_image(store, path, &others.d10)
+        || names_image(store, path, &others.d11)
+        || names_image(store, path, &others.d12)
+}
+
+/// What is wrong with the printer's path, if something is.
+fn printer_conflict<S: Store>(
+    store: &S,
+    program: &Program,
+    printer: &Option<String>,
+) -> Option<Conflict>
+    ensures value { IfSome (S.same store.now) (λ same. IfSome (S.folders store.now) (λ folders.
+        result ≡ printer_conflict same folders program.now (option_map string_bytes printer.now))) }
+{
+    let path = match printer {
+        Some(path) => path.as_str(),
         None => return None,
     };
-    if store.is_same(printer, disk) || is_other(store, program, printer) {
+    if store.is_same(path, program.disk.as_str()) || is_other(store, path, &program.others) {
         return Some(Conflict::PrinterIsImage);
     }
-    if store.is_folder(printer) {
+    if store.is_folder(path) {
         return Some(Conflict::PrinterIsFolder);
     }
     None
+}
+
+/// What is wrong with the paths of `run`, if something is.
+fn conflict<S: Store>(store: &S, program: &Program, keeping: &Keeping) -> Option<Conflict>
+    ensures value { IfSome (S.same store.now) (λ same. IfSome (S.folders store.now) (λ folders.
+        result ≡ conflict_of same folders program.now keeping.now)) }
+{
+    if keeping.save && is_other(store, program.disk.as_str(), &program.others) {
+        return Some(Conflict::SavedTwice);
+    }
+    printer_conflict(store, program, &keeping.printer)
 }
 
 /// Does the job of a plan, with the standard streams and the files of the system.

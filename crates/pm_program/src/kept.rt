@@ -3,7 +3,7 @@ ghost use Rattle.std.specs.Prelude.{◌≡◌, false, IfOk, IfSome, OnErr, OnOk,
 ghost use Rattle.pm_tool.specs.Said.{IsSoundExit};
 ghost use Rattle.pm_files.specs.Held.{Keeps};
 ghost use Rattle.pm_streams.specs.Streams.{AreWell, both};
-ghost use Rattle.pm_program.specs.Kept.{KeepsRun, KeepsFront, KeepsSaid, PrintsIf, SaysOf, has_run};
+ghost use Rattle.pm_program.specs.Kept.{KeepsRun, KeepsFront, KeepsSaid, PrintsIf, SaysOf, has_run, takes_lock};
 ghost use Rattle.pm_program.specs.Kept.{KeepsRunSaid, Reads, ReadsEach, TellsDebug, TellsTrace, paths_of};
 ghost use Rattle.pm_tool.specs.Disks.{images_of};
 
@@ -15,6 +15,17 @@ use pm_tool::{Exit, Job, Outcome};
 use std::alloc::Global;
 use std::io::ErrorKind;
 
+/// Whether a verb takes the lock of its file: whether it may write it.
+fn takes_lock(verb: &Verb) -> bool
+    ensures value { result ≡ takes_lock verb.now }
+{
+    use pm_filer::FileCommand;
+    !matches!(
+        verb,
+        Verb::Command(FileCommand::List | FileCommand::Get(_) | FileCommand::GetText(_))
+    )
+}
+
 /// The job of a verb. Its file is held from here on where it is going to be written, and read.
 fn files_job<S: Store>(
     alloc: Global,
@@ -25,7 +36,7 @@ fn files_job<S: Store>(
     ensures stays { S.files store.new ≡ S.files store.old }
     ensures job { IfOk result (λ job. SaysOf (S.files store.old) path.now verb job) }
 {
-    if verb.changes() {
+    if takes_lock(&verb) {
         store.hold(path)?;
     }
     match verb {

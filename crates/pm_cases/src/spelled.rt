@@ -63,20 +63,17 @@ pub fn add_escaped(bytes: &mut Vec<u8>, text: &str) -> io::Result<()> {
     if text == "\\" {
         return Ok(());
     }
-    let mut rest = text.as_bytes();
-    'reading: loop {
-        match rest {
-            [] => return Ok(()),
-            [b'\\', high, low, tail @ ..] => {
+    for (place, part) in text.split('\\').enumerate() {
+        match part.as_bytes() {
+            plain if place == 0 => bytes.extend_from_slice(plain)?,
+            [high, low, plain @ ..] => {
                 bytes.push(pair(*high, *low)?)?;
-                rest = tail;
+                bytes.extend_from_slice(plain)?;
             }
-            [byte, tail @ ..] => {
-                bytes.push(*byte)?;
-                rest = tail;
-            }
+            _ => return Err(not_a_case()),
         }
     }
+    Ok(())
 }
 
 /// The name that an escaped text spells.

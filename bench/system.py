@@ -1,8 +1,10 @@
-"""system.py PMACH [SEED [COUNT]]: random programs of file operations with the system segment of examples/system, against a model.
+"""system.py PMACH [SEED [COUNT]]: random programs with the system segment of examples/system, against models.
 
-Each program has three files of records of one size, and opens, writes, reads, seeks and closes them at random; after each
-step it shows IORESULT, EOF and the first byte of the window, and at the end the volume has the files and bytes of the
-model. The model keeps a list of entries and, for each open file, its bytes and where the next record is."""
+Of files: each program has three files of records of one size, and opens, writes, reads, seeks and closes them at random;
+after each step it shows IORESULT, EOF and the first byte of the window, and at the end the volume has the files and bytes
+of the model. The model keeps a list of entries and, for each open file, its bytes and where the next record is.
+Of texts: LISTER lists, and COPYTEXT copies, a text that `pmach files puttext` has put.
+Of strings and widths: WRITE of each kind, CONCAT, INSERT, COPY, DELETE and POS with lengths, places and widths of all sizes."""
 import os
 import random
 import subprocess
@@ -143,7 +145,107 @@ def show(lines, file, index, window):
               "SLDC 0", "CXP 0, 17", "LOD 1, 3", "LAO %d" % window, "SLDC 0", "LDB", "SLDC 0", "CXP 0, 13", "LOD 1, 3", "CXP 0, 22"]
 
 
-def one(number, scratch):
+def code_of(lines):
+    """The code file of a program of straight code."""
+    text = system + ".SEG 1 RANDOM\n.PROC 1 0 4 5000\n" + "\n".join(lines) + "\n.EXIT\nRBP 0\n"
+    for more in ("", "NOP\n"): # for an even length
+        code = subprocess.run([program, "asm"], input=(text + more + ".END\n").encode(), stdout=subprocess.PIPE, stderr=subprocess.PIPE)
+        if code.returncode == 0:
+            return code.stdout
+    raise ValueError(code.stderr)
+
+
+def files(*words, data=b""):
+    return subprocess.run([program, "files", "--image", image] + list(words), input=data, stdout=subprocess.PIPE, check=True).stdout
+
+
+def run(name, typed=b""):
+    return subprocess.run([program, "run", "--d4", image, "--save", "--limit", "4000000000", name], input=typed,
+                          stdout=subprocess.PIPE, stderr=subprocess.PIPE)
+
+
+def texts(number):
+    chance = random.Random(number)
+
+    def line(most):
+        length = chance.randrange(chance.choice([0, 0, 1, 3, 20, 60, most]) + 1)
+        spaces = chance.choice([0, 0, 1, 2, 10, 70 if most > 75 else 5])
+        return (" " * spaces + "".join(chr(chance.randrange(32, 127)) for _ in range(length)))[:most]
+    files("new", "WORK", "300")
+    for name in ("lister", "copytext"):
+        source = system + open(folder + "programs/%s.text" % name, encoding="ascii").read()
+        files("put", name, "code", data=subprocess.run([program, "asm"], input=source.encode(), stdout=subprocess.PIPE, check=True).stdout)
+    lines = chance.randrange(120)
+    long, short = [line(300) for _ in range(lines)], [line(75) for _ in range(lines)]
+    files("puttext", "LONG.TEXT", data="".join(x + "\n" for x in long).encode())
+    files("puttext", "SHORT.TEXT", data="".join(x + "\n" for x in short).encode())
+    ran = run("LISTER", b"LONG.TEXT\r")
+    want = "LIST WHAT? LONG.TEXT\r" + "".join("%3d: %s (%d)\r" % (n + 1, x, len(x)) for n, x in enumerate(long))
+    if ran.stdout.decode() != want:
+        return "text %d: LISTER writes another list; %s" % (number, ran.stderr)
+    ran = run("COPYTEXT", b"SHORT.TEXT\rOUT.TEXT" + chance.choice([b"", b"[60]", b"[*]"]) + b"\r")
+    if files("gettext", "OUT.TEXT").decode() != "".join("%4d %s\n" % (n + 1, x) for n, x in enumerate(short)):
+        return "text %d: COPYTEXT writes another text; %s" % (number, ran.stderr)
+    return ""
+
+
+def strings(number):
+    chance = random.Random(number)
+    lines, wanted = [], []
+
+    def some():
+        return "".join(chance.choice("AB") for _ in range(chance.choice([0, 1, 2, 3, 5, 80, 254, 255])))
+
+    def place():
+        return chance.choice([0, 1, 2, 3, 4, 79, 80, 254, 255, 256, -1, 32767, -32768, chance.randrange(-300, 300)])
+    for _ in range(20):
+        s, t, i, k = some(), some(), place(), place()
+        what = chance.choice(["integer", "character", "string", "array", "concat", "insert", "copy", "delete", "pos"])
+        if what in ("concat", "insert", "copy", "delete"):
+            lines += ["LAO 10", 'LSA "%s"' % s, "SAS 255"]
+        if what == "pos":
+            lines += ["LOD 1, 3", 'LSA "%s"' % t, 'LSA "%s"' % s, "SLDC 0", "SLDC 0", "CXP 0, 27", "SLDC 0", "CXP 0, 13"]
+            wanted.append(str(s.find(t) + 1 if t else 0))
+        elif what == "integer":
+            value = chance.choice([i, chance.randrange(-32768, 32768)])
+            width = chance.randrange(-10, 300)
+            lines += ["LOD 1, 3", "LDCI %d" % value, "LDCI %d" % width, "CXP 0, 13"]
+            wanted.append(str(value).rjust(max(width, 0)))
+        elif what == "character":
+            lines += ["LOD 1, 3", "SLDC 88", "LDCI %d" % (k % 300 - 20), "CXP 0, 17"]
+            wanted.append("X".rjust(max(k % 300 - 20, 0)))
+        elif what in ("string", "array"):
+            width = chance.choice([0, 1, len(s), len(s) - 1, len(s) + 1, 300, -32768])
+            lines += ["LOD 1, 3", '%s "%s"' % ("LSA" if what == "string" else "LPA", s), "LDCI %d" % width]
+            lines += ["CXP 0, 19"] if what == "string" else ["LDCI %d" % len(s), "CXP 0, 20"]
+            wanted.append(s.rjust(width)[:width] if width > 0 else s)
+        else:
+            room = chance.choice([255, 80, min(255, len(s) + len(t))])
+            if what == "concat":
+                lines += ["LAO 10", 'LSA "%s"' % t, "LDCI %d" % room, "CXP 0, 23"]
+                s = s + t if len(s) + len(t) <= room else s
+            elif what == "insert":
+                lines += ['LSA "%s"' % t, "LAO 10", "LDCI %d" % room, "LDCI %d" % i, "CXP 0, 24"]
+                s = s[:i - 1] + t + s[i - 1:] if 1 <= i <= len(s) + 1 and len(s) + len(t) <= room else s
+            elif what == "copy":
+                lines += ['LSA "%s"' % t, "LAO 10", "LDCI %d" % i, "LDCI %d" % k, "CXP 0, 25"]
+                s = t[i - 1:i - 1 + k] if i > 0 and k > 0 and i + k - 1 <= len(t) else ""
+            else:
+                lines += ["LAO 10", "LDCI %d" % i, "LDCI %d" % k, "CXP 0, 26"]
+                s = s[:i - 1] + s[i - 1 + k:] if i > 0 and k > 0 and i + k - 1 <= len(s) else s
+            lines += ["LOD 1, 3", "LAO 10", "SLDC 0", "CXP 0, 19"]
+            wanted.append(s)
+        lines += ["LOD 1, 3", "CXP 0, 22"]
+    files("new", "WORK", "100")
+    files("put", "CASES", "code", data=code_of(lines))
+    ran = run("CASES")
+    for have, want in zip(ran.stdout.decode().split("\r"), wanted + [""]):
+        if have != want:
+            return "strings %d: %r and not %r; %s" % (number, have, want, ran.stderr)
+    return ""
+
+
+def records(number):
     chance = random.Random(number)
     size = 2 * chance.choice([1, 3, 9, 50, 255, 256, 257, 300])
     blocks = 6 + CASES + chance.choice([5, 12, 30, 60])
@@ -203,20 +305,9 @@ def one(number, scratch):
             show(lines, file[n], n, window[n])
             wanted.append("%d %d %d" % (answer, *model.shown[n]))
             steps.append("the last close of file %d" % n)
-    text = system + ".SEG 1 RANDOM\n.PROC 1 0 4 5000\n" + "\n".join(lines) + "\n.EXIT\nRBP 0\n"
-    for more in ("", "NOP\n"):
-        code = subprocess.run([program, "asm"], input=(text + more + ".END\n").encode(), stdout=subprocess.PIPE, stderr=subprocess.PIPE)
-        if code.returncode == 0:
-            break
-    code = code.stdout.ljust(512 * CASES, b"\0")
-    image = os.path.join(scratch, "image")
-
-    def files(*words, data=b""):
-        return subprocess.run([program, "files", "--image", image] + list(words), input=data, stdout=subprocess.PIPE, check=True).stdout
     files("new", "WORK", str(blocks))
-    files("put", "CASES", "code", data=code)
-    ran = subprocess.run([program, "run", "--d4", image, "--save", "CASES"], stdin=subprocess.DEVNULL, stdout=subprocess.PIPE,
-                         stderr=subprocess.PIPE)
+    files("put", "CASES", "code", data=code_of(lines).ljust(512 * CASES, b"\0"))
+    ran = run("CASES")
     got = ran.stdout.decode("latin1").split("\r")[:-1]
     for place, (have, want) in enumerate(zip(got + ["nothing"] * len(wanted), wanted)):
         if have != want:
@@ -234,11 +325,13 @@ def one(number, scratch):
 
 
 with tempfile.TemporaryDirectory() as scratch:
+    image = os.path.join(scratch, "image")
     bad = 0
     for number in range(seed, seed + count):
-        fault = one(number, scratch)
-        if fault:
-            print(fault)
-            bad += 1
-    print("%d programs, %d failed" % (count, bad))
+        for tried in (records, texts, strings):
+            fault = tried(number)
+            if fault:
+                print(fault)
+                bad += 1
+    print("%d passed, %d failed" % (3 * count - bad, bad))
     sys.exit(bad > 0)

@@ -441,6 +441,7 @@ X\r|X\r|0|3
 +x\r|+x\r|0|3
 1\x083\r|1\x08 \x083\r|3|0
 12\x083\r|12\x08 \x083\r|13|0
+1234\x085\r|1234\x08 \x085\r|1235|0
 12\x7f3\r|12\x7f\x08 \x083\r|13|0
 123\x18456\r|123\x18\x08 \x08\x08 \x08\x08 \x08456\r|456|0
 -5\x086\r|-5\x08 \x086\r|-6|0
@@ -992,7 +993,7 @@ seek $f 0
 close $f 3
 case_is 'CLOSE CRUNCH behind SEEK 0 leaves nothing' 00
 reset $f BEHIND
-seek $f 1000
+seek $f 1024
 close $f 3
 case_is 'CLOSE CRUNCH behind SEEK past the end leaves all' 00
 rewrite $f 'TWICE[3]'

@@ -1,0 +1,6 @@
+-- What each path holds where one file is all there is.
+use Rattle.std.specs.Prelude.{ℕ, List, Option, None, if◌then◌else◌}
+use Rattle.std.specs.Str.{bytes_eq}
+
+abbrev pub told : List ℕ → Option (List ℕ) → List ℕ → Option (List ℕ)
+told name bytes path = if bytes_eq path name then bytes else None

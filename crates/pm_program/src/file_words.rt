@@ -28,15 +28,6 @@ pub enum Verb {
 }
 
 impl Verb {
-    /// Whether the image is written back where the command is accepted.
-    pub(crate) fn changes(&self) -> bool {
-        use pm_filer::FileCommand;
-        !matches!(
-            self,
-            Verb::Command(FileCommand::List | FileCommand::Get(_) | FileCommand::GetText(_))
-        )
-    }
-
     /// Whether the command reads standard input.
     pub(crate) fn reads(&self) -> bool {
         use pm_filer::FileCommand;

@@ -1,0 +1,92 @@
+#!/bin/bash
+# examples/export.sh and import.sh: each file out byte for byte, there and back, two of one name, names that cannot be
+# typed, refused images. Run by hand; no part of the gate. PMACH names another program than ./pmach.
+here=$(dirname "$(readlink -f "$0")")/..
+export PMACH=${PMACH:-$here/pmach}
+scratch=$(mktemp -d)
+trap 'rm -rf "$scratch"' EXIT
+cd "$scratch" || exit 1
+passed=0
+failed=0
+
+# check NAME COMMAND..: it passed where the command ends with 0
+check() {
+    local name=$1
+    shift
+    if "$@" >/dev/null 2>&1; then
+        passed=$((passed + 1))
+    else
+        failed=$((failed + 1))
+        echo "failed: $name"
+    fi
+}
+
+# ends STATUS COMMAND..
+ends() {
+    local wanted=$1
+    shift
+    "$@" >out 2>err </dev/null
+    [ $? = "$wanted" ]
+}
+
+# patch FILE TEXT BYTES: the first place that has the text gets these bytes
+patch() {
+    local place
+    place=$(grep -abo "$2" "$1" | head -n 1 | cut -d: -f1)
+    printf '%b' "$3" | dd of="$1" bs=1 seek="$place" conv=notrunc 2>/dev/null
+}
+
+files() { "$PMACH" files --image "$@"; }
+
+files a new SHOE 100
+files a date 84 12 1
+printf one | files a put DUP data
+printf two2 | files a put DUQ code
+printf 'line\n  two\n' | files a puttext A.TEXT
+printf x | files a put 'A%B/C' 9
+files a date 85 1 2
+files a put .DOT none </dev/null
+printf list | files a put LIST info
+seq 400 | files a put BIG 12
+cp a b
+patch b DUQ DUP
+patch b BIG 'B\xe9 '
+
+check "out" ends 0 "$here/examples/export.sh" a fa
+check "a file of several blocks" cmp fa/BIG <(seq 400)
+check "an empty file" [ ! -s fa/%2EDOT ]
+check "a name with % and /" cmp fa/A%25B%2FC <(printf x)
+check "a text comes as bytes" [ "$(stat -c %s fa/A.TEXT)" = 2048 ]
+check "a folder that is there" ends 1 "$here/examples/export.sh" a fa
+files c new SHOE 100
+check "in" ends 0 "$here/examples/import.sh" fa c
+check "the same list" cmp <(files a list) <(files c list)
+check "in once more" ends 0 "$here/examples/import.sh" fa c
+check "still the same list" cmp <(files a list) <(files c list)
+check "out again" ends 0 "$here/examples/export.sh" c fc
+check "the same folder" diff -r fa fc
+check "two of one name" ends 0 "$here/examples/export.sh" b fb
+check "the first of them" cmp fb/DUP <(printf one)
+check "the second of them" cmp fb/DUP%%2 <(printf two2)
+check "a name that cannot be typed" cmp <(tail -n +2 fb/B%E9%20) <(tail -n +2 fa/BIG)
+files d new SHOE 100
+check "in, but for two" ends 1 "$here/examples/import.sh" fb d
+check "each is named" [ "$(grep -c 'is left out' err)" = 2 ]
+check "the others are there" [ "$(files d list | wc -l)" = 7 ]
+check "as text" ends 0 "$here/examples/export.sh" --text a ft
+check "the text" cmp ft/A.TEXT <(printf 'line\n  two\n')
+files e new SHOE 100
+check "texts in" ends 0 "$here/examples/import.sh" ft e
+check "the same list of texts" cmp <(files a list) <(files e list)
+head -c 1000 a >bad
+check "a refused image" ends 2 "$here/examples/export.sh" bad fbad
+check "no folder of it" [ ! -e fbad ]
+files f new SHOE 12
+check "a small volume" ends 1 "$here/examples/import.sh" fa f
+check "what is left out is named" grep -q 'is left out: refused filer 1 7' err
+files g new EMPTY 20
+check "no file out" ends 0 "$here/examples/export.sh" g fg
+check "no file in" ends 0 "$here/examples/import.sh" fg g
+
+echo "$passed passed, $failed failed"
+[ $failed = 0 ]

@@ -1,6 +1,7 @@
 #!/bin/bash
-# examples/export.sh and import.sh: each file out byte for byte, there and back, two of one name, names that cannot be
-# typed, refused images. Run by hand; no part of the gate. PMACH names another program than ./pmach.
+# examples/export.sh, import.sh and form.sh: each file out byte for byte, there and back, two of one name, names that
+# cannot be typed, refused images; orders and headers of images. Run by hand; no part of the gate. PMACH names another
+# program than ./pmach.
 here=$(dirname "$(readlink -f "$0")")/..
 export PMACH=${PMACH:-$here/pmach}
 scratch=$(mktemp -d)
@@ -87,6 +88,34 @@ check "what is left out is named" grep -q 'is left out: refused filer 1 7' err
 files g new EMPTY 20
 check "no file out" ends 0 "$here/examples/export.sh" g fg
 check "no file in" ends 0 "$here/examples/import.sh" fg g
+
+files po new BIG 280
+printf 'hi\n' | files po puttext A.TEXT
+"$here/examples/dos-order.sh" <po >dos
+dd if=po of=swapped conv=swab 2>/dev/null
+{
+    printf '2IMGTEST\x40\0\x01\0\x01\0\0\0\0\0\0\0\x18\x01\0\0\x40\0\0\0\x00\x30\x02\0'
+    head -c 32 /dev/zero
+} >header
+for form in po:blocks dos:dos swapped:swapped; do
+    file=${form%:*}
+    check "$form alone fits" ends 0 "$here/examples/form.sh" "$file"
+    check "$form is told" grep -q "^${form#*:} BIG: files 1 " out
+    check "$form in blocks" ends 0 "$here/examples/form.sh" "$file" "$file.new"
+    check "$form, the same volume" cmp po "$file.new"
+    check "$form back" ends 0 "$here/examples/form.sh" --back "$file" po "$file.back"
+    check "$form, the same image" cmp "$file" "$file.back"
+    { cat header "$file" && echo a comment; } >"$file.2mg"
+    check "$form behind a header" ends 0 "$here/examples/form.sh" "$file.2mg" "$file.out"
+    check "$form, the same volume behind a header" cmp po "$file.out"
+    check "$form behind its header again" ends 0 "$here/examples/form.sh" --back "$file.2mg" po "$file.2back"
+    check "$form, the same image behind a header" cmp "$file.2mg" "$file.2back"
+done
+check "a file that is there stays" ends 1 "$here/examples/form.sh" dos po
+check "another form than it has" ends 2 "$here/examples/form.sh" --as swapped dos none
+check "no volume" ends 2 "$here/examples/form.sh" header
+printf "2IMG" >short
+check "a header that is cut" ends 2 "$here/examples/form.sh" short
 
 echo "$passed passed, $failed failed"
 [ $failed = 0 ]

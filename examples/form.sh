@@ -1,0 +1,101 @@
+#!/bin/bash
+# Says in which form an image holds a volume, and brings it into blocks in their order, or back:
+#
+#     examples/form.sh IMAGE                   a line for each form in which the volume opens, with the list's last line
+#     examples/form.sh IMAGE NEW               the volume as NEW, where one form fits
+#     examples/form.sh --as FORM IMAGE NEW     the same in a form that is named, where more than one fits
+#     examples/form.sh --back IMAGE BLOCKS NEW the volume BLOCKS in the form of IMAGE as NEW, with its header and what
+#                                              stands behind its blocks; BLOCKS has as many bytes as the volume there
+#
+# A form is an order: blocks, dos (the sectors of a 140 KB disk in DOS order) or swapped (the two bytes of each word), and
+# has 2mg- in front where the image begins with a header of that kind, whose words say where the blocks begin and end.
+# Nothing is guessed: a form fits where the program opens the volume in it. No file is written over.
+# Status 0: one form fits; 1 wrong words, or NEW is there; 2 none fits; 3 more than one does.
+here=$(dirname "$(readlink -f "$0")")
+pmach=${PMACH:-$here/../pmach}
+scratch=$(mktemp -d)
+trap 'rm -rf "$scratch"' EXIT
+
+stop() {
+    echo "form.sh: $2" >&2
+    exit "$1"
+}
+
+# long PLACE: four bytes of the image, the low one first
+long() { od -An -tu4 -j"$1" -N4 --endian=little "$image" | tr -d ' '; }
+
+# Where the blocks begin, and how many bytes they have: of the whole image, or as a header says.
+place() {
+    begin=0 size=$(stat -c %s "$image") front=
+    [ "$size" -ge 64 ] && [ "$(head -c 4 "$image" | tr -d '\0')" = 2IMG ] || return
+    local at length
+    at=$(long 24) length=$(long 28)
+    [ "$length" != 0 ] || length=$((512 * $(long 20)))
+    [ "$at" -ge 52 ] && [ "$length" -gt 0 ] && [ $((at + length)) -le "$size" ] || return
+    begin=$at size=$length front=2mg-
+}
+
+# in_order ORDER FROM TO: from this order into blocks, or back
+in_order() {
+    case $1 in
+    blocks) cat "$2" >"$3" ;;
+    dos) [ "$(stat -c %s "$2")" = 143360 ] && "$here/dos-order.sh" <"$2" >"$3" ;;
+    swapped) dd if="$2" of="$3" conv=swab 2>/dev/null ;;
+    esac
+}
+
+# The forms that fit, each with its volume in the scratch folder.
+look() {
+    forms=()
+    tail -c +$((begin + 1)) "$image" | head -c "$size" >"$scratch/part"
+    local order
+    for order in blocks dos swapped; do
+        in_order $order "$scratch/part" "$scratch/$order" || continue
+        "$pmach" files --image "$scratch/$order" list </dev/null >"$scratch/$order.list" 2>/dev/null && forms+=("$order")
+    done
+}
+
+as='' back=''
+case $1 in
+--as)
+    as=$2
+    shift 2
+    ;;
+--back)
+    back=yes
+    shift
+    ;;
+esac
+image=$1
+is_right=yes
+[ -r "$image" ] && [ "${image#-}" = "$image" ] || is_right=
+if [ "$back" ]; then
+    [ $# = 3 ] || is_right=
+else
+    [ $# = 1 ] || [ $# = 2 ] || is_right=
+fi
+if ! [ "$is_right" ]; then
+    stop 1 "usage: form.sh [--as FORM] IMAGE [NEW], or form.sh --back IMAGE BLOCKS NEW"
+fi
+new=${*: -1}
+[ $# = 1 ] || [ ! -e "$new" ] || stop 1 "$new is there already"
+place
+look
+if [ "$as" ]; then
+    [[ " ${forms[*]/#/$front} " = *" $as "* ]] || stop 2 "$image is no volume as $as"
+    forms=("${as#2mg-}")
+elif [ $# = 1 ] || [ ${#forms[@]} != 1 ]; then
+    for order in "${forms[@]}"; do
+        echo "$front$order $(head -n 1 "$scratch/$order.list") $(tail -n 1 "$scratch/$order.list")"
+    done
+fi
+[ ${#forms[@]} != 0 ] || stop 2 "$image is no volume in any of these forms"
+[ ${#forms[@]} = 1 ] || stop 3 "more than one form fits: --as says which"
+[ $# != 1 ] || exit 0
+if [ "$back" ]; then
+    [ "$(stat -c %s "$2")" = "$size" ] || stop 1 "$2 has not the $size bytes of the volume in $image"
+    in_order "${forms[0]}" "$2" "$scratch/changed"
+    { head -c "$begin" "$image" && cat "$scratch/changed" && tail -c +$((begin + size + 1)) "$image"; } >"$new" || exit
+else
+    cat "$scratch/${forms[0]}" >"$new" || exit
+fi

@@ -1,6 +1,6 @@
 #!/bin/bash
-# examples/export.sh, import.sh and form.sh: each file out byte for byte, there and back, two of one name, names that
-# cannot be typed, refused images; orders and headers of images. Run by hand; no part of the gate. PMACH names another
+# examples/export.sh, import.sh, salvage.sh and form.sh: each file out byte for byte, there and back, two of one name,
+# names that cannot be typed, refused and damaged images; orders and headers of images. Run by hand; no part of the gate. PMACH names another
 # program than ./pmach.
 here=$(dirname "$(readlink -f "$0")")/..
 export PMACH=${PMACH:-$here/pmach}
@@ -88,6 +88,42 @@ check "what is left out is named" grep -q 'is left out: refused filer 1 7' err
 files g new EMPTY 20
 check "no file out" ends 0 "$here/examples/export.sh" g fg
 check "no file in" ends 0 "$here/examples/import.sh" fg g
+
+# byte FILE PLACE VALUE
+byte() { printf "\\x$3" | dd of="$1" bs=1 seek="$2" conv=notrunc 2>/dev/null; }
+
+cp a hurt
+byte hurt $((1024 + 26 * 2 + 6)) 00
+check "a damaged entry closes the volume" ends 2 "$PMACH" files --image hurt list
+check "the others are taken" ends 3 "$here/examples/salvage.sh" hurt fh
+check "the damaged one is told" grep -q "^salvage.sh: slot 2, '', blocks 7 to 8 of 100: left out" err
+check "six files" [ "$(grep -c '	' fh/LIST)" = 6 ]
+check "each with its bytes" cmp fh/BIG fa/BIG
+files h new SHOE 100
+check "they go into a volume" ends 0 "$here/examples/import.sh" fh h
+check "six of seven" [ "$(files h list | wc -l)" = 8 ]
+cp a shared
+byte shared $((1024 + 26 * 2)) 06
+check "blocks that two files share" ends 3 "$here/examples/salvage.sh" shared fs
+check "the later one is doubted" grep -q '^DUQ.*?1$' fs/LIST
+cp a counted
+byte counted $((1024 + 16)) 05
+check "files behind the count" ends 3 "$here/examples/salvage.sh" counted fk
+check "are taken and doubted" [ "$(grep -c '?count$' fk/LIST)" = 2 ]
+cp a header
+byte header $((1024 + 2)) 00
+check "a damaged header" ends 0 "$here/examples/salvage.sh" header fe
+check "all files are taken" diff -r -x LIST fa fe
+
+files f2 new SHOE 100
+files f2 duplicate
+printf one | files f2 put DUP data
+byte f2 $((1024 + 26 + 6)) 00
+byte f2 $((1024 + 2)) 00
+check "by the second copy" ends 0 "$here/examples/salvage.sh" --second f2 fz
+check "its file" cmp fz/DUP fa/DUP
+check "wrong words" ends 1 "$here/examples/salvage.sh" a
+check "no file is written over" ends 1 "$here/examples/salvage.sh" a fa
 
 files po new BIG 280
 printf 'hi\n' | files po puttext A.TEXT

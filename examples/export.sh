@@ -16,10 +16,11 @@
     echo "usage: export.sh [--text] IMAGE FOLDER" >&2
     exit 1
 }
-pmach=${PMACH:-$(dirname "$(readlink -f "$0")")/../pmach}
+here=$(dirname "$(readlink -f "$0")")
+pmach=${PMACH:-$here/../pmach}
+. "$here/slots.bash"
 image=$1
 folder=$2
-kinds=(none badb code text info data graf foto secd 9 10 11 12 13 14 15)
 "$pmach" files --image "$image" list </dev/null >/dev/null || exit
 if [ -e "$folder" ]; then
     echo "export.sh: $folder is there already: name a new folder" >&2
@@ -27,49 +28,13 @@ if [ -e "$folder" ]; then
 fi
 mkdir "$folder" || exit
 status=0
-
-# spelled MORE BYTE..: the bytes as they stand in LIST; those of MORE too stand as digits
-spelled() {
-    local more=$1 byte text=
-    shift
-    for byte; do
-        if ((byte > 32 && byte < 127 && byte != 37)) && [[ " $more " != *" $byte "* ]]; then
-            printf -v byte "\\\\x%02x" "$byte"
-            # shellcheck disable=SC2059 # a byte
-            printf -v byte "$byte"
-        else
-            printf -v byte '%%%02X' "$byte"
-        fi
-        text+=$byte
-    done
-    printf '%s' "$text"
-}
-
-# date_of WORD
-date_of() { printf '%03d-%02d-%02d' $(($1 / 512)) $(($1 % 16)) $(($1 / 16 % 32)); }
-
-read -r -d '' -a directory < <(od -An -v -tu1 -j1024 -N2048 "$image" | tr -s ' \n' ' ')
-# word PLACE: two bytes of the directory, the low one first
-word() { echo $((directory[$1] + 256 * directory[$1 + 1])); }
-
+read_directory "$image" 1024
 echo "volume $(spelled '' "${directory[@]:7:${directory[6]}}") $(word 14) $(date_of "$(word 20)")" >"$folder/LIST"
-declare -A hosts names
-for ((slot = 1; slot <= directory[16] + 256 * directory[17]; slot++)); do
-    at=$((26 * slot))
-    first=$(word $at) end=$(word $((at + 2))) last=$(word $((at + 22)))
-    letters=("${directory[@]:$((at + 7)):${directory[$((at + 6))]}}")
-    name=$(spelled '' "${letters[@]}")
-    host=$(spelled 47 "${letters[@]}")
-    [[ $host = .* ]] && host=%2E${host:1}
-    [ "$host" = LIST ] && host=%4CIST
-    plain=$host
-    for ((n = 2; ${hosts[$host]:-0}; n++)); do host=$plain%%$n; done
-    hosts[$host]=1
-    kind=${kinds[directory[at + 4] % 16]}
+declare -A names
+for ((slot = 1; slot <= $(word 16); slot++)); do
+    read_slot $slot
     how=bytes
-    size=$((end > first ? 512 * (end - first - 1) + last : 0))
-    dd if="$image" bs=512 skip="$first" count=$((end - first)) 2>/dev/null | head -c "$size" >"$folder/$host"
-    if [ "$(stat -c %s "$folder/$host")" != "$size" ]; then
+    if ! take_slot "$image" "$folder"; then
         echo "export.sh: slot $slot, $name: not all of it could be written" >&2
         status=1
     fi
@@ -84,6 +49,6 @@ for ((slot = 1; slot <= directory[16] + 256 * directory[17]; slot++)); do
         fi
     fi
     names[${name^^}]=1
-    printf '%s\t%s\t%s\t%s\t%s\t%d\n' "$host" "$name" "$kind" "$(date_of "$(word $((at + 24)))")" "$how" "$slot" >>"$folder/LIST"
+    printf '%s\t%s\t%s\t%s\t%s\t%d\n' "$host" "$name" "$kind" "$date" "$how" "$slot" >>"$folder/LIST"
 done
 exit $status

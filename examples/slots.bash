@@ -1,0 +1,55 @@
+# Slots of a directory, for export.sh and salvage.sh, which read it themselves.
+
+kinds=(none badb code text info data graf foto secd 9 10 11 12 13 14 15)
+declare -A hosts
+
+# read_directory IMAGE PLACE: the directory that stands there, byte for byte
+read_directory() {
+    read -r -d '' -a directory < <(od -An -v -tu1 -j"$2" -N2048 "$1" | tr -s ' \n' ' ')
+}
+
+# word PLACE: two bytes of the directory, the low one first
+word() { echo $((directory[$1] + 256 * directory[$1 + 1])); }
+
+# date_of WORD
+date_of() { printf '%03d-%02d-%02d' $(($1 / 512)) $(($1 % 16)) $(($1 / 16 % 32)); }
+
+# spelled MORE BYTE..: the bytes as they stand in LIST; those of MORE too stand as digits
+spelled() {
+    local more=$1 byte text=
+    shift
+    for byte; do
+        if ((byte > 32 && byte < 127 && byte != 37)) && [[ " $more " != *" $byte "* ]]; then
+            printf -v byte '\\x%02x' "$byte"
+            # shellcheck disable=SC2059 # a byte
+            printf -v byte "$byte"
+        else
+            printf -v byte '%%%02X' "$byte"
+        fi
+        text+=$byte
+    done
+    printf '%s' "$text"
+}
+
+# read_slot N: the entry of a slot, as first, end, last, kind, date, name, and host for its name in a folder
+read_slot() {
+    local at=$((26 * $1)) letters plain n
+    first=$(word $at) end=$(word $((at + 2))) last=$(word $((at + 22))) length=${directory[$((at + 6))]}
+    kind=${kinds[directory[at + 4] % 16]}
+    date=$(date_of "$(word $((at + 24)))")
+    letters=("${directory[@]:$((at + 7)):$((length < 15 ? length : 15))}")
+    name=$(spelled '' "${letters[@]}")
+    host=$(spelled 47 "${letters[@]}")
+    [[ $host = .* ]] && host=%2E${host:1}
+    [ "$host" = LIST ] && host=%4CIST
+    plain=$host
+    for ((n = 2; ${hosts[$host]:-0}; n++)); do host=$plain%%$n; done
+}
+
+# take_slot IMAGE FOLDER: the bytes of the entry that was read, as a file of the folder; false where not all came
+take_slot() {
+    local size=$((end > first ? 512 * (end - first - 1) + last : 0))
+    hosts[$host]=1
+    dd if="$1" bs=512 skip="$first" count=$((end - first)) 2>/dev/null | head -c "$size" >"$2/$host"
+    [ "$(stat -c %s "$2/$host")" = "$size" ]
+}

@@ -97,6 +97,7 @@ byte hurt $((1024 + 26 * 2 + 6)) 00
 check "a damaged entry closes the volume" ends 2 "$PMACH" files --image hurt list
 check "the others are taken" ends 3 "$here/examples/salvage.sh" hurt fh
 check "the damaged one is told" grep -q "^salvage.sh: slot 2, '', blocks 7 to 8 of 100: left out" err
+check "no other word on it" [ "$(wc -l <err)" = 2 ]
 check "six files" [ "$(grep -c '	' fh/LIST)" = 6 ]
 check "each with its bytes" cmp fh/BIG fa/BIG
 files h new SHOE 100

@@ -43,13 +43,13 @@ read_slot() {
     [[ $host = .* ]] && host=%2E${host:1}
     [ "$host" = LIST ] && host=%4CIST
     plain=$host
-    for ((n = 2; ${hosts[$host]:-0}; n++)); do host=$plain%%$n; done
+    for ((n = 2; ${hosts[=$host]:-0}; n++)); do host=$plain%%$n; done
 }
 
 # take_slot IMAGE FOLDER: the bytes of the entry that was read, as a file of the folder; false where not all came
 take_slot() {
     local size=$((end > first ? 512 * (end - first - 1) + last : 0))
-    hosts[$host]=1
+    hosts[=$host]=1
     dd if="$1" bs=512 skip="$first" count=$((end - first)) 2>/dev/null | head -c "$size" >"$2/$host"
     [ "$(stat -c %s "$2/$host")" = "$size" ]
 }

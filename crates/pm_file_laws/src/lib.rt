@@ -1,0 +1,6 @@
+//! Laws of volumes in words of their own: which refusal is told where several hold, what a new directory keeps, and
+//! what the largest gap is. The functions do nothing.
+#![tactic(auto)]
+
+pub mod refusals;
+pub mod volumes;

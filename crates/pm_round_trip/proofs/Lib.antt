@@ -1,2 +1,3 @@
 pub mod Round
 pub mod ShownAgain
+pub mod RefusalLaws

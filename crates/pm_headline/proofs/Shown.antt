@@ -1,19 +1,23 @@
 -- Each command of a session leaves the machine as its events do.
-use Rattle.std.proofs.Common.{◌≡◌, ◌≤◌, ℕ, zero, suc, ◌+◌, Bool, true, false, List, [], ◌∷◌, ◌++◌, Option, Some, None, refl, sym, ap, ◌∙◌, arith}
-use Rattle.std.proofs.Common.{append_assoc}
-use Rattle.std.specs.Prelude.{replicate, if◌then◌else◌, Result, Ok, Err}
+use Rattle.std.proofs.Common.{◌≡◌, ◌<◌, ◌≤◌, ℕ, zero, suc, ◌+◌, Bool, true, false, List, [], ◌∷◌, ◌++◌, Option, Some, None, refl, sym, ap, subst, ◌∙◌, arith}
+use Rattle.std.proofs.Common.{◌==◌, ◌&&◌, not, append_assoc}
+use Rattle.std.proofs.lemmas.Bool.Decides.{nat_tests}
+use Rattle.std.specs.Prelude.{◌≢◌, replicate, if◌then◌else◌, Result, Ok, Err}
 use Rattle.pm_machine.specs.State.{State}
 use Rattle.pm_machine.specs.Events.{Event, Step, Key, Poke, after_all}
-use Rattle.pm_machine.specs.Runs.{RunOutcome, on_answer, run_from, run_until}
+use Rattle.pm_machine.specs.Runs.{Passes, after_steps, run_until}
+use Rattle.pm_machine.specs.RunLaws.{EndsSo}
 use Rattle.pm_machine.specs.Steps.{stepped}
-use Rattle.pm_machine.specs.declared.state.Status.{Status}
+use Rattle.pm_machine.specs.declared.state.RunEnd.{RunEnd}
+use Rattle.pm_machine.specs.declared.state.RunEnd.TheVariants as ends
 use Rattle.pm_machine.specs.declared.state.Stop.{Stop}
 use Rattle.pm_machine.specs.declared.state.Stop.TheVariants as stop
 use Rattle.pm_machine.proofs.EventLaws.{events_go_on}
+use Rattle.pm_machine.proofs.UntilLaws.{after_more, after_none, runs_end_so}
 use Rattle.pm_debug.specs.declared.breaks.Breakpoint.{Breakpoint}
 use Rattle.pm_debug.specs.declared.reason.BreakReason.TheVariants as reasons
 use Rattle.pm_debug.specs.declared.refusal.DebugRefusal.{DebugRefusal}
-use Rattle.pm_debug.specs.Breaks.{break_at, with_break, without_break}
+use Rattle.pm_debug.specs.Breaks.{break_at, is_at_break, with_break, without_break}
 use Rattle.pm_debug.specs.Runs.{breaks_after, gone, gone_by, has_ended}
 use Rattle.pm_debug.specs.Session.{Session}
 use Rattle.pm_session.specs.declared.commands.Command.{Command}
@@ -21,54 +25,74 @@ use Rattle.pm_session.specs.declared.commands.Command.TheVariants as commands
 use Rattle.pm_session.specs.Commands.{command_of}
 use Rattle.pm_session.specs.Answers.{after_command, answer_text, session_after, with_breaks}
 use Rattle.pm_session.specs.Sessions.{answers, is_quit, opened}
-use Rattle.pm_headline.specs.Shown.{AreEventsOf, AreEventsOfLines, GoesOnAfter, SessionsShowTheTable}
+use Rattle.pm_headline.specs.Shown.{AreEventsOf, AreEventsOfLines, GoesOn, GoesOnAfter, SessionsShowTheTable, StopsAfter}
+use Rattle.pm_headline.specs.Shown.StopsAfter.{rests, all, breaks_there, stops}
 
 -- ---- steps of a run
 
-abbrev Steps : ℕ → State → State → Type 0
-Steps n s t = (k : ℕ) × (k ≤ n) × (t ≡ after_all s (replicate k Step))
-
-step_before : (n : ℕ) (s t : State) → Steps n (stepped s).0 t → Steps (suc n) s t
-step_before n s t h = (suc h.0, omega (arith, h.1), h.2)
-
-one_step : (n : ℕ) (s t : State) → t ≡ (stepped s).0 → Steps (suc n) s t
-one_step n s t e = (1, omega arith, e)
-
-no_step : (n : ℕ) (s t : State) → t ≡ s → Steps n s t
-no_step n s t e = (0, omega arith, e)
-
-answer_steps : (st : Status) (k n : ℕ) (s : State) (rest : State → RunOutcome) → ((t : State) → Steps n t (rest t).state)
-    → (a : Stop) → Steps (suc n) s (on_answer st k rest (stepped s).0 a).state
-answer_steps st k n s rest more stop.Went = step_before n s _ (more (stepped s).0)
-answer_steps st k n s rest more stop.Waiting = one_step n s _ refl
-answer_steps st k n s rest more stop.Ended = one_step n s _ refl
-answer_steps st k n s rest more (stop.Halted e) = one_step n s _ refl
-
-test_steps : (n : ℕ) (s : State) (b : Bool) (stopped other : RunOutcome) → stopped.state ≡ s → Steps n s other.state
-    → Steps n s (if b then stopped else other).state
-test_steps n s true stopped other e h = no_step n s _ e
-test_steps n s false stopped other e h = h
-
-run_steps : (test : ℕ → State → Bool) (k n : ℕ) (s : State) → Steps n s (run_from test k n s).state
-unfolding run_from
-run_steps test k zero s = no_step zero s _ refl
-run_steps test k (suc n) s =
-    test_steps (suc n) s (test k s) _ _ refl
-    (answer_steps s.status k n s (run_from test (k + 1) n) (λ t. run_steps test (k + 1) n t) (stepped s).1)
-
-gone_steps : (breaks : List Breakpoint) (n : ℕ) (s : State) → Steps n s (gone breaks n s).machine
-unfolding gone
-gone_steps breaks n s = ended_steps (has_ended s.status)
+-- so many steps are so many events
+all_steps : (n : ℕ) (s : State) → after_steps n s ≡ after_all s (replicate n Step)
+unfolding after_steps
+all_steps zero s = refl
+all_steps (suc n) s = sym (after_first n s) ∙ all_steps n (stepped s).0
   where
-    ended_steps : (b : Bool) → Steps n s (if b then (record { steps = 0; reason = reasons.Ended; machine = s })
+    after_first : (n : ℕ) (s : State) → after_steps n (stepped s).0 ≡ (stepped (after_steps n s)).0
+    after_first zero s = refl
+    after_first (suc n) s = ap (λ t. (stepped t).0) (after_first n s)
+
+-- the steps that `go` makes, and the state that they lead to
+abbrev Makes : List Breakpoint → ℕ → State → State → Type 0
+Makes breaks limit s t = (steps : ℕ) × StopsAfter breaks limit s steps × (t ≡ after_steps steps s)
+
+-- a test that breakpoints make does not hold before a step, which is not the first
+free_there : (breaks : List Breakpoint) (k : ℕ) (s : State) → 1 ≤ k → breaks_after breaks k s ≡ false → is_at_break breaks s ≡ false
+free_there breaks k s some h = behind (k == 0) (is_at_break breaks s) (grind (arith, nat_tests, some)) h
+  where
+    behind : (first at : Bool) → first ≡ false → (not first && at) ≡ false → at ≡ false
+    behind true at e h = absurd (cc)
+    behind false at e h = h
+
+some_steps : (breaks : List Breakpoint) (k : ℕ) (s : State) → breaks_after breaks k s ≡ true → (1 ≤ k) × (is_at_break breaks s ≡ true)
+some_steps breaks k s h =
+    let at = both (k == 0) (is_at_break breaks s) h in
+    let some = at.0 in
+    (grind (arith, nat_tests, some), at.1)
+  where
+    both : (first at : Bool) → (not first && at) ≡ true → (first ≡ false) × (at ≡ true)
+    both true at h = absurd (cc)
+    both false at h = (refl, h)
+
+goes_on : (breaks : List Breakpoint) (n : ℕ) (s : State) → Passes (breaks_after breaks) n s → GoesOn breaks n s
+goes_on breaks n s p = record { went = p.went; free = λ k some below. free_there breaks k (after_steps k s) some (p.free k below) }
+
+made_by : (breaks : List Breakpoint) (limit n : ℕ) (s : State) (end : RunEnd) (count : ℕ) (t : State) → Passes (breaks_after breaks) n s
+    → EndsSo (breaks_after breaks) limit n s end count t → Makes breaks limit s t
+made_by breaks limit n s ends.Limit count t p h =
+    (limit, all (subst (λ k. GoesOn breaks k s) h.0 (goes_on breaks n s p)), h.2 ∙ ap (λ k. after_steps k s) h.0)
+made_by breaks limit n s ends.Stopped count t p h =
+    let at = some_steps breaks n t h.1 in
+    (n, breaks_there n at.0 h.0 (goes_on breaks n s p) (ap (is_at_break breaks) (sym h.3) ∙ at.1), h.3)
+made_by breaks limit n s (ends.Answered answer) count t p h =
+    let last = h.2 in
+    let other : (stepped (after_steps n s)).1 ≢ stop.Went = λ e. h.0 (sym (ap (λ (q : State × Stop). q.1) last.last) ∙ e) in
+    (n + 1, stops n last.within (goes_on breaks n s p) (λ some. free_there breaks n (after_steps n s) some h.1) other,
+     after_more n s (after_steps n s) t answer refl last.last)
+
+gone_steps : (breaks : List Breakpoint) (n : ℕ) (s : State) → Makes breaks n s (gone breaks n s).machine
+unfolding gone
+gone_steps breaks n s = ended_steps (has_ended s.status) refl
+  where
+    ended_steps : (b : Bool) → has_ended s.status ≡ b → Makes breaks n s (if b then (record { steps = 0; reason = reasons.Ended; machine = s })
         else gone_by (run_until (breaks_after breaks) n s)).machine
-    ended_steps true = no_step n s _ refl
-    ended_steps false = run_steps (breaks_after breaks) 0 n s
+    ended_steps true e = (0, rests e, after_none s)
+    ended_steps false e = let h = runs_end_so (breaks_after breaks) n s in
+        made_by breaks n h.0 s (run_until (breaks_after breaks) n s).end (run_until (breaks_after breaks) n s).count
+        (run_until (breaks_after breaks) n s).state h.1 h.2
 
 -- ---- commands
 
 abbrev Made : Option Command → Session → Type 0
-Made command d = (events : List Event) × AreEventsOf command events × ((session_after command d).machine ≡ after_all d.machine events)
+Made command d = (events : List Event) × AreEventsOf command d events × ((session_after command d).machine ≡ after_all d.machine events)
 
 kept : (d : Session) (r : Result (List Breakpoint) DebugRefusal) → (with_breaks d r).machine ≡ d.machine
 kept d (Ok breaks) = refl
@@ -83,7 +107,7 @@ command_made (Some (commands.Poke a w)) d = (Poke a w ∷ [], refl, refl)
 command_made (Some (commands.Key b)) d = (Key b ∷ [], refl, refl)
 command_made (Some (commands.Go n)) d =
     let made = gone_steps d.breaks n d.machine in
-    (replicate made.0 Step, (made.0, made.1, refl), made.2)
+    (replicate made.0 Step, (made.0, made.1, refl), made.2 ∙ all_steps made.0 d.machine)
 command_made (Some (commands.Stack n)) d = ([], refl, refl)
 command_made (Some (commands.Static n)) d = ([], refl, refl)
 command_made (Some (commands.Dynamic n)) d = ([], refl, refl)
@@ -98,7 +122,7 @@ command_made (Some commands.Quit) d = ([], refl, refl)
 -- what a session of a debugger, whatever its breakpoints, comes to after lines
 record Shows (lines : List (List ℕ)) (d : Session) : Type 0 where
   events : List Event
-  named : AreEventsOfLines lines events
+  named : AreEventsOfLines lines d events
   session : Session
   state : session.machine ≡ after_all d.machine events
   answered : (more : List (List ℕ)) → answers (lines ++ more) d ≡ answers lines d ++ answers more session

@@ -1,27 +1,55 @@
 -- Sessions of the debugger as lists of events.
-use Rattle.std.specs.Prelude.{◌≡◌, ◌≤◌, ℕ, false, List, [], ◌∷◌, ◌++◌, replicate, Option, Some, ⊤}
+use Rattle.std.specs.Prelude.{◌≡◌, ◌≢◌, ◌<◌, ◌≤◌, ◌+◌, ℕ, true, false, List, [], ◌∷◌, ◌++◌, replicate, Option, Some, ⊤}
 use Rattle.pm_machine.specs.State.{State}
 use Rattle.pm_machine.specs.Events.{Event, Step, Key, Poke, after_all}
+use Rattle.pm_machine.specs.Runs.{AllWent, after_steps}
+use Rattle.pm_machine.specs.Steps.{stepped}
+use Rattle.pm_machine.specs.declared.state.Stop.TheVariants as stop
+use Rattle.pm_debug.specs.declared.breaks.Breakpoint.{Breakpoint}
+use Rattle.pm_debug.specs.Breaks.{is_at_break}
+use Rattle.pm_debug.specs.Runs.{has_ended}
 use Rattle.pm_debug.specs.Session.{Session}
 use Rattle.pm_session.specs.declared.commands.Command.{Command}
 use Rattle.pm_session.specs.declared.commands.Command.TheVariants as commands
+use Rattle.pm_session.specs.Answers.{session_after}
 use Rattle.pm_session.specs.Commands.{command_of}
 use Rattle.pm_session.specs.Sessions.{answers, is_quit, opened}
 
--- The events of a command, of a line that is none no events: a poke and a key are one, `go` is steps, at most so many
--- as it says, and all others only show, or set and clear breakpoints.
-abbrev pub AreEventsOf : Option Command → List Event → Type 0
-AreEventsOf (Some (commands.Poke a w)) events = events ≡ Poke a w ∷ []
-AreEventsOf (Some (commands.Key b)) events = events ≡ Key b ∷ []
-AreEventsOf (Some (commands.Go n)) events = (steps : ℕ) × (steps ≤ n) × (events ≡ replicate steps Step)
-AreEventsOf other events = events ≡ []
+-- ---- the steps of `go`
 
--- the events of lines, one line after the other
-abbrev pub AreEventsOfLines : List (List ℕ) → List Event → Type 0
-AreEventsOfLines [] events = events ≡ []
-AreEventsOfLines (line ∷ lines) events =
-    (first more : List Event) × AreEventsOf (command_of line) first × AreEventsOfLines lines more
-    × (events ≡ first ++ more)
+-- the machine goes on after each of so many steps, and none of them but the first is made at a breakpoint
+pub record GoesOn (breaks : List Breakpoint) (n : ℕ) (s : State) : Type 0 where
+  pub went : AllWent n s
+  pub free : (k : ℕ) → 1 ≤ k → k < n → is_at_break breaks (after_steps k s) ≡ false
+
+-- why `go` makes no more steps than these: the machine has ended before; they are as many as it may make; the machine
+-- stands at a breakpoint behind the last of them; or it does not go on after the last of them, which ends it, halts it
+-- or waits
+pub data StopsAfter (breaks : List Breakpoint) (limit : ℕ) (s : State) : ℕ → Type 0 where
+  rests : has_ended s.status ≡ true → StopsAfter breaks limit s 0
+  all : GoesOn breaks limit s → StopsAfter breaks limit s limit
+  breaks_there : (n : ℕ) → 1 ≤ n → n < limit → GoesOn breaks n s → is_at_break breaks (after_steps n s) ≡ true
+      → StopsAfter breaks limit s n
+  stops : (n : ℕ) → n < limit → GoesOn breaks n s → (1 ≤ n → is_at_break breaks (after_steps n s) ≡ false)
+      → (stepped (after_steps n s)).1 ≢ stop.Went → StopsAfter breaks limit s (n + 1)
+
+-- ---- sessions
+
+-- The events of a command in a session, of a line that is none no events: a poke and a key are one, `go` is as many
+-- steps as it makes, and all others only show, or set and clear breakpoints.
+abbrev pub AreEventsOf : Option Command → Session → List Event → Type 0
+AreEventsOf (Some (commands.Poke a w)) d events = events ≡ Poke a w ∷ []
+AreEventsOf (Some (commands.Key b)) d events = events ≡ Key b ∷ []
+AreEventsOf (Some (commands.Go n)) d events =
+    (steps : ℕ) × StopsAfter d.breaks n d.machine steps × (events ≡ replicate steps Step)
+AreEventsOf other d events = events ≡ []
+
+-- the events of lines in a session, one line after the other
+abbrev pub AreEventsOfLines : List (List ℕ) → Session → List Event → Type 0
+AreEventsOfLines [] d events = events ≡ []
+AreEventsOfLines (line ∷ lines) d events =
+    (first more : List Event) × AreEventsOf (command_of line) d first
+    × AreEventsOfLines lines (session_after (command_of line) d) more × (events ≡ first ++ more)
 
 -- none of the lines is `quit`
 abbrev pub GoesOnAfter : List (List ℕ) → Type 0
@@ -32,7 +60,7 @@ GoesOnAfter (line ∷ lines) = (is_quit (command_of line) ≡ false) × GoesOnAf
 -- follow as a session of that state does.
 pub record ShowsTheTable (lines : List (List ℕ)) (s : State) : Type 0 where
   pub events : List Event
-  pub named : AreEventsOfLines lines events
+  pub named : AreEventsOfLines lines (opened s) events
   pub session : Session
   pub state : session.machine ≡ after_all s events
   pub answered : (more : List (List ℕ)) →

@@ -1,5 +1,5 @@
 -- What a machine loads of an assembled file is what is listed.
-use Rattle.std.proofs.Common.{◌≡◌, ℕ, ◌-◌, true, nat_lt, List, length, inl, inr, Option, Some, None, refl, sym, ◌∙◌, subst}
+use Rattle.std.proofs.Common.{◌≡◌, ℕ, ◌+◌, ◌-◌, true, nat_lt, List, length, inl, inr, Option, Some, None, refl, sym, ◌∙◌, subst}
 use Rattle.std.specs.Prelude.{option_map}
 use Rattle.std.proofs.lemmas.Bool.{cases_Bool}
 use Rattle.pm_words.specs.Words.{IsMemory, bytes_at}
@@ -10,7 +10,8 @@ use Rattle.pm_code.proofs.Listed.{listing_is_segment}
 use Rattle.pm_machine.specs.State.{State}
 use Rattle.pm_machine_laws.specs.Loads.{StandsBelow}
 use Rattle.pm_machine_laws.proofs.LoadLaws.{boots_load_segment, steps_load}
-use Rattle.pm_loaded.specs.Laws.{AssembledBootsListed, AssembledLoadsListed, StandsAsListed, listed}
+use Rattle.pm_machine_laws.proofs.KeptLoads.{steps_keep}
+use Rattle.pm_loaded.specs.Laws.{AssembledBootsListed, AssembledKeepsListed, AssembledLoadsListed, StandsAsListed, listed}
 use Rattle.pm_loaded.proofs.Files.{IsAssembled, is_assembled}
 
 segment_there : (o : Option Segment) (code : List ℕ) → option_map segment_bytes o ≡ Some code → (s : Segment) × (o ≡ Some s) × (segment_bytes s ≡ code)
@@ -41,6 +42,10 @@ listed_as text file shown n below m is at = elim (cases_Bool (nat_lt 15 n)) [
 pub assembled_loads_listed : (s : State) → IsMemory s.memory → AssembledLoadsListed s
 assembled_loads_listed s memory text shown file image unit n p is volume from there none at goes =
     listed_as text file shown n s.registers.sp _ (is_assembled text file shown is) (steps_load s memory image file unit n p volume from there none at goes)
+
+pub assembled_keeps_listed : (s : State) → IsMemory s.memory → AssembledKeepsListed s
+assembled_keeps_listed s memory text shown file image unit n is volume from there none at goes =
+    listed_as text file shown n (s.registers.sp + 2) _ (is_assembled text file shown is) (steps_keep s memory image file unit n volume from there none at goes)
 
 pub assembled_boots_listed : AssembledBootsListed
 assembled_boots_listed text shown file images image name entry unit clock s is volume on found start =

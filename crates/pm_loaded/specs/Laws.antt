@@ -1,5 +1,5 @@
 -- From a text to the memory of a machine.
-use Rattle.std.specs.Prelude.{◌≡◌, ℕ, ◌-◌, List, Option, Some, None, Ok, length}
+use Rattle.std.specs.Prelude.{◌≡◌, ℕ, ◌+◌, ◌-◌, List, Option, Some, None, Ok, length}
 use Rattle.pm_words.specs.Words.{bytes_at}
 use Rattle.pm_calls.specs.Places.{placed}
 use Rattle.pm_volume.specs.declared.entry.Entry.{Entry}
@@ -15,7 +15,7 @@ use Rattle.pm_machine.specs.declared.state.Stop.TheVariants.{Went}
 use Rattle.pm_machine.specs.Boot.{boot_start, code_file, image_of}
 use Rattle.pm_machine.specs.State.{State}
 use Rattle.pm_machine.specs.Steps.{stepped}
-use Rattle.pm_machine_laws.specs.Loads.{IsAtCall, IsBootedFrom, IsImage}
+use Rattle.pm_machine_laws.specs.Loads.{IsAtCall, IsAtKeep, IsBootedFrom, IsImage}
 use Rattle.pm_words.specs.declared.layout.TheConstants.{SYSTEM_FRAME}
 
 -- the bytes that the listing's lines of a segment give, joined
@@ -42,6 +42,16 @@ AssembledLoadsListed s =
     IsImage image → IsBootedFrom image file unit s → image_on (unit_of unit) s.devices ≡ Some image →
     placed s.places n ≡ None → IsAtCall n p s → (stepped s).1 ≡ Went →
     StandsAsListed text shown n s.registers.sp (stepped s).0.memory
+
+-- And a step that goes and keeps the segment of slot n, which has no place, by standard procedure 21, leaves it as it is
+-- listed, below the SP behind the slot's number.
+abbrev pub AssembledKeepsListed : State → Type 0
+AssembledKeepsListed s =
+    (text shown file image : List ℕ) (unit n : ℕ) →
+    assembled text ≡ Ok (file, shown) →
+    IsImage image → IsBootedFrom image file unit s → image_on (unit_of unit) s.devices ≡ Some image →
+    placed s.places n ≡ None → IsAtKeep n s → (stepped s).1 ≡ Went →
+    StandsAsListed text shown n (s.registers.sp + 2) (stepped s).0.memory
 
 -- A machine that is booted from the file of a text begins with segment 1 as it is listed, below 65,492.
 abbrev pub AssembledBootsListed : Type 0

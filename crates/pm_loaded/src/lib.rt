@@ -3,7 +3,7 @@
 #![tactic(auto)]
 
 ghost use Rattle.pm_loaded.specs.Laws.{AssembledBootsListed, AssembledIsAccepted};
-ghost use Rattle.pm_loaded.specs.Laws.{AssembledIsFound, AssembledLoadsListed};
+ghost use Rattle.pm_loaded.specs.Laws.{AssembledIsFound, AssembledKeepsListed, AssembledLoadsListed};
 
 use pm_machine::Machine;
 use pm_machine_laws::shapes::machines_hold_words;
@@ -11,9 +11,11 @@ use pm_machine_laws::shapes::machines_hold_words;
 /// What a text is assembled to, booted from a volume, stands in memory as its listing says: below
 /// the SP before it, a call of a slot without a place leaves the joined bytes of the listing's
 /// lines of that segment, whatever happened to the machine since its start, while the disk of its
-/// unit is the volume; and the boot itself those of segment 1, below 65,492.
+/// unit is the volume; so does standard procedure 21, below the SP behind the slot's number; and
+/// the boot itself those of segment 1, below 65,492.
 pub fn assembled_loads_listed(machine: &Machine)
     ensures law { AssembledLoadsListed machine.now.state }
+    ensures keeps { AssembledKeepsListed machine.now.state }
     ensures boot { AssembledBootsListed }
 {
     machines_hold_words(machine);

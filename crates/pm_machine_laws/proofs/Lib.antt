@@ -7,3 +7,4 @@ pub mod LoadLaws
 pub mod NumberLaws
 pub mod KeepLaws
 pub mod RowLaws
+pub mod KeptLoads

@@ -48,7 +48,7 @@ same_entry : (r : Result (Entry × List ℕ) BootFault) (x y : Entry × List ℕ
 same_entry r x y h k = ok_same x y (sym h ∙ k)
 
 -- the rows of a machine that was booted from a file, whatever happened since
-booted_rows : (images : List (Option (List ℕ))) (unit : ℕ) (name : List ℕ) (clock : ℕ) (s t : State) (es : List Event) (entry : Entry) (file : List ℕ) →
+pub booted_rows : (images : List (Option (List ℕ))) (unit : ℕ) (name : List ℕ) (clock : ℕ) (s t : State) (es : List Event) (entry : Entry) (file : List ℕ) →
     boot_start images unit name clock ≡ Ok s → code_file images unit name ≡ Ok (entry, file) → t ≡ after_all s es → t.rows ≡ rows_below unit entry.first file 16
 booted_rows images unit name clock s t es entry file h found now =
     let is = booted images unit name clock s h in
@@ -74,10 +74,10 @@ stands_below c d n p file (Some code) is memory bytes none h = record {
 
 -- ---- a step
 
-needed_same : (r : Result (Option (List ℕ)) ExecError) (a b : Option (List ℕ)) → r ≡ Ok a → r ≡ Ok b → a ≡ b
+pub needed_same : (r : Result (Option (List ℕ)) ExecError) (a b : Option (List ℕ)) → r ≡ Ok a → r ≡ Ok b → a ≡ b
 needed_same r a b h k = let e : okay a ≡ okay b = sym h ∙ k in cc
 
-after_same : (d : Parts) (t u : State) → done (with_parts d t) ≡ Ok u → d.memory ≡ u.memory
+pub after_same : (d : Parts) (t u : State) → done (with_parts d t) ≡ Ok u → d.memory ≡ u.memory
 after_same d t u h = let same : with_parts d t ≡ u = cc h in ap (λ (k : State). k.memory) same
 
 -- the row of a CXP, where the code that it needs is the segment
@@ -92,16 +92,16 @@ row_loads file n p t u memory code none needed made =
     subst (StandsBelow file n t.registers.sp) (after_same y.0 t u y.2) (stands_below (parts t) y.0 n p file (segment_in file n) refl memory code none call)
 
 -- a step that went has the memory that its row gave
-went : (s : State) (r : Result State ExecError) (P : List ℕ → Type 0) → (settled s (or_fails r)).1 ≡ Went → ((u : State) → r ≡ Ok u → P u.memory)
+pub went : (s : State) (r : Result State ExecError) (P : List ℕ → Type 0) → (settled s (or_fails r)).1 ≡ Went → ((u : State) → r ≡ Ok u → P u.memory)
     → P (settled s (or_fails r)).0.memory
 went s (Ok u) P h k = k u refl
 went s (Err e) P h k = cc
 
-stepped_runs : (s : State) → s.status ≡ Running → stepped s ≡ settled s (executed s)
+pub stepped_runs : (s : State) → s.status ≡ Running → stepped s ≡ settled s (executed s)
 unfolding stepped
 stepped_runs s h = ap (λ a. at_status a s) h
 
-executes : (s : State) (i : Instr) (o : Operation) → fetched s.memory s.registers.ipc ≡ Ok i → operation_of i ≡ o
+pub executes : (s : State) (i : Instr) (o : Operation) → fetched s.memory s.registers.ipc ≡ Ok i → operation_of i ≡ o
     → executed s ≡ performed o (past_instruction i s)
 unfolding executed row
 executes s i o h k = ap (λ r. or_fails r >>= λ j. row j s) h ∙ ap (λ o. performed o (past_instruction i s)) k

@@ -1,6 +1,6 @@
 -- Laws of where loaded code stands.
-use Rattle.std.specs.Prelude.{◌≡◌, ◌<◌, ℕ, ◌-◌, List, All, Option, Some, None, Ok, length}
-use Rattle.pm_words.specs.Words.{bytes_at}
+use Rattle.std.specs.Prelude.{◌≡◌, ◌<◌, ℕ, ◌+◌, ◌-◌, List, All, Option, Some, None, Ok, length, slice_get}
+use Rattle.pm_words.specs.Words.{bytes_at, word_at}
 use Rattle.pm_opcode.specs.declared.instr.Instr.{Instr}
 use Rattle.pm_opcode.specs.declared.operation.Call.TheVariants.{Cxp}
 use Rattle.pm_opcode.specs.declared.operation.Operation.TheVariants.{Call}
@@ -9,7 +9,8 @@ use Rattle.pm_calls.specs.Places.{placed}
 use Rattle.pm_volume.specs.declared.entry.Entry.{Entry}
 use Rattle.pm_volume.specs.Directory.{IsVolume}
 use Rattle.pm_codefile.specs.Dictionary.{segment_in}
-use Rattle.pm_stdproc.specs.Devices.{image_on, unit_of}
+use Rattle.pm_stdproc.specs.Devices.{code_on, image_on, unit_of}
+use Rattle.pm_stdproc.specs.declared.loads.SlotRow.{SlotRow}
 use Rattle.pm_machine.specs.declared.state.Status.TheVariants.{Running}
 use Rattle.pm_machine.specs.declared.state.Stop.TheVariants.{Went}
 use Rattle.pm_machine.specs.Boot.{boot_start, code_file, image_of}
@@ -17,6 +18,7 @@ use Rattle.pm_machine.specs.Events.{Event, after_all}
 use Rattle.pm_machine.specs.Rows.{fetched}
 use Rattle.pm_machine.specs.State.{State}
 use Rattle.pm_machine.specs.Steps.{stepped}
+use Rattle.pm_machine_laws.specs.Keeping.{IsAtProcedure}
 use Rattle.pm_words.specs.declared.layout.TheConstants.{SYSTEM_FRAME}
 
 -- an image of bytes, on which a volume is
@@ -59,6 +61,33 @@ StepsLoadSegments s =
     IsImage image → IsBootedFrom image file unit s → image_on (unit_of unit) s.devices ≡ Some image →
     placed s.places n ≡ None → IsAtCall n p s → (stepped s).1 ≡ Went →
     StandsBelow file n s.registers.sp (stepped s).0.memory
+
+-- the machine runs, the instruction at IPC is standard procedure 21, and the slot that it is to keep, n, is on the stack
+pub record IsAtKeep (n : ℕ) (s : State) : Type 0 where
+  pub at : IsAtProcedure 21 s
+  pub slot : word_at s.memory s.registers.sp ≡ n
+
+-- And one that keeps the segment of a slot without a place leaves it below the SP behind the slot's number.
+abbrev pub StepsKeepSegments : State → Type 0
+StepsKeepSegments s =
+    (image file : List ℕ) (unit n : ℕ) →
+    IsImage image → IsBootedFrom image file unit s → image_on (unit_of unit) s.devices ≡ Some image →
+    placed s.places n ≡ None → IsAtKeep n s → (stepped s).1 ≡ Went →
+    StandsBelow file n (s.registers.sp + 2) (stepped s).0.memory
+
+-- Whatever stands on the disks now, and whatever machine it is: such a step leaves the bytes that the slot's row names
+-- on the disk of its unit, as they are now.
+pub record LoadsWhatIsThere (s : State) (n : ℕ) (code : List ℕ) : Type 0 where
+  pub called : (p : ℕ) → IsAtCall n p s → (stepped s).1 ≡ Went
+      → bytes_at (stepped s).0.memory (s.registers.sp - length code) (length code) ≡ code
+  pub kept : IsAtKeep n s → (stepped s).1 ≡ Went
+      → bytes_at (stepped s).0.memory (s.registers.sp + 2 - length code) (length code) ≡ code
+
+abbrev pub StepsLoadWhatIsThere : State → Type 0
+StepsLoadWhatIsThere s =
+    (n : ℕ) (row : SlotRow) (code : List ℕ) →
+    slice_get s.rows n ≡ Some row → 0 < row.length → placed s.places n ≡ None →
+    code_on s.devices row.unit row.block row.length ≡ Some code → All (λ b. b < 256) code → LoadsWhatIsThere s n code
 
 -- A machine begins with the segment of slot 1 of the code file below 65,492.
 abbrev pub BootsLoadSegment : Type 0

@@ -1,5 +1,6 @@
 -- The first refusal is told.
-use Rattle.std.proofs.Common.{◌≡◌, ◌==◌, ◌<◌, ◌≤◌, ◌⊎◌, inl, inr, ℕ, ◌+◌, ◌/◌, ◌%◌, Bool, true, false, cond, leb, ltb, not, ◌||◌, List, [], ◌∷◌, ◌++◌, length}
+use Rattle.std.proofs.Common.{◌≡◌, ◌==◌, ◌<◌, ◌≤◌, ◌⊎◌, inl, inr, ℕ, ◌+◌, ◌/◌, ◌%◌, Bool, true, false, cond, leb, ltb, not, ◌||◌, List, []}
+use Rattle.std.proofs.Common.{◌∷◌, ◌++◌, length}
 use Rattle.std.proofs.Common.{Option, Some, None, Result, Ok, Err, is_some, refl, sym, ap, subst, ◌∙◌, arith}
 use Rattle.std.specs.Prelude.{◌≢◌, IsOk}
 use Rattle.std.specs.Option.{ok_or}
@@ -9,7 +10,8 @@ use Rattle.std.proofs.lemmas.List.Folds.{list_any-append}
 use Rattle.std.proofs.lemmas.Bool.Decides.{nat_tests}
 use Rattle.pm_volume.specs.Changes.{blocks_for, gap_for, is_named_beside, new_entry, place_for, slot_named, slot_to_rename, with_file}
 use Rattle.pm_volume.specs.Copies.{mirrored}
-use Rattle.pm_volume.specs.Directory.{block_count, directory_fault, directory_of, fault_beside, file_count, files_begin, files_in, image_fault, is_header}
+use Rattle.pm_volume.specs.Directory.{block_count, directory_fault, directory_of, fault_beside, file_count, files_begin, files_in}
+use Rattle.pm_volume.specs.Directory.{image_fault, is_header}
 use Rattle.pm_volume.specs.Directory.{is_second_good}
 use Rattle.pm_volume.specs.Entries.{AreInOrder, IsSoundEntry, entries_fault, is_sound_entry}
 use Rattle.pm_volume.specs.Faults.{number_of}
@@ -23,7 +25,8 @@ use Rattle.pm_volume.specs.declared.fault.VolumeFault.TheVariants.{NoRoom, Direc
 use Rattle.pm_filer.specs.Filed.{Filed, Put, Change, changed, filed}
 use Rattle.pm_filer.specs.declared.fault.FilerFault.{FilerFault}
 use Rattle.pm_filer.specs.declared.fault.FilerFault.TheVariants.{Volume}
-use Rattle.pm_file_laws.specs.Refusals.{ChangeTellsFirst, ChangesTellFirst, DirectoriesTellFirst, DirectoryTellsFirst, DoublingTells, DoublingTellsFirst, EntriesTellFirst}
+use Rattle.pm_file_laws.specs.Refusals.{ChangeTellsFirst, ChangesTellFirst, DirectoriesTellFirst, DirectoryTellsFirst, DoublingTells}
+use Rattle.pm_file_laws.specs.Refusals.{DoublingTellsFirst, EntriesTellFirst}
 use Rattle.pm_file_laws.specs.Refusals.{EntryTellsFirst, ImageTellsFirst, ImagesTellFirst, IsRefused, PutTellsFirst, PutsTellFirst, end_of}
 
 -- ---- changes

@@ -43,8 +43,8 @@ AssembledLoadsListed s =
     placed s.places n ≡ None → IsAtCall n p s → (stepped s).1 ≡ Went →
     StandsAsListed text shown n s.registers.sp (stepped s).0.memory
 
--- And a step that goes and keeps the segment of slot n, which has no place, by standard procedure 21, leaves it as it is
--- listed, below the SP behind the slot's number.
+-- And a step that goes and keeps the segment of slot n, which has no place, by standard procedure 21, leaves it as it
+-- is listed, below the SP behind the slot's number.
 abbrev pub AssembledKeepsListed : State → Type 0
 AssembledKeepsListed s =
     (text shown file image : List ℕ) (unit n : ℕ) →

@@ -62,7 +62,7 @@ StepsLoadSegments s =
     placed s.places n ≡ None → IsAtCall n p s → (stepped s).1 ≡ Went →
     StandsBelow file n s.registers.sp (stepped s).0.memory
 
--- the machine runs, the instruction at IPC is standard procedure 21, and the slot that it is to keep, n, is on the stack
+-- the machine runs, the instruction at IPC is standard procedure 21, and slot n, which it is to keep, is on the stack
 pub record IsAtKeep (n : ℕ) (s : State) : Type 0 where
   pub at : IsAtProcedure 21 s
   pub slot : word_at s.memory s.registers.sp ≡ n

@@ -1,7 +1,9 @@
 -- The first fault of a text is told.
-use Rattle.std.proofs.Common.{◌≡◌, ◌⊎◌, inl, inr, ℕ, ◌+◌, if◌then◌else◌, Bool, true, false, cond, not, ◌&&◌, ◌||◌, List, [], ◌∷◌, ◌++◌, refl, sym, ap, subst, ◌∙◌}
+use Rattle.std.proofs.Common.{◌≡◌, ◌⊎◌, inl, inr, ℕ, ◌+◌, if◌then◌else◌, Bool, true, false, cond, not, ◌&&◌, ◌||◌, List, [], ◌∷◌, ◌++◌}
+use Rattle.std.proofs.Common.{refl, sym, ap, subst, ◌∙◌}
 use Rattle.std.specs.List.{list_any}
-use Rattle.pm_source.specs.Faults.{Places, Reading, all_label_faults, ends, faults, faults_of_lines, is_again, is_begin, is_far, is_in_place, is_miscounted}
+use Rattle.pm_source.specs.Faults.{Places, Reading, all_label_faults, ends, faults, faults_of_lines, is_again, is_begin, is_far}
+use Rattle.pm_source.specs.Faults.{is_in_place, is_miscounted}
 use Rattle.pm_source.specs.Faults.{is_out_of_range, is_unknown, is_unknown_target, item_faults, line_faults, only_if, source_of}
 use Rattle.pm_source.specs.Line.{Flaw, Line}
 use Rattle.pm_source.specs.Line.Line.{Says}
@@ -11,7 +13,8 @@ use Rattle.pm_code.specs.Item.{Target}
 use Rattle.pm_code.specs.Item.Item.{Jump}
 use Rattle.pm_source.specs.declared.fault.AsmFault.{AsmFault}
 use Rattle.pm_source.specs.declared.fault.AsmFault.TheVariants.{Syntax, Unknown, Range, NoLabel, Twice, Far}
-use Rattle.pm_round_trip.specs.Refusals.{BeginsWith, IsPlaced, JumpTellsFirst, JumpsTellFirst, LineTellsFirst, LinesTellFirst, TextTellsFirst, TextsTellFirst}
+use Rattle.pm_round_trip.specs.Refusals.{BeginsWith, IsPlaced, JumpTellsFirst, JumpsTellFirst, LineTellsFirst, LinesTellFirst}
+use Rattle.pm_round_trip.specs.Refusals.{TextTellsFirst, TextsTellFirst}
 
 
 first : (a : Bool) (w : AsmFault) (rest : List AsmFault) → a ≡ true → BeginsWith w (only_if a w ++ rest)

@@ -1,5 +1,5 @@
-//! Programs against themselves: each goes step by step in two machines, and in one of them words are written with their
-//! own values before each step. That drops what is kept of links and tables, and nothing that is seen may differ.
+//! Programs against themselves: each goes step by step in two machines, and in one of them each word of memory is written
+//! with its own value before each step. That drops what is kept of links and tables, and nothing that is seen may differ.
 ghost use Rattle.std.specs.Prelude.{◌≡◌, length, sum};
 
 use crate::any_bytes::generated;
@@ -13,10 +13,6 @@ use pm_words::ExecError;
 use std::alloc::Global;
 use std::process::Abort;
 use std::test::Fail;
-
-/// In so many steps each word is written: every 64th before a step, and the next ones before the next step.
-/// `bench/twice.sh` writes each word before each step.
-const TURN: u16 = 64;
 
 /// A program in two machines.
 #[derive(Drop)]
@@ -96,12 +92,11 @@ impl Twice {
         Ok(Twice::new(plain, written))
     }
 
-    /// Writes words of the one machine with their own values.
+    /// Writes each word of the one machine with its own value.
     fn write(&mut self, rt: &impl Abort) {
-        let first = self.made % TURN;
         let machine = self.written.machine();
-        for n in 0..32768 / TURN {
-            let address = n.wrapping_mul(TURN).wrapping_add(first).wrapping_mul(2);
+        for n in 0..32768_u16 {
+            let address = n.wrapping_mul(2);
             let word = machine.memory().word(address).unwrap_or(0);
             assert!(rt; machine.poke(address, word));
         }

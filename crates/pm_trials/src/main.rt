@@ -4,6 +4,7 @@
 
 mod command;
 mod meanwhile;
+mod pieces;
 mod script;
 mod sweep;
 

@@ -1,6 +1,7 @@
 //! The lines of a script.
 use crate::command::{Came, CommandLine, come};
 use crate::meanwhile::{Deed, deed_of, meanwhile};
+use crate::pieces::add_pieces;
 use crate::sweep::sweep;
 use pm_fake::{Disk, Inode};
 use std::alloc::Global;
@@ -22,6 +23,9 @@ pub struct Trials {
     on_terminal: bool,
     /// What another program does during the next command line of `$~`.
     deed: Option<Deed>,
+    /// What stands before each text of `takes` and `refuses`, and behind it.
+    before: Vec<u8>,
+    behind: Vec<u8>,
     /// What is to be printed.
     told: String,
     count: u32,
@@ -91,6 +95,8 @@ impl Trials {
             err: Vec::new(alloc),
             on_terminal: false,
             deed: None,
+            before: Vec::new(alloc),
+            behind: Vec::new(alloc),
             told: String::new(alloc),
             count: 0,
         }
@@ -368,6 +374,17 @@ impl Trials {
     /// program made; `has-mode FILE MODE`, `has-owner FILE OWNER GROUP`, `leads FILE TO`, of a symbolic link;
     /// `widest MODE`, all that anybody could do at any moment with a file that the program made; `took BYTES`, standard
     /// output; `field LINE PLACE WORD` of it, counted from 0, or `field LINE PLACE` where there is none.
+    ///
+    /// Bytes are spelled in pieces with blanks between: two hexadecimal digits for each byte, and with `N*` before them
+    /// N times.
+    ///
+    /// - `[ TEXT`: standard input without a line feed. `hex PIECES`: bytes of it. `times N TEXT`: N lines of it.
+    /// - `file FILE`: what was to be standard input is a file. `set FILE PLACE PIECES` writes bytes over those of one,
+    ///   and `cut FILE PLACE COUNT TO` makes one of a part. True or not: `bytes FILE PIECES`.
+    /// - `ends STATUS`: as `=`, but standard output ends with what stands above.
+    /// - Texts of the assembler: `before` and `behind` make what was to be standard input the first and the last lines
+    ///   of each of them, and `takes LINE` and `refuses FAULT AT LINE` put between those what is to be standard input
+    ///   and then LINE. True where `pmach asm` takes the text, or refuses it by that fault in line AT.
     pub fn line(&mut self, line: &str) -> io::Result<bool> {
         let (word, rest) = line.split_once(' ').unwrap_or((line, ""));
         let (first, second) = rest.split_once(' ').unwrap_or((rest, ""));
@@ -398,8 +415,118 @@ impl Trials {
             | "user" => { self.set(word, rest) }
             "copy" | "poke" | "link" | "symlink" | "store" | "zeros" | "mode" | "owner" | "fail" =>
                 { self.change(word, first, second) }
+            _ => self.more(word, rest),
+        }
+    }
+
+    /// Does a line of bytes or of texts of the assembler, or tells whether one is true.
+    fn more(&mut self, word: &str, rest: &str) -> io::Result<bool> {
+        let (first, second) = rest.split_once(' ').unwrap_or((rest, ""));
+        match word {
+            "[" => add(&mut self.typed, rest, false).map(|_| true),
+            "hex" => add_pieces(&mut self.typed, rest),
+            "times" => self.repeat(first, second),
+            "file" => self.keep_typed(rest),
+            "set" => self.overwrite(first, second),
+            "cut" => self.cut(first, second),
+            "before" | "behind" => Ok(self.surround(word)),
+            "takes" => self.assembles(rest),
+            "refuses" => self.refuses(first, second),
+            "bytes" => self.has_bytes(first, second),
+            "ends" => Ok(self.ends(first)),
             _ => Ok(self.holds(word, first, second)),
         }
+    }
+
+    /// Adds a line of standard input so many times.
+    fn repeat(&mut self, count: &str, line: &str) -> io::Result<bool> {
+        for _ in 0..count.parse().unwrap_or(0_usize) {
+            add(&mut self.typed, line, true)?;
+        }
+        Ok(true)
+    }
+
+    /// Puts what is typed into a file.
+    fn keep_typed(&mut self, path: &str) -> io::Result<bool> {
+        self.came.disk.put(self.alloc, path, self.typed.as_slice())?;
+        self.typed.clear();
+        Ok(true)
+    }
+
+    /// Writes bytes over those of a file from a place on.
+    fn overwrite(&mut self, path: &str, rest: &str) -> io::Result<bool> {
+        let (place, pieces) = rest.split_once(' ').unwrap_or((rest, ""));
+        let mut bytes = Vec::new(self.alloc);
+        let is_spelled = add_pieces(&mut bytes, pieces)?;
+        Ok(
+            is_spelled
+                && self
+                    .came
+                    .disk
+                    .write_at(path, number(place), bytes.as_slice()),
+        )
+    }
+
+    /// Puts a part of a file into another one.
+    fn cut(&mut self, path: &str, rest: &str) -> io::Result<bool> {
+        let (place, rest) = rest.split_once(' ').unwrap_or((rest, ""));
+        let (count, to) = rest.split_once(' ').unwrap_or((rest, ""));
+        let (from, count) = (number(place), number(count));
+        let bytes = self.came.disk.bytes(path);
+        let Some(part) = bytes.and_then(|bytes| bytes.get(from..from.saturating_add(count))) else {
+            return Ok(false);
+        };
+        let mut copy = Vec::new(self.alloc);
+        copy.extend_from_slice(part)?;
+        self.came.disk.put(self.alloc, to, copy.as_slice())?;
+        Ok(true)
+    }
+
+    /// Has what is typed stand before or behind each text.
+    fn surround(&mut self, word: &str) -> bool {
+        let typed = std::mem::replace(&mut self.typed, Vec::new(self.alloc));
+        if word == "before" {
+            self.before = typed;
+        } else {
+            self.behind = typed;
+        }
+        true
+    }
+
+    /// Assembles a text that ends with this line. Whether it has no fault.
+    fn assembles(&mut self, line: &str) -> io::Result<bool> {
+        let mut text = Vec::new(self.alloc);
+        text.extend_from_slice(self.before.as_slice())?;
+        text.extend_from_slice(self.typed.as_slice())?;
+        add(&mut text, line, true)?;
+        text.extend_from_slice(self.behind.as_slice())?;
+        self.typed = text;
+        self.run("pmach asm")?;
+        Ok(self.came.status == 0 && self.came.disk.err.is_empty())
+    }
+
+    /// Assembles a text. Whether its first fault has this number, in the line that is said first.
+    fn refuses(&mut self, fault: &str, rest: &str) -> io::Result<bool> {
+        let (at, line) = rest.split_once(' ').unwrap_or((rest, ""));
+        self.assembles(line)?;
+        let message = format!(in self.alloc; "refused asm {fault} {at}\n")?;
+        let disk = &self.came.disk;
+        Ok(self.came.status == 2 && disk.out.is_empty() && disk.err.as_str() == message.as_str())
+    }
+
+    /// Whether a file has these bytes.
+    fn has_bytes(&self, path: &str, pieces: &str) -> io::Result<bool> {
+        let mut bytes = Vec::new(self.alloc);
+        let is_spelled = add_pieces(&mut bytes, pieces)?;
+        Ok(is_spelled && self.came.disk.bytes(path) == Some(bytes.as_slice()))
+    }
+
+    /// Whether the last command line came to this status, and its streams ended with what the lines above say.
+    fn ends(&self, status: &str) -> bool {
+        let disk = &self.came.disk;
+        usize::from(self.came.status) == number(status)
+            && disk.out.as_slice().ends_with(self.out.as_slice())
+            && disk.err.as_bytes() == self.err.as_slice()
     }
 }
 

@@ -1,0 +1,33 @@
+//! Bytes as a script spells them.
+use std::io;
+
+/// Adds the bytes that hexadecimal digits spell, two for each, so many times. Whether they spell any.
+fn add_piece(bytes: &mut Vec<u8>, count: usize, digits: &str) -> io::Result<bool> {
+    let mut piece = [0_u8; 64];
+    let length = digits.len() / 2;
+    for place in 0..length {
+        let from = place.saturating_mul(2);
+        let pair = digits.get(from..from.saturating_add(2)).unwrap_or("");
+        let (Ok(byte), Some(there)) = (u8::from_str_radix(pair, 16), piece.get_mut(place)) else {
+            return Ok(false);
+        };
+        *there = byte;
+    }
+    for _ in 0..count {
+        bytes.extend_from_slice(piece.get(..length).unwrap_or(b""))?;
+    }
+    Ok(length > 0 && digits.len() % 2 == 0)
+}
+
+/// Adds the bytes that pieces spell, with a blank between each two: two hexadecimal digits for each byte, at most 64 of
+/// them, and with `N*` before them N times. Whether they spell bytes.
+pub fn add_pieces(bytes: &mut Vec<u8>, pieces: &str) -> io::Result<bool> {
+    for piece in pieces.split(' ') {
+        let (count, digits) = piece.split_once('*').unwrap_or(("1", piece));
+        let count = count.parse().unwrap_or(0);
+        if !add_piece(bytes, count, digits)? {
+            return Ok(false);
+        }
+    }
+    Ok(true)
+}

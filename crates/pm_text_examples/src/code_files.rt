@@ -1,7 +1,7 @@
-//! A code file that is written and read, and what is refused.
-use crate::one_segment::{NO_NAME, SEGMENT, example};
-use pm_codefile::{Attributes, CodeFault, CodeFile, Slot, attributes, procedures, write};
-use std::alloc::Global;
+//! A code file that is written and read, and the text of one procedure of a segment.
+use crate::one_segment::{SEGMENT, example};
+use crate::programs::SEGMENTS;
+use pm_codefile::{Attributes, CodeFile, Slot, attributes, procedures};
 use std::test::Fail;
 
 #[test]
@@ -37,23 +37,13 @@ fn written_file_is_read(rt: HostRuntime) -> Result<(), Fail> {
     Ok(())
 }
 
+/// The procedure of a segment by itself.
 #[test]
-fn refusals(rt: HostRuntime) -> Result<(), Fail> {
-    let mut bytes = example(rt.alloc())?;
-    bytes.truncate(520);
-    let fault = CodeFile::read(&bytes).err();
-    assert_eq!(rt; fault, Some(CodeFault::SlotPastEnd(1)));
-    bytes.truncate(500);
-    assert_eq!(rt; CodeFile::read(&bytes).err(), Some(CodeFault::NoDictionary));
-    let mut odd = [0; 512];
-    odd[22] = 3;
-    assert_eq!(rt; CodeFile::read(&odd).err(), Some(CodeFault::OddLength(5)));
-    let mut far = [0; 512];
-    far[20] = 255;
-    far[21] = 255;
-    far[22] = 2;
-    assert_eq!(rt; CodeFile::read(&far).err(), Some(CodeFault::SlotPastEnd(5)));
-    assert_eq!(rt; CodeFault::SlotPastEnd(5).number(), 2);
-    assert_eq!(rt; CodeFault::SlotPastEnd(5).slot(), Some(5));
+fn one_procedure(rt: HostRuntime) -> Result<(), Fail> {
+    let alloc = rt.alloc();
+    let segment = SEGMENTS.get(22..38).ok_or("no segment")?;
+    let table = attributes(segment, 1).ok_or("no table")?;
+    let text = pm_disasm::procedure(alloc, segment, &table)?;
+    assert_eq!(rt; text.as_str(), ".PROC 1 0 0 4\n.EXIT\n  RBP 0\n.END\n");
     Ok(())
 }

@@ -1,18 +1,8 @@
-//! Worked examples, as tests: texts of instructions, lines and texts of the assembler, code files and text files; and
-//! the programs that tests of other crates use too.
+//! Worked examples, as tests: a code file that is written and read, and the text of one procedure; and programs that
+//! tests of other crates use.
 #![tactic(auto)]
 
 #[cfg(test)]
-mod assembled;
-#[cfg(test)]
 mod code_files;
-#[cfg(test)]
-mod instructions;
-#[cfg(test)]
-mod lines;
 pub mod one_segment;
 pub mod programs;
-#[cfg(test)]
-mod refused;
-#[cfg(test)]
-mod text_files;

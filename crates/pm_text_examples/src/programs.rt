@@ -1,4 +1,4 @@
-//! Programs that tests of several crates use: bytes of segments, texts, and a trace.
+//! Programs that tests of several crates use: bytes of segments, and a trace.
 
 /// Writes two letters to the console.
 pub const LETTERS: [u8; 28] = [
@@ -32,79 +32,6 @@ pub const ECHO: [u8; 38] = [
     0xC3, 0xA1, 0xF6, 0xD7, 0xC1, 0x00, 0x16, 0x00, 0x00, 0x00, 0x00, 0x00, 0x08, 0x00, 0x1E, 0x00,
     0x01, 0x00, 0x02, 0x00, 0x01, 0x01,
 ];
-
-/// The names of the segments of `TEXT` on the slots 1, 2 and 3, and blanks.
-pub const NAMES: [[u8; 8]; 16] = [
-    *b"        ",
-    *b"MAIN    ",
-    *b"A       ",
-    *b"B       ",
-    *b"        ",
-    *b"        ",
-    *b"        ",
-    *b"        ",
-    *b"        ",
-    *b"        ",
-    *b"        ",
-    *b"        ",
-    *b"        ",
-    *b"        ",
-    *b"        ",
-    *b"        ",
-];
-
-/// The text of `SEGMENTS`.
-pub const TEXT: &str = "\
-.SEG 1 MAIN
-.PROC 1 0 0 0
-  CXP 2, 1
-  CXP 3, 1
-.EXIT
-  RBP 0
-.END
-.SEG 2 A
-.PROC 1 0 0 4
-.EXIT
-  RBP 0
-.END
-.SEG 3 B
-.PROC 1 0 0 8
-.EXIT
-  RBP 0
-.END
-";
-
-/// The listing of `TEXT`.
-pub const LISTING: &str = "\
-01 001 00000 CD 02 01  CXP 2, 1
-01 001 00003 CD 03 01  CXP 3, 1
-01 001 00006 C1 00  RBP 0
-01 001 00008 00 00 00 00 06 00 0E 00 01 00  .ATTR
-01 000 00018 02 00 01 01  .DICT
-02 001 00000 C1 00  RBP 0
-02 001 00002 04 00 00 00 06 00 08 00 01 00  .ATTR
-02 000 00012 02 00 02 01  .DICT
-03 001 00000 C1 00  RBP 0
-03 001 00002 08 00 00 00 06 00 08 00 01 00  .ATTR
-03 000 00012 02 00 03 01  .DICT
-";
-
-/// A number below 128 in two bytes.
-pub const LONG: [u8; 20] = [
-    0xA9, 0x80, 0x05, 0xD7, 0xC1, 0x00, 0x00, 0x00, 0x00, 0x00, 0x06, 0x00, 0x0C, 0x00, 0x01, 0x00,
-    0x02, 0x00, 0x01, 0x01,
-];
-
-/// The text of `LONG`.
-pub const LONG_TEXT: &str = "\
-.SEG 1 MAIN
-.PROC 1 0 0 0
-  LDO 5!
-  NOP
-.EXIT
-  RBP 0
-.END
-";
 
 /// Adds two to three.
 pub const ADDITION: &str = "02 03 82 D6\n";

@@ -1,23 +1,11 @@
-//! Worked examples, as tests: a machine, step by step.
+//! Worked examples, as tests: steps that go the quick way, and what takes much memory.
 #![tactic(auto)]
 
-#[cfg(test)]
-mod calls;
-#[cfg(test)]
-mod code;
 pub mod codes;
-#[cfg(test)]
-mod devices;
-#[cfg(test)]
-mod keeps;
-#[cfg(test)]
-mod machine;
 #[cfg(test)]
 mod quick;
 #[cfg(test)]
 mod room;
 #[cfg(test)]
 mod tested;
-#[cfg(test)]
-mod texts;
 pub mod volumes;

@@ -1,8 +1,8 @@
 //! Steps that go the quick way: each opcode that has one goes it, and so does a whole program. No contract says so,
 //! since a machine that makes none of its steps so makes the same steps.
-use crate::code::booted;
 use crate::codes::{CALLS, KEEPS, TOP};
 use crate::tested::Tested;
+use crate::volumes::volume;
 use pm_machine::{BootFault, Stop};
 use std::alloc::Global;
 use std::process::Abort;
@@ -193,7 +193,8 @@ fn base_calls_go_quickly(rt: HostRuntime) -> Result<(), BootFault> {
 /// segment are not.
 #[test]
 fn calls_of_segments_go_quickly(rt: HostRuntime) -> Result<(), Fail> {
-    let mut machine = booted(rt.alloc(), [28, 16, 0], &KEEPS)?;
+    let volume = volume(rt.alloc(), 2, [28, 16, 0], &KEEPS)?;
+    let mut machine = Tested::booted(rt.alloc(), volume)?;
     machine.makes_quick(&rt, 1000, 1);
     machine.steps_to(&rt, Stop::Went);
     machine.makes_quick(&rt, 1000, 5);

@@ -56,6 +56,18 @@ pub struct FakeRuntime<'a> {
     pub on_terminal: bool,
 }
 
+impl<'a> FakeRuntime<'a> {
+    /// A file of the disk, opened at its beginning.
+    fn opened(&self, disk: &mut Disk, inode: usize) -> FakeFile<'a> {
+        FakeFile {
+            disk: self.disk,
+            inode,
+            at: 0,
+            number: disk.count_open(),
+        }
+    }
+}
+
 pub(crate) fn in_use() -> io::Error {
     io::Error::from(ErrorKind::ResourceBusy)
 }
@@ -202,13 +214,7 @@ impl<'a> Files for FakeRuntime<'a> {
                 return Err(io::Error::from(ErrorKind::IsADirectory));
             }
         }
-        let number = disk.count_open();
-        Ok(FakeFile {
-            disk: self.disk,
-            inode,
-            at: 0,
-            number,
-        })
+        Ok(self.opened(&mut disk, inode))
     }
 
     fn open_dir(&self, _path: &str) -> io::Result<PipeReader> {
@@ -391,13 +397,7 @@ impl<'a> Host for FakeRuntime<'a> {
             made.mode = mode & 0o755;
         }
         disk.widest |= mode & 0o755;
-        let number = disk.count_open();
-        Ok(FakeFile {
-            disk: self.disk,
-            inode,
-            at: 0,
-            number,
-        })
+        Ok(self.opened(&mut disk, inode))
     }
 
     fn set_owner(&self, file: &FakeFile<'a>, owner: u32, group: u32) -> io::Result<()> {

@@ -81,6 +81,10 @@ fn words(kind: ErrorKind) -> &'static str {
 }
 
 impl From<AllocError> for DiskFault {
+    ghost use Rattle.pm_files.specs.declared.fault.DiskFault.TheVariants.{NoMemory};
+
+    ghost from_gives = { λ _ fault. fault ≡ NoMemory };
+
     fn from(_: AllocError) -> DiskFault {
         DiskFault::NoMemory
     }

@@ -30,12 +30,17 @@ pub enum Kind {
 /// A file as the system knows it, whatever its names are.
 #[derive(Clone, Copy)]
 pub struct Node {
+    /// The device on which it stands.
     pub device: u64,
+    /// Its number on that device: both together are those of no other file.
     pub number: u64,
+    /// What it is.
     pub kind: Kind,
     /// How many names it has.
     pub names: u64,
+    /// The number of the user whose file it is.
     pub owner: u32,
+    /// The number of its group.
     pub group: u32,
     /// Who may do what with it: the twelve low bits.
     pub mode: u32,

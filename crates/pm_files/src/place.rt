@@ -9,7 +9,7 @@ use std::rt::Files;
 use std::{fs, io};
 
 /// How often a file is opened anew that was replaced before its lock was had.
-pub(crate) const TRIES: u8 = 100;
+const OPENINGS: u8 = 100;
 
 /// How many links are followed, one behind the other.
 const LINKS: u8 = 40;
@@ -193,7 +193,7 @@ impl<F> WritePath<F> {
         rt: &R,
         name: &str,
     ) -> Result<WritePath<F>, DiskFault> {
-        for _ in 0..TRIES {
+        for _ in 0..OPENINGS {
             let mut place = WritePath::new(rt, name)?;
             let held = match locked(rt, name)? {
                 Some(held) => held,

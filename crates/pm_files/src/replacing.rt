@@ -4,7 +4,7 @@ ghost use Rattle.pm_files.specs.Nodes.{claim_of, first_mode, is_still};
 
 use crate::fault::DiskFault;
 use crate::host::{Host, Node};
-use crate::place::{TRIES, WritePath, folder_of};
+use crate::place::{WritePath, folder_of};
 use std::fs::{File, OpenFile, OpenOptions, Permissions};
 use std::io::{ErrorKind, Write};
 use std::os::unix::fs::PermissionsExt;
@@ -19,6 +19,9 @@ const ORDINARY: u32 = 0o666;
 
 /// The bit of a folder's mode that keeps users from removing the files of others.
 const STICKY: u32 = 0o1000;
+
+/// How often what stands where a new file is to be made is taken away.
+const CLEARINGS: u8 = 100;
 
 /// Writes bytes over those of an open file. No byte is cut off before the new ones stand there, and what is no regular
 /// file keeps its length.
@@ -75,7 +78,7 @@ fn clear<R: Host>(rt: &R, path: &str) -> Result<(), DiskFault> {
 /// Makes and locks the file that is to stand in the place of another. Its name is this program's own: what stands there
 /// is taken away, never opened and never followed.
 fn make_beside<R: Host>(rt: &R, path: &str, mode: u32) -> Result<R::File, DiskFault> {
-    for _ in 0..TRIES {
+    for _ in 0..CLEARINGS {
         match rt.make(path, mode) {
             Ok(file) => {
                 if rt.try_lock(&file).map_err(DiskFault::of_write)? {

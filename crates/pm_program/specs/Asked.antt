@@ -1,7 +1,7 @@
 -- Which words give which job. What clap finds of the words it keeps under ids, and the command by its name.
-use Rattle.std.specs.Prelude.{◌≡◌, ◌⊎◌, ℕ, Bool, true, false, List, [], Option}
+use Rattle.std.specs.Prelude.{◌≡◌, ◌≤◌, ◌⊎◌, ⊤, ℕ, Bool, true, false, List, [], Option}
 use Rattle.std.specs.Prelude.{None, Some, option_map, string_bytes, codes}
-use Rattle.std.specs.Str.Parse.{digits_value, without_leading_plus}
+use Rattle.std.specs.Str.Parse.{IsNumeral, digits_value}
 use Rattle.clap.specs.Matches.{first_value, found_of, one_text, subcommand_name_of}
 use Rattle.clap.specs.declared.parser.matches.ArgMatches.{ArgMatches}
 use Rattle.pm_filer.specs.Filed.{Order, ListFiles, Get, Put, Remove, Change, GetText}
@@ -21,23 +21,38 @@ use Rattle.pm_program.specs.declared.words.Plan.TheVariants as plans
 abbrev pub word_found : ArgMatches → List ℕ → Option (List ℕ)
 word_found m id = first_value (found_of m) id
 
--- the number that digits spell
-abbrev pub number_spelled : List ℕ → ℕ
-number_spelled digits = digits_value 10 (without_leading_plus digits)
+-- A word is a number up to this one: decimal digits alone, one or more, with leading zeros or without, that write no
+-- higher one. A sign is no digit.
+abbrev pub IsNumberUpTo : ℕ → List ℕ → Type 0
+IsNumberUpTo most word = IsNumeral 10 word × (digits_value 10 word ≤ most)
+
+-- a word is the number that its decimal digits write
+abbrev pub IsNumber : List ℕ → ℕ → Type 0
+IsNumber word number = IsNumeral 10 word × (number ≡ digits_value 10 word)
 
 abbrev pub IsSpelled : Option (List ℕ) → ℕ → Type 0
 IsSpelled None number = ⊥
-IsSpelled (Some digits) number = number ≡ number_spelled digits
+IsSpelled (Some word) number = IsNumber word number
+
+-- there is a word, and it is a number up to this one
+abbrev pub IsNumberWord : ℕ → Option (List ℕ) → Type 0
+IsNumberWord most None = ⊥
+IsNumberWord most (Some word) = IsNumberUpTo most word
 
 -- the limit of a run: 10,000,000 where the words have none
 abbrev pub IsLimit : Option (List ℕ) → ℕ → Type 0
 IsLimit None limit = limit ≡ 10000000
-IsLimit (Some digits) limit = limit ≡ number_spelled digits
+IsLimit (Some word) limit = IsNumber word limit
+
+-- there is no word for the limit, or it is a number below 2 ^ 32
+abbrev pub IsLimitWord : Option (List ℕ) → Type 0
+IsLimitWord None = ⊤
+IsLimitWord (Some word) = IsNumberUpTo 4294967295 word
 
 -- a kind of file: by its word in a list, or by its number
 abbrev pub IsKind : Option (List ℕ) → ℕ → Type 0
 IsKind None kind = ⊥
-IsKind (Some word) kind = (kind_word kind ≡ Some word) ⊎ (kind ≡ number_spelled word)
+IsKind (Some word) kind = (kind_word kind ≡ Some word) ⊎ IsNumber word kind
 
 -- whether an option without a value is among the words
 pub record IsFlag (found : Option (List ℕ)) (flag : Bool) : Type 0 where

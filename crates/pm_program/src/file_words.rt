@@ -1,6 +1,9 @@
 //! The words of `files`.
-ghost use Rattle.std.specs.Prelude.{◌≡◌, Some, IfOk, IfSome, option_map, string_bytes, codes};
-ghost use Rattle.pm_program.specs.Asked.{AsksFiles, AsksVerb, IsKind, IsPath, IsSpelled, number_spelled, word_found};
+ghost use Rattle.std.specs.Prelude.{◌≡◌, ◌≤◌, ◌↔◌, ℕ, Some, IfOk, IfSome, IsOk, IsSome, SomeIff};
+ghost use Rattle.std.specs.Prelude.{option_map, string_bytes, codes};
+ghost use Rattle.std.specs.Str.Parse.{digits_value};
+ghost use Rattle.pm_program.specs.Asked.{AsksFiles, AsksVerb, IsKind, IsNumberUpTo, IsNumberWord, IsPath, IsSpelled};
+ghost use Rattle.pm_program.specs.Asked.{word_found};
 
 use crate::words::{WordsError, given, number};
 use clap::{Arg, ArgMatches, Command};
@@ -151,9 +154,10 @@ pub fn files<'a>(alloc: Global) -> Result<Command<'a>, AllocError> {
     Ok(command)
 }
 
-/// The kind that a word names.
+/// The kind that a word names, from 0 to 15. `None` where it names none.
 fn kind(text: &str) -> Option<u8>
     ensures value { IfSome result (λ kind. IsKind (Some text.now) kind) }
+    ensures accepted { IsSome result ↔ ((kind : ℕ) × (kind ≤ 15) × IsKind (Some text.now) kind) }
 {
     for kind in 0..16 {
         if kind_word(kind) == Some(text) {
@@ -164,8 +168,9 @@ fn kind(text: &str) -> Option<u8>
     if kind < 16 { Some(kind as u8) } else { None }
 }
 
+/// The number of blocks that a word is. `None` where it is no number up to 65,535.
 fn blocks(text: &str) -> Option<u16>
-    ensures value { IfSome result (λ blocks. blocks ≡ number_spelled text.now) }
+    ensures exact { SomeIff result (IsNumberUpTo 65535 text.now) (digits_value 10 text.now) }
 {
     u16::try_from(number(text)?).ok()
 }
@@ -178,9 +183,10 @@ fn word(alloc: Global, matches: &ArgMatches<'_>, id: &str) -> Result<String, Wor
     Ok(String::from_str(alloc, text)?)
 }
 
-/// A part of a date.
+/// A part of a date. Refused where it is no number up to 255.
 fn part(matches: &ArgMatches<'_>, id: &str) -> Result<u8, WordsError>
     ensures value { IfOk result (λ part. IsSpelled (word_found matches.now id.now) part) }
+    ensures accepted { IsOk result ↔ IsNumberWord 255 (word_found matches.now id.now) }
 {
     let digits = matches.get_str(id).ok_or(WordsError::NoCommand)?;
     match number(digits) {

@@ -1,6 +1,7 @@
 //! The words of the command line.
-ghost use Rattle.std.specs.Prelude.{◌≡◌, IfOk, IfSome, option_map, string_bytes, codes};
-ghost use Rattle.pm_program.specs.Asked.{Asks, IsAsked, IsLimit, number_spelled, word_found};
+ghost use Rattle.std.specs.Prelude.{◌≡◌, ◌↔◌, IfOk, IsOk, SomeIff, option_map, string_bytes, codes};
+ghost use Rattle.std.specs.Str.Parse.{digits_value};
+ghost use Rattle.pm_program.specs.Asked.{Asks, IsAsked, IsLimit, IsLimitWord, IsNumberUpTo, word_found};
 
 use crate::file_words::{FilesPlan, files, files_plan};
 use crate::run_words::{Keeping, Program, debug, keeping_of, program_of, run, trace};
@@ -151,11 +152,12 @@ fn command<'a>(alloc: Global) -> Result<Command<'a>, AllocError> {
         .subcommand(dis(alloc))
 }
 
-/// The number that decimal digits alone spell.
+/// The number that decimal digits alone spell, leading zeros among them. `None` for any other text, as one with a sign
+/// or without a digit, and for a number above 4,294,967,295.
 pub fn number(text: &str) -> Option<u32>
-    ensures value { IfSome result (λ number. number ≡ number_spelled text.now) }
+    ensures exact { SomeIff result (IsNumberUpTo 4294967295 text.now) (digits_value 10 text.now) }
 {
-    if text.is_empty() || !text.bytes().all(|byte| byte.is_ascii_digit()) {
+    if text.as_bytes().first() == Some(&b'+') {
         return None;
     }
     text.parse().ok()
@@ -176,9 +178,10 @@ pub fn given(
     }
 }
 
-/// The limit that the words give.
+/// The limit that the words give. Refused where there is a word for it that is no number up to 4,294,967,295.
 pub fn limit_of(matches: &ArgMatches<'_>) -> Result<u32, WordsError>
     ensures value { IfOk result (λ limit. IsLimit (word_found matches.now (codes "limit")) limit) }
+    ensures accepted { IsOk result ↔ IsLimitWord (word_found matches.now (codes "limit")) }
 {
     match matches.get_str("limit") {
         Some(text) => number(text).ok_or(WordsError::Wrong(

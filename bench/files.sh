@@ -117,6 +117,15 @@ done
 [ $lost = 0 ] && [ $odd = 0 ]
 result "eight at once, ${ROUNDS:-100} times: $lost lost, $odd odd" $?
 
+# standard input is closed: the image does not get its number, so none of its bytes are read as the input
+cp "$scratch/before" "$image"
+"$pmach" files --image "$image" put CLOSED data 2>"$scratch/err" <&-
+[ $? = 4 ] && [ "$(cat "$scratch/err")" = "read fault" ] && cmp -s "$image" "$scratch/before"
+result "put with standard input closed" $?
+"$pmach" run --d4 "$image" --save ECHO >"$scratch/out" 2>"$scratch/err" <&-
+[ $? = 4 ] && [ "$(cat "$scratch/err")" = "read fault" ] && [ ! -s "$scratch/out" ] && cmp -s "$image" "$scratch/before"
+result "run with standard input closed" $?
+
 # kills, and a pseudo terminal
 if command -v python3 >/dev/null; then
     python3 "$here/bench/kills.py" "$pmach" "$scratch" "${KILLS:-100}"

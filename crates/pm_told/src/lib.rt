@@ -1,9 +1,9 @@
-//! A store of one file in memory, of which a contract knows what it holds.
+//! Stores of one file and of two in memory, of which a contract knows what they hold.
 #![tactic(auto)]
 
 ghost use Rattle.std.specs.Prelude.{◌≡◌, IfOk, Some, false, option_map, string_bytes, vec_items};
 ghost use Rattle.std.specs.Str.{bytes_eq};
-ghost use Rattle.pm_told.specs.Told.{told};
+ghost use Rattle.pm_told.specs.Told.{told, told_first};
 
 use pm_files::{DiskFault, Store};
 use std::alloc::Global;
@@ -17,6 +17,20 @@ pub struct OneFile {
     pub alloc: Global,
 }
 
+/// A file's bytes, copied.
+fn copied(alloc: Global, bytes: &Option<Vec<u8>>) -> Result<Vec<u8>, DiskFault>
+    ensures value { IfOk result (λ copy. option_map vec_items bytes.now ≡ Some copy.items) }
+{
+    match bytes {
+        Some(bytes) => {
+            let mut copy = Vec::new(alloc);
+            copy.extend_from_slice(bytes.as_slice())?;
+            Ok(copy)
+        }
+        None => Err(DiskFault::Read(ErrorKind::NotFound)),
+    }
+}
+
 impl Store for OneFile {
     ghost files = { λ s. Some (told (string_bytes s.path) (option_map vec_items s.bytes)) };
 
@@ -28,14 +42,7 @@ impl Store for OneFile {
         if self.path.as_str() != path {
             return Err(DiskFault::Read(ErrorKind::NotFound));
         }
-        match &self.bytes {
-            Some(bytes) => {
-                let mut copy = Vec::new(alloc);
-                copy.extend_from_slice(bytes.as_slice())?;
-                Ok(copy)
-            }
-            None => Err(DiskFault::Read(ErrorKind::NotFound)),
-        }
+        copied(alloc, &self.bytes)
     }
 
     fn prepare(&mut self, _path: &str) -> Result<(), DiskFault> {
@@ -54,6 +61,64 @@ impl Store for OneFile {
         copy.extend_from_slice(bytes)?;
         self.bytes = Some(copy);
         Ok(())
+    }
+
+    fn is_same(&self, one: &str, other: &str) -> bool {
+        one == other
+    }
+
+    fn is_folder(&self, _path: &str) -> bool {
+        false
+    }
+}
+
+/// Two paths, and the bytes of the files that they name, if there are any. Where both are one path, the first file has
+/// it.
+#[derive(Drop)]
+pub struct TwoFiles {
+    pub first: OneFile,
+    pub second: OneFile,
+    pub alloc: Global,
+}
+
+impl Store for TwoFiles {
+    ghost files = { λ s. Some (told_first (string_bytes s.first.path) (option_map vec_items s.first.bytes)
+        (string_bytes s.second.path) (option_map vec_items s.second.bytes)) };
+
+    ghost same = { λ _. Some (λ one other. bytes_eq one other) };
+
+    ghost folders = { λ _. Some (λ _. false) };
+
+    fn read(&mut self, alloc: Global, path: &str) -> Result<Vec<u8>, DiskFault> {
+        if self.first.path.as_str() == path {
+            return copied(alloc, &self.first.bytes);
+        }
+        if self.second.path.as_str() == path {
+            return copied(alloc, &self.second.bytes);
+        }
+        Err(DiskFault::Read(ErrorKind::NotFound))
+    }
+
+    fn prepare(&mut self, _path: &str) -> Result<(), DiskFault> {
+        Ok(())
+    }
+
+    fn hold(&mut self, _path: &str) -> Result<(), DiskFault> {
+        Ok(())
+    }
+
+    fn put(&mut self, path: &str, bytes: &[u8]) -> Result<(), DiskFault> {
+        let mut copy = Vec::new(self.alloc);
+        copy.extend_from_slice(bytes)?;
+        if self.first.path.as_str() == path {
+            self.first.bytes = Some(copy);
+            return Ok(());
+        }
+        if self.second.path.as_str() == path {
+            self.second.bytes = Some(copy);
+            return Ok(());
+        }
+        Err(DiskFault::Write(ErrorKind::PermissionDenied))
     }
 
     fn is_same(&self, one: &str, other: &str) -> bool {

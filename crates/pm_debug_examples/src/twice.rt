@@ -1,5 +1,6 @@
-//! Programs against themselves: each goes step by step in two machines, and in one of them each word of memory is written
-//! with its own value before each step. That drops what is kept of links and tables, and nothing that is seen may differ.
+//! Programs against themselves: each goes step by step in two machines, and in one of them each word of memory is
+//! written with its own value before each step. That drops what is kept of links and tables, and nothing that is seen
+//! may differ.
 ghost use Rattle.std.specs.Prelude.{◌≡◌, length, sum};
 
 use crate::any_bytes::generated;

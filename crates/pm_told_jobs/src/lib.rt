@@ -54,8 +54,8 @@ pub fn on_file(
 }
 
 /// Runs the program of a name on a disk whose file has these bytes, with this input, at most so many steps. Afterwards
-/// the file has the image that the run leaves of its bytes and of the input, where it is to be saved and the program has
-/// run; else it has the bytes that it had. Where the job cannot be done the file may have an image or its bytes.
+/// the file has the image that the run leaves of its bytes and of the input, where it is to be saved and the program
+/// has run; else it has the bytes that it had. Where the job cannot be done the file may have an image or its bytes.
 pub fn on_disk(
     alloc: Global,
     image: Vec<u8>,

@@ -360,7 +360,8 @@ impl Trials {
     /// - `fail LETTER KIND`: the first call of the next command line that has this letter fails so.
     /// - `< TEXT`: a line of its standard input. `key CODE`: one byte more of it. `<<`: what standard output took
     ///   is its standard input.
-    /// - `> TEXT`, `] TEXT`, `! TEXT`: what standard output, the same without a line feed, and standard error took.
+    /// - `> TEXT`, `] TEXT`, `! TEXT`, `? TEXT`: what standard output, the same without a line feed, standard error,
+    ///   and the same without a line feed took.
     /// - `disk`: no files. `closed`: the folder takes no new name. `sticky`: nor does it let a user take away the files
     ///   of another. `blind`: no path can be made whole. `user NUMBER`: whose program runs. `terminal on`, or `off`.
     /// - `hold`, `private`, `read-only`, `folder`: another program holds all files, they may not be read, or not be
@@ -398,6 +399,7 @@ impl Trials {
             ">" => add(&mut self.out, rest, true).map(|_| true),
             "]" => add(&mut self.out, rest, false).map(|_| true),
             "!" => add(&mut self.err, rest, true).map(|_| true),
+            "?" => add(&mut self.err, rest, false).map(|_| true),
             "disk"
             | "closed"
             | "terminal"

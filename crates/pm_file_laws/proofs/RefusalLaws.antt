@@ -47,7 +47,7 @@ puts_tell_first image name kind bytes = record {
   room = λ good none few.
       let test : leb 77 (file_count (directory_of image)) ≡ false = grind (arith, nat_tests, few) in
       rw (good, none, test)
-          (room_or_done image name kind bytes (last_date_of (directory_of image)) (gap_for (directory_of image) (blocks_for (length bytes))));
+      (room_or_done image name kind bytes (last_date_of (directory_of image)) (gap_for (directory_of image) (blocks_for (length bytes))));
 }
 
 pub changes_tell_first : ChangesTellFirst

@@ -80,8 +80,8 @@ emptied image name b good =
     let fits = word_fits image b 14 (omega arith) in
     let fresh = new_directory (files_begin d) name (block_count d) (last_date_of d) in
     let there : directory_of (zeroed_image image name) ≡ fresh =
-        directory-mirrored (zeroed_first image name) (IsVolume-zeroed image b.volume name size.0 size.1 fits)
-        ∙ directory-with image fresh b.volume.long (length-new_directory (files_begin d) name (block_count d) (last_date_of d) size.1) in
+    directory-mirrored (zeroed_first image name) (IsVolume-zeroed image b.volume name size.0 size.1 fits)
+    ∙ directory-with image fresh b.volume.long (length-new_directory (files_begin d) name (block_count d) (last_date_of d) size.1) in
     record {
       empty = (Changed-zeroed image b.volume name size.0 size.1 fits).files;
       date = ap last_date_of there ∙ date_read (files_begin d) name (block_count d) (last_date_of d) size.1 (word_fits image b 20 (omega arith));
@@ -172,17 +172,17 @@ unfolding gaps most_in AreInOrder
 found a blocks n from [] order room = elim (max_cases a (blocks - from)) [
   | inl old ↦ inl old
   | inr new ↦ inr (rw new (record {
-      begin = from;
-      after = omega arith;
-      within = omega (arith, room);
-      apart = All-nil (λ (e : Entry). (e.end ≤ from) ⊎ (from + (blocks - from) ≤ e.first));
-    }))
+    begin = from;
+    after = omega arith;
+    within = omega (arith, room);
+    apart = All-nil (λ (e : Entry). (e.end ≤ from) ⊎ (from + (blocks - from) ≤ e.first));
+  }))
 ]
 found a blocks n from (e ∷ es) order room = elim (found (max a (e.first - from)) blocks (n + 1) e.end es order.2 order.1) [
   | inl same ↦ elim (max_cases a (e.first - from)) [
-      | inl old ↦ inl (same ∙ old)
-      | inr new ↦ inr (subst (IsFree blocks from (e ∷ es)) (sym (same ∙ new)) (free_before blocks from e es order))
-    ]
+    | inl old ↦ inl (same ∙ old)
+    | inr new ↦ inr (subst (IsFree blocks from (e ∷ es)) (sym (same ∙ new)) (free_before blocks from e es order))
+  ]
   | inr free ↦ inr (free_behind blocks from (most_in (max a (e.first - from)) blocks (n + 1) e.end es) e es order free)
 ]
 

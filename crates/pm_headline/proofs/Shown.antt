@@ -75,9 +75,11 @@ made_by breaks limit n s ends.Stopped count t p h =
     (n, breaks_there n at.0 h.0 (goes_on breaks n s p) (ap (is_at_break breaks) (sym h.3) ∙ at.1), h.3)
 made_by breaks limit n s (ends.Answered answer) count t p h =
     let last = h.2 in
-    let other : (stepped (after_steps n s)).1 ≢ stop.Went = λ e. h.0 (sym (ap (λ (q : State × Stop). q.1) last.last) ∙ e) in
-    (n + 1, stops n last.within (goes_on breaks n s p) (λ some. free_there breaks n (after_steps n s) some h.1) other,
-     after_more n s (after_steps n s) t answer refl last.last)
+    let other : (stepped (after_steps n s)).1 ≢ stop.Went = λ e. h.0 (sym (ap (λ (q : State × Stop). q.1) last.last) ∙ e) in (
+      n + 1,
+      stops n last.within (goes_on breaks n s p) (λ some. free_there breaks n (after_steps n s) some h.1) other,
+      after_more n s (after_steps n s) t answer refl last.last,
+    )
 
 gone_steps : (breaks : List Breakpoint) (n : ℕ) (s : State) → Makes breaks n s (gone breaks n s).machine
 unfolding gone

@@ -96,8 +96,8 @@ row_keeps n code s u memory slot none needed bytes made =
     let c : Parts = reach_parts s (record s.registers { sp = x.0.above }) in
     let z = bound (segment_kept c x.0.word y.0) _ u y.2 in
     let kept : keep_slot c n (Some code) (slice_get s.places n) ≡ Ok z.0 =
-        sym (ap (λ k. keep_slot c k (Some code) (slice_get s.places k)) number)
-        ∙ sym (ap (λ k. keep_slot c x.0.word k (slice_get s.places x.0.word)) is) ∙ z.1 in
+    sym (ap (λ k. keep_slot c k (Some code) (slice_get s.places k)) number)
+    ∙ sym (ap (λ k. keep_slot c x.0.word k (slice_get s.places x.0.word)) is) ∙ z.1 in
     let stands = slot_stands c z.0 n code (slice_get s.places n) none memory bytes (omega (arith, above, room)) kept in
     let new : u.memory ≡ z.0.memory = sym (ap (λ (k : Reach). k.memory) (ok_same _ u z.2)) in
     rw new (subst (λ k. bytes_at z.0.memory (k - length code) (length code) ≡ code) above stands)
@@ -137,7 +137,7 @@ row_fails n s u slot none needed made =
     let c : Parts = reach_parts s (record s.registers { sp = x.0.above }) in
     let z = bound (segment_kept c x.0.word y.0) _ u y.2 in
     let kept : keep_slot c n None (slice_get s.places n) ≡ Ok z.0 =
-        sym (ap (λ k. keep_slot c k None (slice_get s.places k)) number) ∙ sym (ap (λ k. keep_slot c x.0.word k (slice_get s.places x.0.word)) is) ∙ z.1 in
+    sym (ap (λ k. keep_slot c k None (slice_get s.places k)) number) ∙ sym (ap (λ k. keep_slot c x.0.word k (slice_get s.places x.0.word)) is) ∙ z.1 in
     no_code c z.0 n (slice_get s.places n) none kept
   where
     no_code : (c d : Parts) (n : ℕ) (slot : Option (Option SegmentPlace)) → place_in slot ≡ None → keep_slot c n None slot ≡ Ok d → ⊥

@@ -16,7 +16,6 @@ use Rattle.pm_source.specs.declared.fault.AsmFault.TheVariants.{Syntax, Unknown,
 use Rattle.pm_round_trip.specs.Refusals.{BeginsWith, IsPlaced, JumpTellsFirst, JumpsTellFirst, LineTellsFirst, LinesTellFirst}
 use Rattle.pm_round_trip.specs.Refusals.{TextTellsFirst, TextsTellFirst}
 
-
 first : (a : Bool) (w : AsmFault) (rest : List AsmFault) → a ≡ true → BeginsWith w (only_if a w ++ rest)
 first a w rest h = (rest, ap (λ k. only_if k w ++ rest) h)
 

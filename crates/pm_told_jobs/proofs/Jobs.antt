@@ -61,7 +61,7 @@ verb_said old new path image file verbs.Repair input has keeps had = left old ne
 pub file_said : (done : Result Outcome DiskFault) (old new : List ℕ → Option (List ℕ)) (path image file : List ℕ)
     (verb : Verb) (known : Option (List ℕ)) (input : List ℕ) → new path ≡ Some file
     → IfOk done (λ outcome. IsSoundExit outcome.exit
-        → IfSome known (λ input. KeepsSaid (Some old) (Some new) path verb input))
+    → IfSome known (λ input. KeepsSaid (Some old) (Some new) path verb input))
     → known ≡ Some input → old path ≡ Some image
     → IfOk done (λ outcome. IsSoundExit outcome.exit → file ≡ left_in image (said_verb image verb input).image)
 file_said (Ok outcome) old new path image file verb known input has keeps is had = λ sound.
@@ -132,12 +132,14 @@ pub disk_said : (done : Result Outcome DiskFault) (old new : List ℕ → Option
     → IfOk done (λ outcome. IsSoundExit outcome.exit → LeavesRun image name limit save input file)
 disk_said (Ok outcome) old new from path image file name limit save known input has keeps is at had = λ sound.
     let told = subst (λ known. IfSome known (λ input. KeepsRunSaid (Some old) (Some new)
-        (record { disk = from; others = record { d5 = None; d9 = None; d10 = None; d11 = None; d12 = None }; name = name; limit = limit })
-        (record { save = save; printing = printings.Nowhere }) input)) is (keeps sound) in
-    let held = subst (λ path. old path ≡ Some image) (sym at) had in
-    (told.0, reads_one old (string_bytes from) image (images_of told.0) told.1 held,
-    run_left old new told.2.0 (string_bytes from) image file (job_said (jobs.Run told.0 name limit save) input).image
-    (has_run (job_said (jobs.Run told.0 name limit save) input).exit)
-    (job_said (jobs.Run told.0 name limit save) input).printer (subst (λ path. new path ≡ Some file) (sym at) has)
-    told.2.1 told.2.2 held)
+    (record { disk = from; others = record { d5 = None; d9 = None; d10 = None; d11 = None; d12 = None }; name = name; limit = limit })
+    (record { save = save; printing = printings.Nowhere }) input)) is (keeps sound) in
+    let held = subst (λ path. old path ≡ Some image) (sym at) had in (
+      told.0,
+      reads_one old (string_bytes from) image (images_of told.0) told.1 held,
+      run_left old new told.2.0 (string_bytes from) image file (job_said (jobs.Run told.0 name limit save) input).image
+          (has_run (job_said (jobs.Run told.0 name limit save) input).exit)
+          (job_said (jobs.Run told.0 name limit save) input).printer (subst (λ path. new path ≡ Some file) (sym at) has)
+          told.2.1 told.2.2 held,
+    )
 disk_said (Err fault) old new from path image file name limit save known input has keeps is at had = tt

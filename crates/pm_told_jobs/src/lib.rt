@@ -28,12 +28,7 @@ const FILE: &str = "file";
 /// verb says to its bytes and to the input, where the verb is done; where it is refused, or changes nothing, where a
 /// stream fails, or the file cannot be read or written, it has the bytes that it had. An error is want of memory before
 /// or behind the job.
-pub fn on_file(
-    alloc: Global,
-    image: Vec<u8>,
-    typed: &[u8],
-    verb: Verb,
-) -> Result<OnFile, DiskFault>
+pub fn on_file(alloc: Global, image: Vec<u8>, typed: &[u8], verb: Verb) -> Result<OnFile, DiskFault>
     ensures stays { IfOk result (λ came. OnErr came.done (came.file.items ≡ image.items)) }
     ensures kept { IfOk result (λ came. IfOk came.done (λ outcome.
         came.file.items ≡ left_in image.items (option_map vec_items outcome.image))) }

@@ -8,13 +8,14 @@
 #   KEEPS   calls a segment three times and keeps it meanwhile, so that it is loaded once
 #   PRIMES  writes the primes below 100, by a sieve
 #   HANOI   moves a tower of disks, by a procedure that calls itself and one inside it
+# PMACH names another program than ../pmach.
 set -e
 [ $# = 1 ] || {
     echo "usage: programs.sh PATH" >&2
     exit 1
 }
 here=$(dirname "$(readlink -f "$0")")
-pmach=$here/../pmach
+pmach=${PMACH:-$here/../pmach}
 image=$1
 scratch=$(mktemp -d)
 trap 'rm -rf "$scratch"' EXIT

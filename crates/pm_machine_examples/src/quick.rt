@@ -3,13 +3,13 @@
 use crate::codes::{CALLS, KEEPS, TOP};
 use crate::tested::Tested;
 use crate::volumes::volume;
-use pm_machine::{BootFault, Stop};
+use pm_machine::{BootFault, Machine, RunEnd, Stop, StopTest};
 use std::alloc::Global;
 use std::process::Abort;
 use std::test::Fail;
 
 /// Each program ends at an XIT, which is no quick step, after so many quick ones.
-const PROGRAMS: [(&[u8], u64); 15] = [
+const PROGRAMS: [(&[u8], u64); 22] = [
     // arithmetic, logic and comparisons of integers, LDCN and LDCI
     (
         &[
@@ -124,6 +124,64 @@ const PROGRAMS: [(&[u8], u64); 15] = [
         ],
         18,
     ),
+    // NEW, SCAN, MEMAVAIL, MARK, RELEASE
+    (
+        &[
+            0xA5, 0x01, 0x01, 0x9E, 0x01, 0x00, 0x00, 0x00, 0xC7, 0xFF, 0xFF, 0x00, 0x09, 0x9E,
+            0x0B, 0x9E, 0x28, 0xA5, 0x02, 0x9E, 0x20, 0xA5, 0x02, 0x9E, 0x21, 0xD6,
+        ],
+        15,
+    ),
+    // INC of 127; LDA and LOD 127 links up, STR three
+    (
+        &[
+            0xA5, 0x01, 0xA2, 0x7F, 0xB2, 0x7F, 0x01, 0xB6, 0x7F, 0x01, 0xB8, 0x03, 0x02, 0xD6,
+        ],
+        5,
+    ),
+    // LDC of eight words
+    (
+        &[
+            0xB3, 0x08, 0x00, 0x00, 0x00, 0x00, 0x00, 0x00, 0x00, 0x00, 0x00, 0x00, 0x00, 0x00,
+            0x00, 0x00, 0x00, 0x00, 0xD6,
+        ],
+        1,
+    ),
+    // XJP of four cases
+    (
+        &[
+            0x01, 0xAC, 0x00, 0x00, 0x03, 0x00, 0xB9, 0x00, 0xF8, 0xFF, 0xFA, 0xFF, 0xFC, 0xFF,
+            0xFE, 0xFF, 0xD6,
+        ],
+        2,
+    ),
+    // the other comparisons of bytes and of words
+    (
+        &[
+            0xA5, 0x01, 0xA5, 0x01, 0xB7, 0x0A, 0x02, 0xA5, 0x01, 0xA5, 0x01, 0xB0, 0x0A, 0x02,
+            0xA5, 0x01, 0xA5, 0x01, 0xB1, 0x0A, 0x02, 0xA5, 0x01, 0xA5, 0x01, 0xB4, 0x0A, 0x02,
+            0xA5, 0x01, 0xA5, 0x01, 0xB5, 0x0A, 0x02, 0xA5, 0x01, 0xA5, 0x01, 0xB7, 0x0C, 0x01,
+            0xD6,
+        ],
+        18,
+    ),
+    // the other comparisons of strings
+    (
+        &[
+            0xA6, 0x01, 0x41, 0xA6, 0x01, 0x41, 0xB7, 0x04, 0xA6, 0x01, 0x41, 0xA6, 0x01, 0x41,
+            0xB0, 0x04, 0xA6, 0x01, 0x41, 0xA6, 0x01, 0x41, 0xB1, 0x04, 0xA6, 0x01, 0x41, 0xA6,
+            0x01, 0x41, 0xB4, 0x04, 0xA6, 0x01, 0x41, 0xA6, 0x01, 0x41, 0xB5, 0x04, 0xD6,
+        ],
+        15,
+    ),
+    // the other comparisons of sets
+    (
+        &[
+            0x01, 0x97, 0x01, 0x97, 0xB7, 0x08, 0x01, 0x97, 0x01, 0x97, 0xB0, 0x08, 0x01, 0x97,
+            0x01, 0x97, 0xB4, 0x08, 0xD6,
+        ],
+        15,
+    ),
 ];
 
 /// All steps of the program but its last one are quick, and so many.
@@ -140,6 +198,32 @@ fn goes_quickly(rt: &impl Abort, alloc: Global, code: &[u8], count: u64) -> Resu
 fn opcodes_go_quickly(rt: HostRuntime) -> Result<(), BootFault> {
     for (code, count) in &PROGRAMS {
         goes_quickly(&rt, rt.alloc(), code, *count)?;
+    }
+    Ok(())
+}
+
+/// What stands behind the code of a segment of 64 bytes with one procedure, without parameters and variables, that is
+/// entered at its first byte.
+const TABLE: [u8; 14] = [0, 0, 0, 0, 6, 0, 56, 0, 1, 0, 2, 0, 1, 1];
+
+/// A segment of 64 bytes whose procedure has this code, of at most 50 bytes.
+fn segment_of(code: &[u8]) -> [u8; 64] {
+    let mut segment = [0xD7; 64];
+    for (place, byte) in segment.iter_mut().zip(code) {
+        *place = *byte;
+    }
+    segment[50..].copy_from_slice(&TABLE);
+    segment
+}
+
+/// The same programs as segments of a code file, which stand high in memory.
+#[test]
+fn booted_opcodes_go_quickly(rt: HostRuntime) -> Result<(), Fail> {
+    for (code, count) in &PROGRAMS {
+        let volume = volume(rt.alloc(), 2, [64, 0, 0], &segment_of(code))?;
+        let mut machine = Tested::booted(rt.alloc(), volume)?;
+        machine.makes_quick(&rt, 1000, *count);
+        machine.steps_to(&rt, Stop::Ended);
     }
     Ok(())
 }
@@ -218,5 +302,37 @@ fn loops_go_quickly(rt: HostRuntime) -> Result<(), BootFault> {
     machine.runs_to(&rt, 4002, 4002, Stop::Went);
     machine.has_made(&rt, 5002);
     machine.holds(&rt, 65504, 3);
+    Ok(())
+}
+
+/// The same, but FJP jumps back.
+const WHILE: [u8; 10] = [0x01, 0x02, 0x82, 0xAB, 0x01, 0x00, 0xA1, 0xFE, 0x08, 0x00];
+
+/// A test that stops no run, and may be asked before the first two steps alone.
+#[derive(Drop)]
+struct AskedAtFirst<'a, A>(&'a A);
+
+impl<A: Abort> StopTest for AskedAtFirst<'_, A> {
+    ghost use Rattle.pm_machine.specs.Runs.{never};
+
+    ghost stops = { λ _. never };
+
+    fn stops(&self, count: u64, _: &Machine) -> bool {
+        assert!(self.0; count < 2);
+        false
+    }
+
+    fn never_stops(&self) -> bool {
+        true
+    }
+}
+
+/// A run goes the quick way.
+#[test]
+fn runs_go_quickly(rt: HostRuntime) -> Result<(), Fail> {
+    let mut machine = Machine::raw(rt.alloc(), &WHILE)?;
+    let run = machine.run_until(1000, &AskedAtFirst(&rt))?;
+    assert_eq!(rt; run, (1000, RunEnd::Limit));
+    assert_eq!(rt; machine.quick_steps(999), 999);
     Ok(())
 }

@@ -1,18 +1,6 @@
 //! Worked rows, written by hand from the rules of docs/, beside what the machine does: a program of the gate. It prints
 //! for each file of data/ how many agree, and of the first that does not its line, what was expected and what came.
-//! docs/CASES.md has the language in full.
-//!
-//! A line with `|` is a row: one instruction, the stack before it, top first, and the stack behind it.
-//!
-//!     INN 8B | 1 8 3 | 1
-//!     LDP BA | 4 4 2002 ; 2002: CD AB | 12
-//!     SGS 97 | 4080 | error 1
-//!
-//! Other lines are scenes, which an empty line ends: each is done, and says itself again where it agrees.
-//!
-//!     code 02 03 82 D6
-//!     run 4 ended
-//!     stack 5
+//! docs/CASES.md has the language, of rows (`INN 8B | 1 8 3 | 1`) and of scenes, which an empty line ends.
 #![tactic(auto)]
 
 mod code_file;

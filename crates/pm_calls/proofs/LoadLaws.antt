@@ -1,14 +1,15 @@
 -- Where the code of a loaded segment stands after its call.
-use Rattle.std.proofs.Common.{◌≡◌, ◌<◌, ◌≤◌, inr, ℕ, ◌+◌, ◌-◌, ◌*◌, ◌/◌, ◌%◌, Bool, true, false, nat_lt}
+use Rattle.std.proofs.Common.{◌≡◌, ◌<◌, ◌≤◌, inl, inr, ℕ, ◌+◌, ◌-◌, ◌*◌, ◌/◌, ◌%◌, Bool, true, false, nat_lt}
 use Rattle.std.proofs.Common.{List, length, drop, get_or, Option, Some, None, Ok, refl, sym, ap, ◌∙◌, arith}
 use Rattle.std.specs.Prelude.{slice_get}
 use Rattle.std.specs.List.{All}
+use Rattle.std.proofs.lemmas.Bool.{cases_lt}
 use Rattle.std.proofs.lemmas.Bool.Decides.{nat_tests}
 use Rattle.std.proofs.lemmas.List.{ext_get_or, get_or-drop, get_or-take, length-drop, length-take-le}
 use Rattle.pm_words.specs.Words.{IsMemory, byte_at, bytes_at, bytes_of, copied, with_bytes, with_word}
 use Rattle.pm_words.proofs.Pairs.{length-bytes_of}
-use Rattle.pm_words.proofs.Laws.{byte_at-with_bytes}
-use Rattle.pm_words.proofs.RangeLaws.{byte_at-copied_other, byte_at-with_word_other, IsMemory-copied}
+use Rattle.pm_words.proofs.Laws.{IsMemory-with_bytes, byte_at-with_bytes, byte_at-with_bytes_other}
+use Rattle.pm_words.proofs.RangeLaws.{All-bytes_at, byte_at-copied_other, byte_at-with_word_other, IsMemory-copied, length-bytes_at, same_memories}
 use Rattle.pm_calls.specs.declared.registers.Registers.{Registers}
 use Rattle.pm_calls.specs.declared.frames.Table.{Table}
 use Rattle.pm_calls.specs.declared.frames.SegmentPlace.{SegmentPlace}
@@ -32,6 +33,43 @@ count_of_bytes ws a n size room =
 byte_of_bytes : (ws : List ℕ) (a n k : ℕ) → k < n → get_or (bytes_at ws a n) k 0 ≡ byte_at ws (a + k)
 unfolding bytes_at byte_at
 byte_of_bytes ws a n k h = get_or-take n (drop a (bytes_of ws)) k 0 h ∙ get_or-drop a (bytes_of ws) k 0
+
+-- what was kept of a range is put back: the memory is as it was before other bytes were written there
+pub kept_bytes : (m s : List ℕ) (a n : ℕ) → IsMemory m → IsMemory s → a + n ≤ 65536
+    → bytes_at (with_bytes s a (bytes_at m a n)) a n ≡ bytes_at m a n
+kept_bytes m s a n h g room =
+    let size : length (bytes_at m a n) ≡ n = length-bytes_at m a n h room in
+    let fits = All-bytes_at m a n h in
+    let made : IsMemory (with_bytes s a (bytes_at m a n)) = IsMemory-with_bytes s (bytes_at m a n) a g (omega (arith, size, room)) fits in
+    ext_get_or 0 _ _ (length-bytes_at _ a n made room ∙ sym size)
+    (λ k l. let low : k < n = omega (arith, l, length-bytes_at _ a n made room) in
+    let place : a + k - a ≡ k = omega arith in
+    byte_of_bytes _ a n k low ∙ byte_at-with_bytes s (bytes_at m a n) a (a + k) g (omega (arith, size, room)) fits (omega arith) (omega (arith, size, low))
+    ∙ ap (λ i. get_or (bytes_at m a n) i 0) place)
+
+pub bytes_put_back : (m s ys : List ℕ) (a n : ℕ) → IsMemory m → IsMemory s → length ys ≡ n → All (λ b. b < 256) ys → a + n ≤ 65536
+    → with_bytes (with_bytes m a ys) a (bytes_at (with_bytes s a (bytes_at m a n)) a n) ≡ m
+bytes_put_back m s ys a n h g count bytes room =
+    let size : length (bytes_at m a n) ≡ n = length-bytes_at m a n h room in
+    let fits = All-bytes_at m a n h in
+    let over : IsMemory (with_bytes m a ys) = IsMemory-with_bytes m ys a h (omega (arith, count, room)) bytes in
+    let back : IsMemory (with_bytes (with_bytes m a ys) a (bytes_at m a n))
+    = IsMemory-with_bytes (with_bytes m a ys) (bytes_at m a n) a over (omega (arith, size, room)) fits in
+    ap (λ xs. with_bytes (with_bytes m a ys) a xs) (kept_bytes m s a n h g room)
+    ∙ same_memories _ m back h (λ x below. elim (cases_lt x a) [
+      | inl low ↦
+          byte_at-with_bytes_other (with_bytes m a ys) (bytes_at m a n) a x over (omega (arith, size, room)) fits (inl low)
+          ∙ byte_at-with_bytes_other m ys a x h (omega (arith, count, room)) bytes (inl low)
+      | inr from ↦ elim (cases_lt x (a + n)) [
+        | inl inside ↦
+            let place : a + (x - a) ≡ x = omega (arith, from) in
+            byte_at-with_bytes (with_bytes m a ys) (bytes_at m a n) a x over (omega (arith, size, room)) fits from (omega (arith, size, inside))
+            ∙ byte_of_bytes m a n (x - a) (omega (arith, from, inside)) ∙ ap (λ i. byte_at m i) place
+        | inr above ↦
+            byte_at-with_bytes_other (with_bytes m a ys) (bytes_at m a n) a x over (omega (arith, size, room)) fits (inr (omega (arith, size, above)))
+            ∙ byte_at-with_bytes_other m ys a x h (omega (arith, count, room)) bytes (inr (omega (arith, count, above)))
+      ]
+    ])
 
 -- ---- bytes above a frame
 

@@ -71,6 +71,19 @@ bytes_put_back m s ys a n h g count bytes room =
       ]
     ])
 
+-- the same of the bytes below an address, as they are written there
+pub below_put_back : (m s ys kept back : List ℕ) (sp : ℕ) → IsMemory m → IsMemory s → All (λ b. b < 256) ys → length ys ≤ sp → sp ≤ 65536
+    → kept ≡ bytes_at m (sp - length ys) (length ys) → back ≡ bytes_at (with_bytes s (sp - length kept) kept) (sp - length ys) (length ys)
+    → with_bytes (with_bytes m (sp - length ys) ys) (sp - length back) back ≡ m
+below_put_back m s ys kept back sp h g bytes fits low kept_is back_is =
+    let inside : sp - length ys + length ys ≤ 65536 = omega (arith, fits, low) in
+    let count : length kept ≡ length ys = ap length kept_is ∙ length-bytes_at m (sp - length ys) (length ys) h inside in
+    let again : back ≡ bytes_at (with_bytes s (sp - length ys) (bytes_at m (sp - length ys) (length ys))) (sp - length ys) (length ys)
+    = rw (count, kept_is) at back_is in
+    let same : back ≡ bytes_at m (sp - length ys) (length ys) = again ∙ kept_bytes m s (sp - length ys) (length ys) h g inside in
+    let size : length back ≡ length ys = ap length same ∙ length-bytes_at m (sp - length ys) (length ys) h inside in
+    rw (size, again) (bytes_put_back m s ys (sp - length ys) (length ys) h g refl bytes inside)
+
 -- ---- bytes above a frame
 
 -- a word written at an address, which may be odd, leaves all bytes above

@@ -5,8 +5,8 @@
                     of more than 100 functions
     lines           over 120 characters in code, definitions and docs, over 160 in proofs (tables apart, and
                     attributes, which `rt fmt` joins)
-    numbers         that have a name: ends of the stack, the most bytes of bare code, opcodes of jumps (tables of
-                    opcodes, table.rt and quick.rt, have their own)
+    numbers         that have a name: ends of the stack, the most bytes of bare code, opcodes of jumps (the table of
+                    opcodes, table.rt, has its own)
     the page        of the instructions, of which crates/pm_page/stdin is a copy
     the cases       of examples/conformance/bare.txt, of which crates/pm_cases/data/bare.txt is a copy
     names           that docs/PROMISES.md, its annex and the tables of definitions have and the source, or the file beside,
@@ -95,7 +95,7 @@ for pattern, most in (("crates/*/src/**/*.rt", 120), ("crates/*/specs/**/*.antt"
 
 NUMBERS = r"\b(65_?492|65_?502|65_?504|60_?000|172|185)\b"
 for path in sorted(glob.glob("crates/*/src/**/*.rt", recursive=True)):
-    if re.search(r"(layout|fields|worked|tests|table|quick\w*)\.rt$", path) or "_examples/" in path:
+    if re.search(r"(layout|fields|worked|tests|table)\.rt$", path) or "_examples/" in path:
         continue
     for number, line in enumerate(lines(path)):
         if re.search(NUMBERS, line.split("//")[0]) and not re.match(r"\s*(const|pub const|pub\(crate\) const)", line):

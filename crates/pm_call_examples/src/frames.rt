@@ -77,18 +77,22 @@ impl Parts {
         )
     }
 
-    // A call of procedure 1 of slot 3, whose code is lent.
-    fn call_segment(&mut self) -> Result<(), ExecError> {
+    // A call of procedure 1 of a slot, whose code is lent.
+    fn call_slot(&mut self, slot: u8) -> Result<(), ExecError> {
         if !is_stack(&self.registers) {
             return Err(ExecError::InvalidMemory);
         }
         self.frames.call(
             &mut self.memory,
             &mut self.registers,
-            Call::Cxp(3, 1),
+            Call::Cxp(slot, 1),
             Some(&CODE),
             &mut self.scratch,
         )
+    }
+
+    fn call_segment(&mut self) -> Result<(), ExecError> {
+        self.call_slot(3)
     }
 
     // Keeps slot 3, whose code is lent.
@@ -194,6 +198,49 @@ fn a_deep_descent_keeps_all_bases(rt: HostRuntime) -> Result<(), Fail> {
     let mut parts = Parts::new(rt.alloc())?;
     for _round in 0..20 {
         descends(&rt, &mut parts)?;
+    }
+    Ok(())
+}
+
+// Of 130 calls the last 128 frames are kept; the words of the others are given back, so that the same calls again
+// write no watched word.
+#[test]
+fn the_129th_base_gives_its_word_back(rt: HostRuntime) -> Result<(), Fail> {
+    let mut parts = Parts::new(rt.alloc())?;
+    for _round in 0..2 {
+        for _depth in 0..130 {
+            parts.call()?;
+            parts.is_untouched(&rt);
+        }
+        parts.has_bases(&rt, 128);
+        for _depth in 0..130 {
+            parts.ret(false)?;
+            parts.is_untouched(&rt);
+        }
+        assert!(rt; parts.registers.mp == 65492);
+    }
+    Ok(())
+}
+
+// Segment 3 calls segment 4, which calls segment 3: its tables stay over the return from the inner call, since the
+// outer one still runs, and go with that.
+#[test]
+fn tables_of_a_called_segment_stay_over_an_inner_return(rt: HostRuntime) -> Result<(), Fail> {
+    let mut parts = Parts::new(rt.alloc())?;
+    for _i in 0..20 {
+        parts.call_slot(3)?;
+        parts.call_slot(4)?;
+        parts.call_slot(3)?;
+        assert!(rt; parts.frames.place(3) == Some((59998, 2)));
+        parts.keeps_tables(&rt, 2);
+        parts.ret(true)?;
+        assert!(rt; parts.frames.place(3) == Some((59998, 1)));
+        parts.keeps_tables(&rt, 2);
+        parts.ret(true)?;
+        parts.keeps_tables(&rt, 1);
+        parts.ret(true)?;
+        parts.keeps_tables(&rt, 0);
+        parts.is_untouched(&rt);
     }
     Ok(())
 }

@@ -9,7 +9,7 @@ use std::process::Abort;
 use std::test::Fail;
 
 /// Each program ends at an XIT, which is no quick step, after so many quick ones.
-const PROGRAMS: [(&[u8], u64); 22] = [
+const PROGRAMS: [(&[u8], u64); 26] = [
     // arithmetic, logic and comparisons of integers, LDCN and LDCI
     (
         &[
@@ -124,13 +124,13 @@ const PROGRAMS: [(&[u8], u64); 22] = [
         ],
         18,
     ),
-    // NEW, SCAN, MEMAVAIL, MARK, RELEASE
+    // NEW, SCAN, MEMAVAIL, MARK, RELEASE, IOCHECK
     (
         &[
             0xA5, 0x01, 0x01, 0x9E, 0x01, 0x00, 0x00, 0x00, 0xC7, 0xFF, 0xFF, 0x00, 0x09, 0x9E,
-            0x0B, 0x9E, 0x28, 0xA5, 0x02, 0x9E, 0x20, 0xA5, 0x02, 0x9E, 0x21, 0xD6,
+            0x0B, 0x9E, 0x28, 0xA5, 0x02, 0x9E, 0x20, 0xA5, 0x02, 0x9E, 0x21, 0x9E, 0x00, 0xD6,
         ],
-        15,
+        16,
     ),
     // INC of 127; LDA and LOD 127 links up, STR three
     (
@@ -181,6 +181,42 @@ const PROGRAMS: [(&[u8], u64); 22] = [
             0x01, 0x97, 0xB4, 0x08, 0xD6,
         ],
         15,
+    ),
+    // IND, IXA, LAO, LDO, SRO, LLA, LDL and STL of 127; LDA, LOD and STR of 127, as many links up
+    (
+        &[
+            0xA5, 0x01, 0xA3, 0x7F, 0x01, 0xA4, 0x7F, 0xA5, 0x7F, 0xA9, 0x7F, 0xAB, 0x7F, 0xC6,
+            0x7F, 0xCA, 0x7F, 0xCC, 0x7F, 0xB2, 0x7F, 0x7F, 0xB6, 0x7F, 0x7F, 0xB8, 0x7F, 0x7F,
+            0xD6,
+        ],
+        13,
+    ),
+    // MOV of 127 words, LDM and STM of 255, EQU of 127 bytes and of 127 words: at 2,048 and 2,304
+    (
+        &[
+            0xC7, 0x00, 0x08, 0xC7, 0x00, 0x09, 0xA8, 0x7F, 0xC7, 0x00, 0x09, 0xC7, 0x00, 0x08,
+            0xBC, 0xFF, 0xBD, 0xFF, 0xC7, 0x00, 0x08, 0xC7, 0x00, 0x09, 0xAF, 0x0A, 0x7F, 0xC7,
+            0x00, 0x08, 0xC7, 0x00, 0x09, 0xAF, 0x0C, 0x7F, 0xD6,
+        ],
+        13,
+    ),
+    // a string of 255 characters, by STB of its length at 2,048: SAS to 2,304, EQU, IXS
+    (
+        &[
+            0xC7, 0x00, 0x08, 0x00, 0xC7, 0xFF, 0x00, 0xBF, 0xC7, 0x00, 0x09, 0xC7, 0x00, 0x08,
+            0xAA, 0xFF, 0xC7, 0x00, 0x08, 0xC7, 0x00, 0x09, 0xAF, 0x04, 0xC7, 0x00, 0x08, 0xC7,
+            0xFF, 0x00, 0x9B, 0xD6,
+        ],
+        13,
+    ),
+    // sets of 255 words: SGS twice, UNI, SRS, INT, SGS, DIF, ADJ; SGS, INN; SGS twice, EQU
+    (
+        &[
+            0xC7, 0xEF, 0x0F, 0x97, 0xC7, 0xEF, 0x0F, 0x97, 0x9C, 0x00, 0xC7, 0xEF, 0x0F, 0x94,
+            0x8C, 0xC7, 0xEF, 0x0F, 0x97, 0x85, 0xA0, 0xFF, 0x01, 0xC7, 0xEF, 0x0F, 0x97, 0x8B,
+            0xC7, 0xEF, 0x0F, 0x97, 0xC7, 0xEF, 0x0F, 0x97, 0xAF, 0x08, 0xD6,
+        ],
+        22,
     ),
 ];
 
@@ -238,6 +274,41 @@ fn constants_go_quickly(rt: HostRuntime) -> Result<(), BootFault> {
     goes_quickly(&rt, rt.alloc(), &code, 128)
 }
 
+/// A jump forward by 127, to the same jump by the jump table, from the place 128 bytes below its end.
+fn jumps_far(rt: &impl Abort, alloc: Global, opcode: u8, word: u8) -> Result<(), BootFault> {
+    let mut code = [0xD6; 300];
+    code[..4].copy_from_slice(&[0x00, word, opcode, 0x7F]);
+    code[131..135].copy_from_slice(&[0x00, word, opcode, 0x80]);
+    code[172..174].copy_from_slice(&[0x16, 0x00]);
+    goes_quickly(rt, alloc, &code, 6)
+}
+
+/// FJP, UJP, EFJ and NFJ, which are taken.
+#[test]
+fn far_jumps_go_quickly(rt: HostRuntime) -> Result<(), BootFault> {
+    for (opcode, word) in [(0xA1, 0), (0xB9, 0), (0xD3, 1), (0xD4, 0)] {
+        jumps_far(&rt, rt.alloc(), opcode, word)?;
+    }
+    Ok(())
+}
+
+/// LSA and LPA of 255 characters, LDC of 255 words, and XJP of 250 cases, of which the second is taken.
+#[test]
+fn long_literals_go_quickly(rt: HostRuntime) -> Result<(), BootFault> {
+    for opcode in [0xA6, 0xD0] {
+        let mut code = [0x41; 258];
+        code[..2].copy_from_slice(&[opcode, 0xFF]);
+        code[257] = 0xD6;
+        goes_quickly(&rt, rt.alloc(), &code, 1)?;
+    }
+    let mut code = [0; 513];
+    code[..2].copy_from_slice(&[0xB3, 0xFF]);
+    code[512] = 0xD6;
+    goes_quickly(&rt, rt.alloc(), &code, 1)?;
+    code[..12].copy_from_slice(&[0x01, 0xAC, 0, 0, 0xF9, 0, 0xD6, 0, 0, 0, 0x0A, 0xFE]);
+    goes_quickly(&rt, rt.alloc(), &code, 2)
+}
+
 /// CLP, then a call of procedure 2 by each kind of call within a segment, and RNP; the return to the system is not
 /// quick.
 #[test]
@@ -269,6 +340,65 @@ fn base_calls_go_quickly(rt: HostRuntime) -> Result<(), BootFault> {
     let mut machine = Tested::raw(rt.alloc(), &code)?;
     machine.pokes(&rt, TOP.0, TOP.1);
     machine.makes_quick(&rt, 1000, 5);
+    machine.steps_to(&rt, Stop::Ended);
+    Ok(())
+}
+
+/// RNP and RBP of several words, out of a procedure 2 with 600 bytes of variables.
+#[test]
+fn returns_of_words_go_quickly(rt: HostRuntime) -> Result<(), BootFault> {
+    for (call, back, level, sp) in [(0xCE, 0xAD, 2, 65480), (0xC2, 0xC1, 0, 65478)] {
+        for words in [2, 8, 9, 255] {
+            let mut code = CALLS;
+            code[0] = call;
+            code[2] = call;
+            code[4] = call;
+            code[6] = back;
+            code[17] = level / 2;
+            code[18..22].copy_from_slice(&[back, words, 0x58, 0x02]);
+            code[29] = level;
+            let mut machine = Tested::raw(rt.alloc(), &code)?;
+            machine.pokes(&rt, TOP.0, TOP.1);
+            machine.makes_quick(&rt, 1000, 5);
+            machine.has_sp(&rt, sp - 4 * u16::from(words));
+            machine.steps_to(&rt, Stop::Ended);
+        }
+    }
+    Ok(())
+}
+
+/// Calls of procedure 255, whose word of the dictionary stands at 548, by each kind of call within a segment.
+#[test]
+fn calls_of_procedure_255_go_quickly(rt: HostRuntime) -> Result<(), BootFault> {
+    for opcode in [0xCE, 0xCF, 0xAE] {
+        let mut code = CALLS;
+        code[2..6].copy_from_slice(&[opcode, 0xFF, opcode, 0xFF]);
+        let mut machine = Tested::raw(rt.alloc(), &code)?;
+        machine.pokes(&rt, TOP.0, 0xFF01);
+        machine.pokes(&rt, 548, 65032);
+        machine.makes_quick(&rt, 1000, 5);
+        machine.steps_to(&rt, Stop::Ended);
+    }
+    Ok(())
+}
+
+/// Segment 1 calls its own procedure 2 and segment 2, which calls procedure 2 of segment 1.
+const CROSSING: [u8; 56] = [
+    0xCD, 0x01, 0x02, 0xCD, 0x02, 0x01, 0xC1, 0x00, 0x00, 0x00, 0x00, 0x00, 0x06, 0x00, 0x0E, 0x00,
+    0x01, 0x00, 0xC1, 0x00, 0x00, 0x00, 0x00, 0x00, 0x06, 0x00, 0x08, 0x00, 0x02, 0x00, 0x02, 0x00,
+    0x10, 0x00, 0x01, 0x02, // segment 2
+    0xCD, 0x01, 0x02, 0xC1, 0x00, 0xD7, 0x00, 0x00, 0x00, 0x00, 0x07, 0x00, 0x0C, 0x00, 0x01, 0x00,
+    0x02, 0x00, 0x02, 0x01,
+];
+
+/// CXP of a segment that stands by a call is quick, from itself and from another; that which loads one is not.
+#[test]
+fn calls_of_called_segments_go_quickly(rt: HostRuntime) -> Result<(), Fail> {
+    let volume = volume(rt.alloc(), 2, [36, 20, 0], &CROSSING)?;
+    let mut machine = Tested::booted(rt.alloc(), volume)?;
+    machine.makes_quick(&rt, 1000, 2);
+    machine.steps_to(&rt, Stop::Went);
+    machine.makes_quick(&rt, 1000, 3);
     machine.steps_to(&rt, Stop::Ended);
     Ok(())
 }

@@ -2,6 +2,7 @@
 
 use pm_volume::{Copies, Volume, VolumeFault};
 use std::alloc::{AllocError, Global};
+use std::process::Abort;
 use std::test::Fail;
 
 // The image of a new volume of 20 blocks.
@@ -68,13 +69,24 @@ fn refused_images(rt: HostRuntime) -> Result<(), Fail> {
     Ok(())
 }
 
+// A file is one block with this byte in each place.
+fn has_block(rt: &impl Abort, volume: &Volume, name: &str, first: u16, byte: u8) {
+    let found = volume.find(name);
+    assert_eq!(rt;
+        found.as_ref().map(|e| (e.first, e.end)),
+        Some((first, first + 1))
+    );
+    if let Some(e) = found {
+        assert_eq!(rt; volume.file(&e), Some([byte; 512].as_slice()));
+    }
+}
+
 #[test]
 fn full_volume(rt: HostRuntime) -> Result<(), Fail> {
     let mut volume = Volume::blank(rt.alloc(), "WORK", 83)?;
-    let block = [7; 512];
     for n in 1..78u32 {
         let name = format!(in rt.alloc(); "F{}{}", n / 10, n % 10)?;
-        let e = volume.add(&name, 5, &block, 0)?;
+        let e = volume.add(&name, 5, &[n as u8; 512], 0)?;
         assert_eq!(rt; u32::from(e.first), n + 5);
     }
     assert_eq!(rt;
@@ -92,6 +104,15 @@ fn full_volume(rt: HostRuntime) -> Result<(), Fail> {
     let e = volume.add("TWO", 5, &two, 0)?;
     assert_eq!(rt; (e.first, e.end), (81, 83));
     assert_eq!(rt; volume.entries().count(), 76);
+    // those behind a file that went have moved by a block or by two, with their bytes
+    for (name, first, byte) in [
+        ("F09", 14, 9),
+        ("F11", 15, 11),
+        ("F21", 24, 21),
+        ("F77", 80, 77),
+    ] {
+        has_block(&rt, &volume, name, first, byte);
+    }
     Ok(())
 }
 

@@ -1,5 +1,5 @@
 //! A code file that is written and read, and the text of one procedure of a segment.
-use crate::one_segment::{SEGMENT, example};
+use crate::one_segment::{NO_NAME, SEGMENT, example};
 use crate::programs::SEGMENTS;
 use pm_codefile::{Attributes, CodeFile, Slot, attributes, procedures};
 use std::test::Fail;
@@ -34,6 +34,34 @@ fn written_file_is_read(rt: HostRuntime) -> Result<(), Fail> {
     };
     assert_eq!(rt; attributes(&SEGMENT, 1), Some(table));
     assert_eq!(rt; attributes(&SEGMENT, 2), None);
+    Ok(())
+}
+
+/// Sixteen segments of 65,534 bytes, the most that a slot can have: ones in the slots 0 to 7, twos in the others. Each
+/// takes 128 blocks, with two zeros behind it, so that of slot n begins at block 1 + 128 n.
+#[test]
+fn largest_file_is_written(rt: HostRuntime) -> Result<(), Fail> {
+    let mut segments = vec![in rt.alloc(); 1; 524_272]?;
+    let others = vec![in rt.alloc(); 2; 524_272]?;
+    segments.extend_from_slice(&others)?;
+    let bytes = pm_codefile::write(rt.alloc(), &[NO_NAME; 16], &[65_534; 16], &segments)?;
+    assert_eq!(rt; bytes.len(), 512 * (1 + 16 * 128));
+    for n in 0..16 {
+        let block: u16 = 1 + 128 * n;
+        let [low, high] = block.to_le_bytes();
+        let pair = [low, high, 0xFE, 0xFF];
+        let place = 4 * usize::from(n);
+        assert_eq!(rt; bytes.get(place..place + 4), Some(pair.as_slice()));
+        let begin = 512 * usize::from(block);
+        let given = 65_534 * usize::from(n);
+        assert!(rt; bytes.get(begin..begin + 65_534) == segments.get(given..given + 65_534));
+        assert_eq!(rt;
+            bytes.get(begin + 65_534..begin + 65_536),
+            Some([0, 0].as_slice())
+        );
+    }
+    assert_eq!(rt; bytes.get(64..192), Some([b' '; 128].as_slice()));
+    assert_eq!(rt; bytes.get(192..512), Some([0; 320].as_slice()));
     Ok(())
 }
 

@@ -1,8 +1,8 @@
 //! Cases of bare code: the trace that the job writes, and the registers and the stack that the machine has at its end.
 use crate::case::{Came, Case};
 use crate::jobs::do_job;
-use crate::spelled::{digest_text, hex_bytes, steps};
 use pm_machine::Machine;
+use pm_replay::{digest_text, hex_bytes, steps};
 use pm_tool::Job;
 use std::alloc::Global;
 use std::io;

@@ -1,11 +1,11 @@
 //! Cases of programs on a volume: what a run gives, its trace, and one session of the debugger.
-use crate::case::{Came, Case};
+use crate::case::{Came, Case, MOST_SHOWN};
 use crate::code_file::code_file;
 use crate::jobs::{Ran, do_job};
-use crate::spelled::{
-    add_escaped, byte, bytes_text, digest_text, hex_bytes, name, not_a_case, steps, word,
-};
 use pm_filer::FileCommand;
+use pm_replay::{
+    add_escaped, byte, bytes_text, digest_text, hex_bytes, name, steps, unreadable, word,
+};
 use pm_tool::Job;
 use std::alloc::Global;
 use std::io;
@@ -68,10 +68,10 @@ fn disks(alloc: Global, case: &Case<'_>, work: &[u8]) -> io::Result<Images> {
     let mut disks = [Some(work.to_vec(alloc)?), None, None, None, None, None];
     for line in case.lines.iter() {
         if line.word == "disk" {
-            let (unit, blocks) = line.rest.split_once(' ').ok_or_else(not_a_case)?;
-            let place = place_of(unit).ok_or_else(not_a_case)?;
+            let (unit, blocks) = line.rest.split_once(' ').ok_or_else(unreadable)?;
+            let place = place_of(unit).ok_or_else(unreadable)?;
             let image = volume(alloc, "V", word(blocks)?)?;
-            *disks.get_mut(place).ok_or_else(not_a_case)? = Some(image);
+            *disks.get_mut(place).ok_or_else(unreadable)? = Some(image);
         }
     }
     Ok(disks)
@@ -92,7 +92,7 @@ fn limit(case: &Case<'_>) -> io::Result<u32> {
 /// Answers bytes, if there are any.
 fn add_bytes(alloc: Global, word: &str, bytes: &[u8], came: &mut Came) -> io::Result<()> {
     if !bytes.is_empty() {
-        let text = bytes_text(alloc, bytes)?;
+        let text = bytes_text(alloc, bytes, MOST_SHOWN)?;
         came.answer(word, text.as_str())?;
     }
     Ok(())

@@ -1,6 +1,9 @@
 //! One case: its lines `WORD REST`, of which some are given and the others are answers.
 use std::alloc::{AllocError, Global};
 
+/// The most bytes that a case shows as they are.
+pub const MOST_SHOWN: usize = 64;
+
 /// A line of a case.
 #[derive(Clone, Copy)]
 pub struct Line<'a> {

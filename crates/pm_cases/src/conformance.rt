@@ -1,7 +1,7 @@
 //! The cases of examples/conformance/bare.txt: a name, lines of the bytes in hexadecimal, and the trace.
 use crate::bare::add_trace;
 use crate::case::{Came, Case};
-use crate::spelled::hex_bytes;
+use pm_replay::hex_bytes;
 use std::alloc::Global;
 use std::io;
 

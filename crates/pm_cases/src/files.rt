@@ -1,12 +1,11 @@
 //! Cases of volumes: a session of commands on one image.
-use crate::case::{Came, Case, Line};
+use crate::case::{Came, Case, Line, MOST_SHOWN};
 use crate::code_file::damage;
 use crate::jobs::{Ran, do_job};
-use crate::spelled::{
-    MOST_SHOWN, add_escaped, byte, bytes_text, digest_text, hex_bytes, measured, name, not_a_case,
-    number, word,
-};
 use pm_filer::FileCommand;
+use pm_replay::{
+    add_escaped, byte, bytes_text, digest_text, hex_bytes, measured, name, number, unreadable, word,
+};
 use pm_tool::Job;
 use std::alloc::Global;
 use std::io;
@@ -27,7 +26,7 @@ struct Session {
 
 /// Two words with a blank between them.
 fn two(text: &str) -> io::Result<(&str, &str)> {
-    text.split_once(' ').ok_or_else(not_a_case)
+    text.split_once(' ').ok_or_else(unreadable)
 }
 
 /// So many bytes, each one more than the one before, modulo 251.
@@ -64,7 +63,7 @@ fn content(alloc: Global, spelled: &str) -> io::Result<Vec<u8>> {
         "hex" => hex_bytes(alloc, line.rest),
         "ramp" => ramp(alloc, line.rest),
         "text" => text(alloc, line.rest),
-        _ => Err(not_a_case()),
+        _ => Err(unreadable()),
     }
 }
 
@@ -122,7 +121,7 @@ fn command(alloc: Global, line: Line<'_>) -> io::Result<(FileCommand, Vec<u8>)> 
         "zero" => Ok((FileCommand::Zero(name(alloc, rest)?), none)),
         "duplicate" => Ok((FileCommand::Duplicate, none)),
         "single" => Ok((FileCommand::Single, none)),
-        _ => Err(not_a_case()),
+        _ => Err(unreadable()),
     }
 }
 

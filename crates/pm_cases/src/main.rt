@@ -10,7 +10,6 @@ mod conformance;
 mod files;
 mod jobs;
 mod report;
-mod spelled;
 mod texts;
 mod unseen;
 

@@ -1,9 +1,10 @@
 //! The replay of a file: each case beside its answers, and what is said of those that differ.
 use crate::case::{Came, Case, Line};
 use crate::{bare, boots, conformance, files, texts};
+use pm_replay::Report;
 use std::alloc::{AllocError, Global};
+use std::io;
 use std::io::ErrorKind;
-use std::{fmt, io};
 
 /// What the cases of a file are.
 #[derive(Clone, Copy)]
@@ -44,27 +45,6 @@ impl Kind {
             Kind::Texts => texts::answers(alloc, case),
             Kind::Conformance => conformance::answers(alloc, case),
         }
-    }
-}
-
-/// How many cases of a file agree, how many do not, and what is said of the first of these.
-#[derive(Drop)]
-pub struct Report {
-    agree: u32,
-    differ: u32,
-    first: String,
-}
-
-impl fmt::Display for Report {
-    fn fmt<W: fmt::Write>(&self, f: &mut fmt::Formatter<W>) -> fmt::Result {
-        let agree = self.agree;
-        write!(f, "{agree} agree")?;
-        if self.differ > 0 {
-            let differ = self.differ;
-            let first = self.first.as_str();
-            write!(f, ", {differ} do not. The first:\n{first}")?;
-        }
-        Ok(())
     }
 }
 
@@ -169,37 +149,28 @@ fn came_of(alloc: Global, kind: Kind, case: &Case<'_>) -> io::Result<Came> {
     }
 }
 
-impl Report {
-    /// Replays a case.
-    fn add(&mut self, alloc: Global, kind: Kind, case: &Case<'_>) -> io::Result<()> {
-        let wanted = expected(alloc, kind, case)?;
-        let came = came_of(alloc, kind, case)?;
-        if wanted.as_str() == came.answers.as_str() {
-            self.agree = self.agree.saturating_add(1);
-            return Ok(());
-        }
-        if self.differ == 0 {
-            self.first = told(alloc, kind, case, wanted.as_str(), &came)?;
-        }
-        self.differ = self.differ.saturating_add(1);
-        Ok(())
+/// Replays a case, and counts it.
+fn add(report: &mut Report, alloc: Global, kind: Kind, case: &Case<'_>) -> io::Result<()> {
+    let wanted = expected(alloc, kind, case)?;
+    let came = came_of(alloc, kind, case)?;
+    if wanted.as_str() == came.answers.as_str() {
+        report.agrees();
+    } else {
+        report.differs(told(alloc, kind, case, wanted.as_str(), &came)?);
     }
+    Ok(())
 }
 
 /// Replays the cases of a file.
 pub fn replay(alloc: Global, text: &str, kind: Kind) -> io::Result<Report> {
-    let mut report = Report {
-        agree: 0,
-        differ: 0,
-        first: String::new(alloc),
-    };
+    let mut report = Report::new(alloc);
     let mut case = Case::new(alloc, "", 0);
     for (number, line) in text.lines().enumerate() {
         if let Some(name) = line.strip_prefix(kind.head()) {
             case = Case::new(alloc, name, number.saturating_add(1));
         } else if line.is_empty() {
             if !case.lines.is_empty() {
-                report.add(alloc, kind, &case)?;
+                add(&mut report, alloc, kind, &case)?;
             }
             case = Case::new(alloc, "", 0);
         } else if !case.name.is_empty() {
@@ -207,7 +178,7 @@ pub fn replay(alloc: Global, text: &str, kind: Kind) -> io::Result<Report> {
         }
     }
     if !case.lines.is_empty() {
-        report.add(alloc, kind, &case)?;
+        add(&mut report, alloc, kind, &case)?;
     }
     Ok(report)
 }

@@ -2,7 +2,7 @@
 use crate::case::{Came, Case, Line};
 use crate::code_file::code_file;
 use crate::jobs::do_job;
-use crate::spelled::{add_escaped, measured, number};
+use pm_replay::{add_escaped, measured, number};
 use pm_tool::Job;
 use std::alloc::Global;
 use std::io;

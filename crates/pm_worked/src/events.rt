@@ -1,7 +1,8 @@
 //! What is done with a machine.
 use crate::scene::{asked, mount_blank, with_refusal};
-use crate::spelled::{byte, hex_bytes, not_a_row, steps, word, words};
+use crate::spelled::words;
 use pm_machine::{Machine, Stop};
+use pm_replay::{byte, hex_bytes, steps, unreadable, word};
 use std::alloc::{AllocError, Global};
 use std::io;
 
@@ -41,9 +42,9 @@ fn step(alloc: Global, machine: &mut Machine) -> io::Result<String> {
 
 /// A run: `COUNT OUTCOME`. It has that limit where all steps went.
 fn run(alloc: Global, machine: &mut Machine, rest: &str) -> io::Result<String> {
-    let (count, wanted) = rest.split_once(' ').ok_or_else(not_a_row)?;
+    let (count, wanted) = rest.split_once(' ').ok_or_else(unreadable)?;
     let limit = match wanted {
-        "went" => steps(count)?,
+        "went" => u64::from(steps(count)?),
         _ => STEPS,
     };
     let (made, stop) = machine.run(limit)?;
@@ -53,7 +54,7 @@ fn run(alloc: Global, machine: &mut Machine, rest: &str) -> io::Result<String> {
 
 /// Writes words from an address on: `A W ..`; whether all are written.
 fn poke(alloc: Global, machine: &mut Machine, rest: &str) -> io::Result<bool> {
-    let (address, text) = rest.split_once(' ').ok_or_else(not_a_row)?;
+    let (address, text) = rest.split_once(' ').ok_or_else(unreadable)?;
     let mut address = word(address)?;
     let mut all = true;
     for word in words(alloc, text)?.iter() {
@@ -65,14 +66,14 @@ fn poke(alloc: Global, machine: &mut Machine, rest: &str) -> io::Result<bool> {
 
 /// Mounts a blank disk: `UNIT BLOCKS`.
 fn disk(alloc: Global, machine: &mut Machine, line: &str, rest: &str) -> io::Result<String> {
-    let (unit, blocks) = asked(rest).split_once(' ').ok_or_else(not_a_row)?;
+    let (unit, blocks) = asked(rest).split_once(' ').ok_or_else(unreadable)?;
     let refusal = mount_blank(alloc, machine, byte(unit)?, word(blocks)?)?;
     with_refusal(alloc, asked(line), refusal)
 }
 
 /// Takes a disk away: `UNIT BLOCKS`, or `UNIT none`.
 fn eject(alloc: Global, machine: &mut Machine, rest: &str) -> io::Result<String> {
-    let (unit, _) = rest.split_once(' ').ok_or_else(not_a_row)?;
+    let (unit, _) = rest.split_once(' ').ok_or_else(unreadable)?;
     match machine.eject(byte(unit)?) {
         Some(disk) => {
             let blocks = disk.blocks();

@@ -1,6 +1,6 @@
 //! Rows of one instruction as it is read: `read PLACE HEX | OPCODE A B C LONG START COUNT LEN`, or the fault.
-use crate::spelled::{hex_bytes, hex_text, not_a_row, number};
 use pm_opcode::{Decode, Instr, decode, encode};
+use pm_replay::{hex_bytes, hex_text, number, unreadable};
 use std::alloc::{AllocError, Global};
 use std::io;
 
@@ -22,13 +22,13 @@ fn fault(fault: Decode) -> &'static str {
 
 /// What came where a row does not agree. What was read has to be written again as the bytes from the place on.
 pub fn differing(alloc: Global, line: &str) -> io::Result<Option<String>> {
-    let (given, wanted) = line.split_once('|').ok_or_else(not_a_row)?;
-    let given = given.strip_prefix("read ").ok_or_else(not_a_row)?;
+    let (given, wanted) = line.split_once('|').ok_or_else(unreadable)?;
+    let given = given.strip_prefix("read ").ok_or_else(unreadable)?;
     let (place, digits) = given.trim().split_once(' ').unwrap_or((given.trim(), ""));
     let place = number(place)?;
     let bytes = hex_bytes(alloc, digits)?;
     if bytes.len() > 65536 {
-        return Err(not_a_row());
+        return Err(unreadable());
     }
     let i = match decode(&bytes, place) {
         Ok(i) => i,

@@ -1,10 +1,10 @@
 //! Rows of one instruction: `MNEMONIC HEX | STACK ; MORE | STACK ; MORE`, stacks with their top first.
 use crate::events::outcome;
 use crate::sides::Side;
-use crate::spelled::{hex_bytes, hex_text, not_a_row};
 use crate::start::machine;
 use pm_machine::Machine;
 use pm_opcode::row_at;
+use pm_replay::{hex_bytes, hex_text, unreadable};
 use pm_words::Memory;
 use std::alloc::{AllocError, Global};
 use std::io;
@@ -103,24 +103,24 @@ fn agrees(machine: &Machine, wanted: &Side) -> bool {
 
 /// The bytes of an instruction behind its mnemonic, which is that of the table; `-` is none.
 fn code(alloc: Global, text: &str) -> io::Result<Vec<u8>> {
-    let (name, digits) = text.split_once(' ').ok_or_else(not_a_row)?;
+    let (name, digits) = text.split_once(' ').ok_or_else(unreadable)?;
     let code = hex_bytes(alloc, digits)?;
-    let first = code.first().copied().ok_or_else(not_a_row)?;
+    let first = code.first().copied().ok_or_else(unreadable)?;
     let mnemonic = row_at(first).mnemonic;
     if name == mnemonic || name == "-" && mnemonic.is_empty() {
         Ok(code)
     } else {
-        Err(not_a_row())
+        Err(unreadable())
     }
 }
 
 /// What came where a row does not agree.
 pub fn differing(alloc: Global, line: &str) -> io::Result<Option<String>> {
-    let (instruction, sides) = line.split_once('|').ok_or_else(not_a_row)?;
-    let (before, after) = sides.split_once('|').ok_or_else(not_a_row)?;
+    let (instruction, sides) = line.split_once('|').ok_or_else(unreadable)?;
+    let (before, after) = sides.split_once('|').ok_or_else(unreadable)?;
     let code = code(alloc, instruction.trim())?;
     if code.len() > 65535 {
-        return Err(not_a_row());
+        return Err(unreadable());
     }
     let given = Side::given(alloc, &code, before)?;
     let wanted = Side::wanted(alloc, &given, code.len() as u16, after)?;

@@ -1,16 +1,13 @@
 //! Scenes: a machine on bare code or on a volume, and lines that are done one after the other. Each line says itself
 //! again where it agrees.
-use crate::code_file::{Segment, volume};
+use crate::code_file::volume;
 use crate::events::on_machine;
-use crate::spelled::{byte, hex_bytes, not_a_row, number};
 use crate::views::view;
 use pm_machine::{BootFault, Machine};
-use pm_volume::Volume;
+use pm_replay::{Segment, byte, hex_bytes, number, unreadable};
+use pm_volume::{Volume, kinds};
 use std::alloc::Global;
 use std::io;
-
-/// The kind of the code file where the scene does not say: code.
-const CODE: u8 = 2;
 
 /// A scene.
 #[derive(Drop)]
@@ -34,7 +31,7 @@ pub fn mount_blank(
     unit: u8,
     blocks: u16,
 ) -> io::Result<Option<u8>> {
-    let volume = Volume::blank(alloc, "V", blocks).map_err(|_| not_a_row())?;
+    let volume = Volume::blank(alloc, "V", blocks).map_err(|_| unreadable())?;
     Ok(mount(machine, unit, volume))
 }
 
@@ -71,7 +68,7 @@ impl Scene {
             machine: None,
             code: Vec::new(alloc),
             segments: Vec::new(alloc),
-            kind: CODE,
+            kind: kinds::CODE,
             clock: 0,
         }
     }
@@ -82,20 +79,20 @@ impl Scene {
         self.fails = false;
         self.machine = None;
         self.segments.clear();
-        self.kind = CODE;
+        self.kind = kinds::CODE;
         self.clock = 0;
     }
 
     /// Begins on the bare code.
     fn begin(&mut self, alloc: Global) -> io::Result<()> {
-        let machine = Machine::raw(alloc, &self.code).map_err(|_| not_a_row())?;
+        let machine = Machine::raw(alloc, &self.code).map_err(|_| unreadable())?;
         self.machine = Some(machine);
         Ok(())
     }
 
     /// Gives a slot its code: `N HEX`.
     fn add_segment(&mut self, alloc: Global, rest: &str) -> io::Result<()> {
-        let (slot, digits) = rest.split_once(' ').ok_or_else(not_a_row)?;
+        let (slot, digits) = rest.split_once(' ').ok_or_else(unreadable)?;
         let slot = number(slot)?;
         let bytes = hex_bytes(alloc, digits)?;
         for segment in self.segments.iter_mut() {
@@ -111,7 +108,7 @@ impl Scene {
     /// Boots from the volume on unit 4: `UNIT NAME`; the fault's number and that of an execution error where it is
     /// refused.
     fn boot(&mut self, alloc: Global, rest: &str) -> io::Result<Option<BootFault>> {
-        let (unit, name) = asked(rest).split_once(' ').ok_or_else(not_a_row)?;
+        let (unit, name) = asked(rest).split_once(' ').ok_or_else(unreadable)?;
         let volume = volume(alloc, &self.segments, self.kind)?;
         let volumes = [Some(volume), None, None, None, None, None];
         match Machine::boot(alloc, volumes, byte(unit)?, name, self.clock) {
@@ -134,19 +131,19 @@ impl Scene {
             "again" => self.begin(alloc)?,
             "segment" => self.add_segment(alloc, rest)?,
             "kind" => self.kind = byte(rest)?,
-            "clock" => self.clock = rest.parse().map_err(|_| not_a_row())?,
+            "clock" => self.clock = rest.parse().map_err(|_| unreadable())?,
             "boot" => {
                 let refusal = self.boot(alloc, rest)?.map(|fault| fault.number());
                 return with_refusal(alloc, asked(line), refusal);
             }
             "mount" => {
                 let volume = volume(alloc, &self.segments, self.kind)?;
-                let machine = self.machine.as_mut().ok_or_else(not_a_row)?;
+                let machine = self.machine.as_mut().ok_or_else(unreadable)?;
                 let refusal = mount(machine, byte(asked(rest))?, volume);
                 return with_refusal(alloc, asked(line), refusal);
             }
             _ => {
-                let machine = self.machine.as_mut().ok_or_else(not_a_row)?;
+                let machine = self.machine.as_mut().ok_or_else(unreadable)?;
                 return match on_machine(alloc, machine, line)? {
                     Some(answer) => Ok(answer),
                     None => view(alloc, machine, word, rest),

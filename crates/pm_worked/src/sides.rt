@@ -1,6 +1,7 @@
 //! The two sides of a row: what is given, and what is wanted.
-use crate::spelled::{byte, hex_bytes, not_a_row, word, words};
+use crate::spelled::words;
 use pm_machine::Registers;
+use pm_replay::{byte, hex_bytes, unreadable, word};
 use pm_words::Memory;
 use std::alloc::Global;
 use std::io;
@@ -87,7 +88,7 @@ impl Side {
     /// Writes the words of the stack, the top first, which ends at 65,504.
     fn push_all(&mut self, stack: &[u16]) -> io::Result<()> {
         if stack.len() > 32752 {
-            return Err(not_a_row());
+            return Err(unreadable());
         }
         let sp = STACK_END - 2 * stack.len() as u16;
         let mut place = sp;
@@ -103,7 +104,7 @@ impl Side {
     /// Writes bytes.
     fn write(&mut self, address: u16, bytes: &[u8]) -> io::Result<()> {
         if !self.memory.write(address, bytes) {
-            return Err(not_a_row());
+            return Err(unreadable());
         }
         let mut place = address - address % 2;
         for _ in 0..bytes.len() / 2 + 1 {
@@ -119,7 +120,7 @@ impl Side {
             let bytes = hex_bytes(alloc, digits.trim())?;
             return self.write(word(address.trim())?, &bytes);
         }
-        let (name, rest) = piece.split_once(' ').ok_or_else(not_a_row)?;
+        let (name, rest) = piece.split_once(' ').ok_or_else(unreadable)?;
         match name {
             "np" => self.registers.np = word(rest)?,
             "ipc" => self.registers.ipc = word(rest)?,
@@ -132,10 +133,10 @@ impl Side {
             "console" => self.console = hex_bytes(alloc, rest)?,
             "printer" => self.printer = hex_bytes(alloc, rest)?,
             "disk" => {
-                let (unit, blocks) = rest.split_once(' ').ok_or_else(not_a_row)?;
+                let (unit, blocks) = rest.split_once(' ').ok_or_else(unreadable)?;
                 self.disks.push((byte(unit)?, word(blocks)?))?;
             }
-            _ => return Err(not_a_row()),
+            _ => return Err(unreadable()),
         }
         Ok(())
     }

@@ -1,8 +1,8 @@
 //! A machine in the state before a row, which it comes to by calls that anyone can make: pokes, and six steps.
 use crate::scene::mount_blank;
 use crate::sides::Side;
-use crate::spelled::not_a_row;
 use pm_machine::{Machine, Stop};
+use pm_replay::unreadable;
 use std::alloc::Global;
 use std::io;
 
@@ -27,7 +27,7 @@ fn load_unit(ioresult: u16) -> io::Result<u16> {
         0 => Ok(0x01C7),
         2 => Ok(0x00C7),
         9 => Ok(0x03C7),
-        _ => Err(not_a_row()),
+        _ => Err(unreadable()),
     }
 }
 
@@ -75,10 +75,10 @@ fn put_memory(machine: &mut Machine, side: &Side) {
 
 /// The machine.
 pub fn machine(alloc: Global, side: &Side) -> io::Result<Machine> {
-    let mut machine = Machine::raw(alloc, RETURN).map_err(|_| not_a_row())?;
+    let mut machine = Machine::raw(alloc, RETURN).map_err(|_| unreadable())?;
     put_code(&mut machine, side)?;
     if machine.run(6)? != (6, Stop::Went) || machine.registers() != side.registers {
-        return Err(not_a_row());
+        return Err(unreadable());
     }
     put_memory(&mut machine, side);
     for byte in side.keys.iter() {

@@ -1,6 +1,6 @@
 //! What a machine shows.
-use crate::spelled::{byte, hex_text, not_a_row, number, word};
 use pm_machine::Machine;
+use pm_replay::{byte, hex_text, number, unreadable, word};
 use std::alloc::{AllocError, Global};
 use std::io;
 
@@ -29,7 +29,7 @@ fn count(text: &str) -> usize {
 fn registers(alloc: Global, machine: &Machine, rest: &str) -> io::Result<String> {
     let r = machine.registers();
     let all = [r.ipc, r.sp, r.mp, r.base, r.np, r.ioresult];
-    let some = all.get(..count(rest)).ok_or_else(not_a_row)?;
+    let some = all.get(..count(rest)).ok_or_else(unreadable)?;
     Ok(numbers(alloc, some)?)
 }
 
@@ -53,7 +53,7 @@ fn words(
 
 /// The words from an address on, as many as are asked for: `A W ..`.
 fn words_at(alloc: Global, machine: &Machine, rest: &str) -> io::Result<String> {
-    let (address, asked) = rest.split_once(' ').ok_or_else(not_a_row)?;
+    let (address, asked) = rest.split_once(' ').ok_or_else(unreadable)?;
     let there = words(alloc, machine, word(address)?, count(asked))?;
     let text = numbers(alloc, &there)?;
     Ok(format!(in alloc; "{address} {text}")?)
@@ -61,14 +61,14 @@ fn words_at(alloc: Global, machine: &Machine, rest: &str) -> io::Result<String> 
 
 /// The bytes from an address on, as many as are asked for: `A HEX`.
 fn bytes_at(alloc: Global, machine: &Machine, rest: &str) -> io::Result<String> {
-    let (address, asked) = rest.split_once(' ').ok_or_else(not_a_row)?;
+    let (address, asked) = rest.split_once(' ').ok_or_else(unreadable)?;
     let begin = number(address)?;
     let end = begin.saturating_add(count(asked));
     let there = machine
         .memory()
         .bytes()
         .get(begin..end)
-        .ok_or_else(not_a_row)?;
+        .ok_or_else(unreadable)?;
     let text = hex_text(alloc, there)?;
     Ok(format!(in alloc; "{address} {text}")?)
 }
@@ -76,7 +76,7 @@ fn bytes_at(alloc: Global, machine: &Machine, rest: &str) -> io::Result<String> 
 /// Where the segment of a slot stands, for how many calls, and how many times it is kept: `N A CALLS KEEPS`, or
 /// `N none`.
 fn place(alloc: Global, machine: &Machine, rest: &str) -> io::Result<String> {
-    let (slot, _) = rest.split_once(' ').ok_or_else(not_a_row)?;
+    let (slot, _) = rest.split_once(' ').ok_or_else(unreadable)?;
     let n = byte(slot)?;
     match (machine.place(n), machine.keeps(n)) {
         (Some((address, calls)), Some(keeps)) => {
@@ -107,7 +107,7 @@ fn shown(alloc: Global, machine: &Machine, word: &str, rest: &str) -> io::Result
             Ok(format!(in alloc; "{steps}")?)
         }
         "place" => place(alloc, machine, rest),
-        _ => Err(not_a_row()),
+        _ => Err(unreadable()),
     }
 }
 

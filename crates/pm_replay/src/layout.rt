@@ -1,0 +1,75 @@
+//! Code files in the canonical layout, whatever the lengths of their segments.
+ghost use Rattle.std.specs.Prelude.{◌≡◌, ◌%◌, ◌<◌, ◌++◌, OnErr, OnOk, length, set};
+
+use crate::spelled::unreadable;
+use std::alloc::Global;
+use std::io;
+
+const BLOCK: usize = 512;
+
+/// Where the names of the slots begin, of 8 bytes each, and where they end.
+const NAMES: usize = 64;
+
+const NAMES_END: usize = 192;
+
+/// The code of a slot.
+#[derive(Drop)]
+pub struct Segment {
+    pub slot: usize,
+    pub bytes: Vec<u8>,
+}
+
+/// Sets a byte, if it is there.
+pub fn set_byte(bytes: &mut Vec<u8>, place: usize, value: u8) -> io::Result<()>
+    ensures there { OnOk result (place < length bytes.old.items) }
+    ensures set { OnOk result (bytes.new.items ≡ set bytes.old.items place value) }
+    ensures refused { OnErr result (bytes.new ≡ bytes.old) }
+{
+    if place >= bytes.len() {
+        return Err(unreadable());
+    }
+    bytes[place] = value;
+    Ok(())
+}
+
+// Sets a word, its low byte first.
+fn set_word(bytes: &mut Vec<u8>, place: usize, word: usize) -> io::Result<()> {
+    set_byte(bytes, place, (word % 256) as u8)?;
+    set_byte(bytes, place.saturating_add(1), (word / 256 % 256) as u8)
+}
+
+// Adds zeros up to the end of a block.
+fn fill_block(file: &mut Vec<u8>) -> io::Result<()> {
+    let used = file.len() % BLOCK;
+    if used > 0 {
+        for _ in used..BLOCK {
+            file.push(0)?;
+        }
+    }
+    Ok(())
+}
+
+/// A block of the dictionary, with blank names, and each segment from the next block on, in the order in which they are
+/// given. Lengths may be odd and above a word, of which the dictionary has what fits.
+pub fn code_file(alloc: Global, segments: &[Segment]) -> io::Result<Vec<u8>> {
+    let mut file = vec![in alloc; 0; BLOCK]?;
+    file[NAMES..NAMES_END].fill(b' ');
+    for segment in segments {
+        let block = file.len() / BLOCK;
+        let place = segment.slot.saturating_mul(4);
+        set_word(&mut file, place, block)?;
+        set_word(&mut file, place.saturating_add(2), segment.bytes.len())?;
+        file.extend_from_slice(&segment.bytes)?;
+        fill_block(&mut file)?;
+    }
+    Ok(file)
+}
+
+/// Gives a slot its name, of which the first 8 bytes count.
+pub fn set_name(file: &mut Vec<u8>, slot: usize, name: &[u8]) -> io::Result<()> {
+    let begin = slot.saturating_mul(8).saturating_add(NAMES);
+    for (at, value) in name.iter().enumerate().take(8) {
+        set_byte(file, begin.saturating_add(at), *value)?;
+    }
+    Ok(())
+}

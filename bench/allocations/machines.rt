@@ -176,7 +176,10 @@ pub fn run(alloc: Global) -> Result<Came, AllocError> {
     }
     let same = is_behind_steps(alloc, &machine, &mut other)?;
     let left = 400u64.saturating_sub(machine.steps());
-    Ok(refused(same && left > 0, machine.run(left) == Ok((left, Stop::Went))))
+    Ok(refused(
+        same && left > 0,
+        machine.run(left) == Ok((left, Stop::Went)),
+    ))
 }
 
 pub fn go(alloc: Global) -> Result<Came, AllocError> {
@@ -206,8 +209,14 @@ pub fn views(alloc: Global) -> Result<Came, AllocError> {
     let _ = debugger.machine().run(7)?;
     let before = Seen::of(alloc, debugger.machine())?;
     let stack = viewed(debugger.stack(alloc, 20), debugger.stack(alloc, 20));
-    let up = viewed(debugger.static_chain(alloc, 20), debugger.static_chain(alloc, 20));
-    let down = viewed(debugger.dynamic_chain(alloc, 20), debugger.dynamic_chain(alloc, 20));
+    let up = viewed(
+        debugger.static_chain(alloc, 20),
+        debugger.static_chain(alloc, 20),
+    );
+    let down = viewed(
+        debugger.dynamic_chain(alloc, 20),
+        debugger.dynamic_chain(alloc, 20),
+    );
     let line = viewed(debugger.trace_line(alloc), debugger.trace_line(alloc));
     if !before.is_of(debugger.machine()) {
         return Ok(Came::Wrong);

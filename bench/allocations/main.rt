@@ -26,7 +26,11 @@ pub enum Came {
 
 /// What came of a call that was refused.
 pub fn refused(same: bool, again: bool) -> Came {
-    if same && again { Came::Refused } else { Came::Wrong }
+    if same && again {
+        Came::Refused
+    } else {
+        Came::Wrong
+    }
 }
 
 /// The first that is not `Done`.

@@ -85,7 +85,10 @@ pub fn code_file(alloc: Global) -> Result<Came, AllocError> {
     let names = [[b' '; 8]; 16];
     match pm_codefile::write(alloc, &names, &LENGTHS, &SEGMENT) {
         Ok(_) => Ok(Came::Done),
-        Err(_) => Ok(refused(true, pm_codefile::write(alloc, &names, &LENGTHS, &SEGMENT).is_ok())),
+        Err(_) => Ok(refused(
+            true,
+            pm_codefile::write(alloc, &names, &LENGTHS, &SEGMENT).is_ok(),
+        )),
     }
 }
 

@@ -81,7 +81,11 @@ pub fn got(alloc: Global) -> Result<Came, AllocError> {
 pub fn got_text(alloc: Global) -> Result<Came, AllocError> {
     let name = String::from_str(alloc, "T")?;
     let more = String::from_str(alloc, "T")?;
-    applied(alloc, FileCommand::GetText(name), FileCommand::GetText(more))
+    applied(
+        alloc,
+        FileCommand::GetText(name),
+        FileCommand::GetText(more),
+    )
 }
 
 pub fn put_text(alloc: Global) -> Result<Came, AllocError> {

@@ -26,15 +26,19 @@ keeps_said old new path verbs.Repair job input says keeps =
     (says.0, says.1, subst (λ told. Keeps old new path told.image) (says.2 input) keeps)
 
 -- where the input is known, the file keeps what is said to it
-pub known_keeps_said : (had left held holds : Option (List ℕ)) (old read new : Files) (path : List ℕ) (verb : Verb) (job : Job)
-    (outcome : Outcome) → IfSome had (λ input. Tells left held holds outcome (job_said job input)) → SaysOf old path verb job
+pub known_keeps_said : (before after : Streams) (old read new : Files) (path : List ℕ) (verb : Verb) (job : Job)
+    (outcome : Outcome) → TellsAll before after outcome (job_said job) → SaysOf old path verb job
     → read ≡ old → Keeps read new path (option_map vec_items outcome.image)
-    → IfSome had (λ input. KeepsSaid old new path verb input)
-known_keeps_said None left held holds old read new path verb job outcome tells says same keeps = tt
-known_keeps_said (Some input) left held holds old read new path verb job outcome tells says same keeps =
-    keeps_said old new path verb job input says
-    (subst (Keeps old new path) tells.comes_to.image
-    (subst (λ files. Keeps files new path (option_map vec_items outcome.image)) same keeps))
+    → IfSome before.source.remaining (λ input. KeepsSaid old new path verb input)
+known_keeps_said before after old read new path verb job outcome tells says same keeps = known before.source.remaining tells
+  where
+    known : (had : Option (List ℕ)) → IfSome had (λ input. Tells before after outcome (job_said job input))
+        → IfSome had (λ input. KeepsSaid old new path verb input)
+    known None told = tt
+    known (Some input) told =
+        keeps_said old new path verb job input says
+        (subst (Keeps old new path) told.comes_to.image
+        (subst (λ files. Keeps files new path (option_map vec_items outcome.image)) same keeps))
 
 -- what a run keeps of its outcome is what it keeps of what is said
 run_told : (old new : Files) (disk : List ℕ) (printing : Printing) (outcome : Outcome) (told : Said) → IsOutcome outcome told
@@ -47,23 +51,29 @@ run_told old new disk printing outcome told is keeps = (
 )
 
 -- where the input is known, a run keeps what is said to it of the images that were read
-pub known_run_said : (had left held holds : Option (List ℕ)) (old ready read new : Files) (program : Program) (kept : KeptOfRun)
+pub known_run_said : (before after : Streams) (old ready read new : Files) (program : Program) (kept : KeptOfRun)
     (disks : List (Option (Vec ℕ Global))) (outcome : Outcome) (from to : List ℕ)
     → from ≡ string_bytes program.disk → to ≡ string_bytes program.disk
-    → IfSome had (λ input. Tells left held holds outcome (job_said (jobs.Run disks program.name program.limit kept.save) input))
+    → TellsAll before after outcome (job_said (jobs.Run disks program.name program.limit kept.save))
     → ready ≡ old → read ≡ ready → ReadsEach ready (paths_of from program.others) (images_of disks)
     → KeepsRun read new to kept.printing outcome
-    → IfSome had (λ input. KeepsRunSaid old new program kept input)
-known_run_said None left held holds old ready read new program kept disks outcome from to is_from is_to tells same also reads keeps = tt
-known_run_said (Some input) left held holds old ready read new program kept disks outcome from to is_from is_to tells same also reads keeps = (
-  disks,
-  subst (λ files. ReadsEach files (paths_of (string_bytes program.disk) program.others) (images_of disks)) same
-      (subst (λ path. ReadsEach ready (paths_of path program.others) (images_of disks)) is_from reads),
-  run_told old new (string_bytes program.disk) kept.printing outcome _ tells.comes_to
-      (subst (λ files. KeepsRun files new (string_bytes program.disk) kept.printing outcome) same
-      (subst (λ files. KeepsRun files new (string_bytes program.disk) kept.printing outcome) also
-      (subst (λ path. KeepsRun read new path kept.printing outcome) is_to keeps))),
-)
+    → IfSome before.source.remaining (λ input. KeepsRunSaid old new program kept input)
+known_run_said before after old ready read new program kept disks outcome from to is_from is_to tells same also reads keeps =
+    known before.source.remaining tells
+  where
+    known : (had : Option (List ℕ))
+        → IfSome had (λ input. Tells before after outcome (job_said (jobs.Run disks program.name program.limit kept.save) input))
+        → IfSome had (λ input. KeepsRunSaid old new program kept input)
+    known None told = tt
+    known (Some input) told = (
+      disks,
+      subst (λ files. ReadsEach files (paths_of (string_bytes program.disk) program.others) (images_of disks)) same
+          (subst (λ path. ReadsEach ready (paths_of path program.others) (images_of disks)) is_from reads),
+      run_told old new (string_bytes program.disk) kept.printing outcome _ told.comes_to
+          (subst (λ files. KeepsRun files new (string_bytes program.disk) kept.printing outcome) same
+          (subst (λ files. KeepsRun files new (string_bytes program.disk) kept.printing outcome) also
+          (subst (λ path. KeepsRun read new path kept.printing outcome) is_to keeps))),
+    )
 
 -- where the input is known, a job tells what is said to it of the images that were read
 pub known_tells : (job : List (Option (Vec ℕ Global)) → Job) (old new : Streams) (files : Files)
@@ -75,7 +85,7 @@ pub known_tells : (job : List (Option (Vec ℕ Global)) → Job) (old new : Stre
 known_tells job old new files program disks outcome from is_from tells reads = known old.source.remaining tells
   where
     known : (had : Option (List ℕ))
-        → IfSome had (λ input. Tells new.source.remaining old.sink.contents new.sink.contents outcome (job_said (job disks) input))
+        → IfSome had (λ input. Tells old new outcome (job_said (job disks) input))
         → IfSome had (λ input. TellsOf job files old new outcome program input)
     known None told = tt
     known (Some input) told =

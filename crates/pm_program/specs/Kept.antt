@@ -137,7 +137,7 @@ abbrev pub TellsOf : (List (Option (Vec ℕ Global)) → Job) → Files → Stre
     → Type 0
 TellsOf job files old new outcome program input = (disks : List (Option (Vec ℕ Global)))
     × ReadsEach files (paths_of (string_bytes program.disk) program.others) (images_of disks)
-    × Tells new.source.remaining old.sink.contents new.sink.contents outcome (job_said (job disks) input)
+    × Tells old new outcome (job_said (job disks) input)
 
 abbrev pub TellsTrace : Files → Streams → Streams → Outcome → Program → List ℕ → Type 0
 TellsTrace files old new outcome program input =

@@ -1,5 +1,5 @@
 -- How a run that is written as it goes goes on by one turn, and how it ends.
-use Rattle.std.proofs.Common.{◌≡◌, ℕ, ◌+◌, ◌-◌, ◌<◌, ◌≤◌, List, [], ◌∷◌, ◌++◌, Option, None, Bool, true}
+use Rattle.std.proofs.Common.{◌≡◌, ℕ, ◌+◌, ◌-◌, ◌<◌, ◌≤◌, List, [], ◌∷◌, ◌++◌, None, true}
 use Rattle.std.proofs.Common.{false, length, refl, sym, ap, ◌∙◌, append_assoc, append-nil, arith, inl, inr, subst}
 use Rattle.std.proofs.lemmas.List.{length-append}
 use Rattle.std.specs.Io.KnownBytes.{Consumes, Appends, Keeps}
@@ -14,62 +14,63 @@ use Rattle.pm_streams.specs.declared.fault.Fault.{Fault}
 use Rattle.pm_streams.specs.declared.fault.Fault.TheVariants as faults
 use Rattle.pm_streams.specs.declared.source.TheConstants.{INPUT_LIMIT}
 use Rattle.pm_tool.specs.declared.steps.Show.{Show}
-use Rattle.pm_tool.specs.Run.{after_showing, ended_run, shown_of, shown_by, run_of, IsOver, IsBroken}
-use Rattle.pm_streams.specs.Streams.{Incoming, IsFront, AppendsFront, AppendsBut, IsCause, ReadsByte, TakesNone}
+use Rattle.pm_tool.specs.Run.{after_showing, ended_run, shown_of, shown_by, run_of, ComesToEnd, StopsShort}
+use Rattle.pm_streams.specs.Streams.{Incoming, Outgoing, Streams, both, IsFront, AppendsFront, AppendsBut, IsCause, ReadsByte, TakesNone}
 use Rattle.pm_streams.proofs.Pages.{but_none, but_grown, but_turned, but_front, but_lost, but_cleared}
+use Rattle.pm_tool.proofs.Kept.{not_failed}
 use Rattle.pm_tool.proofs.Runs.{run_of-goes, run_of-waits, run_of-stuck, run_of-none}
 use Rattle.pm_streams.proofs.Transfers.{cause_longer, front_trans}
 
 -- A run of at most limit steps from began, as far as it was made: bytes were keyed, and what was shown was written but for the page. It goes on as a run of at
 -- most n steps from m.
-pub record IsUnderWay (had left held holds : Option (List ℕ)) (page : List ℕ) (taken : ℕ) (show : Show) (limit : ℕ) (began : State) (n : ℕ)
+pub record IsUnderWay (old now : Streams) (page : List ℕ) (taken : ℕ) (show : Show) (limit : ℕ) (began : State) (n : ℕ)
     (m : State) : Type 0 where
   pub read : List ℕ
   pub shown : List ℕ
   pub count : length read ≡ taken
-  pub reads : Consumes had left read
-  pub writes : AppendsBut held holds page shown
+  pub reads : Consumes old.source.remaining now.source.remaining read
+  pub writes : AppendsBut old.sink.contents now.sink.contents page shown
   pub run : (rest : List ℕ) → run_of show limit (read ++ rest) began ≡ after_showing shown (run_of show n rest m)
 
-pub under_way_none : (had held : Option (List ℕ)) (page : List ℕ) (show : Show) (limit n : ℕ) (began : State) → page ≡ [] → n ≡ limit
-    → IsUnderWay had had held held page 0 show limit began n began
-under_way_none had held page show limit n began blank e = record {
+pub under_way_none : (old : Streams) (page : List ℕ) (show : Show) (limit n : ℕ) (began : State) → page ≡ [] → n ≡ limit
+    → IsUnderWay old old page 0 show limit began n began
+under_way_none old page show limit n began blank e = record {
   read = [];
   shown = [];
   count = refl;
-  reads = Consumes-nil had;
-  writes = rw blank (but_none held);
+  reads = Consumes-nil old.source.remaining;
+  writes = rw blank (but_none old.sink.contents);
   run = λ rest. ap (λ k. run_of show k rest began) (sym e);
 }
 
-module _ (had left held holds : Option (List ℕ)) (page : List ℕ) (taken : ℕ) (show : Show) (limit : ℕ) (began : State) (n : ℕ) (m : State)
-    (u : IsUnderWay had left held holds page taken show limit began n m) where
+module _ (old now : Streams) (page : List ℕ) (taken : ℕ) (show : Show) (limit : ℕ) (began : State) (n : ℕ) (m : State)
+    (u : IsUnderWay old now page taken show limit began n m) where
   -- the front of the page is written
-  pub under_way_turned : (holds' : Option (List ℕ)) (rest : List ℕ) → AppendsBut holds holds' rest page
-      → IsUnderWay had left held holds' rest taken show limit began n m
-  under_way_turned holds' rest turned = record {
+  pub under_way_turned : (sink : Outgoing) (rest : List ℕ) → AppendsBut now.sink.contents sink.contents rest page
+      → IsUnderWay old (both now.source sink) rest taken show limit began n m
+  under_way_turned sink rest turned = record {
     read = u.read;
     shown = u.shown;
     count = u.count;
     reads = u.reads;
-    writes = but_turned held holds holds' page rest u.shown u.writes turned;
+    writes = but_turned old.sink.contents now.sink.contents sink.contents page rest u.shown u.writes turned;
     run = u.run;
   }
 
   -- the page is written and cleared
-  pub under_way_cleared : (holds' : Option (List ℕ)) (blank : List ℕ) → Appends holds holds' page → blank ≡ []
-      → IsUnderWay had left held holds' blank taken show limit began n m
-  under_way_cleared holds' blank a e = record {
+  pub under_way_cleared : (sink : Outgoing) (blank : List ℕ) → Appends now.sink.contents sink.contents page → blank ≡ []
+      → IsUnderWay old (both now.source sink) blank taken show limit began n m
+  under_way_cleared sink blank a e = record {
     read = u.read;
     shown = u.shown;
     count = u.count;
     reads = u.reads;
-    writes = but_cleared held holds holds' page blank u.shown u.writes a e;
+    writes = but_cleared old.sink.contents now.sink.contents sink.contents page blank u.shown u.writes a e;
     run = u.run;
   }
 
   -- the limit is reached
-  pub over_limit : taken ≤ INPUT_LIMIT → n ≡ 0 → IsOver had left held holds page show limit began endings.Limit m
+  pub over_limit : taken ≤ INPUT_LIMIT → n ≡ 0 → ComesToEnd old now page show limit began endings.Limit m
   over_limit few none = record {
     read = u.read;
     shown = u.shown;
@@ -86,45 +87,45 @@ module _ (had left held holds : Option (List ℕ)) (page : List ℕ) (taken : �
   begins front rest f = rw (u.run rest) (front_trans front u.shown (u.shown ++ (run_of show n rest m).shown) f ((run_of show n rest m).shown, refl))
 
   -- the page is lost
-  pub broken_between : (fault : Fault) (source_failed sink_failed : Bool) → source_failed ≡ false
-      → ((read : List ℕ) → length read ≡ taken → IsCause fault source_failed sink_failed read)
-      → IsBroken had left held holds show limit began fault source_failed sink_failed
-  broken_between fault source_failed sink_failed well cause =
-      let lost = but_lost held holds page u.shown u.writes in
+  pub broken_between : (fault : Fault) → now.source.failed ≡ false
+      → ((read : List ℕ) → length read ≡ taken → IsCause fault now.source.failed now.sink.failed read)
+      → StopsShort old now show limit began fault
+  broken_between fault well cause =
+      let lost = but_lost old.sink.contents now.sink.contents page u.shown u.writes in
       record {
         read = u.read;
         front = lost.0;
         reads = u.reads;
         writes = lost.1;
         begins = λ rest. begins lost.0 rest lost.2;
-        prompt = λ failed. cc;
+        prompt = λ failed. not_failed now.source.failed well failed;
         cause = cause u.read u.count;
       }
 
   -- the page could not be written
-  pub broken_writing : (holds' : Option (List ℕ)) (fault : Fault) (source_failed sink_failed : Bool) → taken ≤ INPUT_LIMIT → AppendsFront holds holds' page
-      → source_failed ≡ false → IsCause fault false sink_failed [] → IsBroken had left held holds' show limit began fault source_failed sink_failed
-  broken_writing holds' fault source_failed sink_failed few a well cause =
-      let front = but_front held holds holds' page u.shown u.writes a in
+  pub broken_writing : (sink : Outgoing) (fault : Fault) → taken ≤ INPUT_LIMIT → AppendsFront now.sink.contents sink.contents page
+      → now.source.failed ≡ false → IsCause fault false sink.failed [] → StopsShort old (both now.source sink) show limit began fault
+  broken_writing sink fault few a well cause =
+      let front = but_front old.sink.contents now.sink.contents sink.contents page u.shown u.writes a in
       record {
         read = u.read;
         front = front.0;
         reads = u.reads;
         writes = front.1;
         begins = λ rest. begins front.0 rest front.2;
-        prompt = λ failed. cc;
-        cause = rw well (cause_longer fault sink_failed u.read (rw u.count few) cause);
+        prompt = λ failed. not_failed now.source.failed well failed;
+        cause = rw well (cause_longer fault sink.failed u.read (rw u.count few) cause);
       }
 
   -- no byte could be read for a step that waits, and the page is blank
-  pub broken_reading : (left' : Option (List ℕ)) (fault : Fault) (source_failed sink_failed : Bool) → Keeps left left' → fault ≡ faults.Read
-      → source_failed ≡ true → sink_failed ≡ false
-      → page ≡ [] → (after : State) → 0 < n → stepped m ≡ (after, Waiting) → IsBroken had left' held holds show limit began fault source_failed sink_failed
-  broken_reading left' fault source_failed sink_failed k e failed well blank after some step = record {
+  pub broken_reading : (source : Incoming) (fault : Fault) → Keeps now.source.remaining source.remaining → fault ≡ faults.Read
+      → source.failed ≡ true → now.sink.failed ≡ false
+      → page ≡ [] → (after : State) → 0 < n → stepped m ≡ (after, Waiting) → StopsShort old (both source now.sink) show limit began fault
+  broken_reading source fault k e failed well blank after some step = record {
     read = u.read;
     front = u.shown;
-    reads = Consumes-kept had left left' u.read u.reads k;
-    writes = subst (Appends held holds) (sym (u.writes.2 ∙ ap (λ p. u.writes.0 ++ p) blank ∙ append-nil u.writes.0)) u.writes.1;
+    reads = Consumes-kept old.source.remaining now.source.remaining source.remaining u.read u.reads k;
+    writes = subst (Appends old.sink.contents now.sink.contents) (sym (u.writes.2 ∙ ap (λ p. u.writes.0 ++ p) blank ∙ append-nil u.writes.0)) u.writes.1;
     begins = λ rest. begins u.shown rest ([], sym (append-nil u.shown));
     prompt = λ _. ap (λ r. (run_of show limit r began).shown) (sym (append-nil u.read))
         ∙ ap (λ t. t.shown) (u.run [] ∙ ap (after_showing u.shown) (run_of-stuck show n m after some step)) ∙ append-nil u.shown;
@@ -134,7 +135,7 @@ module _ (had left held holds : Option (List ℕ)) (page : List ℕ) (taken : �
   module _ (page' : List ℕ) (after : State) (some : 0 < n) where
     -- a step that went
     pub under_way_went : (k : ℕ) → stepped m ≡ (after, Went) → page' ≡ page ++ shown_by show m after Went → k ≡ n - 1
-        → IsUnderWay had left held holds page' taken show limit began k after
+        → IsUnderWay old now page' taken show limit began k after
     under_way_went k step grown ke =
         let line = shown_of show m after in
         record {
@@ -142,38 +143,38 @@ module _ (had left held holds : Option (List ℕ)) (page : List ℕ) (taken : �
           shown = u.shown ++ line;
           count = u.count;
           reads = u.reads;
-          writes = but_grown held holds page u.shown line page' u.writes grown;
+          writes = but_grown old.sink.contents now.sink.contents page u.shown line page' u.writes grown;
           run = λ rest. u.run rest ∙ ap (after_showing u.shown) (run_of-goes show n rest m after Went some step refl)
               ∙ ap (λ j. after_showing u.shown (after_showing line (run_of show j rest after))) (sym ke)
               ∙ ap (λ t. record (run_of show k rest after) { shown = t }) (sym (append_assoc u.shown line (run_of show k rest after).shown));
         }
 
     pub over_ended : taken ≤ INPUT_LIMIT → stepped m ≡ (after, Ended) → page' ≡ page ++ shown_by show m after Ended
-        → IsOver had left held holds page' show limit began endings.Ended after
+        → ComesToEnd old now page' show limit began endings.Ended after
     over_ended few step grown = record {
       read = u.read;
       shown = u.shown ++ shown_of show m after;
       few = rw u.count few;
       reads = u.reads;
-      writes = but_grown held holds page u.shown (shown_of show m after) page' u.writes grown;
+      writes = but_grown old.sink.contents now.sink.contents page u.shown (shown_of show m after) page' u.writes grown;
       run = λ rest _. u.run rest ∙ ap (after_showing u.shown) (run_of-goes show n rest m after Ended some step refl);
       drained = λ w. cc;
     }
 
     pub over_halted : (error : ExecError) → taken ≤ INPUT_LIMIT → stepped m ≡ (after, Halted error) → page' ≡ page ++ shown_by show m after (Halted error)
-        → IsOver had left held holds page' show limit began (endings.Error error) after
+        → ComesToEnd old now page' show limit began (endings.Error error) after
     over_halted error few step grown = record {
       read = u.read;
       shown = u.shown ++ shown_of show m after;
       few = rw u.count few;
       reads = u.reads;
-      writes = but_grown held holds page u.shown (shown_of show m after) page' u.writes grown;
+      writes = but_grown old.sink.contents now.sink.contents page u.shown (shown_of show m after) page' u.writes grown;
       run = λ rest _. u.run rest ∙ ap (after_showing u.shown) (run_of-goes show n rest m after (Halted error) some step refl);
       drained = λ w. cc;
     }
 
     -- a step that waits shows nothing
-    pub under_way_waited : page' ≡ page ++ shown_by show m after Waiting → IsUnderWay had left held holds page' taken show limit began n m
+    pub under_way_waited : page' ≡ page ++ shown_by show m after Waiting → IsUnderWay old now page' taken show limit began n m
     under_way_waited grown = record {
       read = u.read;
       shown = u.shown;
@@ -184,27 +185,29 @@ module _ (had left held holds : Option (List ℕ)) (page : List ℕ) (taken : �
     }
 
     -- the byte that it waited for is keyed
-    pub under_way_key : (left' : Option (List ℕ)) (key : ℕ) (m' : State) → stepped m ≡ (after, Waiting) → Consumes left left' (key ∷ [])
+    pub under_way_key : (source : Incoming) (key : ℕ) (m' : State) → stepped m ≡ (after, Waiting)
+        → Consumes now.source.remaining source.remaining (key ∷ [])
         → m' ≡ next after (Key key)
-        → IsUnderWay had left' held holds page (taken + 1) show limit began n m'
-    under_way_key left' key m' step reads keyed = record {
+        → IsUnderWay old (both source now.sink) page (taken + 1) show limit began n m'
+    under_way_key source key m' step reads keyed = record {
       read = u.read ++ key ∷ [];
       shown = u.shown;
       count = length-append u.read (key ∷ []) ∙ ap (λ k. k + 1) u.count;
-      reads = Consumes-trans had left left' u.read (key ∷ []) u.reads reads;
+      reads = Consumes-trans old.source.remaining now.source.remaining source.remaining u.read (key ∷ []) u.reads reads;
       writes = u.writes;
       run = λ rest. ap (λ keys. run_of show limit keys began) (append_assoc u.read (key ∷ []) rest) ∙ u.run (key ∷ rest)
           ∙ ap (after_showing u.shown) (run_of-waits show n key rest m after some step) ∙ ap (λ t. after_showing u.shown (run_of show n rest t)) (sym keyed);
     }
 
     -- no byte is left
-    pub over_waiting : (left' : Option (List ℕ)) → taken ≤ INPUT_LIMIT → stepped m ≡ (after, Waiting) → ReadsByte left left' None
-        → IsOver had left' held holds page show limit began endings.Waiting after
-    over_waiting left' few step none = record {
+    pub over_waiting : (source : Incoming) → taken ≤ INPUT_LIMIT → stepped m ≡ (after, Waiting)
+        → ReadsByte now.source.remaining source.remaining None
+        → ComesToEnd old (both source now.sink) page show limit began endings.Waiting after
+    over_waiting source few step none = record {
       read = u.read;
       shown = u.shown;
       few = rw u.count few;
-      reads = Consumes-kept had left left' u.read u.reads none.0;
+      reads = Consumes-kept old.source.remaining now.source.remaining source.remaining u.read u.reads none.0;
       writes = u.writes;
       run = λ rest no. let e = no refl in
           u.run rest ∙ rw e (ap (after_showing u.shown) (run_of-stuck show n m after some step)
@@ -213,15 +216,13 @@ module _ (had left held holds : Option (List ℕ)) (page : List ℕ) (taken : �
     }
 
 -- The page is blank, and no byte could be taken for a step that waits.
-pub broken_taking : (had : Option (List ℕ)) (old new : Incoming) (held holds : Option (List ℕ)) (page : List ℕ) (taken : ℕ) (show : Show) (limit : ℕ)
-    (began : State) (n : ℕ) (m : State) → IsUnderWay had old.remaining held holds page taken show limit began n m → TakesNone old new taken
-    → (fault : Fault) (sink_failed : Bool) → fault ≡ faults.Read → sink_failed ≡ false → page ≡ [] → (after : State) → 0 < n → stepped m ≡ (after, Waiting)
-    → IsBroken had new.remaining held holds show limit began fault new.failed sink_failed
-broken_taking had old new held holds page taken show limit began n m u none fault sink_failed e well blank after some step = elim none [
-  | inl k ↦ broken_reading had old.remaining held holds page taken show limit began n m u new.remaining fault new.failed sink_failed k.1 e k.0 well blank
-      after some step
-  | inr k ↦ broken_between had new.remaining held holds page (taken + 1) show limit began n (next after (Key k.2.0))
-      (under_way_key had old.remaining held holds page taken show limit began n m u page after some new.remaining k.2.0 (next after (Key k.2.0)) step
-      k.2.1 refl)
-      fault new.failed sink_failed k.0 (λ read count. rw e (well, inr (omega (arith, k.1, count))))
+pub broken_taking : (old now : Streams) (source : Incoming) (page : List ℕ) (taken : ℕ) (show : Show) (limit : ℕ)
+    (began : State) (n : ℕ) (m : State) → IsUnderWay old now page taken show limit began n m → TakesNone now.source source taken
+    → (fault : Fault) → fault ≡ faults.Read → now.sink.failed ≡ false → page ≡ [] → (after : State) → 0 < n → stepped m ≡ (after, Waiting)
+    → StopsShort old (both source now.sink) show limit began fault
+broken_taking old now source page taken show limit began n m u none fault e well blank after some step = elim none [
+  | inl k ↦ broken_reading old now page taken show limit began n m u source fault k.1 e k.0 well blank after some step
+  | inr k ↦ broken_between old (both source now.sink) page (taken + 1) show limit began n (next after (Key k.2.0))
+      (under_way_key old now page taken show limit began n m u page after some source k.2.0 (next after (Key k.2.0)) step k.2.1 refl)
+      fault k.0 (λ read count. rw e (well, inr (omega (arith, k.1, count))))
 ]

@@ -1,5 +1,5 @@
 -- From a run of the machine to what is said.
-use Rattle.std.proofs.Common.{◌≡◌, ℕ, List, [], ◌++◌, Option, Some, Bool, false, Result, Ok, Err, refl, sym, ap, ◌∙◌, append-nil, subst}
+use Rattle.std.proofs.Common.{◌≡◌, ℕ, List, [], ◌++◌, Some, false, Result, Ok, Err, refl, sym, ap, ◌∙◌, append-nil, subst}
 use Rattle.std.specs.Io.KnownBytes.{Appends, Keeps, IsAtEnd}
 use Rattle.std.proofs.KnownBytes.{Appends-nil}
 use Rattle.pm_machine.specs.State.{State}
@@ -11,11 +11,11 @@ use Rattle.pm_tool.specs.declared.outcome.Refusal.{Refusal}
 use Rattle.pm_tool.specs.declared.steps.Show.{Show}
 use Rattle.pm_tool.specs.declared.steps.Show.TheVariants.{Trace, Console}
 use Rattle.pm_tool.specs.Outcomes.{Said, exit_of, refused, IsOutcome}
-use Rattle.pm_tool.specs.Run.{Run, end_text, ended_run, run_of, IsOver, IsBroken}
+use Rattle.pm_tool.specs.Run.{Run, end_text, ended_run, run_of, ComesToEnd, StopsShort}
 use Rattle.pm_tool.specs.declared.talk.Talk.{Talk}
 use Rattle.pm_tool.specs.declared.talk.Talk.TheVariants as talks
-use Rattle.pm_tool.specs.Said.{said_debug, said_run, said_started, said_talk, shown_started, IsSoundExit, IsDone, IsBrokenOff, WritesFirst}
-use Rattle.pm_streams.specs.Streams.{IsFront, AppendsFront, IsCause}
+use Rattle.pm_tool.specs.Said.{said_debug, said_run, said_started, said_talk, IsSoundExit, Finishes, BreaksOff}
+use Rattle.pm_streams.specs.Streams.{Outgoing, Streams, both, IsFront, AppendsBut, AppendsFront, IsCause}
 use Rattle.pm_tool.proofs.Unread.{done_unread}
 use Rattle.pm_tool.proofs.Kept.{if_known, tells_known}
 use Rattle.pm_streams.proofs.Pages.{but_all, but_front, but_grown}
@@ -42,9 +42,9 @@ sound_ending endings.Waiting = refl
 abbrev text_of : Show → ℕ → State → List ℕ → Said
 text_of show limit began input = said_run show (run_of show limit input began)
 
-module _ (had left held holds : Option (List ℕ)) (page : List ℕ) (show : Show) (limit : ℕ) (began : State) (ending : Ending) (m : State)
-    (o : IsOver had left held holds page show limit began ending m) where
-  rest_drained : (rest : List ℕ) → left ≡ Some rest → ending ≡ endings.Waiting → rest ≡ []
+module _ (old now : Streams) (page : List ℕ) (show : Show) (limit : ℕ) (began : State) (ending : Ending) (m : State)
+    (o : ComesToEnd old now page show limit began ending m) where
+  rest_drained : (rest : List ℕ) → now.source.remaining ≡ Some rest → ending ≡ endings.Waiting → rest ≡ []
   rest_drained rest e w = subst IsAtEnd e (o.drained w)
 
   said_over : (rest : List ℕ) → (ending ≡ endings.Waiting → rest ≡ [])
@@ -55,35 +55,34 @@ module _ (had left held holds : Option (List ℕ)) (page : List ℕ) (show : Sho
       → (text_of show limit began (o.read ++ rest)).written ≡ o.shown ++ end_text show ending m.steps
   written_over rest w = ap (λ s. s.written) (said_over rest w) ∙ said_written show (ended_run o.shown ending m rest)
 
-  module _ (holds' : Option (List ℕ)) where
+  end_grown : AppendsBut old.sink.contents now.sink.contents (page ++ end_text show ending m.steps) (o.shown ++ end_text show ending m.steps)
+  end_grown = but_grown old.sink.contents now.sink.contents page o.shown (end_text show ending m.steps) (page ++ end_text show ending m.steps) o.writes refl
+
+  module _ (sink : Outgoing) where
     -- the end was told
-    pub done_over : (outcome : Outcome) → Appends holds holds' (page ++ end_text show ending m.steps)
+    pub done_over : (outcome : Outcome) → Appends now.sink.contents sink.contents (page ++ end_text show ending m.steps)
         → ((shown unread : List ℕ) → IsOutcome outcome (said_run show (ended_run shown ending m unread)))
-        → IsDone had left held holds' outcome (λ input. said_run show (run_of show limit input began))
-    done_over outcome a out =
-        let whole = but_grown held holds page o.shown (end_text show ending m.steps) (page ++ end_text show ending m.steps) o.writes refl in
-        record {
-          tells = tells_known had left held holds' o.read o.reads outcome (text_of show limit began) (λ rest e.
-              let w = rest_drained rest e in
-              record {
-                written = subst (Appends held holds') (sym (written_over rest w))
-                    (but_all held holds holds' _ (o.shown ++ end_text show ending m.steps) whole a);
-                comes_to = subst (IsOutcome outcome) (sym (said_over rest w)) (out o.shown rest);
-                unread = rw (ap (λ s. s.unread) (said_over rest w) ∙ said_unread show (ended_run o.shown ending m rest))
-                    (subst (Keeps (Some rest)) (sym e) refl);
-              });
-          few = (o.read, o.reads, o.few);
-          exit = subst IsSoundExit (sym ((out [] []).exit ∙ said_exit show (ended_run [] ending m []))) (sound_ending ending);
-        }
+        → Finishes old (both now.source sink) outcome (λ input. said_run show (run_of show limit input began))
+    done_over outcome a out = record {
+      tells = tells_known old (both now.source sink) o.read o.reads outcome (text_of show limit began) (λ rest e.
+          let w = rest_drained rest e in
+          record {
+            written = subst (Appends old.sink.contents sink.contents) (sym (written_over rest w))
+                (but_all old.sink.contents now.sink.contents sink.contents _ (o.shown ++ end_text show ending m.steps) end_grown a);
+            comes_to = subst (IsOutcome outcome) (sym (said_over rest w)) (out o.shown rest);
+            unread = rw (ap (λ s. s.unread) (said_over rest w) ∙ said_unread show (ended_run o.shown ending m rest))
+                (subst (Keeps (Some rest)) (sym e) refl);
+          });
+      few = (o.read, o.reads, o.few);
+      exit = subst IsSoundExit (sym ((out [] []).exit ∙ said_exit show (ended_run [] ending m []))) (sound_ending ending);
+    }
 
     -- the end was not told whole
-    pub broken_telling : (fault : Fault) (source_failed sink_failed : Bool) → AppendsFront holds holds' (page ++ end_text show ending m.steps)
-        → source_failed ≡ false
-        → IsCause fault false sink_failed [] → IsBrokenOff had left held holds' fault source_failed sink_failed
-        (λ input. said_run show (run_of show limit input began))
-    broken_telling fault source_failed sink_failed a well cause =
-        let whole = but_grown held holds page o.shown (end_text show ending m.steps) (page ++ end_text show ending m.steps) o.writes refl in
-        let front = but_front held holds holds' _ (o.shown ++ end_text show ending m.steps) whole a in
+    pub broken_telling : (fault : Fault) → AppendsFront now.sink.contents sink.contents (page ++ end_text show ending m.steps)
+        → now.source.failed ≡ false → IsCause fault false sink.failed []
+        → BreaksOff old (both now.source sink) fault (λ input. said_run show (run_of show limit input began))
+    broken_telling fault a well cause =
+        let front = but_front old.sink.contents now.sink.contents sink.contents _ (o.shown ++ end_text show ending m.steps) end_grown a in
         record {
           cut = record {
             read = o.read;
@@ -92,23 +91,22 @@ module _ (had left held holds : Option (List ℕ)) (page : List ℕ) (show : Sho
             writes = front.1;
             so_far = subst (λ r. IsFront front.0 (text_of show limit began r).written) (append-nil o.read)
                 (subst (IsFront front.0) (sym (written_over [] (λ _. refl))) front.2);
-            whole = if_known left _ (λ rest e. subst (IsFront front.0) (sym (written_over rest (rest_drained rest e))) front.2);
+            whole = if_known now.source.remaining _ (λ rest e. subst (IsFront front.0) (sym (written_over rest (rest_drained rest e))) front.2);
           };
-          cause = rw well (cause_longer fault sink_failed o.read o.few cause);
+          cause = rw well (cause_longer fault sink.failed o.read o.few cause);
         }
 
 -- a run that was broken off
-pub broken_run : (had left held holds : Option (List ℕ)) (show : Show) (limit : ℕ) (began : State) (fault : Fault) (source_failed sink_failed : Bool)
-    → IsBroken had left held holds show limit began fault source_failed sink_failed
-    → IsBrokenOff had left held holds fault source_failed sink_failed (λ input. said_run show (run_of show limit input began))
-broken_run had left held holds show limit began fault source_failed sink_failed b = record {
+pub broken_run : (old new : Streams) (show : Show) (limit : ℕ) (began : State) (fault : Fault) → StopsShort old new show limit began fault
+    → BreaksOff old new fault (λ input. said_run show (run_of show limit input began))
+broken_run old new show limit began fault b = record {
   cut = record {
     read = b.read;
     front = b.front;
     reads = b.reads;
     writes = b.writes;
     so_far = subst (λ r. IsFront b.front (text_of show limit began r).written) (append-nil b.read) (begins (b.read ++ []) (b.begins []));
-    whole = if_known left _ (λ rest e. begins (b.read ++ rest) (b.begins rest));
+    whole = if_known new.source.remaining _ (λ rest e. begins (b.read ++ rest) (b.begins rest));
   };
   cause = b.cause;
 }
@@ -121,32 +119,23 @@ broken_run had left held holds show limit began fault source_failed sink_failed 
 
 -- ---- a machine that starts, or none
 
-pub started_done : (had left held holds : Option (List ℕ)) (show : Show) (limit : ℕ) (start : Result State Refusal) (m : State) (outcome : Outcome)
-    → Ok m ≡ start
-    → IsDone had left held holds outcome (λ input. said_run show (run_of show limit input m))
-    → IsDone had left held holds outcome (said_started show limit start)
-started_done had left held holds show limit start m outcome e d = subst (λ s. IsDone had left held holds outcome (said_started show limit s)) e d
+pub started_done : (old new : Streams) (show : Show) (limit : ℕ) (start : Result State Refusal) (m : State) (outcome : Outcome) → Ok m ≡ start
+    → Finishes old new outcome (λ input. said_run show (run_of show limit input m)) → Finishes old new outcome (said_started show limit start)
+started_done old new show limit start m outcome e d = subst (λ s. Finishes old new outcome (said_started show limit s)) e d
 
-pub started_broken : (had left held holds : Option (List ℕ)) (show : Show) (limit : ℕ) (start : Result State Refusal) (m : State) (fault : Fault)
-    (source_failed sink_failed : Bool) → Ok m ≡ start
-    → IsBrokenOff had left held holds fault source_failed sink_failed (λ input. said_run show (run_of show limit input m))
-    → IsBrokenOff had left held holds fault source_failed sink_failed (said_started show limit start)
-started_broken had left held holds show limit start m fault source_failed sink_failed e b =
-    subst (λ s. IsBrokenOff had left held holds fault source_failed sink_failed (said_started show limit s)) e b
-
-pub started_first : (had left held holds : Option (List ℕ)) (show : Show) (limit : ℕ) (start : Result State Refusal) (m : State) → Ok m ≡ start
-    → WritesFirst had left held holds (λ input. (run_of show limit input m).shown) → WritesFirst had left held holds (shown_started show limit start)
-started_first had left held holds show limit start m e w = subst (λ s. WritesFirst had left held holds (shown_started show limit s)) e w
+pub started_broken : (old new : Streams) (show : Show) (limit : ℕ) (start : Result State Refusal) (m : State) (fault : Fault) → Ok m ≡ start
+    → BreaksOff old new fault (λ input. said_run show (run_of show limit input m)) → BreaksOff old new fault (said_started show limit start)
+started_broken old new show limit start m fault e b = subst (λ s. BreaksOff old new fault (said_started show limit s)) e b
 
 -- none starts: the job is refused before any input is read
-pub talk_refused : (talk : Talk) (had held : Option (List ℕ)) (start : Result State Refusal) (refusal : Refusal) (outcome : Outcome)
+pub talk_refused : (talk : Talk) (old : Streams) (start : Result State Refusal) (refusal : Refusal) (outcome : Outcome)
     → Err refusal ≡ start
-    → ((unread : List ℕ) → IsOutcome outcome (refused refusal unread)) → IsDone had had held held outcome (said_talk talk start)
-talk_refused (talks.Run show limit) had held start refusal outcome e out =
-    subst (λ s. IsDone had had held held outcome (said_started show limit s)) e
-    (done_unread had held held outcome (said_started show limit (Err refusal)) (λ input. (Appends-nil held, out input, refl))
+    → ((unread : List ℕ) → IsOutcome outcome (refused refusal unread)) → Finishes old old outcome (said_talk talk start)
+talk_refused (talks.Run show limit) old start refusal outcome e out =
+    subst (λ s. Finishes old old outcome (said_started show limit s)) e
+    (done_unread old old refl (said_started show limit (Err refusal)) outcome (λ input. (Appends-nil old.sink.contents, out input, refl))
     (subst IsSoundExit (sym (out []).exit) refl))
-talk_refused talks.Session had held start refusal outcome e out =
-    subst (λ s. IsDone had had held held outcome (said_debug s)) e
-    (done_unread had held held outcome (said_debug (Err refusal)) (λ input. (Appends-nil held, out input, refl))
+talk_refused talks.Session old start refusal outcome e out =
+    subst (λ s. Finishes old old outcome (said_debug s)) e
+    (done_unread old old refl (said_debug (Err refusal)) outcome (λ input. (Appends-nil old.sink.contents, out input, refl))
     (subst IsSoundExit (sym (out []).exit) refl))

@@ -1,11 +1,12 @@
 -- A run goes on over steps that show nothing.
-use Rattle.std.proofs.Common.{◌≡◌, ◌<◌, ◌≤◌, ℕ, zero, suc, ◌-◌, ◌++◌, List, [], Option, Bool, drop, length, refl, sym, ap, ◌∙◌, append-nil, arith, subst}
+use Rattle.std.proofs.Common.{◌≡◌, ◌<◌, ◌≤◌, ℕ, zero, suc, ◌-◌, ◌++◌, List, [], Bool, drop, length, refl, sym, ap, ◌∙◌, append-nil, arith, subst}
 use Rattle.std.proofs.lemmas.List.{drop_all}
 use Rattle.pm_machine.specs.State.{State}
 use Rattle.pm_machine.specs.Steps.{stepped}
 use Rattle.pm_machine.specs.Runs.{AllWent, after_steps}
 use Rattle.pm_machine.specs.Quick.{QuickSteps}
 use Rattle.pm_machine.specs.declared.state.Stop.TheVariants.{Went}
+use Rattle.pm_streams.specs.Streams.{Streams}
 use Rattle.pm_tool.specs.declared.steps.Show.{Show}
 use Rattle.pm_tool.specs.declared.steps.Show.TheVariants.{Trace, Console}
 use Rattle.pm_tool.specs.Run.{Unshown, shown_of}
@@ -42,10 +43,10 @@ pub unshown_none : (limit : ℕ) (s : State) → Unshown Trace limit s 0 s
 unfolding after_steps
 unshown_none limit s = record { within = omega arith; went = λ k h. absurd (omega arith); left = refl; blank = λ k h. absurd (omega arith) }
 
-module _ (had left held holds : Option (List ℕ)) (page : List ℕ) (taken : ℕ) (show : Show) (limit : ℕ) (began : State) (n : ℕ) (m : State)
-    (u : IsUnderWay had left held holds page taken show limit began n m) where
+module _ (old now : Streams) (page : List ℕ) (taken : ℕ) (show : Show) (limit : ℕ) (began : State) (n : ℕ) (m : State)
+    (u : IsUnderWay old now page taken show limit began n m) where
   under_way_after : (count : ℕ) → count ≤ n → AllWent count m → ((k : ℕ) → k < count → shown_of show (after_steps k m) (after_steps (suc k) m) ≡ [])
-      → IsUnderWay had left held holds page taken show limit began (n - count) (after_steps count m)
+      → IsUnderWay old now page taken show limit began (n - count) (after_steps count m)
   unfolding after_steps
   under_way_after zero within went blank = let e : n - 0 ≡ n = omega arith in rw e u
   under_way_after (suc k) within went blank =
@@ -53,9 +54,9 @@ module _ (had left held holds : Option (List ℕ)) (page : List ℕ) (taken : �
       let some : 0 < n - k = omega (arith, within) in
       let step : stepped (after_steps k m) ≡ ((stepped (after_steps k m)).0, Went) = ap (λ a. ((stepped (after_steps k m)).0, a)) (went k (omega arith)) in
       let grown : page ≡ page ++ shown_of show (after_steps k m) (after_steps (suc k) m) = rw (blank k (omega arith)) (sym (append-nil page)) in
-      under_way_went had left held holds page taken show limit began (n - k) (after_steps k m) before page (stepped (after_steps k m)).0 some
+      under_way_went old now page taken show limit began (n - k) (after_steps k m) before page (stepped (after_steps k m)).0 some
       (n - suc k) step grown (omega arith)
 
-  pub under_way_unshown : (count j : ℕ) (t : State) → Unshown show n m count t → j ≡ n - count → IsUnderWay had left held holds page taken show limit began j t
-  under_way_unshown count j t h e = subst (λ i. IsUnderWay had left held holds page taken show limit began i t) (sym e)
-      (subst (IsUnderWay had left held holds page taken show limit began (n - count)) (sym h.left) (under_way_after count h.within h.went h.blank))
+  pub under_way_unshown : (count j : ℕ) (t : State) → Unshown show n m count t → j ≡ n - count → IsUnderWay old now page taken show limit began j t
+  under_way_unshown count j t h e = subst (λ i. IsUnderWay old now page taken show limit began i t) (sym e)
+      (subst (IsUnderWay old now page taken show limit began (n - count)) (sym h.left) (under_way_after count h.within h.went h.blank))

@@ -16,57 +16,53 @@ use Rattle.pm_tool.specs.declared.outcome.Refusal.{Refusal}
 use Rattle.pm_streams.specs.declared.source.TheConstants.{INPUT_LIMIT}
 use Rattle.pm_session.specs.Answers.{session_after}
 use Rattle.pm_tool.specs.Outcomes.{IsOutcome}
-use Rattle.pm_tool.specs.Said.{IsBrokenOff, IsDone, IsSoundExit, WritesFirst, debugged, said_debug}
+use Rattle.pm_tool.specs.Said.{BreaksOff, Finishes, IsSoundExit, WritesFirst, debugged, said_debug}
 use Rattle.pm_session.specs.Sessions.{Told, answer_line, is_quit, opened, told, whole_lines}
-use Rattle.pm_streams.specs.Streams.{Incoming, IsFront, AppendsFront, IsCause, ReadsByte, TakesNone}
-use Rattle.pm_tool.specs.Talks.{IsCutOff, IsTold}
-use Rattle.pm_tool.proofs.Kept.{if_known, tells_known}
+use Rattle.pm_streams.specs.Streams.{Incoming, Outgoing, Streams, both, IsFront, AppendsFront, IsCause, ReadsByte, TakesNone}
+use Rattle.pm_tool.specs.Talks.{IsAnswered, IsInterrupted}
+use Rattle.pm_tool.proofs.Kept.{if_known, not_failed, tells_known}
 use Rattle.pm_session.proofs.SessionLaws.{after_telling, answer_quit, told_byte, told_from, told_last, told_line, told_none, told_nothing}
 use Rattle.pm_session.proofs.SessionLaws.{told_quit, told_start, whole_lines_byte, whole_lines_feed, whole_lines_none}
 use Rattle.pm_streams.proofs.Transfers.{cause_longer, front_after, front_trans}
 
 -- a session as far as it went: bytes were read, answers were written, and the last line has these bytes so far
-pub record IsTalking (had left held holds : Option (List ℕ)) (line : List ℕ) (taken : ℕ) (began d : Session) : Type 0 where
+pub record IsTalking (old now : Streams) (line : List ℕ) (taken : ℕ) (began d : Session) : Type 0 where
   pub read : List ℕ
   pub shown : List ℕ
   pub count : length read ≡ taken
-  pub reads : Consumes had left read
-  pub writes : Appends held holds shown
+  pub reads : Consumes old.source.remaining now.source.remaining read
+  pub writes : Appends old.sink.contents now.sink.contents shown
   pub run : (rest : List ℕ) → told (read ++ rest) began ≡ after_telling shown (told_from line rest d)
   pub prompt : (told (whole_lines read) began).text ≡ shown
-
-not_failed : {A : Type 0} (failed : Bool) → failed ≡ false → failed ≡ true → A
-not_failed false well bad = cc
-not_failed true well bad = cc
 
 empty_is : (line : List ℕ) → length line ≡ 0 → line ≡ []
 empty_is [] h = refl
 empty_is (c ∷ line) h = absurd (omega arith)
 
-pub talking_none : (had held : Option (List ℕ)) (line : List ℕ) (began : Session) → line ≡ [] → IsTalking had had held held line 0 began began
-talking_none had held line began e = record {
+pub talking_none : (old : Streams) (line : List ℕ) (began : Session) → line ≡ [] → IsTalking old old line 0 began began
+talking_none old line began e = record {
   read = [];
   shown = [];
   count = refl;
-  reads = Consumes-nil had;
-  writes = Appends-nil held;
+  reads = Consumes-nil old.source.remaining;
+  writes = Appends-nil old.sink.contents;
   run = λ rest. rw e (told_start rest began);
   prompt = ap (λ lines. (told lines began).text) whole_lines_none ∙ told_nothing began;
 }
 
-module _ (had left held holds : Option (List ℕ)) (line : List ℕ) (taken : ℕ) (began d : Session) (u : IsTalking had left held holds line taken began d) where
-  module _ (left' : Option (List ℕ)) (c : ℕ) (reads : Consumes left left' (c ∷ [])) where
+module _ (old now : Streams) (line : List ℕ) (taken : ℕ) (began d : Session) (u : IsTalking old now line taken began d) where
+  module _ (source : Incoming) (c : ℕ) (reads : Consumes now.source.remaining source.remaining (c ∷ [])) where
     more_count : length (u.read ++ c ∷ []) ≡ taken + 1
     more_count = length-append u.read (c ∷ []) ∙ ap (λ k. k + 1) u.count
 
-    more_reads : Consumes had left' (u.read ++ c ∷ [])
-    more_reads = Consumes-trans had left left' u.read (c ∷ []) u.reads reads
+    more_reads : Consumes old.source.remaining source.remaining (u.read ++ c ∷ [])
+    more_reads = Consumes-trans old.source.remaining now.source.remaining source.remaining u.read (c ∷ []) u.reads reads
 
     more_run : (rest : List ℕ) → told ((u.read ++ c ∷ []) ++ rest) began ≡ after_telling u.shown (told_from line (c ∷ rest) d)
     more_run rest = ap (λ input. told input began) (append_assoc u.read (c ∷ []) rest) ∙ u.run (c ∷ rest)
 
     -- a byte of the line
-    pub talking_byte : (line' : List ℕ) → (c == 10) ≡ false → line' ≡ line ++ c ∷ [] → IsTalking had left' held holds line' (taken + 1) began d
+    pub talking_byte : (line' : List ℕ) → (c == 10) ≡ false → line' ≡ line ++ c ∷ [] → IsTalking old (both source now.sink) line' (taken + 1) began d
     talking_byte line' h e = record {
       read = u.read ++ c ∷ [];
       shown = u.shown;
@@ -78,10 +74,10 @@ module _ (had left held holds : Option (List ℕ)) (line : List ℕ) (taken : �
     }
 
     -- the session is broken off behind a byte
-    pub cut_behind : (fault : Fault) (source_failed sink_failed : Bool) → source_failed ≡ false
-        → ((read : List ℕ) → length read ≡ taken + 1 → IsCause fault source_failed sink_failed read)
-        → IsCutOff had left' held holds began fault source_failed sink_failed
-    cut_behind fault source_failed sink_failed well cause = record {
+    pub cut_behind : (fault : Fault) → source.failed ≡ false
+        → ((read : List ℕ) → length read ≡ taken + 1 → IsCause fault source.failed now.sink.failed read)
+        → IsInterrupted old (both source now.sink) began fault
+    cut_behind fault well cause = record {
       read = u.read ++ c ∷ [];
       front = u.shown;
       ended = false;
@@ -89,15 +85,15 @@ module _ (had left held holds : Option (List ℕ)) (line : List ℕ) (taken : �
       writes = u.writes;
       begins = λ rest _. ((told_from line (c ∷ rest) d).text, ap (λ t. t.text) (more_run rest));
       drained = λ e. cc;
-      prompt = λ failed. not_failed source_failed well failed;
+      prompt = λ failed. not_failed source.failed well failed;
       cause = cause (u.read ++ c ∷ []) more_count;
     }
 
-    module _ (feed : (c == 10) ≡ true) (holds' : Option (List ℕ)) where
+    module _ (feed : (c == 10) ≡ true) (sink : Outgoing) where
       -- a line is answered
-      pub talking_line : (line' : List ℕ) (d' : Session) → is_quit (command_of line) ≡ false → Appends holds holds' (answer_line (command_of line) d)
-          → line' ≡ []
-          → d' ≡ session_after (command_of line) d → IsTalking had left' held holds' line' (taken + 1) began d'
+      pub talking_line : (line' : List ℕ) (d' : Session) → is_quit (command_of line) ≡ false
+          → Appends now.sink.contents sink.contents (answer_line (command_of line) d) → line' ≡ []
+          → d' ≡ session_after (command_of line) d → IsTalking old (both source sink) line' (taken + 1) began d'
       talking_line line' d' q a e s =
           let text : List ℕ = answer_line (command_of line) d in
           record {
@@ -105,7 +101,7 @@ module _ (had left held holds : Option (List ℕ)) (line : List ℕ) (taken : �
             shown = u.shown ++ text;
             count = more_count;
             reads = more_reads;
-            writes = Appends-trans held holds holds' u.shown text u.writes a;
+            writes = Appends-trans old.sink.contents now.sink.contents sink.contents u.shown text u.writes a;
             run = λ rest. rw (e, s) (more_run rest ∙ ap (after_telling u.shown) (told_line line c rest d feed q)
                 ∙ regroup u.shown text (told rest (session_after (command_of line) d))
                 ∙ ap (after_telling (u.shown ++ text)) (told_start rest (session_after (command_of line) d)));
@@ -119,96 +115,98 @@ module _ (had left held holds : Option (List ℕ)) (line : List ℕ) (taken : �
           regroup a b t = ap (λ text. record t { text = text }) (sym (append_assoc a b t.text))
 
       -- the session ends by `quit`
-      pub told_by_quit : is_quit (command_of line) ≡ true → Appends holds holds' (answer_line (command_of line) d) → taken + 1 ≤ INPUT_LIMIT
-          → IsTold had left' held holds' began
+      pub told_by_quit : is_quit (command_of line) ≡ true → Appends now.sink.contents sink.contents (answer_line (command_of line) d)
+          → taken + 1 ≤ INPUT_LIMIT → IsAnswered old (both source sink) began
       told_by_quit q a few = record {
         read = u.read ++ c ∷ [];
         shown = u.shown;
         ended = false;
         few = rw more_count few;
         reads = more_reads;
-        writes = subst (Appends held holds') (append-nil u.shown) (Appends-trans held holds holds' u.shown [] u.writes (rw (answer_quit line d q) at a));
+        writes = subst (Appends old.sink.contents sink.contents) (append-nil u.shown)
+            (Appends-trans old.sink.contents now.sink.contents sink.contents u.shown [] u.writes (rw (answer_quit line d q) at a));
         all = λ rest _. more_run rest ∙ ap (after_telling u.shown) (told_quit line c rest d feed q)
             ∙ ap (λ text. record { text = text; unread = rest }) (append-nil u.shown);
         drained = λ e. cc;
       }
 
       -- the answer could not be written
-      pub cut_answering : (fault : Fault) (source_failed sink_failed : Bool) → AppendsFront holds holds' (answer_line (command_of line) d)
-          → taken + 1 ≤ INPUT_LIMIT → source_failed ≡ false
-          → IsCause fault false sink_failed [] → IsCutOff had left' held holds' began fault source_failed sink_failed
-      cut_answering fault source_failed sink_failed a few well cause = record {
+      pub cut_answering : (fault : Fault) → AppendsFront now.sink.contents sink.contents (answer_line (command_of line) d)
+          → taken + 1 ≤ INPUT_LIMIT → source.failed ≡ false
+          → IsCause fault false sink.failed [] → IsInterrupted old (both source sink) began fault
+      cut_answering fault a few well cause = record {
         read = u.read ++ c ∷ [];
         front = u.shown ++ a.0;
         ended = false;
         reads = more_reads;
-        writes = Appends-trans held holds holds' u.shown a.0 u.writes a.1;
+        writes = Appends-trans old.sink.contents now.sink.contents sink.contents u.shown a.0 u.writes a.1;
         begins = λ rest _. rw (more_run rest) (front_after u.shown a.0 (told_from line (c ∷ rest) d).text
             (front_trans a.0 (answer_line (command_of line) d) (told_from line (c ∷ rest) d).text a.2 (answered rest (is_quit (command_of line)) refl)));
         drained = λ e. cc;
-        prompt = λ failed. not_failed source_failed well failed;
-        cause = rw well (cause_longer fault sink_failed (u.read ++ c ∷ []) (rw more_count few) cause);
+        prompt = λ failed. not_failed source.failed well failed;
+        cause = rw well (cause_longer fault sink.failed (u.read ++ c ∷ []) (rw more_count few) cause);
       }
         where
           answered : (rest : List ℕ) (q : Bool) → is_quit (command_of line) ≡ q → IsFront (answer_line (command_of line) d) (told_from line (c ∷ rest) d).text
           answered rest true e = ((told_from line (c ∷ rest) d).text, rw (answer_quit line d e) refl)
           answered rest false e = ((told rest (session_after (command_of line) d)).text, ap (λ t. t.text) (told_line line c rest d feed e))
 
-  module _ (left' : Option (List ℕ)) (none : ReadsByte left left' None) where
+  module _ (source : Incoming) (none : ReadsByte now.source.remaining source.remaining None) where
     -- the input ends behind a line feed
-    pub told_at_end : length line ≡ 0 → taken ≤ INPUT_LIMIT → IsTold had left' held holds began
+    pub told_at_end : length line ≡ 0 → taken ≤ INPUT_LIMIT → IsAnswered old (both source now.sink) began
     told_at_end size few = let e = empty_is line size in record {
       read = u.read;
       shown = u.shown;
       ended = true;
       few = rw u.count few;
-      reads = Consumes-kept had left left' u.read u.reads none.0;
+      reads = Consumes-kept old.source.remaining now.source.remaining source.remaining u.read u.reads none.0;
       writes = u.writes;
       all = λ rest none_left. let empty = none_left refl in
           rw empty (u.run [] ∙ rw e (ap (after_telling u.shown) (told_none d) ∙ ap (λ text. record { text = text; unread = [] }) (append-nil u.shown)));
       drained = λ _. none.1;
     }
 
-    module _ (some : 0 < length line) (holds' : Option (List ℕ)) where
+    module _ (some : 0 < length line) (sink : Outgoing) where
       -- the last line has no line feed
-      pub told_at_last : Appends holds holds' (answer_line (command_of line) d) → taken ≤ INPUT_LIMIT → IsTold had left' held holds' began
+      pub told_at_last : Appends now.sink.contents sink.contents (answer_line (command_of line) d) → taken ≤ INPUT_LIMIT
+          → IsAnswered old (both source sink) began
       told_at_last a few = record {
         read = u.read;
         shown = u.shown ++ answer_line (command_of line) d;
         ended = true;
         few = rw u.count few;
-        reads = Consumes-kept had left left' u.read u.reads none.0;
-        writes = Appends-trans held holds holds' u.shown (answer_line (command_of line) d) u.writes a;
+        reads = Consumes-kept old.source.remaining now.source.remaining source.remaining u.read u.reads none.0;
+        writes = Appends-trans old.sink.contents now.sink.contents sink.contents u.shown (answer_line (command_of line) d) u.writes a;
         all = λ rest none_left. let empty = none_left refl in rw empty (u.run [] ∙ ap (after_telling u.shown) (told_last line d some));
         drained = λ _. none.1;
       }
 
-      pub cut_at_last : (fault : Fault) (source_failed sink_failed : Bool) → AppendsFront holds holds' (answer_line (command_of line) d) → taken ≤ INPUT_LIMIT
-          → source_failed ≡ false
-          → IsCause fault false sink_failed [] → IsCutOff had left' held holds' began fault source_failed sink_failed
-      cut_at_last fault source_failed sink_failed a few well cause = record {
+      pub cut_at_last : (fault : Fault) → AppendsFront now.sink.contents sink.contents (answer_line (command_of line) d) → taken ≤ INPUT_LIMIT
+          → source.failed ≡ false
+          → IsCause fault false sink.failed [] → IsInterrupted old (both source sink) began fault
+      cut_at_last fault a few well cause = record {
         read = u.read;
         front = u.shown ++ a.0;
         ended = true;
-        reads = Consumes-kept had left left' u.read u.reads none.0;
-        writes = Appends-trans held holds holds' u.shown a.0 u.writes a.1;
+        reads = Consumes-kept old.source.remaining now.source.remaining source.remaining u.read u.reads none.0;
+        writes = Appends-trans old.sink.contents now.sink.contents sink.contents u.shown a.0 u.writes a.1;
         begins = λ rest none_left. let empty = none_left refl in
             rw empty (subst (IsFront (u.shown ++ a.0)) (sym (ap (λ t. t.text) (u.run [] ∙ ap (after_telling u.shown) (told_last line d some))))
             (front_after u.shown a.0 (answer_line (command_of line) d) a.2));
         drained = λ _. none.1;
-        prompt = λ failed. not_failed source_failed well failed;
-        cause = rw well (cause_longer fault sink_failed u.read (rw u.count few) cause);
+        prompt = λ failed. not_failed source.failed well failed;
+        cause = rw well (cause_longer fault sink.failed u.read (rw u.count few) cause);
       }
 
   -- no byte could be read
-  pub cut_reading : (left' : Option (List ℕ)) (fault : Fault) (source_failed sink_failed : Bool) → Keeps left left' → fault ≡ faults.Read
-      → source_failed ≡ true → sink_failed ≡ false
-      → IsCutOff had left' held holds began fault source_failed sink_failed
-  cut_reading left' fault source_failed sink_failed k e failed well = record {
+  pub cut_reading : (source : Incoming) (fault : Fault) → Keeps now.source.remaining source.remaining → fault ≡ faults.Read
+      → source.failed ≡ true → now.sink.failed ≡ false
+      → IsInterrupted old (both source now.sink) began fault
+  cut_reading source fault k e failed well = record {
     read = u.read;
     front = u.shown;
     ended = false;
-    reads = Consumes-kept had left left' u.read u.reads k;
+    reads = Consumes-kept old.source.remaining now.source.remaining source.remaining u.read u.reads k;
     writes = u.writes;
     begins = λ rest _. ((told_from line rest d).text, ap (λ t. t.text) (u.run rest));
     drained = λ h. cc;
@@ -217,13 +215,13 @@ module _ (had left held holds : Option (List ℕ)) (line : List ℕ) (taken : �
   }
 
 -- no byte could be taken
-pub cut_taking : (had : Option (List ℕ)) (old new : Incoming) (held holds : Option (List ℕ)) (line : List ℕ) (taken : ℕ) (began d : Session)
-    → IsTalking had old.remaining held holds line taken began d → TakesNone old new taken → (fault : Fault) (sink_failed : Bool) → fault ≡ faults.Read
-    → sink_failed ≡ false
-    → IsCutOff had new.remaining held holds began fault new.failed sink_failed
-cut_taking had old new held holds line taken began d u none fault sink_failed e well = elim none [
-  | inl k ↦ cut_reading had old.remaining held holds line taken began d u new.remaining fault new.failed sink_failed k.1 e k.0 well
-  | inr k ↦ cut_behind had old.remaining held holds line taken began d u new.remaining k.2.0 k.2.1 fault new.failed sink_failed k.0
+pub cut_taking : (old now : Streams) (source : Incoming) (line : List ℕ) (taken : ℕ) (began d : Session)
+    → IsTalking old now line taken began d → TakesNone now.source source taken → (fault : Fault) → fault ≡ faults.Read
+    → now.sink.failed ≡ false
+    → IsInterrupted old (both source now.sink) began fault
+cut_taking old now source line taken began d u none fault e well = elim none [
+  | inl k ↦ cut_reading old now line taken began d u source fault k.1 e k.0 well
+  | inr k ↦ cut_behind old now line taken began d u source k.2.0 k.2.1 fault k.0
       (λ read count. rw e (well, inr (omega (arith, k.1, count))))
 ]
 
@@ -240,7 +238,7 @@ told_unread machine input = refl
 rest_drained : (left : Option (List ℕ)) (rest : List ℕ) → left ≡ Some rest → IsAtEnd left → rest ≡ []
 rest_drained left rest e end = subst IsAtEnd e end
 
-pub done_told : (had left held holds : Option (List ℕ)) (began : Session) (machine : State) (outcome : Outcome) → IsTold had left held holds began
+pub done_told : (old new : Streams) (began : Session) (machine : State) (outcome : Outcome) → IsAnswered old new began
     → began ≡ opened machine
     → ((unread written : List ℕ) → IsOutcome outcome (record {
       written = written;
@@ -250,10 +248,10 @@ pub done_told : (had left held holds : Option (List ℕ)) (began : Session) (mac
       printer = [];
       unread = unread;
     }))
-    → IsDone had left held holds outcome (debugged machine)
-done_told had left held holds began machine outcome o b out = record {
-  tells = tells_known had left held holds o.read o.reads outcome (debugged machine) (λ rest e.
-      let all = o.all rest (λ ended. rest_drained left rest e (o.drained ended)) in
+    → Finishes old new outcome (debugged machine)
+done_told old new began machine outcome o b out = record {
+  tells = tells_known old new o.read o.reads outcome (debugged machine) (λ rest e.
+      let all = o.all rest (λ ended. rest_drained new.source.remaining rest e (o.drained ended)) in
       let here = rw b at all in
       record {
         written = rw (told_written machine (o.read ++ rest), ap (λ t. t.text) here) o.writes;
@@ -264,17 +262,16 @@ done_told had left held holds began machine outcome o b out = record {
   exit = subst IsSoundExit (sym (out [] []).exit) refl;
 }
 
-pub cut_told : (had left held holds : Option (List ℕ)) (began : Session) (machine : State) (fault : Fault) (source_failed sink_failed : Bool)
-    → IsCutOff had left held holds began fault source_failed sink_failed → began ≡ opened machine
-    → IsBrokenOff had left held holds fault source_failed sink_failed (debugged machine)
-cut_told had left held holds began machine fault source_failed sink_failed o b = record {
+pub cut_told : (old new : Streams) (began : Session) (machine : State) (fault : Fault) → IsInterrupted old new began fault → began ≡ opened machine
+    → BreaksOff old new fault (debugged machine)
+cut_told old new began machine fault o b = record {
   cut = record {
     read = o.read;
     front = o.front;
     reads = o.reads;
     writes = o.writes;
     so_far = subst (λ r. IsFront o.front (debugged machine r).written) (append-nil o.read) (begins [] (λ _. refl));
-    whole = if_known left _ (λ rest e. begins rest (λ ended. rest_drained left rest e (o.drained ended)));
+    whole = if_known new.source.remaining _ (λ rest e. begins rest (λ ended. rest_drained new.source.remaining rest e (o.drained ended)));
   };
   cause = o.cause;
 }
@@ -282,14 +279,13 @@ cut_told had left held holds began machine fault source_failed sink_failed o b =
     begins : (rest : List ℕ) → (o.ended ≡ true → rest ≡ []) → IsFront o.front (debugged machine (o.read ++ rest)).written
     begins rest none = rw (told_written machine (o.read ++ rest)) (rw b at (o.begins rest none))
 
-pub first_told : (had left held holds : Option (List ℕ)) (began : Session) (machine : State) (fault : Fault) (source_failed sink_failed : Bool)
-    → IsCutOff had left held holds began fault source_failed sink_failed → began ≡ opened machine → source_failed ≡ true
-    → WritesFirst had left held holds (λ read. (debugged machine (whole_lines read)).written)
-first_told had left held holds began machine fault source_failed sink_failed o b failed = record {
+pub first_told : (old new : Streams) (began : Session) (machine : State) (fault : Fault) → IsInterrupted old new began fault → began ≡ opened machine
+    → new.source.failed ≡ true → WritesFirst old new (λ read. (debugged machine (whole_lines read)).written)
+first_told old new began machine fault o b failed = record {
   read = o.read;
   reads = o.reads;
-  writes = subst (Appends held holds) (sym (told_written machine (whole_lines o.read) ∙ ap (λ d. (told (whole_lines o.read) d).text) (sym b)
-      ∙ o.prompt failed)) o.writes;
+  writes = subst (Appends old.sink.contents new.sink.contents)
+      (sym (told_written machine (whole_lines o.read) ∙ ap (λ d. (told (whole_lines o.read) d).text) (sym b) ∙ o.prompt failed)) o.writes;
 }
 
 -- ---- a machine that starts, or none
@@ -297,18 +293,15 @@ first_told had left held holds began machine fault source_failed sink_failed o b
 pub opened_is : (d : Session) (machine : State) → d.machine ≡ machine → d.breaks ≡ [] → d ≡ opened machine
 opened_is d machine a b = ap (λ m. record d { machine = m }) a ∙ ap (λ breaks. record (opened machine) { breaks = breaks }) b
 
-pub debug_done : (had left held holds : Option (List ℕ)) (start : Result State Refusal) (m : State) (outcome : Outcome) → Ok m ≡ start
-    → IsDone had left held holds outcome (debugged m) → IsDone had left held holds outcome (said_debug start)
-debug_done had left held holds start m outcome e d = subst (λ s. IsDone had left held holds outcome (said_debug s)) e d
+pub debug_done : (old new : Streams) (start : Result State Refusal) (m : State) (outcome : Outcome) → Ok m ≡ start
+    → Finishes old new outcome (debugged m) → Finishes old new outcome (said_debug start)
+debug_done old new start m outcome e d = subst (λ s. Finishes old new outcome (said_debug s)) e d
 
-pub debug_broken : (had left held holds : Option (List ℕ)) (start : Result State Refusal) (m : State) (fault : Fault) (source_failed sink_failed : Bool)
-    → Ok m ≡ start
-    → IsBrokenOff had left held holds fault source_failed sink_failed (debugged m)
-    → IsBrokenOff had left held holds fault source_failed sink_failed (said_debug start)
-debug_broken had left held holds start m fault source_failed sink_failed e b =
-    subst (λ s. IsBrokenOff had left held holds fault source_failed sink_failed (said_debug s)) e b
+pub debug_broken : (old new : Streams) (start : Result State Refusal) (m : State) (fault : Fault) → Ok m ≡ start
+    → BreaksOff old new fault (debugged m) → BreaksOff old new fault (said_debug start)
+debug_broken old new start m fault e b = subst (λ s. BreaksOff old new fault (said_debug s)) e b
 
-pub debug_first : (had left held holds : Option (List ℕ)) (start : Result State Refusal) (m : State) → Ok m ≡ start
-    → WritesFirst had left held holds (λ read. (debugged m (whole_lines read)).written)
-    → WritesFirst had left held holds (λ read. (said_debug start (whole_lines read)).written)
-debug_first had left held holds start m e w = subst (λ s. WritesFirst had left held holds (λ read. (said_debug s (whole_lines read)).written)) e w
+pub debug_first : (old new : Streams) (start : Result State Refusal) (m : State) → Ok m ≡ start
+    → WritesFirst old new (λ read. (debugged m (whole_lines read)).written)
+    → WritesFirst old new (λ read. (said_debug start (whole_lines read)).written)
+debug_first old new start m e w = subst (λ s. WritesFirst old new (λ read. (said_debug s (whole_lines read)).written)) e w

@@ -1,6 +1,6 @@
 -- A run of the machine and what is shown of it.
 use Rattle.std.specs.Prelude.{◌≡◌, ◌≤◌, ◌<◌, ℕ, zero, suc, Bool, true, false, List}
-use Rattle.std.specs.Prelude.{[], ◌∷◌, ◌++◌, drop, length, Option, if◌then◌else◌}
+use Rattle.std.specs.Prelude.{[], ◌∷◌, ◌++◌, drop, length, if◌then◌else◌}
 use Rattle.std.specs.Io.KnownBytes.{Appends, Consumes, IsAtEnd}
 use Rattle.pm_machine.specs.State.{State}
 use Rattle.pm_machine.specs.Steps.{stepped}
@@ -89,35 +89,24 @@ end_text (Console save) ending steps = []
 
 -- The run is at its end: these bytes were keyed, and what it shows was written but for what is held back. If it waits,
 -- nothing is left to read.
-pub record IsOver (had left held holds : Option (List ℕ)) (held_back : List ℕ) (show : Show) (limit : ℕ)
-    (began : State) (ending : Ending) (machine : State) : Type 0 where
+pub record ComesToEnd (old new : Streams) (held_back : List ℕ) (show : Show) (limit : ℕ) (began : State)
+    (ending : Ending) (machine : State) : Type 0 where
   pub read : List ℕ
   pub shown : List ℕ
   pub few : length read ≤ INPUT_LIMIT
-  pub reads : Consumes had left read
-  pub writes : AppendsBut held holds held_back shown
+  pub reads : Consumes old.source.remaining new.source.remaining read
+  pub writes : AppendsBut old.sink.contents new.sink.contents held_back shown
   pub run : (rest : List ℕ) → (ending ≡ endings.Waiting → rest ≡ [])
       → run_of show limit (read ++ rest) began ≡ ended_run shown ending machine rest
-  pub drained : ending ≡ endings.Waiting → IsAtEnd left
+  pub drained : ending ≡ endings.Waiting → IsAtEnd new.source.remaining
 
 -- The run was broken off: what was written is a front of what it shows, whatever is left to read. Where a read failed,
 -- it is all that was shown up to then: a program never waits for input before its output is written.
-pub record IsBroken (had left held holds : Option (List ℕ)) (show : Show) (limit : ℕ) (began : State) (fault : Fault)
-    (source_failed sink_failed : Bool) : Type 0 where
+pub record StopsShort (old new : Streams) (show : Show) (limit : ℕ) (began : State) (fault : Fault) : Type 0 where
   pub read : List ℕ
   pub front : List ℕ
-  pub reads : Consumes had left read
-  pub writes : Appends held holds front
+  pub reads : Consumes old.source.remaining new.source.remaining read
+  pub writes : Appends old.sink.contents new.sink.contents front
   pub begins : (rest : List ℕ) → IsFront front (run_of show limit (read ++ rest) began).shown
-  pub prompt : source_failed ≡ true → (run_of show limit read began).shown ≡ front
-  pub cause : IsCause fault source_failed sink_failed read
-
--- ---- the same of two streams, as a run finds and leaves them
-
-abbrev pub ComesToEnd : Streams → Streams → List ℕ → Show → ℕ → State → Ending → State → Type 0
-ComesToEnd old new held_back show limit began ending machine = IsOver old.source.remaining new.source.remaining
-    old.sink.contents new.sink.contents held_back show limit began ending machine
-
-abbrev pub StopsShort : Streams → Streams → Show → ℕ → State → Fault → Type 0
-StopsShort old new show limit began fault = IsBroken old.source.remaining new.source.remaining old.sink.contents
-    new.sink.contents show limit began fault new.source.failed new.sink.failed
+  pub prompt : new.source.failed ≡ true → (run_of show limit read began).shown ≡ front
+  pub cause : IsCause fault new.source.failed new.sink.failed read

@@ -1,5 +1,5 @@
 -- What a job says to its input, and how a job keeps to it.
-use Rattle.std.specs.Prelude.{◌≡◌, ◌⊎◌, ◌↔◌, true, false, ◌≤◌, ℕ, ◌+◌, ◌<◌, List, [], ◌++◌, Option, Some}
+use Rattle.std.specs.Prelude.{◌≡◌, ◌⊎◌, ◌↔◌, true, false, ◌≤◌, ℕ, ◌+◌, ◌<◌, List, [], ◌++◌, Some}
 use Rattle.std.specs.Prelude.{None, Result, Ok, Err, length, Bool, if◌then◌else◌, IfSome}
 use Rattle.std.specs.Io.KnownBytes.{Consumes, Appends, Keeps}
 use Rattle.pm_machine.specs.State.{State}
@@ -108,20 +108,24 @@ shown_talk talks.Session start read = (said_debug start (whole_lines read)).writ
 -- ---- keeping to it
 
 -- a job's outcome, what it wrote and what it left unread are what is said
-pub record Tells (left held holds : Option (List ℕ)) (outcome : Outcome) (told : Said) : Type 0 where
-  pub written : Appends held holds told.written
+pub record Tells (old new : Streams) (outcome : Outcome) (told : Said) : Type 0 where
+  pub written : Appends old.sink.contents new.sink.contents told.written
   pub comes_to : IsOutcome outcome told
-  pub unread : Keeps (Some told.unread) left
+  pub unread : Keeps (Some told.unread) new.source.remaining
+
+-- what is written, answered and left unread is what is said to the input
+abbrev pub TellsAll : Streams → Streams → Outcome → (List ℕ → Said) → Type 0
+TellsAll old new outcome text = IfSome old.source.remaining (λ input. Tells old new outcome (text input))
 
 -- what was written is a front of what is said to the bytes that were read, taken as the whole input, and to all of the
 -- input where that is known
-pub record IsCut (had left held holds : Option (List ℕ)) (text : List ℕ → Said) : Type 0 where
+pub record TellsFront (old new : Streams) (text : List ℕ → Said) : Type 0 where
   pub read : List ℕ
   pub front : List ℕ
-  pub reads : Consumes had left read
-  pub writes : Appends held holds front
+  pub reads : Consumes old.source.remaining new.source.remaining read
+  pub writes : Appends old.sink.contents new.sink.contents front
   pub so_far : IsFront front (text read).written
-  pub whole : IfSome left (λ rest. IsFront front (text (read ++ rest)).written)
+  pub whole : IfSome new.source.remaining (λ rest. IsFront front (text (read ++ rest)).written)
 
 -- neither a fault of a stream nor want of memory
 abbrev pub IsSoundExit : Exit → Type 0
@@ -144,50 +148,26 @@ abbrev pub CountsExactly : Streams → Streams → Exit → Type 0
 CountsExactly old new exit = CountsOn old.source.given →
     (exit ≡ exits.ReadFault ↔ (new.source.failed ≡ true) ⊎ (old.source.given + INPUT_LIMIT < new.source.given))
 
--- what holds of a job that comes to its end
-pub record IsDone (had left held holds : Option (List ℕ)) (outcome : Outcome) (text : List ℕ → Said) : Type 0 where
-  pub tells : IfSome had (λ input. Tells left held holds outcome (text input))
-  pub few : (read : List ℕ) × Consumes had left read × (length read ≤ INPUT_LIMIT)
+-- a job comes to its end
+pub record Finishes (old new : Streams) (outcome : Outcome) (text : List ℕ → Said) : Type 0 where
+  pub tells : TellsAll old new outcome text
+  pub few : (read : List ℕ) × Consumes old.source.remaining new.source.remaining read × (length read ≤ INPUT_LIMIT)
   pub exit : IsSoundExit outcome.exit
 
--- what holds of a job that is broken off
-pub record IsBrokenOff (had left held holds : Option (List ℕ)) (fault : Fault) (source_failed sink_failed : Bool)
-    (text : List ℕ → Said) : Type 0 where
-  pub cut : IsCut had left held holds text
-  pub cause : IsCause fault source_failed sink_failed cut.read
+-- a job is broken off
+pub record BreaksOff (old new : Streams) (fault : Fault) (text : List ℕ → Said) : Type 0 where
+  pub cut : TellsFront old new text
+  pub cause : IsCause fault new.source.failed new.sink.failed cut.read
 
 -- what was written is all that was shown when these bytes were read and one more was wanted
-pub record WritesFirst (had left held holds : Option (List ℕ)) (shown : List ℕ → List ℕ) : Type 0 where
+pub record WritesFirst (old new : Streams) (shown : List ℕ → List ℕ) : Type 0 where
   pub read : List ℕ
-  pub reads : Consumes had left read
-  pub writes : Appends held holds (shown read)
-
--- ---- the same of two streams, as a job finds and leaves them
-
--- what is written, answered and left unread is what is said to the input
-abbrev pub TellsAll : Streams → Streams → Outcome → (List ℕ → Said) → Type 0
-TellsAll old new outcome text = IfSome old.source.remaining
-    (λ input. Tells new.source.remaining old.sink.contents new.sink.contents outcome (text input))
-
--- what was written is a front of what is said
-abbrev pub TellsFront : Streams → Streams → (List ℕ → Said) → Type 0
-TellsFront old new text =
-    IsCut old.source.remaining new.source.remaining old.sink.contents new.sink.contents text
-
--- a job comes to its end
-abbrev pub Finishes : Streams → Streams → Outcome → (List ℕ → Said) → Type 0
-Finishes old new outcome text =
-    IsDone old.source.remaining new.source.remaining old.sink.contents new.sink.contents outcome text
-
--- a job is broken off
-abbrev pub BreaksOff : Streams → Streams → Fault → (List ℕ → Said) → Type 0
-BreaksOff old new fault text = IsBrokenOff old.source.remaining new.source.remaining old.sink.contents
-    new.sink.contents fault new.source.failed new.sink.failed text
+  pub reads : Consumes old.source.remaining new.source.remaining read
+  pub writes : Appends old.sink.contents new.sink.contents (shown read)
 
 -- where a read failed, all that was shown by then was written
 abbrev pub WritesInTime : Streams → Streams → (List ℕ → List ℕ) → Type 0
-WritesInTime old new shown = new.source.failed ≡ true
-    → WritesFirst old.source.remaining new.source.remaining old.sink.contents new.sink.contents shown
+WritesInTime old new shown = new.source.failed ≡ true → WritesFirst old new shown
 
 -- Where a read failed: a program never waits for input before its output is written, and no line of a session is read
 -- before the one before it is answered. The other jobs write nothing before they have read all.

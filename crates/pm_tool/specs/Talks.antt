@@ -1,5 +1,5 @@
 -- A session that is written as it goes.
-use Rattle.std.specs.Prelude.{◌≡◌, ◌≤◌, ℕ, Bool, true, List, [], ◌++◌, length, Option}
+use Rattle.std.specs.Prelude.{◌≡◌, ◌≤◌, ℕ, Bool, true, List, [], ◌++◌, length}
 use Rattle.std.specs.Io.KnownBytes.{Appends, Consumes, IsAtEnd}
 use Rattle.pm_debug.specs.Session.{Session}
 use Rattle.pm_streams.specs.declared.fault.Fault.{Fault}
@@ -8,37 +8,26 @@ use Rattle.pm_session.specs.Sessions.{told, whole_lines}
 use Rattle.pm_streams.specs.Streams.{Streams, IsCause, IsFront}
 
 -- The session is over: these bytes were read, and these were written. Where it ended with the input, none are left.
-pub record IsTold (had left held holds : Option (List ℕ)) (began : Session) : Type 0 where
+pub record IsAnswered (old new : Streams) (began : Session) : Type 0 where
   pub read : List ℕ
   pub shown : List ℕ
   pub ended : Bool
   pub few : length read ≤ INPUT_LIMIT
-  pub reads : Consumes had left read
-  pub writes : Appends held holds shown
+  pub reads : Consumes old.source.remaining new.source.remaining read
+  pub writes : Appends old.sink.contents new.sink.contents shown
   pub all : (rest : List ℕ) → (ended ≡ true → rest ≡ [])
       → told (read ++ rest) began ≡ record { text = shown; unread = rest }
-  pub drained : ended ≡ true → IsAtEnd left
+  pub drained : ended ≡ true → IsAtEnd new.source.remaining
 
 -- The session was broken off: what was written is a front of the answers, whatever is left to read. Where a read
 -- failed, it is the answers to all whole lines that were read: no line is wanted before the one before it is answered.
-pub record IsCutOff (had left held holds : Option (List ℕ)) (began : Session) (fault : Fault)
-    (source_failed sink_failed : Bool) : Type 0 where
+pub record IsInterrupted (old new : Streams) (began : Session) (fault : Fault) : Type 0 where
   pub read : List ℕ
   pub front : List ℕ
   pub ended : Bool
-  pub reads : Consumes had left read
-  pub writes : Appends held holds front
+  pub reads : Consumes old.source.remaining new.source.remaining read
+  pub writes : Appends old.sink.contents new.sink.contents front
   pub begins : (rest : List ℕ) → (ended ≡ true → rest ≡ []) → IsFront front (told (read ++ rest) began).text
-  pub drained : ended ≡ true → IsAtEnd left
-  pub prompt : source_failed ≡ true → (told (whole_lines read) began).text ≡ front
-  pub cause : IsCause fault source_failed sink_failed read
-
--- ---- the same of two streams, as a session finds and leaves them
-
-abbrev pub IsAnswered : Streams → Streams → Session → Type 0
-IsAnswered old new began =
-    IsTold old.source.remaining new.source.remaining old.sink.contents new.sink.contents began
-
-abbrev pub IsInterrupted : Streams → Streams → Session → Fault → Type 0
-IsInterrupted old new began fault = IsCutOff old.source.remaining new.source.remaining old.sink.contents
-    new.sink.contents began fault new.source.failed new.sink.failed
+  pub drained : ended ≡ true → IsAtEnd new.source.remaining
+  pub prompt : new.source.failed ≡ true → (told (whole_lines read) began).text ≡ front
+  pub cause : IsCause fault new.source.failed new.sink.failed read

@@ -1,9 +1,13 @@
 use Rattle.std.proofs.Common.{rules}
+use Rattle.pm_streams.specs.Streams.{both}
 use Rattle.pm_program.proofs.KeptLaws.{known_run_said}
 use Rattle.pm_program.proofs.kept.do_run.Goals as goal
 
 pub returns-clause-said : goal.returns-clause-said
-returns-clause-said g c = λ sound. known_run_said _ _ _ _ (g.S.Store.files c.args.store.now) (g.S.Store.files c.make_ready.new.store)
+returns-clause-said g c = λ sound. known_run_said
+    (both (g.I.Source.seen c.args.source.now) (g.O.Sink.seen c.args.sink.now))
+    (both (g.I.Source.seen c.run-outcome.new.source) (g.O.Sink.seen c.run-outcome.new.sink))
+    (g.S.Store.files c.args.store.now) (g.S.Store.files c.make_ready.new.store)
     (g.S.Store.files c.images.new.store) _ c.args.program c.args.kept c.in_ok-disks.disks c.run-outcome.result
     c.as_str-2.result.now c.as_str-3.result.now (search rules) (search rules)
     (c.run-outcome.ensures.exact sound) c.make_ready.ensures.stays c.images.ensures.stays c.in_ok-disks.ensures.values

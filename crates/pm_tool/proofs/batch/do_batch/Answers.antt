@@ -8,23 +8,23 @@ pub returns-in_err-input-clause-broken : goal.returns-in_err-input-clause-broken
 returns-in_err-input-clause-broken g c =
     let p = err_from_is_err_and c.from_residual.result c.from_residual.ensures.1 in
     let e = c.in_err-input.ensures.cause in
-    rw (p.1, p.2) (broken_unwritten _ _ _ _ _ _ _ e.0 e.1 (rw c.requires.well.1 e.2))
+    rw (p.1, p.2) (broken_unwritten _ _ _ _ e.0 e.1 (rw c.requires.well.1 e.2))
 
 pub returns-in_err-made-clause-broken : goal.returns-in_err-made-clause-broken
 returns-in_err-made-clause-broken g c =
     let r = c.from_residual-in_err-made in
     let p = err_from_is_err_and r.result r.ensures.1 in
-    rw (p.1, p.2) (batch_unwritten (reads_input c.args.job) _ _ _ c.in_ok-input.input.items _ _ _ _ c.in_ok-input.ensures.input
+    rw (p.1, p.2) (batch_unwritten (reads_input c.args.job) _ _ c.in_ok-input.input.items _ _ c.in_ok-input.ensures.input
     (λ read few. (c.requires.well.1, c.in_ok-input.ensures.well, few)))
 
 pub returns-in_err-outcome-clause-broken : goal.returns-in_err-outcome-clause-broken
 returns-in_err-outcome-clause-broken g c =
     let r = c.from_residual-in_err-outcome in
     let p = err_from_is_err_and r.result r.ensures.1 in
-    rw (p.1, p.2) (batch_broken (reads_input c.args.job) _ _ _ _ c.in_ok-input.input.items (made_of c.args.job) _ _ _ c.in_ok-input.ensures.input
+    rw (p.1, p.2) (batch_broken (reads_input c.args.job) _ _ c.in_ok-input.input.items (made_of c.args.job) _ c.in_ok-input.ensures.input
     (rw c.in_ok-made.ensures.made at c.in_err-outcome.ensures.front) c.in_ok-input.ensures.well c.in_err-outcome.ensures.cause)
 
 pub returns-clause-done : goal.returns-clause-done
 returns-clause-done g c =
-    batch_done (reads_input c.args.job) _ _ _ _ c.in_ok-input.input.items (made_of c.args.job) _ c.in_ok-input.ensures.input
+    batch_done (reads_input c.args.job) _ _ c.in_ok-input.input.items (made_of c.args.job) _ c.in_ok-input.ensures.input
     (rw c.in_ok-made.ensures.made at c.in_ok-outcome.ensures.written) (rw c.in_ok-made.ensures.made at c.in_ok-outcome.ensures.outcome)

@@ -1,5 +1,5 @@
 use Rattle.std.proofs.Common.{◌≡◌, ◌+◌, ◌-◌, ◌≤◌, false}
-use Rattle.pm_streams.specs.Streams.{CountsOn}
+use Rattle.pm_streams.specs.Streams.{CountsOn, both}
 use Rattle.pm_streams.specs.declared.source.TheConstants.{INPUT_LIMIT}
 use Rattle.pm_debug.specs.Session.{session_of}
 use Rattle.pm_tool.proofs.Talked.{IsTalking}
@@ -7,8 +7,7 @@ use Rattle.pm_tool.proofs.debug.converse.Given as goal
 
 abbrev pub invariant-bytes : goal.invariant-bytes
 invariant-bytes g l = record {
-  talking : IsTalking (g.R.Source.seen l.fn.source).remaining (g.R.Source.seen l.source).remaining
-      (g.W.Sink.seen l.fn.sink).contents (g.W.Sink.seen l.sink).contents
+  talking : IsTalking (both (g.R.Source.seen l.fn.source) (g.W.Sink.seen l.fn.sink)) (both (g.R.Source.seen l.source) (g.W.Sink.seen l.sink))
       l.line.items l.taken (session_of l.fn.debugger) (session_of l.debugger);
   source_well : (g.R.Source.seen l.source).failed ≡ false;
   sink_well : (g.W.Sink.seen l.sink).failed ≡ false;

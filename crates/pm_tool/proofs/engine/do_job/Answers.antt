@@ -5,13 +5,13 @@ use Rattle.pm_tool.proofs.engine.do_job.Goals as goal
 
 pub returns-in-Raw-clause-broken : goal.returns-in-Raw-clause-broken
 returns-in-Raw-clause-broken g c =
-    broken_work (work_of c.args.job) (works.Raw c.in-Raw.limit) _ _ _ _ _ _ _ c.raw.ensures.broken (rw c.work_of.ensures.work at c.in-Raw.is)
+    broken_work (work_of c.args.job) (works.Raw c.in-Raw.limit) _ _ _ c.raw.ensures.broken (rw c.work_of.ensures.work at c.in-Raw.is)
 
 pub returns-in-Talk-clause-broken : goal.returns-in-Talk-clause-broken
 returns-in-Talk-clause-broken g c =
-    broken_work (work_of c.args.job) (works.Talk c.in-Talk.start c.in-Talk.talk) _ _ _ _ _ _ _ c.do_talk.ensures.broken
+    broken_work (work_of c.args.job) (works.Talk c.in-Talk.start c.in-Talk.talk) _ _ _ c.do_talk.ensures.broken
     (rw c.work_of.ensures.work at c.in-Talk.is)
 
 pub returns-in-Batch-clause-broken : goal.returns-in-Batch-clause-broken
 returns-in-Batch-clause-broken g c =
-    broken_work (work_of c.args.job) (works.Batch c.in-Batch.batch) _ _ _ _ _ _ _ c.do_batch.ensures.broken (rw c.work_of.ensures.work at c.in-Batch.is)
+    broken_work (work_of c.args.job) (works.Batch c.in-Batch.batch) _ _ _ c.do_batch.ensures.broken (rw c.work_of.ensures.work at c.in-Batch.is)

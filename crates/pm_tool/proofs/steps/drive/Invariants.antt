@@ -1,13 +1,12 @@
 use Rattle.std.proofs.Common.{◌≡◌, ◌+◌, ◌-◌, ◌≤◌, false}
-use Rattle.pm_streams.specs.Streams.{CountsOn}
+use Rattle.pm_streams.specs.Streams.{CountsOn, both}
 use Rattle.pm_streams.specs.declared.source.TheConstants.{INPUT_LIMIT}
 use Rattle.pm_tool.proofs.Driven.{IsUnderWay}
 use Rattle.pm_tool.proofs.steps.drive.Given as goal
 
 abbrev pub invariant-steps : goal.invariant-steps
 invariant-steps g l = record {
-  under_way : IsUnderWay (g.R.Source.seen l.fn.source).remaining (g.R.Source.seen l.source).remaining
-      (g.W.Sink.seen l.fn.sink).contents (g.W.Sink.seen l.sink).contents
+  under_way : IsUnderWay (both (g.R.Source.seen l.fn.source) (g.W.Sink.seen l.fn.sink)) (both (g.R.Source.seen l.source) (g.W.Sink.seen l.sink))
       l.page.items l.taken l.show l.limit l.fn.machine.state (l.limit - l.went) l.machine.state;
   source_well : (g.R.Source.seen l.source).failed ≡ false;
   sink_well : (g.W.Sink.seen l.sink).failed ≡ false;

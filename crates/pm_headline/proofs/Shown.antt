@@ -24,8 +24,8 @@ use Rattle.pm_debug.specs.Session.{Session}
 use Rattle.pm_session.specs.declared.commands.Command.{Command}
 use Rattle.pm_session.specs.declared.commands.Command.TheVariants as commands
 use Rattle.pm_session.specs.Commands.{command_of}
-use Rattle.pm_session.specs.Answers.{after_command, answer_text, session_after, with_breaks}
-use Rattle.pm_session.specs.Sessions.{answers, is_quit, opened}
+use Rattle.pm_session.specs.Answers.{after_command, session_after, with_breaks}
+use Rattle.pm_session.specs.Sessions.{answer_line, answers, is_quit, opened}
 use Rattle.pm_headline.specs.Shown.{AreEventsOf, AreEventsOfLines, GoesOn, GoesOnAfter, SessionsShowTheTable, StopsAfter}
 use Rattle.pm_headline.specs.Shown.StopsAfter.{rests, all, breaks_there, stops}
 
@@ -111,14 +111,7 @@ command_made (Some (commands.Key b)) d = (Key b ∷ [], refl, refl)
 command_made (Some (commands.Go n)) d =
     let made = gone_steps d.breaks n d.machine in
     (replicate made.0 Step, (made.0, made.1, refl), made.2 ∙ all_steps made.0 d.machine)
-command_made (Some (commands.Stack n)) d = ([], refl, refl)
-command_made (Some (commands.Static n)) d = ([], refl, refl)
-command_made (Some (commands.Dynamic n)) d = ([], refl, refl)
-command_made (Some (commands.Local depth b)) d = ([], refl, refl)
-command_made (Some commands.Registers) d = ([], refl, refl)
-command_made (Some (commands.Place n)) d = ([], refl, refl)
-command_made (Some commands.Trace) d = ([], refl, refl)
-command_made (Some commands.Quit) d = ([], refl, refl)
+command_made (Some command) d = ([], refl, refl)
 
 -- ---- lines
 
@@ -135,7 +128,7 @@ answers_more : (line : List ℕ) (lines more : List (List ℕ)) (d t : Session) 
     → answers (line ∷ lines ++ more) d ≡ answers (line ∷ lines) d ++ answers more t
 unfolding answers
 answers_more line lines more d t on e =
-    let front = answer_text (command_of line) d ++ 10 ∷ [] in
+    let front = answer_line (command_of line) d in
     rw on (ap (λ l. front ++ l) e ∙ sym (append_assoc front _ _))
 
 no_lines : (more : List (List ℕ)) (d : Session) → answers more d ≡ answers [] d ++ answers more d

@@ -1,6 +1,6 @@
 -- The answers to an input, byte by byte.
 use Rattle.std.proofs.Common.{◌≡◌, ◌∙◌, ◌+◌, ◌<◌, ap, sym, refl, arith, ℕ, Bool, true, false}
-use Rattle.std.proofs.Common.{List, [], ◌∷◌, ◌++◌, length, drop, reverse, append_assoc, append-nil, Option, Some}
+use Rattle.std.proofs.Common.{List, [], ◌∷◌, ◌++◌, length, drop, reverse, append_assoc, append-nil, Option, Some, None}
 use Rattle.std.proofs.lemmas.List.{reverse-append, reverse-reverse}
 use Rattle.std.specs.Prelude.{◌==◌, if◌then◌else◌}
 use Rattle.std.proofs.Math.Seq.{drop-append-add}
@@ -10,7 +10,7 @@ use Rattle.pm_session.specs.declared.commands.Command.TheVariants as commands
 use Rattle.pm_session.specs.Commands.{command_of}
 use Rattle.pm_session.specs.Words.{lines_of_input, pieces_between, without_empty_end}
 use Rattle.pm_session.proofs.WordLaws.{pieces_byte, pieces_mark, pieces_none, pieces_some, with_front, with_front-byte, with_front-none}
-use Rattle.pm_session.specs.Answers.{after_command, session_after, answer_text}
+use Rattle.pm_session.specs.Answers.{answer_text, command_text, session_after}
 use Rattle.pm_session.specs.Sessions.{Told, answer_line, answers, behind_quit, from_feed, is_quit, told, whole_lines}
 
 -- the answers to these lines of an input
@@ -79,6 +79,27 @@ told_is text unread t a b = ap (from t.text) b ∙ ap (λ x. from x unread) a
     from : List ℕ → List ℕ → Told
     from text unread = record { text = text; unread = unread }
 
+-- ---- `quit`
+
+quit_unanswered : (command : Option Command) (d : Session) → is_quit command ≡ true → answer_line command d ≡ []
+unfolding command_text
+quit_unanswered (Some commands.Quit) d q = refl
+quit_unanswered _ d q = absurd (cc)
+
+pub answer_quit : (line : List ℕ) (d : Session) → is_quit (command_of line) ≡ true → answer_line (command_of line) d ≡ []
+answer_quit line d q = quit_unanswered (command_of line) d q
+
+-- nothing is answered to `quit` alone
+pub unanswered : (command : Option Command) (d : Session) → None ≡ answer_text command d → is_quit command ≡ true
+unfolding command_text
+unanswered (Some commands.Quit) d h = refl
+unanswered _ d h = absurd (cc)
+
+pub is_answered : (command : Option Command) (d : Session) (text : List ℕ) → Some text ≡ answer_text command d → is_quit command ≡ false
+unfolding command_text
+is_answered (Some commands.Quit) d text h = absurd (cc)
+is_answered _ d text h = refl
+
 -- the line feed of `quit`
 pub told_quit : (line : List ℕ) (c : ℕ) (rest : List ℕ) (d : Session) → (c == 10) ≡ true → is_quit (command_of line) ≡ true
     → told_from line (c ∷ rest) d ≡ record { text = []; unread = rest }
@@ -110,11 +131,11 @@ last_line_is (c ∷ line) h = ap (λ ps. without_empty_end (with_front (c ∷ li
 
 answers_last : (line : List ℕ) (d : Session) → answers (line ∷ []) d ≡ answer_line (command_of line) d
 unfolding answers
-answers_last line d = by_quit (is_quit (command_of line)) (answer_text (command_of line) d ++ 10 ∷ [])
+answers_last line d = by_quit (is_quit (command_of line)) refl
   where
-    by_quit : (q : Bool) (text : List ℕ) → (if q then [] else ((if q then [] else text) ++ [])) ≡ (if q then [] else text)
-    by_quit true text = refl
-    by_quit false text = append-nil text
+    by_quit : (q : Bool) → is_quit (command_of line) ≡ q → answers (line ∷ []) d ≡ answer_line (command_of line) d
+    by_quit true e = answers_quit line [] d e ∙ sym (answer_quit line d e)
+    by_quit false e = answers_more line [] d e ∙ append-nil (answer_line (command_of line) d)
 
 nothing_behind : (line : List ℕ) → behind_quit (line ∷ []) (line ++ []) ≡ []
 unfolding behind_quit
@@ -129,15 +150,6 @@ pub told_last : (line : List ℕ) (d : Session) → 0 < length line → told_fro
 told_last line d h =
     ap (λ lines. told_lines lines (line ++ []) d) (last_line_is line h)
     ∙ told_is _ _ (told_lines (line ∷ []) (line ++ []) d) (answers_last line d) (nothing_behind line)
-
-pub answer_quit : (line : List ℕ) (d : Session) → is_quit (command_of line) ≡ true → answer_line (command_of line) d ≡ []
-answer_quit line d q = rw q refl
-
--- `quit` leaves the session as it is
-pub quit_changes_nothing : (command : Option Command) (d : Session) → is_quit command ≡ true → d ≡ session_after command d
-unfolding after_command
-quit_changes_nothing (Some commands.Quit) d q = refl
-quit_changes_nothing _ d q = absurd (cc)
 
 -- ---- whole lines
 

@@ -69,46 +69,41 @@ registers_text r =
     ++ (codes " MP " ++ (decimal r.mp ++ (codes " BASE "
     ++ (decimal r.base ++ (codes " NP " ++ (decimal r.np ++ (codes " IO " ++ decimal r.ioresult))))))))))))))
 
--- what is answered to a command, without a line feed
-unfoldable pub command_text : Command → Session → List ℕ
-command_text (commands.Break s p o) d = done_text (with_break (break_at s p o) d.breaks)
-command_text (commands.Clear s p o) d = done_text (without_break (break_at s p o) d.breaks)
-command_text (commands.Poke a w) d = if is_even a then codes "ok" else refused_text OddAddress
-command_text (commands.Key b) d = codes "ok"
-command_text (commands.Go n) d = gone_text (gone d.breaks n d.machine).reason (gone d.breaks n d.machine).steps
-command_text (commands.Stack n) d = numbers_text (stack_words d.machine n)
-command_text (commands.Static n) d = chain_text (static_chain d.machine n)
-command_text (commands.Dynamic n) d = chain_text (dynamic_chain d.machine n)
-command_text (commands.Local depth b) d = word_text (or_refused (local d.machine depth b))
-command_text commands.Registers d = registers_text d.machine.registers
-command_text (commands.Place n) d = place_text (placed d.machine.places n) (keeps_of d.machine.places n)
-command_text commands.Trace d = trace_line d.machine
-command_text commands.Quit d = []
+-- what is answered to a command, without a line feed; `quit` ends the session unanswered
+unfoldable pub command_text : Command → Session → Option (List ℕ)
+command_text (commands.Break s p o) d = Some (done_text (with_break (break_at s p o) d.breaks))
+command_text (commands.Clear s p o) d = Some (done_text (without_break (break_at s p o) d.breaks))
+command_text (commands.Poke a w) d = Some (if is_even a then codes "ok" else refused_text OddAddress)
+command_text (commands.Key b) d = Some (codes "ok")
+command_text (commands.Go n) d =
+    Some (gone_text (gone d.breaks n d.machine).reason (gone d.breaks n d.machine).steps)
+command_text (commands.Stack n) d = Some (numbers_text (stack_words d.machine n))
+command_text (commands.Static n) d = Some (chain_text (static_chain d.machine n))
+command_text (commands.Dynamic n) d = Some (chain_text (dynamic_chain d.machine n))
+command_text (commands.Local depth b) d = Some (word_text (or_refused (local d.machine depth b)))
+command_text commands.Registers d = Some (registers_text d.machine.registers)
+command_text (commands.Place n) d =
+    Some (place_text (placed d.machine.places n) (keeps_of d.machine.places n))
+command_text commands.Trace d = Some (trace_line d.machine)
+command_text commands.Quit d = None
 
 -- the breakpoints after one was set or taken away; a refusal leaves them
 abbrev pub with_breaks : Session → Result (List Breakpoint) DebugRefusal → Session
 with_breaks d (Ok breaks) = record d { breaks = breaks }
 with_breaks d (Err refusal) = d
 
--- the debugger after a command: what only shows leaves it
+-- the debugger after a command; those that are not named here only show it, or end the session
 unfoldable pub after_command : Command → Session → Session
 after_command (commands.Break s p o) d = with_breaks d (with_break (break_at s p o) d.breaks)
 after_command (commands.Clear s p o) d = with_breaks d (without_break (break_at s p o) d.breaks)
 after_command (commands.Poke a w) d = record d { machine = next d.machine (Poke a w) }
 after_command (commands.Key b) d = record d { machine = next d.machine (Key b) }
 after_command (commands.Go n) d = record d { machine = (gone d.breaks n d.machine).machine }
-after_command (commands.Stack n) d = d
-after_command (commands.Static n) d = d
-after_command (commands.Dynamic n) d = d
-after_command (commands.Local depth b) d = d
-after_command commands.Registers d = d
-after_command (commands.Place n) d = d
-after_command commands.Trace d = d
-after_command commands.Quit d = d
+after_command other d = d
 
--- a line that is no command
-abbrev pub answer_text : Option Command → Session → List ℕ
-answer_text None d = codes "?"
+-- what is answered to a line, without a line feed; to one that is no command `?`
+abbrev pub answer_text : Option Command → Session → Option (List ℕ)
+answer_text None d = Some (codes "?")
 answer_text (Some command) d = command_text command d
 
 abbrev pub session_after : Option Command → Session → Session

@@ -2,8 +2,6 @@
 use Rattle.std.specs.Prelude.{ℕ, zero, suc, ◌+◌, ◌-◌, ◌*◌, ◌^◌, ◌&&◌, Bool, List, [], ◌∷◌, Option, Some, None}
 use Rattle.std.specs.Prelude.{option_map, if◌then◌else◌, nat_le, nat_lt, codes}
 use Rattle.std.specs.Str.{bytes_eq}
-use Rattle.pm_session.specs.declared.commands.Verb.{Verb}
-use Rattle.pm_session.specs.declared.commands.Verb.TheVariants as verbs
 use Rattle.pm_session.specs.declared.commands.Command.{Command}
 use Rattle.pm_session.specs.declared.commands.Command.TheVariants as commands
 use Rattle.pm_session.specs.Words.{without_return, words_of_line}
@@ -39,75 +37,68 @@ number_up_to most n = if nat_le n most then Some n else None
 
 -- ---- commands
 
--- the verb that a word is
-unfoldable pub verb_of : List ℕ → Option Verb
-verb_of word =
-    if bytes_eq word (codes "break") then Some verbs.Break
-    else if bytes_eq word (codes "clear") then Some verbs.Clear
-    else if bytes_eq word (codes "poke") then Some verbs.Poke
-    else if bytes_eq word (codes "key") then Some verbs.Key
-    else if bytes_eq word (codes "go") then Some verbs.Go
-    else if bytes_eq word (codes "stack") then Some verbs.Stack
-    else if bytes_eq word (codes "static") then Some verbs.Static
-    else if bytes_eq word (codes "dynamic") then Some verbs.Dynamic
-    else if bytes_eq word (codes "local") then Some verbs.Local
-    else if bytes_eq word (codes "regs") then Some verbs.Registers
-    else if bytes_eq word (codes "place") then Some verbs.Place
-    else if bytes_eq word (codes "trace") then Some verbs.Trace
-    else if bytes_eq word (codes "quit") then Some verbs.Quit
-    else None
-
--- a segment, a procedure and an offset
-abbrev pub point : List ℕ → Option (ℕ × ℕ × ℕ)
-point [] = None
-point (s ∷ []) = None
-point (s ∷ p ∷ []) = None
-point (s ∷ p ∷ o ∷ []) = if nat_le s 255 && (nat_le p 255 && nat_le o 65535) then Some (s, p, o) else None
-point (s ∷ p ∷ o ∷ n ∷ more) = None
-
--- two words of 16 bits
-abbrev pub two_numbers : List ℕ → Option (ℕ × ℕ)
-two_numbers [] = None
-two_numbers (a ∷ []) = None
-two_numbers (a ∷ b ∷ []) = if nat_le a 65535 && nat_le b 65535 then Some (a, b) else None
-two_numbers (a ∷ b ∷ n ∷ more) = None
-
--- one number up to this one
-abbrev pub single_number : ℕ → List ℕ → Option ℕ
-single_number most [] = None
-single_number most (n ∷ []) = number_up_to most n
-single_number most (n ∷ m ∷ more) = None
+-- what the numbers behind a command's word come to, by how many there are
+abbrev pub Reading : Type 0
+Reading = List ℕ → Option Command
 
 -- no number
-abbrev pub alone : Command → List ℕ → Option Command
+abbrev pub alone : Command → Reading
 alone command [] = Some command
 alone command (n ∷ more) = None
 
--- what a verb and its numbers ask for
-unfoldable pub asked : Verb → List ℕ → Option Command
-asked verbs.Break ns = option_map (λ (t : ℕ × ℕ × ℕ). commands.Break t.0 t.1 t.2) (point ns)
-asked verbs.Clear ns = option_map (λ (t : ℕ × ℕ × ℕ). commands.Clear t.0 t.1 t.2) (point ns)
-asked verbs.Poke ns = option_map (λ (t : ℕ × ℕ). commands.Poke t.0 t.1) (two_numbers ns)
-asked verbs.Key ns = option_map commands.Key (single_number 255 ns)
-asked verbs.Go ns = option_map commands.Go (single_number 4294967295 ns)
-asked verbs.Stack ns = option_map commands.Stack (single_number 65535 ns)
-asked verbs.Static ns = option_map commands.Static (single_number 65535 ns)
-asked verbs.Dynamic ns = option_map commands.Dynamic (single_number 65535 ns)
-asked verbs.Local ns = option_map (λ (t : ℕ × ℕ). commands.Local t.0 t.1) (two_numbers ns)
-asked verbs.Registers ns = alone commands.Registers ns
-asked verbs.Place ns = option_map commands.Place (single_number 15 ns)
-asked verbs.Trace ns = alone commands.Trace ns
-asked verbs.Quit ns = alone commands.Quit ns
+-- one number up to this one
+abbrev pub one : ℕ → (ℕ → Command) → Reading
+one most command [] = None
+one most command (n ∷ []) = option_map command (number_up_to most n)
+one most command (n ∷ m ∷ more) = None
 
-abbrev pub asked_by : Option Verb → Option (List ℕ) → Option Command
-asked_by (Some verb) (Some ns) = asked verb ns
-asked_by (Some verb) None = None
-asked_by None ns = None
+-- two words of 16 bits
+abbrev pub two : (ℕ → ℕ → Command) → Reading
+two command [] = None
+two command (a ∷ []) = None
+two command (a ∷ b ∷ []) = if nat_le a 65535 && nat_le b 65535 then Some (command a b) else None
+two command (a ∷ b ∷ n ∷ more) = None
 
--- a verb and at most three numbers
+-- a segment, a procedure and an offset
+abbrev pub point : (ℕ → ℕ → ℕ → Command) → Reading
+point command [] = None
+point command (s ∷ []) = None
+point command (s ∷ p ∷ []) = None
+point command (s ∷ p ∷ o ∷ []) =
+    if nat_le s 255 && (nat_le p 255 && nat_le o 65535) then Some (command s p o) else None
+point command (s ∷ p ∷ o ∷ n ∷ more) = None
+
+-- the commands, a row for each: its word, and the numbers that it wants
+unfoldable pub command_rows : List (List ℕ × Reading)
+command_rows =
+    (codes "break", point commands.Break)
+    ∷ (codes "clear", point commands.Clear)
+    ∷ (codes "poke", two commands.Poke)
+    ∷ (codes "key", one 255 commands.Key)
+    ∷ (codes "go", one 4294967295 commands.Go)
+    ∷ (codes "stack", one 65535 commands.Stack)
+    ∷ (codes "static", one 65535 commands.Static)
+    ∷ (codes "dynamic", one 65535 commands.Dynamic)
+    ∷ (codes "local", two commands.Local)
+    ∷ (codes "regs", alone commands.Registers)
+    ∷ (codes "place", one 15 commands.Place)
+    ∷ (codes "trace", alone commands.Trace)
+    ∷ (codes "quit", alone commands.Quit)
+    ∷ []
+
+-- the command of a word and its numbers, by the first row that has the word
+abbrev pub command_in : List (List ℕ × Reading) → List ℕ → List ℕ → Option Command
+command_in [] word ns = None
+command_in (row ∷ rows) word ns = if bytes_eq word row.0 then row.1 ns else command_in rows word ns
+
+abbrev pub command_with : List ℕ → Option (List ℕ) → Option Command
+command_with word None = None
+command_with word (Some ns) = command_in command_rows word ns
+
+-- a word and at most three numbers
 abbrev pub in_words : List (List ℕ) → Option Command
 in_words [] = None
-in_words (verb ∷ words) = asked_by (verb_of verb) (numbers 3 words)
+in_words (word ∷ words) = command_with word (numbers 3 words)
 
 -- the command that a line is, without its line feed; a carriage return at its end is no part of it
 unfoldable pub command_of : List ℕ → Option Command

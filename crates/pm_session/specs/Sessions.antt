@@ -9,25 +9,18 @@ use Rattle.pm_session.specs.Commands.{command_of}
 use Rattle.pm_session.specs.Words.{lines_of_input}
 use Rattle.pm_session.specs.Answers.{session_after, answer_text}
 
+-- the line is `quit`, which ends a session
 abbrev pub is_quit : Option Command → Bool
-is_quit None = false
-is_quit (Some (commands.Break s p o)) = false
-is_quit (Some (commands.Clear s p o)) = false
-is_quit (Some (commands.Poke a w)) = false
-is_quit (Some (commands.Key b)) = false
-is_quit (Some (commands.Go n)) = false
-is_quit (Some (commands.Stack n)) = false
-is_quit (Some (commands.Static n)) = false
-is_quit (Some (commands.Dynamic n)) = false
-is_quit (Some (commands.Local depth b)) = false
-is_quit (Some commands.Registers) = false
-is_quit (Some (commands.Place n)) = false
-is_quit (Some commands.Trace) = false
 is_quit (Some commands.Quit) = true
+is_quit other = false
+
+abbrev pub with_feed : Option (List ℕ) → List ℕ
+with_feed None = []
+with_feed (Some text) = text ++ 10 ∷ []
 
 -- the answer to a line, with its line feed; `quit` has none
 abbrev pub answer_line : Option Command → Session → List ℕ
-answer_line command d = if is_quit command then [] else answer_text command d ++ 10 ∷ []
+answer_line command d = with_feed (answer_text command d)
 
 -- the answers to lines, up to the first `quit`
 unfoldable pub answers : List (List ℕ) → Session → List ℕ

@@ -1,6 +1,6 @@
 //! What the debugger answers to a line.
 ghost use Rattle.std.specs.Prelude.{◌≡◌, ◌++◌, ◌∷◌, [], false, true, IfOk, IfNone, IfSome, OnOk};
-ghost use Rattle.std.specs.Prelude.{Option, List, ℕ, string_bytes, codes, if◌then◌else◌};
+ghost use Rattle.std.specs.Prelude.{Option, List, ℕ, option_map, string_bytes, codes, if◌then◌else◌};
 ghost use Rattle.pm_debug.specs.Session.{session_of};
 ghost use Rattle.pm_words.specs.Stack.{is_even};
 ghost use Rattle.pm_machine.specs.Events.{Key, Poke, next};
@@ -137,17 +137,18 @@ fn key(debugger: &mut Debugger, byte: u8) -> Result<(), AllocError>
     Ok(())
 }
 
-/// Does a command, and gives its answer without a line feed.
+/// Does a command, and gives its answer without a line feed. `quit` has none.
 #[tactic(auto, unfolding(crate::specs::Answers::command_text, crate::specs::Answers::after_command))]
 fn do_command(
     alloc: Global,
     debugger: &mut Debugger,
     command: Command,
-) -> Result<String, AllocError>
-    ensures text { IfOk result (λ text. string_bytes text ≡ command_text command (session_of debugger.old)) }
+) -> Result<Option<String>, AllocError>
+    ensures text { IfOk result (λ text.
+        option_map string_bytes text ≡ command_text command (session_of debugger.old)) }
     ensures session { OnOk result ((session_of debugger.new) ≡ after_command command (session_of debugger.old)) }
 {
-    match command {
+    let text = match command {
         Command::Break(segment, procedure, offset) => {
             done(alloc, debugger.set_break(segment, procedure, offset))
         }
@@ -173,34 +174,29 @@ fn do_command(
             place(alloc, machine.place(n), machine.keeps(n))
         }
         Command::Trace => debugger.trace_line(alloc),
-        Command::Quit => Ok(String::new(alloc)),
-    }
+        Command::Quit => return Ok(None),
+    };
+    Ok(Some(text?))
 }
 
-/// Does a command, and gives its answer with a line feed. A line that is none has an answer too.
+/// What is answered to a line without a line feed: to one that is no command, `?`.
 fn answer_to(
     alloc: Global,
     debugger: &mut Debugger,
     command: Option<Command>,
-) -> Result<String, AllocError>
-    ensures text { IfOk result (λ text. string_bytes text ≡ answer_text command (session_of debugger.old) ++ 10 ∷ []) }
+) -> Result<Option<String>, AllocError>
+    ensures text { IfOk result (λ text.
+        option_map string_bytes text ≡ answer_text command (session_of debugger.old)) }
     ensures session { OnOk result ((session_of debugger.new) ≡ session_after command (session_of debugger.old)) }
 {
-    let mut text = match command {
-        Some(command) => do_command(alloc, debugger, command)?,
-        None => format!(in alloc; "?")?,
-    };
-    text.push_str("\n")?;
-    Ok(text)
-}
-
-fn is_quit(command: Option<Command>) -> bool
-    ensures quit { result ≡ is_quit command }
-{
-    matches!(command, Some(Command::Quit))
+    match command {
+        Some(command) => do_command(alloc, debugger, command),
+        None => Ok(Some(format!(in alloc; "?")?)),
+    }
 }
 
 /// Does the command that a line is, without its line feed, and gives the answer, with a line feed. `quit` has none.
+#[tactic(auto, using(crate::proofs::SessionLaws::unanswered))]
 pub fn answer(
     alloc: Global,
     debugger: &mut Debugger,
@@ -213,10 +209,9 @@ pub fn answer(
     ensures session { OnOk result ((session_of debugger.new)
         ≡ session_after (command_of line.now) (session_of debugger.old)) }
 {
-    let command = command_of(line);
-    if is_quit(command) {
+    let Some(mut text) = answer_to(alloc, debugger, command_of(line))? else {
         return Ok(None);
-    }
-    let text = answer_to(alloc, debugger, command)?;
+    };
+    text.push_str("\n")?;
     Ok(Some(text))
 }

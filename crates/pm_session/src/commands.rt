@@ -1,18 +1,7 @@
 //! The commands of a debugger's line.
 ghost use Rattle.std.specs.Prelude.{◌≡◌, ◌<◌, ◌≤◌, ◌⊎◌, true, [], ◌∷◌, Some, None, IfSome, IfNone, length};
-ghost use Rattle.pm_session.specs.Commands.{
-  alone,
-  asked,
-  command_of,
-  is_digit,
-  word_number,
-  numbers,
-  single_number,
-  two_numbers,
-  point,
-  number_up_to,
-  verb_of,
-};
+ghost use Rattle.pm_session.specs.Commands.{command_in, command_of, command_rows, is_digit};
+ghost use Rattle.pm_session.specs.Commands.{number_up_to, numbers, word_number};
 ghost use Rattle.std.specs.Str.{bytes_eq};
 ghost use Rattle.pm_session.specs.Words.{begins_word, words_of_line, without_return};
 
@@ -49,66 +38,11 @@ pub enum Command {
     Quit,
 }
 
-/// The first word of a command.
-#[derive(Clone, Copy, Debug, PartialEq, Eq)]
-enum Verb {
-    Break,
-    Clear,
-    Poke,
-    Key,
-    Go,
-    Stack,
-    Static,
-    Dynamic,
-    Local,
-    Registers,
-    Place,
-    Trace,
-    Quit,
-}
-
 /// Whether the bytes are those of a text.
 fn is_text(word: &[u8], text: &str) -> bool
     ensures same { result ≡ bytes_eq word.now text.now }
 {
     word == text.as_bytes()
-}
-
-/// The verb that a word is.
-#[tactic(auto, unfolding(crate::specs::Commands::verb_of))]
-fn verb_of(word: &[u8]) -> Option<Verb>
-    ensures verb { result ≡ verb_of word.now }
-{
-    let verb = if is_text(word, "break") {
-        Verb::Break
-    } else if is_text(word, "clear") {
-        Verb::Clear
-    } else if is_text(word, "poke") {
-        Verb::Poke
-    } else if is_text(word, "key") {
-        Verb::Key
-    } else if is_text(word, "go") {
-        Verb::Go
-    } else if is_text(word, "stack") {
-        Verb::Stack
-    } else if is_text(word, "static") {
-        Verb::Static
-    } else if is_text(word, "dynamic") {
-        Verb::Dynamic
-    } else if is_text(word, "local") {
-        Verb::Local
-    } else if is_text(word, "regs") {
-        Verb::Registers
-    } else if is_text(word, "place") {
-        Verb::Place
-    } else if is_text(word, "trace") {
-        Verb::Trace
-    } else if is_text(word, "quit") {
-        Verb::Quit
-    } else {
-        return None;
-    };
-    Some(verb)
 }
 
 fn is_digit(byte: u8) -> bool
@@ -225,114 +159,34 @@ fn word(n: u32) -> Option<u16>
     if n <= 65535 { Some(n as u16) } else { None }
 }
 
-/// A segment, a procedure and an offset.
-fn point(numbers: &[u32]) -> Option<(u8, u8, u16)>
-    ensures point { result ≡ point numbers.now }
+fn slot(n: u32) -> Option<u8>
+    ensures slot { result ≡ number_up_to 15 n }
 {
-    match numbers {
-        [segment, procedure, offset] => {
-            let segment = byte(*segment)?;
-            let procedure = byte(*procedure)?;
-            let offset = word(*offset)?;
-            Some((segment, procedure, offset))
-        }
-        _ => None,
-    }
+    if n <= 15 { Some(n as u8) } else { None }
 }
 
-/// Two words of 16 bits.
-fn pair(numbers: &[u32]) -> Option<(u16, u16)>
-    ensures pair { result ≡ two_numbers numbers.now }
+/// The command of a name and the numbers behind it: a row for each command.
+#[tactic(auto, unfolding(crate::specs::Commands::command_rows))]
+fn command_named(name: &[u8], numbers: &[u32]) -> Option<Command>
+    ensures command { result ≡ command_in command_rows name.now numbers.now }
 {
-    match numbers {
-        [first, second] => {
-            let first = word(*first)?;
-            let second = word(*second)?;
-            Some((first, second))
-        }
-        _ => None,
-    }
-}
-
-/// One number.
-fn one(numbers: &[u32]) -> Option<u32>
-    ensures one { result ≡ single_number 4294967295 numbers.now }
-{
-    match numbers {
-        [number] => Some(*number),
-        _ => None,
-    }
-}
-
-fn one_byte(numbers: &[u32]) -> Option<u8>
-    ensures one { result ≡ single_number 255 numbers.now }
-{
-    match numbers {
-        [number] => byte(*number),
-        _ => None,
-    }
-}
-
-fn one_slot(numbers: &[u32]) -> Option<u8>
-    ensures one { result ≡ single_number 15 numbers.now }
-{
-    match numbers {
-        [number] if *number <= 15 => Some(*number as u8),
-        _ => None,
-    }
-}
-
-fn one_word(numbers: &[u32]) -> Option<u16>
-    ensures one { result ≡ single_number 65535 numbers.now }
-{
-    match numbers {
-        [number] => word(*number),
-        _ => None,
-    }
-}
-
-fn alone(command: Command, numbers: &[u32]) -> Option<Command>
-    ensures alone { result ≡ alone command numbers.now }
-{
-    if numbers.is_empty() {
-        Some(command)
-    } else {
-        None
-    }
-}
-
-/// What a verb and its numbers ask for.
-#[tactic(auto, unfolding(crate::specs::Commands::asked))]
-fn asked(verb: Verb, numbers: &[u32]) -> Option<Command>
-    ensures command { result ≡ asked verb numbers.now }
-{
-    match verb {
-        Verb::Break => {
-            let (segment, procedure, offset) = point(numbers)?;
-            Some(Command::Break(segment, procedure, offset))
-        }
-        Verb::Clear => {
-            let (segment, procedure, offset) = point(numbers)?;
-            Some(Command::Clear(segment, procedure, offset))
-        }
-        Verb::Poke => {
-            let (address, word) = pair(numbers)?;
-            Some(Command::Poke(address, word))
-        }
-        Verb::Key => Some(Command::Key(one_byte(numbers)?)),
-        Verb::Go => Some(Command::Go(one(numbers)?)),
-        Verb::Stack => Some(Command::Stack(one_word(numbers)?)),
-        Verb::Static => Some(Command::Static(one_word(numbers)?)),
-        Verb::Dynamic => Some(Command::Dynamic(one_word(numbers)?)),
-        Verb::Local => {
-            let (depth, b) = pair(numbers)?;
-            Some(Command::Local(depth, b))
-        }
-        Verb::Registers => alone(Command::Registers, numbers),
-        Verb::Place => Some(Command::Place(one_slot(numbers)?)),
-        Verb::Trace => alone(Command::Trace, numbers),
-        Verb::Quit => alone(Command::Quit, numbers),
-    }
+    let command = match numbers {
+        [s, p, o] if is_text(name, "break") => Command::Break(byte(*s)?, byte(*p)?, word(*o)?),
+        [s, p, o] if is_text(name, "clear") => Command::Clear(byte(*s)?, byte(*p)?, word(*o)?),
+        [a, w] if is_text(name, "poke") => Command::Poke(word(*a)?, word(*w)?),
+        [b] if is_text(name, "key") => Command::Key(byte(*b)?),
+        [n] if is_text(name, "go") => Command::Go(*n),
+        [n] if is_text(name, "stack") => Command::Stack(word(*n)?),
+        [n] if is_text(name, "static") => Command::Static(word(*n)?),
+        [n] if is_text(name, "dynamic") => Command::Dynamic(word(*n)?),
+        [d, b] if is_text(name, "local") => Command::Local(word(*d)?, word(*b)?),
+        [] if is_text(name, "regs") => Command::Registers,
+        [n] if is_text(name, "place") => Command::Place(slot(*n)?),
+        [] if is_text(name, "trace") => Command::Trace,
+        [] if is_text(name, "quit") => Command::Quit,
+        _ => return None,
+    };
+    Some(command)
 }
 
 /// A line without the carriage return at its end.
@@ -351,7 +205,6 @@ pub fn command_of(line: &[u8]) -> Option<Command>
     ensures command { result ≡ command_of line.now }
 {
     let (name, rest) = next_word(without_return(line))?;
-    let verb = verb_of(name)?;
     let numbers = numbers(rest)?;
-    asked(verb, &numbers)
+    command_named(name, &numbers)
 }

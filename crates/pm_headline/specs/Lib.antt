@@ -1,1 +1,4 @@
 pub mod Shown
+pub mod Loaded
+pub mod RoundTrip
+pub mod Refusals

@@ -1,13 +1,7 @@
-//! The headline, where no crate below has a part of it whole: what a session of the debugger shows is the table's. The
-//! functions do nothing.
+//! The headline's laws, where no crate below has a part of it whole: from a text to its code file and back, from a text
+//! to the memory of a machine, from the lines of a session to the events of the table. The functions do nothing.
 #![tactic(auto)]
 
-ghost use Rattle.pm_headline.specs.Shown.{SessionsShowTheTable};
-
-/// After any lines of a session without `quit`, the machine is as the table leaves it after the steps, the keys and the
-/// pokes of these lines, in their order; and what is answered to the lines that follow is what is shown of that state.
-/// A `go` makes steps until there are as many as it says, the machine stands at a breakpoint, or it does not go on.
-#[tactic(auto, using(crate::proofs::Shown::sessions_show_the_table))]
-pub fn sessions_show_the_table()
-    ensures law { SessionsShowTheTable }
-{}
+pub mod loaded;
+pub mod round_trip;
+pub mod sessions;

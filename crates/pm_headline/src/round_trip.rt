@@ -1,0 +1,32 @@
+//! From a program to its text and back; and which fault of a text is told where several hold: the first in its order.
+
+ghost use Rattle.pm_headline.specs.Refusals.{JumpsTellFirst, LinesTellFirst, TextsTellFirst};
+ghost use Rattle.pm_headline.specs.RoundTrip.{AssembledIsShownAgain, ShownFileIsSpelled};
+
+/// The text that the disassembler shows for the code file of a program of which no segment has more than 65,534 bytes
+/// spells a program of the same code file, of the same segments in their bytes: the same program, where no item of it
+/// is a byte that is no instruction.
+pub fn shown_file_is_spelled()
+    ensures law { ShownFileIsSpelled }
+{}
+
+/// The text that the disassembler shows for an assembled code file is assembled to the same code file.
+pub fn assembled_is_shown_again()
+    ensures law { AssembledIsShownAgain }
+{}
+
+/// A line is refused where it is out of place or begins a procedure that never ends, then for an unknown type word,
+/// then for a slot, a label or the exit code that is said again, and then for a number.
+pub fn lines_tell_first()
+    ensures law { LinesTellFirst }
+{}
+
+/// A jump is refused for a label that is none of its procedure's, and then for one that is too far.
+pub fn jumps_tell_first()
+    ensures law { JumpsTellFirst }
+{}
+
+/// A text is refused for its lines, and for its labels where no line has a fault.
+pub fn texts_tell_first()
+    ensures law { TextsTellFirst }
+{}

@@ -1,3 +1,0 @@
-pub mod Round
-pub mod ShownAgain
-pub mod RefusalLaws

@@ -8,13 +8,13 @@ use Rattle.pm_tool.specs.Said.{job_said, Tells, TellsAll}
 use Rattle.pm_tool.specs.declared.outcome.Job.{Job}
 use Rattle.pm_tool.specs.declared.outcome.Outcome.{Outcome}
 use Rattle.pm_program.specs.Kept.{KeepsRun, KeepsRunSaid, KeepsSaid, KeepsTold, PrintsIf, ReadsEach, SaysOf, TellsOf, has_run, paths_of}
-use Rattle.pm_program.specs.declared.run_words.KeptOfRun.{KeptOfRun}
-use Rattle.pm_program.specs.declared.run_words.Program.{Program}
+use Rattle.pm_program.specs.declared.kept.KeptOfRun.{KeptOfRun}
+use Rattle.pm_plan.specs.declared.run_words.Program.{Program}
 use Rattle.pm_tool.specs.Disks.{images_of}
 use Rattle.pm_tool.specs.declared.outcome.Job.TheVariants as jobs
-use Rattle.pm_program.specs.declared.run_words.Printing.{Printing}
-use Rattle.pm_program.specs.declared.file_words.Verb.{Verb}
-use Rattle.pm_program.specs.declared.file_words.Verb.TheVariants as verbs
+use Rattle.pm_program.specs.declared.kept.Printing.{Printing}
+use Rattle.pm_plan.specs.declared.file_words.Verb.{Verb}
+use Rattle.pm_plan.specs.declared.file_words.Verb.TheVariants as verbs
 
 keeps_said : (old new : Files) (path : List ℕ) (verb : Verb) (job : Job) (input : List ℕ) → SaysOf old path verb job
     → Keeps old new path (job_said job input).image → KeepsSaid old new path verb input

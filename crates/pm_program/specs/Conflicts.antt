@@ -3,9 +3,9 @@ use Rattle.std.specs.Prelude.{ℕ, Bool, false, ◌&&◌, ◌||◌, List, Option
 use Rattle.std.specs.Prelude.{if◌then◌else◌}
 use Rattle.pm_program.specs.declared.end.Conflict.{Conflict}
 use Rattle.pm_program.specs.declared.end.Conflict.TheVariants as conflicts
-use Rattle.pm_program.specs.declared.run_words.Keeping.{Keeping}
-use Rattle.pm_program.specs.declared.run_words.Others.{Others}
-use Rattle.pm_program.specs.declared.run_words.Program.{Program}
+use Rattle.pm_plan.specs.declared.run_words.Keeping.{Keeping}
+use Rattle.pm_plan.specs.declared.run_words.Others.{Others}
+use Rattle.pm_plan.specs.declared.run_words.Program.{Program}
 
 -- a path names the file of an image, if there is one
 abbrev pub names_image : (List ℕ → List ℕ → Bool) → List ℕ → Option (List ℕ) → Bool

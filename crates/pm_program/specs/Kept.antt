@@ -16,13 +16,13 @@ use Rattle.pm_tool.specs.declared.outcome.Exit.TheVariants as exits
 use Rattle.pm_tool.specs.declared.outcome.Job.{Job}
 use Rattle.pm_tool.specs.declared.outcome.Job.TheVariants as jobs
 use Rattle.pm_tool.specs.declared.outcome.Outcome.{Outcome}
-use Rattle.pm_program.specs.declared.file_words.Verb.{Verb}
-use Rattle.pm_program.specs.declared.file_words.Verb.TheVariants as verbs
-use Rattle.pm_program.specs.declared.run_words.KeptOfRun.{KeptOfRun}
-use Rattle.pm_program.specs.declared.run_words.Others.{Others}
-use Rattle.pm_program.specs.declared.run_words.Printing.{Printing}
-use Rattle.pm_program.specs.declared.run_words.Program.{Program}
-use Rattle.pm_program.specs.declared.run_words.Printing.TheVariants as printings
+use Rattle.pm_plan.specs.declared.file_words.Verb.{Verb}
+use Rattle.pm_plan.specs.declared.file_words.Verb.TheVariants as verbs
+use Rattle.pm_program.specs.declared.kept.KeptOfRun.{KeptOfRun}
+use Rattle.pm_plan.specs.declared.run_words.Others.{Others}
+use Rattle.pm_program.specs.declared.kept.Printing.{Printing}
+use Rattle.pm_plan.specs.declared.run_words.Program.{Program}
+use Rattle.pm_program.specs.declared.kept.Printing.TheVariants as printings
 
 -- a program came to an end of its own, of its steps or of its input
 abbrev pub has_run : Exit → Bool

@@ -2,11 +2,20 @@
 use crate::end::End;
 use crate::follow::follow;
 use crate::say::{Manner, say};
-use crate::words::{WordsError, plan_of};
 use pm_files::{DiskFault, Host, Stream};
+use pm_plan::{WordsError, plan_of};
 use pm_tool::Exit;
 use std::env::Env;
 use std::io::{ErrorKind, Input};
+
+/// The exit status of words that are no job.
+fn exit_of(error: &WordsError) -> Exit {
+    match error {
+        WordsError::NoMemory => Exit::NoMemory,
+        WordsError::Version(_) => Exit::Ended,
+        _ => Exit::Usage,
+    }
+}
 
 /// Says why the words are no job, or the version. The status.
 fn refuse<R: Host + Print + Eprint>(rt: &R, error: WordsError) -> u8 {
@@ -25,7 +34,7 @@ fn refuse<R: Host + Print + Eprint>(rt: &R, error: WordsError) -> u8 {
         };
     }
     let _ = eprint!(rt; "{error}");
-    error.exit().number()
+    exit_of(&error).number()
 }
 
 /// Does what the words of the command line ask for, and answers the exit status.

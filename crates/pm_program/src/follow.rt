@@ -5,11 +5,10 @@ ghost use Rattle.pm_program.specs.Conflicts.{conflict_of, is_other, names_image,
 
 use crate::console::{Keys, Lined, Prompted};
 use crate::end::{Conflict, End};
-use crate::file_words::FilesPlan;
-use crate::kept::{do_debug, do_files, do_run, do_trace};
-use crate::run_words::{Keeping, KeptOfRun, Others, Printing, Program};
-use crate::words::Plan;
+use crate::kept::{KeptOfRun, Printing, do_debug, do_files, do_run, do_trace};
+use pm_filer::FileCommand;
 use pm_files::{DiskFault, Host, HostStore, Store, Stream};
+use pm_plan::{FilesPlan, Keeping, Others, Plan, Program, Verb};
 use pm_streams::{Reader, Sink, Source, Writer};
 use pm_tool::{Job, Outcome};
 use std::alloc::Global;
@@ -44,16 +43,24 @@ enum Prompt {
     EachLine(&'static str),
 }
 
+/// Whether a verb reads standard input.
+fn reads(verb: &Verb) -> bool {
+    matches!(
+        verb,
+        Verb::Command(FileCommand::Put(..) | FileCommand::PutText(..))
+    )
+}
+
 fn prompt_of(plan: &Plan) -> Prompt {
     match plan {
-        Plan::Job(Job::Raw { .. }) => Prompt::Once(
+        Plan::Raw { .. } => Prompt::Once(
             "pmach: reads hexadecimal digits; Ctrl-D ends them\n",
         ),
-        Plan::Job(Job::Asm { .. }) => Prompt::Once(
+        Plan::Asm { .. } => Prompt::Once(
             "pmach: reads a text of the assembler; Ctrl-D ends it\n",
         ),
-        Plan::Job(Job::Dis) => Prompt::Once("pmach: reads a code file; Ctrl-D ends it\n"),
-        Plan::Files(plan) if plan.verb.reads() => Prompt::Once(
+        Plan::Dis => Prompt::Once("pmach: reads a code file; Ctrl-D ends it\n"),
+        Plan::Files(plan) if reads(&plan.verb) => Prompt::Once(
             "pmach: reads the file; Ctrl-D ends it\n",
         ),
         Plan::Debug(_) => Prompt::EachLine("> "),
@@ -78,18 +85,21 @@ fn act<S: Store, I: Source, O: Sink>(
 ) -> Result<Outcome, DiskFault>
     requires well { AreWell (both (I.seen source.old) (O.seen sink.old)) }
 {
-    match plan {
-        Plan::Job(job) => Ok(pm_tool::run(alloc, source, sink, job)),
+    let job = match plan {
+        Plan::Raw { limit } => Job::Raw { limit },
+        Plan::Asm { list } => Job::Asm { list },
+        Plan::Dis => Job::Dis,
         Plan::Files(FilesPlan { path, verb }) => {
-            do_files(alloc, store, source, sink, path.as_str(), verb)
+            return do_files(alloc, store, source, sink, path.as_str(), verb);
         }
         Plan::Run(program, keeping) => {
             let kept = kept_of(store, keeping);
-            do_run(alloc, store, source, sink, program, kept)
+            return do_run(alloc, store, source, sink, program, kept);
         }
-        Plan::Trace(program) => do_trace(alloc, store, source, sink, program),
-        Plan::Debug(program) => do_debug(alloc, store, source, sink, program),
-    }
+        Plan::Trace(program) => return do_trace(alloc, store, source, sink, program),
+        Plan::Debug(program) => return do_debug(alloc, store, source, sink, program),
+    };
+    Ok(pm_tool::run(alloc, source, sink, job))
 }
 
 /// Where the printer's bytes go: a path of standard output's file is standard output.

@@ -7,13 +7,32 @@ ghost use Rattle.pm_program.specs.Kept.{KeepsRun, KeepsFront, KeepsSaid, PrintsI
 ghost use Rattle.pm_program.specs.Kept.{KeepsRunSaid, Reads, ReadsEach, TellsDebug, TellsTrace, paths_of};
 ghost use Rattle.pm_tool.specs.Disks.{images_of};
 
-use crate::file_words::Verb;
-use crate::run_words::{KeptOfRun, Others, Printing, Program};
 use pm_files::{DiskFault, Store};
+use pm_plan::{Others, Program, Verb};
 use pm_streams::{Sink, Source, write_all};
 use pm_tool::{Exit, Job, Outcome};
 use std::alloc::Global;
 use std::io::ErrorKind;
+
+/// Where the printer's bytes go.
+#[derive(Drop)]
+pub enum Printing {
+    /// They are not wanted.
+    Nowhere,
+    /// To standard output, behind the console's bytes.
+    Output,
+    /// To a file.
+    File(String),
+}
+
+/// What is kept of a run.
+#[derive(Drop)]
+pub struct KeptOfRun {
+    /// Whether unit 4's image is written back.
+    pub save: bool,
+    /// Where the printer's bytes go.
+    pub printing: Printing,
+}
 
 /// Whether a verb takes the lock of its file: whether it may write it.
 fn takes_lock(verb: &Verb) -> bool

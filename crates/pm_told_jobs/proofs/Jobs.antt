@@ -8,11 +8,11 @@ use Rattle.pm_tool.specs.Said.{IsSoundExit, job_said}
 use Rattle.pm_tool.specs.declared.outcome.Job.TheVariants as jobs
 use Rattle.pm_tool.specs.declared.outcome.Outcome.{Outcome}
 use Rattle.pm_program.specs.Kept.{KeepsRun, KeepsRunSaid, KeepsSaid, PrintsIf, ReadsEach, has_run}
-use Rattle.pm_program.specs.declared.run_words.KeptOfRun.{KeptOfRun}
-use Rattle.pm_program.specs.declared.run_words.Program.{Program}
-use Rattle.pm_program.specs.declared.run_words.Printing.TheVariants as printings
-use Rattle.pm_program.specs.declared.file_words.Verb.{Verb}
-use Rattle.pm_program.specs.declared.file_words.Verb.TheVariants as verbs
+use Rattle.pm_program.specs.declared.kept.KeptOfRun.{KeptOfRun}
+use Rattle.pm_plan.specs.declared.run_words.Program.{Program}
+use Rattle.pm_program.specs.declared.kept.Printing.TheVariants as printings
+use Rattle.pm_plan.specs.declared.file_words.Verb.{Verb}
+use Rattle.pm_plan.specs.declared.file_words.Verb.TheVariants as verbs
 use Rattle.pm_tool.specs.Disks.{images_of}
 use Rattle.pm_told_jobs.specs.Jobs.{LeavesRun, left_in, said_verb}
 

@@ -8,8 +8,8 @@ use Rattle.pm_tool.specs.Disks.{images_of}
 use Rattle.pm_tool.specs.Outcomes.{Said}
 use Rattle.pm_tool.specs.Said.{job_said}
 use Rattle.pm_tool.specs.declared.outcome.Job.TheVariants as jobs
-use Rattle.pm_program.specs.declared.file_words.Verb.{Verb}
-use Rattle.pm_program.specs.declared.file_words.Verb.TheVariants as verbs
+use Rattle.pm_plan.specs.declared.file_words.Verb.{Verb}
+use Rattle.pm_plan.specs.declared.file_words.Verb.TheVariants as verbs
 
 -- what a verb of `files` says to the bytes that its file holds, and to the input; a new volume is told to the input
 -- alone

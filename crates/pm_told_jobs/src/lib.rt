@@ -6,7 +6,8 @@ ghost use Rattle.pm_tool.specs.Said.{IsSoundExit};
 ghost use Rattle.pm_told_jobs.specs.Jobs.{LeavesRun, left_in, said_verb};
 
 use pm_files::{DiskFault, Store};
-use pm_program::{KeptOfRun, Others, Printing, Program, Verb, do_files, do_run};
+use pm_plan::{Others, Program, Verb};
+use pm_program::{KeptOfRun, Printing, do_files, do_run};
 use pm_streams::{Reader, Writer};
 use pm_told::OneFile;
 use pm_tool::Outcome;

@@ -1,6 +1,6 @@
 use Rattle.std.proofs.Common.{◌≡◌, ◌<◌, ℕ, Some}
 use Rattle.pm_filer.specs.Listing.{kind_word}
-use Rattle.pm_program.proofs.file_words.kind.Given as goal
+use Rattle.pm_plan.proofs.file_words.kind.Given as goal
 
 -- no kind so far has this word
 abbrev pub invariant-loop-kind : goal.invariant-loop-kind

@@ -1,14 +1,18 @@
 //! The words of the command line.
-ghost use Rattle.std.specs.Prelude.{◌≡◌, ◌↔◌, IfOk, IsOk, SomeIff, option_map, string_bytes, codes};
+ghost use Rattle.std.specs.Prelude.{◌≡◌, ◌↔◌, Err, IfErr, IfOk, IsOk, IsOkUnless, None, Some, SomeIff, [], false};
+ghost use Rattle.std.specs.Prelude.{option_map, string_bytes, codes};
 ghost use Rattle.std.specs.Str.Parse.{digits_value};
-ghost use Rattle.pm_program.specs.Asked.{Asks, IsAsked, IsLimit, IsLimitWord, IsNumberUpTo, word_found};
+ghost use Rattle.clap.specs.Words.{one_of};
+ghost use Rattle.pm_plan.specs.Asked.{Asks, IsAsked, IsFlag, IsLimit, IsLimitWord, IsNumberUpTo, word_found, words_of};
+ghost use Rattle.pm_plan.specs.Needed.{AreAllGood, AreGood, IsOptional, IsWrong};
+ghost use Rattle.pm_plan.specs.declared.words.WordsError.TheVariants.{NoCommand, NoMemory, NoValue};
 
-use crate::file_words::{FilesPlan, files, files_plan};
-use crate::run_words::{Keeping, Program, debug, keeping_of, program_of, run, trace};
+use crate::commands::all_commands;
+use crate::file_words::{FilesPlan, files_plan};
+use crate::run_words::{Keeping, Program, keeping_of, program_of};
+use clap::ArgMatches;
 use clap::error::ErrorKind;
-use clap::{Arg, ArgAction, ArgMatches, Command};
 use pm_streams::Fault;
-use pm_tool::{Exit, Job};
 use std::alloc::{AllocError, Global};
 use std::env::Args;
 use std::{fmt, io};
@@ -16,14 +20,15 @@ use std::{fmt, io};
 /// The most steps of a run where no limit is given.
 const LIMIT: u32 = 10_000_000;
 
-/// The version that `--version` names.
-const VERSION: &str = "0.1";
-
 /// What the words ask for.
 #[derive(Drop)]
 pub enum Plan {
-    /// A job that takes no file.
-    Job(Job),
+    /// The program that standard input spells is run and traced, at most so many steps.
+    Raw { limit: u32 },
+    /// The code file of the text that standard input is, or its listing.
+    Asm { list: bool },
+    /// The text of the code file that standard input is.
+    Dis,
     /// A command on the image that a file has, or a new image for it.
     Files(FilesPlan),
     /// A program to be run.
@@ -50,16 +55,6 @@ pub enum WordsError {
     /// A word is not UTF-8, or the words cannot be read.
     NotText,
     NoMemory,
-}
-
-impl WordsError {
-    pub fn exit(&self) -> Exit {
-        match self {
-            WordsError::NoMemory => Exit::NoMemory,
-            WordsError::Version(_) => Exit::Ended,
-            _ => Exit::Usage,
-        }
-    }
 }
 
 /// The text for standard error, with its line feeds.
@@ -101,55 +96,11 @@ impl From<io::Error> for WordsError {
 }
 
 impl From<AllocError> for WordsError {
+    ghost from_gives = { λ _ error. error ≡ NoMemory };
+
     fn from(_: AllocError) -> WordsError {
         WordsError::NoMemory
     }
-}
-
-/// The option `--limit`.
-pub fn limit<'a>(alloc: Global) -> Arg<'a> {
-    Arg::new(alloc, "limit")
-        .long("limit")
-        .value_name("N")
-        .help("The most steps that are made [default: 10000000]")
-}
-
-fn raw<'a>(alloc: Global) -> Result<Command<'a>, AllocError> {
-    Command::new(alloc, "raw")
-        .about(
-            "Runs the program that standard input spells in hexadecimal digits, and writes its trace",
-        )
-        .arg(limit(alloc))
-}
-
-fn asm<'a>(alloc: Global) -> Result<Command<'a>, AllocError> {
-    let list = Arg::new(alloc, "list")
-        .long("list")
-        .action(ArgAction::SetTrue)
-        .help("Writes the listing in place of the code file");
-    Command::new(alloc, "asm")
-        .about("Writes the code file of the assembler's text that standard input is")
-        .arg(list)
-}
-
-fn dis<'a>(alloc: Global) -> Command<'a> {
-    Command::new(alloc, "dis").about(
-        "Writes the text of the code file that standard input is: its segments, procedures and items",
-    )
-}
-
-fn command<'a>(alloc: Global) -> Result<Command<'a>, AllocError> {
-    Command::new(alloc, "pmach")
-        .version(VERSION)
-        .about("The p-machine of UCSD Pascal version II. With no words it does `raw`")
-        .after_help("docs/COMMANDS.md has all commands, messages and numbers.\n")
-        .subcommand(raw(alloc)?)?
-        .subcommand(files(alloc)?)?
-        .subcommand(run(alloc)?)?
-        .subcommand(trace(alloc)?)?
-        .subcommand(debug(alloc)?)?
-        .subcommand(asm(alloc)?)?
-        .subcommand(dis(alloc))
 }
 
 /// The number that decimal digits alone spell, leading zeros among them. `None` for any other text, as one with a sign
@@ -163,15 +114,40 @@ pub fn number(text: &str) -> Option<u32>
     text.parse().ok()
 }
 
-/// The value of an option, if it is given.
+/// The word that is found for an id, where there is one.
+fn found<'a>(matches: &ArgMatches<'a>, id: &str) -> Option<&'a str>
+    ensures word { option_map (λ word. word.now) result ≡ word_found (words_of matches.now) id.now }
+{
+    matches.get_str(id)
+}
+
+/// Whether an option without a value is given.
+pub fn flag(matches: &ArgMatches<'_>, id: &str) -> bool
+    ensures flag { IsFlag (one_of id.now (words_of matches.now)) result }
+{
+    matches.get_flag(id)
+}
+
+/// A word that has to be there.
+pub fn needed<'a>(matches: &ArgMatches<'a>, id: &str) -> Result<&'a str, WordsError>
+    ensures word { IfOk result (λ word. word_found (words_of matches.now) id.now ≡ Some word.now) }
+    ensures missing { IfErr result (λ error. (error ≡ NoCommand) × (word_found (words_of matches.now) id.now ≡ None)) }
+{
+    found(matches, id).ok_or(WordsError::NoCommand)
+}
+
+/// The value of an option, if it is given. Refused where it is empty.
 pub fn given(
     alloc: Global,
     matches: &ArgMatches<'_>,
     id: &str,
 ) -> Result<Option<String>, WordsError>
-    ensures value { IfOk result (λ text. word_found matches.now id.now ≡ option_map string_bytes text) }
+    ensures value { IfOk result (λ text. word_found (words_of matches.now) id.now ≡ option_map string_bytes text) }
+    ensures good { IsOk result → IsOptional (word_found (words_of matches.now) id.now) }
+    ensures taken { IsOptional (word_found (words_of matches.now) id.now) → IsOkUnless result NoMemory }
+    ensures empty { (word_found (words_of matches.now) id.now ≡ Some []) → (result ≡ Err NoValue) }
 {
-    match matches.get_str(id) {
+    match found(matches, id) {
         Some("") => Err(WordsError::NoValue),
         Some(text) => Ok(Some(String::from_str(alloc, text)?)),
         None => Ok(None),
@@ -180,10 +156,11 @@ pub fn given(
 
 /// The limit that the words give. Refused where there is a word for it that is no number up to 4,294,967,295.
 pub fn limit_of(matches: &ArgMatches<'_>) -> Result<u32, WordsError>
-    ensures value { IfOk result (λ limit. IsLimit (word_found matches.now (codes "limit")) limit) }
-    ensures accepted { IsOk result ↔ IsLimitWord (word_found matches.now (codes "limit")) }
+    ensures value { IfOk result (λ limit. IsLimit (word_found (words_of matches.now) (codes "limit")) limit) }
+    ensures accepted { IsOk result ↔ IsLimitWord (word_found (words_of matches.now) (codes "limit")) }
+    ensures refused { IfErr result IsWrong }
 {
-    match matches.get_str("limit") {
+    match found(matches, "limit") {
         Some(text) => number(text).ok_or(WordsError::Wrong(
             "the limit is a number of decimal digits, at most 4294967295",
         )),
@@ -191,21 +168,24 @@ pub fn limit_of(matches: &ArgMatches<'_>) -> Result<u32, WordsError>
     }
 }
 
-/// What a command and its words ask for.
+/// What a command and its words ask for. Refused where it is none of the seven, or where its words are not what it
+/// needs.
 fn plan_by(alloc: Global, command: &str, matches: &ArgMatches<'_>) -> Result<Plan, WordsError>
     ensures asked { IfOk result (λ plan. Asks command.now matches.now plan) }
+    ensures good { IsOk result → AreGood command.now matches.now }
+    ensures taken { AreGood command.now matches.now → IsOkUnless result NoMemory }
 {
     match command {
-        "raw" => Ok(Plan::Job(Job::Raw {
+        "raw" => Ok(Plan::Raw {
             limit: limit_of(matches)?,
-        })),
+        }),
         "run" => Ok(Plan::Run(program_of(alloc, matches)?, keeping_of(alloc, matches)?)),
         "trace" => Ok(Plan::Trace(program_of(alloc, matches)?)),
         "debug" => Ok(Plan::Debug(program_of(alloc, matches)?)),
-        "asm" => Ok(Plan::Job(Job::Asm {
-            list: matches.get_flag("list"),
-        })),
-        "dis" => Ok(Plan::Job(Job::Dis)),
+        "asm" => Ok(Plan::Asm {
+            list: flag(matches, "list"),
+        }),
+        "dis" => Ok(Plan::Dis),
         "files" => Ok(Plan::Files(files_plan(alloc, matches)?)),
         _ => Err(WordsError::NoCommand),
     }
@@ -214,6 +194,7 @@ fn plan_by(alloc: Global, command: &str, matches: &ArgMatches<'_>) -> Result<Pla
 /// What the words ask for that clap has found.
 fn plan_asked(alloc: Global, matches: &ArgMatches<'_>) -> Result<Plan, WordsError>
     ensures asked { IfOk result (λ plan. IsAsked matches.now plan) }
+    ensures taken { AreAllGood matches.now → IsOkUnless result NoMemory }
 {
     let Some((command, words)) = matches.subcommand() else {
         return Err(WordsError::NoCommand);
@@ -223,7 +204,7 @@ fn plan_asked(alloc: Global, matches: &ArgMatches<'_>) -> Result<Plan, WordsErro
 }
 
 fn parsed<'a>(alloc: Global, words: &'a [String]) -> Result<Plan, WordsError> {
-    let matches = command(alloc)?.try_get_matches_from(words)?;
+    let matches = all_commands(alloc)?.try_get_matches_from(words)?;
     plan_asked(alloc, &matches)
 }
 
@@ -231,7 +212,7 @@ fn parsed<'a>(alloc: Global, words: &'a [String]) -> Result<Plan, WordsError> {
 pub fn plan_of(alloc: Global, args: io::Result<Args>) -> Result<Plan, WordsError> {
     let words: Vec<String> = args?.collect(alloc)?;
     if words.len() <= 1 {
-        return Ok(Plan::Job(Job::Raw { limit: LIMIT }));
+        return Ok(Plan::Raw { limit: LIMIT });
     }
     parsed(alloc, words.as_slice())
 }

@@ -1,0 +1,30 @@
+-- What clap finds, as rows.
+use Rattle.std.proofs.Common.{◌≡◌, ℕ, List, Option, None, Some, refl, option_map}
+use Rattle.std.specs.Prelude.{Box}
+use Rattle.std.specs.Box.{box_value}
+use Rattle.clap.specs.Matches.{subcommand_name_of}
+use Rattle.clap.specs.Words.{Row, subcommand_rows, subcommand_rows_of}
+use Rattle.clap.specs.declared.parser.matches.ArgMatches.{ArgMatches}
+use Rattle.clap.specs.declared.parser.matches.ArgMatches.TheViews.{out-ArgMatches, out-SubCommand}
+use Rattle.clap.specs.declared.parser.matches.SubCommand.{SubCommand}
+
+module _ {Z : Type 0} where
+  named : (below : Option (Box SubCommand Z)) (name : List ℕ) (rows : List Row)
+      → Some name ≡ option_map (λ b. (out-SubCommand (box_value b)).name.now) below
+      → Some rows ≡ option_map (λ p. p.1) (subcommand_rows below) → subcommand_rows below ≡ Some (name, rows)
+  named None name rows is_name are_rows = cc
+  named (Some below) name rows is_name are_rows = cc
+
+  unnamed : (below : Option (Box SubCommand Z))
+      → None ≡ option_map (λ b. (out-SubCommand (box_value b)).name.now) below → subcommand_rows below ≡ None
+  unnamed None is_name = refl
+  unnamed (Some below) is_name = cc
+
+-- the command or verb that is found, with its words
+pub found_below : (m : ArgMatches) (name : List ℕ) (rows : List Row) → Some name ≡ subcommand_name_of m
+    → Some rows ≡ option_map (λ p. p.1) (subcommand_rows_of m) → subcommand_rows_of m ≡ Some (name, rows)
+found_below m name rows is_name are_rows = named (out-ArgMatches m).subcommand name rows is_name are_rows
+
+-- none is found
+pub none_below : (m : ArgMatches) → None ≡ subcommand_name_of m → subcommand_rows_of m ≡ None
+none_below m is_name = unnamed (out-ArgMatches m).subcommand is_name

@@ -1,0 +1,13 @@
+use Rattle.std.proofs.Common.{rules}
+use Rattle.pm_plan.specs.Asked.{words_of}
+use Rattle.pm_plan.proofs.Found.{found_below}
+use Rattle.pm_plan.proofs.file_words.files_plan.Goals as goal
+
+pub returns-clause-asked : goal.returns-clause-asked
+returns-clause-asked c = (
+  c.in-Some.verb.now,
+  words_of c.in-Some.words.now,
+  found_below c.args.matches.now _ _ (search rules) (search rules),
+  rw (c.in_ok-before.ensures.value, c.in_ok-behind.ensures.value) c.in_ok-path.ensures.path,
+  c.in_ok-verb.ensures.asked,
+)

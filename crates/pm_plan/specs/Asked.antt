@@ -1,0 +1,141 @@
+-- Which words give which job. What clap finds of the words of a command it keeps in rows, each under an id; the command
+-- behind it, or the verb, stands apart, with its name and rows of its own.
+use Rattle.std.specs.Prelude.{◌≡◌, ◌≤◌, ◌⊎◌, ⊤, ℕ, Bool, true, false, List, [], Option}
+use Rattle.std.specs.Prelude.{None, Some, option_map, string_bytes, codes}
+use Rattle.std.specs.Str.Parse.{IsNumeral, digits_value}
+use Rattle.clap.specs.Words.{Row, first_of, found_of, one_of, rows_of, subcommand_rows_of}
+use Rattle.clap.specs.declared.parser.matches.ArgMatches.{ArgMatches}
+use Rattle.pm_filer.specs.Filed.{Order, ListFiles, Get, Put, Remove, Change, GetText}
+use Rattle.pm_filer.specs.Filed.{PutText, Krunch, Date, Zero, Duplicate, Single, order_of}
+use Rattle.pm_filer.specs.Listing.{kind_word}
+use Rattle.pm_plan.specs.declared.file_words.FilesPlan.{FilesPlan}
+use Rattle.pm_plan.specs.declared.file_words.Verb.{Verb}
+use Rattle.pm_plan.specs.declared.file_words.Verb.TheVariants as verbs
+use Rattle.pm_plan.specs.declared.run_words.Keeping.{Keeping}
+use Rattle.pm_plan.specs.declared.run_words.Program.{Program}
+use Rattle.pm_plan.specs.declared.words.Plan.{Plan}
+use Rattle.pm_plan.specs.declared.words.Plan.TheVariants as plans
+
+-- what is found of the words of a command, but for a command or a verb behind it
+abbrev pub words_of : ArgMatches → List Row
+words_of m = rows_of (found_of m)
+
+-- the word that is found for an id
+abbrev pub word_found : List Row → List ℕ → Option (List ℕ)
+word_found rows id = first_of id rows
+
+-- A word is a number up to this one: decimal digits alone, one or more, with leading zeros or without, that write no
+-- higher one. A sign is no digit.
+abbrev pub IsNumberUpTo : ℕ → List ℕ → Type 0
+IsNumberUpTo most word = IsNumeral 10 word × (digits_value 10 word ≤ most)
+
+-- a word is the number that its decimal digits write
+abbrev pub IsNumber : List ℕ → ℕ → Type 0
+IsNumber word number = IsNumeral 10 word × (number ≡ digits_value 10 word)
+
+abbrev pub IsSpelled : Option (List ℕ) → ℕ → Type 0
+IsSpelled None number = ⊥
+IsSpelled (Some word) number = IsNumber word number
+
+-- there is a word, and it is a number up to this one
+abbrev pub IsNumberWord : ℕ → Option (List ℕ) → Type 0
+IsNumberWord most None = ⊥
+IsNumberWord most (Some word) = IsNumberUpTo most word
+
+-- the limit of a run: 10,000,000 where the words have none
+abbrev pub IsLimit : Option (List ℕ) → ℕ → Type 0
+IsLimit None limit = limit ≡ 10000000
+IsLimit (Some word) limit = IsNumber word limit
+
+-- there is no word for the limit, or it is a number below 2 ^ 32
+abbrev pub IsLimitWord : Option (List ℕ) → Type 0
+IsLimitWord None = ⊤
+IsLimitWord (Some word) = IsNumberUpTo 4294967295 word
+
+-- a kind of file: by its word in a list, or by its number
+abbrev pub IsKind : Option (List ℕ) → ℕ → Type 0
+IsKind None kind = ⊥
+IsKind (Some word) kind = (kind_word kind ≡ Some word) ⊎ IsNumber word kind
+
+-- whether an option without a value is among the words
+pub record IsFlag (found : Option (List ℕ)) (flag : Bool) : Type 0 where
+  pub absent : found ≡ None → flag ≡ false
+  pub given : found ≡ Some (codes "true") → flag ≡ true
+  pub denied : found ≡ Some (codes "false") → flag ≡ false
+
+-- the words of run, trace and debug: each disk by its unit's option
+pub record AsksProgram (rows : List Row) (program : Program) : Type 0 where
+  pub disk : word_found rows (codes "d4") ≡ Some (string_bytes program.disk)
+  pub d5 : word_found rows (codes "d5") ≡ option_map string_bytes program.others.d5
+  pub d9 : word_found rows (codes "d9") ≡ option_map string_bytes program.others.d9
+  pub d10 : word_found rows (codes "d10") ≡ option_map string_bytes program.others.d10
+  pub d11 : word_found rows (codes "d11") ≡ option_map string_bytes program.others.d11
+  pub d12 : word_found rows (codes "d12") ≡ option_map string_bytes program.others.d12
+  pub name : word_found rows (codes "NAME") ≡ Some (string_bytes program.name)
+  pub limit : IsLimit (word_found rows (codes "limit")) program.limit
+
+-- the further words of run
+pub record AsksKeeping (rows : List Row) (keeping : Keeping) : Type 0 where
+  pub save : IsFlag (one_of (codes "save") rows) keeping.save
+  pub printer : word_found rows (codes "printer") ≡ option_map string_bytes keeping.printer
+
+-- the words of a command on a volume, its verb among them; what is put is read later
+abbrev pub AsksOrder : List ℕ → List Row → Order → Type 0
+AsksOrder verb rows ListFiles = verb ≡ codes "list"
+AsksOrder verb rows (Get name) = (verb ≡ codes "get") × (word_found rows (codes "NAME") ≡ Some name)
+AsksOrder verb rows (Put name kind bytes) =
+    (verb ≡ codes "put") × (word_found rows (codes "NAME") ≡ Some name) × IsKind (word_found rows (codes "KIND")) kind
+    × (bytes ≡ [])
+AsksOrder verb rows (Remove name) = (verb ≡ codes "remove") × (word_found rows (codes "NAME") ≡ Some name)
+AsksOrder verb rows (Change old new) =
+    (verb ≡ codes "change") × (word_found rows (codes "OLD") ≡ Some old) × (word_found rows (codes "NEW") ≡ Some new)
+AsksOrder verb rows (GetText name) = (verb ≡ codes "gettext") × (word_found rows (codes "NAME") ≡ Some name)
+AsksOrder verb rows (PutText name text) =
+    (verb ≡ codes "puttext") × (word_found rows (codes "NAME") ≡ Some name) × (text ≡ [])
+AsksOrder verb rows Krunch = verb ≡ codes "krunch"
+AsksOrder verb rows (Date year month day) = (verb ≡ codes "date") × IsSpelled (word_found rows (codes "Y")) year
+    × IsSpelled (word_found rows (codes "M")) month × IsSpelled (word_found rows (codes "D")) day
+AsksOrder verb rows (Zero name) = (verb ≡ codes "zero") × (word_found rows (codes "NAME") ≡ Some name)
+AsksOrder verb rows Duplicate = verb ≡ codes "duplicate"
+AsksOrder verb rows Single = verb ≡ codes "single"
+
+abbrev pub AsksVerb : List ℕ → List Row → Verb → Type 0
+AsksVerb verb rows (verbs.Command command) = AsksOrder verb rows (order_of command)
+AsksVerb verb rows (verbs.New name blocks) =
+    (verb ≡ codes "new") × (word_found rows (codes "NAME") ≡ Some (string_bytes name))
+    × IsSpelled (word_found rows (codes "BLOCKS")) blocks
+AsksVerb verb rows verbs.Repair = verb ≡ codes "repair"
+
+-- the path of an image, which stands before the verb or behind it
+abbrev pub IsPath : Option (List ℕ) → Option (List ℕ) → List ℕ → Type 0
+IsPath (Some before) None path = path ≡ before
+IsPath None (Some behind) path = path ≡ behind
+IsPath None None path = ⊥
+IsPath (Some before) (Some behind) path = ⊥
+
+-- the words of files, with its verb and the words behind that
+abbrev pub AsksFiles : ArgMatches → FilesPlan → Type 0
+AsksFiles m plan = (verb : List ℕ) × (rows : List Row) × (subcommand_rows_of m ≡ Some (verb, rows))
+    × IsPath (word_found (words_of m) (codes "image")) (word_found rows (codes "image")) (string_bytes plan.path)
+    × AsksVerb verb rows plan.verb
+
+-- a command and its words
+abbrev pub Asks : List ℕ → ArgMatches → Plan → Type 0
+Asks command m (plans.Raw limit) =
+    (command ≡ codes "raw") × IsLimit (word_found (words_of m) (codes "limit")) limit
+Asks command m (plans.Asm list) = (command ≡ codes "asm") × IsFlag (one_of (codes "list") (words_of m)) list
+Asks command m plans.Dis = command ≡ codes "dis"
+Asks command m (plans.Files plan) = (command ≡ codes "files") × AsksFiles m plan
+Asks command m (plans.Run program keeping) =
+    (command ≡ codes "run") × AsksProgram (words_of m) program × AsksKeeping (words_of m) keeping
+Asks command m (plans.Trace program) = (command ≡ codes "trace") × AsksProgram (words_of m) program
+Asks command m (plans.Debug program) = (command ≡ codes "debug") × AsksProgram (words_of m) program
+
+-- the command among all words, by its name, and what is found of its words
+abbrev pub IsCommand : ArgMatches → List ℕ → ArgMatches → Type 0
+IsCommand m command below = subcommand_rows_of m ≡ Some (command, words_of below)
+
+-- all words
+abbrev pub IsAsked : ArgMatches → Plan → Type 0
+IsAsked m plan =
+    (command : List ℕ) × (below : ArgMatches) × IsCommand m command below × Asks command below plan

@@ -1,0 +1,126 @@
+-- Which words are good: what a command line has to have, word by word.
+use Rattle.std.specs.Prelude.{◌≡◌, ◌≢◌, ◌≤◌, ⊤, ℕ, true, List, [], ◌∷◌, Option, None, Some, codes, is_some}
+use Rattle.std.specs.Prelude.{if◌then◌else◌}
+use Rattle.std.specs.Bool.{MatchBool}
+use Rattle.std.specs.Str.{bytes_eq}
+use Rattle.clap.specs.Words.{Row, subcommand_rows_of}
+use Rattle.clap.specs.declared.parser.matches.ArgMatches.{ArgMatches}
+use Rattle.pm_plan.specs.Asked.{IsCommand, IsKind, IsLimitWord, IsNumberWord, word_found, words_of}
+use Rattle.pm_plan.specs.declared.words.WordsError.{WordsError}
+use Rattle.pm_plan.specs.declared.words.WordsError.TheVariants as errors
+
+-- there is a word, though it may be empty
+abbrev pub IsThere : Option (List ℕ) → Type 0
+IsThere None = ⊥
+IsThere (Some word) = ⊤
+
+-- there is a word, and it is not empty
+abbrev pub IsGiven : Option (List ℕ) → Type 0
+IsGiven None = ⊥
+IsGiven (Some word) = word ≢ []
+
+-- there is no word, or it is not empty
+abbrev pub IsOptional : Option (List ℕ) → Type 0
+IsOptional None = ⊤
+IsOptional (Some word) = word ≢ []
+
+-- there is a word, and it is that of a kind of files, or a number up to 15
+abbrev pub IsKindWord : Option (List ℕ) → Type 0
+IsKindWord word = (kind : ℕ) × (kind ≤ 15) × IsKind word kind
+
+-- what is needed of a word
+pub data Need : Type 0 where
+  -- it is there, though it may be empty
+  Word : Need
+  -- an option that is there, with a value
+  Given : Need
+  -- an option that may be missing, and else has a value
+  Optional : Need
+  -- a kind of files
+  Kind : Need
+  -- decimal digits that write a number up to this one
+  Number : ℕ → Need
+  -- the limit of a run, which may be missing
+  Limit : Need
+
+abbrev pub Meets : Need → Option (List ℕ) → Type 0
+Meets Word word = IsThere word
+Meets Given word = IsGiven word
+Meets Optional word = IsOptional word
+Meets Kind word = IsKindWord word
+Meets (Number most) word = IsNumberWord most word
+Meets Limit word = IsLimitWord word
+
+-- each word is what is needed of it
+abbrev pub MeetEach : List Row → List (List ℕ × Need) → Type 0
+MeetEach rows [] = ⊤
+MeetEach rows (need ∷ needs) = Meets need.1 (word_found rows need.0) × MeetEach rows needs
+
+-- there is something that is needed, and each word is that
+abbrev pub MeetAll : List Row → Option (List (List ℕ × Need)) → Type 0
+MeetAll rows None = ⊥
+MeetAll rows (Some needs) = MeetEach rows needs
+
+-- what run, trace and debug need: the disk of unit 4, and the program's name
+abbrev pub program_needs : List (List ℕ × Need)
+program_needs = (codes "d4", Given) ∷ (codes "d5", Optional) ∷ (codes "d9", Optional) ∷ (codes "d10", Optional)
+    ∷ (codes "d11", Optional) ∷ (codes "d12", Optional) ∷ (codes "NAME", Word) ∷ (codes "limit", Limit) ∷ []
+
+-- what the commands need but `files`; what is no command has none
+abbrev pub command_needs : List ℕ → Option (List (List ℕ × Need))
+command_needs command =
+    if bytes_eq command (codes "raw") then Some ((codes "limit", Limit) ∷ [])
+    else (if bytes_eq command (codes "run") then Some ((codes "printer", Optional) ∷ program_needs)
+    else (if bytes_eq command (codes "trace") then Some program_needs
+    else (if bytes_eq command (codes "debug") then Some program_needs
+    else (if bytes_eq command (codes "asm") then Some []
+    else (if bytes_eq command (codes "dis") then Some [] else None)))))
+
+-- what the verbs of files need; what is no verb has none
+abbrev pub verb_needs : List ℕ → Option (List (List ℕ × Need))
+verb_needs verb =
+    if bytes_eq verb (codes "list") then Some []
+    else (if bytes_eq verb (codes "get") then Some ((codes "NAME", Word) ∷ [])
+    else (if bytes_eq verb (codes "remove") then Some ((codes "NAME", Word) ∷ [])
+    else (if bytes_eq verb (codes "change") then Some ((codes "OLD", Word) ∷ (codes "NEW", Word) ∷ [])
+    else (if bytes_eq verb (codes "gettext") then Some ((codes "NAME", Word) ∷ [])
+    else (if bytes_eq verb (codes "puttext") then Some ((codes "NAME", Word) ∷ [])
+    else (if bytes_eq verb (codes "krunch") then Some []
+    else (if bytes_eq verb (codes "zero") then Some ((codes "NAME", Word) ∷ [])
+    else (if bytes_eq verb (codes "date") then Some ((codes "Y", Number 255) ∷ (codes "M", Number 255)
+    ∷ (codes "D", Number 255) ∷ [])
+    else (if bytes_eq verb (codes "duplicate") then Some []
+    else (if bytes_eq verb (codes "single") then Some []
+    else (if bytes_eq verb (codes "repair") then Some []
+    else (if bytes_eq verb (codes "put") then Some ((codes "NAME", Word) ∷ (codes "KIND", Kind) ∷ [])
+    else (if bytes_eq verb (codes "new") then Some ((codes "NAME", Word) ∷ (codes "BLOCKS", Number 65535) ∷ [])
+    else None)))))))))))))
+
+-- the path of an image stands before the verb or behind it, not both, and is not empty
+abbrev pub IsOnePath : Option (List ℕ) → Option (List ℕ) → Type 0
+IsOnePath (Some before) None = before ≢ []
+IsOnePath None (Some behind) = behind ≢ []
+IsOnePath None None = ⊥
+IsOnePath (Some before) (Some behind) = ⊥
+
+-- the words before a verb, the verb and the words behind it
+abbrev pub AreGoodBefore : List Row → Option (List ℕ × List Row) → Type 0
+AreGoodBefore rows None = ⊥
+AreGoodBefore rows (Some behind) =
+    IsOnePath (word_found rows (codes "image")) (word_found behind.1 (codes "image"))
+    × MeetAll behind.1 (verb_needs behind.0)
+
+-- the words of a command are good
+abbrev pub AreGood : List ℕ → ArgMatches → Type 0
+AreGood command m = MatchBool (bytes_eq command (codes "files"))
+    (AreGoodBefore (words_of m) (subcommand_rows_of m)) (MeetAll (words_of m) (command_needs command))
+
+-- all words are good: whatever command is found among them, its words are
+abbrev pub AreAllGood : ArgMatches → Type 0
+AreAllGood m = (is_some (subcommand_rows_of m) ≡ true)
+    × ((command : List ℕ) (below : ArgMatches) → IsCommand m command below → AreGood command below)
+
+-- a word is refused by the text that says what it has to be
+abbrev pub IsWrong : WordsError → Type 0
+IsWrong (errors.Wrong text) = ⊤
+IsWrong error = ⊥

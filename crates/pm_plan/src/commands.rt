@@ -1,0 +1,313 @@
+//! The commands as clap is told of them: their words, and the texts of the help.
+use clap::{Arg, ArgAction, Command};
+use std::alloc::{AllocError, Global};
+
+/// The version that `--version` names.
+const VERSION: &str = "0.1";
+
+/// How a word stands among the words.
+#[derive(Clone, Copy)]
+enum Form {
+    /// It has to be there, and is known by its place.
+    Word,
+    /// It is the value of an option that has to be there; the value's name.
+    Needed(&'static str),
+    /// It is the value of an option that may be missing; the value's name.
+    Free(&'static str),
+    /// It is an option without a value.
+    Flag,
+}
+
+/// A word: its id, how it stands, and what it says.
+type WordRow = (&'static str, Form, &'static str);
+
+/// A command, or a verb of `files`: its name, what it does, and its words.
+type CommandRow = (&'static str, &'static str, &'static [WordRow]);
+
+const LIMIT: WordRow = (
+    "limit",
+    Form::Free("N"),
+    "The most steps that are made [default: 10000000]",
+);
+
+const D4: WordRow = (
+    "d4",
+    Form::Needed("IMAGE"),
+    "The image of the disk on unit 4",
+);
+
+const D5: WordRow = ("d5", Form::Free("IMAGE"), "The image of the disk on unit 5");
+
+const D9: WordRow = ("d9", Form::Free("IMAGE"), "The image of the disk on unit 9");
+
+const D10: WordRow = (
+    "d10",
+    Form::Free("IMAGE"),
+    "The image of the disk on unit 10",
+);
+
+const D11: WordRow = (
+    "d11",
+    Form::Free("IMAGE"),
+    "The image of the disk on unit 11",
+);
+
+const D12: WordRow = (
+    "d12",
+    Form::Free("IMAGE"),
+    "The image of the disk on unit 12",
+);
+
+const PROGRAM: WordRow = ("NAME", Form::Word, "The name of the code file on unit 4");
+
+const SAVE: WordRow = (
+    "save",
+    Form::Flag,
+    "Writes the image of unit 4 back to its file; nothing else that is written to a disk is kept",
+);
+
+const PRINTER: WordRow = (
+    "printer",
+    Form::Free("PATH"),
+    "The file that gets the printer's bytes, in the place of what it has",
+);
+
+/// The words of `trace` and `debug`.
+const DISKS: &[WordRow] = &[D4, D5, D9, D10, D11, D12, LIMIT, PROGRAM];
+
+/// The option `--image`, which stands before a verb or behind it.
+const IMAGE: WordRow = (
+    "image",
+    Form::Free("PATH"),
+    "The file that has the volume's image",
+);
+
+const FILE: WordRow = ("NAME", Form::Word, "The file's name, in either case");
+
+const KIND: WordRow = (
+    "KIND",
+    Form::Word,
+    "none, badb, code, text, info, data, graf, foto, secd, or a number 0 to 15",
+);
+
+const VOLUME: WordRow = ("NAME", Form::Word, "The volume's name, up to 7 characters");
+
+const VERBS: &[CommandRow] = &[
+    ("list", "Lists the files", &[IMAGE]),
+    (
+        "get",
+        "Writes a file's bytes to standard output",
+        &[IMAGE, FILE],
+    ),
+    (
+        "put",
+        "Adds a file with the bytes of standard input",
+        &[IMAGE, FILE, KIND],
+    ),
+    (
+        "gettext",
+        "Writes the text of a text file to standard output",
+        &[IMAGE, FILE],
+    ),
+    (
+        "puttext",
+        "Adds a text file with the text of standard input",
+        &[IMAGE, FILE],
+    ),
+    (
+        "krunch",
+        "Moves the files together; bad blocks stay where they are, and between them gaps may stay too",
+        &[IMAGE],
+    ),
+    (
+        "date",
+        "Sets the volume's last date",
+        &[
+            IMAGE,
+            ("Y", Form::Word, "The year, 0 to 127"),
+            ("M", Form::Word, "The month, 1 to 12"),
+            ("D", Form::Word, "The day, 1 to 31"),
+        ],
+    ),
+    (
+        "zero",
+        "Forgets all files and gives the volume a name",
+        &[IMAGE, VOLUME],
+    ),
+    ("remove", "Removes a file", &[IMAGE, FILE]),
+    (
+        "change",
+        "Gives a file another name",
+        &[
+            IMAGE,
+            ("OLD", Form::Word, "The file's name, in either case"),
+            ("NEW", Form::Word, "The other name"),
+        ],
+    ),
+    (
+        "new",
+        "Makes a new volume without files, in the place of what the file has",
+        &[
+            IMAGE,
+            VOLUME,
+            ("BLOCKS", Form::Word, "The number of blocks, 6 to 65535"),
+        ],
+    ),
+    (
+        "duplicate",
+        "Makes a second copy of the directory in blocks 6 to 9, which must be free",
+        &[IMAGE],
+    ),
+    (
+        "single",
+        "Drops the second copy of the directory, so that blocks 6 to 9 are free",
+        &[IMAGE],
+    ),
+    (
+        "repair",
+        "Puts the second copy of the directory in the place of a damaged first (refused volume 13)",
+        &[IMAGE],
+    ),
+];
+
+/// The commands of the debugger.
+const DEBUG_HELP: &str = "\
+Commands, one a line, numbers in decimal:
+  break S P O    sets a breakpoint: segment, procedure, distance in bytes from its entry
+  clear S P O    takes it away
+  go N           makes at most N steps
+  poke A W       writes a word at an even address
+  key B          lets a byte wait on the console
+  stack N        the words on the stack, at most N
+  static N       the frames by their static links, at most N
+  dynamic N      the frames by their dynamic links, at most N
+  local D B      variable B of the procedure D static links up
+  regs           the registers
+  place N        where the segment of slot N stands, for how many calls and keeps
+  trace          the line of a trace for the next step
+  quit           ends the session
+Answers: ok, numbers, ended K, error N K, limit K, waiting K, break K; `?` is no command, and refused N:
+  1 beside 64 breakpoints, 2 no such breakpoint, 3 an odd address, 5 a depth above 127
+`--limit` has no effect here.
+";
+
+const RAW: CommandRow = (
+    "raw",
+    "Runs the program that standard input spells in hexadecimal digits, and writes its trace",
+    &[LIMIT],
+);
+
+const FILES: CommandRow = (
+    "files",
+    "Lists, gets and changes the files of a volume",
+    &[IMAGE],
+);
+
+const RUN: CommandRow = (
+    "run",
+    "Runs a code file of the disk on unit 4, with the standard streams as its console",
+    &[D4, D5, D9, D10, D11, D12, LIMIT, PROGRAM, SAVE, PRINTER],
+);
+
+const TRACE: CommandRow = (
+    "trace",
+    "Runs a code file of the disk on unit 4, with standard input as its console, and writes its trace",
+    DISKS,
+);
+
+const DEBUG: CommandRow = (
+    "debug",
+    "Debugs a code file of the disk on unit 4, by the commands of standard input",
+    DISKS,
+);
+
+const DIS: CommandRow = (
+    "dis",
+    "Writes the text of the code file that standard input is: its segments, procedures and items",
+    &[],
+);
+
+const LIST: WordRow = (
+    "list",
+    Form::Flag,
+    "Writes the listing in place of the code file",
+);
+
+const ASM: CommandRow = (
+    "asm",
+    "Writes the code file of the assembler's text that standard input is",
+    &[LIST],
+);
+
+fn arg<'a>(alloc: Global, row: WordRow) -> Arg<'a> {
+    let (id, form, help) = row;
+    let arg = Arg::new(alloc, id).help(help);
+    match form {
+        Form::Word => arg.value_name(id).required(true),
+        Form::Needed(value) => arg.long(id).value_name(value).required(true),
+        Form::Free(value) => arg.long(id).value_name(value),
+        Form::Flag => arg.long(id).action(ArgAction::SetTrue),
+    }
+}
+
+fn args<'a>(alloc: Global, rows: &[WordRow]) -> Result<Vec<Arg<'a>>, AllocError> {
+    let mut args = Vec::new(alloc);
+    for row in rows {
+        args.push(arg(alloc, *row))?;
+    }
+    Ok(args)
+}
+
+fn command_of<'a>(alloc: Global, row: CommandRow) -> Result<Command<'a>, AllocError> {
+    let (name, about, words) = row;
+    let words = args(alloc, words)?;
+    Command::new(alloc, name).about(about).args(words)
+}
+
+/// Adds the commands of these rows.
+fn add<'a>(
+    alloc: Global,
+    commands: &mut Vec<Command<'a>>,
+    rows: &[CommandRow],
+) -> Result<(), AllocError> {
+    for row in rows {
+        commands.push(command_of(alloc, *row)?)?;
+    }
+    Ok(())
+}
+
+/// Adds `files` with its verbs.
+fn add_files<'a>(alloc: Global, commands: &mut Vec<Command<'a>>) -> Result<(), AllocError> {
+    let mut verbs = Vec::new(alloc);
+    add(alloc, &mut verbs, VERBS)?;
+    let files = command_of(alloc, FILES)?
+        .subcommand_required(true)
+        .subcommands(verbs)?;
+    Ok(commands.push(files)?)
+}
+
+/// Adds `debug`, whose limit has no effect.
+fn add_debug<'a>(alloc: Global, commands: &mut Vec<Command<'a>>) -> Result<(), AllocError> {
+    let debug = command_of(alloc, DEBUG)?.after_help(DEBUG_HELP);
+    Ok(commands.push(debug)?)
+}
+
+fn commands<'a>(alloc: Global) -> Result<Vec<Command<'a>>, AllocError> {
+    let mut commands = Vec::new(alloc);
+    add(alloc, &mut commands, &[RAW])?;
+    add_files(alloc, &mut commands)?;
+    add(alloc, &mut commands, &[RUN, TRACE])?;
+    add_debug(alloc, &mut commands)?;
+    add(alloc, &mut commands, &[ASM, DIS])?;
+    Ok(commands)
+}
+
+/// All commands, as clap is told of them.
+pub fn all_commands<'a>(alloc: Global) -> Result<Command<'a>, AllocError> {
+    let commands = commands(alloc)?;
+    Command::new(alloc, "pmach")
+        .version(VERSION)
+        .about("The p-machine of UCSD Pascal version II. With no words it does `raw`")
+        .after_help("docs/COMMANDS.md has all commands, messages and numbers.\n")
+        .subcommands(commands)
+}

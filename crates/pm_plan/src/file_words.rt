@@ -1,0 +1,188 @@
+//! The words of `files`.
+ghost use Rattle.std.specs.Prelude.{◌≡◌, ◌≤◌, ◌↔◌, ℕ, Err, None, Some, IfErr, IfOk, IfSome, IsOk, IsOkUnless, IsSome};
+ghost use Rattle.std.specs.Prelude.{SomeIff, codes, is_some, option_map, string_bytes, ◌≢◌};
+ghost use Rattle.std.specs.Str.Parse.{digits_value};
+ghost use Rattle.clap.specs.Words.{subcommand_rows_of};
+ghost use Rattle.pm_plan.specs.Asked.{AsksFiles, AsksVerb, IsKind, IsNumberUpTo, IsNumberWord, IsPath, IsSpelled};
+ghost use Rattle.pm_plan.specs.Asked.{word_found, words_of};
+ghost use Rattle.pm_plan.specs.Needed.{AreGoodBefore, IsKindWord, IsThere, IsWrong, MeetAll, verb_needs};
+ghost use Rattle.pm_plan.specs.declared.words.WordsError.TheVariants.{NoCommand, NoMemory};
+
+use crate::words::{WordsError, given, needed, number};
+use clap::ArgMatches;
+use pm_filer::kind_word;
+use std::alloc::Global;
+
+/// A command on the image that a file has, or a new image for it.
+#[derive(Drop)]
+pub struct FilesPlan {
+    /// The file's path.
+    pub path: String,
+    /// What is to be done.
+    pub verb: Verb,
+}
+
+/// What is to be done with an image.
+#[derive(Drop)]
+pub enum Verb {
+    /// A command on the volume that the image is.
+    Command(pm_filer::FileCommand),
+    /// A new volume of this name and so many blocks.
+    New(String, u16),
+    /// The image with its first copy of the directory repaired.
+    Repair,
+}
+
+impl Verb {
+    /// Whether the command reads standard input.
+    pub fn reads(&self) -> bool {
+        use pm_filer::FileCommand;
+        matches!(
+            self,
+            Verb::Command(FileCommand::Put(..) | FileCommand::PutText(..))
+        )
+    }
+}
+
+/// The kind that a word names, from 0 to 15. `None` where it names none.
+fn kind(text: &str) -> Option<u8>
+    ensures value { IfSome result (λ kind. IsKind (Some text.now) kind) }
+    ensures accepted { IsSome result ↔ ((kind : ℕ) × (kind ≤ 15) × IsKind (Some text.now) kind) }
+{
+    for kind in 0..16 {
+        if kind_word(kind) == Some(text) {
+            return Some(kind);
+        }
+    }
+    let kind = number(text)?;
+    if kind < 16 { Some(kind as u8) } else { None }
+}
+
+/// The number of blocks that a word is. `None` where it is no number up to 65,535.
+fn blocks(text: &str) -> Option<u16>
+    ensures exact { SomeIff result (IsNumberUpTo 65535 text.now) (digits_value 10 text.now) }
+{
+    u16::try_from(number(text)?).ok()
+}
+
+/// A word that the command line has to have.
+fn word(alloc: Global, matches: &ArgMatches<'_>, id: &str) -> Result<String, WordsError>
+    ensures value { IfOk result (λ text. word_found (words_of matches.now) id.now ≡ Some (string_bytes text)) }
+    ensures taken { IsThere (word_found (words_of matches.now) id.now) → IsOkUnless result NoMemory }
+{
+    Ok(String::from_str(alloc, needed(matches, id)?)?)
+}
+
+/// A part of a date. Refused where it is no number up to 255.
+fn part(matches: &ArgMatches<'_>, id: &str) -> Result<u8, WordsError>
+    ensures value { IfOk result (λ part. IsSpelled (word_found (words_of matches.now) id.now) part) }
+    ensures accepted { IsOk result ↔ IsNumberWord 255 (word_found (words_of matches.now) id.now) }
+    ensures refused { IsThere (word_found (words_of matches.now) id.now) → IfErr result IsWrong }
+{
+    match number(needed(matches, id)?) {
+        Some(part @ 0..=255) => Ok(part as u8),
+        _ => Err(WordsError::Wrong("Y, M and D are numbers of decimal digits, at most 255")),
+    }
+}
+
+/// The kind of a file. Refused where it is none.
+fn kind_of(matches: &ArgMatches<'_>) -> Result<u8, WordsError>
+    ensures value { IfOk result (λ kind. IsKind (word_found (words_of matches.now) (codes "KIND")) kind) }
+    ensures accepted { IsOk result ↔ IsKindWord (word_found (words_of matches.now) (codes "KIND")) }
+    ensures refused { IsThere (word_found (words_of matches.now) (codes "KIND")) → IfErr result IsWrong }
+{
+    kind(needed(matches, "KIND")?).ok_or(WordsError::Wrong(
+        "KIND is none, badb, code, text, info, data, graf, foto, secd, or a number 0 to 15",
+    ))
+}
+
+/// The number of a new volume's blocks. Refused where it is no number up to 65,535.
+fn blocks_of(matches: &ArgMatches<'_>) -> Result<u16, WordsError>
+    ensures value { IfOk result (λ blocks. IsSpelled (word_found (words_of matches.now) (codes "BLOCKS")) blocks) }
+    ensures accepted { IsOk result ↔ IsNumberWord 65535 (word_found (words_of matches.now) (codes "BLOCKS")) }
+    ensures refused { IsThere (word_found (words_of matches.now) (codes "BLOCKS")) → IfErr result IsWrong }
+{
+    blocks(needed(matches, "BLOCKS")?).ok_or(WordsError::Wrong(
+        "BLOCKS is a number of decimal digits, at most 65535",
+    ))
+}
+
+fn put(alloc: Global, matches: &ArgMatches<'_>) -> Result<Verb, WordsError>
+    ensures asked { IfOk result (λ verb. AsksVerb (codes "put") (words_of matches.now) verb) }
+    ensures good { IsOk result → MeetAll (words_of matches.now) (verb_needs (codes "put")) }
+    ensures taken { MeetAll (words_of matches.now) (verb_needs (codes "put")) → IsOkUnless result NoMemory }
+{
+    let kind = kind_of(matches)?;
+    let name = word(alloc, matches, "NAME")?;
+    Ok(Verb::Command(pm_filer::FileCommand::Put(name, kind, Vec::new(alloc))))
+}
+
+fn new(alloc: Global, matches: &ArgMatches<'_>) -> Result<Verb, WordsError>
+    ensures asked { IfOk result (λ verb. AsksVerb (codes "new") (words_of matches.now) verb) }
+    ensures good { IsOk result → MeetAll (words_of matches.now) (verb_needs (codes "new")) }
+    ensures taken { MeetAll (words_of matches.now) (verb_needs (codes "new")) → IsOkUnless result NoMemory }
+{
+    let blocks = blocks_of(matches)?;
+    let name = word(alloc, matches, "NAME")?;
+    Ok(Verb::New(name, blocks))
+}
+
+fn verb_of(alloc: Global, verb: &str, words: &ArgMatches<'_>) -> Result<Verb, WordsError>
+    ensures asked { IfOk result (λ asked. AsksVerb verb.now (words_of words.now) asked) }
+    ensures good { IsOk result → MeetAll (words_of words.now) (verb_needs verb.now) }
+    ensures taken { MeetAll (words_of words.now) (verb_needs verb.now) → IsOkUnless result NoMemory }
+    ensures unknown { (verb_needs verb.now ≡ None) → (result ≡ Err NoCommand) }
+{
+    use pm_filer::FileCommand;
+    let command = match verb {
+        "list" => FileCommand::List,
+        "get" => FileCommand::Get(word(alloc, words, "NAME")?),
+        "remove" => FileCommand::Remove(word(alloc, words, "NAME")?),
+        "change" => FileCommand::Change(word(alloc, words, "OLD")?, word(alloc, words, "NEW")?),
+        "gettext" => FileCommand::GetText(word(alloc, words, "NAME")?),
+        "puttext" => FileCommand::PutText(word(alloc, words, "NAME")?, Vec::new(alloc)),
+        "krunch" => FileCommand::Krunch,
+        "zero" => FileCommand::Zero(word(alloc, words, "NAME")?),
+        "date" => FileCommand::Date(part(words, "Y")?, part(words, "M")?, part(words, "D")?),
+        "duplicate" => FileCommand::Duplicate,
+        "single" => FileCommand::Single,
+        "repair" => return Ok(Verb::Repair),
+        "put" => return put(alloc, words),
+        "new" => return new(alloc, words),
+        _ => return Err(WordsError::NoCommand),
+    };
+    Ok(Verb::Command(command))
+}
+
+/// The path of the image, which stands before the verb or behind it. Refused where it stands at neither place, or at
+/// both.
+fn path_of(before: Option<String>, behind: Option<String>) -> Result<String, WordsError>
+    ensures path { IfOk result (λ path. IsPath (option_map string_bytes before) (option_map string_bytes behind)
+        (string_bytes path)) }
+    ensures one { IsOk result ↔ (is_some before ≢ is_some behind) }
+    ensures refused { IfErr result IsWrong }
+{
+    match (before, behind) {
+        (Some(path), None) => Ok(path),
+        (None, Some(path)) => Ok(path),
+        (Some(_), Some(_)) => Err(WordsError::Wrong("the option --image is given twice")),
+        (None, None) => Err(WordsError::Wrong("the option --image is wanted")),
+    }
+}
+
+/// What the words of `files` ask for.
+pub fn files_plan(alloc: Global, matches: &ArgMatches<'_>) -> Result<FilesPlan, WordsError>
+    ensures asked { IfOk result (λ plan. AsksFiles matches.now plan) }
+    ensures good { IsOk result → AreGoodBefore (words_of matches.now) (subcommand_rows_of matches.now) }
+    ensures taken { AreGoodBefore (words_of matches.now) (subcommand_rows_of matches.now)
+        → IsOkUnless result NoMemory }
+{
+    let Some((verb, words)) = matches.subcommand() else {
+        return Err(WordsError::NoCommand);
+    };
+    let before = given(alloc, matches, "image")?;
+    let behind = given(alloc, words, "image")?;
+    let path = path_of(before, behind)?;
+    let verb = verb_of(alloc, verb, words)?;
+    Ok(FilesPlan { path, verb })
+}

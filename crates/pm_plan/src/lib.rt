@@ -1,0 +1,11 @@
+//! The words of the command line, and what they ask for.
+#![tactic(auto)]
+
+mod commands;
+mod file_words;
+mod run_words;
+mod words;
+
+pub use file_words::{FilesPlan, Verb};
+pub use run_words::{Keeping, Others, Program};
+pub use words::{Plan, WordsError, plan_of};

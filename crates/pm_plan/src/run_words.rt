@@ -1,0 +1,77 @@
+//! The words of `run`, `trace` and `debug`.
+ghost use Rattle.std.specs.Prelude.{IfOk, IsOk, IsOkUnless, codes};
+ghost use Rattle.pm_plan.specs.Asked.{AsksKeeping, AsksProgram, word_found, words_of};
+ghost use Rattle.pm_plan.specs.Needed.{IsOptional, MeetEach, program_needs};
+ghost use Rattle.pm_plan.specs.declared.words.WordsError.TheVariants.{NoMemory};
+
+use crate::words::{WordsError, flag, given, limit_of, needed};
+use clap::ArgMatches;
+use std::alloc::Global;
+
+/// The files that have the images of the disks on the other units.
+#[derive(Drop)]
+pub struct Others {
+    pub d5: Option<String>,
+    pub d9: Option<String>,
+    pub d10: Option<String>,
+    pub d11: Option<String>,
+    pub d12: Option<String>,
+}
+
+/// A program to be run.
+#[derive(Drop)]
+pub struct Program {
+    /// The file that has the image of the disk on unit 4.
+    pub disk: String,
+    /// Those of the other disks.
+    pub others: Others,
+    /// The name of the code file on unit 4.
+    pub name: String,
+    /// The most steps that are made.
+    pub limit: u32,
+}
+
+/// What the words of `run` say beside the program.
+#[derive(Drop)]
+pub struct Keeping {
+    /// Whether unit 4's image is written back.
+    pub save: bool,
+    /// The path that gets the printer's bytes.
+    pub printer: Option<String>,
+}
+
+/// The program that the words name.
+pub fn program_of(alloc: Global, matches: &ArgMatches<'_>) -> Result<Program, WordsError>
+    ensures asked { IfOk result (λ program. AsksProgram (words_of matches.now) program) }
+    ensures good { IsOk result → MeetEach (words_of matches.now) program_needs }
+    ensures taken { MeetEach (words_of matches.now) program_needs → IsOkUnless result NoMemory }
+{
+    let disk = given(alloc, matches, "d4")?.ok_or(WordsError::NoCommand)?;
+    let others = Others {
+        d5: given(alloc, matches, "d5")?,
+        d9: given(alloc, matches, "d9")?,
+        d10: given(alloc, matches, "d10")?,
+        d11: given(alloc, matches, "d11")?,
+        d12: given(alloc, matches, "d12")?,
+    };
+    let name = String::from_str(alloc, needed(matches, "NAME")?)?;
+    let limit = limit_of(matches)?;
+    Ok(Program {
+        disk,
+        others,
+        name,
+        limit,
+    })
+}
+
+/// What the words of `run` say beside the program.
+pub fn keeping_of(alloc: Global, matches: &ArgMatches<'_>) -> Result<Keeping, WordsError>
+    ensures asked { IfOk result (λ keeping. AsksKeeping (words_of matches.now) keeping) }
+    ensures good { IsOk result → IsOptional (word_found (words_of matches.now) (codes "printer")) }
+    ensures taken { IsOptional (word_found (words_of matches.now) (codes "printer")) → IsOkUnless result NoMemory }
+{
+    Ok(Keeping {
+        save: flag(matches, "save"),
+        printer: given(alloc, matches, "printer")?,
+    })
+}

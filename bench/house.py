@@ -145,6 +145,7 @@ for path in glob.glob("crates/*/src/**/*.rt", recursive=True):
     source = "\n".join(lines(path))
     known |= set(re.findall(r"(?:ensures\*?|requires|fn|struct|enum|trait|const|static|mod|returns) (\w+)", source))
     known |= set(re.findall(r"^\s+(\w+)(?: :|\(|,|\s*\{)", source, re.M))
+    known |= set(re.findall(r'^\s+"(\w+)" =>', source, re.M)) # a command or a verb
 for path in glob.glob("crates/*/specs/**/*.antt", recursive=True):
     known |= set(re.findall(r"^ *(?:(?:abbrev|unfoldable) )?pub (?:record |data )?([^\s:()]+)", "\n".join(lines(path)), re.M))
 known |= {path.split("/")[1] for path in glob.glob("crates/*/")}

@@ -1,5 +1,5 @@
 """allocations.py [PROGRAM]: each call of the libraries that takes memory, with each of its allocations refused in turn, until none is: it
-answers want of memory, all that it was lent is as before, and made again it gives what it gives with memory (allocations/main.rt).
+answers want of memory, all that it was lent is as before, and made again it gives what it gives with memory (allocations/main.rt.text).
 faults.py does the same for whole command lines, whose files it compares.
 
 PROGRAM is that program, as somebody built it. Without it `rt run` proves and builds it in a copy of the repository, with what `rt check`
@@ -21,7 +21,9 @@ def copied(folder):
     shutil.copytree(os.path.join(top, "crates"), crates, ignore=shutil.ignore_patterns("must-fail", "wrong", "data"))
     crate = os.path.join(crates, "allocations")
     os.mkdir(crate)
-    shutil.copytree(os.path.join(here, "allocations"), os.path.join(crate, "src"))
+    os.makedirs(os.path.join(crate, "src"))
+    for text in os.listdir(os.path.join(here, "allocations")):
+        shutil.copy(os.path.join(here, "allocations", text), os.path.join(crate, "src", text.removesuffix(".text")))
     with open(os.path.join(top, "crates.txt")) as file, open(os.path.join(folder, "crates.txt"), "w") as to:
         to.write(file.read() + "allocations: " + uses + "\n")
     return crate

@@ -53,12 +53,8 @@ fn reads(verb: &Verb) -> bool {
 
 fn prompt_of(plan: &Plan) -> Prompt {
     match plan {
-        Plan::Raw { .. } => Prompt::Once(
-            "pmach: reads hexadecimal digits; Ctrl-D ends them\n",
-        ),
-        Plan::Asm { .. } => Prompt::Once(
-            "pmach: reads a text of the assembler; Ctrl-D ends it\n",
-        ),
+        Plan::Raw { .. } => Prompt::Once("pmach: reads hexadecimal digits; Ctrl-D ends them\n"),
+        Plan::Asm { .. } => Prompt::Once("pmach: reads a text of the assembler; Ctrl-D ends it\n"),
         Plan::Dis => Prompt::Once("pmach: reads a code file; Ctrl-D ends it\n"),
         Plan::Files(plan) if reads(&plan.verb) => Prompt::Once(
             "pmach: reads the file; Ctrl-D ends it\n",

@@ -9,8 +9,10 @@
                     opcodes, table.rt, has its own)
     the page        of the instructions, of which crates/pm_page/stdin is a copy
     the cases       of examples/conformance/bare.txt, of which crates/pm_cases/data/bare.txt is a copy
-    names           that docs/PROMISES.md, its annex and the tables of definitions have and the source, or the file beside,
-                    has not
+    names           that docs/PROMISES.md, docs/ARCHITECTURE.md, docs/DECISIONS.md and the tables of definitions have and
+                    the source, or the file beside, has not; and paths of the repository that the pages name
+    the index       docs/INDEX.md, which index.py makes of the source
+    pages           of more bytes than they may have
     the map         of docs/ARCHITECTURE.md: floors and edges beside crates.txt, and a row for each crate
 The status is 1 where anything is found."""
 import collections
@@ -18,6 +20,8 @@ import glob
 import os
 import re
 import sys
+
+import index
 
 os.chdir(os.path.join(os.path.dirname(os.path.abspath(__file__)), ".."))
 found = collections.Counter()
@@ -149,8 +153,11 @@ for path in glob.glob("crates/*/src/**/*.rt", recursive=True):
 for path in glob.glob("crates/*/specs/**/*.antt", recursive=True):
     known |= set(re.findall(r"^ *(?:(?:abbrev|unfoldable) )?pub (?:record |data )?([^\s:()]+)", "\n".join(lines(path)), re.M))
 known |= {path.split("/")[1] for path in glob.glob("crates/*/")}
+for path in glob.glob("crates/*/proofs/*.antt"):
+    known |= set(re.findall(r"^(?:pub )?(?:ruleset )?([a-z]\S*) (?::|=)", "\n".join(lines(path)), re.M))
 known |= {os.path.basename(path)[:-5] for folder in ("must-fail", "wrong") for path in glob.glob("crates/*/%s/*.edit" % folder)}
-PROMISES = ("docs/PROMISES.md", "docs/PLANTED.md")
+PROMISES = ("docs/PROMISES.md",)
+OTHERS = ("Display", "requires", "byteorder", "arrayvec", "thiserror", "hex", "clap") # of the language and the kit
 pages = {page: "\n".join(lines(page)) for page in PROMISES}
 RULES = ("MACHINE", "INSTRUCTIONS", "PROCEDURES", "FILES", "ASSEMBLY")
 for page in ["docs/%s.md" % name for name in RULES]:
@@ -162,7 +169,7 @@ for page in ["docs/%s.md" % name for name in RULES]:
 for page, text in pages.items():
     for word in sorted(set(re.findall(r"`([A-Za-z_][\w:-]*)`", text))):
         for name in word.split("::"):
-            if name not in known and name not in ("Display", "clap"):
+            if name not in known and name not in OTHERS:
                 tell("name", "%s: %s" % (page, word))
     for path in re.findall(r"`(pm_\w+/specs/\w+\.antt)`", text):
         if not os.path.exists("crates/" + path):
@@ -185,6 +192,30 @@ for page, text in pages.items():
         for name in names:
             if name not in defined:
                 tell("name", "%s: %s is not in %s" % (page, name, ", ".join(files) or "no file"))
+
+# Names of calls and crates, and paths, on the pages that argue with them.
+for page in ("docs/ARCHITECTURE.md", "docs/DECISIONS.md"):
+    for word in sorted(set(re.findall(r"`([a-z_]\w*(?:::\w+)?)`", "\n".join(lines(page))))):
+        if "_" in word.strip("_") and not all(name in known for name in word.split("::")):
+            tell("name", "%s: %s" % (page, word))
+for page in sorted(glob.glob("docs/*.md")) + ["README.md", "bench/README.md"]:
+    text = "\n".join(lines(page))
+    for path in set(re.findall(r"`((?:bench|docs|examples|crates|completions)/[\w./-]+)`", text)):
+        if not os.path.exists(path) and "/out/" not in path:
+            tell("path", "%s: %s" % (page, path))
+    for path in set(re.findall(r"\]\(([\w./-]+)(?:#[\w-]+)?\)", text)):
+        if not os.path.exists(os.path.join(os.path.dirname(page), path)):
+            tell("path", "%s: %s" % (page, path))
+
+if "\n".join(lines("docs/INDEX.md")) != index.page():
+    tell("index", "docs/INDEX.md is not that of the source: python3 bench/index.py")
+
+# The most bytes of a page that is kept by hand.
+MOST = {"PROMISES": 12000, "DECISIONS": 8200, "ARCHITECTURE": 20000, "COMMANDS": 30000, "FILES": 33000}
+for name, most in MOST.items():
+    size = os.path.getsize("docs/%s.md" % name)
+    if size > most:
+        tell("page", "docs/%s.md has %d bytes, %d are the most" % (name, size, most))
 
 print(", ".join("%d %s" % (count, kind) for kind, count in sorted(found.items())) or "nothing")
 sys.exit(1 if found else 0)

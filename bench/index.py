@@ -1,0 +1,136 @@
+"""index.py: docs/INDEX.md, made from the source: each public call with the first sentence of what stands above it and the
+names of its clauses, and behind them the counts that the pages speak of. `index.py` writes the page; house.py asks whether
+it is that of the source."""
+import glob
+import os
+import re
+
+TOP = os.path.join(os.path.dirname(os.path.abspath(__file__)), "..")
+PAGE = os.path.join(TOP, "docs/INDEX.md")
+HEAD = """# Index
+
+Each public call, crate by crate in the order of crates.txt: the first sentence of what stands above it in the source,
+and the names of its clauses; behind `requires` those of what its caller has to meet. A call without clauses promises to
+return, and nothing else. Made by `bench/index.py`.
+"""
+COUNTS = """
+## Counts
+
+A law is a function whose contract speaks of definitions alone. Wrong bodies: those that the gate tries, and all.
+
+| Crate | Public calls | Clauses | Conditions | Laws | Wrong bodies |
+|---|---|---|---|---|---|
+"""
+REPLAYS = """
+What the programs of the gate replay, by what they print:
+
+| Program | What | Agree |
+|---|---|---|
+"""
+
+
+def lines(path):
+    with open(os.path.join(TOP, path), encoding="utf-8") as file:
+        return file.read().split("\n")
+
+
+def files(pattern):
+    return sorted(os.path.relpath(path, TOP) for path in glob.glob(os.path.join(TOP, pattern), recursive=True))
+
+
+def crates():
+    return [line.split(":")[0].split()[0] for line in lines("crates.txt") if re.match(r"[a-z]", line)]
+
+
+def sentence(comment, is_law):
+    """The first sentence of a comment, of a call that is no law up to a colon in it."""
+    text = " ".join(" ".join(comment).split())
+    found = re.match(r"(.*?)(?:[.] (?=[A-Z`])|[.:]?$)", text).group(1)
+    return (found if is_law else found.split(": ")[0]).replace("|", "\\|")
+
+
+class Call:
+    """A function that other crates can call."""
+
+    def __init__(self, owner, name, comment):
+        self.name = "%s::%s" % (owner, name)
+        self.comment = comment
+        self.clauses, self.conditions, self.is_law = [], [], False
+
+    def read(self, source, number, indent):
+        """Reads the clauses from the head of the call on."""
+        for line in source[number:]:
+            clause = re.match(r"\s+(ensures|requires)\*? (\w+) \{", line)
+            if clause:
+                (self.clauses if clause.group(1) == "ensures" else self.conditions).append(clause.group(2))
+            if line == indent + "{}" or "law" in self.clauses:
+                self.is_law = True
+            if line in (indent + "{", indent + "}", indent + "{}") or not clause and line.endswith((" {", ";")):
+                return
+
+    def row(self):
+        said = ", ".join(self.clauses) + ("; requires " + ", ".join(self.conditions) if self.conditions else "")
+        return "| `%s` | %s | %s |" % (self.name, sentence(self.comment, self.is_law), said)
+
+
+def calls_of(crate):
+    """The calls of a crate that others can name: of a public module, or handed on by its root."""
+    root = "\n".join(lines("crates/%s/src/lib.rt" % crate))
+    handed_on = set(re.findall(r"\w+", " ".join(re.findall(r"pub use ([^;]*);", root))))
+    found = []
+    for path in files("crates/%s/src/**/*.rt" % crate):
+        module = os.path.basename(path)[:-3]
+        owner, of_trait, comment = None, False, []
+        source = lines(path)
+        for number, line in enumerate(source):
+            head = re.match(r"impl(?:<.*?>)? (?:[\w:<>, ]+ for )?(?:\w+::)*(\w+)", line)
+            trait = re.match(r"pub trait (\w+)", line)
+            if trait or head:
+                owner, of_trait = (trait or head).group(1), bool(trait)
+            elif line == "}":
+                owner, of_trait = None, False
+            said = re.match(r"\s*/// ?(.*)", line)
+            call = re.match(r"( *)(pub )?(?:const )?(?:unsafe )?fn (\w+)", line)
+            if said:
+                comment.append(said.group(1))
+                continue
+            if call and (call.group(2) or of_trait):
+                is_public = "pub mod %s;" % module in root or (owner or call.group(3)) in handed_on or module == "lib"
+                if is_public:
+                    it = Call(owner or module, call.group(3), comment)
+                    it.read(source, number, call.group(1))
+                    found.append(it)
+            if not re.match(r"\s*#\[", line):
+                comment = []
+    return found
+
+
+def page():
+    """The text of the page."""
+    made, counts, sums = [HEAD], [], [0] * 6
+    for crate in crates():
+        edits = [len(files("crates/%s/%s/*.edit" % (crate, folder))) for folder in ("must-fail", "wrong")]
+        calls = [] if not os.path.exists(os.path.join(TOP, "crates/%s/src/lib.rt" % crate)) else calls_of(crate)
+        row = [sum(not it.is_law for it in calls), sum(len(it.clauses) for it in calls),
+               sum(bool(it.conditions) for it in calls), sum(it.is_law for it in calls), edits[0], sum(edits)]
+        sums = [one + more for one, more in zip(sums, row)]
+        counts.append("| %s | %d | %d | %d | %d | %d, %d |" % (crate, *row))
+        if calls and not crate.endswith("_examples"):
+            made.append("\n## %s\n\n| Call | What it is | Clauses |\n|---|---|---|\n%s\n" % (crate, "\n".join(it.row() for it in calls)))
+    counts.append("| all | %d | %d | %d | %d | %d, %d |" % tuple(sums))
+    replays = []
+    for program in ("pm_worked", "pm_cases"):
+        for line in lines("crates/%s/stdout" % program):
+            agree = re.match(r"(\w+\.\w+): (\d+) agree$", line)
+            if agree:
+                replays.append("| %s | `%s` | %s |" % (program, *agree.groups()))
+    for line in lines("crates/pm_trials/stdout"):
+        agree = re.match(r"command lines: (\d+)", line)
+        if agree:
+            replays.append("| pm_trials | command lines | %s |" % agree.group(1))
+    return "".join(made) + COUNTS + "\n".join(counts) + "\n" + REPLAYS + "\n".join(replays) + "\n"
+
+
+if __name__ == "__main__":
+    with open(PAGE, "w", encoding="utf-8") as file:
+        file.write(page())

@@ -1,5 +1,5 @@
 #!/bin/bash
-# examples/export.sh, import.sh, salvage.sh and form.sh: each file out byte for byte, there and back, two of one name,
+# examples/export.sh, import.sh, salvage.sh, form.sh and remove.sh: each file out byte for byte, there and back, two of one name,
 # names that cannot be typed, refused and damaged images; orders and headers of images. Run by hand; no part of the gate. PMACH names another
 # program than ./pmach.
 here=$(dirname "$(readlink -f "$0")")/..
@@ -153,6 +153,24 @@ check "another form than it has" ends 2 "$here/examples/form.sh" --as swapped do
 check "no volume" ends 2 "$here/examples/form.sh" header
 printf "2IMG" >short
 check "a header that is cut" ends 2 "$here/examples/form.sh" short
+
+check "what fits a pattern" ends 0 "$here/examples/export.sh" --only 'du=' a fo
+check "and nothing else" [ "$(echo fo/*)" = "fo/DUP fo/DUQ fo/LIST" ]
+check "its slots" [ "$(cut -f 6 fo/LIST | tr '\n' ' ')" = "volume SHOE 100 085-01-02 1 2 " ]
+printf 'n\ny\n' | "$here/examples/export.sh" --only 'DU?' a fq
+check "what is asked for" [ "$(echo fq/*)" = "fq/DUQ fq/LIST" ]
+check "a pattern with a star" ends 0 "$here/examples/export.sh" --only 'D*' a fstar
+check "which is a star" [ "$(echo fstar/*)" = fstar/LIST ]
+cp a r
+check "removed" ends 0 "$here/examples/remove.sh" r '=U='
+check "is told" [ "$(tr '\n' ' ' <out)" = "DUP DUQ " ]
+check "and gone" [ "$(files r list | grep -c '^DU')" = 0 ]
+check "and nothing else is" [ "$(files r list | wc -l)" = $(($(files a list | wc -l) - 2)) ]
+cp r r2
+check "nothing that fits" ends 1 "$here/examples/remove.sh" r 'NO='
+check "two of one name are left" ends 1 "$here/examples/remove.sh" b DUP
+check "nothing is changed then" cmp r r2
+check "no volume to remove from" ends 2 "$here/examples/remove.sh" header =
 
 echo "$passed passed, $failed failed"
 [ $failed = 0 ]

@@ -1,5 +1,5 @@
 #!/bin/bash
-# Takes every file of a volume out into a new folder: examples/export.sh [--text] IMAGE FOLDER
+# Takes every file of a volume out into a new folder: examples/export.sh [--text] [--only PATTERN] IMAGE FOLDER
 #
 # Each file comes byte for byte, by its slot of the directory, so that two files of one name and names that cannot be
 # typed come too. With --text a text file comes as its text, where it can be read as one; puttext makes a text file of
@@ -10,15 +10,20 @@
 # outside 33 to 126 and % stand as % and two digits, and in a folder's name also / and a full stop in front. A second
 # file of one name has %%2 behind it there, a third %%3.
 #
+# With --only it is the files whose name fits a pattern of the filer: = stands for any characters, and so does ?, which
+# asks for each file. Case does not count.
+#
 # An image that is refused is told, and no folder made. Status 0: all files came out.
-[ "$1" = --text ] && as_text=yes && shift
-[ $# = 2 ] || {
-    echo "usage: export.sh [--text] IMAGE FOLDER" >&2
-    exit 1
-}
 here=$(dirname "$(readlink -f "$0")")
 pmach=${PMACH:-$here/../pmach}
 . "$here/slots.bash"
+read_pattern =
+[ "$1" = --text ] && as_text=yes && shift
+[ "$1" = --only ] && [ $# -gt 2 ] && read_pattern "$2" && shift 2
+[ $# = 2 ] || {
+    echo "usage: export.sh [--text] [--only PATTERN] IMAGE FOLDER" >&2
+    exit 1
+}
 image=$1
 folder=$2
 "$pmach" files --image "$image" list </dev/null >/dev/null || exit
@@ -33,6 +38,7 @@ echo "volume $(spelled '' "${directory[@]:7:${directory[6]}}") $(word 14) $(date
 declare -A names
 for ((slot = 1; slot <= $(word 16); slot++)); do
     read_slot $slot
+    fits || continue
     how=bytes
     if ! take_slot "$image" "$folder"; then
         echo "export.sh: slot $slot, $name: not all of it could be written" >&2

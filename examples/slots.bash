@@ -53,3 +53,30 @@ take_slot() {
     dd if="$1" bs=512 skip="$first" count=$((end - first)) 2>/dev/null | head -c "$size" >"$2/$host"
     [ "$(stat -c %s "$2/$host")" = "$size" ]
 }
+
+# read_pattern PATTERN: one of the filer, in which = and ? stand for any characters, ? asking for each file that fits
+read_pattern() {
+    local letter n
+    pattern= asks=
+    for ((n = 0; n < ${#1}; n++)); do
+        letter=${1:n:1}
+        case $letter in
+            '=') pattern+='*' ;;
+            '?') pattern+='*' asks=yes ;;
+            *) pattern+=$(printf '%q' "$letter") ;;
+        esac
+    done
+}
+
+# fits: whether the name of the entry that was read fits the pattern, in either case, and is wanted where it asks
+fits() {
+    local answer
+    # shellcheck disable=SC2254 # a pattern
+    case ${name^^} in
+        ${pattern^^}) ;;
+        *) return 1 ;;
+    esac
+    [ "$asks" ] || return 0
+    read -r -p "$name? " answer
+    [[ $answer = [yY]* ]]
+}

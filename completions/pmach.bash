@@ -43,8 +43,9 @@ _pmach() {
     esac
     case ${COMP_WORDS[1]} in
     raw) words="--limit --help" ;;
-    run) words="--d4 --d5 --d9 --d10 --d11 --d12 --limit --save --printer --help" names=--d4 ;;
-    trace | debug) words="--d4 --d5 --d9 --d10 --d11 --d12 --limit --help" names=--d4 ;;
+    run) words="--d4 --d5 --d9 --d10 --d11 --d12 --limit --unlimited --save --printer --help" names=--d4 ;;
+    trace) words="--d4 --d5 --d9 --d10 --d11 --d12 --limit --unlimited --help" names=--d4 ;;
+    debug) words="--d4 --d5 --d9 --d10 --d11 --d12 --limit --help" names=--d4 ;;
     asm) words="--list --help" ;;
     dis) words="--help" ;;
     files)

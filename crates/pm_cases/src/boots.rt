@@ -19,7 +19,7 @@ pub fn is_given(word: &str) -> bool {
 }
 
 /// The steps that a program may make, and the blocks of its volume, where the case does not say.
-const STEPS: u32 = 200;
+const STEPS: u64 = 200;
 
 const BLOCKS: u16 = 83;
 
@@ -82,9 +82,9 @@ fn started(alloc: Global, case: &Case<'_>) -> io::Result<String> {
     name(alloc, case.value("name").unwrap_or("P"))
 }
 
-fn limit(case: &Case<'_>) -> io::Result<u32> {
+fn limit(case: &Case<'_>) -> io::Result<u64> {
     match case.value("limit") {
-        Some(limit) => steps(limit),
+        Some(limit) => Ok(u64::from(steps(limit)?)),
         None => Ok(STEPS),
     }
 }

@@ -2,6 +2,7 @@
 -- behind it, or the verb, stands apart, with its name and rows of its own.
 use Rattle.std.specs.Prelude.{◌≡◌, ◌≤◌, ◌⊎◌, ⊤, ℕ, Bool, true, false, List, [], Option}
 use Rattle.std.specs.Prelude.{None, Some, option_map, string_bytes, codes}
+use Rattle.std.specs.Str.{bytes_eq}
 use Rattle.std.specs.Str.Parse.{IsNumeral, digits_value}
 use Rattle.clap.specs.Words.{Row, first_of, found_of, one_of, rows_of, subcommand_rows_of}
 use Rattle.clap.specs.declared.parser.matches.ArgMatches.{ArgMatches}
@@ -47,10 +48,26 @@ abbrev pub IsLimit : Option (List ℕ) → ℕ → Type 0
 IsLimit None limit = limit ≡ 10000000
 IsLimit (Some word) limit = IsNumber word limit
 
+-- the word that is found for an option without a value says that it is given
+abbrev pub is_set : Option (List ℕ) → Bool
+is_set None = false
+is_set (Some word) = bytes_eq word (codes "true")
+
+-- the limit of a run or a trace, whether or not it is to have none: then it is 2 ^ 64 - 1
+abbrev pub IsRunLimit : Bool → Option (List ℕ) → ℕ → Type 0
+IsRunLimit true word limit = limit ≡ 18446744073709551615
+IsRunLimit false word limit = IsLimit word limit
+
 -- there is no word for the limit, or it is a number below 2 ^ 32
 abbrev pub IsLimitWord : Option (List ℕ) → Type 0
 IsLimitWord None = ⊤
 IsLimitWord (Some word) = IsNumberUpTo 4294967295 word
+
+-- the same of a run or a trace: one that is to have no limit has no word for it
+abbrev pub IsRunLimitWord : Bool → Option (List ℕ) → Type 0
+IsRunLimitWord true None = ⊤
+IsRunLimitWord true (Some word) = ⊥
+IsRunLimitWord false word = IsLimitWord word
 
 -- a kind of file: by its word in a list, or by its number
 abbrev pub IsKind : Option (List ℕ) → ℕ → Type 0
@@ -72,7 +89,7 @@ pub record AsksProgram (rows : List Row) (program : Program) : Type 0 where
   pub d11 : word_found rows (codes "d11") ≡ option_map string_bytes program.others.d11
   pub d12 : word_found rows (codes "d12") ≡ option_map string_bytes program.others.d12
   pub name : word_found rows (codes "NAME") ≡ Some (string_bytes program.name)
-  pub limit : IsLimit (word_found rows (codes "limit")) program.limit
+  pub limit : IsRunLimit (is_set (word_found rows (codes "unlimited"))) (word_found rows (codes "limit")) program.limit
 
 -- the further words of run
 pub record AsksKeeping (rows : List Row) (keeping : Keeping) : Type 0 where

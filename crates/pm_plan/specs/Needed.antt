@@ -5,7 +5,8 @@ use Rattle.std.specs.Bool.{MatchBool}
 use Rattle.std.specs.Str.{bytes_eq}
 use Rattle.clap.specs.Words.{Row, subcommand_rows_of}
 use Rattle.clap.specs.declared.parser.matches.ArgMatches.{ArgMatches}
-use Rattle.pm_plan.specs.Asked.{IsCommand, IsKind, IsLimitWord, IsNumberWord, word_found, words_of}
+use Rattle.pm_plan.specs.Asked.{IsCommand, IsKind, IsLimitWord, IsNumberWord, IsRunLimitWord, is_set}
+use Rattle.pm_plan.specs.Asked.{word_found, words_of}
 use Rattle.pm_plan.specs.declared.words.WordsError.{WordsError}
 use Rattle.pm_plan.specs.declared.words.WordsError.TheVariants as errors
 
@@ -40,21 +41,24 @@ pub data Need : Type 0 where
   Kind : Need
   -- decimal digits that write a number up to this one
   Number : ℕ → Need
-  -- the limit of a run, which may be missing
+  -- the limit of `raw`, which may be missing
   Limit : Need
+  -- the limit of a run or a trace, which may be missing, and is so beside `--unlimited`
+  RunLimit : Need
 
-abbrev pub Meets : Need → Option (List ℕ) → Type 0
-Meets Word word = IsThere word
-Meets Given word = IsGiven word
-Meets Optional word = IsOptional word
-Meets Kind word = IsKindWord word
-Meets (Number most) word = IsNumberWord most word
-Meets Limit word = IsLimitWord word
+abbrev pub Meets : List Row → Need → Option (List ℕ) → Type 0
+Meets rows Word word = IsThere word
+Meets rows Given word = IsGiven word
+Meets rows Optional word = IsOptional word
+Meets rows Kind word = IsKindWord word
+Meets rows (Number most) word = IsNumberWord most word
+Meets rows Limit word = IsLimitWord word
+Meets rows RunLimit word = IsRunLimitWord (is_set (word_found rows (codes "unlimited"))) word
 
 -- each word is what is needed of it
 abbrev pub MeetEach : List Row → List (List ℕ × Need) → Type 0
 MeetEach rows [] = ⊤
-MeetEach rows (need ∷ needs) = Meets need.1 (word_found rows need.0) × MeetEach rows needs
+MeetEach rows (need ∷ needs) = Meets rows need.1 (word_found rows need.0) × MeetEach rows needs
 
 -- there is something that is needed, and each word is that
 abbrev pub MeetAll : List Row → Option (List (List ℕ × Need)) → Type 0
@@ -64,7 +68,7 @@ MeetAll rows (Some needs) = MeetEach rows needs
 -- what run, trace and debug need: the disk of unit 4, and the program's name
 abbrev pub program_needs : List (List ℕ × Need)
 program_needs = (codes "d4", Given) ∷ (codes "d5", Optional) ∷ (codes "d9", Optional) ∷ (codes "d10", Optional)
-    ∷ (codes "d11", Optional) ∷ (codes "d12", Optional) ∷ (codes "NAME", Word) ∷ (codes "limit", Limit) ∷ []
+    ∷ (codes "d11", Optional) ∷ (codes "d12", Optional) ∷ (codes "NAME", Word) ∷ (codes "limit", RunLimit) ∷ []
 
 -- what the commands need but `files`; what is no command has none
 abbrev pub command_needs : List ℕ → Option (List (List ℕ × Need))

@@ -30,6 +30,12 @@ const LIMIT: WordRow = (
     "The most steps that are made [default: 10000000]",
 );
 
+const UNLIMITED: WordRow = (
+    "unlimited",
+    Form::Flag,
+    "Makes steps without a limit; not beside --limit",
+);
+
 const D4: WordRow = (
     "d4",
     Form::Needed("IMAGE"),
@@ -71,9 +77,6 @@ const PRINTER: WordRow = (
     Form::Free("PATH"),
     "The file that gets the printer's bytes, in the place of what it has",
 );
-
-/// The words of `trace` and `debug`.
-const DISKS: &[WordRow] = &[D4, D5, D9, D10, D11, D12, LIMIT, PROGRAM];
 
 /// The option `--image`, which stands before a verb or behind it.
 const IMAGE: WordRow = (
@@ -206,19 +209,21 @@ const FILES: CommandRow = (
 const RUN: CommandRow = (
     "run",
     "Runs a code file of the disk on unit 4, with the standard streams as its console",
-    &[D4, D5, D9, D10, D11, D12, LIMIT, PROGRAM, SAVE, PRINTER],
+    &[
+        D4, D5, D9, D10, D11, D12, LIMIT, UNLIMITED, PROGRAM, SAVE, PRINTER,
+    ],
 );
 
 const TRACE: CommandRow = (
     "trace",
     "Runs a code file of the disk on unit 4, with standard input as its console, and writes its trace",
-    DISKS,
+    &[D4, D5, D9, D10, D11, D12, LIMIT, UNLIMITED, PROGRAM],
 );
 
 const DEBUG: CommandRow = (
     "debug",
     "Debugs a code file of the disk on unit 4, by the commands of standard input",
-    DISKS,
+    &[D4, D5, D9, D10, D11, D12, LIMIT, PROGRAM],
 );
 
 const DIS: CommandRow = (

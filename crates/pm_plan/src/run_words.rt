@@ -1,10 +1,11 @@
 //! The words of `run`, `trace` and `debug`.
-ghost use Rattle.std.specs.Prelude.{IfOk, IsOk, IsOkUnless, codes};
-ghost use Rattle.pm_plan.specs.Asked.{AsksKeeping, AsksProgram, word_found, words_of};
-ghost use Rattle.pm_plan.specs.Needed.{IsOptional, MeetEach, program_needs};
+ghost use Rattle.std.specs.Prelude.{◌↔◌, IfErr, IfOk, IsOk, IsOkUnless, codes};
+ghost use Rattle.pm_plan.specs.Asked.{AsksKeeping, AsksProgram, IsRunLimit, IsRunLimitWord, is_set, word_found};
+ghost use Rattle.pm_plan.specs.Asked.{words_of};
+ghost use Rattle.pm_plan.specs.Needed.{IsOptional, IsWrong, MeetEach, program_needs};
 ghost use Rattle.pm_plan.specs.declared.words.WordsError.TheVariants.{NoMemory};
 
-use crate::words::{WordsError, flag, given, limit_of, needed};
+use crate::words::{WordsError, flag, found, given, is_set, limit_of, needed};
 use clap::ArgMatches;
 use std::alloc::Global;
 
@@ -27,8 +28,8 @@ pub struct Program {
     pub others: Others,
     /// The name of the code file on unit 4.
     pub name: String,
-    /// The most steps that are made.
-    pub limit: u32,
+    /// The most steps that are made: 18,446,744,073,709,551,615 where there is no limit.
+    pub limit: u64,
 }
 
 /// What the words of `run` say beside the program.
@@ -38,6 +39,23 @@ pub struct Keeping {
     pub save: bool,
     /// The path that gets the printer's bytes.
     pub printer: Option<String>,
+}
+
+/// The limit of a run. Refused where the word for it is no number up to 4,294,967,295, or stands beside `--unlimited`.
+fn run_limit_of(matches: &ArgMatches<'_>) -> Result<u64, WordsError>
+    ensures value { IfOk result (λ limit. IsRunLimit (is_set (word_found (words_of matches.now) (codes "unlimited")))
+        (word_found (words_of matches.now) (codes "limit")) limit) }
+    ensures accepted { IsOk result ↔ IsRunLimitWord (is_set (word_found (words_of matches.now) (codes "unlimited")))
+        (word_found (words_of matches.now) (codes "limit")) }
+    ensures refused { IfErr result IsWrong }
+{
+    if !is_set(matches, "unlimited") {
+        return Ok(u64::from(limit_of(matches)?));
+    }
+    match found(matches, "limit") {
+        None => Ok(u64::MAX),
+        Some(_) => Err(WordsError::Wrong("--limit and --unlimited do not go together")),
+    }
 }
 
 /// The program that the words name.
@@ -55,7 +73,7 @@ pub fn program_of(alloc: Global, matches: &ArgMatches<'_>) -> Result<Program, Wo
         d12: given(alloc, matches, "d12")?,
     };
     let name = String::from_str(alloc, needed(matches, "NAME")?)?;
-    let limit = limit_of(matches)?;
+    let limit = run_limit_of(matches)?;
     Ok(Program {
         disk,
         others,

@@ -3,7 +3,8 @@ ghost use Rattle.std.specs.Prelude.{◌≡◌, ◌↔◌, Err, IfErr, IfOk, IsOk
 ghost use Rattle.std.specs.Prelude.{option_map, string_bytes, codes};
 ghost use Rattle.std.specs.Str.Parse.{digits_value};
 ghost use Rattle.clap.specs.Words.{one_of};
-ghost use Rattle.pm_plan.specs.Asked.{Asks, IsAsked, IsFlag, IsLimit, IsLimitWord, IsNumberUpTo, word_found, words_of};
+ghost use Rattle.pm_plan.specs.Asked.{Asks, IsAsked, IsFlag, IsLimit, IsLimitWord, IsNumberUpTo, is_set, word_found};
+ghost use Rattle.pm_plan.specs.Asked.{words_of};
 ghost use Rattle.pm_plan.specs.Needed.{AreAllGood, AreGood, IsOptional, IsWrong};
 ghost use Rattle.pm_plan.specs.declared.words.WordsError.TheVariants.{NoCommand, NoMemory, NoValue};
 
@@ -115,10 +116,17 @@ pub fn number(text: &str) -> Option<u32>
 }
 
 /// The word that is found for an id, where there is one.
-fn found<'a>(matches: &ArgMatches<'a>, id: &str) -> Option<&'a str>
+pub fn found<'a>(matches: &ArgMatches<'a>, id: &str) -> Option<&'a str>
     ensures word { option_map (λ word. word.now) result ≡ word_found (words_of matches.now) id.now }
 {
     matches.get_str(id)
+}
+
+/// Whether the word that is found for an id is that of an option without a value that is given.
+pub fn is_set(matches: &ArgMatches<'_>, id: &str) -> bool
+    ensures value { result ≡ is_set (word_found (words_of matches.now) id.now) }
+{
+    found(matches, id) == Some("true")
 }
 
 /// Whether an option without a value is given.

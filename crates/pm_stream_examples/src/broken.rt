@@ -91,7 +91,7 @@ impl Tried {
         let name = String::from_str(alloc, "P")?;
         let disks = [Some(image.to_vec(alloc)?), None, None, None, None, None];
         Ok(match self {
-            Tried::Addition => Job::Raw { limit },
+            Tried::Addition => Job::Raw { limit: 100 },
             Tried::Letters | Tried::Echo | Tried::Exits => Job::Run {
                 disks,
                 name,

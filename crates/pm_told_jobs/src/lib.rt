@@ -57,7 +57,7 @@ pub fn on_disk(
     image: Vec<u8>,
     typed: &[u8],
     name: String,
-    limit: u32,
+    limit: u64,
     save: bool,
 ) -> Result<OnFile, DiskFault>
     ensures kept { IfOk result (λ came. IfOk came.done (λ outcome.

@@ -21,7 +21,7 @@ fn raw<R: Source, W: Sink>(
     alloc: Global,
     source: &mut R,
     sink: &mut W,
-    limit: u32,
+    limit: u64,
 ) -> Result<Outcome, Fault>
     requires well { AreWell (both (R.seen source.old) (W.seen sink.old)) }
     ensures done { IfOk result (λ outcome. Finishes (both (R.seen source.old) (W.seen sink.old))

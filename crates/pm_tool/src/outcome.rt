@@ -34,7 +34,7 @@ pub enum Job {
     Run {
         disks: [Option<Vec<u8>>; 6],
         name: String,
-        limit: u32,
+        limit: u64,
         save: bool,
     },
     /// The same program runs, and the output is its trace alone: a line for each step that does not wait, of the state
@@ -43,7 +43,7 @@ pub enum Job {
     Trace {
         disks: [Option<Vec<u8>>; 6],
         name: String,
-        limit: u32,
+        limit: u64,
     },
     /// A debugger of the same program, which is not run by itself: each line of the input is a command, and is answered
     /// by one line, before the next is read. The session ends behind the line of `quit`, or with the input, and the job

@@ -84,12 +84,12 @@ fn step(
 }
 
 /// Makes some steps that show nothing, at most `limit` and perhaps none: how many.
-fn unshown_steps(machine: &mut Machine, show: Show, limit: u32) -> u32
+fn unshown_steps(machine: &mut Machine, show: Show, limit: u64) -> u64
     ensures unshown { Unshown show limit machine.old.state result machine.new.state }
 {
     match show {
         Show::Trace => 0,
-        Show::Console { .. } => machine.quick_steps(u64::from(limit)) as u32,
+        Show::Console { .. } => machine.quick_steps(limit),
     }
 }
 
@@ -138,7 +138,7 @@ pub(crate) fn drive<R: Source, W: Sink>(
     sink: &mut W,
     machine: &mut Machine,
     show: Show,
-    limit: u32,
+    limit: u64,
 ) -> Result<(Ending, Vec<u8>), Fault>
     requires well { AreWell (both (R.seen source.old) (W.seen sink.old)) }
     ensures over { IfOk result (λ r. ComesToEnd (both (R.seen source.old) (W.seen sink.old))

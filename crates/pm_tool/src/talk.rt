@@ -22,7 +22,7 @@ use std::alloc::{AllocError, Global};
 #[derive(Clone, Copy, Debug, PartialEq, Eq)]
 pub(crate) enum Talk {
     /// It runs, for at most so many steps. The input is its console's.
-    Run { show: Show, limit: u32 },
+    Run { show: Show, limit: u64 },
     /// A debugger answers each line of the input.
     Session,
 }

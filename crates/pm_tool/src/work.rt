@@ -13,7 +13,7 @@ use crate::talk::Talk;
 #[derive(Drop)]
 pub(crate) enum Work {
     /// The text of a program is read, and then its run is traced.
-    Raw { limit: u32 },
+    Raw { limit: u64 },
     /// The machine that starts is talked with.
     Talk(Start, Talk),
     /// Bytes are turned into bytes.
@@ -25,7 +25,9 @@ pub(crate) fn work_of(job: Job) -> Work
     ensures work { result ≡ work_of job }
 {
     match job {
-        Job::Raw { limit } => Work::Raw { limit },
+        Job::Raw { limit } => Work::Raw {
+            limit: u64::from(limit),
+        },
         Job::Run {
             disks,
             name,

@@ -34,7 +34,7 @@ _pmach() {
         before=${COMP_WORDS[COMP_CWORD - 2]}
     fi
     case $before in
-    --image | --d4 | --d5 | --d9 | --d10 | --d11 | --d12 | --printer)
+    --image | --d4 | --d5 | --d9 | --d10 | --d11 | --d12 | --system | --printer)
         compopt -o filenames 2>/dev/null
         mapfile -t COMPREPLY < <(compgen -f -- "$word")
         return
@@ -43,9 +43,9 @@ _pmach() {
     esac
     case ${COMP_WORDS[1]} in
     raw) words="--limit --help" ;;
-    run) words="--d4 --d5 --d9 --d10 --d11 --d12 --limit --unlimited --save --printer --help" names=--d4 ;;
-    trace) words="--d4 --d5 --d9 --d10 --d11 --d12 --limit --unlimited --help" names=--d4 ;;
-    debug) words="--d4 --d5 --d9 --d10 --d11 --d12 --limit --help" names=--d4 ;;
+    run) words="--d4 --d5 --d9 --d10 --d11 --d12 --limit --unlimited --system --save --printer --help" names=--d4 ;;
+    trace) words="--d4 --d5 --d9 --d10 --d11 --d12 --limit --unlimited --system --help" names=--d4 ;;
+    debug) words="--d4 --d5 --d9 --d10 --d11 --d12 --limit --system --help" names=--d4 ;;
     asm) words="--list --help" ;;
     dis) words="--help" ;;
     files)

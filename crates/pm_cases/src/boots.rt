@@ -119,6 +119,7 @@ fn add_run(alloc: Global, case: &Case<'_>, work: &[u8], came: &mut Came) -> io::
         name: started(alloc, case)?,
         limit: limit(case)?,
         save: true,
+        system: None,
     };
     let keys = hex_bytes(alloc, case.value("keys").unwrap_or(""))?;
     add_outcome(alloc, &do_job(alloc, job, &keys), work, came)
@@ -130,6 +131,7 @@ fn add_trace(alloc: Global, case: &Case<'_>, work: &[u8], came: &mut Came) -> io
         disks: disks(alloc, case, work)?,
         name: started(alloc, case)?,
         limit: limit(case)?,
+        system: None,
     };
     let keys = hex_bytes(alloc, case.value("keys").unwrap_or(""))?;
     let ran = do_job(alloc, job, &keys);
@@ -156,6 +158,7 @@ fn add_session(alloc: Global, case: &Case<'_>, work: &[u8], came: &mut Came) -> 
     let job = Job::Debug {
         disks: disks(alloc, case, work)?,
         name: started(alloc, case)?,
+        system: None,
     };
     let ran = do_job(alloc, job, &typed(alloc, case)?);
     let text = ran.text(alloc)?;

@@ -124,6 +124,7 @@ fn run_job(rt: &impl Abort, alloc: Global, disks: [Option<Vec<u8>>; 6], save: bo
         name,
         limit: 100,
         save,
+        system: None,
     }
 }
 
@@ -163,6 +164,7 @@ fn of_sessions(rt: HostRuntime) {
     let job = Job::Debug {
         disks: disks(&rt, alloc, 2, 28, &LETTERS),
         name: text(&rt, alloc, "P"),
+        system: None,
     };
     tells(&rt, alloc, job, b"quit\nstack 1\n", (0, "", "", 8));
 }

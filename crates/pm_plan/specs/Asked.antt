@@ -90,6 +90,7 @@ pub record AsksProgram (rows : List Row) (program : Program) : Type 0 where
   pub d12 : word_found rows (codes "d12") ≡ option_map string_bytes program.others.d12
   pub name : word_found rows (codes "NAME") ≡ Some (string_bytes program.name)
   pub limit : IsRunLimit (is_set (word_found rows (codes "unlimited"))) (word_found rows (codes "limit")) program.limit
+  pub system : word_found rows (codes "system") ≡ option_map string_bytes program.system
 
 -- the further words of run
 pub record AsksKeeping (rows : List Row) (keeping : Keeping) : Type 0 where

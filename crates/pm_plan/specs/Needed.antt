@@ -1,6 +1,6 @@
 -- Which words are good: what a command line has to have, word by word.
-use Rattle.std.specs.Prelude.{◌≡◌, ◌≢◌, ◌≤◌, ⊤, ℕ, true, List, [], ◌∷◌, Option, None, Some, codes, is_some}
-use Rattle.std.specs.Prelude.{if◌then◌else◌}
+use Rattle.std.specs.Prelude.{◌≡◌, ◌≢◌, ◌≤◌, ⊤, ℕ, Bool, true, false, List, [], ◌∷◌, ◌++◌, Option, None, Some}
+use Rattle.std.specs.Prelude.{codes, is_some, if◌then◌else◌}
 use Rattle.std.specs.Bool.{MatchBool}
 use Rattle.std.specs.Str.{bytes_eq}
 use Rattle.clap.specs.Words.{Row, subcommand_rows_of}
@@ -29,6 +29,12 @@ IsOptional (Some word) = word ≢ []
 abbrev pub IsKindWord : Option (List ℕ) → Type 0
 IsKindWord word = (kind : ℕ) × (kind ≤ 15) × IsKind word kind
 
+-- there is no word where another option is given
+abbrev pub IsAlone : Bool → Option (List ℕ) → Type 0
+IsAlone true None = ⊤
+IsAlone true (Some word) = ⊥
+IsAlone false word = ⊤
+
 -- what is needed of a word
 pub data Need : Type 0 where
   -- it is there, though it may be empty
@@ -45,6 +51,8 @@ pub data Need : Type 0 where
   Limit : Need
   -- the limit of a run or a trace, which may be missing, and is so beside `--unlimited`
   RunLimit : Need
+  -- an option that is missing beside `--save`
+  NotSaved : Need
 
 abbrev pub Meets : List Row → Need → Option (List ℕ) → Type 0
 Meets rows Word word = IsThere word
@@ -54,6 +62,7 @@ Meets rows Kind word = IsKindWord word
 Meets rows (Number most) word = IsNumberWord most word
 Meets rows Limit word = IsLimitWord word
 Meets rows RunLimit word = IsRunLimitWord (is_set (word_found rows (codes "unlimited"))) word
+Meets rows NotSaved word = IsAlone (is_set (word_found rows (codes "save"))) word
 
 -- each word is what is needed of it
 abbrev pub MeetEach : List Row → List (List ℕ × Need) → Type 0
@@ -68,13 +77,18 @@ MeetAll rows (Some needs) = MeetEach rows needs
 -- what run, trace and debug need: the disk of unit 4, and the program's name
 abbrev pub program_needs : List (List ℕ × Need)
 program_needs = (codes "d4", Given) ∷ (codes "d5", Optional) ∷ (codes "d9", Optional) ∷ (codes "d10", Optional)
-    ∷ (codes "d11", Optional) ∷ (codes "d12", Optional) ∷ (codes "NAME", Word) ∷ (codes "limit", RunLimit) ∷ []
+    ∷ (codes "d11", Optional) ∷ (codes "d12", Optional) ∷ (codes "NAME", Word) ∷ (codes "limit", RunLimit)
+    ∷ (codes "system", Optional) ∷ []
+
+-- what run needs beside these
+abbrev pub keeping_needs : List (List ℕ × Need)
+keeping_needs = (codes "system", NotSaved) ∷ (codes "printer", Optional) ∷ []
 
 -- what the commands need but `files`; what is no command has none
 abbrev pub command_needs : List ℕ → Option (List (List ℕ × Need))
 command_needs command =
     if bytes_eq command (codes "raw") then Some ((codes "limit", Limit) ∷ [])
-    else (if bytes_eq command (codes "run") then Some ((codes "printer", Optional) ∷ program_needs)
+    else (if bytes_eq command (codes "run") then Some (keeping_needs ++ program_needs)
     else (if bytes_eq command (codes "trace") then Some program_needs
     else (if bytes_eq command (codes "debug") then Some program_needs
     else (if bytes_eq command (codes "asm") then Some []

@@ -36,6 +36,12 @@ const UNLIMITED: WordRow = (
     "Makes steps without a limit; not beside --limit",
 );
 
+const SYSTEM: WordRow = (
+    "system",
+    Form::Free("PATH"),
+    "The code file whose slot 0 is the operating system, for a program whose slot 0 is empty",
+);
+
 const D4: WordRow = (
     "d4",
     Form::Needed("IMAGE"),
@@ -210,20 +216,20 @@ const RUN: CommandRow = (
     "run",
     "Runs a code file of the disk on unit 4, with the standard streams as its console",
     &[
-        D4, D5, D9, D10, D11, D12, LIMIT, UNLIMITED, PROGRAM, SAVE, PRINTER,
+        D4, D5, D9, D10, D11, D12, LIMIT, UNLIMITED, SYSTEM, PROGRAM, SAVE, PRINTER,
     ],
 );
 
 const TRACE: CommandRow = (
     "trace",
     "Runs a code file of the disk on unit 4, with standard input as its console, and writes its trace",
-    &[D4, D5, D9, D10, D11, D12, LIMIT, UNLIMITED, PROGRAM],
+    &[D4, D5, D9, D10, D11, D12, LIMIT, UNLIMITED, SYSTEM, PROGRAM],
 );
 
 const DEBUG: CommandRow = (
     "debug",
     "Debugs a code file of the disk on unit 4, by the commands of standard input",
-    &[D4, D5, D9, D10, D11, D12, LIMIT, PROGRAM],
+    &[D4, D5, D9, D10, D11, D12, LIMIT, SYSTEM, PROGRAM],
 );
 
 const DIS: CommandRow = (

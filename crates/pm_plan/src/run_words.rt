@@ -2,7 +2,7 @@
 ghost use Rattle.std.specs.Prelude.{◌↔◌, IfErr, IfOk, IsOk, IsOkUnless, codes};
 ghost use Rattle.pm_plan.specs.Asked.{AsksKeeping, AsksProgram, IsRunLimit, IsRunLimitWord, is_set, word_found};
 ghost use Rattle.pm_plan.specs.Asked.{words_of};
-ghost use Rattle.pm_plan.specs.Needed.{IsOptional, IsWrong, MeetEach, program_needs};
+ghost use Rattle.pm_plan.specs.Needed.{IsAlone, IsWrong, MeetEach, keeping_needs, program_needs};
 ghost use Rattle.pm_plan.specs.declared.words.WordsError.TheVariants.{NoMemory};
 
 use crate::words::{WordsError, flag, found, given, is_set, limit_of, needed};
@@ -30,6 +30,8 @@ pub struct Program {
     pub name: String,
     /// The most steps that are made: 18,446,744,073,709,551,615 where there is no limit.
     pub limit: u64,
+    /// The file whose slot 0 stands in for the program's empty slot 0.
+    pub system: Option<String>,
 }
 
 /// What the words of `run` say beside the program.
@@ -74,20 +76,37 @@ pub fn program_of(alloc: Global, matches: &ArgMatches<'_>) -> Result<Program, Wo
     };
     let name = String::from_str(alloc, needed(matches, "NAME")?)?;
     let limit = run_limit_of(matches)?;
+    let system = given(alloc, matches, "system")?;
     Ok(Program {
         disk,
         others,
         name,
         limit,
+        system,
     })
 }
 
-/// What the words of `run` say beside the program.
+/// Refuses `--save` beside `--system`: the image that would be saved has the system's segment.
+fn unsaved(matches: &ArgMatches<'_>) -> Result<(), WordsError>
+    ensures good { IsOk result ↔ IsAlone (is_set (word_found (words_of matches.now) (codes "save")))
+        (word_found (words_of matches.now) (codes "system")) }
+    ensures refused { IfErr result IsWrong }
+{
+    if is_set(matches, "save") && found(matches, "system").is_some() {
+        return Err(WordsError::Wrong(
+            "--save would keep the segment of --system in the image; examples/with-system.sh puts it there for good",
+        ));
+    }
+    Ok(())
+}
+
+/// What the words of `run` say beside the program. Refused where they save an image with the system's segment.
 pub fn keeping_of(alloc: Global, matches: &ArgMatches<'_>) -> Result<Keeping, WordsError>
     ensures asked { IfOk result (λ keeping. AsksKeeping (words_of matches.now) keeping) }
-    ensures good { IsOk result → IsOptional (word_found (words_of matches.now) (codes "printer")) }
-    ensures taken { IsOptional (word_found (words_of matches.now) (codes "printer")) → IsOkUnless result NoMemory }
+    ensures good { IsOk result → MeetEach (words_of matches.now) keeping_needs }
+    ensures taken { MeetEach (words_of matches.now) keeping_needs → IsOkUnless result NoMemory }
 {
+    unsaved(matches)?;
     Ok(Keeping {
         save: flag(matches, "save"),
         printer: given(alloc, matches, "printer")?,

@@ -7,7 +7,7 @@ use Rattle.pm_streams.specs.Streams.{Streams}
 use Rattle.pm_tool.specs.Said.{job_said, Tells, TellsAll}
 use Rattle.pm_tool.specs.declared.outcome.Job.{Job}
 use Rattle.pm_tool.specs.declared.outcome.Outcome.{Outcome}
-use Rattle.pm_program.specs.Kept.{KeepsRun, KeepsRunSaid, KeepsSaid, KeepsTold, PrintsIf, ReadsEach, SaysOf, TellsOf, has_run, paths_of}
+use Rattle.pm_program.specs.Kept.{KeepsRun, KeepsRunSaid, KeepsSaid, KeepsTold, PrintsIf, Reads, ReadsEach, SaysOf, TellsOf, has_run, paths_of}
 use Rattle.pm_program.specs.declared.kept.KeptOfRun.{KeptOfRun}
 use Rattle.pm_plan.specs.declared.run_words.Program.{Program}
 use Rattle.pm_tool.specs.Disks.{images_of}
@@ -52,23 +52,26 @@ run_told old new disk printing outcome told is keeps = (
 
 -- where the input is known, a run keeps what is said to it of the images that were read
 pub known_run_said : (before after : Streams) (old ready read new : Files) (program : Program) (kept : KeptOfRun)
-    (disks : List (Option (Vec ℕ Global))) (outcome : Outcome) (from to : List ℕ)
+    (disks : List (Option (Vec ℕ Global))) (system : Option (Vec ℕ Global)) (outcome : Outcome) (from to : List ℕ)
     → from ≡ string_bytes program.disk → to ≡ string_bytes program.disk
-    → TellsAll before after outcome (job_said (jobs.Run disks program.name program.limit kept.save))
+    → TellsAll before after outcome (job_said (jobs.Run disks program.name program.limit kept.save system))
     → ready ≡ old → read ≡ ready → ReadsEach ready (paths_of from program.others) (images_of disks)
+    → Reads ready (option_map string_bytes program.system) (option_map vec_items system)
     → KeepsRun read new to kept.printing outcome
     → IfSome before.source.remaining (λ input. KeepsRunSaid old new program kept input)
-known_run_said before after old ready read new program kept disks outcome from to is_from is_to tells same also reads keeps =
+known_run_said before after old ready read new program kept disks system outcome from to is_from is_to tells same also reads given keeps =
     known before.source.remaining tells
   where
     known : (had : Option (List ℕ))
-        → IfSome had (λ input. Tells before after outcome (job_said (jobs.Run disks program.name program.limit kept.save) input))
+        → IfSome had (λ input. Tells before after outcome (job_said (jobs.Run disks program.name program.limit kept.save system) input))
         → IfSome had (λ input. KeepsRunSaid old new program kept input)
     known None told = tt
     known (Some input) told = (
       disks,
+      system,
       subst (λ files. ReadsEach files (paths_of (string_bytes program.disk) program.others) (images_of disks)) same
           (subst (λ path. ReadsEach ready (paths_of path program.others) (images_of disks)) is_from reads),
+      subst (λ files. Reads files (option_map string_bytes program.system) (option_map vec_items system)) same given,
       run_told old new (string_bytes program.disk) kept.printing outcome _ told.comes_to
           (subst (λ files. KeepsRun files new (string_bytes program.disk) kept.printing outcome) same
           (subst (λ files. KeepsRun files new (string_bytes program.disk) kept.printing outcome) also
@@ -76,17 +79,18 @@ known_run_said before after old ready read new program kept disks outcome from t
     )
 
 -- where the input is known, a job tells what is said to it of the images that were read
-pub known_tells : (job : List (Option (Vec ℕ Global)) → Job) (old new : Streams) (files : Files)
-    (program : Program) (disks : List (Option (Vec ℕ Global))) (outcome : Outcome) (from : List ℕ)
+pub known_tells : (job : List (Option (Vec ℕ Global)) → Option (Vec ℕ Global) → Job) (old new : Streams) (files : Files)
+    (program : Program) (disks : List (Option (Vec ℕ Global))) (system : Option (Vec ℕ Global)) (outcome : Outcome) (from : List ℕ)
     → from ≡ string_bytes program.disk
-    → TellsAll old new outcome (job_said (job disks))
+    → TellsAll old new outcome (job_said (job disks system))
     → ReadsEach files (paths_of from program.others) (images_of disks)
+    → Reads files (option_map string_bytes program.system) (option_map vec_items system)
     → IfSome old.source.remaining (λ input. TellsOf job files old new outcome program input)
-known_tells job old new files program disks outcome from is_from tells reads = known old.source.remaining tells
+known_tells job old new files program disks system outcome from is_from tells reads given = known old.source.remaining tells
   where
     known : (had : Option (List ℕ))
-        → IfSome had (λ input. Tells old new outcome (job_said (job disks) input))
+        → IfSome had (λ input. Tells old new outcome (job_said (job disks system) input))
         → IfSome had (λ input. TellsOf job files old new outcome program input)
     known None told = tt
     known (Some input) told =
-        (disks, subst (λ path. ReadsEach files (paths_of path program.others) (images_of disks)) is_from reads, told)
+        (disks, system, subst (λ path. ReadsEach files (paths_of path program.others) (images_of disks)) is_from reads, given, told)

@@ -20,11 +20,12 @@ is_other same path others = names_image same path (option_map string_bytes other
     || (names_image same path (option_map string_bytes others.d11)
     || names_image same path (option_map string_bytes others.d12))))
 
--- the printer's path is that of an image of the run, or that of a folder
+-- the printer's path is that of an image of the run, that of the system's code file, or that of a folder
 abbrev pub printer_conflict : (List ℕ → List ℕ → Bool) → (List ℕ → Bool) → Program → Option (List ℕ) → Option Conflict
 printer_conflict same folders program None = None
 printer_conflict same folders program (Some path) =
     if same path (string_bytes program.disk) || is_other same path program.others then Some conflicts.PrinterIsImage
+    else if names_image same path (option_map string_bytes program.system) then Some conflicts.PrinterIsSystem
     else if folders path then Some conflicts.PrinterIsFolder
     else None
 

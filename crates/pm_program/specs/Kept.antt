@@ -123,26 +123,29 @@ KeepsTold old new disk printing told = (between : Files)
     × Keeps old between disk told.image
     × PrintsIf (has_run told.exit) between new printing told.printer
 
--- A program is run on the images that its paths hold, each on its unit: what is kept is what is said of them and of the
--- input.
+-- A program is run on the images that its paths hold, each on its unit, with the system's code file that its path
+-- holds, if it has one: what is kept is what is said of them and of the input.
 abbrev pub KeepsRunSaid : Files → Files → Program → KeptOfRun → List ℕ → Type 0
-KeepsRunSaid old new program kept input = (disks : List (Option (Vec ℕ Global)))
+KeepsRunSaid old new program kept input = (disks : List (Option (Vec ℕ Global))) × (system : Option (Vec ℕ Global))
     × ReadsEach old (paths_of (string_bytes program.disk) program.others) (images_of disks)
+    × Reads old (option_map string_bytes program.system) (option_map vec_items system)
     × KeepsTold old new (string_bytes program.disk) kept.printing
-    (job_said (jobs.Run disks program.name program.limit kept.save) input)
+    (job_said (jobs.Run disks program.name program.limit kept.save system) input)
 
--- A job of a program on the images that its paths hold, each on its unit: what is written, answered and left unread is
--- what is said of them and of the input.
-abbrev pub TellsOf : (List (Option (Vec ℕ Global)) → Job) → Files → Streams → Streams → Outcome → Program → List ℕ
-    → Type 0
+-- A job of a program on the images that its paths hold, each on its unit, with the system's code file that its path
+-- holds, if it has one: what is written, answered and left unread is what is said of them and of the input.
+abbrev pub TellsOf : (List (Option (Vec ℕ Global)) → Option (Vec ℕ Global) → Job) → Files → Streams → Streams → Outcome
+    → Program → List ℕ → Type 0
 TellsOf job files old new outcome program input = (disks : List (Option (Vec ℕ Global)))
+    × (system : Option (Vec ℕ Global))
     × ReadsEach files (paths_of (string_bytes program.disk) program.others) (images_of disks)
-    × Tells old new outcome (job_said (job disks) input)
+    × Reads files (option_map string_bytes program.system) (option_map vec_items system)
+    × Tells old new outcome (job_said (job disks system) input)
 
 abbrev pub TellsTrace : Files → Streams → Streams → Outcome → Program → List ℕ → Type 0
 TellsTrace files old new outcome program input =
-    TellsOf (λ disks. jobs.Trace disks program.name program.limit) files old new outcome program input
+    TellsOf (λ disks system. jobs.Trace disks program.name program.limit system) files old new outcome program input
 
 abbrev pub TellsDebug : Files → Streams → Streams → Outcome → Program → List ℕ → Type 0
 TellsDebug files old new outcome program input =
-    TellsOf (λ disks. jobs.Debug disks program.name) files old new outcome program input
+    TellsOf (λ disks system. jobs.Debug disks program.name system) files old new outcome program input

@@ -9,6 +9,8 @@ pub enum Conflict {
     SavedTwice,
     /// The printer's bytes would be written over an image of the run.
     PrinterIsImage,
+    /// The printer's bytes would be written over the system's code file.
+    PrinterIsSystem,
     /// The printer's bytes would go to a folder.
     PrinterIsFolder,
 }
@@ -19,6 +21,7 @@ impl Conflict {
         match self {
             Conflict::SavedTwice => "error: the image that --save writes is that of two units",
             Conflict::PrinterIsImage => "error: the path behind --printer is that of an image",
+            Conflict::PrinterIsSystem => "error: the path behind --printer is that behind --system",
             Conflict::PrinterIsFolder => "error: the path behind --printer is that of a folder",
         }
     }

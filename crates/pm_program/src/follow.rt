@@ -151,6 +151,9 @@ fn printer_conflict<S: Store>(
     if store.is_same(path, program.disk.as_str()) || is_other(store, path, &program.others) {
         return Some(Conflict::PrinterIsImage);
     }
+    if names_image(store, path, &program.system) {
+        return Some(Conflict::PrinterIsSystem);
+    }
     if store.is_folder(path) {
         return Some(Conflict::PrinterIsFolder);
     }

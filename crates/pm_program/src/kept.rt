@@ -136,6 +136,25 @@ fn images<S: Store>(
     ])
 }
 
+/// Reads the images of the disks in the order of their units, and then the system's code file, where there is one.
+fn inputs<S: Store>(
+    alloc: Global,
+    store: &mut S,
+    disk: &str,
+    others: &Others,
+    system: &Option<String>,
+) -> Result<(Images, Option<Vec<u8>>), DiskFault>
+    ensures stays { S.files store.new ≡ S.files store.old }
+    ensures values { IfOk result (λ read.
+        ReadsEach (S.files store.old) (paths_of disk.now others.now) (images_of read.0)) }
+    ensures system { IfOk result (λ read.
+        Reads (S.files store.old) (option_map string_bytes system.now) (option_map vec_items read.1)) }
+{
+    let images = images(alloc, store, disk, others)?;
+    let system = image(alloc, store, system)?;
+    Ok((images, system))
+}
+
 /// Whether a program came to an end of its own, of its steps or of its input.
 fn has_run(exit: Exit) -> bool
     ensures value { result ≡ has_run exit }
@@ -237,15 +256,17 @@ pub fn do_run<S: Store, I: Source, O: Sink>(
         others,
         name,
         limit,
+        system,
     } = program;
     make_ready(store, disk.as_str(), &kept)?;
     let KeptOfRun { save, printing } = kept;
-    let disks = images(alloc, store, disk.as_str(), &others)?;
+    let (disks, system) = inputs(alloc, store, disk.as_str(), &others, &system)?;
     let job = Job::Run {
         disks,
         name,
         limit,
         save,
+        system,
     };
     let outcome = pm_tool::run(alloc, source, sink, job);
     keep(store, sink, disk.as_str(), &printing, &outcome)?;
@@ -268,9 +289,15 @@ pub fn do_trace<S: Store, I: Source, O: Sink>(
         TellsTrace (S.files store.old) (both (I.seen source.old) (O.seen sink.old))
         (both (I.seen source.new) (O.seen sink.new)) outcome program input)) }
 {
-    let disks = images(alloc, store, program.disk.as_str(), &program.others)?;
+    let disk = program.disk.as_str();
+    let (disks, system) = inputs(alloc, store, disk, &program.others, &program.system)?;
     let Program { name, limit, .. } = program;
-    let job = Job::Trace { disks, name, limit };
+    let job = Job::Trace {
+        disks,
+        name,
+        limit,
+        system,
+    };
     Ok(pm_tool::run(alloc, source, sink, job))
 }
 
@@ -290,8 +317,13 @@ pub fn do_debug<S: Store, I: Source, O: Sink>(
         TellsDebug (S.files store.old) (both (I.seen source.old) (O.seen sink.old))
         (both (I.seen source.new) (O.seen sink.new)) outcome program input)) }
 {
-    let disks = images(alloc, store, program.disk.as_str(), &program.others)?;
+    let disk = program.disk.as_str();
+    let (disks, system) = inputs(alloc, store, disk, &program.others, &program.system)?;
     let Program { name, .. } = program;
-    let job = Job::Debug { disks, name };
+    let job = Job::Debug {
+        disks,
+        name,
+        system,
+    };
     Ok(pm_tool::run(alloc, source, sink, job))
 }

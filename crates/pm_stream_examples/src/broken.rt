@@ -97,9 +97,19 @@ impl Tried {
                 name,
                 limit,
                 save: true,
+                system: None,
             },
-            Tried::ExitsTraced => Job::Trace { disks, name, limit },
-            Tried::Session => Job::Debug { disks, name },
+            Tried::ExitsTraced => Job::Trace {
+                disks,
+                name,
+                limit,
+                system: None,
+            },
+            Tried::Session => Job::Debug {
+                disks,
+                name,
+                system: None,
+            },
         })
     }
 

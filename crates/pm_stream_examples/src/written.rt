@@ -38,6 +38,7 @@ fn three_letters(alloc: Global) -> Result<Job, Fail> {
         name: String::from_str(alloc, "P")?,
         limit: 1000,
         save: false,
+        system: None,
     })
 }
 

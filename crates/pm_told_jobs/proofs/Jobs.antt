@@ -7,7 +7,7 @@ use Rattle.pm_files.specs.declared.fault.DiskFault.{DiskFault}
 use Rattle.pm_tool.specs.Said.{IsSoundExit, job_said}
 use Rattle.pm_tool.specs.declared.outcome.Job.TheVariants as jobs
 use Rattle.pm_tool.specs.declared.outcome.Outcome.{Outcome}
-use Rattle.pm_program.specs.Kept.{KeepsRun, KeepsRunSaid, KeepsSaid, PrintsIf, ReadsEach, has_run}
+use Rattle.pm_program.specs.Kept.{KeepsRun, KeepsRunSaid, KeepsSaid, KeepsTold, PrintsIf, Reads, ReadsEach, has_run}
 use Rattle.pm_program.specs.declared.kept.KeptOfRun.{KeptOfRun}
 use Rattle.pm_plan.specs.declared.run_words.Program.{Program}
 use Rattle.pm_program.specs.declared.kept.Printing.TheVariants as printings
@@ -126,20 +126,30 @@ pub disk_said : (done : Result Outcome DiskFault) (old new : List ℕ → Option
     (path image file : List ℕ) (name : String Global) (limit : ℕ) (save : Bool) (known : Option (List ℕ)) (input : List ℕ)
     → new path ≡ Some file
     → IfOk done (λ outcome. IsSoundExit outcome.exit → IfSome known (λ input. KeepsRunSaid (Some old) (Some new)
-    (record { disk = from; others = record { d5 = None; d9 = None; d10 = None; d11 = None; d12 = None }; name = name; limit = limit })
+    (record { disk = from; others = record { d5 = None; d9 = None; d10 = None; d11 = None; d12 = None }; name = name; limit = limit; system = None })
     (record { save = save; printing = printings.Nowhere }) input))
     → known ≡ Some input → string_bytes from ≡ path → old path ≡ Some image
     → IfOk done (λ outcome. IsSoundExit outcome.exit → LeavesRun image name limit save input file)
 disk_said (Ok outcome) old new from path image file name limit save known input has keeps is at had = λ sound.
     let told = subst (λ known. IfSome known (λ input. KeepsRunSaid (Some old) (Some new)
-    (record { disk = from; others = record { d5 = None; d9 = None; d10 = None; d11 = None; d12 = None }; name = name; limit = limit })
+    (record { disk = from; others = record { d5 = None; d9 = None; d10 = None; d11 = None; d12 = None }; name = name; limit = limit; system = None })
     (record { save = save; printing = printings.Nowhere }) input)) is (keeps sound) in
-    let held = subst (λ path. old path ≡ Some image) (sym at) had in (
-      told.0,
-      reads_one old (string_bytes from) image (images_of told.0) told.1 held,
-      run_left old new told.2.0 (string_bytes from) image file (job_said (jobs.Run told.0 name limit save) input).image
-          (has_run (job_said (jobs.Run told.0 name limit save) input).exit)
-          (job_said (jobs.Run told.0 name limit save) input).printer (subst (λ path. new path ≡ Some file) (sym at) has)
-          told.2.1 told.2.2 held,
+    let held = subst (λ path. old path ≡ Some image) (sym at) had in
+    leaves told.0 told.1 told.2 told.3 told.4 held
+  where
+    leaves : (disks : List (Option (Vec ℕ Global))) (system : Option (Vec ℕ Global))
+        → ReadsEach (Some old) (Some (string_bytes from) ∷ None ∷ None ∷ None ∷ None ∷ None ∷ []) (images_of disks)
+        → Reads (Some old) None (option_map vec_items system)
+        → KeepsTold (Some old) (Some new) (string_bytes from) printings.Nowhere
+        (job_said (jobs.Run disks name limit save system) input)
+        → old (string_bytes from) ≡ Some image → LeavesRun image name limit save input file
+    leaves disks (Some code) reads given told held = absurd given
+    leaves disks None reads given told held = (
+      disks,
+      reads_one old (string_bytes from) image (images_of disks) reads held,
+      run_left old new told.0 (string_bytes from) image file (job_said (jobs.Run disks name limit save None) input).image
+          (has_run (job_said (jobs.Run disks name limit save None) input).exit)
+          (job_said (jobs.Run disks name limit save None) input).printer (subst (λ path. new path ≡ Some file) (sym at) has)
+          told.1 told.2 held,
     )
 disk_said (Err fault) old new from path image file name limit save known input has keeps is at had = tt

@@ -29,4 +29,4 @@ left_in old (Some new) = new
 abbrev pub LeavesRun : List ℕ → String Global → ℕ → Bool → List ℕ → List ℕ → Type 0
 LeavesRun image name limit save input file = (disks : List (Option (Vec ℕ Global)))
     × (images_of disks ≡ Some image ∷ None ∷ None ∷ None ∷ None ∷ None ∷ [])
-    × (file ≡ left_in image (job_said (jobs.Run disks name limit save) input).image)
+    × (file ≡ left_in image (job_said (jobs.Run disks name limit save None) input).image)

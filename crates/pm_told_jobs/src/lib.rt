@@ -81,11 +81,10 @@ pub fn on_disk(
         },
         name,
         limit,
+        system: None,
     };
-    let kept = KeptOfRun {
-        save,
-        printing: Printing::Nowhere,
-    };
+    let printing = Printing::Nowhere;
+    let kept = KeptOfRun { save, printing };
     let mut written = Vec::new(alloc);
     let mut source = Reader::new(typed);
     let mut sink = Writer::new(&mut written);

@@ -19,6 +19,8 @@ use Rattle.pm_source.specs.declared.fault.AsmFault.{AsmFault}
 use Rattle.pm_source.specs.declared.fault.AsmFault.TheVariants as asm
 use Rattle.pm_filer.specs.declared.fault.FilerFault.{FilerFault}
 use Rattle.pm_filer.specs.declared.fault.FilerFault.TheVariants as filer
+use Rattle.pm_system.specs.declared.fault.SystemFault.{SystemFault}
+use Rattle.pm_system.specs.declared.fault.SystemFault.TheVariants as system
 use Rattle.pm_streams.specs.Faults.{fault_text}
 use Rattle.pm_streams.specs.declared.fault.Fault.{Fault}
 use Rattle.pm_streams.specs.declared.fault.Fault.TheVariants as faults
@@ -88,6 +90,10 @@ abbrev pub entry_text : Option ℕ → List ℕ
 entry_text None = []
 entry_text (Some entry) = 32 ∷ decimal entry
 
+-- the number of a fault of a start, and that of the execution error
+abbrev pub boot_text : BootFault → List ℕ
+boot_text fault = decimal (boot_number fault) ++ error_text fault
+
 -- the number of a volume's fault, and the entry or the first copy's fault that it names
 abbrev pub volume_text : VolumeFault → List ℕ
 volume_text fault = decimal (volume_number fault) ++ entry_text (detail_of fault)
@@ -111,13 +117,23 @@ code_text fault = decimal (code_number fault) ++ entry_text (slot_of_fault fault
 abbrev pub asm_text : AsmFault → List ℕ
 asm_text fault = decimal (asm_number fault) ++ entry_text (asm_place fault)
 
+-- the number of a fault of the system's segment, and that of the fault within it
+abbrev pub system_text : SystemFault → List ℕ
+system_text (system.NoCode fault) = 49 ∷ 32 ∷ code_text fault
+system_text system.NoSegment = 50 ∷ []
+system_text (system.NoProgram fault) = 51 ∷ 32 ∷ code_text fault
+system_text system.Taken = 52 ∷ []
+system_text (system.Volume fault) = 53 ∷ 32 ∷ volume_text fault
+system_text system.NoMemory = 54 ∷ []
+
 abbrev pub refusal_text : Refusal → List ℕ
 refusal_text refusals.Hex = codes "refused hex 1"
 refusal_text (refusals.Volume fault) = codes "refused volume " ++ volume_text fault
 refusal_text (refusals.Code fault) = codes "refused code " ++ code_text fault
 refusal_text (refusals.Asm fault) = codes "refused asm " ++ asm_text fault
+refusal_text (refusals.System fault) = codes "refused system " ++ system_text fault
 refusal_text (refusals.Filer fault) = codes "refused filer " ++ filer_text fault
-refusal_text (refusals.Boot fault) = codes "refused boot " ++ (decimal (boot_number fault) ++ error_text fault)
+refusal_text (refusals.Boot fault) = codes "refused boot " ++ boot_text fault
 
 -- a fault that stands for want of memory, which is no refusal
 abbrev pub is_boot_want : BootFault → Bool
@@ -165,11 +181,20 @@ is_asm_want (asm.Far x) = false
 is_asm_want (asm.TooLong x) = false
 is_asm_want asm.NoMemory = true
 
+abbrev pub is_system_want : SystemFault → Bool
+is_system_want (system.NoCode x) = false
+is_system_want system.NoSegment = false
+is_system_want (system.NoProgram x) = false
+is_system_want system.Taken = false
+is_system_want (system.Volume fault) = is_volume_want fault
+is_system_want system.NoMemory = true
+
 abbrev pub is_want : Refusal → Bool
 is_want refusals.Hex = false
 is_want (refusals.Volume fault) = is_volume_want fault
 is_want (refusals.Code fault) = false
 is_want (refusals.Asm fault) = is_asm_want fault
+is_want (refusals.System fault) = is_system_want fault
 is_want (refusals.Filer fault) = is_filer_want fault
 is_want (refusals.Boot fault) = is_boot_want fault
 

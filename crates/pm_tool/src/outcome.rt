@@ -1,8 +1,8 @@
 //! Jobs, and what they come to.
 ghost use Rattle.std.specs.Prelude.{◌≡◌, false, [], List, ℕ, Some, None, IfOk, option_map, string_bytes, vec_items};
-ghost use Rattle.pm_tool.specs.Outcomes.{asm_text, code_text, exit_number, exit_of, fault_exit, is_refusal, is_want};
-ghost use Rattle.pm_tool.specs.Outcomes.{outcome_text, refusal_text, text_fault_text, volume_text};
-ghost use Rattle.pm_tool.specs.Outcomes.{IsOutcome, SaysWhy, refused};
+ghost use Rattle.pm_tool.specs.Outcomes.{asm_text, boot_text, code_text, exit_number, exit_of, fault_exit, is_refusal};
+ghost use Rattle.pm_tool.specs.Outcomes.{is_want, outcome_text, refusal_text, system_text, text_fault_text};
+ghost use Rattle.pm_tool.specs.Outcomes.{IsOutcome, SaysWhy, refused, volume_text};
 
 use pm_asm::AsmFault;
 use pm_codefile::CodeFault;
@@ -10,6 +10,7 @@ use pm_filer::{FileCommand, FilerFault};
 use pm_machine::BootFault;
 use pm_session::Ending;
 use pm_streams::Fault;
+use pm_system::SystemFault;
 use pm_textfile::TextFault;
 use pm_volume::VolumeFault;
 use std::alloc::{AllocError, Global};
@@ -30,12 +31,16 @@ pub enum Job {
     /// that does not start by `refused boot N`, both before any input is read. The input is the console's: each time
     /// that the program waits for console bytes, one is read. The output is what the program writes to the console. The
     /// message is the last line of a trace; the outcome has the printer's bytes and, with `save`, the image on unit 4
-    /// as the program left it.
+    /// as the program left it. With `system`, the
+    /// program is that of the image on which the code file `name` has the segment of slot 0 of this code file, as
+    /// `pm_system::put_system` puts it in; where it is not put in, the job is refused by `refused system N`, behind the
+    /// images and before the start.
     Run {
         disks: [Option<Vec<u8>>; 6],
         name: String,
         limit: u64,
         save: bool,
+        system: Option<Vec<u8>>,
     },
     /// The same program runs, and the output is its trace alone: a line for each step that does not wait, of the state
     /// before it, and a last line: `ended K`, `error N K`, `limit K` after `limit` steps, or `waiting K` where no input
@@ -44,6 +49,7 @@ pub enum Job {
         disks: [Option<Vec<u8>>; 6],
         name: String,
         limit: u64,
+        system: Option<Vec<u8>>,
     },
     /// A debugger of the same program, which is not run by itself: each line of the input is a command, and is answered
     /// by one line, before the next is read. The session ends behind the line of `quit`, or with the input, and the job
@@ -51,6 +57,7 @@ pub enum Job {
     Debug {
         disks: [Option<Vec<u8>>; 6],
         name: String,
+        system: Option<Vec<u8>>,
     },
     /// The input is a text of the assembler, each byte above 127 being character 127, and the output is the code file
     /// of its program, or with `list` its listing alone. Any other text is refused by `refused asm N LINE`, with the
@@ -228,6 +235,8 @@ pub enum Refusal {
     Code(CodeFault),
     /// It is a text that spells no program, or one with a segment that is too long.
     Asm(AsmFault),
+    /// The system's segment is not put in.
+    System(SystemFault),
 }
 
 impl Refusal {
@@ -242,6 +251,8 @@ impl Refusal {
             Refusal::Filer(FilerFault::Volume(VolumeFault::NoMemory)) => true,
             Refusal::Filer(FilerFault::Text(TextFault::NoMemory)) => true,
             Refusal::Asm(AsmFault::NoMemory) => true,
+            Refusal::System(SystemFault::NoMemory) => true,
+            Refusal::System(SystemFault::Volume(VolumeFault::NoMemory)) => true,
             _ => false,
         }
     }
@@ -311,6 +322,53 @@ impl fmt::Display for AsmNumber {
     }
 }
 
+/// The number of a fault of a start, and that of the execution error by which it fails.
+#[derive(Clone, Copy)]
+struct BootNumber(BootFault);
+
+impl fmt::Display for BootNumber {
+    ghost output = { λ fault. Some (boot_text fault.0) };
+
+    fn fmt<W: fmt::Write>(&self, f: &mut fmt::Formatter<W>) -> fmt::Result {
+        let number = self.0.number();
+        match self.0 {
+            BootFault::Exec(error) => {
+                let error = error.number();
+                write!(f, "{number} {error}")
+            }
+            _ => write!(f, "{number}"),
+        }
+    }
+}
+
+/// The number of a fault of the system's segment, and that of the fault within it.
+#[derive(Clone, Copy)]
+struct SystemNumber(SystemFault);
+
+impl fmt::Display for SystemNumber {
+    ghost output = { λ fault. Some (system_text fault.0) };
+
+    fn fmt<W: fmt::Write>(&self, f: &mut fmt::Formatter<W>) -> fmt::Result {
+        match self.0 {
+            SystemFault::NoCode(fault) => {
+                let fault = CodeNumber(fault);
+                write!(f, "1 {fault}")
+            }
+            SystemFault::NoSegment => write!(f, "2"),
+            SystemFault::NoProgram(fault) => {
+                let fault = CodeNumber(fault);
+                write!(f, "3 {fault}")
+            }
+            SystemFault::Taken => write!(f, "4"),
+            SystemFault::Volume(fault) => {
+                let fault = VolumeNumber(fault);
+                write!(f, "5 {fault}")
+            }
+            SystemFault::NoMemory => write!(f, "6"),
+        }
+    }
+}
+
 impl fmt::Display for Refusal {
     ghost output = { λ refusal. Some (refusal_text refusal) };
 
@@ -318,14 +376,8 @@ impl fmt::Display for Refusal {
         match *self {
             Refusal::Hex => write!(f, "refused hex 1"),
             Refusal::Boot(fault) => {
-                let number = fault.number();
-                match fault {
-                    BootFault::Exec(error) => {
-                        let error = error.number();
-                        write!(f, "refused boot {number} {error}")
-                    }
-                    _ => write!(f, "refused boot {number}"),
-                }
+                let fault = BootNumber(fault);
+                write!(f, "refused boot {fault}")
             }
             Refusal::Volume(fault) => {
                 let fault = VolumeNumber(fault);
@@ -346,6 +398,10 @@ impl fmt::Display for Refusal {
             Refusal::Asm(fault) => {
                 let fault = AsmNumber(fault);
                 write!(f, "refused asm {fault}")
+            }
+            Refusal::System(fault) => {
+                let fault = SystemNumber(fault);
+                write!(f, "refused system {fault}")
             }
             Refusal::Filer(FilerFault::BadDate) => write!(f, "refused filer 3"),
             Refusal::Filer(FilerFault::NoMemory) => write!(f, "refused filer 4"),

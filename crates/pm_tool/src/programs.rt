@@ -1,12 +1,13 @@
 //! The machines that programs start on.
-ghost use Rattle.std.specs.Prelude.{◌≡◌, Some, None, IfOk, IfErr, OnOk, option_map, vec_items};
-ghost use Rattle.pm_tool.specs.Disks.{booted, state_in, disk_fault, first_disk_fault, images_of, machine_at};
-ghost use Rattle.pm_tool.specs.Disks.{loaded};
+ghost use Rattle.std.specs.Prelude.{◌≡◌, ◌≢◌, Ok, Err, Some, None, IfOk, IfErr, OnOk, option_map, vec_items};
+ghost use Rattle.pm_tool.specs.Disks.{booted, state_in, disk_fault, first_disk_fault, first_with, images_of};
+ghost use Rattle.pm_tool.specs.Disks.{images_with, loaded, machine_at};
 ghost use Rattle.pm_tool.specs.Hex.{hex_spelled};
 
 use crate::hex;
 use crate::outcome::Refusal;
 use pm_machine::{BootFault, Machine};
+use pm_system::{SystemFault, put_system};
 use pm_volume::{Volume, VolumeFault};
 use std::alloc::{AllocError, Global};
 
@@ -17,10 +18,11 @@ pub(crate) enum Start {
     Bare {
         text: Vec<u8>,
     },
-    /// The program of a code file on unit 4.
+    /// The program of a code file on unit 4, with the system's segment where there is a code file of it.
     Booted {
         disks: [Option<Vec<u8>>; 6],
         name: String,
+        system: Option<Vec<u8>>,
     },
 }
 
@@ -54,17 +56,62 @@ fn volumes_of(disks: [Option<Vec<u8>>; 6]) -> Result<[Option<Volume>; 6], Volume
     Ok(volumes)
 }
 
+/// The volume of unit 4, where there is one, with the system's segment in the program's code file, where a code file of
+/// the system is given.
+fn first_with(
+    alloc: Global,
+    volume: Option<Volume>,
+    name: &str,
+    system: Option<Vec<u8>>,
+) -> Result<Option<Volume>, SystemFault>
+    ensures image { IfOk result (λ new. first_with (option_map vec_items system) name.now volume ≡ Ok new) }
+    ensures refused { IfErr result (λ fault. fault ≢ SystemFault.NoMemory →
+        first_with (option_map vec_items system) name.now volume ≡ Err fault) }
+{
+    let Some(system) = system else {
+        return Ok(volume);
+    };
+    let Some(volume) = volume else {
+        return Ok(None);
+    };
+    let volume = put_system(alloc, volume, name, system.as_slice())?;
+    Ok(Some(volume))
+}
+
+/// The volumes with the system's segment in the program's code file, where there is a code file of the system.
+fn with_system(
+    alloc: Global,
+    mut volumes: [Option<Volume>; 6],
+    name: &str,
+    system: Option<Vec<u8>>,
+) -> Result<[Option<Volume>; 6], SystemFault>
+    ensures images { IfOk result (λ new. images_with (option_map vec_items system) name.now volumes ≡ Ok new) }
+    ensures refused { IfErr result (λ fault. fault ≢ SystemFault.NoMemory →
+        images_with (option_map vec_items system) name.now volumes ≡ Err (Refusal.System fault)) }
+{
+    let first = volumes[0].take();
+    volumes[0] = first_with(alloc, first, name, system)?;
+    Ok(volumes)
+}
+
 /// The machine at the start of a program of unit 4, or why there is none.
 fn boot(
     alloc: Global,
     disks: [Option<Vec<u8>>; 6],
     name: &str,
+    system: Option<Vec<u8>>,
 ) -> Result<Result<Machine, Refusal>, AllocError>
-    ensures machine { IfOk result (λ machine. state_in machine ≡ booted (images_of disks) name.now) }
+    ensures machine { IfOk result (λ machine. state_in machine
+        ≡ booted (images_of disks) name.now (option_map vec_items system)) }
 {
     let volumes = match volumes_of(disks) {
         Ok(volumes) => volumes,
         Err(fault) => return Ok(Err(Refusal::Volume(fault))),
+    };
+    let volumes = match with_system(alloc, volumes, name, system) {
+        Ok(volumes) => volumes,
+        Err(SystemFault::NoMemory) => return Err(AllocError),
+        Err(fault) => return Ok(Err(Refusal::System(fault))),
     };
     match Machine::boot(alloc, volumes, 4, name, 0) {
         Ok(machine) => Ok(Ok(machine)),
@@ -93,6 +140,10 @@ pub(crate) fn start_on(alloc: Global, start: Start) -> Result<Result<Machine, Re
 {
     match start {
         Start::Bare { text } => load(alloc, &text),
-        Start::Booted { disks, name } => boot(alloc, disks, name.as_str()),
+        Start::Booted {
+            disks,
+            name,
+            system,
+        } => boot(alloc, disks, name.as_str(), system),
     }
 }

@@ -19,6 +19,7 @@ impl fmt::Display for Reason {
             Refusal::Filer(fault) => write!(f, "{fault}"),
             Refusal::Code(fault) => write!(f, "{fault}"),
             Refusal::Asm(fault) => write!(f, "{fault}"),
+            Refusal::System(fault) => write!(f, "{fault}"),
         }
     }
 }

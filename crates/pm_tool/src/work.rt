@@ -20,6 +20,18 @@ pub(crate) enum Work {
     Batch(Batch),
 }
 
+/// To talk with the machine that starts on a program.
+fn talk(disks: [Option<Vec<u8>>; 6], name: String, system: Option<Vec<u8>>, talk: Talk) -> Work
+    ensures work { result ≡ Work.Talk (Start.Booted disks name system) talk }
+{
+    let start = Start::Booted {
+        disks,
+        name,
+        system,
+    };
+    Work::Talk(start, talk)
+}
+
 /// What a job has to do.
 pub(crate) fn work_of(job: Job) -> Work
     ensures work { result ≡ work_of job }
@@ -33,15 +45,25 @@ pub(crate) fn work_of(job: Job) -> Work
             name,
             limit,
             save,
+            system,
         } => {
             let show = Show::Console { save };
-            Work::Talk(Start::Booted { disks, name }, Talk::Run { show, limit })
+            talk(disks, name, system, Talk::Run { show, limit })
         }
-        Job::Trace { disks, name, limit } => {
+        Job::Trace {
+            disks,
+            name,
+            limit,
+            system,
+        } => {
             let show = Show::Trace;
-            Work::Talk(Start::Booted { disks, name }, Talk::Run { show, limit })
+            talk(disks, name, system, Talk::Run { show, limit })
         }
-        Job::Debug { disks, name } => Work::Talk(Start::Booted { disks, name }, Talk::Session),
+        Job::Debug {
+            disks,
+            name,
+            system,
+        } => talk(disks, name, system, Talk::Session),
         Job::Asm { list } => Work::Batch(Batch::Asm { list }),
         Job::Dis => Work::Batch(Batch::Dis),
         Job::Files { image, command } => {

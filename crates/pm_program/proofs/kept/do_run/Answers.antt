@@ -8,7 +8,8 @@ returns-clause-said g c = λ sound. known_run_said
     (both (g.I.Source.seen c.args.source.now) (g.O.Sink.seen c.args.sink.now))
     (both (g.I.Source.seen c.run-outcome.new.source) (g.O.Sink.seen c.run-outcome.new.sink))
     (g.S.Store.files c.args.store.now) (g.S.Store.files c.make_ready.new.store)
-    (g.S.Store.files c.images.new.store) _ c.args.program c.args.kept c.in_ok-disks.disks c.run-outcome.result
+    (g.S.Store.files c.inputs.new.store) _ c.args.program c.args.kept c.in_ok-disks.disks c.in_ok-disks.system
+    c.run-outcome.result
     c.as_str-2.result.now c.as_str-3.result.now (search rules) (search rules)
-    (c.run-outcome.ensures.exact sound) c.make_ready.ensures.stays c.images.ensures.stays c.in_ok-disks.ensures.values
-    c.in_ok-keep.ensures.kept
+    (c.run-outcome.ensures.exact sound) c.make_ready.ensures.stays c.inputs.ensures.stays c.in_ok-disks.ensures.values
+    c.in_ok-disks.ensures.system c.in_ok-keep.ensures.kept

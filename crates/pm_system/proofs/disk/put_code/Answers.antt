@@ -1,0 +1,8 @@
+use Rattle.std.proofs.lemmas.Result.{err_from_is_err_and}
+use Rattle.pm_system.proofs.Made.{made-unadded}
+use Rattle.pm_system.proofs.disk.put_code.Goals as goal
+
+pub returns-in_err-add-clause-refused : goal.returns-in_err-add-clause-refused
+returns-in_err-add-clause-refused c =
+    let p = err_from_is_err_and c.from_residual.result c.from_residual.ensures.1 in
+    rw (p.1, p.2) (made-unadded _ _ _ _ _ _ c.in_err-add.ensures.refused)

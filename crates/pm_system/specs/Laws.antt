@@ -1,0 +1,25 @@
+-- What the new code file holds.
+use Rattle.std.specs.Prelude.{◌≡◌, ◌≤◌, ◌<◌, ℕ, List, length, Some}
+use Rattle.pm_base.specs.Blocks.{blocks_for}
+use Rattle.pm_codefile.specs.Dictionary.{IsCodeFile, block_in, segment_in, slot_in}
+use Rattle.pm_codefile.specs.declared.file.Slot.{Slot}
+use Rattle.pm_system.specs.Segment.{with_segment}
+
+-- A slot, and the bytes of its segment: as many as its length says, which is a word, and has a name of 8 bytes.
+pub record IsSlot (slot : Slot) (segment : List ℕ) : Type 0 where
+  pub some : 0 < slot.length
+  pub word : slot.length < 65536
+  pub size : length segment ≡ slot.length
+  pub name : length slot.name ≡ 8
+
+-- A code file that was given a segment: slot 0 has its bytes. Each other slot is what it was, and where its segment
+-- begins behind the dictionary it has the bytes that it had.
+pub record HasBoth (file segment new : List ℕ) : Type 0 where
+  pub zero : segment_in new 0 ≡ Some segment
+  pub slots : (n : ℕ) → 1 ≤ n → slot_in new n ≡ slot_in file n
+  pub segments : (n : ℕ) → 1 ≤ n → 1 ≤ block_in file n → segment_in new n ≡ segment_in file n
+
+abbrev pub SegmentsStay : Type 0
+SegmentsStay =
+    (file segment : List ℕ) (slot : Slot) → IsCodeFile file → blocks_for (length file) < 65536 → IsSlot slot segment
+    → HasBoth file segment (with_segment file slot segment)

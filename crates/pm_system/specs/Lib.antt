@@ -1,0 +1,4 @@
+pub mod Faults
+pub mod Segment
+pub mod Disk
+pub mod Laws

@@ -1,0 +1,82 @@
+//! Volumes on which a program has the system's segment.
+ghost use Rattle.std.specs.Prelude.{◌≡◌, ◌≢◌, ◌-◌, Ok, Err, IfErr, IfOk, IfSome, OnOk, option_map};
+ghost use Rattle.std.specs.List.{All, remove};
+ghost use Rattle.pm_system.specs.Disk.{image_with_system, program_file, put_anew, put_code};
+ghost use Rattle.pm_system.specs.declared.fault.SystemFault.TheVariants.{NoMemory};
+ghost use Rattle.pm_volume.specs.Changes.{slot_named};
+ghost use Rattle.pm_volume.specs.Directory.{directory_of};
+ghost use Rattle.pm_volume.specs.Files.{files_of};
+ghost use Rattle.pm_volume.specs.Kept.{KeepsFile, KeepsFiles};
+ghost use Rattle.pm_volume.specs.Made.{file_removed};
+
+use crate::fault::SystemFault;
+use crate::segment::{given, system_slot};
+use pm_volume::kinds::CODE;
+use pm_volume::{Volume, VolumeFault};
+use std::alloc::Global;
+
+/// The bytes of the first file of a name, where its kind is code.
+fn program_file<'a>(volume: &'a Volume, name: &str) -> Option<&'a [u8]>
+    ensures bytes { option_map (λ bytes. bytes.now) result ≡ program_file volume.now name.now }
+{
+    let entry = volume.find(name)?;
+    if entry.kind == CODE {
+        volume.file(&entry)
+    } else {
+        None
+    }
+}
+
+/// Puts a code file with the volume's last date.
+#[tactic(auto, using(crate::proofs::Made::made))]
+fn put_code(volume: &mut Volume, name: &str, file: &[u8]) -> Result<(), VolumeFault>
+    ensures done { OnOk result (put_code volume.old name.now file.now ≡ Ok volume.new) }
+    ensures refused { IfErr result (λ fault. put_code volume.old name.now file.now ≡ Err fault) }
+    ensures kept { OnOk result (KeepsFiles volume.old volume.new) }
+{
+    let date = volume.last_date();
+    volume.add(name, CODE, file, date)?;
+    Ok(())
+}
+
+/// Puts another code file in the place of the first file of a name.
+#[tactic(auto, using(crate::proofs::Made::made))]
+fn exchange(volume: &mut Volume, name: &str, file: &[u8]) -> Result<(), VolumeFault>
+    ensures done { OnOk result (put_anew name.now file.now (file_removed volume.old name.now) ≡ Ok volume.new) }
+    ensures refused { IfErr result (λ fault.
+        put_anew name.now file.now (file_removed volume.old name.now) ≡ Err fault) }
+    ensures kept { OnOk result (IfSome (slot_named (directory_of volume.old) name.now) (λ slot.
+        All (KeepsFile volume.old volume.new) (remove (files_of volume.old) (slot - 1)))) }
+{
+    volume.remove(name)?;
+    put_code(volume, name, file)
+}
+
+/// The volume on which the code file of a name has the segment that the code file `system` has in slot 0, as
+/// `with_system` puts it in: the first file of that name is removed, and the longer one is put as any file is, in the
+/// lowest gap that is large enough, with the volume's last date. Every other file keeps its blocks and bytes. Where
+/// there is no file of that name whose kind is code, the volume stays. The refusals are those of `with_system`, and
+/// then those of the volume: `Duplicate` where a second file has the name, `BadName` for one that no new file may have,
+/// `NoRoom`.
+#[tactic(auto, unfolding(crate::specs::Disk::image_with_system))]
+pub fn put_system(
+    alloc: Global,
+    volume: Volume,
+    name: &str,
+    system: &[u8],
+) -> Result<Volume, SystemFault>
+    ensures done { IfOk result (λ new. image_with_system volume name.now system.now ≡ Ok new) }
+    ensures refused { IfErr result (λ fault. fault ≢ NoMemory →
+        image_with_system volume name.now system.now ≡ Err fault) }
+    ensures kept { IfOk result (λ new. IfSome (slot_named (directory_of volume) name.now) (λ slot.
+        All (KeepsFile volume new) (remove (files_of volume) (slot - 1)))) }
+{
+    let (slot, segment) = system_slot(system)?;
+    let mut volume = volume;
+    let Some(file) = program_file(&volume, name) else {
+        return Ok(volume);
+    };
+    let file = given(alloc, file, slot, segment)?;
+    exchange(&mut volume, name, &file)?;
+    Ok(volume)
+}

@@ -1,0 +1,67 @@
+//! Why a system segment is not put in.
+ghost use Rattle.std.specs.Prelude.{◌≡◌};
+ghost use Rattle.pm_system.specs.Faults.{number_of};
+
+use pm_codefile::CodeFault;
+use pm_volume::VolumeFault;
+use std::alloc::AllocError;
+use thiserror::Error;
+
+/// Why a system segment is not put in. Nothing is changed then.
+#[derive(Clone, Copy, Debug, PartialEq, Eq, Error)]
+pub enum SystemFault {
+    /// 1: the system's file is no code file.
+    #[error("the file behind --system is no code file: {0}")]
+    NoCode(CodeFault),
+    /// 2: slot 0 of the system's file has no segment.
+    #[error("slot 0 of the file behind --system has no segment")]
+    NoSegment,
+    /// 3: the program's file is no code file.
+    #[error("the program is no code file: {0}")]
+    NoProgram(CodeFault),
+    /// 4: slot 0 of the program's file has a segment.
+    #[error("slot 0 of the program has a segment already; run it without --system")]
+    Taken,
+    /// 5: the volume refuses the longer file.
+    #[error("the program with the segment is not put on the volume of unit 4: {0}")]
+    Volume(VolumeFault),
+    /// 6: memory was wanted and refused.
+    #[error("out of memory")]
+    NoMemory,
+}
+
+impl SystemFault {
+    /// The fault's number, as the program prints it.
+    pub fn number(self) -> u8
+        ensures value { result ≡ number_of self }
+    {
+        match self {
+            SystemFault::NoCode(_) => 1,
+            SystemFault::NoSegment => 2,
+            SystemFault::NoProgram(_) => 3,
+            SystemFault::Taken => 4,
+            SystemFault::Volume(_) => 5,
+            SystemFault::NoMemory => 6,
+        }
+    }
+}
+
+impl From<VolumeFault> for SystemFault {
+    ghost use Rattle.pm_system.specs.declared.fault.SystemFault.TheVariants.{Volume};
+
+    ghost from_gives = { λ inner fault. fault ≡ Volume inner };
+
+    fn from(fault: VolumeFault) -> SystemFault {
+        SystemFault::Volume(fault)
+    }
+}
+
+impl From<AllocError> for SystemFault {
+    ghost use Rattle.pm_system.specs.declared.fault.SystemFault.TheVariants.{NoMemory};
+
+    ghost from_gives = { λ _ fault. fault ≡ NoMemory };
+
+    fn from(_: AllocError) -> SystemFault {
+        SystemFault::NoMemory
+    }
+}

@@ -1,6 +1,6 @@
 //! What the program says on standard error at its end.
 use crate::end::End;
-use pm_tool::{Outcome, Reason};
+use pm_tool::{Ending, Outcome, Reason, RunReason};
 use std::fmt;
 
 /// A text on a terminal: a question mark stands for each character that would move or colour something there.
@@ -26,8 +26,14 @@ fn message(end: &End) -> &str {
     }
 }
 
-/// Says why an input was refused, with the line of the assembler's text that is wrong.
-fn explain_refusal<R: Eprint>(rt: &R, outcome: &Outcome) {
+/// Says why a run ended short of the program's end, or why an input was refused, with the line of the assembler's text
+/// that is wrong.
+fn explain_outcome<R: Eprint>(rt: &R, outcome: &Outcome) {
+    if let Some(ending) = outcome.ending
+        && ending != Ending::Ended
+    {
+        let _ = eprintln!(rt; "pmach: {}", RunReason(ending));
+    }
     let Some(refusal) = outcome.refusal else {
         return;
     };
@@ -37,7 +43,7 @@ fn explain_refusal<R: Eprint>(rt: &R, outcome: &Outcome) {
     };
 }
 
-/// Says more of an end: which file it was about and why, or why the input was refused.
+/// Says more of an end: which file it was about and why, why the input was refused, or why a run ended.
 fn explain<R: Eprint>(rt: &R, end: &End) {
     let _ = match end {
         End::File(fault, Some(path)) => eprintln!(rt;
@@ -47,7 +53,7 @@ fn explain<R: Eprint>(rt: &R, end: &End) {
         ),
         End::File(fault, None) => eprintln!(rt; "pmach: {}", fault.reason()),
         End::Outcome(outcome) => {
-            explain_refusal(rt, outcome);
+            explain_outcome(rt, outcome);
             Ok(())
         }
         End::Words(_) => Ok(()),

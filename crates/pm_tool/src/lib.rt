@@ -18,5 +18,6 @@ mod work;
 
 pub use engine::run;
 pub use outcome::{Exit, Job, Outcome, Refusal};
+pub use pm_session::Ending;
 pub use pm_streams::{Reader, Sink, Source, Writer};
-pub use reason::Reason;
+pub use reason::{Reason, RunReason};

@@ -166,6 +166,8 @@ pub struct Outcome {
     pub printer: Vec<u8>,
     /// Why the input was refused, if it was.
     pub refusal: Option<Refusal>,
+    /// Why the run ended that the message tells of, if it tells of one.
+    pub ending: Option<Ending>,
     /// The line of the assembler's text that the refusal names, if it names one and there was memory for its text.
     pub line: Option<String>,
 }
@@ -185,6 +187,7 @@ impl Outcome {
             image: None,
             printer: Vec::new(alloc),
             refusal: None,
+            ending: None,
             line: None,
         }
     }
@@ -203,6 +206,7 @@ impl Outcome {
             image: Some(image),
             printer: Vec::new(alloc),
             refusal: None,
+            ending: None,
             line: None,
         }
     }
@@ -428,6 +432,7 @@ pub(crate) fn refuse_line(
         image: None,
         printer: Vec::new(alloc),
         refusal: Some(refusal),
+        ending: None,
         line,
     })
 }

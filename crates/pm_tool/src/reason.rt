@@ -1,7 +1,12 @@
-//! Why an input is refused, in words.
+//! Why an input is refused, and why a run ended, in words.
 use crate::outcome::Refusal;
 use pm_machine::BootFault;
+use pm_session::Ending;
+use pm_words::ExecError;
 use std::fmt;
+
+/// What may be meant where there is no segment.
+const SYSTEM: &str = "a CXP 0, n calls the operating system, and --system PATH puts its segment in";
 
 /// A refusal, as the text that says what is wrong.
 #[derive(Clone, Copy, Debug, PartialEq, Eq)]
@@ -20,6 +25,24 @@ impl fmt::Display for Reason {
             Refusal::Code(fault) => write!(f, "{fault}"),
             Refusal::Asm(fault) => write!(f, "{fault}"),
             Refusal::System(fault) => write!(f, "{fault}"),
+        }
+    }
+}
+
+/// Why a run ended, as the text that says what it means and what helps.
+#[derive(Clone, Copy, Debug, PartialEq, Eq)]
+pub struct RunReason(pub Ending);
+
+impl fmt::Display for RunReason {
+    fn fmt<W: fmt::Write>(&self, f: &mut fmt::Formatter<W>) -> fmt::Result {
+        match self.0 {
+            Ending::Ended => f.write_str("the program came to its end"),
+            Ending::Error(ExecError::NoSegment) => write!(f, "{}; {SYSTEM}", ExecError::NoSegment),
+            Ending::Error(error) => write!(f, "{error}"),
+            Ending::Limit => f.write_str(
+                "that many steps were made; --limit N or --unlimited allows more",
+            ),
+            Ending::Waiting => f.write_str("the program waits for a key, and the input has ended"),
         }
     }
 }

@@ -52,6 +52,7 @@ fn left_by_run(
         image,
         printer,
         refusal: None,
+        ending: Some(last.ending),
         line: None,
     })
 }

@@ -24,7 +24,7 @@ def run(words, keys):
     child, terminal = pty.fork()
     if child == 0:
         signal.signal(signal.SIGINT, signal.SIG_DFL)
-        script = 'before=$(stty -g); trap : INT; "$@"; status=$?; [ "$before" = "$(stty -g)" ] && echo "[$status same]" || echo "[$status other]"'
+        script = 'before=$(stty -g); trap : INT QUIT; "$@"; status=$?; [ "$before" = "$(stty -g)" ] && echo "[$status same]" || echo "[$status other]"'
         os.execvp("sh", ["sh", "-c", script, "sh"] + words)
     shown = b""
     seen = []
@@ -69,6 +69,12 @@ shown, _ = run([program, "run", "--d4", image, "ECHO"], [b"a", b"\x04"])
 check("Ctrl-D ends the input", b"waiting" in shown and shown.endswith(b"[6 same]\r\n"), shown)
 shown, _ = run([program, "run", "--d4", image, "ECHO"], [b"a", b"\x03"])
 check("Ctrl-C ends with 130", shown.endswith(b"[130 same]\r\n"), shown)
+shown, _ = run([program, "run", "--escape", "--d4", image, "ECHO"], [b"a", b"\x03", b"\x04", b"."])
+check("with --escape Ctrl-C and Ctrl-D are keys", shown == b"a\x03\x04.\r\nended 54\r\n[0 same]\r\n", shown)
+shown, _ = run([program, "run", "--d4", image, "--escape", "ECHO"], [b"a", b"\x1d"])
+check("with --escape Ctrl-] ends the input", b"\nwaiting " in shown and b"input has ended\r\n" in shown and shown.endswith(b"[6 same]\r\n"), shown)
+shown, _ = run([program, "run", "--d4", image, "--escape", "ECHO"], [b"a", b"\x1c"])
+check("with --escape Ctrl-\\ ends with 131", shown.endswith(b"[131 same]\r\n"), shown)
 shown, _ = run([program, "debug", "--d4", image, "LOADS"], [b"go 1\n", b"quit\n"])
 check("the debugger prompts", b"> go 1\r\nlimit 1\r\n> quit\r\n" in shown, shown)
 shown, _ = run([program, "files", "--image", image + ".none", "list"], [])

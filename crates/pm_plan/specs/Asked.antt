@@ -96,6 +96,7 @@ pub record AsksProgram (rows : List Row) (program : Program) : Type 0 where
 pub record AsksKeeping (rows : List Row) (keeping : Keeping) : Type 0 where
   pub save : IsFlag (one_of (codes "save") rows) keeping.save
   pub printer : word_found rows (codes "printer") ≡ option_map string_bytes keeping.printer
+  pub escape : IsFlag (one_of (codes "escape") rows) keeping.escape
 
 -- the words of a command on a volume, its verb among them; what is put is read later
 abbrev pub AsksOrder : List ℕ → List Row → Order → Type 0

@@ -78,6 +78,12 @@ const SAVE: WordRow = (
     "Writes the image of unit 4 back to its file; nothing else that is written to a disk is kept",
 );
 
+const ESCAPE: WordRow = (
+    "escape",
+    Form::Flag,
+    "On a terminal Ctrl-C and Ctrl-D are bytes 3 and 4 for the program, and Ctrl-] ends the input",
+);
+
 const PRINTER: WordRow = (
     "printer",
     Form::Free("PATH"),
@@ -216,7 +222,7 @@ const RUN: CommandRow = (
     "run",
     "Runs a code file of the disk on unit 4, with the standard streams as its console",
     &[
-        D4, D5, D9, D10, D11, D12, LIMIT, UNLIMITED, SYSTEM, PROGRAM, SAVE, PRINTER,
+        D4, D5, D9, D10, D11, D12, LIMIT, UNLIMITED, SYSTEM, PROGRAM, SAVE, PRINTER, ESCAPE,
     ],
 );
 

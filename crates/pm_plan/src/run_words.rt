@@ -41,6 +41,8 @@ pub struct Keeping {
     pub save: bool,
     /// The path that gets the printer's bytes.
     pub printer: Option<String>,
+    /// Whether Ctrl-D is a byte of the program's on a terminal.
+    pub escape: bool,
 }
 
 /// The limit of a run. Refused where the word for it is no number up to 4,294,967,295, or stands beside `--unlimited`.
@@ -110,5 +112,6 @@ pub fn keeping_of(alloc: Global, matches: &ArgMatches<'_>) -> Result<Keeping, Wo
     Ok(Keeping {
         save: flag(matches, "save"),
         printer: given(alloc, matches, "printer")?,
+        escape: flag(matches, "escape"),
     })
 }

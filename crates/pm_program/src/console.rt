@@ -5,7 +5,10 @@ use std::io;
 use std::io::{Read, Write};
 
 /// The byte that ends the input of a terminal whose keys come at once: Ctrl-D.
-const END: u8 = 4;
+pub const END: u8 = 4;
+
+/// The byte that ends it where Ctrl-D is a byte of the program's: Ctrl-].
+pub const ESCAPE: u8 = 29;
 
 /// A reader that says something on standard error before it reads: before the first byte of each line, or once.
 #[derive(Drop)]
@@ -59,16 +62,22 @@ impl<E: Eprint, R: Read> Read for Prompted<'_, E, R> {
     }
 }
 
-/// A reader that ends at Ctrl-D where it is a terminal, and again gives bytes after it.
+/// A reader that ends at a byte where it is a terminal, and again gives bytes after it.
 #[derive(Drop)]
 pub struct Keys<R> {
     inner: R,
     is_terminal: bool,
+    end: u8,
 }
 
 impl<R: Read> Keys<R> {
-    pub fn new(inner: R, is_terminal: bool) -> Keys<R> {
-        Keys { inner, is_terminal }
+    /// A reader that is a terminal or not, and the byte that ends it.
+    pub fn new(inner: R, is_terminal: bool, end: u8) -> Keys<R> {
+        Keys {
+            inner,
+            is_terminal,
+            end,
+        }
     }
 
     /// Reads one byte of a terminal, so that none behind the end is read.
@@ -80,7 +89,7 @@ impl<R: Read> Keys<R> {
         };
         let mut byte = [0; 1];
         let count = self.inner.read(&mut byte)?;
-        if count == 0 || byte[0] == END {
+        if count == 0 || byte[0] == self.end {
             return Ok(0);
         }
         *place = byte[0];

@@ -3,7 +3,7 @@ ghost use Rattle.std.specs.Prelude.{◌≡◌, IfSome, option_map, string_bytes}
 ghost use Rattle.pm_streams.specs.Streams.{AreWell, both};
 ghost use Rattle.pm_program.specs.Conflicts.{conflict_of, is_other, names_image, printer_conflict};
 
-use crate::console::{Keys, Lined, Prompted};
+use crate::console::{END, ESCAPE, Keys, Lined, Prompted};
 use crate::end::{Conflict, End};
 use crate::kept::{KeptOfRun, Printing, do_debug, do_files, do_run, do_trace};
 use pm_filer::FileCommand;
@@ -100,7 +100,7 @@ fn act<S: Store, I: Source, O: Sink>(
 
 /// Where the printer's bytes go: a path of standard output's file is standard output.
 fn kept_of<S: Store>(store: &S, keeping: Keeping) -> KeptOfRun {
-    let Keeping { save, printer } = keeping;
+    let Keeping { save, printer, .. } = keeping;
     let is_output = match &printer {
         Some(path) => store.is_same(path.as_str(), OUTPUT),
         None => false,
@@ -176,8 +176,12 @@ pub fn follow<R: Host + Input + Print + Eprint + AllocGlobal>(rt: &R, plan: Plan
     let at = Terminals::of(rt);
     let mut store = HostStore::new(rt);
     let mut is_console = false;
+    let mut end = END;
     if let Plan::Run(program, keeping) = &plan {
         is_console = true;
+        if keeping.escape {
+            end = ESCAPE;
+        }
         if let Some(conflict) = conflict(&store, program, keeping) {
             return Done {
                 end: End::Words(conflict),
@@ -185,7 +189,7 @@ pub fn follow<R: Host + Input + Print + Eprint + AllocGlobal>(rt: &R, plan: Plan
             };
         }
     }
-    let keys = Keys::new(rt.reader(), is_console && at.input);
+    let keys = Keys::new(rt.reader(), is_console && at.input, end);
     let reader = match prompt_of(&plan) {
         _ if !at.input || !at.error => Prompted::once(rt, keys, ""),
         Prompt::Once(text) => Prompted::once(rt, keys, text),

@@ -9,6 +9,7 @@
                     opcodes, table.rt, has its own)
     the page        of the instructions, of which crates/pm_page/stdin is a copy
     the cases       of examples/conformance/bare.txt, of which crates/pm_cases/data/bare.txt is a copy
+    the segment     of examples/system/system.text, of which crates/pm_trials/data/system.text is a copy
     names           that docs/PROMISES.md, docs/ARCHITECTURE.md, docs/DECISIONS.md and the tables of definitions have and
                     the source, or the file beside, has not; and paths of the repository that the pages name
     the index       docs/INDEX.md, which index.py makes of the source
@@ -143,6 +144,8 @@ if lines("crates/pm_page/stdin") != lines("docs/INSTRUCTIONS.md"):
     tell("page", "crates/pm_page/stdin is not docs/INSTRUCTIONS.md")
 if lines("crates/pm_cases/data/bare.txt") != lines("examples/conformance/bare.txt"):
     tell("cases", "crates/pm_cases/data/bare.txt is not examples/conformance/bare.txt")
+if lines("crates/pm_trials/data/system.text") != lines("examples/system/system.text"):
+    tell("segment", "crates/pm_trials/data/system.text is not examples/system/system.text")
 
 known = set()
 for path in glob.glob("crates/*/src/**/*.rt", recursive=True):

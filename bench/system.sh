@@ -1,7 +1,7 @@
 #!/bin/bash
 # The system segment of examples/system: each of its procedures by cases, then the programs of that folder, then
 # with-system.sh. What is expected is worked out from the rules of UCSD Pascal. PMACH names another program than
-# ../pmach. Run by hand; no part of the gate.
+# ../pmach. Run by hand; the gate has the cases of the procedures in crates/pm_trials/data/system.trial.
 here=$(dirname "$(readlink -f "$0")")/..
 pmach=${PMACH:-$here/pmach}
 export PMACH="$pmach"

@@ -1,6 +1,8 @@
 pub mod Zeros
 pub mod Columns
 pub mod ChainLaws
+pub mod FrameLaws
+pub mod AheadLaws
 pub mod GoLaws
 pub mod Decimals
 pub mod ShortText

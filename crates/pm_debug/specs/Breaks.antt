@@ -33,15 +33,19 @@ with_break b breaks =
 unfoldable pub without_break : Breakpoint → List Breakpoint → Result (List Breakpoint) DebugRefusal
 without_break b breaks = if is_set b breaks then Ok (filter (λ c. not (is_same b c)) breaks) else Err NoBreak
 
--- Where a machine stands in the code: the low bytes of the words at SEG and at JTAB, and IPC less the place where the
--- procedure is entered. It stands nowhere where one of the two addresses is odd.
-unfoldable pub place_in_code : State → Option Breakpoint
-place_in_code s =
-    if is_even s.registers.seg && is_even s.registers.jtab then Some (break_at
-    (word_at s.memory s.registers.seg % 256)
-    (word_at s.memory s.registers.jtab % 256)
-    (minus s.registers.ipc (self_relative s.memory (minus s.registers.jtab 2))))
+-- A place in the code, by what a machine or a frame holds: the low bytes of the words at SEG and at JTAB, and IPC less
+-- the place where the procedure is entered. There is none where one of the two addresses is odd.
+unfoldable pub place_at : List ℕ → ℕ → ℕ → ℕ → Option Breakpoint
+place_at m seg jtab ipc =
+    if is_even seg && is_even jtab then Some (break_at
+    (word_at m seg % 256)
+    (word_at m jtab % 256)
+    (minus ipc (self_relative m (minus jtab 2))))
     else None
+
+-- where a machine stands in the code
+abbrev pub place_in_code : State → Option Breakpoint
+place_in_code s = place_at s.memory s.registers.seg s.registers.jtab s.registers.ipc
 
 abbrev pub is_one_of : Option Breakpoint → List Breakpoint → Bool
 is_one_of None breaks = false

@@ -2,6 +2,8 @@ pub mod Trace
 pub mod Refusals
 pub mod Breaks
 pub mod Views
+pub mod Frames
+pub mod Ahead
 pub mod Runs
 pub mod Session
 pub mod Lending

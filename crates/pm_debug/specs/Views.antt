@@ -1,7 +1,7 @@
 -- What is shown of a machine, beside its registers and the line of a trace: always of the state as it is.
 use Rattle.std.specs.Prelude.{◌≡◌, ℕ, zero, suc, ◌+◌, ◌-◌, ◌*◌, ◌/◌, ◌%◌, ◌==◌, ◌||◌, min, ⊤}
-use Rattle.std.specs.Prelude.{List, [], ◌∷◌, Option, Some, None, Result, Ok, Err, if◌then◌else◌}
-use Rattle.pm_words.specs.Words.{word_at, words_at}
+use Rattle.std.specs.Prelude.{List, [], ◌∷◌, length, drop, Option, Some, None, Result, Ok, Err, if◌then◌else◌}
+use Rattle.pm_words.specs.Words.{bytes_at, word_at, words_at}
 use Rattle.pm_words.specs.Stack.{◌>>=◌, is_even, load}
 use Rattle.pm_calls.specs.Links.{link}
 use Rattle.pm_machine.specs.State.{State}
@@ -13,6 +13,18 @@ use Rattle.pm_words.specs.declared.layout.TheConstants.{STACK_END, SYSTEM_FRAME}
 -- the words on the stack from SP up, below 65,504, at most n of them
 unfoldable pub stack_words : State → ℕ → List ℕ
 stack_words s n = words_at s.memory s.registers.sp (min n ((STACK_END - s.registers.sp) / 2))
+
+-- the words from an address on, at most n of them, and none behind 65,534; there is no such list at an odd address
+unfoldable pub words_from : State → ℕ → ℕ → Option (List ℕ)
+words_from s a n = if is_even a then Some (words_at s.memory a (min n ((65536 - a) / 2))) else None
+
+-- the bytes from an address on, at most n of them, and none behind 65,535
+abbrev pub bytes_from : State → ℕ → ℕ → List ℕ
+bytes_from s a n = bytes_at s.memory a n
+
+-- the last bytes of the console, at most n of them
+unfoldable pub console_end : State → ℕ → List ℕ
+console_end s n = drop (length s.devices.console - n) s.devices.console
 
 abbrev pub before_frames : ℕ → Option (List ℕ) → Option (List ℕ)
 before_frames a (Some frames) = Some (a ∷ frames)
@@ -39,8 +51,8 @@ dynamic_chain s limit = chain s.memory 2 limit s.registers.mp
 unfoldable pub local : State → ℕ → ℕ → Result ℕ ExecError
 local s depth b = link s.memory s.registers.mp depth >>= λ f. load s.memory ((f + 10 + 2 * b) % 65536)
 
--- a chain was shown, or refused: by an odd address on the way, or for want of memory
-abbrev pub ShowsChain : {Z : Type 0} → (Z → List ℕ) → Result Z DebugRefusal → Option (List ℕ) → Type 0
+-- a chain, or another list, was shown, or refused: by an odd address on the way, or for want of memory
+abbrev pub ShowsChain : {Z A : Type 0} → (Z → A) → Result Z DebugRefusal → Option A → Type 0
 ShowsChain view (Ok frames) chain = chain ≡ Some (view frames)
 ShowsChain view (Err OddAddress) chain = chain ≡ None
 ShowsChain view (Err NoMemory) chain = ⊤

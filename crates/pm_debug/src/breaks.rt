@@ -1,11 +1,13 @@
 //! Breakpoints.
 
 ghost use Rattle.std.specs.Prelude.{◌≡◌, Ok, IfErr, OnOk, OnErr, Err};
-ghost use Rattle.pm_debug.specs.Breaks.{is_at_break, is_same, is_set, place_in_code, with_break, without_break};
+ghost use Rattle.pm_debug.specs.Breaks.{is_at_break, is_same, is_set, place_at, place_in_code};
+ghost use Rattle.pm_debug.specs.Breaks.{with_break, without_break};
 
 use crate::refusal::DebugRefusal;
 use arrayvec::ArrayVec;
 use pm_machine::Machine;
+use pm_words::Memory;
 
 /// The most breakpoints.
 pub(crate) const MOST_BREAKS: usize = 64;
@@ -69,29 +71,41 @@ pub(crate) fn clear(breaks: &mut Breaks, old: Breakpoint) -> Result<(), DebugRef
     Ok(())
 }
 
-/// Where a machine stands in the code; nowhere where SEG or JTAB is odd.
-#[tactic(auto, unfolding(crate::specs::Breaks::place_in_code))]
-fn standing(machine: &Machine) -> Option<Breakpoint>
-    ensures place { result ≡ place_in_code machine.now.state }
+/// A place in the code, by the SEG, the JTAB and the IPC of a machine or of a frame; none where SEG
+/// or JTAB is odd.
+#[tactic(auto, unfolding(crate::specs::Breaks::place_at))]
+pub(crate) fn place_at(memory: &Memory, seg: u16, jtab: u16, ipc: u16) -> Option<Breakpoint>
+    ensures place { result ≡ place_at memory.now.words seg jtab ipc }
 {
-    let registers = machine.registers();
-    let memory = machine.memory();
-    let segment = memory.word(registers.seg)?;
-    let procedure = memory.word(registers.jtab)?;
-    let at = registers.jtab.wrapping_sub(2);
+    let segment = memory.word(seg)?;
+    let procedure = memory.word(jtab)?;
+    let at = jtab.wrapping_sub(2);
     let enter = at.wrapping_sub(memory.word(at)?);
     Some(Breakpoint {
         segment: (segment % 256) as u8,
         procedure: (procedure % 256) as u8,
-        offset: registers.ipc.wrapping_sub(enter),
+        offset: ipc.wrapping_sub(enter),
     })
+}
+
+/// Where a machine stands in the code; nowhere where SEG or JTAB is odd.
+pub(crate) fn place_in_code(machine: &Machine) -> Option<Breakpoint>
+    ensures place { result ≡ place_in_code machine.now.state }
+{
+    let registers = machine.registers();
+    place_at(
+        machine.memory(),
+        registers.seg,
+        registers.jtab,
+        registers.ipc,
+    )
 }
 
 /// Whether a machine stands at a breakpoint.
 pub(crate) fn is_at_break(machine: &Machine, breaks: &[Breakpoint]) -> bool
     ensures matches { result ≡ is_at_break breaks.now machine.now.state }
 {
-    match standing(machine) {
+    match place_in_code(machine) {
         Some(place) => is_set(breaks, place),
         None => false,
     }

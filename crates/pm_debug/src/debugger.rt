@@ -2,15 +2,20 @@
 
 ghost use Rattle.std.specs.Prelude.{◌≡◌, ◌<◌, [], Ok, Err, IfOk, IfErr, OnOk, OnErr, string_bytes};
 ghost use Rattle.std.specs.Borrow.{sem};
-ghost use Rattle.pm_debug.specs.Breaks.{break_at, with_break, without_break};
+ghost use Rattle.pm_debug.specs.Ahead.{addresses_ahead};
+ghost use Rattle.pm_debug.specs.Breaks.{break_at, place_in_code, with_break, without_break};
+ghost use Rattle.pm_debug.specs.Frames.{frames};
 ghost use Rattle.pm_debug.specs.Lending.{LendsMachine};
 ghost use Rattle.pm_debug.specs.Refusals.{or_refused};
 ghost use Rattle.pm_debug.specs.Runs.{breaks_after, gone};
 ghost use Rattle.pm_machine.specs.Runs.{GaveUp};
 ghost use Rattle.pm_debug.specs.Trace.{trace_line};
-ghost use Rattle.pm_debug.specs.Views.{ShowsChain, dynamic_chain, local, stack_words, static_chain};
+ghost use Rattle.pm_debug.specs.Views.{ShowsChain, bytes_from, console_end, dynamic_chain, local, stack_words};
+ghost use Rattle.pm_debug.specs.Views.{static_chain, words_from};
 
+use crate::ahead::addresses_from;
 use crate::breaks::{Breakpoint, Breaks};
+use crate::frames::{Frame, frames};
 use crate::reason::BreakReason;
 use crate::refusal::{DebugRefusal, refusal_of};
 use crate::run::run;
@@ -57,6 +62,13 @@ impl Debugger {
         ensures value { result.now ≡ self.old.machine }
     {
         &mut self.machine
+    }
+
+    /// The machine, to be looked at.
+    pub fn as_machine(&self) -> &Machine
+        ensures value { result.now ≡ self.now.machine }
+    {
+        &self.machine
     }
 
     /// The machine, without its breakpoints.
@@ -171,6 +183,75 @@ impl Debugger {
             Some(word) => Ok(word),
             None => Err(DebugRefusal::OddAddress),
         }
+    }
+
+    /// The words from an even address on, at most `n`, and none behind 65,534; `OddAddress` for an odd
+    /// address. None of them want no memory.
+    #[tactic(auto, unfolding(crate::specs::Views::words_from))]
+    pub fn words(&self, alloc: Global, address: u16, n: u16) -> Result<Vec<u16>, DebugRefusal>
+        ensures words { ShowsChain (λ words. words.items) result (words_from self.now.machine.state address n) }
+        ensures wanted { IfErr result (λ refusal. refusal ≡ DebugRefusal.NoMemory → 0 < n) }
+    {
+        if address % 2 != 0 {
+            return Err(DebugRefusal::OddAddress);
+        }
+        let count = n.min(32768 - address / 2);
+        let words = words_at(alloc, self.machine.memory(), address, count)?;
+        Ok(words)
+    }
+
+    /// The bytes from an address on, at most `n`, and none behind 65,535.
+    #[tactic(auto, unfolding(pm_words::specs::Words::bytes_at), using(std::proofs::lemmas::List::take_min))]
+    pub fn bytes(&self, address: u16, n: u16) -> &[u8]
+        ensures bytes { result.now ≡ bytes_from self.now.machine.state address n }
+    {
+        let bytes = &self.machine.memory().bytes()[address as usize..];
+        &bytes[..(n as usize).min(bytes.len())]
+    }
+
+    /// The last bytes of the console, at most `n`.
+    #[tactic(auto, unfolding(crate::specs::Views::console_end))]
+    pub fn console(&self, n: u16) -> &[u8]
+        ensures bytes { result.now ≡ console_end self.now.machine.state n }
+    {
+        let console = self.machine.console();
+        &console[console.len().saturating_sub(n as usize)..]
+    }
+
+    /// Where the machine stands in the code; nowhere where SEG or JTAB is odd.
+    pub fn place_in_code(&self) -> Option<Breakpoint>
+        ensures place { result ≡ place_in_code self.now.machine.state }
+    {
+        breaks::place_in_code(&self.machine)
+    }
+
+    /// The breakpoints, in the order in which they were set.
+    pub fn breaks(&self) -> &[Breakpoint]
+        ensures breaks { result.now ≡ self.now.breaks }
+    {
+        self.breaks.as_slice()
+    }
+
+    /// The frames from MP on by their dynamic links, as the dynamic chain, each with the place that its
+    /// return leads to. `OddAddress` where a frame, or the SEG or the JTAB that it keeps, is odd. A
+    /// chain of none wants no memory.
+    pub fn frames(&self, alloc: Global, limit: u16) -> Result<Vec<Frame>, DebugRefusal>
+        ensures frames { ShowsChain (λ frames. frames.items) result (frames self.now.machine.state limit) }
+        ensures wanted { OnErr result (0 < limit) }
+    {
+        let frame = self.machine.registers().mp;
+        frames(alloc, self.machine.memory(), limit, frame)
+    }
+
+    /// Where the next instructions stand, from IPC on, at most `limit`, and none behind 65,535; a byte
+    /// that begins none stands for one. None of them want no memory.
+    pub fn addresses_ahead(&self, alloc: Global, limit: u16) -> Result<Vec<u16>, AllocError>
+        ensures addresses { IfOk result (λ addresses.
+            addresses.items ≡ addresses_ahead self.now.machine.state limit) }
+        ensures wanted { OnErr result (0 < limit) }
+    {
+        let ipc = self.machine.registers().ipc;
+        addresses_from(alloc, self.machine.memory(), limit, ipc)
     }
 
     /// The line of a trace for the step that the machine makes next, without a line feed.

@@ -1,9 +1,11 @@
 //! The debugger: breakpoints, and what is shown of a machine.
 #![tactic(auto)]
 
+mod ahead;
 mod breaks;
 mod debugger;
 mod digits;
+mod frames;
 mod kept_digits;
 pub mod laws;
 mod number_text;
@@ -17,6 +19,7 @@ mod views;
 
 pub use breaks::Breakpoint;
 pub use debugger::Debugger;
+pub use frames::Frame;
 pub use reason::BreakReason;
 pub use refusal::DebugRefusal;
 pub use state_line::TraceLine;

@@ -43,10 +43,10 @@ fn is_last(frame: u16, more: u16) -> bool
     more == 0 || frame == SYSTEM_FRAME
 }
 
-// The frame that a word of another frame leads to; none where that frame is at an odd address.
-fn next_frame(memory: &Memory, frame: u16, distance: u16) -> Option<u16>
+/// The control word of a frame at an even distance; none where the frame is at an odd address.
+pub(crate) fn control_word(memory: &Memory, frame: u16, distance: u16) -> Option<u16>
     requires even { distance % 2 ≡ 0 }
-    ensures next { result ≡ (if is_even frame then Some
+    ensures word { result ≡ (if is_even frame then Some
         (word_at memory.now.words ((frame + distance) % 65536)) else None) }
 {
     if frame % 2 != 0 {
@@ -75,7 +75,7 @@ pub(crate) fn chain(
         if is_last(frame, limit - count - 1) {
             return Ok(frames);
         }
-        let Some(next) = next_frame(memory, frame, distance) else {
+        let Some(next) = control_word(memory, frame, distance) else {
             return Err(DebugRefusal::OddAddress);
         };
         frame = next;

@@ -11,7 +11,7 @@ pub returns-in_default : goal.returns-in_default
 returns-in_default c =
     record {
       frames = chain_odd _ _ _ _ _ (c.args.limit - c.loop-count.count - 1) _ (omega arith) c.loop-count.invariant.rest
-          (sym c.if-is_last.ensures.last) c.in_default.ensures.next;
+          (sym c.if-is_last.ensures.last) c.in_default.ensures.word;
       wanted = omega arith;
     }
 
@@ -19,7 +19,7 @@ pub loop-count-preserved : goal.loop-count-preserved
 loop-count-preserved c =
     record {
       rest = rw c.in_ok-push.ensures.items (chain_more _ _ _ _ _ (c.args.limit - (c.loop-count.count + 1)) _ (omega arith) c.loop-count.invariant.rest
-          (search rules) _ c.in-Some.ensures.next);
+          (search rules) _ c.in-Some.ensures.word);
     }
 
 pub returns-clause-frames : goal.returns-clause-frames

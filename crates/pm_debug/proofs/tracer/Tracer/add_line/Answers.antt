@@ -1,4 +1,4 @@
-use Rattle.std.proofs.Common.{arith, refl}
+use Rattle.std.proofs.Common.{refl}
 use Rattle.pm_debug.proofs.StateLine.{line_added}
 use Rattle.pm_debug.proofs.tracer.Tracer.add_line.Goals as goal
 

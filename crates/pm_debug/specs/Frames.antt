@@ -1,0 +1,45 @@
+-- The frames of the dynamic chain, each with the place that its return leads to.
+use Rattle.std.specs.Prelude.{ℕ, ◌+◌, ◌%◌, ◌==◌, not, List, [], ◌∷◌, Option, Some, None, if◌then◌else◌}
+use Rattle.pm_words.specs.Words.{word_at}
+use Rattle.pm_words.specs.Stack.{is_even}
+use Rattle.pm_machine.specs.State.{State}
+use Rattle.pm_words.specs.declared.layout.TheConstants.{SYSTEM_FRAME}
+use Rattle.pm_debug.specs.declared.breaks.Breakpoint.{Breakpoint}
+use Rattle.pm_debug.specs.declared.frames.Frame.{Frame}
+use Rattle.pm_debug.specs.Breaks.{place_at}
+use Rattle.pm_debug.specs.Views.{dynamic_chain}
+
+-- the control word of a frame at this distance
+abbrev pub control_word : List ℕ → ℕ → ℕ → ℕ
+control_word m f distance = word_at m ((f + distance) % 65536)
+
+abbrev pub returning : ℕ → Option Breakpoint → Option Frame
+returning f None = None
+returning f (Some place) = Some (record { address = f; returns_to = Some place })
+
+-- A frame, with the place that its return leads to: that of the SEG, the JTAB and the IPC that it keeps. A return to
+-- the frame of the system, 65,492, leads to none, since it ends the program. An odd address has no frame, and where the
+-- SEG or the JTAB is odd there is no place.
+unfoldable pub frame_at : List ℕ → ℕ → Option Frame
+frame_at m f =
+    if not (is_even f) then None
+    else if control_word m f 2 == SYSTEM_FRAME then Some (record { address = f; returns_to = None })
+    else returning f (place_at m (control_word m f 6) (control_word m f 4) (control_word m f 8))
+
+abbrev pub onto_frames : Option Frame → Option (List Frame) → Option (List Frame)
+onto_frames None frames = None
+onto_frames (Some frame) None = None
+onto_frames (Some frame) (Some frames) = Some (frame ∷ frames)
+
+-- the frames at these addresses; there is no such list where one of them is none
+unfoldable pub frames_at : List ℕ → List ℕ → Option (List Frame)
+frames_at m [] = Some []
+frames_at m (f ∷ fs) = onto_frames (frame_at m f) (frames_at m fs)
+
+abbrev pub frames_of : List ℕ → Option (List ℕ) → Option (List Frame)
+frames_of m None = None
+frames_of m (Some addresses) = frames_at m addresses
+
+-- the frames of the dynamic chain, at most so many
+abbrev pub frames : State → ℕ → Option (List Frame)
+frames s limit = frames_of s.memory (dynamic_chain s limit)

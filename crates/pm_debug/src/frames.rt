@@ -1,0 +1,85 @@
+//! The frames of the dynamic chain, each with the place that its return leads to.
+
+ghost use Rattle.std.specs.Prelude.{◌≡◌, ◌<◌, length, OnErr};
+ghost use Rattle.pm_debug.specs.Frames.{frame_at, frames_at, frames_of};
+ghost use Rattle.pm_debug.specs.Views.{ShowsChain, chain};
+
+use crate::breaks::{Breakpoint, place_at};
+use crate::refusal::DebugRefusal;
+use crate::views::{DYNAMIC_LINK, chain, control_word};
+use pm_words::Memory;
+use pm_words::layout::SYSTEM_FRAME;
+use std::alloc::Global;
+
+/// Where MSJTAB, the caller's JTAB, stands in a frame.
+const CALLER_JTAB: u16 = 4;
+
+/// Where MSSEG, the caller's SEG, stands in a frame.
+const CALLER_SEG: u16 = 6;
+
+/// Where MSIPC, the IPC behind the call, stands in a frame.
+const CALLER_IPC: u16 = 8;
+
+/// A frame of the dynamic chain.
+#[derive(Clone, Copy, Debug)]
+pub struct Frame {
+    /// Its address.
+    pub address: u16,
+    /// The place in the code that its return leads to; none where its return ends the program.
+    pub returns_to: Option<Breakpoint>,
+}
+
+/// The frame at an address; none where it is odd, or keeps an odd SEG or JTAB.
+#[tactic(auto, unfolding(crate::specs::Frames::frame_at))]
+fn frame_at(memory: &Memory, address: u16) -> Option<Frame>
+    ensures frame { result ≡ frame_at memory.now.words address }
+{
+    if control_word(memory, address, DYNAMIC_LINK)? == SYSTEM_FRAME {
+        return Some(Frame {
+            address,
+            returns_to: None,
+        });
+    }
+    let seg = control_word(memory, address, CALLER_SEG)?;
+    let jtab = control_word(memory, address, CALLER_JTAB)?;
+    let ipc = control_word(memory, address, CALLER_IPC)?;
+    let place = place_at(memory, seg, jtab, ipc)?;
+    Some(Frame {
+        address,
+        returns_to: Some(place),
+    })
+}
+
+/// The frames at these addresses. None of them want no memory.
+fn frames_at(alloc: Global, memory: &Memory, addresses: &[u16]) -> Result<Vec<Frame>, DebugRefusal>
+    ensures frames { ShowsChain (λ frames. frames.items) result (frames_at memory.now.words addresses.now) }
+    ensures wanted { OnErr result (0 < length addresses.now) }
+{
+    let mut frames = Vec::new(alloc);
+    for address in addresses {
+        let Some(frame) = frame_at(memory, *address) else {
+            return Err(DebugRefusal::OddAddress);
+        };
+        frames.push(frame)?;
+    }
+    Ok(frames)
+}
+
+/// The frames from `first` on by their dynamic links, at most `limit`. None of them want no memory.
+#[tactic(auto, unfolding(crate::specs::Views::chain, crate::specs::Frames::frames_at))]
+pub(crate) fn frames(
+    alloc: Global,
+    memory: &Memory,
+    limit: u16,
+    first: u16,
+) -> Result<Vec<Frame>, DebugRefusal>
+    ensures frames { ShowsChain (λ frames. frames.items) result
+        (frames_of memory.now.words (chain memory.now.words 2 limit first)) }
+    ensures wanted { OnErr result (0 < limit) }
+{
+    if limit == 0 {
+        return Ok(Vec::new(alloc));
+    }
+    let addresses = chain(alloc, memory, DYNAMIC_LINK, limit, first)?;
+    frames_at(alloc, memory, &addresses)
+}

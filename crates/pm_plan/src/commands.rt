@@ -187,7 +187,7 @@ const VERBS: &[CommandRow] = &[
 
 /// The commands of the debugger.
 const DEBUG_HELP: &str = "\
-Commands, one a line, numbers in decimal:
+Commands, one a line, numbers in decimal, or as $1F with at most four hexadecimal digits:
   break S P O    sets a breakpoint: segment, procedure, distance in bytes from its entry
   clear S P O    takes it away
   go N           makes at most N steps
@@ -200,6 +200,14 @@ Commands, one a line, numbers in decimal:
   regs           the registers
   place N        where the segment of slot N stands, for how many calls and keeps
   trace          the line of a trace for the next step
+  peek A N       at most N words of memory from an even address on
+  bytes A N      at most N bytes of memory, in hexadecimal digits and as characters
+  where          segment, procedure and offset of IPC, as break takes them, and the instruction
+  breaks         the breakpoints
+  frames N       the frames by their dynamic links, each with where it returns to, at most N
+  list N         the next N instructions, each behind its offset
+  console N      the last N bytes of the console, as the assembler spells a text
+  help           the commands
   quit           ends the session
 Answers: ok, numbers, ended K, error N K, limit K, waiting K, break K; `?` is no command, and refused N:
   1 beside 64 breakpoints, 2 no such breakpoint, 3 an odd address, 5 a depth above 127

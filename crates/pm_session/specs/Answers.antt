@@ -6,7 +6,7 @@ use Rattle.pm_calls.specs.declared.registers.Registers.{Registers}
 use Rattle.pm_calls.specs.Places.{keeps_of, placed}
 use Rattle.pm_machine.specs.Events.{Key, Poke, next}
 use Rattle.pm_debug.specs.Breaks.{break_at, with_break, without_break}
-use Rattle.pm_debug.specs.Refusals.{number_of, or_refused}
+use Rattle.pm_debug.specs.Refusals.{or_refused}
 use Rattle.pm_debug.specs.Runs.{gone}
 use Rattle.pm_debug.specs.Session.{Session}
 use Rattle.pm_debug.specs.Trace.{trace_line}
@@ -20,28 +20,13 @@ use Rattle.pm_session.specs.declared.commands.Command.{Command}
 use Rattle.pm_session.specs.declared.commands.Command.TheVariants as commands
 use Rattle.pm_session.specs.declared.ending.Ending.TheVariants as endings
 use Rattle.pm_session.specs.Endings.{last_line}
-
-abbrev pub refused_text : DebugRefusal → List ℕ
-refused_text refusal = codes "refused " ++ decimal (number_of refusal)
+use Rattle.pm_session.specs.Texts.{chain_text, numbers_text, refused_text}
+use Rattle.pm_session.specs.Views.{view_text}
 
 -- done, or refused
 abbrev pub done_text : {A : Type 0} → Result A DebugRefusal → List ℕ
 done_text (Ok x) = codes "ok"
 done_text (Err refusal) = refused_text refusal
-
-abbrev pub more_numbers : List ℕ → List ℕ
-more_numbers [] = []
-more_numbers (n ∷ ns) = 32 ∷ decimal n ++ more_numbers ns
-
--- numbers with single spaces between them
-abbrev pub numbers_text : List ℕ → List ℕ
-numbers_text [] = []
-numbers_text (n ∷ ns) = decimal n ++ more_numbers ns
-
--- the frames of a chain; there is none where an odd address is on the way
-abbrev pub chain_text : Option (List ℕ) → List ℕ
-chain_text (Some frames) = numbers_text frames
-chain_text None = refused_text OddAddress
 
 abbrev pub word_text : Result ℕ DebugRefusal → List ℕ
 word_text (Ok word) = decimal word
@@ -85,6 +70,7 @@ command_text commands.Registers d = Some (registers_text d.machine.registers)
 command_text (commands.Place n) d =
     Some (place_text (placed d.machine.places n) (keeps_of d.machine.places n))
 command_text commands.Trace d = Some (trace_line d.machine)
+command_text (commands.Show view) d = Some (view_text view d)
 command_text commands.Quit d = None
 
 -- the breakpoints after one was set or taken away; a refusal leaves them

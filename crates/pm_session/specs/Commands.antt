@@ -1,9 +1,13 @@
 -- The commands of a debugger's line.
-use Rattle.std.specs.Prelude.{ℕ, zero, suc, ◌+◌, ◌-◌, ◌*◌, ◌^◌, ◌&&◌, Bool, List, [], ◌∷◌, Option, Some, None}
-use Rattle.std.specs.Prelude.{option_map, if◌then◌else◌, nat_le, nat_lt, codes}
+use Rattle.std.specs.Prelude.{ℕ, zero, suc, ◌+◌, ◌-◌, ◌*◌, ◌^◌, ◌==◌, ◌&&◌, Bool, List, [], ◌∷◌, Option, Some, None}
+use Rattle.std.specs.Prelude.{option_map, if◌then◌else◌, length, nat_le, nat_lt, codes}
+use Rattle.std.specs.Char.{is_ascii_hexdigit}
+use Rattle.std.specs.List.{list_all}
 use Rattle.std.specs.Str.{bytes_eq}
+use Rattle.std.specs.Str.Parse.{digits_value}
 use Rattle.pm_session.specs.declared.commands.Command.{Command}
 use Rattle.pm_session.specs.declared.commands.Command.TheVariants as commands
+use Rattle.pm_session.specs.declared.commands.View.TheVariants as views
 use Rattle.pm_session.specs.Words.{without_return, words_of_line}
 
 -- ---- numbers
@@ -16,9 +20,21 @@ unfoldable pub number_behind : ℕ → List ℕ → Option ℕ
 number_behind n [] = if nat_lt n (2 ^ 32) then Some n else None
 number_behind n (c ∷ word) = if is_digit c then number_behind (10 * n + (c - 48)) word else None
 
--- the number that a word is
+-- the number that decimal digits are
+abbrev pub decimal_number : List ℕ → Option ℕ
+decimal_number word = number_behind 0 word
+
+-- the number that one to four hexadecimal digits are, of both cases
+abbrev pub hexadecimal_number : List ℕ → Option ℕ
+hexadecimal_number digits =
+    if nat_le 1 (length digits) && (nat_le (length digits) 4 && list_all is_ascii_hexdigit digits)
+    then Some (digits_value 16 digits)
+    else None
+
+-- the number that a word is: decimal digits, or `$` and hexadecimal ones
 abbrev pub word_number : List ℕ → Option ℕ
-word_number word = number_behind 0 word
+word_number [] = decimal_number []
+word_number (c ∷ word) = if c == 36 then hexadecimal_number word else decimal_number (c ∷ word)
 
 abbrev pub number_and_numbers : Option ℕ → Option (List ℕ) → Option (List ℕ)
 number_and_numbers (Some n) (Some ns) = Some (n ∷ ns)
@@ -68,28 +84,36 @@ point command (s ∷ p ∷ o ∷ []) =
     if nat_le s 255 && (nat_le p 255 && nat_le o 65535) then Some (command s p o) else None
 point command (s ∷ p ∷ o ∷ n ∷ more) = None
 
--- the commands, a row for each: its word, and the numbers that it wants
-unfoldable pub command_rows : List (List ℕ × Reading)
+-- the commands, a row for each: its word, its numbers by the letters that stand for them, and what these come to
+unfoldable pub command_rows : List (List ℕ × List ℕ × Reading)
 command_rows =
-    (codes "break", point commands.Break)
-    ∷ (codes "clear", point commands.Clear)
-    ∷ (codes "poke", two commands.Poke)
-    ∷ (codes "key", one 255 commands.Key)
-    ∷ (codes "go", one 4294967295 commands.Go)
-    ∷ (codes "stack", one 65535 commands.Stack)
-    ∷ (codes "static", one 65535 commands.Static)
-    ∷ (codes "dynamic", one 65535 commands.Dynamic)
-    ∷ (codes "local", two commands.Local)
-    ∷ (codes "regs", alone commands.Registers)
-    ∷ (codes "place", one 15 commands.Place)
-    ∷ (codes "trace", alone commands.Trace)
-    ∷ (codes "quit", alone commands.Quit)
+    (codes "break", codes " S P O", point commands.Break)
+    ∷ (codes "clear", codes " S P O", point commands.Clear)
+    ∷ (codes "poke", codes " A W", two commands.Poke)
+    ∷ (codes "key", codes " B", one 255 commands.Key)
+    ∷ (codes "go", codes " N", one 4294967295 commands.Go)
+    ∷ (codes "stack", codes " N", one 65535 commands.Stack)
+    ∷ (codes "static", codes " N", one 65535 commands.Static)
+    ∷ (codes "dynamic", codes " N", one 65535 commands.Dynamic)
+    ∷ (codes "local", codes " D B", two commands.Local)
+    ∷ (codes "regs", [], alone commands.Registers)
+    ∷ (codes "place", codes " N", one 15 commands.Place)
+    ∷ (codes "trace", [], alone commands.Trace)
+    ∷ (codes "peek", codes " A N", two (λ a n. commands.Show (views.Peek a n)))
+    ∷ (codes "bytes", codes " A N", two (λ a n. commands.Show (views.Bytes a n)))
+    ∷ (codes "where", [], alone (commands.Show views.Where))
+    ∷ (codes "breaks", [], alone (commands.Show views.Breaks))
+    ∷ (codes "frames", codes " N", one 65535 (λ n. commands.Show (views.Frames n)))
+    ∷ (codes "list", codes " N", one 65535 (λ n. commands.Show (views.Ahead n)))
+    ∷ (codes "console", codes " N", one 65535 (λ n. commands.Show (views.Console n)))
+    ∷ (codes "help", [], alone (commands.Show views.Help))
+    ∷ (codes "quit", [], alone commands.Quit)
     ∷ []
 
 -- the command of a word and its numbers, by the first row that has the word
-abbrev pub command_in : List (List ℕ × Reading) → List ℕ → List ℕ → Option Command
+abbrev pub command_in : List (List ℕ × List ℕ × Reading) → List ℕ → List ℕ → Option Command
 command_in [] word ns = None
-command_in (row ∷ rows) word ns = if bytes_eq word row.0 then row.1 ns else command_in rows word ns
+command_in (row ∷ rows) word ns = if bytes_eq word row.0 then row.2 ns else command_in rows word ns
 
 abbrev pub command_with : List ℕ → Option (List ℕ) → Option Command
 command_with word None = None

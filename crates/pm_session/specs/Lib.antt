@@ -1,5 +1,7 @@
 pub mod Words
 pub mod Commands
 pub mod Endings
+pub mod Texts
+pub mod Views
 pub mod Answers
 pub mod Sessions

@@ -1,28 +1,22 @@
 //! What the debugger answers to a line.
 ghost use Rattle.std.specs.Prelude.{◌≡◌, ◌++◌, ◌∷◌, [], false, true, IfOk, IfNone, IfSome, OnOk};
-ghost use Rattle.std.specs.Prelude.{Option, List, ℕ, option_map, string_bytes, codes, if◌then◌else◌};
+ghost use Rattle.std.specs.Prelude.{option_map, string_bytes, codes, if◌then◌else◌};
 ghost use Rattle.pm_debug.specs.Session.{session_of};
 ghost use Rattle.pm_words.specs.Stack.{is_even};
 ghost use Rattle.pm_machine.specs.Events.{Key, Poke, next};
-ghost use Rattle.pm_debug.specs.Views.{ShowsChain};
-ghost use Rattle.pm_session.specs.Answers.{after_command, session_after, chain_text, command_text, done_text};
-ghost use Rattle.pm_session.specs.Answers.{gone_text, answer_text, numbers_text, place_text, refused_text};
-ghost use Rattle.pm_session.specs.Answers.{registers_text, word_text};
+ghost use Rattle.pm_session.specs.Answers.{after_command, session_after, command_text, done_text};
+ghost use Rattle.pm_session.specs.Answers.{gone_text, answer_text, place_text, registers_text, word_text};
 ghost use Rattle.pm_session.specs.Commands.{command_of};
 ghost use Rattle.pm_session.specs.Sessions.{answer_line, is_quit};
+ghost use Rattle.pm_session.specs.Texts.{refused_text};
 
 use crate::commands::{Command, command_of};
 use crate::ending::{Ending, LastLine};
+use crate::texts::{chain, numbers, refused};
+use crate::views::shown;
 use pm_debug::{BreakReason, DebugRefusal, Debugger};
 use pm_machine::Registers;
 use std::alloc::{AllocError, Global};
-
-fn refused(alloc: Global, refusal: DebugRefusal) -> Result<String, AllocError>
-    ensures text { IfOk result (λ text. string_bytes text ≡ refused_text refusal) }
-{
-    let number = refusal.number();
-    format!(in alloc; "refused {number}")
-}
 
 /// Done, or refused.
 fn done(alloc: Global, outcome: Result<(), DebugRefusal>) -> Result<String, AllocError>
@@ -30,32 +24,6 @@ fn done(alloc: Global, outcome: Result<(), DebugRefusal>) -> Result<String, Allo
 {
     match outcome {
         Ok(()) => format!(in alloc; "ok"),
-        Err(refusal) => refused(alloc, refusal),
-    }
-}
-
-/// Numbers with single spaces between them.
-fn numbers(alloc: Global, numbers: &[u16]) -> Result<String, AllocError>
-    ensures text { IfOk result (λ text. string_bytes text ≡ numbers_text numbers.now) }
-{
-    let Some((first, rest)) = numbers.split_first() else {
-        return Ok(String::new(alloc));
-    };
-    let mut text = format!(in alloc; "{first}")?;
-    for number in rest {
-        write!(text, " {number}")?;
-    }
-    Ok(text)
-}
-
-/// The frames of a chain, or its refusal.
-fn chain(alloc: Global, chain: Result<Vec<u16>, DebugRefusal>) -> Result<String, AllocError>
-    ensures text { IfOk result (λ text. (frames : Option (List ℕ)) → ShowsChain (λ v. v.items) chain frames
-        → string_bytes text ≡ chain_text frames) }
-{
-    match chain {
-        Ok(frames) => numbers(alloc, &frames),
-        Err(DebugRefusal::NoMemory) => Err(AllocError),
         Err(refusal) => refused(alloc, refusal),
     }
 }
@@ -174,6 +142,7 @@ fn do_command(
             place(alloc, machine.place(n), machine.keeps(n))
         }
         Command::Trace => debugger.trace_line(alloc),
+        Command::Show(view) => shown(alloc, debugger, view),
         Command::Quit => return Ok(None),
     };
     Ok(Some(text?))

@@ -1,11 +1,17 @@
 //! The commands of a debugger's line.
-ghost use Rattle.std.specs.Prelude.{◌≡◌, ◌<◌, ◌≤◌, ◌⊎◌, true, [], ◌∷◌, Some, None, IfSome, IfNone, length};
-ghost use Rattle.pm_session.specs.Commands.{command_in, command_of, command_rows, is_digit};
-ghost use Rattle.pm_session.specs.Commands.{number_up_to, numbers, word_number};
+ghost use Rattle.std.specs.Prelude.{◌≡◌, ◌<◌, ◌≤◌, ◌⊎◌, min, true, [], ◌∷◌, Some, None, IfSome, IfNone, length};
+ghost use Rattle.std.specs.Char.{digit_value, is_ascii_hexdigit};
+ghost use Rattle.std.specs.List.{list_all};
+ghost use Rattle.std.specs.Str.Parse.{digits_value};
+ghost use Rattle.pm_session.specs.Commands.{command_in, command_of, command_rows, decimal_number, hexadecimal_number};
+ghost use Rattle.pm_session.specs.Commands.{is_digit, number_up_to, numbers, word_number};
 ghost use Rattle.std.specs.Str.{bytes_eq};
 ghost use Rattle.pm_session.specs.Words.{begins_word, words_of_line, without_return};
 
 use arrayvec::ArrayVec;
+
+/// Where magnitudes are cut off: more than four hexadecimal digits can be.
+const LARGEST: u32 = 1_000_000;
 
 /// A command of the debugger.
 #[derive(Clone, Copy, Debug, PartialEq, Eq)]
@@ -34,8 +40,31 @@ pub enum Command {
     Place(u8),
     /// Shows the line of a trace.
     Trace,
+    /// Shows more of the machine, or of the debugger.
+    Show(View),
     /// Ends the session.
     Quit,
+}
+
+/// What a command shows that changes nothing.
+#[derive(Clone, Copy, Debug, PartialEq, Eq)]
+pub enum View {
+    /// Words of the memory: from this address on, at most so many.
+    Peek(u16, u16),
+    /// Bytes of the memory: from this address on, at most so many.
+    Bytes(u16, u16),
+    /// Where the machine stands in the code.
+    Where,
+    /// The breakpoints.
+    Breaks,
+    /// The frames of the dynamic chain with where they return to, at most so many.
+    Frames(u16),
+    /// The next instructions, at most so many.
+    Ahead(u16),
+    /// The last bytes of the console, at most so many.
+    Console(u16),
+    /// The commands.
+    Help,
 }
 
 /// Whether the bytes are those of a text.
@@ -52,8 +81,8 @@ fn is_digit(byte: u8) -> bool
 }
 
 /// The number that decimal digits alone write.
-fn number(word: &[u8]) -> Option<u32>
-    ensures number { result ≡ word_number word.now }
+fn decimal(word: &[u8]) -> Option<u32>
+    ensures number { result ≡ decimal_number word.now }
 {
     let mut value: u64 = 0;
     let mut rest = word;
@@ -68,6 +97,57 @@ fn number(word: &[u8]) -> Option<u32>
         rest = tail;
     }
     Some(value as u32)
+}
+
+/// What a digit is worth; for a byte that is none some number from 36 on.
+fn digit_value(digit: u8) -> u32
+    ensures value { result ≡ digit_value digit }
+    ensures small { result ≤ 36 }
+{
+    match digit {
+        b'0'..=b'9' => u32::from(digit - b'0'),
+        b'A'..=b'Z' => u32::from(digit - b'A') + 10,
+        b'a'..=b'z' => u32::from(digit - b'a') + 10,
+        _ => 36,
+    }
+}
+
+/// What hexadecimal digits are worth, cut off at a million.
+fn magnitude(digits: &[u8]) -> u32
+    ensures value { result ≡ min 1000000 (digits_value 16 digits.now) }
+{
+    let mut magnitude: u32 = 0;
+    for digit in digits {
+        magnitude = LARGEST.min(magnitude * 16 + digit_value(*digit));
+    }
+    magnitude
+}
+
+fn are_hexadecimal(digits: &[u8]) -> bool
+    ensures hexadecimal { result ≡ list_all is_ascii_hexdigit digits.now }
+{
+    digits.iter().all(|digit| digit.is_ascii_hexdigit())
+}
+
+/// The number that one to four hexadecimal digits are.
+#[tactic(auto, using(crate::proofs::CommandLaws::four_digits))]
+fn hexadecimal(digits: &[u8]) -> Option<u32>
+    ensures number { result ≡ hexadecimal_number digits.now }
+{
+    if digits.is_empty() || digits.len() > 4 || !are_hexadecimal(digits) {
+        return None;
+    }
+    Some(magnitude(digits))
+}
+
+/// The number that a word is: decimal digits, or `$` and hexadecimal ones.
+fn number(word: &[u8]) -> Option<u32>
+    ensures number { result ≡ word_number word.now }
+{
+    match word {
+        [b'$', digits @ ..] => hexadecimal(digits),
+        digits => decimal(digits),
+    }
 }
 
 /// Whether a word begins at the front.
@@ -183,6 +263,14 @@ fn command_named(name: &[u8], numbers: &[u32]) -> Option<Command>
         [] if is_text(name, "regs") => Command::Registers,
         [n] if is_text(name, "place") => Command::Place(slot(*n)?),
         [] if is_text(name, "trace") => Command::Trace,
+        [a, n] if is_text(name, "peek") => Command::Show(View::Peek(word(*a)?, word(*n)?)),
+        [a, n] if is_text(name, "bytes") => Command::Show(View::Bytes(word(*a)?, word(*n)?)),
+        [] if is_text(name, "where") => Command::Show(View::Where),
+        [] if is_text(name, "breaks") => Command::Show(View::Breaks),
+        [n] if is_text(name, "frames") => Command::Show(View::Frames(word(*n)?)),
+        [n] if is_text(name, "list") => Command::Show(View::Ahead(word(*n)?)),
+        [n] if is_text(name, "console") => Command::Show(View::Console(word(*n)?)),
+        [] if is_text(name, "help") => Command::Show(View::Help),
         [] if is_text(name, "quit") => Command::Quit,
         _ => return None,
     };

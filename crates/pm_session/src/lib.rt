@@ -4,7 +4,10 @@
 mod answers;
 mod commands;
 mod ending;
+mod spelled;
+mod texts;
+mod views;
 
 pub use answers::answer;
-pub use commands::{Command, command_of};
+pub use commands::{Command, View, command_of};
 pub use ending::{Ending, LastLine};

@@ -1,6 +1,6 @@
 use Rattle.std.proofs.Common.{rules, arith, sym}
 use Rattle.pm_session.proofs.CommandLaws.{number_is, number_none, number_next, number_too_large}
-use Rattle.pm_session.proofs.commands.number.Goals as goal
+use Rattle.pm_session.proofs.commands.decimal.Goals as goal
 
 pub returns-then-not-is_digit : goal.returns-then-not-is_digit
 returns-then-not-is_digit c =

@@ -1,6 +1,6 @@
 use Rattle.std.proofs.Common.{◌≡◌, ◌++◌, drop, string_bytes}
-use Rattle.pm_session.specs.Answers.{more_numbers, numbers_text}
-use Rattle.pm_session.proofs.answers.numbers.Given as goal
+use Rattle.pm_session.specs.Texts.{more_numbers, numbers_text}
+use Rattle.pm_session.proofs.texts.numbers.Given as goal
 
 -- the numbers so far, and the others, are all of the text
 abbrev pub invariant-loop-number : goal.invariant-loop-number

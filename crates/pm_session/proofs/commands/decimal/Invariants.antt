@@ -1,11 +1,11 @@
 use Rattle.std.proofs.Common.{◌≡◌, ◌≤◌, length}
-use Rattle.pm_session.specs.Commands.{word_number, number_behind}
-use Rattle.pm_session.proofs.commands.number.Given as goal
+use Rattle.pm_session.specs.Commands.{decimal_number, number_behind}
+use Rattle.pm_session.proofs.commands.decimal.Given as goal
 
 -- the number that the rest writes behind the digits so far is the word's
 abbrev pub invariant-digits : goal.invariant-digits
 invariant-digits l = record {
-  rest : word_number l.word ≡ number_behind l.value l.rest;
+  rest : decimal_number l.word ≡ number_behind l.value l.rest;
   small : l.value ≤ 4294967295;
 }
 

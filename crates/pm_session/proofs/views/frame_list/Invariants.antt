@@ -1,0 +1,8 @@
+use Rattle.std.proofs.Common.{◌≡◌, ◌++◌, drop, string_bytes, codes, Some}
+use Rattle.pm_session.specs.Texts.{more_parts}
+use Rattle.pm_session.specs.Views.{frame_text, frames_text}
+use Rattle.pm_session.proofs.views.frame_list.Given as goal
+
+-- the frames so far, and the others, are all of the text
+abbrev pub invariant-loop-frame : goal.invariant-loop-frame
+invariant-loop-frame l = record { rest : string_bytes l.text ++ more_parts (codes ", ") frame_text (drop l.frame-index l.rest) ≡ frames_text (Some l.frames) }

@@ -1,0 +1,96 @@
+-- What the commands answer that show the memory, the code, the breakpoints, the frames, the console and the commands.
+use Rattle.std.specs.Prelude.{ℕ, ◌+◌, ◌/◌, ◌%◌, ◌&&◌, nat_le, List, [], ◌∷◌, ◌++◌, map, Option, Some, None}
+use Rattle.std.specs.Prelude.{if◌then◌else◌, codes}
+use Rattle.std.specs.Fmt.{decimal}
+use Rattle.pm_words.specs.Stack.{minus}
+use Rattle.pm_machine.specs.State.{State}
+use Rattle.pm_code.specs.Image.{upper_digit}
+use Rattle.pm_code.specs.Text.{quoted}
+use Rattle.pm_disasm.specs.Text.{line_text}
+use Rattle.pm_debug.specs.Ahead.{addresses_ahead}
+use Rattle.pm_debug.specs.Breaks.{place_in_code}
+use Rattle.pm_debug.specs.Frames.{frames}
+use Rattle.pm_debug.specs.Session.{Session}
+use Rattle.pm_debug.specs.Views.{bytes_from, console_end, words_from}
+use Rattle.pm_debug.specs.declared.breaks.Breakpoint.{Breakpoint}
+use Rattle.pm_debug.specs.declared.frames.Frame.{Frame}
+use Rattle.pm_debug.specs.declared.refusal.DebugRefusal.TheVariants.{OddAddress}
+use Rattle.pm_session.specs.declared.commands.View.{View}
+use Rattle.pm_session.specs.declared.commands.View.TheVariants as views
+use Rattle.pm_session.specs.Commands.{Reading, command_rows}
+use Rattle.pm_session.specs.Texts.{chain_text, parts_text, refused_text}
+
+-- ---- places in the code
+
+-- a segment, a procedure and an offset, as `break` takes them
+abbrev pub point_text : Breakpoint → List ℕ
+point_text b = decimal b.segment ++ (32 ∷ decimal b.procedure ++ (32 ∷ decimal b.offset))
+
+abbrev pub breaks_text : List Breakpoint → List ℕ
+breaks_text breaks = parts_text (codes ", ") point_text breaks
+
+-- where the machine stands, and the instruction there
+abbrev pub where_text : Option Breakpoint → State → List ℕ
+where_text None s = refused_text OddAddress
+where_text (Some place) s = point_text place ++ (32 ∷ line_text s.memory s.registers.ipc)
+
+-- how far an address stands behind the place where the procedure is entered, modulo 65,536; IPC stands at this place
+abbrev pub offset_at : Breakpoint → State → ℕ → ℕ
+offset_at place s address = (place.offset + minus address s.registers.ipc) % 65536
+
+-- what stands at an address, behind its offset
+abbrev pub ahead_text : Breakpoint → State → ℕ → List ℕ
+ahead_text place s address = decimal (offset_at place s address) ++ (32 ∷ line_text s.memory address)
+
+abbrev pub list_text : Option Breakpoint → State → List ℕ → List ℕ
+list_text None s addresses = refused_text OddAddress
+list_text (Some place) s addresses = parts_text (codes "; ") (ahead_text place s) addresses
+
+-- ---- frames
+
+abbrev pub return_text : Option Breakpoint → List ℕ
+return_text None = []
+return_text (Some place) = 32 ∷ point_text place
+
+-- a frame, and where its return leads
+abbrev pub frame_text : Frame → List ℕ
+frame_text frame = decimal frame.address ++ return_text frame.returns_to
+
+abbrev pub frames_text : Option (List Frame) → List ℕ
+frames_text None = refused_text OddAddress
+frames_text (Some frames) = parts_text (codes ", ") frame_text frames
+
+-- ---- bytes
+
+-- a byte as two hexadecimal digits
+abbrev pub pair_text : ℕ → List ℕ
+pair_text byte = upper_digit (byte / 16) ∷ upper_digit (byte % 16) ∷ []
+
+-- 32..126 stand for themselves, and a full stop for any other byte
+abbrev pub shown_character : ℕ → ℕ
+shown_character byte = if nat_le 32 byte && nat_le byte 126 then byte else 46
+
+-- bytes as pairs of digits, and behind two spaces as characters
+abbrev pub bytes_text : List ℕ → List ℕ
+bytes_text [] = []
+bytes_text (b ∷ bs) = parts_text (codes " ") pair_text (b ∷ bs) ++ (32 ∷ 32 ∷ map shown_character (b ∷ bs))
+
+-- ---- commands
+
+-- a command's word, and the letters that stand for its numbers
+abbrev pub usage_text : List ℕ × List ℕ × Reading → List ℕ
+usage_text row = row.0 ++ row.1
+
+unfoldable pub help_text : List ℕ
+help_text = parts_text (codes ", ") usage_text command_rows
+
+-- what is answered to a command that only shows
+unfoldable pub view_text : View → Session → List ℕ
+view_text (views.Peek a n) d = chain_text (words_from d.machine a n)
+view_text (views.Bytes a n) d = bytes_text (bytes_from d.machine a n)
+view_text views.Where d = where_text (place_in_code d.machine) d.machine
+view_text views.Breaks d = breaks_text d.breaks
+view_text (views.Frames n) d = frames_text (frames d.machine n)
+view_text (views.Ahead n) d = list_text (place_in_code d.machine) d.machine (addresses_ahead d.machine n)
+view_text (views.Console n) d = quoted (console_end d.machine n)
+view_text views.Help d = help_text

@@ -1,0 +1,95 @@
+//! Places in the code, frames and bytes as text.
+ghost use Rattle.std.specs.Prelude.{◌≡◌, Some};
+ghost use Rattle.pm_code.specs.Text.{escaped, is_plain, quoted};
+ghost use Rattle.pm_session.specs.Views.{frame_text, pair_text, point_text};
+
+use pm_debug::{Breakpoint, Frame};
+use std::fmt;
+
+/// A place in the code: its segment, its procedure and its offset, as `break` takes them.
+#[derive(Clone, Copy)]
+pub(crate) struct Point(pub Breakpoint);
+
+impl fmt::Display for Point {
+    ghost output = { λ p. Some (point_text p.0) };
+
+    fn fmt<W: fmt::Write>(&self, f: &mut fmt::Formatter<W>) -> fmt::Result {
+        let Breakpoint {
+            segment,
+            procedure,
+            offset,
+        } = self.0;
+        write!(f, "{segment} {procedure} {offset}")
+    }
+}
+
+/// A frame, and the place that its return leads to.
+#[derive(Clone, Copy)]
+pub(crate) struct FrameText(pub Frame);
+
+impl fmt::Display for FrameText {
+    ghost output = { λ t. Some (frame_text t.0) };
+
+    fn fmt<W: fmt::Write>(&self, f: &mut fmt::Formatter<W>) -> fmt::Result {
+        let address = self.0.address;
+        match self.0.returns_to {
+            None => write!(f, "{address}"),
+            Some(place) => write!(f, "{address} {}", Point(place)),
+        }
+    }
+}
+
+/// A byte as two hexadecimal digits.
+#[derive(Clone, Copy)]
+pub(crate) struct Pair(pub u8);
+
+impl fmt::Display for Pair {
+    ghost output = { λ p. Some (pair_text p.0) };
+
+    #[tactic(auto, using(std::proofs::lemmas::Fmt::hex_byte))]
+    fn fmt<W: fmt::Write>(&self, f: &mut fmt::Formatter<W>) -> fmt::Result {
+        let byte = self.0;
+        write!(f, "{byte:02X}")
+    }
+}
+
+fn is_plain_byte(byte: u8) -> bool
+    ensures plain { result ≡ is_plain byte }
+{
+    byte != b'"' && byte != b'\\' && byte >= 32 && byte <= 126
+}
+
+/// A byte between quotes.
+#[derive(Clone, Copy)]
+struct Escaped(u8);
+
+impl fmt::Display for Escaped {
+    ghost output = { λ e. Some (escaped e.0) };
+
+    #[tactic(auto, using(std::proofs::lemmas::Fmt::hex_byte))]
+    fn fmt<W: fmt::Write>(&self, f: &mut fmt::Formatter<W>) -> fmt::Result {
+        let byte = self.0;
+        if is_plain_byte(byte) {
+            write!(f, "{}", char::from(byte))
+        } else {
+            write!(f, "\\{byte:02x}")
+        }
+    }
+}
+
+/// Bytes between quotes, as the assembler takes them.
+#[derive(Clone, Copy)]
+pub(crate) struct Quoted<'a>(pub &'a [u8]);
+
+impl fmt::Display for Quoted<'_> {
+    ghost output = { λ q. Some (quoted q.0.now) };
+
+    fn fmt<W: fmt::Write>(&self, f: &mut fmt::Formatter<W>) -> fmt::Result {
+        let bytes = self.0;
+        write!(f, "\"")?;
+        for byte in bytes {
+            write!(f, "{}", Escaped(*byte))?;
+        }
+        write!(f, "\"")
+    }
+}

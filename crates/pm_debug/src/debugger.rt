@@ -7,7 +7,8 @@ ghost use Rattle.pm_debug.specs.Breaks.{break_at, place_in_code, with_break, wit
 ghost use Rattle.pm_debug.specs.Frames.{frames};
 ghost use Rattle.pm_debug.specs.Lending.{LendsMachine};
 ghost use Rattle.pm_debug.specs.Refusals.{or_refused};
-ghost use Rattle.pm_debug.specs.Runs.{breaks_after, gone};
+ghost use Rattle.pm_debug.specs.Runs.{breaks_after, breaks_or, gone, gone_out, gone_over, has_left, is_back, later};
+ghost use Rattle.pm_debug.specs.Runs.{most_steps};
 ghost use Rattle.pm_machine.specs.Runs.{GaveUp};
 ghost use Rattle.pm_debug.specs.Trace.{trace_line};
 ghost use Rattle.pm_debug.specs.Views.{ShowsChain, bytes_from, console_end, dynamic_chain, local, stack_words};
@@ -18,7 +19,7 @@ use crate::breaks::{Breakpoint, Breaks};
 use crate::frames::{Frame, frames};
 use crate::reason::BreakReason;
 use crate::refusal::{DebugRefusal, refusal_of};
-use crate::run::run;
+use crate::run::{Depth, MOST_STEPS, run, run_to};
 use crate::views::{DYNAMIC_LINK, STATIC_LINK, chain, words_at};
 use crate::{breaks, text};
 use arrayvec::ArrayVec;
@@ -131,6 +132,37 @@ impl Debugger {
         ensures err { OnErr result (GaveUp (breaks_after self.old.breaks) limit self.old.machine self.new.machine) }
     {
         let gone = run(&mut self.machine, &self.breaks, limit)?;
+        Ok(gone)
+    }
+
+    /// Makes one instruction, and where it is a call all that is called: steps until the machine stands
+    /// in the frame of now again, or in one above it. It stops as `go` does as well, and after
+    /// 4,294,967,295 steps.
+    pub fn step_over(&mut self) -> Result<(u64, BreakReason), AllocError>
+        ensures breaks { self.new.breaks ≡ self.old.breaks }
+        ensures gone { IfOk result (λ r. gone_over self.old.breaks self.old.machine.state
+            ≡ record { steps = r.0; reason = r.1; machine = self.new.machine.state }) }
+        ensures err { OnErr result (GaveUp
+            (later (breaks_or self.old.breaks (is_back self.old.machine.state.registers.mp)))
+            most_steps self.old.machine self.new.machine) }
+    {
+        let depth = Depth::Back(self.machine.registers().mp);
+        let gone = run_to(&mut self.machine, &self.breaks, depth, MOST_STEPS)?;
+        Ok(gone)
+    }
+
+    /// Makes what is left of the running procedure, with its return: steps until the machine stands in
+    /// a frame above that of now. It stops as `go` does as well, and after 4,294,967,295 steps.
+    pub fn finish(&mut self) -> Result<(u64, BreakReason), AllocError>
+        ensures breaks { self.new.breaks ≡ self.old.breaks }
+        ensures gone { IfOk result (λ r. gone_out self.old.breaks self.old.machine.state
+            ≡ record { steps = r.0; reason = r.1; machine = self.new.machine.state }) }
+        ensures err { OnErr result (GaveUp
+            (later (breaks_or self.old.breaks (has_left self.old.machine.state.registers.mp)))
+            most_steps self.old.machine self.new.machine) }
+    {
+        let depth = Depth::Left(self.machine.registers().mp);
+        let gone = run_to(&mut self.machine, &self.breaks, depth, MOST_STEPS)?;
         Ok(gone)
     }
 

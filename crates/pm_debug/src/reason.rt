@@ -7,6 +7,9 @@ use pm_words::ExecError;
 pub enum BreakReason {
     /// A breakpoint matches: the machine stands before the instruction there.
     Break,
+    /// The machine stands where a run over calls is to stop: the instruction is done, or the
+    /// procedure has returned.
+    There,
     /// The limit of the steps is reached.
     Limit,
     /// The next instruction waits for console bytes.

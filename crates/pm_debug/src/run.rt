@@ -2,7 +2,8 @@
 
 ghost use Rattle.std.specs.Prelude.{◌≡◌, IfOk, OnErr};
 ghost use Rattle.pm_machine.specs.Runs.{GaveUp};
-ghost use Rattle.pm_debug.specs.Runs.{breaks_after, gone, has_ended, reason_of};
+ghost use Rattle.pm_debug.specs.Runs.{breaks_after, breaks_or, gone, gone_to, has_ended, is_there, later};
+ghost use Rattle.pm_debug.specs.Runs.{reason_of, reason_there};
 
 use crate::breaks::{Breakpoint, is_at_break};
 use crate::reason::BreakReason;
@@ -62,4 +63,78 @@ pub(crate) fn run(
     }
     let (steps, end) = machine.run_until(limit, &AtBreaks(breaks))?;
     Ok((steps, reason_of(end)))
+}
+
+/// The most steps of a run over calls.
+pub(crate) const MOST_STEPS: u64 = 4_294_967_295;
+
+/// How far a run over calls goes from a frame.
+#[derive(Clone, Copy)]
+pub(crate) enum Depth {
+    /// Until the machine stands in the frame at this address again, or in one above it.
+    Back(u16),
+    /// Until the frame at this address is left.
+    Left(u16),
+}
+
+/// Whether a machine stands where a run over calls is to stop.
+fn is_there(machine: &Machine, depth: Depth) -> bool
+    ensures there { result ≡ is_there depth machine.now.state }
+{
+    let mp = machine.registers().mp;
+    match depth {
+        Depth::Back(frame) => frame <= mp,
+        Depth::Left(frame) => frame < mp,
+    }
+}
+
+/// The breakpoints, and how far a run goes.
+#[derive(Clone, Copy)]
+struct AtDepth<'a> {
+    breaks: &'a [Breakpoint],
+    depth: Depth,
+}
+
+impl StopTest for AtDepth<'_> {
+    ghost use Rattle.pm_debug.specs.Runs.{breaks_or, is_there, later};
+
+    ghost stops = { λ t. later (breaks_or t.breaks.now (is_there t.depth)) };
+
+    fn stops(&self, count: u64, machine: &Machine) -> bool {
+        count != 0 && (is_at_break(machine, self.breaks) || is_there(machine, self.depth))
+    }
+
+    fn never_stops(&self) -> bool {
+        false
+    }
+}
+
+/// Why a run over calls makes no more steps.
+fn reason_there(machine: &Machine, breaks: &[Breakpoint], end: RunEnd) -> BreakReason
+    ensures reason { result ≡ reason_there breaks.now end machine.now.state }
+{
+    match end {
+        RunEnd::Stopped if !is_at_break(machine, breaks) => BreakReason::There,
+        end => reason_of(end),
+    }
+}
+
+/// Makes at most `limit` steps, and stops before that at a breakpoint or where the depth is reached.
+#[tactic(auto, unfolding(crate::specs::Runs::gone_to))]
+pub(crate) fn run_to(
+    machine: &mut Machine,
+    breaks: &[Breakpoint],
+    depth: Depth,
+    limit: u64,
+) -> Result<(u64, BreakReason), AllocError>
+    ensures gone { IfOk result (λ r. gone_to breaks.now (is_there depth) limit machine.old.state
+        ≡ record { steps = r.0; reason = r.1; machine = machine.new.state }) }
+    ensures err { OnErr result (GaveUp (later (breaks_or breaks.now (is_there depth))) limit machine.old machine.new) }
+{
+    if has_ended(machine.status()) {
+        return Ok((0, BreakReason::Ended));
+    }
+    let test = AtDepth { breaks, depth };
+    let (steps, end) = machine.run_until(limit, &test)?;
+    Ok((steps, reason_there(machine, breaks, end)))
 }

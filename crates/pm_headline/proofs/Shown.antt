@@ -19,7 +19,8 @@ use Rattle.pm_debug.specs.declared.breaks.Breakpoint.{Breakpoint}
 use Rattle.pm_debug.specs.declared.reason.BreakReason.TheVariants as reasons
 use Rattle.pm_debug.specs.declared.refusal.DebugRefusal.{DebugRefusal}
 use Rattle.pm_debug.specs.Breaks.{break_at, is_at_break, with_break, without_break}
-use Rattle.pm_debug.specs.Runs.{breaks_after, gone, gone_by, has_ended}
+use Rattle.pm_debug.specs.Runs.{breaks_after, breaks_or, gone, gone_by, gone_there, gone_to, has_ended, has_left}
+use Rattle.pm_debug.specs.Runs.{is_back, later, most_steps}
 use Rattle.pm_debug.specs.Session.{Session}
 use Rattle.pm_session.specs.declared.commands.Command.{Command}
 use Rattle.pm_session.specs.declared.commands.Command.TheVariants as commands
@@ -41,21 +42,21 @@ all_steps (suc n) s = sym (after_first n s) ∙ all_steps n (stepped s).0
     after_first zero s = refl
     after_first (suc n) s = ap (λ t. (stepped t).0) (after_first n s)
 
--- the steps that `go` makes, and the state that they lead to
-abbrev Makes : List Breakpoint → ℕ → State → State → Type 0
-Makes breaks limit s t = (steps : ℕ) × StopsAfter breaks limit s steps × (t ≡ after_steps steps s)
+-- the steps that a command makes, and the state that they lead to
+abbrev Makes : (State → Bool) → ℕ → State → State → Type 0
+Makes test limit s t = (steps : ℕ) × StopsAfter test limit s steps × (t ≡ after_steps steps s)
 
--- a test that breakpoints make does not hold before a step, which is not the first
-free_there : (breaks : List Breakpoint) (k : ℕ) (s : State) → 1 ≤ k → breaks_after breaks k s ≡ false → is_at_break breaks s ≡ false
-free_there breaks k s some h = behind (k == 0) (is_at_break breaks s) (grind (arith, nat_tests, some)) h
+-- a test that does not hold before a step, which is not the first
+free_there : (test : State → Bool) (k : ℕ) (s : State) → 1 ≤ k → later test k s ≡ false → test s ≡ false
+free_there test k s some h = behind (k == 0) (test s) (grind (arith, nat_tests, some)) h
   where
     behind : (first at : Bool) → first ≡ false → (not first && at) ≡ false → at ≡ false
     behind true at e h = absurd (cc)
     behind false at e h = h
 
-some_steps : (breaks : List Breakpoint) (k : ℕ) (s : State) → breaks_after breaks k s ≡ true → (1 ≤ k) × (is_at_break breaks s ≡ true)
-some_steps breaks k s h =
-    let at = both (k == 0) (is_at_break breaks s) h in
+some_steps : (test : State → Bool) (k : ℕ) (s : State) → later test k s ≡ true → (1 ≤ k) × (test s ≡ true)
+some_steps test k s h =
+    let at = both (k == 0) (test s) h in
     let some = at.0 in
     (grind (arith, nat_tests, some), at.1)
   where
@@ -63,34 +64,45 @@ some_steps breaks k s h =
     both true at h = absurd (cc)
     both false at h = (refl, h)
 
-goes_on : (breaks : List Breakpoint) (n : ℕ) (s : State) → Passes (breaks_after breaks) n s → GoesOn breaks n s
-goes_on breaks n s p = record { went = p.went; free = λ k some below. free_there breaks k (after_steps k s) some (p.free k below) }
+goes_on : (test : State → Bool) (n : ℕ) (s : State) → Passes (later test) n s → GoesOn test n s
+goes_on test n s p = record { went = p.went; free = λ k some below. free_there test k (after_steps k s) some (p.free k below) }
 
-made_by : (breaks : List Breakpoint) (limit n : ℕ) (s : State) (end : RunEnd) (count : ℕ) (t : State) → Passes (breaks_after breaks) n s
-    → EndsSo (breaks_after breaks) limit n s end count t → Makes breaks limit s t
-made_by breaks limit n s ends.Limit count t p h =
-    (limit, all (subst (λ k. GoesOn breaks k s) h.0 (goes_on breaks n s p)), h.2 ∙ ap (λ k. after_steps k s) h.0)
-made_by breaks limit n s ends.Stopped count t p h =
-    let at = some_steps breaks n t h.1 in
-    (n, breaks_there n at.0 h.0 (goes_on breaks n s p) (ap (is_at_break breaks) (sym h.3) ∙ at.1), h.3)
-made_by breaks limit n s (ends.Answered answer) count t p h =
+made_by : (test : State → Bool) (limit n : ℕ) (s : State) (end : RunEnd) (count : ℕ) (t : State) → Passes (later test) n s
+    → EndsSo (later test) limit n s end count t → Makes test limit s t
+made_by test limit n s ends.Limit count t p h =
+    (limit, all (subst (λ k. GoesOn test k s) h.0 (goes_on test n s p)), h.2 ∙ ap (λ k. after_steps k s) h.0)
+made_by test limit n s ends.Stopped count t p h =
+    let at = some_steps test n t h.1 in
+    (n, breaks_there n at.0 h.0 (goes_on test n s p) (ap test (sym h.3) ∙ at.1), h.3)
+made_by test limit n s (ends.Answered answer) count t p h =
     let last = h.2 in
     let other : (stepped (after_steps n s)).1 ≢ stop.Went = λ e. h.0 (sym (ap (λ (q : State × Stop). q.1) last.last) ∙ e) in (
       n + 1,
-      stops n last.within (goes_on breaks n s p) (λ some. free_there breaks n (after_steps n s) some h.1) other,
+      stops n last.within (goes_on test n s p) (λ some. free_there test n (after_steps n s) some h.1) other,
       after_more n s (after_steps n s) t answer refl last.last,
     )
 
-gone_steps : (breaks : List Breakpoint) (n : ℕ) (s : State) → Makes breaks n s (gone breaks n s).machine
+run_steps : (test : State → Bool) (n : ℕ) (s : State) → Makes test n s (run_until (later test) n s).state
+run_steps test n s = let h = runs_end_so (later test) n s in
+    made_by test n h.0 s (run_until (later test) n s).end (run_until (later test) n s).count (run_until (later test) n s).state h.1 h.2
+
+gone_steps : (breaks : List Breakpoint) (n : ℕ) (s : State) → Makes (is_at_break breaks) n s (gone breaks n s).machine
 unfolding gone
 gone_steps breaks n s = ended_steps (has_ended s.status) refl
   where
-    ended_steps : (b : Bool) → has_ended s.status ≡ b → Makes breaks n s (if b then (record { steps = 0; reason = reasons.Ended; machine = s })
-        else gone_by (run_until (breaks_after breaks) n s)).machine
+    ended_steps : (b : Bool) → has_ended s.status ≡ b → Makes (is_at_break breaks) n s
+        (if b then (record { steps = 0; reason = reasons.Ended; machine = s }) else gone_by (run_until (breaks_after breaks) n s)).machine
     ended_steps true e = (0, rests e, after_none s)
-    ended_steps false e = let h = runs_end_so (breaks_after breaks) n s in
-        made_by breaks n h.0 s (run_until (breaks_after breaks) n s).end (run_until (breaks_after breaks) n s).count
-        (run_until (breaks_after breaks) n s).state h.1 h.2
+    ended_steps false e = run_steps (is_at_break breaks) n s
+
+gone_to_steps : (breaks : List Breakpoint) (test : State → Bool) (n : ℕ) (s : State) → Makes (breaks_or breaks test) n s (gone_to breaks test n s).machine
+unfolding gone_to
+gone_to_steps breaks test n s = ended_steps (has_ended s.status) refl
+  where
+    ended_steps : (b : Bool) → has_ended s.status ≡ b → Makes (breaks_or breaks test) n s
+        (if b then (record { steps = 0; reason = reasons.Ended; machine = s }) else gone_there breaks (run_until (later (breaks_or breaks test)) n s)).machine
+    ended_steps true e = (0, rests e, after_none s)
+    ended_steps false e = run_steps (breaks_or breaks test) n s
 
 -- ---- commands
 
@@ -110,6 +122,12 @@ command_made (Some (commands.Poke a w)) d = (Poke a w ∷ [], refl, refl)
 command_made (Some (commands.Key b)) d = (Key b ∷ [], refl, refl)
 command_made (Some (commands.Go n)) d =
     let made = gone_steps d.breaks n d.machine in
+    (replicate made.0 Step, (made.0, made.1, refl), made.2 ∙ all_steps made.0 d.machine)
+command_made (Some commands.Step) d =
+    let made = gone_to_steps d.breaks (is_back d.machine.registers.mp) most_steps d.machine in
+    (replicate made.0 Step, (made.0, made.1, refl), made.2 ∙ all_steps made.0 d.machine)
+command_made (Some commands.Finish) d =
+    let made = gone_to_steps d.breaks (has_left d.machine.registers.mp) most_steps d.machine in
     (replicate made.0 Step, (made.0, made.1, refl), made.2 ∙ all_steps made.0 d.machine)
 command_made (Some command) d = ([], refl, refl)
 

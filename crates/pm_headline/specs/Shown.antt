@@ -1,11 +1,11 @@
 -- Sessions of the debugger as lists of events.
-use Rattle.std.specs.Prelude.{◌≡◌, ◌≢◌, ◌<◌, ◌≤◌, ◌+◌, ℕ, true, false, List, [], ◌∷◌, ◌++◌, replicate, Option, Some, ⊤}
+use Rattle.std.specs.Prelude.{◌≡◌, ◌≢◌, ◌<◌, ◌≤◌, ◌+◌, ◌||◌, nat_le, nat_lt, ℕ, Bool, true, false}
+use Rattle.std.specs.Prelude.{List, [], ◌∷◌, ◌++◌, replicate, Option, Some, ⊤}
 use Rattle.pm_machine.specs.State.{State}
 use Rattle.pm_machine.specs.Events.{Event, Step, Key, Poke, after_all}
 use Rattle.pm_machine.specs.Runs.{AllWent, after_steps}
 use Rattle.pm_machine.specs.Steps.{stepped}
 use Rattle.pm_machine.specs.declared.state.Stop.TheVariants as stop
-use Rattle.pm_debug.specs.declared.breaks.Breakpoint.{Breakpoint}
 use Rattle.pm_debug.specs.Breaks.{is_at_break}
 use Rattle.pm_debug.specs.Runs.{has_ended}
 use Rattle.pm_debug.specs.Session.{Session}
@@ -15,33 +15,42 @@ use Rattle.pm_session.specs.Answers.{session_after}
 use Rattle.pm_session.specs.Commands.{command_of}
 use Rattle.pm_session.specs.Sessions.{answers, is_quit, opened}
 
--- ---- the steps of `go`
+-- ---- the steps of `go`, `step` and `finish`
 
--- the machine goes on after each of so many steps, and none of them but the first is made at a breakpoint
-pub record GoesOn (breaks : List Breakpoint) (n : ℕ) (s : State) : Type 0 where
+-- the machine goes on after each of so many steps, and the test, as of a breakpoint, holds before none of them but
+-- perhaps the first
+pub record GoesOn (test : State → Bool) (n : ℕ) (s : State) : Type 0 where
   pub went : AllWent n s
-  pub free : (k : ℕ) → 1 ≤ k → k < n → is_at_break breaks (after_steps k s) ≡ false
+  pub free : (k : ℕ) → 1 ≤ k → k < n → test (after_steps k s) ≡ false
 
--- why `go` makes no more steps than these: the machine has ended before; they are as many as it may make; the machine
--- stands at a breakpoint behind the last of them; or it does not go on after the last of them, which ends it, halts it
--- or waits
-pub data StopsAfter (breaks : List Breakpoint) (limit : ℕ) (s : State) : ℕ → Type 0 where
-  rests : has_ended s.status ≡ true → StopsAfter breaks limit s 0
-  all : GoesOn breaks limit s → StopsAfter breaks limit s limit
-  breaks_there : (n : ℕ) → 1 ≤ n → n < limit → GoesOn breaks n s → is_at_break breaks (after_steps n s) ≡ true
-      → StopsAfter breaks limit s n
-  stops : (n : ℕ) → n < limit → GoesOn breaks n s → (1 ≤ n → is_at_break breaks (after_steps n s) ≡ false)
-      → (stepped (after_steps n s)).1 ≢ stop.Went → StopsAfter breaks limit s (n + 1)
+-- why a command makes no more steps than these: the machine has ended before; they are as many as it may make; the test
+-- holds behind the last of them; or the machine does not go on after the last of them, which ends it, halts it or waits
+pub data StopsAfter (test : State → Bool) (limit : ℕ) (s : State) : ℕ → Type 0 where
+  rests : has_ended s.status ≡ true → StopsAfter test limit s 0
+  all : GoesOn test limit s → StopsAfter test limit s limit
+  breaks_there : (n : ℕ) → 1 ≤ n → n < limit → GoesOn test n s → test (after_steps n s) ≡ true
+      → StopsAfter test limit s n
+  stops : (n : ℕ) → n < limit → GoesOn test n s → (1 ≤ n → test (after_steps n s) ≡ false)
+      → (stepped (after_steps n s)).1 ≢ stop.Went → StopsAfter test limit s (n + 1)
+
+-- so many steps, up to where a test holds
+abbrev pub AreStepsTo : (State → Bool) → ℕ → State → List Event → Type 0
+AreStepsTo test limit s events = (steps : ℕ) × StopsAfter test limit s steps × (events ≡ replicate steps Step)
 
 -- ---- sessions
 
--- The events of a command in a session, of a line that is none no events: a poke and a key are one, `go` is as many
--- steps as it makes, and all others only show, or set and clear breakpoints.
+-- The events of a command in a session, of a line that is none no events: a poke and a key are one; `go` is as many
+-- steps as it makes, up to a breakpoint, and so are `step` and `finish`, up to a breakpoint or to where the machine
+-- stands in the frame of now again or above it, or above it; and all others only show, or set and clear breakpoints.
 abbrev pub AreEventsOf : Option Command → Session → List Event → Type 0
 AreEventsOf (Some (commands.Poke a w)) d events = events ≡ Poke a w ∷ []
 AreEventsOf (Some (commands.Key b)) d events = events ≡ Key b ∷ []
 AreEventsOf (Some (commands.Go n)) d events =
-    (steps : ℕ) × StopsAfter d.breaks n d.machine steps × (events ≡ replicate steps Step)
+    AreStepsTo (is_at_break d.breaks) n d.machine events
+AreEventsOf (Some commands.Step) d events =
+    AreStepsTo (λ s. is_at_break d.breaks s || nat_le d.machine.registers.mp s.registers.mp) 4294967295 d.machine events
+AreEventsOf (Some commands.Finish) d events =
+    AreStepsTo (λ s. is_at_break d.breaks s || nat_lt d.machine.registers.mp s.registers.mp) 4294967295 d.machine events
 AreEventsOf other d events = events ≡ []
 
 -- the events of lines in a session, one line after the other

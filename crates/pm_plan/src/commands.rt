@@ -207,9 +207,11 @@ Commands, one a line, numbers in decimal, or as $1F with at most four hexadecima
   frames N       the frames by their dynamic links, each with where it returns to, at most N
   list N         the next N instructions, each behind its offset
   console N      the last N bytes of the console, as the assembler spells a text
+  step           makes one instruction, with all that it calls
+  finish         makes what is left of the running procedure, with its return
   help           the commands
   quit           ends the session
-Answers: ok, numbers, ended K, error N K, limit K, waiting K, break K; `?` is no command, and refused N:
+Answers: ok, numbers, ended K, error N K, limit K, waiting K, break K, stop K; `?` is no command, and refused N:
   1 beside 64 breakpoints, 2 no such breakpoint, 3 an odd address, 5 a depth above 127
 `--limit` has no effect here.
 ";

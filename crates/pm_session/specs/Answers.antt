@@ -7,7 +7,7 @@ use Rattle.pm_calls.specs.Places.{keeps_of, placed}
 use Rattle.pm_machine.specs.Events.{Key, Poke, next}
 use Rattle.pm_debug.specs.Breaks.{break_at, with_break, without_break}
 use Rattle.pm_debug.specs.Refusals.{or_refused}
-use Rattle.pm_debug.specs.Runs.{gone}
+use Rattle.pm_debug.specs.Runs.{gone, gone_out, gone_over}
 use Rattle.pm_debug.specs.Session.{Session}
 use Rattle.pm_debug.specs.Trace.{trace_line}
 use Rattle.pm_debug.specs.Views.{dynamic_chain, local, stack_words, static_chain}
@@ -42,6 +42,7 @@ place_text None keeps = codes "none"
 -- as the last line of a trace, of the steps of this run alone
 abbrev pub gone_text : BreakReason → ℕ → List ℕ
 gone_text reasons.Break steps = codes "break " ++ decimal steps
+gone_text reasons.There steps = codes "stop " ++ decimal steps
 gone_text reasons.Limit steps = last_line endings.Limit steps
 gone_text reasons.Waiting steps = last_line endings.Waiting steps
 gone_text reasons.Ended steps = last_line endings.Ended steps
@@ -62,6 +63,10 @@ command_text (commands.Poke a w) d = Some (if is_even a then codes "ok" else ref
 command_text (commands.Key b) d = Some (codes "ok")
 command_text (commands.Go n) d =
     Some (gone_text (gone d.breaks n d.machine).reason (gone d.breaks n d.machine).steps)
+command_text commands.Step d =
+    Some (gone_text (gone_over d.breaks d.machine).reason (gone_over d.breaks d.machine).steps)
+command_text commands.Finish d =
+    Some (gone_text (gone_out d.breaks d.machine).reason (gone_out d.breaks d.machine).steps)
 command_text (commands.Stack n) d = Some (numbers_text (stack_words d.machine n))
 command_text (commands.Static n) d = Some (chain_text (static_chain d.machine n))
 command_text (commands.Dynamic n) d = Some (chain_text (dynamic_chain d.machine n))
@@ -85,6 +90,8 @@ after_command (commands.Clear s p o) d = with_breaks d (without_break (break_at 
 after_command (commands.Poke a w) d = record d { machine = next d.machine (Poke a w) }
 after_command (commands.Key b) d = record d { machine = next d.machine (Key b) }
 after_command (commands.Go n) d = record d { machine = (gone d.breaks n d.machine).machine }
+after_command commands.Step d = record d { machine = (gone_over d.breaks d.machine).machine }
+after_command commands.Finish d = record d { machine = (gone_out d.breaks d.machine).machine }
 after_command other d = d
 
 -- what is answered to a line, without a line feed; to one that is no command `?`

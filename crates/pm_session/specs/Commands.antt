@@ -106,6 +106,8 @@ command_rows =
     ∷ (codes "frames", codes " N", one 65535 (λ n. commands.Show (views.Frames n)))
     ∷ (codes "list", codes " N", one 65535 (λ n. commands.Show (views.Ahead n)))
     ∷ (codes "console", codes " N", one 65535 (λ n. commands.Show (views.Console n)))
+    ∷ (codes "step", [], alone commands.Step)
+    ∷ (codes "finish", [], alone commands.Finish)
     ∷ (codes "help", [], alone (commands.Show views.Help))
     ∷ (codes "quit", [], alone commands.Quit)
     ∷ []

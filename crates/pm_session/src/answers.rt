@@ -39,11 +39,13 @@ fn word(alloc: Global, word: Result<u16, DebugRefusal>) -> Result<String, AllocE
 }
 
 /// Why a run ended, and after how many steps.
-fn gone(alloc: Global, steps: u64, reason: BreakReason) -> Result<String, AllocError>
-    ensures text { IfOk result (λ text. string_bytes text ≡ gone_text reason steps) }
+fn gone(alloc: Global, gone: (u64, BreakReason)) -> Result<String, AllocError>
+    ensures text { IfOk result (λ text. string_bytes text ≡ gone_text gone.1 gone.0) }
 {
+    let (steps, reason) = gone;
     let ending = match reason {
         BreakReason::Break => return format!(in alloc; "break {steps}"),
+        BreakReason::There => return format!(in alloc; "stop {steps}"),
         BreakReason::Limit => Ending::Limit,
         BreakReason::Waiting => Ending::Waiting,
         BreakReason::Ended => Ending::Ended,
@@ -128,10 +130,9 @@ fn do_command(
             key(debugger, byte)?;
             done(alloc, Ok(()))
         }
-        Command::Go(limit) => {
-            let (steps, reason) = debugger.go(u64::from(limit))?;
-            gone(alloc, steps, reason)
-        }
+        Command::Go(limit) => gone(alloc, debugger.go(u64::from(limit))?),
+        Command::Step => gone(alloc, debugger.step_over()?),
+        Command::Finish => gone(alloc, debugger.finish()?),
         Command::Stack(n) => numbers(alloc, &debugger.stack(alloc, n)?),
         Command::Static(limit) => chain(alloc, debugger.static_chain(alloc, limit)),
         Command::Dynamic(limit) => chain(alloc, debugger.dynamic_chain(alloc, limit)),

@@ -26,6 +26,10 @@ pub enum Command {
     Key(u8),
     /// Makes at most so many steps, up to a breakpoint.
     Go(u32),
+    /// Makes one instruction, and where it is a call all that is called.
+    Step,
+    /// Makes what is left of the running procedure, with its return.
+    Finish,
     /// Shows the words on the stack, at most so many.
     Stack(u16),
     /// Shows the static chain, at most so many frames.
@@ -270,6 +274,8 @@ fn command_named(name: &[u8], numbers: &[u32]) -> Option<Command>
         [n] if is_text(name, "frames") => Command::Show(View::Frames(word(*n)?)),
         [n] if is_text(name, "list") => Command::Show(View::Ahead(word(*n)?)),
         [n] if is_text(name, "console") => Command::Show(View::Console(word(*n)?)),
+        [] if is_text(name, "step") => Command::Step,
+        [] if is_text(name, "finish") => Command::Finish,
         [] if is_text(name, "help") => Command::Show(View::Help),
         [] if is_text(name, "quit") => Command::Quit,
         _ => return None,

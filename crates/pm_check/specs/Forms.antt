@@ -1,0 +1,96 @@
+-- Other forms of images: where a form has the directory's header, and what a header is there.
+use Rattle.std.specs.Prelude.{ℕ, ◌+◌, ◌*◌, ◌/◌, ◌%◌, ◌==◌, ◌&&◌, ◌||◌, Bool, true, false, nat_le, nat_lt, List}
+use Rattle.std.specs.Prelude.{[], ◌∷◌, ◌++◌, codes, length, slice_index, slice_range, take, if◌then◌else◌}
+use Rattle.std.specs.Str.{bytes_eq}
+use Rattle.pm_base.specs.Words.{word_in}
+use Rattle.pm_volume.specs.declared.fields.TheConstants.{DIRECTORY, HEADER_BLOCKS, HEADER_FILES, HEADER_FILES_BEGIN}
+use Rattle.pm_volume.specs.declared.fields.TheConstants.{LONGEST_VOLUME_NAME, MOST_FILES, PAST_DIRECTORY, PAST_SECOND}
+use Rattle.pm_volume.specs.declared.fields.TheConstants.{SLOT}
+use Rattle.pm_base.specs.declared.blocks.TheConstants.{BLOCK}
+use Rattle.pm_check.specs.declared.note.Form.TheVariants.{Dos, Swapped, FrontBlocks, FrontDos, FrontSwapped}
+use Rattle.pm_check.specs.declared.note.Note.{Note}
+use Rattle.pm_check.specs.declared.note.Note.TheVariants as notes
+
+-- a note where something holds
+abbrev pub note_if : Bool → Note → List Note
+note_if true note = note ∷ []
+note_if false note = []
+
+-- ---- a header
+
+-- a word with its bytes exchanged
+abbrev pub exchanged : ℕ → ℕ
+exchanged word = word % 256 * 256 + word / 256
+
+-- a word of a header, whose bytes may be exchanged
+unfoldable pub heading_word : Bool → List ℕ → ℕ → ℕ
+heading_word swapped header place = if swapped then exchanged (word_in header place) else word_in header place
+
+-- how many characters the volume's name has: byte 6, or 7 where the bytes of each word are exchanged
+abbrev pub heading_length : Bool → List ℕ → ℕ
+heading_length swapped header = if swapped then slice_index header 7 else slice_index header 6
+
+-- whether 26 bytes are the header of a volume for an image of so many blocks: a name of 1 to 7 characters, files from
+-- block 6 or 10 on, at least as many blocks and no more than the image has, and at most 77 files
+unfoldable pub is_heading : Bool → List ℕ → ℕ → Bool
+is_heading swapped header blocks =
+    nat_le 1 (heading_length swapped header) && nat_le (heading_length swapped header) LONGEST_VOLUME_NAME
+    && ((heading_word swapped header HEADER_FILES_BEGIN == PAST_DIRECTORY)
+    || (heading_word swapped header HEADER_FILES_BEGIN == PAST_SECOND))
+    && nat_le (heading_word swapped header HEADER_FILES_BEGIN) (heading_word swapped header HEADER_BLOCKS)
+    && nat_le (heading_word swapped header HEADER_BLOCKS) blocks
+    && nat_le (heading_word swapped header HEADER_FILES) MOST_FILES
+
+-- whether an image has one at a place
+unfoldable pub has_heading : List ℕ → ℕ → ℕ → Bool → Bool
+has_heading image place blocks swapped =
+    if nat_lt (length image) (place + SLOT) then false
+    else is_heading swapped (slice_range image place (place + SLOT)) blocks
+
+-- ---- forms of so many bytes of an image from a place on
+
+-- blocks in their order: block 2 begins with the header
+abbrev pub is_in_blocks : List ℕ → ℕ → ℕ → Bool
+is_in_blocks image begin size = has_heading image (begin + DIRECTORY) (size / BLOCK) false
+
+-- the same with the bytes of each word exchanged
+abbrev pub is_swapped : List ℕ → ℕ → ℕ → Bool
+is_swapped image begin size = has_heading image (begin + DIRECTORY) (size / BLOCK) true
+
+-- a disk of 280 blocks in the order of DOS, in which the sector at 2,816 is the first half of block 2
+abbrev pub is_in_sectors : List ℕ → ℕ → ℕ → Bool
+is_in_sectors image begin size = (size == 143360) && has_heading image (begin + 2816) 280 false
+
+-- four bytes of an image, the low one first
+unfoldable pub long_in : List ℕ → ℕ → ℕ
+long_in image place = word_in image place + 65536 * word_in image (place + 2)
+
+-- where the blocks begin, and how many bytes they have, as a header of an image's file says: the bytes at 24, those at
+-- 28, or where these are 0 as many blocks as those at 20 say
+abbrev pub front_begin : List ℕ → ℕ
+front_begin image = long_in image 24
+
+unfoldable pub front_size : List ℕ → ℕ
+front_size image = if long_in image 28 == 0 then BLOCK * long_in image 20 else long_in image 28
+
+-- whether an image begins with a header of an image's file: 64 bytes that begin with 2IMG, and what it says lies behind
+-- byte 51 and in the image
+unfoldable pub has_front : List ℕ → Bool
+has_front image =
+    if nat_lt (length image) 64 then false
+    else bytes_eq (take 4 image) (codes "2IMG") && nat_le 52 (front_begin image) && nat_lt 0 (front_size image)
+    && nat_le (front_begin image + front_size image) (length image)
+
+-- the forms behind such a header
+unfoldable pub front_notes : List ℕ → List Note
+front_notes image =
+    note_if (is_in_blocks image (front_begin image) (front_size image)) (notes.Form FrontBlocks)
+    ++ (note_if (is_in_sectors image (front_begin image) (front_size image)) (notes.Form FrontDos)
+    ++ note_if (is_swapped image (front_begin image) (front_size image)) (notes.Form FrontSwapped))
+
+-- the other forms that an image may have; each that fits is told
+unfoldable pub form_notes : List ℕ → List Note
+form_notes image =
+    note_if (is_in_sectors image 0 (length image)) (notes.Form Dos)
+    ++ (note_if (is_swapped image 0 (length image)) (notes.Form Swapped)
+    ++ (if has_front image then front_notes image else []))

@@ -1,0 +1,114 @@
+-- What may be of use to know of an image beside the rules that it breaks.
+use Rattle.std.specs.Prelude.{◌≤◌, ◌<◌, ℕ, zero, suc, ◌+◌, ◌-◌, ◌*◌, ◌/◌, ◌==◌, ◌&&◌, ◌||◌, Bool, not}
+use Rattle.std.specs.Prelude.{nat_le, nat_lt, List, [], ◌∷◌, ◌++◌, length, min, slice_index, slice_range}
+use Rattle.std.specs.Prelude.{if◌then◌else◌}
+use Rattle.std.specs.List.{list_all}
+use Rattle.std.specs.Str.{bytes_eq}
+use Rattle.pm_volume.specs.Directory.{directory_of, entry_in, files_begin, second_of}
+use Rattle.pm_volume.specs.Names.{characters_of, is_same_name}
+use Rattle.pm_volume.specs.declared.entry.Entry.{Entry}
+use Rattle.pm_volume.specs.declared.fields.TheConstants.{DIRECTORY_END, HEADER_NAME, LONGEST_VOLUME_NAME}
+use Rattle.pm_volume.specs.declared.fields.TheConstants.{PAST_SECOND, SECOND_END, SLOT}
+use Rattle.pm_base.specs.declared.blocks.TheConstants.{BLOCK}
+use Rattle.pm_check.specs.declared.note.Note.{Note}
+use Rattle.pm_check.specs.declared.note.Note.TheVariants as notes
+use Rattle.pm_check.specs.Forms.{form_notes, note_if}
+use Rattle.pm_check.specs.Rules.{directory_findings, slot_count}
+
+-- ---- names and blocks
+
+abbrev pub is_plain_character : ℕ → Bool
+is_plain_character c = nat_le 33 c && nat_le c 126
+
+-- whether each byte of a name is one of 33 to 126
+unfoldable pub is_plain : List ℕ → Bool
+is_plain name = list_all is_plain_character name
+
+-- the characters of the volume's name, at most 7
+unfoldable pub header_name : List ℕ → List ℕ
+header_name d =
+    slice_range d (HEADER_NAME + 1) (HEADER_NAME + 1 + min (slice_index d HEADER_NAME) LONGEST_VOLUME_NAME)
+
+-- whether two files have a block in common
+abbrev pub shares : Entry → Entry → Bool
+shares a b = nat_lt a.first a.end && nat_lt b.first b.end && nat_lt a.first b.end && nat_lt b.first a.end
+
+-- the same in words: a block that both have
+pub record HaveBlock (a b : Entry) : Type 0 where
+  pub block : ℕ
+  pub from : a.first ≤ block
+  pub to : block < a.end
+  pub other_from : b.first ≤ block
+  pub other_to : block < b.end
+
+-- the file in slot n beside that in slot k
+unfoldable pub pair_notes : List ℕ → ℕ → ℕ → List Note
+pair_notes d n k =
+    note_if (shares (entry_in d n) (entry_in d k)) (notes.Shares n k)
+    ++ note_if (is_same_name (characters_of (entry_in d n).name) (characters_of (entry_in d k).name))
+    (notes.SameName n k)
+
+-- beside those in so many slots from slot k on
+unfoldable pub pairs_from : List ℕ → ℕ → ℕ → ℕ → List Note
+pairs_from d n k zero = []
+pairs_from d n k (suc left) = pair_notes d n k ++ pairs_from d n (k + 1) left
+
+-- the file in slot n: its name, and beside those in the slots before
+unfoldable pub slot_notes : List ℕ → ℕ → List Note
+slot_notes d n =
+    note_if (not (is_plain (characters_of (entry_in d n).name))) (notes.Name n) ++ pairs_from d n 1 (n - 1)
+
+-- those in so many slots from slot n on
+unfoldable pub notes_from : List ℕ → ℕ → ℕ → List Note
+notes_from d n zero = []
+notes_from d n (suc left) = slot_notes d n ++ notes_from d (n + 1) left
+
+unfoldable pub directory_notes : List ℕ → List Note
+directory_notes d =
+    note_if (not (is_plain (header_name d))) notes.VolumeName ++ notes_from d 1 (slot_count d)
+
+-- ---- the second copy
+
+-- whether a slot differs in two directories
+unfoldable pub differs : List ℕ → List ℕ → ℕ → Bool
+differs d other n =
+    not (bytes_eq (slice_range d (SLOT * n) (SLOT * n + SLOT)) (slice_range other (SLOT * n) (SLOT * n + SLOT)))
+
+-- the slot that differs, slot 0 being the header
+abbrev pub differing : ℕ → Note
+differing n = if n == 0 then notes.HeadersDiffer else notes.SlotsDiffer n
+
+-- of so many slots from slot n on
+unfoldable pub differing_from : List ℕ → List ℕ → ℕ → ℕ → List Note
+differing_from d other n zero = []
+differing_from d other n (suc left) =
+    note_if (differs d other n) (differing n) ++ differing_from d other (n + 1) left
+
+-- whether a second copy breaks no rule in an image of so many blocks, and says itself that it is one
+unfoldable pub is_good_second : List ℕ → ℕ → Bool
+is_good_second second blocks =
+    (files_begin second == PAST_SECOND) && (length (directory_findings second blocks) == 0)
+
+-- how a second copy is, and in which slots it differs
+abbrev pub copy_notes : Bool → List ℕ → List ℕ → List Note
+copy_notes good d second =
+    (if good then notes.SecondGood else notes.SecondDamaged) ∷ differing_from d second 0 78
+
+-- a second copy is there where the first says so, or where it is good
+unfoldable pub second_notes : Bool → List ℕ → List ℕ → List Note
+second_notes good d second = if (files_begin d == PAST_SECOND) || good then copy_notes good d second else []
+
+-- that of an image, where it is long enough
+unfoldable pub copies_notes : List ℕ → List Note
+copies_notes image =
+    if nat_lt (length image) SECOND_END then []
+    else second_notes (is_good_second (second_of image) (length image / BLOCK)) (directory_of image) (second_of image)
+
+-- ---- the image
+
+-- its other forms; and where it has a directory, that and its second copy
+unfoldable pub image_notes : List ℕ → List Note
+image_notes image =
+    form_notes image
+    ++ (if nat_lt (length image) DIRECTORY_END then []
+    else directory_notes (directory_of image) ++ copies_notes image)

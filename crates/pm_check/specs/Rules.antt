@@ -1,0 +1,69 @@
+-- The rules of a volume that an image breaks, each by itself.
+use Rattle.std.specs.Prelude.{ℕ, zero, suc, ◌+◌, ◌-◌, ◌/◌, ◌%◌, ◌==◌, ◌&&◌, ◌||◌, Bool, true, false, not, nat_lt}
+use Rattle.std.specs.Prelude.{List, [], ◌∷◌, ◌++◌, length, min, slice_index, if◌then◌else◌}
+use Rattle.pm_volume.specs.Directory.{block_count, directory_of, entry_in, file_count, files_begin}
+use Rattle.pm_volume.specs.declared.entry.Entry.{Entry}
+use Rattle.pm_volume.specs.declared.fields.TheConstants.{DIRECTORY_END, HEADER_NAME, LONGEST_NAME}
+use Rattle.pm_volume.specs.declared.fields.TheConstants.{LONGEST_VOLUME_NAME, MOST_FILES, PAST_DIRECTORY, PAST_SECOND}
+use Rattle.pm_base.specs.declared.blocks.TheConstants.{BLOCK}
+use Rattle.pm_check.specs.declared.finding.Finding.{Finding}
+use Rattle.pm_check.specs.declared.finding.Finding.TheVariants as findings
+use Rattle.pm_check.specs.declared.finding.SlotFinding.TheVariants as slots
+
+-- a finding where a rule is broken
+abbrev pub found_if : Bool → Finding → List Finding
+found_if true finding = finding ∷ []
+found_if false finding = []
+
+-- the header: its name, the block where files begin, the number of blocks, and the number of files
+unfoldable pub header_findings : List ℕ → ℕ → List Finding
+header_findings d blocks =
+    found_if (nat_lt (slice_index d HEADER_NAME) 1 || nat_lt LONGEST_VOLUME_NAME (slice_index d HEADER_NAME))
+    (findings.VolumeName (slice_index d HEADER_NAME))
+    ++ (found_if (not (files_begin d == PAST_DIRECTORY) && not (files_begin d == PAST_SECOND))
+    (findings.FilesBegin (files_begin d))
+    ++ (found_if (nat_lt (block_count d) (files_begin d)) (findings.FewBlocks (block_count d) (files_begin d))
+    ++ (found_if (nat_lt blocks (block_count d)) (findings.PastImage (block_count d) blocks)
+    ++ found_if (nat_lt MOST_FILES (file_count d)) (findings.ManyFiles (file_count d)))))
+
+-- the last block has none of 1 to 512 bytes; a file without blocks has no last one
+abbrev pub has_wrong_last : Entry → Bool
+has_wrong_last e = nat_lt e.first e.end && (nat_lt e.last_bytes 1 || nat_lt BLOCK e.last_bytes)
+
+-- a file in slot n begins before the end of the one in the slot before, where there is one
+abbrev pub is_out_of_order : ℕ → ℕ → ℕ → Bool
+is_out_of_order n first before = nat_lt 1 n && nat_lt first before
+
+-- the entry in a slot: its name, its first block, its end, the bytes of its last block; and that it does not begin
+-- before the entry before it ends
+unfoldable pub slot_findings : List ℕ → ℕ → List Finding
+slot_findings d n =
+    let e = entry_in d n in
+    found_if (nat_lt (slice_index e.name 0) 1 || nat_lt LONGEST_NAME (slice_index e.name 0))
+    (findings.Slot n (slots.Name (slice_index e.name 0)))
+    ++ (found_if (nat_lt e.first (files_begin d)) (findings.Slot n (slots.First e.first (files_begin d)))
+    ++ (found_if (nat_lt e.end e.first) (findings.Slot n (slots.End e.end e.first))
+    ++ (found_if (nat_lt (block_count d) e.end) (findings.Slot n (slots.PastVolume e.end (block_count d)))
+    ++ (found_if (has_wrong_last e) (findings.Slot n (slots.LastBytes e.last_bytes))
+    ++ found_if (is_out_of_order n e.first (entry_in d (n - 1)).end)
+    (findings.Slot n (slots.Order e.first (entry_in d (n - 1)).end))))))
+
+-- the entries of so many slots from slot n on
+unfoldable pub findings_from : List ℕ → ℕ → ℕ → List Finding
+findings_from d n zero = []
+findings_from d n (suc left) = slot_findings d n ++ findings_from d (n + 1) left
+
+-- the slots of files: as many as the header says, and no more than there are
+abbrev pub slot_count : List ℕ → ℕ
+slot_count d = min (file_count d) MOST_FILES
+
+-- a directory in an image of so many blocks
+unfoldable pub directory_findings : List ℕ → ℕ → List Finding
+directory_findings d blocks = header_findings d blocks ++ findings_from d 1 (slot_count d)
+
+-- an image: its length, and its directory where it has one
+unfoldable pub image_findings : List ℕ → List Finding
+image_findings image =
+    found_if (not (length image % BLOCK == 0)) (findings.NotBlocks (length image))
+    ++ (if nat_lt (length image) DIRECTORY_END then findings.TooShort (length image) ∷ []
+    else directory_findings (directory_of image) (length image / BLOCK))

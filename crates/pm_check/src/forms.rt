@@ -1,0 +1,191 @@
+//! Other forms of images: a form is told where the directory's header stands at the place where that form has it.
+ghost use Rattle.std.specs.Prelude.{◌≡◌, ◌+◌, ◌≤◌, ◌<◌, ◌++◌, OnOk, length};
+ghost use Rattle.std.specs.Bool.{OnTrue};
+ghost use Rattle.pm_volume.specs.declared.fields.TheConstants.{SLOT};
+ghost use Rattle.pm_check.specs.Forms.{
+  form_notes,
+  front_begin,
+  front_notes,
+  front_size,
+  has_front,
+  has_heading,
+  heading_length,
+  heading_word,
+  is_heading,
+  is_in_blocks,
+  is_in_sectors,
+  is_swapped,
+  long_in,
+  note_if,
+};
+
+use crate::note::{Form, Note};
+use pm_base::{BLOCK, word};
+use pm_volume::fields::{
+    DIRECTORY, HEADER_BLOCKS, HEADER_FILES, HEADER_FILES_BEGIN, MOST_FILES, PAST_DIRECTORY,
+    PAST_SECOND, SLOT,
+};
+use std::alloc::AllocError;
+
+/// How many bytes a disk of 280 blocks has.
+const SECTORS: usize = 143360;
+
+/// Where the header of a directory stands on a disk in the order of DOS: in the sector that is the first half of block
+/// 2.
+const SECTORS_HEADING: usize = 2816;
+
+/// Adds a note where something holds.
+pub fn push_note(notes: &mut Vec<Note>, holds: bool, note: Note) -> Result<(), AllocError>
+    ensures more { OnOk result (notes.new.items ≡ notes.old.items ++ note_if holds note) }
+{
+    if holds {
+        notes.push(note)?;
+    }
+    Ok(())
+}
+
+// A word of a header, whose bytes may be exchanged.
+#[tactic(auto, unfolding(crate::specs::Forms::heading_word))]
+fn heading_word(header: &[u8], place: usize, is_swapped: bool) -> u16
+    requires room { place + 2 ≤ length header.now }
+    ensures word { result ≡ heading_word is_swapped header.now place }
+{
+    let word = word(header, place);
+    if is_swapped {
+        word % 256 * 256 + word / 256
+    } else {
+        word
+    }
+}
+
+// How many characters the volume's name has.
+fn heading_length(header: &[u8], is_swapped: bool) -> u8
+    requires size { length header.now ≡ SLOT }
+    ensures length { result ≡ heading_length is_swapped header.now }
+{
+    if is_swapped { header[7] } else { header[6] }
+}
+
+// Whether 26 bytes are the header of a volume for an image of so many blocks.
+#[tactic(auto, unfolding(crate::specs::Forms::is_heading))]
+fn is_heading(header: &[u8], blocks: usize, is_swapped: bool) -> bool
+    requires size { length header.now ≡ SLOT }
+    ensures value { result ≡ is_heading is_swapped header.now blocks }
+{
+    let length = heading_length(header, is_swapped);
+    let begin = heading_word(header, HEADER_FILES_BEGIN, is_swapped);
+    let count = heading_word(header, HEADER_BLOCKS, is_swapped);
+    let files = heading_word(header, HEADER_FILES, is_swapped);
+    1 <= length
+        && length <= 7
+        && (begin == PAST_DIRECTORY || begin == PAST_SECOND)
+        && begin <= count
+        && usize::from(count) <= blocks
+        && files <= MOST_FILES
+}
+
+// Whether an image has one at a place.
+#[tactic(auto, unfolding(crate::specs::Forms::has_heading))]
+fn has_heading(image: &[u8], place: usize, blocks: usize, is_swapped: bool) -> bool
+    requires place { place ≤ 4294970111 }
+    ensures value { result ≡ has_heading image.now place blocks is_swapped }
+{
+    if image.len() < place + SLOT {
+        return false;
+    }
+    is_heading(&image[place..place + SLOT], blocks, is_swapped)
+}
+
+// Whether so many bytes from a place on are blocks in their order.
+fn is_in_blocks(image: &[u8], begin: usize, size: usize) -> bool
+    requires place { begin < 4294967296 }
+    ensures value { result ≡ is_in_blocks image.now begin size }
+{
+    has_heading(image, begin + DIRECTORY, size / BLOCK, false)
+}
+
+// Whether they are blocks with the bytes of each word exchanged.
+fn is_swapped(image: &[u8], begin: usize, size: usize) -> bool
+    requires place { begin < 4294967296 }
+    ensures value { result ≡ is_swapped image.now begin size }
+{
+    has_heading(image, begin + DIRECTORY, size / BLOCK, true)
+}
+
+// Whether they are a disk in the order of DOS.
+fn is_in_sectors(image: &[u8], begin: usize, size: usize) -> bool
+    requires place { begin < 4294967296 }
+    ensures value { result ≡ is_in_sectors image.now begin size }
+{
+    size == SECTORS && has_heading(image, begin + SECTORS_HEADING, 280, false)
+}
+
+// Four bytes, the low one first.
+#[tactic(auto, unfolding(crate::specs::Forms::long_in))]
+fn long(image: &[u8], place: usize) -> usize
+    requires room { place + 4 ≤ length image.now }
+    ensures long { result ≡ long_in image.now place }
+    ensures most { result < 4294967296 }
+{
+    usize::from(word(image, place)) + 65536 * usize::from(word(image, place + 2))
+}
+
+// How many bytes the blocks behind a header of an image's file have.
+#[tactic(auto, unfolding(crate::specs::Forms::front_size))]
+fn front_size(image: &[u8]) -> usize
+    requires room { 64 ≤ length image.now }
+    ensures size { result ≡ front_size image.now }
+    ensures most { result < 2199023255552 }
+{
+    let size = long(image, 28);
+    if size == 0 {
+        BLOCK * long(image, 20)
+    } else {
+        size
+    }
+}
+
+// Whether an image begins with a header of an image's file.
+#[tactic(auto, unfolding(crate::specs::Forms::has_front))]
+fn has_front(image: &[u8]) -> bool
+    ensures value { result ≡ has_front image.now }
+    ensures room { OnTrue result (64 ≤ length image.now) }
+{
+    if image.len() < 64 {
+        return false;
+    }
+    let begin = long(image, 24);
+    let size = front_size(image);
+    &image[..4] == b"2IMG".as_slice() && 52 <= begin && 0 < size && begin + size <= image.len()
+}
+
+// Adds the forms behind a header of an image's file.
+#[tactic(auto, unfolding(crate::specs::Forms::front_notes))]
+fn push_front(notes: &mut Vec<Note>, image: &[u8]) -> Result<(), AllocError>
+    requires room { 64 ≤ length image.now }
+    ensures more { OnOk result (notes.new.items ≡ notes.old.items ++ front_notes image.now) }
+{
+    let begin = long(image, 24);
+    let size = front_size(image);
+    let is_blocks = is_in_blocks(image, begin, size);
+    let is_dos = is_in_sectors(image, begin, size);
+    let is_turned = is_swapped(image, begin, size);
+    push_note(notes, is_blocks, Note::Form(Form::FrontBlocks))?;
+    push_note(notes, is_dos, Note::Form(Form::FrontDos))?;
+    push_note(notes, is_turned, Note::Form(Form::FrontSwapped))
+}
+
+/// Adds the other forms that an image may have.
+#[tactic(auto, unfolding(crate::specs::Forms::form_notes))]
+pub fn push_forms(notes: &mut Vec<Note>, image: &[u8]) -> Result<(), AllocError>
+    ensures more { OnOk result (notes.new.items ≡ notes.old.items ++ form_notes image.now) }
+{
+    let is_dos = is_in_sectors(image, 0, image.len());
+    let is_turned = is_swapped(image, 0, image.len());
+    push_note(notes, is_dos, Note::Form(Form::Dos))?;
+    push_note(notes, is_turned, Note::Form(Form::Swapped))?;
+    if has_front(image) {
+        push_front(notes, image)?;
+    }
+    Ok(())
+}

@@ -1,0 +1,251 @@
+//! What may be of use to know of an image beside the rules that it breaks.
+ghost use Rattle.std.specs.Prelude.{◌≡◌, ◌-◌, ◌≤◌, ◌++◌, IfOk, OnOk, length};
+ghost use Rattle.pm_volume.specs.Directory.{entry_in};
+ghost use Rattle.pm_volume.specs.Names.{is_same_name};
+ghost use Rattle.pm_volume.specs.declared.fields.TheConstants.{DIRECTORY_END, DIRECTORY_SIZE, MOST_FILES, SECOND_END};
+ghost use Rattle.pm_check.specs.Notes.{
+  copies_notes,
+  copy_notes,
+  differing,
+  differing_from,
+  differs,
+  directory_notes,
+  header_name,
+  image_notes,
+  is_good_second,
+  is_plain,
+  notes_from,
+  pair_notes,
+  pairs_from,
+  second_notes,
+  shares,
+  slot_notes,
+};
+ghost use Rattle.pm_check.specs.Rules.{slot_count};
+
+use crate::directory::entry_at;
+use crate::forms::{push_forms, push_note};
+use crate::note::Note;
+use crate::rules::push_directory;
+use pm_base::{BLOCK, word};
+use pm_volume::Entry;
+use pm_volume::fields::{
+    DIRECTORY, DIRECTORY_END, HEADER_FILES, HEADER_FILES_BEGIN, HEADER_NAME, LONGEST_VOLUME_NAME,
+    MOST_FILES, PAST_SECOND, SECOND, SECOND_END, SLOT,
+};
+use std::alloc::{AllocError, Global};
+
+// Whether each byte of a name is one of 33 to 126.
+#[tactic(auto, unfolding(crate::specs::Notes::is_plain))]
+fn is_plain(name: &[u8]) -> bool
+    ensures value { result ≡ is_plain name.now }
+{
+    name.iter().all(|c| 33 <= *c && *c <= 126)
+}
+
+// Whether two names are one, whatever their case.
+#[tactic(auto, unfolding(pm_volume::specs::Names::is_same_name))]
+fn is_same_name(left: &[u8], right: &[u8]) -> bool
+    ensures same { result ≡ is_same_name left.now right.now }
+{
+    left.len() == right.len()
+        && left
+            .iter()
+            .zip(right)
+            .all(|(a, b)| a.to_ascii_uppercase() == b.to_ascii_uppercase())
+}
+
+/// The characters of the volume's name that a directory of 2,048 bytes has, at most 7.
+#[tactic(auto, unfolding(crate::specs::Notes::header_name))]
+pub fn header_name(directory: &[u8]) -> &[u8]
+    requires whole { length directory.now ≡ DIRECTORY_SIZE }
+    ensures name { result.now ≡ header_name directory.now }
+{
+    let length = usize::from(directory[HEADER_NAME]).min(LONGEST_VOLUME_NAME);
+    &directory[HEADER_NAME + 1..HEADER_NAME + 1 + length]
+}
+
+/// Whether two files have a block in common.
+pub fn shares(a: &Entry, b: &Entry) -> bool
+    ensures value { result ≡ shares a.now b.now }
+{
+    a.first < a.end && b.first < b.end && a.first < b.end && b.first < a.end
+}
+
+// Adds what the files in two slots have in common.
+#[tactic(auto, unfolding(crate::specs::Notes::pair_notes))]
+fn push_pair(notes: &mut Vec<Note>, directory: &[u8], n: u16, k: u16) -> Result<(), AllocError>
+    requires whole { length directory.now ≡ DIRECTORY_SIZE }
+    requires slot { n ≤ MOST_FILES }
+    requires other { k ≤ MOST_FILES }
+    ensures more { OnOk result (notes.new.items ≡ notes.old.items ++ pair_notes directory.now n k) }
+{
+    let entry = entry_at(directory, n);
+    let other = entry_at(directory, k);
+    let has_blocks = shares(&entry, &other);
+    let has_name = is_same_name(entry.characters(), other.characters());
+    push_note(notes, has_blocks, Note::Shares(n, k))?;
+    push_note(notes, has_name, Note::SameName(n, k))
+}
+
+// Adds what the file in a slot has in common with those before it.
+fn push_pairs(notes: &mut Vec<Note>, directory: &[u8], n: u16) -> Result<(), AllocError>
+    requires whole { length directory.now ≡ DIRECTORY_SIZE }
+    requires from { 1 ≤ n }
+    requires to { n ≤ MOST_FILES }
+    ensures more { OnOk result (notes.new.items ≡ notes.old.items ++ pairs_from directory.now n 1 (n - 1)) }
+{
+    for k in 1..n {
+        push_pair(notes, directory, n, k)?;
+    }
+    Ok(())
+}
+
+// Adds the notes of the file in a slot.
+#[tactic(auto, unfolding(crate::specs::Notes::slot_notes))]
+fn push_slot(notes: &mut Vec<Note>, directory: &[u8], n: u16) -> Result<(), AllocError>
+    requires whole { length directory.now ≡ DIRECTORY_SIZE }
+    requires from { 1 ≤ n }
+    requires to { n ≤ MOST_FILES }
+    ensures more { OnOk result (notes.new.items ≡ notes.old.items ++ slot_notes directory.now n) }
+{
+    let entry = entry_at(directory, n);
+    push_note(notes, !is_plain(entry.characters()), Note::Name(n))?;
+    push_pairs(notes, directory, n)
+}
+
+// Adds the notes of the files.
+fn push_slots(notes: &mut Vec<Note>, directory: &[u8]) -> Result<(), AllocError>
+    requires whole { length directory.now ≡ DIRECTORY_SIZE }
+    ensures more { OnOk result
+        (notes.new.items ≡ notes.old.items ++ notes_from directory.now 1 (slot_count directory.now)) }
+{
+    let count = word(directory, HEADER_FILES).min(MOST_FILES);
+    for n in 1..count + 1 {
+        push_slot(notes, directory, n)?;
+    }
+    Ok(())
+}
+
+// Adds the notes of a directory.
+#[tactic(auto, unfolding(crate::specs::Notes::directory_notes))]
+fn push_directory_notes(notes: &mut Vec<Note>, directory: &[u8]) -> Result<(), AllocError>
+    requires whole { length directory.now ≡ DIRECTORY_SIZE }
+    ensures more { OnOk result (notes.new.items ≡ notes.old.items ++ directory_notes directory.now) }
+{
+    push_note(notes, !is_plain(header_name(directory)), Note::VolumeName)?;
+    push_slots(notes, directory)
+}
+
+// Whether a slot differs in two directories.
+#[tactic(auto, unfolding(crate::specs::Notes::differs))]
+fn differs(directory: &[u8], other: &[u8], n: u16) -> bool
+    requires whole { length directory.now ≡ DIRECTORY_SIZE }
+    requires other_whole { length other.now ≡ DIRECTORY_SIZE }
+    requires slot { n ≤ MOST_FILES }
+    ensures value { result ≡ differs directory.now other.now n }
+{
+    let at = SLOT * usize::from(n);
+    directory[at..at + SLOT] != other[at..at + SLOT]
+}
+
+// The note of a slot that differs.
+fn differing(n: u16) -> Note
+    ensures note { result ≡ differing n }
+{
+    if n == 0 {
+        Note::HeadersDiffer
+    } else {
+        Note::SlotsDiffer(n)
+    }
+}
+
+// Adds the slots that differ.
+fn push_differing(notes: &mut Vec<Note>, directory: &[u8], other: &[u8]) -> Result<(), AllocError>
+    requires whole { length directory.now ≡ DIRECTORY_SIZE }
+    requires other_whole { length other.now ≡ DIRECTORY_SIZE }
+    ensures more { OnOk result
+        (notes.new.items ≡ notes.old.items ++ differing_from directory.now other.now 0 78) }
+{
+    for n in 0..78 {
+        push_note(notes, differs(directory, other, n), differing(n))?;
+    }
+    Ok(())
+}
+
+// Adds how a second copy is, and in which slots it differs.
+fn push_copy(
+    notes: &mut Vec<Note>,
+    directory: &[u8],
+    second: &[u8],
+    is_good: bool,
+) -> Result<(), AllocError>
+    requires whole { length directory.now ≡ DIRECTORY_SIZE }
+    requires second_whole { length second.now ≡ DIRECTORY_SIZE }
+    ensures more { OnOk result (notes.new.items ≡ notes.old.items ++ copy_notes is_good directory.now second.now) }
+{
+    if is_good {
+        notes.push(Note::SecondGood)?;
+    } else {
+        notes.push(Note::SecondDamaged)?;
+    }
+    push_differing(notes, directory, second)
+}
+
+// Adds the notes of a second copy, where there is one.
+#[tactic(auto, unfolding(crate::specs::Notes::second_notes))]
+fn push_second(
+    notes: &mut Vec<Note>,
+    directory: &[u8],
+    second: &[u8],
+    is_good: bool,
+) -> Result<(), AllocError>
+    requires whole { length directory.now ≡ DIRECTORY_SIZE }
+    requires second_whole { length second.now ≡ DIRECTORY_SIZE }
+    ensures more { OnOk result (notes.new.items ≡ notes.old.items ++ second_notes is_good directory.now second.now) }
+{
+    if word(directory, HEADER_FILES_BEGIN) == PAST_SECOND || is_good {
+        push_copy(notes, directory, second, is_good)?;
+    }
+    Ok(())
+}
+
+// Whether a second copy breaks no rule in an image of so many blocks, and says itself that it is one.
+#[tactic(auto, unfolding(crate::specs::Notes::is_good_second))]
+fn is_good_second(alloc: Global, second: &[u8], blocks: usize) -> Result<bool, AllocError>
+    requires whole { length second.now ≡ DIRECTORY_SIZE }
+    ensures value { IfOk result (λ good. good ≡ is_good_second second.now blocks) }
+{
+    let mut found = Vec::new(alloc);
+    push_directory(&mut found, second, blocks)?;
+    Ok(word(second, HEADER_FILES_BEGIN) == PAST_SECOND && found.len() == 0)
+}
+
+// Adds the notes of an image's second copy.
+#[tactic(auto, unfolding(crate::specs::Notes::copies_notes))]
+fn push_copies(alloc: Global, notes: &mut Vec<Note>, image: &[u8]) -> Result<(), AllocError>
+    requires long { DIRECTORY_END ≤ length image.now }
+    ensures more { OnOk result (notes.new.items ≡ notes.old.items ++ copies_notes image.now) }
+{
+    if image.len() < SECOND_END {
+        return Ok(());
+    }
+    let second = &image[SECOND..SECOND_END];
+    let is_good = is_good_second(alloc, second, image.len() / BLOCK)?;
+    push_second(notes, &image[DIRECTORY..DIRECTORY_END], second, is_good)
+}
+
+/// What may be of use to know of an image beside the rules that it breaks: its other forms; and where it has a
+/// directory, the names and blocks of files, and the second copy.
+#[tactic(auto, unfolding(crate::specs::Notes::image_notes))]
+pub fn image_notes(alloc: Global, image: &[u8]) -> Result<Vec<Note>, AllocError>
+    ensures notes { IfOk result (λ notes. notes.items ≡ image_notes image.now) }
+{
+    let mut notes = Vec::new(alloc);
+    push_forms(&mut notes, image)?;
+    if image.len() >= DIRECTORY_END {
+        push_directory_notes(&mut notes, &image[DIRECTORY..DIRECTORY_END])?;
+        push_copies(alloc, &mut notes, image)?;
+    }
+    Ok(notes)
+}

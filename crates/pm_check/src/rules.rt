@@ -1,0 +1,163 @@
+//! The rules of a volume that an image breaks, each looked at by itself.
+ghost use Rattle.std.specs.Prelude.{◌≡◌, ◌≤◌, ◌++◌, IfOk, OnOk, length};
+ghost use Rattle.pm_volume.specs.declared.fields.TheConstants.{DIRECTORY_SIZE, MOST_FILES};
+ghost use Rattle.pm_check.specs.Rules.{
+  directory_findings,
+  findings_from,
+  found_if,
+  has_wrong_last,
+  header_findings,
+  image_findings,
+  is_out_of_order,
+  slot_count,
+  slot_findings,
+};
+
+use crate::directory::entry_at;
+use crate::finding::{Finding, SlotFinding};
+use pm_base::{BLOCK, word};
+use pm_volume::Entry;
+use pm_volume::fields::{
+    DIRECTORY, DIRECTORY_END, HEADER_BLOCKS, HEADER_FILES, HEADER_FILES_BEGIN, HEADER_NAME,
+    MOST_FILES, PAST_DIRECTORY, PAST_SECOND,
+};
+use std::alloc::{AllocError, Global};
+
+// Adds a finding where a rule is broken.
+fn push_if(found: &mut Vec<Finding>, is_broken: bool, finding: Finding) -> Result<(), AllocError>
+    ensures more { OnOk result (found.new.items ≡ found.old.items ++ found_if is_broken finding) }
+{
+    if is_broken {
+        found.push(finding)?;
+    }
+    Ok(())
+}
+
+// Adds a finding of a slot where a rule is broken.
+fn push_of(
+    found: &mut Vec<Finding>,
+    slot: u16,
+    is_broken: bool,
+    finding: SlotFinding,
+) -> Result<(), AllocError>
+    ensures more { OnOk result
+        (found.new.items ≡ found.old.items ++ found_if is_broken (Finding.Slot slot finding)) }
+{
+    push_if(found, is_broken, Finding::Slot(slot, finding))
+}
+
+// Adds the findings of the header.
+#[tactic(auto, unfolding(crate::specs::Rules::header_findings))]
+fn push_header(found: &mut Vec<Finding>, directory: &[u8], blocks: usize) -> Result<(), AllocError>
+    requires whole { length directory.now ≡ DIRECTORY_SIZE }
+    ensures more { OnOk result (found.new.items ≡ found.old.items ++ header_findings directory.now blocks) }
+{
+    let length = directory[HEADER_NAME];
+    let begin = word(directory, HEADER_FILES_BEGIN);
+    let count = word(directory, HEADER_BLOCKS);
+    let files = word(directory, HEADER_FILES);
+    push_if(found, length < 1 || 7 < length, Finding::VolumeName(length))?;
+    push_if(
+        found,
+        begin != PAST_DIRECTORY && begin != PAST_SECOND,
+        Finding::FilesBegin(begin),
+    )?;
+    push_if(found, count < begin, Finding::FewBlocks(count, begin))?;
+    push_if(
+        found,
+        blocks < usize::from(count),
+        Finding::PastImage(count, blocks),
+    )?;
+    push_if(found, MOST_FILES < files, Finding::ManyFiles(files))
+}
+
+/// Whether the last block of an entry has a wrong number of bytes: where it has blocks, none of 1 to 512.
+pub fn has_wrong_last(entry: &Entry) -> bool
+    ensures value { result ≡ has_wrong_last entry.now }
+{
+    entry.first < entry.end && (entry.last_bytes < 1 || 512 < entry.last_bytes)
+}
+
+// Whether a first block stands before the end of the entry in the slot before, where there is one.
+fn is_out_of_order(n: u16, first: u16, before: u16) -> bool
+    ensures value { result ≡ is_out_of_order n first before }
+{
+    1 < n && first < before
+}
+
+// Adds the findings of the entry in a slot.
+#[tactic(auto, unfolding(crate::specs::Rules::slot_findings))]
+fn push_slot(found: &mut Vec<Finding>, directory: &[u8], n: u16) -> Result<(), AllocError>
+    requires whole { length directory.now ≡ DIRECTORY_SIZE }
+    requires from { 1 ≤ n }
+    requires to { n ≤ MOST_FILES }
+    ensures more { OnOk result (found.new.items ≡ found.old.items ++ slot_findings directory.now n) }
+{
+    let entry = entry_at(directory, n);
+    let begin = word(directory, HEADER_FILES_BEGIN);
+    let blocks = word(directory, HEADER_BLOCKS);
+    let before = entry_at(directory, n - 1).end;
+    let Entry {
+        first,
+        end,
+        last_bytes,
+        ..
+    } = entry;
+    let length = entry.name[0];
+    push_of(
+        found,
+        n,
+        length < 1 || 15 < length,
+        SlotFinding::Name(length),
+    )?;
+    push_of(found, n, first < begin, SlotFinding::First(first, begin))?;
+    push_of(found, n, end < first, SlotFinding::End(end, first))?;
+    push_of(found, n, blocks < end, SlotFinding::PastVolume(end, blocks))?;
+    let last = SlotFinding::LastBytes(last_bytes);
+    push_of(found, n, has_wrong_last(&entry), last)?;
+    let order = SlotFinding::Order(first, before);
+    push_of(found, n, is_out_of_order(n, first, before), order)
+}
+
+// Adds the findings of the entries.
+fn push_slots(found: &mut Vec<Finding>, directory: &[u8]) -> Result<(), AllocError>
+    requires whole { length directory.now ≡ DIRECTORY_SIZE }
+    ensures more { OnOk result
+        (found.new.items ≡ found.old.items ++ findings_from directory.now 1 (slot_count directory.now)) }
+{
+    let count = word(directory, HEADER_FILES).min(MOST_FILES);
+    for n in 1..count + 1 {
+        push_slot(found, directory, n)?;
+    }
+    Ok(())
+}
+
+/// Adds the findings of a directory in an image of so many blocks.
+#[tactic(auto, unfolding(crate::specs::Rules::directory_findings))]
+pub fn push_directory(
+    found: &mut Vec<Finding>,
+    directory: &[u8],
+    blocks: usize,
+) -> Result<(), AllocError>
+    requires whole { length directory.now ≡ DIRECTORY_SIZE }
+    ensures more { OnOk result (found.new.items ≡ found.old.items ++ directory_findings directory.now blocks) }
+{
+    push_header(found, directory, blocks)?;
+    push_slots(found, directory)
+}
+
+/// The rules that an image breaks: its length, and the directory where it has one.
+#[tactic(auto, unfolding(crate::specs::Rules::image_findings))]
+pub fn image_findings(alloc: Global, image: &[u8]) -> Result<Vec<Finding>, AllocError>
+    ensures findings { IfOk result (λ found. found.items ≡ image_findings image.now) }
+{
+    let mut found = Vec::new(alloc);
+    let bytes = image.len();
+    push_if(&mut found, bytes % BLOCK != 0, Finding::NotBlocks(bytes))?;
+    if bytes < DIRECTORY_END {
+        found.push(Finding::TooShort(bytes))?;
+    } else {
+        push_directory(&mut found, &image[DIRECTORY..DIRECTORY_END], bytes / BLOCK)?;
+    }
+    Ok(found)
+}

@@ -1,0 +1,3 @@
+pub mod Names
+pub mod Steps
+pub mod Saves

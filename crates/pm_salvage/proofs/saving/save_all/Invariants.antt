@@ -1,0 +1,13 @@
+use Rattle.std.proofs.Common.{◌≡◌, ◌≤◌, drop, string_bytes}
+use Rattle.pm_salvage.specs.Saving.{saved_from}
+use Rattle.pm_salvage.proofs.saving.save_all.Given as goal
+
+-- with the files that are left it comes to the whole
+abbrev pub invariant-loop-file : goal.invariant-loop-file
+invariant-loop-file l = record {
+  rest : saved_from l.image l.taken l.count (drop l.file-index l.taken)
+      (record { volume = l.volume; text = string_bytes l.text; doubted = l.doubted })
+      ≡ saved_from l.image l.taken l.count l.taken
+      (record { volume = l.fn.volume; text = string_bytes l.fn.text; doubted = 0 });
+  few : l.doubted ≤ l.file-index;
+}

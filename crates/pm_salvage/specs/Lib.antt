@@ -1,0 +1,4 @@
+pub mod Believing
+pub mod Naming
+pub mod Report
+pub mod Saving

@@ -8,7 +8,7 @@ use Rattle.pm_streams.specs.declared.source.TheConstants.{INPUT_LIMIT}
 use Rattle.pm_tool.specs.declared.outcome.Outcome.{Outcome}
 use Rattle.pm_tool.specs.Batches.{IsInput, said_making}
 use Rattle.pm_tool.specs.Outcomes.{Said, IsOutcome}
-use Rattle.pm_tool.specs.Products.{Product, Written, Image, Refused, said_product}
+use Rattle.pm_tool.specs.Products.{Product, Written, Image, Refused, Judged, Saved, said_product}
 use Rattle.pm_tool.specs.Said.{BreaksOff, Finishes, IsSoundExit}
 use Rattle.pm_streams.specs.Streams.{Incoming, Streams, both, AppendsFront, IsCause}
 use Rattle.pm_tool.proofs.Kept.{broken_unwritten, broken_writing, done_whole}
@@ -18,16 +18,23 @@ sound_product : (p : Product) (unread : List ℕ) → IsSoundExit (said_product 
 sound_product (Written bytes) unread = refl
 sound_product (Image image) unread = refl
 sound_product (Refused refusal) unread = refl
+sound_product (Judged text None) unread = refl
+sound_product (Judged text (Some refusal)) unread = refl
+sound_product (Saved text image) unread = refl
 
 unread_product : (p : Product) (unread : List ℕ) → (said_product p unread).unread ≡ unread
 unread_product (Written bytes) unread = refl
 unread_product (Image image) unread = refl
 unread_product (Refused refusal) unread = refl
+unread_product (Judged text refusal) unread = refl
+unread_product (Saved text image) unread = refl
 
 written_product : (p : Product) (unread : List ℕ) → (said_product p unread).written ≡ (said_product p []).written
 written_product (Written bytes) unread = refl
 written_product (Image image) unread = refl
 written_product (Refused refusal) unread = refl
+written_product (Judged text refusal) unread = refl
+written_product (Saved text image) unread = refl
 
 -- all that was made was written
 pub batch_done : (reads : Bool) (old new : Streams) (input : List ℕ) (make : List ℕ → Product) (outcome : Outcome)

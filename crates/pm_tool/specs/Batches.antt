@@ -5,12 +5,13 @@ use Rattle.pm_volume.specs.Copies.{repaired}
 use Rattle.pm_volume.specs.Headers.{blank_fault}
 use Rattle.pm_volume.specs.declared.fault.VolumeFault.{VolumeFault}
 use Rattle.pm_filer.specs.Filed.{Order, order_of}
+use Rattle.pm_salvage.specs.Saving.{salvaged}
 use Rattle.pm_streams.specs.Streams.{ReadsAll}
 use Rattle.pm_tool.specs.declared.batch.Batch.{Batch}
 use Rattle.pm_tool.specs.declared.batch.Batch.TheVariants as batches
 use Rattle.pm_tool.specs.Assembly.{made_asm}
 use Rattle.pm_tool.specs.Code.{made_dis}
-use Rattle.pm_tool.specs.Files.{made_file, made_new, made_volume, opened_image, takes_input}
+use Rattle.pm_tool.specs.Files.{made_check, made_file, made_new, made_salvage, made_volume, opened_image, takes_input}
 use Rattle.pm_tool.specs.Outcomes.{Said}
 use Rattle.pm_tool.specs.Products.{Product, said_product}
 
@@ -22,6 +23,8 @@ made_of (batches.Files opened command) input = made_file opened (order_of comman
 made_of (batches.New name blocks) input =
     made_new (blank_fault (string_bytes name) blocks) (string_bytes name) blocks
 made_of (batches.Repair image) input = made_volume (repaired image.items)
+made_of (batches.Check image) input = made_check image.items
+made_of (batches.Salvage image second) input = made_salvage (salvaged image.items second)
 
 -- whether a command reads the input; an image that is no volume is refused before it is read
 abbrev pub reads_file : Result (List ℕ) VolumeFault → Order → Bool
@@ -35,6 +38,8 @@ reads_input batches.Dis = true
 reads_input (batches.Files opened command) = reads_file opened (order_of command)
 reads_input (batches.New name blocks) = false
 reads_input (batches.Repair image) = false
+reads_input (batches.Check image) = false
+reads_input (batches.Salvage image second) = false
 
 -- what is said to an input of which all is read, or else none, by what is made of it
 abbrev pub said_making : Bool → (List ℕ → Product) → List ℕ → Said
@@ -54,6 +59,12 @@ said_new fault name blocks input = said_product (made_new fault name blocks) inp
 
 abbrev pub said_repair : List ℕ → List ℕ → Said
 said_repair image input = said_product (made_volume (repaired image)) input
+
+abbrev pub said_check : List ℕ → List ℕ → Said
+said_check image input = said_product (made_check image) input
+
+abbrev pub said_salvage : List ℕ → Bool → List ℕ → Said
+said_salvage image second input = said_product (made_salvage (salvaged image second)) input
 
 -- the input as it is read: all of it, or nothing
 abbrev pub IsInput : Bool → Option (List ℕ) → Option (List ℕ) → List ℕ → Type 0

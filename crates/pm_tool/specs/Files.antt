@@ -6,8 +6,11 @@ use Rattle.pm_volume.specs.declared.fault.VolumeFault.{VolumeFault}
 use Rattle.pm_filer.specs.Filed.{Answer, Lines, Bytes, Done, Order, ListFiles, Get, Put, Remove, Change}
 use Rattle.pm_filer.specs.Filed.{GetText, PutText, Krunch, Date, Zero, Duplicate, Single, Filed, filed}
 use Rattle.pm_filer.specs.declared.fault.FilerFault.{FilerFault}
+use Rattle.pm_check.specs.Checked.{check_text}
+use Rattle.pm_salvage.specs.Saving as saving
+use Rattle.pm_tool.specs.declared.outcome.Refusal.{Refusal}
 use Rattle.pm_tool.specs.declared.outcome.Refusal.TheVariants as refusals
-use Rattle.pm_tool.specs.Products.{Product, Written, Image, Refused}
+use Rattle.pm_tool.specs.Products.{Product, Written, Image, Refused, Judged, Saved}
 
 -- the volume that an image is, or why it is none
 abbrev pub opened_unless : Option VolumeFault → List ℕ → Result (List ℕ) VolumeFault
@@ -72,3 +75,17 @@ made_new (Some fault) name blocks = Refused (refusals.Volume fault)
 abbrev pub made_volume : Result (List ℕ) VolumeFault → Product
 made_volume (Ok image) = Image image
 made_volume (Err fault) = Refused (refusals.Volume fault)
+
+-- why an image is refused, if it is no volume
+abbrev pub refusal_of : Result (List ℕ) VolumeFault → Option Refusal
+refusal_of (Ok volume) = None
+refusal_of (Err fault) = Some (refusals.Volume fault)
+
+-- what is wrong with an image, and why it is refused
+abbrev pub made_check : List ℕ → Product
+made_check image = Judged (check_text image) (refusal_of (opened_image image))
+
+-- a volume that is saved of an image, and what is said of it, or why there is none
+abbrev pub made_salvage : Result saving.Saved VolumeFault → Product
+made_salvage (Ok s) = Saved s.text s.volume
+made_salvage (Err fault) = Refused (refusals.Volume fault)

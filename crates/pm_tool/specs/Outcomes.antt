@@ -243,6 +243,27 @@ refused refusal unread =
       unread = unread;
     }
 
+-- how a judged image ends: well, or refused, and then the message says why
+abbrev pub judged_exit : Option Refusal → Exit
+judged_exit None = exits.Ended
+judged_exit (Some refusal) = exits.Refused
+
+abbrev pub judged_message : Option Refusal → List ℕ
+judged_message None = []
+judged_message (Some refusal) = refusal_text refusal
+
+-- a text on an image that may be refused: it is written in either case
+abbrev pub judged : List ℕ → Option Refusal → List ℕ → Said
+judged text refusal unread =
+    record {
+      written = text;
+      exit = judged_exit refusal;
+      message = judged_message refusal;
+      image = None;
+      printer = [];
+      unread = unread;
+    }
+
 -- the outcome is what is said
 pub record IsOutcome (outcome : Outcome) (told : Said) : Type 0 where
   pub exit : outcome.exit ≡ told.exit

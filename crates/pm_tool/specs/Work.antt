@@ -21,3 +21,5 @@ work_of jobs.Dis = works.Batch batches.Dis
 work_of (jobs.Files image command) = works.Batch (batches.Files (opened_image image.items) command)
 work_of (jobs.New name blocks) = works.Batch (batches.New name blocks)
 work_of (jobs.Repair image) = works.Batch (batches.Repair image)
+work_of (jobs.Check image) = works.Batch (batches.Check image)
+work_of (jobs.Salvage image second) = works.Batch (batches.Salvage image second)

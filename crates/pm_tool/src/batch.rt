@@ -9,8 +9,8 @@ ghost use Rattle.pm_streams.specs.Streams.{AppendsFront, AreWell, IsCause, IsCou
 
 use crate::assembly::assemble;
 use crate::code::disassemble;
-use crate::files::{file, new_volume, repair_volume, takes_input};
-use crate::outcome::{Exit, Outcome, Refusal, refuse_line};
+use crate::files::{check_image, file, new_volume, repair_volume, salvage_image, takes_input};
+use crate::outcome::{Exit, Outcome, Refusal, conclude, refuse_line};
 use pm_filer::FileCommand;
 use pm_streams::{Fault, Sink, Source, read_all, write_all};
 use pm_volume::{Volume, VolumeFault};
@@ -39,6 +39,15 @@ pub(crate) enum Batch {
     Repair {
         image: Vec<u8>,
     },
+    /// An image is looked at.
+    Check {
+        image: Vec<u8>,
+    },
+    /// The files of an image are saved into a new volume.
+    Salvage {
+        image: Vec<u8>,
+        second: bool,
+    },
 }
 
 impl Batch {
@@ -49,7 +58,8 @@ impl Batch {
         match self {
             Batch::Asm { .. } | Batch::Dis => true,
             Batch::Files { opened, command } => opened.is_ok() && takes_input(command),
-            Batch::New { .. } | Batch::Repair { .. } => false,
+            Batch::New { .. } | Batch::Repair { .. } | Batch::Check { .. } => false,
+            Batch::Salvage { .. } => false,
         }
     }
 }
@@ -63,6 +73,10 @@ pub(crate) enum Made {
     Image(Vec<u8>),
     /// Nothing, and why; with the line of the text that the refusal names, where that is known.
     Refused(Refusal, Option<String>),
+    /// A text on an image that is written, and why the image is refused, if it is.
+    Judged(Vec<u8>, Option<Refusal>),
+    /// A text that is written, and the image of a volume that is kept.
+    Saved(Vec<u8>, Vec<u8>),
 }
 
 /// What a job makes of its input. Of a job that reads none the input is empty.
@@ -75,6 +89,8 @@ fn make(alloc: Global, job: Batch, input: Vec<u8>) -> Result<Made, AllocError>
         Batch::Files { opened, command } => file(alloc, opened, command, input),
         Batch::New { name, blocks } => new_volume(alloc, name.as_str(), blocks),
         Batch::Repair { image } => Ok(repair_volume(image)),
+        Batch::Check { image } => check_image(alloc, image),
+        Batch::Salvage { image, second } => salvage_image(alloc, &image, second),
     }
 }
 
@@ -116,6 +132,15 @@ fn deliver<W: Sink>(alloc: Global, sink: &mut W, made: Made) -> Result<Outcome, 
         }
         Made::Image(image) => Ok(Outcome::keeping(alloc, image)),
         Made::Refused(refusal, line) => Ok(refuse_line(alloc, refusal, line)?),
+        Made::Judged(text, refusal) => {
+            let outcome = conclude(alloc, refusal)?;
+            write_all(sink, &text)?;
+            Ok(outcome)
+        }
+        Made::Saved(text, image) => {
+            write_all(sink, &text)?;
+            Ok(Outcome::keeping(alloc, image))
+        }
     }
 }
 

@@ -3,9 +3,11 @@ ghost use Rattle.std.specs.Prelude.{◌≡◌, IfOk};
 ghost use Rattle.pm_filer.specs.Filed.{answer_of, order_of};
 ghost use Rattle.pm_volume.specs.Copies.{repaired};
 ghost use Rattle.pm_volume.specs.Headers.{blank_fault};
-ghost use Rattle.pm_tool.specs.Files.{answered, made_file, made_new, made_volume, opened_image};
+ghost use Rattle.pm_tool.specs.Files.{answered, made_check, made_file, made_new, made_salvage, made_volume};
+ghost use Rattle.pm_tool.specs.Files.{opened_image};
 ghost use Rattle.pm_tool.specs.Files.{takes_input, with_input};
 ghost use Rattle.pm_tool.specs.Products.{product_of};
+ghost use Rattle.pm_salvage.specs.Saving.{salvaged};
 
 use crate::batch::Made;
 use crate::outcome::Refusal;
@@ -91,5 +93,28 @@ pub(crate) fn repair_volume(image: Vec<u8>) -> Made
     match Volume::repair(image) {
         Ok(repaired) => Made::Image(repaired.into_bytes()),
         Err((fault, _)) => Made::Refused(Refusal::Volume(fault), None),
+    }
+}
+
+/// What is wrong with an image, and why it is refused, if it is no volume.
+pub(crate) fn check_image(alloc: Global, image: Vec<u8>) -> Result<Made, AllocError>
+    ensures made { IfOk result (λ made. product_of made ≡ made_check image.items) }
+{
+    let text = pm_check::check(alloc, &image)?;
+    let refusal = match open(image) {
+        Ok(_) => None,
+        Err(fault) => Some(Refusal::Volume(fault)),
+    };
+    Ok(Made::Judged(text.into_bytes(), refusal))
+}
+
+/// The files of an image in a new volume, and what is said of each.
+pub(crate) fn salvage_image(alloc: Global, image: &[u8], second: bool) -> Result<Made, AllocError>
+    ensures made { IfOk result (λ made. product_of made ≡ made_salvage (salvaged image.now second)) }
+{
+    match pm_salvage::salvage(alloc, image, second) {
+        Ok(saved) => Ok(Made::Saved(saved.text.into_bytes(), saved.image)),
+        Err(VolumeFault::NoMemory) => Err(AllocError),
+        Err(fault) => Ok(Made::Refused(Refusal::Volume(fault), None)),
     }
 }

@@ -2,7 +2,7 @@
 ghost use Rattle.std.specs.Prelude.{◌≡◌, false, [], List, ℕ, Some, None, IfOk, option_map, string_bytes, vec_items};
 ghost use Rattle.pm_tool.specs.Outcomes.{asm_text, boot_text, code_text, exit_number, exit_of, fault_exit, is_refusal};
 ghost use Rattle.pm_tool.specs.Outcomes.{is_want, outcome_text, refusal_text, system_text, text_fault_text};
-ghost use Rattle.pm_tool.specs.Outcomes.{IsOutcome, SaysWhy, refused, volume_text};
+ghost use Rattle.pm_tool.specs.Outcomes.{IsOutcome, SaysWhy, judged, refused, volume_text};
 
 use pm_asm::AsmFault;
 use pm_codefile::CodeFault;
@@ -89,6 +89,19 @@ pub enum Job {
     /// image is refused by `refused volume N`.
     Repair {
         image: Vec<u8>,
+    },
+    /// The output says what is wrong with an image, of any bytes. The input is not read. An image that is no volume is
+    /// refused by `refused volume N` behind that.
+    Check {
+        image: Vec<u8>,
+    },
+    /// A new volume with the files of an image, of any bytes, whose entries make sense by themselves, by the first copy
+    /// of the directory or, with `second`, by the second. The outcome has its image, and the output is a line for each
+    /// entry. The input is not read. An image that is too short is refused by `refused volume 2`, and one whose files
+    /// need more than 65,535 blocks by `refused volume 7`.
+    Salvage {
+        image: Vec<u8>,
+        second: bool,
     },
 }
 
@@ -435,6 +448,17 @@ pub(crate) fn refuse_line(
         ending: None,
         line,
     })
+}
+
+/// What a job comes to that judges an image: an end, or a refusal.
+pub(crate) fn conclude(alloc: Global, refusal: Option<Refusal>) -> Result<Outcome, AllocError>
+    ensures outcome { IfOk result (λ outcome. (text unread : List ℕ) → IsOutcome outcome (judged text refusal unread)) }
+    ensures told { IfOk result SaysWhy }
+{
+    match refusal {
+        None => Ok(Outcome::plain(alloc, Exit::Ended, String::new(alloc))),
+        Some(refusal) => refuse(alloc, refusal),
+    }
 }
 
 /// Refuses the input: nothing is written.

@@ -72,5 +72,7 @@ pub(crate) fn work_of(job: Job) -> Work
         }
         Job::New { name, blocks } => Work::Batch(Batch::New { name, blocks }),
         Job::Repair { image } => Work::Batch(Batch::Repair { image }),
+        Job::Check { image } => Work::Batch(Batch::Check { image }),
+        Job::Salvage { image, second } => Work::Batch(Batch::Salvage { image, second }),
     }
 }

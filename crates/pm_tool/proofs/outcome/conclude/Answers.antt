@@ -1,0 +1,17 @@
+use Rattle.std.proofs.Common.{ℕ, List, Some, Result, Ok, Err, IfOk}
+use Rattle.std.specs.declared.alloc.AllocError.{AllocError}
+use Rattle.pm_tool.specs.Outcomes.{IsOutcome, judged, refused}
+use Rattle.pm_tool.specs.declared.outcome.Outcome.{Outcome}
+use Rattle.pm_tool.specs.declared.outcome.Refusal.{Refusal}
+use Rattle.pm_tool.proofs.outcome.conclude.Goals as goal
+
+-- what is refused is refused with a text too
+with_text : (r : Result Outcome AllocError) (refusal : Refusal)
+    → IfOk r (λ outcome. (unread : List ℕ) → IsOutcome outcome (refused refusal unread))
+    → IfOk r (λ outcome. (text unread : List ℕ) → IsOutcome outcome (judged text (Some refusal) unread))
+with_text (Ok outcome) refusal h = λ text unread.
+    let i = h unread in record { exit = i.exit; message = i.message; image = i.image; printer = i.printer }
+with_text (Err error) refusal h = tt
+
+pub returns-in-Some-clause-outcome : goal.returns-in-Some-clause-outcome
+returns-in-Some-clause-outcome c = rw c.in-Some.is (with_text c.refuse.result c.in-Some.refusal c.refuse.ensures.outcome)

@@ -49,7 +49,7 @@ _pmach() {
     asm) words="--list --help" ;;
     dis) words="--help" ;;
     files)
-        words="--image list get put gettext puttext remove change krunch date zero new duplicate single repair --help"
+        words="--image list get put gettext puttext remove change krunch date zero new duplicate single repair check salvage --second --help"
         for ((n = 2; n < COMP_CWORD; n++)); do
             case ${COMP_WORDS[n]} in
             get | gettext | remove | change) verb=${COMP_WORDS[n]} ;;

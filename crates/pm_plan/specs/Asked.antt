@@ -10,6 +10,7 @@ use Rattle.pm_filer.specs.Filed.{Order, ListFiles, Get, Put, Remove, Change, Get
 use Rattle.pm_filer.specs.Filed.{PutText, Krunch, Date, Zero, Duplicate, Single, order_of}
 use Rattle.pm_filer.specs.Listing.{kind_word}
 use Rattle.pm_plan.specs.declared.file_words.FilesPlan.{FilesPlan}
+use Rattle.pm_plan.specs.declared.file_words.SalvagePlan.{SalvagePlan}
 use Rattle.pm_plan.specs.declared.file_words.Verb.{Verb}
 use Rattle.pm_plan.specs.declared.file_words.Verb.TheVariants as verbs
 use Rattle.pm_plan.specs.declared.run_words.Keeping.{Keeping}
@@ -124,6 +125,7 @@ AsksVerb verb rows (verbs.New name blocks) =
     (verb ≡ codes "new") × (word_found rows (codes "NAME") ≡ Some (string_bytes name))
     × IsSpelled (word_found rows (codes "BLOCKS")) blocks
 AsksVerb verb rows verbs.Repair = verb ≡ codes "repair"
+AsksVerb verb rows verbs.Check = verb ≡ codes "check"
 
 -- the path of an image, which stands before the verb or behind it
 abbrev pub IsPath : Option (List ℕ) → Option (List ℕ) → List ℕ → Type 0
@@ -138,6 +140,13 @@ AsksFiles m plan = (verb : List ℕ) × (rows : List Row) × (subcommand_rows_of
     × IsPath (word_found (words_of m) (codes "image")) (word_found rows (codes "image")) (string_bytes plan.path)
     × AsksVerb verb rows plan.verb
 
+-- the same with the verb salvage, which names a new volume too
+abbrev pub AsksSalvage : ArgMatches → SalvagePlan → Type 0
+AsksSalvage m plan = (rows : List Row) × (subcommand_rows_of m ≡ Some (codes "salvage", rows))
+    × IsPath (word_found (words_of m) (codes "image")) (word_found rows (codes "image")) (string_bytes plan.path)
+    × (word_found rows (codes "NEWPATH") ≡ Some (string_bytes plan.target))
+    × IsFlag (one_of (codes "second") rows) plan.second
+
 -- a command and its words
 abbrev pub Asks : List ℕ → ArgMatches → Plan → Type 0
 Asks command m (plans.Raw limit) =
@@ -149,6 +158,7 @@ Asks command m (plans.Run program keeping) =
     (command ≡ codes "run") × AsksProgram (words_of m) program × AsksKeeping (words_of m) keeping
 Asks command m (plans.Trace program) = (command ≡ codes "trace") × AsksProgram (words_of m) program
 Asks command m (plans.Debug program) = (command ≡ codes "debug") × AsksProgram (words_of m) program
+Asks command m (plans.Salvage plan) = (command ≡ codes "files") × AsksSalvage m plan
 
 -- the command among all words, by its name, and what is found of its words
 abbrev pub IsCommand : ArgMatches → List ℕ → ArgMatches → Type 0

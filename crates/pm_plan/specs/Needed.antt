@@ -112,7 +112,7 @@ verb_needs verb =
     else (if bytes_eq verb (codes "repair") then Some []
     else (if bytes_eq verb (codes "put") then Some ((codes "NAME", Word) ∷ (codes "KIND", Kind) ∷ [])
     else (if bytes_eq verb (codes "new") then Some ((codes "NAME", Word) ∷ (codes "BLOCKS", Number 65535) ∷ [])
-    else None)))))))))))))
+    else (if bytes_eq verb (codes "check") then Some [] else None))))))))))))))
 
 -- the path of an image stands before the verb or behind it, not both, and is not empty
 abbrev pub IsOnePath : Option (List ℕ) → Option (List ℕ) → Type 0
@@ -128,10 +128,26 @@ AreGoodBefore rows (Some behind) =
     IsOnePath (word_found rows (codes "image")) (word_found behind.1 (codes "image"))
     × MeetAll behind.1 (verb_needs behind.0)
 
+-- whether a verb is salvage
+abbrev pub is_salvage : Option (List ℕ × List Row) → Bool
+is_salvage None = false
+is_salvage (Some behind) = bytes_eq behind.0 (codes "salvage")
+
+-- the words before that verb, the verb, and the words behind it, which name the new volume
+abbrev pub IsGoodSalvage : List Row → Option (List ℕ × List Row) → Type 0
+IsGoodSalvage rows None = ⊥
+IsGoodSalvage rows (Some behind) = (behind.0 ≡ codes "salvage")
+    × IsOnePath (word_found rows (codes "image")) (word_found behind.1 (codes "image"))
+    × IsThere (word_found behind.1 (codes "NEWPATH"))
+
+-- the words of files, by its verb
+abbrev pub AreGoodFiles : List Row → Option (List ℕ × List Row) → Type 0
+AreGoodFiles rows behind = MatchBool (is_salvage behind) (IsGoodSalvage rows behind) (AreGoodBefore rows behind)
+
 -- the words of a command are good
 abbrev pub AreGood : List ℕ → ArgMatches → Type 0
 AreGood command m = MatchBool (bytes_eq command (codes "files"))
-    (AreGoodBefore (words_of m) (subcommand_rows_of m)) (MeetAll (words_of m) (command_needs command))
+    (AreGoodFiles (words_of m) (subcommand_rows_of m)) (MeetAll (words_of m) (command_needs command))
 
 -- all words are good: whatever command is found among them, its words are
 abbrev pub AreAllGood : ArgMatches → Type 0

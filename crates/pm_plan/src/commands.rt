@@ -183,6 +183,28 @@ const VERBS: &[CommandRow] = &[
         "Puts the second copy of the directory in the place of a damaged first (refused volume 13)",
         &[IMAGE],
     ),
+    (
+        "check",
+        "Says what is wrong with the image, line by line, whether it is a volume or not",
+        &[IMAGE],
+    ),
+    (
+        "salvage",
+        "Makes a new volume of the files whose entries make sense by themselves; the image stays",
+        &[
+            IMAGE,
+            (
+                "NEWPATH",
+                Form::Word,
+                "The new volume's file, which must not be there",
+            ),
+            (
+                "second",
+                Form::Flag,
+                "Goes by the second copy of the directory, in blocks 6 to 9",
+            ),
+        ],
+    ),
 ];
 
 /// The commands of the debugger.

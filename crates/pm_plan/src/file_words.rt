@@ -3,12 +3,14 @@ ghost use Rattle.std.specs.Prelude.{◌≡◌, ◌≤◌, ◌↔◌, ℕ, Err, N
 ghost use Rattle.std.specs.Prelude.{SomeIff, codes, is_some, option_map, string_bytes, ◌≢◌};
 ghost use Rattle.std.specs.Str.Parse.{digits_value};
 ghost use Rattle.clap.specs.Words.{subcommand_rows_of};
-ghost use Rattle.pm_plan.specs.Asked.{AsksFiles, AsksVerb, IsKind, IsNumberUpTo, IsNumberWord, IsPath, IsSpelled};
+ghost use Rattle.pm_plan.specs.Asked.{AsksFiles, AsksSalvage, AsksVerb, IsKind, IsNumberUpTo, IsNumberWord};
+ghost use Rattle.pm_plan.specs.Asked.{IsPath, IsSpelled};
 ghost use Rattle.pm_plan.specs.Asked.{word_found, words_of};
-ghost use Rattle.pm_plan.specs.Needed.{AreGoodBefore, IsKindWord, IsThere, IsWrong, MeetAll, verb_needs};
+ghost use Rattle.pm_plan.specs.Needed.{AreGoodBefore, IsGoodSalvage, IsKindWord, IsThere, IsWrong, MeetAll};
+ghost use Rattle.pm_plan.specs.Needed.{is_salvage, verb_needs};
 ghost use Rattle.pm_plan.specs.declared.words.WordsError.TheVariants.{NoCommand, NoMemory};
 
-use crate::words::{WordsError, given, needed, number};
+use crate::words::{WordsError, flag, given, needed, number};
 use clap::ArgMatches;
 use pm_filer::kind_word;
 use std::alloc::Global;
@@ -22,6 +24,17 @@ pub struct FilesPlan {
     pub verb: Verb,
 }
 
+/// The files of an image that are saved into a new volume.
+#[derive(Drop)]
+pub struct SalvagePlan {
+    /// The path of the image.
+    pub path: String,
+    /// The path of the new volume.
+    pub target: String,
+    /// Whether it goes by the second copy of the directory.
+    pub second: bool,
+}
+
 /// What is to be done with an image.
 #[derive(Drop)]
 pub enum Verb {
@@ -31,6 +44,8 @@ pub enum Verb {
     New(String, u16),
     /// The image with its first copy of the directory repaired.
     Repair,
+    /// What is wrong with the image.
+    Check,
 }
 
 impl Verb {
@@ -149,6 +164,7 @@ fn verb_of(alloc: Global, verb: &str, words: &ArgMatches<'_>) -> Result<Verb, Wo
         "repair" => return Ok(Verb::Repair),
         "put" => return put(alloc, words),
         "new" => return new(alloc, words),
+        "check" => return Ok(Verb::Check),
         _ => return Err(WordsError::NoCommand),
     };
     Ok(Verb::Command(command))
@@ -185,4 +201,39 @@ pub fn files_plan(alloc: Global, matches: &ArgMatches<'_>) -> Result<FilesPlan, 
     let path = path_of(before, behind)?;
     let verb = verb_of(alloc, verb, words)?;
     Ok(FilesPlan { path, verb })
+}
+
+/// Whether the verb of `files` is `salvage`, which has words of its own.
+pub fn is_salvage(matches: &ArgMatches<'_>) -> bool
+    ensures value { result ≡ is_salvage (subcommand_rows_of matches.now) }
+{
+    match matches.subcommand() {
+        Some((verb, _)) => verb == "salvage",
+        None => false,
+    }
+}
+
+/// What the words of `files` with the verb `salvage` ask for.
+pub fn salvage_plan(alloc: Global, matches: &ArgMatches<'_>) -> Result<SalvagePlan, WordsError>
+    ensures asked { IfOk result (λ plan. AsksSalvage matches.now plan) }
+    ensures good { IsOk result → IsGoodSalvage (words_of matches.now) (subcommand_rows_of matches.now) }
+    ensures taken { IsGoodSalvage (words_of matches.now) (subcommand_rows_of matches.now)
+        → IsOkUnless result NoMemory }
+{
+    let Some((verb, words)) = matches.subcommand() else {
+        return Err(WordsError::NoCommand);
+    };
+    if verb != "salvage" {
+        return Err(WordsError::NoCommand);
+    }
+    let before = given(alloc, matches, "image")?;
+    let behind = given(alloc, words, "image")?;
+    let path = path_of(before, behind)?;
+    let target = word(alloc, words, "NEWPATH")?;
+    let second = flag(words, "second");
+    Ok(SalvagePlan {
+        path,
+        target,
+        second,
+    })
 }

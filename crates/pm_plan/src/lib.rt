@@ -6,6 +6,6 @@ mod file_words;
 mod run_words;
 mod words;
 
-pub use file_words::{FilesPlan, Verb};
+pub use file_words::{FilesPlan, SalvagePlan, Verb};
 pub use run_words::{Keeping, Others, Program};
 pub use words::{Plan, WordsError, plan_of};

@@ -9,7 +9,7 @@ ghost use Rattle.pm_plan.specs.Needed.{AreAllGood, AreGood, IsOptional, IsWrong}
 ghost use Rattle.pm_plan.specs.declared.words.WordsError.TheVariants.{NoCommand, NoMemory, NoValue};
 
 use crate::commands::all_commands;
-use crate::file_words::{FilesPlan, files_plan};
+use crate::file_words::{FilesPlan, SalvagePlan, files_plan, is_salvage, salvage_plan};
 use crate::run_words::{Keeping, Program, keeping_of, program_of};
 use clap::ArgMatches;
 use clap::error::ErrorKind;
@@ -38,6 +38,8 @@ pub enum Plan {
     Trace(Program),
     /// A program that is debugged.
     Debug(Program),
+    /// The files of an image that are saved into a new volume.
+    Salvage(SalvagePlan),
 }
 
 /// Why the words are no job.
@@ -176,6 +178,19 @@ pub fn limit_of(matches: &ArgMatches<'_>) -> Result<u32, WordsError>
     }
 }
 
+/// What the words of `files` ask for.
+fn files_asked(alloc: Global, matches: &ArgMatches<'_>) -> Result<Plan, WordsError>
+    ensures asked { IfOk result (λ plan. Asks (codes "files") matches.now plan) }
+    ensures good { IsOk result → AreGood (codes "files") matches.now }
+    ensures taken { AreGood (codes "files") matches.now → IsOkUnless result NoMemory }
+{
+    if is_salvage(matches) {
+        Ok(Plan::Salvage(salvage_plan(alloc, matches)?))
+    } else {
+        Ok(Plan::Files(files_plan(alloc, matches)?))
+    }
+}
+
 /// What a command and its words ask for. Refused where it is none of the seven, or where its words are not what it
 /// needs.
 fn plan_by(alloc: Global, command: &str, matches: &ArgMatches<'_>) -> Result<Plan, WordsError>
@@ -194,7 +209,7 @@ fn plan_by(alloc: Global, command: &str, matches: &ArgMatches<'_>) -> Result<Pla
             list: flag(matches, "list"),
         }),
         "dis" => Ok(Plan::Dis),
-        "files" => Ok(Plan::Files(files_plan(alloc, matches)?)),
+        "files" => files_asked(alloc, matches),
         _ => Err(WordsError::NoCommand),
     }
 }

@@ -1,18 +1,20 @@
 -- What a verb of `files` keeps is what its job says.
 use Rattle.std.proofs.Common.{◌≡◌, ℕ, List, Option, None, Some, subst, IfSome, option_map, vec_items, string_bytes, Vec}
 use Rattle.std.specs.declared.alloc.Global.{Global}
-use Rattle.pm_files.specs.Held.{Files, Keeps}
+use Rattle.pm_files.specs.Held.{Files, HoldsFile, Keeps}
 use Rattle.pm_tool.specs.Outcomes.{Said, IsOutcome}
 use Rattle.pm_streams.specs.Streams.{Streams}
 use Rattle.pm_tool.specs.Said.{job_said, Tells, TellsAll}
 use Rattle.pm_tool.specs.declared.outcome.Job.{Job}
 use Rattle.pm_tool.specs.declared.outcome.Outcome.{Outcome}
-use Rattle.pm_program.specs.Kept.{KeepsRun, KeepsRunSaid, KeepsSaid, KeepsTold, PrintsIf, Reads, ReadsEach, SaysOf, TellsOf, has_run, paths_of}
+use Rattle.pm_program.specs.Kept.{KeepsRun, KeepsRunSaid, KeepsSaid, KeepsSalvage, KeepsTold, PrintsIf, Reads, ReadsEach, SaysOf, TellsOf}
+use Rattle.pm_program.specs.Kept.{has_run, paths_of}
 use Rattle.pm_program.specs.declared.kept.KeptOfRun.{KeptOfRun}
 use Rattle.pm_plan.specs.declared.run_words.Program.{Program}
 use Rattle.pm_tool.specs.Disks.{images_of}
 use Rattle.pm_tool.specs.declared.outcome.Job.TheVariants as jobs
 use Rattle.pm_program.specs.declared.kept.Printing.{Printing}
+use Rattle.pm_plan.specs.declared.file_words.SalvagePlan.{SalvagePlan}
 use Rattle.pm_plan.specs.declared.file_words.Verb.{Verb}
 use Rattle.pm_plan.specs.declared.file_words.Verb.TheVariants as verbs
 
@@ -23,6 +25,8 @@ keeps_said old new path (verbs.Command command) job input says keeps =
 keeps_said old new path (verbs.New name blocks) job input says keeps =
     subst (λ told. Keeps old new path told.image) (says input) keeps
 keeps_said old new path verbs.Repair job input says keeps =
+    (says.0, says.1, subst (λ told. Keeps old new path told.image) (says.2 input) keeps)
+keeps_said old new path verbs.Check job input says keeps =
     (says.0, says.1, subst (λ told. Keeps old new path told.image) (says.2 input) keeps)
 
 -- where the input is known, the file keeps what is said to it
@@ -94,3 +98,23 @@ known_tells job old new files program disks system outcome from is_from tells re
     known None told = tt
     known (Some input) told =
         (disks, system, subst (λ path. ReadsEach files (paths_of path program.others) (images_of disks)) is_from reads, given, told)
+
+-- where the input is known, the new volume is the one that is said of the image that was read
+pub known_salvage : (before after : Streams) (old held read new : Files) (plan : SalvagePlan) (image : Vec ℕ Global)
+    (outcome : Outcome) → TellsAll before after outcome (job_said (jobs.Salvage image plan.second))
+    → held ≡ old → read ≡ held → HoldsFile held (string_bytes plan.path) image.items
+    → Keeps read new (string_bytes plan.target) (option_map vec_items outcome.image)
+    → IfSome before.source.remaining (λ input. KeepsSalvage old new plan input)
+known_salvage before after old held read new plan image outcome tells same also holds keeps = known before.source.remaining tells
+  where
+    known : (had : Option (List ℕ))
+        → IfSome had (λ input. Tells before after outcome (job_said (jobs.Salvage image plan.second) input))
+        → IfSome had (λ input. KeepsSalvage old new plan input)
+    known None told = tt
+    known (Some input) told = (
+      image.items,
+      subst (λ files. HoldsFile files (string_bytes plan.path) image.items) same holds,
+      subst (Keeps old new (string_bytes plan.target)) told.comes_to.image
+          (subst (λ files. Keeps files new (string_bytes plan.target) (option_map vec_items outcome.image)) same
+          (subst (λ files. Keeps files new (string_bytes plan.target) (option_map vec_items outcome.image)) also keeps)),
+    )

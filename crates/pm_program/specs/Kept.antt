@@ -6,7 +6,7 @@ use Rattle.pm_files.specs.Held.{Files, HoldsFile, Keeps, Puts}
 use Rattle.pm_filer.specs.Filed.{Order, ListFiles, Get, Put, Remove, Change, GetText}
 use Rattle.pm_filer.specs.Filed.{PutText, Krunch, Date, Zero, Duplicate, Single, order_of}
 use Rattle.pm_volume.specs.Headers.{blank_fault}
-use Rattle.pm_tool.specs.Batches.{said_files, said_new, said_repair}
+use Rattle.pm_tool.specs.Batches.{said_check, said_files, said_new, said_repair, said_salvage}
 use Rattle.pm_tool.specs.Disks.{images_of}
 use Rattle.pm_tool.specs.Outcomes.{Said}
 use Rattle.pm_streams.specs.Streams.{Streams}
@@ -16,6 +16,7 @@ use Rattle.pm_tool.specs.declared.outcome.Exit.TheVariants as exits
 use Rattle.pm_tool.specs.declared.outcome.Job.{Job}
 use Rattle.pm_tool.specs.declared.outcome.Job.TheVariants as jobs
 use Rattle.pm_tool.specs.declared.outcome.Outcome.{Outcome}
+use Rattle.pm_plan.specs.declared.file_words.SalvagePlan.{SalvagePlan}
 use Rattle.pm_plan.specs.declared.file_words.Verb.{Verb}
 use Rattle.pm_plan.specs.declared.file_words.Verb.TheVariants as verbs
 use Rattle.pm_program.specs.declared.kept.KeptOfRun.{KeptOfRun}
@@ -73,6 +74,7 @@ abbrev pub takes_lock : Verb → Bool
 takes_lock (verbs.Command command) = may_change (order_of command)
 takes_lock (verbs.New name blocks) = true
 takes_lock verbs.Repair = true
+takes_lock verbs.Check = false
 
 -- nothing has changed, or the image of unit 4 alone
 abbrev pub KeepsFront : Files → Files → List ℕ → Type 0
@@ -87,6 +89,8 @@ KeepsSaid old new path (verbs.New name blocks) input =
     Keeps old new path (said_new (blank_fault (string_bytes name) blocks) (string_bytes name) blocks input).image
 KeepsSaid old new path verbs.Repair input = (image : List ℕ)
     × HoldsFile old path image × Keeps old new path (said_repair image input).image
+KeepsSaid old new path verbs.Check input = (image : List ℕ)
+    × HoldsFile old path image × Keeps old new path (said_check image input).image
 
 -- the job of a verb says to each input what the verb does of the image that the path holds
 abbrev pub SaysOf : Files → List ℕ → Verb → Job → Type 0
@@ -96,6 +100,8 @@ SaysOf files path (verbs.New name blocks) job = (input : List ℕ)
     → job_said job input ≡ said_new (blank_fault (string_bytes name) blocks) (string_bytes name) blocks input
 SaysOf files path verbs.Repair job = (image : List ℕ) × HoldsFile files path image
     × ((input : List ℕ) → job_said job input ≡ said_repair image input)
+SaysOf files path verbs.Check job = (image : List ℕ) × HoldsFile files path image
+    × ((input : List ℕ) → job_said job input ≡ said_check image input)
 
 -- the paths of a program's disks, in the order of the units 4, 5, 9, 10, 11 and 12
 abbrev pub paths_of : List ℕ → Others → List (Option (List ℕ))
@@ -149,3 +155,9 @@ TellsTrace files old new outcome program input =
 abbrev pub TellsDebug : Files → Streams → Streams → Outcome → Program → List ℕ → Type 0
 TellsDebug files old new outcome program input =
     TellsOf (λ disks system. jobs.Debug disks program.name system) files old new outcome program input
+
+-- The files of the image that a path holds are saved: the path of the new volume keeps the one that is said of them, if
+-- one is, and nothing else has changed.
+abbrev pub KeepsSalvage : Files → Files → SalvagePlan → List ℕ → Type 0
+KeepsSalvage old new plan input = (image : List ℕ) × HoldsFile old (string_bytes plan.path) image
+    × Keeps old new (string_bytes plan.target) (said_salvage image plan.second input).image

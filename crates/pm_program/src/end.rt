@@ -13,6 +13,8 @@ pub enum Conflict {
     PrinterIsSystem,
     /// The printer's bytes would go to a folder.
     PrinterIsFolder,
+    /// A new volume would take the place of a file.
+    TargetIsThere,
 }
 
 impl Conflict {
@@ -23,6 +25,7 @@ impl Conflict {
             Conflict::PrinterIsImage => "error: the path behind --printer is that of an image",
             Conflict::PrinterIsSystem => "error: the path behind --printer is that behind --system",
             Conflict::PrinterIsFolder => "error: the path behind --printer is that of a folder",
+            Conflict::TargetIsThere => "error: the path of the new volume is that of a file",
         }
     }
 }

@@ -5,7 +5,7 @@ ghost use Rattle.pm_program.specs.Conflicts.{conflict_of, is_other, names_image,
 
 use crate::console::{END, ESCAPE, Keys, Lined, Prompted};
 use crate::end::{Conflict, End};
-use crate::kept::{KeptOfRun, Printing, do_debug, do_files, do_run, do_trace};
+use crate::kept::{KeptOfRun, Printing, do_debug, do_files, do_run, do_salvage, do_trace};
 use pm_filer::FileCommand;
 use pm_files::{DiskFault, Host, HostStore, Store, Stream};
 use pm_plan::{FilesPlan, Keeping, Others, Plan, Program, Verb};
@@ -94,6 +94,7 @@ fn act<S: Store, I: Source, O: Sink>(
         }
         Plan::Trace(program) => return do_trace(alloc, store, source, sink, program),
         Plan::Debug(program) => return do_debug(alloc, store, source, sink, program),
+        Plan::Salvage(plan) => return do_salvage(alloc, store, source, sink, plan),
     };
     Ok(pm_tool::run(alloc, source, sink, job))
 }
@@ -160,6 +161,13 @@ fn printer_conflict<S: Store>(
     None
 }
 
+/// Whether a path names a file or a folder: one names the same file as itself.
+fn is_there<S: Store>(store: &S, path: &str) -> bool
+    ensures value { IfSome (S.same store.now) (λ same. result ≡ same path.now path.now) }
+{
+    store.is_same(path, path)
+}
+
 /// What is wrong with the paths of `run`, if something is.
 fn conflict<S: Store>(store: &S, program: &Program, keeping: &Keeping) -> Option<Conflict>
     ensures value { IfSome (S.same store.now) (λ same. IfSome (S.folders store.now) (λ folders.
@@ -185,6 +193,14 @@ pub fn follow<R: Host + Input + Print + Eprint + AllocGlobal>(rt: &R, plan: Plan
         if let Some(conflict) = conflict(&store, program, keeping) {
             return Done {
                 end: End::Words(conflict),
+                begun: false,
+            };
+        }
+    }
+    if let Plan::Salvage(plan) = &plan {
+        if is_there(&store, plan.target.as_str()) {
+            return Done {
+                end: End::Words(Conflict::TargetIsThere),
                 begun: false,
             };
         }

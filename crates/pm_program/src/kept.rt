@@ -4,11 +4,11 @@ ghost use Rattle.pm_tool.specs.Said.{IsSoundExit};
 ghost use Rattle.pm_files.specs.Held.{Keeps};
 ghost use Rattle.pm_streams.specs.Streams.{AreWell, both};
 ghost use Rattle.pm_program.specs.Kept.{KeepsRun, KeepsFront, KeepsSaid, PrintsIf, SaysOf, has_run, takes_lock};
-ghost use Rattle.pm_program.specs.Kept.{KeepsRunSaid, Reads, ReadsEach, TellsDebug, TellsTrace, paths_of};
+ghost use Rattle.pm_program.specs.Kept.{KeepsRunSaid, KeepsSalvage, Reads, ReadsEach, TellsDebug, TellsTrace, paths_of};
 ghost use Rattle.pm_tool.specs.Disks.{images_of};
 
 use pm_files::{DiskFault, Store};
-use pm_plan::{Others, Program, Verb};
+use pm_plan::{Others, Program, SalvagePlan, Verb};
 use pm_streams::{Sink, Source, write_all};
 use pm_tool::{Exit, Job, Outcome};
 use std::alloc::Global;
@@ -42,6 +42,7 @@ fn takes_lock(verb: &Verb) -> bool
     !matches!(
         verb,
         Verb::Command(FileCommand::List | FileCommand::Get(_) | FileCommand::GetText(_))
+            | Verb::Check
     )
 }
 
@@ -68,6 +69,10 @@ fn files_job<S: Store>(
             let image = store.read(alloc, path)?;
             Ok(Job::Repair { image })
         }
+        Verb::Check => {
+            let image = store.read(alloc, path)?;
+            Ok(Job::Check { image })
+        }
     }
 }
 
@@ -93,6 +98,36 @@ pub fn do_files<S: Store, I: Source, O: Sink>(
     let job = files_job(alloc, store, path, verb)?;
     let outcome = pm_tool::run(alloc, source, sink, job);
     keep_image(store, path, &outcome.image)?;
+    Ok(outcome)
+}
+
+/// Saves the files of an image into a new volume under another path. No other file has changed, and no file at all
+/// where one cannot be read, held or written. Neither stream may have failed before. Where the input is known, the
+/// volume that is kept is the one that is said of the image that the file had.
+pub fn do_salvage<S: Store, I: Source, O: Sink>(
+    alloc: Global,
+    store: &mut S,
+    source: &mut I,
+    sink: &mut O,
+    plan: SalvagePlan,
+) -> Result<Outcome, DiskFault>
+    requires well { AreWell (both (I.seen source.old) (O.seen sink.old)) }
+    ensures kept { IfOk result (λ outcome.
+        Keeps (S.files store.old) (S.files store.new) (string_bytes plan.target) (option_map vec_items outcome.image)) }
+    ensures said { IfOk result (λ outcome. IsSoundExit outcome.exit → IfSome (I.seen source.old).remaining (λ input.
+        KeepsSalvage (S.files store.old) (S.files store.new) plan input)) }
+    ensures stays { OnErr result (S.files store.new ≡ S.files store.old) }
+{
+    let SalvagePlan {
+        path,
+        target,
+        second,
+    } = plan;
+    store.hold(target.as_str())?;
+    let image = store.read(alloc, path.as_str())?;
+    let job = Job::Salvage { image, second };
+    let outcome = pm_tool::run(alloc, source, sink, job);
+    keep_image(store, target.as_str(), &outcome.image)?;
     Ok(outcome)
 }
 

@@ -56,6 +56,9 @@ verb_said old new path image file (verbs.New name blocks) input has keeps had =
 verb_said old new path image file verbs.Repair input has keeps had = left old new path image file _ has
     (subst (λ bytes. Keeps (Some old) (Some new) path (said_verb bytes verbs.Repair input).image)
     (same image keeps.0 (sym had ∙ keeps.1)) keeps.2) had
+verb_said old new path image file verbs.Check input has keeps had = left old new path image file _ has
+    (subst (λ bytes. Keeps (Some old) (Some new) path (said_verb bytes verbs.Check input).image)
+    (same image keeps.0 (sym had ∙ keeps.1)) keeps.2) had
 
 -- the file has the image that is said of what it had and of the input, or what it had
 pub file_said : (done : Result Outcome DiskFault) (old new : List ℕ → Option (List ℕ)) (path image file : List ℕ)

@@ -3,7 +3,7 @@ use Rattle.std.specs.Prelude.{◌≡◌, ℕ, Bool, List, [], ◌∷◌, Option,
 use Rattle.std.specs.declared.alloc.Global.{Global}
 use Rattle.pm_volume.specs.Headers.{blank_fault}
 use Rattle.pm_filer.specs.Filed.{order_of}
-use Rattle.pm_tool.specs.Batches.{said_files, said_new, said_repair}
+use Rattle.pm_tool.specs.Batches.{said_check, said_files, said_new, said_repair}
 use Rattle.pm_tool.specs.Disks.{images_of}
 use Rattle.pm_tool.specs.Outcomes.{Said}
 use Rattle.pm_tool.specs.Said.{job_said}
@@ -18,6 +18,7 @@ said_verb image (verbs.Command command) input = said_files image (order_of comma
 said_verb image (verbs.New name blocks) input =
     said_new (blank_fault (string_bytes name) blocks) (string_bytes name) blocks input
 said_verb image verbs.Repair input = said_repair image input
+said_verb image verbs.Check input = said_check image input
 
 -- the new bytes of a file, where there are some, and else those that it held
 abbrev pub left_in : List ℕ → Option (List ℕ) → List ℕ

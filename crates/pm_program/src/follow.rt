@@ -179,32 +179,37 @@ fn conflict<S: Store>(store: &S, program: &Program, keeping: &Keeping) -> Option
     printer_conflict(store, program, &keeping.printer)
 }
 
+/// What is wrong with the paths of a plan, if something is.
+fn conflict_in<S: Store>(store: &S, plan: &Plan) -> Option<Conflict> {
+    match plan {
+        Plan::Run(program, keeping) => conflict(store, program, keeping),
+        Plan::Salvage(plan) if is_there(store, plan.target.as_str()) => {
+            Some(Conflict::TargetIsThere)
+        }
+        _ => None,
+    }
+}
+
+/// The byte that ends the input of a plan's console.
+fn end_of(plan: &Plan) -> u8 {
+    match plan {
+        Plan::Run(_, keeping) if keeping.escape => ESCAPE,
+        _ => END,
+    }
+}
+
 /// Does the job of a plan, with the standard streams and the files of the system.
 pub fn follow<R: Host + Input + Print + Eprint + AllocGlobal>(rt: &R, plan: Plan) -> Done {
     let at = Terminals::of(rt);
     let mut store = HostStore::new(rt);
-    let mut is_console = false;
-    let mut end = END;
-    if let Plan::Run(program, keeping) = &plan {
-        is_console = true;
-        if keeping.escape {
-            end = ESCAPE;
-        }
-        if let Some(conflict) = conflict(&store, program, keeping) {
-            return Done {
-                end: End::Words(conflict),
-                begun: false,
-            };
-        }
+    if let Some(conflict) = conflict_in(&store, &plan) {
+        return Done {
+            end: End::Words(conflict),
+            begun: false,
+        };
     }
-    if let Plan::Salvage(plan) = &plan {
-        if is_there(&store, plan.target.as_str()) {
-            return Done {
-                end: End::Words(Conflict::TargetIsThere),
-                begun: false,
-            };
-        }
-    }
+    let is_console = matches!(&plan, Plan::Run(_, _));
+    let end = end_of(&plan);
     let keys = Keys::new(rt.reader(), is_console && at.input, end);
     let reader = match prompt_of(&plan) {
         _ if !at.input || !at.error => Prompted::once(rt, keys, ""),

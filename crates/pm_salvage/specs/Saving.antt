@@ -48,7 +48,8 @@ saved_from image all count (t ∷ ts) s =
     behind (saved_one image s.volume t.entry) (λ volume. saved_from image all count ts (record {
       volume = volume;
       text = s.text
-          ++ taken_line t.slot (free_name s.volume (characters_of t.entry.name)) (doubt_of count t.slot (sharing t all));
+          ++ taken_line t.slot (free_name s.volume (characters_of t.entry.name))
+          (doubt_of count t.slot (sharing t all));
       doubted = counted s.doubted (doubt_of count t.slot (sharing t all));
     }))
 

@@ -32,6 +32,13 @@ fn talk(disks: [Option<Vec<u8>>; 6], name: String, system: Option<Vec<u8>>, talk
     Work::Talk(start, talk)
 }
 
+/// A run that shows this, of at most so many steps.
+fn run_of(show: Show, limit: u64) -> Talk
+    ensures talk { result ≡ Talk.Run show limit }
+{
+    Talk::Run { show, limit }
+}
+
 /// What a job has to do.
 pub(crate) fn work_of(job: Job) -> Work
     ensures work { result ≡ work_of job }
@@ -46,19 +53,13 @@ pub(crate) fn work_of(job: Job) -> Work
             limit,
             save,
             system,
-        } => {
-            let show = Show::Console { save };
-            talk(disks, name, system, Talk::Run { show, limit })
-        }
+        } => talk(disks, name, system, run_of(Show::Console { save }, limit)),
         Job::Trace {
             disks,
             name,
             limit,
             system,
-        } => {
-            let show = Show::Trace;
-            talk(disks, name, system, Talk::Run { show, limit })
-        }
+        } => talk(disks, name, system, run_of(Show::Trace, limit)),
         Job::Debug {
             disks,
             name,

@@ -101,11 +101,13 @@ known_tells job old new files program disks system outcome from is_from tells re
 
 -- where the input is known, the new volume is the one that is said of the image that was read
 pub known_salvage : (before after : Streams) (old held read new : Files) (plan : SalvagePlan) (image : Vec ℕ Global)
-    (outcome : Outcome) → TellsAll before after outcome (job_said (jobs.Salvage image plan.second))
-    → held ≡ old → read ≡ held → HoldsFile held (string_bytes plan.path) image.items
-    → Keeps read new (string_bytes plan.target) (option_map vec_items outcome.image)
+    (outcome : Outcome) (from to : List ℕ) → from ≡ string_bytes plan.path → to ≡ string_bytes plan.target
+    → TellsAll before after outcome (job_said (jobs.Salvage image plan.second))
+    → held ≡ old → read ≡ held → HoldsFile held from image.items
+    → Keeps read new to (option_map vec_items outcome.image)
     → IfSome before.source.remaining (λ input. KeepsSalvage old new plan input)
-known_salvage before after old held read new plan image outcome tells same also holds keeps = known before.source.remaining tells
+known_salvage before after old held read new plan image outcome from to is_from is_to tells same also holds keeps =
+    known before.source.remaining tells
   where
     known : (had : Option (List ℕ))
         → IfSome had (λ input. Tells before after outcome (job_said (jobs.Salvage image plan.second) input))
@@ -113,8 +115,10 @@ known_salvage before after old held read new plan image outcome tells same also 
     known None told = tt
     known (Some input) told = (
       image.items,
-      subst (λ files. HoldsFile files (string_bytes plan.path) image.items) same holds,
+      subst (λ files. HoldsFile files (string_bytes plan.path) image.items) same
+          (subst (λ path. HoldsFile held path image.items) is_from holds),
       subst (Keeps old new (string_bytes plan.target)) told.comes_to.image
           (subst (λ files. Keeps files new (string_bytes plan.target) (option_map vec_items outcome.image)) same
-          (subst (λ files. Keeps files new (string_bytes plan.target) (option_map vec_items outcome.image)) also keeps)),
+          (subst (λ files. Keeps files new (string_bytes plan.target) (option_map vec_items outcome.image)) also
+          (subst (λ path. Keeps read new path (option_map vec_items outcome.image)) is_to keeps))),
     )

@@ -1,11 +1,13 @@
 #!/bin/bash
-# Replays the README's commands on the built program and compares what they write. Run by hand; no part of the gate.
+# Replays the README's commands on the built program and compares what they write. Run by hand; no part of the gate. PMACH
+# names another program than ./pmach.
 # A command is an indented line that begins with a dollar sign; the indented lines after it are what it writes, on both streams.
 # The commands run one after another in an empty folder, where examples/ and ./pmach are the repository's.
 here=$(dirname "$(readlink -f "$0")")/..
 scratch=$(mktemp -d)
 trap 'rm -rf "$scratch"' EXIT
-ln -s "$here/pmach" "$scratch/pmach"
+export PMACH=$(readlink -f "${PMACH:-$here/pmach}")
+ln -s "$PMACH" "$scratch/pmach"
 ln -s "$here/examples" "$scratch/examples"
 cd "$scratch" || exit 1
 passed=0

@@ -1,20 +1,21 @@
 #!/bin/sh
 # Makes a disk as somebody may have kept it, by the program alone: examples/disk.sh PATH
-# The volume KEPT of 40 blocks has two programs, HANOI and LOADS, and a text.
+# The volume KEPT of 40 blocks has two programs, HANOI and LOADS, and a text. PMACH names another program than ../pmach.
 set -e
 [ $# = 1 ] || {
     echo "usage: disk.sh PATH" >&2
     exit 1
 }
 here=$(dirname "$(readlink -f "$0")")
+pmach=${PMACH:-$here/../pmach}
 files() {
-    "$here/../pmach" files --image "$image" "$@"
+    "$pmach" files --image "$image" "$@"
 }
 image=$1
 files new KEPT 40
 files date 84 12 1
 for name in hanoi loads; do
-    "$here/../pmach" asm <"$here/$name.text" | files put "$(echo $name | tr a-z A-Z)" code
+    "$pmach" asm <"$here/$name.text" | files put "$(echo $name | tr a-z A-Z)" code
 done
 printf '%s\n' 'HANOI moves a tower of three disks.' 'LOADS loads one segment where another stood.' |
     files puttext READ.ME.TEXT

@@ -1,14 +1,16 @@
 #!/bin/sh
 # Makes a small volume, by the program alone: examples/volume.sh PATH
-# The image is 40 blocks: two text files, a file of data, and free blocks between them.
+# The image is 40 blocks: two text files, a file of data, and free blocks between them. PMACH names another program than
+# ../pmach.
 set -e
 [ $# = 1 ] || {
     echo "usage: volume.sh PATH" >&2
     exit 1
 }
 here=$(dirname "$(readlink -f "$0")")/..
+pmach=${PMACH:-$here/pmach}
 files() {
-    "$here/pmach" files --image "$image" "$@"
+    "$pmach" files --image "$image" "$@"
 }
 image=$1
 files new WORK 40

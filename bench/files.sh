@@ -2,7 +2,7 @@
 # What only real files and a real terminal show: a full device, a limit on sizes, links, locks, kills, and a console on a pseudo terminal.
 # Run by hand; no part of the gate. The full device wants root (a tmpfs is mounted); python3 makes the pseudo terminal and the kills.
 here=$(dirname "$(readlink -f "$0")")/..
-pmach=$here/pmach
+pmach=${PMACH:-$here/pmach}
 scratch=$(mktemp -d)
 mounted=
 trap '[ -z "$mounted" ] || umount "$mounted"; rm -rf "$scratch"' EXIT

@@ -1,8 +1,9 @@
 #!/bin/bash
-# What only the real process shows: exit statuses, messages, and streams that fail. Run by hand; no part of the gate.
+# What only the real process shows: exit statuses, messages, and streams that fail. Run by hand; no part of the gate. PMACH
+# names another program than ./pmach.
 # With `memory` as its word it also makes each allocation fail in turn, by `rt try` (minutes).
 here=$(dirname "$(readlink -f "$0")")/..
-pmach=$here/pmach
+pmach=${PMACH:-$here/pmach}
 scratch=$(mktemp -d)
 trap 'rm -rf "$scratch"' EXIT
 passed=0
@@ -267,7 +268,7 @@ usage "a word behind dis" dis code
 
 # the debugger
 printf '%s\n' ok "break 1" "65424 65458 65492" "65458 65492 65458" "?" >"$scratch/text"
-case_of "a session" 0 "$scratch/text" "$nothing" debug --d4 "$programs" LOADS < <(printf 'break 2 1 0\ngo 100\ndynamic 10\nstack 3\nlist 2\nquit\nregs\n')
+case_of "a session" 0 "$scratch/text" "$nothing" debug --d4 "$programs" LOADS < <(printf 'break 2 1 0\ngo 100\ndynamic 10\nstack 3\nlists 2\nquit\nregs\n')
 printf 'ended 5\n' >"$scratch/text"
 case_of "a session without quit, and a limit" 0 "$scratch/text" "$nothing" debug --d4 "$programs" --limit 2 LOADS < <(printf 'go 100')
 echo "refused boot 1" >"$message"

@@ -56,7 +56,8 @@ verb_said old new path image file (verbs.New name blocks) input has keeps had =
 verb_said old new path image file verbs.Repair input has keeps had = left old new path image file _ has
     (subst (λ bytes. Keeps (Some old) (Some new) path (said_verb bytes verbs.Repair input).image)
     (same image keeps.0 (sym had ∙ keeps.1)) keeps.2) had
-verb_said old new path image file verbs.Check input has keeps had = left old new path image file _ has
+verb_said old new path image file verbs.Check input has keeps had =
+    left old new path image file ((said_verb image verbs.Check input).image) has
     (subst (λ bytes. Keeps (Some old) (Some new) path (said_verb bytes verbs.Check input).image)
     (same image keeps.0 (sym had ∙ keeps.1)) keeps.2) had
 

@@ -1,7 +1,6 @@
 -- Which entries of a directory make sense, each by itself, and in which order their files are taken.
 use Rattle.std.specs.Prelude.{ℕ, zero, suc, ◌+◌, ◌-◌, ◌==◌, ◌&&◌, ◌||◌, Bool, not, nat_lt, List, [], ◌∷◌, ◌++◌}
 use Rattle.std.specs.Prelude.{Option, None, Some, slice_index, if◌then◌else◌}
-use Rattle.std.specs.Option.{is_none}
 use Rattle.std.specs.List.{find}
 use Rattle.pm_volume.specs.Directory.{entry_in}
 use Rattle.pm_volume.specs.declared.entry.Entry.{Entry}

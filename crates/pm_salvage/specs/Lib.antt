@@ -2,3 +2,4 @@ pub mod Believing
 pub mod Naming
 pub mod Report
 pub mod Saving
+pub mod Contents

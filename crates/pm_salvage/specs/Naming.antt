@@ -1,5 +1,5 @@
 -- The names of saved files.
-use Rattle.std.specs.Prelude.{ℕ, zero, suc, ◌+◌, ◌==◌, Bool, List, [], ◌∷◌, ◌++◌, codes, length, map, take}
+use Rattle.std.specs.Prelude.{ℕ, zero, suc, ◌+◌, ◌==◌, List, ◌∷◌, ◌++◌, codes, length, map, take}
 use Rattle.std.specs.Prelude.{if◌then◌else◌}
 use Rattle.std.specs.Char.{to_ascii_uppercase}
 use Rattle.std.specs.Option.{is_none}

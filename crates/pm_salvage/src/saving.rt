@@ -1,9 +1,12 @@
 //! The volume that is saved of an image.
-ghost use Rattle.std.specs.Prelude.{◌≡◌, ◌≢◌, ◌++◌, ◌≤◌, Ok, Err, IfOk, IfErr, OnOk, length, string_bytes};
+ghost use Rattle.std.specs.List.Sorted.{IsPermutation};
+ghost use Rattle.std.specs.Prelude.{◌≡◌, ◌≢◌, ◌∷◌, ◌++◌, ◌≤◌, Ok, Err, IfOk, IfErr, OnOk, length, string_bytes};
 ghost use Rattle.pm_volume.specs.Names.{characters_of};
 ghost use Rattle.pm_volume.specs.declared.fault.VolumeFault.{VolumeFault};
 ghost use Rattle.pm_volume.specs.declared.fields.TheConstants.{DIRECTORY_SIZE};
 ghost use Rattle.pm_salvage.specs.Believing.{blocks_of};
+ghost use Rattle.pm_salvage.specs.Contents.{HasFilesOf, believed, believed_of, content_in, contents_of, contents_taken};
+ghost use Rattle.pm_salvage.specs.Contents.{entries_taken};
 ghost use Rattle.pm_salvage.specs.Naming.{free_name};
 ghost use Rattle.pm_salvage.specs.Report.{taken_line};
 ghost use Rattle.pm_salvage.specs.Saving.{IsSaved, bytes_of, image_blocks, room_for, salvaged, saved, saved_by};
@@ -55,6 +58,8 @@ fn save(
     ensures saved { OnOk result (saved_one image.now volume.old file.now.entry ≡ Ok volume.new) }
     ensures text { OnOk result (string_bytes text.new ≡ string_bytes text.old
         ++ taken_line file.now.slot (free_name volume.old (characters_of file.now.entry.name)) doubt) }
+    ensures content { OnOk result (IsPermutation (content_in image.now file.now.entry ∷ contents_of volume.old)
+        (contents_of volume.new)) }
     ensures refused { IfErr result (λ fault. fault ≢ VolumeFault.NoMemory →
         saved_one image.now volume.old file.now.entry ≡ Err fault) }
 {
@@ -87,6 +92,8 @@ fn save_all(
     ensures saved { IfOk result (λ doubted. saved_from image.now taken.now count taken.now
         (record { volume = volume.old; text = string_bytes text.old; doubted = 0 })
         ≡ Ok (record { volume = volume.new; text = string_bytes text.new; doubted = doubted })) }
+    ensures contents { OnOk result (IsPermutation (contents_taken image.now taken.now ++ contents_of volume.old)
+        (contents_of volume.new)) }
     ensures refused { IfErr result (λ fault. fault ≢ VolumeFault.NoMemory →
         saved_from image.now taken.now count taken.now
         (record { volume = volume.old; text = string_bytes text.old; doubted = 0 }) ≡ Err fault) }
@@ -115,7 +122,7 @@ fn room_for(blocks: u16, taken: &[Taken]) -> u16
 }
 
 // The volume of these entries of an image.
-#[tactic(auto, unfolding(crate::specs::Saving::saved))]
+#[tactic(auto, unfolding(crate::specs::Saving::saved, crate::specs::Contents::HasFilesOf))]
 fn save_entries(
     alloc: Global,
     image: &[u8],
@@ -128,6 +135,7 @@ fn save_entries(
     requires few { length taken.now ≤ 77 }
     ensures saved { IfOk result (λ s. IsSaved s.image.items (string_bytes s.text)
         (saved image.now name.now blocks count taken.now left.now)) }
+    ensures files { IfOk result (λ s. HasFilesOf image.now (entries_taken taken.now) s.image.items) }
     ensures refused { IfErr result (λ fault. fault ≢ VolumeFault.NoMemory →
         saved image.now name.now blocks count taken.now left.now ≡ Err fault) }
 {
@@ -156,6 +164,7 @@ fn save_by(
     requires whole { length directory.now ≡ DIRECTORY_SIZE }
     ensures saved { IfOk result (λ s. IsSaved s.image.items (string_bytes s.text)
         (saved_by image.now directory.now lowest blocks)) }
+    ensures files { IfOk result (λ s. HasFilesOf image.now (believed directory.now lowest blocks) s.image.items) }
     ensures refused { IfErr result (λ fault. fault ≢ VolumeFault.NoMemory →
         saved_by image.now directory.now lowest blocks ≡ Err fault) }
 {
@@ -183,9 +192,10 @@ fn image_blocks(image: &[u8]) -> u16
 /// the first copy of the directory or by the second; and a line for each entry, and a last line. An image that is too
 /// short to have that copy is `TooShort`. The other refusals are those of `Volume::blank` and `Volume::add`: `NoRoom`
 /// where the files need more than 65,535 blocks, and `NoMemory`.
-#[tactic(auto, unfolding(crate::specs::Saving::salvaged))]
+#[tactic(auto, unfolding(crate::specs::Saving::salvaged, crate::specs::Contents::believed_of))]
 pub fn salvage(alloc: Global, image: &[u8], second: bool) -> Result<Salvaged, VolumeFault>
     ensures saved { IfOk result (λ s. IsSaved s.image.items (string_bytes s.text) (salvaged image.now second)) }
+    ensures files { IfOk result (λ s. HasFilesOf image.now (believed_of image.now second) s.image.items) }
     ensures refused { IfErr result (λ fault. fault ≢ VolumeFault.NoMemory → salvaged image.now second ≡ Err fault) }
 {
     let blocks = image_blocks(image);

@@ -1,4 +1,4 @@
-use Rattle.std.proofs.Common.{◌≡◌, ◌<◌, ◌≤◌, ◌+◌, ◌++◌, arith, append-nil, append_assoc}
+use Rattle.std.proofs.Common.{◌<◌, ◌≤◌, arith, append-nil, append_assoc}
 use Rattle.pm_salvage.proofs.Steps.{left_from-more, left_from-done}
 use Rattle.pm_salvage.proofs.believing.left_out.Goals as goal
 

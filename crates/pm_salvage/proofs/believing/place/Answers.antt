@@ -1,4 +1,4 @@
-use Rattle.std.proofs.Common.{◌≡◌, ◌<◌, ◌≤◌, ◌∙◌, ◌++◌, List, length, drop, take, get_or, sym, arith, ap}
+use Rattle.std.proofs.Common.{◌≡◌, ◌<◌, ◌≤◌, ◌∙◌, ◌++◌, List, length, take, get_or, sym, arith, ap}
 use Rattle.std.proofs.lemmas.List.{get_or_read}
 use Rattle.pm_salvage.specs.declared.believing.Taken.{Taken}
 use Rattle.pm_salvage.specs.Believing.{placed}

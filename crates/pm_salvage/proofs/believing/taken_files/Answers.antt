@@ -1,4 +1,4 @@
-use Rattle.std.proofs.Common.{◌≡◌, ◌<◌, ◌≤◌, ◌+◌, arith, sym, ◌∙◌, length}
+use Rattle.std.proofs.Common.{◌<◌, ◌≤◌, arith, sym, ◌∙◌}
 use Rattle.pm_salvage.proofs.Steps.{taken_from-more, taken_from-done, taken_length}
 use Rattle.pm_salvage.proofs.believing.taken_files.Goals as goal
 

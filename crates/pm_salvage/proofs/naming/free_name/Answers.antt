@@ -1,4 +1,4 @@
-use Rattle.std.proofs.Common.{◌≡◌, ◌<◌, ◌≤◌, ◌∙◌, sym, refl, arith, true, false}
+use Rattle.std.proofs.Common.{◌≡◌, ◌<◌, ◌∙◌, sym, refl, arith, true, false}
 use Rattle.std.specs.Option.{is_none}
 use Rattle.pm_volume.specs.Files.{file_named}
 use Rattle.pm_salvage.specs.Naming.{numbered}

@@ -1,4 +1,4 @@
-use Rattle.std.proofs.Common.{◌≡◌, ◌≤◌, ◌+◌, drop, length, arith}
+use Rattle.std.proofs.Common.{◌≡◌, ◌+◌, arith}
 use Rattle.pm_salvage.specs.Believing.{blocks_of}
 use Rattle.pm_salvage.specs.Saving.{room_for}
 use Rattle.pm_salvage.proofs.Saves.{no_file}

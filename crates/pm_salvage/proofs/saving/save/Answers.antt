@@ -1,6 +1,6 @@
-use Rattle.std.proofs.Common.{◌≡◌, ◌∙◌, sym, ap}
 use Rattle.std.proofs.lemmas.Result.{err_from_is_err_and}
 use Rattle.pm_salvage.specs.Saving.{saved_one}
+use Rattle.pm_salvage.proofs.ContentLaws.{content_added}
 use Rattle.pm_salvage.proofs.Saves.{made-added, made-unadded}
 use Rattle.pm_salvage.proofs.saving.save.Goals as goal
 
@@ -16,3 +16,8 @@ unfolding saved_one
 returns-in-Ok-push_taken-clause-saved c =
     let e = made-added _ _ _ _ _ _ _ c.in_ok-add.ensures.added in
     rw (c.as_str.ensures.value, c.in-Ok.ensures.name, c.characters.ensures.characters, c.bytes_of.ensures.bytes) at e
+
+pub returns-in-Ok-push_taken-clause-content : goal.returns-in-Ok-push_taken-clause-content
+returns-in-Ok-push_taken-clause-content c =
+    content_added _ _ _ _ _ _ _ c.in_ok-add.ensures.added c.in_ok-add.ensures.files c.in_ok-add.ensures.contents c.in_ok-add.ensures.kept
+    c.bytes_of.ensures.bytes

@@ -1,5 +1,6 @@
-use Rattle.std.proofs.Common.{◌≡◌, ◌≤◌, ◌∙◌, sym, string_bytes, arith}
+use Rattle.std.proofs.Common.{◌∙◌, sym, string_bytes, arith}
 use Rattle.std.proofs.lemmas.Result.{err_from_is_err_and}
+use Rattle.pm_salvage.proofs.ContentLaws.{contents_next}
 use Rattle.pm_salvage.proofs.Saves.{counted_most, no_file, saved-done, saved-fault, saved-more}
 use Rattle.pm_salvage.proofs.saving.save_all.Goals as goal
 
@@ -11,6 +12,8 @@ loop-file-preserved c =
     record {
       rest = rw (c.in_ok-save.ensures.text, c.counted-doubted.ensures.count, c.doubt_of-doubt.ensures.doubt, c.sharing.ensures.first)
           (sym more ∙ c.loop-file.invariant.rest);
+      contents = contents_next c.args.image.now c.loop-file.volume c.save.new.volume c.args.volume.now c.args.taken.now no_file c.loop-file.file-index
+          (omega arith) c.loop-file.invariant.contents c.in_ok-save.ensures.content;
       few = rw c.counted-doubted.ensures.count (omega (arith, counted_most c.loop-file.doubted c.doubt_of-doubt.result, c.loop-file.invariant.few));
     }
 

@@ -1,4 +1,6 @@
-use Rattle.std.proofs.Common.{◌≡◌, ◌≤◌, drop, string_bytes}
+use Rattle.std.proofs.Common.{◌≡◌, ◌≤◌, ◌++◌, drop, take, string_bytes}
+use Rattle.std.specs.List.Sorted.{IsPermutation}
+use Rattle.pm_salvage.specs.Contents.{contents_of, contents_taken}
 use Rattle.pm_salvage.specs.Saving.{saved_from}
 use Rattle.pm_salvage.proofs.saving.save_all.Given as goal
 
@@ -10,4 +12,5 @@ invariant-loop-file l = record {
       ≡ saved_from l.image l.taken l.count l.taken
       (record { volume = l.fn.volume; text = string_bytes l.fn.text; doubted = 0 });
   few : l.doubted ≤ l.file-index;
+  contents : IsPermutation (contents_taken l.image (take l.file-index l.taken) ++ contents_of l.fn.volume) (contents_of l.volume);
 }

@@ -7,3 +7,4 @@ pub mod FoundLengths
 pub mod Outcomes
 pub mod Stages
 pub mod ListedFile
+pub mod Eachs

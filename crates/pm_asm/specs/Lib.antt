@@ -3,3 +3,4 @@ pub mod Firsts
 pub mod Lengths
 pub mod Found
 pub mod Assembled
+pub mod Each

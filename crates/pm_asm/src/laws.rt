@@ -1,6 +1,7 @@
 //! Laws of what assembling gives. The functions do nothing.
 ghost use Rattle.pm_asm.specs.Assembled.{AssembledIsListed};
 ghost use Rattle.pm_asm.specs.Assembled.{AssembledIsSpelled, RefusedSpellsNothing};
+ghost use Rattle.pm_asm.specs.Each.{FirstOfAll};
 
 /// A text is assembled exactly where it spells a program of which no segment has more than 60,000 bytes: what it gives
 /// is the code file and the listing of such a program, and where they are those of one, it gives them.
@@ -17,4 +18,10 @@ pub fn refused_spells_nothing()
 /// lines names the offset at which its bytes stand in it.
 pub fn assembled_is_listed()
     ensures law { AssembledIsListed }
+{}
+
+/// What assembling a text answers is the first of all its faults; where it refuses nothing, there is none.
+#[tactic(auto, using(crate::proofs::Eachs::first_of_all))]
+pub fn first_of_all()
+    ensures law { FirstOfAll }
 {}

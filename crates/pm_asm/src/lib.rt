@@ -3,6 +3,7 @@
 
 mod assembly;
 mod code;
+mod faults;
 mod labels;
 pub mod laws;
 mod lengths;
@@ -12,5 +13,6 @@ mod resolved;
 mod table;
 
 pub use assembly::{Assembly, assemble, assemble_file, assemble_listing};
+pub use faults::all_faults;
 pub use lengths::LONGEST;
 pub use pm_source::AsmFault;

@@ -152,7 +152,7 @@ fn resolve_items<'a>(
 }
 
 /// Adds the items of a line, which begins at an offset. Refused by the first of their faults.
-fn resolve_row<'a>(
+pub(crate) fn resolve_row<'a>(
     alloc: Global,
     code: &Code<'_, 'a>,
     at: usize,

@@ -7,3 +7,4 @@ pub mod Seen
 pub mod Stepping
 pub mod Least
 pub mod Labelled
+pub mod Eachs

@@ -2,3 +2,4 @@ pub mod Firsts
 pub mod Views
 pub mod Named
 pub mod Reader
+pub mod Each

@@ -7,6 +7,7 @@
 mod current;
 mod entries;
 mod labels;
+mod noted;
 mod procedure;
 mod reader;
 mod reading;
@@ -14,6 +15,7 @@ mod sizes;
 mod source;
 
 pub use labels::label_of;
-pub use reading::source_of;
+pub use noted::note;
+pub use reading::{faults_of_lines, source_of};
 pub use sizes::{row_end, source_end};
 pub use source::{Entry, LabelledProcedure, LabelledSegment};

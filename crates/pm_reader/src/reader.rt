@@ -1,6 +1,6 @@
 //! The reader: what the lines so far have said, and what is wrong in the next.
 
-ghost use Rattle.std.specs.Prelude.{◌≡◌, ◌==◌, ◌+◌, List, [], Some, None, IfSome, IfErr, OnOk};
+ghost use Rattle.std.specs.Prelude.{◌≡◌, ◌==◌, ◌+◌, ◌++◌, List, [], Some, None, IfSome, IfErr, OnOk};
 ghost use Rattle.std.specs.List.{list_any};
 ghost use Rattle.pm_line.specs.Views.{statement_seen, flaw_seen, line_seen};
 ghost use Rattle.pm_source.specs.Line as text;
@@ -10,11 +10,13 @@ ghost use Rattle.pm_source.specs.Faults as faults;
 ghost use Rattle.pm_source.specs.Faults.{after, after_line, closed, ends, is_again, is_in_place};
 ghost use Rattle.pm_source.specs.Faults.{is_miscounted, line_faults, procedure_count, start};
 ghost use Rattle.pm_reader.specs.Views.{labelled_segments};
+ghost use Rattle.pm_reader.specs.Each.{first_in};
 ghost use Rattle.pm_reader.specs.Firsts.{IsFirstOf};
 ghost use Rattle.pm_source.specs.declared.fault.AsmFault.TheVariants.{NoMemory};
 ghost use Rattle.pm_reader.specs.Reader.{reader_seen, Answers, IsCountless, open_end};
 
 use crate::current::Current;
+use crate::noted::note;
 use crate::source::{Entry, LabelledSegment};
 use pm_line::{Flaw, Line, Row, Statement, line};
 use pm_source::AsmFault;
@@ -300,5 +302,28 @@ impl<'a> Reader<'a> {
     {
         let line = line(alloc, number, part).map_err(|_| AsmFault::NoMemory)?;
         self.step(alloc, number, line, ends_later)
+    }
+
+    /// Reads a line, by its number and whether a later line ends a procedure, notes its first fault, and takes in what
+    /// it says. Refused by `NoMemory` alone.
+    #[tactic(auto, using(crate::proofs::Eachs::first_noted))]
+    pub(crate) fn note_line(
+        &mut self,
+        alloc: Global,
+        number: usize,
+        part: &'a [u8],
+        ends_later: bool,
+        found: &mut Vec<AsmFault>,
+    ) -> Result<(), AsmFault>
+        ensures noted { (rest : List text.Line) → ends_later ≡ list_any ends rest
+            → OnOk result (found.new.items ≡ found.old.items
+            ++ first_in (line_faults number (reader_seen self.old) (line_of number part.now) rest)) }
+        ensures taken { OnOk result (reader_seen self.new
+            ≡ after_line (reader_seen self.old) (line_of number part.now)) }
+        ensures refused { IfErr result (λ fault. fault ≡ NoMemory) }
+    {
+        let line = line(alloc, number, part).map_err(|_| AsmFault::NoMemory)?;
+        note(found, self.line_fault(number, &line, ends_later))?;
+        self.take(alloc, line).map_err(|_| AsmFault::NoMemory)
     }
 }

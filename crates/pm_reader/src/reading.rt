@@ -3,7 +3,9 @@
 ghost use Rattle.std.specs.Prelude.{◌≡◌, ℕ, [], nat_lt, drop, IfOk, IfErr, OnOk};
 ghost use Rattle.std.specs.List.{list_any};
 ghost use Rattle.pm_source.specs.Faults.{ends, faults_of_lines, lines_of, source_of};
+ghost use Rattle.pm_reader.specs.Each.{firsts_of_lines};
 ghost use Rattle.pm_reader.specs.Firsts.{IsFirstOf};
+ghost use Rattle.pm_source.specs.declared.fault.AsmFault.TheVariants.{NoMemory};
 ghost use Rattle.pm_reader.specs.Views.{labelled_segments};
 
 use crate::reader::Reader;
@@ -47,4 +49,22 @@ pub fn source_of<'a>(alloc: Global, text: &'a str) -> Result<Vec<LabelledSegment
         reader.read_line(alloc, number, part.as_bytes(), number < until)?;
     }
     Ok(reader.into_segments())
+}
+
+/// The first fault of each line of a text that has one (`Syntax`, `Unknown`, `Range`, `Twice`), in the order of lines.
+/// Refused by `NoMemory` alone.
+#[tactic(auto, unfolding(crate::specs::Each::firsts_of_lines))]
+pub fn faults_of_lines(alloc: Global, text: &str) -> Result<Vec<AsmFault>, AsmFault>
+    ensures faults { IfOk result (λ faults. faults.items ≡ firsts_of_lines text.now) }
+    ensures refused { IfErr result (λ fault. fault ≡ NoMemory) }
+{
+    let until = until_last_end(text);
+    let mut reader = Reader::new(alloc);
+    let mut found = Vec::new(alloc);
+    let mut number = 0;
+    for part in text.lines() {
+        number += 1;
+        reader.note_line(alloc, number, part.as_bytes(), number < until, &mut found)?;
+    }
+    Ok(found)
 }

@@ -1,0 +1,20 @@
+//! Faults that are noted, one behind another.
+
+ghost use Rattle.std.specs.Prelude.{◌≡◌, ◌≢◌, ◌++◌, Some, IfErr, OnOk};
+ghost use Rattle.std.specs.Option.{option_to_list};
+ghost use Rattle.pm_source.specs.declared.fault.AsmFault.TheVariants.{NoMemory};
+
+use pm_source::AsmFault;
+
+/// Notes a fault behind the others, if there is one. Refused by `NoMemory` alone, also where that is the fault.
+pub fn note(found: &mut Vec<AsmFault>, fault: Option<AsmFault>) -> Result<(), AsmFault>
+    ensures noted { OnOk result (found.new.items ≡ found.old.items ++ option_to_list fault) }
+    ensures known { OnOk result (fault ≢ Some NoMemory) }
+    ensures refused { IfErr result (λ refusal. refusal ≡ NoMemory) }
+{
+    match fault {
+        None => Ok(()),
+        Some(AsmFault::NoMemory) => Err(AsmFault::NoMemory),
+        Some(fault) => found.push(fault).map_err(|_| AsmFault::NoMemory),
+    }
+}

@@ -1,0 +1,2 @@
+mod LooseValues
+mod Values

@@ -1,0 +1,93 @@
+-- What a call on a handle does to the machine in it.
+use Rattle.std.specs.Prelude.{◌≡◌, ◌≢◌, ℕ, List, length, drop, ◌++◌, Option, None, Some, Result, Ok, Err, if◌then◌else◌, nat_lt}
+use Rattle.pm_machine.specs.State.{State, Whole}
+use Rattle.pm_machine.specs.declared.state.BootFault.{BootFault}
+use Rattle.pm_volume.specs.Directory.{image_fault}
+use Rattle.pm_volume.specs.declared.fault.VolumeFault.{VolumeFault}
+use Rattle.pm_stdproc.specs.Devices.{ejected_image}
+use Rattle.pm_machine.specs.Events.{Eject, Mount, next}
+use Rattle.pm_c.specs.Codes.{image_code, status_code}
+use Rattle.pm_c.specs.declared.held.Held.{Held}
+use Rattle.pm_c.specs.declared.shows.Shown.{Shown}
+use Rattle.pm_c.specs.declared.status.TheConstants.{DONE, NO_DISK, NO_MACHINE, NO_MEMORY, ODD_ADDRESS, TOO_SHORT}
+
+-- an empty handle stays empty, and the status says so; what another one holds changes so
+abbrev pub Leads : ℕ → Option Held → Option Held → (Held → Held → Type 0) → Type 0
+Leads status None new P = (status ≡ NO_MACHINE) × (new ≡ None)
+Leads status (Some m) None P = ⊥
+Leads status (Some m) (Some n) P = P m n
+
+-- the machine changes so, and the disk that was taken out stays
+abbrev pub Changes : (Whole → Whole → Type 0) → Held → Held → Type 0
+Changes P m n = P m.machine n.machine × (n.ejected ≡ m.ejected)
+
+-- a machine is shown so, and nothing changes
+abbrev pub Looks : (Held → Type 0) → Held → Held → Type 0
+Looks P m n = P m × (n ≡ m)
+
+-- a handle holds a machine that starts so, out of which no disk was taken
+abbrev pub Holds : Option Held → Result State BootFault → Type 0
+Holds held start = (m : Whole) × (held ≡ Some (record { machine = m; ejected = None })) × (start ≡ Ok m.state)
+
+-- ---- bytes for a buffer of the caller's
+
+-- all of the bytes at its front and behind them what stood there, or, where it is too short, what stood there
+abbrev pub filled : List ℕ → List ℕ → List ℕ
+filled bytes old = if nat_lt (length old) (length bytes) then old else bytes ++ drop (length bytes) old
+
+abbrev pub fill_code : List ℕ → List ℕ → ℕ
+fill_code bytes old = if nat_lt (length old) (length bytes) then TOO_SHORT else DONE
+
+pub record Fills (bytes : List ℕ) (status : ℕ) (old new : List ℕ) (needed : ℕ) : Type 0 where
+  pub wants : needed ≡ length bytes
+  pub holds : new ≡ filled bytes old
+  pub says : status ≡ fill_code bytes old
+
+-- ---- what is shown
+
+-- the word at an address, if there is one
+abbrev pub Reads : Option ℕ → ℕ → ℕ → ℕ → Type 0
+Reads (Some word) status old new = (status ≡ DONE) × (new ≡ word)
+Reads None status old new = (status ≡ ODD_ADDRESS) × (new ≡ old)
+
+-- the registers, the steps and whether the machine goes on
+abbrev pub shown_of : State → Shown
+shown_of s = record {
+  steps = s.steps;
+  status = status_code s.status;
+  ipc = s.registers.ipc;
+  sp = s.registers.sp;
+  mp = s.registers.mp;
+  base = s.registers.base;
+  np = s.registers.np;
+  seg = s.registers.seg;
+  jtab = s.registers.jtab;
+  ioresult = s.registers.ioresult;
+}
+
+-- ---- disks
+
+-- the volume that an image is, or its first fault
+abbrev pub Opens : List ℕ → Result (List ℕ) VolumeFault → Type 0
+Opens image (Ok volume) = (volume ≡ image) × (image_fault image ≡ None)
+Opens image (Err fault) = image_fault image ≡ Some fault
+
+-- an image is put on a unit, or refused, and then nothing changes; for want of memory too
+pub record Mounts (unit : ℕ) (image : List ℕ) (status : ℕ) (m n : Whole) : Type 0 where
+  pub says : status ≢ NO_MEMORY → status ≡ image_code unit image m.state.devices
+  pub done : status ≡ DONE → n.state ≡ next m.state (Mount unit image)
+  pub same : status ≢ DONE → n ≡ m
+
+-- the disk that is taken out of a unit is kept in the place of the one before; where none is there, nothing changes
+abbrev pub Takes : Option (List ℕ) → ℕ → Held → Held → Type 0
+Takes None status m n = (status ≡ NO_DISK) × (n.ejected ≡ m.ejected)
+Takes (Some image) status m n = (status ≡ DONE) × (n.ejected ≡ Some image)
+
+pub record Ejects (unit status : ℕ) (m n : Held) : Type 0 where
+  pub takes : Takes (ejected_image unit m.machine.state.devices) status m n
+  pub event : n.machine.state ≡ next m.machine.state (Eject unit)
+
+-- an image is given to a buffer, if there is one
+abbrev pub Gives : Option (List ℕ) → ℕ → List ℕ → List ℕ → ℕ → Type 0
+Gives None status old new needed = (status ≡ NO_DISK) × (new ≡ old)
+Gives (Some image) status old new needed = Fills image status old new needed

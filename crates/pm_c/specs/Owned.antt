@@ -1,0 +1,13 @@
+-- What a handle owns.
+use base.Fml.{Fml, ftrue, fex}
+use denote.RawPtr.{Ptr, null_ptr}
+use denote.RattleType.{RattleType}
+use Rattle.std.specs.Prelude.{◌≡◌, Option, None, Some}
+use Rattle.std.specs.declared.alloc.Global.{Global}
+use Rattle.std.specs.contracts.impls.GlobalAllocator.TheImpl.{ghosts}
+use Rattle.std.specs.Box.Ownership.{box_owns}
+
+-- No value: the pointer is null. A value: it stands at the pointer, in a block that the allocator frees.
+abbrev pub owned : (R : RattleType) → Ptr → Option R.Denot → Fml
+owned R at None = fex (at ≡ null_ptr) (λ _. ftrue)
+owned R at (Some x) = fex Global (λ heap. box_owns (ghosts.dealloc_token heap) R at x)

@@ -1,0 +1,127 @@
+//! What happens to a machine: one call for each event.
+ghost use Rattle.std.specs.Prelude.{◌≡◌, ◌≢◌, None};
+ghost use Rattle.pm_machine.specs.Events.{Eject, Key, Mount, Poke, next};
+ghost use Rattle.pm_machine.specs.Runs.{GaveUp, Ran, never};
+ghost use Rattle.pm_machine.specs.Steps.{stepped};
+ghost use Rattle.pm_machine.specs.declared.state.Stop.{Stop};
+ghost use Rattle.pm_c.specs.Changes.{Changes, Leads};
+ghost use Rattle.pm_c.specs.Codes.{poke_code, stop_code};
+
+use crate::handle::{Handle, taken};
+use crate::status::{DONE, NO_MACHINE, NO_MEMORY, ODD_ADDRESS, stop_code};
+use pm_machine::Machine;
+use std::alloc::Global;
+
+fn step_code(machine: &mut Machine) -> u32
+    ensures step { result ≢ NO_MEMORY → (stop : Stop) ×
+        (stepped machine.old.state ≡ (machine.new.state, stop)) × (result ≡ stop_code stop) }
+    ensures err { result ≡ NO_MEMORY → machine.new ≡ machine.old }
+{
+    match machine.step() {
+        Ok(stop) => stop_code(stop),
+        Err(_) => NO_MEMORY,
+    }
+}
+
+/// One step: 0 it went, 1 it waits for console bytes and nothing changed, 2 the program has ended, 100 and the number of
+/// the execution error that stops the machine; 8 where the handle is empty. 5 where there is no memory, and nothing
+/// changed then.
+#[unsafe(no_mangle)]
+pub extern "C" fn pmach_step(alloc: Global, handle: &mut Handle) -> u32
+    ensures step { Leads result handle.old.held handle.new.held (Changes (λ m n. result ≢ NO_MEMORY → (stop : Stop) ×
+        (stepped m.state ≡ (n.state, stop)) × (result ≡ stop_code stop))) }
+    ensures err { result ≡ NO_MEMORY → handle.new.held ≡ handle.old.held }
+{
+    let Some(held) = taken(alloc, handle) else {
+        return NO_MACHINE;
+    };
+    let mut held = held;
+    let code = step_code(&mut held.machine);
+    *handle = Handle::of(held);
+    code
+}
+
+fn run_code(machine: &mut Machine, limit: u64, steps: &mut u64) -> u32
+    ensures ran { result ≢ NO_MEMORY → (stop : Stop) ×
+        Ran limit machine.old.state steps.new stop machine.new.state × (result ≡ stop_code stop) }
+    ensures err { result ≡ NO_MEMORY → GaveUp never limit machine.old machine.new }
+    ensures none { result ≡ NO_MEMORY → steps.new ≡ 0 }
+{
+    match machine.run(limit) {
+        Ok((count, stop)) => {
+            *steps = count;
+            stop_code(stop)
+        }
+        Err(_) => {
+            *steps = 0;
+            NO_MEMORY
+        }
+    }
+}
+
+/// At most `limit` steps, as long as each goes: the status is that of the last one, 0 at the limit, and `steps` says how
+/// many counted. 8 where the handle is empty. 5 where there is no memory: the machine stands after the steps that went,
+/// and `steps` is 0 then.
+#[unsafe(no_mangle)]
+pub extern "C" fn pmach_run(alloc: Global, handle: &mut Handle, limit: u64, steps: &mut u64) -> u32
+    ensures ran { Leads result handle.old.held handle.new.held (Changes (λ m n. result ≢ NO_MEMORY → (stop : Stop) ×
+        Ran limit m.state steps.new stop n.state × (result ≡ stop_code stop))) }
+    ensures err { Leads result handle.old.held handle.new.held (Changes (λ m n. result ≡ NO_MEMORY →
+        GaveUp never limit m n × (steps.new ≡ 0))) }
+    ensures same { handle.old.held ≡ None → steps.new ≡ steps.old }
+{
+    let Some(held) = taken(alloc, handle) else {
+        return NO_MACHINE;
+    };
+    let mut held = held;
+    let code = run_code(&mut held.machine, limit, steps);
+    *handle = Handle::of(held);
+    code
+}
+
+/// Lets one more byte wait on the console: 0. 8 where the handle is empty. 5 where there is no memory, and nothing
+/// changed then.
+#[unsafe(no_mangle)]
+pub extern "C" fn pmach_key(alloc: Global, handle: &mut Handle, byte: u8) -> u32
+    ensures event { Leads result handle.old.held handle.new.held (Changes (λ m n. result ≢ NO_MEMORY →
+        (result ≡ DONE) × (n.state ≡ next m.state (Key byte)))) }
+    ensures err { result ≡ NO_MEMORY → handle.new.held ≡ handle.old.held }
+{
+    let Some(held) = taken(alloc, handle) else {
+        return NO_MACHINE;
+    };
+    let mut held = held;
+    let code = match held.machine.key(byte) {
+        Ok(()) => DONE,
+        Err(_) => NO_MEMORY,
+    };
+    *handle = Handle::of(held);
+    code
+}
+
+/// Writes a word at an even address: 0. 10 at an odd address, and nothing changed then. 8 where the handle is empty.
+#[unsafe(no_mangle)]
+pub extern "C" fn pmach_poke(alloc: Global, handle: &mut Handle, address: u16, word: u16) -> u32
+    ensures event { Leads result handle.old.held handle.new.held (Changes (λ m n.
+        (result ≡ poke_code address) × (n.state ≡ next m.state (Poke address word)))) }
+{
+    let Some(held) = taken(alloc, handle) else {
+        return NO_MACHINE;
+    };
+    let mut held = held;
+    let code = if held.machine.poke(address, word) {
+        DONE
+    } else {
+        ODD_ADDRESS
+    };
+    *handle = Handle::of(held);
+    code
+}
+
+/// Frees the machine of a handle, which is empty then. An empty one stays so.
+#[unsafe(no_mangle)]
+pub extern "C" fn pmach_free(alloc: Global, handle: &mut Handle)
+    ensures empty { handle.new.held ≡ None }
+{
+    drop(taken(alloc, handle));
+}

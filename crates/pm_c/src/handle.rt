@@ -1,0 +1,87 @@
+//! The handle of a program in C: one pointer, which is null where there is no machine.
+ghost use Rattle.std.specs.Prelude.{◌≡◌, Option, Some, None, option_map};
+ghost use Rattle.pm_c.specs.declared.held.Held.{Held};
+
+use crate::held::Held;
+use crate::loose::Loose;
+use std::alloc::Global;
+use std::marker::Model;
+use std::mem;
+
+/// A machine of the caller's, or none. C has it as a struct of one pointer, which it sets to null before the first call
+/// and then leaves alone.
+#[repr(C)]
+#[derive(Drop)]
+pub struct Handle {
+    at: *mut u8,
+    pub ghost held: { Option Held },
+}
+
+impl Model for Handle {
+    ghost use Rattle.std.specs.Prelude.{Option};
+    ghost use Rattle.pm_c.specs.contracts.held.Held.{the_row};
+    ghost use Rattle.pm_c.specs.declared.held.Held.{Held};
+    ghost use Rattle.pm_c.specs.Owned.{owned};
+
+    ghost also_owns = { λ h. owned the_row h.at h.held };
+}
+
+impl Handle {
+    // A handle without a machine.
+    fn empty() -> Handle
+        ensures none { result.held ≡ None }
+    {
+        Handle {
+            at: std::ptr::null_mut(),
+        }
+    }
+
+    // The handle of a block.
+    fn of_loose(held: Loose<Held, Global>) -> Handle
+        ensures value { result.held ≡ Some held.value }
+    {
+        let Loose { at, alloc: _ } = held;
+        Handle { at: at as *mut u8 }
+    }
+
+    // The block of a handle; none of an empty one.
+    fn into_loose(self, alloc: Global) -> Option<Loose<Held, Global>>
+        ensures value { option_map (λ loose. loose.value) result ≡ self.held }
+    {
+        let Handle { at } = self;
+        if at.is_null() {
+            None
+        } else {
+            Some(Loose {
+                at: at as *mut Held,
+                alloc,
+            })
+        }
+    }
+
+    /// The handle of a machine.
+    pub(crate) fn of(held: Box<Held>) -> Handle
+        ensures value { result.held ≡ Some held.value }
+    {
+        Handle::of_loose(Loose::of(held))
+    }
+
+    // The machine of a handle; none of an empty one.
+    fn into_box(self, alloc: Global) -> Option<Box<Held>>
+        ensures value { option_map (λ held. held.value) result ≡ self.held }
+    {
+        match self.into_loose(alloc) {
+            Some(held) => Some(held.into_box()),
+            None => None,
+        }
+    }
+}
+
+/// Takes the machine out of a handle, which is empty then; none out of an empty one.
+pub(crate) fn taken(alloc: Global, handle: &mut Handle) -> Option<Box<Held>>
+    ensures value { option_map (λ held. held.value) result ≡ handle.old.held }
+    ensures empty { handle.new.held ≡ None }
+{
+    let was = mem::replace(handle, Handle::empty());
+    was.into_box(alloc)
+}

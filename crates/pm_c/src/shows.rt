@@ -1,0 +1,148 @@
+//! What is to be seen of a machine. These calls change nothing.
+ghost use Rattle.std.specs.Prelude.{◌≡◌, drop, None};
+ghost use Rattle.pm_words.specs.Words.{word_read};
+ghost use Rattle.pm_c.specs.Changes.{Fills, Leads, Looks, Reads, shown_of};
+
+use crate::buffer::give;
+use crate::handle::{Handle, taken};
+use crate::status::{DONE, NO_MACHINE, ODD_ADDRESS, status_code};
+use pm_machine::Machine;
+use std::alloc::Global;
+
+/// The registers of a machine, and how far it went.
+#[repr(C)]
+#[derive(Drop)]
+pub struct Shown {
+    /// How many steps went or ended the program, up to the greatest u64.
+    pub steps: u64,
+    /// 0 where the machine goes on, 2 where the program has ended, 100 and the number of the execution error where that
+    /// has stopped it.
+    pub status: u32,
+    pub ipc: u16,
+    pub sp: u16,
+    pub mp: u16,
+    pub base: u16,
+    pub np: u16,
+    pub seg: u16,
+    pub jtab: u16,
+    pub ioresult: u16,
+}
+
+fn show(machine: &Machine, shown: &mut Shown)
+    ensures shown { shown.new ≡ shown_of machine.now.state }
+{
+    let registers = machine.registers();
+    *shown = Shown {
+        steps: machine.steps(),
+        status: status_code(machine.status()),
+        ipc: registers.ipc,
+        sp: registers.sp,
+        mp: registers.mp,
+        base: registers.base,
+        np: registers.np,
+        seg: registers.seg,
+        jtab: registers.jtab,
+        ioresult: registers.ioresult,
+    };
+}
+
+/// Shows the registers: 0. 8 where the handle is empty, and nothing is shown then.
+#[unsafe(no_mangle)]
+pub extern "C" fn pmach_registers(alloc: Global, handle: &mut Handle, shown: &mut Shown) -> u32
+    ensures looks { Leads result handle.old.held handle.new.held (Looks (λ m. (result ≡ DONE) ×
+        (shown.new ≡ shown_of m.machine.state))) }
+    ensures same { handle.old.held ≡ None → shown.new ≡ shown.old }
+{
+    let Some(held) = taken(alloc, handle) else {
+        return NO_MACHINE;
+    };
+    show(&held.machine, shown);
+    *handle = Handle::of(held);
+    DONE
+}
+
+fn read(machine: &Machine, address: u16, word: &mut u16) -> u32
+    ensures reads { Reads (word_read machine.now.state.memory address) result word.old word.new }
+{
+    match machine.memory().word(address) {
+        Some(found) => {
+            *word = found;
+            DONE
+        }
+        None => ODD_ADDRESS,
+    }
+}
+
+/// Shows the word at an even address: 0. 10 at an odd address, 8 where the handle is empty; `word` stays as it was then.
+#[unsafe(no_mangle)]
+pub extern "C" fn pmach_word(
+    alloc: Global,
+    handle: &mut Handle,
+    address: u16,
+    word: &mut u16,
+) -> u32
+    ensures looks { Leads result handle.old.held handle.new.held (Looks (λ m.
+        Reads (word_read m.machine.state.memory address) result word.old word.new)) }
+    ensures same { handle.old.held ≡ None → word.new ≡ word.old }
+{
+    let Some(held) = taken(alloc, handle) else {
+        return NO_MACHINE;
+    };
+    let code = read(&held.machine, address, word);
+    *handle = Handle::of(held);
+    code
+}
+
+/// The bytes behind the first `from`.
+fn behind(bytes: &[u8], from: usize) -> &[u8]
+    ensures bytes { result.now ≡ drop from bytes.now }
+{
+    if from < bytes.len() {
+        &bytes[from..]
+    } else {
+        &[]
+    }
+}
+
+/// Gives all bytes that were written to the console but for the first `from`: 0. 7 where the buffer is too short, 8
+/// where the handle is empty; nothing is written then.
+#[unsafe(no_mangle)]
+pub extern "C" fn pmach_console(
+    alloc: Global,
+    handle: &mut Handle,
+    from: usize,
+    out: &mut [u8],
+    needed: &mut usize,
+) -> u32
+    ensures looks { Leads result handle.old.held handle.new.held (Looks (λ m.
+        Fills (drop from m.machine.state.devices.console) result out.old out.new needed.new)) }
+    ensures same { handle.old.held ≡ None → out.new ≡ out.old }
+{
+    let Some(held) = taken(alloc, handle) else {
+        return NO_MACHINE;
+    };
+    let code = give(behind(held.machine.console(), from), out, needed);
+    *handle = Handle::of(held);
+    code
+}
+
+/// The same of the printer.
+#[unsafe(no_mangle)]
+pub extern "C" fn pmach_printer(
+    alloc: Global,
+    handle: &mut Handle,
+    from: usize,
+    out: &mut [u8],
+    needed: &mut usize,
+) -> u32
+    ensures looks { Leads result handle.old.held handle.new.held (Looks (λ m.
+        Fills (drop from m.machine.state.devices.printer) result out.old out.new needed.new)) }
+    ensures same { handle.old.held ≡ None → out.new ≡ out.old }
+{
+    let Some(held) = taken(alloc, handle) else {
+        return NO_MACHINE;
+    };
+    let code = give(behind(held.machine.printer(), from), out, needed);
+    *handle = Handle::of(held);
+    code
+}

@@ -1,0 +1,104 @@
+//! How a machine starts.
+ghost use Rattle.std.specs.Prelude.{◌≡◌, ◌≢◌, ◌↔◌, Some, None, is_some, true};
+ghost use Rattle.std.specs.Str.{IsUtf8};
+ghost use Rattle.pm_machine.specs.Start.{raw_start};
+ghost use Rattle.pm_machine.specs.Boot.{boot_start};
+ghost use Rattle.pm_c.specs.Codes.{on_unit_4, program_code, start_code};
+ghost use Rattle.pm_c.specs.Changes.{Holds};
+
+use crate::disks::volume_of;
+use crate::handle::{Handle, taken};
+use crate::held::Held;
+use crate::status::{DONE, HAS_MACHINE, NO_MEMORY, NO_TEXT, boot_code, volume_code};
+use pm_machine::Machine;
+use std::alloc::Global;
+
+// Whether the handle has a machine.
+fn is_full(alloc: Global, handle: &mut Handle) -> bool
+    ensures value { result ≡ is_some handle.old.held }
+    ensures same { handle.new.held ≡ handle.old.held }
+{
+    match taken(alloc, handle) {
+        Some(held) => {
+            *handle = Handle::of(held);
+            true
+        }
+        None => false,
+    }
+}
+
+// Puts a machine behind an empty handle.
+fn put(alloc: Global, handle: &mut Handle, machine: Machine) -> u32
+    requires empty { handle.old.held ≡ None }
+    ensures put { result ≢ NO_MEMORY → (result ≡ DONE) ×
+        (handle.new.held ≡ Some (record { machine = machine; ejected = None })) }
+    ensures err { result ≡ NO_MEMORY → handle.new.held ≡ None }
+{
+    let held = Held {
+        machine,
+        ejected: None,
+    };
+    match Box::new(alloc, held) {
+        Ok(held) => {
+            *handle = Handle::of(held);
+            DONE
+        }
+        Err(_) => NO_MEMORY,
+    }
+}
+
+/// Puts a machine at its start on bare code into an empty handle: 0. 9 where the handle has a machine, 203 where the
+/// code has more than 60,000 bytes, 5 where there is no memory; the handle stays as it was then.
+#[unsafe(no_mangle)]
+pub extern "C" fn pmach_new(alloc: Global, handle: &mut Handle, code: &[u8]) -> u32
+    ensures start { result ≡ DONE → Holds handle.new.held (raw_start code.now) }
+    ensures code { result ≢ NO_MEMORY → result ≢ HAS_MACHINE → result ≡ start_code (raw_start code.now) }
+    ensures full { (result ≡ HAS_MACHINE) ↔ (is_some handle.old.held ≡ true) }
+    ensures same { result ≢ DONE → handle.new.held ≡ handle.old.held }
+{
+    if is_full(alloc, handle) {
+        return HAS_MACHINE;
+    }
+    match Machine::raw(alloc, code) {
+        Ok(machine) => put(alloc, handle, machine),
+        Err(fault) => boot_code(fault),
+    }
+}
+
+/// Puts a machine at the start of a program into an empty handle: the code file of a name on the volume of unit 4, which
+/// the image is. No other disk is there. 0 is that it was put. In this order: 9 where the handle has a machine, 12 where
+/// the name is no text in UTF-8, 400 and the fault's number where the image is no volume, 200 and the fault's number
+/// where the program does not start, 100 and the error's number where its first call fails. 5 where there is no memory.
+/// The handle stays as it was then. `clock` counts sixtieths of a second.
+#[unsafe(no_mangle)]
+pub extern "C" fn pmach_boot(
+    alloc: Global,
+    handle: &mut Handle,
+    image: &[u8],
+    name: &[u8],
+    clock: u32,
+) -> u32
+    ensures start { result ≡ DONE → Holds handle.new.held (boot_start (on_unit_4 image.now) 4 name.now clock) }
+    ensures code { result ≢ NO_MEMORY → result ≢ HAS_MACHINE → result ≢ NO_TEXT →
+        result ≡ program_code image.now name.now clock }
+    ensures full { (result ≡ HAS_MACHINE) ↔ (is_some handle.old.held ≡ true) }
+    ensures text { result ≡ NO_TEXT → ¬ (IsUtf8 name.now) }
+    ensures same { result ≢ DONE → handle.new.held ≡ handle.old.held }
+{
+    if is_full(alloc, handle) {
+        return HAS_MACHINE;
+    }
+    let Ok(name) = str::from_utf8(name) else {
+        return NO_TEXT;
+    };
+    let volume = match volume_of(alloc, image) {
+        Ok(Ok(volume)) => volume,
+        Ok(Err(fault)) => return volume_code(fault),
+        Err(_) => return NO_MEMORY,
+    };
+    let volumes = [Some(volume), None, None, None, None, None];
+    match Machine::boot(alloc, volumes, 4, name, clock) {
+        Ok(machine) => put(alloc, handle, machine),
+        Err((fault, _)) => boot_code(fault),
+    }
+}

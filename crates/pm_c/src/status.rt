@@ -1,0 +1,76 @@
+//! The statuses of calls on a handle.
+ghost use Rattle.std.specs.Prelude.{◌≡◌, ◌≢◌, ◌+◌};
+ghost use Rattle.pm_c.specs.Codes.{boot_code, status_code, stop_code};
+ghost use Rattle.pm_volume.specs.Faults.{number_of};
+
+use pm_machine::{BootFault, Status, Stop};
+use pm_volume::VolumeFault;
+
+/// It is done. Of a step and a run: the machine goes on.
+pub const DONE: u32 = 0;
+
+/// There is no memory, and nothing has changed but what the call says.
+pub const NO_MEMORY: u32 = 5;
+
+/// The buffer is too short, and nothing was written to it.
+pub const TOO_SHORT: u32 = 7;
+
+/// The handle is empty.
+pub const NO_MACHINE: u32 = 8;
+
+/// The handle has a machine already.
+pub const HAS_MACHINE: u32 = 9;
+
+/// The address is odd.
+pub const ODD_ADDRESS: u32 = 10;
+
+/// No disk is there.
+pub const NO_DISK: u32 = 11;
+
+/// A name is no text in UTF-8.
+pub const NO_TEXT: u32 = 12;
+
+/// The status of a machine's answer.
+pub(crate) fn stop_code(stop: Stop) -> u32
+    ensures value { result ≡ stop_code stop }
+    ensures other { result ≢ NO_MEMORY }
+{
+    match stop {
+        Stop::Went => 0,
+        Stop::Waiting => 1,
+        Stop::Ended => 2,
+        Stop::Halted(error) => 100 + u32::from(error.number()),
+    }
+}
+
+/// The status of a machine that goes on, or does not.
+pub(crate) fn status_code(status: Status) -> u32
+    ensures value { result ≡ status_code status }
+{
+    match status {
+        Status::Running => 0,
+        Status::Ended => 2,
+        Status::Halted(error) => 100 + u32::from(error.number()),
+    }
+}
+
+/// The status of a machine that does not start.
+pub(crate) fn boot_code(fault: BootFault) -> u32
+    ensures value { result ≡ boot_code fault }
+    ensures fault { result ≢ DONE }
+{
+    match fault {
+        BootFault::Exec(error) => 100 + u32::from(error.number()),
+        BootFault::NoMemory => NO_MEMORY,
+        BootFault::NoFile | BootFault::NotCode | BootFault::BadCode => {
+            200 + u32::from(fault.number())
+        }
+    }
+}
+
+/// The status of an image that is no volume.
+pub(crate) fn volume_code(fault: VolumeFault) -> u32
+    ensures value { result ≡ 400 + number_of fault }
+{
+    400 + u32::from(fault.number())
+}

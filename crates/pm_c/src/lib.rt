@@ -2,12 +2,16 @@
 //! promise. There is no global state, and nothing that a caller hands in is kept.
 #![tactic(auto)]
 
+mod answers;
 mod buffer;
 mod disks;
 mod events;
 mod handle;
 mod held;
+mod jobs;
+mod kept;
 mod loose;
 mod shows;
 mod starts;
 mod status;
+mod volumes;

@@ -9,6 +9,9 @@ use pm_volume::VolumeFault;
 /// It is done. Of a step and a run: the machine goes on.
 pub const DONE: u32 = 0;
 
+/// The input of a job is too long.
+pub const TOO_LONG: u32 = 4;
+
 /// There is no memory, and nothing has changed but what the call says.
 pub const NO_MEMORY: u32 = 5;
 

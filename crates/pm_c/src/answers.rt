@@ -1,0 +1,82 @@
+//! A whole job: bytes in, bytes out.
+ghost use Rattle.std.specs.Prelude.{◌≡◌, ◌≢◌, ◌⊎◌, ◌++◌, IfOk, IfErr, OnOk, string_bytes, option_map, vec_items};
+ghost use Rattle.pm_tool.specs.Said.{IsSoundExit, job_said};
+ghost use Rattle.pm_tool.specs.Outcomes.{exit_number};
+ghost use Rattle.pm_c.specs.Answers.{Answers, HasAnswer, answer_of, or_told};
+
+use crate::buffer::give;
+use crate::kept::Kept;
+use crate::status::{DONE, NO_MEMORY, NO_TEXT, TOO_LONG};
+use pm_tool::{Exit, Job, Outcome, Reader, run};
+use std::alloc::{AllocError, Global};
+
+// The exit status of a job, or the status of a call that has no answer. The sink fails for want of memory alone.
+fn exit_code(exit: Exit) -> Result<u32, u32>
+    ensures value { IfOk result (λ code. code ≡ exit_number exit) }
+    ensures sound { OnOk result (IsSoundExit exit) }
+    ensures answer { IfOk result (λ code. HasAnswer code) }
+    ensures none { IfErr result (λ code. (code ≡ TOO_LONG) ⊎ (code ≡ NO_MEMORY)) }
+{
+    match exit {
+        Exit::ReadFault => Err(TOO_LONG),
+        Exit::WriteFault | Exit::NoMemory => Err(NO_MEMORY),
+        _ => Ok(u32::from(exit.number())),
+    }
+}
+
+// The image that is to be kept, where there is one, and else what was written and behind it the message.
+fn answer_bytes(written: Vec<u8>, outcome: Outcome) -> Result<Vec<u8>, AllocError>
+    ensures bytes { IfOk result (λ bytes. bytes.items ≡ or_told (option_map vec_items outcome.image)
+        (written.items ++ string_bytes outcome.message)) }
+{
+    let Outcome { message, image, .. } = outcome;
+    match image {
+        Some(image) => Ok(image),
+        None => {
+            let mut bytes = written;
+            bytes.extend_from_slice(message.as_bytes())?;
+            Ok(bytes)
+        }
+    }
+}
+
+// Does a job: its answer and its exit status, or the status of a call that has no answer.
+fn done(alloc: Global, input: &[u8], job: Job) -> Result<(Vec<u8>, u32), u32>
+    ensures code { IfOk result (λ a. a.1 ≡ exit_number (job_said job input.now).exit) }
+    ensures answer { IfOk result (λ a. HasAnswer a.1) }
+    ensures bytes { IfOk result (λ a. a.0.items ≡ answer_of (job_said job input.now)) }
+    ensures none { IfErr result (λ code. (code ≡ TOO_LONG) ⊎ (code ≡ NO_MEMORY)) }
+{
+    let mut source = Reader::new(input);
+    let mut sink = Kept::new(alloc);
+    let outcome = run(alloc, &mut source, &mut sink, job);
+    let code = exit_code(outcome.exit)?;
+    let Kept { bytes, .. } = sink;
+    match answer_bytes(bytes, outcome) {
+        Ok(bytes) => Ok((bytes, code)),
+        Err(_) => Err(NO_MEMORY),
+    }
+}
+
+/// Does a job, and gives its answer to a buffer.
+pub(crate) fn answer(
+    alloc: Global,
+    input: &[u8],
+    job: Job,
+    out: &mut [u8],
+    needed: &mut usize,
+) -> u32
+    ensures answers { Answers (job_said job input.now) result out.old out.new needed.new }
+    ensures text { result ≢ NO_TEXT }
+{
+    match done(alloc, input, job) {
+        Ok((bytes, code)) => match give(&bytes, out, needed) {
+            DONE => code,
+            short => short,
+        },
+        Err(code) => {
+            *needed = 0;
+            code
+        }
+    }
+}

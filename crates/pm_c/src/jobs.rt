@@ -1,0 +1,55 @@
+//! The jobs on texts and code: one call each.
+ghost use Rattle.pm_tool.specs.Said.{job_said};
+ghost use Rattle.pm_c.specs.Answers.{Answers};
+
+use crate::answers::answer;
+use pm_tool::Job;
+use std::alloc::Global;
+
+/// Gives the code file of a text of the assembler, or with `list` its listing: 0. 2 where the text is refused, and the
+/// answer then says why.
+///
+/// Of this call and each other one that gives an answer: 7 where the buffer is too short, and nothing is written then;
+/// 4 where the input is too long and 5 where there is no memory, and there is no answer then. `needed` is the length of
+/// the answer.
+#[unsafe(no_mangle)]
+pub extern "C" fn pmach_assemble(
+    alloc: Global,
+    text: &[u8],
+    list: bool,
+    out: &mut [u8],
+    needed: &mut usize,
+) -> u32
+    ensures answers { Answers (job_said (Job.Asm list) text.now) result out.old out.new needed.new }
+{
+    answer(alloc, text, Job::Asm { list }, out, needed)
+}
+
+/// Gives the text of a code file: 0. 2 where the bytes are no code file, and the answer then says why.
+#[unsafe(no_mangle)]
+pub extern "C" fn pmach_disassemble(
+    alloc: Global,
+    file: &[u8],
+    out: &mut [u8],
+    needed: &mut usize,
+) -> u32
+    ensures answers { Answers (job_said Job.Dis file.now) result out.old out.new needed.new }
+{
+    answer(alloc, file, Job::Dis, out, needed)
+}
+
+/// Gives the trace of at most `limit` steps of bare code, which a text spells as pairs of hexadecimal digits: 0 where
+/// the program ended, 3 where an execution error stopped it, 6 at the limit and where it waits for console bytes. 2
+/// where the text spells no program, and the answer then says why.
+#[unsafe(no_mangle)]
+pub extern "C" fn pmach_raw(
+    alloc: Global,
+    text: &[u8],
+    limit: u32,
+    out: &mut [u8],
+    needed: &mut usize,
+) -> u32
+    ensures answers { Answers (job_said (Job.Raw limit) text.now) result out.old out.new needed.new }
+{
+    answer(alloc, text, Job::Raw { limit }, out, needed)
+}

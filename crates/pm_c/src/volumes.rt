@@ -1,0 +1,278 @@
+//! The jobs on volumes: one call each. An image is looked at and never changed: after a change the answer is the new one.
+ghost use Rattle.std.specs.Prelude.{◌≡◌, ◌≢◌, ◌⊎◌, [], IfOk, IfErr, string_bytes};
+ghost use Rattle.std.specs.Str.{IsUtf8};
+ghost use Rattle.pm_volume.specs.Headers.{blank_fault};
+ghost use Rattle.pm_filer.specs.Filed.{Change, Get, GetText, Krunch, ListFiles, Put, PutText, Remove, order_of};
+ghost use Rattle.pm_tool.specs.Batches.{said_check, said_files, said_new, said_repair, said_salvage};
+ghost use Rattle.pm_c.specs.Answers.{Answers};
+
+use crate::answers::answer;
+use crate::status::{NO_MEMORY, NO_TEXT};
+use pm_filer::FileCommand;
+use pm_tool::Job;
+use std::alloc::Global;
+
+// The text of a name, or the status of a call that has no answer.
+fn text_of(alloc: Global, name: &[u8]) -> Result<String, u32>
+    ensures text { IfOk result (λ text. string_bytes text ≡ name.now) }
+    ensures none { IfErr result (λ code. (code ≡ NO_MEMORY) ⊎ (code ≡ NO_TEXT)) }
+    ensures no_text { IfErr result (λ code. code ≡ NO_TEXT → ¬ (IsUtf8 name.now)) }
+{
+    let Ok(text) = str::from_utf8(name) else {
+        return Err(NO_TEXT);
+    };
+    match String::from_str(alloc, text) {
+        Ok(text) => Ok(text),
+        Err(_) => Err(NO_MEMORY),
+    }
+}
+
+// No answer, and why.
+fn none(code: u32, needed: &mut usize) -> u32
+    ensures code { result ≡ code }
+    ensures needed { needed.new ≡ 0 }
+{
+    *needed = 0;
+    code
+}
+
+// Does a command on the volume that an image is.
+fn command(
+    alloc: Global,
+    image: &[u8],
+    input: &[u8],
+    command: FileCommand,
+    out: &mut [u8],
+    needed: &mut usize,
+) -> u32
+    ensures answers { Answers (said_files image.now (order_of command) input.now)
+        result out.old out.new needed.new }
+    ensures text { result ≢ NO_TEXT }
+{
+    match image.to_vec(alloc) {
+        Ok(image) => answer(alloc, input, Job::Files { image, command }, out, needed),
+        Err(_) => none(NO_MEMORY, needed),
+    }
+}
+
+/// Gives the list of the files, as `list` of the program.
+#[unsafe(no_mangle)]
+pub extern "C" fn pmach_list(alloc: Global, image: &[u8], out: &mut [u8], needed: &mut usize) -> u32
+    ensures answers { Answers (said_files image.now ListFiles []) result out.old out.new needed.new }
+{
+    command(alloc, image, &[], FileCommand::List, out, needed)
+}
+
+/// Gives the bytes of the first file of a name.
+#[unsafe(no_mangle)]
+pub extern "C" fn pmach_get(
+    alloc: Global,
+    image: &[u8],
+    name: &[u8],
+    out: &mut [u8],
+    needed: &mut usize,
+) -> u32
+    ensures answers { Answers (said_files image.now (Get name.now) []) result out.old out.new needed.new }
+    ensures text { result ≡ NO_TEXT → ¬ (IsUtf8 name.now) }
+{
+    match text_of(alloc, name) {
+        Ok(name) => command(alloc, image, &[], FileCommand::Get(name), out, needed),
+        Err(code) => none(code, needed),
+    }
+}
+
+/// Gives the text of the first file of a name, which is a text file.
+#[unsafe(no_mangle)]
+pub extern "C" fn pmach_get_text(
+    alloc: Global,
+    image: &[u8],
+    name: &[u8],
+    out: &mut [u8],
+    needed: &mut usize,
+) -> u32
+    ensures answers { Answers (said_files image.now (GetText name.now) []) result out.old out.new needed.new }
+    ensures text { result ≡ NO_TEXT → ¬ (IsUtf8 name.now) }
+{
+    match text_of(alloc, name) {
+        Ok(name) => command(alloc, image, &[], FileCommand::GetText(name), out, needed),
+        Err(code) => none(code, needed),
+    }
+}
+
+/// Adds a file of a name, a kind (its low four bits) and these bytes, with the volume's last date.
+#[unsafe(no_mangle)]
+pub extern "C" fn pmach_put(
+    alloc: Global,
+    image: &[u8],
+    name: &[u8],
+    kind: u8,
+    bytes: &[u8],
+    out: &mut [u8],
+    needed: &mut usize,
+) -> u32
+    ensures answers { Answers (said_files image.now (Put name.now kind []) bytes.now)
+        result out.old out.new needed.new }
+    ensures text { result ≡ NO_TEXT → ¬ (IsUtf8 name.now) }
+{
+    match text_of(alloc, name) {
+        Ok(name) => {
+            let put = FileCommand::Put(name, kind, Vec::new(alloc));
+            command(alloc, image, bytes, put, out, needed)
+        }
+        Err(code) => none(code, needed),
+    }
+}
+
+/// Adds a file of a name, the text file of this text, with the volume's last date.
+#[unsafe(no_mangle)]
+pub extern "C" fn pmach_put_text(
+    alloc: Global,
+    image: &[u8],
+    name: &[u8],
+    text: &[u8],
+    out: &mut [u8],
+    needed: &mut usize,
+) -> u32
+    ensures answers { Answers (said_files image.now (PutText name.now []) text.now)
+        result out.old out.new needed.new }
+    ensures text { result ≡ NO_TEXT → ¬ (IsUtf8 name.now) }
+{
+    match text_of(alloc, name) {
+        Ok(name) => {
+            let put = FileCommand::PutText(name, Vec::new(alloc));
+            command(alloc, image, text, put, out, needed)
+        }
+        Err(code) => none(code, needed),
+    }
+}
+
+/// Removes the first file of a name.
+#[unsafe(no_mangle)]
+pub extern "C" fn pmach_remove(
+    alloc: Global,
+    image: &[u8],
+    name: &[u8],
+    out: &mut [u8],
+    needed: &mut usize,
+) -> u32
+    ensures answers { Answers (said_files image.now (Remove name.now) []) result out.old out.new needed.new }
+    ensures text { result ≡ NO_TEXT → ¬ (IsUtf8 name.now) }
+{
+    match text_of(alloc, name) {
+        Ok(name) => command(alloc, image, &[], FileCommand::Remove(name), out, needed),
+        Err(code) => none(code, needed),
+    }
+}
+
+/// Gives the first file of a name another name.
+#[unsafe(no_mangle)]
+pub extern "C" fn pmach_change(
+    alloc: Global,
+    image: &[u8],
+    name: &[u8],
+    new: &[u8],
+    out: &mut [u8],
+    needed: &mut usize,
+) -> u32
+    ensures answers { Answers (said_files image.now (Change name.now new.now) [])
+        result out.old out.new needed.new }
+    ensures text { result ≡ NO_TEXT → ¬ (IsUtf8 name.now) ⊎ ¬ (IsUtf8 new.now) }
+{
+    match (text_of(alloc, name), text_of(alloc, new)) {
+        (Ok(name), Ok(new)) => {
+            command(
+                alloc,
+                image,
+                &[],
+                FileCommand::Change(name, new),
+                out,
+                needed,
+            )
+        }
+        (Err(code), _) => none(code, needed),
+        (_, Err(code)) => none(code, needed),
+    }
+}
+
+/// Moves the files together; bad blocks stay.
+#[unsafe(no_mangle)]
+pub extern "C" fn pmach_krunch(
+    alloc: Global,
+    image: &[u8],
+    out: &mut [u8],
+    needed: &mut usize,
+) -> u32
+    ensures answers { Answers (said_files image.now Krunch []) result out.old out.new needed.new }
+{
+    command(alloc, image, &[], FileCommand::Krunch, out, needed)
+}
+
+/// Gives the image of a new volume of a name and so many blocks of 512 bytes, without files.
+#[unsafe(no_mangle)]
+pub extern "C" fn pmach_volume(
+    alloc: Global,
+    name: &[u8],
+    blocks: u16,
+    out: &mut [u8],
+    needed: &mut usize,
+) -> u32
+    ensures answers { Answers (said_new (blank_fault name.now blocks) name.now blocks [])
+        result out.old out.new needed.new }
+    ensures text { result ≡ NO_TEXT → ¬ (IsUtf8 name.now) }
+{
+    match text_of(alloc, name) {
+        Ok(name) => answer(alloc, &[], Job::New { name, blocks }, out, needed),
+        Err(code) => none(code, needed),
+    }
+}
+
+/// Gives an image whose first copy of the directory alone is damaged with the good second copy in that place, and a
+/// volume as it is.
+#[unsafe(no_mangle)]
+pub extern "C" fn pmach_repair(
+    alloc: Global,
+    image: &[u8],
+    out: &mut [u8],
+    needed: &mut usize,
+) -> u32
+    ensures answers { Answers (said_repair image.now []) result out.old out.new needed.new }
+{
+    match image.to_vec(alloc) {
+        Ok(image) => answer(alloc, &[], Job::Repair { image }, out, needed),
+        Err(_) => none(NO_MEMORY, needed),
+    }
+}
+
+/// Says what is wrong with an image, of any bytes.
+#[unsafe(no_mangle)]
+pub extern "C" fn pmach_check(
+    alloc: Global,
+    image: &[u8],
+    out: &mut [u8],
+    needed: &mut usize,
+) -> u32
+    ensures answers { Answers (said_check image.now []) result out.old out.new needed.new }
+{
+    match image.to_vec(alloc) {
+        Ok(image) => answer(alloc, &[], Job::Check { image }, out, needed),
+        Err(_) => none(NO_MEMORY, needed),
+    }
+}
+
+/// Gives a new volume with the files of an image whose entries make sense by themselves, by the first copy of the
+/// directory or, with `second`, by the second.
+#[unsafe(no_mangle)]
+pub extern "C" fn pmach_salvage(
+    alloc: Global,
+    image: &[u8],
+    second: bool,
+    out: &mut [u8],
+    needed: &mut usize,
+) -> u32
+    ensures answers { Answers (said_salvage image.now second []) result out.old out.new needed.new }
+{
+    match image.to_vec(alloc) {
+        Ok(image) => answer(alloc, &[], Job::Salvage { image, second }, out, needed),
+        Err(_) => none(NO_MEMORY, needed),
+    }
+}

@@ -75,8 +75,11 @@ tested {𝓤 = 𝓤} 𝓛 R heap p x =
 module _ (R : RattleType) {M : Type 1} {𝓤 : Ura M} {𝓛 : Logic 𝓤} {K : Type 0} {Γ : List (Item 𝓤)} {G : Goal 𝓤 𝓛.H} where
   -- a handle is empty and at null, or has a value in a block
   pub either_owned : K → (p : Ptr) (o : Option R.Denot) → (p ≡ null_ptr → o ≡ None → Seq K 𝓛 Γ G)
-      → ((b n : ℕ) (heap : Global) (x : R.Denot) → p ≡ block_ptr b n → o ≡ Some x → Testable (block_ptr b n) → Seq K 𝓛 (‵ (boxed R heap (block_ptr b n) x) ∷ Γ) G)
+      → ((b n : ℕ) (heap : Global) (x : R.Denot) → p ≡ block_ptr b n → o ≡ Some x → Testable (block_ptr b n)
+      → Seq K 𝓛 (‵ (boxed R heap (block_ptr b n) x) ∷ Γ) G)
       → Seq K 𝓛 (‵ (owned R p o) ∷ Γ) G
   either_owned t p None none one = fpick t (λ e. drop t $ none e refl)
-  either_owned t p (Some x) none one = fpick t (λ heap. in_a_block t p (λ q. boxed R heap q x) (fst∗ 𝓤 (never 𝓤) (sem 𝓛 (ghosts.dealloc_token heap (bare (lone R.mir)) null_ptr)))
-      (λ b n e. let q : Ptr = block_ptr b n in use1 𝓛 (given (Testable q) (‵ (boxed R heap q x))) (tested 𝓛 R heap q x) $ learn t (λ shown. one b n heap x e refl shown)))
+  either_owned t p (Some x) none one = fpick t (λ heap. in_a_block t p (λ q. boxed R heap q x) (fst∗ 𝓤 (never 𝓤)
+      (sem 𝓛 (ghosts.dealloc_token heap (bare (lone R.mir)) null_ptr)))
+      (λ b n e. let q : Ptr = block_ptr b n in use1 𝓛 (given (Testable q) (‵ (boxed R heap q x))) (tested 𝓛 R heap q x) $
+      learn t (λ shown. one b n heap x e refl shown)))

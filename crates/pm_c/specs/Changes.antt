@@ -1,12 +1,16 @@
 -- What a call on a handle does to the machine in it.
-use Rattle.std.specs.Prelude.{◌≡◌, ◌≢◌, ℕ, List, length, drop, ◌++◌, Option, None, Some, Result, Ok, Err, if◌then◌else◌, nat_lt}
+use Rattle.std.specs.Prelude.{◌≡◌, ◌≢◌, ℕ, List, length, drop, ◌++◌, Option, None, Some}
+use Rattle.std.specs.Prelude.{Result, Ok, Err, if◌then◌else◌, nat_lt}
 use Rattle.pm_machine.specs.State.{State, Whole}
 use Rattle.pm_machine.specs.declared.state.BootFault.{BootFault}
 use Rattle.pm_volume.specs.Directory.{image_fault}
 use Rattle.pm_volume.specs.declared.fault.VolumeFault.{VolumeFault}
 use Rattle.pm_stdproc.specs.Devices.{ejected_image}
 use Rattle.pm_machine.specs.Events.{Eject, Mount, next}
-use Rattle.pm_c.specs.Codes.{image_code, status_code}
+use Rattle.pm_machine.specs.Runs.{Ran}
+use Rattle.pm_machine.specs.Steps.{stepped}
+use Rattle.pm_machine.specs.declared.state.Stop.{Stop}
+use Rattle.pm_c.specs.Codes.{image_code, status_code, stop_code}
 use Rattle.pm_c.specs.declared.held.Held.{Held}
 use Rattle.pm_c.specs.declared.shows.Shown.{Shown}
 use Rattle.pm_c.specs.declared.status.TheConstants.{DONE, NO_DISK, NO_MACHINE, NO_MEMORY, ODD_ADDRESS, TOO_SHORT}
@@ -20,6 +24,14 @@ Leads status (Some m) (Some n) P = P m n
 -- the machine changes so, and the disk that was taken out stays
 abbrev pub Changes : (Whole → Whole → Type 0) → Held → Held → Type 0
 Changes P m n = P m.machine n.machine × (n.ejected ≡ m.ejected)
+
+-- one step, and the status of its answer
+abbrev pub StepsTo : ℕ → Whole → Whole → Type 0
+StepsTo status m n = (stop : Stop) × (stepped m.state ≡ (n.state, stop)) × (status ≡ stop_code stop)
+
+-- a run of at most limit steps: how many counted, and the status of the last answer
+abbrev pub RunsTo : ℕ → ℕ → ℕ → Whole → Whole → Type 0
+RunsTo limit count status m n = (stop : Stop) × Ran limit m.state count stop n.state × (status ≡ stop_code stop)
 
 -- a machine is shown so, and nothing changes
 abbrev pub Looks : (Held → Type 0) → Held → Held → Type 0

@@ -94,8 +94,8 @@ fn give_ejected(held: &Held, out: &mut [u8], needed: &mut usize) -> u32
     }
 }
 
-/// Gives the image of the disk that was taken out last: 0. 7 where the buffer is too short, 11 where none was taken out,
-/// 8 where the handle is empty; nothing is written then.
+/// Gives the image of the disk that was taken out last: 0. 7 where the buffer is too short, 11 where none was taken
+/// out, 8 where the handle is empty; nothing is written then.
 #[unsafe(no_mangle)]
 pub extern "C" fn pmach_ejected(
     alloc: Global,

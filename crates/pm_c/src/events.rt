@@ -1,11 +1,9 @@
 //! What happens to a machine: one call for each event.
 ghost use Rattle.std.specs.Prelude.{◌≡◌, ◌≢◌, None};
-ghost use Rattle.pm_machine.specs.Events.{Eject, Key, Mount, Poke, next};
-ghost use Rattle.pm_machine.specs.Runs.{GaveUp, Ran, never};
-ghost use Rattle.pm_machine.specs.Steps.{stepped};
-ghost use Rattle.pm_machine.specs.declared.state.Stop.{Stop};
-ghost use Rattle.pm_c.specs.Changes.{Changes, Leads};
-ghost use Rattle.pm_c.specs.Codes.{poke_code, stop_code};
+ghost use Rattle.pm_machine.specs.Events.{Key, Poke, next};
+ghost use Rattle.pm_machine.specs.Runs.{GaveUp, never};
+ghost use Rattle.pm_c.specs.Changes.{Changes, Leads, RunsTo, StepsTo};
+ghost use Rattle.pm_c.specs.Codes.{poke_code};
 
 use crate::handle::{Handle, taken};
 use crate::status::{DONE, NO_MACHINE, NO_MEMORY, ODD_ADDRESS, stop_code};
@@ -13,8 +11,7 @@ use pm_machine::Machine;
 use std::alloc::Global;
 
 fn step_code(machine: &mut Machine) -> u32
-    ensures step { result ≢ NO_MEMORY → (stop : Stop) ×
-        (stepped machine.old.state ≡ (machine.new.state, stop)) × (result ≡ stop_code stop) }
+    ensures step { result ≢ NO_MEMORY → StepsTo result machine.old machine.new }
     ensures err { result ≡ NO_MEMORY → machine.new ≡ machine.old }
 {
     match machine.step() {
@@ -23,13 +20,13 @@ fn step_code(machine: &mut Machine) -> u32
     }
 }
 
-/// One step: 0 it went, 1 it waits for console bytes and nothing changed, 2 the program has ended, 100 and the number of
-/// the execution error that stops the machine; 8 where the handle is empty. 5 where there is no memory, and nothing
+/// One step: 0 it went, 1 it waits for console bytes and nothing changed, 2 the program has ended, 100 and the number
+/// of the execution error that stops the machine; 8 where the handle is empty. 5 where there is no memory, and nothing
 /// changed then.
 #[unsafe(no_mangle)]
 pub extern "C" fn pmach_step(alloc: Global, handle: &mut Handle) -> u32
-    ensures step { Leads result handle.old.held handle.new.held (Changes (λ m n. result ≢ NO_MEMORY → (stop : Stop) ×
-        (stepped m.state ≡ (n.state, stop)) × (result ≡ stop_code stop))) }
+    ensures step { Leads result handle.old.held handle.new.held (Changes (λ m n.
+        result ≢ NO_MEMORY → StepsTo result m n)) }
     ensures err { result ≡ NO_MEMORY → handle.new.held ≡ handle.old.held }
 {
     let Some(held) = taken(alloc, handle) else {
@@ -42,8 +39,7 @@ pub extern "C" fn pmach_step(alloc: Global, handle: &mut Handle) -> u32
 }
 
 fn run_code(machine: &mut Machine, limit: u64, steps: &mut u64) -> u32
-    ensures ran { result ≢ NO_MEMORY → (stop : Stop) ×
-        Ran limit machine.old.state steps.new stop machine.new.state × (result ≡ stop_code stop) }
+    ensures ran { result ≢ NO_MEMORY → RunsTo limit steps.new result machine.old machine.new }
     ensures err { result ≡ NO_MEMORY → GaveUp never limit machine.old machine.new }
     ensures none { result ≡ NO_MEMORY → steps.new ≡ 0 }
 {
@@ -59,13 +55,13 @@ fn run_code(machine: &mut Machine, limit: u64, steps: &mut u64) -> u32
     }
 }
 
-/// At most `limit` steps, as long as each goes: the status is that of the last one, 0 at the limit, and `steps` says how
-/// many counted. 8 where the handle is empty. 5 where there is no memory: the machine stands after the steps that went,
-/// and `steps` is 0 then.
+/// At most `limit` steps, as long as each goes: the status is that of the last one, 0 at the limit, and `steps` says
+/// how many counted. 8 where the handle is empty. 5 where there is no memory: the machine stands after the steps that
+/// went, and `steps` is 0 then.
 #[unsafe(no_mangle)]
 pub extern "C" fn pmach_run(alloc: Global, handle: &mut Handle, limit: u64, steps: &mut u64) -> u32
-    ensures ran { Leads result handle.old.held handle.new.held (Changes (λ m n. result ≢ NO_MEMORY → (stop : Stop) ×
-        Ran limit m.state steps.new stop n.state × (result ≡ stop_code stop))) }
+    ensures ran { Leads result handle.old.held handle.new.held (Changes (λ m n.
+        result ≢ NO_MEMORY → RunsTo limit steps.new result m n)) }
     ensures err { Leads result handle.old.held handle.new.held (Changes (λ m n. result ≡ NO_MEMORY →
         GaveUp never limit m n × (steps.new ≡ 0))) }
     ensures same { handle.old.held ≡ None → steps.new ≡ steps.old }

@@ -73,7 +73,8 @@ fn read(machine: &Machine, address: u16, word: &mut u16) -> u32
     }
 }
 
-/// Shows the word at an even address: 0. 10 at an odd address, 8 where the handle is empty; `word` stays as it was then.
+/// Shows the word at an even address: 0. 10 at an odd address, 8 where the handle is empty; `word` stays as it was
+/// then.
 #[unsafe(no_mangle)]
 pub extern "C" fn pmach_word(
     alloc: Global,

@@ -65,11 +65,11 @@ pub extern "C" fn pmach_new(alloc: Global, handle: &mut Handle, code: &[u8]) -> 
     }
 }
 
-/// Puts a machine at the start of a program into an empty handle: the code file of a name on the volume of unit 4, which
-/// the image is. No other disk is there. 0 is that it was put. In this order: 9 where the handle has a machine, 12 where
-/// the name is no text in UTF-8, 400 and the fault's number where the image is no volume, 200 and the fault's number
-/// where the program does not start, 100 and the error's number where its first call fails. 5 where there is no memory.
-/// The handle stays as it was then. `clock` counts sixtieths of a second.
+/// Puts a machine at the start of a program into an empty handle: 0. The program is the code file of a name on the
+/// volume of unit 4, which the image is; no other disk is there, and the clock begins at `clock`. In this order: 9
+/// where the handle has a machine, 12 where the name is no text in UTF-8, 400 and the fault's number where the image is
+/// no volume, 200 and the fault's number where the program does not start, 100 and the error's number where its first
+/// call fails. 5 where there is no memory. The handle stays as it was then.
 #[unsafe(no_mangle)]
 pub extern "C" fn pmach_boot(
     alloc: Global,

@@ -1,4 +1,4 @@
-//! The jobs on volumes: one call each. An image is looked at and never changed: after a change the answer is the new one.
+//! The jobs on volumes: one call each. An image is looked at and never changed: the answer of a change is the new one.
 ghost use Rattle.std.specs.Prelude.{◌≡◌, ◌≢◌, ◌⊎◌, [], IfOk, IfErr, string_bytes};
 ghost use Rattle.std.specs.Str.{IsUtf8};
 ghost use Rattle.pm_volume.specs.Headers.{blank_fault};

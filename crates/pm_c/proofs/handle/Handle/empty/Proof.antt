@@ -40,11 +40,13 @@ empty_spec 𝓤 𝓛 𝓜 𝓡 wired =
     let Post : Val → SProp 𝓤 = (walk_of 𝓛 En₀ stays c).post z in
     let p : Ptr = null_ptr in
     let none : Option Held = None in
-    qed 𝓛 ((raw (alive 𝓛 En₀.signature z.0.0 z.0.1) ⊛ ‵ (owns (types_at En₀.signature.params z.0.0) z.0.3 z.0.4)) ∷ ‵ ftrue ∷ []) ∵ move ! (1 ∷ []) $ drop ! $ split ! $ keep ! (0 ∷ []) $
+    qed 𝓛 ((raw (alive 𝓛 En₀.signature z.0.0 z.0.1) ⊛ ‵ (owns (types_at En₀.signature.params z.0.0) z.0.3 z.0.4)) ∷ ‵ ftrue ∷ []) ∵ move ! (1 ∷ []) $
+    drop ! $ split ! $ keep ! (0 ∷ []) $
     let x : (handle.the_row).Denot = record { at = p; held = none } in
     enter ! C Λ fn [] Post $
     alloc_all ! (λ l. pass_all ! refl tt $ let En : Env 𝓤 𝓛.H = env fn.locals l in
     sets ! (agg ! (and_then ! (lit ! tt) (no_more !))) refl (handle_typed p) $
     returns ! (look_at ! 0 refl) $ free_all ! refl $
-    nothing ! $ fpack ! (p ≡ null_ptr) (λ _. ftrue) refl $ use0 𝓛 (‵ (handle_own p (handle_val p ∷ []))) (handle_made 𝓛 p) $ fjoin ! $ use0 𝓛 (raw (fact 𝓤 (none ≡ none))) (fact_i 𝓤 (none ≡ none) (emp 𝓤) refl) $ nothing ! $ move ! (3 ∷ 0 ∷ 2 ∷ 1 ∷ []) $
+    nothing ! $ fpack ! (p ≡ null_ptr) (λ _. ftrue) refl $ use0 𝓛 (‵ (handle_own p (handle_val p ∷ []))) (handle_made 𝓛 p) $ fjoin ! $
+    use0 𝓛 (raw (fact 𝓤 (none ≡ none))) (fact_i 𝓤 (none ≡ none) (emp 𝓤) refl) $ nothing ! $ move ! (3 ∷ 0 ∷ 2 ∷ 1 ∷ []) $
     by ! (leaves 𝓛 En₀ stays c z (handle_val p) x tt tt)))

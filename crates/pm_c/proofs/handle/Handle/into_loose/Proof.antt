@@ -15,7 +15,7 @@ use types.ByLocal.{alloc_all, pass_all, free_all, look_at, get, get_in, sets, se
 use denote.Param.{layout}
 use denote.RattleType.{RattleType, owns}
 use denote.RawPtr.{Ptr, block_ptr, null_ptr, tests_null}
-use denote.Signature.{types_at, type_at}
+use denote.Signature.{Slot, types_at, type_at}
 use denote.Steps.{nothing}
 use denote.Triple.Entry.{alive}
 use denote.Triple.Walked.{Stays, stay_dropped, walk_of}
@@ -43,7 +43,9 @@ into_loose_spec 𝓤 𝓛 𝓜 𝓡 wired =
     let En₀ = ended in
     let c = clauses 𝓛 𝓜.mem 𝓡.returns in
     let fn : Fn = compiled.function in
-    let stays : Stays En₀.signature.params En₀.kept = (stay_dropped (slot_at 0 En₀.signature.params) En₀.kept.0, (stay_dropped (slot_at 1 En₀.signature.params) En₀.kept.1.0, tt)) in
+    let own : Slot En₀.signature.lifetimes = slot_at 0 En₀.signature.params in
+    let heap_slot : Slot En₀.signature.lifetimes = slot_at 1 En₀.signature.params in
+    let stays : Stays En₀.signature.params En₀.kept = (stay_dropped own En₀.kept.0, (stay_dropped heap_slot En₀.kept.1.0, tt)) in
     let C = (tables 𝓤 H 𝓜 𝓡 𝓡.env).C in
     let Λ = (tables 𝓤 H 𝓜 𝓡 𝓡.env).Λ in
     let R : RattleType = held.the_row in
@@ -51,12 +53,14 @@ into_loose_spec 𝓤 𝓛 𝓜 𝓡 wired =
     let LZ = heap_laws.the_row_laws in
     let Lr : RattleType = Loose R Z LZ ghosts in
     let seen : Option Lr.Denot → Option R.Denot = option_map (λ loose. loose.value) in
-    proved_at 𝓛 En₀ stays c 𝓜 𝓡 (Goes-blank 𝓛 0 (slot_at 0 En₀.signature.params) En₀.kept.0 (λ κs x f. tt), (Goes-blank 𝓛 0 (slot_at 1 En₀.signature.params) En₀.kept.1.0 (λ κs x f. tt), tt)) #self fn (compiled.unfolded 𝓤 H 𝓜 𝓡 wired) (λ z are.
+    proved_at 𝓛 En₀ stays c 𝓜 𝓡 (Goes-blank 𝓛 0 own En₀.kept.0 (λ κs x f. tt), (Goes-blank 𝓛 0 heap_slot En₀.kept.1.0 (λ κs x f. tt), tt)) #self fn
+    (compiled.unfolded 𝓤 H 𝓜 𝓡 wired) (λ z are.
     let Post : Val → SProp 𝓤 = (walk_of 𝓛 En₀ stays c).post z in
     let d = z.0.3.0 in
     let a = z.0.3.1.0 in
     let Out : RattleType = type_at En₀.signature.result z.0.0 in
-    qed 𝓛 ((raw (alive 𝓛 En₀.signature z.0.0 z.0.1) ⊛ ‵ (owns (types_at En₀.signature.params z.0.0) z.0.3 z.0.4)) ∷ raw ((c z.0.0 z.0.3).requires z.1) ∷ []) ∵ move ! (1 ∷ []) $ drop ! $ split ! $ move ! (1 ∷ []) $
+    qed 𝓛 ((raw (alive 𝓛 En₀.signature z.0.0 z.0.1) ⊛ ‵ (owns (types_at En₀.signature.params z.0.0) z.0.3 z.0.4))
+    ∷ raw ((c z.0.0 z.0.3).requires z.1) ∷ []) ∵ move ! (1 ∷ []) $ drop ! $ split ! $ move ! (1 ∷ []) $
     fsplit ! $ fsplit ! $ drop ! $ move ! (1 ∷ []) $ fsplit ! $ handle_tells (al R Z LZ ghosts) ! a z.0.4.1.0 (λ h ha fits. move ! (2 ∷ []) $
     either_owned R ! d.at d.held
     (λ at_null empty. let told : z.0.4.0 ≡ handle_val null_ptr ∷ [] = handle_told d.at z.0.4.0 are.0.0 ∙ ap (λ (q : Ptr). handle_val q ∷ []) at_null in
@@ -69,10 +73,11 @@ into_loose_spec 𝓤 𝓛 𝓜 𝓡 wired =
     exec ! C Λ En (after 3 fn.body) (at_ret En Post) $ sets ! (of_opd ! (get ! refl)) refl (tt, (record { fits = lit< tt }, tt)) $
     returns ! (look_at ! 0 refl) $ free_all ! refl $
     use0 𝓛 (‵ (Out.own_val None (live 0 vnil ∷ []))) (none_of 𝓛 Lr) $
-    use0 𝓛 (raw (fact 𝓤 (seen None ≡ d.held))) (fact_i 𝓤 (seen None ≡ d.held) (emp 𝓤) (sym empty)) $ nothing ! $ nothing ! $ fjoin ! $ nothing ! $ fjoin ! $ keep ! (5 ∷ 0 ∷ 2 ∷ 1 ∷ []) $
+    use0 𝓛 (raw (fact 𝓤 (seen None ≡ d.held))) (fact_i 𝓤 (seen None ≡ d.held) (emp 𝓤) (sym empty)) $ nothing ! $ nothing ! $ fjoin ! $ nothing ! $
+    fjoin ! $ keep ! (5 ∷ 0 ∷ 2 ∷ 1 ∷ []) $
     by ! (leaves 𝓛 En₀ stays c z (live 0 vnil) None (tt, (tt, tt)) (tt, (tt, tt))))
     (λ wrong. absurd wrong)))
-    (λ b o own x at_block full tested.
+    (λ b o freed x at_block full tested.
     let p : Ptr = block_ptr b o in
     let told : z.0.4.0 ≡ handle_val p ∷ [] = handle_told d.at z.0.4.0 are.0.0 ∙ ap (λ (q : Ptr). handle_val q ∷ []) at_block in
     let made : Val = both (vptr b o) h in
@@ -92,5 +97,6 @@ into_loose_spec 𝓤 𝓛 𝓜 𝓡 wired =
     sets_last ! (agg ! (and_then ! (lit ! tt) (and_then ! (get ! refl) (no_more !)))) refl typed $
     exec ! C Λ En (after 3 fn.body) (at_ret En Post) $ sets ! (of_opd ! (get ! refl)) refl typed $
     returns ! (look_at ! 0 refl) $ free_all ! refl $
-    use0 𝓛 (raw (fact 𝓤 (seen (Some y) ≡ d.held))) (fact_i 𝓤 (seen (Some y) ≡ d.held) (emp 𝓤) (sym full)) $ nothing ! $ nothing ! $ fjoin ! $ nothing ! $ fjoin ! $ keep ! (4 ∷ 0 ∷ 2 ∷ 1 ∷ []) $
+    use0 𝓛 (raw (fact 𝓤 (seen (Some y) ≡ d.held))) (fact_i 𝓤 (seen (Some y) ≡ d.held) (emp 𝓤) (sym full)) $ nothing ! $ nothing ! $ fjoin ! $ nothing ! $
+    fjoin ! $ keep ! (4 ∷ 0 ∷ 2 ∷ 1 ∷ []) $
     by ! (leaves 𝓛 En₀ stays c z some (Some y) (tt, (tt, tt)) (tt, (tt, tt))))))))

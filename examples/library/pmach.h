@@ -1,0 +1,120 @@
+/* pmach.h: the p-machine as a library. docs/LIBRARY.md says what is proved of it.
+
+   What every call asks of its caller, which nothing checks:
+   - A pointer points to as many bytes, numbers or structs as its parameters say, also where they are none: it is never
+     null. What is written (struct pmach *, struct pmach_shown *, out, needed, steps, word) overlaps nothing else that
+     the same call is given.
+   - A struct pmach is set to {0} before its first call, and changed by these calls alone. It is not copied and used
+     twice; one that is thrown away with a machine in it loses memory. It goes to one call at a time, and stays on the
+     thread that made its machine.
+   - malloc, realloc and free are those of one C library, which aligns as the standard says. No call is made from a
+     signal handler, or in the forked child of a process with threads.
+
+   There is no global state, and nothing that is handed in is kept: an image is copied. */
+#ifndef PMACH_H
+#define PMACH_H
+#include <stdbool.h>
+#include <stddef.h>
+#include <stdint.h>
+#ifdef __cplusplus
+extern "C" {
+#endif
+
+/* What the calls answer. 1, 2, 3 and 6 have the meaning that stands at the call. */
+enum {
+    PMACH_DONE = 0,        /* done; of a step and a run: the machine goes on */
+    PMACH_TOO_LONG = 4,    /* the input of a job has more than 16,777,216 bytes */
+    PMACH_NO_MEMORY = 5,   /* no memory, and nothing changed; of a run: it stands after the steps that went */
+    PMACH_TOO_SHORT = 7,   /* out is too short: nothing was written to it, and *needed says how many bytes it wants */
+    PMACH_NO_MACHINE = 8,  /* the handle is empty */
+    PMACH_HAS_MACHINE = 9, /* the handle has a machine already */
+    PMACH_ODD_ADDRESS = 10,
+    PMACH_NO_DISK = 11,
+    PMACH_NO_TEXT = 12     /* a name is not UTF-8 */
+    /* 100 + N: execution error N. 200 + N: `refused boot N`. 300 + N: 301 no disk unit, 302 a disk is there.
+       400 + N: `refused volume N`. */
+};
+
+/* ---- whole jobs: bytes in, an answer out
+   The answer goes to the front of out, and *needed is its length. 0 it is done; 2 it is refused, and the answer is the
+   message of the program, such as `refused asm 2 1`, without a line feed; 7, 4 and 5 as above. With 4, 5 and 12 there
+   is no answer, and *needed is 0. */
+
+/* the code file of a text of the assembler, or with list its listing */
+uint32_t pmach_assemble(const uint8_t *text, size_t text_len, bool list, uint8_t *out, size_t out_len, size_t *needed);
+/* the text of a code file */
+uint32_t pmach_disassemble(const uint8_t *file, size_t file_len, uint8_t *out, size_t out_len, size_t *needed);
+/* the trace of bare code, which a text spells in hexadecimal digits: 0 ended, 3 an execution error, 6 limit or waiting */
+uint32_t pmach_raw(const uint8_t *text, size_t text_len, uint32_t limit, uint8_t *out, size_t out_len, size_t *needed);
+
+/* The same on the image of a volume, which stays as it is: of a change, the answer is the new image. */
+uint32_t pmach_volume(const uint8_t *name, size_t name_len, uint16_t blocks,
+    uint8_t *out, size_t out_len, size_t *needed); /* a new one, without files */
+uint32_t pmach_list(const uint8_t *image, size_t image_len, uint8_t *out, size_t out_len, size_t *needed);
+uint32_t pmach_get(const uint8_t *image, size_t image_len, const uint8_t *name, size_t name_len,
+    uint8_t *out, size_t out_len, size_t *needed);
+uint32_t pmach_get_text(const uint8_t *image, size_t image_len, const uint8_t *name, size_t name_len,
+    uint8_t *out, size_t out_len, size_t *needed);
+uint32_t pmach_put(const uint8_t *image, size_t image_len, const uint8_t *name, size_t name_len,
+    uint8_t kind, const uint8_t *bytes, size_t bytes_len, uint8_t *out, size_t out_len, size_t *needed);
+uint32_t pmach_put_text(const uint8_t *image, size_t image_len, const uint8_t *name, size_t name_len,
+    const uint8_t *text, size_t text_len, uint8_t *out, size_t out_len, size_t *needed);
+uint32_t pmach_remove(const uint8_t *image, size_t image_len, const uint8_t *name, size_t name_len,
+    uint8_t *out, size_t out_len, size_t *needed);
+uint32_t pmach_change(const uint8_t *image, size_t image_len, const uint8_t *name, size_t name_len,
+    const uint8_t *new_name, size_t new_len, uint8_t *out, size_t out_len, size_t *needed);
+uint32_t pmach_krunch(const uint8_t *image, size_t image_len, uint8_t *out, size_t out_len, size_t *needed);
+uint32_t pmach_repair(const uint8_t *image, size_t image_len, uint8_t *out, size_t out_len, size_t *needed);
+/* what is wrong with an image, and behind it the message where it is no volume (2) */
+uint32_t pmach_check(const uint8_t *image, size_t image_len, uint8_t *out, size_t out_len, size_t *needed);
+/* a new volume of what is left in a damaged image, by the first directory or the second */
+uint32_t pmach_salvage(const uint8_t *image, size_t image_len, bool second,
+    uint8_t *out, size_t out_len, size_t *needed);
+
+/* ---- a machine behind a handle */
+
+struct pmach {
+    void *machine; /* null where there is none */
+};
+
+struct pmach_shown {
+    uint64_t steps;  /* how many went or ended the program */
+    uint32_t status; /* 0 it goes on, 2 it has ended, 100 + N execution error N has stopped it */
+    uint16_t ipc, sp, mp, base, np, seg, jtab, ioresult;
+};
+
+/* Start on bare code, 0; or refused, and the handle stays: 9, 203 the code has more than 60,000 bytes, 5. */
+uint32_t pmach_new(struct pmach *h, const uint8_t *code, size_t code_len);
+/* Start the code file of a name on a volume, which is copied to unit 4, 0; or refused, and the handle stays: 9, 12,
+   400 + N no volume, 200 + N no such program, 100 + N its first call fails, 5. */
+uint32_t pmach_boot(struct pmach *h, const uint8_t *image, size_t image_len, const uint8_t *name, size_t name_len,
+    uint32_t clock);
+/* Free the machine; an empty handle stays empty. */
+void pmach_free(struct pmach *h);
+
+/* One step: 0 it went, 1 it waits for console bytes, 2 the program has ended, 100 + N an error stops it; 8; 5. */
+uint32_t pmach_step(struct pmach *h);
+/* At most limit steps, as long as they go: the answer of the last, 0 at the limit; *steps is how many counted. */
+uint32_t pmach_run(struct pmach *h, uint64_t limit, uint64_t *steps);
+/* One more byte waits on the console: 0; 8; 5. */
+uint32_t pmach_key(struct pmach *h, uint8_t byte);
+/* A word written at an even address: 0; 10; 8. */
+uint32_t pmach_poke(struct pmach *h, uint16_t address, uint16_t word);
+/* A copy of a volume put on unit 4, 5, 9, 10, 11 or 12: 0; 400 + N; 301; 302; 8; 5. */
+uint32_t pmach_mount(struct pmach *h, uint8_t unit, const uint8_t *image, size_t image_len);
+/* The disk of a unit taken out: 0; 11; 8. pmach_ejected gives its image, until another one is taken out: 0; 7; 11; 8. */
+uint32_t pmach_eject(struct pmach *h, uint8_t unit);
+uint32_t pmach_ejected(struct pmach *h, uint8_t *out, size_t out_len, size_t *needed);
+
+/* These change nothing. 0; 8 and nothing is shown. */
+uint32_t pmach_registers(struct pmach *h, struct pmach_shown *shown);
+/* the word at an address; 10 at an odd one */
+uint32_t pmach_word(struct pmach *h, uint16_t address, uint16_t *word);
+/* all bytes that were written to the console, or the printer, but for the first `from`; 7 */
+uint32_t pmach_console(struct pmach *h, size_t from, uint8_t *out, size_t out_len, size_t *needed);
+uint32_t pmach_printer(struct pmach *h, size_t from, uint8_t *out, size_t out_len, size_t *needed);
+
+#ifdef __cplusplus
+}
+#endif
+#endif

@@ -55,6 +55,7 @@ uint32_t pmach_get(const uint8_t *image, size_t image_len, const uint8_t *name, 
     uint8_t *out, size_t out_len, size_t *needed);
 uint32_t pmach_get_text(const uint8_t *image, size_t image_len, const uint8_t *name, size_t name_len,
     uint8_t *out, size_t out_len, size_t *needed);
+/* kind: 2 code, 3 text, 5 data, as docs/FILES.md has them */
 uint32_t pmach_put(const uint8_t *image, size_t image_len, const uint8_t *name, size_t name_len,
     uint8_t kind, const uint8_t *bytes, size_t bytes_len, uint8_t *out, size_t out_len, size_t *needed);
 uint32_t pmach_put_text(const uint8_t *image, size_t image_len, const uint8_t *name, size_t name_len,
@@ -63,6 +64,15 @@ uint32_t pmach_remove(const uint8_t *image, size_t image_len, const uint8_t *nam
     uint8_t *out, size_t out_len, size_t *needed);
 uint32_t pmach_change(const uint8_t *image, size_t image_len, const uint8_t *name, size_t name_len,
     const uint8_t *new_name, size_t new_len, uint8_t *out, size_t out_len, size_t *needed);
+/* the last date: year 0 to 127, month 1 to 12, day 1 to 31 */
+uint32_t pmach_date(const uint8_t *image, size_t image_len, uint8_t year, uint8_t month, uint8_t day,
+    uint8_t *out, size_t out_len, size_t *needed);
+/* no files, and this name */
+uint32_t pmach_zero(const uint8_t *image, size_t image_len, const uint8_t *name, size_t name_len,
+    uint8_t *out, size_t out_len, size_t *needed);
+/* with a second copy of the directory, and without */
+uint32_t pmach_duplicate(const uint8_t *image, size_t image_len, uint8_t *out, size_t out_len, size_t *needed);
+uint32_t pmach_single(const uint8_t *image, size_t image_len, uint8_t *out, size_t out_len, size_t *needed);
 uint32_t pmach_krunch(const uint8_t *image, size_t image_len, uint8_t *out, size_t out_len, size_t *needed);
 uint32_t pmach_repair(const uint8_t *image, size_t image_len, uint8_t *out, size_t out_len, size_t *needed);
 /* what is wrong with an image, and behind it the message where it is no volume (2) */

@@ -2,7 +2,8 @@
 ghost use Rattle.std.specs.Prelude.{◌≡◌, ◌≢◌, ◌⊎◌, [], IfOk, IfErr, string_bytes};
 ghost use Rattle.std.specs.Str.{IsUtf8};
 ghost use Rattle.pm_volume.specs.Headers.{blank_fault};
-ghost use Rattle.pm_filer.specs.Filed.{Change, Get, GetText, Krunch, ListFiles, Put, PutText, Remove, order_of};
+ghost use Rattle.pm_filer.specs.Filed.{Change, Date, Duplicate, Get, GetText, Krunch, ListFiles};
+ghost use Rattle.pm_filer.specs.Filed.{Put, PutText, Remove, Single, Zero, order_of};
 ghost use Rattle.pm_tool.specs.Batches.{said_check, said_files, said_new, said_repair, said_salvage};
 ghost use Rattle.pm_c.specs.Answers.{Answers};
 
@@ -205,6 +206,68 @@ pub extern "C" fn pmach_krunch(
     ensures answers { Answers (said_files image.now Krunch []) result out.old out.new needed.new }
 {
     command(alloc, image, &[], FileCommand::Krunch, out, needed)
+}
+
+/// Sets the volume's last date: year 0 to 127, month 1 to 12, day 1 to 31.
+#[unsafe(no_mangle)]
+pub extern "C" fn pmach_date(
+    alloc: Global,
+    image: &[u8],
+    year: u8,
+    month: u8,
+    day: u8,
+    out: &mut [u8],
+    needed: &mut usize,
+) -> u32
+    ensures answers { Answers (said_files image.now (Date year month day) [])
+        result out.old out.new needed.new }
+{
+    let date = FileCommand::Date(year, month, day);
+    command(alloc, image, &[], date, out, needed)
+}
+
+/// Forgets all files and gives the volume a name.
+#[unsafe(no_mangle)]
+pub extern "C" fn pmach_zero(
+    alloc: Global,
+    image: &[u8],
+    name: &[u8],
+    out: &mut [u8],
+    needed: &mut usize,
+) -> u32
+    ensures answers { Answers (said_files image.now (Zero name.now) []) result out.old out.new needed.new }
+    ensures text { result ≡ NO_TEXT → ¬ (IsUtf8 name.now) }
+{
+    match text_of(alloc, name) {
+        Ok(name) => command(alloc, image, &[], FileCommand::Zero(name), out, needed),
+        Err(code) => none(code, needed),
+    }
+}
+
+/// Makes a second copy of the directory.
+#[unsafe(no_mangle)]
+pub extern "C" fn pmach_duplicate(
+    alloc: Global,
+    image: &[u8],
+    out: &mut [u8],
+    needed: &mut usize,
+) -> u32
+    ensures answers { Answers (said_files image.now Duplicate []) result out.old out.new needed.new }
+{
+    command(alloc, image, &[], FileCommand::Duplicate, out, needed)
+}
+
+/// Drops the second copy of the directory.
+#[unsafe(no_mangle)]
+pub extern "C" fn pmach_single(
+    alloc: Global,
+    image: &[u8],
+    out: &mut [u8],
+    needed: &mut usize,
+) -> u32
+    ensures answers { Answers (said_files image.now Single []) result out.old out.new needed.new }
+{
+    command(alloc, image, &[], FileCommand::Single, out, needed)
 }
 
 /// Gives the image of a new volume of a name and so many blocks of 512 bytes, without files.

@@ -1,0 +1,115 @@
+"""The library from Python: machine.py LIBRARY [PMACH].
+
+Without PMACH it shows what a few calls answer. With the path of the program it compares the two: the texts of examples/,
+assembled and disassembled, and the trace of 401 programs of bare code, step by step.
+"""
+import ctypes
+import glob
+import os
+import random
+import subprocess
+import sys
+
+LIBRARY = ctypes.CDLL(os.path.abspath(sys.argv[1]))
+STEPS = 500
+
+
+class Handle(ctypes.Structure):
+    _fields_ = [("machine", ctypes.c_void_p)]
+
+
+class Shown(ctypes.Structure):
+    _fields_ = [("steps", ctypes.c_uint64), ("status", ctypes.c_uint32)] + [
+        (name, ctypes.c_uint16) for name in "ipc sp mp base np seg jtab ioresult".split()]
+
+
+def job(call, data, *numbers):
+    """A whole job on bytes: its status and its answer, in a buffer of just the length that it wants."""
+    needed = ctypes.c_size_t()
+    for size in (1, None):
+        size = size or max(1, needed.value)
+        out = ctypes.create_string_buffer(size)
+        status = getattr(LIBRARY, call)(
+            data, ctypes.c_size_t(len(data)), *numbers, out, ctypes.c_size_t(size), ctypes.byref(needed))
+        if status != 7:
+            break
+    return status, out.raw[:needed.value]
+
+
+def traced(code, limit):
+    """The lines of a trace but for the instruction, and how it ended, by single steps of a machine."""
+    handle, shown, top, lines = Handle(), Shown(), ctypes.c_uint16(), []
+    at = ctypes.byref(handle)
+    assert LIBRARY.pmach_new(at, code, ctypes.c_size_t(len(code))) == 0
+    end = "limit %d" % limit
+    for _ in range(limit):
+        assert LIBRARY.pmach_registers(at, ctypes.byref(shown)) == 0
+        assert LIBRARY.pmach_word(at, ctypes.c_uint16(shown.sp), ctypes.byref(top)) == 0
+        word = "%05d" % top.value if shown.sp < 65504 else "-----"
+        line = "%08d %05d %05d %05d %05d %05d %s" % (
+            shown.steps, shown.ipc, shown.sp, shown.mp, shown.base, shown.np, word)
+        status = LIBRARY.pmach_step(at)
+        if status == 1:
+            end = "waiting %d" % shown.steps
+            break
+        lines.append(line)
+        if status:
+            LIBRARY.pmach_registers(at, ctypes.byref(shown))
+            assert shown.status == status
+            end = "ended %d" % shown.steps if status == 2 else "error %d %d" % (status - 100, shown.steps)
+            break
+    LIBRARY.pmach_free(at)
+    assert handle.machine is None and LIBRARY.pmach_step(at) == 8
+    return lines, end
+
+
+def program(pmach, *words, data):
+    ran = subprocess.run([pmach, *words], input=data, capture_output=True)
+    return ran.returncode, ran.stdout, ran.stderr
+
+
+def show():
+    print(*job("pmach_assemble", b"FOO\n", ctypes.c_bool(False)))
+    print(*job("pmach_disassemble", b"x"))
+    print(*job("pmach_raw", b"0", ctypes.c_uint32(9)))
+    status, trace = job("pmach_raw", b"02 03 82 D6", ctypes.c_uint32(9))
+    print(status, trace.decode(), end="")
+    lines, end = traced(bytes.fromhex("020382D6"), 9)
+    print(*lines, end, sep="\n")
+
+
+def compare(pmach):
+    here = os.path.dirname(os.path.abspath(__file__))
+    texts = sorted(glob.glob(os.path.join(here, "..", "*.text")))
+    for path in texts:
+        with open(path, "rb") as file:
+            text = file.read()
+        for listed in (False, True):
+            status, answer = job("pmach_assemble", text, ctypes.c_bool(listed))
+            words = ["asm", "--list"] if listed else ["asm"]
+            assert program(pmach, *words, data=text)[:2] == (status, answer), (path, listed)
+        file = job("pmach_assemble", text, ctypes.c_bool(False))[1]
+        assert program(pmach, "dis", data=file)[:2] == job("pmach_disassemble", file), path
+    random.seed(7)
+    often = bytes.fromhex("000102030405828F9095C3CBD7B0A0E8F8D89E9F")
+    codes = [bytes.fromhex("020382D6")]
+    for _ in range(400):
+        bytes_ = [random.choice(often) if random.random() < 0.8 else random.randrange(256)
+                  for _ in range(random.randint(1, 30))]
+        codes.append(bytes(bytes_) + b"\xd6")
+    states = 0
+    for code in codes:
+        spelled = code.hex().encode()
+        status, trace, _ = program(pmach, "raw", "--limit", str(STEPS), data=spelled)
+        assert job("pmach_raw", spelled, ctypes.c_uint32(STEPS)) == (status, trace), code.hex()
+        lines, end = traced(code, STEPS)
+        theirs = trace.decode().splitlines()
+        assert [line[:44] for line in theirs[:-1]] == lines and theirs[-1] == end, code.hex()
+        states += len(lines)
+    print("%d texts, %d programs, %d states: no difference" % (len(texts), len(codes), states))
+
+
+if len(sys.argv) > 2:
+    compare(sys.argv[2])
+else:
+    show()

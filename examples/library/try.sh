@@ -1,0 +1,79 @@
+#!/bin/sh
+# Builds the examples in C and Python over the library, runs them, and compares what they say: examples/library/try.sh
+# LIBPM_C names a libpm_c.a that is there already; else `rt lib` makes one, which checks every proof first. HEAP names
+# the kit's liblibc_c.a, else it is looked for beside rt. CC is the C compiler. Where PMACH is set, the library is also
+# compared with that program.
+set -eu
+here=$(dirname "$(readlink -f "$0")")
+made=$(mktemp -d)
+trap 'rm -rf "$made"' EXIT
+cc=${CC:-cc}
+if [ -z "${LIBPM_C:-}" ]; then
+    (cd "$here/../../crates/pm_c" && rt lib) >&2
+    LIBPM_C=$here/../../crates/pm_c/out/libpm_c.a
+fi
+heap=${HEAP:-$(dirname "$(readlink -f "$(command -v rt)")")/../c/liblibc_c.a}
+
+same() {
+    if diff "$made/wanted" "$made/said"; then
+        echo "$1: as wanted"
+    else
+        echo "$1: NOT AS WANTED"
+        exit 1
+    fi
+}
+
+$cc -std=c99 -Wall -Wextra -Werror -O1 -I"$here" "$here/machine.c" "$LIBPM_C" "$heap" -o "$made/machine"
+
+# ECHO makes 13 steps for each key up to the full stop, and then a NOP and a RBP.
+cat >"$made/wanted" <<'END'
+code 1024 as wanted
+OWN:
+ECHO            code     6     2 512 000-00-00
+files 1 free 32 largest 32
+HI.
+status 2 steps 41
+disk the same
+freed
+END
+"$made/machine" "$here/../echo.text" ECHO HI. >"$made/said"
+same 'C, with keys'
+
+# the moves and the steps are those of README.md
+cat >"$made/wanted" <<'END'
+code 1024 as wanted
+OWN:
+HANOI           code     6     2 512 000-00-00
+files 1 free 32 largest 32
+1>3 1>2 3>2 1>3 2>1 2>3 1>3 
+status 2 steps 402
+disk the same
+freed
+END
+"$made/machine" "$here/../hanoi.text" HANOI '' >"$made/said"
+same 'C'
+
+$cc -shared -o "$made/pm_c.so" -Wl,--whole-archive "$LIBPM_C" -Wl,--no-whole-archive "$heap"
+
+# the trace is that of README.md
+cat >"$made/wanted" <<'END'
+2 b'refused asm 2 1'
+2 b'refused code 1'
+2 b'refused hex 1'
+0 00000000 01024 65492 65492 65492 01028 65492 SLDC 2
+00000001 01025 65490 65492 65492 01028 00002 SLDC 3
+00000002 01026 65488 65492 65492 01028 00003 ADI
+00000003 01027 65490 65492 65492 01028 00005 XIT
+ended 4
+00000000 01024 65492 65492 65492 01028 65492
+00000001 01025 65490 65492 65492 01028 00002
+00000002 01026 65488 65492 65492 01028 00003
+00000003 01027 65490 65492 65492 01028 00005
+ended 4
+END
+python3 "$here/machine.py" "$made/pm_c.so" >"$made/said"
+same 'Python'
+
+if [ -n "${PMACH:-}" ]; then
+    python3 "$here/machine.py" "$made/pm_c.so" "$PMACH"
+fi

@@ -1,2 +1,3 @@
 mod LooseValues
+pub mod StatusLaws
 mod Values

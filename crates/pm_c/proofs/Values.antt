@@ -12,7 +12,6 @@ use denote.RawPtr.{Ptr, RawPtr, block_ptr, null_ptr, ptr_val}
 use denote.Shadow.{shadow, makes_shadow}
 use denote.Signature.{Slot, plain}
 use denote.Struct.Struct.{Struct}
-use mathlib.Core.Bool.{true}
 use lib.Dec.{T}
 use base.Fraction.{full_share}
 use base.Logic.{never, guard, via, fst∗, snd∗, guard_i}

@@ -1,4 +1,5 @@
 pub mod Answers
 pub mod Changes
 pub mod Codes
+pub mod Laws
 pub mod Owned

@@ -10,6 +10,7 @@ mod handle;
 mod held;
 mod jobs;
 mod kept;
+pub mod laws;
 mod loose;
 mod shows;
 mod starts;

@@ -82,7 +82,7 @@ pub extern "C" fn pmach_boot(
     ensures code { result ≢ NO_MEMORY → result ≢ HAS_MACHINE → result ≢ NO_TEXT →
         result ≡ program_code image.now name.now clock }
     ensures full { (result ≡ HAS_MACHINE) ↔ (is_some handle.old.held ≡ true) }
-    ensures text { result ≡ NO_TEXT → ¬ (IsUtf8 name.now) }
+    ensures text { result ≢ HAS_MACHINE → ((result ≡ NO_TEXT) ↔ ¬ (IsUtf8 name.now)) }
     ensures same { result ≢ DONE → handle.new.held ≡ handle.old.held }
 {
     if is_full(alloc, handle) {

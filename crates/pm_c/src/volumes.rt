@@ -1,5 +1,5 @@
 //! The jobs on volumes: one call each. An image is looked at and never changed: the answer of a change is the new one.
-ghost use Rattle.std.specs.Prelude.{◌≡◌, ◌≢◌, ◌⊎◌, [], IfOk, IfErr, string_bytes};
+ghost use Rattle.std.specs.Prelude.{◌≡◌, ◌≢◌, ◌⊎◌, ◌↔◌, [], IfOk, IfErr, OnOk, string_bytes};
 ghost use Rattle.std.specs.Str.{IsUtf8};
 ghost use Rattle.pm_volume.specs.Headers.{blank_fault};
 ghost use Rattle.pm_filer.specs.Filed.{Change, Date, Duplicate, Get, GetText, Krunch, ListFiles};
@@ -17,7 +17,8 @@ use std::alloc::Global;
 fn text_of(alloc: Global, name: &[u8]) -> Result<String, u32>
     ensures text { IfOk result (λ text. string_bytes text ≡ name.now) }
     ensures none { IfErr result (λ code. (code ≡ NO_MEMORY) ⊎ (code ≡ NO_TEXT)) }
-    ensures no_text { IfErr result (λ code. code ≡ NO_TEXT → ¬ (IsUtf8 name.now)) }
+    ensures is_text { OnOk result (IsUtf8 name.now) }
+    ensures no_text { IfErr result (λ code. (code ≡ NO_TEXT) ↔ ¬ (IsUtf8 name.now)) }
 {
     let Ok(text) = str::from_utf8(name) else {
         return Err(NO_TEXT);
@@ -74,7 +75,7 @@ pub extern "C" fn pmach_get(
     needed: &mut usize,
 ) -> u32
     ensures answers { Answers (said_files image.now (Get name.now) []) result out.old out.new needed.new }
-    ensures text { result ≡ NO_TEXT → ¬ (IsUtf8 name.now) }
+    ensures text { (result ≡ NO_TEXT) ↔ ¬ (IsUtf8 name.now) }
 {
     match text_of(alloc, name) {
         Ok(name) => command(alloc, image, &[], FileCommand::Get(name), out, needed),
@@ -92,7 +93,7 @@ pub extern "C" fn pmach_get_text(
     needed: &mut usize,
 ) -> u32
     ensures answers { Answers (said_files image.now (GetText name.now) []) result out.old out.new needed.new }
-    ensures text { result ≡ NO_TEXT → ¬ (IsUtf8 name.now) }
+    ensures text { (result ≡ NO_TEXT) ↔ ¬ (IsUtf8 name.now) }
 {
     match text_of(alloc, name) {
         Ok(name) => command(alloc, image, &[], FileCommand::GetText(name), out, needed),
@@ -113,7 +114,7 @@ pub extern "C" fn pmach_put(
 ) -> u32
     ensures answers { Answers (said_files image.now (Put name.now kind []) bytes.now)
         result out.old out.new needed.new }
-    ensures text { result ≡ NO_TEXT → ¬ (IsUtf8 name.now) }
+    ensures text { (result ≡ NO_TEXT) ↔ ¬ (IsUtf8 name.now) }
 {
     match text_of(alloc, name) {
         Ok(name) => {
@@ -136,7 +137,7 @@ pub extern "C" fn pmach_put_text(
 ) -> u32
     ensures answers { Answers (said_files image.now (PutText name.now []) text.now)
         result out.old out.new needed.new }
-    ensures text { result ≡ NO_TEXT → ¬ (IsUtf8 name.now) }
+    ensures text { (result ≡ NO_TEXT) ↔ ¬ (IsUtf8 name.now) }
 {
     match text_of(alloc, name) {
         Ok(name) => {
@@ -157,7 +158,7 @@ pub extern "C" fn pmach_remove(
     needed: &mut usize,
 ) -> u32
     ensures answers { Answers (said_files image.now (Remove name.now) []) result out.old out.new needed.new }
-    ensures text { result ≡ NO_TEXT → ¬ (IsUtf8 name.now) }
+    ensures text { (result ≡ NO_TEXT) ↔ ¬ (IsUtf8 name.now) }
 {
     match text_of(alloc, name) {
         Ok(name) => command(alloc, image, &[], FileCommand::Remove(name), out, needed),
@@ -236,7 +237,7 @@ pub extern "C" fn pmach_zero(
     needed: &mut usize,
 ) -> u32
     ensures answers { Answers (said_files image.now (Zero name.now) []) result out.old out.new needed.new }
-    ensures text { result ≡ NO_TEXT → ¬ (IsUtf8 name.now) }
+    ensures text { (result ≡ NO_TEXT) ↔ ¬ (IsUtf8 name.now) }
 {
     match text_of(alloc, name) {
         Ok(name) => command(alloc, image, &[], FileCommand::Zero(name), out, needed),
@@ -281,7 +282,7 @@ pub extern "C" fn pmach_volume(
 ) -> u32
     ensures answers { Answers (said_new (blank_fault name.now blocks) name.now blocks [])
         result out.old out.new needed.new }
-    ensures text { result ≡ NO_TEXT → ¬ (IsUtf8 name.now) }
+    ensures text { (result ≡ NO_TEXT) ↔ ¬ (IsUtf8 name.now) }
 {
     match text_of(alloc, name) {
         Ok(name) => answer(alloc, &[], Job::New { name, blocks }, out, needed),

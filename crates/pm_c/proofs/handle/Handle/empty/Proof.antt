@@ -1,14 +1,14 @@
 -- `empty` owns nothing.
-use Rattle.std.proofs.Common.{◌≡◌, List, [], ◌∷◌, ◌++◌, refl}
+use Rattle.std.proofs.Common.{◌≡◌, [], ◌∷◌, refl}
 use Rattle.std.specs.Prelude.{Option, None}
 use mir.Syntax.{Fn}
 use mir.Val.{Val}
 use base.Logic.{SProp, emp}
-use prog.Wp.{Env, WpFn}
+use prog.Wp.{Env}
 use contract.Monad.{fact, fact_i}
 use contract.Running.{tables}
 use base.Fml.{ftrue}
-use types.Kit.{fpack, ‵, raw, ◌⊛◌, prop, ◌$◌, ◌∵◌, !, qed, by, move, keep, use0, split, regoal, fjoin, drop}
+use types.Kit.{fpack, ‵, raw, ◌⊛◌, ◌$◌, ◌∵◌, !, qed, by, move, keep, use0, split, fjoin, drop}
 use types.Part.{agg}
 use types.Run.{lit, no_more, and_then, returns, enter}
 use types.ByLocal.{alloc_all, pass_all, free_all, look_at, sets, env}
@@ -17,10 +17,10 @@ use denote.RawPtr.{Ptr, null_ptr}
 use denote.Signature.{types_at}
 use denote.Steps.{nothing}
 use denote.Triple.Entry.{alive}
-use denote.Triple.Walked.{Stays, stay_dropped, walk_of, Goes-dropped}
+use denote.Triple.Walked.{Stays, walk_of}
 use Rattle.std.proofs.raw_atomic.Walks.{proved_at, leaves}
 use Rattle.pm_c.specs.declared.held.Held.{Held}
-use Rattle.pm_c.proofs.Values.{slot_at, ptr_typed, handle_val, handle_own, handle_made, handle_typed}
+use Rattle.pm_c.proofs.Values.{handle_val, handle_own, handle_made, handle_typed}
 use Rattle.pm_c.specs.contracts.handle.Handle as handle
 use Rattle.pm_c.specs.contracts.handle.Handle.empty.{ended, clauses}
 use Rattle.pm_c.specs.contracts.handle.Handle.empty.Key.{name as #self}

@@ -28,7 +28,6 @@ use Rattle.std.proofs.raw_atomic.Walks.{proved_at, leaves}
 use Rattle.std.specs.contracts.alloc.Global as heap
 use Rattle.std.proofs.alloc.Global.TheLaws as heap_laws
 use Rattle.std.specs.contracts.impls.GlobalAllocator.TheImpl.{ghosts}
-use Rattle.pm_c.specs.declared.held.Held.{Held}
 use Rattle.pm_c.specs.contracts.held.Held as held
 use Rattle.pm_c.proofs.LooseValues.{both, al, Loose, loose_good, loose_in}
 use Rattle.pm_c.proofs.Values.{slot_at, handle_val, handle_told, handle_typed, either_owned}

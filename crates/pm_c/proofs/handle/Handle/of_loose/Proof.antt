@@ -1,6 +1,6 @@
 -- `of_loose` keeps the pointer, and what it owns with it.
 use Rattle.std.proofs.Common.{◌≡◌, List, [], ◌∷◌, ◌++◌, refl}
-use Rattle.std.specs.Prelude.{Option, Some}
+use Rattle.std.specs.Prelude.{Some}
 use mir.Syntax.{Fn}
 use mir.Val.{Val, vptr}
 use base.Logic.{SProp, emp}
@@ -25,7 +25,6 @@ use Rattle.std.specs.contracts.alloc.Global as heap
 use Rattle.std.proofs.alloc.Global.TheLaws as heap_laws
 use Rattle.std.specs.contracts.impls.GlobalAllocator.TheImpl.{ghosts}
 use Rattle.std.specs.Box.Ownership.{box_owns}
-use Rattle.pm_c.specs.declared.held.Held.{Held}
 use Rattle.pm_c.specs.contracts.held.Held as held
 use Rattle.pm_c.proofs.LooseValues.{both, loose_good, loose_out}
 use Rattle.pm_c.proofs.Values.{slot_at, handle_val, handle_own, handle_made}

@@ -1,49 +1,44 @@
 -- The machine value of a handle: what is owned tells it, and is made of nothing.
 use Rattle.std.proofs.Common.{◌≡◌, ℕ, zero, suc, List, [], ◌∷◌, ◌++◌, refl, ◌∙◌, lit<}
+use lib.Dec.{T}
 use seplogic.Ra.Ura.{Ura}
-use mir.Syntax.{ty_ptr, ty_struct, tcons, tnil}
-use mir.Val.{Val, vstruct, vcons, vnil, of_list}
-use base.Logic.{ent, emp}
+use mir.Raw.{raw as bare}
+use mir.Syntax.{Ty, ty_ptr, ty_struct, tcons, tnil}
+use mir.Val.{Val, vstruct, vcons, vnil, of_list, has_ty, WT}
 use base.Fml.{Fml}
+use base.Fraction.{full_share}
+use base.Logic.{ent, emp, never, guard, via, fst∗, snd∗, guard_i}
+use types.Kit.{Item, Goal, Seq, ‵, ◌$◌, given, drop, fpick, learn, use1}
 use types.Logic.{Logic, sem}
-use denote.RattleType.{RattleType}
+use contract.Monad.{fact_use}
 use denote.Builtin.{unit}
-use denote.RawPtr.{Ptr, RawPtr, block_ptr, null_ptr, ptr_val}
+use denote.Memory.{lone}
+use denote.RattleType.{RattleType}
+use denote.RawPtr.{Ptr, RawPtr, block_ptr, null_ptr, ptr_val, lies_at, Testable, in_a_block}
 use denote.Shadow.{shadow, makes_shadow}
 use denote.Signature.{Slot, plain}
 use denote.Struct.Struct.{Struct}
-use lib.Dec.{T}
-use base.Fraction.{full_share}
-use base.Logic.{never, guard, via, fst∗, snd∗, guard_i}
-use types.Kit.{Item, Goal, Seq, ‵, ◌$◌, given, drop, fpick, learn, use1}
-use contract.Monad.{fact_use}
-use denote.Memory.{lone}
-use denote.RawPtr.{lies_at, Testable, in_a_block}
-use mir.Raw.{raw as bare}
 use Rattle.std.proofs.GlobalToken.{dealloc_token-Testable}
-use Rattle.std.specs.Prelude.{Option, Some, None}
-use Rattle.std.specs.declared.alloc.Global.{Global}
-use Rattle.std.specs.contracts.impls.GlobalAllocator.TheImpl.{ghosts}
 use Rattle.std.specs.Box.Ownership.{box_owns}
+use Rattle.std.specs.Prelude.{Option, Some, None}
+use Rattle.std.specs.contracts.impls.GlobalAllocator.TheImpl.{ghosts}
+use Rattle.std.specs.declared.alloc.Global.{Global}
 use Rattle.pm_c.specs.Owned.{owned}
-use mir.Syntax.{Ty}
-use mir.Val.{has_ty, WT}
 
 abbrev pub Good : Ty → Val → Type 0
 Good τ v = T (has_ty τ v) × WT v
 
+-- the parameter at a place
 abbrev pub slot_at : {n : ℕ} → ℕ → List (Slot n) → Slot n
 slot_at k [] = plain (λ _. unit)
 slot_at zero (s ∷ ss) = s
 slot_at (suc k) (s ∷ ss) = slot_at k ss
 
+-- a struct by its fields alone: what it owns does not read its name
 abbrev pub plainly : List RattleType → RattleType
 plainly Rs = Struct (record { name = []; args = []; types = []; fields = Rs })
 
-pub ptr_typed : (p : Ptr) → Good ty_ptr (ptr_val p)
-ptr_typed (block_ptr b o) = (tt, tt)
-ptr_typed null_ptr = (tt, record { fits = lit< tt })
-
+-- a handle of a pointer
 abbrev pub handle_val : Ptr → Val
 handle_val p = vstruct (vcons (ptr_val p) vnil)
 
@@ -60,6 +55,7 @@ pub handle_typed : (p : Ptr) → Good (ty_struct [] (tcons ty_ptr tnil)) (handle
 handle_typed (block_ptr b o) = (tt, (tt, tt))
 handle_typed null_ptr = (tt, (record { fits = lit< tt }, tt))
 
+-- a value in a block of the heap
 abbrev pub boxed : (R : RattleType) → Global → Ptr → R.Denot → Fml
 boxed R heap = box_owns (ghosts.dealloc_token heap) R
 

@@ -1,4 +1,4 @@
--- `empty` owns nothing.
+-- `empty`: the pointer is null, and nothing is owned.
 use Rattle.std.proofs.Common.{◌≡◌, [], ◌∷◌, refl}
 use Rattle.std.specs.Prelude.{Option, None}
 use mir.Syntax.{Fn}

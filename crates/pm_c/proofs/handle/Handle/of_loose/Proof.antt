@@ -1,4 +1,4 @@
--- `of_loose` keeps the pointer, and what it owns with it.
+-- `of_loose`: the handle takes over the pointer and the block.
 use Rattle.std.proofs.Common.{◌≡◌, List, [], ◌∷◌, ◌++◌, refl}
 use Rattle.std.specs.Prelude.{Some}
 use mir.Syntax.{Fn}

@@ -90,7 +90,7 @@ def calls_of(crate):
             elif line == "}":
                 owner, of_trait = None, False
             said = re.match(r"\s*/// ?(.*)", line)
-            call = re.match(r"( *)(pub )?(?:const )?(?:unsafe )?fn (\w+)", line)
+            call = re.match(r"( *)(pub )?(?:const )?(?:unsafe )?(?:extern \S+ )?fn (\w+)", line)
             if said:
                 comment.append(said.group(1))
                 continue

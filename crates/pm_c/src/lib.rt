@@ -4,15 +4,15 @@
 
 mod answers;
 mod buffer;
-mod disks;
-mod events;
+pub mod disks;
+pub mod events;
 mod handle;
 mod held;
-mod jobs;
+pub mod jobs;
 mod kept;
 pub mod laws;
 mod loose;
-mod shows;
-mod starts;
+pub mod shows;
+pub mod starts;
 mod status;
-mod volumes;
+pub mod volumes;

@@ -127,7 +127,7 @@ pub extern "C" fn pmach_console(
     code
 }
 
-/// The same of the printer.
+/// Gives all bytes that were written to the printer but for the first `from`: as `pmach_console`.
 #[unsafe(no_mangle)]
 pub extern "C" fn pmach_printer(
     alloc: Global,

@@ -11,6 +11,7 @@ import subprocess
 import sys
 
 LIBRARY = ctypes.CDLL(os.path.abspath(sys.argv[1]))
+EXAMPLES = os.path.join(os.path.dirname(os.path.abspath(__file__)), "..")
 STEPS = 500
 
 
@@ -23,17 +24,25 @@ class Shown(ctypes.Structure):
         (name, ctypes.c_uint16) for name in "ipc sp mp base np seg jtab ioresult".split()]
 
 
-def job(call, data, *numbers):
-    """A whole job on bytes: its status and its answer, in a buffer of just the length that it wants."""
-    needed = ctypes.c_size_t()
-    for size in (1, None):
-        size = size or max(1, needed.value)
+def job(call, *given):
+    """A whole job on bytes and numbers: its status and its answer, in a buffer of just the length that it wants."""
+    words = []
+    for it in given:
+        words += [it, ctypes.c_size_t(len(it))] if isinstance(it, bytes) else [it]
+    needed, size, status = ctypes.c_size_t(), 1, 7
+    while status == 7:
         out = ctypes.create_string_buffer(size)
-        status = getattr(LIBRARY, call)(
-            data, ctypes.c_size_t(len(data)), *numbers, out, ctypes.c_size_t(size), ctypes.byref(needed))
-        if status != 7:
-            break
+        status = getattr(LIBRARY, call)(*words, out, ctypes.c_size_t(size), ctypes.byref(needed))
+        size = needed.value
     return status, out.raw[:needed.value]
+
+
+def disk(name, path):
+    """A volume with the code file of a text."""
+    with open(path, "rb") as file:
+        code = job("pmach_assemble", file.read(), ctypes.c_bool(False))[1]
+    blank = job("pmach_volume", b"KEPT", ctypes.c_uint16(40))[1]
+    return job("pmach_put", blank, name, ctypes.c_uint8(2), code)[1]
 
 
 def traced(code, limit):
@@ -76,11 +85,13 @@ def show():
     print(status, trace.decode(), end="")
     lines, end = traced(bytes.fromhex("020382D6"), 9)
     print(*lines, end, sep="\n")
+    loads = disk(b"LOADS", os.path.join(EXAMPLES, "loads.text"))
+    status, answers = job("pmach_debug", loads, b"LOADS", b"break 2 1 0\ngo 100\ndynamic 10\nstack 3\nquit\n")
+    print(status, answers.decode(), sep="\n", end="")
 
 
 def compare(pmach):
-    here = os.path.dirname(os.path.abspath(__file__))
-    texts = sorted(glob.glob(os.path.join(here, "..", "*.text")))
+    texts = sorted(glob.glob(os.path.join(EXAMPLES, "*.text")))
     for path in texts:
         with open(path, "rb") as file:
             text = file.read()

@@ -47,6 +47,10 @@ uint32_t pmach_disassemble(const uint8_t *file, size_t file_len, uint8_t *out, s
 /* the trace of bare code, which a text spells in hexadecimal digits: 0 ended, 3 an execution error, 6 limit or waiting */
 uint32_t pmach_raw(const uint8_t *text, size_t text_len, uint32_t limit, uint8_t *out, size_t out_len, size_t *needed);
 
+/* what the debugger answers to its commands, the lines of input, on the program of a name on a volume of unit 4 */
+uint32_t pmach_debug(const uint8_t *image, size_t image_len, const uint8_t *name, size_t name_len,
+    const uint8_t *input, size_t input_len, uint8_t *out, size_t out_len, size_t *needed);
+
 /* The same on the image of a volume, which stays as it is: of a change, the answer is the new image. */
 uint32_t pmach_volume(const uint8_t *name, size_t name_len, uint16_t blocks,
     uint8_t *out, size_t out_len, size_t *needed); /* a new one, without files */

@@ -55,7 +55,7 @@ same 'C'
 
 $cc -shared -o "$made/pm_c.so" -Wl,--whole-archive "$LIBPM_C" -Wl,--no-whole-archive "$heap"
 
-# the trace is that of README.md
+# the trace and the session are those of README.md
 cat >"$made/wanted" <<'END'
 2 b'refused asm 2 1'
 2 b'refused code 1'
@@ -70,6 +70,11 @@ ended 4
 00000002 01026 65488 65492 65492 01028 00003
 00000003 01027 65490 65492 65492 01028 00005
 ended 4
+0
+ok
+break 1
+65424 65458 65492
+65458 65492 65458
 END
 python3 "$here/machine.py" "$made/pm_c.so" >"$made/said"
 same 'Python'

@@ -4,6 +4,7 @@
 
 mod answers;
 mod buffer;
+pub mod debugger;
 pub mod disks;
 pub mod events;
 mod handle;

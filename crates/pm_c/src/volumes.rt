@@ -13,8 +13,8 @@ use pm_filer::FileCommand;
 use pm_tool::Job;
 use std::alloc::Global;
 
-// The text of a name, or the status of a call that has no answer.
-fn text_of(alloc: Global, name: &[u8]) -> Result<String, u32>
+/// The text of a name, or the status of a call that has no answer.
+pub(crate) fn text_of(alloc: Global, name: &[u8]) -> Result<String, u32>
     ensures text { IfOk result (λ text. string_bytes text ≡ name.now) }
     ensures none { IfErr result (λ code. (code ≡ NO_MEMORY) ⊎ (code ≡ NO_TEXT)) }
     ensures is_text { OnOk result (IsUtf8 name.now) }
@@ -29,8 +29,8 @@ fn text_of(alloc: Global, name: &[u8]) -> Result<String, u32>
     }
 }
 
-// No answer, and why.
-fn none(code: u32, needed: &mut usize) -> u32
+/// No answer, and why.
+pub(crate) fn none(code: u32, needed: &mut usize) -> u32
     ensures code { result ≡ code }
     ensures needed { needed.new ≡ 0 }
 {

@@ -1,0 +1,44 @@
+//! The debugger on a program of a disk.
+ghost use Rattle.std.specs.Prelude.{◌≡◌, ◌≢◌, ◌↔◌, None};
+ghost use Rattle.std.specs.Str.{IsUtf8};
+ghost use Rattle.pm_tool.specs.Disks.{booted};
+ghost use Rattle.pm_tool.specs.Said.{said_debug};
+ghost use Rattle.pm_c.specs.Answers.{Answers};
+ghost use Rattle.pm_c.specs.Codes.{on_unit_4};
+
+use crate::answers::answer;
+use crate::status::{NO_MEMORY, NO_TEXT};
+use crate::volumes::{none, text_of};
+use pm_tool::Job;
+use std::alloc::Global;
+
+/// Gives the lines that a debugger answers to the lines of the input, which are its commands: 0, whatever the machine
+/// did. Its program is the code file of a name on the volume of unit 4, which the image is. 2 where that does not
+/// start, and the answer then says why.
+#[unsafe(no_mangle)]
+pub extern "C" fn pmach_debug(
+    alloc: Global,
+    image: &[u8],
+    name: &[u8],
+    input: &[u8],
+    out: &mut [u8],
+    needed: &mut usize,
+) -> u32
+    ensures answers { Answers (said_debug (booted (on_unit_4 image.now) name.now None) input.now)
+        result out.old out.new needed.new }
+    ensures text { (result ≡ NO_TEXT) ↔ ¬ (IsUtf8 name.now) }
+{
+    let name = match text_of(alloc, name) {
+        Ok(name) => name,
+        Err(code) => return none(code, needed),
+    };
+    let Ok(image) = image.to_vec(alloc) else {
+        return none(NO_MEMORY, needed);
+    };
+    let job = Job::Debug {
+        disks: [Some(image), None, None, None, None, None],
+        name,
+        system: None,
+    };
+    answer(alloc, input, job, out, needed)
+}

@@ -39,7 +39,7 @@ _pmach() {
         mapfile -t COMPREPLY < <(compgen -f -- "$word")
         return
         ;;
-    --limit) return ;;
+    --limit | --slot) return ;;
     esac
     case ${COMP_WORDS[1]} in
     raw) words="--limit --help" ;;
@@ -56,6 +56,7 @@ _pmach() {
             esac
         done
         [ "$verb" ] && names=--image words="--image --help"
+        case $verb in get | gettext) words="--image --slot --help" ;; esac
         ;;
     *) words="raw run trace debug asm dis files help --help --version" ;;
     esac

@@ -2,6 +2,7 @@ pub mod Widths
 pub mod Columns
 pub mod Made
 pub mod SameNames
+pub mod SlotLaws
 pub mod FoundFiles
 pub mod GivenLaws
 pub mod TextLaws

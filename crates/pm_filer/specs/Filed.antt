@@ -1,9 +1,9 @@
 -- What a command makes of a volume, and what it answers.
 use Rattle.std.specs.Prelude.{ℕ, List, Option, Some, None, Result, Ok, Err, IsOk, ⊤, string_bytes, nat_lt, length}
-use Rattle.std.specs.Prelude.{if◌then◌else◌}
+use Rattle.std.specs.Prelude.{if◌then◌else◌, zero, suc, slice_get}
 use Rattle.pm_volume.specs.Dates.{date_word, is_date}
 use Rattle.pm_volume.specs.declared.kinds.TheConstants.{TEXT}
-use Rattle.pm_volume.specs.Files.{file_bytes, file_named}
+use Rattle.pm_volume.specs.Files.{file_bytes, file_named, files_of}
 use Rattle.pm_volume.specs.Directory.{directory_of}
 use Rattle.pm_volume.specs.Headers.{dated_image, last_date_of}
 use Rattle.pm_volume.specs.Made.{added, doubled, file_removed, renamed, singled, zeroed}
@@ -52,6 +52,8 @@ pub data Order : Type 0 where
   Zero : List ℕ → Order
   Duplicate : Order
   Single : Order
+  GetSlot : ℕ → Order
+  GetTextSlot : ℕ → Order
 
 abbrev pub order_of : FileCommand → Order
 order_of commands.List = ListFiles
@@ -66,6 +68,8 @@ order_of (commands.Date year month day) = Date year month day
 order_of (commands.Zero name) = Zero (string_bytes name)
 order_of commands.Duplicate = Duplicate
 order_of commands.Single = Single
+order_of (commands.GetSlot slot) = GetSlot slot
+order_of (commands.GetTextSlot slot) = GetTextSlot slot
 
 -- what a command answers, by its bytes
 pub data Answer : Type 0 where
@@ -97,6 +101,11 @@ abbrev pub bytes_of_file : List ℕ → Option Entry → Option (List ℕ)
 bytes_of_file image None = None
 bytes_of_file image (Some entry) = file_bytes image entry
 
+-- the file in a slot of the directory; slots count from 1, and none stands in slot 0
+abbrev pub file_in_slot : List ℕ → ℕ → Option Entry
+file_in_slot image zero = None
+file_in_slot image (suc before) = slice_get (files_of image) before
+
 -- the text of a text file, if there is one
 abbrev pub text_read : List ℕ → Option (List ℕ) → Result Filed FilerFault
 text_read image (Some bytes) =
@@ -125,6 +134,8 @@ filed image (Date year month day) =
 filed image (Zero name) = changed (zeroed image name)
 filed image Duplicate = changed (doubled image)
 filed image Single = Ok (record { image = singled image; answer = Done })
+filed image (GetSlot slot) = lent image (bytes_of_file image (file_in_slot image slot))
+filed image (GetTextSlot slot) = text_read image (bytes_of_file image (file_in_slot image slot))
 
 -- a command may answer want of memory: one that gives bytes or text, where nothing else is wrong; and one that puts a
 -- text, whose file is made before anything is looked at
@@ -141,3 +152,5 @@ MayWantMemory (Date year month day) outcome = ⊥
 MayWantMemory (Zero name) outcome = ⊥
 MayWantMemory Duplicate outcome = ⊥
 MayWantMemory Single outcome = ⊥
+MayWantMemory (GetSlot slot) outcome = IsOk outcome
+MayWantMemory (GetTextSlot slot) outcome = IsOk outcome

@@ -1,6 +1,6 @@
 -- What the names of a volume give, before a command and after it.
 use Rattle.std.specs.Prelude.{◌≡◌, ◌≢◌, ◌⊎◌, ◌<◌, ◌≤◌, ◌+◌, ℕ, length, true, false, List, Option, Some, Ok, Err}
-use Rattle.std.specs.Prelude.{if◌then◌else◌}
+use Rattle.std.specs.Prelude.{if◌then◌else◌, ◌∷◌, ◌++◌, None}
 use Rattle.std.specs.List.{All}
 use Rattle.pm_volume.specs.Changes.{blocks_for}
 use Rattle.pm_volume.specs.Directory.{IsVolume, block_count, directory_of, files_begin, files_in}
@@ -12,7 +12,7 @@ use Rattle.pm_volume.specs.declared.fault.VolumeFault.TheVariants.{NoRoom}
 use Rattle.pm_filer.specs.declared.fault.FilerFault.TheVariants.{Volume}
 use Rattle.pm_textfile.specs.Writing.{completed}
 use Rattle.pm_filer.specs.Filed.{Bytes, Filed, Order, Put, Remove, Change, GetText, PutText, Krunch, Date, Duplicate}
-use Rattle.pm_filer.specs.Filed.{Single, bytes_of_file, filed}
+use Rattle.pm_filer.specs.Filed.{Single, bytes_of_file, file_in_slot, filed}
 
 -- what a name gives: the bytes of the first file of that name, none where there is no such file
 abbrev pub file_given : List ℕ → List ℕ → Option (List ℕ)
@@ -114,3 +114,15 @@ abbrev pub KrunchLeavesOneGap : Type 0
 KrunchLeavesOneGap =
     (image : List ℕ) (f : Filed) → IsVolumeOfBytes image → filed image Krunch ≡ Ok f
     → All (λ (e : Entry). e.kind ≢ 1) (files_of image) → largest_gap f.image ≡ free_blocks f.image
+
+-- the slot of a file is one more than the number of files before it in the list
+abbrev pub SlotsCountFiles : Type 0
+SlotsCountFiles =
+    (image : List ℕ) (before after : List Entry) (e : Entry) → files_of image ≡ before ++ e ∷ after
+    → file_in_slot image (length before + 1) ≡ Some e
+
+-- and no file stands in slot 0, or behind that of the last file
+abbrev pub SlotsEnd : Type 0
+SlotsEnd =
+    (image : List ℕ) → (file_in_slot image 0 ≡ None)
+    × ((slot : ℕ) → length (files_of image) < slot → file_in_slot image slot ≡ None)

@@ -24,18 +24,18 @@ ghost use Rattle.pm_filer.specs.Filed.{
   MayWantMemory,
   answer_of,
   bytes_of_file,
+  file_in_slot,
   filed,
   lent,
   order_of,
   text_read,
   text_written,
 };
-ghost use Rattle.pm_volume.specs.Files.{file_named};
 
 use crate::fault::FilerFault;
 use crate::listing::list_text;
 use pm_volume::kinds::TEXT;
-use pm_volume::{Date, Volume, VolumeFault};
+use pm_volume::{Date, Entry, Volume, VolumeFault};
 use std::alloc::Global;
 
 /// What is to be done with a volume.
@@ -66,6 +66,10 @@ pub enum FileCommand {
     Duplicate,
     /// Drops the second copy of the directory.
     Single,
+    /// Gives the bytes of the file in this slot of the directory. Slots count from 1, as the lines of the list do.
+    GetSlot(u16),
+    /// Gives the text of the file in this slot, which is a text file.
+    GetTextSlot(u16),
 }
 
 /// What a command answers.
@@ -79,37 +83,41 @@ pub enum Reply {
     Done,
 }
 
-// The bytes of the first file of a name.
-fn get(alloc: Global, volume: &Volume, name: &str) -> Result<Reply, FilerFault>
+// The bytes of a file, where there is one.
+fn get(alloc: Global, volume: &Volume, entry: Option<Entry>) -> Result<Reply, FilerFault>
     ensures done { IfOk result
-        (λ reply. lent volume.now (bytes_of_file volume.now (file_named volume.now name.now))
+        (λ reply. lent volume.now (bytes_of_file volume.now entry)
         ≡ Ok (record { image = volume.now; answer = answer_of reply })) }
     ensures refused { IfErr result
-        (λ fault. fault ≢ FilerFault.NoMemory →
-        lent volume.now (bytes_of_file volume.now (file_named volume.now name.now)) ≡ Err fault) }
-    ensures memory { IsErrOf result FilerFault.NoMemory →
-        IsOk (lent volume.now (bytes_of_file volume.now (file_named volume.now name.now))) }
+        (λ fault. fault ≢ FilerFault.NoMemory → lent volume.now (bytes_of_file volume.now entry) ≡ Err fault) }
+    ensures memory { IsErrOf result FilerFault.NoMemory → IsOk (lent volume.now (bytes_of_file volume.now entry)) }
 {
-    let entry = volume.find(name).ok_or(VolumeFault::NoFile)?;
+    let entry = entry.ok_or(VolumeFault::NoFile)?;
     let bytes = volume.file(&entry).ok_or(VolumeFault::NoFile)?;
     Ok(Reply::Bytes(bytes.to_vec(alloc)?))
 }
 
-// The text of the first file of a name.
-fn get_text(alloc: Global, volume: &Volume, name: &str) -> Result<Reply, FilerFault>
+// The text of a text file, where there is one.
+fn get_text(alloc: Global, volume: &Volume, entry: Option<Entry>) -> Result<Reply, FilerFault>
     ensures done { IfOk result
-        (λ reply. text_read volume.now (bytes_of_file volume.now (file_named volume.now name.now))
+        (λ reply. text_read volume.now (bytes_of_file volume.now entry)
         ≡ Ok (record { image = volume.now; answer = answer_of reply })) }
     ensures refused { IfErr result
-        (λ fault. fault ≢ FilerFault.NoMemory →
-        text_read volume.now (bytes_of_file volume.now (file_named volume.now name.now)) ≡ Err fault) }
-    ensures memory { IsErrOf result FilerFault.NoMemory →
-        IsOk (text_read volume.now (bytes_of_file volume.now (file_named volume.now name.now))) }
+        (λ fault. fault ≢ FilerFault.NoMemory → text_read volume.now (bytes_of_file volume.now entry) ≡ Err fault) }
+    ensures memory { IsErrOf result FilerFault.NoMemory → IsOk (text_read volume.now (bytes_of_file volume.now entry)) }
 {
-    let entry = volume.find(name).ok_or(VolumeFault::NoFile)?;
+    let entry = entry.ok_or(VolumeFault::NoFile)?;
     let bytes = volume.file(&entry).ok_or(VolumeFault::NoFile)?;
     let text = pm_textfile::decode(alloc, bytes)?;
     Ok(Reply::Bytes(text))
+}
+
+// The file in a slot of the directory.
+fn in_slot(volume: &Volume, slot: u16) -> Option<Entry>
+    ensures file { result ≡ file_in_slot volume.now slot }
+{
+    let place = usize::from(slot).checked_sub(1)?;
+    volume.entries().nth(place)
 }
 
 // Adds the text file of a text.
@@ -191,11 +199,11 @@ pub fn apply(alloc: Global, volume: &mut Volume, command: FileCommand) -> Result
 {
     match command {
         FileCommand::List => Ok(Reply::Lines(list_text(alloc, volume)?)),
-        FileCommand::Get(name) => get(alloc, volume, name.as_str()),
+        FileCommand::Get(name) => get(alloc, volume, volume.find(name.as_str())),
         FileCommand::Put(name, kind, bytes) => Ok(done(put(volume, name.as_str(), kind, &bytes)?)),
         FileCommand::Remove(name) => Ok(done(volume.remove(name.as_str())?)),
         FileCommand::Change(old, new) => Ok(done(change(volume, old.as_str(), new.as_str())?)),
-        FileCommand::GetText(name) => get_text(alloc, volume, name.as_str()),
+        FileCommand::GetText(name) => get_text(alloc, volume, volume.find(name.as_str())),
         FileCommand::PutText(name, text) => Ok(done(put_text(
             alloc,
             volume,
@@ -211,5 +219,7 @@ pub fn apply(alloc: Global, volume: &mut Volume, command: FileCommand) -> Result
         FileCommand::Zero(name) => Ok(done(forget(volume, name.as_str())?)),
         FileCommand::Duplicate => Ok(done(volume.add_duplicate()?)),
         FileCommand::Single => Ok(done(volume.drop_duplicate())),
+        FileCommand::GetSlot(slot) => get(alloc, volume, in_slot(volume, slot)),
+        FileCommand::GetTextSlot(slot) => get_text(alloc, volume, in_slot(volume, slot)),
     }
 }

@@ -9,6 +9,8 @@ ghost use Rattle.pm_filer.specs.Laws.{
   PutIsGot,
   PutIsLowest,
   RemovalKeepsOthers,
+  SlotsCountFiles,
+  SlotsEnd,
   TextIsGot,
   TextKeepsOthers,
 };
@@ -71,4 +73,11 @@ pub fn damage_is_undone()
 /// `Volume::repair` leaves an image that opens as it is, also where its copies differ.
 pub fn good_images_stay()
     ensures law { GoodImagesStay }
+{}
+
+/// The slot of a file is one more than the number of files before it in the list; slot 0 and those behind the last file
+/// have none.
+pub fn slots_count_files()
+    ensures law { SlotsCountFiles }
+    ensures end { SlotsEnd }
 {}

@@ -35,6 +35,13 @@ IsAlone true None = ⊤
 IsAlone true (Some word) = ⊥
 IsAlone false word = ⊤
 
+-- there is a name, or else the number of a slot
+abbrev pub IsNameOrSlot : Option (List ℕ) → Option (List ℕ) → Type 0
+IsNameOrSlot (Some name) None = ⊤
+IsNameOrSlot None (Some slot) = IsNumberWord 65535 (Some slot)
+IsNameOrSlot (Some name) (Some slot) = ⊥
+IsNameOrSlot None None = ⊥
+
 -- what is needed of a word
 pub data Need : Type 0 where
   -- it is there, though it may be empty
@@ -53,6 +60,8 @@ pub data Need : Type 0 where
   RunLimit : Need
   -- an option that is missing beside `--save`
   NotSaved : Need
+  -- a name, which is missing exactly where `--slot` has a number up to 65,535
+  NameOrSlot : Need
 
 abbrev pub Meets : List Row → Need → Option (List ℕ) → Type 0
 Meets rows Word word = IsThere word
@@ -63,6 +72,7 @@ Meets rows (Number most) word = IsNumberWord most word
 Meets rows Limit word = IsLimitWord word
 Meets rows RunLimit word = IsRunLimitWord (is_set (word_found rows (codes "unlimited"))) word
 Meets rows NotSaved word = IsAlone (is_set (word_found rows (codes "save"))) word
+Meets rows NameOrSlot word = IsNameOrSlot word (word_found rows (codes "slot"))
 
 -- each word is what is needed of it
 abbrev pub MeetEach : List Row → List (List ℕ × Need) → Type 0
@@ -98,10 +108,10 @@ command_needs command =
 abbrev pub verb_needs : List ℕ → Option (List (List ℕ × Need))
 verb_needs verb =
     if bytes_eq verb (codes "list") then Some []
-    else (if bytes_eq verb (codes "get") then Some ((codes "NAME", Word) ∷ [])
+    else (if bytes_eq verb (codes "get") then Some ((codes "NAME", NameOrSlot) ∷ [])
     else (if bytes_eq verb (codes "remove") then Some ((codes "NAME", Word) ∷ [])
     else (if bytes_eq verb (codes "change") then Some ((codes "OLD", Word) ∷ (codes "NEW", Word) ∷ [])
-    else (if bytes_eq verb (codes "gettext") then Some ((codes "NAME", Word) ∷ [])
+    else (if bytes_eq verb (codes "gettext") then Some ((codes "NAME", NameOrSlot) ∷ [])
     else (if bytes_eq verb (codes "puttext") then Some ((codes "NAME", Word) ∷ [])
     else (if bytes_eq verb (codes "krunch") then Some []
     else (if bytes_eq verb (codes "zero") then Some ((codes "NAME", Word) ∷ [])

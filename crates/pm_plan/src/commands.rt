@@ -16,6 +16,8 @@ enum Form {
     Free(&'static str),
     /// It is an option without a value.
     Flag,
+    /// It is known by its place, and has to be there where this option is not.
+    Unless(&'static str),
 }
 
 /// A word: its id, how it stands, and what it says.
@@ -99,6 +101,19 @@ const IMAGE: WordRow = (
 
 const FILE: WordRow = ("NAME", Form::Word, "The file's name, in either case");
 
+/// The file's name, or else its slot.
+const FILE_OR_SLOT: WordRow = (
+    "NAME",
+    Form::Unless("slot"),
+    "The file's name, in either case; not beside --slot",
+);
+
+const SLOT: WordRow = (
+    "slot",
+    Form::Free("N"),
+    "The file's place in the list, from 1, in place of its name",
+);
+
 const KIND: WordRow = (
     "KIND",
     Form::Word,
@@ -112,7 +127,7 @@ const VERBS: &[CommandRow] = &[
     (
         "get",
         "Writes a file's bytes to standard output",
-        &[IMAGE, FILE],
+        &[IMAGE, FILE_OR_SLOT, SLOT],
     ),
     (
         "put",
@@ -122,7 +137,7 @@ const VERBS: &[CommandRow] = &[
     (
         "gettext",
         "Writes the text of a text file to standard output",
-        &[IMAGE, FILE],
+        &[IMAGE, FILE_OR_SLOT, SLOT],
     ),
     (
         "puttext",
@@ -288,21 +303,22 @@ const ASM: CommandRow = (
     &[LIST],
 );
 
-fn arg<'a>(alloc: Global, row: WordRow) -> Arg<'a> {
+fn arg<'a>(alloc: Global, row: WordRow) -> Result<Arg<'a>, AllocError> {
     let (id, form, help) = row;
     let arg = Arg::new(alloc, id).help(help);
-    match form {
+    Ok(match form {
         Form::Word => arg.value_name(id).required(true),
         Form::Needed(value) => arg.long(id).value_name(value).required(true),
         Form::Free(value) => arg.long(id).value_name(value),
         Form::Flag => arg.long(id).action(ArgAction::SetTrue),
-    }
+        Form::Unless(other) => arg.value_name(id).required_unless_present(other)?,
+    })
 }
 
 fn args<'a>(alloc: Global, rows: &[WordRow]) -> Result<Vec<Arg<'a>>, AllocError> {
     let mut args = Vec::new(alloc);
     for row in rows {
-        args.push(arg(alloc, *row))?;
+        args.push(arg(alloc, *row)?)?;
     }
     Ok(args)
 }

@@ -4,13 +4,13 @@ ghost use Rattle.std.specs.Prelude.{SomeIff, codes, is_some, option_map, string_
 ghost use Rattle.std.specs.Str.Parse.{digits_value};
 ghost use Rattle.clap.specs.Words.{subcommand_rows_of};
 ghost use Rattle.pm_plan.specs.Asked.{AsksFiles, AsksSalvage, AsksVerb, IsKind, IsNumberUpTo, IsNumberWord};
-ghost use Rattle.pm_plan.specs.Asked.{IsPath, IsSpelled};
+ghost use Rattle.pm_plan.specs.Asked.{IsPath, IsSpelled, NamesFile};
 ghost use Rattle.pm_plan.specs.Asked.{word_found, words_of};
 ghost use Rattle.pm_plan.specs.Needed.{AreGoodBefore, IsGoodSalvage, IsKindWord, IsThere, IsWrong, MeetAll};
-ghost use Rattle.pm_plan.specs.Needed.{is_salvage, verb_needs};
+ghost use Rattle.pm_plan.specs.Needed.{IsNameOrSlot, is_salvage, verb_needs};
 ghost use Rattle.pm_plan.specs.declared.words.WordsError.TheVariants.{NoCommand, NoMemory};
 
-use crate::words::{WordsError, flag, given, needed, number};
+use crate::words::{WordsError, flag, found, given, needed, number};
 use clap::ArgMatches;
 use pm_filer::kind_word;
 use std::alloc::Global;
@@ -73,8 +73,8 @@ fn kind(text: &str) -> Option<u8>
     if kind < 16 { Some(kind as u8) } else { None }
 }
 
-/// The number of blocks that a word is. `None` where it is no number up to 65,535.
-fn blocks(text: &str) -> Option<u16>
+/// The number that a word is, of blocks or of a slot. `None` where it is no number up to 65,535.
+fn short_number(text: &str) -> Option<u16>
     ensures exact { SomeIff result (IsNumberUpTo 65535 text.now) (digits_value 10 text.now) }
 {
     u16::try_from(number(text)?).ok()
@@ -117,7 +117,7 @@ fn blocks_of(matches: &ArgMatches<'_>) -> Result<u16, WordsError>
     ensures accepted { IsOk result ↔ IsNumberWord 65535 (word_found (words_of matches.now) (codes "BLOCKS")) }
     ensures refused { IsThere (word_found (words_of matches.now) (codes "BLOCKS")) → IfErr result IsWrong }
 {
-    blocks(needed(matches, "BLOCKS")?).ok_or(WordsError::Wrong(
+    short_number(needed(matches, "BLOCKS")?).ok_or(WordsError::Wrong(
         "BLOCKS is a number of decimal digits, at most 65535",
     ))
 }
@@ -142,6 +142,61 @@ fn new(alloc: Global, matches: &ArgMatches<'_>) -> Result<Verb, WordsError>
     Ok(Verb::New(name, blocks))
 }
 
+/// Which file is got.
+#[derive(Drop)]
+enum Chosen {
+    /// The first of this name.
+    Named(String),
+    /// That in this slot.
+    InSlot(u16),
+}
+
+/// The file that the words name, by its name or by its slot. Refused where they have both or neither, or where the slot
+/// is no number up to 65,535.
+fn which_file(alloc: Global, matches: &ArgMatches<'_>) -> Result<Chosen, WordsError>
+    ensures named { IfOk result (λ chosen. NamesFile (words_of matches.now) chosen) }
+    ensures good { IsOk result → IsNameOrSlot (word_found (words_of matches.now) (codes "NAME"))
+        (word_found (words_of matches.now) (codes "slot")) }
+    ensures taken { IsNameOrSlot (word_found (words_of matches.now) (codes "NAME"))
+        (word_found (words_of matches.now) (codes "slot")) → IsOkUnless result NoMemory }
+{
+    match (found(matches, "NAME"), found(matches, "slot")) {
+        (Some(name), None) => Ok(Chosen::Named(String::from_str(alloc, name)?)),
+        (None, Some(text)) => {
+            let slot = short_number(text).ok_or(WordsError::Wrong(
+                "the slot is a number of decimal digits, at most 65535",
+            ))?;
+            Ok(Chosen::InSlot(slot))
+        }
+        (Some(_), Some(_)) => Err(WordsError::Wrong("NAME and --slot do not go together")),
+        (None, None) => Err(WordsError::NoCommand),
+    }
+}
+
+fn get(alloc: Global, matches: &ArgMatches<'_>) -> Result<Verb, WordsError>
+    ensures asked { IfOk result (λ verb. AsksVerb (codes "get") (words_of matches.now) verb) }
+    ensures good { IsOk result → MeetAll (words_of matches.now) (verb_needs (codes "get")) }
+    ensures taken { MeetAll (words_of matches.now) (verb_needs (codes "get")) → IsOkUnless result NoMemory }
+{
+    use pm_filer::FileCommand;
+    Ok(Verb::Command(match which_file(alloc, matches)? {
+        Chosen::Named(name) => FileCommand::Get(name),
+        Chosen::InSlot(slot) => FileCommand::GetSlot(slot),
+    }))
+}
+
+fn get_text(alloc: Global, matches: &ArgMatches<'_>) -> Result<Verb, WordsError>
+    ensures asked { IfOk result (λ verb. AsksVerb (codes "gettext") (words_of matches.now) verb) }
+    ensures good { IsOk result → MeetAll (words_of matches.now) (verb_needs (codes "gettext")) }
+    ensures taken { MeetAll (words_of matches.now) (verb_needs (codes "gettext")) → IsOkUnless result NoMemory }
+{
+    use pm_filer::FileCommand;
+    Ok(Verb::Command(match which_file(alloc, matches)? {
+        Chosen::Named(name) => FileCommand::GetText(name),
+        Chosen::InSlot(slot) => FileCommand::GetTextSlot(slot),
+    }))
+}
+
 fn verb_of(alloc: Global, verb: &str, words: &ArgMatches<'_>) -> Result<Verb, WordsError>
     ensures asked { IfOk result (λ asked. AsksVerb verb.now (words_of words.now) asked) }
     ensures good { IsOk result → MeetAll (words_of words.now) (verb_needs verb.now) }
@@ -151,10 +206,10 @@ fn verb_of(alloc: Global, verb: &str, words: &ArgMatches<'_>) -> Result<Verb, Wo
     use pm_filer::FileCommand;
     let command = match verb {
         "list" => FileCommand::List,
-        "get" => FileCommand::Get(word(alloc, words, "NAME")?),
+        "get" => return get(alloc, words),
         "remove" => FileCommand::Remove(word(alloc, words, "NAME")?),
         "change" => FileCommand::Change(word(alloc, words, "OLD")?, word(alloc, words, "NEW")?),
-        "gettext" => FileCommand::GetText(word(alloc, words, "NAME")?),
+        "gettext" => return get_text(alloc, words),
         "puttext" => FileCommand::PutText(word(alloc, words, "NAME")?, Vec::new(alloc)),
         "krunch" => FileCommand::Krunch,
         "zero" => FileCommand::Zero(word(alloc, words, "NAME")?),

@@ -42,6 +42,7 @@ fn takes_lock(verb: &Verb) -> bool
     !matches!(
         verb,
         Verb::Command(FileCommand::List | FileCommand::Get(_) | FileCommand::GetText(_))
+            | Verb::Command(FileCommand::GetSlot(_) | FileCommand::GetTextSlot(_))
             | Verb::Check
     )
 }

@@ -5,6 +5,7 @@ use Rattle.pm_volume.specs.Headers.{blank_image}
 use Rattle.pm_volume.specs.declared.fault.VolumeFault.{VolumeFault}
 use Rattle.pm_filer.specs.Filed.{Answer, Lines, Bytes, Done, Order, ListFiles, Get, Put, Remove, Change}
 use Rattle.pm_filer.specs.Filed.{GetText, PutText, Krunch, Date, Zero, Duplicate, Single, Filed, filed}
+use Rattle.pm_filer.specs.Filed.{GetSlot, GetTextSlot}
 use Rattle.pm_filer.specs.declared.fault.FilerFault.{FilerFault}
 use Rattle.pm_check.specs.Checked.{check_text}
 use Rattle.pm_salvage.specs.Saving as saving
@@ -45,6 +46,8 @@ takes_input (Date year month day) = false
 takes_input (Zero name) = false
 takes_input Duplicate = false
 takes_input Single = false
+takes_input (GetSlot slot) = false
+takes_input (GetTextSlot slot) = false
 
 -- the command with the input's bytes in the place of its own
 abbrev pub with_input : Order → List ℕ → Order
@@ -60,6 +63,8 @@ with_input (Date year month day) input = Date year month day
 with_input (Zero name) input = Zero name
 with_input Duplicate input = Duplicate
 with_input Single input = Single
+with_input (GetSlot slot) input = GetSlot slot
+with_input (GetTextSlot slot) input = GetTextSlot slot
 
 -- a command, with the input's bytes where it takes them, on the volume that an image is
 abbrev pub made_file : Result (List ℕ) VolumeFault → Order → List ℕ → Product

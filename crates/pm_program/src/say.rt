@@ -32,7 +32,7 @@ fn explain_outcome<R: Eprint>(rt: &R, outcome: &Outcome) {
     if let Some(ending) = outcome.ending
         && ending != Ending::Ended
     {
-        let _ = eprintln!(rt; "pmach: {}", RunReason(ending));
+        let _ = eprintln!(rt; "pmach: {}", RunReason(ending, outcome.called));
     }
     let Some(refusal) = outcome.refusal else {
         return;

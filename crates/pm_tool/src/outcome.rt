@@ -183,6 +183,8 @@ pub struct Outcome {
     pub ending: Option<Ending>,
     /// The line of the assembler's text that the refusal names, if it names one and there was memory for its text.
     pub line: Option<String>,
+    /// The procedure of the operating system that was called where the run ended for want of its segment.
+    pub called: Option<u8>,
 }
 
 impl Outcome {
@@ -202,6 +204,7 @@ impl Outcome {
             refusal: None,
             ending: None,
             line: None,
+            called: None,
         }
     }
 
@@ -221,6 +224,7 @@ impl Outcome {
             refusal: None,
             ending: None,
             line: None,
+            called: None,
         }
     }
 
@@ -447,6 +451,7 @@ pub(crate) fn refuse_line(
         refusal: Some(refusal),
         ending: None,
         line,
+        called: None,
     })
 }
 

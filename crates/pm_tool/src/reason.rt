@@ -48,15 +48,71 @@ impl fmt::Display for Reason {
     }
 }
 
-/// Why a run ended, as the text that says what it means and what helps.
+/// The name of a procedure of the operating system, as far as its number is known.
+fn name_of(procedure: u8) -> Option<&'static str> {
+    Some(match procedure {
+        2 => "EXECERROR",
+        3 => "FINIT",
+        4 => "FRESET",
+        5 => "FOPEN",
+        6 => "FCLOSE",
+        7 => "FGET",
+        8 => "FPUT",
+        9 => "FSEEK",
+        10 => "FEOF",
+        11 => "FEOLN",
+        12 => "FREADINT",
+        13 => "FWRITEINT",
+        14 => "FREADREAL",
+        15 => "FWRITEREAL",
+        16 => "FREADCHAR",
+        17 => "FWRITECHAR",
+        18 => "FREADSTRING",
+        19 => "FWRITESTRING",
+        20 => "FWRITEBYTES",
+        21 => "FREADLN",
+        22 => "FWRITELN",
+        23 => "SCONCAT",
+        24 => "SINSERT",
+        25 => "SCOPY",
+        26 => "SDELETE",
+        27 => "SPOS",
+        28 => "FBLOCKIO",
+        29 => "FGOTOXY",
+        _ => return None,
+    })
+}
+
+/// A procedure of the operating system, by its number and, where it is known, its name.
+#[derive(Clone, Copy)]
+struct Procedure(u8);
+
+impl fmt::Display for Procedure {
+    fn fmt<W: fmt::Write>(&self, f: &mut fmt::Formatter<W>) -> fmt::Result {
+        let number = self.0;
+        match name_of(number) {
+            Some(name) => write!(f, "{number}, {name}"),
+            None => write!(f, "{number}"),
+        }
+    }
+}
+
+/// Why a run ended, as the text that says what it means and what helps, with the procedure of the operating system that
+/// was called, where one was.
 #[derive(Clone, Copy, Debug, PartialEq, Eq)]
-pub struct RunReason(pub Ending);
+pub struct RunReason(pub Ending, pub Option<u8>);
 
 impl fmt::Display for RunReason {
     fn fmt<W: fmt::Write>(&self, f: &mut fmt::Formatter<W>) -> fmt::Result {
         match self.0 {
             Ending::Ended => f.write_str("the program came to its end"),
-            Ending::Error(ExecError::NoSegment) => write!(f, "{}; {SYSTEM}", ExecError::NoSegment),
+            Ending::Error(ExecError::NoSegment) => {
+                write!(f, "{}; {SYSTEM}", ExecError::NoSegment)?;
+                match self.1 {
+                    Some(procedure) => write!(f, "; here n is {}", Procedure(procedure)),
+                    None => Ok(()),
+                }
+            }
             Ending::Error(error) => write!(f, "{error}"),
             Ending::Limit => f.write_str(
                 "that many steps were made; --limit N or --unlimited allows more",

@@ -16,7 +16,11 @@ use pm_machine::Machine;
 use pm_session::{Ending, LastLine};
 use pm_streams::{Fault, Sink, Source, write_all};
 use pm_volume::Disk;
+use pm_words::ExecError;
 use std::alloc::{AllocError, Global};
+
+/// The opcode of the call of a procedure in another segment: the segment's number and the procedure's stand behind it.
+const CXP: u8 = 205;
 
 /// How a machine is talked with.
 #[derive(Clone, Copy, Debug, PartialEq, Eq)]
@@ -25,6 +29,21 @@ pub(crate) enum Talk {
     Run { show: Show, limit: u64 },
     /// A debugger answers each line of the input.
     Session,
+}
+
+/// The procedure of the operating system that the instruction at IPC calls, where a run ended there for want of the
+/// system's segment.
+fn called_without(machine: &Machine, ending: Ending) -> Option<u8> {
+    if ending != Ending::Error(ExecError::NoSegment) {
+        return None;
+    }
+    let ipc = machine.registers().ipc;
+    let memory = machine.memory();
+    if memory.byte(ipc) == CXP && memory.byte(ipc.wrapping_add(1)) == 0 {
+        Some(memory.byte(ipc.wrapping_add(2)))
+    } else {
+        None
+    }
 }
 
 /// What a run comes to that is told by its console bytes: its last line, what was printed, and the image on unit 4,
@@ -54,6 +73,7 @@ fn left_by_run(
         refusal: None,
         ending: Some(last.ending),
         line: None,
+        called: called_without(machine, last.ending),
     })
 }
 

@@ -47,6 +47,8 @@ pub enum Plan {
 pub enum WordsError {
     /// They are not those of a command, or ask for help.
     Usage(clap::Error),
+    /// They are not those of a command, and this line says what may be meant.
+    Tried(clap::Error, &'static str),
     /// There are options, but no command.
     NoCommand,
     /// An option has no value, as in `--image=`.
@@ -65,6 +67,7 @@ impl fmt::Display for WordsError {
     fn fmt<W: fmt::Write>(&self, f: &mut fmt::Formatter<W>) -> fmt::Result {
         match self {
             WordsError::Usage(error) => write!(f, "{error}"),
+            WordsError::Tried(error, line) => writeln!(f, "{error}{line}"),
             WordsError::NoCommand => f.write_str(
                 "error: no command among the words; --help lists them\n",
             ),
@@ -226,8 +229,36 @@ fn plan_asked(alloc: Global, matches: &ArgMatches<'_>) -> Result<Plan, WordsErro
     Ok(plan)
 }
 
+/// What may be meant by words of a command that it does not take.
+fn meant_by(words: &[String]) -> Option<&'static str> {
+    match words.get(1)?.as_str() {
+        "asm" => Some("pmach asm reads standard input: pmach asm <TEXT >CODE"),
+        "dis" => Some("pmach dis reads standard input: pmach dis <CODE >TEXT"),
+        "files" => Some("the image stands behind --image: pmach files --image IMAGE list"),
+        "run" | "trace" | "debug" => Some(
+            "the image of unit 4 stands behind --d4: pmach run --d4 IMAGE NAME",
+        ),
+        _ => None,
+    }
+}
+
+/// The refusal of words by clap, with the line that says what may be meant where a word is one that it does not take.
+fn refused(error: clap::Error, words: &[String]) -> WordsError {
+    let line = match error.kind() {
+        ErrorKind::UnknownArgument => meant_by(words),
+        _ => None,
+    };
+    match line {
+        Some(line) => WordsError::Tried(error, line),
+        None => WordsError::from(error),
+    }
+}
+
 fn parsed<'a>(alloc: Global, words: &'a [String]) -> Result<Plan, WordsError> {
-    let matches = all_commands(alloc)?.try_get_matches_from(words)?;
+    let matches = match all_commands(alloc)?.try_get_matches_from(words) {
+        Ok(matches) => matches,
+        Err(error) => return Err(refused(error, words)),
+    };
     plan_asked(alloc, &matches)
 }
 

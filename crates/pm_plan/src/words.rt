@@ -231,13 +231,16 @@ fn plan_asked(alloc: Global, matches: &ArgMatches<'_>) -> Result<Plan, WordsErro
 
 /// What may be meant by words of a command that it does not take.
 fn meant_by(words: &[String]) -> Option<&'static str> {
+    let has = |option| words.iter().any(|word| word.as_str().starts_with(option));
     match words.get(1)?.as_str() {
         "asm" => Some("pmach asm reads standard input: pmach asm <TEXT >CODE"),
         "dis" => Some("pmach dis reads standard input: pmach dis <CODE >TEXT"),
-        "files" => Some("the image stands behind --image: pmach files --image IMAGE list"),
-        "run" | "trace" | "debug" => Some(
-            "the image of unit 4 stands behind --d4: pmach run --d4 IMAGE NAME",
-        ),
+        "files" if !has("--image") => {
+            Some("the image stands behind --image: pmach files --image IMAGE list")
+        }
+        "run" | "trace" | "debug" if !has("--d4") => {
+            Some("the image of unit 4 stands behind --d4: pmach run --d4 IMAGE NAME")
+        }
         _ => None,
     }
 }

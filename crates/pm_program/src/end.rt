@@ -33,8 +33,8 @@ impl Conflict {
 /// How the program ends: its status, and what it says on standard error.
 #[derive(Drop)]
 pub enum End {
-    /// A job was done, and came to this.
-    Outcome(Outcome),
+    /// A job was done, and came to this; and the unit and the file that its refusal is about, where that is known.
+    Outcome(Outcome, Option<String>),
     /// A file could not be read or written: why, and which, where that is known.
     File(DiskFault, Option<String>),
     /// The words do not go together: what is wrong with them.
@@ -45,7 +45,7 @@ impl End {
     /// The exit status.
     pub fn status(&self) -> u8 {
         match self {
-            End::Outcome(outcome) => outcome.exit.number(),
+            End::Outcome(outcome, _) => outcome.exit.number(),
             End::File(fault, _) => Exit::of_fault(fault.fault()).number(),
             End::Words(_) => Exit::Usage.number(),
         }

@@ -3,6 +3,7 @@ ghost use Rattle.std.specs.Prelude.{◌≡◌, IfSome, option_map, string_bytes}
 ghost use Rattle.pm_streams.specs.Streams.{AreWell, both};
 ghost use Rattle.pm_program.specs.Conflicts.{conflict_of, is_other, names_image, printer_conflict};
 
+use crate::about::{about, disks_of};
 use crate::console::{END, ESCAPE, Keys, Lined, Prompted};
 use crate::end::{Conflict, End};
 use crate::kept::{KeptOfRun, Printing, do_debug, do_files, do_run, do_salvage, do_trace};
@@ -219,8 +220,19 @@ pub fn follow<R: Host + Input + Print + Eprint + AllocGlobal>(rt: &R, plan: Plan
     let mut lined = Lined::new(io::writer(rt), is_console && at.output);
     let mut source = Reader::new(reader);
     let mut sink = Writer::new(&mut lined);
+    let disks = if at.error {
+        disks_of(rt.alloc(), &plan)
+    } else {
+        None
+    };
     let end = match act(rt.alloc(), &mut store, &mut source, &mut sink, plan) {
-        Ok(outcome) => End::Outcome(outcome),
+        Ok(outcome) => {
+            let about = match (&disks, outcome.refusal) {
+                (Some(disks), Some(refusal)) => about(rt.alloc(), &mut store, disks, refusal),
+                _ => None,
+            };
+            End::Outcome(outcome, about)
+        }
         Err(fault) => End::File(fault, store.into_refused()),
     };
     drop(sink);

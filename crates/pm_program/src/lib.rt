@@ -1,6 +1,7 @@
 //! The program over any runtime: files, streams, messages and status.
 #![tactic(auto)]
 
+mod about;
 mod console;
 mod end;
 mod entry;

@@ -20,15 +20,15 @@ impl fmt::Display for Plain<'_> {
 /// The message of an end. It may be empty.
 fn message(end: &End) -> &str {
     match end {
-        End::Outcome(outcome) => outcome.text(),
+        End::Outcome(outcome, _) => outcome.text(),
         End::File(fault, _) => fault.fault().text(),
         End::Words(conflict) => conflict.text(),
     }
 }
 
-/// Says why a run ended short of the program's end, or why an input was refused, with the line of the assembler's text
-/// that is wrong.
-fn explain_outcome<R: Eprint>(rt: &R, outcome: &Outcome) {
+/// Says why a run ended short of the program's end, or why an input was refused, with the unit and the file that it is
+/// about, or the line of the assembler's text that is wrong.
+fn explain_outcome<R: Eprint>(rt: &R, outcome: &Outcome, about: &Option<String>) {
     if let Some(ending) = outcome.ending
         && ending != Ending::Ended
     {
@@ -37,9 +37,10 @@ fn explain_outcome<R: Eprint>(rt: &R, outcome: &Outcome) {
     let Some(refusal) = outcome.refusal else {
         return;
     };
-    let _ = match &outcome.line {
-        Some(line) => eprintln!(rt; "pmach: {}: {}", Reason(refusal), Plain(line.as_str())),
-        None => eprintln!(rt; "pmach: {}", Reason(refusal)),
+    let _ = match (about, &outcome.line) {
+        (Some(about), _) => eprintln!(rt; "pmach: {}: {}", Plain(about.as_str()), Reason(refusal)),
+        (None, Some(line)) => eprintln!(rt; "pmach: {}: {}", Reason(refusal), Plain(line.as_str())),
+        (None, None) => eprintln!(rt; "pmach: {}", Reason(refusal)),
     };
 }
 
@@ -52,8 +53,8 @@ fn explain<R: Eprint>(rt: &R, end: &End) {
             fault.reason()
         ),
         End::File(fault, None) => eprintln!(rt; "pmach: {}", fault.reason()),
-        End::Outcome(outcome) => {
-            explain_outcome(rt, outcome);
+        End::Outcome(outcome, about) => {
+            explain_outcome(rt, outcome, about);
             Ok(())
         }
         End::Words(_) => Ok(()),

@@ -84,7 +84,8 @@ fn note_procedure(
     procedure: &LabelledProcedure<'_>,
     found: &mut Vec<AsmFault>,
 ) -> Result<(), AsmFault>
-    ensures noted { OnOk result (found.new.items ≡ found.old.items ++ label_firsts at (labelled_procedure procedure.now)) }
+    ensures noted { OnOk result (found.new.items ≡ found.old.items
+        ++ label_firsts at (labelled_procedure procedure.now)) }
     ensures refused { IfErr result (λ fault. fault ≡ NoMemory) }
 {
     let rows: &[Row<'_>] = &procedure.code;

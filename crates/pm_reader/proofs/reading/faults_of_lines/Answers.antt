@@ -25,8 +25,10 @@ loop-part-preserved c =
     let last : IsUntil (lines_of c.args.text.now) c.until_last_end-until.result = c.until_last_end-until.ensures.until in
     let before = reader_seen c.loop-part.reader in
     let same = c.as_bytes.ensures.value in
-    let noted : c.note_line.new.found.items ≡ c.loop-part.found.items ++ first_in (line_faults (n + 1) before (line_of (n + 1) part) (seen_from (n + 1) texts)) =
-    subst (λ t. c.note_line.new.found.items ≡ c.loop-part.found.items ++ first_in (line_faults (n + 1) before (line_of (n + 1) t) (seen_from (n + 1) texts))) same
+    let old = c.loop-part.found.items in
+    let rest = seen_from (n + 1) texts in
+    let noted : c.note_line.new.found.items ≡ old ++ first_in (line_faults (n + 1) before (line_of (n + 1) part) rest) =
+    subst (λ t. c.note_line.new.found.items ≡ old ++ first_in (line_faults (n + 1) before (line_of (n + 1) t) rest)) same
     (c.in_ok-note_line.ensures.noted _ (later texts (n + 1) _ last)) in
     let taken : reader_seen c.note_line.new.self ≡ after_line before (line_of (n + 1) part) =
     c.in_ok-note_line.ensures.taken ∙ ap (λ t. after_line before (line_of (n + 1) t)) same in
@@ -43,6 +45,8 @@ returns-clause-faults c =
     let end = YieldsList-end road c.loop-part.yielded c.loop-part.part-iterator c.loop-part.yielded_by c.next.result c.next.new.self c.in-None.is
     c.next.ensures.steps in
     let few : length texts ≤ c.loop-part.number = omega (arith, end.1, c.loop-part.invariant.count) in
-    sym (append-nil c.loop-part.found.items)
-    ∙ (sym (ap (λ ls. c.loop-part.found.items ++ firsts_from (c.loop-part.number + 1) (reader_seen c.loop-part.reader) ls) (none_left texts c.loop-part.number few))
+    let n = c.loop-part.number in
+    let old = c.loop-part.found.items in
+    sym (append-nil old)
+    ∙ (sym (ap (λ ls. old ++ firsts_from (n + 1) (reader_seen c.loop-part.reader) ls) (none_left texts n few))
     ∙ c.loop-part.invariant.firsts)

@@ -8,10 +8,11 @@ use std::alloc::{AllocError, Global};
 /// The units of the disks.
 const UNITS: [u8; 6] = [4, 5, 9, 10, 11, 12];
 
-/// The paths of a program's disks, in the order of their units.
+/// The paths of a program's disks, in the order of their units, and that of the system's code file.
 #[derive(Drop)]
 pub struct Disks {
     paths: [Option<String>; 6],
+    system: Option<String>,
 }
 
 /// A copy of a path, where there is one.
@@ -34,6 +35,7 @@ fn paths_of(alloc: Global, program: &Program) -> Result<Disks, AllocError> {
             copy_of(alloc, &others.d11)?,
             copy_of(alloc, &others.d12)?,
         ],
+        system: copy_of(alloc, &program.system)?,
     })
 }
 
@@ -79,20 +81,29 @@ fn place_of<S: Store>(
     None
 }
 
-/// The unit and the path that a refusal is about: those of the image that is no volume, or those of unit 4, on which the
-/// program stands. `None` where it is about neither, or there is no memory for the text.
+/// A unit and its path, by its place among the disks.
+fn on_unit(alloc: Global, disks: &Disks, place: usize) -> Option<String> {
+    let unit = UNITS.get(place)?;
+    let path = disks.paths.get(place)?.as_ref()?;
+    format!(in alloc; "unit {unit}: {path}").ok()
+}
+
+/// What a refusal is about: the unit and the path of the image that is no volume, or of unit 4, on which the program
+/// stands, or the path of the system's code file. `None` where that is not known, or there is no memory for the text.
 pub fn about<S: Store>(
     alloc: Global,
     store: &mut S,
     disks: &Disks,
     refusal: Refusal,
 ) -> Option<String> {
-    let place = match refusal {
-        Refusal::Volume(fault) => place_of(alloc, store, disks, fault)?,
-        Refusal::Boot(_) => 0,
-        _ => return None,
-    };
-    let unit = UNITS.get(place)?;
-    let path = disks.paths.get(place)?.as_ref()?;
-    format!(in alloc; "unit {unit}: {path}").ok()
+    match refusal {
+        Refusal::Volume(fault) => {
+            let place = place_of(alloc, store, disks, fault)?;
+            on_unit(alloc, disks, place)
+        }
+        // Faults 1 and 2 are of the system's code file, the others of the program.
+        Refusal::System(fault) if fault.number() < 3 => copy_of(alloc, &disks.system).ok()?,
+        Refusal::Boot(_) | Refusal::System(_) => on_unit(alloc, disks, 0),
+        _ => None,
+    }
 }

@@ -3,7 +3,7 @@ ghost use Rattle.std.specs.Prelude.{◌≡◌, IfSome, option_map, string_bytes}
 ghost use Rattle.pm_streams.specs.Streams.{AreWell, both};
 ghost use Rattle.pm_program.specs.Conflicts.{conflict_of, is_other, names_image, printer_conflict};
 
-use crate::about::{about, disks_of};
+use crate::about::{Disks, about, disks_of};
 use crate::console::{END, ESCAPE, Keys, Lined, Prompted};
 use crate::end::{Conflict, End};
 use crate::kept::{KeptOfRun, Printing, do_debug, do_files, do_run, do_salvage, do_trace};
@@ -199,6 +199,20 @@ fn end_of(plan: &Plan) -> u8 {
     }
 }
 
+/// The end of a job that was done, with what its refusal is about.
+fn end_of_job<S: Store>(
+    alloc: Global,
+    store: &mut S,
+    disks: &Option<Disks>,
+    outcome: Outcome,
+) -> End {
+    let about = match (disks, outcome.refusal) {
+        (Some(disks), Some(refusal)) => about(alloc, store, disks, refusal),
+        _ => None,
+    };
+    End::Outcome(outcome, about)
+}
+
 /// Does the job of a plan, with the standard streams and the files of the system.
 pub fn follow<R: Host + Input + Print + Eprint + AllocGlobal>(rt: &R, plan: Plan) -> Done {
     let at = Terminals::of(rt);
@@ -226,13 +240,7 @@ pub fn follow<R: Host + Input + Print + Eprint + AllocGlobal>(rt: &R, plan: Plan
         None
     };
     let end = match act(rt.alloc(), &mut store, &mut source, &mut sink, plan) {
-        Ok(outcome) => {
-            let about = match (&disks, outcome.refusal) {
-                (Some(disks), Some(refusal)) => about(rt.alloc(), &mut store, disks, refusal),
-                _ => None,
-            };
-            End::Outcome(outcome, about)
-        }
+        Ok(outcome) => end_of_job(rt.alloc(), &mut store, &disks, outcome),
         Err(fault) => End::File(fault, store.into_refused()),
     };
     drop(sink);

@@ -1,0 +1,3 @@
+pub mod Depths
+pub mod Digits
+pub mod LineLaws

@@ -1,0 +1,57 @@
+//! Whether the line of a step is shown.
+
+ghost use Rattle.std.specs.Prelude.{◌≡◌};
+ghost use Rattle.pm_trace.specs.Selected.{is_at_call, is_call_or_return, is_selected, stands_in};
+ghost use Rattle.pm_debug.specs.Breaks.{place_in_code};
+
+use crate::place::place_in_code;
+use pm_debug::Breakpoint;
+use pm_machine::Machine;
+use pm_selection::{Code, Selection};
+
+/// Whether a place stands in the code that is asked for.
+fn stands_in(code: Code, place: Option<Breakpoint>) -> bool
+    ensures value { result ≡ stands_in code place }
+{
+    match (code, place) {
+        (Code::Anywhere, _) => true,
+        (_, None) => false,
+        (Code::Segment { segment }, Some(place)) => place.segment == segment,
+        (Code::Procedure { segment, procedure }, Some(place)) => {
+            place.segment == segment && place.procedure == procedure
+        }
+    }
+}
+
+/// Whether a machine stands in the code that is asked for.
+fn is_inside(machine: &Machine, code: Code) -> bool
+    ensures value { result ≡ stands_in code (place_in_code machine.now.state) }
+{
+    match code {
+        Code::Anywhere => true,
+        code => stands_in(code, place_in_code(machine)),
+    }
+}
+
+/// Whether an opcode is that of a call or a return.
+fn is_call_or_return(op: u8) -> bool
+    ensures value { result ≡ is_call_or_return op }
+{
+    matches!(op, 174 | 194 | 205 | 206 | 207 | 173 | 193)
+}
+
+/// Whether the step that a machine makes next is a call or a return.
+fn is_at_call(machine: &Machine) -> bool
+    ensures value { result ≡ is_at_call machine.now.state }
+{
+    is_call_or_return(machine.memory().byte(machine.registers().ipc))
+}
+
+/// Whether the line of the step that a machine makes next is shown.
+pub(crate) fn is_selected(wanted: Selection, machine: &Machine) -> bool
+    ensures value { result ≡ is_selected wanted machine.now.state }
+{
+    u64::from(wanted.from) <= machine.steps()
+        && is_inside(machine, wanted.code)
+        && (!wanted.calls || is_at_call(machine))
+}

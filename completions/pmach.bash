@@ -39,12 +39,12 @@ _pmach() {
         mapfile -t COMPREPLY < <(compgen -f -- "$word")
         return
         ;;
-    --limit | --slot) return ;;
+        --limit | --slot | --from | --segment | --procedure) return ;;
     esac
     case ${COMP_WORDS[1]} in
-    raw) words="--limit --help" ;;
+    raw) words="--limit --from --segment --procedure --calls --places --help" ;;
     run) words="--d4 --d5 --d9 --d10 --d11 --d12 --limit --unlimited --system --save --printer --escape --help" names=--d4 ;;
-    trace) words="--d4 --d5 --d9 --d10 --d11 --d12 --limit --unlimited --system --help" names=--d4 ;;
+    trace) words="--d4 --d5 --d9 --d10 --d11 --d12 --limit --unlimited --system --from --segment --procedure --calls --places --help" names=--d4 ;;
     debug) words="--d4 --d5 --d9 --d10 --d11 --d12 --limit --system --help" names=--d4 ;;
     asm) words="--list --help" ;;
     dis) words="--help" ;;

@@ -3,7 +3,7 @@ use crate::case::{Came, Case};
 use crate::jobs::do_job;
 use pm_machine::Machine;
 use pm_replay::{digest_text, hex_bytes, steps};
-use pm_tool::Job;
+use pm_tool::{Job, Selection};
 use std::alloc::Global;
 use std::io;
 
@@ -24,7 +24,14 @@ const WORDS: u16 = 8;
 /// Answers the last line of the trace and its digest.
 pub fn add_trace(alloc: Global, code: &[u8], limit: u32, came: &mut Came) -> io::Result<()> {
     let digits = hex::encode(alloc, code)?;
-    let ran = do_job(alloc, Job::Raw { limit }, digits.as_bytes());
+    let ran = do_job(
+        alloc,
+        Job::Raw {
+            limit,
+            selection: Selection::ALL,
+        },
+        digits.as_bytes(),
+    );
     if ran.written.is_empty() {
         came.answer("end", ran.outcome.text())?;
         return Ok(());

@@ -6,7 +6,7 @@ use pm_filer::FileCommand;
 use pm_replay::{
     add_escaped, byte, bytes_text, digest_text, hex_bytes, name, steps, unreadable, word,
 };
-use pm_tool::Job;
+use pm_tool::{Job, Selection};
 use std::alloc::Global;
 use std::io;
 
@@ -132,6 +132,7 @@ fn add_trace(alloc: Global, case: &Case<'_>, work: &[u8], came: &mut Came) -> io
         name: started(alloc, case)?,
         limit: limit(case)?,
         system: None,
+        selection: Selection::ALL,
     };
     let keys = hex_bytes(alloc, case.value("keys").unwrap_or(""))?;
     let ran = do_job(alloc, job, &keys);

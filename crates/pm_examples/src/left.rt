@@ -5,7 +5,7 @@ ghost use Rattle.std.specs.Prelude.{◌≡◌, length, sum};
 use crate::jobs::{Told, job_run, tells};
 use pm_filer::FileCommand;
 use pm_text_examples::programs::{ADDITION, ADDITION_TRACE, ECHO, LETTERS};
-use pm_tool::Job;
+use pm_tool::{Job, Selection};
 use std::alloc::Global;
 use std::process::Abort;
 
@@ -17,7 +17,10 @@ fn text(rt: &impl Abort, alloc: Global, text: &str) -> String {
 #[test]
 fn of_bytes_and_texts(rt: HostRuntime) {
     let alloc = rt.alloc();
-    let raw = Job::Raw { limit: 100 };
+    let raw = Job::Raw {
+        limit: 100,
+        selection: Selection::ALL,
+    };
     tells(
         &rt,
         alloc,
@@ -25,7 +28,10 @@ fn of_bytes_and_texts(rt: HostRuntime) {
         ADDITION.as_bytes(),
         (0, "", ADDITION_TRACE, 0),
     );
-    let raw = Job::Raw { limit: 100 };
+    let raw = Job::Raw {
+        limit: 100,
+        selection: Selection::ALL,
+    };
     tells(&rt, alloc, raw, b"0G 02", (2, "refused hex 1", "", 0));
     for list in [false, true] {
         tells(

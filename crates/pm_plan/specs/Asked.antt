@@ -9,6 +9,9 @@ use Rattle.clap.specs.declared.parser.matches.ArgMatches.{ArgMatches}
 use Rattle.pm_filer.specs.Filed.{Order, ListFiles, Get, Put, Remove, Change, GetText}
 use Rattle.pm_filer.specs.Filed.{PutText, Krunch, Date, Zero, Duplicate, Single, GetSlot, GetTextSlot, order_of}
 use Rattle.pm_filer.specs.Listing.{kind_word}
+use Rattle.pm_selection.specs.declared.selection.Code.{Code}
+use Rattle.pm_selection.specs.declared.selection.Code.TheVariants as code
+use Rattle.pm_selection.specs.declared.selection.Selection.{Selection}
 use Rattle.pm_plan.specs.declared.file_words.FilesPlan.{FilesPlan}
 use Rattle.pm_plan.specs.declared.file_words.SalvagePlan.{SalvagePlan}
 use Rattle.pm_plan.specs.declared.file_words.Verb.{Verb}
@@ -162,16 +165,42 @@ AsksSalvage m plan = (rows : List Row) × (subcommand_rows_of m ≡ Some (codes 
     × (word_found rows (codes "NEWPATH") ≡ Some (string_bytes plan.target))
     × IsFlag (one_of (codes "second") rows) plan.second
 
+-- ---- which lines of a trace
+
+-- the first step whose line is shown: that before which none was made, where the words have none
+abbrev pub IsFirst : Option (List ℕ) → ℕ → Type 0
+IsFirst None first = first ≡ 0
+IsFirst (Some word) first = IsNumber word first
+
+-- the code in which the steps stand, by the words for a segment and for a procedure of it
+abbrev pub IsCode : Option (List ℕ) → Option (List ℕ) → Code → Type 0
+IsCode None None wanted = wanted ≡ code.Anywhere
+IsCode None (Some procedure) wanted = ⊥
+IsCode (Some segment) None wanted = (s : ℕ) × IsNumber segment s × (wanted ≡ code.Segment s)
+IsCode (Some segment) (Some procedure) wanted =
+    (s : ℕ) × (p : ℕ) × IsNumber segment s × IsNumber procedure p × (wanted ≡ code.Procedure s p)
+
+-- the words of raw and trace that select lines
+pub record AsksSelection (rows : List Row) (selection : Selection) : Type 0 where
+  pub from : IsFirst (word_found rows (codes "from")) selection.from
+  pub code : IsCode (word_found rows (codes "segment")) (word_found rows (codes "procedure")) selection.code
+  pub calls : IsFlag (one_of (codes "calls") rows) selection.calls
+  pub places : IsFlag (one_of (codes "places") rows) selection.places
+
+-- ---- all words
+
 -- a command and its words
 abbrev pub Asks : List ℕ → ArgMatches → Plan → Type 0
-Asks command m (plans.Raw limit) =
+Asks command m (plans.Raw limit selection) =
     (command ≡ codes "raw") × IsLimit (word_found (words_of m) (codes "limit")) limit
+    × AsksSelection (words_of m) selection
 Asks command m (plans.Asm list) = (command ≡ codes "asm") × IsFlag (one_of (codes "list") (words_of m)) list
 Asks command m plans.Dis = command ≡ codes "dis"
 Asks command m (plans.Files plan) = (command ≡ codes "files") × AsksFiles m plan
 Asks command m (plans.Run program keeping) =
     (command ≡ codes "run") × AsksProgram (words_of m) program × AsksKeeping (words_of m) keeping
-Asks command m (plans.Trace program) = (command ≡ codes "trace") × AsksProgram (words_of m) program
+Asks command m (plans.Trace program selection) =
+    (command ≡ codes "trace") × AsksProgram (words_of m) program × AsksSelection (words_of m) selection
 Asks command m (plans.Debug program) = (command ≡ codes "debug") × AsksProgram (words_of m) program
 Asks command m (plans.Salvage plan) = (command ≡ codes "files") × AsksSalvage m plan
 

@@ -5,7 +5,7 @@ use Rattle.std.specs.Bool.{MatchBool}
 use Rattle.std.specs.Str.{bytes_eq}
 use Rattle.clap.specs.Words.{Row, subcommand_rows_of}
 use Rattle.clap.specs.declared.parser.matches.ArgMatches.{ArgMatches}
-use Rattle.pm_plan.specs.Asked.{IsCommand, IsKind, IsLimitWord, IsNumberWord, IsRunLimitWord, is_set}
+use Rattle.pm_plan.specs.Asked.{IsCommand, IsKind, IsLimitWord, IsNumberUpTo, IsNumberWord, IsRunLimitWord, is_set}
 use Rattle.pm_plan.specs.Asked.{word_found, words_of}
 use Rattle.pm_plan.specs.declared.words.WordsError.{WordsError}
 use Rattle.pm_plan.specs.declared.words.WordsError.TheVariants as errors
@@ -42,6 +42,14 @@ IsNameOrSlot None (Some slot) = IsNumberWord 65535 (Some slot)
 IsNameOrSlot (Some name) (Some slot) = ⊥
 IsNameOrSlot None None = ⊥
 
+-- the words for a segment and for a procedure of it, each of which may be missing, but the first not beside the second:
+-- numbers up to 255
+abbrev pub IsCodeWords : Option (List ℕ) → Option (List ℕ) → Type 0
+IsCodeWords None None = ⊤
+IsCodeWords None (Some procedure) = ⊥
+IsCodeWords (Some segment) None = IsNumberUpTo 255 segment
+IsCodeWords (Some segment) (Some procedure) = IsNumberUpTo 255 segment × IsNumberUpTo 255 procedure
+
 -- what is needed of a word
 pub data Need : Type 0 where
   -- it is there, though it may be empty
@@ -62,6 +70,8 @@ pub data Need : Type 0 where
   NotSaved : Need
   -- a name, which is missing exactly where `--slot` has a number up to 65,535
   NameOrSlot : Need
+  -- the number of a segment, which may be missing, but not beside that of a procedure
+  Segment : Need
 
 abbrev pub Meets : List Row → Need → Option (List ℕ) → Type 0
 Meets rows Word word = IsThere word
@@ -73,6 +83,7 @@ Meets rows Limit word = IsLimitWord word
 Meets rows RunLimit word = IsRunLimitWord (is_set (word_found rows (codes "unlimited"))) word
 Meets rows NotSaved word = IsAlone (is_set (word_found rows (codes "save"))) word
 Meets rows NameOrSlot word = IsNameOrSlot word (word_found rows (codes "slot"))
+Meets rows Segment word = IsCodeWords word (word_found rows (codes "procedure"))
 
 -- each word is what is needed of it
 abbrev pub MeetEach : List Row → List (List ℕ × Need) → Type 0
@@ -94,12 +105,16 @@ program_needs = (codes "d4", Given) ∷ (codes "d5", Optional) ∷ (codes "d9", 
 abbrev pub keeping_needs : List (List ℕ × Need)
 keeping_needs = (codes "system", NotSaved) ∷ (codes "printer", Optional) ∷ []
 
+-- what raw and trace need beside their limit and their program
+abbrev pub selection_needs : List (List ℕ × Need)
+selection_needs = (codes "from", Limit) ∷ (codes "segment", Segment) ∷ []
+
 -- what the commands need but `files`; what is no command has none
 abbrev pub command_needs : List ℕ → Option (List (List ℕ × Need))
 command_needs command =
-    if bytes_eq command (codes "raw") then Some ((codes "limit", Limit) ∷ [])
+    if bytes_eq command (codes "raw") then Some ((codes "limit", Limit) ∷ selection_needs)
     else (if bytes_eq command (codes "run") then Some (keeping_needs ++ program_needs)
-    else (if bytes_eq command (codes "trace") then Some program_needs
+    else (if bytes_eq command (codes "trace") then Some (selection_needs ++ program_needs)
     else (if bytes_eq command (codes "debug") then Some program_needs
     else (if bytes_eq command (codes "asm") then Some []
     else (if bytes_eq command (codes "dis") then Some [] else None)))))

@@ -38,6 +38,36 @@ const UNLIMITED: WordRow = (
     "Makes steps without a limit; not beside --limit",
 );
 
+const FROM: WordRow = (
+    "from",
+    Form::Free("N"),
+    "Leaves out the lines of the first N steps",
+);
+
+const SEGMENT: WordRow = (
+    "segment",
+    Form::Free("S"),
+    "Writes the lines of steps in this segment alone",
+);
+
+const PROCEDURE: WordRow = (
+    "procedure",
+    Form::Free("P"),
+    "Writes the lines of steps in this procedure of the segment alone",
+);
+
+const CALLS: WordRow = (
+    "calls",
+    Form::Flag,
+    "Writes the lines of calls and returns alone, two blanks in front for each level of depth",
+);
+
+const PLACES: WordRow = (
+    "places",
+    Form::Flag,
+    "Writes segment, procedure and offset in front of each line",
+);
+
 const SYSTEM: WordRow = (
     "system",
     Form::Free("PATH"),
@@ -256,7 +286,7 @@ Answers: ok, numbers, ended K, error N K, limit K, waiting K, break K, stop K; `
 const RAW: CommandRow = (
     "raw",
     "Runs the program that standard input spells in hexadecimal digits, and writes its trace",
-    &[LIMIT],
+    &[LIMIT, FROM, SEGMENT, PROCEDURE, CALLS, PLACES],
 );
 
 const FILES: CommandRow = (
@@ -276,7 +306,10 @@ const RUN: CommandRow = (
 const TRACE: CommandRow = (
     "trace",
     "Runs a code file of the disk on unit 4, with standard input as its console, and writes its trace",
-    &[D4, D5, D9, D10, D11, D12, LIMIT, UNLIMITED, SYSTEM, PROGRAM],
+    &[
+        D4, D5, D9, D10, D11, D12, LIMIT, UNLIMITED, SYSTEM, PROGRAM, FROM, SEGMENT, PROCEDURE,
+        CALLS, PLACES,
+    ],
 );
 
 const DEBUG: CommandRow = (

@@ -4,6 +4,7 @@
 mod commands;
 mod file_words;
 mod run_words;
+mod trace_words;
 mod words;
 
 pub use file_words::{FilesPlan, SalvagePlan, Verb};

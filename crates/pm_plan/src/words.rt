@@ -11,8 +11,10 @@ ghost use Rattle.pm_plan.specs.declared.words.WordsError.TheVariants.{NoCommand,
 use crate::commands::all_commands;
 use crate::file_words::{FilesPlan, SalvagePlan, files_plan, is_salvage, salvage_plan};
 use crate::run_words::{Keeping, Program, keeping_of, program_of};
+use crate::trace_words::selection_of;
 use clap::ArgMatches;
 use clap::error::ErrorKind;
+use pm_selection::Selection;
 use pm_streams::Fault;
 use std::alloc::{AllocError, Global};
 use std::env::Args;
@@ -24,8 +26,9 @@ const LIMIT: u32 = 10_000_000;
 /// What the words ask for.
 #[derive(Drop)]
 pub enum Plan {
-    /// The program that standard input spells is run and traced, at most so many steps.
-    Raw { limit: u32 },
+    /// The program that standard input spells is run and traced, at most so many steps, of which the lines that are
+    /// selected are written.
+    Raw { limit: u32, selection: Selection },
     /// The code file of the text that standard input is, or its listing.
     Asm { list: bool },
     /// The text of the code file that standard input is.
@@ -34,8 +37,8 @@ pub enum Plan {
     Files(FilesPlan),
     /// A program to be run.
     Run(Program, Keeping),
-    /// A program whose trace is written.
-    Trace(Program),
+    /// A program whose trace is written, the lines that are selected.
+    Trace(Program, Selection),
     /// A program that is debugged.
     Debug(Program),
     /// The files of an image that are saved into a new volume.
@@ -204,9 +207,10 @@ fn plan_by(alloc: Global, command: &str, matches: &ArgMatches<'_>) -> Result<Pla
     match command {
         "raw" => Ok(Plan::Raw {
             limit: limit_of(matches)?,
+            selection: selection_of(matches)?,
         }),
         "run" => Ok(Plan::Run(program_of(alloc, matches)?, keeping_of(alloc, matches)?)),
-        "trace" => Ok(Plan::Trace(program_of(alloc, matches)?)),
+        "trace" => Ok(Plan::Trace(program_of(alloc, matches)?, selection_of(matches)?)),
         "debug" => Ok(Plan::Debug(program_of(alloc, matches)?)),
         "asm" => Ok(Plan::Asm {
             list: flag(matches, "list"),
@@ -269,7 +273,10 @@ fn parsed<'a>(alloc: Global, words: &'a [String]) -> Result<Plan, WordsError> {
 pub fn plan_of(alloc: Global, args: io::Result<Args>) -> Result<Plan, WordsError> {
     let words: Vec<String> = args?.collect(alloc)?;
     if words.len() <= 1 {
-        return Ok(Plan::Raw { limit: LIMIT });
+        return Ok(Plan::Raw {
+            limit: LIMIT,
+            selection: Selection::ALL,
+        });
     }
     parsed(alloc, words.as_slice())
 }

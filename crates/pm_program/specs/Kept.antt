@@ -16,6 +16,7 @@ use Rattle.pm_tool.specs.declared.outcome.Exit.TheVariants as exits
 use Rattle.pm_tool.specs.declared.outcome.Job.{Job}
 use Rattle.pm_tool.specs.declared.outcome.Job.TheVariants as jobs
 use Rattle.pm_tool.specs.declared.outcome.Outcome.{Outcome}
+use Rattle.pm_selection.specs.declared.selection.Selection.{Selection}
 use Rattle.pm_plan.specs.declared.file_words.SalvagePlan.{SalvagePlan}
 use Rattle.pm_plan.specs.declared.file_words.Verb.{Verb}
 use Rattle.pm_plan.specs.declared.file_words.Verb.TheVariants as verbs
@@ -150,9 +151,10 @@ TellsOf job files old new outcome program input = (disks : List (Option (Vec ℕ
     × Reads files (option_map string_bytes program.system) (option_map vec_items system)
     × Tells old new outcome (job_said (job disks system) input)
 
-abbrev pub TellsTrace : Files → Streams → Streams → Outcome → Program → List ℕ → Type 0
-TellsTrace files old new outcome program input =
-    TellsOf (λ disks system. jobs.Trace disks program.name program.limit system) files old new outcome program input
+abbrev pub TellsTrace : Files → Streams → Streams → Outcome → Program → Selection → List ℕ → Type 0
+TellsTrace files old new outcome program selection input =
+    TellsOf (λ disks system. jobs.Trace disks program.name program.limit system selection) files old new outcome
+    program input
 
 abbrev pub TellsDebug : Files → Streams → Streams → Outcome → Program → List ℕ → Type 0
 TellsDebug files old new outcome program input =

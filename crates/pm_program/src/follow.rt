@@ -83,7 +83,7 @@ fn act<S: Store, I: Source, O: Sink>(
     requires well { AreWell (both (I.seen source.old) (O.seen sink.old)) }
 {
     let job = match plan {
-        Plan::Raw { limit } => Job::Raw { limit },
+        Plan::Raw { limit, selection } => Job::Raw { limit, selection },
         Plan::Asm { list } => Job::Asm { list },
         Plan::Dis => Job::Dis,
         Plan::Files(FilesPlan { path, verb }) => {
@@ -93,7 +93,9 @@ fn act<S: Store, I: Source, O: Sink>(
             let kept = kept_of(store, keeping);
             return do_run(alloc, store, source, sink, program, kept);
         }
-        Plan::Trace(program) => return do_trace(alloc, store, source, sink, program),
+        Plan::Trace(program, selection) => {
+            return do_trace(alloc, store, source, sink, program, selection);
+        }
         Plan::Debug(program) => return do_debug(alloc, store, source, sink, program),
         Plan::Salvage(plan) => return do_salvage(alloc, store, source, sink, plan),
     };

@@ -9,6 +9,7 @@ ghost use Rattle.pm_tool.specs.Disks.{images_of};
 
 use pm_files::{DiskFault, Store};
 use pm_plan::{Others, Program, SalvagePlan, Verb};
+use pm_selection::Selection;
 use pm_streams::{Sink, Source, write_all};
 use pm_tool::{Exit, Job, Outcome};
 use std::alloc::Global;
@@ -309,21 +310,22 @@ pub fn do_run<S: Store, I: Source, O: Sink>(
     Ok(outcome)
 }
 
-/// Writes the trace of a program. No file changes. Neither stream may have failed before. Where the input is known,
-/// what is written, answered and left unread is what is said of it and of the images that the files had, each on its
-/// unit.
+/// Writes the trace of a program, the lines that are selected. No file changes. Neither stream may have failed before.
+/// Where the input is known, what is written, answered and left unread is what is said of it and of the images that the
+/// files had, each on its unit.
 pub fn do_trace<S: Store, I: Source, O: Sink>(
     alloc: Global,
     store: &mut S,
     source: &mut I,
     sink: &mut O,
     program: Program,
+    selection: Selection,
 ) -> Result<Outcome, DiskFault>
     requires well { AreWell (both (I.seen source.old) (O.seen sink.old)) }
     ensures stays { S.files store.new ≡ S.files store.old }
     ensures said { IfOk result (λ outcome. IsSoundExit outcome.exit → IfSome (I.seen source.old).remaining (λ input.
         TellsTrace (S.files store.old) (both (I.seen source.old) (O.seen sink.old))
-        (both (I.seen source.new) (O.seen sink.new)) outcome program input)) }
+        (both (I.seen source.new) (O.seen sink.new)) outcome program selection input)) }
 {
     let disk = program.disk.as_str();
     let (disks, system) = inputs(alloc, store, disk, &program.others, &program.system)?;
@@ -333,6 +335,7 @@ pub fn do_trace<S: Store, I: Source, O: Sink>(
         name,
         limit,
         system,
+        selection,
     };
     Ok(pm_tool::run(alloc, source, sink, job))
 }

@@ -4,7 +4,7 @@ ghost use Rattle.std.specs.Prelude.{◌≡◌, length, sum};
 
 use crate::recorder::{Call, Kind, Manner, Recorded, recorded_run};
 use pm_text_examples::programs::{ADDITION, ADDITION_TRACE, ECHO, EXITS, LETTERS};
-use pm_tool::Job;
+use pm_tool::{Job, Selection};
 use pm_volume::Volume;
 use std::alloc::{AllocError, Global};
 use std::process::Abort;
@@ -91,7 +91,10 @@ impl Tried {
         let name = String::from_str(alloc, "P")?;
         let disks = [Some(image.to_vec(alloc)?), None, None, None, None, None];
         Ok(match self {
-            Tried::Addition => Job::Raw { limit: 100 },
+            Tried::Addition => Job::Raw {
+                limit: 100,
+                selection: Selection::ALL,
+            },
             Tried::Letters | Tried::Echo | Tried::Exits => Job::Run {
                 disks,
                 name,
@@ -104,6 +107,7 @@ impl Tried {
                 name,
                 limit,
                 system: None,
+                selection: Selection::ALL,
             },
             Tried::Session => Job::Debug {
                 disks,

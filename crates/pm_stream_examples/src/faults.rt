@@ -1,7 +1,7 @@
 //! Streams that fail at each of their calls in turn.
 use crate::streams::{Full, ShortReader, ShortWriter};
 use pm_text_examples::programs::{ADDITION, ADDITION_TRACE};
-use pm_tool::{Job, Outcome, Reader, Sink, Source, Writer, run};
+use pm_tool::{Job, Outcome, Reader, Selection, Sink, Source, Writer, run};
 use std::alloc::Global;
 use std::process::Abort;
 
@@ -32,7 +32,15 @@ fn read_run(alloc: Global, good: usize) -> Ran {
         good,
     });
     let mut sink = Writer::new(&mut written);
-    let outcome = run(alloc, &mut source, &mut sink, Job::Raw { limit: 100 });
+    let outcome = run(
+        alloc,
+        &mut source,
+        &mut sink,
+        Job::Raw {
+            limit: 100,
+            selection: Selection::ALL,
+        },
+    );
     let failed = (source.failed(), sink.failed());
     Ran {
         outcome,
@@ -50,7 +58,15 @@ fn write_run(alloc: Global, good: usize, full: Full) -> Ran {
     };
     let mut source = Reader::new(ADDITION.as_bytes());
     let mut sink = Writer::new(&mut writer);
-    let outcome = run(alloc, &mut source, &mut sink, Job::Raw { limit: 100 });
+    let outcome = run(
+        alloc,
+        &mut source,
+        &mut sink,
+        Job::Raw {
+            limit: 100,
+            selection: Selection::ALL,
+        },
+    );
     let failed = (source.failed(), sink.failed());
     Ran {
         outcome,

@@ -3,6 +3,7 @@ use Rattle.std.proofs.Common.{◌≡◌, ℕ, List, [], ◌∷◌, ◌++◌, Opt
 use Rattle.std.proofs.Common.{true, false, refl, sym, ap, ◌∙◌, append-nil, subst, IfSome, IfErr}
 use Rattle.std.specs.Io.KnownBytes.{Consumes, Appends, Keeps, IsAtEnd}
 use Rattle.std.proofs.KnownBytes.{Appends-nil}
+use Rattle.pm_selection.specs.declared.selection.Selection.{Selection}
 use Rattle.pm_streams.specs.declared.fault.Fault.{Fault}
 use Rattle.pm_tool.specs.declared.work.Work.{Work}
 use Rattle.pm_tool.specs.declared.outcome.Outcome.{Outcome}
@@ -85,8 +86,8 @@ module _ (old new : Streams) (input : List ℕ) (reads : ReadsAll old.source.rem
 
 -- ---- the trace of the program that the input spells
 
-abbrev text_of : ℕ → List ℕ → Said
-text_of limit input = said_started Trace limit (loaded (hex_spelled input)) []
+abbrev text_of : Selection → ℕ → List ℕ → Said
+text_of selection limit input = said_started (Trace selection) limit (loaded (hex_spelled input)) []
 
 nothing_read : (left : Option (List ℕ)) (read : List ℕ) → Consumes (Some []) left read → read ≡ []
 nothing_read None read c = absurd c
@@ -103,20 +104,20 @@ nothing_left (Some (y ∷ rest)) (x ∷ read) unread c k = cc
 abbrev empty : Incoming
 empty = record { remaining = Some []; failed = false; given = 0 }
 
-module _ (old new : Streams) (input : List ℕ) (reads : ReadsAll old.source.remaining new.source.remaining input) (limit : ℕ) where
+module _ (old new : Streams) (input : List ℕ) (reads : ReadsAll old.source.remaining new.source.remaining input) (selection : Selection) (limit : ℕ) where
   pub raw_done : (outcome : Outcome)
-      → Finishes (both empty old.sink) (both empty new.sink) outcome (said_started Trace limit (loaded (hex_spelled input)))
-      → Finishes old new outcome (λ i. said_started Trace limit (loaded (hex_spelled i)) [])
+      → Finishes (both empty old.sink) (both empty new.sink) outcome (said_started (Trace selection) limit (loaded (hex_spelled input)))
+      → Finishes old new outcome (λ i. said_started (Trace selection) limit (loaded (hex_spelled i)) [])
   raw_done outcome d =
-      done_whole old new input reads (text_of limit) outcome d.tells.written d.tells.comes_to
+      done_whole old new input reads (text_of selection limit) outcome d.tells.written d.tells.comes_to
       (nothing_left (Some []) d.few.0 _ d.few.1 d.tells.unread) d.exit
 
   pub raw_broken : (fault : Fault) → new.source.failed ≡ false
-      → BreaksOff (both empty old.sink) (both empty new.sink) fault (said_started Trace limit (loaded (hex_spelled input)))
-      → BreaksOff old new fault (λ i. said_started Trace limit (loaded (hex_spelled i)) [])
+      → BreaksOff (both empty old.sink) (both empty new.sink) fault (said_started (Trace selection) limit (loaded (hex_spelled input)))
+      → BreaksOff old new fault (λ i. said_started (Trace selection) limit (loaded (hex_spelled i)) [])
   raw_broken fault well b =
       let none = nothing_read (Some []) b.cut.read b.cut.reads in
-      broken_writing old new input reads (text_of limit) fault
+      broken_writing old new input reads (text_of selection limit) fault
       (b.cut.front, b.cut.writes, rw none at b.cut.so_far) well (rw none at b.cause)
 
 -- the job has this to do

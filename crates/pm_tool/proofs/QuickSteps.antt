@@ -6,6 +6,7 @@ use Rattle.pm_machine.specs.Steps.{stepped}
 use Rattle.pm_machine.specs.Runs.{AllWent, after_steps}
 use Rattle.pm_machine.specs.Quick.{QuickSteps}
 use Rattle.pm_machine.specs.declared.state.Stop.TheVariants.{Went}
+use Rattle.pm_selection.specs.declared.selection.Selection.{Selection}
 use Rattle.pm_streams.specs.Streams.{Streams}
 use Rattle.pm_tool.specs.declared.steps.Show.{Show}
 use Rattle.pm_tool.specs.declared.steps.Show.TheVariants.{Trace, Console}
@@ -39,9 +40,9 @@ pub quick_step_none : (s : State) (count : ℕ) (t : State) → QuickSteps 1 s c
 unfolding after_steps
 quick_step_none s count t g none = g.left ∙ ap (λ k. after_steps k s) none
 
-pub unshown_none : (limit : ℕ) (s : State) → Unshown Trace limit s 0 s
+pub unshown_none : (selection : Selection) (limit : ℕ) (s : State) → Unshown (Trace selection) limit s 0 s
 unfolding after_steps
-unshown_none limit s = record { within = omega arith; went = λ k h. absurd (omega arith); left = refl; blank = λ k h. absurd (omega arith) }
+unshown_none selection limit s = record { within = omega arith; went = λ k h. absurd (omega arith); left = refl; blank = λ k h. absurd (omega arith) }
 
 module _ (old now : Streams) (page : List ℕ) (taken : ℕ) (show : Show) (limit : ℕ) (began : State) (n : ℕ) (m : State)
     (u : IsUnderWay old now page taken show limit began n m) where

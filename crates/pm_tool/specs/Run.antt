@@ -8,7 +8,7 @@ use Rattle.pm_machine.specs.Runs.{AllWent, after_steps}
 use Rattle.pm_machine.specs.Events.{Key, next}
 use Rattle.pm_machine.specs.declared.state.Stop.{Stop}
 use Rattle.pm_machine.specs.declared.state.Stop.TheVariants.{Went, Waiting, Ended, Halted}
-use Rattle.pm_debug.specs.Trace.{trace_line}
+use Rattle.pm_trace.specs.Selected.{shown_line}
 use Rattle.pm_streams.specs.declared.fault.Fault.{Fault}
 use Rattle.pm_streams.specs.declared.source.TheConstants.{INPUT_LIMIT}
 use Rattle.pm_session.specs.Endings.{last_line}
@@ -32,10 +32,10 @@ after_showing text run = record run { shown = text ++ run.shown }
 abbrev pub ended_run : List ℕ → Ending → State → List ℕ → Run
 ended_run shown ending machine unread = record { shown = shown; ending = ending; machine = machine; unread = unread }
 
--- what is shown of a step from one state to the other: the line of the state before it, or the bytes that it adds to
--- the console
+-- what is shown of a step from one state to the other: the line of the state before it, if it is selected, or the bytes
+-- that it adds to the console
 abbrev pub shown_of : Show → State → State → List ℕ
-shown_of Trace before after = trace_line before ++ (10 ∷ [])
+shown_of (Trace selection) before after = shown_line selection before
 shown_of (Console save) before after = drop (length before.devices.console) after.devices.console
 
 abbrev pub is_waiting : Stop → Bool
@@ -45,7 +45,7 @@ is_waiting Ended = false
 is_waiting (Halted error) = false
 
 abbrev pub is_console : Show → Bool
-is_console Trace = false
+is_console (Trace selection) = false
 is_console (Console save) = true
 
 -- some steps, at most so many, each of which went and shows nothing
@@ -82,7 +82,7 @@ run_of show (suc n) keys m = turn show (run_of show n) keys m
 
 -- what is written after the steps: the last line ends a trace
 abbrev pub end_text : Show → Ending → ℕ → List ℕ
-end_text Trace ending steps = last_line ending steps ++ (10 ∷ [])
+end_text (Trace selection) ending steps = last_line ending steps ++ (10 ∷ [])
 end_text (Console save) ending steps = []
 
 -- ---- a run that is written as it goes

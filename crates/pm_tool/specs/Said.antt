@@ -1,5 +1,5 @@
 -- What a job says to its input, and how a job keeps to it.
-use Rattle.std.specs.Prelude.{◌≡◌, ◌⊎◌, ◌↔◌, true, false, ◌≤◌, ℕ, ◌+◌, ◌<◌, List, [], ◌++◌, Some}
+use Rattle.std.specs.Prelude.{◌≡◌, ◌⊎◌, ◌↔◌, true, false, ◌≤◌, ℕ, ◌+◌, ◌<◌, List, [], ◌∷◌, ◌++◌, Some}
 use Rattle.std.specs.Prelude.{None, Result, Ok, Err, length, Bool, if◌then◌else◌, IfSome}
 use Rattle.std.specs.Io.KnownBytes.{Consumes, Appends, Keeps}
 use Rattle.pm_machine.specs.State.{State}
@@ -33,7 +33,7 @@ use Rattle.pm_streams.specs.Streams.{Streams, IsFront, IsCause, CountsOn}
 -- a run that is told by its trace
 abbrev pub traced : Run → Said
 traced run = record {
-  written = run.shown ++ end_text Trace run.ending run.machine.steps;
+  written = run.shown ++ (last_line run.ending run.machine.steps ++ (10 ∷ []));
   exit = exit_of run.ending;
   message = [];
   image = None;
@@ -55,7 +55,7 @@ run_said save run = record {
 
 -- a run, told in one of the two ways
 abbrev pub said_run : Show → Run → Said
-said_run Trace run = traced run
+said_run (Trace selection) run = traced run
 said_run (Console save) run = run_said save run
 
 -- the run of a machine whose console bytes are the input, or the refusal
@@ -87,7 +87,7 @@ said_talk talks.Session start input = said_debug start input
 -- What is said to all of the input. A program that the input spells has no console bytes; to a program of a disk the
 -- input is its console's, and to a debugger it is its commands.
 abbrev pub said_work : Work → List ℕ → Said
-said_work (works.Raw limit) input = said_started Trace limit (loaded (hex_spelled input)) []
+said_work (works.Raw limit selection) input = said_started (Trace selection) limit (loaded (hex_spelled input)) []
 said_work (works.Talk start talk) input = said_talk talk (machine_at start) input
 said_work (works.Batch job) input = said_batch job input
 
@@ -172,7 +172,7 @@ WritesInTime old new shown = new.source.failed ≡ true → WritesFirst old new 
 -- Where a read failed: a program never waits for input before its output is written, and no line of a session is read
 -- before the one before it is answered. The other jobs write nothing before they have read all.
 abbrev pub IsPromptWork : Work → Streams → Streams → Type 0
-IsPromptWork (works.Raw limit) old new = Unit {0}
+IsPromptWork (works.Raw limit selection) old new = Unit {0}
 IsPromptWork (works.Talk start talk) old new = WritesInTime old new (shown_talk talk (machine_at start))
 IsPromptWork (works.Batch job) old new = Unit {0}
 

@@ -13,6 +13,7 @@ use crate::programs::Start;
 use crate::steps::Show;
 use crate::talk::{Talk, do_talk};
 use crate::work::{Work, work_of};
+use pm_selection::Selection;
 use pm_streams::{Fault, Nothing, Sink, Source, read_all};
 use std::alloc::Global;
 
@@ -22,21 +23,22 @@ fn raw<R: Source, W: Sink>(
     source: &mut R,
     sink: &mut W,
     limit: u64,
+    selection: Selection,
 ) -> Result<Outcome, Fault>
     requires well { AreWell (both (R.seen source.old) (W.seen sink.old)) }
     ensures done { IfOk result (λ outcome. Finishes (both (R.seen source.old) (W.seen sink.old))
         (both (R.seen source.new) (W.seen sink.new)) outcome
-        (λ input. said_started Show.Trace limit (loaded (hex_spelled input)) [])) }
+        (λ input. said_started (Show.Trace selection) limit (loaded (hex_spelled input)) [])) }
     ensures told { IfOk result SaysWhy }
     ensures well { OnOk result (AreWell (both (R.seen source.new) (W.seen sink.new))) }
     ensures broken { IfErr result (λ fault. BreaksOff (both (R.seen source.old) (W.seen sink.old))
         (both (R.seen source.new) (W.seen sink.new)) fault
-        (λ input. said_started Show.Trace limit (loaded (hex_spelled input)) [])) }
+        (λ input. said_started (Show.Trace selection) limit (loaded (hex_spelled input)) [])) }
     ensures counts { IsCounted (R.seen source.old) (R.seen source.new) result }
 {
     let text = read_all(alloc, source)?;
     let run = Talk::Run {
-        show: Show::Trace,
+        show: Show::Trace(selection),
         limit,
     };
     let outcome = do_talk(alloc, &mut Nothing, sink, Start::Bare { text }, run)?;
@@ -62,7 +64,7 @@ fn do_job<R: Source, W: Sink>(
     ensures counts { IsCounted (R.seen source.old) (R.seen source.new) result }
 {
     match work_of(job) {
-        Work::Raw { limit } => raw(alloc, source, sink, limit),
+        Work::Raw { limit, selection } => raw(alloc, source, sink, limit, selection),
         Work::Talk(start, talk) => do_talk(alloc, source, sink, start, talk),
         Work::Batch(batch) => do_batch(alloc, source, sink, batch),
     }

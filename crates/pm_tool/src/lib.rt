@@ -18,6 +18,7 @@ mod work;
 
 pub use engine::run;
 pub use outcome::{Exit, Job, Outcome, Refusal};
+pub use pm_selection::{Code, Selection};
 pub use pm_session::Ending;
 pub use pm_streams::{Reader, Sink, Source, Writer};
 pub use reason::{Reason, RunReason};

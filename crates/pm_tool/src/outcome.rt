@@ -8,6 +8,7 @@ use pm_asm::AsmFault;
 use pm_codefile::CodeFault;
 use pm_filer::{FileCommand, FilerFault};
 use pm_machine::BootFault;
+use pm_selection::Selection;
 use pm_session::Ending;
 use pm_streams::Fault;
 use pm_system::SystemFault;
@@ -21,10 +22,11 @@ use std::fmt;
 pub enum Job {
     /// The input spells a program: its bytes are pairs of hexadecimal digits of both cases, with white space (tabs,
     /// line feeds, carriage returns and spaces) anywhere but within a pair. The output is the trace of at most `limit`
-    /// steps. Any other input is refused by `refused hex 1`, and a program of more than 60,000 bytes by `refused boot
-    /// 3`.
+    /// steps, of which the lines that are selected are written. Any other input is refused by `refused hex 1`, and a
+    /// program of more than 60,000 bytes by `refused boot 3`.
     Raw {
         limit: u32,
+        selection: Selection,
     },
     /// A program runs: the code file `name` on the disk of unit 4. The disks are those of the units 4, 5, 9, 10, 11 and
     /// 12, and are opened in that order: an image that is no volume is refused by `refused volume N`, and a program
@@ -43,13 +45,14 @@ pub enum Job {
         system: Option<Vec<u8>>,
     },
     /// The same program runs, and the output is its trace alone: a line for each step that does not wait, of the state
-    /// before it, and a last line: `ended K`, `error N K`, `limit K` after `limit` steps, or `waiting K` where no input
-    /// is left.
+    /// before it, if it is selected, and a last line: `ended K`, `error N K`, `limit K` after `limit` steps, or
+    /// `waiting K` where no input is left.
     Trace {
         disks: [Option<Vec<u8>>; 6],
         name: String,
         limit: u64,
         system: Option<Vec<u8>>,
+        selection: Selection,
     },
     /// A debugger of the same program, which is not run by itself: each line of the input is a command, and is answered
     /// by one line, before the next is read. The session ends behind the line of `quit`, or with the input, and the job

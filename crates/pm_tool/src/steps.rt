@@ -5,17 +5,18 @@ ghost use Rattle.pm_machine.specs.Steps.{stepped};
 ghost use Rattle.pm_tool.specs.Run.{ComesToEnd, StopsShort, Unshown, is_console, shown_by};
 ghost use Rattle.pm_streams.specs.Streams.{AppendsBut, AppendsFront, IsCause, IsCounted, AreWell, both};
 
-use pm_debug::Tracer;
 use pm_machine::{Machine, Stop};
+use pm_selection::Selection;
 use pm_session::Ending;
 use pm_streams::{Fault, Sink, Source, next_byte, write_all};
+use pm_trace::Lines;
 use std::alloc::{AllocError, Global};
 
 /// What is shown of a run.
 #[derive(Clone, Copy, Debug, PartialEq, Eq)]
 pub(crate) enum Show {
-    /// A line for each step, and a last line that says why the run ended.
-    Trace,
+    /// A line for each step that is selected, and a last line that says why the run ended.
+    Trace(Selection),
     /// The bytes that the program writes to the console. With `save` the image of unit 4 is kept.
     Console { save: bool },
 }
@@ -31,19 +32,20 @@ fn next_step(machine: &mut Machine) -> Result<Stop, AllocError>
     Ok(stop)
 }
 
-/// Makes one step. Its line goes onto the page, unless the step waits.
+/// Makes one step. Its line goes onto the page, if it is selected, unless the step waits.
 #[inline(never)]
 fn traced_step(
     machine: &mut Machine,
-    tracer: &mut Tracer,
+    wanted: Selection,
+    lines: &mut Lines,
     page: &mut Vec<u8>,
 ) -> Result<Stop, AllocError>
     ensures next { IfOk result (λ stop. stepped machine.old.state ≡ (machine.new.state, stop)) }
     ensures page { IfOk result (λ stop. page.new.items
-        ≡ page.old.items ++ shown_by Show.Trace machine.old.state machine.new.state stop) }
+        ≡ page.old.items ++ shown_by (Show.Trace wanted) machine.old.state machine.new.state stop) }
 {
     let start = page.len();
-    tracer.add_line(page, machine)?;
+    lines.add(page, machine, wanted)?;
     let stop = next_step(machine)?;
     if matches!(stop, Stop::Waiting) {
         page.truncate(start);
@@ -70,7 +72,7 @@ fn console_step(machine: &mut Machine, page: &mut Vec<u8>) -> Result<Stop, Alloc
 fn step(
     machine: &mut Machine,
     show: Show,
-    tracer: &mut Tracer,
+    lines: &mut Lines,
     page: &mut Vec<u8>,
 ) -> Result<Stop, AllocError>
     ensures next { IfOk result (λ stop. stepped machine.old.state ≡ (machine.new.state, stop)) }
@@ -78,7 +80,7 @@ fn step(
         ≡ page.old.items ++ shown_by show machine.old.state machine.new.state stop) }
 {
     match show {
-        Show::Trace => traced_step(machine, tracer, page),
+        Show::Trace(wanted) => traced_step(machine, wanted, lines, page),
         Show::Console { .. } => console_step(machine, page),
     }
 }
@@ -88,7 +90,7 @@ fn unshown_steps(machine: &mut Machine, show: Show, limit: u64) -> u64
     ensures unshown { Unshown show limit machine.old.state result machine.new.state }
 {
     match show {
-        Show::Trace => 0,
+        Show::Trace(_) => 0,
         Show::Console { .. } => machine.quick_steps(limit),
     }
 }
@@ -121,7 +123,7 @@ fn turn_page<W: Sink>(sink: &mut W, page: &mut Vec<u8>, show: Show) -> Result<()
     ensures cause { IfErr result (λ fault. IsCause fault false (W.seen sink.new).failed []) }
 {
     let full = match show {
-        Show::Trace => PAGE,
+        Show::Trace(_) => PAGE,
         Show::Console { .. } => 1,
     };
     if page.len() >= full {
@@ -148,12 +150,12 @@ pub(crate) fn drive<R: Source, W: Sink>(
         (both (R.seen source.new) (W.seen sink.new)) show limit machine.old.state fault) }
     ensures counts { IsCounted (R.seen source.old) (R.seen source.new) result }
 {
-    let mut tracer = Tracer::new(alloc);
+    let mut lines = Lines::new(alloc);
     let mut page = Vec::new(alloc);
     let mut went = 0;
     let mut taken = 0;
     'steps: while went < limit {
-        match step(machine, show, &mut tracer, &mut page)? {
+        match step(machine, show, &mut lines, &mut page)? {
             Stop::Went => {
                 went += 1;
                 turn_page(sink, &mut page, show)?;

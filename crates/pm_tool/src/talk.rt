@@ -102,7 +102,7 @@ fn tell<W: Sink>(
         steps: machine.steps(),
     };
     match show {
-        Show::Trace => {
+        Show::Trace(_) => {
             let line = format!(in alloc; "{last}\n")?;
             page.extend_from_slice(line.as_bytes())?;
             write_all(sink, &page)?;

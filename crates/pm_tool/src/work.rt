@@ -8,12 +8,13 @@ use crate::outcome::Job;
 use crate::programs::Start;
 use crate::steps::Show;
 use crate::talk::Talk;
+use pm_selection::Selection;
 
 /// A job, by its shape.
 #[derive(Drop)]
 pub(crate) enum Work {
     /// The text of a program is read, and then its run is traced.
-    Raw { limit: u64 },
+    Raw { limit: u64, selection: Selection },
     /// The machine that starts is talked with.
     Talk(Start, Talk),
     /// Bytes are turned into bytes.
@@ -44,8 +45,9 @@ pub(crate) fn work_of(job: Job) -> Work
     ensures work { result ≡ work_of job }
 {
     match job {
-        Job::Raw { limit } => Work::Raw {
+        Job::Raw { limit, selection } => Work::Raw {
             limit: u64::from(limit),
+            selection,
         },
         Job::Run {
             disks,
@@ -59,7 +61,8 @@ pub(crate) fn work_of(job: Job) -> Work
             name,
             limit,
             system,
-        } => talk(disks, name, system, run_of(Show::Trace, limit)),
+            selection,
+        } => talk(disks, name, system, run_of(Show::Trace(selection), limit)),
         Job::Debug {
             disks,
             name,

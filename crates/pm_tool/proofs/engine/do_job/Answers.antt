@@ -5,7 +5,7 @@ use Rattle.pm_tool.proofs.engine.do_job.Goals as goal
 
 pub returns-in-Raw-clause-broken : goal.returns-in-Raw-clause-broken
 returns-in-Raw-clause-broken g c =
-    broken_work (work_of c.args.job) (works.Raw c.in-Raw.limit) _ _ _ c.raw.ensures.broken (rw c.work_of.ensures.work at c.in-Raw.is)
+    broken_work (work_of c.args.job) (works.Raw c.in-Raw.limit c.in-Raw.selection) _ _ _ c.raw.ensures.broken (rw c.work_of.ensures.work at c.in-Raw.is)
 
 pub returns-in-Talk-clause-broken : goal.returns-in-Talk-clause-broken
 returns-in-Talk-clause-broken g c =

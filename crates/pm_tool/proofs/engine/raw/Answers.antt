@@ -12,9 +12,9 @@ pub returns-in_err-outcome-clause-broken : goal.returns-in_err-outcome-clause-br
 returns-in_err-outcome-clause-broken g c =
     let r = c.from_residual-in_err-outcome in
     let p = err_from_is_err_and r.result r.ensures.1 in
-    rw (p.1, p.2) (raw_broken _ _ c.in_ok-text.text.items c.in_ok-text.ensures.all c.args.limit
+    rw (p.1, p.2) (raw_broken _ _ c.in_ok-text.text.items c.in_ok-text.ensures.all c.args.selection c.args.limit
     _ c.in_ok-text.ensures.well c.in_err-outcome.ensures.broken)
 
 pub returns-clause-done : goal.returns-clause-done
 returns-clause-done g c =
-    raw_done _ _ c.in_ok-text.text.items c.in_ok-text.ensures.all c.args.limit _ c.in_ok-outcome.ensures.done
+    raw_done _ _ c.in_ok-text.text.items c.in_ok-text.ensures.all c.args.selection c.args.limit _ c.in_ok-outcome.ensures.done

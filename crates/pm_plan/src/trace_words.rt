@@ -1,0 +1,79 @@
+//! The words of `raw` and `trace` that select lines.
+ghost use Rattle.std.specs.Prelude.{◌↔◌, IfErr, IfOk, IfSome, IsOk, IsSome, SomeIff, codes, option_map};
+ghost use Rattle.std.specs.Str.Parse.{digits_value};
+ghost use Rattle.pm_plan.specs.Asked.{AsksSelection, IsCode, IsFirst, IsLimitWord, IsNumberUpTo, word_found, words_of};
+ghost use Rattle.pm_plan.specs.Needed.{IsCodeWords, IsWrong, MeetEach, selection_needs};
+
+use crate::words::{WordsError, flag, found, number};
+use clap::ArgMatches;
+use pm_selection::{Code, Selection};
+
+/// The number of a segment or a procedure. `None` where a word is no number up to 255.
+fn small(text: &str) -> Option<u8>
+    ensures exact { SomeIff result (IsNumberUpTo 255 text.now) (digits_value 10 text.now) }
+{
+    u8::try_from(number(text)?).ok()
+}
+
+/// The first step whose line is shown. Refused where there is a word for it that is no number up to 4,294,967,295.
+fn first_of(matches: &ArgMatches<'_>) -> Result<u32, WordsError>
+    ensures value { IfOk result (λ first. IsFirst (word_found (words_of matches.now) (codes "from")) first) }
+    ensures accepted { IsOk result ↔ IsLimitWord (word_found (words_of matches.now) (codes "from")) }
+    ensures refused { IfErr result IsWrong }
+{
+    match found(matches, "from") {
+        Some(text) => number(text).ok_or(WordsError::Wrong(
+            "the first step of --from is a number of decimal digits, at most 4294967295",
+        )),
+        None => Ok(0),
+    }
+}
+
+/// The code that is asked for by the words for a segment and for a procedure. `None` where one of them is no number up
+/// to 255, or there is a procedure without a segment.
+fn code_by(segment: Option<&str>, procedure: Option<&str>) -> Option<Code>
+    ensures value { IfSome result (λ code. IsCode (option_map (λ word. word.now) segment.entry)
+        (option_map (λ word. word.now) procedure.entry) code) }
+    ensures accepted { IsSome result ↔ IsCodeWords (option_map (λ word. word.now) segment.entry)
+        (option_map (λ word. word.now) procedure.entry) }
+{
+    match (segment, procedure) {
+        (None, None) => Some(Code::Anywhere),
+        (None, Some(_)) => None,
+        (Some(segment), None) => Some(Code::Segment {
+            segment: small(segment)?,
+        }),
+        (Some(segment), Some(procedure)) => Some(Code::Procedure {
+            segment: small(segment)?,
+            procedure: small(procedure)?,
+        }),
+    }
+}
+
+/// The code in which the steps stand whose lines are shown.
+fn code_of(matches: &ArgMatches<'_>) -> Result<Code, WordsError>
+    ensures value { IfOk result (λ code. IsCode (word_found (words_of matches.now) (codes "segment"))
+        (word_found (words_of matches.now) (codes "procedure")) code) }
+    ensures accepted { IsOk result ↔ IsCodeWords (word_found (words_of matches.now) (codes "segment"))
+        (word_found (words_of matches.now) (codes "procedure")) }
+    ensures refused { IfErr result IsWrong }
+{
+    let code = code_by(found(matches, "segment"), found(matches, "procedure"));
+    code.ok_or(WordsError::Wrong(
+        "--segment and --procedure are numbers of decimal digits, at most 255, and --procedure stands beside --segment",
+    ))
+}
+
+/// Which lines of a trace the words select.
+pub fn selection_of(matches: &ArgMatches<'_>) -> Result<Selection, WordsError>
+    ensures asked { IfOk result (λ selection. AsksSelection (words_of matches.now) selection) }
+    ensures accepted { IsOk result ↔ MeetEach (words_of matches.now) selection_needs }
+    ensures refused { IfErr result IsWrong }
+{
+    Ok(Selection {
+        from: first_of(matches)?,
+        code: code_of(matches)?,
+        calls: flag(matches, "calls"),
+        places: flag(matches, "places"),
+    })
+}

@@ -1,9 +1,10 @@
 //! The jobs on texts and code: one call each.
+ghost use Rattle.pm_selection.specs.declared.selection.TheConstants.Selection.{ALL};
 ghost use Rattle.pm_tool.specs.Said.{job_said};
 ghost use Rattle.pm_c.specs.Answers.{Answers};
 
 use crate::answers::answer;
-use pm_tool::Job;
+use pm_tool::{Job, Selection};
 use std::alloc::Global;
 
 /// Gives the code file of a text of the assembler, or with `list` its listing: 0. 2 where the text is refused, and the
@@ -49,7 +50,8 @@ pub extern "C" fn pmach_raw(
     out: &mut [u8],
     needed: &mut usize,
 ) -> u32
-    ensures answers { Answers (job_said (Job.Raw limit) text.now) result out.old out.new needed.new }
+    ensures answers { Answers (job_said (Job.Raw limit ALL) text.now) result out.old out.new needed.new }
 {
-    answer(alloc, text, Job::Raw { limit }, out, needed)
+    let selection = Selection::ALL;
+    answer(alloc, text, Job::Raw { limit, selection }, out, needed)
 }

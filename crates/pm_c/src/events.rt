@@ -2,6 +2,7 @@
 ghost use Rattle.std.specs.Prelude.{◌≡◌, ◌≢◌, None};
 ghost use Rattle.pm_machine.specs.Events.{Key, Poke, next};
 ghost use Rattle.pm_machine.specs.Runs.{GaveUp, never};
+ghost use Rattle.pm_machine.specs.Steps.{WantsMemory};
 ghost use Rattle.pm_c.specs.Changes.{Changes, Leads, RunsTo, StepsTo};
 ghost use Rattle.pm_c.specs.Codes.{poke_code};
 
@@ -13,6 +14,7 @@ use std::alloc::Global;
 fn step_code(machine: &mut Machine) -> u32
     ensures step { result ≢ NO_MEMORY → StepsTo result machine.old machine.new }
     ensures err { result ≡ NO_MEMORY → machine.new ≡ machine.old }
+    ensures wanted { result ≡ NO_MEMORY → WantsMemory machine.old }
 {
     match machine.step() {
         Ok(stop) => stop_code(stop),
@@ -28,6 +30,8 @@ pub extern "C" fn pmach_step(alloc: Global, handle: &mut Handle) -> u32
     ensures step { Leads result handle.old.held handle.new.held (Changes (λ m n.
         result ≢ NO_MEMORY → StepsTo result m n)) }
     ensures err { result ≡ NO_MEMORY → handle.new.held ≡ handle.old.held }
+    ensures wanted { Leads result handle.old.held handle.new.held (λ m _.
+        result ≡ NO_MEMORY → WantsMemory m.machine) }
 {
     let Some(held) = taken(alloc, handle) else {
         return NO_MACHINE;
@@ -82,6 +86,8 @@ pub extern "C" fn pmach_key(alloc: Global, handle: &mut Handle, byte: u8) -> u32
     ensures event { Leads result handle.old.held handle.new.held (Changes (λ m n. result ≢ NO_MEMORY →
         (result ≡ DONE) × (n.state ≡ next m.state (Key byte)))) }
     ensures err { result ≡ NO_MEMORY → handle.new.held ≡ handle.old.held }
+    ensures full { Leads result handle.old.held handle.new.held (λ m _.
+        result ≡ NO_MEMORY → m.machine.room.queue ≡ 0) }
 {
     let Some(held) = taken(alloc, handle) else {
         return NO_MACHINE;

@@ -9,10 +9,12 @@ TOP = os.path.join(os.path.dirname(os.path.abspath(__file__)), "..")
 PAGE = os.path.join(TOP, "docs/INDEX.md")
 HEAD = """# Index
 
-Each public call, crate by crate in the order of crates.txt: the first sentence of what stands above it in the source,
-and the names of its clauses; behind `requires` those of what its caller has to meet. A call without clauses promises to
-return, and nothing else. Made by `bench/index.py`.
+Each public call, crate by crate in the order of crates.txt: what stands first above it in the source, of a law the
+whole sentence; in brackets the names of its clauses, behind `requires` those of what its caller has to meet. A call
+without clauses promises to return, and nothing else. What serves tests alone is left out. Made by `bench/index.py`.
 """
+# Crates whose calls serve programs of the gate and tests alone.
+FOR_TESTS = ("pm_replay", "pm_fake", "pm_told", "pm_told_jobs")
 COUNTS = """
 ## Counts
 
@@ -43,10 +45,10 @@ def crates():
 
 
 def sentence(comment, is_law):
-    """The first sentence of a comment, of a call that is no law up to a colon in it."""
+    """The first sentence of a comment; of a call that is no law up to the first stop in it, behind a few words."""
     text = " ".join(" ".join(comment).split())
     found = re.match(r"(.*?)(?:[.] (?=[A-Z`])|[.:]?$)", text).group(1)
-    return (found if is_law else found.split(": ")[0]).replace("|", "\\|")
+    return found if is_law else re.match(r".{12}.*?(?=[:;,] |$)|.*", found).group(0)
 
 
 class Call:
@@ -70,7 +72,8 @@ class Call:
 
     def row(self):
         said = ", ".join(self.clauses) + ("; requires " + ", ".join(self.conditions) if self.conditions else "")
-        return "| `%s` | %s | %s |" % (self.name, sentence(self.comment, self.is_law), said)
+        behind = "" if self.is_law or not said else " (%s)" % said
+        return "- `%s`: %s%s" % (self.name, sentence(self.comment, self.is_law), behind)
 
 
 def calls_of(crate):
@@ -114,9 +117,10 @@ def page():
         row = [sum(not it.is_law for it in calls), sum(len(it.clauses) for it in calls),
                sum(bool(it.conditions) for it in calls), sum(it.is_law for it in calls), edits[0], sum(edits)]
         sums = [one + more for one, more in zip(sums, row)]
-        counts.append("| %s | %d | %d | %d | %d | %d, %d |" % (crate, *row))
-        if calls and not crate.endswith("_examples"):
-            made.append("\n## %s\n\n| Call | What it is | Clauses |\n|---|---|---|\n%s\n" % (crate, "\n".join(it.row() for it in calls)))
+        if any(row):
+            counts.append("| %s | %d | %d | %d | %d | %d, %d |" % (crate, *row))
+        if calls and not crate.endswith("_examples") and crate not in FOR_TESTS:
+            made.append("\n## %s\n\n%s\n" % (crate, "\n".join(it.row() for it in calls)))
     counts.append("| all | %d | %d | %d | %d | %d, %d |" % tuple(sums))
     replays = []
     for program in ("pm_worked", "pm_cases"):

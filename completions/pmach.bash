@@ -43,7 +43,7 @@ _pmach() {
     esac
     case ${COMP_WORDS[1]} in
     raw) words="--limit --from --segment --procedure --calls --places --help" ;;
-    run) words="--d4 --d5 --d9 --d10 --d11 --d12 --limit --unlimited --system --save --printer --escape --help" names=--d4 ;;
+    run) words="--d4 --d5 --d9 --d10 --d11 --d12 --limit --unlimited --system --save --save-all --printer --escape --help" names=--d4 ;;
     trace) words="--d4 --d5 --d9 --d10 --d11 --d12 --limit --unlimited --system --from --segment --procedure --calls --places --help" names=--d4 ;;
     debug) words="--d4 --d5 --d9 --d10 --d11 --d12 --limit --system --help" names=--d4 ;;
     asm) words="--list --help" ;;

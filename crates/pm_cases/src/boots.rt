@@ -6,7 +6,7 @@ use pm_filer::FileCommand;
 use pm_replay::{
     add_escaped, byte, bytes_text, digest_text, hex_bytes, name, steps, unreadable, word,
 };
-use pm_tool::{Job, Selection};
+use pm_tool::{Job, Saving, Selection};
 use std::alloc::Global;
 use std::io;
 
@@ -118,7 +118,7 @@ fn add_run(alloc: Global, case: &Case<'_>, work: &[u8], came: &mut Came) -> io::
         disks: disks(alloc, case, work)?,
         name: started(alloc, case)?,
         limit: limit(case)?,
-        save: true,
+        saving: Saving::First,
         system: None,
     };
     let keys = hex_bytes(alloc, case.value("keys").unwrap_or(""))?;

@@ -5,7 +5,7 @@ ghost use Rattle.std.specs.Prelude.{◌≡◌, length, sum};
 use crate::jobs::{Told, job_run, tells};
 use pm_filer::FileCommand;
 use pm_text_examples::programs::{ADDITION, ADDITION_TRACE, ECHO, LETTERS};
-use pm_tool::{Job, Selection};
+use pm_tool::{Job, Saving, Selection};
 use std::alloc::Global;
 use std::process::Abort;
 
@@ -123,13 +123,13 @@ fn disks(
 }
 
 /// The job that runs the program `P` on these disks.
-fn run_job(rt: &impl Abort, alloc: Global, disks: [Option<Vec<u8>>; 6], save: bool) -> Job {
+fn run_job(rt: &impl Abort, alloc: Global, disks: [Option<Vec<u8>>; 6], saving: Saving) -> Job {
     let name = text(rt, alloc, "P");
     Job::Run {
         disks,
         name,
         limit: 100,
-        save,
+        saving,
         system: None,
     }
 }
@@ -139,7 +139,7 @@ fn runs(rt: &impl Abort, alloc: Global, bytes: u16, segment: &[u8], input: &[u8]
     requires joined { bytes ≡ length segment.now }
 {
     let disks = disks(rt, alloc, 2, bytes, segment);
-    tells(rt, alloc, run_job(rt, alloc, disks, false), input, told);
+    tells(rt, alloc, run_job(rt, alloc, disks, Saving::Nothing), input, told);
 }
 
 /// Exactly the bytes that a program takes are read.
@@ -156,10 +156,10 @@ fn of_programs(rt: HostRuntime) {
 fn of_no_program(rt: HostRuntime) {
     let alloc = rt.alloc();
     let data = disks(&rt, alloc, 5, 28, &LETTERS);
-    let job = run_job(&rt, alloc, data, true);
+    let job = run_job(&rt, alloc, data, Saving::First);
     tells(&rt, alloc, job, b"xyz", (2, "refused boot 2", "", 3));
     let none = [None, None, None, None, None, None];
-    let job = run_job(&rt, alloc, none, true);
+    let job = run_job(&rt, alloc, none, Saving::First);
     tells(&rt, alloc, job, b"xyz", (2, "refused boot 1", "", 3));
 }
 

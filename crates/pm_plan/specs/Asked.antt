@@ -9,6 +9,8 @@ use Rattle.clap.specs.declared.parser.matches.ArgMatches.{ArgMatches}
 use Rattle.pm_filer.specs.Filed.{Order, ListFiles, Get, Put, Remove, Change, GetText}
 use Rattle.pm_filer.specs.Filed.{PutText, Krunch, Date, Zero, Duplicate, Single, GetSlot, GetTextSlot, order_of}
 use Rattle.pm_filer.specs.Listing.{kind_word}
+use Rattle.pm_selection.specs.declared.saving.Saving.{Saving}
+use Rattle.pm_selection.specs.declared.saving.Saving.TheVariants as savings
 use Rattle.pm_selection.specs.declared.selection.Code.{Code}
 use Rattle.pm_selection.specs.declared.selection.Code.TheVariants as code
 use Rattle.pm_selection.specs.declared.selection.Selection.{Selection}
@@ -98,9 +100,17 @@ pub record AsksProgram (rows : List Row) (program : Program) : Type 0 where
   pub limit : IsRunLimit (is_set (word_found rows (codes "unlimited"))) (word_found rows (codes "limit")) program.limit
   pub system : word_found rows (codes "system") ≡ option_map string_bytes program.system
 
+-- which images are kept, whether or not the words say `--save`, and `--save-all`: they do not say both
+abbrev pub IsSaving : Bool → Bool → Saving → Type 0
+IsSaving false false saving = saving ≡ savings.Nothing
+IsSaving true false saving = saving ≡ savings.First
+IsSaving false true saving = saving ≡ savings.All
+IsSaving true true saving = ⊥
+
 -- the further words of run
 pub record AsksKeeping (rows : List Row) (keeping : Keeping) : Type 0 where
-  pub save : IsFlag (one_of (codes "save") rows) keeping.save
+  pub saving : IsSaving (is_set (word_found rows (codes "save"))) (is_set (word_found rows (codes "save-all")))
+      keeping.saving
   pub printer : word_found rows (codes "printer") ≡ option_map string_bytes keeping.printer
   pub escape : IsFlag (one_of (codes "escape") rows) keeping.escape
 

@@ -1,5 +1,5 @@
 -- Which words are good: what a command line has to have, word by word.
-use Rattle.std.specs.Prelude.{◌≡◌, ◌≢◌, ◌≤◌, ⊤, ℕ, Bool, true, false, List, [], ◌∷◌, ◌++◌, Option, None, Some}
+use Rattle.std.specs.Prelude.{◌≡◌, ◌≢◌, ◌≤◌, ◌||◌, ⊤, ℕ, Bool, true, false, List, [], ◌∷◌, ◌++◌, Option, None, Some}
 use Rattle.std.specs.Prelude.{codes, is_some, if◌then◌else◌}
 use Rattle.std.specs.Bool.{MatchBool}
 use Rattle.std.specs.Str.{bytes_eq}
@@ -35,6 +35,12 @@ IsAlone true None = ⊤
 IsAlone true (Some word) = ⊥
 IsAlone false word = ⊤
 
+-- not both are given
+abbrev pub AreNotBoth : Bool → Bool → Type 0
+AreNotBoth true true = ⊥
+AreNotBoth true false = ⊤
+AreNotBoth false second = ⊤
+
 -- there is a name, or else the number of a slot
 abbrev pub IsNameOrSlot : Option (List ℕ) → Option (List ℕ) → Type 0
 IsNameOrSlot (Some name) None = ⊤
@@ -66,8 +72,10 @@ pub data Need : Type 0 where
   Limit : Need
   -- the limit of a run or a trace, which may be missing, and is so beside `--unlimited`
   RunLimit : Need
-  -- an option that is missing beside `--save`
+  -- an option that is missing beside `--save` and beside `--save-all`
   NotSaved : Need
+  -- an option without a value that does not stand beside `--save`
+  NotSave : Need
   -- a name, which is missing exactly where `--slot` has a number up to 65,535
   NameOrSlot : Need
   -- the number of a segment, which may be missing, but not beside that of a procedure
@@ -81,7 +89,9 @@ Meets rows Kind word = IsKindWord word
 Meets rows (Number most) word = IsNumberWord most word
 Meets rows Limit word = IsLimitWord word
 Meets rows RunLimit word = IsRunLimitWord (is_set (word_found rows (codes "unlimited"))) word
-Meets rows NotSaved word = IsAlone (is_set (word_found rows (codes "save"))) word
+Meets rows NotSaved word = IsAlone (is_set (word_found rows (codes "save"))
+    || is_set (word_found rows (codes "save-all"))) word
+Meets rows NotSave word = AreNotBoth (is_set (word_found rows (codes "save"))) (is_set word)
 Meets rows NameOrSlot word = IsNameOrSlot word (word_found rows (codes "slot"))
 Meets rows Segment word = IsCodeWords word (word_found rows (codes "procedure"))
 
@@ -103,7 +113,7 @@ program_needs = (codes "d4", Given) ∷ (codes "d5", Optional) ∷ (codes "d9", 
 
 -- what run needs beside these
 abbrev pub keeping_needs : List (List ℕ × Need)
-keeping_needs = (codes "system", NotSaved) ∷ (codes "printer", Optional) ∷ []
+keeping_needs = (codes "system", NotSaved) ∷ (codes "save-all", NotSave) ∷ (codes "printer", Optional) ∷ []
 
 -- what raw and trace need beside their limit and their program
 abbrev pub selection_needs : List (List ℕ × Need)

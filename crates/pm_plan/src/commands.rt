@@ -110,6 +110,12 @@ const SAVE: WordRow = (
     "Writes the image of unit 4 back to its file; nothing else that is written to a disk is kept",
 );
 
+const SAVE_ALL: WordRow = (
+    "save-all",
+    Form::Flag,
+    "Writes the image of unit 4 back, and those of the other units that have changed",
+);
+
 const ESCAPE: WordRow = (
     "escape",
     Form::Flag,
@@ -299,7 +305,8 @@ const RUN: CommandRow = (
     "run",
     "Runs a code file of the disk on unit 4, with the standard streams as its console",
     &[
-        D4, D5, D9, D10, D11, D12, LIMIT, UNLIMITED, SYSTEM, PROGRAM, SAVE, PRINTER, ESCAPE,
+        D4, D5, D9, D10, D11, D12, LIMIT, UNLIMITED, SYSTEM, PROGRAM, SAVE, SAVE_ALL, PRINTER,
+        ESCAPE,
     ],
 );
 

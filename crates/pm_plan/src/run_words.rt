@@ -1,12 +1,13 @@
 //! The words of `run`, `trace` and `debug`.
-ghost use Rattle.std.specs.Prelude.{◌↔◌, IfErr, IfOk, IsOk, IsOkUnless, codes};
-ghost use Rattle.pm_plan.specs.Asked.{AsksKeeping, AsksProgram, IsRunLimit, IsRunLimitWord, is_set, word_found};
-ghost use Rattle.pm_plan.specs.Asked.{words_of};
-ghost use Rattle.pm_plan.specs.Needed.{IsAlone, IsWrong, MeetEach, keeping_needs, program_needs};
+ghost use Rattle.std.specs.Prelude.{◌↔◌, ◌||◌, IfErr, IfOk, IsOk, IsOkUnless, codes};
+ghost use Rattle.pm_plan.specs.Asked.{AsksKeeping, AsksProgram, IsRunLimit, IsRunLimitWord, IsSaving, is_set};
+ghost use Rattle.pm_plan.specs.Asked.{word_found, words_of};
+ghost use Rattle.pm_plan.specs.Needed.{AreNotBoth, IsAlone, IsWrong, MeetEach, keeping_needs, program_needs};
 ghost use Rattle.pm_plan.specs.declared.words.WordsError.TheVariants.{NoMemory};
 
 use crate::words::{WordsError, flag, found, given, is_set, limit_of, needed};
 use clap::ArgMatches;
+use pm_selection::Saving;
 use std::alloc::Global;
 
 /// The files that have the images of the disks on the other units.
@@ -37,8 +38,8 @@ pub struct Program {
 /// What the words of `run` say beside the program.
 #[derive(Drop)]
 pub struct Keeping {
-    /// Whether unit 4's image is written back.
-    pub save: bool,
+    /// Which images are written back.
+    pub saving: Saving,
     /// The path that gets the printer's bytes.
     pub printer: Option<String>,
     /// Whether Ctrl-D is a byte of the program's on a terminal.
@@ -88,13 +89,30 @@ pub fn program_of(alloc: Global, matches: &ArgMatches<'_>) -> Result<Program, Wo
     })
 }
 
-/// Refuses `--save` beside `--system`: the image that would be saved has the system's segment.
+/// Which images are written back. Refused where `--save` and `--save-all` both are given.
+fn saving_of(matches: &ArgMatches<'_>) -> Result<Saving, WordsError>
+    ensures asked { IfOk result (λ saving. IsSaving (is_set (word_found (words_of matches.now) (codes "save")))
+        (is_set (word_found (words_of matches.now) (codes "save-all"))) saving) }
+    ensures good { IsOk result ↔ AreNotBoth (is_set (word_found (words_of matches.now) (codes "save")))
+        (is_set (word_found (words_of matches.now) (codes "save-all"))) }
+    ensures refused { IfErr result IsWrong }
+{
+    match (is_set(matches, "save"), is_set(matches, "save-all")) {
+        (false, false) => Ok(Saving::Nothing),
+        (true, false) => Ok(Saving::First),
+        (false, true) => Ok(Saving::All),
+        (true, true) => Err(WordsError::Wrong("--save and --save-all do not go together")),
+    }
+}
+
+/// Refuses `--save` and `--save-all` beside `--system`: the image that would be saved has the system's segment.
 fn unsaved(matches: &ArgMatches<'_>) -> Result<(), WordsError>
-    ensures good { IsOk result ↔ IsAlone (is_set (word_found (words_of matches.now) (codes "save")))
+    ensures good { IsOk result ↔ IsAlone (is_set (word_found (words_of matches.now) (codes "save"))
+        || is_set (word_found (words_of matches.now) (codes "save-all")))
         (word_found (words_of matches.now) (codes "system")) }
     ensures refused { IfErr result IsWrong }
 {
-    if is_set(matches, "save") && found(matches, "system").is_some() {
+    if (is_set(matches, "save") || is_set(matches, "save-all")) && found(matches, "system").is_some() {
         return Err(WordsError::Wrong(
             "--save would keep the segment of --system in the image; examples/with-system.sh puts it there for good",
         ));
@@ -102,7 +120,8 @@ fn unsaved(matches: &ArgMatches<'_>) -> Result<(), WordsError>
     Ok(())
 }
 
-/// What the words of `run` say beside the program. Refused where they save an image with the system's segment.
+/// What the words of `run` say beside the program. Refused where they save an image with the system's segment, or say
+/// twice what is saved.
 pub fn keeping_of(alloc: Global, matches: &ArgMatches<'_>) -> Result<Keeping, WordsError>
     ensures asked { IfOk result (λ keeping. AsksKeeping (words_of matches.now) keeping) }
     ensures good { IsOk result → MeetEach (words_of matches.now) keeping_needs }
@@ -110,7 +129,7 @@ pub fn keeping_of(alloc: Global, matches: &ArgMatches<'_>) -> Result<Keeping, Wo
 {
     unsaved(matches)?;
     Ok(Keeping {
-        save: flag(matches, "save"),
+        saving: saving_of(matches)?,
         printer: given(alloc, matches, "printer")?,
         escape: flag(matches, "escape"),
     })

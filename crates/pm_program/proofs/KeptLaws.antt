@@ -1,15 +1,17 @@
 -- What a verb of `files` keeps is what its job says.
-use Rattle.std.proofs.Common.{◌≡◌, ℕ, List, Option, None, Some, subst, IfSome, option_map, vec_items, string_bytes, Vec}
+use Rattle.std.proofs.Common.{◌≡◌, ◌∷◌, [], ℕ, List, Option, None, Some, Result, Ok, Err, OnOk, OnErr, inr, refl, sym, subst, IfSome, option_map, vec_items, string_bytes, Vec}
 use Rattle.std.specs.declared.alloc.Global.{Global}
-use Rattle.pm_files.specs.Held.{Files, HoldsFile, Keeps}
-use Rattle.pm_tool.specs.Outcomes.{Said, IsOutcome}
+use Rattle.pm_files.specs.Held.{Files, HoldsFile, Keeps, Puts}
+use Rattle.pm_tool.specs.Outcomes.{Said, IsOutcome, no_others}
 use Rattle.pm_streams.specs.Streams.{Streams}
 use Rattle.pm_tool.specs.Said.{job_said, Tells, TellsAll}
 use Rattle.pm_tool.specs.declared.outcome.Job.{Job}
 use Rattle.pm_tool.specs.declared.outcome.Outcome.{Outcome}
-use Rattle.pm_program.specs.Kept.{KeepsRun, KeepsRunSaid, KeepsSaid, KeepsSalvage, KeepsTold, PrintsIf, Reads, ReadsEach, SaysOf, TellsOf}
-use Rattle.pm_program.specs.Kept.{has_run, paths_of}
+use Rattle.pm_program.specs.Kept.{KeepsEach, KeepsFront, KeepsRun, KeepsRunSaid, KeepsSaid, KeepsSalvage, KeepsTold, PrintsIf, Reads}
+use Rattle.pm_program.specs.Kept.{ReadsEach, SaysOf, TellsOf, first_image, has_run, kept_paths, next_images, paths_of}
 use Rattle.pm_program.specs.declared.kept.KeptOfRun.{KeptOfRun}
+use Rattle.pm_selection.specs.declared.saving.Saving.{Saving}
+use Rattle.pm_plan.specs.declared.run_words.Others.{Others}
 use Rattle.pm_plan.specs.declared.run_words.Program.{Program}
 use Rattle.pm_tool.specs.Disks.{images_of}
 use Rattle.pm_tool.specs.declared.outcome.Job.TheVariants as jobs
@@ -44,12 +46,52 @@ known_keeps_said before after old read new path verb job outcome tells says same
         (subst (Keeps old new path) told.comes_to.image
         (subst (λ files. Keeps files new path (option_map vec_items outcome.image)) same keeps))
 
+-- a file that has these bytes is as if they were put there
+pub puts_same : (files : Files) (path bytes : List ℕ) → HoldsFile files path bytes → Puts files files path bytes
+puts_same None path bytes holds = tt
+puts_same (Some files) path bytes holds = (holds, λ other differs. refl)
+
+-- of one path alone the image behind it is kept
+pub each_alone : (old new : Files) (path : List ℕ) (image : Option (List ℕ)) (others : List (Option (List ℕ)))
+    → Keeps old new path image → KeepsEach old new (Some path ∷ no_others) (image ∷ others)
+each_alone old new path image others keeps =
+    (new, keeps, (new, refl, (new, refl, (new, refl, (new, refl, (new, refl, refl))))))
+
+-- what is kept of some images is a front of what may be
+each_front : (old new : Files) (paths images : List (Option (List ℕ))) → KeepsEach old new paths images
+    → KeepsFront old new paths
+each_front old new [] images keeps = keeps
+each_front old new (path ∷ paths) images keeps =
+    inr (keeps.0, first_image images, keeps.1, each_front keeps.0 new paths (next_images images) keeps.2)
+
+-- where the printer's bytes are not kept the images are
+pub printer_front : (old ready read new last : Files) (disk path : List ℕ) (others : Others) (saving : Saving)
+    (images : List (Option (List ℕ))) → path ≡ disk → ready ≡ old → read ≡ ready
+    → KeepsEach read new (kept_paths saving path others) images → last ≡ new
+    → KeepsFront old last (kept_paths saving disk others)
+printer_front old ready read new last disk path others saving images is same also keeps stays =
+    subst (λ files. KeepsFront files last (kept_paths saving disk others)) same
+    (subst (λ files. KeepsFront files last (kept_paths saving disk others)) also
+    (subst (λ path. KeepsFront read last (kept_paths saving path others)) is
+    (subst (λ files. KeepsFront read files (kept_paths saving path others)) (sym stays)
+    (each_front read new (kept_paths saving path others) images keeps))))
+
+-- what follows where a result is good, or an error
+pub where_ok : {X Y A B : Type 0} (r : Result X Y) → (A → B) → OnOk r A → OnOk r B
+where_ok (Ok x) f a = f a
+where_ok (Err e) f a = tt
+
+pub where_err : {X Y A B : Type 0} (r : Result X Y) → (A → B) → OnErr r A → OnErr r B
+where_err (Ok x) f a = tt
+where_err (Err e) f a = f a
+
 -- what a run keeps of its outcome is what it keeps of what is said
-run_told : (old new : Files) (disk : List ℕ) (printing : Printing) (outcome : Outcome) (told : Said) → IsOutcome outcome told
-    → KeepsRun old new disk printing outcome → KeepsTold old new disk printing told
-run_told old new disk printing outcome told is keeps = (
+run_told : (old new : Files) (paths : List (Option (List ℕ))) (printing : Printing) (outcome : Outcome) (told : Said)
+    → IsOutcome outcome told → KeepsRun old new paths printing outcome → KeepsTold old new paths printing told
+run_told old new paths printing outcome told is keeps = (
   keeps.0,
-  subst (Keeps old keeps.0 disk) is.image keeps.1,
+  subst (λ image. KeepsEach old keeps.0 paths (image ∷ told.others)) is.image
+      (subst (λ others. KeepsEach old keeps.0 paths (option_map vec_items outcome.image ∷ others)) is.others keeps.1),
   subst (PrintsIf (has_run told.exit) keeps.0 new printing) is.printer
       (subst (λ exit. PrintsIf (has_run exit) keeps.0 new printing outcome.printer.items) is.exit keeps.2),
 )
@@ -58,16 +100,16 @@ run_told old new disk printing outcome told is keeps = (
 pub known_run_said : (before after : Streams) (old ready read new : Files) (program : Program) (kept : KeptOfRun)
     (disks : List (Option (Vec ℕ Global))) (system : Option (Vec ℕ Global)) (outcome : Outcome) (from to : List ℕ)
     → from ≡ string_bytes program.disk → to ≡ string_bytes program.disk
-    → TellsAll before after outcome (job_said (jobs.Run disks program.name program.limit kept.save system))
+    → TellsAll before after outcome (job_said (jobs.Run disks program.name program.limit kept.saving system))
     → ready ≡ old → read ≡ ready → ReadsEach ready (paths_of from program.others) (images_of disks)
     → Reads ready (option_map string_bytes program.system) (option_map vec_items system)
-    → KeepsRun read new to kept.printing outcome
+    → KeepsRun read new (kept_paths kept.saving to program.others) kept.printing outcome
     → IfSome before.source.remaining (λ input. KeepsRunSaid old new program kept input)
 known_run_said before after old ready read new program kept disks system outcome from to is_from is_to tells same also reads given keeps =
     known before.source.remaining tells
   where
     known : (had : Option (List ℕ))
-        → IfSome had (λ input. Tells before after outcome (job_said (jobs.Run disks program.name program.limit kept.save system) input))
+        → IfSome had (λ input. Tells before after outcome (job_said (jobs.Run disks program.name program.limit kept.saving system) input))
         → IfSome had (λ input. KeepsRunSaid old new program kept input)
     known None told = tt
     known (Some input) told = (
@@ -76,10 +118,10 @@ known_run_said before after old ready read new program kept disks system outcome
       subst (λ files. ReadsEach files (paths_of (string_bytes program.disk) program.others) (images_of disks)) same
           (subst (λ path. ReadsEach ready (paths_of path program.others) (images_of disks)) is_from reads),
       subst (λ files. Reads files (option_map string_bytes program.system) (option_map vec_items system)) same given,
-      run_told old new (string_bytes program.disk) kept.printing outcome _ told.comes_to
-          (subst (λ files. KeepsRun files new (string_bytes program.disk) kept.printing outcome) same
-          (subst (λ files. KeepsRun files new (string_bytes program.disk) kept.printing outcome) also
-          (subst (λ path. KeepsRun read new path kept.printing outcome) is_to keeps))),
+      run_told old new (kept_paths kept.saving (string_bytes program.disk) program.others) kept.printing outcome _ told.comes_to
+          (subst (λ files. KeepsRun files new (kept_paths kept.saving (string_bytes program.disk) program.others) kept.printing outcome) same
+          (subst (λ files. KeepsRun files new (kept_paths kept.saving (string_bytes program.disk) program.others) kept.printing outcome) also
+          (subst (λ path. KeepsRun read new (kept_paths kept.saving path program.others) kept.printing outcome) is_to keeps))),
     )
 
 -- where the input is known, a job tells what is said to it of the images that were read

@@ -1,8 +1,11 @@
 -- When the paths of a run do not go together. `same` says which paths name one file, `folders` which name a folder.
-use Rattle.std.specs.Prelude.{ℕ, Bool, false, ◌&&◌, ◌||◌, List, Option, None, Some, option_map, string_bytes}
+use Rattle.std.specs.Prelude.{ℕ, Bool, true, false, ◌&&◌, ◌||◌, List, [], ◌∷◌, String, Option, None, Some, option_map, string_bytes}
 use Rattle.std.specs.Prelude.{if◌then◌else◌}
+use Rattle.std.specs.declared.alloc.Global.{Global}
 use Rattle.pm_program.specs.declared.end.Conflict.{Conflict}
 use Rattle.pm_program.specs.declared.end.Conflict.TheVariants as conflicts
+use Rattle.pm_selection.specs.declared.saving.Saving.{Saving}
+use Rattle.pm_selection.specs.declared.saving.Saving.TheVariants as savings
 use Rattle.pm_plan.specs.declared.run_words.Keeping.{Keeping}
 use Rattle.pm_plan.specs.declared.run_words.Others.{Others}
 use Rattle.pm_plan.specs.declared.run_words.Program.{Program}
@@ -29,8 +32,47 @@ printer_conflict same folders program (Some path) =
     else if folders path then Some conflicts.PrinterIsFolder
     else None
 
--- the first thing that is wrong: the image that is to be saved is that of two units; else the printer's path
+-- the image of unit 4 is to be saved, alone or with the others
+abbrev pub is_saved : Saving → Bool
+is_saved savings.Nothing = false
+is_saved savings.First = true
+is_saved savings.All = true
+
+abbrev pub are_all_saved : Saving → Bool
+are_all_saved savings.Nothing = false
+are_all_saved savings.First = false
+are_all_saved savings.All = true
+
+-- two paths, if there are both, name one file
+abbrev pub shares : (List ℕ → List ℕ → Bool) → Option (String Global) → Option (String Global) → Bool
+shares same None other = false
+shares same (Some path) other = names_image same (string_bytes path) (option_map string_bytes other)
+
+-- the path of unit 5 names the file of one of the four behind it
+abbrev pub shares_fifth : (List ℕ → List ℕ → Bool) → Others → Bool
+shares_fifth same o = shares same o.d5 o.d9 || (shares same o.d5 o.d10
+    || (shares same o.d5 o.d11 || shares same o.d5 o.d12))
+
+-- that of unit 9 names the file of one of the three behind it
+abbrev pub shares_ninth : (List ℕ → List ℕ → Bool) → Others → Bool
+shares_ninth same o = shares same o.d9 o.d10 || (shares same o.d9 o.d11 || shares same o.d9 o.d12)
+
+-- two of the last three name one file
+abbrev pub shares_last : (List ℕ → List ℕ → Bool) → Others → Bool
+shares_last same o = shares same o.d10 o.d11 || (shares same o.d10 o.d12 || shares same o.d11 o.d12)
+
+-- two of the images on other units than 4 are one file
+abbrev pub are_shared : (List ℕ → List ℕ → Bool) → Others → Bool
+are_shared same o = shares_fifth same o || (shares_ninth same o || shares_last same o)
+
+-- the paths of the images on other units than 4
+abbrev pub other_paths : Others → List (Option (List ℕ))
+other_paths others = option_map string_bytes others.d5 ∷ option_map string_bytes others.d9
+    ∷ option_map string_bytes others.d10 ∷ option_map string_bytes others.d11 ∷ option_map string_bytes others.d12 ∷ []
+
+-- the first thing that is wrong: an image that is to be saved is that of two units; else the printer's path
 abbrev pub conflict_of : (List ℕ → List ℕ → Bool) → (List ℕ → Bool) → Program → Keeping → Option Conflict
 conflict_of same folders program keeping =
-    if keeping.save && is_other same (string_bytes program.disk) program.others then Some conflicts.SavedTwice
+    if is_saved keeping.saving && is_other same (string_bytes program.disk) program.others then Some conflicts.SavedTwice
+    else if are_all_saved keeping.saving && are_shared same program.others then Some conflicts.SavedTwice
     else printer_conflict same folders program (option_map string_bytes keeping.printer)

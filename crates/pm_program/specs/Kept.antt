@@ -8,7 +8,7 @@ use Rattle.pm_filer.specs.Filed.{PutText, Krunch, Date, Zero, Duplicate, Single,
 use Rattle.pm_volume.specs.Headers.{blank_fault}
 use Rattle.pm_tool.specs.Batches.{said_check, said_files, said_new, said_repair, said_salvage}
 use Rattle.pm_tool.specs.Disks.{images_of}
-use Rattle.pm_tool.specs.Outcomes.{Said}
+use Rattle.pm_tool.specs.Outcomes.{Said, no_others, others_of}
 use Rattle.pm_streams.specs.Streams.{Streams}
 use Rattle.pm_tool.specs.Said.{Tells, job_said}
 use Rattle.pm_tool.specs.declared.outcome.Exit.{Exit}
@@ -16,6 +16,8 @@ use Rattle.pm_tool.specs.declared.outcome.Exit.TheVariants as exits
 use Rattle.pm_tool.specs.declared.outcome.Job.{Job}
 use Rattle.pm_tool.specs.declared.outcome.Job.TheVariants as jobs
 use Rattle.pm_tool.specs.declared.outcome.Outcome.{Outcome}
+use Rattle.pm_selection.specs.declared.saving.Saving.{Saving}
+use Rattle.pm_selection.specs.declared.saving.Saving.TheVariants as savings
 use Rattle.pm_selection.specs.declared.selection.Selection.{Selection}
 use Rattle.pm_plan.specs.declared.file_words.SalvagePlan.{SalvagePlan}
 use Rattle.pm_plan.specs.declared.file_words.Verb.{Verb}
@@ -48,11 +50,42 @@ abbrev pub PrintsIf : Bool → Files → Files → Printing → List ℕ → Typ
 PrintsIf true old new printing bytes = Prints old new printing bytes
 PrintsIf false old new printing bytes = new ≡ old
 
--- First the image of unit 4, if the outcome has it, and then the printer's bytes, if the program has run: these stand
--- under their paths, and nothing else has changed.
-abbrev pub KeepsRun : Files → Files → List ℕ → Printing → Outcome → Type 0
-KeepsRun old new disk printing outcome = (between : Files)
-    × Keeps old between disk (option_map vec_items outcome.image)
+-- the paths of a program's disks, in the order of the units 4, 5, 9, 10, 11 and 12
+abbrev pub paths_of : List ℕ → Others → List (Option (List ℕ))
+paths_of disk others = Some disk ∷ option_map string_bytes others.d5 ∷ option_map string_bytes others.d9
+    ∷ option_map string_bytes others.d10 ∷ option_map string_bytes others.d11 ∷ option_map string_bytes others.d12 ∷ []
+
+-- the paths under which a run keeps the images of its units: that of unit 4, or all
+abbrev pub kept_paths : Saving → List ℕ → Others → List (Option (List ℕ))
+kept_paths savings.Nothing disk others = Some disk ∷ no_others
+kept_paths savings.First disk others = Some disk ∷ no_others
+kept_paths savings.All disk others = paths_of disk others
+
+-- an image, if there is one, is kept under a path, if there is one
+abbrev pub KeepsAt : Files → Files → Option (List ℕ) → Option (List ℕ) → Type 0
+KeepsAt old new None image = new ≡ old
+KeepsAt old new (Some path) image = Keeps old new path image
+
+-- the first of some images, and those behind it
+abbrev pub first_image : List (Option (List ℕ)) → Option (List ℕ)
+first_image [] = None
+first_image (image ∷ images) = image
+
+abbrev pub next_images : List (Option (List ℕ)) → List (Option (List ℕ))
+next_images [] = []
+next_images (image ∷ images) = images
+
+-- images are kept under their paths, one behind the other
+abbrev pub KeepsEach : Files → Files → List (Option (List ℕ)) → List (Option (List ℕ)) → Type 0
+KeepsEach old new [] images = new ≡ old
+KeepsEach old new (path ∷ paths) images = (between : Files)
+    × KeepsAt old between path (first_image images) × KeepsEach between new paths (next_images images)
+
+-- First the images that the outcome has, in the order of their units, and then the printer's bytes, if the program has
+-- run: these stand under their paths, and nothing else has changed.
+abbrev pub KeepsRun : Files → Files → List (Option (List ℕ)) → Printing → Outcome → Type 0
+KeepsRun old new paths printing outcome = (between : Files)
+    × KeepsEach old between paths (option_map vec_items outcome.image ∷ others_of outcome.others)
     × PrintsIf (has_run outcome.exit) between new printing outcome.printer.items
 
 -- a command on a volume may change it
@@ -79,9 +112,11 @@ takes_lock (verbs.New name blocks) = true
 takes_lock verbs.Repair = true
 takes_lock verbs.Check = false
 
--- nothing has changed, or the image of unit 4 alone
-abbrev pub KeepsFront : Files → Files → List ℕ → Type 0
-KeepsFront old new disk = (new ≡ old) ⊎ ((image : List ℕ) × Puts old new disk image)
+-- the first of some paths, as many as may be, have new images, and nothing else has changed
+abbrev pub KeepsFront : Files → Files → List (Option (List ℕ)) → Type 0
+KeepsFront old new [] = new ≡ old
+KeepsFront old new (path ∷ paths) = (new ≡ old) ⊎ ((between : Files) × (image : Option (List ℕ))
+    × KeepsAt old between path image × KeepsFront between new paths)
 
 -- A verb of `files` is told to the image that the path holds and to the input: then the file keeps the image that is
 -- said of them, if one is, and nothing else has changed. A new volume is told to the input alone.
@@ -106,11 +141,6 @@ SaysOf files path verbs.Repair job = (image : List ℕ) × HoldsFile files path 
 SaysOf files path verbs.Check job = (image : List ℕ) × HoldsFile files path image
     × ((input : List ℕ) → job_said job input ≡ said_check image input)
 
--- the paths of a program's disks, in the order of the units 4, 5, 9, 10, 11 and 12
-abbrev pub paths_of : List ℕ → Others → List (Option (List ℕ))
-paths_of disk others = Some disk ∷ option_map string_bytes others.d5 ∷ option_map string_bytes others.d9
-    ∷ option_map string_bytes others.d10 ∷ option_map string_bytes others.d11 ∷ option_map string_bytes others.d12 ∷ []
-
 -- the image that a path holds, or none where there is no path
 abbrev pub Reads : Files → Option (List ℕ) → Option (List ℕ) → Type 0
 Reads files None None = ⊤
@@ -125,11 +155,11 @@ ReadsEach files [] (image ∷ images) = ⊥
 ReadsEach files (path ∷ paths) [] = ⊥
 ReadsEach files (path ∷ paths) (image ∷ images) = Reads files path image × ReadsEach files paths images
 
--- first the image that is said, if one is, under a path, and then the printer's bytes, if the program has run; nothing
--- else has changed
-abbrev pub KeepsTold : Files → Files → List ℕ → Printing → Said → Type 0
-KeepsTold old new disk printing told = (between : Files)
-    × Keeps old between disk told.image
+-- first the images that are said, in the order of their units, under their paths, and then the printer's bytes, if the
+-- program has run; nothing else has changed
+abbrev pub KeepsTold : Files → Files → List (Option (List ℕ)) → Printing → Said → Type 0
+KeepsTold old new paths printing told = (between : Files)
+    × KeepsEach old between paths (told.image ∷ told.others)
     × PrintsIf (has_run told.exit) between new printing told.printer
 
 -- A program is run on the images that its paths hold, each on its unit, with the system's code file that its path
@@ -138,8 +168,8 @@ abbrev pub KeepsRunSaid : Files → Files → Program → KeptOfRun → List ℕ
 KeepsRunSaid old new program kept input = (disks : List (Option (Vec ℕ Global))) × (system : Option (Vec ℕ Global))
     × ReadsEach old (paths_of (string_bytes program.disk) program.others) (images_of disks)
     × Reads old (option_map string_bytes program.system) (option_map vec_items system)
-    × KeepsTold old new (string_bytes program.disk) kept.printing
-    (job_said (jobs.Run disks program.name program.limit kept.save system) input)
+    × KeepsTold old new (kept_paths kept.saving (string_bytes program.disk) program.others) kept.printing
+    (job_said (jobs.Run disks program.name program.limit kept.saving system) input)
 
 -- A job of a program on the images that its paths hold, each on its unit, with the system's code file that its path
 -- holds, if it has one: what is written, answered and left unread is what is said of them and of the input.

@@ -5,7 +5,7 @@ use pm_tool::{Exit, Outcome};
 /// What is wrong with paths that do not go together.
 #[derive(Clone, Copy, Debug, PartialEq, Eq)]
 pub enum Conflict {
-    /// The image that is to be saved is also that of another unit.
+    /// An image that is to be saved is also that of another unit.
     SavedTwice,
     /// The printer's bytes would be written over an image of the run.
     PrinterIsImage,

@@ -1,7 +1,8 @@
 //! A plan is followed: its streams, its files, its job.
 ghost use Rattle.std.specs.Prelude.{◌≡◌, IfSome, option_map, string_bytes};
 ghost use Rattle.pm_streams.specs.Streams.{AreWell, both};
-ghost use Rattle.pm_program.specs.Conflicts.{conflict_of, is_other, names_image, printer_conflict};
+ghost use Rattle.pm_program.specs.Conflicts.{are_shared, conflict_of, is_other, names_image, printer_conflict};
+ghost use Rattle.pm_program.specs.Conflicts.{shares, shares_fifth, shares_last, shares_ninth};
 
 use crate::about::{Disks, about, disks_of};
 use crate::console::{END, ESCAPE, Keys, Lined, Prompted};
@@ -10,6 +11,7 @@ use crate::kept::{KeptOfRun, Printing, do_debug, do_files, do_run, do_salvage, d
 use pm_filer::FileCommand;
 use pm_files::{DiskFault, Host, HostStore, Store, Stream};
 use pm_plan::{FilesPlan, Keeping, Others, Plan, Program, Verb};
+use pm_selection::Saving;
 use pm_streams::{Reader, Sink, Source, Writer};
 use pm_tool::{Job, Outcome};
 use std::alloc::Global;
@@ -104,7 +106,11 @@ fn act<S: Store, I: Source, O: Sink>(
 
 /// Where the printer's bytes go: a path of standard output's file is standard output.
 fn kept_of<S: Store>(store: &S, keeping: Keeping) -> KeptOfRun {
-    let Keeping { save, printer, .. } = keeping;
+    let Keeping {
+        saving,
+        printer,
+        ..
+    } = keeping;
     let is_output = match &printer {
         Some(path) => store.is_same(path.as_str(), OUTPUT),
         None => false,
@@ -114,7 +120,7 @@ fn kept_of<S: Store>(store: &S, keeping: Keeping) -> KeptOfRun {
         (Some(_), true) => Printing::Output,
         (None, _) => Printing::Nowhere,
     };
-    KeptOfRun { save, printing }
+    KeptOfRun { saving, printing }
 }
 
 /// Whether a path names the file of an image, if there is one.
@@ -137,6 +143,48 @@ fn is_other<S: Store>(store: &S, path: &str, others: &Others) -> bool
         || names_image(store, path, &others.d10)
         || names_image(store, path, &others.d11)
         || names_image(store, path, &others.d12)
+}
+
+/// Whether two paths, where there are both, name one file.
+fn shares<S: Store>(store: &S, one: &Option<String>, other: &Option<String>) -> bool
+    ensures value { IfSome (S.same store.now) (λ same. result ≡ shares same one.now other.now) }
+{
+    match one {
+        Some(path) => names_image(store, path.as_str(), other),
+        None => false,
+    }
+}
+
+fn shares_fifth<S: Store>(store: &S, others: &Others) -> bool
+    ensures value { IfSome (S.same store.now) (λ same. result ≡ shares_fifth same others.now) }
+{
+    shares(store, &others.d5, &others.d9)
+        || shares(store, &others.d5, &others.d10)
+        || shares(store, &others.d5, &others.d11)
+        || shares(store, &others.d5, &others.d12)
+}
+
+fn shares_ninth<S: Store>(store: &S, others: &Others) -> bool
+    ensures value { IfSome (S.same store.now) (λ same. result ≡ shares_ninth same others.now) }
+{
+    shares(store, &others.d9, &others.d10)
+        || shares(store, &others.d9, &others.d11)
+        || shares(store, &others.d9, &others.d12)
+}
+
+fn shares_last<S: Store>(store: &S, others: &Others) -> bool
+    ensures value { IfSome (S.same store.now) (λ same. result ≡ shares_last same others.now) }
+{
+    shares(store, &others.d10, &others.d11)
+        || shares(store, &others.d10, &others.d12)
+        || shares(store, &others.d11, &others.d12)
+}
+
+/// Whether two of the images on other units than 4 are one file.
+fn are_shared<S: Store>(store: &S, others: &Others) -> bool
+    ensures value { IfSome (S.same store.now) (λ same. result ≡ are_shared same others.now) }
+{
+    shares_fifth(store, others) || shares_ninth(store, others) || shares_last(store, others)
 }
 
 /// What is wrong with the printer's path, if something is.
@@ -176,7 +224,12 @@ fn conflict<S: Store>(store: &S, program: &Program, keeping: &Keeping) -> Option
     ensures value { IfSome (S.same store.now) (λ same. IfSome (S.folders store.now) (λ folders.
         result ≡ conflict_of same folders program.now keeping.now)) }
 {
-    if keeping.save && is_other(store, program.disk.as_str(), &program.others) {
+    if keeping.saving != Saving::Nothing
+        && is_other(store, program.disk.as_str(), &program.others)
+    {
+        return Some(Conflict::SavedTwice);
+    }
+    if keeping.saving == Saving::All && are_shared(store, &program.others) {
         return Some(Conflict::SavedTwice);
     }
     printer_conflict(store, program, &keeping.printer)

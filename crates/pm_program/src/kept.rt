@@ -1,17 +1,20 @@
 //! Jobs with files: what is read before them, and what is written behind them.
-ghost use Rattle.std.specs.Prelude.{◌≡◌, false, IfOk, IfSome, OnErr, OnOk, string_bytes, option_map, vec_items};
+ghost use Rattle.std.specs.Prelude.{◌≡◌, ◌∷◌, false, IfOk, IfSome, OnErr, OnOk, string_bytes, option_map, vec_items};
 ghost use Rattle.pm_tool.specs.Said.{IsSoundExit};
-ghost use Rattle.pm_files.specs.Held.{Keeps};
+ghost use Rattle.pm_files.specs.Held.{Keeps, Puts};
 ghost use Rattle.pm_streams.specs.Streams.{AreWell, both};
-ghost use Rattle.pm_program.specs.Kept.{KeepsRun, KeepsFront, KeepsSaid, PrintsIf, SaysOf, has_run, takes_lock};
+ghost use Rattle.pm_program.specs.Conflicts.{other_paths};
+ghost use Rattle.pm_program.specs.Kept.{KeepsAt, KeepsEach, KeepsFront, KeepsRun, KeepsSaid, PrintsIf, SaysOf};
+ghost use Rattle.pm_program.specs.Kept.{has_run, kept_paths, takes_lock};
 ghost use Rattle.pm_program.specs.Kept.{KeepsRunSaid, KeepsSalvage, Reads, ReadsEach, TellsDebug, TellsTrace, paths_of};
 ghost use Rattle.pm_tool.specs.Disks.{images_of};
+ghost use Rattle.pm_tool.specs.Outcomes.{others_of};
 
 use pm_files::{DiskFault, Store};
 use pm_plan::{Others, Program, SalvagePlan, Verb};
-use pm_selection::Selection;
+use pm_selection::{Saving, Selection};
 use pm_streams::{Sink, Source, write_all};
-use pm_tool::{Exit, Job, Outcome};
+use pm_tool::{Exit, Job, OtherImages, Outcome};
 use std::alloc::Global;
 use std::io::ErrorKind;
 
@@ -29,8 +32,8 @@ pub enum Printing {
 /// What is kept of a run.
 #[derive(Drop)]
 pub struct KeptOfRun {
-    /// Whether unit 4's image is written back.
-    pub save: bool,
+    /// Which images are written back.
+    pub saving: Saving,
     /// Where the printer's bytes go.
     pub printing: Printing,
 }
@@ -241,27 +244,115 @@ fn keep_printer<S: Store, O: Sink>(
     }
 }
 
-/// Keeps what a run leaves: the image first, then the printer's bytes.
-fn keep<S: Store, O: Sink>(
+/// Makes the bytes those of a file, which is written only if it has others, or if there is no memory to see that.
+fn put_changed<S: Store>(
+    alloc: Global,
     store: &mut S,
-    sink: &mut O,
-    disk: &str,
-    printing: &Printing,
-    outcome: &Outcome,
+    path: &str,
+    bytes: &[u8],
 ) -> Result<(), DiskFault>
-    ensures kept { OnOk result (KeepsRun (S.files store.old) (S.files store.new) disk.now printing.now outcome.now) }
-    ensures front { OnErr result (KeepsFront (S.files store.old) (S.files store.new) disk.now) }
+    ensures puts { OnOk result (Puts (S.files store.old) (S.files store.new) path.now bytes.now) }
+    ensures stays { OnErr result (S.files store.new ≡ S.files store.old) }
 {
-    keep_image(store, disk, &outcome.image)?;
-    keep_printer(store, sink, printing, outcome)
+    match store.read(alloc, path) {
+        Ok(old) if old.as_slice() == bytes => Ok(()),
+        Ok(_) | Err(DiskFault::NoMemory) => store.put(path, bytes),
+        Err(fault) => Err(fault),
+    }
 }
 
-/// Holds the file of the image that is going to be saved, and makes ready for the printer's file.
-fn make_ready<S: Store>(store: &mut S, disk: &str, kept: &KeptOfRun) -> Result<(), DiskFault>
+/// Keeps the image of a unit under its path, where there are both. A file that has it is not written.
+fn keep_at<S: Store>(
+    alloc: Global,
+    store: &mut S,
+    path: &Option<String>,
+    image: &Option<Vec<u8>>,
+) -> Result<(), DiskFault>
+    ensures kept { OnOk result (KeepsAt (S.files store.old) (S.files store.new)
+        (option_map string_bytes path.now) (option_map vec_items image.now)) }
+    ensures stays { OnErr result (S.files store.new ≡ S.files store.old) }
+{
+    match (path, image) {
+        (Some(path), Some(image)) => put_changed(alloc, store, path.as_str(), image.as_slice()),
+        _ => Ok(()),
+    }
+}
+
+/// Keeps the images of the other units than 4 under their paths.
+fn keep_others<S: Store>(
+    alloc: Global,
+    store: &mut S,
+    paths: &Others,
+    images: &OtherImages,
+) -> Result<(), DiskFault>
+    ensures kept { OnOk result (KeepsEach (S.files store.old) (S.files store.new)
+        (other_paths paths.now) (others_of images.now)) }
+    ensures front { OnErr result (KeepsFront (S.files store.old) (S.files store.new) (other_paths paths.now)) }
+{
+    keep_at(alloc, store, &paths.d5, &images.d5)?;
+    keep_at(alloc, store, &paths.d9, &images.d9)?;
+    keep_at(alloc, store, &paths.d10, &images.d10)?;
+    keep_at(alloc, store, &paths.d11, &images.d11)?;
+    keep_at(alloc, store, &paths.d12, &images.d12)
+}
+
+/// Keeps the images of a run that are to be kept: first that of unit 4.
+fn keep_images<S: Store>(
+    alloc: Global,
+    store: &mut S,
+    disk: &str,
+    others: &Others,
+    saving: Saving,
+    outcome: &Outcome,
+) -> Result<(), DiskFault>
+    ensures kept { OnOk result (KeepsEach (S.files store.old) (S.files store.new) (kept_paths saving disk.now others.now)
+        (option_map vec_items outcome.now.image ∷ others_of outcome.now.others)) }
+    ensures front { OnErr result (KeepsFront (S.files store.old) (S.files store.new)
+        (kept_paths saving disk.now others.now)) }
+{
+    keep_image(store, disk, &outcome.image)?;
+    match saving {
+        Saving::Nothing => Ok(()),
+        Saving::First => Ok(()),
+        Saving::All => keep_others(alloc, store, others, &outcome.others),
+    }
+}
+
+/// Holds the file of an image on another unit than 4, where there is one.
+fn hold_at<S: Store>(store: &mut S, path: &Option<String>) -> Result<(), DiskFault>
     ensures stays { S.files store.new ≡ S.files store.old }
 {
-    if kept.save {
+    match path {
+        Some(path) => store.hold(path.as_str()),
+        None => Ok(()),
+    }
+}
+
+/// Holds the files of the images on the other units than 4.
+fn hold_others<S: Store>(store: &mut S, others: &Others) -> Result<(), DiskFault>
+    ensures stays { S.files store.new ≡ S.files store.old }
+{
+    hold_at(store, &others.d5)?;
+    hold_at(store, &others.d9)?;
+    hold_at(store, &others.d10)?;
+    hold_at(store, &others.d11)?;
+    hold_at(store, &others.d12)
+}
+
+/// Holds the files of the images that are going to be saved, and makes ready for the printer's file.
+fn make_ready<S: Store>(
+    store: &mut S,
+    disk: &str,
+    others: &Others,
+    kept: &KeptOfRun,
+) -> Result<(), DiskFault>
+    ensures stays { S.files store.new ≡ S.files store.old }
+{
+    if kept.saving != Saving::Nothing {
         store.hold(disk)?;
+    }
+    if kept.saving == Saving::All {
+        hold_others(store, others)?;
     }
     if let Printing::File(path) = &kept.printing {
         store.prepare(path.as_str())?;
@@ -269,10 +360,10 @@ fn make_ready<S: Store>(store: &mut S, disk: &str, kept: &KeptOfRun) -> Result<(
     Ok(())
 }
 
-/// Runs a program, and then writes the image of unit 4, where the outcome has it, and the printer's bytes, where
-/// the program has run and they are wanted. No other file changes. Neither stream may have failed before. Where a
-/// file cannot be read, held or written, nothing has changed but that the image may be written. Where the input is
-/// known, what is kept is what is said of it and of the images that the files had, each on its unit.
+/// Runs a program, and then writes the images that are to be kept, as far as the outcome has them, and the printer's
+/// bytes, where the program has run and they are wanted. No other file changes. Neither stream may have failed before.
+/// Where a file cannot be read, held or written, nothing has changed but that the first of the images may be written.
+/// Where the input is known, what is kept is what is said of it and of the images that the files had, each on its unit.
 pub fn do_run<S: Store, I: Source, O: Sink>(
     alloc: Global,
     store: &mut S,
@@ -283,10 +374,12 @@ pub fn do_run<S: Store, I: Source, O: Sink>(
 ) -> Result<Outcome, DiskFault>
     requires well { AreWell (both (I.seen source.old) (O.seen sink.old)) }
     ensures kept { IfOk result (λ outcome.
-        KeepsRun (S.files store.old) (S.files store.new) (string_bytes program.disk) kept.printing outcome) }
+        KeepsRun (S.files store.old) (S.files store.new)
+        (kept_paths kept.saving (string_bytes program.disk) program.others) kept.printing outcome) }
     ensures said { IfOk result (λ outcome. IsSoundExit outcome.exit → IfSome (I.seen source.old).remaining (λ input.
         KeepsRunSaid (S.files store.old) (S.files store.new) program kept input)) }
-    ensures front { OnErr result (KeepsFront (S.files store.old) (S.files store.new) (string_bytes program.disk)) }
+    ensures front { OnErr result (KeepsFront (S.files store.old) (S.files store.new)
+        (kept_paths kept.saving (string_bytes program.disk) program.others)) }
 {
     let Program {
         disk,
@@ -295,18 +388,19 @@ pub fn do_run<S: Store, I: Source, O: Sink>(
         limit,
         system,
     } = program;
-    make_ready(store, disk.as_str(), &kept)?;
-    let KeptOfRun { save, printing } = kept;
+    make_ready(store, disk.as_str(), &others, &kept)?;
+    let KeptOfRun { saving, printing } = kept;
     let (disks, system) = inputs(alloc, store, disk.as_str(), &others, &system)?;
     let job = Job::Run {
         disks,
         name,
         limit,
-        save,
+        saving,
         system,
     };
     let outcome = pm_tool::run(alloc, source, sink, job);
-    keep(store, sink, disk.as_str(), &printing, &outcome)?;
+    keep_images(alloc, store, disk.as_str(), &others, saving, &outcome)?;
+    keep_printer(store, sink, &printing, &outcome)?;
     Ok(outcome)
 }
 

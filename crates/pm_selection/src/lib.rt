@@ -1,6 +1,8 @@
-//! Which lines of a trace are shown, and what stands in front of them.
+//! Which lines of a trace are shown and what stands in front of them, and which images a run keeps.
 #![tactic(auto)]
 
+mod saving;
 mod selection;
 
+pub use saving::Saving;
 pub use selection::{Code, Selection};

@@ -4,7 +4,7 @@ ghost use Rattle.std.specs.Prelude.{◌≡◌, length, sum};
 
 use crate::recorder::{Call, Kind, Manner, Recorded, recorded_run};
 use pm_text_examples::programs::{ADDITION, ADDITION_TRACE, ECHO, EXITS, LETTERS};
-use pm_tool::{Job, Selection};
+use pm_tool::{Job, Saving, Selection};
 use pm_volume::Volume;
 use std::alloc::{AllocError, Global};
 use std::process::Abort;
@@ -99,7 +99,7 @@ impl Tried {
                 disks,
                 name,
                 limit,
-                save: true,
+                saving: Saving::First,
                 system: None,
             },
             Tried::ExitsTraced => Job::Trace {

@@ -1,7 +1,7 @@
 //! What is written when. No clause can say it, since a sink knows no steps.
 use crate::broken::{COMMANDS, Tried, image};
 use crate::recorder::{Call, Kind, Manner, Recorded, recorded_run};
-use pm_tool::{Job, Selection};
+use pm_tool::{Job, Saving, Selection};
 use std::alloc::Global;
 use std::process::Abort;
 use std::test::Fail;
@@ -37,7 +37,7 @@ fn three_letters(alloc: Global) -> Result<Job, Fail> {
         disks: [Some(image), None, None, None, None, None],
         name: String::from_str(alloc, "P")?,
         limit: 1000,
-        save: false,
+        saving: Saving::Nothing,
         system: None,
     })
 }

@@ -1,8 +1,8 @@
 -- What the slots of a code file with the system's segment hold.
 use Rattle.byteorder.specs.Endian.{little_bytes}
 use Rattle.std.proofs.Common.{◌≡◌, ◌<◌, ◌≤◌, ◌⊎◌, inl, inr, ℕ, ◌+◌, ◌-◌, ◌*◌, ◌%◌, Bool, true, false, ◌&&◌, List, ◌++◌, ◌∙◌, ap}
-use Rattle.std.proofs.Common.{length, take, drop, get_or, replicate, Option, None, Some, cond, eqb, ltb, refl, arith, length-append}
-use Rattle.std.specs.Prelude.{slice_range}
+use Rattle.std.proofs.Common.{length, get_or, replicate, None, Some, cond, eqb, ltb, refl, arith, length-append}
+use Rattle.std.specs.Prelude.{not, slice_range}
 use Rattle.std.proofs.lemmas.Bool.{cases_Bool, cases_lt, eqb-false, eqb-true, le-ltb, lt-ltb, ltb-false}
 use Rattle.std.proofs.lemmas.List.{get_or_append_left, length-replicate, take_all}
 use Rattle.pm_base.specs.Blocks.{blocks_for}
@@ -10,8 +10,8 @@ use Rattle.pm_codefile.specs.Dictionary.{IsCodeFile, block_in, length_in, segmen
 use Rattle.pm_codefile.specs.declared.fault.CodeFault.{CodeFault}
 use Rattle.pm_codefile.specs.declared.file.Slot.{Slot}
 use Rattle.pm_codefile.proofs.Written.{slice_range-right, word_in-left}
-use Rattle.pm_system.specs.Laws.{HasBoth, IsSlot, SegmentsStay}
-use Rattle.pm_system.specs.Segment.{filled, saying, with_segment}
+use Rattle.pm_system.specs.Laws.{IsSlot, NewFileIsSound, SegmentsStay}
+use Rattle.pm_system.specs.Segment.{filled, with_segment}
 use Rattle.pm_volume.proofs.WrittenLaws.{get_written_above, get_written_outside, length-written, same_parts, word_in-below, word_in-written}
 use Rattle.pm_volume.specs.Words.{written}
 
@@ -45,6 +45,14 @@ no_fault : (a b : Bool) (x y : CodeFault) → cond a (Some x) (cond b (Some y) N
 no_fault true b x y h = cc
 no_fault false true x y h = cc
 no_fault false false x y h = refl
+
+even_of : (a b : Bool) (x y : CodeFault) → cond a (Some x) (cond b (Some y) None) ≡ None → a ≡ false
+even_of true b x y h = cc
+even_of false b x y h = refl
+
+and_false : (a : Bool) → (a && false) ≡ false
+and_false true = refl
+and_false false = refl
 
 second_false : (a b : Bool) → (a && b) ≡ false → a ≡ true → b ≡ false
 second_false true b h e = h
@@ -84,9 +92,9 @@ module _ (file segment : List ℕ) (slot : Slot) (code : IsCodeFile file) (few :
   word p past (inr above) low =
       rw (byte p past (inr above) (omega arith), byte (p + 1) (omega arith) (inr (omega arith)) (omega arith)) refl
 
-  size : length file ≤ length (with_segment file slot segment)
+  whole_size : length (with_segment file slot segment) ≡ 512 * blocks_for (length file) + length segment
   unfolding with_segment
-  size =
+  whole_size =
       let b = blocks_for (length file) in
       let l0 = length-filled file in
       let whole = long in
@@ -97,6 +105,12 @@ module _ (file segment : List ℕ) (slot : Slot) (code : IsCodeFile file) (few :
       let l2 : length two ≡ length (filled file) = length-written one 2 (little_bytes 2 slot.length) (omega arith) ∙ l1 in
       let l3 : length (written two 64 slot.name) ≡ length (filled file) = length-written two 64 slot.name (omega arith) ∙ l2 in
       omega (arith, length-append (written two 64 slot.name) segment)
+
+  size : length file ≤ length (with_segment file slot segment)
+  size =
+      let whole = whole_size in
+      let l0 = length-filled file in
+      omega arith
 
   part : (a n : ℕ) → 72 ≤ a → a + n ≤ length file
       → slice_range (with_segment file slot segment) a (a + n) ≡ slice_range file a (a + n)
@@ -204,9 +218,53 @@ module _ (file segment : List ℕ) (slot : Slot) (code : IsCodeFile file) (few :
       lost : slot.length ≡ 0 → 0 < slot.length → ⊥
       lost e l = omega arith
 
+  -- slot 0 has no fault
+  zero_sound : slot.length % 2 ≡ 0 → slot_fault (with_segment file slot segment) 0 ≡ None
+  unfolding slot_fault
+  zero_sound even =
+      let long' = whole_size in
+      let same = has.size in
+      let some = lt-ltb 0 slot.length has.some in
+      let fits = le-ltb (length (with_segment file slot segment)) (512 * blocks_for (length file) + slot.length) (omega arith) in
+      rw (zero_length, zero_block, even, some, fits) refl
+
+  -- nor has any other
+  same_sound : (n : ℕ) → 1 ≤ n → n < 16 → slot_fault (with_segment file slot segment) n ≡ None
+  unfolding slot_fault
+  same_sound n from low =
+      let whole = long in
+      let long' = size in
+      let filled' = length-filled file in
+      let none = code.sound n low in
+      let even : not (eqb (length_in file n % 2) 0) ≡ false = even_of _ _ _ _ none in
+      rw (word (4 * n) (omega arith) (inl (omega arith)) (omega arith), word (4 * n + 2) (omega arith) (inl (omega arith)) (omega arith), even)
+      (elim (cases_Bool (eqb (length_in file n) 0)) [
+        | inl none ↦ let e : length_in file n ≡ 0 = eqb-true (length_in file n) 0 none in rw e refl
+        | inr some ↦
+            let within' = within file n none some in
+            let fits = le-ltb (length (with_segment file slot segment)) (512 * block_in file n + length_in file n) (omega arith) in
+            rw (fits, and_false (ltb 0 (length_in file n))) refl
+      ])
+
+  sound : slot.length % 2 ≡ 0 → IsCodeFile (with_segment file slot segment)
+  sound even =
+      let whole = long in
+      let long' = size in
+      let filled' = length-filled file in
+      record {
+        dictionary = omega arith;
+        sound = λ n low. elim (cases_lt 0 n) [
+          | inl more ↦ same_sound n more low
+          | inr least ↦ let e : n ≡ 0 = omega arith in rw e (zero_sound even)
+        ];
+      }
+
 pub segments_stay : SegmentsStay
 segments_stay file segment slot code few has = record {
   zero = zero file segment slot code few has;
   slots = slots file segment slot code few has;
   segments = segments file segment slot code few has;
 }
+
+pub new_file_is_sound : NewFileIsSound
+new_file_is_sound file segment slot code few has even = sound file segment slot code few has even

@@ -1,5 +1,5 @@
 -- What the new code file holds.
-use Rattle.std.specs.Prelude.{◌≡◌, ◌≤◌, ◌<◌, ℕ, List, length, Some}
+use Rattle.std.specs.Prelude.{◌≡◌, ◌≤◌, ◌<◌, ◌%◌, ℕ, List, length, Some}
 use Rattle.pm_base.specs.Blocks.{blocks_for}
 use Rattle.pm_codefile.specs.Dictionary.{IsCodeFile, block_in, segment_in, slot_in}
 use Rattle.pm_codefile.specs.declared.file.Slot.{Slot}
@@ -23,3 +23,9 @@ abbrev pub SegmentsStay : Type 0
 SegmentsStay =
     (file segment : List ℕ) (slot : Slot) → IsCodeFile file → blocks_for (length file) < 65536 → IsSlot slot segment
     → HasBoth file segment (with_segment file slot segment)
+
+-- A code file that was given a segment of even length is a code file: it has no fault.
+abbrev pub NewFileIsSound : Type 0
+NewFileIsSound =
+    (file segment : List ℕ) (slot : Slot) → IsCodeFile file → blocks_for (length file) < 65536 → IsSlot slot segment
+    → slot.length % 2 ≡ 0 → IsCodeFile (with_segment file slot segment)

@@ -1,9 +1,13 @@
-//! A law of code files with the system's segment. The function does nothing.
-ghost use Rattle.pm_system.specs.Laws.{SegmentsStay};
+//! Laws of code files with the system's segment. The functions do nothing.
+ghost use Rattle.pm_system.specs.Laws.{NewFileIsSound, SegmentsStay};
 
 /// A code file that was given a segment has its bytes in slot 0; each other slot is what it was, and where its segment
 /// begins behind the dictionary it has the bytes that it had.
-
 pub fn segments_stay()
     ensures law { SegmentsStay }
+{}
+
+/// A code file that was given a segment of even length, as that of a code file has, is a code file: no slot has a fault.
+pub fn new_file_is_sound()
+    ensures law { NewFileIsSound }
 {}

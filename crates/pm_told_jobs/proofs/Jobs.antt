@@ -7,8 +7,12 @@ use Rattle.pm_files.specs.declared.fault.DiskFault.{DiskFault}
 use Rattle.pm_tool.specs.Said.{IsSoundExit, job_said}
 use Rattle.pm_tool.specs.declared.outcome.Job.TheVariants as jobs
 use Rattle.pm_tool.specs.declared.outcome.Outcome.{Outcome}
-use Rattle.pm_program.specs.Kept.{KeepsRun, KeepsRunSaid, KeepsSaid, KeepsTold, PrintsIf, Reads, ReadsEach, has_run}
+use Rattle.pm_program.specs.Kept.{KeepsEach, KeepsRun, KeepsRunSaid, KeepsSaid, KeepsTold, PrintsIf, Reads, ReadsEach}
+use Rattle.pm_program.specs.Kept.{first_image, has_run, kept_paths}
 use Rattle.pm_program.specs.declared.kept.KeptOfRun.{KeptOfRun}
+use Rattle.pm_selection.specs.declared.saving.Saving.{Saving}
+use Rattle.pm_selection.specs.declared.saving.Saving.TheVariants as savings
+use Rattle.pm_plan.specs.declared.run_words.Others.{Others}
 use Rattle.pm_plan.specs.declared.run_words.Program.{Program}
 use Rattle.pm_program.specs.declared.kept.Printing.TheVariants as printings
 use Rattle.pm_plan.specs.declared.file_words.Verb.{Verb}
@@ -73,6 +77,30 @@ file_said (Ok outcome) old new path image file verb known input has keeps is had
     (subst (λ known. IfSome known (λ input. KeepsSaid (Some old) (Some new) path verb input)) is (keeps sound)) had
 file_said (Err fault) old new path image file verb known input has keeps is had = tt
 
+-- no disk stands on another unit
+abbrev none_other : Others
+none_other = record { d5 = None; d9 = None; d10 = None; d11 = None; d12 = None }
+
+alone : (old : List ℕ → Option (List ℕ)) (between : Files) (path : List ℕ) (images : List (Option (List ℕ)))
+    → KeepsEach (Some old) between (Some path ∷ None ∷ None ∷ None ∷ None ∷ None ∷ []) images
+    → Keeps (Some old) between path (first_image images)
+alone old between path images keeps =
+    let d5 = keeps.2 in
+    let d9 = d5.2 in
+    let d10 = d9.2 in
+    let d11 = d10.2 in
+    let d12 = d11.2 in
+    subst (λ files. Keeps (Some old) files path (first_image images))
+    (sym (d12.2 ∙ d12.1 ∙ d11.1 ∙ d10.1 ∙ d9.1 ∙ d5.1)) keeps.1
+
+-- of one disk its image alone is kept
+one_kept : (old : List ℕ → Option (List ℕ)) (between : Files) (saving : Saving) (path : List ℕ)
+    (images : List (Option (List ℕ))) → KeepsEach (Some old) between (kept_paths saving path none_other) images
+    → Keeps (Some old) between path (first_image images)
+one_kept old between savings.Nothing path images keeps = alone old between path images keeps
+one_kept old between savings.First path images keeps = alone old between path images keeps
+one_kept old between savings.All path images keeps = alone old between path images keeps
+
 run_left : (old new : List ℕ → Option (List ℕ)) (between : Files) (path image file : List ℕ) (kept : Option (List ℕ))
     (runs : Bool) (printed : List ℕ) → new path ≡ Some file → Keeps (Some old) between path kept
     → PrintsIf runs between (Some new) printings.Nowhere printed → old path ≡ Some image → file ≡ left_in image kept
@@ -82,14 +110,15 @@ run_left old new between path image file kept false printed has keeps prints had
     left old new path image file kept has (subst (λ files. Keeps (Some old) files path kept) (sym prints) keeps) had
 
 -- the file of the disk has the image of the outcome, or what it had
-pub disk_kept : (done : Result Outcome DiskFault) (old new : List ℕ → Option (List ℕ)) (from path image file : List ℕ)
-    → new path ≡ Some file → IfOk done (λ outcome. KeepsRun (Some old) (Some new) from printings.Nowhere outcome)
+pub disk_kept : (saving : Saving) (done : Result Outcome DiskFault) (old new : List ℕ → Option (List ℕ))
+    (from path image file : List ℕ) → new path ≡ Some file
+    → IfOk done (λ outcome. KeepsRun (Some old) (Some new) (kept_paths saving from none_other) printings.Nowhere outcome)
     → from ≡ path → old path ≡ Some image
     → IfOk done (λ outcome. file ≡ left_in image (option_map vec_items outcome.image))
-disk_kept (Ok outcome) old new from path image file has keeps is had =
-    run_left old new keeps.0 from image file _ _ _ (subst (λ path. new path ≡ Some file) (sym is) has) keeps.1 keeps.2
-    (subst (λ path. old path ≡ Some image) (sym is) had)
-disk_kept (Err fault) old new from path image file has keeps is had = tt
+disk_kept saving (Ok outcome) old new from path image file has keeps is had =
+    run_left old new keeps.0 from image file _ _ _ (subst (λ path. new path ≡ Some file) (sym is) has)
+    (one_kept old keeps.0 saving from _ keeps.1) keeps.2 (subst (λ path. old path ≡ Some image) (sym is) had)
+disk_kept saving (Err fault) old new from path image file has keeps is had = tt
 
 -- no image is read where there is no path
 reads_none : (files : Files) (paths images : List (Option (List ℕ))) → ReadsEach files (None ∷ paths) images
@@ -127,33 +156,33 @@ reads_one old path image images reads had =
 
 -- the file of the disk has the image that is said of it and of the input, or what it had
 pub disk_said : (done : Result Outcome DiskFault) (old new : List ℕ → Option (List ℕ)) (from : String Global)
-    (path image file : List ℕ) (name : String Global) (limit : ℕ) (save : Bool) (known : Option (List ℕ)) (input : List ℕ)
+    (path image file : List ℕ) (name : String Global) (limit : ℕ) (saving : Saving) (known : Option (List ℕ)) (input : List ℕ)
     → new path ≡ Some file
     → IfOk done (λ outcome. IsSoundExit outcome.exit → IfSome known (λ input. KeepsRunSaid (Some old) (Some new)
-    (record { disk = from; others = record { d5 = None; d9 = None; d10 = None; d11 = None; d12 = None }; name = name; limit = limit; system = None })
-    (record { save = save; printing = printings.Nowhere }) input))
+    (record { disk = from; others = none_other; name = name; limit = limit; system = None })
+    (record { saving = saving; printing = printings.Nowhere }) input))
     → known ≡ Some input → string_bytes from ≡ path → old path ≡ Some image
-    → IfOk done (λ outcome. IsSoundExit outcome.exit → LeavesRun image name limit save input file)
-disk_said (Ok outcome) old new from path image file name limit save known input has keeps is at had = λ sound.
+    → IfOk done (λ outcome. IsSoundExit outcome.exit → LeavesRun image name limit saving input file)
+disk_said (Ok outcome) old new from path image file name limit saving known input has keeps is at had = λ sound.
     let told = subst (λ known. IfSome known (λ input. KeepsRunSaid (Some old) (Some new)
-    (record { disk = from; others = record { d5 = None; d9 = None; d10 = None; d11 = None; d12 = None }; name = name; limit = limit; system = None })
-    (record { save = save; printing = printings.Nowhere }) input)) is (keeps sound) in
+    (record { disk = from; others = none_other; name = name; limit = limit; system = None })
+    (record { saving = saving; printing = printings.Nowhere }) input)) is (keeps sound) in
     let held = subst (λ path. old path ≡ Some image) (sym at) had in
     leaves told.0 told.1 told.2 told.3 told.4 held
   where
     leaves : (disks : List (Option (Vec ℕ Global))) (system : Option (Vec ℕ Global))
         → ReadsEach (Some old) (Some (string_bytes from) ∷ None ∷ None ∷ None ∷ None ∷ None ∷ []) (images_of disks)
         → Reads (Some old) None (option_map vec_items system)
-        → KeepsTold (Some old) (Some new) (string_bytes from) printings.Nowhere
-        (job_said (jobs.Run disks name limit save system) input)
-        → old (string_bytes from) ≡ Some image → LeavesRun image name limit save input file
+        → KeepsTold (Some old) (Some new) (kept_paths saving (string_bytes from) none_other) printings.Nowhere
+        (job_said (jobs.Run disks name limit saving system) input)
+        → old (string_bytes from) ≡ Some image → LeavesRun image name limit saving input file
     leaves disks (Some code) reads given told held = absurd given
     leaves disks None reads given told held = (
       disks,
       reads_one old (string_bytes from) image (images_of disks) reads held,
-      run_left old new told.0 (string_bytes from) image file (job_said (jobs.Run disks name limit save None) input).image
-          (has_run (job_said (jobs.Run disks name limit save None) input).exit)
-          (job_said (jobs.Run disks name limit save None) input).printer (subst (λ path. new path ≡ Some file) (sym at) has)
-          told.1 told.2 held,
+      run_left old new told.0 (string_bytes from) image file (job_said (jobs.Run disks name limit saving None) input).image
+          (has_run (job_said (jobs.Run disks name limit saving None) input).exit)
+          (job_said (jobs.Run disks name limit saving None) input).printer (subst (λ path. new path ≡ Some file) (sym at) has)
+          (one_kept old told.0 saving (string_bytes from) _ told.1) told.2 held,
     )
-disk_said (Err fault) old new from path image file name limit save known input has keeps is at had = tt
+disk_said (Err fault) old new from path image file name limit saving known input has keeps is at had = tt

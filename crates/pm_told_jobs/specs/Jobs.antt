@@ -1,5 +1,5 @@
 -- What files hold after a job of the program, by their bytes alone.
-use Rattle.std.specs.Prelude.{◌≡◌, ℕ, Bool, List, [], ◌∷◌, Option, None, Some, String, Vec, string_bytes}
+use Rattle.std.specs.Prelude.{◌≡◌, ℕ, List, [], ◌∷◌, Option, None, Some, String, Vec, string_bytes}
 use Rattle.std.specs.declared.alloc.Global.{Global}
 use Rattle.pm_volume.specs.Headers.{blank_fault}
 use Rattle.pm_filer.specs.Filed.{order_of}
@@ -8,6 +8,7 @@ use Rattle.pm_tool.specs.Disks.{images_of}
 use Rattle.pm_tool.specs.Outcomes.{Said}
 use Rattle.pm_tool.specs.Said.{job_said}
 use Rattle.pm_tool.specs.declared.outcome.Job.TheVariants as jobs
+use Rattle.pm_selection.specs.declared.saving.Saving.{Saving}
 use Rattle.pm_plan.specs.declared.file_words.Verb.{Verb}
 use Rattle.pm_plan.specs.declared.file_words.Verb.TheVariants as verbs
 
@@ -27,7 +28,7 @@ left_in old (Some new) = new
 
 -- The bytes that the file of a disk has after a run: those that are said of the disk alone on unit 4 and of the input,
 -- or those that it had.
-abbrev pub LeavesRun : List ℕ → String Global → ℕ → Bool → List ℕ → List ℕ → Type 0
-LeavesRun image name limit save input file = (disks : List (Option (Vec ℕ Global)))
+abbrev pub LeavesRun : List ℕ → String Global → ℕ → Saving → List ℕ → List ℕ → Type 0
+LeavesRun image name limit saving input file = (disks : List (Option (Vec ℕ Global)))
     × (images_of disks ≡ Some image ∷ None ∷ None ∷ None ∷ None ∷ None ∷ [])
-    × (file ≡ left_in image (job_said (jobs.Run disks name limit save None) input).image)
+    × (file ≡ left_in image (job_said (jobs.Run disks name limit saving None) input).image)

@@ -8,6 +8,7 @@ ghost use Rattle.pm_told_jobs.specs.Jobs.{LeavesRun, left_in, said_verb};
 use pm_files::{DiskFault, Store};
 use pm_plan::{Others, Program, Verb};
 use pm_program::{KeptOfRun, Printing, do_files, do_run};
+use pm_selection::Saving;
 use pm_streams::{Reader, Writer};
 use pm_told::OneFile;
 use pm_tool::Outcome;
@@ -58,12 +59,12 @@ pub fn on_disk(
     typed: &[u8],
     name: String,
     limit: u64,
-    save: bool,
+    saving: Saving,
 ) -> Result<OnFile, DiskFault>
     ensures kept { IfOk result (λ came. IfOk came.done (λ outcome.
         came.file.items ≡ left_in image.items (option_map vec_items outcome.image))) }
     ensures said { IfOk result (λ came. IfOk came.done (λ outcome. IsSoundExit outcome.exit →
-        LeavesRun image.items name limit save typed.now came.file.items)) }
+        LeavesRun image.items name limit saving typed.now came.file.items)) }
 {
     let mut store = OneFile {
         path: String::from_str(alloc, FILE)?,
@@ -84,7 +85,7 @@ pub fn on_disk(
         system: None,
     };
     let printing = Printing::Nowhere;
-    let kept = KeptOfRun { save, printing };
+    let kept = KeptOfRun { saving, printing };
     let mut written = Vec::new(alloc);
     let mut source = Reader::new(typed);
     let mut sink = Writer::new(&mut written);

@@ -11,3 +11,4 @@ pub mod RunLaws
 pub mod Talked
 pub mod MachineRuns
 pub mod Characters
+pub mod Ejected

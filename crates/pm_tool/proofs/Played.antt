@@ -23,15 +23,15 @@ use Rattle.pm_streams.proofs.Transfers.{cause_longer, front_trans}
 
 said_written : (show : Show) (run : Run) → (said_run show run).written ≡ run.shown ++ end_text show run.ending run.machine.steps
 said_written (Trace selection) run = refl
-said_written (Console save) run = sym (append-nil run.shown)
+said_written (Console saving) run = sym (append-nil run.shown)
 
 said_unread : (show : Show) (run : Run) → (said_run show run).unread ≡ run.unread
 said_unread (Trace selection) run = refl
-said_unread (Console save) run = refl
+said_unread (Console saving) run = refl
 
 said_exit : (show : Show) (run : Run) → (said_run show run).exit ≡ exit_of run.ending
 said_exit (Trace selection) run = refl
-said_exit (Console save) run = refl
+said_exit (Console saving) run = refl
 
 sound_ending : (ending : Ending) → IsSoundExit (exit_of ending)
 sound_ending endings.Ended = refl

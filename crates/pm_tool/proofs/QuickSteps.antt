@@ -6,6 +6,7 @@ use Rattle.pm_machine.specs.Steps.{stepped}
 use Rattle.pm_machine.specs.Runs.{AllWent, after_steps}
 use Rattle.pm_machine.specs.Quick.{QuickSteps}
 use Rattle.pm_machine.specs.declared.state.Stop.TheVariants.{Went}
+use Rattle.pm_selection.specs.declared.saving.Saving.{Saving}
 use Rattle.pm_selection.specs.declared.selection.Selection.{Selection}
 use Rattle.pm_streams.specs.Streams.{Streams}
 use Rattle.pm_tool.specs.declared.steps.Show.{Show}
@@ -17,8 +18,8 @@ use Rattle.pm_tool.proofs.Driven.{IsUnderWay, under_way_went}
 drop_whole : (xs : List ℕ) → drop (length xs) xs ≡ []
 drop_whole xs = drop_all (length xs) xs (omega arith)
 
-pub quick_steps_unshown : (save : Bool) (limit : ℕ) (s : State) (count : ℕ) (t : State) → QuickSteps limit s count t → Unshown (Console save) limit s count t
-quick_steps_unshown save limit s count t g = record {
+pub quick_steps_unshown : (saving : Saving) (limit : ℕ) (s : State) (count : ℕ) (t : State) → QuickSteps limit s count t → Unshown (Console saving) limit s count t
+quick_steps_unshown saving limit s count t g = record {
   within = g.within;
   went = g.went;
   left = g.left;

@@ -15,7 +15,7 @@ use Rattle.pm_tool.specs.declared.outcome.Outcome.{Outcome}
 use Rattle.pm_tool.specs.declared.outcome.Refusal.{Refusal}
 use Rattle.pm_streams.specs.declared.source.TheConstants.{INPUT_LIMIT}
 use Rattle.pm_session.specs.Answers.{session_after}
-use Rattle.pm_tool.specs.Outcomes.{IsOutcome}
+use Rattle.pm_tool.specs.Outcomes.{IsOutcome, no_others}
 use Rattle.pm_tool.specs.Said.{BreaksOff, Finishes, IsSoundExit, WritesFirst, debugged, said_debug}
 use Rattle.pm_session.specs.Sessions.{Told, answer_line, is_quit, opened, told, whole_lines}
 use Rattle.pm_streams.specs.Streams.{Incoming, Outgoing, Streams, both, IsFront, AppendsFront, IsCause, ReadsByte, TakesNone}
@@ -245,6 +245,7 @@ pub done_told : (old new : Streams) (began : Session) (machine : State) (outcome
       exit = exits.Ended;
       message = [];
       image = None;
+      others = no_others;
       printer = [];
       unread = unread;
     }))

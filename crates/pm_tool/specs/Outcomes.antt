@@ -30,6 +30,7 @@ use Rattle.pm_tool.specs.declared.outcome.Refusal.{Refusal}
 use Rattle.pm_tool.specs.declared.outcome.Refusal.TheVariants as refusals
 use Rattle.pm_session.specs.declared.ending.Ending.{Ending}
 use Rattle.pm_session.specs.declared.ending.Ending.TheVariants as endings
+use Rattle.pm_tool.specs.declared.outcome.OtherImages.{OtherImages}
 use Rattle.pm_tool.specs.declared.outcome.Outcome.{Outcome}
 
 -- the exit status
@@ -221,13 +222,23 @@ Names exit (Some refusal) message =
 abbrev pub SaysWhy : Outcome → Type 0
 SaysWhy outcome = Names outcome.exit outcome.refusal (string_bytes outcome.message)
 
--- what a job says to its input: what it writes, how it ends, its message, image and printer bytes, and what of the
--- input is left unread
+-- the images on the units 5, 9, 10, 11 and 12
+abbrev pub others_of : OtherImages → List (Option (List ℕ))
+others_of others = option_map vec_items others.d5 ∷ option_map vec_items others.d9 ∷ option_map vec_items others.d10
+    ∷ option_map vec_items others.d11 ∷ option_map vec_items others.d12 ∷ []
+
+-- none of them
+abbrev pub no_others : List (Option (List ℕ))
+no_others = None ∷ None ∷ None ∷ None ∷ None ∷ []
+
+-- what a job says to its input: what it writes, how it ends, its message, the image that is kept and those of the units
+-- 5, 9, 10, 11 and 12, its printer bytes, and what of the input is left unread
 pub record Said : Type 0 where
   pub written : List ℕ
   pub exit : Exit
   pub message : List ℕ
   pub image : Option (List ℕ)
+  pub others : List (Option (List ℕ))
   pub printer : List ℕ
   pub unread : List ℕ
 
@@ -239,6 +250,7 @@ refused refusal unread =
       exit = exits.Refused;
       message = refusal_text refusal;
       image = None;
+      others = no_others;
       printer = [];
       unread = unread;
     }
@@ -260,6 +272,7 @@ judged text refusal unread =
       exit = judged_exit refusal;
       message = judged_message refusal;
       image = None;
+      others = no_others;
       printer = [];
       unread = unread;
     }
@@ -269,4 +282,5 @@ pub record IsOutcome (outcome : Outcome) (told : Said) : Type 0 where
   pub exit : outcome.exit ≡ told.exit
   pub message : string_bytes outcome.message ≡ told.message
   pub image : option_map vec_items outcome.image ≡ told.image
+  pub others : others_of outcome.others ≡ told.others
   pub printer : outcome.printer.items ≡ told.printer

@@ -36,7 +36,7 @@ ended_run shown ending machine unread = record { shown = shown; ending = ending;
 -- that it adds to the console
 abbrev pub shown_of : Show → State → State → List ℕ
 shown_of (Trace selection) before after = shown_line selection before
-shown_of (Console save) before after = drop (length before.devices.console) after.devices.console
+shown_of (Console saving) before after = drop (length before.devices.console) after.devices.console
 
 abbrev pub is_waiting : Stop → Bool
 is_waiting Waiting = true
@@ -46,7 +46,7 @@ is_waiting (Halted error) = false
 
 abbrev pub is_console : Show → Bool
 is_console (Trace selection) = false
-is_console (Console save) = true
+is_console (Console saving) = true
 
 -- some steps, at most so many, each of which went and shows nothing
 pub record Unshown (show : Show) (limit : ℕ) (s : State) (count : ℕ) (t : State) : Type 0 where
@@ -83,7 +83,7 @@ run_of show (suc n) keys m = turn show (run_of show n) keys m
 -- what is written after the steps: the last line ends a trace
 abbrev pub end_text : Show → Ending → ℕ → List ℕ
 end_text (Trace selection) ending steps = last_line ending steps ++ (10 ∷ [])
-end_text (Console save) ending steps = []
+end_text (Console saving) ending steps = []
 
 -- ---- a run that is written as it goes
 

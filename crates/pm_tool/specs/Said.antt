@@ -1,9 +1,11 @@
 -- What a job says to its input, and how a job keeps to it.
 use Rattle.std.specs.Prelude.{◌≡◌, ◌⊎◌, ◌↔◌, true, false, ◌≤◌, ℕ, ◌+◌, ◌<◌, List, [], ◌∷◌, ◌++◌, Some}
-use Rattle.std.specs.Prelude.{None, Result, Ok, Err, length, Bool, if◌then◌else◌, IfSome}
+use Rattle.std.specs.Prelude.{None, Option, Result, Ok, Err, length, Bool, if◌then◌else◌, IfSome}
 use Rattle.std.specs.Io.KnownBytes.{Consumes, Appends, Keeps}
 use Rattle.pm_machine.specs.State.{State}
-use Rattle.pm_stdproc.specs.Devices.{ejected_image}
+use Rattle.pm_selection.specs.declared.saving.Saving.{Saving}
+use Rattle.pm_selection.specs.declared.saving.Saving.TheVariants as savings
+use Rattle.pm_stdproc.specs.Devices.{Devices, ejected_image}
 use Rattle.pm_streams.specs.declared.fault.Fault.{Fault}
 use Rattle.pm_tool.specs.declared.outcome.Exit.{Exit}
 use Rattle.pm_tool.specs.declared.outcome.Exit.TheVariants as exits
@@ -19,7 +21,7 @@ use Rattle.pm_tool.specs.Batches.{said_batch}
 use Rattle.pm_tool.specs.Disks.{loaded, machine_at}
 use Rattle.pm_tool.specs.Work.{work_of}
 use Rattle.pm_tool.specs.Hex.{hex_spelled}
-use Rattle.pm_tool.specs.Outcomes.{Said, exit_of, is_sound_exit, refused, IsOutcome}
+use Rattle.pm_tool.specs.Outcomes.{Said, exit_of, is_sound_exit, no_others, refused, IsOutcome}
 use Rattle.pm_tool.specs.declared.steps.Show.{Show}
 use Rattle.pm_tool.specs.declared.steps.Show.TheVariants.{Trace, Console}
 use Rattle.pm_tool.specs.Run.{Run, end_text, run_of}
@@ -37,18 +39,33 @@ traced run = record {
   exit = exit_of run.ending;
   message = [];
   image = None;
+  others = no_others;
   printer = [];
   unread = run.unread;
 }
 
--- a run that is told by its console bytes: its last line is the message, and the image on unit 4 is kept where it is to
--- be saved
-abbrev pub run_said : Bool → Run → Said
-run_said save run = record {
+-- the image on unit 4, where it is to be kept
+abbrev pub first_kept : Saving → Devices → Option (List ℕ)
+first_kept savings.Nothing devices = None
+first_kept savings.First devices = ejected_image 4 devices
+first_kept savings.All devices = ejected_image 4 devices
+
+-- the images on the other disk units, where they are to be kept
+abbrev pub others_kept : Saving → Devices → List (Option (List ℕ))
+others_kept savings.Nothing devices = no_others
+others_kept savings.First devices = no_others
+others_kept savings.All devices = ejected_image 5 devices ∷ ejected_image 9 devices ∷ ejected_image 10 devices
+    ∷ ejected_image 11 devices ∷ ejected_image 12 devices ∷ []
+
+-- a run that is told by its console bytes: its last line is the message, and the images that it leaves are kept as is
+-- to be
+abbrev pub run_said : Saving → Run → Said
+run_said saving run = record {
   written = run.shown;
   exit = exit_of run.ending;
   message = last_line run.ending run.machine.steps;
-  image = if save then ejected_image 4 run.machine.devices else None;
+  image = first_kept saving run.machine.devices;
+  others = others_kept saving run.machine.devices;
   printer = run.machine.devices.printer;
   unread = run.unread;
 }
@@ -56,7 +73,7 @@ run_said save run = record {
 -- a run, told in one of the two ways
 abbrev pub said_run : Show → Run → Said
 said_run (Trace selection) run = traced run
-said_run (Console save) run = run_said save run
+said_run (Console saving) run = run_said saving run
 
 -- the run of a machine whose console bytes are the input, or the refusal
 abbrev pub said_started : Show → ℕ → Result State Refusal → List ℕ → Said
@@ -70,6 +87,7 @@ debugged machine input = record {
   exit = exits.Ended;
   message = [];
   image = None;
+  others = no_others;
   printer = [];
   unread = behind_quit (lines_of_input input) input;
 }

@@ -12,8 +12,8 @@ use Rattle.pm_tool.specs.Files.{opened_image}
 -- what a job has to do: to talk with a machine, or to turn bytes into bytes
 abbrev pub work_of : Job → Work
 work_of (jobs.Raw limit selection) = works.Raw limit selection
-work_of (jobs.Run disks name limit save system) =
-    works.Talk (starts.Booted disks name system) (talks.Run (Console save) limit)
+work_of (jobs.Run disks name limit saving system) =
+    works.Talk (starts.Booted disks name system) (talks.Run (Console saving) limit)
 work_of (jobs.Trace disks name limit system selection) =
     works.Talk (starts.Booted disks name system) (talks.Run (Trace selection) limit)
 work_of (jobs.Debug disks name system) = works.Talk (starts.Booted disks name system) talks.Session

@@ -17,8 +17,8 @@ mod talk;
 mod work;
 
 pub use engine::run;
-pub use outcome::{Exit, Job, Outcome, Refusal};
-pub use pm_selection::{Code, Selection};
+pub use outcome::{Exit, Job, OtherImages, Outcome, Refusal};
+pub use pm_selection::{Code, Saving, Selection};
 pub use pm_session::Ending;
 pub use pm_streams::{Reader, Sink, Source, Writer};
 pub use reason::{Reason, RunReason};

@@ -2,13 +2,13 @@
 ghost use Rattle.std.specs.Prelude.{◌≡◌, false, [], List, ℕ, Some, None, IfOk, option_map, string_bytes, vec_items};
 ghost use Rattle.pm_tool.specs.Outcomes.{asm_text, boot_text, code_text, exit_number, exit_of, fault_exit, is_refusal};
 ghost use Rattle.pm_tool.specs.Outcomes.{is_want, outcome_text, refusal_text, system_text, text_fault_text};
-ghost use Rattle.pm_tool.specs.Outcomes.{IsOutcome, SaysWhy, judged, refused, volume_text};
+ghost use Rattle.pm_tool.specs.Outcomes.{IsOutcome, SaysWhy, judged, no_others, others_of, refused, volume_text};
 
 use pm_asm::AsmFault;
 use pm_codefile::CodeFault;
 use pm_filer::{FileCommand, FilerFault};
 use pm_machine::BootFault;
-use pm_selection::Selection;
+use pm_selection::{Saving, Selection};
 use pm_session::Ending;
 use pm_streams::Fault;
 use pm_system::SystemFault;
@@ -32,16 +32,15 @@ pub enum Job {
     /// 12, and are opened in that order: an image that is no volume is refused by `refused volume N`, and a program
     /// that does not start by `refused boot N`, both before any input is read. The input is the console's: each time
     /// that the program waits for console bytes, one is read. The output is what the program writes to the console. The
-    /// message is the last line of a trace; the outcome has the printer's bytes and, with `save`, the image on unit 4
-    /// as the program left it. With `system`, the
-    /// program is that of the image on which the code file `name` has the segment of slot 0 of this code file, as
-    /// `pm_system::put_system` puts it in; where it is not put in, the job is refused by `refused system N`, behind the
-    /// images and before the start.
+    /// message is the last line of a trace; the outcome has the printer's bytes and, as `saving` says, the image on unit
+    /// 4 or those on all disk units, as the program left them. With `system`, the program is that of the image on which
+    /// the code file `name` has the segment of slot 0 of this code file, as `pm_system::put_system` puts it in; where it
+    /// is not put in, the job is refused by `refused system N`, behind the images and before the start.
     Run {
         disks: [Option<Vec<u8>>; 6],
         name: String,
         limit: u64,
-        save: bool,
+        saving: Saving,
         system: Option<Vec<u8>>,
     },
     /// The same program runs, and the output is its trace alone: a line for each step that does not wait, of the state
@@ -169,6 +168,31 @@ impl Exit {
     }
 }
 
+/// The images on the units 5, 9, 10, 11 and 12 that are to be kept.
+#[derive(Drop)]
+pub struct OtherImages {
+    pub d5: Option<Vec<u8>>,
+    pub d9: Option<Vec<u8>>,
+    pub d10: Option<Vec<u8>>,
+    pub d11: Option<Vec<u8>>,
+    pub d12: Option<Vec<u8>>,
+}
+
+impl OtherImages {
+    /// None of them.
+    pub(crate) fn none() -> OtherImages
+        ensures none { others_of result ≡ no_others }
+    {
+        OtherImages {
+            d5: None,
+            d9: None,
+            d10: None,
+            d11: None,
+            d12: None,
+        }
+    }
+}
+
 /// What a job comes to, beside what it wrote.
 #[derive(Drop)]
 pub struct Outcome {
@@ -176,8 +200,10 @@ pub struct Outcome {
     /// What is said of it, with no line feed at the end. It may be empty, and is so after a fault: `text` has what is
     /// said then.
     pub message: String,
-    /// The image of a volume to be kept, if there is one.
+    /// The image of a volume to be kept, if there is one: of a run that on unit 4.
     pub image: Option<Vec<u8>>,
+    /// The images on the other disk units that are to be kept of a run.
+    pub others: OtherImages,
     /// The bytes that were printed.
     pub printer: Vec<u8>,
     /// Why the input was refused, if it was.
@@ -191,11 +217,12 @@ pub struct Outcome {
 }
 
 impl Outcome {
-    /// An outcome with no image and no printer bytes.
+    /// An outcome with no images and no printer bytes.
     pub(crate) fn plain(alloc: Global, exit: Exit, message: String) -> Outcome
         ensures exit { result.exit ≡ exit }
         ensures message { result.message ≡ message }
         ensures image { result.image ≡ None }
+        ensures others { others_of result.others ≡ no_others }
         ensures printer { result.printer.items ≡ [] }
         ensures refusal { result.refusal ≡ None }
     {
@@ -203,6 +230,7 @@ impl Outcome {
             exit,
             message,
             image: None,
+            others: OtherImages::none(),
             printer: Vec::new(alloc),
             refusal: None,
             ending: None,
@@ -216,6 +244,7 @@ impl Outcome {
         ensures exit { result.exit ≡ Exit.Ended }
         ensures message { string_bytes result.message ≡ [] }
         ensures image { option_map vec_items result.image ≡ Some image.items }
+        ensures others { others_of result.others ≡ no_others }
         ensures printer { result.printer.items ≡ [] }
         ensures refusal { result.refusal ≡ None }
     {
@@ -223,6 +252,7 @@ impl Outcome {
             exit: Exit::Ended,
             message: String::new(alloc),
             image: Some(image),
+            others: OtherImages::none(),
             printer: Vec::new(alloc),
             refusal: None,
             ending: None,
@@ -450,6 +480,7 @@ pub(crate) fn refuse_line(
         exit: Exit::Refused,
         message,
         image: None,
+        others: OtherImages::none(),
         printer: Vec::new(alloc),
         refusal: Some(refusal),
         ending: None,

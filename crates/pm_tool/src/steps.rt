@@ -6,7 +6,7 @@ ghost use Rattle.pm_tool.specs.Run.{ComesToEnd, StopsShort, Unshown, is_console,
 ghost use Rattle.pm_streams.specs.Streams.{AppendsBut, AppendsFront, IsCause, IsCounted, AreWell, both};
 
 use pm_machine::{Machine, Stop};
-use pm_selection::Selection;
+use pm_selection::{Saving, Selection};
 use pm_session::Ending;
 use pm_streams::{Fault, Sink, Source, next_byte, write_all};
 use pm_trace::Lines;
@@ -17,8 +17,8 @@ use std::alloc::{AllocError, Global};
 pub(crate) enum Show {
     /// A line for each step that is selected, and a last line that says why the run ended.
     Trace(Selection),
-    /// The bytes that the program writes to the console. With `save` the image of unit 4 is kept.
-    Console { save: bool },
+    /// The bytes that the program writes to the console. `saving` says which images are kept.
+    Console { saving: Saving },
 }
 
 /// Makes one step, the quick way where that can.
@@ -57,7 +57,7 @@ fn traced_step(
 fn console_step(machine: &mut Machine, page: &mut Vec<u8>) -> Result<Stop, AllocError>
     ensures next { IfOk result (λ stop. stepped machine.old.state ≡ (machine.new.state, stop)) }
     ensures page { IfOk result (λ stop. page.new.items
-        ≡ page.old.items ++ shown_by (Show.Console false) machine.old.state machine.new.state stop) }
+        ≡ page.old.items ++ shown_by (Show.Console Saving.Nothing) machine.old.state machine.new.state stop) }
 {
     let before = machine.console().len();
     let stop = machine.step()?;

@@ -1,18 +1,23 @@
 //! Jobs that talk with a machine: its run is shown and gets the input, or a debugger answers lines.
 ghost use Rattle.std.specs.Prelude.{◌≡◌, false, true, [], ◌++◌, List, ℕ, IfOk, IfErr, OnOk, OnErr};
+ghost use Rattle.std.specs.Prelude.{option_map, vec_items};
+ghost use Rattle.pm_machine.specs.Events.{Eject, next};
+ghost use Rattle.pm_stdproc.specs.Devices.{ejected_image};
 ghost use Rattle.std.specs.Io.KnownBytes.{Appends};
 ghost use Rattle.pm_tool.specs.Disks.{machine_at};
-ghost use Rattle.pm_tool.specs.Outcomes.{IsOutcome, SaysWhy};
+ghost use Rattle.pm_tool.specs.Outcomes.{IsOutcome, SaysWhy, others_of};
 ghost use Rattle.pm_tool.specs.Run.{end_text, ended_run};
-ghost use Rattle.pm_tool.specs.Said.{BreaksOff, Finishes, WritesInTime, run_said, said_run, said_talk, shown_talk};
+ghost use Rattle.pm_tool.specs.Said.{BreaksOff, Finishes, WritesInTime, first_kept, others_kept};
+ghost use Rattle.pm_tool.specs.Said.{run_said, said_run, said_talk, shown_talk};
 ghost use Rattle.pm_streams.specs.Streams.{AppendsFront, AreWell, IsCause, IsCounted, both};
 
 use crate::debug::converse;
-use crate::outcome::{Exit, Outcome, refuse};
+use crate::outcome::{Exit, OtherImages, Outcome, refuse};
 use crate::programs::{Start, start_on};
 use crate::steps::{Show, drive};
 use pm_debug::Debugger;
 use pm_machine::Machine;
+use pm_selection::Saving;
 use pm_session::{Ending, LastLine};
 use pm_streams::{Fault, Sink, Source, write_all};
 use pm_volume::Disk;
@@ -46,29 +51,63 @@ fn called_without(machine: &Machine, ending: Ending) -> Option<u8> {
     }
 }
 
-/// What a run comes to that is told by its console bytes: its last line, what was printed, and the image on unit 4,
-/// where it is to be saved.
+/// Takes away the image of the disk on a unit, where there is one.
+fn taken(machine: &mut Machine, unit: u8) -> Option<Vec<u8>>
+    ensures image { option_map vec_items result ≡ ejected_image unit machine.old.state.devices }
+    ensures event { machine.new.state ≡ next machine.old.state (Eject unit) }
+{
+    machine.eject(unit).map(Disk::into_bytes)
+}
+
+/// Takes away the images of the disks on all units.
+#[tactic(auto, using(crate::proofs::Ejected::left))]
+fn all_taken(machine: &mut Machine) -> (Option<Vec<u8>>, OtherImages)
+    ensures first { option_map vec_items result.0 ≡ first_kept Saving.All machine.old.state.devices }
+    ensures others { others_of result.1 ≡ others_kept Saving.All machine.old.state.devices }
+{
+    let first = taken(machine, 4);
+    let others = OtherImages {
+        d5: taken(machine, 5),
+        d9: taken(machine, 9),
+        d10: taken(machine, 10),
+        d11: taken(machine, 11),
+        d12: taken(machine, 12),
+    };
+    (first, others)
+}
+
+/// Takes away the images that are to be kept.
+fn images_taken(machine: &mut Machine, saving: Saving) -> (Option<Vec<u8>>, OtherImages)
+    ensures first { option_map vec_items result.0 ≡ first_kept saving machine.old.state.devices }
+    ensures others { others_of result.1 ≡ others_kept saving machine.old.state.devices }
+{
+    match saving {
+        Saving::Nothing => (None, OtherImages::none()),
+        Saving::First => (taken(machine, 4), OtherImages::none()),
+        Saving::All => all_taken(machine),
+    }
+}
+
+/// What a run comes to that is told by its console bytes: its last line, what was printed, and the images that are to
+/// be kept.
 fn left_by_run(
     alloc: Global,
     machine: &mut Machine,
-    save: bool,
+    saving: Saving,
     last: LastLine,
 ) -> Result<Outcome, AllocError>
     ensures outcome { last.steps ≡ machine.old.state.steps → IfOk result (λ outcome. (shown unread : List ℕ)
-        → IsOutcome outcome (run_said save (ended_run shown last.ending machine.old.state unread))) }
+        → IsOutcome outcome (run_said saving (ended_run shown last.ending machine.old.state unread))) }
     ensures told { IfOk result SaysWhy }
 {
     let message = format!(in alloc; "{last}")?;
     let printer = Vec::from_slice(alloc, machine.printer())?;
-    let image = if save {
-        machine.eject(4).map(Disk::into_bytes)
-    } else {
-        None
-    };
+    let (image, others) = images_taken(machine, saving);
     Ok(Outcome {
         exit: Exit::of_ending(last.ending),
         message,
         image,
+        others,
         printer,
         refusal: None,
         ending: Some(last.ending),
@@ -108,9 +147,9 @@ fn tell<W: Sink>(
             write_all(sink, &page)?;
             Ok(Outcome::plain(alloc, Exit::of_ending(ending), String::new(alloc)))
         }
-        Show::Console { save } => {
+        Show::Console { saving } => {
             write_all(sink, &page)?;
-            Ok(left_by_run(alloc, machine, save, last)?)
+            Ok(left_by_run(alloc, machine, saving, last)?)
         }
     }
 }

@@ -53,9 +53,9 @@ pub(crate) fn work_of(job: Job) -> Work
             disks,
             name,
             limit,
-            save,
+            saving,
             system,
-        } => talk(disks, name, system, run_of(Show::Console { save }, limit)),
+        } => talk(disks, name, system, run_of(Show::Console { saving }, limit)),
         Job::Trace {
             disks,
             name,

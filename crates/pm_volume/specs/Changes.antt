@@ -1,6 +1,6 @@
 -- What a change makes of a volume.
-use Rattle.std.specs.Prelude.{◌≡◌, ◌==◌, ◌<◌, Bool, not, nat_le, is_some, ℕ, ◌+◌, ◌-◌, ◌*◌, ◌%◌, List, [], ◌∷◌, ◌++◌}
-use Rattle.std.specs.Prelude.{length, replicate, slice_range, slice_set, Option, Some, None, Result, Ok, Err}
+use Rattle.std.specs.Prelude.{◌≡◌, ◌==◌, ◌<◌, ◌&&◌, Bool, not, nat_le, is_some, ℕ, ◌+◌, ◌-◌, ◌*◌, ◌%◌, List, []}
+use Rattle.std.specs.Prelude.{◌∷◌, ◌++◌, length, replicate, slice_range, slice_set, Option, Some, None, Result, Ok, Err}
 use Rattle.std.specs.Prelude.{if◌then◌else◌}
 use Rattle.std.specs.List.{find, insert, list_any, position_from, remove}
 use Rattle.std.specs.Option.{ok_or}
@@ -133,10 +133,14 @@ without_file image n = with_directory image (without_slot (directory_of image) n
 abbrev pub slot_named : List ℕ → List ℕ → Option ℕ
 slot_named directory name = position_from (is_named name) 1 (files_in directory)
 
--- the first file of a name was removed
-pub record RemovesFile (old new name : List ℕ) : Type 0 where
+-- slot n, where a file stands in it
+abbrev pub slot_numbered : List ℕ → ℕ → Option ℕ
+slot_numbered directory n = if nat_le 1 n && nat_le n (file_count directory) then Some n else None
+
+-- the file in a slot was removed, where one was found
+pub record RemovesFile (old new : List ℕ) (chosen : Option ℕ) : Type 0 where
   pub slot : ℕ
-  pub found : slot_named (directory_of old) name ≡ Some slot
+  pub found : chosen ≡ Some slot
   pub image : new ≡ mirrored (without_file old slot)
   pub files : files_of new ≡ remove (files_of old) (slot - 1)
 
@@ -154,24 +158,22 @@ files_beside directory slot =
 abbrev pub is_named_beside : List ℕ → ℕ → List ℕ → Bool
 is_named_beside directory slot name = list_any (is_named name) (files_beside directory slot)
 
--- the slot of the file that gets another name, or why there is none
-unfoldable pub slot_to_rename : List ℕ → List ℕ → List ℕ → Result ℕ VolumeFault
-slot_to_rename directory old new = elim (slot_named directory old) [
-  | None ↦ Err NoFile
-  | Some slot ↦
-      if not (is_new_name LONGEST_NAME new) then Err BadName
-      else (if is_named_beside directory slot new then Err Duplicate else Ok slot)
-]
+-- the slot of the file that gets another name, where one was found, or why there is none
+unfoldable pub slot_to_rename : List ℕ → Option ℕ → List ℕ → Result ℕ VolumeFault
+slot_to_rename directory None new = Err NoFile
+slot_to_rename directory (Some slot) new =
+    if not (is_new_name LONGEST_NAME new) then Err BadName
+    else (if is_named_beside directory slot new then Err Duplicate else Ok slot)
 
 -- the image with another name for the file in slot n: the 16 bytes of the name alone
 abbrev pub with_name : List ℕ → ℕ → List ℕ → List ℕ
 with_name image n name =
     with_directory image (written (directory_of image) (SLOT * n + ENTRY_NAME) (name_field LONGEST_NAME name))
 
--- the first file of a name got another one
-pub record RenamesFile (old new from to : List ℕ) : Type 0 where
+-- the file in a slot got another name, where one was found
+pub record RenamesFile (old new : List ℕ) (chosen : Option ℕ) (to : List ℕ) : Type 0 where
   pub slot : ℕ
-  pub found : slot_to_rename (directory_of old) from to ≡ Ok slot
+  pub found : slot_to_rename (directory_of old) chosen to ≡ Ok slot
   pub image : new ≡ mirrored (with_name old slot to)
   pub files : files_of new
       ≡ slice_set (files_of old) (slot - 1)

@@ -1,8 +1,8 @@
 -- The image that a change makes, or why it is refused.
 use Rattle.std.specs.Prelude.{Bool, nat_lt, ℕ, List, length, Option, Some, None, Result, Ok, Err, if◌then◌else◌}
 use Rattle.std.specs.List.{list_any}
-use Rattle.pm_volume.specs.Changes.{blocks_for, new_entry, place_for, slot_named, slot_to_rename, with_directory}
-use Rattle.pm_volume.specs.Changes.{with_file, with_name, without_file}
+use Rattle.pm_volume.specs.Changes.{blocks_for, new_entry, place_for, slot_named, slot_numbered, slot_to_rename}
+use Rattle.pm_volume.specs.Changes.{with_directory, with_file, with_name, without_file}
 use Rattle.pm_volume.specs.Copies.{has_second, mirrored}
 use Rattle.pm_volume.specs.Directory.{block_count, directory_of}
 use Rattle.pm_volume.specs.Files.{files_of}
@@ -35,13 +35,23 @@ removed_at image None = Err NoFile
 unfoldable pub file_removed : List ℕ → List ℕ → Result (List ℕ) VolumeFault
 file_removed image name = removed_at image (slot_named (directory_of image) name)
 
+-- the image without the file in this slot
+unfoldable pub slot_removed : List ℕ → ℕ → Result (List ℕ) VolumeFault
+slot_removed image slot = removed_at image (slot_numbered (directory_of image) slot)
+
 abbrev pub renamed_at : List ℕ → List ℕ → Result ℕ VolumeFault → Result (List ℕ) VolumeFault
 renamed_at image name (Ok slot) = Ok (mirrored (with_name image slot name))
 renamed_at image name (Err fault) = Err fault
 
 -- the image with another name for the first file of this name
 unfoldable pub renamed : List ℕ → List ℕ → List ℕ → Result (List ℕ) VolumeFault
-renamed image old new = renamed_at image new (slot_to_rename (directory_of image) old new)
+renamed image old new =
+    renamed_at image new (slot_to_rename (directory_of image) (slot_named (directory_of image) old) new)
+
+-- the image with another name for the file in this slot
+unfoldable pub slot_renamed : List ℕ → ℕ → List ℕ → Result (List ℕ) VolumeFault
+slot_renamed image slot new =
+    renamed_at image new (slot_to_rename (directory_of image) (slot_numbered (directory_of image) slot) new)
 
 -- the image with a new directory of this name
 unfoldable pub zeroed : List ℕ → List ℕ → Result (List ℕ) VolumeFault

@@ -2,7 +2,7 @@
 
 ghost use Rattle.std.specs.Prelude.{◌≡◌, ◌+◌, ◌-◌, ◌<◌, ◌≤◌, ◌*◌, length, IfSome};
 ghost use Rattle.std.specs.List.{list_any};
-ghost use Rattle.pm_volume.specs.Changes.{is_named_beside, slot_named};
+ghost use Rattle.pm_volume.specs.Changes.{is_named_beside, slot_named, slot_numbered};
 ghost use Rattle.pm_volume.specs.Files.{is_named};
 ghost use Rattle.pm_volume.specs.Headers.{new_directory};
 ghost use Rattle.pm_volume.specs.Directory.{
@@ -105,6 +105,19 @@ pub(crate) fn slot_named(directory: &[u8], name: &str) -> Option<u16>
         }
     }
     None
+}
+
+// A slot by its number, where a file stands in it.
+pub(crate) fn slot_numbered(directory: &[u8], n: u16) -> Option<u16>
+    requires whole { length directory.now ≡ DIRECTORY_SIZE }
+    ensures slot { result ≡ slot_numbered directory.now n }
+    ensures within { IfSome result (λ n. (1 ≤ n) × (n ≤ file_count directory.now)) }
+{
+    if 1 <= n && n <= word(directory, HEADER_FILES) {
+        Some(n)
+    } else {
+        None
+    }
 }
 
 // Whether a file in another slot has this name.

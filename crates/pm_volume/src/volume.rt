@@ -44,7 +44,7 @@ use crate::changes::{
     take_file,
 };
 use crate::copies::{Copies, are_same, has_second, is_second_good, mirror, restore};
-use crate::directory::{Entries, fault_of_directory, is_named_beside, slot_named};
+use crate::directory::{Entries, fault_of_directory, is_named_beside, slot_named, slot_numbered};
 use crate::disk::{Disk, block_in};
 use crate::entry::{Entry, is_new_name};
 use crate::fault::VolumeFault;
@@ -86,6 +86,7 @@ impl Volume {
       RenamesFile,
       place_for,
       slot_named,
+      slot_numbered,
       slot_to_rename,
     };
     ghost use Rattle.pm_volume.specs.Copies.{HasCopies, KeepsCopies, and_second, repaired};
@@ -306,7 +307,8 @@ impl Volume {
     /// slot that falls free in the directory becomes zero. `NoFile`, and nothing changed, where
     /// there is none.
     pub fn remove(&mut self, name: &str) -> Result<(), VolumeFault>
-        ensures removed { OnOk result (RemovesFile self.old self.new name.now) }
+        ensures removed { OnOk result
+            (RemovesFile self.old self.new (slot_named (directory_of self.old) name.now)) }
         ensures volume { IsVolume self.new }
         ensures copies { OnOk result (KeepsCopies self.old self.new) }
         ensures kept { OnOk result (KeepsFiles self.old self.new) }
@@ -316,29 +318,67 @@ impl Volume {
             × (slot_named (directory_of self.old) name.now ≡ None)) }
         ensures unchanged { OnErr result (self.new ≡ self.old) }
     {
-        let Some(slot) = slot_named(self.directory(), name) else {
-            return Err(VolumeFault::NoFile);
-        };
-        take_file(&mut self.bytes, slot);
-        Ok(())
+        let first = slot_named(self.directory(), name);
+        self.remove_at(first)
+    }
+
+    /// Removes the file in a slot of the directory, as `remove` does; a file of the same name in
+    /// another slot stays. Slots count from 1, in the order of `entries`. `NoFile`, and nothing
+    /// changed, where no file stands in it.
+    pub fn remove_slot(&mut self, slot: u16) -> Result<(), VolumeFault>
+        ensures removed { OnOk result
+            (RemovesFile self.old self.new (slot_numbered (directory_of self.old) slot)) }
+        ensures volume { IsVolume self.new }
+        ensures copies { OnOk result (KeepsCopies self.old self.new) }
+        ensures kept { OnOk result (KeepsFiles self.old self.new) }
+        ensures rest { IfSome (slot_numbered (directory_of self.old) slot)
+            (λ slot. ChangesOnly (removed_spans (directory_of self.old) slot) self.old self.new) }
+        ensures refused { IfErr result (λ fault. (fault ≡ VolumeFault.NoFile)
+            × (slot_numbered (directory_of self.old) slot ≡ None)) }
+        ensures unchanged { OnErr result (self.new ≡ self.old) }
+    {
+        let there = slot_numbered(self.directory(), slot);
+        self.remove_at(there)
     }
 
     /// Gives the first file of a name another one; the 16 bytes of the name are all that changes.
     /// The refusals in order: `NoFile`, `BadName` for a new name that is none, `Duplicate` for
     /// another file of the new name (the file's own name is allowed). A refusal changes nothing.
     pub fn rename(&mut self, old: &str, new: &str) -> Result<(), VolumeFault>
-        ensures renamed { OnOk result (RenamesFile self.old self.new old.now new.now) }
+        ensures renamed { OnOk result
+            (RenamesFile self.old self.new (slot_named (directory_of self.old) old.now) new.now) }
         ensures volume { IsVolume self.new }
         ensures copies { OnOk result (KeepsCopies self.old self.new) }
         ensures kept { OnOk result (KeepsFiles self.old self.new) }
-        ensures rest { IfOk (slot_to_rename (directory_of self.old) old.now new.now)
+        ensures rest { IfOk
+            (slot_to_rename (directory_of self.old) (slot_named (directory_of self.old) old.now) new.now)
             (λ slot. ChangesOnly (and_second (directory_of self.old) (name_span slot ∷ [])) self.old self.new) }
-        ensures refused { IfErr result (λ fault. slot_to_rename (directory_of self.old) old.now new.now ≡ Err fault) }
+        ensures refused { IfErr result (λ fault.
+            slot_to_rename (directory_of self.old) (slot_named (directory_of self.old) old.now) new.now ≡ Err fault) }
         ensures unchanged { OnErr result (self.new ≡ self.old) }
     {
-        let slot = self.slot_to_rename(old, new)?;
-        name_file(&mut self.bytes, slot, new.as_bytes());
-        Ok(())
+        let first = slot_named(self.directory(), old);
+        self.rename_at(first, new)
+    }
+
+    /// Gives the file in a slot of the directory another name, as `rename` does; a file of the same
+    /// name in another slot keeps it. Slots count from 1, in the order of `entries`. The refusals
+    /// are those of `rename`, `NoFile` where no file stands in the slot.
+    pub fn rename_slot(&mut self, slot: u16, new: &str) -> Result<(), VolumeFault>
+        ensures renamed { OnOk result
+            (RenamesFile self.old self.new (slot_numbered (directory_of self.old) slot) new.now) }
+        ensures volume { IsVolume self.new }
+        ensures copies { OnOk result (KeepsCopies self.old self.new) }
+        ensures kept { OnOk result (KeepsFiles self.old self.new) }
+        ensures rest { IfOk
+            (slot_to_rename (directory_of self.old) (slot_numbered (directory_of self.old) slot) new.now)
+            (λ slot. ChangesOnly (and_second (directory_of self.old) (name_span slot ∷ [])) self.old self.new) }
+        ensures refused { IfErr result (λ fault.
+            slot_to_rename (directory_of self.old) (slot_numbered (directory_of self.old) slot) new.now ≡ Err fault) }
+        ensures unchanged { OnErr result (self.new ≡ self.old) }
+    {
+        let there = slot_numbered(self.directory(), slot);
+        self.rename_at(there, new)
     }
 
     /// Moves the files together: each, in the order of the directory, down to the end of the one
@@ -467,16 +507,54 @@ impl Volume {
         Gap::lowest(directory, need).ok_or(VolumeFault::NoRoom)
     }
 
-    // The slot of the file that gets another name, or why there is none.
+    // Removes the file in a slot, where one was found.
+    fn remove_at(&mut self, slot: Option<u16>) -> Result<(), VolumeFault>
+        requires within { IfSome slot (λ slot. (1 ≤ slot) × (slot ≤ file_count (directory_of self.old))) }
+        ensures removed { OnOk result (RemovesFile self.old self.new slot) }
+        ensures volume { IsVolume self.new }
+        ensures copies { OnOk result (KeepsCopies self.old self.new) }
+        ensures kept { OnOk result (KeepsFiles self.old self.new) }
+        ensures rest { IfSome slot
+            (λ slot. ChangesOnly (removed_spans (directory_of self.old) slot) self.old self.new) }
+        ensures refused { IfErr result (λ fault. (fault ≡ VolumeFault.NoFile) × (slot ≡ None)) }
+        ensures unchanged { OnErr result (self.new ≡ self.old) }
+    {
+        let _ = &self.bytes;
+        let Some(slot) = slot else {
+            return Err(VolumeFault::NoFile);
+        };
+        take_file(&mut self.bytes, slot);
+        Ok(())
+    }
+
+    // Gives the file in a slot another name, where one was found.
+    fn rename_at(&mut self, slot: Option<u16>, new: &str) -> Result<(), VolumeFault>
+        requires within { IfSome slot (λ slot. (1 ≤ slot) × (slot ≤ file_count (directory_of self.old))) }
+        ensures renamed { OnOk result (RenamesFile self.old self.new slot new.now) }
+        ensures volume { IsVolume self.new }
+        ensures copies { OnOk result (KeepsCopies self.old self.new) }
+        ensures kept { OnOk result (KeepsFiles self.old self.new) }
+        ensures rest { IfOk (slot_to_rename (directory_of self.old) slot new.now)
+            (λ slot. ChangesOnly (and_second (directory_of self.old) (name_span slot ∷ [])) self.old self.new) }
+        ensures refused { IfErr result (λ fault. slot_to_rename (directory_of self.old) slot new.now ≡ Err fault) }
+        ensures unchanged { OnErr result (self.new ≡ self.old) }
+    {
+        let slot = self.slot_to_rename(slot, new)?;
+        name_file(&mut self.bytes, slot, new.as_bytes());
+        Ok(())
+    }
+
+    // The slot of the file that gets another name, where one was found, or why there is none.
     #[tactic(auto, unfolding(crate::specs::Changes::slot_to_rename))]
-    fn slot_to_rename(&self, old: &str, new: &str) -> Result<u16, VolumeFault>
+    fn slot_to_rename(&self, slot: Option<u16>, new: &str) -> Result<u16, VolumeFault>
+        requires within { IfSome slot (λ slot. (1 ≤ slot) × (slot ≤ file_count (directory_of self.now))) }
         ensures volume { IsVolume self.now }
-        ensures found { result ≡ slot_to_rename (directory_of self.now) old.now new.now }
+        ensures found { result ≡ slot_to_rename (directory_of self.now) slot new.now }
         ensures within { IfOk result (λ slot. (1 ≤ slot) × (slot ≤ file_count (directory_of self.now))) }
         ensures named { OnOk result ((1 ≤ length new.now) × (length new.now ≤ LONGEST_NAME)) }
     {
         let directory = self.directory();
-        let Some(slot) = slot_named(directory, old) else {
+        let Some(slot) = slot else {
             return Err(VolumeFault::NoFile);
         };
         if !is_new_name(LONGEST_NAME, new.as_bytes()) {

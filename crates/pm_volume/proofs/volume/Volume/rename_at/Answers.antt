@@ -3,8 +3,8 @@ use Rattle.pm_volume.specs.Changes.{with_name}
 use Rattle.pm_volume.specs.Copies.{mirrored}
 use Rattle.pm_volume.proofs.SecondLaws.{Changed-named}
 use Rattle.pm_volume.proofs.SlotLaws.{written_back}
-use Rattle.pm_volume.proofs.volume.Volume.rename.Goals as goal
-use Rattle.pm_volume.proofs.volume.Volume.rename.Goals.{After-name_file}
+use Rattle.pm_volume.proofs.volume.Volume.rename_at.Goals as goal
+use Rattle.pm_volume.proofs.volume.Volume.rename_at.Goals.{After-name_file}
 
 -- what the image becomes
 image_after : (c : After-name_file) → take c.self.inside.bytes.len (c.name_file.new.image ++ drop (length c.name_file.new.image) c.self.inside.bytes.items)

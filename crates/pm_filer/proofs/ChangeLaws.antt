@@ -12,7 +12,7 @@ use Rattle.pm_volume.specs.Made.{renamed, renamed_at}
 use Rattle.pm_volume.specs.Names.{is_new_name, is_same_name, name_field}
 use Rattle.pm_volume.specs.declared.entry.Entry.{Entry}
 use Rattle.pm_volume.specs.declared.fault.VolumeFault.{VolumeFault}
-use Rattle.pm_volume.specs.declared.fault.VolumeFault.TheVariants.{BadName, Duplicate, NoFile}
+use Rattle.pm_volume.specs.declared.fault.VolumeFault.TheVariants.{BadName}
 use Rattle.pm_volume.proofs.NameLaws.{length-new_name}
 use Rattle.pm_volume.proofs.RenameLaws.{files-split}
 use Rattle.pm_volume.proofs.SecondLaws.{Changed-named}
@@ -69,14 +69,11 @@ record IsSlot (directory old new : List ℕ) (slot : ℕ) : Type 0 where
   named : is_new_name 15 new ≡ true
   alone : is_named_beside directory slot new ≡ false
 
-IsSlot-from_ok : (directory old new : List ℕ) (slot : ℕ) → slot_to_rename directory old new ≡ Ok slot → IsSlot directory old new slot
+IsSlot-from_ok : (directory old new : List ℕ) (slot : ℕ) → slot_to_rename directory (slot_named directory old) new ≡ Ok slot → IsSlot directory old new slot
 unfolding slot_to_rename
 IsSlot-from_ok directory old new slot done = told (slot_named directory old) refl done
   where
-    told : (o : Option ℕ) → slot_named directory old ≡ o → elim o as (λ _. Result ℕ VolumeFault) [
-      | None ↦ Err NoFile
-      | Some n ↦ cond (not (is_new_name 15 new)) (Err BadName) (cond (is_named_beside directory n new) (Err Duplicate) (Ok n))
-    ] ≡ Ok slot → IsSlot directory old new slot
+    told : (o : Option ℕ) → slot_named directory old ≡ o → slot_to_rename directory o new ≡ Ok slot → IsSlot directory old new slot
     told None here h = cc
     told (Some n) here h =
         let name = passed-named (is_new_name 15 new) _ h in
@@ -189,13 +186,13 @@ renamed-ok image name (Err fault) new h = cc
 pub new_name_gives : NewNameGives
 unfolding filed renamed
 new_name_gives image old new f v done other same =
-    let parts = renamed-ok image new (slot_to_rename (directory_of image) old new) f.image (changed-ok _ f done) in
+    let parts = renamed-ok image new (slot_to_rename (directory_of image) (slot_named (directory_of image) old) new) f.image (changed-ok _ f done) in
     let s = IsSlot-from_ok (directory_of image) old new parts.0 parts.1 in
     subst (λ made. file_given made other ≡ file_given image old) parts.2 (NewNameGives-slot image old new other parts.0 v s same)
 
 pub change_keeps_others : ChangeKeepsOthers
 unfolding filed renamed
 change_keeps_others image old new f v done other unlike apart =
-    let parts = renamed-ok image new (slot_to_rename (directory_of image) old new) f.image (changed-ok _ f done) in
+    let parts = renamed-ok image new (slot_to_rename (directory_of image) (slot_named (directory_of image) old) new) f.image (changed-ok _ f done) in
     let s = IsSlot-from_ok (directory_of image) old new parts.0 parts.1 in
     subst (λ made. file_given made other ≡ file_given image other) parts.2 (OthersKept-slot image old new other parts.0 v s unlike apart)

@@ -1,8 +1,9 @@
 -- The changes of a volume as functions of its image.
 use Rattle.std.proofs.Common.{◌≡◌, ℕ, List, length, Ok, Err, None, true, false, refl}
-use Rattle.pm_volume.specs.Changes.{AddsFile, RemovesFile, RenamesFile, blocks_for, place_for, slot_named, slot_to_rename}
+use Rattle.pm_volume.specs.Changes.{AddsFile, RemovesFile, RenamesFile, blocks_for, place_for, slot_named, slot_numbered}
+use Rattle.pm_volume.specs.Changes.{slot_to_rename}
 use Rattle.pm_volume.specs.Directory.{directory_of}
-use Rattle.pm_volume.specs.Made.{added, file_removed, renamed, zeroed}
+use Rattle.pm_volume.specs.Made.{added, file_removed, renamed, slot_removed, slot_renamed, zeroed}
 use Rattle.pm_volume.specs.Headers.{zeroed_image}
 use Rattle.pm_volume.specs.Names.{is_new_name}
 use Rattle.pm_volume.specs.declared.entry.Entry.{Entry}
@@ -14,9 +15,13 @@ pub made-added : (old new name : List ℕ) (kind : ℕ) (bytes : List ℕ) (date
 unfolding added
 made-added old new name kind bytes date e a = rw (a.placed, a.image, a.entry) refl
 
-pub made-removed : (old new name : List ℕ) → RemovesFile old new name → file_removed old name ≡ Ok new
+pub made-removed : (old new name : List ℕ) → RemovesFile old new (slot_named (directory_of old) name) → file_removed old name ≡ Ok new
 unfolding file_removed
 made-removed old new name a = rw (a.found, a.image) refl
+
+pub made-slot_removed : (old new : List ℕ) (slot : ℕ) → RemovesFile old new (slot_numbered (directory_of old) slot) → slot_removed old slot ≡ Ok new
+unfolding slot_removed
+made-slot_removed old new slot a = rw (a.found, a.image) refl
 
 pub made-unadded : (image name : List ℕ) (kind : ℕ) (bytes : List ℕ) (date : ℕ) (fault : VolumeFault) →
     place_for image name (blocks_for (length bytes)) ≡ Err fault → added image name kind bytes date ≡ Err fault
@@ -27,14 +32,28 @@ pub made-unremoved : (image name : List ℕ) → slot_named (directory_of image)
 unfolding file_removed
 made-unremoved image name e = rw e refl
 
-pub made-renamed : (old new from to : List ℕ) → RenamesFile old new from to → renamed old from to ≡ Ok new
+pub made-slot_unremoved : (image : List ℕ) (slot : ℕ) → slot_numbered (directory_of image) slot ≡ None → slot_removed image slot ≡ Err NoFile
+unfolding slot_removed
+made-slot_unremoved image slot e = rw e refl
+
+pub made-renamed : (old new from to : List ℕ) → RenamesFile old new (slot_named (directory_of old) from) to → renamed old from to ≡ Ok new
 unfolding renamed
 made-renamed old new from to a = rw (a.found, a.image) refl
 
-pub made-unrenamed : (image from to : List ℕ) (fault : VolumeFault) → slot_to_rename (directory_of image) from to ≡ Err fault →
-    renamed image from to ≡ Err fault
+pub made-slot_renamed : (old new : List ℕ) (slot : ℕ) (to : List ℕ) → RenamesFile old new (slot_numbered (directory_of old) slot) to →
+    slot_renamed old slot to ≡ Ok new
+unfolding slot_renamed
+made-slot_renamed old new slot to a = rw (a.found, a.image) refl
+
+pub made-unrenamed : (image from to : List ℕ) (fault : VolumeFault) →
+    slot_to_rename (directory_of image) (slot_named (directory_of image) from) to ≡ Err fault → renamed image from to ≡ Err fault
 unfolding renamed
 made-unrenamed image from to fault e = rw e refl
+
+pub made-slot_unrenamed : (image : List ℕ) (slot : ℕ) (to : List ℕ) (fault : VolumeFault) →
+    slot_to_rename (directory_of image) (slot_numbered (directory_of image) slot) to ≡ Err fault → slot_renamed image slot to ≡ Err fault
+unfolding slot_renamed
+made-slot_unrenamed image slot to fault e = rw e refl
 
 pub made-zeroed : (old new name : List ℕ) → is_new_name 7 name ≡ true → new ≡ zeroed_image old name → zeroed old name ≡ Ok new
 unfolding zeroed
@@ -44,4 +63,4 @@ pub made-unzeroed : (image name : List ℕ) → is_new_name 7 name ≡ false →
 unfolding zeroed
 made-unzeroed image name bad = rw bad refl
 
-pub ruleset made = (made-zeroed, made-unzeroed, made-added, made-removed, made-renamed, made-unadded, made-unremoved, made-unrenamed)
+pub ruleset made = (made-zeroed, made-unzeroed, made-added, made-unadded, made-unremoved, made-slot_unremoved)

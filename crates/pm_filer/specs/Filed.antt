@@ -6,7 +6,7 @@ use Rattle.pm_volume.specs.declared.kinds.TheConstants.{TEXT}
 use Rattle.pm_volume.specs.Files.{file_bytes, file_named, files_of}
 use Rattle.pm_volume.specs.Directory.{directory_of}
 use Rattle.pm_volume.specs.Headers.{dated_image, last_date_of}
-use Rattle.pm_volume.specs.Made.{added, doubled, file_removed, renamed, singled, zeroed}
+use Rattle.pm_volume.specs.Made.{added, doubled, file_removed, renamed, singled, slot_removed, slot_renamed, zeroed}
 use Rattle.pm_volume.specs.Packing.{krunched_image}
 use Rattle.pm_textfile.specs.Reading.{text_of_file}
 use Rattle.pm_textfile.specs.Writing.{text_fault}
@@ -54,6 +54,8 @@ pub data Order : Type 0 where
   Single : Order
   GetSlot : ℕ → Order
   GetTextSlot : ℕ → Order
+  RemoveSlot : ℕ → Order
+  ChangeSlot : ℕ → List ℕ → Order
 
 abbrev pub order_of : FileCommand → Order
 order_of commands.List = ListFiles
@@ -70,6 +72,8 @@ order_of commands.Duplicate = Duplicate
 order_of commands.Single = Single
 order_of (commands.GetSlot slot) = GetSlot slot
 order_of (commands.GetTextSlot slot) = GetTextSlot slot
+order_of (commands.RemoveSlot slot) = RemoveSlot slot
+order_of (commands.ChangeSlot slot new) = ChangeSlot slot (string_bytes new)
 
 -- what a command answers, by its bytes
 pub data Answer : Type 0 where
@@ -136,6 +140,8 @@ filed image Duplicate = changed (doubled image)
 filed image Single = Ok (record { image = singled image; answer = Done })
 filed image (GetSlot slot) = lent image (bytes_of_file image (file_in_slot image slot))
 filed image (GetTextSlot slot) = text_read image (bytes_of_file image (file_in_slot image slot))
+filed image (RemoveSlot slot) = changed (slot_removed image slot)
+filed image (ChangeSlot slot new) = changed (slot_renamed image slot new)
 
 -- a command may answer want of memory: one that gives bytes or text, where nothing else is wrong; and one that puts a
 -- text, whose file is made before anything is looked at
@@ -154,3 +160,5 @@ MayWantMemory Duplicate outcome = ⊥
 MayWantMemory Single outcome = ⊥
 MayWantMemory (GetSlot slot) outcome = IsOk outcome
 MayWantMemory (GetTextSlot slot) outcome = IsOk outcome
+MayWantMemory (RemoveSlot slot) outcome = ⊥
+MayWantMemory (ChangeSlot slot new) outcome = ⊥

@@ -14,7 +14,7 @@ ghost use Rattle.std.specs.Prelude.{
   OnOk,
   if◌then◌else◌,
 };
-ghost use Rattle.pm_volume.specs.Made.{added, renamed, zeroed};
+ghost use Rattle.pm_volume.specs.Made.{added, renamed, slot_renamed, zeroed};
 ghost use Rattle.pm_volume.specs.Directory.{IsVolume, directory_of};
 ghost use Rattle.pm_volume.specs.Headers.{last_date_of};
 ghost use Rattle.pm_textfile.specs.Writing.{text_fault};
@@ -70,6 +70,10 @@ pub enum FileCommand {
     GetSlot(u16),
     /// Gives the text of the file in this slot, which is a text file.
     GetTextSlot(u16),
+    /// Removes the file in this slot; a file of the same name in another slot stays.
+    RemoveSlot(u16),
+    /// Gives the file in this slot this name; a file of its old name in another slot keeps it.
+    ChangeSlot(u16, String),
 }
 
 /// What a command answers.
@@ -164,7 +168,6 @@ fn put(volume: &mut Volume, name: &str, kind: u8, bytes: &[u8]) -> Result<(), Vo
 }
 
 // Gives a file another name.
-#[tactic(auto, using(crate::proofs::Made::made))]
 fn change(volume: &mut Volume, old: &str, new: &str) -> Result<(), VolumeFault>
     ensures done { OnOk result (renamed volume.old old.now new.now ≡ Ok volume.new) }
     ensures volume { OnOk result (IsVolume volume.new) }
@@ -172,6 +175,17 @@ fn change(volume: &mut Volume, old: &str, new: &str) -> Result<(), VolumeFault>
     ensures unchanged { OnErr result (volume.new ≡ volume.old) }
 {
     volume.rename(old, new)?;
+    Ok(())
+}
+
+// Gives the file in a slot another name.
+fn change_slot(volume: &mut Volume, slot: u16, new: &str) -> Result<(), VolumeFault>
+    ensures done { OnOk result (slot_renamed volume.old slot new.now ≡ Ok volume.new) }
+    ensures volume { OnOk result (IsVolume volume.new) }
+    ensures refused { IfErr result (λ fault. slot_renamed volume.old slot new.now ≡ Err fault) }
+    ensures unchanged { OnErr result (volume.new ≡ volume.old) }
+{
+    volume.rename_slot(slot, new)?;
     Ok(())
 }
 
@@ -221,5 +235,7 @@ pub fn apply(alloc: Global, volume: &mut Volume, command: FileCommand) -> Result
         FileCommand::Single => Ok(done(volume.drop_duplicate())),
         FileCommand::GetSlot(slot) => get(alloc, volume, in_slot(volume, slot)),
         FileCommand::GetTextSlot(slot) => get_text(alloc, volume, in_slot(volume, slot)),
+        FileCommand::RemoveSlot(slot) => Ok(done(volume.remove_slot(slot)?)),
+        FileCommand::ChangeSlot(slot, new) => Ok(done(change_slot(volume, slot, new.as_str())?)),
     }
 }

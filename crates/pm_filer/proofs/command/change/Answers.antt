@@ -1,8 +1,11 @@
 use Rattle.std.proofs.lemmas.Result.{err_from_is_err_and}
-use Rattle.pm_filer.proofs.Made.{made-unrenamed}
+use Rattle.pm_filer.proofs.Made.{made-renamed, made-unrenamed}
 use Rattle.pm_filer.proofs.command.change.Goals as goal
 
 pub returns-in_err-rename-clause-refused : goal.returns-in_err-rename-clause-refused
 returns-in_err-rename-clause-refused c =
     let p = err_from_is_err_and c.from_residual.result c.from_residual.ensures.1 in
     rw (p.1, p.2) (made-unrenamed _ _ _ _ c.in_err-rename.ensures.refused)
+
+pub returns-clause-done : goal.returns-clause-done
+returns-clause-done c = made-renamed _ _ _ _ c.in_ok-rename.ensures.renamed

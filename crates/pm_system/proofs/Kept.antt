@@ -19,7 +19,8 @@ kept_twice old mid new xs first second = λ k d low. record {
   blocks = (second k d low).blocks ∙ (first k d low).blocks;
 }
 
-pub kept_beside : (old mid new name : List ℕ) → RemovesFile old mid name → KeepsFiles old mid → KeepsFiles mid new
+pub kept_beside : (old mid new name : List ℕ) → RemovesFile old mid (slot_named (directory_of old) name)
+    → KeepsFiles old mid → KeepsFiles mid new
     → IfSome (slot_named (directory_of old) name) (λ slot. All (KeepsFile old new) (remove (files_of old) (slot - 1)))
 kept_beside old mid new name removed first second =
     rw removed.found (kept_twice old mid new (remove (files_of old) (removed.slot - 1))

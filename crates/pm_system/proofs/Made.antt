@@ -12,7 +12,8 @@ pub made-added : (old new name : List ℕ) (kind : ℕ) (bytes : List ℕ) (date
 unfolding added
 made-added old new name kind bytes date e a = rw (a.placed, a.image, a.entry) refl
 
-pub made-removed : (old new name : List ℕ) → RemovesFile old new name → file_removed old name ≡ Ok new
+pub made-removed : (old new name : List ℕ) → RemovesFile old new (slot_named (directory_of old) name)
+    → file_removed old name ≡ Ok new
 unfolding file_removed
 made-removed old new name a = rw (a.found, a.image) refl
 
@@ -26,4 +27,4 @@ pub made-unremoved : (image name : List ℕ) → slot_named (directory_of image)
 unfolding file_removed
 made-unremoved image name e = rw e refl
 
-pub ruleset made = (made-added, made-removed, made-unadded, made-unremoved)
+pub ruleset made = (made-added, made-unadded, made-unremoved)

@@ -1,2 +1,3 @@
 pub mod RefusalLaws
 pub mod VolumeLaws
+pub mod SlotLaws

@@ -1,33 +1,26 @@
 -- The first refusal is told.
-use Rattle.std.proofs.Common.{◌≡◌, ◌==◌, ◌<◌, ◌≤◌, ◌⊎◌, inl, inr, ℕ, ◌+◌, ◌/◌, ◌%◌, Bool, true, false, cond, leb, ltb, not, ◌||◌, List, []}
+use Rattle.std.proofs.Common.{◌≡◌, ◌==◌, ◌⊎◌, inl, inr, ℕ, ◌+◌, ◌/◌, ◌%◌, Bool, true, false, leb, ltb, ◌||◌, List, []}
 use Rattle.std.proofs.Common.{◌∷◌, ◌++◌, length}
-use Rattle.std.proofs.Common.{Option, Some, None, Result, Ok, Err, is_some, refl, sym, ap, subst, ◌∙◌, arith}
-use Rattle.std.specs.Prelude.{◌≢◌, IsOk}
+use Rattle.std.proofs.Common.{Option, Some, None, refl, ap, ◌∙◌, arith}
+use Rattle.std.specs.Prelude.{IsOk}
 use Rattle.std.specs.Option.{ok_or}
 use Rattle.std.specs.List.{list_any}
 use Rattle.std.proofs.lemmas.Bool.{le-ltb}
 use Rattle.std.proofs.lemmas.List.Folds.{list_any-append}
 use Rattle.std.proofs.lemmas.Bool.Decides.{nat_tests}
-use Rattle.pm_volume.specs.Changes.{blocks_for, gap_for, is_named_beside, new_entry, place_for, slot_named, slot_to_rename, with_file}
-use Rattle.pm_volume.specs.Copies.{mirrored}
-use Rattle.pm_volume.specs.Directory.{block_count, directory_fault, directory_of, fault_beside, file_count, files_begin, files_in}
-use Rattle.pm_volume.specs.Directory.{image_fault, is_header}
-use Rattle.pm_volume.specs.Directory.{is_second_good}
+use Rattle.pm_volume.specs.Changes.{blocks_for, gap_for, place_for, slot_to_rename}
+use Rattle.pm_volume.specs.Directory.{block_count, directory_fault, directory_of, fault_beside, file_count}
+use Rattle.pm_volume.specs.Directory.{image_fault}
 use Rattle.pm_volume.specs.Entries.{AreInOrder, IsSoundEntry, entries_fault, is_sound_entry}
-use Rattle.pm_volume.specs.Faults.{number_of}
-use Rattle.pm_volume.specs.Files.{file_named, files_of}
 use Rattle.pm_volume.specs.Headers.{last_date_of}
-use Rattle.pm_volume.specs.Made.{added, added_in, doubled, is_occupied, renamed, renamed_at}
-use Rattle.pm_volume.specs.Names.{is_new_name}
+use Rattle.pm_volume.specs.Made.{added, added_in, doubled, is_occupied, renamed}
 use Rattle.pm_volume.specs.declared.entry.Entry.{Entry}
 use Rattle.pm_volume.specs.declared.fault.VolumeFault.{VolumeFault}
-use Rattle.pm_volume.specs.declared.fault.VolumeFault.TheVariants.{NoRoom, DirectoryFull, Duplicate, BadName, BadHeader, Occupied, FirstCopyBad}
-use Rattle.pm_filer.specs.Filed.{Filed, Put, Change, changed, filed}
-use Rattle.pm_filer.specs.declared.fault.FilerFault.{FilerFault}
-use Rattle.pm_filer.specs.declared.fault.FilerFault.TheVariants.{Volume}
-use Rattle.pm_file_laws.specs.Refusals.{ChangeTellsFirst, ChangesTellFirst, DirectoriesTellFirst, DirectoryTellsFirst, DoublingTells}
+use Rattle.pm_volume.specs.declared.fault.VolumeFault.TheVariants.{NoRoom}
+use Rattle.pm_filer.specs.Filed.{changed, filed}
+use Rattle.pm_file_laws.specs.Refusals.{ChangesTellFirst, DirectoriesTellFirst}
 use Rattle.pm_file_laws.specs.Refusals.{DoublingTellsFirst, EntriesTellFirst}
-use Rattle.pm_file_laws.specs.Refusals.{EntryTellsFirst, ImageTellsFirst, ImagesTellFirst, IsRefused, PutTellsFirst, PutsTellFirst, end_of}
+use Rattle.pm_file_laws.specs.Refusals.{ImagesTellFirst, IsRefused, PutsTellFirst}
 
 -- ---- changes
 
@@ -53,10 +46,10 @@ puts_tell_first image name kind bytes = record {
 pub changes_tell_first : ChangesTellFirst
 unfolding filed renamed slot_to_rename
 changes_tell_first image old new = record {
-  no_file = λ none. rw (none, slot_to_rename) refl;
-  bad_name = λ slot found bad. rw (found, slot_to_rename) (rw bad refl);
-  there = λ slot found good beside. rw (found, slot_to_rename) (rw (good, beside) refl);
-  done = λ slot found good beside. rw (found, slot_to_rename) (rw (good, beside) refl);
+  no_file = λ none. rw none refl;
+  bad_name = λ slot found bad. rw (found, bad) refl;
+  there = λ slot found good beside. rw (found, good, beside) refl;
+  done = λ slot found good beside. rw (found, good, beside) refl;
 }
 
 or_true : (b : Bool) → (b || true) ≡ true

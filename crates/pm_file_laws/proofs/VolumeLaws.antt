@@ -1,7 +1,7 @@
 -- A new directory, and the largest gap.
 use Rattle.byteorder.specs.Endian.{little_bytes}
-use Rattle.std.proofs.Common.{◌≡◌, ◌==◌, ◌≤◌, ◌<◌, ◌⊎◌, inl, inr, ℕ, ◌+◌, ◌-◌, Bool, true, false, cond, leb, List, [], ◌∷◌, ◌∙◌, Option}
-use Rattle.std.proofs.Common.{Some, None, Result, Ok, Err}
+use Rattle.std.proofs.Common.{◌≡◌, ◌==◌, ◌≤◌, ◌<◌, ◌⊎◌, inl, inr, ℕ, ◌+◌, ◌-◌, Bool, true, false, cond, leb, List, [], ◌∷◌, ◌∙◌}
+use Rattle.std.proofs.Common.{None, Ok, Err}
 use Rattle.std.proofs.Common.{refl, sym, ap, subst, arith, length}
 use Rattle.std.specs.Prelude.{max}
 use Rattle.std.specs.List.{All, find, fold}
@@ -9,18 +9,15 @@ use Rattle.std.proofs.Math.Nat.{le-max_left, le-max_right, sub-add-eq-max}
 use Rattle.std.proofs.lemmas.Bool.{cases_Bool, leb-true, leb-false}
 use Rattle.std.proofs.lemmas.Bool.Decides.{nat_tests}
 use Rattle.std.proofs.lemmas.List.Elements.{All-cons, All-nil, All-weaker}
-use Rattle.pm_volume.specs.Changes.{gaps, serves, with_directory}
-use Rattle.pm_volume.specs.Copies.{mirrored}
+use Rattle.pm_volume.specs.Changes.{gaps, serves}
 use Rattle.pm_volume.specs.Directory.{IsVolume, block_count, directory_of, file_count, files_begin, files_in}
-use Rattle.pm_volume.specs.Entries.{AreInOrder, IsSoundEntry}
-use Rattle.pm_volume.specs.Files.{files_of}
+use Rattle.pm_volume.specs.Entries.{AreInOrder}
 use Rattle.pm_volume.specs.Headers.{last_date_of, new_directory, zeroed_image}
 use Rattle.pm_volume.specs.Made.{zeroed}
 use Rattle.pm_volume.specs.Names.{is_new_name, name_field}
 use Rattle.pm_volume.specs.Space.{gap_size, largest_gap}
-use Rattle.pm_volume.specs.Words.{with_word_in, word_in, written, zeros}
+use Rattle.pm_volume.specs.Words.{with_word_in, written, zeros}
 use Rattle.pm_volume.specs.declared.entry.Entry.{Entry}
-use Rattle.pm_volume.specs.declared.fault.VolumeFault.{VolumeFault}
 use Rattle.pm_volume.specs.declared.fault.VolumeFault.TheVariants.{BadName}
 use Rattle.pm_volume.proofs.CopyLaws.{directory-mirrored}
 use Rattle.pm_volume.proofs.HeaderLaws.{IsVolume-zeroed, begins-new, length-new_directory, length-zeros, zeroed_first}
@@ -29,10 +26,10 @@ use Rattle.pm_volume.proofs.LowestLaws.{no_gap}
 use Rattle.pm_volume.proofs.NameLaws.{length-name_field, length-new_name}
 use Rattle.pm_volume.proofs.SecondLaws.{Changed-zeroed}
 use Rattle.pm_volume.proofs.WrittenLaws.{length-written, word_in-below, word_in-written}
-use Rattle.pm_filer.specs.Filed.{Filed, changed, filed}
+use Rattle.pm_filer.specs.Filed.{filed}
 use Rattle.pm_filer.specs.Laws.{AreFree, IsVolumeOfBytes}
 use Rattle.pm_filer.proofs.GivenLaws.{changed-ok, word_fits}
-use Rattle.pm_file_laws.specs.Volumes.{IsEmptied, IsLargestGap, LargestIsAGap, ZeroKeepsTheVolume}
+use Rattle.pm_file_laws.specs.Volumes.{IsEmptied, LargestIsAGap, ZeroKeepsTheVolume}
 
 -- ---- a new directory
 

@@ -1,6 +1,6 @@
 -- Which refusal is told where several hold: the first in its order.
 use Rattle.std.specs.Prelude.{◌≡◌, ◌≢◌, ◌<◌, ◌≤◌, ◌⊎◌, ◌+◌, ◌/◌, ◌%◌, ℕ, true, false, List, [], ◌∷◌, ◌++◌, length}
-use Rattle.std.specs.Prelude.{Option, Some, None, Result, Ok, Err, IsOk}
+use Rattle.std.specs.Prelude.{Some, None, Result, Err, IsOk}
 use Rattle.pm_volume.specs.Changes.{slot_named, is_named_beside}
 use Rattle.pm_volume.specs.Directory.{block_count, directory_fault, directory_of, file_count, files_begin, files_in}
 use Rattle.pm_volume.specs.Directory.{image_fault, is_header, is_second_good}

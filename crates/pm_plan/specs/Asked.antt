@@ -7,7 +7,8 @@ use Rattle.std.specs.Str.Parse.{IsNumeral, digits_value}
 use Rattle.clap.specs.Words.{Row, first_of, found_of, one_of, rows_of, subcommand_rows_of}
 use Rattle.clap.specs.declared.parser.matches.ArgMatches.{ArgMatches}
 use Rattle.pm_filer.specs.Filed.{Order, ListFiles, Get, Put, Remove, Change, GetText}
-use Rattle.pm_filer.specs.Filed.{PutText, Krunch, Date, Zero, Duplicate, Single, GetSlot, GetTextSlot, order_of}
+use Rattle.pm_filer.specs.Filed.{PutText, Krunch, Date, Zero, Duplicate, Single, GetSlot, GetTextSlot}
+use Rattle.pm_filer.specs.Filed.{RemoveSlot, ChangeSlot, order_of}
 use Rattle.pm_filer.specs.Listing.{kind_word}
 use Rattle.pm_selection.specs.declared.saving.Saving.{Saving}
 use Rattle.pm_selection.specs.declared.saving.Saving.TheVariants as savings
@@ -114,28 +115,29 @@ pub record AsksKeeping (rows : List Row) (keeping : Keeping) : Type 0 where
   pub printer : word_found rows (codes "printer") ≡ option_map string_bytes keeping.printer
   pub escape : IsFlag (one_of (codes "escape") rows) keeping.escape
 
--- a file is named by its name alone, or by the number of its slot alone
-abbrev pub AsksName : List Row → List ℕ → Type 0
-AsksName rows name = (word_found rows (codes "NAME") ≡ Some name) × (word_found rows (codes "slot") ≡ None)
+-- the word of this id is a name, and no slot stands beside it; or it is missing, and the number of a slot is there
+abbrev pub AsksName : List ℕ → List Row → List ℕ → Type 0
+AsksName id rows name = (word_found rows id ≡ Some name) × (word_found rows (codes "slot") ≡ None)
 
-abbrev pub AsksSlot : List Row → ℕ → Type 0
-AsksSlot rows slot = (word_found rows (codes "NAME") ≡ None) × IsSpelled (word_found rows (codes "slot")) slot
+abbrev pub AsksSlot : List ℕ → List Row → ℕ → Type 0
+AsksSlot id rows slot = (word_found rows id ≡ None) × IsSpelled (word_found rows (codes "slot")) slot
 
-abbrev pub NamesFile : List Row → Chosen → Type 0
-NamesFile rows (chosen.Named name) = AsksName rows (string_bytes name)
-NamesFile rows (chosen.InSlot slot) = AsksSlot rows slot
+abbrev pub AsksEither : List ℕ → List Row → Chosen → Type 0
+AsksEither id rows (chosen.Named name) = AsksName id rows (string_bytes name)
+AsksEither id rows (chosen.InSlot slot) = AsksSlot id rows slot
 
--- the words of a command on a volume, its verb among them; what is put is read later
+-- the words of a command on a volume, its verb among them; what is put is read later; beside a slot the one name of
+-- change is the new one
 abbrev pub AsksOrder : List ℕ → List Row → Order → Type 0
 AsksOrder verb rows ListFiles = verb ≡ codes "list"
-AsksOrder verb rows (Get name) = (verb ≡ codes "get") × AsksName rows name
+AsksOrder verb rows (Get name) = (verb ≡ codes "get") × AsksName (codes "NAME") rows name
 AsksOrder verb rows (Put name kind bytes) =
     (verb ≡ codes "put") × (word_found rows (codes "NAME") ≡ Some name) × IsKind (word_found rows (codes "KIND")) kind
     × (bytes ≡ [])
-AsksOrder verb rows (Remove name) = (verb ≡ codes "remove") × (word_found rows (codes "NAME") ≡ Some name)
+AsksOrder verb rows (Remove name) = (verb ≡ codes "remove") × AsksName (codes "NAME") rows name
 AsksOrder verb rows (Change old new) =
-    (verb ≡ codes "change") × (word_found rows (codes "OLD") ≡ Some old) × (word_found rows (codes "NEW") ≡ Some new)
-AsksOrder verb rows (GetText name) = (verb ≡ codes "gettext") × AsksName rows name
+    (verb ≡ codes "change") × (word_found rows (codes "OLD") ≡ Some old) × AsksName (codes "NEW") rows new
+AsksOrder verb rows (GetText name) = (verb ≡ codes "gettext") × AsksName (codes "NAME") rows name
 AsksOrder verb rows (PutText name text) =
     (verb ≡ codes "puttext") × (word_found rows (codes "NAME") ≡ Some name) × (text ≡ [])
 AsksOrder verb rows Krunch = verb ≡ codes "krunch"
@@ -144,8 +146,11 @@ AsksOrder verb rows (Date year month day) = (verb ≡ codes "date") × IsSpelled
 AsksOrder verb rows (Zero name) = (verb ≡ codes "zero") × (word_found rows (codes "NAME") ≡ Some name)
 AsksOrder verb rows Duplicate = verb ≡ codes "duplicate"
 AsksOrder verb rows Single = verb ≡ codes "single"
-AsksOrder verb rows (GetSlot slot) = (verb ≡ codes "get") × AsksSlot rows slot
-AsksOrder verb rows (GetTextSlot slot) = (verb ≡ codes "gettext") × AsksSlot rows slot
+AsksOrder verb rows (GetSlot slot) = (verb ≡ codes "get") × AsksSlot (codes "NAME") rows slot
+AsksOrder verb rows (GetTextSlot slot) = (verb ≡ codes "gettext") × AsksSlot (codes "NAME") rows slot
+AsksOrder verb rows (RemoveSlot slot) = (verb ≡ codes "remove") × AsksSlot (codes "NAME") rows slot
+AsksOrder verb rows (ChangeSlot slot new) =
+    (verb ≡ codes "change") × (word_found rows (codes "OLD") ≡ Some new) × AsksSlot (codes "NEW") rows slot
 
 abbrev pub AsksVerb : List ℕ → List Row → Verb → Type 0
 AsksVerb verb rows (verbs.Command command) = AsksOrder verb rows (order_of command)

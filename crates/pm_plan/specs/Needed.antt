@@ -134,8 +134,8 @@ abbrev pub verb_needs : List ℕ → Option (List (List ℕ × Need))
 verb_needs verb =
     if bytes_eq verb (codes "list") then Some []
     else (if bytes_eq verb (codes "get") then Some ((codes "NAME", NameOrSlot) ∷ [])
-    else (if bytes_eq verb (codes "remove") then Some ((codes "NAME", Word) ∷ [])
-    else (if bytes_eq verb (codes "change") then Some ((codes "OLD", Word) ∷ (codes "NEW", Word) ∷ [])
+    else (if bytes_eq verb (codes "remove") then Some ((codes "NAME", NameOrSlot) ∷ [])
+    else (if bytes_eq verb (codes "change") then Some ((codes "OLD", Word) ∷ (codes "NEW", NameOrSlot) ∷ [])
     else (if bytes_eq verb (codes "gettext") then Some ((codes "NAME", NameOrSlot) ∷ [])
     else (if bytes_eq verb (codes "puttext") then Some ((codes "NAME", Word) ∷ [])
     else (if bytes_eq verb (codes "krunch") then Some []

@@ -200,14 +200,23 @@ const VERBS: &[CommandRow] = &[
         "Forgets all files and gives the volume a name",
         &[IMAGE, VOLUME],
     ),
-    ("remove", "Removes a file", &[IMAGE, FILE]),
+    ("remove", "Removes a file", &[IMAGE, FILE_OR_SLOT, SLOT]),
     (
         "change",
         "Gives a file another name",
         &[
             IMAGE,
-            ("OLD", Form::Word, "The file's name, in either case"),
-            ("NEW", Form::Word, "The other name"),
+            (
+                "OLD",
+                Form::Word,
+                "The file's name, in either case; beside --slot its other name",
+            ),
+            (
+                "NEW",
+                Form::Unless("slot"),
+                "The other name; not beside --slot",
+            ),
+            SLOT,
         ],
     ),
     (

@@ -3,8 +3,8 @@ ghost use Rattle.std.specs.Prelude.{◌≡◌, ◌≤◌, ◌↔◌, ℕ, Err, N
 ghost use Rattle.std.specs.Prelude.{SomeIff, codes, is_some, option_map, string_bytes, ◌≢◌};
 ghost use Rattle.std.specs.Str.Parse.{digits_value};
 ghost use Rattle.clap.specs.Words.{subcommand_rows_of};
-ghost use Rattle.pm_plan.specs.Asked.{AsksFiles, AsksSalvage, AsksVerb, IsKind, IsNumberUpTo, IsNumberWord};
-ghost use Rattle.pm_plan.specs.Asked.{IsPath, IsSpelled, NamesFile};
+ghost use Rattle.pm_plan.specs.Asked.{AsksEither, AsksFiles, AsksSalvage, AsksVerb, IsKind, IsNumberUpTo};
+ghost use Rattle.pm_plan.specs.Asked.{IsNumberWord, IsPath, IsSpelled};
 ghost use Rattle.pm_plan.specs.Asked.{word_found, words_of};
 ghost use Rattle.pm_plan.specs.Needed.{AreGoodBefore, IsGoodSalvage, IsKindWord, IsThere, IsWrong, MeetAll};
 ghost use Rattle.pm_plan.specs.Needed.{IsNameOrSlot, is_salvage, verb_needs};
@@ -142,25 +142,25 @@ fn new(alloc: Global, matches: &ArgMatches<'_>) -> Result<Verb, WordsError>
     Ok(Verb::New(name, blocks))
 }
 
-/// Which file is got.
+/// A name, or the slot that stands in its place.
 #[derive(Drop)]
 enum Chosen {
-    /// The first of this name.
+    /// This name.
     Named(String),
-    /// That in this slot.
+    /// The file in this slot.
     InSlot(u16),
 }
 
-/// The file that the words name, by its name or by its slot. Refused where they have both or neither, or where the slot
-/// is no number up to 65,535.
-fn which_file(alloc: Global, matches: &ArgMatches<'_>) -> Result<Chosen, WordsError>
-    ensures named { IfOk result (λ chosen. NamesFile (words_of matches.now) chosen) }
-    ensures good { IsOk result → IsNameOrSlot (word_found (words_of matches.now) (codes "NAME"))
+/// The name that is found for an id, or the slot. Refused where the words have both or neither, or where the slot is no
+/// number up to 65,535.
+fn name_or_slot(alloc: Global, matches: &ArgMatches<'_>, id: &str) -> Result<Chosen, WordsError>
+    ensures named { IfOk result (λ chosen. AsksEither id.now (words_of matches.now) chosen) }
+    ensures good { IsOk result → IsNameOrSlot (word_found (words_of matches.now) id.now)
         (word_found (words_of matches.now) (codes "slot")) }
-    ensures taken { IsNameOrSlot (word_found (words_of matches.now) (codes "NAME"))
+    ensures taken { IsNameOrSlot (word_found (words_of matches.now) id.now)
         (word_found (words_of matches.now) (codes "slot")) → IsOkUnless result NoMemory }
 {
-    match (found(matches, "NAME"), found(matches, "slot")) {
+    match (found(matches, id), found(matches, "slot")) {
         (Some(name), None) => Ok(Chosen::Named(String::from_str(alloc, name)?)),
         (None, Some(text)) => {
             let slot = short_number(text).ok_or(WordsError::Wrong(
@@ -168,7 +168,7 @@ fn which_file(alloc: Global, matches: &ArgMatches<'_>) -> Result<Chosen, WordsEr
             ))?;
             Ok(Chosen::InSlot(slot))
         }
-        (Some(_), Some(_)) => Err(WordsError::Wrong("NAME and --slot do not go together")),
+        (Some(_), Some(_)) => Err(WordsError::Wrong("--slot stands in place of the file's name")),
         (None, None) => Err(WordsError::NoCommand),
     }
 }
@@ -179,7 +179,7 @@ fn get(alloc: Global, matches: &ArgMatches<'_>) -> Result<Verb, WordsError>
     ensures taken { MeetAll (words_of matches.now) (verb_needs (codes "get")) → IsOkUnless result NoMemory }
 {
     use pm_filer::FileCommand;
-    Ok(Verb::Command(match which_file(alloc, matches)? {
+    Ok(Verb::Command(match name_or_slot(alloc, matches, "NAME")? {
         Chosen::Named(name) => FileCommand::Get(name),
         Chosen::InSlot(slot) => FileCommand::GetSlot(slot),
     }))
@@ -191,9 +191,35 @@ fn get_text(alloc: Global, matches: &ArgMatches<'_>) -> Result<Verb, WordsError>
     ensures taken { MeetAll (words_of matches.now) (verb_needs (codes "gettext")) → IsOkUnless result NoMemory }
 {
     use pm_filer::FileCommand;
-    Ok(Verb::Command(match which_file(alloc, matches)? {
+    Ok(Verb::Command(match name_or_slot(alloc, matches, "NAME")? {
         Chosen::Named(name) => FileCommand::GetText(name),
         Chosen::InSlot(slot) => FileCommand::GetTextSlot(slot),
+    }))
+}
+
+fn remove(alloc: Global, matches: &ArgMatches<'_>) -> Result<Verb, WordsError>
+    ensures asked { IfOk result (λ verb. AsksVerb (codes "remove") (words_of matches.now) verb) }
+    ensures good { IsOk result → MeetAll (words_of matches.now) (verb_needs (codes "remove")) }
+    ensures taken { MeetAll (words_of matches.now) (verb_needs (codes "remove")) → IsOkUnless result NoMemory }
+{
+    use pm_filer::FileCommand;
+    Ok(Verb::Command(match name_or_slot(alloc, matches, "NAME")? {
+        Chosen::Named(name) => FileCommand::Remove(name),
+        Chosen::InSlot(slot) => FileCommand::RemoveSlot(slot),
+    }))
+}
+
+/// Beside a slot the one name is the new one.
+fn change(alloc: Global, matches: &ArgMatches<'_>) -> Result<Verb, WordsError>
+    ensures asked { IfOk result (λ verb. AsksVerb (codes "change") (words_of matches.now) verb) }
+    ensures good { IsOk result → MeetAll (words_of matches.now) (verb_needs (codes "change")) }
+    ensures taken { MeetAll (words_of matches.now) (verb_needs (codes "change")) → IsOkUnless result NoMemory }
+{
+    use pm_filer::FileCommand;
+    let name = word(alloc, matches, "OLD")?;
+    Ok(Verb::Command(match name_or_slot(alloc, matches, "NEW")? {
+        Chosen::Named(new) => FileCommand::Change(name, new),
+        Chosen::InSlot(slot) => FileCommand::ChangeSlot(slot, name),
     }))
 }
 
@@ -207,8 +233,8 @@ fn verb_of(alloc: Global, verb: &str, words: &ArgMatches<'_>) -> Result<Verb, Wo
     let command = match verb {
         "list" => FileCommand::List,
         "get" => return get(alloc, words),
-        "remove" => FileCommand::Remove(word(alloc, words, "NAME")?),
-        "change" => FileCommand::Change(word(alloc, words, "OLD")?, word(alloc, words, "NEW")?),
+        "remove" => return remove(alloc, words),
+        "change" => return change(alloc, words),
         "gettext" => return get_text(alloc, words),
         "puttext" => FileCommand::PutText(word(alloc, words, "NAME")?, Vec::new(alloc)),
         "krunch" => FileCommand::Krunch,

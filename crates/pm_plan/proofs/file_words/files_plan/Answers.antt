@@ -1,4 +1,5 @@
-use Rattle.std.proofs.Common.{rules}
+use Rattle.std.proofs.Common.{◌≡◌, Some, refl, rules}
+use Rattle.clap.specs.Words.{subcommand_rows_of}
 use Rattle.pm_plan.specs.Asked.{words_of}
 use Rattle.pm_plan.proofs.Found.{found_below}
 use Rattle.pm_plan.proofs.file_words.files_plan.Goals as goal
@@ -11,3 +12,9 @@ returns-clause-asked c = (
   rw (c.in_ok-before.ensures.value, c.in_ok-behind.ensures.value) c.in_ok-path.ensures.path,
   c.in_ok-verb.ensures.asked,
 )
+
+pub returns-clause-good : goal.returns-clause-good
+returns-clause-good c =
+    let named : subcommand_rows_of c.args.matches.now ≡ Some (c.in-Some.verb.now, words_of c.in-Some.words.now) =
+    found_below c.args.matches.now _ _ (search rules) (search rules) in
+    λ ok. rw named (search rules, c.in_ok-verb.ensures.good refl)

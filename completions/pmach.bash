@@ -55,8 +55,7 @@ _pmach() {
             get | gettext | remove | change) verb=${COMP_WORDS[n]} ;;
             esac
         done
-        [ "$verb" ] && names=--image words="--image --help"
-        case $verb in get | gettext) words="--image --slot --help" ;; esac
+        [ "$verb" ] && names=--image words="--image --slot --help"
         ;;
     *) words="raw run trace debug asm dis files help --help --version" ;;
     esac

@@ -1,7 +1,9 @@
--- Runs without breakpoints.
-use Rattle.std.proofs.Common.{◌≡◌, ◌∙◌, ap, sym, refl, ℕ, zero, suc, Bool, true, false, not, ◌&&◌, [], Option, Some, None, inl, inr}
+-- Runs that nothing stops, and runs that breakpoints alone may stop.
+use Rattle.std.proofs.Common.{◌≡◌, ◌∙◌, ap, sym, refl, ℕ, zero, suc, Bool, true, false, not, ◌&&◌, List, [], ◌∷◌, length, subst, arith, Option, Some, None, inl, inr}
 use Rattle.std.specs.Prelude.{◌==◌}
-use Rattle.std.proofs.lemmas.Bool.{cases_Bool}
+use Rattle.std.proofs.lemmas.Bool.{cases_Bool, eqb-true}
+use Rattle.pm_machine.specs.declared.state.RunEnd.{RunEnd}
+use Rattle.pm_machine.specs.declared.state.RunEnd.TheVariants as ends
 use Rattle.pm_machine.specs.declared.state.Status.{Status}
 use Rattle.pm_machine.specs.declared.state.Status.TheVariants as status
 use Rattle.pm_machine.specs.declared.state.Stop.{Stop}
@@ -9,12 +11,19 @@ use Rattle.pm_machine.specs.declared.state.Stop.TheVariants as stop
 use Rattle.pm_machine.specs.State.{State}
 use Rattle.pm_machine.specs.Steps.{stepped}
 use Rattle.pm_machine.specs.Runs.{RunOutcome, never, run_from, run_until}
-use Rattle.pm_machine.specs.RunLaws.{as_outcome}
-use Rattle.pm_machine.proofs.UntilLaws.{outcome_of, same_runs}
+use Rattle.pm_machine.specs.RunLaws.{EndsSo, as_outcome}
+use Rattle.pm_machine.proofs.UntilLaws.{outcome_of, runs_end_so, same_runs}
 use Rattle.pm_debug.specs.declared.breaks.Breakpoint.{Breakpoint}
+use Rattle.pm_debug.specs.declared.reason.BreakReason.{BreakReason}
 use Rattle.pm_debug.specs.declared.reason.BreakReason.TheVariants as reasons
-use Rattle.pm_debug.specs.Breaks.{is_one_of, place_in_code}
-use Rattle.pm_debug.specs.Runs.{GoIsRun, Gone, answered_so, breaks_after, gone, gone_by, has_ended}
+use Rattle.pm_debug.specs.declared.run.Depth.{Depth}
+use Rattle.pm_debug.specs.declared.run.Depth.TheVariants as depths
+use Rattle.pm_debug.specs.declared.watches.WatchedWord.{WatchedWord}
+use Rattle.pm_debug.specs.Breaks.{is_at_break, is_one_of, place_in_code}
+use Rattle.pm_debug.specs.RunLaws.{GoStopsAtBreaks, break_reason, to_a_break}
+use Rattle.pm_debug.specs.Runs.{GoIsRun, Gone, answered_so, gone, gone_by, gone_to, has_ended, is_there, later, nowhere, reason_of}
+use Rattle.pm_debug.specs.Runs.{stops_after, stops_at}
+use Rattle.pm_debug.specs.Watches.{first_changed, watched_words}
 
 and_false : (b : Bool) → b && false ≡ false
 and_false true = refl
@@ -24,14 +33,21 @@ none_matches : (p : Option Breakpoint) → is_one_of p [] ≡ false
 none_matches None = refl
 none_matches (Some b) = refl
 
--- no breakpoint stops no run
-pub none_breaks : (k : ℕ) (s : State) → breaks_after [] k s ≡ false
-none_breaks k s = ap (λ b. not (k == 0) && b) (none_matches (place_in_code s)) ∙ and_false (not (k == 0))
+-- nothing stops no run
+pub none_stop : (k : ℕ) (s : State) → later (stops_at [] [] nowhere) k s ≡ false
+unfolding first_changed
+none_stop k s = ap (λ b. not (k == 0) && b) (none_matches (place_in_code s)) ∙ and_false (not (k == 0))
 
-without_breaks : (limit : ℕ) (s : State) → run_until (breaks_after []) limit s ≡ run_until never limit s
-without_breaks limit s = same_runs (breaks_after []) never none_breaks limit 0 s
+pub never_stops : (watched : List WatchedWord) (breaks : List Breakpoint) (depth : Depth) → (length watched == 0) ≡ true → (length breaks == 0) ≡ true
+    → depth ≡ depths.Any → (k : ℕ) (s : State) → later (stops_at watched breaks (is_there depth)) k s ≡ false
+never_stops [] [] depth w b d k s = rw d (none_stop k s)
+never_stops [] (x ∷ breaks) depth w b d k s = absurd (omega (arith, eqb-true (length (x ∷ breaks)) 0 b))
+never_stops (x ∷ watched) breaks depth w b d k s = absurd (omega (arith, eqb-true (length (x ∷ watched)) 0 w))
 
-gone_as : (count : ℕ) (a : Stop) (t : State) → gone_by (as_outcome count a t) ≡ record { steps = count; reason = answered_so a; machine = t }
+without_stops : (limit : ℕ) (s : State) → run_until (stops_after [] [] nowhere s) limit s ≡ run_until never limit s
+without_stops limit s = same_runs (stops_after [] [] nowhere s) never none_stop limit 0 s
+
+gone_as : (count : ℕ) (a : Stop) (t : State) → gone_by [] [] (as_outcome count a t) ≡ record { steps = count; reason = answered_so a; machine = t }
 gone_as count stop.Went t = refl
 gone_as count stop.Waiting t = refl
 gone_as count stop.Ended t = refl
@@ -49,6 +65,22 @@ outcome_state count stop.Waiting t = refl
 outcome_state count stop.Ended t = refl
 outcome_state count (stop.Halted e) t = refl
 
+abbrev as_gone : ℕ → BreakReason → State → Gone
+as_gone steps reason machine = record { steps = steps; reason = reason; machine = machine }
+
+-- a run of a machine that has not ended, with its watched words as they were handed to it and to its reason
+pub gone_is : (breaks : List Breakpoint) (watches : List ℕ) (test : State → Bool) (limit : ℕ) (s : State) (watched again : List WatchedWord) (run : RunOutcome)
+    (reason : BreakReason) → has_ended s.status ≡ false → watched ≡ watched_words watches s.memory → again ≡ watched_words watches s.memory
+    → run_until (later (stops_at watched breaks test)) limit s ≡ run → reason ≡ reason_of again breaks run.end run.state
+    → gone_to breaks watches test limit s ≡ record { steps = run.count; reason = reason; machine = run.state }
+unfolding gone_to
+gone_is breaks watches test limit s watched again run reason going w v made told =
+    let ran : run_until (stops_after breaks watches test s) limit s ≡ run =
+    subst (λ ws. run_until (later (stops_at ws breaks test)) limit s ≡ run) w made in
+    let so : reason ≡ reason_of (watched_words watches s.memory) breaks run.end run.state =
+    subst (λ ws. reason ≡ reason_of ws breaks run.end run.state) v told in
+    rw going (ap (gone_by (watched_words watches s.memory) breaks) ran ∙ ap (λ r. as_gone run.count r run.state) (sym so))
+
 -- a machine that has ended makes no step
 ended_is : (st : Status) → has_ended st ≡ true → st ≡ status.Ended
 ended_is status.Ended h = refl
@@ -65,18 +97,47 @@ unfolding run_from stepped
 ended_state zero s h = refl
 ended_state (suc n) s h = rw h refl
 
-as_gone : (c d : ℕ) (s t : State) → c ≡ d → s ≡ t → ◌≡◌ {A = Gone} (record { steps = c; reason = reasons.Ended; machine = s })
+same_gone : (c d : ℕ) (s t : State) → c ≡ d → s ≡ t → ◌≡◌ {A = Gone} (record { steps = c; reason = reasons.Ended; machine = s })
     (record { steps = d; reason = reasons.Ended; machine = t })
-as_gone c d s t e h = rw (e, h) refl
+same_gone c d s t e h = rw (e, h) refl
 
 pub go_is_run : GoIsRun
-unfolding gone
+unfolding gone_to
 go_is_run limit count s t a h =
     let so = outcome_of limit count s t a h in
     elim (cases_Bool (has_ended s.status)) [
       | inl ended ↦
           let st = ended_is s.status ended in
-          rw ended (as_gone 0 count s t (sym (ended_count limit s st) ∙ ap (λ (d : RunOutcome). d.count) so ∙ outcome_count count a t)
+          rw ended (same_gone 0 count s t (sym (ended_count limit s st) ∙ ap (λ (d : RunOutcome). d.count) so ∙ outcome_count count a t)
           (sym (ended_state limit s st) ∙ ap (λ (d : RunOutcome). d.state) so ∙ outcome_state count a t))
-      | inr going ↦ rw going (ap gone_by (without_breaks limit s ∙ so) ∙ gone_as count a t)
+      | inr going ↦ rw going (ap (gone_by [] []) (without_stops limit s ∙ so) ∙ gone_as count a t)
     ]
+
+-- ---- breakpoints alone
+
+held_later : (k : ℕ) (b : Bool) → (not (k == 0) && b) ≡ true → b ≡ true
+held_later k b h = behind (not (k == 0)) b h
+  where
+    behind : (first b : Bool) → (first && b) ≡ true → b ≡ true
+    behind true b h = h
+    behind false b h = absurd (cc)
+
+-- without watched words the reason is that of a run which breakpoints alone may stop
+break_told : (breaks : List Breakpoint) (limit n count : ℕ) (s t : State) (end : RunEnd) → EndsSo (later (is_at_break breaks)) limit n s end count t
+    → reason_of [] breaks end t ≡ break_reason end
+unfolding first_changed
+break_told breaks limit n count s t ends.Limit h = refl
+break_told breaks limit n count s t ends.Stopped h = rw (held_later n (is_at_break breaks t) h.1) refl
+break_told breaks limit n count s t (ends.Answered a) h = refl
+
+told_so : (breaks : List Breakpoint) (run : RunOutcome) → reason_of [] breaks run.end run.state ≡ break_reason run.end
+    → gone_by [] breaks run ≡ to_a_break run
+told_so breaks run h = ap (λ reason. record { steps = run.count; reason = reason; machine = run.state }) h
+
+pub go_stops_at_breaks : GoStopsAtBreaks
+unfolding gone_to first_changed
+go_stops_at_breaks breaks limit s h =
+    let test = later (is_at_break breaks) in
+    let run = run_until test limit s in
+    let so = runs_end_so test limit s in
+    rw h (told_so breaks run (break_told breaks limit so.0 run.count s run.state run.end so.2))

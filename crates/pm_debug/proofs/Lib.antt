@@ -4,6 +4,7 @@ pub mod ChainLaws
 pub mod FrameLaws
 pub mod AheadLaws
 pub mod GoLaws
+pub mod WatchLaws
 pub mod Decimals
 pub mod ShortText
 pub mod StateLine

@@ -9,7 +9,7 @@ use Rattle.pm_calls.specs.Tables.{self_relative}
 use Rattle.pm_machine.specs.State.{State}
 use Rattle.pm_debug.specs.declared.breaks.Breakpoint.{Breakpoint}
 use Rattle.pm_debug.specs.declared.refusal.DebugRefusal.{DebugRefusal}
-use Rattle.pm_debug.specs.declared.refusal.DebugRefusal.TheVariants.{Full, NoBreak}
+use Rattle.pm_debug.specs.declared.refusal.DebugRefusal.TheVariants.{Full, NotSet}
 
 -- the breakpoint at a place
 abbrev pub break_at : ℕ → ℕ → ℕ → Breakpoint
@@ -31,7 +31,7 @@ with_break b breaks =
 
 -- one breakpoint less; one that is not set is refused
 unfoldable pub without_break : Breakpoint → List Breakpoint → Result (List Breakpoint) DebugRefusal
-without_break b breaks = if is_set b breaks then Ok (filter (λ c. not (is_same b c)) breaks) else Err NoBreak
+without_break b breaks = if is_set b breaks then Ok (filter (λ c. not (is_same b c)) breaks) else Err NotSet
 
 -- A place in the code, by what a machine or a frame holds: the low bytes of the words at SEG and at JTAB, and IPC less
 -- the place where the procedure is entered. There is none where one of the two addresses is odd.

@@ -1,9 +1,11 @@
 pub mod Trace
 pub mod Refusals
 pub mod Breaks
+pub mod Watches
 pub mod Views
 pub mod Frames
 pub mod Ahead
 pub mod Runs
+pub mod RunLaws
 pub mod Session
 pub mod Lending

@@ -3,11 +3,11 @@ use Rattle.std.specs.Prelude.{ℕ, Result, Ok, Err}
 use Rattle.pm_words.specs.declared.error.ExecError.{ExecError}
 use Rattle.pm_words.specs.declared.error.ExecError.TheVariants as errors
 use Rattle.pm_debug.specs.declared.refusal.DebugRefusal.{DebugRefusal}
-use Rattle.pm_debug.specs.declared.refusal.DebugRefusal.TheVariants.{Full, NoBreak, OddAddress, NoMemory, TooDeep}
+use Rattle.pm_debug.specs.declared.refusal.DebugRefusal.TheVariants.{Full, NotSet, OddAddress, NoMemory, TooDeep}
 
 abbrev pub number_of : DebugRefusal → ℕ
 number_of Full = 1
-number_of NoBreak = 2
+number_of NotSet = 2
 number_of OddAddress = 3
 number_of NoMemory = 4
 number_of TooDeep = 5

@@ -65,7 +65,7 @@ pub(crate) fn clear(breaks: &mut Breaks, old: Breakpoint) -> Result<(), DebugRef
     ensures kept { OnErr result (breaks.new ≡ breaks.old) }
 {
     if !is_set(breaks, old) {
-        return Err(DebugRefusal::NoBreak);
+        return Err(DebugRefusal::NotSet);
     }
     breaks.retain(|known| !is_same(old, *known));
     Ok(())

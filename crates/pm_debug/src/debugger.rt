@@ -7,34 +7,37 @@ ghost use Rattle.pm_debug.specs.Breaks.{break_at, place_in_code, with_break, wit
 ghost use Rattle.pm_debug.specs.Frames.{frames};
 ghost use Rattle.pm_debug.specs.Lending.{LendsMachine};
 ghost use Rattle.pm_debug.specs.Refusals.{or_refused};
-ghost use Rattle.pm_debug.specs.Runs.{breaks_after, breaks_or, gone, gone_out, gone_over, has_left, is_back, later};
-ghost use Rattle.pm_debug.specs.Runs.{most_steps};
+ghost use Rattle.pm_debug.specs.Runs.{gone, gone_out, gone_over, gone_to, has_left, is_back, is_there, most_steps, nowhere};
+ghost use Rattle.pm_debug.specs.Runs.{stops_after};
 ghost use Rattle.pm_machine.specs.Runs.{GaveUp};
 ghost use Rattle.pm_debug.specs.Trace.{trace_line};
 ghost use Rattle.pm_debug.specs.Views.{ShowsChain, bytes_from, console_end, dynamic_chain, local, stack_words};
 ghost use Rattle.pm_debug.specs.Views.{static_chain, words_from};
+ghost use Rattle.pm_debug.specs.Watches.{with_watch, without_watch};
 
 use crate::ahead::addresses_from;
 use crate::breaks::{Breakpoint, Breaks};
 use crate::frames::{Frame, frames};
 use crate::reason::BreakReason;
 use crate::refusal::{DebugRefusal, refusal_of};
-use crate::run::{Depth, MOST_STEPS, run, run_to};
+use crate::run::{Depth, MOST_STEPS, run};
 use crate::views::{DYNAMIC_LINK, STATIC_LINK, chain, words_at};
-use crate::{breaks, text};
+use crate::watches::Watches;
+use crate::{breaks, text, watches};
 use arrayvec::ArrayVec;
 use pm_machine::Machine;
 use pm_words::layout::STACK_END;
 use std::alloc::{AllocError, Global};
 use std::marker::Model;
 
-/// A machine, and the breakpoints at which a run of it stops, seen as the state of the machine and
-/// the list of the breakpoints. What it shows is the state as it is, whatever was shown, written or
-/// run before.
+/// A machine, and the breakpoints and the watched words at which a run of it stops, seen as the state
+/// of the machine and the lists of the breakpoints and of the watched addresses. What it shows is the
+/// state as it is, whatever was shown, written or run before.
 #[derive(Drop)]
 pub struct Debugger {
     machine: Machine,
     breaks: Breaks,
+    watches: Watches,
 }
 
 impl Model for Debugger {
@@ -42,18 +45,24 @@ impl Model for Debugger {
 
     ghost Value = { Debugged };
 
-    ghost view = { λ d. record { machine = d.machine; breaks = d.breaks.items } };
+    ghost view = { λ d. record {
+      machine = d.machine;
+      breaks = d.breaks.items;
+      watches = d.watches.items;
+    } };
 }
 
 impl Debugger {
-    /// A debugger of a machine, without breakpoints.
+    /// A debugger of a machine, without breakpoints and watched words.
     pub fn new(machine: Machine) -> Debugger
         ensures machine { result.machine ≡ machine }
         ensures breaks { result.breaks ≡ [] }
+        ensures watches { result.watches ≡ [] }
     {
         Debugger {
             machine,
             breaks: ArrayVec::new(),
+            watches: ArrayVec::new(),
         }
     }
 
@@ -72,7 +81,7 @@ impl Debugger {
         &self.machine
     }
 
-    /// The machine, without its breakpoints.
+    /// The machine, without its breakpoints and watched words.
     pub fn into_machine(self) -> Machine
         ensures machine { result ≡ self.machine }
     {
@@ -85,6 +94,7 @@ impl Debugger {
     /// breakpoints; `Full` for a new one beside 64.
     pub fn set_break(&mut self, segment: u8, procedure: u8, offset: u16) -> Result<(), DebugRefusal>
         ensures machine { self.new.machine ≡ self.old.machine }
+        ensures watches { self.new.watches ≡ self.old.watches }
         ensures set { OnOk result (with_break (break_at segment procedure offset) self.old.breaks
             ≡ Ok self.new.breaks) }
         ensures refused { IfErr result (λ refusal. with_break (break_at segment procedure offset) self.old.breaks
@@ -99,7 +109,7 @@ impl Debugger {
         breaks::set(&mut self.breaks, place)
     }
 
-    /// Takes a breakpoint away; `NoBreak` where it is not set.
+    /// Takes a breakpoint away; `NotSet` where it is not set.
     pub fn clear_break(
         &mut self,
         segment: u8,
@@ -107,6 +117,7 @@ impl Debugger {
         offset: u16,
     ) -> Result<(), DebugRefusal>
         ensures machine { self.new.machine ≡ self.old.machine }
+        ensures watches { self.new.watches ≡ self.old.watches }
         ensures cleared { OnOk result (without_break (break_at segment procedure offset) self.old.breaks
             ≡ Ok self.new.breaks) }
         ensures refused { IfErr result (λ refusal. without_break (break_at segment procedure offset) self.old.breaks
@@ -121,18 +132,60 @@ impl Debugger {
         breaks::clear(&mut self.breaks, place)
     }
 
-    /// Makes at most `limit` steps, and stops before that where a breakpoint matches after the first
-    /// step, where the program ends, and where a step waits or fails: how many steps went or ended
-    /// the program, and why no more. A breakpoint that matches at the limit is not told. After want
-    /// of memory the machine stands after the steps that went.
+    /// Watches the word at an even address: a run stops before a step, but the first, where it is
+    /// another than when the run began. One that is watched already stays, also beside 64 others;
+    /// `OddAddress` for an odd address, and `Full` for a new one beside 64.
+    pub fn set_watch(&mut self, address: u16) -> Result<(), DebugRefusal>
+        ensures machine { self.new.machine ≡ self.old.machine }
+        ensures breaks { self.new.breaks ≡ self.old.breaks }
+        ensures set { OnOk result (with_watch address self.old.watches ≡ Ok self.new.watches) }
+        ensures refused { IfErr result (λ refusal. with_watch address self.old.watches ≡ Err refusal) }
+        ensures kept { OnErr result (self.new ≡ self.old) }
+    {
+        watches::set(&mut self.watches, address)
+    }
+
+    /// Watches the word at an address no more; `NotSet` where it is not watched.
+    pub fn clear_watch(&mut self, address: u16) -> Result<(), DebugRefusal>
+        ensures machine { self.new.machine ≡ self.old.machine }
+        ensures breaks { self.new.breaks ≡ self.old.breaks }
+        ensures cleared { OnOk result (without_watch address self.old.watches ≡ Ok self.new.watches) }
+        ensures refused { IfErr result (λ refusal. without_watch address self.old.watches ≡ Err refusal) }
+        ensures kept { OnErr result (self.new ≡ self.old) }
+    {
+        watches::clear(&mut self.watches, address)
+    }
+
+    // Makes a run of at most `limit` steps.
+    fn run_to(&mut self, depth: Depth, limit: u64) -> Result<(u64, BreakReason), AllocError>
+        ensures breaks { self.new.breaks ≡ self.old.breaks }
+        ensures watches { self.new.watches ≡ self.old.watches }
+        ensures gone { IfOk result (λ r.
+            gone_to self.old.breaks self.old.watches (is_there depth) limit self.old.machine.state
+            ≡ record { steps = r.0; reason = r.1; machine = self.new.machine.state }) }
+        ensures err { OnErr result (GaveUp
+            (stops_after self.old.breaks self.old.watches (is_there depth) self.old.machine.state)
+            limit self.old.machine self.new.machine) }
+    {
+        let gone = run(&mut self.machine, &self.breaks, &self.watches, depth, limit)?;
+        Ok(gone)
+    }
+
+    /// Makes at most `limit` steps, and stops before that where after the first step a watched word is
+    /// another than when the run began or a breakpoint matches, where the program ends, and where a
+    /// step waits or fails: how many steps went or ended the program, and why no more. Of watched
+    /// words the first that changed is told, and before a breakpoint. A change or a breakpoint at the
+    /// limit is not told. After want of memory the machine stands after the steps that went.
     pub fn go(&mut self, limit: u64) -> Result<(u64, BreakReason), AllocError>
         ensures breaks { self.new.breaks ≡ self.old.breaks }
-        ensures gone { IfOk result (λ r. gone self.old.breaks limit self.old.machine.state
+        ensures watches { self.new.watches ≡ self.old.watches }
+        ensures gone { IfOk result (λ r. gone self.old.breaks self.old.watches limit self.old.machine.state
             ≡ record { steps = r.0; reason = r.1; machine = self.new.machine.state }) }
-        ensures err { OnErr result (GaveUp (breaks_after self.old.breaks) limit self.old.machine self.new.machine) }
+        ensures err { OnErr result (GaveUp
+            (stops_after self.old.breaks self.old.watches nowhere self.old.machine.state)
+            limit self.old.machine self.new.machine) }
     {
-        let gone = run(&mut self.machine, &self.breaks, limit)?;
-        Ok(gone)
+        self.run_to(Depth::Any, limit)
     }
 
     /// Makes one instruction, and where it is a call all that is called: steps until the machine stands
@@ -140,30 +193,30 @@ impl Debugger {
     /// 4,294,967,295 steps.
     pub fn step_over(&mut self) -> Result<(u64, BreakReason), AllocError>
         ensures breaks { self.new.breaks ≡ self.old.breaks }
-        ensures gone { IfOk result (λ r. gone_over self.old.breaks self.old.machine.state
+        ensures watches { self.new.watches ≡ self.old.watches }
+        ensures gone { IfOk result (λ r. gone_over self.old.breaks self.old.watches self.old.machine.state
             ≡ record { steps = r.0; reason = r.1; machine = self.new.machine.state }) }
-        ensures err { OnErr result (GaveUp
-            (later (breaks_or self.old.breaks (is_back self.old.machine.state.registers.mp)))
+        ensures err { OnErr result (GaveUp (stops_after self.old.breaks self.old.watches
+            (is_back self.old.machine.state.registers.mp) self.old.machine.state)
             most_steps self.old.machine self.new.machine) }
     {
         let depth = Depth::Back(self.machine.registers().mp);
-        let gone = run_to(&mut self.machine, &self.breaks, depth, MOST_STEPS)?;
-        Ok(gone)
+        self.run_to(depth, MOST_STEPS)
     }
 
     /// Makes what is left of the running procedure, with its return: steps until the machine stands in
     /// a frame above that of now. It stops as `go` does as well, and after 4,294,967,295 steps.
     pub fn finish(&mut self) -> Result<(u64, BreakReason), AllocError>
         ensures breaks { self.new.breaks ≡ self.old.breaks }
-        ensures gone { IfOk result (λ r. gone_out self.old.breaks self.old.machine.state
+        ensures watches { self.new.watches ≡ self.old.watches }
+        ensures gone { IfOk result (λ r. gone_out self.old.breaks self.old.watches self.old.machine.state
             ≡ record { steps = r.0; reason = r.1; machine = self.new.machine.state }) }
-        ensures err { OnErr result (GaveUp
-            (later (breaks_or self.old.breaks (has_left self.old.machine.state.registers.mp)))
+        ensures err { OnErr result (GaveUp (stops_after self.old.breaks self.old.watches
+            (has_left self.old.machine.state.registers.mp) self.old.machine.state)
             most_steps self.old.machine self.new.machine) }
     {
         let depth = Depth::Left(self.machine.registers().mp);
-        let gone = run_to(&mut self.machine, &self.breaks, depth, MOST_STEPS)?;
-        Ok(gone)
+        self.run_to(depth, MOST_STEPS)
     }
 
     /// The words on the stack from SP up, at most `n`, and none from 65,504 on. None of them want no memory.
@@ -262,6 +315,13 @@ impl Debugger {
         ensures breaks { result.now ≡ self.now.breaks }
     {
         self.breaks.as_slice()
+    }
+
+    /// The addresses of the watched words, in the order in which they were set.
+    pub fn watches(&self) -> &[u16]
+        ensures watches { result.now ≡ self.now.watches }
+    {
+        self.watches.as_slice()
     }
 
     /// The frames from MP on by their dynamic links, as the dynamic chain, each with the place that its

@@ -1,4 +1,4 @@
-//! The debugger: breakpoints, and what is shown of a machine.
+//! The debugger: breakpoints, watched words, and what is shown of a machine.
 #![tactic(auto)]
 
 mod ahead;
@@ -16,6 +16,7 @@ mod state_line;
 mod text;
 mod tracer;
 mod views;
+mod watches;
 
 pub use breaks::Breakpoint;
 pub use debugger::Debugger;

@@ -1,10 +1,12 @@
-//! Why a run to a breakpoint ends.
+//! Why a run of the debugger ends.
 
 use pm_words::ExecError;
 
-/// Why a run to a breakpoint ends.
+/// Why a run of the debugger ends.
 #[derive(Clone, Copy, Debug, PartialEq, Eq)]
 pub enum BreakReason {
+    /// The watched word at this address is another than when the run began.
+    Changed(u16),
     /// A breakpoint matches: the machine stands before the instruction there.
     Break,
     /// The machine stands where a run over calls is to stop: the instruction is done, or the

@@ -10,12 +10,12 @@ use thiserror::Error;
 /// Why the debugger refuses a call. Nothing has changed then.
 #[derive(Clone, Copy, Debug, Drop, Error, PartialEq, Eq)]
 pub enum DebugRefusal {
-    /// 1: there are 64 breakpoints already.
-    #[error("too many breakpoints")]
+    /// 1: there are 64 breakpoints, or 64 watched words, already.
+    #[error("too many breakpoints or watched words")]
     Full,
-    /// 2: there is no such breakpoint.
-    #[error("no such breakpoint")]
-    NoBreak,
+    /// 2: there is no such breakpoint, or no such watched word.
+    #[error("not set")]
+    NotSet,
     /// 3: an odd address on the way.
     #[error("odd address")]
     OddAddress,
@@ -34,7 +34,7 @@ impl DebugRefusal {
     {
         match self {
             DebugRefusal::Full => 1,
-            DebugRefusal::NoBreak => 2,
+            DebugRefusal::NotSet => 2,
             DebugRefusal::OddAddress => 3,
             DebugRefusal::NoMemory => 4,
             DebugRefusal::TooDeep => 5,

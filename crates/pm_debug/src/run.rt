@@ -1,31 +1,72 @@
-//! Runs to a breakpoint.
+//! Runs to a breakpoint, to a watched word that has changed, or to a depth of calls.
 
 ghost use Rattle.std.specs.Prelude.{◌≡◌, IfOk, OnErr};
 ghost use Rattle.pm_machine.specs.Runs.{GaveUp};
-ghost use Rattle.pm_debug.specs.Runs.{breaks_after, breaks_or, gone, gone_to, has_ended, is_there, later};
-ghost use Rattle.pm_debug.specs.Runs.{reason_of, reason_there};
+ghost use Rattle.pm_debug.specs.Runs.{gone_to, has_ended, is_there, later, reason_of, stopped_so, stops_at};
+ghost use Rattle.pm_debug.specs.Runs.{stops_after};
+ghost use Rattle.pm_debug.specs.Watches.{has_changed};
 
 use crate::breaks::{Breakpoint, is_at_break};
 use crate::reason::BreakReason;
+use crate::watches::{WatchedWord, Watches, first_changed, watched_words};
 use pm_machine::{Machine, RunEnd, Status, Stop, StopTest};
 use std::alloc::AllocError;
 
-/// The breakpoints, as what may stop a run.
+/// The most steps of a run over calls.
+pub(crate) const MOST_STEPS: u64 = 4_294_967_295;
+
+/// How far a run goes from a frame.
 #[derive(Clone, Copy)]
-struct AtBreaks<'a>(&'a [Breakpoint]);
+pub(crate) enum Depth {
+    /// To no depth: as far as its limit.
+    Any,
+    /// Until the machine stands in the frame at this address again, or in one above it.
+    Back(u16),
+    /// Until the frame at this address is left.
+    Left(u16),
+}
 
-impl StopTest for AtBreaks<'_> {
-    ghost use Rattle.pm_debug.specs.Runs.{breaks_after};
+/// Whether a machine stands where a run is to stop by its depth.
+fn is_there(machine: &Machine, depth: Depth) -> bool
+    ensures there { result ≡ is_there depth machine.now.state }
+{
+    let mp = machine.registers().mp;
+    match depth {
+        Depth::Any => false,
+        Depth::Back(frame) => frame <= mp,
+        Depth::Left(frame) => frame < mp,
+    }
+}
 
-    ghost stops = { λ b. breaks_after b.0.now };
+/// What may stop a run before a step: its depth, a watched word that has changed, or a breakpoint.
+#[derive(Clone, Copy)]
+struct Stops<'a> {
+    watched: &'a [WatchedWord],
+    breaks: &'a [Breakpoint],
+    depth: Depth,
+}
+
+impl StopTest for Stops<'_> {
+    ghost use Rattle.pm_debug.specs.Runs.{is_there, later, stops_at};
+
+    ghost stops = { λ t. later (stops_at t.watched.now t.breaks.now (is_there t.depth)) };
 
     fn stops(&self, count: u64, machine: &Machine) -> bool {
-        count != 0 && is_at_break(machine, self.0)
+        count != 0
+            && (is_there(machine, self.depth)
+                || has_changed(self.watched, machine)
+                || is_at_break(machine, self.breaks))
     }
 
     fn never_stops(&self) -> bool {
-        self.0.is_empty()
+        self.watched.is_empty() && self.breaks.is_empty() && matches!(self.depth, Depth::Any)
     }
+}
+
+fn has_changed(watched: &[WatchedWord], machine: &Machine) -> bool
+    ensures changed { result ≡ has_changed watched.now machine.now.state.memory }
+{
+    first_changed(watched, machine.memory()).is_some()
 }
 
 fn has_ended(status: Status) -> bool
@@ -34,107 +75,60 @@ fn has_ended(status: Status) -> bool
     matches!(status, Status::Ended)
 }
 
-/// Why a run that breakpoints may stop makes no more steps.
-fn reason_of(end: RunEnd) -> BreakReason
-    ensures reason { result ≡ reason_of end }
+/// Why a run stops before a step: a watched word that has changed is told before a breakpoint, and
+/// this before the depth.
+fn stopped_so(watched: &[WatchedWord], breaks: &[Breakpoint], machine: &Machine) -> BreakReason
+    ensures reason { result ≡ stopped_so watched.now breaks.now machine.now.state }
+{
+    match first_changed(watched, machine.memory()) {
+        Some(address) => BreakReason::Changed(address),
+        None if is_at_break(machine, breaks) => BreakReason::Break,
+        None => BreakReason::There,
+    }
+}
+
+/// Why a run makes no more steps.
+fn reason_of(
+    watched: &[WatchedWord],
+    breaks: &[Breakpoint],
+    machine: &Machine,
+    end: RunEnd,
+) -> BreakReason
+    ensures reason { result ≡ reason_of watched.now breaks.now end machine.now.state }
 {
     match end {
         RunEnd::Limit | RunEnd::Answered(Stop::Went) => BreakReason::Limit,
-        RunEnd::Stopped => BreakReason::Break,
+        RunEnd::Stopped => stopped_so(watched, breaks, machine),
         RunEnd::Answered(Stop::Waiting) => BreakReason::Waiting,
         RunEnd::Answered(Stop::Ended) => BreakReason::Ended,
         RunEnd::Answered(Stop::Halted(error)) => BreakReason::Halted(error),
     }
 }
 
-/// Makes at most `limit` steps, and stops before that at a breakpoint.
-#[tactic(auto, unfolding(crate::specs::Runs::gone))]
+/// Makes at most `limit` steps, and stops before that where a watched word is another than now, at a
+/// breakpoint, or where the depth is reached.
+#[tactic(auto, unfolding(crate::specs::Runs::gone_to))]
 pub(crate) fn run(
     machine: &mut Machine,
     breaks: &[Breakpoint],
+    watches: &Watches,
+    depth: Depth,
     limit: u64,
 ) -> Result<(u64, BreakReason), AllocError>
-    ensures gone { IfOk result (λ r. gone breaks.now limit machine.old.state
+    ensures gone { IfOk result (λ r. gone_to breaks.now watches.now.items (is_there depth) limit machine.old.state
         ≡ record { steps = r.0; reason = r.1; machine = machine.new.state }) }
-    ensures err { OnErr result (GaveUp (breaks_after breaks.now) limit machine.old machine.new) }
+    ensures err { OnErr result (GaveUp (stops_after breaks.now watches.now.items (is_there depth) machine.old.state)
+        limit machine.old machine.new) }
 {
     if has_ended(machine.status()) {
         return Ok((0, BreakReason::Ended));
     }
-    let (steps, end) = machine.run_until(limit, &AtBreaks(breaks))?;
-    Ok((steps, reason_of(end)))
-}
-
-/// The most steps of a run over calls.
-pub(crate) const MOST_STEPS: u64 = 4_294_967_295;
-
-/// How far a run over calls goes from a frame.
-#[derive(Clone, Copy)]
-pub(crate) enum Depth {
-    /// Until the machine stands in the frame at this address again, or in one above it.
-    Back(u16),
-    /// Until the frame at this address is left.
-    Left(u16),
-}
-
-/// Whether a machine stands where a run over calls is to stop.
-fn is_there(machine: &Machine, depth: Depth) -> bool
-    ensures there { result ≡ is_there depth machine.now.state }
-{
-    let mp = machine.registers().mp;
-    match depth {
-        Depth::Back(frame) => frame <= mp,
-        Depth::Left(frame) => frame < mp,
-    }
-}
-
-/// The breakpoints, and how far a run goes.
-#[derive(Clone, Copy)]
-struct AtDepth<'a> {
-    breaks: &'a [Breakpoint],
-    depth: Depth,
-}
-
-impl StopTest for AtDepth<'_> {
-    ghost use Rattle.pm_debug.specs.Runs.{breaks_or, is_there, later};
-
-    ghost stops = { λ t. later (breaks_or t.breaks.now (is_there t.depth)) };
-
-    fn stops(&self, count: u64, machine: &Machine) -> bool {
-        count != 0 && (is_at_break(machine, self.breaks) || is_there(machine, self.depth))
-    }
-
-    fn never_stops(&self) -> bool {
-        false
-    }
-}
-
-/// Why a run over calls makes no more steps.
-fn reason_there(machine: &Machine, breaks: &[Breakpoint], end: RunEnd) -> BreakReason
-    ensures reason { result ≡ reason_there breaks.now end machine.now.state }
-{
-    match end {
-        RunEnd::Stopped if !is_at_break(machine, breaks) => BreakReason::There,
-        end => reason_of(end),
-    }
-}
-
-/// Makes at most `limit` steps, and stops before that at a breakpoint or where the depth is reached.
-#[tactic(auto, unfolding(crate::specs::Runs::gone_to))]
-pub(crate) fn run_to(
-    machine: &mut Machine,
-    breaks: &[Breakpoint],
-    depth: Depth,
-    limit: u64,
-) -> Result<(u64, BreakReason), AllocError>
-    ensures gone { IfOk result (λ r. gone_to breaks.now (is_there depth) limit machine.old.state
-        ≡ record { steps = r.0; reason = r.1; machine = machine.new.state }) }
-    ensures err { OnErr result (GaveUp (later (breaks_or breaks.now (is_there depth))) limit machine.old machine.new) }
-{
-    if has_ended(machine.status()) {
-        return Ok((0, BreakReason::Ended));
-    }
-    let test = AtDepth { breaks, depth };
+    let watched = watched_words(machine.memory(), watches);
+    let test = Stops {
+        watched: &watched,
+        breaks,
+        depth,
+    };
     let (steps, end) = machine.run_until(limit, &test)?;
-    Ok((steps, reason_there(machine, breaks, end)))
+    Ok((steps, reason_of(&watched, breaks, machine, end)))
 }

@@ -11,6 +11,7 @@ use Rattle.pm_debug.specs.Runs.{gone, gone_out, gone_over}
 use Rattle.pm_debug.specs.Session.{Session}
 use Rattle.pm_debug.specs.Trace.{trace_line}
 use Rattle.pm_debug.specs.Views.{dynamic_chain, local, stack_words, static_chain}
+use Rattle.pm_debug.specs.Watches.{with_watch, without_watch}
 use Rattle.pm_debug.specs.declared.breaks.Breakpoint.{Breakpoint}
 use Rattle.pm_debug.specs.declared.reason.BreakReason.{BreakReason}
 use Rattle.pm_debug.specs.declared.reason.BreakReason.TheVariants as reasons
@@ -39,8 +40,9 @@ place_text (Some at) (Some keeps) = numbers_text (at.0 ∷ at.1 ∷ keeps ∷ []
 place_text (Some at) None = codes "none"
 place_text None keeps = codes "none"
 
--- as the last line of a trace, of the steps of this run alone
+-- as the last line of a trace, of the steps of this run alone; behind them of a changed word its address
 abbrev pub gone_text : BreakReason → ℕ → List ℕ
+gone_text (reasons.Changed address) steps = codes "changed " ++ (decimal steps ++ (32 ∷ decimal address))
 gone_text reasons.Break steps = codes "break " ++ decimal steps
 gone_text reasons.There steps = codes "stop " ++ decimal steps
 gone_text reasons.Limit steps = last_line endings.Limit steps
@@ -59,14 +61,16 @@ registers_text r =
 unfoldable pub command_text : Command → Session → Option (List ℕ)
 command_text (commands.Break s p o) d = Some (done_text (with_break (break_at s p o) d.breaks))
 command_text (commands.Clear s p o) d = Some (done_text (without_break (break_at s p o) d.breaks))
+command_text (commands.Watch a) d = Some (done_text (with_watch a d.watches))
+command_text (commands.Unwatch a) d = Some (done_text (without_watch a d.watches))
 command_text (commands.Poke a w) d = Some (if is_even a then codes "ok" else refused_text OddAddress)
 command_text (commands.Key b) d = Some (codes "ok")
 command_text (commands.Go n) d =
-    Some (gone_text (gone d.breaks n d.machine).reason (gone d.breaks n d.machine).steps)
+    Some (gone_text (gone d.breaks d.watches n d.machine).reason (gone d.breaks d.watches n d.machine).steps)
 command_text commands.Step d =
-    Some (gone_text (gone_over d.breaks d.machine).reason (gone_over d.breaks d.machine).steps)
+    Some (gone_text (gone_over d.breaks d.watches d.machine).reason (gone_over d.breaks d.watches d.machine).steps)
 command_text commands.Finish d =
-    Some (gone_text (gone_out d.breaks d.machine).reason (gone_out d.breaks d.machine).steps)
+    Some (gone_text (gone_out d.breaks d.watches d.machine).reason (gone_out d.breaks d.watches d.machine).steps)
 command_text (commands.Stack n) d = Some (numbers_text (stack_words d.machine n))
 command_text (commands.Static n) d = Some (chain_text (static_chain d.machine n))
 command_text (commands.Dynamic n) d = Some (chain_text (dynamic_chain d.machine n))
@@ -83,15 +87,22 @@ abbrev pub with_breaks : Session → Result (List Breakpoint) DebugRefusal → S
 with_breaks d (Ok breaks) = record d { breaks = breaks }
 with_breaks d (Err refusal) = d
 
+-- the watched words after one was added or taken away; a refusal leaves them
+abbrev pub with_watches : Session → Result (List ℕ) DebugRefusal → Session
+with_watches d (Ok watches) = record d { watches = watches }
+with_watches d (Err refusal) = d
+
 -- the debugger after a command; those that are not named here only show it, or end the session
 unfoldable pub after_command : Command → Session → Session
 after_command (commands.Break s p o) d = with_breaks d (with_break (break_at s p o) d.breaks)
 after_command (commands.Clear s p o) d = with_breaks d (without_break (break_at s p o) d.breaks)
+after_command (commands.Watch a) d = with_watches d (with_watch a d.watches)
+after_command (commands.Unwatch a) d = with_watches d (without_watch a d.watches)
 after_command (commands.Poke a w) d = record d { machine = next d.machine (Poke a w) }
 after_command (commands.Key b) d = record d { machine = next d.machine (Key b) }
-after_command (commands.Go n) d = record d { machine = (gone d.breaks n d.machine).machine }
-after_command commands.Step d = record d { machine = (gone_over d.breaks d.machine).machine }
-after_command commands.Finish d = record d { machine = (gone_out d.breaks d.machine).machine }
+after_command (commands.Go n) d = record d { machine = (gone d.breaks d.watches n d.machine).machine }
+after_command commands.Step d = record d { machine = (gone_over d.breaks d.watches d.machine).machine }
+after_command commands.Finish d = record d { machine = (gone_out d.breaks d.watches d.machine).machine }
 after_command other d = d
 
 -- what is answered to a line, without a line feed; to one that is no command `?`

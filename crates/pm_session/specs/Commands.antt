@@ -108,6 +108,9 @@ command_rows =
     ∷ (codes "console", codes " N", one 65535 (λ n. commands.Show (views.Console n)))
     ∷ (codes "step", [], alone commands.Step)
     ∷ (codes "finish", [], alone commands.Finish)
+    ∷ (codes "watch", codes " A", one 65535 commands.Watch)
+    ∷ (codes "unwatch", codes " A", one 65535 commands.Unwatch)
+    ∷ (codes "watches", [], alone (commands.Show views.Watches))
     ∷ (codes "help", [], alone (commands.Show views.Help))
     ∷ (codes "quit", [], alone commands.Quit)
     ∷ []

@@ -35,9 +35,9 @@ behind_quit [] input = input
 behind_quit (line ∷ lines) input =
     if is_quit (command_of line) then drop (length line + 1) input else behind_quit lines (drop (length line + 1) input)
 
--- a debugger of a machine, without breakpoints
+-- a debugger of a machine, without breakpoints and watched words
 abbrev pub opened : State → Session
-opened machine = record { machine = machine; breaks = [] }
+opened machine = record { machine = machine; breaks = []; watches = [] }
 
 -- the answers to an input, and what of it is left unread
 pub record Told : Type 0 where

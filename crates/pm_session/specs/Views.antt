@@ -1,4 +1,5 @@
--- What the commands answer that show the memory, the code, the breakpoints, the frames, the console and the commands.
+-- What the commands answer that show the memory, the code, the breakpoints, the watched words, the frames, the console
+-- and the commands.
 use Rattle.std.specs.Prelude.{ℕ, ◌+◌, ◌/◌, ◌%◌, ◌&&◌, nat_le, List, [], ◌∷◌, ◌++◌, map, Option, Some, None}
 use Rattle.std.specs.Prelude.{if◌then◌else◌, codes}
 use Rattle.std.specs.Fmt.{decimal}
@@ -18,7 +19,7 @@ use Rattle.pm_debug.specs.declared.refusal.DebugRefusal.TheVariants.{OddAddress}
 use Rattle.pm_session.specs.declared.commands.View.{View}
 use Rattle.pm_session.specs.declared.commands.View.TheVariants as views
 use Rattle.pm_session.specs.Commands.{Reading, command_rows}
-use Rattle.pm_session.specs.Texts.{chain_text, parts_text, refused_text}
+use Rattle.pm_session.specs.Texts.{chain_text, numbers_text, parts_text, refused_text}
 
 -- ---- places in the code
 
@@ -90,6 +91,7 @@ view_text (views.Peek a n) d = chain_text (words_from d.machine a n)
 view_text (views.Bytes a n) d = bytes_text (bytes_from d.machine a n)
 view_text views.Where d = where_text (place_in_code d.machine) d.machine
 view_text views.Breaks d = breaks_text d.breaks
+view_text views.Watches d = numbers_text d.watches
 view_text (views.Frames n) d = frames_text (frames d.machine n)
 view_text (views.Ahead n) d = list_text (place_in_code d.machine) d.machine (addresses_ahead d.machine n)
 view_text (views.Console n) d = quoted (console_end d.machine n)

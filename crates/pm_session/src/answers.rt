@@ -44,6 +44,7 @@ fn gone(alloc: Global, gone: (u64, BreakReason)) -> Result<String, AllocError>
 {
     let (steps, reason) = gone;
     let ending = match reason {
+        BreakReason::Changed(address) => return format!(in alloc; "changed {steps} {address}"),
         BreakReason::Break => return format!(in alloc; "break {steps}"),
         BreakReason::There => return format!(in alloc; "stop {steps}"),
         BreakReason::Limit => Ending::Limit,
@@ -125,6 +126,8 @@ fn do_command(
         Command::Clear(segment, procedure, offset) => {
             done(alloc, debugger.clear_break(segment, procedure, offset))
         }
+        Command::Watch(address) => done(alloc, debugger.set_watch(address)),
+        Command::Unwatch(address) => done(alloc, debugger.clear_watch(address)),
         Command::Poke(address, word) => done(alloc, poke(debugger, address, word)),
         Command::Key(byte) => {
             key(debugger, byte)?;

@@ -20,11 +20,15 @@ pub enum Command {
     Break(u8, u8, u16),
     /// Takes a breakpoint away.
     Clear(u8, u8, u16),
+    /// Watches the word at an address.
+    Watch(u16),
+    /// Watches it no more.
+    Unwatch(u16),
     /// Writes a word: address and word.
     Poke(u16, u16),
     /// Lets one more byte wait on the console.
     Key(u8),
-    /// Makes at most so many steps, up to a breakpoint.
+    /// Makes at most so many steps, up to a breakpoint or to a watched word that has changed.
     Go(u32),
     /// Makes one instruction, and where it is a call all that is called.
     Step,
@@ -61,6 +65,8 @@ pub enum View {
     Where,
     /// The breakpoints.
     Breaks,
+    /// The addresses of the watched words.
+    Watches,
     /// The frames of the dynamic chain with where they return to, at most so many.
     Frames(u16),
     /// The next instructions, at most so many.
@@ -276,6 +282,9 @@ fn command_named(name: &[u8], numbers: &[u32]) -> Option<Command>
         [n] if is_text(name, "console") => Command::Show(View::Console(word(*n)?)),
         [] if is_text(name, "step") => Command::Step,
         [] if is_text(name, "finish") => Command::Finish,
+        [a] if is_text(name, "watch") => Command::Watch(word(*a)?),
+        [a] if is_text(name, "unwatch") => Command::Unwatch(word(*a)?),
+        [] if is_text(name, "watches") => Command::Show(View::Watches),
         [] if is_text(name, "help") => Command::Show(View::Help),
         [] if is_text(name, "quit") => Command::Quit,
         _ => return None,

@@ -1,4 +1,5 @@
-//! What the commands answer that show the memory, the code, the breakpoints, the frames, the console and the commands.
+//! What the commands answer that show the memory, the code, the breakpoints, the watched words, the frames, the console
+//! and the commands.
 ghost use Rattle.std.specs.Prelude.{◌≡◌, ◌<◌, ◌++◌, IfOk, OnOk, Option, Some, List, codes, map, string_bytes};
 ghost use Rattle.pm_debug.specs.Session.{session_of};
 ghost use Rattle.pm_debug.specs.Views.{ShowsChain};
@@ -9,7 +10,7 @@ ghost use Rattle.pm_session.specs.Views.{pair_text, shown_character, view_text, 
 
 use crate::commands::View;
 use crate::spelled::{FrameText, Pair, Point, Quoted};
-use crate::texts::{chain, refused};
+use crate::texts::{chain, numbers, refused};
 use pm_debug::{Breakpoint, DebugRefusal, Debugger, Frame};
 use pm_disasm::Line;
 use pm_machine::Machine;
@@ -18,7 +19,7 @@ use std::alloc::{AllocError, Global};
 /// The commands.
 const HELP: &str = concat!(
     "break S P O, clear S P O, poke A W, key B, go N, stack N, static N, dynamic N, local D B, regs, place N, trace, ",
-    "peek A N, bytes A N, where, breaks, frames N, list N, console N, step, finish, help, quit",
+    "peek A N, bytes A N, where, breaks, frames N, list N, console N, step, finish, watch A, unwatch A, watches, help, quit",
 );
 
 /// Breakpoints.
@@ -167,6 +168,7 @@ pub(crate) fn shown(alloc: Global, debugger: &Debugger, view: View) -> Result<St
         View::Bytes(address, n) => bytes(alloc, debugger.bytes(address, n)),
         View::Where => standing(alloc, debugger.place_in_code(), machine),
         View::Breaks => breaks(alloc, debugger.breaks()),
+        View::Watches => numbers(alloc, debugger.watches()),
         View::Frames(limit) => frames(alloc, debugger.frames(alloc, limit)),
         View::Ahead(n) => {
             let addresses = debugger.addresses_ahead(alloc, n)?;

@@ -1,0 +1,52 @@
+-- Laws of the debugger's runs.
+use Rattle.std.specs.Prelude.{◌≡◌, ◌≢◌, ℕ, ◌<◌, ◌≤◌, Bool, false, List, [], ◌∷◌, ◌++◌, All}
+use Rattle.pm_words.specs.Words.{word_at}
+use Rattle.pm_machine.specs.declared.state.RunEnd.{RunEnd}
+use Rattle.pm_machine.specs.declared.state.RunEnd.TheVariants as ends
+use Rattle.pm_machine.specs.State.{State}
+use Rattle.pm_machine.specs.Runs.{AllWent, RunOutcome, after_steps, run_until}
+use Rattle.pm_debug.specs.declared.breaks.Breakpoint.{Breakpoint}
+use Rattle.pm_debug.specs.declared.reason.BreakReason.{BreakReason}
+use Rattle.pm_debug.specs.declared.reason.BreakReason.TheVariants as reasons
+use Rattle.pm_debug.specs.Breaks.{is_at_break}
+use Rattle.pm_debug.specs.Runs.{Gone, answered_so, gone, gone_to, has_ended, later}
+
+-- each word at one of these addresses is in t as it is in s
+abbrev pub AreAsIn : State → List ℕ → State → Type 0
+AreAsIn s addresses t = All (λ a. word_at t.memory a ≡ word_at s.memory a) addresses
+
+-- A run from s with these words watched was stopped by that at a, after so many steps, each of which went. There the
+-- word at a is another than when the run began, and none is that was watched before a; and after each number of steps
+-- that is smaller, all watched words are as they were.
+pub record StopsAtChange (watches : List ℕ) (s : State) (a steps : ℕ) (t : State) : Type 0 where
+  pub some : 1 ≤ steps
+  pub went : AllWent steps s
+  pub left : t ≡ after_steps steps s
+  pub changed : word_at t.memory a ≢ word_at s.memory a
+  pub front : List ℕ
+  pub back : List ℕ
+  pub order : watches ≡ front ++ a ∷ back
+  pub first : AreAsIn s front t
+  pub before : (k : ℕ) → k < steps → AreAsIn s watches (after_steps k s)
+
+-- what it means that a run answers that the word at an address has changed
+abbrev pub ChangesAreFirst : Type 0
+ChangesAreFirst =
+    (breaks : List Breakpoint) (watches : List ℕ) (test : State → Bool) (limit : ℕ) (s : State) (a : ℕ) →
+    (gone_to breaks watches test limit s).reason ≡ reasons.Changed a →
+    StopsAtChange watches s a (gone_to breaks watches test limit s).steps (gone_to breaks watches test limit s).machine
+
+-- why a run ends that breakpoints alone may stop
+abbrev pub break_reason : RunEnd → BreakReason
+break_reason ends.Limit = reasons.Limit
+break_reason ends.Stopped = reasons.Break
+break_reason (ends.Answered answer) = answered_so answer
+
+abbrev pub to_a_break : RunOutcome → Gone
+to_a_break run = record { steps = run.count; reason = break_reason run.end; machine = run.state }
+
+-- without watched words a run of at most so many steps is the run of the machine that breakpoints alone may stop
+abbrev pub GoStopsAtBreaks : Type 0
+GoStopsAtBreaks =
+    (breaks : List Breakpoint) (limit : ℕ) (s : State) → has_ended s.status ≡ false →
+    gone breaks [] limit s ≡ to_a_break (run_until (later (is_at_break breaks)) limit s)

@@ -18,14 +18,14 @@ use Rattle.pm_machine.proofs.UntilLaws.{after_more, after_none, runs_end_so}
 use Rattle.pm_debug.specs.declared.breaks.Breakpoint.{Breakpoint}
 use Rattle.pm_debug.specs.declared.reason.BreakReason.TheVariants as reasons
 use Rattle.pm_debug.specs.declared.refusal.DebugRefusal.{DebugRefusal}
-use Rattle.pm_debug.specs.Breaks.{break_at, is_at_break, with_break, without_break}
-use Rattle.pm_debug.specs.Runs.{breaks_after, breaks_or, gone, gone_by, gone_there, gone_to, has_ended, has_left}
-use Rattle.pm_debug.specs.Runs.{is_back, later, most_steps}
+use Rattle.pm_debug.specs.Breaks.{break_at, with_break, without_break}
+use Rattle.pm_debug.specs.Runs.{gone_by, gone_to, has_ended, has_left, is_back, later, most_steps, nowhere, stops_after, stops_at}
 use Rattle.pm_debug.specs.Session.{Session}
+use Rattle.pm_debug.specs.Watches.{watched_words, with_watch, without_watch}
 use Rattle.pm_session.specs.declared.commands.Command.{Command}
 use Rattle.pm_session.specs.declared.commands.Command.TheVariants as commands
 use Rattle.pm_session.specs.Commands.{command_of}
-use Rattle.pm_session.specs.Answers.{after_command, session_after, with_breaks}
+use Rattle.pm_session.specs.Answers.{after_command, session_after, with_breaks, with_watches}
 use Rattle.pm_session.specs.Sessions.{answer_line, answers, is_quit, opened}
 use Rattle.pm_headline.specs.Shown.{AreEventsOf, AreEventsOfLines, GoesOn, GoesOnAfter, SessionsShowTheTable, StopsAfter}
 use Rattle.pm_headline.specs.Shown.StopsAfter.{rests, all, breaks_there, stops}
@@ -86,23 +86,20 @@ run_steps : (test : State → Bool) (n : ℕ) (s : State) → Makes test n s (ru
 run_steps test n s = let h = runs_end_so (later test) n s in
     made_by test n h.0 s (run_until (later test) n s).end (run_until (later test) n s).count (run_until (later test) n s).state h.1 h.2
 
-gone_steps : (breaks : List Breakpoint) (n : ℕ) (s : State) → Makes (is_at_break breaks) n s (gone breaks n s).machine
-unfolding gone
-gone_steps breaks n s = ended_steps (has_ended s.status) refl
-  where
-    ended_steps : (b : Bool) → has_ended s.status ≡ b → Makes (is_at_break breaks) n s
-        (if b then (record { steps = 0; reason = reasons.Ended; machine = s }) else gone_by (run_until (breaks_after breaks) n s)).machine
-    ended_steps true e = (0, rests e, after_none s)
-    ended_steps false e = run_steps (is_at_break breaks) n s
+-- the test that stops a run which begins at s
+abbrev Stops : List Breakpoint → List ℕ → (State → Bool) → State → State → Bool
+Stops breaks watches test s = stops_at (watched_words watches s.memory) breaks test
 
-gone_to_steps : (breaks : List Breakpoint) (test : State → Bool) (n : ℕ) (s : State) → Makes (breaks_or breaks test) n s (gone_to breaks test n s).machine
+gone_steps : (breaks : List Breakpoint) (watches : List ℕ) (test : State → Bool) (n : ℕ) (s : State)
+    → Makes (Stops breaks watches test s) n s (gone_to breaks watches test n s).machine
 unfolding gone_to
-gone_to_steps breaks test n s = ended_steps (has_ended s.status) refl
+gone_steps breaks watches test n s = ended_steps (has_ended s.status) refl
   where
-    ended_steps : (b : Bool) → has_ended s.status ≡ b → Makes (breaks_or breaks test) n s
-        (if b then (record { steps = 0; reason = reasons.Ended; machine = s }) else gone_there breaks (run_until (later (breaks_or breaks test)) n s)).machine
+    ended_steps : (b : Bool) → has_ended s.status ≡ b → Makes (Stops breaks watches test s) n s
+        (if b then (record { steps = 0; reason = reasons.Ended; machine = s }) else gone_by (watched_words watches s.memory) breaks
+            (run_until (stops_after breaks watches test s) n s)).machine
     ended_steps true e = (0, rests e, after_none s)
-    ended_steps false e = run_steps (breaks_or breaks test) n s
+    ended_steps false e = run_steps (Stops breaks watches test s) n s
 
 -- ---- commands
 
@@ -113,27 +110,33 @@ kept : (d : Session) (r : Result (List Breakpoint) DebugRefusal) → (with_break
 kept d (Ok breaks) = refl
 kept d (Err refusal) = refl
 
+kept_watching : (d : Session) (r : Result (List ℕ) DebugRefusal) → (with_watches d r).machine ≡ d.machine
+kept_watching d (Ok watches) = refl
+kept_watching d (Err refusal) = refl
+
 command_made : (command : Option Command) (d : Session) → Made command d
 unfolding after_command
 command_made None d = ([], refl, refl)
 command_made (Some (commands.Break s p o)) d = ([], refl, kept d (with_break (break_at s p o) d.breaks))
 command_made (Some (commands.Clear s p o)) d = ([], refl, kept d (without_break (break_at s p o) d.breaks))
+command_made (Some (commands.Watch a)) d = ([], refl, kept_watching d (with_watch a d.watches))
+command_made (Some (commands.Unwatch a)) d = ([], refl, kept_watching d (without_watch a d.watches))
 command_made (Some (commands.Poke a w)) d = (Poke a w ∷ [], refl, refl)
 command_made (Some (commands.Key b)) d = (Key b ∷ [], refl, refl)
 command_made (Some (commands.Go n)) d =
-    let made = gone_steps d.breaks n d.machine in
+    let made = gone_steps d.breaks d.watches nowhere n d.machine in
     (replicate made.0 Step, (made.0, made.1, refl), made.2 ∙ all_steps made.0 d.machine)
 command_made (Some commands.Step) d =
-    let made = gone_to_steps d.breaks (is_back d.machine.registers.mp) most_steps d.machine in
+    let made = gone_steps d.breaks d.watches (is_back d.machine.registers.mp) most_steps d.machine in
     (replicate made.0 Step, (made.0, made.1, refl), made.2 ∙ all_steps made.0 d.machine)
 command_made (Some commands.Finish) d =
-    let made = gone_to_steps d.breaks (has_left d.machine.registers.mp) most_steps d.machine in
+    let made = gone_steps d.breaks d.watches (has_left d.machine.registers.mp) most_steps d.machine in
     (replicate made.0 Step, (made.0, made.1, refl), made.2 ∙ all_steps made.0 d.machine)
 command_made (Some command) d = ([], refl, refl)
 
 -- ---- lines
 
--- what a session of a debugger, whatever its breakpoints, comes to after lines
+-- what a session of a debugger, whatever its breakpoints and watched words, comes to after lines
 record Shows (lines : List (List ℕ)) (d : Session) : Type 0 where
   events : List Event
   named : AreEventsOfLines lines d events

@@ -9,6 +9,7 @@ use Rattle.pm_machine.specs.declared.state.Stop.TheVariants as stop
 use Rattle.pm_debug.specs.Breaks.{is_at_break}
 use Rattle.pm_debug.specs.Runs.{has_ended}
 use Rattle.pm_debug.specs.Session.{Session}
+use Rattle.pm_debug.specs.Watches.{has_changed, watched_words}
 use Rattle.pm_session.specs.declared.commands.Command.{Command}
 use Rattle.pm_session.specs.declared.commands.Command.TheVariants as commands
 use Rattle.pm_session.specs.Answers.{session_after}
@@ -17,8 +18,8 @@ use Rattle.pm_session.specs.Sessions.{answers, is_quit, opened}
 
 -- ---- the steps of `go`, `step` and `finish`
 
--- the machine goes on after each of so many steps, and the test, as of a breakpoint, holds before none of them but
--- perhaps the first
+-- the machine goes on after each of so many steps, and the test, as of a breakpoint or of a changed word, holds before
+-- none of them but perhaps the first
 pub record GoesOn (test : State → Bool) (n : ℕ) (s : State) : Type 0 where
   pub went : AllWent n s
   pub free : (k : ℕ) → 1 ≤ k → k < n → test (after_steps k s) ≡ false
@@ -39,18 +40,25 @@ AreStepsTo test limit s events = (steps : ℕ) × StopsAfter test limit s steps 
 
 -- ---- sessions
 
+-- a watched word is another than when the command was given
+abbrev pub has_changed_since : Session → State → Bool
+has_changed_since d s = has_changed (watched_words d.watches d.machine.memory) s.memory
+
 -- The events of a command in a session, of a line that is none no events: a poke and a key are one; `go` is as many
--- steps as it makes, up to a breakpoint, and so are `step` and `finish`, up to a breakpoint or to where the machine
--- stands in the frame of now again or above it, or above it; and all others only show, or set and clear breakpoints.
+-- steps as it makes, up to a watched word that has changed or to a breakpoint, and so are `step` and `finish`, up to
+-- these or to where the machine stands in the frame of now again or above it, or above it; and all others only show, or
+-- set and clear breakpoints and watched words.
 abbrev pub AreEventsOf : Option Command → Session → List Event → Type 0
 AreEventsOf (Some (commands.Poke a w)) d events = events ≡ Poke a w ∷ []
 AreEventsOf (Some (commands.Key b)) d events = events ≡ Key b ∷ []
 AreEventsOf (Some (commands.Go n)) d events =
-    AreStepsTo (is_at_break d.breaks) n d.machine events
+    AreStepsTo (λ s. has_changed_since d s || is_at_break d.breaks s) n d.machine events
 AreEventsOf (Some commands.Step) d events =
-    AreStepsTo (λ s. is_at_break d.breaks s || nat_le d.machine.registers.mp s.registers.mp) 4294967295 d.machine events
+    AreStepsTo (λ s. (nat_le d.machine.registers.mp s.registers.mp || has_changed_since d s) || is_at_break d.breaks s)
+    4294967295 d.machine events
 AreEventsOf (Some commands.Finish) d events =
-    AreStepsTo (λ s. is_at_break d.breaks s || nat_lt d.machine.registers.mp s.registers.mp) 4294967295 d.machine events
+    AreStepsTo (λ s. (nat_lt d.machine.registers.mp s.registers.mp || has_changed_since d s) || is_at_break d.breaks s)
+    4294967295 d.machine events
 AreEventsOf other d events = events ≡ []
 
 -- the events of lines in a session, one line after the other

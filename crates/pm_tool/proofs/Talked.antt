@@ -291,8 +291,10 @@ first_told old new began machine fault o b failed = record {
 
 -- ---- a machine that starts, or none
 
-pub opened_is : (d : Session) (machine : State) → d.machine ≡ machine → d.breaks ≡ [] → d ≡ opened machine
-opened_is d machine a b = ap (λ m. record d { machine = m }) a ∙ ap (λ breaks. record (opened machine) { breaks = breaks }) b
+pub opened_is : (d : Session) (machine : State) → d.machine ≡ machine → d.breaks ≡ [] → d.watches ≡ [] → d ≡ opened machine
+opened_is d machine a b w =
+    ap (λ m. record d { machine = m }) a ∙ ap (λ breaks. record d { machine = machine; breaks = breaks }) b
+    ∙ ap (λ watches. record (opened machine) { watches = watches }) w
 
 pub debug_done : (old new : Streams) (start : Result State Refusal) (m : State) (outcome : Outcome) → Ok m ≡ start
     → Finishes old new outcome (debugged m) → Finishes old new outcome (said_debug start)

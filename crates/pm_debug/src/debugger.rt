@@ -7,8 +7,8 @@ ghost use Rattle.pm_debug.specs.Breaks.{break_at, place_in_code, with_break, wit
 ghost use Rattle.pm_debug.specs.Frames.{frames};
 ghost use Rattle.pm_debug.specs.Lending.{LendsMachine};
 ghost use Rattle.pm_debug.specs.Refusals.{or_refused};
-ghost use Rattle.pm_debug.specs.Runs.{gone, gone_out, gone_over, gone_to, has_left, is_back, is_there, most_steps, nowhere};
-ghost use Rattle.pm_debug.specs.Runs.{stops_after};
+ghost use Rattle.pm_debug.specs.Runs.{gone, gone_out, gone_over, gone_to, has_left, is_back, is_there};
+ghost use Rattle.pm_debug.specs.Runs.{most_steps, nowhere, stops_after};
 ghost use Rattle.pm_machine.specs.Runs.{GaveUp};
 ghost use Rattle.pm_debug.specs.Trace.{trace_line};
 ghost use Rattle.pm_debug.specs.Views.{ShowsChain, bytes_from, console_end, dynamic_chain, local, stack_words};

@@ -291,10 +291,13 @@ Commands, one a line, numbers in decimal, or as $1F with at most four hexadecima
   console N      the last N bytes of the console, as the assembler spells a text
   step           makes one instruction, with all that it calls
   finish         makes what is left of the running procedure, with its return
+  watch A        stops a run before a step where the word at an even address has changed
+  unwatch A      watches it no more
+  watches        the addresses of the watched words
   help           the commands
   quit           ends the session
-Answers: ok, numbers, ended K, error N K, limit K, waiting K, break K, stop K; `?` is no command, and refused N:
-  1 beside 64 breakpoints, 2 no such breakpoint, 3 an odd address, 5 a depth above 127
+Answers: ok, numbers, ended K, error N K, limit K, waiting K, break K, stop K, changed K A; `?` is no command,
+and refused N: 1 beside 64 breakpoints or watched words, 2 no such one, 3 an odd address, 5 a depth above 127
 `--limit` has no effect here.
 ";
 

@@ -120,12 +120,8 @@ fn do_command(
     ensures session { OnOk result ((session_of debugger.new) ≡ after_command command (session_of debugger.old)) }
 {
     let text = match command {
-        Command::Break(segment, procedure, offset) => {
-            done(alloc, debugger.set_break(segment, procedure, offset))
-        }
-        Command::Clear(segment, procedure, offset) => {
-            done(alloc, debugger.clear_break(segment, procedure, offset))
-        }
+        Command::Break(s, p, o) => done(alloc, debugger.set_break(s, p, o)),
+        Command::Clear(s, p, o) => done(alloc, debugger.clear_break(s, p, o)),
         Command::Watch(address) => done(alloc, debugger.set_watch(address)),
         Command::Unwatch(address) => done(alloc, debugger.clear_watch(address)),
         Command::Poke(address, word) => done(alloc, poke(debugger, address, word)),

@@ -19,7 +19,8 @@ use std::alloc::{AllocError, Global};
 /// The commands.
 const HELP: &str = concat!(
     "break S P O, clear S P O, poke A W, key B, go N, stack N, static N, dynamic N, local D B, regs, place N, trace, ",
-    "peek A N, bytes A N, where, breaks, frames N, list N, console N, step, finish, watch A, unwatch A, watches, help, quit",
+    "peek A N, bytes A N, where, breaks, frames N, list N, console N, step, finish, watch A, unwatch A, watches, ",
+    "help, quit",
 );
 
 /// Breakpoints.

@@ -97,7 +97,7 @@ gone_steps breaks watches test n s = ended_steps (has_ended s.status) refl
   where
     ended_steps : (b : Bool) → has_ended s.status ≡ b → Makes (Stops breaks watches test s) n s
         (if b then (record { steps = 0; reason = reasons.Ended; machine = s }) else gone_by (watched_words watches s.memory) breaks
-            (run_until (stops_after breaks watches test s) n s)).machine
+        (run_until (stops_after breaks watches test s) n s)).machine
     ended_steps true e = (0, rests e, after_none s)
     ended_steps false e = run_steps (Stops breaks watches test s) n s
 

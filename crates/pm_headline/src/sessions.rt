@@ -4,7 +4,7 @@ ghost use Rattle.pm_headline.specs.Shown.{SessionsShowTheTable};
 
 /// After any lines of a session without `quit`, the machine is as the table leaves it after the steps, the keys and the
 /// pokes of these lines, in their order; and what is answered to the lines that follow is what is shown of that state.
-/// A `go` makes steps until there are as many as it says, a watched word is another than before, the machine stands at a
+/// A `go` makes steps until there are as many as it says, a watched word has changed, the machine stands at a
 /// breakpoint, or it does not go on; a `step` until the machine stands in the frame of now or above it, and a `finish`
 /// until it stands above that, too.
 #[tactic(auto, using(crate::proofs::Shown::sessions_show_the_table))]

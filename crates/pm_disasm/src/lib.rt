@@ -9,6 +9,7 @@ mod front;
 pub mod laws;
 mod lines;
 mod named;
+mod names;
 mod parts;
 mod place;
 mod places;
@@ -19,6 +20,7 @@ mod taking;
 mod text;
 mod written;
 
+pub use names::{standard_name, system_name, with_names};
 pub use place::Line;
 pub use segments::{file, item, procedure};
 pub use text::line;

@@ -209,8 +209,11 @@ abbrev pub Asks : List ℕ → ArgMatches → Plan → Type 0
 Asks command m (plans.Raw limit selection) =
     (command ≡ codes "raw") × IsLimit (word_found (words_of m) (codes "limit")) limit
     × AsksSelection (words_of m) selection
-Asks command m (plans.Asm list) = (command ≡ codes "asm") × IsFlag (one_of (codes "list") (words_of m)) list
-Asks command m plans.Dis = command ≡ codes "dis"
+Asks command m (plans.Asm list) = (command ≡ codes "asm") × (is_set (word_found (words_of m) (codes "all")) ≡ false)
+    × IsFlag (one_of (codes "list") (words_of m)) list
+Asks command m plans.AsmFaults = (command ≡ codes "asm") × (is_set (word_found (words_of m) (codes "all")) ≡ true)
+Asks command m plans.Dis = (command ≡ codes "dis") × (is_set (word_found (words_of m) (codes "names")) ≡ false)
+Asks command m plans.DisNames = (command ≡ codes "dis") × (is_set (word_found (words_of m) (codes "names")) ≡ true)
 Asks command m (plans.Files plan) = (command ≡ codes "files") × AsksFiles m plan
 Asks command m (plans.Run program keeping) =
     (command ≡ codes "run") × AsksProgram (words_of m) program × AsksKeeping (words_of m) keeping

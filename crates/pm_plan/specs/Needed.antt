@@ -35,11 +35,10 @@ IsAlone true None = ⊤
 IsAlone true (Some word) = ⊥
 IsAlone false word = ⊤
 
--- not both are given
-abbrev pub AreNotBoth : Bool → Bool → Type 0
-AreNotBoth true true = ⊥
-AreNotBoth true false = ⊤
-AreNotBoth false second = ⊤
+-- of two options without a value one at most is given
+abbrev pub IsNotBoth : Bool → Bool → Type 0
+IsNotBoth true other = other ≡ false
+IsNotBoth false other = ⊤
 
 -- there is a name, or else the number of a slot
 abbrev pub IsNameOrSlot : Option (List ℕ) → Option (List ℕ) → Type 0
@@ -74,8 +73,8 @@ pub data Need : Type 0 where
   RunLimit : Need
   -- an option that is missing beside `--save` and beside `--save-all`
   NotSaved : Need
-  -- an option without a value that does not stand beside `--save`
-  NotSave : Need
+  -- an option without a value that is not given beside this one
+  NotBeside : List ℕ → Need
   -- a name, which is missing exactly where `--slot` has a number up to 65,535
   NameOrSlot : Need
   -- the number of a segment, which may be missing, but not beside that of a procedure
@@ -91,7 +90,7 @@ Meets rows Limit word = IsLimitWord word
 Meets rows RunLimit word = IsRunLimitWord (is_set (word_found rows (codes "unlimited"))) word
 Meets rows NotSaved word = IsAlone (is_set (word_found rows (codes "save"))
     || is_set (word_found rows (codes "save-all"))) word
-Meets rows NotSave word = AreNotBoth (is_set (word_found rows (codes "save"))) (is_set word)
+Meets rows (NotBeside other) word = IsNotBoth (is_set word) (is_set (word_found rows other))
 Meets rows NameOrSlot word = IsNameOrSlot word (word_found rows (codes "slot"))
 Meets rows Segment word = IsCodeWords word (word_found rows (codes "procedure"))
 
@@ -113,11 +112,15 @@ program_needs = (codes "d4", Given) ∷ (codes "d5", Optional) ∷ (codes "d9", 
 
 -- what run needs beside these
 abbrev pub keeping_needs : List (List ℕ × Need)
-keeping_needs = (codes "system", NotSaved) ∷ (codes "save-all", NotSave) ∷ (codes "printer", Optional) ∷ []
+keeping_needs = (codes "system", NotSaved) ∷ (codes "save-all", NotBeside (codes "save")) ∷ (codes "printer", Optional) ∷ []
 
 -- what raw and trace need beside their limit and their program
 abbrev pub selection_needs : List (List ℕ × Need)
 selection_needs = (codes "from", Limit) ∷ (codes "segment", Segment) ∷ []
+
+-- what asm needs
+abbrev pub asm_needs : List (List ℕ × Need)
+asm_needs = (codes "all", NotBeside (codes "list")) ∷ []
 
 -- what the commands need but `files`; what is no command has none
 abbrev pub command_needs : List ℕ → Option (List (List ℕ × Need))
@@ -126,7 +129,7 @@ command_needs command =
     else (if bytes_eq command (codes "run") then Some (keeping_needs ++ program_needs)
     else (if bytes_eq command (codes "trace") then Some (selection_needs ++ program_needs)
     else (if bytes_eq command (codes "debug") then Some program_needs
-    else (if bytes_eq command (codes "asm") then Some []
+    else (if bytes_eq command (codes "asm") then Some asm_needs
     else (if bytes_eq command (codes "dis") then Some [] else None)))))
 
 -- what the verbs of files need; what is no verb has none

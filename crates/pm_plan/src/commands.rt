@@ -337,10 +337,16 @@ const DEBUG: CommandRow = (
     &[D4, D5, D9, D10, D11, D12, LIMIT, SYSTEM, PROGRAM],
 );
 
+const NAMES: WordRow = (
+    "names",
+    Form::Flag,
+    "Writes the names of standard procedures and of the system's behind their calls",
+);
+
 const DIS: CommandRow = (
     "dis",
     "Writes the text of the code file that standard input is: its segments, procedures and items",
-    &[],
+    &[NAMES],
 );
 
 const LIST: WordRow = (
@@ -349,10 +355,16 @@ const LIST: WordRow = (
     "Writes the listing in place of the code file",
 );
 
+const ALL: WordRow = (
+    "all",
+    Form::Flag,
+    "Writes all faults of the text, a line each, and no code file; not beside --list",
+);
+
 const ASM: CommandRow = (
     "asm",
     "Writes the code file of the assembler's text that standard input is",
-    &[LIST],
+    &[LIST, ALL],
 );
 
 fn arg<'a>(alloc: Global, row: WordRow) -> Result<Arg<'a>, AllocError> {

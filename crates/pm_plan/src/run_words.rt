@@ -2,7 +2,7 @@
 ghost use Rattle.std.specs.Prelude.{◌↔◌, ◌||◌, IfErr, IfOk, IsOk, IsOkUnless, codes};
 ghost use Rattle.pm_plan.specs.Asked.{AsksKeeping, AsksProgram, IsRunLimit, IsRunLimitWord, IsSaving, is_set};
 ghost use Rattle.pm_plan.specs.Asked.{word_found, words_of};
-ghost use Rattle.pm_plan.specs.Needed.{AreNotBoth, IsAlone, IsWrong, MeetEach, keeping_needs, program_needs};
+ghost use Rattle.pm_plan.specs.Needed.{IsAlone, IsNotBoth, IsWrong, MeetEach, keeping_needs, program_needs};
 ghost use Rattle.pm_plan.specs.declared.words.WordsError.TheVariants.{NoMemory};
 
 use crate::words::{WordsError, flag, found, given, is_set, limit_of, needed};
@@ -93,8 +93,8 @@ pub fn program_of(alloc: Global, matches: &ArgMatches<'_>) -> Result<Program, Wo
 fn saving_of(matches: &ArgMatches<'_>) -> Result<Saving, WordsError>
     ensures asked { IfOk result (λ saving. IsSaving (is_set (word_found (words_of matches.now) (codes "save")))
         (is_set (word_found (words_of matches.now) (codes "save-all"))) saving) }
-    ensures good { IsOk result ↔ AreNotBoth (is_set (word_found (words_of matches.now) (codes "save")))
-        (is_set (word_found (words_of matches.now) (codes "save-all"))) }
+    ensures good { IsOk result ↔ IsNotBoth (is_set (word_found (words_of matches.now) (codes "save-all")))
+        (is_set (word_found (words_of matches.now) (codes "save"))) }
     ensures refused { IfErr result IsWrong }
 {
     match (is_set(matches, "save"), is_set(matches, "save-all")) {

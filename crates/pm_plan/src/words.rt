@@ -5,7 +5,7 @@ ghost use Rattle.std.specs.Str.Parse.{digits_value};
 ghost use Rattle.clap.specs.Words.{one_of};
 ghost use Rattle.pm_plan.specs.Asked.{Asks, IsAsked, IsFlag, IsLimit, IsLimitWord, IsNumberUpTo, is_set, word_found};
 ghost use Rattle.pm_plan.specs.Asked.{words_of};
-ghost use Rattle.pm_plan.specs.Needed.{AreAllGood, AreGood, IsOptional, IsWrong};
+ghost use Rattle.pm_plan.specs.Needed.{AreAllGood, AreGood, IsOptional, IsWrong, MeetEach, asm_needs};
 ghost use Rattle.pm_plan.specs.declared.words.WordsError.TheVariants.{NoCommand, NoMemory, NoValue};
 
 use crate::commands::all_commands;
@@ -31,8 +31,12 @@ pub enum Plan {
     Raw { limit: u32, selection: Selection },
     /// The code file of the text that standard input is, or its listing.
     Asm { list: bool },
+    /// The faults of the text that standard input is.
+    AsmFaults,
     /// The text of the code file that standard input is.
     Dis,
+    /// The same with the names of procedures.
+    DisNames,
     /// A command on the image that a file has, or a new image for it.
     Files(FilesPlan),
     /// A program to be run.
@@ -197,6 +201,31 @@ fn files_asked(alloc: Global, matches: &ArgMatches<'_>) -> Result<Plan, WordsErr
     }
 }
 
+/// What the words of `asm` ask for. Refused where they ask for all faults and for the listing.
+fn asm_asked(matches: &ArgMatches<'_>) -> Result<Plan, WordsError>
+    ensures asked { IfOk result (λ plan. Asks (codes "asm") matches.now plan) }
+    ensures good { IsOk result ↔ MeetEach (words_of matches.now) asm_needs }
+    ensures refused { IfErr result IsWrong }
+{
+    let list = flag(matches, "list");
+    match (is_set(matches, "all"), is_set(matches, "list")) {
+        (false, _) => Ok(Plan::Asm { list }),
+        (true, false) => Ok(Plan::AsmFaults),
+        (true, true) => Err(WordsError::Wrong("--all and --list do not go together")),
+    }
+}
+
+/// What the words of `dis` ask for.
+fn dis_asked(matches: &ArgMatches<'_>) -> Plan
+    ensures asked { Asks (codes "dis") matches.now result }
+{
+    if is_set(matches, "names") {
+        Plan::DisNames
+    } else {
+        Plan::Dis
+    }
+}
+
 /// What a command and its words ask for. Refused where it is none of the seven, or where its words are not what it
 /// needs.
 fn plan_by(alloc: Global, command: &str, matches: &ArgMatches<'_>) -> Result<Plan, WordsError>
@@ -212,10 +241,8 @@ fn plan_by(alloc: Global, command: &str, matches: &ArgMatches<'_>) -> Result<Pla
         "run" => Ok(Plan::Run(program_of(alloc, matches)?, keeping_of(alloc, matches)?)),
         "trace" => Ok(Plan::Trace(program_of(alloc, matches)?, selection_of(matches)?)),
         "debug" => Ok(Plan::Debug(program_of(alloc, matches)?)),
-        "asm" => Ok(Plan::Asm {
-            list: flag(matches, "list"),
-        }),
-        "dis" => Ok(Plan::Dis),
+        "asm" => asm_asked(matches),
+        "dis" => Ok(dis_asked(matches)),
         "files" => files_asked(alloc, matches),
         _ => Err(WordsError::NoCommand),
     }

@@ -57,8 +57,10 @@ fn reads(verb: &Verb) -> bool {
 fn prompt_of(plan: &Plan) -> Prompt {
     match plan {
         Plan::Raw { .. } => Prompt::Once("pmach: reads hexadecimal digits; Ctrl-D ends them\n"),
-        Plan::Asm { .. } => Prompt::Once("pmach: reads a text of the assembler; Ctrl-D ends it\n"),
-        Plan::Dis => Prompt::Once("pmach: reads a code file; Ctrl-D ends it\n"),
+        Plan::Asm { .. } | Plan::AsmFaults => Prompt::Once(
+            "pmach: reads a text of the assembler; Ctrl-D ends it\n",
+        ),
+        Plan::Dis | Plan::DisNames => Prompt::Once("pmach: reads a code file; Ctrl-D ends it\n"),
         Plan::Files(plan) if reads(&plan.verb) => Prompt::Once(
             "pmach: reads the file; Ctrl-D ends it\n",
         ),
@@ -87,7 +89,9 @@ fn act<S: Store, I: Source, O: Sink>(
     let job = match plan {
         Plan::Raw { limit, selection } => Job::Raw { limit, selection },
         Plan::Asm { list } => Job::Asm { list },
+        Plan::AsmFaults => Job::AsmFaults,
         Plan::Dis => Job::Dis,
+        Plan::DisNames => Job::DisNames,
         Plan::Files(FilesPlan { path, verb }) => {
             return do_files(alloc, store, source, sink, path.as_str(), verb);
         }

@@ -12,3 +12,4 @@ pub mod Talked
 pub mod MachineRuns
 pub mod Characters
 pub mod Ejected
+pub mod FaultLaws

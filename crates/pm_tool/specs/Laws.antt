@@ -1,4 +1,4 @@
--- Laws of runs.
+-- Laws of runs, and of the faults of a text.
 use Rattle.std.specs.Prelude.{◌≡◌, ℕ, ◌-◌, Bool, true, false, List, [], ◌∷◌, ◌++◌}
 use Rattle.pm_machine.specs.State.{State}
 use Rattle.pm_machine.specs.Events.{Event, Step, Key, Poke, Mount, Eject, after_all, next}
@@ -8,6 +8,10 @@ use Rattle.pm_machine.specs.declared.state.Stop.TheVariants.{Went, Waiting, Ende
 use Rattle.pm_session.specs.declared.ending.Ending.TheVariants as endings
 use Rattle.pm_tool.specs.declared.steps.Show.{Show}
 use Rattle.pm_tool.specs.Run.{Run, ended_run, run_of}
+use Rattle.pm_tool.specs.declared.outcome.Exit.TheVariants as exits
+use Rattle.pm_tool.specs.declared.outcome.Job.TheVariants as jobs
+use Rattle.pm_tool.specs.Outcomes.{Said}
+use Rattle.pm_tool.specs.Said.{job_said}
 
 -- the bytes that these events key
 abbrev pub keyed_in : List Event → List ℕ
@@ -69,3 +73,15 @@ abbrev pub RunsGoByTheMachine : Type 0
 RunsGoByTheMachine =
     (show : Show) (limit count : ℕ) (bytes : List ℕ) (m t : State) (stop : Stop) →
     Ran limit m count stop t → GoesOn show limit bytes m count stop t
+
+-- ---- all faults of a text
+
+-- a job ends as another does, by its status and its message; and where it ends well it has written nothing
+pub record EndsAs (told other : Said) : Type 0 where
+  pub exit : told.exit ≡ other.exit
+  pub message : told.message ≡ other.message
+  pub nothing : told.exit ≡ exits.Ended → told.written ≡ []
+
+-- all faults of a text are told with the end that its assembling has
+abbrev pub FaultsEndAsAssembling : Type 0
+FaultsEndAsAssembling = (input : List ℕ) → EndsAs (job_said jobs.AsmFaults input) (job_said (jobs.Asm false) input)

@@ -255,7 +255,7 @@ refused refusal unread =
       unread = unread;
     }
 
--- how a judged image ends: well, or refused, and then the message says why
+-- how it ends that an image or a text was judged: well, or refused, and then the message says why
 abbrev pub judged_exit : Option Refusal → Exit
 judged_exit None = exits.Ended
 judged_exit (Some refusal) = exits.Refused
@@ -264,7 +264,7 @@ abbrev pub judged_message : Option Refusal → List ℕ
 judged_message None = []
 judged_message (Some refusal) = refusal_text refusal
 
--- a text on an image that may be refused: it is written in either case
+-- a text on what may be refused: it is written in either case
 abbrev pub judged : List ℕ → Option Refusal → List ℕ → Said
 judged text refusal unread =
     record {

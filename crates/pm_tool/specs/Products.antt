@@ -11,7 +11,7 @@ pub data Product : Type 0 where
   Written : List ℕ → Product
   Image : List ℕ → Product
   Refused : Refusal → Product
-  -- a text on an image, and why that is refused, if it is
+  -- a text on an image, or on a text of the assembler, and why that is refused, if it is
   Judged : List ℕ → Option Refusal → Product
   -- a text that is written, and the image of a volume that is kept
   Saved : List ℕ → List ℕ → Product
@@ -21,7 +21,7 @@ abbrev pub product_of : Made → Product
 product_of (made.Bytes bytes) = Written bytes.items
 product_of (made.Image image) = Image image.items
 product_of (made.Refused refusal line) = Refused refusal
-product_of (made.Judged text refusal) = Judged text.items refusal
+product_of (made.Judged text refusal line) = Judged text.items refusal
 product_of (made.Saved text image) = Saved text.items image.items
 
 -- what is said of a product, where this of the input is left unread

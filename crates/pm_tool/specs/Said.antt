@@ -24,7 +24,7 @@ use Rattle.pm_tool.specs.Hex.{hex_spelled}
 use Rattle.pm_tool.specs.Outcomes.{Said, exit_of, is_sound_exit, no_others, refused, IsOutcome}
 use Rattle.pm_tool.specs.declared.steps.Show.{Show}
 use Rattle.pm_tool.specs.declared.steps.Show.TheVariants.{Trace, Console}
-use Rattle.pm_tool.specs.Run.{Run, end_text, run_of}
+use Rattle.pm_tool.specs.Run.{Run, run_of}
 use Rattle.pm_session.specs.Endings.{last_line}
 use Rattle.pm_session.specs.Sessions.{answers, behind_quit, opened, whole_lines}
 use Rattle.pm_session.specs.Words.{lines_of_input}

@@ -1,14 +1,17 @@
 //! The job on a text of the assembler.
-ghost use Rattle.std.specs.Prelude.{◌≡◌, ◌≢◌, Ok, Err, IfOk, IfErr, string_bytes};
+ghost use Rattle.std.specs.Prelude.{◌≡◌, ◌≢◌, ◌++◌, Ok, Err, IfOk, IfErr, OnOk, string_bytes};
 ghost use Rattle.pm_asm.specs.Assembled.{assembled, wanted};
 ghost use Rattle.pm_source.specs.declared.fault.AsmFault.TheVariants.{NoMemory};
-ghost use Rattle.pm_tool.specs.Assembly.{character_of, made_asm, text_of_input};
+ghost use Rattle.pm_asm.specs.Each.{all_faults};
+ghost use Rattle.pm_tool.specs.Assembly.{character_of, fault_line, fault_lines, first_refusal, made_asm, made_faults};
+ghost use Rattle.pm_tool.specs.Assembly.{text_of_input};
 ghost use Rattle.pm_tool.specs.Products.{product_of};
 
 use crate::batch::Made;
 use crate::outcome::Refusal;
-use pm_asm::{AsmFault, assemble_file, assemble_listing};
+use pm_asm::{AsmFault, all_faults, assemble_file, assemble_listing};
 use std::alloc::{AllocError, Global};
+use std::fmt::Write;
 
 /// The character of the text that a byte is: one above 127 is character 127.
 fn character(byte: u8) -> char
@@ -89,4 +92,49 @@ pub(crate) fn assemble(alloc: Global, input: Vec<u8>, list: bool) -> Result<Made
             Ok(Made::Refused(Refusal::Asm(fault), line))
         }
     }
+}
+
+/// Adds the line of a fault.
+#[tactic(auto, unfolding(crate::specs::Assembly::fault_line))]
+fn push_fault(text: &mut String, fault: AsmFault) -> Result<(), AllocError>
+    ensures text { OnOk result (string_bytes text.new ≡ string_bytes text.old ++ fault_line fault) }
+{
+    let refusal = Refusal::Asm(fault);
+    writeln!(text, "{refusal}")?;
+    Ok(())
+}
+
+/// The lines of faults.
+fn lines_of(alloc: Global, faults: &[AsmFault]) -> Result<String, AllocError>
+    ensures text { IfOk result (λ text. string_bytes text ≡ fault_lines faults.now) }
+{
+    let mut text = String::new(alloc);
+    for fault in faults {
+        push_fault(&mut text, *fault)?;
+    }
+    Ok(text)
+}
+
+/// Why a text with these faults is refused, if it is.
+fn first_refusal(faults: &[AsmFault]) -> Option<Refusal>
+    ensures refusal { result ≡ first_refusal faults.now }
+{
+    match faults {
+        [] => None,
+        [fault, ..] => Some(Refusal::Asm(*fault)),
+    }
+}
+
+/// The lines of all faults of the text that the input is, and why it is refused, if it is.
+pub(crate) fn find_faults(alloc: Global, input: Vec<u8>) -> Result<Made, AllocError>
+    ensures made { IfOk result (λ made. product_of made ≡ made_faults input.items) }
+{
+    let text = text_in_place(alloc, input)?;
+    let faults = all_faults(alloc, &text).map_err(|_| AllocError)?;
+    let lines = lines_of(alloc, &faults)?;
+    let line = match faults.first() {
+        Some(fault) => line_of(alloc, &text, *fault),
+        None => None,
+    };
+    Ok(Made::Judged(lines.into_bytes(), first_refusal(&faults), line))
 }

@@ -7,8 +7,8 @@ ghost use Rattle.pm_tool.specs.Products.{product_of, said_product};
 ghost use Rattle.pm_tool.specs.Said.{BreaksOff, Finishes};
 ghost use Rattle.pm_streams.specs.Streams.{AppendsFront, AreWell, IsCause, IsCounted, both};
 
-use crate::assembly::assemble;
-use crate::code::disassemble;
+use crate::assembly::{assemble, find_faults};
+use crate::code::{disassemble, disassemble_named};
 use crate::files::{check_image, file, new_volume, repair_volume, salvage_image, takes_input};
 use crate::outcome::{Exit, Outcome, Refusal, conclude, refuse_line};
 use pm_filer::FileCommand;
@@ -23,8 +23,12 @@ pub(crate) enum Batch {
     Asm {
         list: bool,
     },
+    /// The faults of a text of the assembler.
+    AsmFaults,
     /// A code file becomes a text.
     Dis,
+    /// A code file becomes a text with the names of procedures.
+    DisNames,
     /// A command on a volume; an image that is none is refused.
     Files {
         opened: Result<Volume, VolumeFault>,
@@ -56,7 +60,8 @@ impl Batch {
         ensures value { result ≡ reads_input self.now }
     {
         match self {
-            Batch::Asm { .. } | Batch::Dis => true,
+            Batch::Asm { .. } | Batch::AsmFaults => true,
+            Batch::Dis | Batch::DisNames => true,
             Batch::Files { opened, command } => opened.is_ok() && takes_input(command),
             Batch::New { .. } | Batch::Repair { .. } | Batch::Check { .. } => false,
             Batch::Salvage { .. } => false,
@@ -73,8 +78,9 @@ pub(crate) enum Made {
     Image(Vec<u8>),
     /// Nothing, and why; with the line of the text that the refusal names, where that is known.
     Refused(Refusal, Option<String>),
-    /// A text on an image that is written, and why the image is refused, if it is.
-    Judged(Vec<u8>, Option<Refusal>),
+    /// A text that is written on an image or on a text of the assembler, and why that is refused, if it is; with the
+    /// line of the text that the refusal names, where that is known.
+    Judged(Vec<u8>, Option<Refusal>, Option<String>),
     /// A text that is written, and the image of a volume that is kept.
     Saved(Vec<u8>, Vec<u8>),
 }
@@ -85,7 +91,9 @@ fn make(alloc: Global, job: Batch, input: Vec<u8>) -> Result<Made, AllocError>
 {
     match job {
         Batch::Asm { list } => assemble(alloc, input, list),
+        Batch::AsmFaults => find_faults(alloc, input),
         Batch::Dis => disassemble(alloc, &input),
+        Batch::DisNames => disassemble_named(alloc, &input),
         Batch::Files { opened, command } => file(alloc, opened, command, input),
         Batch::New { name, blocks } => new_volume(alloc, name.as_str(), blocks),
         Batch::Repair { image } => Ok(repair_volume(image)),
@@ -132,8 +140,8 @@ fn deliver<W: Sink>(alloc: Global, sink: &mut W, made: Made) -> Result<Outcome, 
         }
         Made::Image(image) => Ok(Outcome::keeping(alloc, image)),
         Made::Refused(refusal, line) => Ok(refuse_line(alloc, refusal, line)?),
-        Made::Judged(text, refusal) => {
-            let outcome = conclude(alloc, refusal)?;
+        Made::Judged(text, refusal, line) => {
+            let outcome = conclude(alloc, refusal, line)?;
             write_all(sink, &text)?;
             Ok(outcome)
         }

@@ -1,6 +1,6 @@
 //! The job on a code file.
 ghost use Rattle.std.specs.Prelude.{◌≡◌, IfOk};
-ghost use Rattle.pm_tool.specs.Code.{made_dis};
+ghost use Rattle.pm_tool.specs.Code.{made_dis, made_dis_names};
 ghost use Rattle.pm_tool.specs.Products.{product_of};
 
 use crate::batch::Made;
@@ -18,4 +18,17 @@ pub(crate) fn disassemble(alloc: Global, input: &[u8]) -> Result<Made, AllocErro
     };
     let text = pm_disasm::file(alloc, &file)?;
     Ok(Made::Bytes(text.into_bytes()))
+}
+
+/// The text of the code file that the input is, with the names of the procedures that its lines call.
+pub(crate) fn disassemble_named(alloc: Global, input: &[u8]) -> Result<Made, AllocError>
+    ensures made { IfOk result (λ made. product_of made ≡ made_dis_names input.now) }
+{
+    let file = match CodeFile::read(input) {
+        Ok(file) => file,
+        Err(fault) => return Ok(Made::Refused(Refusal::Code(fault), None)),
+    };
+    let text = pm_disasm::file(alloc, &file)?;
+    let named = pm_disasm::with_names(alloc, text.as_bytes())?;
+    Ok(Made::Bytes(named))
 }

@@ -105,7 +105,7 @@ pub(crate) fn check_image(alloc: Global, image: Vec<u8>) -> Result<Made, AllocEr
         Ok(_) => None,
         Err(fault) => Some(Refusal::Volume(fault)),
     };
-    Ok(Made::Judged(text.into_bytes(), refusal))
+    Ok(Made::Judged(text.into_bytes(), refusal, None))
 }
 
 /// The files of an image in a new volume, and what is said of each.

@@ -1,5 +1,5 @@
-//! Laws of runs. The functions do nothing.
-ghost use Rattle.pm_tool.specs.Laws.{RunsAreEvents, RunsGoByTheMachine, ShowingChangesNothing};
+//! Laws of runs, and of the faults of a text. The functions do nothing.
+ghost use Rattle.pm_tool.specs.Laws.{FaultsEndAsAssembling, RunsAreEvents, RunsGoByTheMachine, ShowingChangesNothing};
 
 /// A run leaves the machine as a list of steps and keys leaves it, and the bytes that are keyed are exactly those that
 /// are read.
@@ -19,4 +19,11 @@ pub fn showing_changes_nothing()
 #[tactic(auto, using(crate::proofs::MachineRuns::runs_go_by_the_machine))]
 pub fn runs_go_by_the_machine()
     ensures law { RunsGoByTheMachine }
+{}
+
+/// The job that tells all faults of a text ends as the one that assembles it, by the same status and message; where that
+/// accepts the text, nothing is written.
+#[tactic(auto, using(crate::proofs::FaultLaws::faults_end_as_assembling))]
+pub fn faults_end_as_assembling()
+    ensures law { FaultsEndAsAssembling }
 {}

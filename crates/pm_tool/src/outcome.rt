@@ -67,9 +67,18 @@ pub enum Job {
     Asm {
         list: bool,
     },
+    /// The input is such a text, and the output has a line for each of its faults, in the order of the lines that they
+    /// name: the message of `Asm` for a text with that fault alone. They are the first fault of each line that has one;
+    /// where no line has any, the first of the labels of each line; where there is none of these either, the segment
+    /// that is too long. The job is refused by the first of them, as `Asm` is; where there is none, nothing is written.
+    AsmFaults,
     /// The input is a code file, and the output is its text: its segments by ascending slot, each with its procedures.
     /// An input that is no code file is refused by `refused code N`, with the slot that the fault names.
     Dis,
+    /// The input is a code file, and the output is the text of `Dis` with names: behind each line that is `CSP n` or
+    /// `CXP 0, n` a comment with that of the standard procedure, or of the system's, where the number has one. The
+    /// refusals are those of `Dis`.
+    DisNames,
     /// A command on the volume that an image is. The input's bytes stand in the place of a put's, of bytes or text, and
     /// no other command reads any. The output is the list, the bytes or the text of a file; after a change the outcome
     /// has the image that is to be kept. An image that is no volume is refused by `refused volume N`, before the input
@@ -489,14 +498,18 @@ pub(crate) fn refuse_line(
     })
 }
 
-/// What a job comes to that judges an image: an end, or a refusal.
-pub(crate) fn conclude(alloc: Global, refusal: Option<Refusal>) -> Result<Outcome, AllocError>
+/// What a job comes to that judges an image or a text: an end, or a refusal, for what stands in a line if that is known.
+pub(crate) fn conclude(
+    alloc: Global,
+    refusal: Option<Refusal>,
+    line: Option<String>,
+) -> Result<Outcome, AllocError>
     ensures outcome { IfOk result (λ outcome. (text unread : List ℕ) → IsOutcome outcome (judged text refusal unread)) }
     ensures told { IfOk result SaysWhy }
 {
     match refusal {
         None => Ok(Outcome::plain(alloc, Exit::Ended, String::new(alloc))),
-        Some(refusal) => refuse(alloc, refusal),
+        Some(refusal) => refuse_line(alloc, refusal, line),
     }
 }
 

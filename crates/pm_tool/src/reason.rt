@@ -1,5 +1,6 @@
 //! Why an input is refused, and why a run ended, in words.
 use crate::outcome::Refusal;
+use pm_disasm::system_name;
 use pm_machine::BootFault;
 use pm_session::Ending;
 use pm_volume::VolumeFault;
@@ -48,41 +49,6 @@ impl fmt::Display for Reason {
     }
 }
 
-/// The name of a procedure of the operating system, as far as its number is known.
-fn name_of(procedure: u8) -> Option<&'static str> {
-    Some(match procedure {
-        2 => "EXECERROR",
-        3 => "FINIT",
-        4 => "FRESET",
-        5 => "FOPEN",
-        6 => "FCLOSE",
-        7 => "FGET",
-        8 => "FPUT",
-        9 => "FSEEK",
-        10 => "FEOF",
-        11 => "FEOLN",
-        12 => "FREADINT",
-        13 => "FWRITEINT",
-        14 => "FREADREAL",
-        15 => "FWRITEREAL",
-        16 => "FREADCHAR",
-        17 => "FWRITECHAR",
-        18 => "FREADSTRING",
-        19 => "FWRITESTRING",
-        20 => "FWRITEBYTES",
-        21 => "FREADLN",
-        22 => "FWRITELN",
-        23 => "SCONCAT",
-        24 => "SINSERT",
-        25 => "SCOPY",
-        26 => "SDELETE",
-        27 => "SPOS",
-        28 => "FBLOCKIO",
-        29 => "FGOTOXY",
-        _ => return None,
-    })
-}
-
 /// A procedure of the operating system, by its number and, where it is known, its name.
 #[derive(Clone, Copy)]
 struct Procedure(u8);
@@ -90,7 +56,7 @@ struct Procedure(u8);
 impl fmt::Display for Procedure {
     fn fmt<W: fmt::Write>(&self, f: &mut fmt::Formatter<W>) -> fmt::Result {
         let number = self.0;
-        match name_of(number) {
+        match system_name(number) {
             Some(name) => write!(f, "{number}, {name}"),
             None => write!(f, "{number}"),
         }

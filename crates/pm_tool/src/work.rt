@@ -69,7 +69,9 @@ pub(crate) fn work_of(job: Job) -> Work
             system,
         } => talk(disks, name, system, Talk::Session),
         Job::Asm { list } => Work::Batch(Batch::Asm { list }),
+        Job::AsmFaults => Work::Batch(Batch::AsmFaults),
         Job::Dis => Work::Batch(Batch::Dis),
+        Job::DisNames => Work::Batch(Batch::DisNames),
         Job::Files { image, command } => {
             let opened = open(image);
             Work::Batch(Batch::Files { opened, command })

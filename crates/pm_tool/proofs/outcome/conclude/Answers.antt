@@ -14,4 +14,4 @@ with_text (Ok outcome) refusal h = λ text unread.
 with_text (Err error) refusal h = tt
 
 pub returns-in-Some-clause-outcome : goal.returns-in-Some-clause-outcome
-returns-in-Some-clause-outcome c = rw c.in-Some.is (with_text c.refuse.result c.in-Some.refusal c.refuse.ensures.outcome)
+returns-in-Some-clause-outcome c = rw c.in-Some.is (with_text c.refuse_line.result c.in-Some.refusal c.refuse_line.ensures.outcome)

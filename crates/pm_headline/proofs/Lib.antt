@@ -5,3 +5,4 @@ pub mod Accepted
 pub mod Round
 pub mod ShownAgain
 pub mod RefusalLaws
+pub mod NamedLines

@@ -1,7 +1,8 @@
 //! From a program to its text and back; and which fault of a text is told where several hold: the first in its order.
 
 ghost use Rattle.pm_headline.specs.Refusals.{JumpsTellFirst, LinesTellFirst, TextsTellFirst};
-ghost use Rattle.pm_headline.specs.RoundTrip.{AssembledIsShownAgain, ShownFileIsSpelled};
+ghost use Rattle.pm_headline.specs.RoundTrip.{AssembledIsShownAgain, NamedIsShownAgain, NamesSayNothing};
+ghost use Rattle.pm_headline.specs.RoundTrip.{ShownFileIsSpelled};
 
 /// The text that the disassembler shows for the code file of a program of which no segment has more than 65,534 bytes
 /// spells a program of the same code file, of the same segments in their bytes: the same program, where no item of it
@@ -13,6 +14,14 @@ pub fn shown_file_is_spelled()
 /// The text that the disassembler shows for an assembled code file is assembled to the same code file.
 pub fn assembled_is_shown_again()
     ensures law { AssembledIsShownAgain }
+{}
+
+/// The names of procedures behind the lines of a text change nothing of what it is assembled to, whatever the text; so
+/// the text with names of an assembled code file is assembled to the same code file.
+#[tactic(auto, using(crate::proofs::NamedLines::names_say_nothing, crate::proofs::NamedLines::named_is_shown_again))]
+pub fn names_say_nothing()
+    ensures law { NamesSayNothing }
+    ensures again { NamedIsShownAgain }
 {}
 
 /// A line is refused where it is out of place or begins a procedure that never ends, then for an unknown type word,

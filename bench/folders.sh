@@ -172,5 +172,18 @@ check "two of one name are left" ends 1 "$here/examples/remove.sh" b DUP
 check "nothing is changed then" cmp r r2
 check "no volume to remove from" ends 2 "$here/examples/remove.sh" header =
 
+# A tower of three: 15 calls of procedure 2, of which 8 find no disk and take 5 steps and the others 26; 7 moves of 25.
+"$PMACH" asm <"$here/examples/hanoi.text" >tower
+files h new TOWER 40
+files h put HANOI code <tower
+check "a profile" ends 0 "$here/examples/profile.sh" --d4 h HANOI
+check "of each procedure" [ "$(sed -n '2,4s/  */ /gp' out | tr '\n' ',')" = " 1 2 15 222, 1 3 7 175, 1 1 1 5," ]
+check "and each instruction" grep -qx 'CLP         7' out
+check "with the last line" [ "$(tail -n 1 out)" = "ended 402" ]
+check "the status of the trace" ends 6 "$here/examples/profile.sh" --d4 h --limit 5 HANOI
+check "no program" ends 2 "$here/examples/profile.sh" --d4 h NONE
+check "who calls whom" [ "$("$here/examples/calls.sh" <tower | tr '\n' ',')" = "1 1 1 2 1,1 2 1 2 2,1 2 1 3 1," ]
+check "no code file" ends 2 "$here/examples/calls.sh"
+
 echo "$passed passed, $failed failed"
 [ $failed = 0 ]

@@ -1,0 +1,25 @@
+#!/bin/sh
+# Who calls whom in a code file, read from standard input: examples/calls.sh <FILE
+#
+# A line for each pair, in the order of the text: segment and procedure of the caller, those of the procedure that is
+# called, and at how many places. Standard procedures are no calls. It ends with the status of `pmach dis`.
+pmach=${PMACH:-$(dirname "$(readlink -f "$0")")/../pmach}
+{ "$pmach" dis; echo "status $?"; } | awk '
+    function called(segment, procedure) {
+        pair = caller " " segment " " procedure
+        if (!count[pair]++) order[++pairs] = pair
+    }
+    { sub(/;.*/, ""); gsub(/,/, " ") }
+    $1 == "status" { status = $2 }
+    $1 == ".SEG" { segment = $2 }
+    $1 == ".PROC" { caller = segment " " $2 }
+    {
+        for (i = 1; i < NF; i++) {
+            if ($i ~ /^(CIP|CBP|CLP|CGP)$/) called(segment, $(i + 1))
+            if ($i == "CXP") called($(i + 1), $(i + 2))
+        }
+    }
+    END {
+        for (i = 1; i <= pairs; i++) print order[i], count[order[i]]
+        exit status
+    }'

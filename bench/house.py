@@ -214,7 +214,7 @@ if "\n".join(lines("docs/INDEX.md")) != index.page():
     tell("index", "docs/INDEX.md is not that of the source: python3 bench/index.py")
 
 # The most bytes of a page that is kept by hand.
-MOST = {"PROMISES": 13200, "DECISIONS": 10200, "ARCHITECTURE": 21000, "COMMANDS": 36000, "FILES": 37500}
+MOST = {"PROMISES": 13200, "DECISIONS": 10200, "ARCHITECTURE": 21000, "COMMANDS": 39000, "FILES": 37500}
 for name, most in MOST.items():
     size = os.path.getsize("docs/%s.md" % name)
     if size > most:

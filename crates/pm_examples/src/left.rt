@@ -139,7 +139,13 @@ fn runs(rt: &impl Abort, alloc: Global, bytes: u16, segment: &[u8], input: &[u8]
     requires joined { bytes ≡ length segment.now }
 {
     let disks = disks(rt, alloc, 2, bytes, segment);
-    tells(rt, alloc, run_job(rt, alloc, disks, Saving::Nothing), input, told);
+    tells(
+        rt,
+        alloc,
+        run_job(rt, alloc, disks, Saving::Nothing),
+        input,
+        told,
+    );
 }
 
 /// Exactly the bytes that a program takes are read.

@@ -120,6 +120,7 @@ called front line name_of name closed good names joins e = by (behind front line
           good = subst (λ x. list_all is_character x ≡ true) (sym l) g.good;
           named = names n e;
         }
+
     by : (o : Option (List ℕ)) → behind front line ≡ o → option_and_then name_of (option_and_then number_in o) ≡ Some name → IsCall line name
     by None b e = absurd (cc)
     by (Some digits) b e = of digits (number_in digits) (behind_is front line digits b) refl e

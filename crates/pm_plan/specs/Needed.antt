@@ -112,7 +112,8 @@ program_needs = (codes "d4", Given) ∷ (codes "d5", Optional) ∷ (codes "d9", 
 
 -- what run needs beside these
 abbrev pub keeping_needs : List (List ℕ × Need)
-keeping_needs = (codes "system", NotSaved) ∷ (codes "save-all", NotBeside (codes "save")) ∷ (codes "printer", Optional) ∷ []
+keeping_needs = (codes "system", NotSaved) ∷ (codes "save-all", NotBeside (codes "save"))
+    ∷ (codes "printer", Optional) ∷ []
 
 -- what raw and trace need beside their limit and their program
 abbrev pub selection_needs : List (List ℕ × Need)

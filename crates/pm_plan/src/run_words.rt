@@ -112,7 +112,9 @@ fn unsaved(matches: &ArgMatches<'_>) -> Result<(), WordsError>
         (word_found (words_of matches.now) (codes "system")) }
     ensures refused { IfErr result IsWrong }
 {
-    if (is_set(matches, "save") || is_set(matches, "save-all")) && found(matches, "system").is_some() {
+    if (is_set(matches, "save") || is_set(matches, "save-all"))
+        && found(matches, "system").is_some()
+    {
         return Err(WordsError::Wrong(
             "--save would keep the segment of --system in the image; examples/with-system.sh puts it there for good",
         ));

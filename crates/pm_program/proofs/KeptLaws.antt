@@ -1,5 +1,6 @@
 -- What a verb of `files` keeps is what its job says.
-use Rattle.std.proofs.Common.{◌≡◌, ◌∷◌, [], ℕ, List, Option, None, Some, Result, Ok, Err, OnOk, OnErr, inr, refl, sym, subst, IfSome, option_map, vec_items, string_bytes, Vec}
+use Rattle.std.proofs.Common.{◌≡◌, ◌∷◌, [], ℕ, List, Option, None, Some, Result, Ok, Err, OnOk, OnErr, inr}
+use Rattle.std.proofs.Common.{refl, sym, subst, IfSome, option_map, vec_items, string_bytes, Vec}
 use Rattle.std.specs.declared.alloc.Global.{Global}
 use Rattle.pm_files.specs.Held.{Files, HoldsFile, Keeps, Puts}
 use Rattle.pm_tool.specs.Outcomes.{Said, IsOutcome, no_others}

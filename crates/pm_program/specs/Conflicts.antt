@@ -1,5 +1,6 @@
 -- When the paths of a run do not go together. `same` says which paths name one file, `folders` which name a folder.
-use Rattle.std.specs.Prelude.{ℕ, Bool, true, false, ◌&&◌, ◌||◌, List, [], ◌∷◌, String, Option, None, Some, option_map, string_bytes}
+use Rattle.std.specs.Prelude.{ℕ, Bool, true, false, ◌&&◌, ◌||◌, List, [], ◌∷◌, String, Option, None, Some}
+use Rattle.std.specs.Prelude.{option_map, string_bytes}
 use Rattle.std.specs.Prelude.{if◌then◌else◌}
 use Rattle.std.specs.declared.alloc.Global.{Global}
 use Rattle.pm_program.specs.declared.end.Conflict.{Conflict}
@@ -73,6 +74,7 @@ other_paths others = option_map string_bytes others.d5 ∷ option_map string_byt
 -- the first thing that is wrong: an image that is to be saved is that of two units; else the printer's path
 abbrev pub conflict_of : (List ℕ → List ℕ → Bool) → (List ℕ → Bool) → Program → Keeping → Option Conflict
 conflict_of same folders program keeping =
-    if is_saved keeping.saving && is_other same (string_bytes program.disk) program.others then Some conflicts.SavedTwice
+    if is_saved keeping.saving && is_other same (string_bytes program.disk) program.others
+    then Some conflicts.SavedTwice
     else if are_all_saved keeping.saving && are_shared same program.others then Some conflicts.SavedTwice
     else printer_conflict same folders program (option_map string_bytes keeping.printer)

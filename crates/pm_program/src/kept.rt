@@ -305,7 +305,8 @@ fn keep_images<S: Store>(
     saving: Saving,
     outcome: &Outcome,
 ) -> Result<(), DiskFault>
-    ensures kept { OnOk result (KeepsEach (S.files store.old) (S.files store.new) (kept_paths saving disk.now others.now)
+    ensures kept { OnOk result (KeepsEach (S.files store.old) (S.files store.new)
+        (kept_paths saving disk.now others.now)
         (option_map vec_items outcome.now.image ∷ others_of outcome.now.others)) }
     ensures front { OnErr result (KeepsFront (S.files store.old) (S.files store.new)
         (kept_paths saving disk.now others.now)) }

@@ -7,7 +7,8 @@ pub fn segments_stay()
     ensures law { SegmentsStay }
 {}
 
-/// A code file that was given a segment of even length, as that of a code file has, is a code file: no slot has a fault.
+/// A code file that was given a segment of even length, as each of a code file has, is a code file: no slot has a
+/// fault.
 pub fn new_file_is_sound()
     ensures law { NewFileIsSound }
 {}

@@ -18,7 +18,8 @@ use Rattle.pm_tool.proofs.Driven.{IsUnderWay, under_way_went}
 drop_whole : (xs : List ℕ) → drop (length xs) xs ≡ []
 drop_whole xs = drop_all (length xs) xs (omega arith)
 
-pub quick_steps_unshown : (saving : Saving) (limit : ℕ) (s : State) (count : ℕ) (t : State) → QuickSteps limit s count t → Unshown (Console saving) limit s count t
+pub quick_steps_unshown : (saving : Saving) (limit : ℕ) (s : State) (count : ℕ) (t : State) → QuickSteps limit s count t
+    → Unshown (Console saving) limit s count t
 quick_steps_unshown saving limit s count t g = record {
   within = g.within;
   went = g.went;

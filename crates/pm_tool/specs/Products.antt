@@ -27,10 +27,34 @@ product_of (made.Saved text image) = Saved text.items image.items
 -- what is said of a product, where this of the input is left unread
 abbrev pub said_product : Product → List ℕ → Said
 said_product (Written bytes) unread =
-    record { written = bytes; exit = exits.Ended; message = []; image = None; others = no_others; printer = []; unread = unread }
+    record {
+      written = bytes;
+      exit = exits.Ended;
+      message = [];
+      image = None;
+      others = no_others;
+      printer = [];
+      unread = unread;
+    }
 said_product (Image image) unread =
-    record { written = []; exit = exits.Ended; message = []; image = Some image; others = no_others; printer = []; unread = unread }
+    record {
+      written = [];
+      exit = exits.Ended;
+      message = [];
+      image = Some image;
+      others = no_others;
+      printer = [];
+      unread = unread;
+    }
 said_product (Refused refusal) unread = refused refusal unread
 said_product (Judged text refusal) unread = judged text refusal unread
 said_product (Saved text image) unread =
-    record { written = text; exit = exits.Ended; message = []; image = Some image; others = no_others; printer = []; unread = unread }
+    record {
+      written = text;
+      exit = exits.Ended;
+      message = [];
+      image = Some image;
+      others = no_others;
+      printer = [];
+      unread = unread;
+    }

@@ -21,8 +21,8 @@ pub fn runs_go_by_the_machine()
     ensures law { RunsGoByTheMachine }
 {}
 
-/// The job that tells all faults of a text ends as the one that assembles it, by the same status and message; where that
-/// accepts the text, nothing is written.
+/// The job that tells all faults of a text ends as the one that assembles it, by the same status and message; where
+/// that accepts the text, nothing is written.
 #[tactic(auto, using(crate::proofs::FaultLaws::faults_end_as_assembling))]
 pub fn faults_end_as_assembling()
     ensures law { FaultsEndAsAssembling }

@@ -498,7 +498,8 @@ pub(crate) fn refuse_line(
     })
 }
 
-/// What a job comes to that judges an image or a text: an end, or a refusal, for what stands in a line if that is known.
+/// What a job comes to that judges an image or a text: an end, or a refusal, with the line that it names if that is
+/// known.
 pub(crate) fn conclude(
     alloc: Global,
     refusal: Option<Refusal>,

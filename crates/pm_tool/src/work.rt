@@ -40,15 +40,19 @@ fn run_of(show: Show, limit: u64) -> Talk
     Talk::Run { show, limit }
 }
 
+/// A run of the program that the input spells, of at most so many steps, of which these lines are shown.
+fn traced(limit: u64, selection: Selection) -> Work
+    ensures work { result ≡ Work.Raw limit selection }
+{
+    Work::Raw { limit, selection }
+}
+
 /// What a job has to do.
 pub(crate) fn work_of(job: Job) -> Work
     ensures work { result ≡ work_of job }
 {
     match job {
-        Job::Raw { limit, selection } => Work::Raw {
-            limit: u64::from(limit),
-            selection,
-        },
+        Job::Raw { limit, selection } => traced(u64::from(limit), selection),
         Job::Run {
             disks,
             name,

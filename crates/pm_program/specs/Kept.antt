@@ -4,7 +4,8 @@ use Rattle.std.specs.Prelude.{Option, None, Some, Vec, option_map, vec_items, st
 use Rattle.std.specs.declared.alloc.Global.{Global}
 use Rattle.pm_files.specs.Held.{Files, HoldsFile, Keeps, Puts}
 use Rattle.pm_filer.specs.Filed.{Order, ListFiles, Get, Put, Remove, Change, GetText}
-use Rattle.pm_filer.specs.Filed.{PutText, Krunch, Date, Zero, Duplicate, Single, GetSlot, GetTextSlot, order_of}
+use Rattle.pm_filer.specs.Filed.{PutText, Krunch, Date, Zero, Duplicate, Single, GetSlot, GetTextSlot}
+use Rattle.pm_filer.specs.Filed.{RemoveSlot, ChangeSlot, order_of}
 use Rattle.pm_volume.specs.Headers.{blank_fault}
 use Rattle.pm_tool.specs.Batches.{said_check, said_files, said_new, said_repair, said_salvage}
 use Rattle.pm_tool.specs.Disks.{images_of}
@@ -104,6 +105,8 @@ may_change Duplicate = true
 may_change Single = true
 may_change (GetSlot slot) = false
 may_change (GetTextSlot slot) = false
+may_change (RemoveSlot slot) = true
+may_change (ChangeSlot slot new) = true
 
 -- a verb takes the lock of its file before it reads it: each that may write the file
 abbrev pub takes_lock : Verb → Bool

@@ -26,7 +26,7 @@ pub(crate) fn disassemble_named(alloc: Global, input: &[u8]) -> Result<Made, All
 {
     let file = match CodeFile::read(input) {
         Ok(file) => file,
-        Err(fault) => return Ok(Made::Refused(Refusal::Code(fault), None)),
+        Err(reason) => return Ok(Made::Refused(Refusal::Code(reason), None)),
     };
     let text = pm_disasm::file(alloc, &file)?;
     let named = pm_disasm::with_names(alloc, text.as_bytes())?;

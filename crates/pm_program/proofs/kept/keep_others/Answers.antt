@@ -19,8 +19,17 @@ pub returns-in_err-keep_at-4-clause-front : goal.returns-in_err-keep_at-4-clause
 returns-in_err-keep_at-4-clause-front g c =
     let r = c.from_residual-in_err-keep_at-4 in
     let p = err_from_is_err_and r.result r.ensures.1 in
-    rw p.1 (inr (_, _, c.in_ok-keep_at.ensures.kept, inr (_, _, c.in_ok-keep_at-2.ensures.kept,
-    inr (_, _, c.in_ok-keep_at-3.ensures.kept, inl c.in_err-keep_at-4.ensures.stays))))
+    rw p.1 (inr (
+      _,
+      _,
+      c.in_ok-keep_at.ensures.kept,
+      inr (
+        _,
+        _,
+        c.in_ok-keep_at-2.ensures.kept,
+        inr (_, _, c.in_ok-keep_at-3.ensures.kept, inl c.in_err-keep_at-4.ensures.stays),
+      ),
+    ))
 
 pub returns-clause-kept : goal.returns-clause-kept
 returns-clause-kept g c = where_ok c.keep_at-5.result
@@ -40,6 +49,15 @@ returns-clause-kept g c = where_ok c.keep_at-5.result
 
 pub returns-clause-front : goal.returns-clause-front
 returns-clause-front g c = where_err c.keep_at-5.result
-    (λ stays. inr (_, _, c.in_ok-keep_at.ensures.kept, inr (_, _, c.in_ok-keep_at-2.ensures.kept,
-    inr (_, _, c.in_ok-keep_at-3.ensures.kept, inr (_, _, c.in_ok-keep_at-4.ensures.kept, inl stays)))))
+    (λ stays. inr (
+      _,
+      _,
+      c.in_ok-keep_at.ensures.kept,
+      inr (
+        _,
+        _,
+        c.in_ok-keep_at-2.ensures.kept,
+        inr (_, _, c.in_ok-keep_at-3.ensures.kept, inr (_, _, c.in_ok-keep_at-4.ensures.kept, inl stays)),
+      ),
+    ))
     c.keep_at-5.ensures.stays

@@ -1,5 +1,5 @@
 #!/bin/bash
-# examples/export.sh, import.sh, salvage.sh, form.sh and remove.sh: each file out byte for byte, there and back, two of one name,
+# examples/export.sh, import.sh, salvage.sh, form.sh, remove.sh, profile.sh and calls.sh: each file out byte for byte, there and back, two of one name,
 # names that cannot be typed, refused and damaged images; orders and headers of images. Run by hand; no part of the gate. PMACH names another
 # program than ./pmach.
 here=$(dirname "$(readlink -f "$0")")/..

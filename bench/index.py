@@ -1,33 +1,31 @@
-"""index.py: docs/INDEX.md, made from the source: each public call with the first sentence of what stands above it and the
-names of its clauses, and behind them the counts that the pages speak of. `index.py` writes the page; house.py asks whether
-it is that of the source."""
+"""index.py: docs/INDEX.md, made from the source: each public call with the names of its clauses and what stands first above
+it, as far as a line has room, and the counts that the pages speak of. `index.py` writes the page; house.py asks whether it
+is that of the source."""
 import glob
 import os
 import re
+import textwrap
 
 TOP = os.path.join(os.path.dirname(os.path.abspath(__file__)), "..")
 PAGE = os.path.join(TOP, "docs/INDEX.md")
 HEAD = """# Index
 
-Each public call, crate by crate in the order of crates.txt: what stands first above it in the source, of a law the
-whole sentence; in brackets the names of its clauses, behind `requires` those of what its caller has to meet. A call
-without clauses promises to return, and nothing else. What serves tests alone is left out. Made by `bench/index.py`.
+Each public call, by crate in the order of crates.txt, and there by its type or module. In brackets the names of its
+clauses, behind `requires` those of what its caller has to meet (conditions); with empty ones it promises to return, and
+nothing else. Without brackets it is a law: its contract speaks of definitions alone. Behind it stands what the source
+says first of it, as far as a line has room, with `..` where that goes on. Of wrong bodies those that the gate tries are
+in brackets. What serves tests alone is left out. Made by `bench/index.py`.
 """
+# The most characters of a line, of a call and of a law.
+WIDTH, LAW_WIDTH = 70, 120
 # Crates whose calls serve programs of the gate and tests alone.
 FOR_TESTS = ("pm_replay", "pm_fake", "pm_told", "pm_told_jobs")
-COUNTS = """
+SUMS = """
 ## Counts
 
-A law is a function whose contract speaks of definitions alone. Wrong bodies: those that the gate tries, and all.
+In all %s.
 
-| Crate | Public calls | Clauses | Conditions | Laws | Wrong bodies |
-|---|---|---|---|---|---|
-"""
-REPLAYS = """
-What the programs of the gate replay, by what they print:
-
-| Program | What | Agree |
-|---|---|---|
+%s
 """
 
 
@@ -44,18 +42,25 @@ def crates():
     return [line.split(":")[0].split()[0] for line in lines("crates.txt") if re.match(r"[a-z]", line)]
 
 
-def sentence(comment, is_law):
-    """The first sentence of a comment; of a call that is no law up to the first stop in it, behind a few words."""
+def sentence(comment, room, is_law):
+    """The first sentence of a comment; where that has more characters, its parts up to a comma or the like, or nothing, and of a
+    law its first words."""
     text = " ".join(" ".join(comment).split())
-    found = re.match(r"(.*?)(?:[.] (?=[A-Z`])|[.:]?$)", text).group(1)
-    return found if is_law else re.match(r".{12}.*?(?=[:;,] |$)|.*", found).group(0)
+    text = re.match(r"(.*?)(?:[.] (?=[A-Z`])|[.:]?$)", text).group(1)
+    if len(text) <= room:
+        return text
+    cuts = [cut.start() for cut in re.finditer(r"[,;:] ", text) if 12 <= cut.start() <= room - 3]
+    cuts = [cut for cut in cuts if text.count("(", 0, cut) == text.count(")", 0, cut)]
+    if not cuts and is_law:
+        cuts = [text.rfind(" ", 0, room - 2)]
+    return text[:max(cuts)] + " .." if cuts else ""
 
 
 class Call:
     """A function that other crates can call."""
 
     def __init__(self, owner, name, comment):
-        self.name = "%s::%s" % (owner, name)
+        self.owner, self.name = owner, name
         self.comment = comment
         self.clauses, self.conditions, self.is_law = [], [], False
 
@@ -72,8 +77,17 @@ class Call:
 
     def row(self):
         said = ", ".join(self.clauses) + ("; requires " + ", ".join(self.conditions) if self.conditions else "")
-        behind = "" if self.is_law or not said else " (%s)" % said
-        return "- `%s`: %s%s" % (self.name, sentence(self.comment, self.is_law), behind)
+        front = "- `%s`" % self.name + ("" if self.is_law else " (%s)" % said)
+        text = sentence(self.comment, (LAW_WIDTH if self.is_law else WIDTH) - len(front) - 2, self.is_law)
+        return front + (": " + text if text else "")
+
+
+def counted(numbers):
+    """The counts of a crate, or of all, without those that are 0."""
+    words = ("calls", "laws", "clauses", "conditions", "wrong bodies")
+    words = ["%d %s" % (count, word if count > 1 else word[:-1].replace("bodie", "body"))
+             for count, word in zip(numbers, words) if count]
+    return ", ".join(words) + (" (%d)" % numbers[5] if numbers[5] else "")
 
 
 def calls_of(crate):
@@ -110,29 +124,29 @@ def calls_of(crate):
 
 def page():
     """The text of the page."""
-    made, counts, sums = [HEAD], [], [0] * 6
+    made, sums = [HEAD], [0] * 6
     for crate in crates():
         edits = [len(files("crates/%s/%s/*.edit" % (crate, folder))) for folder in ("must-fail", "wrong")]
         calls = [] if not os.path.exists(os.path.join(TOP, "crates/%s/src/lib.rt" % crate)) else calls_of(crate)
-        row = [sum(not it.is_law for it in calls), sum(len(it.clauses) for it in calls),
-               sum(bool(it.conditions) for it in calls), sum(it.is_law for it in calls), edits[0], sum(edits)]
+        row = [sum(not it.is_law for it in calls), sum(it.is_law for it in calls), sum(len(it.clauses) for it in calls),
+               sum(bool(it.conditions) for it in calls), sum(edits), edits[0]]
         sums = [one + more for one, more in zip(sums, row)]
-        if any(row):
-            counts.append("| %s | %d | %d | %d | %d | %d, %d |" % (crate, *row))
         if calls and not crate.endswith("_examples") and crate not in FOR_TESTS:
-            made.append("\n## %s\n\n%s\n" % (crate, "\n".join(it.row() for it in calls)))
-    counts.append("| all | %d | %d | %d | %d | %d, %d |" % tuple(sums))
+            made.append("\n## %s\n\n%s.\n" % (crate, counted(row)))
+            for owner in dict.fromkeys(it.owner for it in calls):
+                made.append("\n%s\n\n%s\n" % (owner, "\n".join(it.row() for it in calls if it.owner == owner)))
     replays = []
     for program in ("pm_worked", "pm_cases"):
         for line in lines("crates/%s/stdout" % program):
             agree = re.match(r"(\w+\.\w+): (\d+) agree$", line)
             if agree:
-                replays.append("| %s | `%s` | %s |" % (program, *agree.groups()))
+                replays.append("%s of `%s`" % (agree.group(2), agree.group(1)))
     for line in lines("crates/pm_trials/stdout"):
         agree = re.match(r"command lines: (\d+)", line)
         if agree:
-            replays.append("| pm_trials | command lines | %s |" % agree.group(1))
-    return "".join(made) + COUNTS + "\n".join(counts) + "\n" + REPLAYS + "\n".join(replays) + "\n"
+            replays.append("%s command lines" % agree.group(1))
+    replays = "The programs of the gate replay, by what they print: %s." % ", ".join(replays)
+    return "".join(made) + SUMS % (counted(sums), textwrap.fill(replays, 120))
 
 
 if __name__ == "__main__":

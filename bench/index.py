@@ -1,6 +1,6 @@
-"""index.py: docs/INDEX.md, made from the source: each public call with the names of its clauses and what stands first above
-it, as far as a line has room, and the counts that the pages speak of. `index.py` writes the page; house.py asks whether it
-is that of the source."""
+"""index.py: docs/INDEX.md, made from the source: each public call with the names of its clauses and what stands first
+above it, as far as a line has room, and the counts that the pages speak of. `index.py` writes the page; house.py asks
+whether it is that of the source."""
 import glob
 import os
 import re
@@ -43,8 +43,8 @@ def crates():
 
 
 def sentence(comment, room, is_law):
-    """The first sentence of a comment; where that has more characters, its parts up to a comma or the like, or nothing, and of a
-    law its first words."""
+    """The first sentence of a comment; where that has more characters, its parts up to a comma or the like, or nothing,
+    and of a law its first words."""
     text = " ".join(" ".join(comment).split())
     text = re.match(r"(.*?)(?:[.] (?=[A-Z`])|[.:]?$)", text).group(1)
     if len(text) <= room:

@@ -14,7 +14,7 @@
                     the source, or the file beside, has not; and paths of the repository that the pages name
     the index       docs/INDEX.md, which index.py makes of the source
     pages           of more bytes than they may have
-    the map         of docs/ARCHITECTURE.md: floors and edges beside crates.txt, and a row for each crate
+    the map         of docs/ARCHITECTURE.md: each crate with its floor and those that it stands on, beside crates.txt
 The status is 1 where anything is found."""
 import collections
 import glob
@@ -106,7 +106,7 @@ for path in sorted(glob.glob("crates/*/src/**/*.rt", recursive=True)):
         if re.search(NUMBERS, line.split("//")[0]) and not re.match(r"\s*(const|pub const|pub\(crate\) const)", line):
             tell("number", "%s:%d %s" % (path, number + 1, line.strip()[:80]))
 
-# The map: each crate on its floor, and in brackets the nearest crates below, without pm_.
+# The map: of each crate its floor, and the nearest crates below, without pm_.
 stands = {}
 for line in lines("crates.txt"):
     if line and not line.startswith("#"):
@@ -124,21 +124,16 @@ def floor_of(name):
 
 
 page = "\n".join(lines("docs/ARCHITECTURE.md"))
-drawn, floor = {}, None
-for line in re.search(r"```\nfloor.*?\n(.*?)```", page, re.S).group(1).split("\n"):
-    floor = int(line[:7]) if line[:7].strip() else floor
-    for name, below in re.findall(r"(pm\w+)(?: \(([^)]*)\))?", line[7:]):
-        drawn[name] = (floor, set("pm_" + word for word in below.split()))
+drawn = {}
+for floor, name, below in re.findall(r"^\| (\d+) \| (pm\w*) \| ([\w ]*?) ?\|", page, re.M):
+    drawn[name] = (int(floor), set("pm_" + word for word in below.split()))
 for name in sorted(set(stands) | set(drawn)):
     if name not in drawn or name not in stands:
-        tell("map", "%s stands in %s alone" % (name, "crates.txt" if name in stands else "the map"))
+        tell("map", "%s stands in %s alone" % (name, "crates.txt" if name in stands else "the table"))
         continue
     nearest = {low for low in stands[name] if not any(low in all_below(other) for other in stands[name])}
     if drawn[name] != (floor_of(name), nearest):
         tell("map", "%s: floor %d, on %s" % (name, floor_of(name), ", ".join(sorted(nearest)) or "none"))
-for name in stands:
-    if "| %s |" % name not in page:
-        tell("map", "%s has no row in the table of crates" % name)
 
 if lines("crates/pm_page/stdin") != lines("docs/INSTRUCTIONS.md"):
     tell("page", "crates/pm_page/stdin is not docs/INSTRUCTIONS.md")

@@ -17,7 +17,7 @@ says first of it, as far as a line has room, with `..` where that goes on. Of wr
 in brackets. What serves tests alone is left out. Made by `bench/index.py`.
 """
 # The most characters of a line, of a call and of a law.
-WIDTH, LAW_WIDTH = 50, 100
+WIDTH, LAW_WIDTH = 44, 90
 # Crates whose calls serve programs of the gate and tests alone.
 FOR_TESTS = ("pm_replay", "pm_fake", "pm_told", "pm_told_jobs")
 SUMS = """

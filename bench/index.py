@@ -13,8 +13,8 @@ HEAD = """# Index
 Each public call, by crate in the order of crates.txt, and there by its type or module. In brackets the names of its
 clauses, behind `requires` those of what its caller has to meet (conditions); with empty ones it promises to return, and
 nothing else. Without brackets it is a law: its contract speaks of definitions alone. Behind it stands what the source
-says first of it, as far as a line has room, with `..` where that goes on. Of wrong bodies those that the gate tries are
-in brackets. What serves tests alone is left out. Made by `bench/index.py`.
+says first of it, as far as a line has room, with `..` where that goes on. What serves tests alone is left out, and
+counted at the end. Made by `bench/index.py`.
 """
 # The most characters of a line, of a call and of a law.
 WIDTH, LAW_WIDTH = 44, 90
@@ -23,7 +23,7 @@ FOR_TESTS = ("pm_replay", "pm_fake", "pm_told", "pm_told_jobs")
 SUMS = """
 ## Counts
 
-In all %s.
+%d calls and %d laws, %d clauses, %d calls with conditions, %d wrong bodies, of which the gate tries %d.
 
 %s
 """
@@ -82,14 +82,6 @@ class Call:
         return front + (": " + text if text else "")
 
 
-def counted(numbers):
-    """The counts of a crate, or of all, without those that are 0."""
-    words = ("calls", "laws", "clauses", "conditions", "wrong bodies")
-    words = ["%d %s" % (count, word if count > 1 else word[:-1].replace("bodie", "body"))
-             for count, word in zip(numbers, words) if count]
-    return ", ".join(words) + (" (%d)" % numbers[5] if numbers[5] else "")
-
-
 def calls_of(crate):
     """The calls of a crate that others can name: of a public module, or handed on by its root."""
     root = "\n".join(lines("crates/%s/src/lib.rt" % crate))
@@ -132,7 +124,7 @@ def page():
                sum(bool(it.conditions) for it in calls), sum(edits), edits[0]]
         sums = [one + more for one, more in zip(sums, row)]
         if calls and not crate.endswith("_examples") and crate not in FOR_TESTS:
-            made.append("\n## %s\n\n%s.\n" % (crate, counted(row)))
+            made.append("\n## %s\n" % crate)
             for owner in dict.fromkeys(it.owner for it in calls):
                 made.append("\n%s\n\n%s\n" % (owner, "\n".join(it.row() for it in calls if it.owner == owner)))
     replays = []
@@ -146,7 +138,7 @@ def page():
         if agree:
             replays.append("%s command lines" % agree.group(1))
     replays = "The programs of the gate replay, by what they print: %s." % ", ".join(replays)
-    return "".join(made) + SUMS % (counted(sums), textwrap.fill(replays, 120))
+    return "".join(made) + SUMS % (*sums, textwrap.fill(replays, 120))
 
 
 if __name__ == "__main__":

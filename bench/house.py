@@ -173,6 +173,13 @@ for page, text in pages.items():
         if not os.path.exists("crates/" + path):
             tell("name", "%s: %s" % (page, path))
 
+# What a page of promises says is of a crate is a call or a clause there.
+for page in PROMISES:
+    for name, crate in re.findall(r"`(\w+)`(?: \([^)]*\))? of (pm_\w+)", " ".join(pages[page].split())):
+        source = "\n".join("\n".join(lines(path)) for path in glob.glob("crates/%s/src/**/*.rt" % crate, recursive=True))
+        if not re.search(r"(?:fn|ensures\*?) %s\b" % name, source):
+            tell("name", "%s: %s is not of %s" % (page, name, crate))
+
 # In a table of definitions each row names files, and each name of the row is defined in one of them. A file without a
 # folder stands in that of the one before it, or in the folder that the text above the table names.
 for page, text in pages.items():
@@ -208,12 +215,18 @@ for page in sorted(glob.glob("docs/*.md")) + ["README.md", "bench/README.md"]:
 if "\n".join(lines("docs/INDEX.md")) != index.page():
     tell("index", "docs/INDEX.md is not that of the source: python3 bench/index.py")
 
-# The most bytes of a page that is kept by hand.
-MOST = {"PROMISES": 13200, "DECISIONS": 10200, "ARCHITECTURE": 21000, "COMMANDS": 39000, "FILES": 37500}
+# The most bytes of a page, and of all of docs/.
+MOST = {"PROMISES": 12000, "DECISIONS": 8000, "ARCHITECTURE": 13500, "COMMANDS": 33500, "FILES": 31500, "INDEX": 28000,
+        "INSTRUCTIONS": 22500, "ASSEMBLY": 20500, "WORKING": 17500, "PROCEDURES": 17000, "MACHINE": 14500, "GLOSSARY": 9500,
+        "CASES": 10000}
+ALL_PAGES = 250000
 for name, most in MOST.items():
     size = os.path.getsize("docs/%s.md" % name)
     if size > most:
         tell("page", "docs/%s.md has %d bytes, %d are the most" % (name, size, most))
+size = sum(map(os.path.getsize, glob.glob("docs/*")))
+if size > ALL_PAGES:
+    tell("page", "docs/ has %d bytes, %d are the most" % (size, ALL_PAGES))
 
 print(", ".join("%d %s" % (count, kind) for kind, count in sorted(found.items())) or "nothing")
 sys.exit(1 if found else 0)

@@ -1,6 +1,6 @@
-"""index.py: docs/INDEX.md, made from the source: each public call with the names of its clauses and what stands first
-above it, as far as a line has room, and the counts that the pages speak of. `index.py` writes the page; house.py asks
-whether it is that of the source."""
+"""index.py: docs/INDEX.md, made from the source: each public call with the names of its clauses, each law with what
+stands above it as far as a line has room, and the counts that the pages speak of. `index.py` writes the page; house.py
+asks whether it is that of the source."""
 import glob
 import os
 import re
@@ -10,14 +10,14 @@ TOP = os.path.join(os.path.dirname(os.path.abspath(__file__)), "..")
 PAGE = os.path.join(TOP, "docs/INDEX.md")
 HEAD = """# Index
 
-Each public call, by crate in the order of crates.txt, and there by its type or module. In brackets the names of its
-clauses, behind `requires` those of what its caller has to meet (conditions); with empty ones it promises to return, and
-nothing else. Without brackets it is a law: its contract speaks of definitions alone. Behind it stands what the source
-says first of it, as far as a line has room, with `..` where that goes on. What serves tests alone is left out, and
-counted at the end. Made by `bench/index.py`.
+Each public call, by crate in the order of crates.txt, and there by its type or module. In brackets the names of the
+clauses, behind `requires` those of what a caller has to meet (conditions); calls with the same ones stand together, and
+with empty ones they promise to return, and nothing else. A call without brackets is a law: its contract speaks of
+definitions alone. Behind it stands what the source says first of it, as far as a line has room, with `..` where that
+goes on. What serves tests alone is left out, and counted at the end. Made by `bench/index.py`.
 """
-# The most characters of a line, of a call and of a law.
-WIDTH, LAW_WIDTH = 44, 90
+# The most characters of the line of a law.
+WIDTH = 100
 # Crates whose calls serve programs of the gate and tests alone.
 FOR_TESTS = ("pm_replay", "pm_fake", "pm_told", "pm_told_jobs")
 SUMS = """
@@ -42,18 +42,15 @@ def crates():
     return [line.split(":")[0].split()[0] for line in lines("crates.txt") if re.match(r"[a-z]", line)]
 
 
-def sentence(comment, room, is_law):
-    """The first sentence of a comment; where that has more characters, its parts up to a comma or the like, or nothing,
-    and of a law its first words."""
+def sentence(comment, room):
+    """The first sentence of a comment; where that has more characters, its parts up to a comma, or its words."""
     text = " ".join(" ".join(comment).split())
     text = re.match(r"(.*?)(?:[.] (?=[A-Z`])|[.:]?$)", text).group(1)
     if len(text) <= room:
         return text
     cuts = [cut.start() for cut in re.finditer(r"[,;:] ", text) if 12 <= cut.start() <= room - 3]
     cuts = [cut for cut in cuts if text.count("(", 0, cut) == text.count(")", 0, cut)]
-    if not cuts and is_law:
-        cuts = [text.rfind(" ", 0, room - 2)]
-    return text[:max(cuts)] + " .." if cuts else ""
+    return text[:max(cuts or [text.rfind(" ", 0, room - 2)])] + " .."
 
 
 class Call:
@@ -75,11 +72,24 @@ class Call:
             if line in (indent + "{", indent + "}", indent + "{}") or not clause and line.endswith((" {", ";")):
                 return
 
-    def row(self):
-        said = ", ".join(self.clauses) + ("; requires " + ", ".join(self.conditions) if self.conditions else "")
-        front = "- `%s`" % self.name + ("" if self.is_law else " (%s)" % said)
-        text = sentence(self.comment, (LAW_WIDTH if self.is_law else WIDTH) - len(front) - 2, self.is_law)
-        return front + (": " + text if text else "")
+    def said(self):
+        """The names of its clauses and conditions; none of a law."""
+        requires = "; requires " + ", ".join(self.conditions) if self.conditions else ""
+        return None if self.is_law else " (%s%s)" % (", ".join(self.clauses), requires)
+
+
+def rows(calls):
+    """What is told of the calls of one owner."""
+    made = []
+    for said in dict.fromkeys(it.said() for it in calls):
+        names = ["`%s`" % it.name for it in calls if it.said() == said]
+        if said is not None:
+            made.append(", ".join(names) + said)
+    for it in calls:
+        if it.is_law:
+            front = "`%s`: " % it.name
+            made.append(front + sentence(it.comment, WIDTH - len(front)))
+    return made
 
 
 def calls_of(crate):
@@ -125,8 +135,13 @@ def page():
         sums = [one + more for one, more in zip(sums, row)]
         if calls and not crate.endswith("_examples") and crate not in FOR_TESTS:
             made.append("\n## %s\n" % crate)
-            for owner in dict.fromkeys(it.owner for it in calls):
-                made.append("\n%s\n\n%s\n" % (owner, "\n".join(it.row() for it in calls if it.owner == owner)))
+            owners = dict.fromkeys(it.owner for it in calls)
+            owners = [(owner, rows([it for it in calls if it.owner == owner])) for owner in owners]
+            alone = "".join("- `%s`: %s\n" % (owner, told[0]) for owner, told in owners if len(told) == 1)
+            made.append("\n" + alone if alone else "")
+            for owner, told in owners:
+                if len(told) > 1:
+                    made.append("\n`%s`\n\n" % owner + "".join("- %s\n" % one for one in told))
     replays = []
     for program in ("pm_worked", "pm_cases"):
         for line in lines("crates/%s/stdout" % program):

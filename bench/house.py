@@ -10,8 +10,8 @@
     the page        of the instructions, of which crates/pm_page/stdin is a copy
     the cases       of examples/conformance/bare.txt, of which crates/pm_cases/data/bare.txt is a copy
     the segment     of examples/system/system.text, of which crates/pm_trials/data/system.text is a copy
-    names           that docs/PROMISES.md, docs/ARCHITECTURE.md, docs/DECISIONS.md and the tables of definitions have and
-                    the source, or the file beside, has not; and paths of the repository that the pages name
+    names           that docs/PROMISES.md, docs/ARCHITECTURE.md, docs/DECISIONS.md and the sections of definitions have and
+                    the source, or the crates beside, have not; and paths of the repository that the pages name
     the index       docs/INDEX.md, which index.py makes of the source
     pages           of more bytes than they may have
     the map         of docs/ARCHITECTURE.md: each crate with its floor and those that it stands on, beside crates.txt
@@ -180,23 +180,18 @@ for page in PROMISES:
         if not re.search(r"(?:fn|ensures\*?) %s\b" % name, source):
             tell("name", "%s: %s is not of %s" % (page, name, crate))
 
-# In a table of definitions each row names files, and each name of the row is defined in one of them. A file without a
-# folder stands in that of the one before it, or in the folder that the text above the table names.
+# What a section of definitions names is defined in the crates that it names.
 for page, text in pages.items():
     if page in PROMISES:
         continue
-    folder = re.search(r"`(pm_\w+/specs)`", text)
-    for row in re.findall(r"^\| (?!Section|Procedure|---)(.*) \|$", text, re.M):
-        names, files = re.findall(r"`([\w-]+)`", row), re.findall(r"`((?:pm_\w+/(?:specs|src)/)?\w+\.(?:antt|rt))`", row)
-        below, source = folder.group(1) if folder else "", ""
-        for path in files:
-            below, path = (os.path.dirname(path) or below), os.path.basename(path)
-            path = "crates/%s/%s" % (below, path)
-            source += "\n".join(lines(path)) + "\n" if os.path.exists(path) else ""
-        defined = set(re.findall(r"^ *(?:(?:abbrev|unfoldable) )?pub (?:record |data |struct |enum )?([^\s:()]+)", source, re.M))
-        for name in names:
-            if name not in defined:
-                tell("name", "%s: %s is not in %s" % (page, name, ", ".join(files) or "no file"))
+    source = ""
+    for crate in re.findall(r"\bpm_\w+", text):
+        paths = glob.glob("crates/%s/specs/**/*.antt" % crate, recursive=True) + glob.glob("crates/%s/src/**/*.rt" % crate, recursive=True)
+        source += "\n".join("\n".join(lines(path)) for path in paths) + "\n"
+    defined = set(re.findall(r"^ *(?:(?:abbrev|unfoldable) )?pub (?:record |data |struct |enum )?([^\s:()]+)", source, re.M))
+    for name in re.findall(r"`([\w-]+)`", text):
+        if name not in defined:
+            tell("name", "%s: %s is not in a crate that it names" % (page, name))
 
 # Names of calls and crates, and paths, on the pages that argue with them.
 for page in ("docs/ARCHITECTURE.md", "docs/DECISIONS.md"):
@@ -219,7 +214,7 @@ if "\n".join(lines("docs/INDEX.md")) != index.page():
 MOST = {"PROMISES": 12000, "DECISIONS": 8000, "ARCHITECTURE": 13500, "COMMANDS": 33500, "FILES": 31500, "INDEX": 26500,
         "INSTRUCTIONS": 22500, "ASSEMBLY": 20500, "WORKING": 17500, "PROCEDURES": 17000, "MACHINE": 14500, "GLOSSARY": 9500,
         "CASES": 10000}
-ALL_PAGES = 244000
+ALL_PAGES = 240000
 for name, most in MOST.items():
     size = os.path.getsize("docs/%s.md" % name)
     if size > most:

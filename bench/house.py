@@ -11,7 +11,7 @@
     the cases       of examples/conformance/bare.txt, of which crates/pm_cases/data/bare.txt is a copy
     the segment     of examples/system/system.text, of which crates/pm_trials/data/system.text is a copy
     names           that docs/PROMISES.md, docs/ARCHITECTURE.md, docs/DECISIONS.md and the sections of definitions have and
-                    the source, or the crates beside, have not; and paths of the repository that the pages name
+                    the source, or the crates beside, have not; and paths and sections that the pages name
     the index       docs/INDEX.md, which index.py makes of the source
     pages           of more bytes than they may have
     the map         of docs/ARCHITECTURE.md: each crate with its floor and those that it stands on, beside crates.txt
@@ -206,6 +206,13 @@ for page in sorted(glob.glob("docs/*.md")) + ["README.md", "bench/README.md"]:
     for path in set(re.findall(r"\]\(([\w./-]+)(?:#[\w-]+)?\)", text)):
         if not os.path.exists(os.path.join(os.path.dirname(page), path)):
             tell("path", "%s: %s" % (page, path))
+    joined = " ".join(text.split())
+    titles = re.findall(r'\]\(([\w./-]+\.md)\), "([^"]+)"', joined)
+    titles += [pair[::-1] for pair in re.findall(r'"([^"]+)" (?:of|in) (?:the )?\[[^]]*\]\(([\w./-]+\.md)\)', joined)]
+    for path, title in titles:
+        path = os.path.join(os.path.dirname(page), path)
+        if os.path.exists(path) and not any(re.match("#+ %s$" % re.escape(title), line) for line in lines(path)):
+            tell("name", '%s: %s has no section "%s"' % (page, path, title))
 
 if "\n".join(lines("docs/INDEX.md")) != index.page():
     tell("index", "docs/INDEX.md is not that of the source: python3 bench/index.py")

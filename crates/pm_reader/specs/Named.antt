@@ -7,12 +7,18 @@ use Rattle.std.specs.Ordering.{nat_cmp}
 use Rattle.std.specs.Str.{bytes_eq}
 use Rattle.pm_reader.specs.declared.source.LabelledProcedure.{LabelledProcedure}
 use Rattle.pm_reader.specs.Views.{labelled_procedure}
-use Rattle.pm_source.specs.Source.{Name, has_label_in}
+use Rattle.pm_source.specs.Source.{Name, Row, has_label_in}
+use Rattle.pm_source.specs.Source.Row.{Items, Exit}
 
 -- whether a label is this name, byte for byte
 abbrev pub is_name : Name → Option (Bor (List ℕ)) → Bool
 is_name name None = false
 is_name name (Some label) = bytes_eq label.now name
+
+-- the label before the items of a line of code, if one stands there
+abbrev pub label_in : Row → Option Name
+label_in (Items line label items) = label
+label_in Exit = None
 
 -- A table has the labels of a procedure's code, and no other.
 abbrev pub HasLabelsOf : LabelledProcedure → BTreeMap (Bor (List ℕ)) ℕ → Type 0

@@ -8,3 +8,4 @@ pub mod Outcomes
 pub mod Stages
 pub mod ListedFile
 pub mod Eachs
+pub mod SymbolPlaces

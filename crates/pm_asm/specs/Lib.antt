@@ -4,3 +4,5 @@ pub mod Lengths
 pub mod Found
 pub mod Assembled
 pub mod Each
+pub mod Symbols
+pub mod SymbolViews

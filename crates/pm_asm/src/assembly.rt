@@ -17,7 +17,7 @@ use pm_source::AsmFault;
 use std::alloc::Global;
 
 /// The program of a text that has no fault and no segment of more than 60,000 bytes.
-fn program_of(alloc: Global, text: &str) -> Result<Vec<Segment>, AsmFault>
+pub(crate) fn program_of(alloc: Global, text: &str) -> Result<Vec<Segment>, AsmFault>
     ensures program { IfOk result (λ program. program_seen program.items ≡ program_of text.now) }
     ensures faultless { OnOk result (faults text.now ≡ []) }
     ensures short { OnOk result (AreShort (program_of text.now)) }

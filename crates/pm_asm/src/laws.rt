@@ -2,6 +2,7 @@
 ghost use Rattle.pm_asm.specs.Assembled.{AssembledIsListed};
 ghost use Rattle.pm_asm.specs.Assembled.{AssembledIsSpelled, RefusedSpellsNothing};
 ghost use Rattle.pm_asm.specs.Each.{FirstOfAll};
+ghost use Rattle.pm_asm.specs.Symbols.{JumpsLeadToSymbols};
 
 /// A text is assembled exactly where it spells a program of which no segment has more than 60,000 bytes: what it gives
 /// is the code file and the listing of such a program, and where they are those of one, it gives them.
@@ -24,4 +25,11 @@ pub fn assembled_is_listed()
 #[tactic(auto, using(crate::proofs::Eachs::first_of_all))]
 pub fn first_of_all()
     ensures law { FirstOfAll }
+{}
+
+/// Where a jump to a label leads, its procedure begins, and the offset of the label's line is what lies between. So a
+/// breakpoint at the segment, the procedure and the offset of that line stops where such a jump leads.
+#[tactic(auto, using(crate::proofs::SymbolPlaces::jumps_lead_to_symbols))]
+pub fn jumps_lead_to_symbols()
+    ensures law { JumpsLeadToSymbols }
 {}

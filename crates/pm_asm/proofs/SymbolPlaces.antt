@@ -1,0 +1,46 @@
+-- Where labels stand, as the debugger counts.
+use Rattle.std.proofs.Common.{◌≡◌, ◌≤◌, ℕ, ◌+◌, ◌-◌, ◌++◌, Bool, true, false, List, [], ◌∷◌, map, refl, sym, ap, ◌∙◌, arith, Option, Some, None}
+use Rattle.std.specs.Prelude.{if◌then◌else◌, Ok, Err}
+use Rattle.std.specs.Option.{option_to_list, unwrap_or}
+use Rattle.std.proofs.lemmas.List.{map-append}
+use Rattle.pm_code.proofs.Counted.{end_after}
+use Rattle.pm_code.specs.Program.{end_of}
+use Rattle.pm_reader.specs.Named.{label_in}
+use Rattle.pm_source.specs.declared.fault.AsmFault.{AsmFault}
+use Rattle.pm_source.specs.Faults.{faults, place_of, source_of}
+use Rattle.pm_source.specs.Meaning.{program_of}
+use Rattle.pm_source.specs.Source.{Name, Row, has_label, labels_of, row_items}
+use Rattle.pm_source.specs.Source.Row.{Items, Exit}
+use Rattle.pm_asm.specs.Assembled.{assembled}
+use Rattle.pm_asm.specs.Lengths.{AreShort}
+use Rattle.pm_asm.specs.Symbols.{JumpsLeadToSymbols, Symbol, symbol_lines, symbol_text, symbols, symbols_by}
+use Rattle.pm_asm.proofs.Outcomes.{assembled_ok}
+
+-- the labels of a line and of those behind it
+pub first_label : (row : Row) (rows : List Row) → labels_of (row ∷ rows) ≡ option_to_list (label_in row) ++ labels_of rows
+first_label (Items line label items) rows = refl
+first_label Exit rows = refl
+
+-- a label stands nowhere before the code
+pub place_after : (rows : List Row) (at : ℕ) (name : Name) (place : ℕ) → place_of at rows name ≡ Some place → at ≤ place
+place_after [] at name place h = absurd cc
+place_after (row ∷ rows) at name place h = by (has_label name row) h
+  where
+    by : (b : Bool) → (if b then Some at else place_of (end_of at (row_items row)) rows name) ≡ Some place → at ≤ place
+    by true e = let same : at ≡ place = cc in omega (arith, same)
+    by false e = let before = end_after at (row_items row) in let behind = place_after rows (end_of at (row_items row)) name place e in omega (arith, before, behind)
+
+pub jumps_lead_to_symbols : JumpsLeadToSymbols
+jumps_lead_to_symbols segment procedure start rows name place leads =
+    let above = place_after rows start name place leads in
+    ap (λ o. start + (unwrap_or o 0 - start)) leads ∙ omega (arith, above)
+
+-- a text without faults whose segments are short has lines
+pub symbols_told : (text : List ℕ) → faults text ≡ [] → AreShort (program_of text) → symbol_text text ≡ Ok (symbol_lines (symbols (source_of text)))
+unfolding symbol_text
+symbols_told text none short = ap (symbols_by text) (assembled_ok text none short)
+
+-- a text that is refused has none, by the same fault
+pub symbols_refused : (text : List ℕ) (fault : AsmFault) → assembled text ≡ Err fault → symbol_text text ≡ Err fault
+unfolding symbol_text
+symbols_refused text fault h = ap (symbols_by text) h

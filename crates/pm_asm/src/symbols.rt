@@ -1,0 +1,223 @@
+//! Where the procedures and the labels of a text stand, as the debugger counts.
+
+ghost use Rattle.std.specs.Prelude.{◌≡◌, ◌≢◌, ◌∷◌, ◌++◌, [], Err, IfOk, IfErr, OnOk, Ok, Some, map, option_map};
+ghost use Rattle.pm_code.specs.Shown.{padded};
+ghost use Rattle.pm_line.specs.Views.{row_seen, text_seen};
+ghost use Rattle.pm_reader.specs.Views.{labelled_procedure, labelled_segments};
+ghost use Rattle.pm_source.specs.declared.fault.AsmFault.TheVariants.{NoMemory};
+ghost use Rattle.pm_source.specs.Source.{labels_of};
+ghost use Rattle.pm_asm.specs.Firsts.{places_in};
+ghost use Rattle.pm_asm.specs.SymbolViews.{symbol_seen, symbols_seen};
+ghost use Rattle.pm_asm.specs.Symbols as symbols;
+ghost use Rattle.pm_asm.specs.Symbols.{procedure_symbols, symbol_line, symbol_lines, symbol_name, symbol_text};
+ghost use Rattle.pm_asm.specs.Symbols.{symbols_from};
+
+use crate::assembly::program_of;
+use crate::code::Code;
+use crate::table::{place_of, table_of};
+use pm_line::Row;
+use pm_reader::{LabelledProcedure, LabelledSegment, label_of, source_end, source_of};
+use pm_source::AsmFault;
+use std::alloc::{AllocError, Global};
+use std::fmt;
+
+/// A procedure, or a label of its code.
+#[derive(Clone, Copy)]
+struct Symbol<'a> {
+    /// The number of the segment.
+    segment: u8,
+    /// The number of the procedure.
+    procedure: usize,
+    /// How many bytes it stands behind where the procedure is entered.
+    offset: usize,
+    /// The label; none of the procedure itself.
+    label: Option<&'a [u8]>,
+}
+
+/// Code in which labels are looked up, and the numbers of its segment and its procedure.
+#[derive(Clone, Copy)]
+struct Numbered<'r, 'a> {
+    segment: u8,
+    procedure: usize,
+    code: Code<'r, 'a>,
+}
+
+/// A label of code.
+fn label_symbol<'a>(numbered: &Numbered<'_, 'a>, label: &'a [u8]) -> Symbol<'a>
+    ensures symbol { symbol_seen result ≡ symbols.label_symbol numbered.now.segment numbered.now.procedure
+        numbered.now.code.start (map row_seen numbered.now.code.rows.now) label.now }
+{
+    let place = place_of(&numbered.code, label).unwrap_or(0);
+    Symbol {
+        segment: numbered.segment,
+        procedure: numbered.procedure,
+        offset: place.saturating_sub(numbered.code.start),
+        label: Some(label),
+    }
+}
+
+/// Adds the labels of code.
+fn push_labels<'a>(
+    numbered: &Numbered<'_, 'a>,
+    found: &mut Vec<Symbol<'a>>,
+) -> Result<(), AllocError>
+    ensures labels { OnOk result (symbols_seen found.new.items ≡ symbols_seen found.old.items
+        ++ map (symbols.label_symbol numbered.now.segment numbered.now.procedure numbered.now.code.start
+        (map row_seen numbered.now.code.rows.now)) (labels_of (map row_seen numbered.now.code.rows.now))) }
+{
+    for row in numbered.code.rows {
+        if let Some(label) = label_of(row) {
+            found.push(label_symbol(numbered, label))?;
+        }
+    }
+    Ok(())
+}
+
+/// Adds a procedure that begins at an offset of its segment, and its labels.
+fn push_procedure<'a>(
+    alloc: Global,
+    numbers: (u8, usize),
+    at: usize,
+    procedure: &LabelledProcedure<'a>,
+    found: &mut Vec<Symbol<'a>>,
+) -> Result<(), AllocError>
+    ensures symbols { OnOk result (symbols_seen found.new.items ≡ symbols_seen found.old.items
+        ++ procedure_symbols numbers.0 numbers.1 at (labelled_procedure procedure.now)) }
+{
+    let rows: &[Row<'a>] = &procedure.code;
+    let table = table_of(alloc, at, rows)?;
+    let code = Code {
+        start: at,
+        rows,
+        table: &table,
+    };
+    found.push(Symbol {
+        segment: numbers.0,
+        procedure: numbers.1,
+        offset: 0,
+        label: None,
+    })?;
+    let numbered = Numbered {
+        segment: numbers.0,
+        procedure: numbers.1,
+        code,
+    };
+    push_labels(&numbered, found)
+}
+
+/// Adds the procedures of a segment, and their labels.
+#[tactic(auto, unfolding(crate::specs::Symbols::symbols_from))]
+fn push_procedures<'a>(
+    alloc: Global,
+    segment: u8,
+    procedures: &[LabelledProcedure<'a>],
+    found: &mut Vec<Symbol<'a>>,
+) -> Result<(), AllocError>
+    ensures symbols { OnOk result (symbols_seen found.new.items ≡ symbols_seen found.old.items
+        ++ symbols_from segment 1 0 (map labelled_procedure procedures.now)) }
+{
+    let mut number = 1;
+    let mut at = 0;
+    for procedure in procedures {
+        push_procedure(alloc, (segment, number), at, procedure, found)?;
+        number += 1;
+        at = source_end(at, procedure).ok_or(AllocError)?;
+    }
+    Ok(())
+}
+
+/// The procedures and labels of segments, in the order of the text.
+#[tactic(auto, unfolding(crate::specs::Symbols::symbols))]
+fn symbols_of<'a>(
+    alloc: Global,
+    segments: &[LabelledSegment<'a>],
+) -> Result<Vec<Symbol<'a>>, AllocError>
+    ensures symbols { IfOk result (λ found. symbols_seen found.items
+        ≡ symbols.symbols (labelled_segments segments.now)) }
+{
+    let mut found = Vec::new(alloc);
+    for segment in segments {
+        push_procedures(alloc, segment.number, &segment.procedures, &mut found)?;
+    }
+    Ok(found)
+}
+
+/// A number of a segment or a procedure in three digits.
+#[derive(Clone, Copy)]
+struct Number(usize);
+
+impl fmt::Display for Number {
+    ghost output = { λ n. Some (padded 3 n.0) };
+
+    #[tactic(auto, using(pm_code::proofs::Digits::padded_written))]
+    fn fmt<W: fmt::Write>(&self, f: &mut fmt::Formatter<W>) -> fmt::Result {
+        let number = self.0;
+        write!(f, "{number:03}")
+    }
+}
+
+/// An offset in five digits.
+#[derive(Clone, Copy)]
+struct Offset(usize);
+
+impl fmt::Display for Offset {
+    ghost output = { λ n. Some (padded 5 n.0) };
+
+    #[tactic(auto, using(pm_code::proofs::Digits::padded_written))]
+    fn fmt<W: fmt::Write>(&self, f: &mut fmt::Formatter<W>) -> fmt::Result {
+        let offset = self.0;
+        write!(f, "{offset:05}")
+    }
+}
+
+/// What a line says behind its numbers.
+fn symbol_name<'a>(label: Option<&'a [u8]>) -> &'a [u8]
+    ensures name { result.now ≡ symbol_name (option_map text_seen label.entry) }
+{
+    match label {
+        Some(label) => label,
+        None => b".PROC",
+    }
+}
+
+/// Adds the line of a symbol.
+#[tactic(auto, unfolding(crate::specs::Symbols::symbol_line))]
+fn push_line(alloc: Global, lines: &mut Vec<u8>, symbol: &Symbol<'_>) -> Result<(), AllocError>
+    ensures line { OnOk result (lines.new.items ≡ lines.old.items ++ symbol_line (symbol_seen symbol.now)) }
+{
+    let segment = Number(usize::from(symbol.segment));
+    let procedure = Number(symbol.procedure);
+    let offset = Offset(symbol.offset);
+    let numbers = format!(in alloc; "{segment} {procedure} {offset} ")?;
+    lines.extend_from_slice(numbers.as_bytes())?;
+    lines.extend_from_slice(symbol_name(symbol.label))?;
+    lines.push(b'\n')?;
+    Ok(())
+}
+
+/// The lines of symbols.
+fn lines_of(alloc: Global, symbols: &[Symbol<'_>]) -> Result<Vec<u8>, AllocError>
+    ensures lines { IfOk result (λ lines. lines.items ≡ symbol_lines (symbols_seen symbols.now)) }
+{
+    let mut lines = Vec::new(alloc);
+    for symbol in symbols {
+        push_line(alloc, &mut lines, symbol)?;
+    }
+    Ok(lines)
+}
+
+/// A line for each procedure of a text and for each label, in the order of the text: `SSS PPP OOOOO NAME`, with the
+/// numbers of the segment and the procedure, the offset, and the label, or `.PROC` for the procedure itself. The offset
+/// is counted in bytes from where the procedure is entered, as the debugger counts it. The refusals are those of
+/// `assemble`.
+#[tactic(auto, using(crate::proofs::SymbolPlaces::symbols_refused))]
+pub fn assemble_symbols(alloc: Global, text: &str) -> Result<Vec<u8>, AsmFault>
+    ensures symbols { IfOk result (λ lines. symbol_text text.now ≡ Ok lines.items) }
+    ensures refused { IfErr result (λ fault. fault ≢ NoMemory → symbol_text text.now ≡ Err fault) }
+{
+    program_of(alloc, text)?;
+    let segments = source_of(alloc, text).map_err(|_| AsmFault::NoMemory)?;
+    let found = symbols_of(alloc, &segments).map_err(|_| AsmFault::NoMemory)?;
+    let lines = lines_of(alloc, &found).map_err(|_| AsmFault::NoMemory)?;
+    Ok(lines)
+}

@@ -210,8 +210,11 @@ Asks command m (plans.Raw limit selection) =
     (command ≡ codes "raw") × IsLimit (word_found (words_of m) (codes "limit")) limit
     × AsksSelection (words_of m) selection
 Asks command m (plans.Asm list) = (command ≡ codes "asm") × (is_set (word_found (words_of m) (codes "all")) ≡ false)
+    × (is_set (word_found (words_of m) (codes "symbols")) ≡ false)
     × IsFlag (one_of (codes "list") (words_of m)) list
 Asks command m plans.AsmFaults = (command ≡ codes "asm") × (is_set (word_found (words_of m) (codes "all")) ≡ true)
+Asks command m plans.AsmSymbols =
+    (command ≡ codes "asm") × (is_set (word_found (words_of m) (codes "symbols")) ≡ true)
 Asks command m plans.Dis = (command ≡ codes "dis") × (is_set (word_found (words_of m) (codes "names")) ≡ false)
 Asks command m plans.DisNames = (command ≡ codes "dis") × (is_set (word_found (words_of m) (codes "names")) ≡ true)
 Asks command m (plans.Files plan) = (command ≡ codes "files") × AsksFiles m plan

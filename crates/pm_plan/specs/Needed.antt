@@ -121,7 +121,8 @@ selection_needs = (codes "from", Limit) ∷ (codes "segment", Segment) ∷ []
 
 -- what asm needs
 abbrev pub asm_needs : List (List ℕ × Need)
-asm_needs = (codes "all", NotBeside (codes "list")) ∷ []
+asm_needs = (codes "all", NotBeside (codes "list")) ∷ (codes "symbols", NotBeside (codes "list"))
+    ∷ (codes "symbols", NotBeside (codes "all")) ∷ []
 
 -- what the commands need but `files`; what is no command has none
 abbrev pub command_needs : List ℕ → Option (List (List ℕ × Need))

@@ -361,10 +361,16 @@ const ALL: WordRow = (
     "Writes all faults of the text, a line each, and no code file; not beside --list",
 );
 
+const SYMBOLS: WordRow = (
+    "symbols",
+    Form::Flag,
+    "Writes where each procedure and label stands, a line each, and no code file; not beside --list or --all",
+);
+
 const ASM: CommandRow = (
     "asm",
     "Writes the code file of the assembler's text that standard input is",
-    &[LIST, ALL],
+    &[LIST, ALL, SYMBOLS],
 );
 
 fn arg<'a>(alloc: Global, row: WordRow) -> Result<Arg<'a>, AllocError> {

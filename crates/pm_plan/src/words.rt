@@ -33,6 +33,8 @@ pub enum Plan {
     Asm { list: bool },
     /// The faults of the text that standard input is.
     AsmFaults,
+    /// Where the procedures and labels of that text stand.
+    AsmSymbols,
     /// The text of the code file that standard input is.
     Dis,
     /// The same with the names of procedures.
@@ -201,17 +203,19 @@ fn files_asked(alloc: Global, matches: &ArgMatches<'_>) -> Result<Plan, WordsErr
     }
 }
 
-/// What the words of `asm` ask for. Refused where they ask for all faults and for the listing.
+/// What the words of `asm` ask for. Refused where they ask for more than one of the listing, all faults and symbols.
 fn asm_asked(matches: &ArgMatches<'_>) -> Result<Plan, WordsError>
     ensures asked { IfOk result (λ plan. Asks (codes "asm") matches.now plan) }
     ensures good { IsOk result ↔ MeetEach (words_of matches.now) asm_needs }
     ensures refused { IfErr result IsWrong }
 {
     let list = flag(matches, "list");
-    match (is_set(matches, "all"), is_set(matches, "list")) {
-        (false, _) => Ok(Plan::Asm { list }),
-        (true, false) => Ok(Plan::AsmFaults),
-        (true, true) => Err(WordsError::Wrong("--all and --list do not go together")),
+    let symbols = is_set(matches, "symbols");
+    match (is_set(matches, "all"), is_set(matches, "list"), symbols) {
+        (false, _, false) => Ok(Plan::Asm { list }),
+        (true, false, false) => Ok(Plan::AsmFaults),
+        (false, false, true) => Ok(Plan::AsmSymbols),
+        _ => Err(WordsError::Wrong("of --list, --all and --symbols one alone may stand")),
     }
 }
 

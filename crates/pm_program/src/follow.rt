@@ -57,7 +57,7 @@ fn reads(verb: &Verb) -> bool {
 fn prompt_of(plan: &Plan) -> Prompt {
     match plan {
         Plan::Raw { .. } => Prompt::Once("pmach: reads hexadecimal digits; Ctrl-D ends them\n"),
-        Plan::Asm { .. } | Plan::AsmFaults => Prompt::Once(
+        Plan::Asm { .. } | Plan::AsmFaults | Plan::AsmSymbols => Prompt::Once(
             "pmach: reads a text of the assembler; Ctrl-D ends it\n",
         ),
         Plan::Dis | Plan::DisNames => Prompt::Once("pmach: reads a code file; Ctrl-D ends it\n"),
@@ -90,6 +90,7 @@ fn act<S: Store, I: Source, O: Sink>(
         Plan::Raw { limit, selection } => Job::Raw { limit, selection },
         Plan::Asm { list } => Job::Asm { list },
         Plan::AsmFaults => Job::AsmFaults,
+        Plan::AsmSymbols => Job::AsmSymbols,
         Plan::Dis => Job::Dis,
         Plan::DisNames => Job::DisNames,
         Plan::Files(FilesPlan { path, verb }) => {

@@ -3,6 +3,7 @@ use Rattle.std.specs.Prelude.{ℕ, Bool, List, [], ◌∷◌, ◌++◌, map, Opt
 use Rattle.std.specs.Prelude.{if◌then◌else◌, nat_le}
 use Rattle.pm_asm.specs.Assembled.{assembled, wanted}
 use Rattle.pm_asm.specs.Each.{all_faults}
+use Rattle.pm_asm.specs.Symbols.{symbol_text}
 use Rattle.pm_source.specs.declared.fault.AsmFault.{AsmFault}
 use Rattle.pm_tool.specs.declared.outcome.Refusal.{Refusal}
 use Rattle.pm_tool.specs.declared.outcome.Refusal.TheVariants as refusals
@@ -25,6 +26,10 @@ made_bytes (Err fault) = Refused (refusals.Asm fault)
 -- the code file or the listing of the text that the input is
 abbrev pub made_asm : Bool → List ℕ → Product
 made_asm list input = made_bytes (wanted list (assembled (text_of_input input)))
+
+-- the lines of the procedures and labels of the text that the input is
+abbrev pub made_symbols : List ℕ → Product
+made_symbols input = made_bytes (symbol_text (text_of_input input))
 
 -- the line of a fault: the message of a job that is refused by it
 unfoldable pub fault_line : AsmFault → List ℕ

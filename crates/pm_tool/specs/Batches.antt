@@ -9,7 +9,7 @@ use Rattle.pm_salvage.specs.Saving.{salvaged}
 use Rattle.pm_streams.specs.Streams.{ReadsAll}
 use Rattle.pm_tool.specs.declared.batch.Batch.{Batch}
 use Rattle.pm_tool.specs.declared.batch.Batch.TheVariants as batches
-use Rattle.pm_tool.specs.Assembly.{made_asm, made_faults}
+use Rattle.pm_tool.specs.Assembly.{made_asm, made_faults, made_symbols}
 use Rattle.pm_tool.specs.Code.{made_dis, made_dis_names}
 use Rattle.pm_tool.specs.Files.{made_check, made_file, made_new, made_salvage, made_volume, opened_image, takes_input}
 use Rattle.pm_tool.specs.Outcomes.{Said}
@@ -19,6 +19,7 @@ use Rattle.pm_tool.specs.Products.{Product, said_product}
 abbrev pub made_of : Batch → List ℕ → Product
 made_of (batches.Asm list) input = made_asm list input
 made_of batches.AsmFaults input = made_faults input
+made_of batches.AsmSymbols input = made_symbols input
 made_of batches.Dis input = made_dis input
 made_of batches.DisNames input = made_dis_names input
 made_of (batches.Files opened command) input = made_file opened (order_of command) input
@@ -37,6 +38,7 @@ reads_file (Err fault) order = false
 abbrev pub reads_input : Batch → Bool
 reads_input (batches.Asm list) = true
 reads_input batches.AsmFaults = true
+reads_input batches.AsmSymbols = true
 reads_input batches.Dis = true
 reads_input batches.DisNames = true
 reads_input (batches.Files opened command) = reads_file opened (order_of command)

@@ -19,6 +19,7 @@ work_of (jobs.Trace disks name limit system selection) =
 work_of (jobs.Debug disks name system) = works.Talk (starts.Booted disks name system) talks.Session
 work_of (jobs.Asm list) = works.Batch (batches.Asm list)
 work_of jobs.AsmFaults = works.Batch batches.AsmFaults
+work_of jobs.AsmSymbols = works.Batch batches.AsmSymbols
 work_of jobs.Dis = works.Batch batches.Dis
 work_of jobs.DisNames = works.Batch batches.DisNames
 work_of (jobs.Files image command) = works.Batch (batches.Files (opened_image image.items) command)

@@ -1,15 +1,17 @@
-//! The job on a text of the assembler.
+//! The jobs on a text of the assembler.
 ghost use Rattle.std.specs.Prelude.{◌≡◌, ◌≢◌, ◌++◌, Ok, Err, IfOk, IfErr, OnOk, string_bytes};
 ghost use Rattle.pm_asm.specs.Assembled.{assembled, wanted};
 ghost use Rattle.pm_source.specs.declared.fault.AsmFault.TheVariants.{NoMemory};
 ghost use Rattle.pm_asm.specs.Each.{all_faults};
+ghost use Rattle.pm_asm.specs.Symbols.{symbol_text};
 ghost use Rattle.pm_tool.specs.Assembly.{character_of, fault_line, fault_lines, first_refusal, made_asm, made_faults};
-ghost use Rattle.pm_tool.specs.Assembly.{text_of_input};
-ghost use Rattle.pm_tool.specs.Products.{product_of};
+ghost use Rattle.pm_tool.specs.Assembly.{made_symbols, text_of_input};
+ghost use Rattle.pm_tool.specs.declared.outcome.Refusal.TheVariants as refusals;
+ghost use Rattle.pm_tool.specs.Products.{Refused, Written, product_of};
 
 use crate::batch::Made;
 use crate::outcome::Refusal;
-use pm_asm::{AsmFault, all_faults, assemble_file, assemble_listing};
+use pm_asm::{AsmFault, all_faults, assemble_file, assemble_listing, assemble_symbols};
 use std::alloc::{AllocError, Global};
 use std::fmt::Write;
 
@@ -80,18 +82,48 @@ fn line_of(alloc: Global, text: &str, fault: AsmFault) -> Option<String> {
     String::from_str(alloc, line).ok()
 }
 
+/// Bytes that are written, or a refusal with the line of the text that it names.
+fn bytes_made(alloc: Global, text: &str, bytes: Result<Vec<u8>, AsmFault>) -> Made
+    ensures bytes { IfOk bytes (λ bytes. product_of result ≡ Written bytes.items) }
+    ensures fault { IfErr bytes (λ fault. product_of result ≡ Refused (refusals.Asm fault)) }
+{
+    match bytes {
+        Ok(bytes) => Made::Bytes(bytes),
+        Err(fault) => {
+            let line = line_of(alloc, text, fault);
+            Made::Refused(Refusal::Asm(fault), line)
+        }
+    }
+}
+
 /// The code file of the text that the input is, or with `list` its listing.
 pub(crate) fn assemble(alloc: Global, input: Vec<u8>, list: bool) -> Result<Made, AllocError>
     ensures made { IfOk result (λ made. product_of made ≡ made_asm list input.items) }
 {
     let text = text_in_place(alloc, input)?;
-    match wanted(alloc, &text, list)? {
-        Ok(bytes) => Ok(Made::Bytes(bytes)),
-        Err(fault) => {
-            let line = line_of(alloc, &text, fault);
-            Ok(Made::Refused(Refusal::Asm(fault), line))
-        }
+    let bytes = wanted(alloc, &text, list)?;
+    Ok(bytes_made(alloc, &text, bytes))
+}
+
+/// The lines of the procedures and labels of a text, or why there are none.
+fn symbols(alloc: Global, text: &str) -> Result<Result<Vec<u8>, AsmFault>, AllocError>
+    ensures bytes { IfOk result (λ bytes. IfOk bytes (λ bytes. symbol_text text.now ≡ Ok bytes.items)) }
+    ensures fault { IfOk result (λ bytes. IfErr bytes (λ fault. symbol_text text.now ≡ Err fault)) }
+{
+    match assemble_symbols(alloc, text) {
+        Ok(bytes) => Ok(Ok(bytes)),
+        Err(AsmFault::NoMemory) => Err(AllocError),
+        Err(fault) => Ok(Err(fault)),
     }
+}
+
+/// The lines of the procedures and labels of the text that the input is.
+pub(crate) fn list_symbols(alloc: Global, input: Vec<u8>) -> Result<Made, AllocError>
+    ensures made { IfOk result (λ made. product_of made ≡ made_symbols input.items) }
+{
+    let text = text_in_place(alloc, input)?;
+    let bytes = symbols(alloc, &text)?;
+    Ok(bytes_made(alloc, &text, bytes))
 }
 
 /// Adds the line of a fault.

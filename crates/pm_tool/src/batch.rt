@@ -7,7 +7,7 @@ ghost use Rattle.pm_tool.specs.Products.{product_of, said_product};
 ghost use Rattle.pm_tool.specs.Said.{BreaksOff, Finishes};
 ghost use Rattle.pm_streams.specs.Streams.{AppendsFront, AreWell, IsCause, IsCounted, both};
 
-use crate::assembly::{assemble, find_faults};
+use crate::assembly::{assemble, find_faults, list_symbols};
 use crate::code::{disassemble, disassemble_named};
 use crate::files::{check_image, file, new_volume, repair_volume, salvage_image, takes_input};
 use crate::outcome::{Exit, Outcome, Refusal, conclude, refuse_line};
@@ -25,6 +25,8 @@ pub(crate) enum Batch {
     },
     /// The faults of a text of the assembler.
     AsmFaults,
+    /// A text of the assembler becomes a list of its procedures and labels.
+    AsmSymbols,
     /// A code file becomes a text.
     Dis,
     /// A code file becomes a text with the names of procedures.
@@ -60,7 +62,7 @@ impl Batch {
         ensures value { result ≡ reads_input self.now }
     {
         match self {
-            Batch::Asm { .. } | Batch::AsmFaults => true,
+            Batch::Asm { .. } | Batch::AsmFaults | Batch::AsmSymbols => true,
             Batch::Dis | Batch::DisNames => true,
             Batch::Files { opened, command } => opened.is_ok() && takes_input(command),
             Batch::New { .. } | Batch::Repair { .. } | Batch::Check { .. } => false,
@@ -92,6 +94,7 @@ fn make(alloc: Global, job: Batch, input: Vec<u8>) -> Result<Made, AllocError>
     match job {
         Batch::Asm { list } => assemble(alloc, input, list),
         Batch::AsmFaults => find_faults(alloc, input),
+        Batch::AsmSymbols => list_symbols(alloc, input),
         Batch::Dis => disassemble(alloc, &input),
         Batch::DisNames => disassemble_named(alloc, &input),
         Batch::Files { opened, command } => file(alloc, opened, command, input),

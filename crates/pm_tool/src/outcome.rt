@@ -72,6 +72,10 @@ pub enum Job {
     /// where no line has any, the first of the labels of each line; where there is none of these either, the segment
     /// that is too long. The job is refused by the first of them, as `Asm` is; where there is none, nothing is written.
     AsmFaults,
+    /// The input is such a text, and the output has a line `SSS PPP OOOOO NAME` for each of its procedures and labels,
+    /// in the order of the text: the number of the segment, that of the procedure, the offset in bytes from where the
+    /// procedure is entered, and the label, or `.PROC` for the procedure itself. Any other text is refused as by `Asm`.
+    AsmSymbols,
     /// The input is a code file, and the output is its text: its segments by ascending slot, each with its procedures.
     /// An input that is no code file is refused by `refused code N`, with the slot that the fault names.
     Dis,

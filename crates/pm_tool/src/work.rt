@@ -74,6 +74,7 @@ pub(crate) fn work_of(job: Job) -> Work
         } => talk(disks, name, system, Talk::Session),
         Job::Asm { list } => Work::Batch(Batch::Asm { list }),
         Job::AsmFaults => Work::Batch(Batch::AsmFaults),
+        Job::AsmSymbols => Work::Batch(Batch::AsmSymbols),
         Job::Dis => Work::Batch(Batch::Dis),
         Job::DisNames => Work::Batch(Batch::DisNames),
         Job::Files { image, command } => {

@@ -16,19 +16,16 @@ use Rattle.pm_asm.specs.Lengths.{AreShort}
 use Rattle.pm_asm.specs.Symbols.{JumpsLeadToSymbols, Symbol, symbol_lines, symbol_text, symbols, symbols_by}
 use Rattle.pm_asm.proofs.Outcomes.{assembled_ok}
 
--- the labels of a line and of those behind it
-pub first_label : (row : Row) (rows : List Row) → labels_of (row ∷ rows) ≡ option_to_list (label_in row) ++ labels_of rows
-first_label (Items line label items) rows = refl
-first_label Exit rows = refl
-
 -- a label stands nowhere before the code
 pub place_after : (rows : List Row) (at : ℕ) (name : Name) (place : ℕ) → place_of at rows name ≡ Some place → at ≤ place
 place_after [] at name place h = absurd cc
-place_after (row ∷ rows) at name place h = by (has_label name row) h
+place_after (row ∷ rows) at name place h =
+    by (has_label name row) (λ e. place_after rows (end_of at (row_items row)) name place e) h
   where
-    by : (b : Bool) → (if b then Some at else place_of (end_of at (row_items row)) rows name) ≡ Some place → at ≤ place
-    by true e = let same : at ≡ place = cc in omega (arith, same)
-    by false e = let before = end_after at (row_items row) in let behind = place_after rows (end_of at (row_items row)) name place e in omega (arith, before, behind)
+    by : (b : Bool) → (place_of (end_of at (row_items row)) rows name ≡ Some place → end_of at (row_items row) ≤ place)
+        → (if b then Some at else place_of (end_of at (row_items row)) rows name) ≡ Some place → at ≤ place
+    by true more e = let same : at ≡ place = cc in omega (arith, same)
+    by false more e = let before = end_after at (row_items row) in let behind = more e in omega (arith, before, behind)
 
 pub jumps_lead_to_symbols : JumpsLeadToSymbols
 jumps_lead_to_symbols segment procedure start rows name place leads =

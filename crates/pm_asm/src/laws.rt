@@ -29,7 +29,6 @@ pub fn first_of_all()
 
 /// Where a jump to a label leads, its procedure begins, and the offset of the label's line is what lies between. So a
 /// breakpoint at the segment, the procedure and the offset of that line stops where such a jump leads.
-#[tactic(auto, using(crate::proofs::SymbolPlaces::jumps_lead_to_symbols))]
 pub fn jumps_lead_to_symbols()
     ensures law { JumpsLeadToSymbols }
 {}

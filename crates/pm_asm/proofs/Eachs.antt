@@ -6,7 +6,7 @@ use Rattle.pm_code.specs.Program.{end_of}
 use Rattle.pm_reader.specs.Each.{first_in, firsts_from, firsts_of_lines}
 use Rattle.pm_reader.specs.Firsts.{first_of}
 use Rattle.pm_source.specs.declared.fault.AsmFault.{AsmFault}
-use Rattle.pm_source.specs.Faults.{Places, Reading, after_line, all_label_faults, code_faults, entries_faults, faults, faults_from}
+use Rattle.pm_source.specs.Faults.{Places, Reading, after_line, all_label_faults, code_faults, faults, faults_from}
 use Rattle.pm_source.specs.Faults.{faults_of_lines, label_faults, label_faults_from, line_faults, lines_of, place_of, source_end, source_of, start}
 use Rattle.pm_source.specs.Line.{Line}
 use Rattle.pm_source.specs.Source.{Row, Source, SourceSegment, row_items}

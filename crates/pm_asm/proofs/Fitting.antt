@@ -2,7 +2,6 @@
 use Rattle.std.proofs.Common.{List, [], ◌∷◌, arith}
 use Rattle.pm_code.specs.Program.{FitSlots, Segment}
 use Rattle.pm_asm.specs.Lengths.{AreShort}
-use Rattle.pm_asm.specs.declared.lengths.TheConstants.{LONGEST}
 
 -- segments that can be assembled
 pub short_fits : (ss : List Segment) → AreShort ss → FitSlots ss

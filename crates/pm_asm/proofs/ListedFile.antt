@@ -1,5 +1,5 @@
 -- What a listing denotes is the code file's.
-use Rattle.std.proofs.Common.{◌≡◌, ℕ, List, [], refl, sym, ap, subst, ◌∙◌, Option, Some, None}
+use Rattle.std.proofs.Common.{◌≡◌, [], refl, sym, ap, subst, ◌∙◌, Option, Some, None}
 use Rattle.std.specs.Prelude.{option_map}
 use Rattle.std.specs.Option.{unwrap_or}
 use Rattle.pm_codefile.specs.Dictionary.{segment_in}
@@ -11,7 +11,7 @@ use Rattle.pm_code.specs.Image.{bytes_of_segment}
 use Rattle.pm_source.proofs.Denoting.{listing_denotes_segments}
 use Rattle.pm_code.proofs.Held.{file_holds_program}
 use Rattle.pm_source.proofs.Programs.{spelled_is_program}
-use Rattle.pm_asm.specs.Assembled.{AssembledIsListed, Assembles, assembled}
+use Rattle.pm_asm.specs.Assembled.{AssembledIsListed, Assembles}
 use Rattle.pm_asm.proofs.Outcomes.{assembled_is_spelled}
 
 -- the bytes of a segment, none if there is none

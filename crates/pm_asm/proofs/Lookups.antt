@@ -1,10 +1,10 @@
 -- Labels that are looked up.
-use Rattle.std.proofs.Common.{◌≡◌, ℕ, ◌+◌, ◌++◌, Bool, true, false, List, [], ◌∷◌, map, refl, sym, ap, ◌∙◌, append_assoc, Option, Some, None}
+use Rattle.std.proofs.Common.{◌≡◌, ℕ, ◌++◌, true, false, List, ◌∷◌, map, refl, sym, ap, ◌∙◌, append_assoc, Option, Some, None}
 use Rattle.std.specs.Prelude.{is_none}
 use Rattle.std.specs.Option.{unwrap_or}
 use Rattle.std.proofs.lemmas.Bool.{true≢false}
 use Rattle.std.proofs.lemmas.List.{map-append}
-use Rattle.pm_code.specs.Item.{Item, Target}
+use Rattle.pm_code.specs.Item.{Target}
 use Rattle.pm_code.specs.Item.Target.{To, Through}
 use Rattle.pm_source.specs.Faults.{Places, is_far, is_far_place, is_unknown_target}
 use Rattle.pm_source.specs.Meaning.{found_item, found_target}

@@ -10,7 +10,7 @@ use Rattle.pm_source.specs.Source.{SourceSegment}
 use Rattle.pm_source.specs.Words.{is_empty}
 use Rattle.pm_reader.specs.Firsts.{IsFirstOf, first_of}
 use Rattle.pm_asm.specs.Assembled.{assembled}
-use Rattle.pm_asm.specs.Lengths.{AreShort, IsTooLong}
+use Rattle.pm_asm.specs.Lengths.{IsTooLong}
 use Rattle.pm_asm.specs.Found.{by_number}
 use Rattle.pm_asm.proofs.Ordered.{found_ascending}
 use Rattle.pm_asm.proofs.Outcomes.{fault_refused, long_refused}

@@ -1,19 +1,16 @@
 -- Where labels stand, as the debugger counts.
-use Rattle.std.proofs.Common.{◌≡◌, ◌≤◌, ℕ, ◌+◌, ◌-◌, ◌++◌, Bool, true, false, List, [], ◌∷◌, map, refl, sym, ap, ◌∙◌, arith, Option, Some, None}
+use Rattle.std.proofs.Common.{◌≡◌, ◌≤◌, ℕ, ◌+◌, ◌-◌, Bool, true, false, List, [], ◌∷◌, ap, ◌∙◌, arith, Some}
 use Rattle.std.specs.Prelude.{if◌then◌else◌, Ok, Err}
-use Rattle.std.specs.Option.{option_to_list, unwrap_or}
-use Rattle.std.proofs.lemmas.List.{map-append}
+use Rattle.std.specs.Option.{unwrap_or}
 use Rattle.pm_code.proofs.Counted.{end_after}
 use Rattle.pm_code.specs.Program.{end_of}
-use Rattle.pm_reader.specs.Named.{label_in}
 use Rattle.pm_source.specs.declared.fault.AsmFault.{AsmFault}
 use Rattle.pm_source.specs.Faults.{faults, place_of, source_of}
 use Rattle.pm_source.specs.Meaning.{program_of}
-use Rattle.pm_source.specs.Source.{Name, Row, has_label, labels_of, row_items}
-use Rattle.pm_source.specs.Source.Row.{Items, Exit}
+use Rattle.pm_source.specs.Source.{Name, Row, has_label, row_items}
 use Rattle.pm_asm.specs.Assembled.{assembled}
 use Rattle.pm_asm.specs.Lengths.{AreShort}
-use Rattle.pm_asm.specs.Symbols.{JumpsLeadToSymbols, Symbol, symbol_lines, symbol_text, symbols, symbols_by}
+use Rattle.pm_asm.specs.Symbols.{JumpsLeadToSymbols, symbol_lines, symbol_text, symbols, symbols_by}
 use Rattle.pm_asm.proofs.Outcomes.{assembled_ok}
 
 -- a label stands nowhere before the code

@@ -3,7 +3,6 @@ use Rattle.std.proofs.lemmas.Result.{err_from_is_err_and}
 use Rattle.pm_code.specs.Image.{file_of, listing}
 use Rattle.pm_code.specs.Program.{FitSlots, IsProgram}
 use Rattle.pm_code.specs.Views.{program_seen}
-use Rattle.pm_source.specs.Meaning.{program_of}
 use Rattle.pm_asm.proofs.Fitting.{short_fits}
 use Rattle.pm_asm.proofs.Outcomes.{faultless_is_program, is_assembled, is_spelled, refused_spells_nothing}
 use Rattle.pm_asm.proofs.assembly.assemble.Goals as goal

@@ -1,9 +1,8 @@
-use Rattle.std.proofs.Common.{rules, ◌≡◌, ◌∙◌, ap, subst, sym, true, false}
+use Rattle.std.proofs.Common.{rules, ◌≡◌, ◌∙◌, ap, subst, sym, false}
 use Rattle.std.specs.Prelude.{Ok}
 use Rattle.pm_code.specs.Program.{FitSlots, IsProgram}
 use Rattle.pm_code.specs.Image.{file_of}
 use Rattle.pm_code.specs.Views.{program_seen}
-use Rattle.pm_source.specs.Meaning.{program_of}
 use Rattle.pm_asm.specs.Assembled.{wanted}
 use Rattle.pm_asm.proofs.Fitting.{short_fits}
 use Rattle.pm_asm.proofs.Outcomes.{assembled_ok, faultless_is_program}

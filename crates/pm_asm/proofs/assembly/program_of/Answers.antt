@@ -1,12 +1,12 @@
-use Rattle.std.proofs.Common.{rules, ◌≡◌, ◌∙◌, ap, map, subst, sym}
+use Rattle.std.proofs.Common.{rules, ◌≡◌, ◌∙◌, ap, subst, sym}
 use Rattle.std.specs.List.{AllByRecursion}
 use Rattle.std.proofs.lemmas.Result.{err_from_is_err_and}
 use Rattle.pm_code.specs.Program.{FollowFrom}
 use Rattle.pm_code.specs.Views.{program_seen}
-use Rattle.pm_source.specs.Meaning.{ascending, found_segment, program_of}
+use Rattle.pm_source.specs.Meaning.{ascending}
 use Rattle.pm_reader.specs.Views.{labelled_segments}
 use Rattle.pm_asm.specs.Found.{by_number}
-use Rattle.pm_asm.specs.Lengths.{AreShort, IsTooLong}
+use Rattle.pm_asm.specs.Lengths.{AreShort}
 use Rattle.pm_asm.proofs.FoundLengths.{all_follow}
 use Rattle.pm_asm.proofs.Ordered.{found_ascending}
 use Rattle.pm_asm.proofs.Stages.{IsReady, label_refused, line_refused, program_found, ready_faultless, too_long_refused}

@@ -1,4 +1,4 @@
-use Rattle.std.proofs.Common.{◌≡◌, ◌≤◌, ◌∙◌, arith, length, sym}
+use Rattle.std.proofs.Common.{◌≤◌, ◌∙◌, arith, length, sym}
 use Rattle.std.proofs.lemmas.List.{at_drop_all}
 use Rattle.pm_code.specs.Views.{program_seen}
 use Rattle.pm_asm.specs.Lengths.{first_long}

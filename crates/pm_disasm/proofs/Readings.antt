@@ -114,9 +114,10 @@ pub record Pieces (fs bs : List ℕ) (r : Reading) (begin : ℕ) : Type 0 where
   pub size : length r.code.boundaries.marks.items ≡ length bs - begin + 1
 
 reading_from : (segment : List ℕ) (a : Attributes) (t : ℕ) (r : Reading) (fs bs : List ℕ) → IsTable segment a → length segment ≤ 65534
-    → r.forced.items ≡ forced_with segment a t → r.end ≡ end_with a t → a.enter ≤ r.end → are_inside segment a (end_with a t) a.jtab 0 t ≡ true
+    → r.forced.items ≡ forced_with segment a t → r.end ≡ end_with a t → a.enter + 8 + 2 * t ≤ a.jtab → are_inside segment a (end_with a t) a.jtab 0 t ≡ true
     → fs ≡ r.forced.items → bs ≡ take r.end segment → Pieces fs bs r a.enter → IsReading segment a t r
-reading_from segment a t r fs bs w short f e order within same_forced same_bytes ps =
+reading_from segment a t r fs bs w short f e room within same_forced same_bytes ps =
+    let order : a.enter ≤ r.end = omega (arith, e, room) in
     let long : length bs ≡ r.end = ap length same_bytes ∙ length-take-le r.end segment (omega (arith, e, w.within)) in
     let places : fs ≡ forced_with segment a t = same_forced ∙ f in
     let code : drop a.enter bs ≡ code_with segment a t = ap (drop a.enter) (same_bytes ∙ ap (λ n. take n segment) e)
@@ -126,6 +127,7 @@ reading_from segment a t r fs bs w short f e order within same_forced same_bytes
     record {
       forced = f;
       end = e;
+      room = room;
       order = order;
       short = omega (arith, e, w.within, short);
       parts = ps.parts ∙ whole;
@@ -140,11 +142,11 @@ reading_from segment a t r fs bs w short f e order within same_forced same_bytes
 
 -- what is read, from what its parts are
 pub is_reading : (segment : List ℕ) (a : Attributes) (t : ℕ) (r : Reading) (fs bs : List ℕ) (begin : ℕ) → begin ≡ a.enter → IsTable segment a
-    → length segment ≤ 65534 → r.forced.items ≡ forced_with segment a t → r.end ≡ end_with a t → a.enter ≤ r.end
+    → length segment ≤ 65534 → r.forced.items ≡ forced_with segment a t → r.end ≡ end_with a t → a.enter + 8 + 2 * t ≤ a.jtab
     → are_inside segment a (end_with a t) a.jtab 0 t ≡ true
     → fs ≡ r.forced.items → bs ≡ take r.end segment → Pieces fs bs r begin → IsReading segment a t r
-is_reading segment a t r fs bs begin at w short f e order within same_forced same_bytes ps =
-    reading_from segment a t r fs bs w short f e order within same_forced same_bytes (subst (Pieces fs bs r) at ps)
+is_reading segment a t r fs bs begin at w short f e room within same_forced same_bytes ps =
+    reading_from segment a t r fs bs w short f e room within same_forced same_bytes (subst (Pieces fs bs r) at ps)
 
 -- the least count that fits
 pub count_fits : (segment : List ℕ) (a : Attributes) (k : ℕ) → k < 61 → true ≡ fits segment a k → least_from segment a k (61 - k) ≡ least_from segment a 0 61

@@ -37,6 +37,7 @@ can_read segment a t =
 pub record IsReading (segment : List ℕ) (a : Attributes) (t : ℕ) (r : Reading) : Type 0 where
   pub forced : r.forced.items ≡ forced_with segment a t
   pub end : r.end ≡ end_with a t
+  pub room : a.enter + 8 + 2 * t ≤ a.jtab
   pub order : a.enter ≤ r.end
   pub short : r.end < 65536
   pub parts : map part_seen r.code.parts.items ≡ parts_with segment a t

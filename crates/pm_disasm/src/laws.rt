@@ -3,6 +3,7 @@
 
 ghost use Rattle.pm_disasm.specs.Laws.{InstructionIsRead, SplitKeepsBytes, OwnCountFits};
 ghost use Rattle.pm_disasm.specs.Laws.{SmallerCountFails, ProcedureIsShown, ProgramIsShown};
+ghost use Rattle.pm_disasm.specs.Listing.{LinesAreStored};
 
 /// An instruction is read in its own bytes, whatever follows them.
 pub fn instruction_is_read()
@@ -36,4 +37,10 @@ pub fn procedure_is_shown()
 /// with the same bytes: of the same one, segment by segment, where all items are instructions.
 pub fn program_is_shown()
     ensures law { ProgramIsShown }
+{}
+
+/// The bytes of each line of a procedure in the listing of a code file are those of its segment at the offset that the
+/// line names, whatever laid them out.
+pub fn lines_are_stored()
+    ensures law { LinesAreStored }
 {}

@@ -8,6 +8,7 @@ mod found;
 mod front;
 pub mod laws;
 mod lines;
+mod listed;
 mod named;
 mod names;
 mod parts;
@@ -20,6 +21,7 @@ mod taking;
 mod text;
 mod written;
 
+pub use listed::listing;
 pub use names::{standard_name, system_name, with_names};
 pub use place::Line;
 pub use segments::{file, item, procedure};

@@ -66,7 +66,7 @@ impl fmt::Display for Header {
 }
 
 /// The places of the entries among the forced places: all but the exit code, which is the first.
-fn entries_of(forced: &[u16]) -> &[u16]
+pub(crate) fn entries_of(forced: &[u16]) -> &[u16]
     ensures entries { result.now ≡ drop 1 forced.now }
 {
     match forced {

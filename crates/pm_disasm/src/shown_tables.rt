@@ -2,6 +2,7 @@
 
 ghost use Rattle.std.specs.Prelude.{◌≡◌, ◌≤◌, ◌++◌, List, ℕ, length, string_bytes, IfSome, OnOk};
 ghost use Rattle.std.specs.List.{AllByRecursion};
+ghost use Rattle.pm_codefile.specs.declared.table.Attributes.{Attributes};
 ghost use Rattle.pm_disasm.specs.Chosen.{IsTable};
 ghost use Rattle.pm_disasm.specs.Offsets.{IsDecoded};
 ghost use Rattle.pm_code.specs.Shown.{joined};
@@ -23,9 +24,9 @@ pub(crate) struct ShownTable {
 }
 
 /// The text that is shown for a table, if it is among those that were shown.
-fn text_of<'a>(shown: &'a [ShownTable], a: &Attributes) -> Option<&'a str>
-    ensures text { (segment : List ℕ) → AllByRecursion (IsShownTable segment) shown.now
-        → IfSome result (λ text. text.now ≡ joined (table_lines segment a.now)) }
+pub(crate) fn text_of<'a>(shown: &'a [ShownTable], a: &Attributes) -> Option<&'a str>
+    ensures text { (shows : Attributes → List ℕ) → AllByRecursion (λ s. string_bytes s.text ≡ shows s.table) shown.now
+        → IfSome result (λ text. text.now ≡ shows a.now) }
 {
     for known in shown {
         if known.table == *a {

@@ -53,5 +53,5 @@ returns-clause-reading c =
     let inside : a.enter + 8 + 2 * t ≤ a.jtab = leb-true _ _ room.0 in
     let within = and_parts (nat_le a.exit (end_with a t)) (are_inside segment a (end_with a t) a.jtab 0 t) room.1 in
     is_reading segment a t _ _ _ c.from-enter.result c.from-enter.ensures c.requires.table c.requires.short c.requires.places
-    c.from-end.ensures (omega (arith, inside, c.from-end.ensures)) within.1 c.deref-4.ensures.value refl
+    c.from-end.ensures inside within.1 c.deref-4.ensures.value refl
     (record { parts = read.parts; boundaries = read.boundaries; follow = read.follow; from = read.begin; size = read.size })

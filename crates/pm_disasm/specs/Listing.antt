@@ -1,0 +1,81 @@
+-- The listing of a code file: its own bytes at their own offsets, whatever laid them out.
+use Rattle.std.specs.Prelude.{◌≡◌, ℕ, zero, suc, ◌+◌, ◌-◌, ◌*◌, List, [], ◌∷◌, ◌++◌, codes, drop, length, reverse, take}
+use Rattle.std.specs.Prelude.{nat_lt, if◌then◌else◌, Option, Some, None}
+use Rattle.std.specs.List.{AllByRecursion}
+use Rattle.pm_codefile.specs.declared.table.Attributes.{Attributes}
+use Rattle.pm_codefile.specs.Dictionary.{segment_in}
+use Rattle.pm_codefile.specs.Segments.{attributes_in, procedures_in}
+use Rattle.pm_code.specs.Image.{Listed, listed_line, listed_lines}
+use Rattle.pm_code.specs.Item.{Item, size}
+use Rattle.pm_code.specs.Program.{Procedure}
+use Rattle.pm_code.specs.Shown.{entry_line, joined, shown_item}
+use Rattle.pm_disasm.specs.Shown.{missing_line}
+use Rattle.pm_disasm.specs.Split.{procedure_of}
+
+-- a line of a segment: so many of its bytes from an offset on, and what they are
+abbrev pub stored : List ℕ → ℕ → ℕ → ℕ → List ℕ → Listed
+stored segment procedure at count what =
+    record { procedure = procedure; at = at; bytes = take count (drop at segment); what = what }
+
+-- items that stand one behind another from an offset on
+abbrev pub stored_items : List ℕ → ℕ → ℕ → List (Item ℕ) → List Listed
+stored_items segment number at [] = []
+stored_items segment number at (item ∷ items) =
+    stored segment number at (size at item) (shown_item item)
+    ∷ stored_items segment number (at + size at item) items
+
+-- a jump table from its lowest word upward, so its last entry comes first
+abbrev pub stored_entries : List ℕ → ℕ → ℕ → List ℕ → List Listed
+stored_entries segment number at [] = []
+stored_entries segment number at (place ∷ places) =
+    stored segment number at 2 (entry_line place) ∷ stored_entries segment number (at + 2) places
+
+-- the procedure of a table, by the number in it: its items, its jump table and its attributes
+abbrev pub stored_procedure : List ℕ → Attributes → Procedure → List Listed
+stored_procedure segment a p =
+    stored_items segment a.procedure a.enter p.items
+    ++ (stored_entries segment a.procedure (a.jtab - 8 - 2 * length p.entries) (reverse p.entries)
+    ++ stored segment a.procedure (a.jtab - 8) 10 (codes ".ATTR") ∷ [])
+
+-- What is listed for a procedure by its table: of one whose exit code lies before its code the comment alone.
+abbrev pub table_listing : ℕ → List ℕ → Attributes → List ℕ
+table_listing slot segment a =
+    if nat_lt a.exit a.enter then joined (missing_line a.procedure)
+    else listed_lines slot (stored_procedure segment a (procedure_of segment a))
+
+abbrev pub table_listing_or : ℕ → List ℕ → ℕ → Option Attributes → List ℕ
+table_listing_or slot segment p None = joined (missing_line p)
+table_listing_or slot segment p (Some a) = table_listing slot segment a
+
+-- so many procedures of a segment, from procedure p on
+abbrev pub tables_listing : ℕ → List ℕ → ℕ → ℕ → List ℕ
+tables_listing slot segment p zero = []
+tables_listing slot segment p (suc count) =
+    table_listing_or slot segment p (attributes_in segment p) ++ tables_listing slot segment (p + 1) count
+
+-- the dictionary of a segment with the highest word
+abbrev pub stored_dictionary : List ℕ → Listed
+stored_dictionary segment =
+    let at = length segment - (2 + 2 * procedures_in segment) in
+    stored segment 0 at (length segment - at) (codes ".DICT")
+
+-- a slot's segment, if it has one
+abbrev pub slot_listing : ℕ → Option (List ℕ) → List ℕ
+slot_listing n None = []
+slot_listing n (Some segment) =
+    tables_listing n segment 1 (procedures_in segment) ++ listed_line n (stored_dictionary segment)
+
+-- so many slots of a code file, from slot n on
+abbrev pub slots_listing : List ℕ → ℕ → ℕ → List ℕ
+slots_listing file n zero = []
+slots_listing file n (suc count) = slot_listing n (segment_in file n) ++ slots_listing file (n + 1) count
+
+-- The listing of a code file: its segments by ascending slot.
+unfoldable pub file_listing : List ℕ → List ℕ
+file_listing file = slots_listing file 0 16
+
+-- The bytes of each line of a procedure are those of its segment at the offset that the line names.
+abbrev pub LinesAreStored : Type 0
+LinesAreStored = (segment : List ℕ) (a : Attributes)
+    → AllByRecursion (λ l. l.bytes ≡ take (length l.bytes) (drop l.at segment))
+    (stored_procedure segment a (procedure_of segment a))

@@ -216,6 +216,8 @@ Asks command m plans.AsmFaults = (command ≡ codes "asm") × (is_set (word_foun
 Asks command m plans.AsmSymbols =
     (command ≡ codes "asm") × (is_set (word_found (words_of m) (codes "symbols")) ≡ true)
 Asks command m plans.Dis = (command ≡ codes "dis") × (is_set (word_found (words_of m) (codes "names")) ≡ false)
+    × (is_set (word_found (words_of m) (codes "list")) ≡ false)
+Asks command m plans.DisList = (command ≡ codes "dis") × (is_set (word_found (words_of m) (codes "list")) ≡ true)
 Asks command m plans.DisNames = (command ≡ codes "dis") × (is_set (word_found (words_of m) (codes "names")) ≡ true)
 Asks command m (plans.Files plan) = (command ≡ codes "files") × AsksFiles m plan
 Asks command m (plans.Run program keeping) =

@@ -124,6 +124,10 @@ abbrev pub asm_needs : List (List ℕ × Need)
 asm_needs = (codes "all", NotBeside (codes "list")) ∷ (codes "symbols", NotBeside (codes "list"))
     ∷ (codes "symbols", NotBeside (codes "all")) ∷ []
 
+-- what dis needs
+abbrev pub dis_needs : List (List ℕ × Need)
+dis_needs = (codes "list", NotBeside (codes "names")) ∷ []
+
 -- what the commands need but `files`; what is no command has none
 abbrev pub command_needs : List ℕ → Option (List (List ℕ × Need))
 command_needs command =
@@ -132,7 +136,7 @@ command_needs command =
     else (if bytes_eq command (codes "trace") then Some (selection_needs ++ program_needs)
     else (if bytes_eq command (codes "debug") then Some program_needs
     else (if bytes_eq command (codes "asm") then Some asm_needs
-    else (if bytes_eq command (codes "dis") then Some [] else None)))))
+    else (if bytes_eq command (codes "dis") then Some dis_needs else None)))))
 
 -- what the verbs of files need; what is no verb has none
 abbrev pub verb_needs : List ℕ → Option (List (List ℕ × Need))

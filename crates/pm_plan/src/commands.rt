@@ -343,10 +343,16 @@ const NAMES: WordRow = (
     "Writes the names of standard procedures and of the system's behind their calls",
 );
 
+const OWN_LISTING: WordRow = (
+    "list",
+    Form::Flag,
+    "Writes the listing in place of the text, by the file's own bytes and offsets; not beside --names",
+);
+
 const DIS: CommandRow = (
     "dis",
     "Writes the text of the code file that standard input is: its segments, procedures and items",
-    &[NAMES],
+    &[NAMES, OWN_LISTING],
 );
 
 const LIST: WordRow = (

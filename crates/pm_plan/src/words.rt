@@ -5,7 +5,7 @@ ghost use Rattle.std.specs.Str.Parse.{digits_value};
 ghost use Rattle.clap.specs.Words.{one_of};
 ghost use Rattle.pm_plan.specs.Asked.{Asks, IsAsked, IsFlag, IsLimit, IsLimitWord, IsNumberUpTo, is_set, word_found};
 ghost use Rattle.pm_plan.specs.Asked.{words_of};
-ghost use Rattle.pm_plan.specs.Needed.{AreAllGood, AreGood, IsOptional, IsWrong, MeetEach, asm_needs};
+ghost use Rattle.pm_plan.specs.Needed.{AreAllGood, AreGood, IsOptional, IsWrong, MeetEach, asm_needs, dis_needs};
 ghost use Rattle.pm_plan.specs.declared.words.WordsError.TheVariants.{NoCommand, NoMemory, NoValue};
 
 use crate::commands::all_commands;
@@ -39,6 +39,8 @@ pub enum Plan {
     Dis,
     /// The same with the names of procedures.
     DisNames,
+    /// The listing of that code file.
+    DisList,
     /// A command on the image that a file has, or a new image for it.
     Files(FilesPlan),
     /// A program to be run.
@@ -219,14 +221,17 @@ fn asm_asked(matches: &ArgMatches<'_>) -> Result<Plan, WordsError>
     }
 }
 
-/// What the words of `dis` ask for.
-fn dis_asked(matches: &ArgMatches<'_>) -> Plan
-    ensures asked { Asks (codes "dis") matches.now result }
+/// What the words of `dis` ask for. Refused where they ask for names and for the listing.
+fn dis_asked(matches: &ArgMatches<'_>) -> Result<Plan, WordsError>
+    ensures asked { IfOk result (λ plan. Asks (codes "dis") matches.now plan) }
+    ensures good { IsOk result ↔ MeetEach (words_of matches.now) dis_needs }
+    ensures refused { IfErr result IsWrong }
 {
-    if is_set(matches, "names") {
-        Plan::DisNames
-    } else {
-        Plan::Dis
+    match (is_set(matches, "names"), is_set(matches, "list")) {
+        (false, false) => Ok(Plan::Dis),
+        (true, false) => Ok(Plan::DisNames),
+        (false, true) => Ok(Plan::DisList),
+        (true, true) => Err(WordsError::Wrong("--names and --list do not go together")),
     }
 }
 
@@ -246,7 +251,7 @@ fn plan_by(alloc: Global, command: &str, matches: &ArgMatches<'_>) -> Result<Pla
         "trace" => Ok(Plan::Trace(program_of(alloc, matches)?, selection_of(matches)?)),
         "debug" => Ok(Plan::Debug(program_of(alloc, matches)?)),
         "asm" => asm_asked(matches),
-        "dis" => Ok(dis_asked(matches)),
+        "dis" => dis_asked(matches),
         "files" => files_asked(alloc, matches),
         _ => Err(WordsError::NoCommand),
     }

@@ -60,7 +60,9 @@ fn prompt_of(plan: &Plan) -> Prompt {
         Plan::Asm { .. } | Plan::AsmFaults | Plan::AsmSymbols => Prompt::Once(
             "pmach: reads a text of the assembler; Ctrl-D ends it\n",
         ),
-        Plan::Dis | Plan::DisNames => Prompt::Once("pmach: reads a code file; Ctrl-D ends it\n"),
+        Plan::Dis | Plan::DisNames | Plan::DisList => Prompt::Once(
+            "pmach: reads a code file; Ctrl-D ends it\n",
+        ),
         Plan::Files(plan) if reads(&plan.verb) => Prompt::Once(
             "pmach: reads the file; Ctrl-D ends it\n",
         ),
@@ -93,6 +95,7 @@ fn act<S: Store, I: Source, O: Sink>(
         Plan::AsmSymbols => Job::AsmSymbols,
         Plan::Dis => Job::Dis,
         Plan::DisNames => Job::DisNames,
+        Plan::DisList => Job::DisList,
         Plan::Files(FilesPlan { path, verb }) => {
             return do_files(alloc, store, source, sink, path.as_str(), verb);
         }

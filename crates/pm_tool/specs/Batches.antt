@@ -10,7 +10,7 @@ use Rattle.pm_streams.specs.Streams.{ReadsAll}
 use Rattle.pm_tool.specs.declared.batch.Batch.{Batch}
 use Rattle.pm_tool.specs.declared.batch.Batch.TheVariants as batches
 use Rattle.pm_tool.specs.Assembly.{made_asm, made_faults, made_symbols}
-use Rattle.pm_tool.specs.Code.{made_dis, made_dis_names}
+use Rattle.pm_tool.specs.Code.{made_dis, made_dis_list, made_dis_names}
 use Rattle.pm_tool.specs.Files.{made_check, made_file, made_new, made_salvage, made_volume, opened_image, takes_input}
 use Rattle.pm_tool.specs.Outcomes.{Said}
 use Rattle.pm_tool.specs.Products.{Product, said_product}
@@ -22,6 +22,7 @@ made_of batches.AsmFaults input = made_faults input
 made_of batches.AsmSymbols input = made_symbols input
 made_of batches.Dis input = made_dis input
 made_of batches.DisNames input = made_dis_names input
+made_of batches.DisList input = made_dis_list input
 made_of (batches.Files opened command) input = made_file opened (order_of command) input
 made_of (batches.New name blocks) input =
     made_new (blank_fault (string_bytes name) blocks) (string_bytes name) blocks
@@ -41,6 +42,7 @@ reads_input batches.AsmFaults = true
 reads_input batches.AsmSymbols = true
 reads_input batches.Dis = true
 reads_input batches.DisNames = true
+reads_input batches.DisList = true
 reads_input (batches.Files opened command) = reads_file opened (order_of command)
 reads_input (batches.New name blocks) = false
 reads_input (batches.Repair image) = false

@@ -2,6 +2,7 @@
 use Rattle.std.specs.Prelude.{ℕ, List, Option, Some, None}
 use Rattle.pm_codefile.specs.Dictionary.{file_fault}
 use Rattle.pm_codefile.specs.declared.fault.CodeFault.{CodeFault}
+use Rattle.pm_disasm.specs.Listing.{file_listing}
 use Rattle.pm_disasm.specs.Names.{with_names}
 use Rattle.pm_disasm.specs.Shown.{file_text}
 use Rattle.pm_tool.specs.declared.outcome.Refusal.TheVariants as refusals
@@ -23,3 +24,11 @@ made_named (Some fault) file = Refused (refusals.Code fault)
 
 abbrev pub made_dis_names : List ℕ → Product
 made_dis_names input = made_named (file_fault input) input
+
+-- the listing of a code file, or why it is none
+abbrev pub made_listing : Option CodeFault → List ℕ → Product
+made_listing None file = Written (file_listing file)
+made_listing (Some fault) file = Refused (refusals.Code fault)
+
+abbrev pub made_dis_list : List ℕ → Product
+made_dis_list input = made_listing (file_fault input) input

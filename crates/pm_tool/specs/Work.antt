@@ -22,6 +22,7 @@ work_of jobs.AsmFaults = works.Batch batches.AsmFaults
 work_of jobs.AsmSymbols = works.Batch batches.AsmSymbols
 work_of jobs.Dis = works.Batch batches.Dis
 work_of jobs.DisNames = works.Batch batches.DisNames
+work_of jobs.DisList = works.Batch batches.DisList
 work_of (jobs.Files image command) = works.Batch (batches.Files (opened_image image.items) command)
 work_of (jobs.New name blocks) = works.Batch (batches.New name blocks)
 work_of (jobs.Repair image) = works.Batch (batches.Repair image)

@@ -8,7 +8,7 @@ ghost use Rattle.pm_tool.specs.Said.{BreaksOff, Finishes};
 ghost use Rattle.pm_streams.specs.Streams.{AppendsFront, AreWell, IsCause, IsCounted, both};
 
 use crate::assembly::{assemble, find_faults, list_symbols};
-use crate::code::{disassemble, disassemble_named};
+use crate::code::{disassemble, disassemble_named, list_file};
 use crate::files::{check_image, file, new_volume, repair_volume, salvage_image, takes_input};
 use crate::outcome::{Exit, Outcome, Refusal, conclude, refuse_line};
 use pm_filer::FileCommand;
@@ -31,6 +31,8 @@ pub(crate) enum Batch {
     Dis,
     /// A code file becomes a text with the names of procedures.
     DisNames,
+    /// A code file becomes a listing.
+    DisList,
     /// A command on a volume; an image that is none is refused.
     Files {
         opened: Result<Volume, VolumeFault>,
@@ -63,7 +65,7 @@ impl Batch {
     {
         match self {
             Batch::Asm { .. } | Batch::AsmFaults | Batch::AsmSymbols => true,
-            Batch::Dis | Batch::DisNames => true,
+            Batch::Dis | Batch::DisNames | Batch::DisList => true,
             Batch::Files { opened, command } => opened.is_ok() && takes_input(command),
             Batch::New { .. } | Batch::Repair { .. } | Batch::Check { .. } => false,
             Batch::Salvage { .. } => false,
@@ -97,6 +99,7 @@ fn make(alloc: Global, job: Batch, input: Vec<u8>) -> Result<Made, AllocError>
         Batch::AsmSymbols => list_symbols(alloc, input),
         Batch::Dis => disassemble(alloc, &input),
         Batch::DisNames => disassemble_named(alloc, &input),
+        Batch::DisList => list_file(alloc, &input),
         Batch::Files { opened, command } => file(alloc, opened, command, input),
         Batch::New { name, blocks } => new_volume(alloc, name.as_str(), blocks),
         Batch::Repair { image } => Ok(repair_volume(image)),

@@ -1,6 +1,6 @@
-//! The job on a code file.
+//! The jobs on a code file.
 ghost use Rattle.std.specs.Prelude.{◌≡◌, IfOk};
-ghost use Rattle.pm_tool.specs.Code.{made_dis, made_dis_names};
+ghost use Rattle.pm_tool.specs.Code.{made_dis, made_dis_list, made_dis_names};
 ghost use Rattle.pm_tool.specs.Products.{product_of};
 
 use crate::batch::Made;
@@ -31,4 +31,16 @@ pub(crate) fn disassemble_named(alloc: Global, input: &[u8]) -> Result<Made, All
     let text = pm_disasm::file(alloc, &file)?;
     let named = pm_disasm::with_names(alloc, text.as_bytes())?;
     Ok(Made::Bytes(named))
+}
+
+/// The listing of the code file that the input is.
+pub(crate) fn list_file(alloc: Global, input: &[u8]) -> Result<Made, AllocError>
+    ensures made { IfOk result (λ made. product_of made ≡ made_dis_list input.now) }
+{
+    let file = match CodeFile::read(input) {
+        Ok(file) => file,
+        Err(reason) => return Ok(Made::Refused(Refusal::Code(reason), None)),
+    };
+    let lines = pm_disasm::listing(alloc, &file)?;
+    Ok(Made::Bytes(lines.into_bytes()))
 }

@@ -83,6 +83,10 @@ pub enum Job {
     /// `CXP 0, n` a comment with that of the standard procedure, or of the system's, where the number has one. The
     /// refusals are those of `Dis`.
     DisNames,
+    /// The input is a code file, and the output is its listing by its own bytes and offsets, whatever laid them out:
+    /// for each segment, ascending, a line for each item, jump entry and attribute table of its procedures, in the
+    /// order of its dictionary, and for the dictionary. The refusals are those of `Dis`.
+    DisList,
     /// A command on the volume that an image is. The input's bytes stand in the place of a put's, of bytes or text, and
     /// no other command reads any. The output is the list, the bytes or the text of a file; after a change the outcome
     /// has the image that is to be kept. An image that is no volume is refused by `refused volume N`, before the input

@@ -77,6 +77,7 @@ pub(crate) fn work_of(job: Job) -> Work
         Job::AsmSymbols => Work::Batch(Batch::AsmSymbols),
         Job::Dis => Work::Batch(Batch::Dis),
         Job::DisNames => Work::Batch(Batch::DisNames),
+        Job::DisList => Work::Batch(Batch::DisList),
         Job::Files { image, command } => {
             let opened = open(image);
             Work::Batch(Batch::Files { opened, command })

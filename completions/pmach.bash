@@ -47,7 +47,7 @@ _pmach() {
     trace) words="--d4 --d5 --d9 --d10 --d11 --d12 --limit --unlimited --system --from --segment --procedure --calls --places --help" names=--d4 ;;
     debug) words="--d4 --d5 --d9 --d10 --d11 --d12 --limit --system --help" names=--d4 ;;
     asm) words="--list --all --symbols --help" ;;
-    dis) words="--names --help" ;;
+    dis) words="--names --list --help" ;;
     files)
         words="--image list get put gettext puttext remove change krunch date zero new duplicate single repair check salvage --second --help"
         for ((n = 2; n < COMP_CWORD; n++)); do

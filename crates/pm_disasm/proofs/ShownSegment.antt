@@ -32,7 +32,7 @@ abbrev pub shown_segment : Segment → Segment
 shown_segment s = record s { procedures = shown_from (segment_bytes s) 1 s.procedures }
 
 -- each procedure's table is found by its number
-abbrev AllFound : List ℕ → ℕ → List Procedure → Type 0
+abbrev pub AllFound : List ℕ → ℕ → List Procedure → Type 0
 AllFound segment number [] = Unit {0}
 AllFound segment number (p ∷ ps) = (attributes_in segment number ≡ Some (attributes_of number p)) × AllFound segment (number + 1) ps
 
@@ -104,6 +104,8 @@ are_shown_as segment number at (p ∷ ps) s =
 pub record ShownWell (s : Segment) : Type 0 where
   pub segment : IsSegment (shown_segment s)
   pub same : IsSameSegment s (shown_segment s)
+  pub found : AllFound (segment_bytes s) 1 s.procedures
+  pub count : procedures_in (segment_bytes s) ≡ length s.procedures
   pub lines : tables_lines (segment_bytes s) 1 (procedures_in (segment_bytes s)) ≡ procedures_lines 1 (shown_segment s).procedures
 
 pub shown_well : (s : Segment) → IsSegment s → length (segment_bytes s) ≤ 65534 → ShownWell s
@@ -140,5 +142,7 @@ shown_well s h short =
             ∙ ap (λ n. procedures_bytes 1 ps ++ (dictionary_bytes end (reverse ps) ++ s.number ∷ n ∷ [])) shown.count;
         same = λ i. ap (λ qs. record s { procedures = qs }) (shown.same i);
       };
+      found = found;
+      count = count;
       lines = ap (tables_lines bytes 1) count ∙ tables_shown bytes 1 ps stand found;
     }

@@ -1,5 +1,5 @@
 -- The listing of a code file, line by line.
-use Rattle.std.proofs.Common.{◌≡◌, ◌<◌, ◌≤◌, ℕ, zero, suc, ◌+◌, ◌-◌, ◌*◌, Bool, List, [], ◌∷◌}
+use Rattle.std.proofs.Common.{◌≡◌, ◌<◌, ℕ, zero, suc, ◌+◌, ◌-◌, ◌*◌, Bool, List, [], ◌∷◌}
 use Rattle.std.proofs.Common.{◌++◌, append_assoc, append-nil, arith, drop, get_or, length, map, refl, reverse, sym, ap, ◌∙◌, take}
 use Rattle.std.specs.Prelude.{codes}
 use Rattle.pm_codefile.specs.declared.table.Attributes.{Attributes}

@@ -1,13 +1,13 @@
 -- The listing of a code file: its own bytes at their own offsets, whatever laid them out.
-use Rattle.std.specs.Prelude.{◌≡◌, ℕ, zero, suc, ◌+◌, ◌-◌, ◌*◌, List, [], ◌∷◌, ◌++◌, codes, drop, length, reverse, take}
+use Rattle.std.specs.Prelude.{◌≡◌, ◌≤◌, ℕ, zero, suc, ◌+◌, ◌-◌, ◌*◌, List, [], ◌∷◌, ◌++◌, codes, drop, length, reverse, take}
 use Rattle.std.specs.Prelude.{nat_lt, if◌then◌else◌, Option, Some, None}
 use Rattle.std.specs.List.{AllByRecursion}
 use Rattle.pm_codefile.specs.declared.table.Attributes.{Attributes}
 use Rattle.pm_codefile.specs.Dictionary.{segment_in}
 use Rattle.pm_codefile.specs.Segments.{attributes_in, procedures_in}
-use Rattle.pm_code.specs.Image.{Listed, listed_line, listed_lines}
+use Rattle.pm_code.specs.Image.{Listed, listed_line, listed_lines, listed_segment}
 use Rattle.pm_code.specs.Item.{Item, size}
-use Rattle.pm_code.specs.Program.{Procedure}
+use Rattle.pm_code.specs.Program.{AreInstructions, IsSegment, Procedure, Segment, segment_bytes}
 use Rattle.pm_code.specs.Shown.{entry_line, joined, shown_item}
 use Rattle.pm_disasm.specs.Shown.{missing_line}
 use Rattle.pm_disasm.specs.Split.{procedure_of}
@@ -79,3 +79,9 @@ abbrev pub LinesAreStored : Type 0
 LinesAreStored = (segment : List ℕ) (a : Attributes)
     → AllByRecursion (λ l. l.bytes ≡ take (length l.bytes) (drop l.at segment))
     (stored_procedure segment a (procedure_of segment a))
+
+-- The listing of the bytes of a program's segment is that of the program, where all its items are instructions.
+abbrev pub ListingIsProgrammed : Type 0
+ListingIsProgrammed = (s : Segment) → IsSegment s → length (segment_bytes s) ≤ 65534
+    → AllByRecursion (λ p. AreInstructions p.items) s.procedures
+    → slot_listing s.number (Some (segment_bytes s)) ≡ listed_lines s.number (listed_segment s)

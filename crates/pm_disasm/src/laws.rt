@@ -3,7 +3,7 @@
 
 ghost use Rattle.pm_disasm.specs.Laws.{InstructionIsRead, SplitKeepsBytes, OwnCountFits};
 ghost use Rattle.pm_disasm.specs.Laws.{SmallerCountFails, ProcedureIsShown, ProgramIsShown};
-ghost use Rattle.pm_disasm.specs.Listing.{LinesAreStored};
+ghost use Rattle.pm_disasm.specs.Listing.{LinesAreStored, ListingIsProgrammed};
 
 /// An instruction is read in its own bytes, whatever follows them.
 pub fn instruction_is_read()
@@ -40,7 +40,9 @@ pub fn program_is_shown()
 {}
 
 /// The bytes of each line of a procedure in the listing of a code file are those of its segment at the offset that the
-/// line names, whatever laid them out.
-pub fn lines_are_stored()
-    ensures law { LinesAreStored }
+/// line names, whatever laid them out; and the listing of the bytes of a program's segment, of at most 65,534, is that
+/// of the program where all its items are instructions.
+pub fn listing_is_of_the_file()
+    ensures stored { LinesAreStored }
+    ensures programmed { ListingIsProgrammed }
 {}

@@ -1,4 +1,4 @@
-use Rattle.std.proofs.Common.{rules, ◌≡◌, ◌∙◌, ◌-◌, ◌++◌, ◌∷◌, [], List, ℕ, ap, arith, drop, length, map, reverse, string_bytes, sym}
+use Rattle.std.proofs.Common.{◌≡◌, ◌∙◌, ◌-◌, ◌++◌, ◌∷◌, [], List, ℕ, ap, arith, drop, length, map, reverse, string_bytes, sym}
 use Rattle.std.specs.Prelude.{codes}
 use Rattle.pm_code.specs.Image.{listed_line, listed_lines}
 use Rattle.pm_disasm.specs.Chosen.{IsReading}

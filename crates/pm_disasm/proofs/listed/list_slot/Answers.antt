@@ -1,4 +1,4 @@
-use Rattle.std.proofs.Common.{rules, ◌≡◌, ◌∙◌, ◌-◌, ◌+◌, ◌*◌, ◌++◌, ◌∷◌, [], List, ℕ, Some, ap, append_assoc, arith, length, string_bytes, sym}
+use Rattle.std.proofs.Common.{rules, ◌≡◌, ◌∙◌, ◌-◌, ◌+◌, ◌*◌, ◌++◌, ◌∷◌, [], List, ℕ, Some, ap, append_assoc, length, string_bytes, sym}
 use Rattle.std.specs.Prelude.{codes}
 use Rattle.pm_codefile.specs.Dictionary.{segment_in}
 use Rattle.pm_codefile.specs.Segments.{procedures_in}

@@ -1,11 +1,5 @@
-pub mod Zeros
-pub mod Columns
 pub mod ChainLaws
 pub mod FrameLaws
 pub mod AheadLaws
 pub mod GoLaws
 pub mod WatchLaws
-pub mod Decimals
-pub mod ShortText
-pub mod StateLine
-pub mod Pairs

@@ -1,4 +1,3 @@
-pub mod Trace
 pub mod Refusals
 pub mod Breaks
 pub mod Watches

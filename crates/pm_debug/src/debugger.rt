@@ -1,6 +1,6 @@
 //! The debugger.
 
-ghost use Rattle.std.specs.Prelude.{◌≡◌, ◌<◌, [], Ok, Err, IfOk, IfErr, OnOk, OnErr, string_bytes};
+ghost use Rattle.std.specs.Prelude.{◌≡◌, ◌<◌, [], Ok, Err, IfOk, IfErr, OnOk, OnErr};
 ghost use Rattle.std.specs.Borrow.{sem};
 ghost use Rattle.pm_debug.specs.Ahead.{addresses_ahead};
 ghost use Rattle.pm_debug.specs.Breaks.{break_at, place_in_code, with_break, without_break};
@@ -10,7 +10,6 @@ ghost use Rattle.pm_debug.specs.Refusals.{or_refused};
 ghost use Rattle.pm_debug.specs.Runs.{gone, gone_out, gone_over, gone_to, has_left, is_back, is_there};
 ghost use Rattle.pm_debug.specs.Runs.{most_steps, nowhere, stops_after};
 ghost use Rattle.pm_machine.specs.Runs.{GaveUp};
-ghost use Rattle.pm_debug.specs.Trace.{trace_line};
 ghost use Rattle.pm_debug.specs.Views.{ShowsChain, bytes_from, console_end, dynamic_chain, local, stack_words};
 ghost use Rattle.pm_debug.specs.Views.{static_chain, words_from};
 ghost use Rattle.pm_debug.specs.Watches.{with_watch, without_watch};
@@ -23,7 +22,7 @@ use crate::refusal::{DebugRefusal, refusal_of};
 use crate::run::{Depth, MOST_STEPS, run};
 use crate::views::{DYNAMIC_LINK, STATIC_LINK, chain, words_at};
 use crate::watches::Watches;
-use crate::{breaks, text, watches};
+use crate::{breaks, watches};
 use arrayvec::ArrayVec;
 use pm_machine::Machine;
 use pm_words::layout::STACK_END;
@@ -344,12 +343,5 @@ impl Debugger {
     {
         let ipc = self.machine.registers().ipc;
         addresses_from(alloc, self.machine.memory(), limit, ipc)
-    }
-
-    /// The line of a trace for the step that the machine makes next, without a line feed.
-    pub fn trace_line(&self, alloc: Global) -> Result<String, AllocError>
-        ensures text { IfOk result (λ text. string_bytes text ≡ trace_line self.now.machine.state) }
-    {
-        text::trace_line(alloc, &self.machine)
     }
 }

@@ -4,17 +4,11 @@
 mod ahead;
 mod breaks;
 mod debugger;
-mod digits;
 mod frames;
-mod kept_digits;
 pub mod laws;
-mod number_text;
 mod reason;
 mod refusal;
 mod run;
-mod state_line;
-mod text;
-mod tracer;
 mod views;
 mod watches;
 
@@ -23,6 +17,3 @@ pub use debugger::Debugger;
 pub use frames::Frame;
 pub use reason::BreakReason;
 pub use refusal::DebugRefusal;
-pub use state_line::TraceLine;
-pub use text::trace_line;
-pub use tracer::Tracer;

@@ -9,7 +9,7 @@ use Rattle.pm_debug.specs.Breaks.{break_at, with_break, without_break}
 use Rattle.pm_debug.specs.Refusals.{or_refused}
 use Rattle.pm_debug.specs.Runs.{gone, gone_out, gone_over}
 use Rattle.pm_debug.specs.Session.{Session}
-use Rattle.pm_debug.specs.Trace.{trace_line}
+use Rattle.pm_trace_line.specs.Trace.{trace_line}
 use Rattle.pm_debug.specs.Views.{dynamic_chain, local, stack_words, static_chain}
 use Rattle.pm_debug.specs.Watches.{with_watch, without_watch}
 use Rattle.pm_debug.specs.declared.breaks.Breakpoint.{Breakpoint}

@@ -16,6 +16,7 @@ use crate::texts::{chain, numbers, refused};
 use crate::views::shown;
 use pm_debug::{BreakReason, DebugRefusal, Debugger};
 use pm_machine::Registers;
+use pm_trace_line::trace_line;
 use std::alloc::{AllocError, Global};
 
 /// Done, or refused.
@@ -141,7 +142,7 @@ fn do_command(
             let machine = debugger.machine();
             place(alloc, machine.place(n), machine.keeps(n))
         }
-        Command::Trace => debugger.trace_line(alloc),
+        Command::Trace => trace_line(alloc, debugger.as_machine()),
         Command::Show(view) => shown(alloc, debugger, view),
         Command::Quit => return Ok(None),
     };

@@ -2,7 +2,7 @@
 use Rattle.std.proofs.Common.{◌≡◌, ◌<◌, ℕ, ◌+◌, ◌/◌, ◌%◌, List, [], ◌∷◌, ◌++◌, refl, ap, ◌∙◌, arith}
 use Rattle.std.proofs.lemmas.Fmt.{decimal_digit}
 use Rattle.pm_code.specs.Shown.{padded}
-use Rattle.pm_debug.proofs.Zeros.{padded_step}
+use Rattle.pm_trace_line.proofs.Zeros.{padded_step}
 
 one_digit : (n : ℕ) → n < 10 → padded 1 n ≡ (48 + n) ∷ []
 unfolding padded

@@ -9,7 +9,7 @@ use Rattle.pm_machine.specs.State.{State}
 use Rattle.pm_code.specs.Shown.{padded}
 use Rattle.pm_debug.specs.declared.breaks.Breakpoint.{Breakpoint}
 use Rattle.pm_debug.specs.Breaks.{place_in_code}
-use Rattle.pm_debug.specs.Trace.{trace_line}
+use Rattle.pm_trace_line.specs.Trace.{trace_line}
 use Rattle.pm_selection.specs.declared.selection.Code.{Code}
 use Rattle.pm_selection.specs.declared.selection.Code.TheVariants as codes_of
 use Rattle.pm_selection.specs.declared.selection.Selection.{Selection}

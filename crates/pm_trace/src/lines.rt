@@ -6,9 +6,9 @@ ghost use Rattle.pm_trace.specs.Selected.{blanks, front, front_blanks, front_pla
 use crate::depth::depth;
 use crate::place::{add_place, place_in_code};
 use crate::selected::is_selected;
-use pm_debug::Tracer;
 use pm_machine::Machine;
 use pm_selection::Selection;
+use pm_trace_line::Tracer;
 use std::alloc::{AllocError, Global};
 
 /// Blanks in front of the deepest line.

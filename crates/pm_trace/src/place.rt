@@ -36,7 +36,7 @@ fn number_column(number: u8) -> [u8; 4]
 }
 
 /// An offset in five digits, with a blank behind it.
-#[tactic(auto, using(pm_debug::proofs::Zeros::five_digits))]
+#[tactic(auto, using(pm_trace_line::proofs::Zeros::five_digits))]
 fn offset_column(offset: u16) -> [u8; 6]
     ensures digits { result ≡ column 5 offset }
 {

@@ -6,7 +6,7 @@ use Rattle.pm_calls.specs.declared.registers.Registers.{Registers}
 use Rattle.pm_code.specs.Shown.{padded}
 use Rattle.pm_disasm.specs.Text.{line_text}
 use Rattle.pm_machine.specs.State.{State}
-use Rattle.pm_debug.specs.Trace.{spaced, top_text, top_word, trace_line}
+use Rattle.pm_trace_line.specs.Trace.{spaced, top_text, top_word, trace_line}
 
 joined : (p steps ipc sp mp base np top line : List ℕ)
     → (((p ++ (steps ++ 32 ∷ []))

@@ -1,7 +1,7 @@
 //! Texts on the heap.
 
 ghost use Rattle.std.specs.Prelude.{◌≡◌, string_bytes, IfOk};
-ghost use Rattle.pm_debug.specs.Trace.{trace_line};
+ghost use Rattle.pm_trace_line.specs.Trace.{trace_line};
 
 use crate::state_line::TraceLine;
 use pm_machine::Machine;

@@ -1,7 +1,7 @@
 //! The line of a trace for a machine's next step.
 
 ghost use Rattle.std.specs.Prelude.{◌≡◌, ◌%◌, Some};
-ghost use Rattle.pm_debug.specs.Trace.{top_word, trace_line};
+ghost use Rattle.pm_trace_line.specs.Trace.{top_word, trace_line};
 
 use crate::digits::{Count, column, column_or_dashes, joined};
 use pm_disasm::Line;

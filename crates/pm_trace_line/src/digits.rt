@@ -4,7 +4,7 @@ ghost use Rattle.std.specs.Prelude.{◌≡◌, ◌<◌, ◌+◌, ◌/◌, ◌%�
 ghost use Rattle.std.specs.List.{AllByRecursion, flat_map};
 ghost use Rattle.std.specs.Str.{IsAscii};
 ghost use Rattle.pm_code.specs.Shown.{padded};
-ghost use Rattle.pm_debug.specs.Trace.{top_text};
+ghost use Rattle.pm_trace_line.specs.Trace.{top_text};
 
 use std::fmt;
 

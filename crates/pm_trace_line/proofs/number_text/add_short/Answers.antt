@@ -1,7 +1,7 @@
 use Rattle.std.proofs.Common.{arith, ◌∙◌, sym}
-use Rattle.pm_debug.proofs.ShortText.{byte_text, display_pair_text, display_text, named, named_pair}
-use Rattle.pm_debug.proofs.ShortText.{number_byte_text, plain_text, signed_byte_text, word_text}
-use Rattle.pm_debug.proofs.number_text.add_short.Goals as goal
+use Rattle.pm_trace_line.proofs.ShortText.{byte_text, display_pair_text, display_text, named, named_pair}
+use Rattle.pm_trace_line.proofs.ShortText.{number_byte_text, plain_text, signed_byte_text, word_text}
+use Rattle.pm_trace_line.proofs.number_text.add_short.Goals as goal
 
 pub returns-in_ok-add_plain-in-Plain : goal.returns-in_ok-add_plain-in-Plain
 returns-in_ok-add_plain-in-Plain c =

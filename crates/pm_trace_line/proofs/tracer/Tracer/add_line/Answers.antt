@@ -1,6 +1,6 @@
 use Rattle.std.proofs.Common.{refl}
-use Rattle.pm_debug.proofs.StateLine.{line_added}
-use Rattle.pm_debug.proofs.tracer.Tracer.add_line.Goals as goal
+use Rattle.pm_trace_line.proofs.StateLine.{line_added}
+use Rattle.pm_trace_line.proofs.tracer.Tracer.add_line.Goals as goal
 
 pub returns : goal.returns
 returns c = record {

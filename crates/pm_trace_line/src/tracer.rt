@@ -1,7 +1,7 @@
 //! The lines of a trace, one behind the other.
 
 ghost use Rattle.std.specs.Prelude.{◌≡◌, ◌<◌, ◌∷◌, [], ◌++◌, OnOk};
-ghost use Rattle.pm_debug.specs.Trace.{trace_line};
+ghost use Rattle.pm_trace_line.specs.Trace.{trace_line};
 ghost use Rattle.pm_disasm.specs.Text.{line_text};
 
 use crate::digits::{column, column_or_dashes};

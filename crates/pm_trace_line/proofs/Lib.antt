@@ -1,0 +1,6 @@
+pub mod Zeros
+pub mod Columns
+pub mod Decimals
+pub mod ShortText
+pub mod StateLine
+pub mod Pairs

@@ -8,3 +8,4 @@ pub mod NumberLaws
 pub mod KeepLaws
 pub mod RowLaws
 pub mod KeptLoads
+pub mod OutputLaws

@@ -4,3 +4,4 @@ pub mod Loads
 pub mod Numbers
 pub mod Keeping
 pub mod Rows
+pub mod Outputs

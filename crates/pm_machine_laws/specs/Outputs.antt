@@ -1,0 +1,18 @@
+-- What was written stays: the console and the printer only get more.
+use Rattle.std.specs.Prelude.{◌≡◌, ℕ, List, ◌++◌}
+use Rattle.pm_stdproc.specs.Devices.{Devices}
+use Rattle.pm_machine.specs.State.{State}
+use Rattle.pm_machine.specs.Events.{Event, after_all}
+
+-- some bytes, and behind them perhaps more
+pub record GoesOnWith (old new : List ℕ) : Type 0 where
+  pub more : List ℕ
+  pub whole : new ≡ old ++ more
+
+pub record OutputsGoOn (old new : Devices) : Type 0 where
+  pub console : GoesOnWith old.console new.console
+  pub printer : GoesOnWith old.printer new.printer
+
+-- after any events the console and the printer have what they had, and perhaps more behind it
+abbrev pub OutputsOnlyGrow : Type 0
+OutputsOnlyGrow = (s : State) (events : List Event) → OutputsGoOn s.devices (after_all s events).devices

@@ -1,6 +1,6 @@
 //! The debugger.
 
-ghost use Rattle.std.specs.Prelude.{◌≡◌, ◌<◌, [], Ok, Err, IfOk, IfErr, OnOk, OnErr};
+ghost use Rattle.std.specs.Prelude.{◌≡◌, ◌<◌, [], false, Ok, Err, IfOk, IfErr, OnOk, OnErr};
 ghost use Rattle.std.specs.Borrow.{sem};
 ghost use Rattle.pm_debug.specs.Ahead.{addresses_ahead};
 ghost use Rattle.pm_debug.specs.Breaks.{break_at, place_in_code, with_break, without_break};
@@ -29,14 +29,16 @@ use pm_words::layout::STACK_END;
 use std::alloc::{AllocError, Global};
 use std::marker::Model;
 
-/// A machine, and the breakpoints and the watched words at which a run of it stops, seen as the state
-/// of the machine and the lists of the breakpoints and of the watched addresses. What it shows is the
-/// state as it is, whatever was shown, written or run before.
+/// A machine, the breakpoints and the watched words at which a run of it stops, and whether a session
+/// shows what its commands add to the console, seen as the state of the machine, the lists of the
+/// breakpoints and of the watched addresses, and that. What it shows is the state as it is, whatever
+/// was shown, written or run before.
 #[derive(Drop)]
 pub struct Debugger {
     machine: Machine,
     breaks: Breaks,
     watches: Watches,
+    shows_console: bool,
 }
 
 impl Model for Debugger {
@@ -48,20 +50,23 @@ impl Model for Debugger {
       machine = d.machine;
       breaks = d.breaks.items;
       watches = d.watches.items;
+      shows_console = d.shows_console;
     } };
 }
 
 impl Debugger {
-    /// A debugger of a machine, without breakpoints and watched words.
+    /// A debugger of a machine, without breakpoints and watched words. Its session does not show the console.
     pub fn new(machine: Machine) -> Debugger
         ensures machine { result.machine ≡ machine }
         ensures breaks { result.breaks ≡ [] }
         ensures watches { result.watches ≡ [] }
+        ensures shows { result.shows_console ≡ false }
     {
         Debugger {
             machine,
             breaks: ArrayVec::new(),
             watches: ArrayVec::new(),
+            shows_console: false,
         }
     }
 
@@ -94,6 +99,7 @@ impl Debugger {
     pub fn set_break(&mut self, segment: u8, procedure: u8, offset: u16) -> Result<(), DebugRefusal>
         ensures machine { self.new.machine ≡ self.old.machine }
         ensures watches { self.new.watches ≡ self.old.watches }
+        ensures shows { self.new.shows_console ≡ self.old.shows_console }
         ensures set { OnOk result (with_break (break_at segment procedure offset) self.old.breaks
             ≡ Ok self.new.breaks) }
         ensures refused { IfErr result (λ refusal. with_break (break_at segment procedure offset) self.old.breaks
@@ -117,6 +123,7 @@ impl Debugger {
     ) -> Result<(), DebugRefusal>
         ensures machine { self.new.machine ≡ self.old.machine }
         ensures watches { self.new.watches ≡ self.old.watches }
+        ensures shows { self.new.shows_console ≡ self.old.shows_console }
         ensures cleared { OnOk result (without_break (break_at segment procedure offset) self.old.breaks
             ≡ Ok self.new.breaks) }
         ensures refused { IfErr result (λ refusal. without_break (break_at segment procedure offset) self.old.breaks
@@ -137,6 +144,7 @@ impl Debugger {
     pub fn set_watch(&mut self, address: u16) -> Result<(), DebugRefusal>
         ensures machine { self.new.machine ≡ self.old.machine }
         ensures breaks { self.new.breaks ≡ self.old.breaks }
+        ensures shows { self.new.shows_console ≡ self.old.shows_console }
         ensures set { OnOk result (with_watch address self.old.watches ≡ Ok self.new.watches) }
         ensures refused { IfErr result (λ refusal. with_watch address self.old.watches ≡ Err refusal) }
         ensures kept { OnErr result (self.new ≡ self.old) }
@@ -148,6 +156,7 @@ impl Debugger {
     pub fn clear_watch(&mut self, address: u16) -> Result<(), DebugRefusal>
         ensures machine { self.new.machine ≡ self.old.machine }
         ensures breaks { self.new.breaks ≡ self.old.breaks }
+        ensures shows { self.new.shows_console ≡ self.old.shows_console }
         ensures cleared { OnOk result (without_watch address self.old.watches ≡ Ok self.new.watches) }
         ensures refused { IfErr result (λ refusal. without_watch address self.old.watches ≡ Err refusal) }
         ensures kept { OnErr result (self.new ≡ self.old) }
@@ -155,10 +164,18 @@ impl Debugger {
         watches::clear(&mut self.watches, address)
     }
 
+    /// Lets a session show what its commands add to the console from now on, or no more.
+    pub fn set_shows_console(&mut self, shows: bool)
+        ensures set { self.new ≡ record self.old { shows_console = shows } }
+    {
+        self.shows_console = shows;
+    }
+
     // Makes a run of at most `limit` steps.
     fn run_to(&mut self, depth: Depth, limit: u64) -> Result<(u64, BreakReason), AllocError>
         ensures breaks { self.new.breaks ≡ self.old.breaks }
         ensures watches { self.new.watches ≡ self.old.watches }
+        ensures shows { self.new.shows_console ≡ self.old.shows_console }
         ensures gone { IfOk result (λ r.
             gone_to self.old.breaks self.old.watches (is_there depth) limit self.old.machine.state
             ≡ record { steps = r.0; reason = r.1; machine = self.new.machine.state }) }
@@ -178,6 +195,7 @@ impl Debugger {
     pub fn go(&mut self, limit: u64) -> Result<(u64, BreakReason), AllocError>
         ensures breaks { self.new.breaks ≡ self.old.breaks }
         ensures watches { self.new.watches ≡ self.old.watches }
+        ensures shows { self.new.shows_console ≡ self.old.shows_console }
         ensures gone { IfOk result (λ r. gone self.old.breaks self.old.watches limit self.old.machine.state
             ≡ record { steps = r.0; reason = r.1; machine = self.new.machine.state }) }
         ensures err { OnErr result (GaveUp
@@ -193,6 +211,7 @@ impl Debugger {
     pub fn step_over(&mut self) -> Result<(u64, BreakReason), AllocError>
         ensures breaks { self.new.breaks ≡ self.old.breaks }
         ensures watches { self.new.watches ≡ self.old.watches }
+        ensures shows { self.new.shows_console ≡ self.old.shows_console }
         ensures gone { IfOk result (λ r. gone_over self.old.breaks self.old.watches self.old.machine.state
             ≡ record { steps = r.0; reason = r.1; machine = self.new.machine.state }) }
         ensures err { OnErr result (GaveUp (stops_after self.old.breaks self.old.watches
@@ -208,6 +227,7 @@ impl Debugger {
     pub fn finish(&mut self) -> Result<(u64, BreakReason), AllocError>
         ensures breaks { self.new.breaks ≡ self.old.breaks }
         ensures watches { self.new.watches ≡ self.old.watches }
+        ensures shows { self.new.shows_console ≡ self.old.shows_console }
         ensures gone { IfOk result (λ r. gone_out self.old.breaks self.old.watches self.old.machine.state
             ≡ record { steps = r.0; reason = r.1; machine = self.new.machine.state }) }
         ensures err { OnErr result (GaveUp (stops_after self.old.breaks self.old.watches
@@ -321,6 +341,13 @@ impl Debugger {
         ensures watches { result.now ≡ self.now.watches }
     {
         self.watches.as_slice()
+    }
+
+    /// Whether a session shows what its commands add to the console.
+    pub fn shows_console(&self) -> bool
+        ensures shows { result ≡ self.now.shows_console }
+    {
+        self.shows_console
     }
 
     /// The frames from MP on by their dynamic links, as the dynamic chain, each with the place that its

@@ -6,3 +6,4 @@ pub mod Round
 pub mod ShownAgain
 pub mod RefusalLaws
 pub mod NamedLines
+pub mod Console

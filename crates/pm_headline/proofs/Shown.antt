@@ -114,7 +114,7 @@ kept_watching : (d : Session) (r : Result (List ℕ) DebugRefusal) → (with_wat
 kept_watching d (Ok watches) = refl
 kept_watching d (Err refusal) = refl
 
-command_made : (command : Option Command) (d : Session) → Made command d
+pub command_made : (command : Option Command) (d : Session) → Made command d
 unfolding after_command
 command_made None d = ([], refl, refl)
 command_made (Some (commands.Break s p o)) d = ([], refl, kept d (with_break (break_at s p o) d.breaks))

@@ -2,3 +2,4 @@ pub mod Shown
 pub mod Loaded
 pub mod RoundTrip
 pub mod Refusals
+pub mod Console

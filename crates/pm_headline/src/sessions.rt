@@ -1,5 +1,6 @@
 //! What a session of the debugger shows is the table's.
 
+ghost use Rattle.pm_headline.specs.Console.{ConsoleIsShown};
 ghost use Rattle.pm_headline.specs.Shown.{SessionsShowTheTable};
 
 /// After any lines of a session without `quit`, the machine is as the table leaves it after the steps, the keys and the
@@ -10,4 +11,11 @@ ghost use Rattle.pm_headline.specs.Shown.{SessionsShowTheTable};
 #[tactic(auto, using(crate::proofs::Shown::sessions_show_the_table))]
 pub fn sessions_show_the_table()
     ensures law { SessionsShowTheTable }
+{}
+
+/// In a session after `console on`, the answers to lines, none of which is `quit` or `console off`, are those of their
+/// commands, each behind the line of what its command wrote to the console; and these bytes, one command's behind the
+/// other's, are what the console has more after them.
+pub fn console_is_shown()
+    ensures law { ConsoleIsShown }
 {}

@@ -289,6 +289,8 @@ Commands, one a line, numbers in decimal, or as $1F with at most four hexadecima
   frames N       the frames by their dynamic links, each with where it returns to, at most N
   list N         the next N instructions, each behind its offset
   console N      the last N bytes of the console, as the assembler spells a text
+  console on     shows before each answer what the command wrote to the console
+  console off    shows it no more
   step           makes one instruction, with all that it calls
   finish         makes what is left of the running procedure, with its return
   watch A        stops a run before a step where the word at an even address has changed

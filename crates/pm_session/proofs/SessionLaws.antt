@@ -1,7 +1,7 @@
 -- The answers to an input, byte by byte.
 use Rattle.std.proofs.Common.{◌≡◌, ◌∙◌, ◌+◌, ◌<◌, ap, sym, refl, arith, ℕ, Bool, true, false}
 use Rattle.std.proofs.Common.{List, [], ◌∷◌, ◌++◌, length, drop, reverse, append_assoc, append-nil, Option, Some, None}
-use Rattle.std.proofs.lemmas.List.{reverse-append, reverse-reverse}
+use Rattle.std.proofs.lemmas.List.{drop_all, reverse-append, reverse-reverse}
 use Rattle.std.specs.Prelude.{◌==◌, if◌then◌else◌}
 use Rattle.std.proofs.Math.Seq.{drop-append-add}
 use Rattle.pm_debug.specs.Session.{Session}
@@ -10,8 +10,8 @@ use Rattle.pm_session.specs.declared.commands.Command.TheVariants as commands
 use Rattle.pm_session.specs.Commands.{command_of}
 use Rattle.pm_session.specs.Words.{lines_of_input, pieces_between, without_empty_end}
 use Rattle.pm_session.proofs.WordLaws.{pieces_byte, pieces_mark, pieces_none, pieces_some, with_front, with_front-byte, with_front-none}
-use Rattle.pm_session.specs.Answers.{answer_text, command_text, session_after}
-use Rattle.pm_session.specs.Sessions.{Told, answer_line, answers, behind_quit, from_feed, is_quit, told, whole_lines}
+use Rattle.pm_session.specs.Answers.{after_command, answer_text, command_text, session_after}
+use Rattle.pm_session.specs.Sessions.{Told, answer_line, answers, behind_quit, console_line, from_feed, is_quit, told, whole_lines}
 
 -- the answers to these lines of an input
 abbrev pub told_lines : List (List ℕ) → List ℕ → Session → Told
@@ -81,9 +81,14 @@ told_is text unread t a b = ap (from t.text) b ∙ ap (λ x. from x unread) a
 
 -- ---- `quit`
 
+-- nothing is behind all bytes
+nothing_more : (shows : Bool) (console : List ℕ) → (if shows then console_line (drop (length console) console) else []) ≡ []
+nothing_more true console = ap console_line (drop_all (length console) console (omega arith))
+nothing_more false console = refl
+
 quit_unanswered : (command : Option Command) (d : Session) → is_quit command ≡ true → answer_line command d ≡ []
-unfolding command_text
-quit_unanswered (Some commands.Quit) d q = refl
+unfolding command_text after_command
+quit_unanswered (Some commands.Quit) d q = ap (λ l. l ++ []) (nothing_more d.shows_console d.machine.devices.console)
 quit_unanswered _ d q = absurd (cc)
 
 pub answer_quit : (line : List ℕ) (d : Session) → is_quit (command_of line) ≡ true → answer_line (command_of line) d ≡ []

@@ -65,6 +65,7 @@ command_text (commands.Watch a) d = Some (done_text (with_watch a d.watches))
 command_text (commands.Unwatch a) d = Some (done_text (without_watch a d.watches))
 command_text (commands.Poke a w) d = Some (if is_even a then codes "ok" else refused_text OddAddress)
 command_text (commands.Key b) d = Some (codes "ok")
+command_text (commands.ShowConsole shows) d = Some (codes "ok")
 command_text (commands.Go n) d =
     Some (gone_text (gone d.breaks d.watches n d.machine).reason (gone d.breaks d.watches n d.machine).steps)
 command_text commands.Step d =
@@ -100,6 +101,7 @@ after_command (commands.Watch a) d = with_watches d (with_watch a d.watches)
 after_command (commands.Unwatch a) d = with_watches d (without_watch a d.watches)
 after_command (commands.Poke a w) d = record d { machine = next d.machine (Poke a w) }
 after_command (commands.Key b) d = record d { machine = next d.machine (Key b) }
+after_command (commands.ShowConsole shows) d = record d { shows_console = shows }
 after_command (commands.Go n) d = record d { machine = (gone d.breaks d.watches n d.machine).machine }
 after_command commands.Step d = record d { machine = (gone_over d.breaks d.watches d.machine).machine }
 after_command commands.Finish d = record d { machine = (gone_out d.breaks d.watches d.machine).machine }

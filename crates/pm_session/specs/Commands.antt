@@ -1,6 +1,6 @@
 -- The commands of a debugger's line.
 use Rattle.std.specs.Prelude.{ℕ, zero, suc, ◌+◌, ◌-◌, ◌*◌, ◌^◌, ◌==◌, ◌&&◌, List, [], ◌∷◌, Option, Some, None}
-use Rattle.std.specs.Prelude.{option_map, if◌then◌else◌, length, nat_le, nat_lt, codes}
+use Rattle.std.specs.Prelude.{option_map, if◌then◌else◌, length, nat_le, nat_lt, codes, true, false}
 use Rattle.std.specs.Char.{is_ascii_hexdigit}
 use Rattle.std.specs.List.{list_all}
 use Rattle.std.specs.Str.{bytes_eq}
@@ -118,14 +118,33 @@ abbrev pub command_in : List (List ℕ × List ℕ × Reading) → List ℕ → 
 command_in [] word ns = None
 command_in (row ∷ rows) word ns = if bytes_eq word row.0 then row.2 ns else command_in rows word ns
 
-abbrev pub command_with : List ℕ → Option (List ℕ) → Option Command
-command_with word None = None
-command_with word (Some ns) = command_in command_rows word ns
+-- the commands that have a word in the place of numbers: both words, and the command
+unfoldable pub setting_rows : List (List ℕ × List ℕ × Command)
+setting_rows =
+    (codes "console", codes "on", commands.ShowConsole true)
+    ∷ (codes "console", codes "off", commands.ShowConsole false)
+    ∷ []
 
--- a word and at most three numbers
+-- the command of two words, by the row that has both
+abbrev pub setting_in : List (List ℕ × List ℕ × Command) → List ℕ → List ℕ → Option Command
+setting_in [] word value = None
+setting_in (row ∷ rows) word value =
+    if bytes_eq word row.0 && bytes_eq value row.1 then Some row.2 else setting_in rows word value
+
+-- the command of a word and one word behind it
+abbrev pub setting_with : List ℕ → List (List ℕ) → Option Command
+setting_with word [] = None
+setting_with word (value ∷ []) = setting_in setting_rows word value
+setting_with word (value ∷ next ∷ more) = None
+
+abbrev pub command_with : List ℕ → List (List ℕ) → Option (List ℕ) → Option Command
+command_with word words None = setting_with word words
+command_with word words (Some ns) = command_in command_rows word ns
+
+-- a word and at most three numbers, or one word that is none
 abbrev pub in_words : List (List ℕ) → Option Command
 in_words [] = None
-in_words (word ∷ words) = command_with word (numbers 3 words)
+in_words (word ∷ words) = command_with word words (numbers 3 words)
 
 -- the command that a line is, without its line feed; a carriage return at its end is no part of it
 unfoldable pub command_of : List ℕ → Option Command

@@ -1,7 +1,8 @@
 -- The session of a debugger: each line of the input is answered in its turn, up to `quit` or the input's end.
 use Rattle.std.specs.Prelude.{◌==◌, ℕ, ◌+◌, Bool, true, false, List, [], ◌∷◌, ◌++◌, drop}
-use Rattle.std.specs.Prelude.{length, reverse, Option, Some, None, if◌then◌else◌}
+use Rattle.std.specs.Prelude.{length, reverse, Option, Some, None, if◌then◌else◌, codes}
 use Rattle.pm_machine.specs.State.{State}
+use Rattle.pm_code.specs.Text.{quoted}
 use Rattle.pm_debug.specs.Session.{Session}
 use Rattle.pm_session.specs.declared.commands.Command.{Command}
 use Rattle.pm_session.specs.declared.commands.Command.TheVariants as commands
@@ -18,9 +19,23 @@ abbrev pub with_feed : Option (List ℕ) → List ℕ
 with_feed None = []
 with_feed (Some text) = text ++ 10 ∷ []
 
--- the answer to a line, with its line feed; `quit` has none
+-- a line of bytes of the console, as `console N` spells them; of none there is no line
+abbrev pub console_line : List ℕ → List ℕ
+console_line [] = []
+console_line (b ∷ bytes) = codes "console " ++ (quoted (b ∷ bytes) ++ 10 ∷ [])
+
+-- the bytes that a command writes to the console
+abbrev pub console_added : Option Command → Session → List ℕ
+console_added command d =
+    drop (length d.machine.devices.console) (session_after command d).machine.devices.console
+
+-- what of them stands in front of the answer: after `console on` all, and else nothing
+abbrev pub console_shown : Option Command → Session → List ℕ
+console_shown command d = if d.shows_console then console_line (console_added command d) else []
+
+-- the answer to a line, with its line feed, behind what is shown of the console; `quit` has none
 abbrev pub answer_line : Option Command → Session → List ℕ
-answer_line command d = with_feed (answer_text command d)
+answer_line command d = console_shown command d ++ with_feed (answer_text command d)
 
 -- the answers to lines, up to the first `quit`
 unfoldable pub answers : List (List ℕ) → Session → List ℕ
@@ -35,9 +50,9 @@ behind_quit [] input = input
 behind_quit (line ∷ lines) input =
     if is_quit (command_of line) then drop (length line + 1) input else behind_quit lines (drop (length line + 1) input)
 
--- a debugger of a machine, without breakpoints and watched words
+-- a debugger of a machine, without breakpoints and watched words, whose session does not show the console
 abbrev pub opened : State → Session
-opened machine = record { machine = machine; breaks = []; watches = [] }
+opened machine = record { machine = machine; breaks = []; watches = []; shows_console = false }
 
 -- the answers to an input, and what of it is left unread
 pub record Told : Type 0 where

@@ -16,10 +16,11 @@ use Rattle.pm_debug.specs.Views.{bytes_from, console_end, words_from}
 use Rattle.pm_debug.specs.declared.breaks.Breakpoint.{Breakpoint}
 use Rattle.pm_debug.specs.declared.frames.Frame.{Frame}
 use Rattle.pm_debug.specs.declared.refusal.DebugRefusal.TheVariants.{OddAddress}
+use Rattle.pm_session.specs.declared.commands.Command.{Command}
 use Rattle.pm_session.specs.declared.commands.View.{View}
 use Rattle.pm_session.specs.declared.commands.View.TheVariants as views
-use Rattle.pm_session.specs.Commands.{Reading, command_rows}
-use Rattle.pm_session.specs.Texts.{chain_text, numbers_text, parts_text, refused_text}
+use Rattle.pm_session.specs.Commands.{Reading, command_rows, setting_rows}
+use Rattle.pm_session.specs.Texts.{chain_text, more_parts, numbers_text, parts_text, refused_text}
 
 -- ---- places in the code
 
@@ -82,8 +83,12 @@ bytes_text (b ∷ bs) = parts_text (codes " ") pair_text (b ∷ bs) ++ (32 ∷ 3
 abbrev pub usage_text : List ℕ × List ℕ × Reading → List ℕ
 usage_text row = row.0 ++ row.1
 
+-- both words of a setting
+abbrev pub setting_text : List ℕ × List ℕ × Command → List ℕ
+setting_text row = row.0 ++ (32 ∷ row.1)
+
 unfoldable pub help_text : List ℕ
-help_text = parts_text (codes ", ") usage_text command_rows
+help_text = parts_text (codes ", ") usage_text command_rows ++ more_parts (codes ", ") setting_text setting_rows
 
 -- what is answered to a command that only shows
 unfoldable pub view_text : View → Session → List ℕ

@@ -1,5 +1,5 @@
 //! What the debugger answers to a line.
-ghost use Rattle.std.specs.Prelude.{◌≡◌, ◌++◌, ◌∷◌, [], false, true, IfOk, IfNone, IfSome, OnOk};
+ghost use Rattle.std.specs.Prelude.{◌≡◌, ◌++◌, ◌∷◌, [], drop, false, true, IfOk, IfNone, IfSome, OnOk};
 ghost use Rattle.std.specs.Prelude.{option_map, string_bytes, codes, if◌then◌else◌};
 ghost use Rattle.pm_debug.specs.Session.{session_of};
 ghost use Rattle.pm_words.specs.Stack.{is_even};
@@ -7,11 +7,12 @@ ghost use Rattle.pm_machine.specs.Events.{Key, Poke, next};
 ghost use Rattle.pm_session.specs.Answers.{after_command, session_after, command_text, done_text};
 ghost use Rattle.pm_session.specs.Answers.{gone_text, answer_text, place_text, registers_text, word_text};
 ghost use Rattle.pm_session.specs.Commands.{command_of};
-ghost use Rattle.pm_session.specs.Sessions.{answer_line, is_quit};
+ghost use Rattle.pm_session.specs.Sessions.{answer_line, console_line, is_quit};
 ghost use Rattle.pm_session.specs.Texts.{refused_text};
 
 use crate::commands::{Command, command_of};
 use crate::ending::{Ending, LastLine};
+use crate::spelled::Quoted;
 use crate::texts::{chain, numbers, refused};
 use crate::views::shown;
 use pm_debug::{BreakReason, DebugRefusal, Debugger};
@@ -130,6 +131,7 @@ fn do_command(
             key(debugger, byte)?;
             done(alloc, Ok(()))
         }
+        Command::ShowConsole(shows) => done(alloc, Ok(debugger.set_shows_console(shows))),
         Command::Go(limit) => gone(alloc, debugger.go(u64::from(limit))?),
         Command::Step => gone(alloc, debugger.step_over()?),
         Command::Finish => gone(alloc, debugger.finish()?),
@@ -165,7 +167,26 @@ fn answer_to(
     }
 }
 
+/// The line of the bytes that the console has behind so many, where they are wanted; of none there is no line.
+fn console_line(
+    alloc: Global,
+    wanted: bool,
+    console: &[u8],
+    before: usize,
+) -> Result<String, AllocError>
+    ensures text { IfOk result (λ text. string_bytes text
+        ≡ (if wanted then console_line (drop before console.now) else [])) }
+{
+    match console.get(before..) {
+        Some(added) if wanted && !added.is_empty() => {
+            format!(in alloc; "console {}\n", Quoted(added))
+        }
+        _ => Ok(String::new(alloc)),
+    }
+}
+
 /// Does the command that a line is, without its line feed, and gives the answer, with a line feed. `quit` has none.
+/// After `console on` the line of what the command wrote to the console stands in front.
 #[tactic(auto, using(crate::proofs::SessionLaws::unanswered))]
 pub fn answer(
     alloc: Global,
@@ -179,9 +200,12 @@ pub fn answer(
     ensures session { OnOk result ((session_of debugger.new)
         ≡ session_after (command_of line.now) (session_of debugger.old)) }
 {
-    let Some(mut text) = answer_to(alloc, debugger, command_of(line))? else {
+    let wanted = debugger.shows_console();
+    let before = debugger.as_machine().console().len();
+    let Some(text) = answer_to(alloc, debugger, command_of(line))? else {
         return Ok(None);
     };
-    text.push_str("\n")?;
-    Ok(Some(text))
+    let console = debugger.as_machine().console();
+    let console = console_line(alloc, wanted, console, before)?;
+    Ok(Some(format!(in alloc; "{console}{text}\n")?))
 }

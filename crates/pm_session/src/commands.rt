@@ -5,7 +5,7 @@ ghost use Rattle.std.specs.List.{list_all};
 ghost use Rattle.std.specs.Str.Parse.{digits_value};
 ghost use Rattle.pm_session.specs.Commands.{command_in, command_of, command_rows, decimal_number, hexadecimal_number};
 ghost use Rattle.pm_disasm.specs.Names.{is_digit};
-ghost use Rattle.pm_session.specs.Commands.{number_up_to, numbers, word_number};
+ghost use Rattle.pm_session.specs.Commands.{number_up_to, numbers, setting_in, setting_rows, setting_with, word_number};
 ghost use Rattle.std.specs.Str.{bytes_eq};
 ghost use Rattle.pm_session.specs.Words.{begins_word, words_of_line, without_return};
 
@@ -29,6 +29,8 @@ pub enum Command {
     Poke(u16, u16),
     /// Lets one more byte wait on the console.
     Key(u8),
+    /// Shows from now on what each command writes to the console, or no more.
+    ShowConsole(bool),
     /// Makes at most so many steps, up to a breakpoint or to a watched word that has changed.
     Go(u32),
     /// Makes one instruction, and where it is a call all that is called.
@@ -293,6 +295,34 @@ fn command_named(name: &[u8], numbers: &[u32]) -> Option<Command>
     Some(command)
 }
 
+/// The command of a name and the word behind it: a row for each.
+#[tactic(auto, unfolding(crate::specs::Commands::setting_rows))]
+fn setting_named(name: &[u8], value: &[u8]) -> Option<Command>
+    ensures command { result ≡ setting_in setting_rows name.now value.now }
+{
+    if !is_text(name, "console") {
+        return None;
+    }
+    if is_text(value, "on") {
+        return Some(Command::ShowConsole(true));
+    }
+    if is_text(value, "off") {
+        return Some(Command::ShowConsole(false));
+    }
+    None
+}
+
+/// The command of a name and what stands behind it, where that is one word.
+fn setting(name: &[u8], line: &[u8]) -> Option<Command>
+    ensures command { result ≡ setting_with name.now (words_of_line line.now) }
+{
+    let (value, rest) = next_word(line)?;
+    match next_word(rest) {
+        None => setting_named(name, value),
+        Some(_) => None,
+    }
+}
+
 /// A line without the carriage return at its end.
 fn without_return(line: &[u8]) -> &[u8]
     ensures line { result.now ≡ without_return line.now }
@@ -309,6 +339,8 @@ pub fn command_of(line: &[u8]) -> Option<Command>
     ensures command { result ≡ command_of line.now }
 {
     let (name, rest) = next_word(without_return(line))?;
-    let numbers = numbers(rest)?;
-    command_named(name, &numbers)
+    match numbers(rest) {
+        Some(numbers) => command_named(name, &numbers),
+        None => setting(name, rest),
+    }
 }

@@ -20,7 +20,7 @@ use std::alloc::{AllocError, Global};
 const HELP: &str = concat!(
     "break S P O, clear S P O, poke A W, key B, go N, stack N, static N, dynamic N, local D B, regs, place N, trace, ",
     "peek A N, bytes A N, where, breaks, frames N, list N, console N, step, finish, watch A, unwatch A, watches, ",
-    "help, quit",
+    "help, quit, console on, console off",
 );
 
 /// Breakpoints.
@@ -159,7 +159,7 @@ fn bytes(alloc: Global, bytes: &[u8]) -> Result<String, AllocError>
 }
 
 /// What is answered to a command that only shows.
-#[tactic(auto, unfolding(crate::specs::Views::view_text, crate::specs::Views::help_text, crate::specs::Commands::command_rows))]
+#[tactic(auto, unfolding(crate::specs::Views::view_text, crate::specs::Views::help_text, crate::specs::Commands::command_rows, crate::specs::Commands::setting_rows))]
 pub(crate) fn shown(alloc: Global, debugger: &Debugger, view: View) -> Result<String, AllocError>
     ensures text { IfOk result (λ text. string_bytes text ≡ view_text view (session_of debugger.now)) }
 {

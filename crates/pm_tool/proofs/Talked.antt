@@ -291,10 +291,11 @@ first_told old new began machine fault o b failed = record {
 
 -- ---- a machine that starts, or none
 
-pub opened_is : (d : Session) (machine : State) → d.machine ≡ machine → d.breaks ≡ [] → d.watches ≡ [] → d ≡ opened machine
-opened_is d machine a b w =
+pub opened_is : (d : Session) (machine : State) → d.machine ≡ machine → d.breaks ≡ [] → d.watches ≡ [] → d.shows_console ≡ false → d ≡ opened machine
+opened_is d machine a b w s =
     ap (λ m. record d { machine = m }) a ∙ ap (λ breaks. record d { machine = machine; breaks = breaks }) b
-    ∙ ap (λ watches. record (opened machine) { watches = watches }) w
+    ∙ ap (λ watches. record (opened machine) { watches = watches; shows_console = d.shows_console }) w
+    ∙ ap (λ shows. record (opened machine) { shows_console = shows }) s
 
 pub debug_done : (old new : Streams) (start : Result State Refusal) (m : State) (outcome : Outcome) → Ok m ≡ start
     → Finishes old new outcome (debugged m) → Finishes old new outcome (said_debug start)

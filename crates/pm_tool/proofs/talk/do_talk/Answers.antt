@@ -52,7 +52,8 @@ returns-in_err-converse-in-Session-clause-broken g c =
     let m = c.in-Ok.machine.state in
     rw (p.1, p.2, c.in-Session.is) (debug_broken _ _ _ m _ (search rules)
     (cut_told _ _ _ m _ c.in_err-converse-in-Session.ensures.cut
-    (opened_is _ _ (ap (λ (m : Whole). m.state) c.new-debugger.ensures.machine) c.new-debugger.ensures.breaks c.new-debugger.ensures.watches)))
+    (opened_is _ _ (ap (λ (m : Whole). m.state) c.new-debugger.ensures.machine) c.new-debugger.ensures.breaks c.new-debugger.ensures.watches
+    c.new-debugger.ensures.shows)))
 
 pub returns-in_err-converse-in-Session-clause-prompt : goal.returns-in_err-converse-in-Session-clause-prompt
 returns-in_err-converse-in-Session-clause-prompt g c =
@@ -61,12 +62,14 @@ returns-in_err-converse-in-Session-clause-prompt g c =
     let m = c.in-Ok.machine.state in
     rw (p.1, c.in-Session.is) (λ failed. debug_first _ _ _ m (search rules)
     (first_told _ _ _ m _ c.in_err-converse-in-Session.ensures.cut
-    (opened_is _ _ (ap (λ (m : Whole). m.state) c.new-debugger.ensures.machine) c.new-debugger.ensures.breaks c.new-debugger.ensures.watches) failed))
+    (opened_is _ _ (ap (λ (m : Whole). m.state) c.new-debugger.ensures.machine) c.new-debugger.ensures.breaks c.new-debugger.ensures.watches
+    c.new-debugger.ensures.shows) failed))
 
 pub returns-in_ok-converse-in-Session-clause-done : goal.returns-in_ok-converse-in-Session-clause-done
 returns-in_ok-converse-in-Session-clause-done g c =
     let m = c.in-Ok.machine.state in
     rw c.in-Session.is (debug_done _ _ _ m _ (search rules)
     (done_told _ _ _ m _ c.in_ok-converse-in-Session.ensures.told
-    (opened_is _ _ (ap (λ (m : Whole). m.state) c.new-debugger.ensures.machine) c.new-debugger.ensures.breaks c.new-debugger.ensures.watches)
+    (opened_is _ _ (ap (λ (m : Whole). m.state) c.new-debugger.ensures.machine) c.new-debugger.ensures.breaks c.new-debugger.ensures.watches
+    c.new-debugger.ensures.shows)
     (λ unread written. search rules)))

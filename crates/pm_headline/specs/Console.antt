@@ -1,0 +1,53 @@
+-- What a session shows of the console.
+use Rattle.std.specs.Prelude.{◌≡◌, ℕ, Bool, true, false, List, [], ◌∷◌, ◌++◌, Option, Some, ⊤}
+use Rattle.std.specs.List.{flat_map}
+use Rattle.pm_debug.specs.Session.{Session}
+use Rattle.pm_session.specs.declared.commands.Command.{Command}
+use Rattle.pm_session.specs.declared.commands.Command.TheVariants as commands
+use Rattle.pm_session.specs.Answers.{answer_text, session_after}
+use Rattle.pm_session.specs.Commands.{command_of}
+use Rattle.pm_session.specs.Sessions.{answers, console_added, console_line, with_feed}
+
+-- a line that is not `quit` and not `console off`
+abbrev pub stays_on : Option Command → Bool
+stays_on (Some commands.Quit) = false
+stays_on (Some (commands.ShowConsole shows)) = shows
+stays_on other = true
+
+abbrev pub StaysOn : List (List ℕ) → Type 0
+StaysOn [] = ⊤
+StaysOn (line ∷ lines) = (stays_on (command_of line) ≡ true) × StaysOn lines
+
+-- the session after lines
+abbrev pub after_lines : List (List ℕ) → Session → Session
+after_lines [] d = d
+after_lines (line ∷ lines) d = after_lines lines (session_after (command_of line) d)
+
+-- what the commands of lines write to the console, each by itself
+abbrev pub written_by : List (List ℕ) → Session → List (List ℕ)
+written_by [] d = []
+written_by (line ∷ lines) d =
+    console_added (command_of line) d ∷ written_by lines (session_after (command_of line) d)
+
+-- what they are answered, each with its line feed, without the console
+abbrev pub answers_alone : List (List ℕ) → Session → List (List ℕ)
+answers_alone [] d = []
+answers_alone (line ∷ lines) d =
+    with_feed (answer_text (command_of line) d) ∷ answers_alone lines (session_after (command_of line) d)
+
+-- texts, each behind the line of the bytes of the console at its place
+abbrev pub behind_console : List (List ℕ) → List (List ℕ) → List ℕ
+behind_console [] texts = []
+behind_console (part ∷ parts) [] = []
+behind_console (part ∷ parts) (text ∷ texts) = (console_line part ++ text) ++ behind_console parts texts
+
+-- The answers to lines are those of their commands, each behind what its command wrote to the console; and all that is
+-- shown so, one part behind the other, is what the console has more afterwards.
+pub record ShowsTheConsole (lines : List (List ℕ)) (d : Session) : Type 0 where
+  pub answered : answers lines d ≡ behind_console (written_by lines d) (answers_alone lines d)
+  pub whole : (after_lines lines d).machine.devices.console
+      ≡ d.machine.devices.console ++ flat_map (λ part. part) (written_by lines d)
+
+abbrev pub ConsoleIsShown : Type 0
+ConsoleIsShown =
+    (lines : List (List ℕ)) (d : Session) → d.shows_console ≡ true → StaysOn lines → ShowsTheConsole lines d

@@ -71,7 +71,8 @@ procedure_is segment number p rest =
     let last : Listed = stored segment number (jtab_of p - 8) 10 (codes ".ATTR") in
     let entries : List Listed = stored_entries segment number (code_end p) (reverse p.entries) in
     map-append f (listed_items number p.start p.items) (listed_entries number (code_end p) (reverse p.entries) ++ listed_attributes number p ∷ rest)
-    ∙ ap (λ ls. ls ++ map f (listed_entries number (code_end p) (reverse p.entries) ++ listed_attributes number p ∷ rest)) (items_are segment number p.start p.items)
+    ∙ ap (λ ls. ls ++ map f (listed_entries number (code_end p) (reverse p.entries) ++ listed_attributes number p ∷ rest))
+    (items_are segment number p.start p.items)
     ∙ ap (λ ls. items ++ ls) (map-append f (listed_entries number (code_end p) (reverse p.entries)) (listed_attributes number p ∷ rest))
     ∙ ap (λ ls. items ++ (ls ++ last ∷ map f rest)) (entries_are segment number (code_end p) (reverse p.entries))
     ∙ ap (λ ls. items ++ ls) (sym (append_assoc entries (last ∷ []) (map f rest)))
@@ -127,7 +128,8 @@ listing_is_programmed s h short instructions =
     let begins : at ≡ length segment - (2 + 2 * procedures_in segment) = omega (arith, long, well.count) in
     let ends : length dictionary ≡ length segment - at = omega (arith, long, sized) in
     let whole : map (restored segment) (listed_segment s) ≡ listed_segment s =
-    lines_restored segment [] 0 (listed_segment s) (sym (listing_is_segment s) ∙ sym (append-nil (listed_bytes (listed_segment s)))) (listing_is_placed s h.follow) in
+    lines_restored segment [] 0 (listed_segment s) (sym (listing_is_segment s) ∙ sym (append-nil (listed_bytes (listed_segment s))))
+    (listing_is_placed s h.follow) in
     let dict : listed_line slot (restored segment (listed_dictionary s)) ≡ listed_line slot (stored_dictionary segment) =
     ap (λ n. listed_line slot (stored segment 0 at n (codes ".DICT"))) ends
     ∙ ap (λ j. listed_line slot (stored segment 0 j (length segment - j) (codes ".DICT"))) begins in

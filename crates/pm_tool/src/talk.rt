@@ -17,15 +17,13 @@ use crate::programs::{Start, start_on};
 use crate::steps::{Show, drive};
 use pm_debug::Debugger;
 use pm_machine::Machine;
+use pm_opcode::row_at;
 use pm_selection::Saving;
 use pm_session::{Ending, LastLine};
 use pm_streams::{Fault, Sink, Source, write_all};
 use pm_volume::Disk;
 use pm_words::ExecError;
 use std::alloc::{AllocError, Global};
-
-/// The opcode of the call of a procedure in another segment: the segment's number and the procedure's stand behind it.
-const CXP: u8 = 205;
 
 /// How a machine is talked with.
 #[derive(Clone, Copy, Debug, PartialEq, Eq)]
@@ -44,7 +42,7 @@ fn called_without(machine: &Machine, ending: Ending) -> Option<u8> {
     }
     let ipc = machine.registers().ipc;
     let memory = machine.memory();
-    if memory.byte(ipc) == CXP && memory.byte(ipc.wrapping_add(1)) == 0 {
+    if row_at(memory.byte(ipc)).mnemonic == "CXP" && memory.byte(ipc.wrapping_add(1)) == 0 {
         Some(memory.byte(ipc.wrapping_add(2)))
     } else {
         None

@@ -2,6 +2,9 @@
 -- step.
 use Rattle.std.specs.Prelude.{ℕ, zero, suc, ◌+◌, ◌*◌, ◌%◌, ◌==◌, ◌&&◌, ◌||◌, not, nat_le, Bool, true, false}
 use Rattle.std.specs.Prelude.{List, [], ◌∷◌, ◌++◌, codes, replicate, Option, None, Some, if◌then◌else◌}
+use Rattle.std.specs.List.{list_any}
+use Rattle.std.specs.Str.{bytes_eq}
+use Rattle.pm_opcode.specs.Table.{mnemonic_of}
 use Rattle.pm_words.specs.Words.{byte_at, word_at}
 use Rattle.pm_words.specs.Stack.{is_even}
 use Rattle.pm_words.specs.declared.layout.TheConstants.{SYSTEM_FRAME}
@@ -23,14 +26,18 @@ stands_in (codes_of.Procedure segment procedure) None = false
 stands_in (codes_of.Procedure segment procedure) (Some place) =
     place.segment == segment && place.procedure == procedure
 
--- the opcodes of the calls CIP, CBP, CXP, CLP and CGP and of the returns RNP and RBP
-abbrev pub is_call_or_return : ℕ → Bool
-is_call_or_return op =
-    op == 174 || (op == 194 || (op == 205 || (op == 206 || (op == 207 || (op == 173 || op == 193)))))
+-- the names of the calls and of the returns
+abbrev pub calls_and_returns : List (List ℕ)
+calls_and_returns =
+    codes "CIP" ∷ codes "CBP" ∷ codes "CXP" ∷ codes "CLP" ∷ codes "CGP" ∷ codes "RNP" ∷ codes "RBP" ∷ []
+
+-- an instruction of this name is a call or a return
+abbrev pub is_call_or_return : List ℕ → Bool
+is_call_or_return name = list_any (bytes_eq name) calls_and_returns
 
 -- the step that is made next is a call or a return
 abbrev pub is_at_call : State → Bool
-is_at_call s = is_call_or_return (byte_at s.memory s.registers.ipc)
+is_at_call s = is_call_or_return (mnemonic_of (byte_at s.memory s.registers.ipc))
 
 -- the line of the step that is made next is shown
 abbrev pub is_selected : Selection → State → Bool

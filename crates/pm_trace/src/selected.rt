@@ -7,6 +7,7 @@ ghost use Rattle.pm_debug.specs.Breaks.{place_in_code};
 use crate::place::place_in_code;
 use pm_debug::Breakpoint;
 use pm_machine::Machine;
+use pm_opcode::row_at;
 use pm_selection::{Code, Selection};
 
 /// Whether a place stands in the code that is asked for.
@@ -33,18 +34,19 @@ fn is_inside(machine: &Machine, code: Code) -> bool
     }
 }
 
-/// Whether an opcode is that of a call or a return.
-fn is_call_or_return(op: u8) -> bool
-    ensures value { result ≡ is_call_or_return op }
+/// Whether an instruction of this name is a call or a return.
+fn is_call_or_return(name: &str) -> bool
+    ensures value { result ≡ is_call_or_return name.now }
 {
-    matches!(op, 174 | 194 | 205 | 206 | 207 | 173 | 193)
+    matches!(name, "CIP" | "CBP" | "CXP" | "CLP" | "CGP" | "RNP" | "RBP")
 }
 
 /// Whether the step that a machine makes next is a call or a return.
 fn is_at_call(machine: &Machine) -> bool
     ensures value { result ≡ is_at_call machine.now.state }
 {
-    is_call_or_return(machine.memory().byte(machine.registers().ipc))
+    let op = machine.memory().byte(machine.registers().ipc);
+    is_call_or_return(row_at(op).mnemonic)
 }
 
 /// Whether the line of the step that a machine makes next is shown.

@@ -71,8 +71,8 @@ procedure_is segment number p rest =
     let last : Listed = stored segment number (jtab_of p - 8) 10 (codes ".ATTR") in
     let entries : List Listed = stored_entries segment number (code_end p) (reverse p.entries) in
     map-append f (listed_items number p.start p.items) (listed_entries number (code_end p) (reverse p.entries) ++ listed_attributes number p ∷ rest)
-    ∙ ap (λ ls. ls ++ map f (listed_entries number (code_end p) (reverse p.entries) ++ listed_attributes number p ∷ rest))
-    (items_are segment number p.start p.items)
+    ∙ ap (λ ls. ls ++ map f
+    (listed_entries number (code_end p) (reverse p.entries) ++ listed_attributes number p ∷ rest)) (items_are segment number p.start p.items)
     ∙ ap (λ ls. items ++ ls) (map-append f (listed_entries number (code_end p) (reverse p.entries)) (listed_attributes number p ∷ rest))
     ∙ ap (λ ls. items ++ (ls ++ last ∷ map f rest)) (entries_are segment number (code_end p) (reverse p.entries))
     ∙ ap (λ ls. items ++ ls) (sym (append_assoc entries (last ∷ []) (map f rest)))

@@ -1,14 +1,13 @@
 -- Jobs that turn bytes into bytes: their input was read, all or none, and what they make is written.
-use Rattle.std.proofs.Common.{◌≡◌, ◌≢◌, ◌≤◌, ℕ, List, [], Option, None, Some, Bool, true, false, length, refl, sym, ap, arith, subst, unwrap_or}
+use Rattle.std.proofs.Common.{◌≡◌, ◌≤◌, ℕ, List, [], None, Some, Bool, true, false, length, refl, sym, arith, subst}
 use Rattle.std.specs.Io.KnownBytes.{Appends, Consumes}
-use Rattle.pm_volume.specs.declared.fault.VolumeFault.{VolumeFault}
-use Rattle.pm_volume.specs.declared.fault.VolumeFault.TheVariants as volume
 use Rattle.pm_streams.specs.declared.fault.Fault.{Fault}
 use Rattle.pm_streams.specs.declared.source.TheConstants.{INPUT_LIMIT}
 use Rattle.pm_tool.specs.declared.outcome.Outcome.{Outcome}
 use Rattle.pm_tool.specs.Batches.{IsInput, said_making}
 use Rattle.pm_tool.specs.Outcomes.{Said, IsOutcome}
-use Rattle.pm_tool.specs.Products.{Product, Written, Image, Refused, Judged, Saved, said_product}
+use Rattle.pm_batch.specs.Products.{Product, Written, Image, Refused, Judged, Saved}
+use Rattle.pm_tool.specs.Products.{said_product}
 use Rattle.pm_tool.specs.Said.{BreaksOff, Finishes, IsSoundExit}
 use Rattle.pm_streams.specs.Streams.{Incoming, Streams, both, AppendsFront, IsCause}
 use Rattle.pm_tool.proofs.Kept.{broken_unwritten, broken_writing, done_whole}
@@ -77,9 +76,3 @@ batch_broken false old new input make fault taken front well cause =
     broken_unread old new taken.0 (said_making false make) fault (said_product (make []) []).written
     (written_product (make []))
     (subst (λ j. AppendsFront old.sink.contents new.sink.contents (said_product (make j) []).written) taken.1 front) well cause
-
--- ---- new volumes
-
-pub known_fault : (o : Option VolumeFault) (fault : VolumeFault) → fault ≡ unwrap_or o volume.NoMemory → fault ≢ volume.NoMemory → o ≡ Some fault
-known_fault None fault e n = absurd (n e)
-known_fault (Some other) fault e n = ap Some (sym e)

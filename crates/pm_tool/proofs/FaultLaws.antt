@@ -5,7 +5,7 @@ use Rattle.pm_source.specs.declared.fault.AsmFault.{AsmFault}
 use Rattle.pm_asm.specs.Assembled.{Outcome, assembled, wanted}
 use Rattle.pm_asm.specs.Each.{all_faults, fault_in}
 use Rattle.pm_asm.proofs.Eachs.{first_of_all}
-use Rattle.pm_tool.specs.Assembly.{judged_faults, made_bytes, text_of_input}
+use Rattle.pm_batch.specs.Assembly.{judged_faults, made_bytes, text_of_input}
 use Rattle.pm_tool.specs.Laws.{EndsAs, FaultsEndAsAssembling}
 use Rattle.pm_tool.specs.Products.{said_product}
 

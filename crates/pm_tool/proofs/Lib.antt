@@ -10,6 +10,5 @@ pub mod Opening
 pub mod RunLaws
 pub mod Talked
 pub mod MachineRuns
-pub mod Characters
 pub mod Ejected
 pub mod FaultLaws

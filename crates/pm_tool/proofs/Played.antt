@@ -7,7 +7,7 @@ use Rattle.pm_session.specs.declared.ending.Ending.{Ending}
 use Rattle.pm_session.specs.declared.ending.Ending.TheVariants as endings
 use Rattle.pm_streams.specs.declared.fault.Fault.{Fault}
 use Rattle.pm_tool.specs.declared.outcome.Outcome.{Outcome}
-use Rattle.pm_tool.specs.declared.outcome.Refusal.{Refusal}
+use Rattle.pm_batch.specs.declared.refusal.Refusal.{Refusal}
 use Rattle.pm_tool.specs.declared.steps.Show.{Show}
 use Rattle.pm_tool.specs.declared.steps.Show.TheVariants.{Trace, Console}
 use Rattle.pm_tool.specs.Outcomes.{Said, exit_of, refused, IsOutcome}

@@ -12,7 +12,7 @@ use Rattle.pm_streams.specs.declared.fault.Fault.{Fault}
 use Rattle.pm_streams.specs.declared.fault.Fault.TheVariants as faults
 use Rattle.pm_tool.specs.declared.outcome.Exit.TheVariants as exits
 use Rattle.pm_tool.specs.declared.outcome.Outcome.{Outcome}
-use Rattle.pm_tool.specs.declared.outcome.Refusal.{Refusal}
+use Rattle.pm_batch.specs.declared.refusal.Refusal.{Refusal}
 use Rattle.pm_streams.specs.declared.source.TheConstants.{INPUT_LIMIT}
 use Rattle.pm_session.specs.Answers.{session_after}
 use Rattle.pm_tool.specs.Outcomes.{IsOutcome, no_others}

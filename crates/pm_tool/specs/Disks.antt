@@ -7,8 +7,8 @@ use Rattle.pm_machine.specs.State.{State, Whole}
 use Rattle.pm_machine.specs.Boot.{boot_start}
 use Rattle.pm_machine.specs.Start.{raw_start}
 use Rattle.pm_machine.specs.declared.state.BootFault.{BootFault}
-use Rattle.pm_tool.specs.declared.outcome.Refusal.{Refusal}
-use Rattle.pm_tool.specs.declared.outcome.Refusal.TheVariants as refusals
+use Rattle.pm_batch.specs.declared.refusal.Refusal.{Refusal}
+use Rattle.pm_batch.specs.declared.refusal.Refusal.TheVariants as refusals
 use Rattle.pm_tool.specs.declared.programs.Start.{Start}
 use Rattle.pm_tool.specs.declared.programs.Start.TheVariants as starts
 use Rattle.pm_system.specs.Disk.{image_with_system}

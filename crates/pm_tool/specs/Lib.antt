@@ -3,9 +3,6 @@ pub mod Run
 pub mod Outcomes
 pub mod Disks
 pub mod Products
-pub mod Code
-pub mod Assembly
-pub mod Files
 pub mod Batches
 pub mod Work
 pub mod Said

@@ -13,7 +13,7 @@ use Rattle.pm_tool.specs.declared.outcome.Job.{Job}
 use Rattle.pm_tool.specs.declared.work.Work.{Work}
 use Rattle.pm_tool.specs.declared.work.Work.TheVariants as works
 use Rattle.pm_tool.specs.declared.outcome.Outcome.{Outcome}
-use Rattle.pm_tool.specs.declared.outcome.Refusal.{Refusal}
+use Rattle.pm_batch.specs.declared.refusal.Refusal.{Refusal}
 use Rattle.pm_streams.specs.declared.source.TheConstants.{INPUT_LIMIT}
 use Rattle.pm_tool.specs.declared.talk.Talk.{Talk}
 use Rattle.pm_tool.specs.declared.talk.Talk.TheVariants as talks

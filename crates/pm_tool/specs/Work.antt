@@ -1,5 +1,5 @@
 -- The two shapes of jobs.
-use Rattle.pm_tool.specs.declared.batch.Batch.TheVariants as batches
+use Rattle.pm_batch.specs.declared.batch.Batch.TheVariants as batches
 use Rattle.pm_tool.specs.declared.outcome.Job.{Job}
 use Rattle.pm_tool.specs.declared.outcome.Job.TheVariants as jobs
 use Rattle.pm_tool.specs.declared.programs.Start.TheVariants as starts
@@ -7,7 +7,7 @@ use Rattle.pm_tool.specs.declared.steps.Show.TheVariants.{Trace, Console}
 use Rattle.pm_tool.specs.declared.talk.Talk.TheVariants as talks
 use Rattle.pm_tool.specs.declared.work.Work.{Work}
 use Rattle.pm_tool.specs.declared.work.Work.TheVariants as works
-use Rattle.pm_tool.specs.Files.{opened_image}
+use Rattle.pm_batch.specs.Files.{opened_image}
 
 -- what a job has to do: to talk with a machine, or to turn bytes into bytes
 abbrev pub work_of : Job → Work

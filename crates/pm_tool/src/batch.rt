@@ -1,112 +1,18 @@
 //! Jobs that turn bytes into bytes: one function of their input, which is read whole or not at all.
 ghost use Rattle.std.specs.Prelude.{◌≡◌, false, [], List, ℕ, IfOk, IfErr, OnOk, OnErr};
 ghost use Rattle.std.specs.Io.KnownBytes.{Appends, Consumes};
-ghost use Rattle.pm_tool.specs.Batches.{IsInput, made_of, reads_input, said_batch};
+ghost use Rattle.pm_batch.specs.Batches.{reads_input};
+ghost use Rattle.pm_batch.specs.Products.{product_of};
+ghost use Rattle.pm_tool.specs.Batches.{IsInput, said_batch};
 ghost use Rattle.pm_tool.specs.Outcomes.{IsOutcome, SaysWhy};
-ghost use Rattle.pm_tool.specs.Products.{product_of, said_product};
+ghost use Rattle.pm_tool.specs.Products.{said_product};
 ghost use Rattle.pm_tool.specs.Said.{BreaksOff, Finishes};
 ghost use Rattle.pm_streams.specs.Streams.{AppendsFront, AreWell, IsCause, IsCounted, both};
 
-use crate::assembly::{assemble, find_faults, list_symbols};
-use crate::code::{disassemble, disassemble_named, list_file};
-use crate::files::{check_image, file, new_volume, repair_volume, salvage_image, takes_input};
-use crate::outcome::{Exit, Outcome, Refusal, conclude, refuse_line};
-use pm_filer::FileCommand;
+use crate::outcome::{Exit, Outcome, conclude, refuse_line};
+use pm_batch::{Batch, Made, make};
 use pm_streams::{Fault, Sink, Source, read_all, write_all};
-use pm_volume::{Volume, VolumeFault};
-use std::alloc::{AllocError, Global};
-
-/// A job that turns bytes into bytes.
-#[derive(Drop)]
-pub(crate) enum Batch {
-    /// The text of an assembler becomes a code file, or with `list` a listing.
-    Asm {
-        list: bool,
-    },
-    /// The faults of a text of the assembler.
-    AsmFaults,
-    /// A text of the assembler becomes a list of its procedures and labels.
-    AsmSymbols,
-    /// A code file becomes a text.
-    Dis,
-    /// A code file becomes a text with the names of procedures.
-    DisNames,
-    /// A code file becomes a listing.
-    DisList,
-    /// A command on a volume; an image that is none is refused.
-    Files {
-        opened: Result<Volume, VolumeFault>,
-        command: FileCommand,
-    },
-    /// A new volume of this name and so many blocks.
-    New {
-        name: String,
-        blocks: u16,
-    },
-    /// A volume whose first copy of the directory is repaired.
-    Repair {
-        image: Vec<u8>,
-    },
-    /// An image is looked at.
-    Check {
-        image: Vec<u8>,
-    },
-    /// The files of an image are saved into a new volume.
-    Salvage {
-        image: Vec<u8>,
-        second: bool,
-    },
-}
-
-impl Batch {
-    /// Whether it reads its input, to the end. Else it reads none of it.
-    fn reads_input(&self) -> bool
-        ensures value { result ≡ reads_input self.now }
-    {
-        match self {
-            Batch::Asm { .. } | Batch::AsmFaults | Batch::AsmSymbols => true,
-            Batch::Dis | Batch::DisNames | Batch::DisList => true,
-            Batch::Files { opened, command } => opened.is_ok() && takes_input(command),
-            Batch::New { .. } | Batch::Repair { .. } | Batch::Check { .. } => false,
-            Batch::Salvage { .. } => false,
-        }
-    }
-}
-
-/// What a job makes of its input.
-#[derive(Drop)]
-pub(crate) enum Made {
-    /// Bytes that are written.
-    Bytes(Vec<u8>),
-    /// The image of a volume that is kept.
-    Image(Vec<u8>),
-    /// Nothing, and why; with the line of the text that the refusal names, where that is known.
-    Refused(Refusal, Option<String>),
-    /// A text that is written on an image or on a text of the assembler, and why that is refused, if it is; with the
-    /// line of the text that the refusal names, where that is known.
-    Judged(Vec<u8>, Option<Refusal>, Option<String>),
-    /// A text that is written, and the image of a volume that is kept.
-    Saved(Vec<u8>, Vec<u8>),
-}
-
-/// What a job makes of its input. Of a job that reads none the input is empty.
-fn make(alloc: Global, job: Batch, input: Vec<u8>) -> Result<Made, AllocError>
-    ensures made { IfOk result (λ made. product_of made ≡ made_of job input.items) }
-{
-    match job {
-        Batch::Asm { list } => assemble(alloc, input, list),
-        Batch::AsmFaults => find_faults(alloc, input),
-        Batch::AsmSymbols => list_symbols(alloc, input),
-        Batch::Dis => disassemble(alloc, &input),
-        Batch::DisNames => disassemble_named(alloc, &input),
-        Batch::DisList => list_file(alloc, &input),
-        Batch::Files { opened, command } => file(alloc, opened, command, input),
-        Batch::New { name, blocks } => new_volume(alloc, name.as_str(), blocks),
-        Batch::Repair { image } => Ok(repair_volume(image)),
-        Batch::Check { image } => check_image(alloc, image),
-        Batch::Salvage { image, second } => salvage_image(alloc, &image, second),
-    }
-}
+use std::alloc::Global;
 
 /// The whole input of a job that reads it; of another nothing is read.
 fn input_of<R: Source>(alloc: Global, source: &mut R, job: &Batch) -> Result<Vec<u8>, Fault>

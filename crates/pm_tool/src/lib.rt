@@ -1,12 +1,9 @@
 //! The engine of the program: one job, from the bytes that are read to the bytes that are written.
 #![tactic(auto)]
 
-mod assembly;
 mod batch;
-mod code;
 mod debug;
 mod engine;
-mod files;
 mod hex;
 pub mod laws;
 mod outcome;
@@ -17,8 +14,9 @@ mod talk;
 mod work;
 
 pub use engine::run;
-pub use outcome::{Exit, Job, OtherImages, Outcome, Refusal};
+pub use outcome::{Exit, Job, OtherImages, Outcome};
+pub use pm_batch::{Reason, Refusal};
 pub use pm_selection::{Code, Saving, Selection};
 pub use pm_session::Ending;
 pub use pm_streams::{Reader, Sink, Source, Writer};
-pub use reason::{Reason, RunReason};
+pub use reason::RunReason;

@@ -5,7 +5,7 @@ ghost use Rattle.pm_tool.specs.Disks.{images_with, loaded, machine_at};
 ghost use Rattle.pm_tool.specs.Hex.{hex_spelled};
 
 use crate::hex;
-use crate::outcome::Refusal;
+use pm_batch::Refusal;
 use pm_machine::{BootFault, Machine};
 use pm_system::{SystemFault, put_system};
 use pm_volume::{Volume, VolumeFault};

@@ -1,53 +1,11 @@
-//! Why an input is refused, and why a run ended, in words.
-use crate::outcome::Refusal;
+//! Why a run ended, in words.
 use pm_disasm::system_name;
-use pm_machine::BootFault;
 use pm_session::Ending;
-use pm_volume::VolumeFault;
 use pm_words::ExecError;
 use std::fmt;
 
 /// What may be meant where there is no segment.
 const SYSTEM: &str = "a CXP 0, n calls the operating system, and --system PATH puts its segment in";
-
-/// What helps where an image is no volume. Of `new` a bad header is one of too few blocks.
-fn help_for(fault: VolumeFault) -> &'static str {
-    match fault {
-        VolumeFault::NotBlocks => "; files check tells another form that it may have",
-        VolumeFault::BadHeader => {
-            "; files check tells another form that it may have; new takes 6 blocks or more"
-        }
-        VolumeFault::BadEntry(_) | VolumeFault::TooManyFiles | VolumeFault::PastEnd => {
-            "; files check tells what is wrong, files salvage takes the files out"
-        }
-        VolumeFault::FirstCopyBad(_) => "; files repair puts the second in its place",
-        _ => "",
-    }
-}
-
-/// A refusal, as the text that says what is wrong.
-#[derive(Clone, Copy, Debug, PartialEq, Eq)]
-pub struct Reason(pub Refusal);
-
-impl fmt::Display for Reason {
-    fn fmt<W: fmt::Write>(&self, f: &mut fmt::Formatter<W>) -> fmt::Result {
-        match self.0 {
-            Refusal::Hex => f.write_str("not pairs of hexadecimal digits and white space"),
-            Refusal::Boot(BootFault::Exec(error)) => {
-                write!(f, "execution error at the first call: {error}")
-            }
-            Refusal::Boot(fault) => write!(f, "{fault}"),
-            Refusal::Volume(fault) => {
-                let help = help_for(fault);
-                write!(f, "{fault}{help}")
-            }
-            Refusal::Filer(fault) => write!(f, "{fault}"),
-            Refusal::Code(fault) => write!(f, "{fault}"),
-            Refusal::Asm(fault) => write!(f, "{fault}"),
-            Refusal::System(fault) => write!(f, "{fault}"),
-        }
-    }
-}
 
 /// A procedure of the operating system, by its number and, where it is known, its name.
 #[derive(Clone, Copy)]

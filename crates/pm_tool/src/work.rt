@@ -2,12 +2,11 @@
 ghost use Rattle.std.specs.Prelude.{◌≡◌};
 ghost use Rattle.pm_tool.specs.Work.{work_of};
 
-use crate::batch::Batch;
-use crate::files::open;
 use crate::outcome::Job;
 use crate::programs::Start;
 use crate::steps::Show;
 use crate::talk::Talk;
+use pm_batch::{Batch, open};
 use pm_selection::Selection;
 
 /// A job, by its shape.

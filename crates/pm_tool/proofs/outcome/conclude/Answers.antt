@@ -2,7 +2,7 @@ use Rattle.std.proofs.Common.{ℕ, List, Some, Result, Ok, Err, IfOk}
 use Rattle.std.specs.declared.alloc.AllocError.{AllocError}
 use Rattle.pm_tool.specs.Outcomes.{IsOutcome, judged, refused}
 use Rattle.pm_tool.specs.declared.outcome.Outcome.{Outcome}
-use Rattle.pm_tool.specs.declared.outcome.Refusal.{Refusal}
+use Rattle.pm_batch.specs.declared.refusal.Refusal.{Refusal}
 use Rattle.pm_tool.proofs.outcome.conclude.Goals as goal
 
 -- what is refused is refused with a text too

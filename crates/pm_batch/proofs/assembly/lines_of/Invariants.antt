@@ -1,6 +1,6 @@
 use Rattle.std.proofs.Common.{◌≡◌, ◌++◌, drop, string_bytes}
-use Rattle.pm_tool.specs.Assembly.{fault_lines}
-use Rattle.pm_tool.proofs.assembly.lines_of.Given as goal
+use Rattle.pm_batch.specs.Assembly.{fault_lines}
+use Rattle.pm_batch.proofs.assembly.lines_of.Given as goal
 
 -- the lines so far with those of the faults that are left are all
 abbrev pub invariant-loop-fault : goal.invariant-loop-fault

@@ -3,20 +3,20 @@ ghost use Rattle.std.specs.Prelude.{◌≡◌, IfOk};
 ghost use Rattle.pm_filer.specs.Filed.{answer_of, order_of};
 ghost use Rattle.pm_volume.specs.Copies.{repaired};
 ghost use Rattle.pm_volume.specs.Headers.{blank_fault};
-ghost use Rattle.pm_tool.specs.Files.{answered, made_check, made_file, made_new, made_salvage, made_volume};
-ghost use Rattle.pm_tool.specs.Files.{opened_image};
-ghost use Rattle.pm_tool.specs.Files.{takes_input, with_input};
-ghost use Rattle.pm_tool.specs.Products.{product_of};
+ghost use Rattle.pm_batch.specs.Files.{answered, made_check, made_file, made_new, made_salvage, made_volume};
+ghost use Rattle.pm_batch.specs.Files.{opened_image};
+ghost use Rattle.pm_batch.specs.Files.{takes_input, with_input};
+ghost use Rattle.pm_batch.specs.Products.{product_of};
 ghost use Rattle.pm_salvage.specs.Saving.{salvaged};
 
 use crate::batch::Made;
-use crate::outcome::Refusal;
+use crate::refusal::Refusal;
 use pm_filer::{FileCommand, FilerFault, Reply, apply};
 use pm_volume::{Volume, VolumeFault};
 use std::alloc::{AllocError, Global};
 
 /// The volume that an image is, or why it is none.
-pub(crate) fn open(image: Vec<u8>) -> Result<Volume, VolumeFault>
+pub fn open(image: Vec<u8>) -> Result<Volume, VolumeFault>
     ensures opened { result ≡ opened_image image.items }
 {
     match Volume::open(image) {

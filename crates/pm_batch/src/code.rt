@@ -1,10 +1,10 @@
 //! The jobs on a code file.
 ghost use Rattle.std.specs.Prelude.{◌≡◌, IfOk};
-ghost use Rattle.pm_tool.specs.Code.{made_dis, made_dis_list, made_dis_names};
-ghost use Rattle.pm_tool.specs.Products.{product_of};
+ghost use Rattle.pm_batch.specs.Code.{made_dis, made_dis_list, made_dis_names};
+ghost use Rattle.pm_batch.specs.Products.{product_of};
 
 use crate::batch::Made;
-use crate::outcome::Refusal;
+use crate::refusal::Refusal;
 use pm_codefile::CodeFile;
 use std::alloc::{AllocError, Global};
 

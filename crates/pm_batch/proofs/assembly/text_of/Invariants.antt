@@ -1,6 +1,6 @@
 use Rattle.std.proofs.Common.{◌≡◌, ◌++◌, drop, map, string_bytes}
-use Rattle.pm_tool.specs.Assembly.{character_of}
-use Rattle.pm_tool.proofs.assembly.text_of.Given as goal
+use Rattle.pm_batch.specs.Assembly.{character_of}
+use Rattle.pm_batch.proofs.assembly.text_of.Given as goal
 
 -- the text so far with the bytes that are left is the whole
 abbrev pub invariant-loop-byte : goal.invariant-loop-byte

@@ -5,8 +5,8 @@ use Rattle.pm_codefile.specs.declared.fault.CodeFault.{CodeFault}
 use Rattle.pm_disasm.specs.Listing.{file_listing}
 use Rattle.pm_disasm.specs.Names.{with_names}
 use Rattle.pm_disasm.specs.Shown.{file_text}
-use Rattle.pm_tool.specs.declared.outcome.Refusal.TheVariants as refusals
-use Rattle.pm_tool.specs.Products.{Product, Written, Refused}
+use Rattle.pm_batch.specs.declared.refusal.Refusal.TheVariants as refusals
+use Rattle.pm_batch.specs.Products.{Product, Written, Refused}
 
 -- the text of a code file, or why it is none
 abbrev pub made_text : Option CodeFault → List ℕ → Product

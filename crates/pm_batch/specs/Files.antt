@@ -9,9 +9,9 @@ use Rattle.pm_filer.specs.Filed.{GetSlot, GetTextSlot, RemoveSlot, ChangeSlot}
 use Rattle.pm_filer.specs.declared.fault.FilerFault.{FilerFault}
 use Rattle.pm_check.specs.Checked.{check_text}
 use Rattle.pm_salvage.specs.Saving as saving
-use Rattle.pm_tool.specs.declared.outcome.Refusal.{Refusal}
-use Rattle.pm_tool.specs.declared.outcome.Refusal.TheVariants as refusals
-use Rattle.pm_tool.specs.Products.{Product, Written, Image, Refused, Judged, Saved}
+use Rattle.pm_batch.specs.declared.refusal.Refusal.{Refusal}
+use Rattle.pm_batch.specs.declared.refusal.Refusal.TheVariants as refusals
+use Rattle.pm_batch.specs.Products.{Product, Written, Image, Refused, Judged, Saved}
 
 -- the volume that an image is, or why it is none
 abbrev pub opened_unless : Option VolumeFault → List ℕ → Result (List ℕ) VolumeFault

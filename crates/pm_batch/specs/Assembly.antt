@@ -5,10 +5,10 @@ use Rattle.pm_asm.specs.Assembled.{assembled, wanted}
 use Rattle.pm_asm.specs.Each.{all_faults}
 use Rattle.pm_asm.specs.Symbols.{symbol_text}
 use Rattle.pm_source.specs.declared.fault.AsmFault.{AsmFault}
-use Rattle.pm_tool.specs.declared.outcome.Refusal.{Refusal}
-use Rattle.pm_tool.specs.declared.outcome.Refusal.TheVariants as refusals
-use Rattle.pm_tool.specs.Outcomes.{refusal_text}
-use Rattle.pm_tool.specs.Products.{Product, Judged, Written, Refused}
+use Rattle.pm_batch.specs.declared.refusal.Refusal.{Refusal}
+use Rattle.pm_batch.specs.declared.refusal.Refusal.TheVariants as refusals
+use Rattle.pm_batch.specs.Refusals.{refusal_text}
+use Rattle.pm_batch.specs.Products.{Product, Judged, Written, Refused}
 
 -- the character of the text that a byte is: each byte above 127 is character 127, which no text may have
 abbrev pub character_of : ℕ → ℕ

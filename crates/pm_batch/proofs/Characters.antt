@@ -3,7 +3,7 @@ use Rattle.std.proofs.Common.{◌≡◌, ◌<◌, ℕ, suc, true, List, [], ◌�
 use Rattle.std.specs.Prelude.{nat_le}
 use Rattle.std.specs.Str.{IsAscii}
 use Rattle.std.proofs.lemmas.Bool.{le-leb}
-use Rattle.pm_tool.specs.Assembly.{text_of_input}
+use Rattle.pm_batch.specs.Assembly.{text_of_input}
 
 pub ascii_stays : (bytes : List ℕ) → IsAscii bytes → text_of_input bytes ≡ bytes
 unfolding text_of_input

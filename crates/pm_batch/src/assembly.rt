@@ -4,13 +4,13 @@ ghost use Rattle.pm_asm.specs.Assembled.{assembled, wanted};
 ghost use Rattle.pm_source.specs.declared.fault.AsmFault.TheVariants.{NoMemory};
 ghost use Rattle.pm_asm.specs.Each.{all_faults};
 ghost use Rattle.pm_asm.specs.Symbols.{symbol_text};
-ghost use Rattle.pm_tool.specs.Assembly.{character_of, fault_line, fault_lines, first_refusal, made_asm, made_faults};
-ghost use Rattle.pm_tool.specs.Assembly.{made_symbols, text_of_input};
-ghost use Rattle.pm_tool.specs.declared.outcome.Refusal.TheVariants as refusals;
-ghost use Rattle.pm_tool.specs.Products.{Refused, Written, product_of};
+ghost use Rattle.pm_batch.specs.Assembly.{character_of, fault_line, fault_lines, first_refusal, made_asm, made_faults};
+ghost use Rattle.pm_batch.specs.Assembly.{made_symbols, text_of_input};
+ghost use Rattle.pm_batch.specs.declared.refusal.Refusal.TheVariants as refusals;
+ghost use Rattle.pm_batch.specs.Products.{Refused, Written, product_of};
 
 use crate::batch::Made;
-use crate::outcome::Refusal;
+use crate::refusal::Refusal;
 use pm_asm::{AsmFault, all_faults, assemble_file, assemble_listing, assemble_symbols};
 use std::alloc::{AllocError, Global};
 use std::fmt::Write;

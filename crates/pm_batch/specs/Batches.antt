@@ -1,0 +1,47 @@
+-- Jobs that turn bytes into bytes: what each makes of its input, and which read it.
+use Rattle.std.specs.Prelude.{ℕ, Bool, true, false, List, Result, Ok, Err, string_bytes}
+use Rattle.pm_volume.specs.Copies.{repaired}
+use Rattle.pm_volume.specs.Headers.{blank_fault}
+use Rattle.pm_volume.specs.declared.fault.VolumeFault.{VolumeFault}
+use Rattle.pm_filer.specs.Filed.{Order, order_of}
+use Rattle.pm_salvage.specs.Saving.{salvaged}
+use Rattle.pm_batch.specs.declared.batch.Batch.{Batch}
+use Rattle.pm_batch.specs.declared.batch.Batch.TheVariants as batches
+use Rattle.pm_batch.specs.Assembly.{made_asm, made_faults, made_symbols}
+use Rattle.pm_batch.specs.Code.{made_dis, made_dis_list, made_dis_names}
+use Rattle.pm_batch.specs.Files.{made_check, made_file, made_new, made_salvage, made_volume, takes_input}
+use Rattle.pm_batch.specs.Products.{Product}
+
+-- what a job makes of its input
+abbrev pub made_of : Batch → List ℕ → Product
+made_of (batches.Asm list) input = made_asm list input
+made_of batches.AsmFaults input = made_faults input
+made_of batches.AsmSymbols input = made_symbols input
+made_of batches.Dis input = made_dis input
+made_of batches.DisNames input = made_dis_names input
+made_of batches.DisList input = made_dis_list input
+made_of (batches.Files opened command) input = made_file opened (order_of command) input
+made_of (batches.New name blocks) input =
+    made_new (blank_fault (string_bytes name) blocks) (string_bytes name) blocks
+made_of (batches.Repair image) input = made_volume (repaired image.items)
+made_of (batches.Check image) input = made_check image.items
+made_of (batches.Salvage image second) input = made_salvage (salvaged image.items second)
+
+-- whether a command reads the input; an image that is no volume is refused before it is read
+abbrev pub reads_file : Result (List ℕ) VolumeFault → Order → Bool
+reads_file (Ok volume) order = takes_input order
+reads_file (Err fault) order = false
+
+-- whether a job reads its input, to its end; else it reads none of it
+abbrev pub reads_input : Batch → Bool
+reads_input (batches.Asm list) = true
+reads_input batches.AsmFaults = true
+reads_input batches.AsmSymbols = true
+reads_input batches.Dis = true
+reads_input batches.DisNames = true
+reads_input batches.DisList = true
+reads_input (batches.Files opened command) = reads_file opened (order_of command)
+reads_input (batches.New name blocks) = false
+reads_input (batches.Repair image) = false
+reads_input (batches.Check image) = false
+reads_input (batches.Salvage image second) = false

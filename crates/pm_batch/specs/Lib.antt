@@ -1,0 +1,6 @@
+pub mod Refusals
+pub mod Products
+pub mod Code
+pub mod Assembly
+pub mod Files
+pub mod Batches

@@ -1,0 +1,14 @@
+//! Jobs that turn bytes into bytes, as functions of their input, and why an input is refused.
+#![tactic(auto)]
+
+mod assembly;
+mod batch;
+mod code;
+mod files;
+mod reason;
+mod refusal;
+
+pub use batch::{Batch, Made, make};
+pub use files::open;
+pub use reason::Reason;
+pub use refusal::Refusal;

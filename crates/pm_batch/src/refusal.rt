@@ -1,0 +1,202 @@
+//! Why an input is refused, by number.
+ghost use Rattle.std.specs.Prelude.{◌≡◌, Some};
+ghost use Rattle.pm_batch.specs.Refusals.{asm_text, boot_text, code_text, is_want, refusal_text, system_text};
+ghost use Rattle.pm_batch.specs.Refusals.{text_fault_text, volume_text};
+
+use pm_asm::AsmFault;
+use pm_codefile::CodeFault;
+use pm_filer::FilerFault;
+use pm_machine::BootFault;
+use pm_system::SystemFault;
+use pm_textfile::TextFault;
+use pm_volume::VolumeFault;
+use std::fmt;
+
+/// Why an input is refused.
+#[derive(Clone, Copy, Debug, PartialEq, Eq)]
+pub enum Refusal {
+    /// It is not pairs of hexadecimal digits and white space.
+    Hex,
+    /// The machine does not start on it.
+    Boot(BootFault),
+    /// The image is no volume, or no volume can be made.
+    Volume(VolumeFault),
+    /// A command is refused.
+    Filer(FilerFault),
+    /// It is no code file.
+    Code(CodeFault),
+    /// It is a text that spells no program, or one with a segment that is too long.
+    Asm(AsmFault),
+    /// The system's segment is not put in.
+    System(SystemFault),
+}
+
+impl Refusal {
+    /// Whether it stands for want of memory, which is no refusal.
+    pub fn is_want(self) -> bool
+        ensures value { result ≡ is_want self }
+    {
+        match self {
+            Refusal::Boot(BootFault::NoMemory) => true,
+            Refusal::Volume(VolumeFault::NoMemory) => true,
+            Refusal::Filer(FilerFault::NoMemory) => true,
+            Refusal::Filer(FilerFault::Volume(VolumeFault::NoMemory)) => true,
+            Refusal::Filer(FilerFault::Text(TextFault::NoMemory)) => true,
+            Refusal::Asm(AsmFault::NoMemory) => true,
+            Refusal::System(SystemFault::NoMemory) => true,
+            Refusal::System(SystemFault::Volume(VolumeFault::NoMemory)) => true,
+            _ => false,
+        }
+    }
+}
+
+/// The number of a volume's fault, and the entry or the first copy's fault that it names.
+#[derive(Clone, Copy)]
+struct VolumeNumber(VolumeFault);
+
+impl fmt::Display for VolumeNumber {
+    ghost output = { λ fault. Some (volume_text fault.0) };
+
+    fn fmt<W: fmt::Write>(&self, f: &mut fmt::Formatter<W>) -> fmt::Result {
+        let number = self.0.number();
+        match self.0.detail() {
+            Some(detail) => write!(f, "{number} {detail}"),
+            None => write!(f, "{number}"),
+        }
+    }
+}
+
+/// The number of a text's fault, and the line or place that it names.
+#[derive(Clone, Copy)]
+struct TextNumber(TextFault);
+
+impl fmt::Display for TextNumber {
+    ghost output = { λ fault. Some (text_fault_text fault.0) };
+
+    fn fmt<W: fmt::Write>(&self, f: &mut fmt::Formatter<W>) -> fmt::Result {
+        let number = self.0.number();
+        match self.0.place() {
+            Some(place) => write!(f, "{number} {place}"),
+            None => write!(f, "{number}"),
+        }
+    }
+}
+
+/// The number of a code file's fault, and the slot that it names.
+#[derive(Clone, Copy)]
+struct CodeNumber(CodeFault);
+
+impl fmt::Display for CodeNumber {
+    ghost output = { λ fault. Some (code_text fault.0) };
+
+    fn fmt<W: fmt::Write>(&self, f: &mut fmt::Formatter<W>) -> fmt::Result {
+        let number = self.0.number();
+        match self.0.slot() {
+            Some(slot) => write!(f, "{number} {slot}"),
+            None => write!(f, "{number}"),
+        }
+    }
+}
+
+/// The number of a fault of the assembler's text, and the line or the segment that it names.
+#[derive(Clone, Copy)]
+struct AsmNumber(AsmFault);
+
+impl fmt::Display for AsmNumber {
+    ghost output = { λ fault. Some (asm_text fault.0) };
+
+    fn fmt<W: fmt::Write>(&self, f: &mut fmt::Formatter<W>) -> fmt::Result {
+        let number = self.0.number();
+        match self.0.place() {
+            Some(line) => write!(f, "{number} {line}"),
+            None => write!(f, "{number}"),
+        }
+    }
+}
+
+/// The number of a fault of a start, and that of the execution error by which it fails.
+#[derive(Clone, Copy)]
+struct BootNumber(BootFault);
+
+impl fmt::Display for BootNumber {
+    ghost output = { λ fault. Some (boot_text fault.0) };
+
+    fn fmt<W: fmt::Write>(&self, f: &mut fmt::Formatter<W>) -> fmt::Result {
+        let number = self.0.number();
+        match self.0 {
+            BootFault::Exec(error) => {
+                let error = error.number();
+                write!(f, "{number} {error}")
+            }
+            _ => write!(f, "{number}"),
+        }
+    }
+}
+
+/// The number of a fault of the system's segment, and that of the fault within it.
+#[derive(Clone, Copy)]
+struct SystemNumber(SystemFault);
+
+impl fmt::Display for SystemNumber {
+    ghost output = { λ fault. Some (system_text fault.0) };
+
+    fn fmt<W: fmt::Write>(&self, f: &mut fmt::Formatter<W>) -> fmt::Result {
+        match self.0 {
+            SystemFault::NoCode(fault) => {
+                let fault = CodeNumber(fault);
+                write!(f, "1 {fault}")
+            }
+            SystemFault::NoSegment => write!(f, "2"),
+            SystemFault::NoProgram(fault) => {
+                let fault = CodeNumber(fault);
+                write!(f, "3 {fault}")
+            }
+            SystemFault::Taken => write!(f, "4"),
+            SystemFault::Volume(fault) => {
+                let fault = VolumeNumber(fault);
+                write!(f, "5 {fault}")
+            }
+            SystemFault::NoMemory => write!(f, "6"),
+        }
+    }
+}
+
+impl fmt::Display for Refusal {
+    ghost output = { λ refusal. Some (refusal_text refusal) };
+
+    fn fmt<W: fmt::Write>(&self, f: &mut fmt::Formatter<W>) -> fmt::Result {
+        match *self {
+            Refusal::Hex => write!(f, "refused hex 1"),
+            Refusal::Boot(fault) => {
+                let fault = BootNumber(fault);
+                write!(f, "refused boot {fault}")
+            }
+            Refusal::Volume(fault) => {
+                let fault = VolumeNumber(fault);
+                write!(f, "refused volume {fault}")
+            }
+            Refusal::Filer(FilerFault::Volume(fault)) => {
+                let fault = VolumeNumber(fault);
+                write!(f, "refused filer 1 {fault}")
+            }
+            Refusal::Filer(FilerFault::Text(fault)) => {
+                let fault = TextNumber(fault);
+                write!(f, "refused filer 2 {fault}")
+            }
+            Refusal::Code(fault) => {
+                let fault = CodeNumber(fault);
+                write!(f, "refused code {fault}")
+            }
+            Refusal::Asm(fault) => {
+                let fault = AsmNumber(fault);
+                write!(f, "refused asm {fault}")
+            }
+            Refusal::System(fault) => {
+                let fault = SystemNumber(fault);
+                write!(f, "refused system {fault}")
+            }
+            Refusal::Filer(FilerFault::BadDate) => write!(f, "refused filer 3"),
+            Refusal::Filer(FilerFault::NoMemory) => write!(f, "refused filer 4"),
+        }
+    }
+}

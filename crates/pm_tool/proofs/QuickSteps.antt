@@ -1,5 +1,5 @@
 -- A run goes on over steps that show nothing.
-use Rattle.std.proofs.Common.{◌≡◌, ◌<◌, ◌≤◌, ℕ, zero, suc, ◌-◌, ◌++◌, List, [], Bool, drop, length, refl, sym, ap, ◌∙◌, append-nil, arith, subst}
+use Rattle.std.proofs.Common.{◌≡◌, ◌<◌, ◌≤◌, ℕ, zero, suc, ◌-◌, ◌++◌, List, [], drop, length, refl, sym, ap, ◌∙◌, append-nil, arith, subst}
 use Rattle.std.proofs.lemmas.List.{drop_all}
 use Rattle.pm_machine.specs.State.{State}
 use Rattle.pm_machine.specs.Steps.{stepped}

@@ -1,6 +1,6 @@
 -- What a job says to its input, and how a job keeps to it.
 use Rattle.std.specs.Prelude.{◌≡◌, ◌⊎◌, ◌↔◌, true, false, ◌≤◌, ℕ, ◌+◌, ◌<◌, List, [], ◌∷◌, ◌++◌, Some}
-use Rattle.std.specs.Prelude.{None, Option, Result, Ok, Err, length, Bool, if◌then◌else◌, IfSome}
+use Rattle.std.specs.Prelude.{None, Option, Result, Ok, Err, length, IfSome}
 use Rattle.std.specs.Io.KnownBytes.{Consumes, Appends, Keeps}
 use Rattle.pm_machine.specs.State.{State}
 use Rattle.pm_selection.specs.declared.saving.Saving.{Saving}

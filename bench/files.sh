@@ -1,5 +1,6 @@
 #!/bin/bash
-# What only real files and a real terminal show: a full device, a limit on sizes, links, locks, kills, and a console on a pseudo terminal.
+# What only real files and a real terminal show: a full device, a limit on sizes, links, locks, kills, and on a pseudo terminal a console and
+# the debugger.
 # Run by hand; no part of the gate. The full device wants root (a tmpfs is mounted); python3 makes the pseudo terminal and the kills.
 here=$(dirname "$(readlink -f "$0")")/..
 pmach=${PMACH:-$here/pmach}
@@ -133,6 +134,8 @@ if command -v python3 >/dev/null; then
     cp "$scratch/before" "$image"
     python3 "$here/bench/terminal.py" "$pmach" "$image"
     result "a console on a pseudo terminal" $?
+    python3 "$here/bench/debugger.py" "$pmach"
+    result "the debugger on a pseudo terminal" $?
 else
     echo "left out: kills and the terminal (no python3)"
 fi

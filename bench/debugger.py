@@ -1,0 +1,179 @@
+"""debugger.py PMACH: `pmach debug` on a pseudo terminal, where a long `go` is made in slices of 1,000,000 steps: each answer is the one that the
+program gives for the whole in a pipe, with breakpoints and watched words round the ends of slices, for each of many counts of steps. Ctrl-C in
+`go`, in `step` and at the prompt, Ctrl-D, `quit`, refusals, signals, and that no program and no folder is left behind."""
+import glob
+import os
+import pty
+import re
+import select
+import signal
+import subprocess
+import sys
+import tempfile
+import time
+
+program = os.path.realpath(sys.argv[1])
+scratch = tempfile.TemporaryDirectory()
+image, folders = scratch.name + "/debugged.img", scratch.name + "/folders"
+os.mkdir(folders)
+os.environ["TMPDIR"] = folders
+words = [program, "debug", "--d4", image]
+failed = 0
+
+# 50 steps a round, as often as variable 1 says; then each of 49 words is written, the Nth at step 2 * N; at step 150 two words at once; an endless loop.
+ROUND = "again: NOP\n" + "NOP\n" * 41 + "SLDO 1\nSLDC 1\nSBI\nSRO 1\nSLDO 1\nSLDC 0\nEQUI\nFJP ^0\n"
+LONG = (".SEG 1 LONG\n.PROC 1 0 0 240\nLDCI 19999\nSRO 1\n" + ROUND + "".join("SLDC %d\nSRO %d\n" % (n, n + 1) for n in range(1, 50)) +
+        "NOP\n" * 48 + "LAO 60\nSLDC 1\nSLDC 2\nSTM 2\nhere: UJP ^1\n.EXIT\nRBP 0\n.JUMP again\n.JUMP here\n.END\n")
+# A procedure of 100,000,000 steps and more is called, and an endless loop comes then.
+SLOW = (".SEG 1 SLOW\n.PROC 1 0 0 4\nCLP 2\nhere: UJP ^0\nNOP\n.EXIT\nRBP 0\n.JUMP here\n.END\n.PROC 2 1 0 4\nouter: LDCI 20000\nSRO 1\n" + ROUND +
+        "SLDL 1\nSLDC 1\nADI\nSTL 1\nSLDL 1\nSLDC 100\nEQUI\nFJP ^1\nNOP\n.EXIT\nRNP 0\n.JUMP again\n.JUMP outer\n.END\n")
+# A byte for the console each 25,000 steps and some, 60 times; then it reads a byte.
+CHAT = (".SEG 1 CHAT\n.PROC 1 0 0 4\nouter: LDCI 500\nSRO 1\n" + ROUND + "SLDC 1\nLPA \"x\"\nSLDC 0\nSLDC 1\nSLDC 0\nSLDC 0\nCSP 6\n" +
+        "SLDO 2\nSLDC 1\nADI\nSRO 2\nSLDO 2\nSLDC 60\nEQUI\nFJP ^1\nSLDC 1\nLDCI 2000\nSLDC 0\nSLDC 1\nSLDC 0\nSLDC 0\nCSP 5\n" +
+        ".EXIT\nRBP 0\n.JUMP again\n.JUMP outer\n.END\n")
+OK = '.SEG 1 OK\n.PROC 1 0 0 0\nSLDC 1\nLPA "OK"\nSLDC 0\nSLDC 2\nSLDC 0\nSLDC 0\nCSP 6\nNOP\n.EXIT\nRBP 0\n.END\n'
+
+
+def put(name, text):
+    """Puts the code file of a text on the image; the assembler asks for code of an even length."""
+    made = subprocess.run([program, "asm"], input=text.encode(), capture_output=True)
+    if made.returncode:
+        made = subprocess.run([program, "asm"], input=text.replace(".EXIT", "NOP\n.EXIT", 1).encode(), capture_output=True, check=True)
+    subprocess.run([program, "files", "--image", image, "put", name, "code"], input=made.stdout, check=True)
+
+
+def piped(name, lines):
+    """The lines of a session without a terminal."""
+    typed = "".join(line + "\n" for line in lines)
+    return subprocess.run(words + [name], input=typed.encode(), capture_output=True, check=True).stdout.decode().split("\n")[:-1]
+
+
+def typed(command, keys):
+    """What is shown and the status. Keys are typed where there is a prompt; what is no line, and a signal, comes 0.5 seconds behind the last."""
+    child, terminal = pty.fork()
+    if child == 0:
+        signal.signal(signal.SIGINT, signal.SIG_DFL)
+        os.execv(program, command)
+    shown, keys, since = b"", list(keys), time.monotonic()
+    end = since + 60
+    while time.monotonic() < end:
+        if select.select([terminal], [], [], 0.05)[0]:
+            try:
+                shown += os.read(terminal, 65536)
+            except OSError:
+                break
+        if keys and (shown.endswith(b"> ") if str(keys[0]).endswith("\n") else time.monotonic() > since + 0.5):
+            key, since = keys.pop(0), time.monotonic()
+            if isinstance(key, str):
+                os.write(terminal, key.encode())
+            else:
+                os.kill(child, key)
+    else:
+        os.kill(child, signal.SIGKILL)
+    os.close(terminal)
+    return shown.decode().replace("\r\n", "\n"), os.waitstatus_to_exitcode(os.waitpid(child, 0)[1])
+
+
+def prompted(lines, answers):
+    return "".join("> %s\n%s\n" % pair for pair in zip(lines, answers))
+
+
+def check(name, holds, shown):
+    global failed
+    print(("  passed: " if holds else "  FAILED: ") + name + ("" if holds else " " + repr(shown)))
+    failed += 0 if holds else 1
+
+
+def same(name, sessions):
+    """Each session of a program is on a terminal what it is in a pipe; what it answers there is given back."""
+    told, odd = [], []
+    for program_name, lines in sessions:
+        answers = piped(program_name, lines)
+        came = typed(words + [program_name], [line + "\n" for line in lines + ["quit"]])
+        told += answers
+        if came != (prompted(lines, answers) + "> quit\n", 0):
+            odd.append((lines, answers, came))
+    check("%s: %d sessions" % (name, len(sessions)), not odd, odd[:1])
+    return told
+
+
+subprocess.run([program, "files", "--image", image, "new", "WORK", "60"], check=True)
+for name, text in ("LONG", LONG), ("SLOW", SLOW), ("CHAT", CHAT), ("OK", OK):
+    put(name, text)
+base = int(piped("LONG", ["dynamic 1"])[0])
+start = int(piped("LONG", ["regs"])[0].split()[1])
+offsets = [int(piped("LONG", ["go 999952", "go %d" % n, "where"])[2].split()[2]) for n in range(100)]
+here = int(piped("LONG", ["go 2000000", "where"])[1].split()[2])
+
+
+def word(variable):
+    return base + 10 + 2 * variable
+
+
+def rounds(count, more=0):
+    """The loop is made so often; with the steps that are made before the run."""
+    return ["go 2", "poke %d %d" % (word(1), count)] + ["go %d" % more] * (more > 0)
+
+
+same("counts of steps", [("LONG", ["go 7", "go %s" % n, "regs", "trace", "go 5", "regs"]) for n in
+     (0, 999999, 1000000, 1000001, 1999999, 2000000, "0002000001", 3500000, 4294967296, "-1", "$FFFF", "1 1", " ")])
+told = same("breakpoints", [("LONG", rounds(count) + ["break 1 1 %d" % offsets[n], "go 2000003", "where", "go 2000003", "go 1000000"])
+            for count in (19999, 39999) for n in range(46, 56)])
+check("a breakpoint stood at the end of a slice", {"break 1000000", "break 2000000"} <= set(told), told)
+same("two breakpoints, one not reached", [("LONG", ["break 1 2 0", "break 1 1 %d" % offsets[n], "go 3000000", "regs"]) for n in range(47, 51)])
+same("a breakpoint at the limit, and where a run begins", [("LONG", rounds(19999) + ["break 1 1 %d" % offsets[50], "go 1000000", "go 3000000", "where"]),
+     ("LONG", rounds(39999) + ["break 1 1 %d" % offsets[50], "go 2000000", "go 3000000", "where"])])
+told = same("watched words", [("LONG", rounds(count, more) + ["watch %d" % word(n + 1), "go 2000003", "peek %d 1" % word(n + 1), "go 2000003", "regs"])
+            for count in (19999, 39999) for more in (0, 1) for n in range(24, 28)])
+check("a word changed in the last step of a slice", {"changed %d %d" % (n, word(26)) for n in (1000000, 2000000)} <= set(told), told)
+told = same("two words in one step, and a breakpoint behind it", [("LONG", rounds(19997) + ["watch %d" % word(n) for n in order] +
+            ["break 1 1 %d" % here, "go %d" % most, "go 2000000", "regs"]) for order in ((60, 61), (61, 60), (59, 61), (59,)) for most in (2000000, 1000000)])
+check("they changed in the last step of a slice", {"changed 1000000 %d" % word(n) for n in (60, 61)} | {"break 1000000", "limit 1000000"} <= set(told), told)
+error = ["poke %d %d" % (start - 5 + here & 65534, 210 * 257), "go 3000000", "go 3000000", "regs"]
+told = same("ends, errors and waiting", [("OK", ["go 2000000", "go 2000000"]), ("LONG", ["go 2000000", *error]), ("LONG", error),
+            ("LONG", ["break 1 1 %d" % offsets[0], *error]), ("CHAT", ["go 4000000000", "go 4000000000", "key 65", "go 2000000"])])
+same("other lines", [("LONG", ["", "?", "step", "finish 1", "watch 1", "go", "go 5000000 5", "GO 5000000", "  go   2000000  ", "*", "r\u00e9gs", "go 5000000\\", "go\t2000000", "help"])])
+
+lines = ["console on", "go 1400000", "console 200", "console off", "go 2000000"]
+answers = piped("CHAT", lines)
+shown, status = typed(words + ["CHAT"], [line + "\n" for line in lines + ["quit"]])
+texts = re.findall('^console "(.*)"\n', shown, re.M)
+check("the console by slices", len(texts) == 2 and 'console "%s"' % "".join(texts) == answers[1] and status == 0 and
+      re.sub('^console ".*"\n', "", shown, flags=re.M) == prompted(lines, answers[:1] + answers[2:]) + "> quit\n", (answers, shown))
+
+INT, END = "\x03", "\x04"
+after = ["regs", "where", "go 5", "regs"]
+for name, before in ("Ctrl-C in go", []), ("Ctrl-C in go with a word and a breakpoint", ["watch %d" % base, "break 1 2 0"]):
+    shown, status = typed(words + ["LONG"], [line + "\n" for line in before + ["go 4000000000"]] + [INT] + [line + "\n" for line in after + ["quit"]])
+    made = re.search("\nlimit ([0-9]*)\n", shown)
+    lines = before + ["go %s" % (made and made.group(1)), *after]
+    expected = prompted(lines, piped("LONG", lines)).replace(lines[len(before)], "go 4000000000\n^C") + "> quit\n"
+    check(name, made and int(made.group(1)) % 1000000 == 0 and (shown, status) == (expected, 0), (shown, expected))
+shown, status = typed(words + ["SLOW"], ["step\n", INT, "where\n", "go 3\n", "quit\n"])
+lines = ["step", "where", "go 3"]
+check("Ctrl-C in step, which ends by itself", (shown, status) == (prompted(lines, piped("SLOW", lines)).replace("step", "step\n^C") + "> quit\n", 0), shown)
+check("a second Ctrl-C in finish", typed(words + ["LONG"], ["finish\n", INT, INT]) == ("> finish\n^C\n^C\n", 130), shown)
+shown, status = typed(words + ["LONG"], ["go 1\n", "reg", INT, "go 2\n", INT, INT, "go 3\n", "quit\n"])
+check("Ctrl-C at the prompt", (shown, status) == ("> go 1\nlimit 1\n> reg^C\n> go 2\nlimit 2\n> ^C\n> ^C\n> go 3\nlimit 3\n> quit\n", 0), shown)
+shown, status = typed(words + ["LONG"], ["go 1\n", END])
+check("Ctrl-D at the prompt", (shown, status) == ("> go 1\nlimit 1\n> ", 0), shown)
+shown, status = typed(words + ["LONG"], ["go 1\n", "go 2000000", END, END])
+check("Ctrl-D within a line", (shown, status) == ("> go 1\nlimit 1\n> go 2000000limit 2000000\n", 0), shown)
+
+shown, status = typed(words + ["NONE"], [])
+check("a refusal at the start", shown.startswith("refused boot 1\npmach: ") and status == 2, (shown, status))
+shown, status = typed(words + ["--more", "LONG"], [])
+check("wrong words", shown.startswith("error: ") and "> " not in shown.split("\n") and status == 1, (shown, status))
+shown, status = typed([program, "debug", "--d4", scratch.name + "/none", "LONG"], [])
+check("no image", shown.startswith("read fault\npmach: ") and status == 4, (shown, status))
+os.mkfifo(scratch.name + "/debugged.fifo")
+check("Ctrl-C while it reads an image", typed([program, "debug", "--d4", scratch.name + "/debugged.fifo", "LONG"], [INT]) == ("^C", 130), None)
+for name, number, status in ("HUP", signal.SIGHUP, 129), ("TERM", signal.SIGTERM, 143), ("QUIT", signal.SIGQUIT, 131):
+    ends = [typed(words + ["LONG"], ["go 1\n", number]), typed(words + ["LONG"], ["go 4000000000\n", number]), typed(words + ["LONG"], ["finish\n", number])]
+    check(name + " at the prompt, in go and in finish", [end[1] for end in ends] == [status] * 3, ends)
+time.sleep(0.5)
+left = [text for text in (open(path, "rb").read() for path in glob.glob("/proc/[0-9]*/cmdline")) if scratch.name.encode() in text]
+check("no program and no folder is left behind", not left and not os.listdir(folders), (left, os.listdir(folders)))
+os.environ["TMPDIR"] = scratch.name + "/none"
+check("without a folder the program itself reads the terminal", typed(words + ["LONG"], ["go 2000000\n", INT]) == ("> go 2000000\nlimit 2000000\n> ^C", -2), None)
+sys.exit(1 if failed else 0)

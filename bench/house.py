@@ -94,8 +94,8 @@ for folder in sorted(glob.glob("crates/*")):
 for pattern, most in (("crates/*/src/**/*.rt", 120), ("crates/*/specs/**/*.antt", 120), ("crates/*/proofs/**/*.antt", 160),
                       ("docs/*.md", 120), ("README.md", 120)):
     for path in sorted(glob.glob(pattern, recursive=True)):
-        long = [n + 1 for n, line in enumerate(lines(path)) if len(line) > most and not line.lstrip().startswith(("|", "- `", "#["))]
-        if long:
+        long = [n + 1 for n, line in enumerate(lines(path)) if len(line) > most and not line.lstrip().startswith(("|", "#["))]
+        if long and path != "docs/INDEX.md":
             tell("line", "%s: %d over %d characters, the first at %d" % (path, len(long), most, long[0]))
 
 NUMBERS = r"\b(65_?492|65_?502|65_?504|60_?000|172|185)\b"

@@ -1,6 +1,5 @@
-"""index.py: docs/INDEX.md, made from the source: each public call with the names of its clauses, each law with what
-stands above it as far as a line has room, and the counts that the pages speak of. `index.py` writes the page; house.py
-asks whether it is that of the source."""
+"""index.py: docs/INDEX.md, made from the source: each public call with the names of its clauses, each law, and the counts
+that the pages speak of. `index.py` writes the page; house.py asks whether it is that of the source."""
 import glob
 import os
 import re
@@ -13,11 +12,9 @@ HEAD = """# Index
 Each public call, by crate in the order of crates.txt, and there by its type or module. In brackets the names of the
 clauses, behind `requires` those of what a caller has to meet (conditions); calls with the same ones stand together, and
 with empty ones they promise to return, and nothing else. A call without brackets is a law: its contract speaks of
-definitions alone. Behind it stands what the source says first of it, as far as a line has room, with `..` where that
-goes on. What serves tests alone is left out, and counted at the end. Made by `bench/index.py`.
+definitions alone, and the words above it in the source say what; `worked_..` are computed values. What serves tests
+alone is left out, and counted at the end. Made by `bench/index.py`.
 """
-# The most characters of the line of a law.
-WIDTH = 100
 # Crates whose calls serve programs of the gate and tests alone.
 FOR_TESTS = ("pm_replay", "pm_fake", "pm_told", "pm_told_jobs")
 SUMS = """
@@ -42,23 +39,11 @@ def crates():
     return [line.split(":")[0].split()[0] for line in lines("crates.txt") if re.match(r"[a-z]", line)]
 
 
-def sentence(comment, room):
-    """The first sentence of a comment; where that has more characters, its parts up to a comma, or its words."""
-    text = " ".join(" ".join(comment).split())
-    text = re.match(r"(.*?)(?:[.] (?=[A-Z`])|[.:]?$)", text).group(1)
-    if len(text) <= room:
-        return text
-    cuts = [cut.start() for cut in re.finditer(r"[,;:] ", text) if 12 <= cut.start() <= room - 3]
-    cuts = [cut for cut in cuts if text.count("(", 0, cut) == text.count(")", 0, cut)]
-    return text[:max(cuts or [text.rfind(" ", 0, room - 2)])] + " .."
-
-
 class Call:
     """A function that other crates can call."""
 
-    def __init__(self, owner, name, comment):
+    def __init__(self, owner, name):
         self.owner, self.name = owner, name
-        self.comment = comment
         self.clauses, self.conditions, self.is_law = [], [], False
 
     def read(self, source, number, indent):
@@ -79,16 +64,10 @@ class Call:
 
 
 def rows(calls):
-    """What is told of the calls of one owner."""
+    """What is told of the calls of one owner, the laws last."""
     made = []
-    for said in dict.fromkeys(it.said() for it in calls):
-        names = ["`%s`" % it.name for it in calls if it.said() == said]
-        if said is not None:
-            made.append(", ".join(names) + said)
-    for it in calls:
-        if it.is_law:
-            front = "`%s`: " % it.name
-            made.append(front + sentence(it.comment, WIDTH - len(front)))
+    for said in sorted(dict.fromkeys(it.said() for it in calls), key=lambda said: said is None):
+        made.append(", ".join(it.name for it in calls if it.said() == said) + (said or ""))
     return made
 
 
@@ -99,7 +78,7 @@ def calls_of(crate):
     found = []
     for path in files("crates/%s/src/**/*.rt" % crate):
         module = os.path.basename(path)[:-3]
-        owner, of_trait, comment = None, False, []
+        owner, of_trait = None, False
         source = lines(path)
         for number, line in enumerate(source):
             head = re.match(r"impl(?:<.*?>)? (?:[\w:<>, ]+ for )?(?:\w+::)*(\w+)", line)
@@ -108,19 +87,13 @@ def calls_of(crate):
                 owner, of_trait = (trait or head).group(1), bool(trait)
             elif line == "}":
                 owner, of_trait = None, False
-            said = re.match(r"\s*/// ?(.*)", line)
             call = re.match(r"( *)(pub )?(?:const )?(?:unsafe )?(?:extern \S+ )?fn (\w+)", line)
-            if said:
-                comment.append(said.group(1))
-                continue
             if call and (call.group(2) or of_trait):
                 is_public = "pub mod %s;" % module in root or (owner or call.group(3)) in handed_on or module == "lib"
                 if is_public:
-                    it = Call(owner or module, call.group(3), comment)
+                    it = Call(owner or module, call.group(3))
                     it.read(source, number, call.group(1))
                     found.append(it)
-            if not re.match(r"\s*#\[", line):
-                comment = []
     return found
 
 
@@ -137,11 +110,11 @@ def page():
             made.append("\n## %s\n" % crate)
             owners = dict.fromkeys(it.owner for it in calls)
             owners = [(owner, rows([it for it in calls if it.owner == owner])) for owner in owners]
-            alone = "".join("- `%s`: %s\n" % (owner, told[0]) for owner, told in owners if len(told) == 1)
+            alone = "".join("- %s: %s\n" % (owner, told[0]) for owner, told in owners if len(told) == 1)
             made.append("\n" + alone if alone else "")
             for owner, told in owners:
                 if len(told) > 1:
-                    made.append("\n`%s`\n\n" % owner + "".join("- %s\n" % one for one in told))
+                    made.append("\n%s:\n" % owner + "".join("- %s\n" % one for one in told))
     replays = []
     for program in ("pm_worked", "pm_cases"):
         for line in lines("crates/%s/stdout" % program):

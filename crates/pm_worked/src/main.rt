@@ -1,6 +1,7 @@
 //! Worked rows, written by hand from the rules of docs/, beside what the machine does: a program of the gate. It prints
 //! for each file of data/ how many agree, and of the first that does not its line, what was expected and what came.
-//! docs/CASES.md has the language, of rows (`INN 8B | 1 8 3 | 1`) and of scenes, which an empty line ends.
+//! The head of data/integers.rows says how rows are written (`INN 8B | 1 8 3 | 1`), that of data/machine.rows how
+//! scenes are, which an empty line ends.
 #![tactic(auto)]
 
 mod code_file;

@@ -12,3 +12,4 @@ pub mod Talked
 pub mod MachineRuns
 pub mod Ejected
 pub mod FaultLaws
+pub mod Images

@@ -1,17 +1,20 @@
--- Laws of runs, and of the faults of a text.
-use Rattle.std.specs.Prelude.{◌≡◌, ℕ, ◌-◌, Bool, true, false, List, [], ◌∷◌, ◌++◌}
+-- Laws of runs, of the images that they leave, and of the faults of a text.
+use Rattle.std.specs.Prelude.{◌≡◌, ℕ, ◌-◌, Bool, true, false, List, [], ◌∷◌, ◌++◌, Option, None, Ok}
 use Rattle.pm_machine.specs.State.{State}
 use Rattle.pm_machine.specs.Events.{Event, Step, Key, Poke, Mount, Eject, after_all, next}
 use Rattle.pm_machine.specs.Runs.{Ran}
 use Rattle.pm_machine.specs.declared.state.Stop.{Stop}
 use Rattle.pm_machine.specs.declared.state.Stop.TheVariants.{Went, Waiting, Ended, Halted}
+use Rattle.pm_selection.specs.declared.saving.Saving.{Saving}
+use Rattle.pm_selection.specs.declared.saving.Saving.TheVariants as savings
 use Rattle.pm_session.specs.declared.ending.Ending.TheVariants as endings
+use Rattle.pm_tool.specs.Disks.{booted}
 use Rattle.pm_tool.specs.declared.steps.Show.{Show}
 use Rattle.pm_tool.specs.Run.{Run, ended_run, run_of}
 use Rattle.pm_tool.specs.declared.outcome.Exit.TheVariants as exits
 use Rattle.pm_tool.specs.declared.outcome.Job.TheVariants as jobs
 use Rattle.pm_tool.specs.Outcomes.{Said}
-use Rattle.pm_tool.specs.Said.{job_said}
+use Rattle.pm_tool.specs.Said.{job_said, run_said}
 
 -- the bytes that these events key
 abbrev pub keyed_in : List Event → List ℕ
@@ -73,6 +76,33 @@ abbrev pub RunsGoByTheMachine : Type 0
 RunsGoByTheMachine =
     (show : Show) (limit count : ℕ) (bytes : List ℕ) (m t : State) (stop : Stop) →
     Ran limit m count stop t → GoesOn show limit bytes m count stop t
+
+-- ---- the images that a run leaves
+
+-- Before the first step all images are kept as they were given, each on its own unit: first that of unit 4, then
+-- those of units 5, 9, 10, 11 and 12.
+abbrev pub ImagesAreOfTheirUnits : Type 0
+ImagesAreOfTheirUnits =
+    (show : Show) (d4 d5 d9 d10 d11 d12 : Option (List ℕ)) (name input : List ℕ) (m : State)
+    → booted (d4 ∷ d5 ∷ d9 ∷ d10 ∷ d11 ∷ d12 ∷ []) name None ≡ Ok m
+    → ((run_said savings.All (run_of show 0 input m)).image ≡ d4)
+    × ((run_said savings.All (run_of show 0 input m)).others ≡ d5 ∷ d9 ∷ d10 ∷ d11 ∷ d12 ∷ [])
+
+-- what is said of a run is the same but for the images that are kept
+pub record SayTheSame (told other : Said) : Type 0 where
+  pub written : told.written ≡ other.written
+  pub exit : told.exit ≡ other.exit
+  pub message : told.message ≡ other.message
+  pub printer : told.printer ≡ other.printer
+  pub unread : told.unread ≡ other.unread
+
+-- which images are kept changes nothing else; and that of unit 4 is the same alone and with the others
+pub record SavesApart (run : Run) : Type 0 where
+  pub same : (saving other : Saving) → SayTheSame (run_said saving run) (run_said other run)
+  pub fourth : (run_said savings.First run).image ≡ (run_said savings.All run).image
+
+abbrev pub SavingChangesNothing : Type 0
+SavingChangesNothing = (run : Run) → SavesApart run
 
 -- ---- all faults of a text
 

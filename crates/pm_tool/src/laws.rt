@@ -1,5 +1,6 @@
-//! Laws of runs, and of the faults of a text. The functions do nothing.
-ghost use Rattle.pm_tool.specs.Laws.{FaultsEndAsAssembling, RunsAreEvents, RunsGoByTheMachine, ShowingChangesNothing};
+//! Laws of runs, of the images that they leave, and of the faults of a text. The functions do nothing.
+ghost use Rattle.pm_tool.specs.Laws.{FaultsEndAsAssembling, ImagesAreOfTheirUnits, RunsAreEvents};
+ghost use Rattle.pm_tool.specs.Laws.{RunsGoByTheMachine, SavingChangesNothing, ShowingChangesNothing};
 
 /// A run leaves the machine as a list of steps and keys leaves it, and the bytes that are keyed are exactly those that
 /// are read.
@@ -19,6 +20,18 @@ pub fn showing_changes_nothing()
 #[tactic(auto, using(crate::proofs::MachineRuns::runs_go_by_the_machine))]
 pub fn runs_go_by_the_machine()
     ensures law { RunsGoByTheMachine }
+{}
+
+/// A run that has made no step leaves each image as it was given, on its own unit.
+pub fn images_are_of_their_units()
+    ensures law { ImagesAreOfTheirUnits }
+{}
+
+/// Which images of a run are kept changes nothing else that is said of it, and that of unit 4 is kept the same alone
+/// and with the others.
+#[tactic(auto, using(crate::proofs::Images::saving_changes_nothing))]
+pub fn saving_changes_nothing()
+    ensures law { SavingChangesNothing }
 {}
 
 /// The job that tells all faults of a text ends as the one that assembles it, by the same status and message; where

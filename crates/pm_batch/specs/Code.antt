@@ -3,8 +3,8 @@ use Rattle.std.specs.Prelude.{ℕ, List, Option, Some, None}
 use Rattle.pm_codefile.specs.Dictionary.{file_fault}
 use Rattle.pm_codefile.specs.declared.fault.CodeFault.{CodeFault}
 use Rattle.pm_disasm.specs.Listing.{file_listing}
-use Rattle.pm_disasm.specs.Names.{with_names}
 use Rattle.pm_disasm.specs.Shown.{file_text}
+use Rattle.pm_names.specs.Lines.{with_names}
 use Rattle.pm_batch.specs.declared.refusal.Refusal.TheVariants as refusals
 use Rattle.pm_batch.specs.Products.{Product, Written, Refused}
 
@@ -17,9 +17,9 @@ made_text (Some fault) file = Refused (refusals.Code fault)
 abbrev pub made_dis : List ℕ → Product
 made_dis input = made_text (file_fault input) input
 
--- that text with the names of the procedures that its lines call
+-- that text with what is told of its lines behind them
 abbrev pub made_named : Option CodeFault → List ℕ → Product
-made_named None file = Written (with_names (file_text file))
+made_named None file = Written (with_names file (file_text file))
 made_named (Some fault) file = Refused (refusals.Code fault)
 
 abbrev pub made_dis_names : List ℕ → Product

@@ -20,7 +20,7 @@ pub(crate) fn disassemble(alloc: Global, input: &[u8]) -> Result<Made, AllocErro
     Ok(Made::Bytes(text.into_bytes()))
 }
 
-/// The text of the code file that the input is, with the names of the procedures that its lines call.
+/// The text of the code file that the input is, with what is told of its lines behind them.
 pub(crate) fn disassemble_named(alloc: Global, input: &[u8]) -> Result<Made, AllocError>
     ensures made { IfOk result (λ made. product_of made ≡ made_dis_names input.now) }
 {
@@ -29,7 +29,7 @@ pub(crate) fn disassemble_named(alloc: Global, input: &[u8]) -> Result<Made, All
         Err(reason) => return Ok(Made::Refused(Refusal::Code(reason), None)),
     };
     let text = pm_disasm::file(alloc, &file)?;
-    let named = pm_disasm::with_names(alloc, text.as_bytes())?;
+    let named = pm_names::with_names(alloc, &file, text.as_bytes())?;
     Ok(Made::Bytes(named))
 }
 

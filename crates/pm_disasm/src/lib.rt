@@ -10,7 +10,6 @@ pub mod laws;
 mod lines;
 mod listed;
 mod named;
-mod names;
 mod parts;
 mod place;
 mod places;
@@ -22,7 +21,6 @@ mod text;
 mod written;
 
 pub use listed::listing;
-pub use names::{standard_name, system_name, with_names};
 pub use place::Line;
 pub use segments::{file, item, procedure};
 pub use text::line;

@@ -4,8 +4,8 @@ use Rattle.std.specs.List.{AllByRecursion, AllZip}
 use Rattle.pm_code.specs.Image.{file_of}
 use Rattle.pm_code.specs.Laws.{IsSameSegment}
 use Rattle.pm_code.specs.Program.{AreInstructions, FitSlots, IsProgram, Procedure, Segment}
-use Rattle.pm_disasm.specs.Names.{with_names}
 use Rattle.pm_disasm.specs.Shown.{file_text}
+use Rattle.pm_names.specs.Lines.{with_names}
 use Rattle.pm_source.specs.Meaning.{Spells}
 use Rattle.pm_asm.specs.Assembled.{assembled}
 
@@ -25,11 +25,11 @@ abbrev pub AssembledIsShownAgain : Type 0
 AssembledIsShownAgain = (text file shown : List ℕ) → assembled text ≡ Ok (file, shown)
     → (again : List ℕ) × (assembled (file_text file) ≡ Ok (file, again))
 
--- The names of procedures behind the lines of a text say nothing: it is assembled as the text without them is.
+-- What is told behind the lines of a text says nothing, whatever the file: it is assembled as the text without it is.
 abbrev pub NamesSayNothing : Type 0
-NamesSayNothing = (text : List ℕ) → assembled (with_names text) ≡ assembled text
+NamesSayNothing = (file text : List ℕ) → assembled (with_names file text) ≡ assembled text
 
 -- The text with names that is shown for an assembled code file is assembled to the same code file.
 abbrev pub NamedIsShownAgain : Type 0
 NamedIsShownAgain = (text file shown : List ℕ) → assembled text ≡ Ok (file, shown)
-    → (again : List ℕ) × (assembled (with_names (file_text file)) ≡ Ok (file, again))
+    → (again : List ℕ) × (assembled (with_names file (file_text file)) ≡ Ok (file, again))

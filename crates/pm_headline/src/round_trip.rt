@@ -16,8 +16,8 @@ pub fn assembled_is_shown_again()
     ensures law { AssembledIsShownAgain }
 {}
 
-/// The names of procedures behind the lines of a text change nothing of what it is assembled to, whatever the text; so
-/// the text with names of an assembled code file is assembled to the same code file.
+/// What is told behind the lines of a text, names and notes, changes nothing of what it is assembled to, whatever file
+/// and text; so the text with names of an assembled code file is assembled to the same code file.
 #[tactic(auto, using(crate::proofs::NamedLines::names_say_nothing, crate::proofs::NamedLines::named_is_shown_again))]
 pub fn names_say_nothing()
     ensures law { NamesSayNothing }

@@ -9,7 +9,7 @@ use Rattle.std.specs.Str.Parse.{digits_value}
 use Rattle.std.proofs.lemmas.Bool.Decides.{nat_tests}
 use Rattle.pm_session.specs.declared.commands.Command.TheVariants as commands
 use Rattle.pm_session.specs.declared.commands.View.TheVariants as views
-use Rattle.pm_disasm.specs.Names.{is_digit}
+use Rattle.pm_names.specs.Names.{is_digit}
 use Rattle.pm_session.specs.Commands.{command_in, command_rows, number_and_numbers, number_up_to}
 use Rattle.pm_session.specs.Commands.{word_number, number_behind, numbers}
 

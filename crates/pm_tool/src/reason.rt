@@ -1,5 +1,5 @@
 //! Why a run ended, in words.
-use pm_disasm::system_name;
+use pm_names::system_name;
 use pm_session::Ending;
 use pm_words::ExecError;
 use std::fmt;

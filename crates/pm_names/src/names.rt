@@ -1,10 +1,8 @@
-//! The names of the procedures that instructions call by number, behind the lines of a code file's text.
+//! The names of the procedures that instructions call by number.
 
-ghost use Rattle.std.specs.Prelude.{◌≡◌, ◌++◌, option_map, IfOk, OnOk};
-ghost use Rattle.pm_disasm.specs.Names.{name_called, named_line, number_in, standard_called, standard_name};
-ghost use Rattle.pm_disasm.specs.Names.{system_called, system_name, with_names};
-
-use std::alloc::{AllocError, Global};
+ghost use Rattle.std.specs.Prelude.{◌≡◌, option_map};
+ghost use Rattle.pm_names.specs.Names.{name_called, number_in, standard_called, standard_name};
+ghost use Rattle.pm_names.specs.Names.{system_called, system_name};
 
 /// The name of a standard procedure that the machine has, by its number; those that load and unload a segment have
 /// words in its place.
@@ -76,7 +74,7 @@ pub fn system_name(number: u8) -> Option<&'static str>
 }
 
 /// The number that one or two decimal digits write.
-fn number_in(digits: &[u8]) -> Option<u8>
+pub(crate) fn number_in(digits: &[u8]) -> Option<u8>
     ensures number { result ≡ number_in digits.now }
 {
     match digits {
@@ -108,45 +106,11 @@ fn system_called(line: &[u8]) -> Option<&'static str>
 
 /// The name of the procedure that a line calls, if that has one.
 #[tactic(auto, unfolding(crate::specs::Names::name_called))]
-fn name_called(line: &[u8]) -> Option<&'static str>
+pub(crate) fn name_called(line: &[u8]) -> Option<&'static str>
     ensures name { option_map (λ name. name.now) result ≡ name_called line.now }
 {
     match standard_called(line) {
         Some(name) => Some(name),
         None => system_called(line),
     }
-}
-
-/// Adds a line with the name of the procedure that it calls, if that has one.
-#[tactic(auto, unfolding(crate::specs::Names::named_line))]
-fn push_line(named: &mut Vec<u8>, line: &[u8]) -> Result<(), AllocError>
-    ensures named { OnOk result (named.new.items ≡ named.old.items ++ named_line line.now) }
-{
-    named.extend_from_slice(line)?;
-    if let Some(name) = name_called(line) {
-        named.extend_from_slice(b" ; ")?;
-        named.extend_from_slice(name.as_bytes())?;
-    }
-    Ok(())
-}
-
-/// The text of a code file with the names of procedures: behind each line that is `CSP n` or `CXP 0, n` a comment with
-/// the name of the standard procedure, or the system's, that has the number, where it has one. Nothing else changes.
-#[tactic(auto, unfolding(crate::specs::Names::with_names, crate::specs::Names::named_from))]
-pub fn with_names(alloc: Global, text: &[u8]) -> Result<Vec<u8>, AllocError>
-    ensures named { IfOk result (λ named. named.items ≡ with_names text.now) }
-{
-    let mut named = Vec::new(alloc);
-    let mut line = Vec::new(alloc);
-    for byte in text {
-        if *byte == b'\n' {
-            push_line(&mut named, &line)?;
-            named.push(b'\n')?;
-            line.clear();
-        } else {
-            line.push(*byte)?;
-        }
-    }
-    push_line(&mut named, &line)?;
-    Ok(named)
 }

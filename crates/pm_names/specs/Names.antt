@@ -1,5 +1,5 @@
--- The names of the procedures that instructions call by number, behind the lines of a code file's text.
-use Rattle.std.specs.Prelude.{ℕ, ◌+◌, ◌-◌, ◌*◌, Bool, List, [], ◌∷◌, ◌++◌, length, take, drop, nat_le, ◌==◌, ◌&&◌}
+-- The names of the procedures that instructions call by number.
+use Rattle.std.specs.Prelude.{ℕ, ◌+◌, ◌-◌, ◌*◌, Bool, List, [], ◌∷◌, length, take, drop, nat_le, ◌==◌, ◌&&◌}
 use Rattle.std.specs.Prelude.{if◌then◌else◌, codes, Option, Some, None}
 use Rattle.std.specs.Map.{lookup}
 use Rattle.std.specs.Option.{option_and_then, option_or}
@@ -92,21 +92,3 @@ system_called line = option_and_then system_name (option_and_then number_in (beh
 
 unfoldable pub name_called : List ℕ → Option (List ℕ)
 name_called line = option_or (standard_called line) (system_called line)
-
--- a name as a comment
-abbrev pub comment : Option (List ℕ) → List ℕ
-comment None = []
-comment (Some name) = codes " ; " ++ name
-
--- a line with the name of the procedure that it calls, if that has one
-unfoldable pub named_line : List ℕ → List ℕ
-named_line line = line ++ comment (name_called line)
-
--- the same of each line of a text that a line feed or the end ends, behind what stands of the first line already
-unfoldable pub named_from : List ℕ → List ℕ → List ℕ
-named_from line [] = named_line line
-named_from line (c ∷ cs) = if c == 10 then named_line line ++ 10 ∷ named_from [] cs else named_from (line ++ c ∷ []) cs
-
--- A text with the names of the procedures that its lines call.
-unfoldable pub with_names : List ℕ → List ℕ
-with_names text = named_from [] text

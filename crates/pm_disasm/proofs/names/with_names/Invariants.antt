@@ -1,7 +1,0 @@
-use Rattle.std.proofs.Common.{◌≡◌, ◌++◌, [], drop}
-use Rattle.pm_disasm.specs.Names.{named_from}
-use Rattle.pm_disasm.proofs.names.with_names.Given as goal
-
--- the lines so far with those that are left, behind what stands of the line, are the whole
-abbrev pub invariant-loop-byte : goal.invariant-loop-byte
-invariant-loop-byte l = l.named.items ++ named_from l.line.items (drop l.byte-index l.text) ≡ named_from [] l.text

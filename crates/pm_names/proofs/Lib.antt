@@ -1,0 +1,2 @@
+pub mod Unquoted
+pub mod Told

@@ -342,7 +342,7 @@ const DEBUG: CommandRow = (
 const NAMES: WordRow = (
     "names",
     Form::Flag,
-    "Writes the names of standard procedures and of the system's behind their calls",
+    "Writes notes behind lines: the names of what they call, and what is no p-code",
 );
 
 const OWN_LISTING: WordRow = (

@@ -31,7 +31,7 @@ pub(crate) fn program_of(alloc: Global, text: &str) -> Result<Vec<Segment>, AsmF
 }
 
 /// A code file and its listing.
-#[derive(Debug, Drop)]
+#[derive(Drop)]
 pub struct Assembly {
     /// The bytes of the code file.
     pub file: Vec<u8>,

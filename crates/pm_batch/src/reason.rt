@@ -20,7 +20,7 @@ fn help_for(fault: VolumeFault) -> &'static str {
 }
 
 /// A refusal, as the text that says what is wrong.
-#[derive(Clone, Copy, Debug, PartialEq, Eq)]
+#[derive(Clone, Copy)]
 pub struct Reason(pub Refusal);
 
 impl fmt::Display for Reason {

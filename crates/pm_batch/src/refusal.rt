@@ -13,7 +13,7 @@ use pm_volume::VolumeFault;
 use std::fmt;
 
 /// Why an input is refused.
-#[derive(Clone, Copy, Debug, PartialEq, Eq)]
+#[derive(Clone, Copy)]
 pub enum Refusal {
     /// It is not pairs of hexadecimal digits and white space.
     Hex,

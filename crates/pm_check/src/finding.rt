@@ -5,7 +5,7 @@ ghost use Rattle.pm_check.specs.Findings.{finding_text, slot_text};
 use std::fmt;
 
 /// A rule that an image breaks.
-#[derive(Clone, Copy, Debug, PartialEq, Eq)]
+#[derive(Clone, Copy)]
 pub enum Finding {
     /// It has so many bytes, which are no whole blocks.
     NotBlocks(usize),
@@ -26,7 +26,7 @@ pub enum Finding {
 }
 
 /// A rule that an entry breaks.
-#[derive(Clone, Copy, Debug, PartialEq, Eq)]
+#[derive(Clone, Copy)]
 pub enum SlotFinding {
     /// Its name has so many characters.
     Name(u8),

@@ -20,7 +20,7 @@ pub enum Form {
 }
 
 /// What breaks no rule.
-#[derive(Clone, Copy, Debug, PartialEq, Eq)]
+#[derive(Clone, Copy)]
 pub enum Note {
     /// In this form it has the header of a directory.
     Form(Form),

@@ -3,7 +3,7 @@
 use pm_opcode::Instr;
 
 /// Where a jump leads. `P` is how a place is told: by its offset in the segment, or by a label of a text.
-#[derive(Clone, Copy, Debug, PartialEq, Eq, Drop)]
+#[derive(Clone, Copy, Drop)]
 pub enum Target<P> {
     /// A place of the segment.
     To(P),
@@ -13,7 +13,7 @@ pub enum Target<P> {
 
 /// A part of a procedure's code: an instruction, or a byte that is none. `Item<usize>` names offsets of a segment, an
 /// item of a text its labels.
-#[derive(Debug, Drop)]
+#[derive(Drop)]
 pub enum Item<P> {
     /// An instruction that names no place, with the bytes that it names.
     Plain(Instr, Vec<u8>),

@@ -4,7 +4,7 @@
 use crate::item::Item;
 
 /// A procedure.
-#[derive(Debug, Drop)]
+#[derive(Drop)]
 pub struct Procedure {
     /// Its level, a byte in two's complement.
     pub level: u8,
@@ -23,7 +23,7 @@ pub struct Procedure {
 }
 
 /// A segment with its procedures, which are numbered from 1.
-#[derive(Debug, Drop)]
+#[derive(Drop)]
 pub struct Segment {
     /// Its number, below 16.
     pub number: u8,

@@ -6,7 +6,7 @@ ghost use Rattle.pm_codefile.specs.Faults.{number_of, slot_of_fault};
 use thiserror::Error;
 
 /// Why bytes are no code file. A number names the slot of the dictionary, 0 to 15.
-#[derive(Clone, Copy, Debug, PartialEq, Eq, Error)]
+#[derive(Clone, Copy, Debug, Error)]
 pub enum CodeFault {
     /// 1: there are fewer than 512 bytes.
     #[error("the file has no dictionary")]

@@ -14,7 +14,7 @@ pub(crate) const MOST_BREAKS: usize = 64;
 
 /// A place in the code before which a run stops: the numbers of a segment and a procedure, and the
 /// distance in bytes from where the procedure is entered.
-#[derive(Clone, Copy, Debug, Default)]
+#[derive(Clone, Copy, Default)]
 pub struct Breakpoint {
     /// The segment's number, the low byte of its highest word.
     pub segment: u8,

@@ -21,7 +21,7 @@ const CALLER_SEG: u16 = 6;
 const CALLER_IPC: u16 = 8;
 
 /// A frame of the dynamic chain.
-#[derive(Clone, Copy, Debug)]
+#[derive(Clone, Copy)]
 pub struct Frame {
     /// Its address.
     pub address: u16,

@@ -3,7 +3,7 @@
 use pm_words::ExecError;
 
 /// Why a run of the debugger ends.
-#[derive(Clone, Copy, Debug, PartialEq, Eq)]
+#[derive(Clone, Copy)]
 pub enum BreakReason {
     /// The watched word at this address is another than when the run began.
     Changed(u16),

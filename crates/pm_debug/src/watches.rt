@@ -15,7 +15,7 @@ pub(crate) const MOST_WATCHES: usize = 64;
 pub(crate) type Watches = ArrayVec<u16, MOST_WATCHES>;
 
 /// A watched word, as it was when a run began.
-#[derive(Clone, Copy, Debug, Default)]
+#[derive(Clone, Copy, Default)]
 pub(crate) struct WatchedWord {
     /// Where it stands.
     pub address: u16,

@@ -37,7 +37,7 @@ pub struct Name {
 }
 
 /// What another program does with a file.
-#[derive(Clone, Copy, Debug, PartialEq, Eq)]
+#[derive(Clone, Copy)]
 pub enum Act {
     /// It writes its own bytes over those of the file, or makes it.
     Put,

@@ -39,7 +39,7 @@ use pm_volume::{Date, Entry, Volume, VolumeFault};
 use std::alloc::Global;
 
 /// What is to be done with a volume.
-#[derive(Debug, Drop, PartialEq, Eq)]
+#[derive(Drop)]
 pub enum FileCommand {
     /// Lists the files.
     List,
@@ -77,7 +77,7 @@ pub enum FileCommand {
 }
 
 /// What a command answers.
-#[derive(Debug, Drop, PartialEq, Eq)]
+#[derive(Drop)]
 pub enum Reply {
     /// Lines of text, each with its line feed.
     Lines(String),

@@ -8,7 +8,7 @@ use std::io;
 use std::io::ErrorKind;
 
 /// Why an image, or the printer's bytes, could not be read or written.
-#[derive(Clone, Copy, Debug, PartialEq, Eq)]
+#[derive(Clone, Copy)]
 pub enum DiskFault {
     /// The file cannot be read.
     Read(ErrorKind),

@@ -260,7 +260,7 @@ fn write_new<R: Host>(rt: &R, place: &WritePath<R::File>, bytes: &[u8]) -> Resul
 }
 
 /// What this program has of a file that it is going to write.
-#[derive(Clone, Copy, Debug, PartialEq, Eq)]
+#[derive(Clone, Copy)]
 enum Claimed {
     /// It holds this file.
     Held,

@@ -8,7 +8,7 @@ use pm_code::Item;
 use std::slice::from_ref;
 
 /// A line of a procedure's code.
-#[derive(Debug, Drop)]
+#[derive(Drop)]
 pub enum Row<'a> {
     /// One item, with a label before it or without. It takes no memory besides.
     One {
@@ -46,7 +46,7 @@ impl<'a> Row<'a> {
 }
 
 /// A well-formed line that is not blank.
-#[derive(Debug, Drop)]
+#[derive(Drop)]
 pub enum Statement<'a> {
     /// The head of a segment.
     Segment {
@@ -80,7 +80,7 @@ pub enum Statement<'a> {
 }
 
 /// What is wrong in a well-formed line.
-#[derive(Clone, Copy, Debug, PartialEq, Eq)]
+#[derive(Clone, Copy)]
 pub enum Flaw {
     /// Nothing.
     NoFlaw,
@@ -91,7 +91,7 @@ pub enum Flaw {
 }
 
 /// What a line is.
-#[derive(Debug, Drop)]
+#[derive(Drop)]
 pub enum Line<'a> {
     /// It says nothing: it is empty, or a comment.
     Blank,

@@ -9,7 +9,7 @@ ghost use Rattle.pm_line.specs.Views.{keyword_seen};
 use pm_opcode::row_at;
 
 /// What such a word can be.
-#[derive(Clone, Copy, Debug, PartialEq, Eq)]
+#[derive(Clone, Copy)]
 pub(crate) enum Keyword {
     Segment,
     Procedure,

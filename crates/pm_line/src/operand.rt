@@ -13,7 +13,7 @@ use pm_code::Target;
 use std::alloc::{AllocError, Global};
 
 /// A number, and whether it is written with two bytes though it is below 128.
-#[derive(Clone, Copy, Debug, PartialEq, Eq)]
+#[derive(Clone, Copy)]
 pub(crate) struct Number {
     pub value: u16,
     pub long: bool,

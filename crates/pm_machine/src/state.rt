@@ -43,7 +43,7 @@ pub enum RunEnd {
 }
 
 /// Why no machine starts.
-#[derive(Clone, Copy, Debug, Drop, Error, PartialEq, Eq)]
+#[derive(Clone, Copy, Debug, Drop, Error)]
 pub enum BootFault {
     /// 1: there is no volume, or no such file on it.
     #[error("no such file")]

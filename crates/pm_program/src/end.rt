@@ -3,7 +3,7 @@ use pm_files::DiskFault;
 use pm_tool::{Exit, Outcome};
 
 /// What is wrong with paths that do not go together.
-#[derive(Clone, Copy, Debug, PartialEq, Eq)]
+#[derive(Clone, Copy)]
 pub enum Conflict {
     /// An image that is to be saved is also that of another unit.
     SavedTwice,

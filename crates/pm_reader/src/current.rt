@@ -7,7 +7,7 @@ use std::collections::BTreeMap;
 
 /// A procedure that has not ended, with the labels of its code, each with the index of its line: none is sought line by
 /// line.
-#[derive(Debug, Drop)]
+#[derive(Drop)]
 pub(crate) struct Current<'a> {
     /// What the lines so far have said of it.
     pub procedure: LabelledProcedure<'a>,

@@ -23,7 +23,7 @@ use pm_source::AsmFault;
 use std::alloc::{AllocError, Global};
 
 /// What the lines so far have said: the segments with their ended procedures, and the procedure that has not ended.
-#[derive(Debug, Drop)]
+#[derive(Drop)]
 pub(crate) struct Reader<'a> {
     segments: Vec<LabelledSegment<'a>>,
     current: Option<Current<'a>>,

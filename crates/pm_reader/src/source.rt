@@ -3,7 +3,7 @@
 use pm_line::Row;
 
 /// An entry of a jump table.
-#[derive(Clone, Copy, Debug, Drop)]
+#[derive(Clone, Copy, Drop)]
 pub struct Entry<'a> {
     /// The number of its line.
     pub line: usize,
@@ -12,7 +12,7 @@ pub struct Entry<'a> {
 }
 
 /// A procedure with its labels.
-#[derive(Debug, Drop)]
+#[derive(Drop)]
 pub struct LabelledProcedure<'a> {
     /// Its level, a byte in two's complement.
     pub level: u8,
@@ -27,7 +27,7 @@ pub struct LabelledProcedure<'a> {
 }
 
 /// A segment with its procedures, which are numbered from 1.
-#[derive(Debug, Drop)]
+#[derive(Drop)]
 pub struct LabelledSegment<'a> {
     /// Its number.
     pub number: u8,

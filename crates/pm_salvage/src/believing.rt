@@ -17,7 +17,7 @@ use pm_volume::Entry;
 use std::alloc::{AllocError, Global};
 
 /// An entry that is left out.
-#[derive(Clone, Copy, Debug, PartialEq, Eq)]
+#[derive(Clone, Copy)]
 pub struct Left {
     /// Its slot.
     pub slot: u16,
@@ -26,7 +26,7 @@ pub struct Left {
 }
 
 /// A file that is taken.
-#[derive(Clone, Copy, Debug, PartialEq, Eq)]
+#[derive(Clone, Copy)]
 pub struct Taken {
     /// Its slot.
     pub slot: u16,

@@ -8,7 +8,7 @@ use std::alloc::AllocError;
 use std::fmt;
 
 /// Why a file is doubted.
-#[derive(Clone, Copy, Debug, PartialEq, Eq)]
+#[derive(Clone, Copy)]
 pub enum Doubt {
     /// It is not.
     Sure,

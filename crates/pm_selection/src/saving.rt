@@ -1,7 +1,7 @@
 //! Which images a run keeps.
 
 /// Which images are kept as a program left them.
-#[derive(Clone, Copy, Debug, PartialEq, Eq)]
+#[derive(Clone, Copy)]
 pub enum Saving {
     /// None.
     Nothing,

@@ -1,7 +1,7 @@
 //! Which lines of a trace are shown, and what stands in front of them.
 
 /// The code in which a step stands.
-#[derive(Clone, Copy, Debug, PartialEq, Eq)]
+#[derive(Clone, Copy)]
 pub enum Code {
     /// Any, and also a step that stands nowhere, since its SEG or JTAB is odd.
     Anywhere,
@@ -21,7 +21,7 @@ pub enum Code {
 
 /// Which lines of a trace are shown, and what stands in front of each. A line is shown where all of `from`, `code` and
 /// `calls` let it be.
-#[derive(Clone, Copy, Debug, PartialEq, Eq)]
+#[derive(Clone, Copy)]
 pub struct Selection {
     /// How many steps were made before the first that is shown.
     pub from: u32,

@@ -15,7 +15,7 @@ use arrayvec::ArrayVec;
 const LARGEST: u32 = 1_000_000;
 
 /// A command of the debugger.
-#[derive(Clone, Copy, Debug, PartialEq, Eq)]
+#[derive(Clone, Copy)]
 pub enum Command {
     /// Sets a breakpoint: segment, procedure and offset.
     Break(u8, u8, u16),
@@ -58,7 +58,7 @@ pub enum Command {
 }
 
 /// What a command shows that changes nothing.
-#[derive(Clone, Copy, Debug, PartialEq, Eq)]
+#[derive(Clone, Copy)]
 pub enum View {
     /// Words of the memory: from this address on, at most so many.
     Peek(u16, u16),

@@ -6,7 +6,7 @@ use pm_words::ExecError;
 use std::fmt;
 
 /// Why a run ended.
-#[derive(Clone, Copy, Debug, PartialEq, Eq)]
+#[derive(Clone, Copy, PartialEq, Eq)]
 pub enum Ending {
     /// The program came to its end.
     Ended,

@@ -6,7 +6,7 @@ ghost use Rattle.pm_source.specs.FaultNumbers.{number_of, place_of};
 use thiserror::Error;
 
 /// Why a text is refused. Lines are counted from 1.
-#[derive(Clone, Copy, Debug, PartialEq, Eq, Error)]
+#[derive(Clone, Copy, Debug, Error)]
 pub enum AsmFault {
     /// 1: a line is ill-formed or out of place, or begins a procedure that does not end.
     #[error("line {0} is ill-formed or out of place")]

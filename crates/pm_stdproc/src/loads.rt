@@ -10,7 +10,7 @@ use pm_words::ExecError;
 use std::marker::Model;
 
 /// Where the code of a slot stands on a disk.
-#[derive(Clone, Copy, Debug, PartialEq, Eq)]
+#[derive(Clone, Copy)]
 pub struct SlotRow {
     /// The unit of the disk.
     pub unit: u8,

@@ -6,7 +6,7 @@ ghost use Rattle.pm_stdproc.specs.Devices.{HasPlace, known, mount_number, unit_o
 use thiserror::Error;
 
 /// What stands behind the number of a unit.
-#[derive(Clone, Copy, Debug, PartialEq, Eq)]
+#[derive(Clone, Copy)]
 pub enum Port {
     /// The console, which shows what it reads.
     Console,
@@ -23,7 +23,7 @@ pub enum Port {
 }
 
 /// Why no disk is mounted.
-#[derive(Clone, Copy, Debug, Drop, Error, PartialEq, Eq)]
+#[derive(Clone, Copy, Debug, Drop, Error)]
 pub enum MountFault {
     /// 1: the number is not that of a disk unit.
     #[error("no disk unit")]

@@ -4,7 +4,7 @@ ghost use Rattle.std.specs.Prelude.{◌≡◌};
 ghost use Rattle.pm_stdproc.specs.Procedures.{procedure_numbered};
 
 /// A standard procedure that works on the stack, the heap and the memory alone.
-#[derive(Clone, Copy, Debug, PartialEq, Eq)]
+#[derive(Clone, Copy)]
 pub enum OnMemory {
     /// IOCHECK.
     CheckIo,
@@ -31,7 +31,7 @@ pub enum OnMemory {
 }
 
 /// A standard procedure that works with the units or the clock.
-#[derive(Clone, Copy, Debug, PartialEq, Eq)]
+#[derive(Clone, Copy)]
 pub enum OnUnits {
     /// UNITREAD.
     Read,
@@ -48,7 +48,7 @@ pub enum OnUnits {
 }
 
 /// A standard procedure.
-#[derive(Clone, Copy, Debug, PartialEq, Eq)]
+#[derive(Clone, Copy)]
 pub enum Procedure {
     /// One on the memory.
     OnMemory(OnMemory),

@@ -21,7 +21,7 @@ use pm_words::Memory;
 use std::alloc::AllocError;
 
 /// A transfer between a unit and the memory.
-#[derive(Clone, Copy, Debug, PartialEq, Eq)]
+#[derive(Clone, Copy)]
 pub struct Transfer {
     /// The address of the first byte in the memory.
     pub address: u16,
@@ -32,7 +32,7 @@ pub struct Transfer {
 }
 
 /// The operands of a transfer.
-#[derive(Clone, Copy, Debug, PartialEq, Eq)]
+#[derive(Clone, Copy)]
 pub struct Order {
     /// What is transferred.
     pub transfer: Transfer,

@@ -5,7 +5,7 @@ use std::alloc::AllocError;
 use thiserror::Error;
 
 /// Why an instruction does not go on. Everything is then as it was before the instruction.
-#[derive(Clone, Copy, Debug, Drop, Error, PartialEq, Eq)]
+#[derive(Clone, Copy, Debug, Drop, Error)]
 pub enum Trap {
     /// An execution error, which stops the machine.
     #[error("execution error")]

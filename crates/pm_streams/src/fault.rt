@@ -5,7 +5,7 @@ ghost use Rattle.pm_streams.specs.Faults.{fault_text};
 use std::alloc::AllocError;
 
 /// What breaks a job off before its end.
-#[derive(Clone, Copy, Debug, PartialEq, Eq)]
+#[derive(Clone, Copy)]
 pub enum Fault {
     /// A read answered an error, or the input is too long.
     Read,

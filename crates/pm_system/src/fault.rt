@@ -8,7 +8,7 @@ use std::alloc::AllocError;
 use thiserror::Error;
 
 /// Why a system segment is not put in. Nothing is changed then.
-#[derive(Clone, Copy, Debug, PartialEq, Eq, Error)]
+#[derive(Clone, Copy, Debug, Error)]
 pub enum SystemFault {
     /// 1: the system's file is no code file.
     #[error("the file behind --system is no code file: {0}")]

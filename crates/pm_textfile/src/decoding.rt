@@ -24,7 +24,7 @@ use crate::fault::TextFault;
 use std::alloc::{AllocError, Global};
 
 // Where a reader stands in a text file.
-#[derive(Clone, Copy, PartialEq, Eq)]
+#[derive(Clone, Copy)]
 pub(crate) enum LinePart {
     // At the start of a line: there was no byte but zeros since the last line's end.
     LineStart,

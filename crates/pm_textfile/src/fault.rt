@@ -7,7 +7,7 @@ use std::alloc::AllocError;
 use thiserror::Error;
 
 /// Why bytes are no text file, or why a text cannot be one.
-#[derive(Clone, Copy, Debug, PartialEq, Eq, Error)]
+#[derive(Clone, Copy, Debug, Error)]
 pub enum TextFault {
     /// 1: there are fewer than 1,024 bytes.
     #[error("the file has no header")]

@@ -11,7 +11,7 @@ use pm_streams::Fault;
 use std::alloc::{AllocError, Global};
 
 /// What is to be done.
-#[derive(Debug, Drop, PartialEq, Eq)]
+#[derive(Drop)]
 pub enum Job {
     /// The input spells a program: its bytes are pairs of hexadecimal digits of both cases, with white space (tabs,
     /// line feeds, carriage returns and spaces) anywhere but within a pair. The output is the trace of at most `limit`

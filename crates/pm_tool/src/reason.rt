@@ -23,7 +23,7 @@ impl fmt::Display for Procedure {
 
 /// Why a run ended, as the text that says what it means and what helps, with the procedure of the operating system that
 /// was called, where one was.
-#[derive(Clone, Copy, Debug, PartialEq, Eq)]
+#[derive(Clone, Copy)]
 pub struct RunReason(pub Ending, pub Option<u8>);
 
 impl fmt::Display for RunReason {

@@ -13,7 +13,7 @@ use pm_trace::Lines;
 use std::alloc::{AllocError, Global};
 
 /// What is shown of a run.
-#[derive(Clone, Copy, Debug, PartialEq, Eq)]
+#[derive(Clone, Copy)]
 pub(crate) enum Show {
     /// A line for each step that is selected, and a last line that says why the run ended.
     Trace(Selection),

@@ -26,7 +26,7 @@ use pm_words::ExecError;
 use std::alloc::{AllocError, Global};
 
 /// How a machine is talked with.
-#[derive(Clone, Copy, Debug, PartialEq, Eq)]
+#[derive(Clone, Copy)]
 pub(crate) enum Talk {
     /// It runs, for at most so many steps. The input is its console's.
     Run { show: Show, limit: u64 },

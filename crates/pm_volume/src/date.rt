@@ -5,7 +5,7 @@ ghost use Rattle.pm_volume.specs.Dates.{date_of, date_word, is_date};
 
 /// A date, which a directory has in one word: the month in bits 0 to 3, the day in bits 4 to 8, the year in bits 9 to
 /// 15.
-#[derive(Clone, Copy, Debug, PartialEq, Eq)]
+#[derive(Clone, Copy)]
 pub struct Date {
     /// The year of the century, 0 to 127.
     pub year: u8,

@@ -13,7 +13,7 @@ use crate::fields::{
 use pm_base::{BLOCK, set_bytes, set_word, word};
 
 /// A file's entry in the directory.
-#[derive(Clone, Copy, Debug, PartialEq, Eq)]
+#[derive(Clone, Copy)]
 pub struct Entry {
     /// The name as the directory has it: a length byte, then up to 15 characters.
     pub name: [u8; 16],

@@ -9,7 +9,7 @@ use crate::fields::{HEADER_BLOCKS, HEADER_FILES, HEADER_FILES_BEGIN};
 use pm_base::word;
 
 /// The free space of a volume.
-#[derive(Clone, Copy, Debug, PartialEq, Eq)]
+#[derive(Clone, Copy)]
 pub struct Space {
     /// The blocks of all gaps.
     pub free: u32,

@@ -30,7 +30,7 @@ pub fn store(memory: &mut Memory, address: u16, word: u16) -> Result<(), ExecErr
 }
 
 /// A word that was popped.
-#[derive(Clone, Copy, Debug, PartialEq, Eq)]
+#[derive(Clone, Copy)]
 pub struct Popped {
     /// The word that was on the top of the stack.
     pub word: u16,

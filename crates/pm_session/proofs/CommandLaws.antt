@@ -1,16 +1,12 @@
 -- Numbers of a line, digit by digit and word by word.
 use Rattle.std.proofs.Common.{◌≡◌, ◌∙◌, ◌+◌, ◌-◌, ◌*◌, ◌^◌, ◌≤◌, ◌<◌, ap, sym, refl, arith, ℕ, zero, suc, Bool, true, false, List, [], ◌∷◌, ◌++◌, length}
-use Rattle.std.proofs.Common.{append_assoc, append-nil, get_or, Option, Some, None}
+use Rattle.std.proofs.Common.{append_assoc, append-nil, Option, Some, None}
 use Rattle.std.specs.Char.{digit_value}
-use Rattle.std.proofs.lemmas.Slice.Eq.{bytes_eq-Decides}
-use Rattle.std.specs.Prelude.{min, nat_le, nat_lt, codes, if◌then◌else◌}
-use Rattle.std.specs.Str.{bytes_eq}
+use Rattle.std.specs.Prelude.{min, nat_lt, if◌then◌else◌}
 use Rattle.std.specs.Str.Parse.{digits_value}
 use Rattle.std.proofs.lemmas.Bool.Decides.{nat_tests}
-use Rattle.pm_session.specs.declared.commands.Command.TheVariants as commands
-use Rattle.pm_session.specs.declared.commands.View.TheVariants as views
 use Rattle.pm_names.specs.Names.{is_digit}
-use Rattle.pm_session.specs.Commands.{command_in, command_rows, number_and_numbers, number_up_to}
+use Rattle.pm_session.specs.Commands.{number_and_numbers}
 use Rattle.pm_session.specs.Commands.{word_number, number_behind, numbers}
 
 -- a number that is too large stays so
@@ -129,29 +125,3 @@ module _ (whole : Option (List ℕ)) (front : List ℕ) (k : ℕ) (words : List 
         h ∙ ap (λ ws. behind front (numbers k ws)) e ∙ ap (λ i. behind front (numbers i (word ∷ rest))) ke
         ∙ ap (behind front) (numbers_more j word rest ∙ ap (λ m. number_and_numbers m (numbers j rest)) is)
         ∙ behind_one front n (numbers j rest)
-
--- ---- the row of `bytes`
-
-up_to : (most n x : ℕ) → number_up_to most n ≡ Some x → (nat_le n most ≡ true) × (n ≡ x)
-up_to most n x h = by_test (nat_le n most) h
-  where
-    by_test : (b : Bool) → (if b then Some n else None) ≡ Some x → (b ≡ true) × (n ≡ x)
-    by_test true e = (refl, cc)
-    by_test false e = absurd (cc)
-
-bytes_row : (a b x y : ℕ) → number_up_to 65535 a ≡ Some x → number_up_to 65535 b ≡ Some y
-    → command_in command_rows (codes "bytes") (a ∷ b ∷ []) ≡ Some (commands.Show (views.Bytes x y))
-unfolding command_rows
-bytes_row a b x y p q =
-    let first = up_to 65535 a x p in
-    let second = up_to 65535 b y q in
-    rw (first.0, second.0, first.1, second.1) refl
-
-pub bytes_named : (word ns : List ℕ) (x y : ℕ) → bytes_eq word (codes "bytes") ≡ true → length ns ≡ 2 → Some x ≡ number_up_to 65535 (get_or ns 0 0)
-    → Some y ≡ number_up_to 65535 (get_or ns 1 0) → Some (commands.Show (views.Bytes x y)) ≡ command_in command_rows word ns
-bytes_named word [] x y is two p q = absurd (omega arith)
-bytes_named word (a ∷ []) x y is two p q = absurd (omega arith)
-bytes_named word (a ∷ b ∷ []) x y is two p q =
-    let named : word ≡ codes "bytes" = (bytes_eq-Decides word (codes "bytes")).0 is in
-    sym (ap (λ w. command_in command_rows w (a ∷ b ∷ [])) named ∙ bytes_row a b x y (sym p) (sym q))
-bytes_named word (a ∷ b ∷ c ∷ ns) x y is two p q = absurd (omega arith)

@@ -258,41 +258,88 @@ fn slot(n: u32) -> Option<u8>
     if n <= 15 { Some(n as u8) } else { None }
 }
 
-/// The command of a name and the numbers behind it: a row for each command.
+/// The command of a name alone: a row for each.
 #[tactic(auto, unfolding(crate::specs::Commands::command_rows))]
-fn command_named(name: &[u8], numbers: &[u32]) -> Option<Command>
-    ensures command { result ≡ command_in command_rows name.now numbers.now }
+fn named_alone(name: &[u8]) -> Option<Command>
+    ensures command { result ≡ command_in command_rows name.now [] }
 {
-    let command = match numbers {
-        [s, p, o] if is_text(name, "break") => Command::Break(byte(*s)?, byte(*p)?, word(*o)?),
-        [s, p, o] if is_text(name, "clear") => Command::Clear(byte(*s)?, byte(*p)?, word(*o)?),
-        [a, w] if is_text(name, "poke") => Command::Poke(word(*a)?, word(*w)?),
-        [b] if is_text(name, "key") => Command::Key(byte(*b)?),
-        [n] if is_text(name, "go") => Command::Go(*n),
-        [n] if is_text(name, "stack") => Command::Stack(word(*n)?),
-        [n] if is_text(name, "static") => Command::Static(word(*n)?),
-        [n] if is_text(name, "dynamic") => Command::Dynamic(word(*n)?),
-        [d, b] if is_text(name, "local") => Command::Local(word(*d)?, word(*b)?),
-        [] if is_text(name, "regs") => Command::Registers,
-        [n] if is_text(name, "place") => Command::Place(slot(*n)?),
-        [] if is_text(name, "trace") => Command::Trace,
-        [a, n] if is_text(name, "peek") => Command::Show(View::Peek(word(*a)?, word(*n)?)),
-        [a, n] if is_text(name, "bytes") => Command::Show(View::Bytes(word(*a)?, word(*n)?)),
-        [] if is_text(name, "where") => Command::Show(View::Where),
-        [] if is_text(name, "breaks") => Command::Show(View::Breaks),
-        [n] if is_text(name, "frames") => Command::Show(View::Frames(word(*n)?)),
-        [n] if is_text(name, "list") => Command::Show(View::Ahead(word(*n)?)),
-        [n] if is_text(name, "console") => Command::Show(View::Console(word(*n)?)),
-        [] if is_text(name, "step") => Command::Step,
-        [] if is_text(name, "finish") => Command::Finish,
-        [a] if is_text(name, "watch") => Command::Watch(word(*a)?),
-        [a] if is_text(name, "unwatch") => Command::Unwatch(word(*a)?),
-        [] if is_text(name, "watches") => Command::Show(View::Watches),
-        [] if is_text(name, "help") => Command::Show(View::Help),
-        [] if is_text(name, "quit") => Command::Quit,
+    let command = match name {
+        _ if is_text(name, "regs") => Command::Registers,
+        _ if is_text(name, "trace") => Command::Trace,
+        _ if is_text(name, "where") => Command::Show(View::Where),
+        _ if is_text(name, "breaks") => Command::Show(View::Breaks),
+        _ if is_text(name, "step") => Command::Step,
+        _ if is_text(name, "finish") => Command::Finish,
+        _ if is_text(name, "watches") => Command::Show(View::Watches),
+        _ if is_text(name, "help") => Command::Show(View::Help),
+        _ if is_text(name, "quit") => Command::Quit,
         _ => return None,
     };
     Some(command)
+}
+
+/// The command of a name and one number: a row for each.
+#[tactic(auto, unfolding(crate::specs::Commands::command_rows))]
+fn named_with_one(name: &[u8], n: u32) -> Option<Command>
+    ensures command { result ≡ command_in command_rows name.now (n ∷ []) }
+{
+    let command = match name {
+        _ if is_text(name, "key") => Command::Key(byte(n)?),
+        _ if is_text(name, "go") => Command::Go(n),
+        _ if is_text(name, "stack") => Command::Stack(word(n)?),
+        _ if is_text(name, "static") => Command::Static(word(n)?),
+        _ if is_text(name, "dynamic") => Command::Dynamic(word(n)?),
+        _ if is_text(name, "place") => Command::Place(slot(n)?),
+        _ if is_text(name, "frames") => Command::Show(View::Frames(word(n)?)),
+        _ if is_text(name, "list") => Command::Show(View::Ahead(word(n)?)),
+        _ if is_text(name, "console") => Command::Show(View::Console(word(n)?)),
+        _ if is_text(name, "watch") => Command::Watch(word(n)?),
+        _ if is_text(name, "unwatch") => Command::Unwatch(word(n)?),
+        _ => return None,
+    };
+    Some(command)
+}
+
+/// The command of a name and two numbers: a row for each.
+#[tactic(auto, unfolding(crate::specs::Commands::command_rows))]
+fn named_with_two(name: &[u8], a: u32, n: u32) -> Option<Command>
+    ensures command { result ≡ command_in command_rows name.now (a ∷ n ∷ []) }
+{
+    let command = match name {
+        _ if is_text(name, "poke") => Command::Poke(word(a)?, word(n)?),
+        _ if is_text(name, "local") => Command::Local(word(a)?, word(n)?),
+        _ if is_text(name, "peek") => Command::Show(View::Peek(word(a)?, word(n)?)),
+        _ if is_text(name, "bytes") => Command::Show(View::Bytes(word(a)?, word(n)?)),
+        _ => return None,
+    };
+    Some(command)
+}
+
+/// The command of a name and three numbers: a row for each.
+#[tactic(auto, unfolding(crate::specs::Commands::command_rows))]
+fn named_with_three(name: &[u8], s: u32, p: u32, o: u32) -> Option<Command>
+    ensures command { result ≡ command_in command_rows name.now (s ∷ p ∷ o ∷ []) }
+{
+    let command = match name {
+        _ if is_text(name, "break") => Command::Break(byte(s)?, byte(p)?, word(o)?),
+        _ if is_text(name, "clear") => Command::Clear(byte(s)?, byte(p)?, word(o)?),
+        _ => return None,
+    };
+    Some(command)
+}
+
+/// The command of a name and the numbers behind it, of which there are at most three.
+fn command_named(name: &[u8], numbers: &[u32]) -> Option<Command>
+    requires few { length numbers.now ≤ 3 }
+    ensures command { result ≡ command_in command_rows name.now numbers.now }
+{
+    match numbers {
+        [] => named_alone(name),
+        [n] => named_with_one(name, *n),
+        [a, n] => named_with_two(name, *a, *n),
+        [s, p, o] => named_with_three(name, *s, *p, *o),
+        _ => None,
+    }
 }
 
 /// The command of a name and the word behind it: a row for each.

@@ -1,5 +1,5 @@
 //! Jobs that talk with a machine: its run is shown and gets the input, or a debugger answers lines.
-ghost use Rattle.std.specs.Prelude.{◌≡◌, false, true, [], ◌++◌, List, ℕ, IfOk, IfErr, OnOk, OnErr};
+ghost use Rattle.std.specs.Prelude.{◌≡◌, false, true, [], ◌++◌, List, ℕ, Ok, IfOk, IfErr, OnOk, OnErr};
 ghost use Rattle.std.specs.Prelude.{option_map, vec_items};
 ghost use Rattle.pm_machine.specs.Events.{Eject, next};
 ghost use Rattle.pm_stdproc.specs.Devices.{ejected_image};
@@ -152,6 +152,56 @@ fn tell<W: Sink>(
     }
 }
 
+/// Runs a machine: writes what is shown of it, and answers what it comes to.
+fn do_run<R: Source, W: Sink>(
+    alloc: Global,
+    source: &mut R,
+    sink: &mut W,
+    machine: &mut Machine,
+    show: Show,
+    limit: u64,
+) -> Result<Outcome, Fault>
+    requires well { AreWell (both (R.seen source.old) (W.seen sink.old)) }
+    ensures done { IfOk result (λ outcome. Finishes (both (R.seen source.old) (W.seen sink.old))
+        (both (R.seen source.new) (W.seen sink.new)) outcome
+        (said_talk (Talk.Run show limit) (Ok machine.old.state))) }
+    ensures told { IfOk result SaysWhy }
+    ensures well { OnOk result (AreWell (both (R.seen source.new) (W.seen sink.new))) }
+    ensures broken { IfErr result (λ fault. BreaksOff (both (R.seen source.old) (W.seen sink.old))
+        (both (R.seen source.new) (W.seen sink.new)) fault
+        (said_talk (Talk.Run show limit) (Ok machine.old.state))) }
+    ensures prompt { OnErr result (WritesInTime (both (R.seen source.old) (W.seen sink.old))
+        (both (R.seen source.new) (W.seen sink.new)) (shown_talk (Talk.Run show limit) (Ok machine.old.state))) }
+    ensures counts { IsCounted (R.seen source.old) (R.seen source.new) result }
+{
+    let (ending, page) = drive(alloc, source, sink, machine, show, limit)?;
+    let outcome = tell(alloc, sink, machine, show, ending, page)?;
+    Ok(outcome)
+}
+
+/// Lets a debugger of a machine answer the lines of the input.
+fn do_session<R: Source, W: Sink>(
+    alloc: Global,
+    source: &mut R,
+    sink: &mut W,
+    machine: Machine,
+) -> Result<Outcome, Fault>
+    requires well { AreWell (both (R.seen source.old) (W.seen sink.old)) }
+    ensures done { IfOk result (λ outcome. Finishes (both (R.seen source.old) (W.seen sink.old))
+        (both (R.seen source.new) (W.seen sink.new)) outcome (said_talk Talk.Session (Ok machine.state))) }
+    ensures told { IfOk result SaysWhy }
+    ensures well { OnOk result (AreWell (both (R.seen source.new) (W.seen sink.new))) }
+    ensures broken { IfErr result (λ fault. BreaksOff (both (R.seen source.old) (W.seen sink.old))
+        (both (R.seen source.new) (W.seen sink.new)) fault (said_talk Talk.Session (Ok machine.state))) }
+    ensures prompt { OnErr result (WritesInTime (both (R.seen source.old) (W.seen sink.old))
+        (both (R.seen source.new) (W.seen sink.new)) (shown_talk Talk.Session (Ok machine.state))) }
+    ensures counts { IsCounted (R.seen source.old) (R.seen source.new) result }
+{
+    let mut debugger = Debugger::new(machine);
+    converse(alloc, source, sink, &mut debugger)?;
+    Ok(Outcome::plain(alloc, Exit::Ended, String::new(alloc)))
+}
+
 /// Talks with the machine that starts. Where none does, the job is refused and none of the input is read.
 pub(crate) fn do_talk<R: Source, W: Sink>(
     alloc: Global,
@@ -176,15 +226,7 @@ pub(crate) fn do_talk<R: Source, W: Sink>(
         Err(refusal) => return Ok(refuse(alloc, refusal)?),
     };
     match talk {
-        Talk::Run { show, limit } => {
-            let (ending, page) = drive(alloc, source, sink, &mut machine, show, limit)?;
-            let outcome = tell(alloc, sink, &mut machine, show, ending, page)?;
-            Ok(outcome)
-        }
-        Talk::Session => {
-            let mut debugger = Debugger::new(machine);
-            converse(alloc, source, sink, &mut debugger)?;
-            Ok(Outcome::plain(alloc, Exit::Ended, String::new(alloc)))
-        }
+        Talk::Run { show, limit } => do_run(alloc, source, sink, &mut machine, show, limit),
+        Talk::Session => do_session(alloc, source, sink, machine),
     }
 }

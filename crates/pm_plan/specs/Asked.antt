@@ -22,6 +22,7 @@ use Rattle.pm_plan.specs.declared.file_words.Verb.TheVariants as verbs
 use Rattle.pm_plan.specs.declared.file_words.Chosen.{Chosen}
 use Rattle.pm_plan.specs.declared.file_words.Chosen.TheVariants as chosen
 use Rattle.pm_plan.specs.declared.run_words.Keeping.{Keeping}
+use Rattle.pm_plan.specs.declared.run_words.Others.{Others}
 use Rattle.pm_plan.specs.declared.run_words.Program.{Program}
 use Rattle.pm_plan.specs.declared.words.Plan.{Plan}
 use Rattle.pm_plan.specs.declared.words.Plan.TheVariants as plans
@@ -88,6 +89,14 @@ pub record IsFlag (found : Option (List ℕ)) (flag : Bool) : Type 0 where
   pub absent : found ≡ None → flag ≡ false
   pub given : found ≡ Some (codes "true") → flag ≡ true
   pub denied : found ≡ Some (codes "false") → flag ≡ false
+
+-- the words for the disks on the other units than 4, each by its unit's option
+pub record AsksOthers (rows : List Row) (others : Others) : Type 0 where
+  pub d5 : word_found rows (codes "d5") ≡ option_map string_bytes others.d5
+  pub d9 : word_found rows (codes "d9") ≡ option_map string_bytes others.d9
+  pub d10 : word_found rows (codes "d10") ≡ option_map string_bytes others.d10
+  pub d11 : word_found rows (codes "d11") ≡ option_map string_bytes others.d11
+  pub d12 : word_found rows (codes "d12") ≡ option_map string_bytes others.d12
 
 -- the words of run, trace and debug: each disk by its unit's option
 pub record AsksProgram (rows : List Row) (program : Program) : Type 0 where

@@ -104,6 +104,11 @@ abbrev pub MeetAll : List Row → Option (List (List ℕ × Need)) → Type 0
 MeetAll rows None = ⊥
 MeetAll rows (Some needs) = MeetEach rows needs
 
+-- what is needed for the disks on the other units than 4
+abbrev pub others_needs : List (List ℕ × Need)
+others_needs = (codes "d5", Optional) ∷ (codes "d9", Optional) ∷ (codes "d10", Optional) ∷ (codes "d11", Optional)
+    ∷ (codes "d12", Optional) ∷ []
+
 -- what run, trace and debug need: the disk of unit 4, and the program's name
 abbrev pub program_needs : List (List ℕ × Need)
 program_needs = (codes "d4", Given) ∷ (codes "d5", Optional) ∷ (codes "d9", Optional) ∷ (codes "d10", Optional)

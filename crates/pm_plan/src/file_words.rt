@@ -81,7 +81,7 @@ fn short_number(text: &str) -> Option<u16>
 }
 
 /// A word that the command line has to have.
-fn word(alloc: Global, matches: &ArgMatches<'_>, id: &str) -> Result<String, WordsError>
+pub(crate) fn word(alloc: Global, matches: &ArgMatches<'_>, id: &str) -> Result<String, WordsError>
     ensures value { IfOk result (λ text. word_found (words_of matches.now) id.now ≡ Some (string_bytes text)) }
     ensures taken { IsThere (word_found (words_of matches.now) id.now) → IsOkUnless result NoMemory }
 {

@@ -1,11 +1,13 @@
 //! The words of `run`, `trace` and `debug`.
-ghost use Rattle.std.specs.Prelude.{◌↔◌, ◌||◌, IfErr, IfOk, IsOk, IsOkUnless, codes};
-ghost use Rattle.pm_plan.specs.Asked.{AsksKeeping, AsksProgram, IsRunLimit, IsRunLimitWord, IsSaving, is_set};
-ghost use Rattle.pm_plan.specs.Asked.{word_found, words_of};
-ghost use Rattle.pm_plan.specs.Needed.{IsAlone, IsNotBoth, IsWrong, MeetEach, keeping_needs, program_needs};
+ghost use Rattle.std.specs.Prelude.{◌≡◌, ◌↔◌, ◌||◌, IfErr, IfOk, IsOk, IsOkUnless, Some, codes, string_bytes};
+ghost use Rattle.pm_plan.specs.Asked.{AsksKeeping, AsksOthers, AsksProgram, IsRunLimit, IsRunLimitWord, IsSaving};
+ghost use Rattle.pm_plan.specs.Asked.{is_set, word_found, words_of};
+ghost use Rattle.pm_plan.specs.Needed.{IsAlone, IsGiven, IsNotBoth, IsWrong, MeetEach, keeping_needs, others_needs};
+ghost use Rattle.pm_plan.specs.Needed.{program_needs};
 ghost use Rattle.pm_plan.specs.declared.words.WordsError.TheVariants.{NoMemory};
 
-use crate::words::{WordsError, flag, found, given, is_set, limit_of, needed};
+use crate::file_words::word;
+use crate::words::{WordsError, flag, found, given, is_set, limit_of};
 use clap::ArgMatches;
 use pm_selection::Saving;
 use std::alloc::Global;
@@ -63,21 +65,39 @@ fn run_limit_of(matches: &ArgMatches<'_>) -> Result<u64, WordsError>
     }
 }
 
+/// The file that has the image of the disk on unit 4.
+fn disk_of(alloc: Global, matches: &ArgMatches<'_>) -> Result<String, WordsError>
+    ensures disk { IfOk result (λ disk. word_found (words_of matches.now) (codes "d4") ≡ Some (string_bytes disk)) }
+    ensures good { IsOk result → IsGiven (word_found (words_of matches.now) (codes "d4")) }
+    ensures taken { IsGiven (word_found (words_of matches.now) (codes "d4")) → IsOkUnless result NoMemory }
+{
+    given(alloc, matches, "d4")?.ok_or(WordsError::NoCommand)
+}
+
+/// The files that have the images of the disks on the other units.
+fn others_of(alloc: Global, matches: &ArgMatches<'_>) -> Result<Others, WordsError>
+    ensures asked { IfOk result (AsksOthers (words_of matches.now)) }
+    ensures good { IsOk result → MeetEach (words_of matches.now) others_needs }
+    ensures taken { MeetEach (words_of matches.now) others_needs → IsOkUnless result NoMemory }
+{
+    Ok(Others {
+        d5: given(alloc, matches, "d5")?,
+        d9: given(alloc, matches, "d9")?,
+        d10: given(alloc, matches, "d10")?,
+        d11: given(alloc, matches, "d11")?,
+        d12: given(alloc, matches, "d12")?,
+    })
+}
+
 /// The program that the words name.
 pub fn program_of(alloc: Global, matches: &ArgMatches<'_>) -> Result<Program, WordsError>
     ensures asked { IfOk result (λ program. AsksProgram (words_of matches.now) program) }
     ensures good { IsOk result → MeetEach (words_of matches.now) program_needs }
     ensures taken { MeetEach (words_of matches.now) program_needs → IsOkUnless result NoMemory }
 {
-    let disk = given(alloc, matches, "d4")?.ok_or(WordsError::NoCommand)?;
-    let others = Others {
-        d5: given(alloc, matches, "d5")?,
-        d9: given(alloc, matches, "d9")?,
-        d10: given(alloc, matches, "d10")?,
-        d11: given(alloc, matches, "d11")?,
-        d12: given(alloc, matches, "d12")?,
-    };
-    let name = String::from_str(alloc, needed(matches, "NAME")?)?;
+    let disk = disk_of(alloc, matches)?;
+    let others = others_of(alloc, matches)?;
+    let name = word(alloc, matches, "NAME")?;
     let limit = run_limit_of(matches)?;
     let system = given(alloc, matches, "system")?;
     Ok(Program {

@@ -1,32 +1,7 @@
 -- What a step and a row leave as it is.
 use Rattle.std.specs.Prelude.{slice_get}
-use Rattle.std.proofs.Common.{
-  ◌≡◌,
-  ◌≢◌,
-  ℕ,
-  ◌+◌,
-  ◌-◌,
-  ◌*◌,
-  ◌%◌,
-  ◌&&◌,
-  inl,
-  inr,
-  Some,
-  None,
-  length,
-  Bool,
-  true,
-  false,
-  nat_lt,
-  List,
-  Option,
-  Result,
-  Ok,
-  Err,
-  refl,
-  ap,
-  arith,
-}
+use Rattle.std.proofs.Common.{◌≡◌, ◌≢◌, ℕ, ◌+◌, ◌-◌, ◌*◌, ◌%◌, ◌&&◌, inl, inr, Some, None, length, Bool, true, false, nat_lt, List, Option, Result}
+use Rattle.std.proofs.Common.{Ok, Err, refl, ap, arith}
 use Rattle.std.proofs.lemmas.Bool.{cases_Bool}
 use Rattle.std.proofs.lemmas.Bool.Decides.{nat_tests}
 use Rattle.pm_words.specs.declared.error.ExecError.{ExecError}

@@ -1,28 +1,6 @@
 -- The start of a program from a code file on a volume.
-use Rattle.std.specs.Prelude.{
-  ℕ,
-  zero,
-  suc,
-  ◌+◌,
-  ◌%◌,
-  ◌==◌,
-  ◌≡◌,
-  List,
-  [],
-  ◌∷◌,
-  ◌++◌,
-  Option,
-  Some,
-  None,
-  is_none,
-  is_some,
-  replicate,
-  Result,
-  Ok,
-  Err,
-  IsOk,
-  if◌then◌else◌,
-}
+use Rattle.std.specs.Prelude.{ℕ, zero, suc, ◌+◌, ◌%◌, ◌==◌, ◌≡◌, List, [], ◌∷◌, ◌++◌, Option, Some, None, is_none}
+use Rattle.std.specs.Prelude.{is_some, replicate, Result, Ok, Err, IsOk, if◌then◌else◌}
 use Rattle.pm_words.specs.declared.error.ExecError.{ExecError}
 use Rattle.pm_words.specs.Words.{zero_words}
 use Rattle.pm_words.specs.Stack.{◌>>=◌, demand}

@@ -1,30 +1,6 @@
 -- The parts of an image of bytes are bytes, and its numbers are words.
-use Rattle.std.proofs.Common.{
-  ◌≡◌,
-  ◌<◌,
-  ℕ,
-  ◌+◌,
-  ◌-◌,
-  ◌*◌,
-  Bool,
-  true,
-  false,
-  cond,
-  nat_lt,
-  nat_le,
-  List,
-  [],
-  length,
-  get_or,
-  slice_range,
-  slice_index,
-  Some,
-  None,
-  inl,
-  inr,
-  subst,
-  arith,
-}
+use Rattle.std.proofs.Common.{◌≡◌, ◌<◌, ℕ, ◌+◌, ◌-◌, ◌*◌, Bool, true, false, cond, nat_lt, nat_le, List, [], length, get_or, slice_range, slice_index, Some}
+use Rattle.std.proofs.Common.{None, inl, inr, subst, arith}
 use Rattle.std.specs.List.{All}
 use Rattle.std.proofs.lemmas.Bool.{cases_Bool}
 use Rattle.std.proofs.lemmas.Bool.Decides.{nat_tests}

@@ -1,38 +1,6 @@
 -- No place is for no call and no keep.
-use Rattle.std.proofs.Common.{
-  ◌≡◌,
-  ◌<◌,
-  inl,
-  inr,
-  ℕ,
-  ◌+◌,
-  ◌-◌,
-  ◌*◌,
-  ◌==◌,
-  ◌&&◌,
-  ◌||◌,
-  Bool,
-  true,
-  false,
-  cond,
-  nat_lt,
-  nat_le,
-  List,
-  [],
-  ◌∷◌,
-  length,
-  replicate,
-  Option,
-  Some,
-  None,
-  Result,
-  Ok,
-  Err,
-  ap,
-  ◌∙◌,
-  subst,
-  arith,
-}
+use Rattle.std.proofs.Common.{◌≡◌, ◌<◌, inl, inr, ℕ, ◌+◌, ◌-◌, ◌*◌, ◌==◌, ◌&&◌, ◌||◌, Bool, true, false, cond, nat_lt, nat_le, List, [], ◌∷◌, length, replicate}
+use Rattle.std.proofs.Common.{Option, Some, None, Result, Ok, Err, ap, ◌∙◌, subst, arith}
 use Rattle.std.specs.Prelude.{slice_get, slice_set, slice_index_or, option_and_then, position}
 use Rattle.std.specs.List.{All}
 use Rattle.std.proofs.lemmas.Bool.Decides.{nat_tests}
@@ -89,21 +57,8 @@ use Rattle.pm_rows.specs.Values.{value_row}
 use Rattle.pm_rows.specs.Variables.{variable_row}
 use Rattle.pm_machine_laws.specs.Shapes.{IsCounted, MachinesCountCalls}
 use Rattle.pm_machine_laws.proofs.ShapeLaws.{bound, chosen, ok_same, parts_there}
-use Rattle.pm_machine_laws.proofs.Places.{
-  Holds,
-  Places,
-  after,
-  boot_holds,
-  raw_holds,
-  lifted,
-  next_holds,
-  of_parts,
-  of_reach,
-  of_state,
-  procedure_holds,
-  standard_holds,
-  then,
-}
+use Rattle.pm_machine_laws.proofs.Places.{Holds, Places, after, boot_holds, raw_holds, lifted, next_holds, of_parts, of_reach, of_state, procedure_holds}
+use Rattle.pm_machine_laws.proofs.Places.{standard_holds, then}
 
 abbrev AreCounted : Places → Type 0
 AreCounted places = All IsCounted places

@@ -1,41 +1,6 @@
 -- Segments that the program keeps.
-use Rattle.std.proofs.Common.{
-  ◌≡◌,
-  ◌≢◌,
-  ◌<◌,
-  ◌≤◌,
-  inl,
-  inr,
-  ℕ,
-  ◌+◌,
-  ◌-◌,
-  ◌==◌,
-  ◌||◌,
-  Bool,
-  true,
-  false,
-  cond,
-  nat_lt,
-  nat_le,
-  List,
-  [],
-  ◌∷◌,
-  length,
-  replicate,
-  Option,
-  Some,
-  None,
-  Result,
-  Ok,
-  Err,
-  refl,
-  sym,
-  ap,
-  ◌∙◌,
-  subst,
-  arith,
-  get_or,
-}
+use Rattle.std.proofs.Common.{◌≡◌, ◌≢◌, ◌<◌, ◌≤◌, inl, inr, ℕ, ◌+◌, ◌-◌, ◌==◌, ◌||◌, Bool, true, false, cond, nat_lt, nat_le, List, [], ◌∷◌, length, replicate}
+use Rattle.std.proofs.Common.{Option, Some, None, Result, Ok, Err, refl, sym, ap, ◌∙◌, subst, arith, get_or}
 use Rattle.std.specs.Prelude.{slice_get, slice_set, slice_index_or, option_and_then, position}
 use Rattle.std.specs.List.{All}
 use Rattle.std.proofs.lemmas.Bool.{cases_Bool}
@@ -71,42 +36,11 @@ use Rattle.pm_machine.specs.Events.Event.{Step, Key, Poke, Mount, Eject}
 use Rattle.pm_machine.specs.Procedures.{is_base_return, parts, reach, return_row, standard_row, status_after, with_parts, words_of_return}
 use Rattle.pm_machine.specs.Rows.{fetched, past_instruction, performed, row}
 use Rattle.pm_machine.specs.Steps.{at_status, executed, settled, stepped}
-use Rattle.pm_machine_laws.specs.Keeping.{
-  IsAtProcedure,
-  IsNeverAt,
-  IsPlainRun,
-  IsUnkept,
-  KeptSegmentsStand,
-  StandsAs,
-  UnkeptMachinesArePlain,
-  plain_after_all,
-  plain_at_status,
-  plain_executed,
-  plain_less,
-  plain_lessened,
-  plain_next,
-  plain_performed,
-  plain_released,
-  plain_returned,
-  plain_return_row,
-}
-use Rattle.pm_machine_laws.proofs.Places.{
-  Holds,
-  Places,
-  after,
-  boot_holds,
-  lifted,
-  next_holds,
-  not_unkeep,
-  of_parts,
-  of_reach,
-  of_state,
-  other_holds,
-  procedure_holds,
-  raw_holds,
-  standard_holds,
-  then,
-}
+use Rattle.pm_machine_laws.specs.Keeping.{IsAtProcedure, IsNeverAt, IsPlainRun, IsUnkept, KeptSegmentsStand, StandsAs, UnkeptMachinesArePlain, plain_after_all}
+use Rattle.pm_machine_laws.specs.Keeping.{plain_at_status, plain_executed, plain_less, plain_lessened, plain_next, plain_performed, plain_released}
+use Rattle.pm_machine_laws.specs.Keeping.{plain_returned, plain_return_row}
+use Rattle.pm_machine_laws.proofs.Places.{Holds, Places, after, boot_holds, lifted, next_holds, not_unkeep, of_parts, of_reach, of_state, other_holds}
+use Rattle.pm_machine_laws.proofs.Places.{procedure_holds, raw_holds, standard_holds, then}
 
 -- ---- a kept segment stands where it is
 

@@ -1,38 +1,6 @@
 -- What no event changes.
-use Rattle.std.proofs.Common.{
-  ◌≡◌,
-  inl,
-  inr,
-  ℕ,
-  ◌+◌,
-  ◌*◌,
-  ◌==◌,
-  ◌&&◌,
-  Bool,
-  true,
-  false,
-  cond,
-  nat_lt,
-  nat_le,
-  List,
-  [],
-  ◌∷◌,
-  length,
-  Option,
-  Some,
-  None,
-  is_none,
-  Result,
-  Ok,
-  Err,
-  refl,
-  sym,
-  ap,
-  ◌∙◌,
-  subst,
-  arith,
-  length-set,
-}
+use Rattle.std.proofs.Common.{◌≡◌, inl, inr, ℕ, ◌+◌, ◌*◌, ◌==◌, ◌&&◌, Bool, true, false, cond, nat_lt, nat_le, List, [], ◌∷◌, length, Option, Some, None}
+use Rattle.std.proofs.Common.{is_none, Result, Ok, Err, refl, sym, ap, ◌∙◌, subst, arith, length-set}
 use Rattle.std.specs.Prelude.{position, slice_get}
 use Rattle.std.proofs.lemmas.Bool.{cases_Bool}
 use Rattle.std.proofs.lemmas.Option.{slice_get_past}

@@ -1,30 +1,6 @@
 -- Laws of segments that the program keeps.
-use Rattle.std.specs.Prelude.{
-  ◌≡◌,
-  ◌<◌,
-  ◌≤◌,
-  ℕ,
-  ◌-◌,
-  ◌||◌,
-  ◌==◌,
-  Bool,
-  List,
-  [],
-  ◌∷◌,
-  All,
-  Option,
-  Some,
-  None,
-  Result,
-  Ok,
-  Err,
-  if◌then◌else◌,
-  nat_lt,
-  option_and_then,
-  position,
-  slice_index_or,
-  slice_set,
-}
+use Rattle.std.specs.Prelude.{◌≡◌, ◌<◌, ◌≤◌, ℕ, ◌-◌, ◌||◌, ◌==◌, Bool, List, [], ◌∷◌, All, Option, Some, None, Result}
+use Rattle.std.specs.Prelude.{Ok, Err, if◌then◌else◌, nat_lt, option_and_then, position, slice_index_or, slice_set}
 use Rattle.pm_words.specs.declared.error.ExecError.{ExecError}
 use Rattle.pm_words.specs.declared.error.ExecError.TheVariants as errors
 use Rattle.pm_words.specs.Stack.{◌>>=◌}

@@ -1,28 +1,6 @@
 -- Laws of words as signed numbers: division, and the order in which a case jump counts.
-use Rattle.std.specs.Prelude.{
-  ◌≡◌,
-  ◌≢◌,
-  ◌<◌,
-  ◌⊎◌,
-  ℕ,
-  ◌+◌,
-  ◌*◌,
-  ◌%◌,
-  ◌&&◌,
-  List,
-  true,
-  Ok,
-  if◌then◌else◌,
-  ℤ,
-  pos,
-  ◌+ℤ◌,
-  ◌-ℤ◌,
-  ◌*ℤ◌,
-  int_le,
-  int_lt,
-  nat_le,
-  unsigned_abs,
-}
+use Rattle.std.specs.Prelude.{◌≡◌, ◌≢◌, ◌<◌, ◌⊎◌, ℕ, ◌+◌, ◌*◌, ◌%◌, ◌&&◌, List, true, Ok, if◌then◌else◌, ℤ, pos, ◌+ℤ◌}
+use Rattle.std.specs.Prelude.{◌-ℤ◌, ◌*ℤ◌, int_le, int_lt, nat_le, unsigned_abs}
 use Rattle.pm_words.specs.Stack.{minus}
 use Rattle.pm_opcode.specs.declared.operation.Binary.TheVariants.{Divide, Modulo}
 use Rattle.pm_opcode.specs.Spelling.{jump_count, rank}

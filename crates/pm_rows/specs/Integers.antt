@@ -1,28 +1,6 @@
 -- What the rows on integers compute. Results are words again, modulo 65,536.
-use Rattle.std.specs.Prelude.{
-  ℕ,
-  ◌+◌,
-  ◌-◌,
-  ◌*◌,
-  ◌%◌,
-  Bool,
-  not,
-  Result,
-  Ok,
-  Err,
-  if◌then◌else◌,
-  ◌==◌,
-  ℤ,
-  pos,
-  negsuc,
-  unsigned_abs,
-  int_lt,
-  int_le,
-  int_div,
-  int_rem,
-  bit_and,
-  bit_or,
-}
+use Rattle.std.specs.Prelude.{ℕ, ◌+◌, ◌-◌, ◌*◌, ◌%◌, Bool, not, Result, Ok, Err, if◌then◌else◌, ◌==◌, ℤ, pos, negsuc}
+use Rattle.std.specs.Prelude.{unsigned_abs, int_lt, int_le, int_div, int_rem, bit_and, bit_or}
 use Rattle.pm_words.specs.declared.error.ExecError.{ExecError}
 use Rattle.pm_words.specs.declared.error.ExecError.TheVariants.{DivideByZero}
 use Rattle.pm_words.specs.Stack.{minus}
@@ -32,14 +10,8 @@ use Rattle.pm_opcode.specs.declared.operation.Unary.TheVariants.{Absolute, Negat
 use Rattle.pm_opcode.specs.declared.operation.Binary.{Binary}
 use Rattle.pm_opcode.specs.declared.operation.Binary.TheVariants.{Add, Subtract, Multiply, Divide, Modulo, And, Or}
 use Rattle.pm_opcode.specs.declared.operation.Relation.{Relation}
-use Rattle.pm_opcode.specs.declared.operation.Relation.TheVariants.{
-  Equal,
-  GreaterOrEqual,
-  Greater,
-  LessOrEqual,
-  Less,
-  NotEqual,
-}
+use Rattle.pm_opcode.specs.declared.operation.Relation.TheVariants.{Equal, GreaterOrEqual, Greater, LessOrEqual, Less}
+use Rattle.pm_opcode.specs.declared.operation.Relation.TheVariants.{NotEqual}
 
 -- the absolute value, the negative, the square, all 16 bits turned round
 abbrev pub unary : Unary → ℕ → ℕ

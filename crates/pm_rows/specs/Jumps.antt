@@ -1,23 +1,6 @@
 -- Jumps. IPC is the next instruction in the registers that they are given.
-use Rattle.std.specs.Prelude.{
-  ℕ,
-  ◌≡◌,
-  ◌+◌,
-  ◌-◌,
-  ◌*◌,
-  ◌%◌,
-  Bool,
-  true,
-  not,
-  ◌&&◌,
-  List,
-  Result,
-  Ok,
-  if◌then◌else◌,
-  ◌==◌,
-  nat_lt,
-  nat_le,
-}
+use Rattle.std.specs.Prelude.{ℕ, ◌≡◌, ◌+◌, ◌-◌, ◌*◌, ◌%◌, Bool, true, not, ◌&&◌, List, Result, Ok, if◌then◌else◌, ◌==◌}
+use Rattle.std.specs.Prelude.{nat_lt, nat_le}
 use Rattle.pm_words.specs.declared.error.ExecError.{ExecError}
 use Rattle.pm_words.specs.declared.error.ExecError.TheVariants.{InvalidMemory}
 use Rattle.pm_words.specs.Stack.{◌>>=◌, demand, is_even, load, minus, pop}

@@ -4,15 +4,8 @@ use Rattle.pm_words.specs.declared.error.ExecError.TheVariants.{InvalidMemory, S
 use Rattle.pm_words.specs.Words.{copied}
 use Rattle.pm_words.specs.Stack.{◌>>=◌, StackRow, demand, load, pop, push, store, words_lie_in_memory}
 use Rattle.pm_opcode.specs.declared.operation.Pointer.{Pointer}
-use Rattle.pm_opcode.specs.declared.operation.Pointer.TheVariants.{
-  Increment,
-  Load,
-  Index,
-  Store,
-  LoadWords,
-  StoreWords,
-  Move,
-}
+use Rattle.pm_opcode.specs.declared.operation.Pointer.TheVariants.{Increment, Load, Index, Store, LoadWords, StoreWords}
+use Rattle.pm_opcode.specs.declared.operation.Pointer.TheVariants.{Move}
 
 -- INC. .., a -> .., a + 2b
 unfoldable pub increment_row : ℕ → StackRow

@@ -10,15 +10,8 @@ use Rattle.pm_opcode.specs.declared.operation.Field.{Field}
 use Rattle.pm_opcode.specs.declared.operation.Field.TheVariants as field
 use Rattle.pm_values.specs.Comparisons.{compare_row}
 use Rattle.pm_values.specs.Fields.{load_byte_row, store_byte_row, index_field_row, load_field_row, store_field_row}
-use Rattle.pm_values.specs.Sets.{
-  in_set_row,
-  intersect_row,
-  union_row,
-  difference_row,
-  singleton_row,
-  subrange_row,
-  adjust_row,
-}
+use Rattle.pm_values.specs.Sets.{in_set_row, intersect_row, union_row, difference_row, singleton_row, subrange_row}
+use Rattle.pm_values.specs.Sets.{adjust_row}
 use Rattle.pm_values.specs.Strings.{index_string_row, assign_row}
 
 unfoldable pub set_row : Set → StackRow

@@ -1,29 +1,6 @@
 -- What stands outside the memory, and the numbers of the units.
-use Rattle.std.specs.Prelude.{
-  ℕ,
-  ◌+◌,
-  ◌*◌,
-  ◌<◌,
-  ◌||◌,
-  ◌&&◌,
-  List,
-  [],
-  length,
-  slice_range,
-  slice_set,
-  slice_index_or,
-  Option,
-  Some,
-  None,
-  is_none,
-  Result,
-  Ok,
-  Err,
-  if◌then◌else◌,
-  ◌==◌,
-  nat_le,
-  Bool,
-}
+use Rattle.std.specs.Prelude.{ℕ, ◌+◌, ◌*◌, ◌<◌, ◌||◌, ◌&&◌, List, [], length, slice_range, slice_set, slice_index_or}
+use Rattle.std.specs.Prelude.{Option, Some, None, is_none, Result, Ok, Err, if◌then◌else◌, ◌==◌, nat_le, Bool}
 use Rattle.pm_stdproc.specs.declared.ports.Port.{Port}
 use Rattle.pm_stdproc.specs.declared.ports.Port.TheVariants.{Console, Terminal, Absent, Printer, Disk, Unknown}
 use Rattle.pm_stdproc.specs.declared.ports.MountFault.{MountFault}

@@ -1,19 +1,6 @@
 -- The code of segments on disks.
-use Rattle.std.specs.Prelude.{
-  ℕ,
-  List,
-  Option,
-  Some,
-  None,
-  is_none,
-  Result,
-  Ok,
-  Err,
-  option_map,
-  slice_get,
-  if◌then◌else◌,
-  ◌==◌,
-}
+use Rattle.std.specs.Prelude.{ℕ, List, Option, Some, None, is_none, Result, Ok, Err, option_map, slice_get}
+use Rattle.std.specs.Prelude.{if◌then◌else◌, ◌==◌}
 use Rattle.std.specs.Borrow.{Bor}
 use Rattle.pm_words.specs.declared.error.ExecError.{ExecError}
 use Rattle.pm_words.specs.declared.error.ExecError.TheVariants.{SystemIo}

@@ -1,26 +1,7 @@
 -- The standard procedures that work on the stack, the heap and the memory alone. A row takes its words from the stack,
 -- the top one first, then checks them: its lines stand in the order of its faults.
-use Rattle.std.specs.Prelude.{
-  ℕ,
-  ◌+◌,
-  ◌-◌,
-  ◌*◌,
-  ◌/◌,
-  ◌%◌,
-  ℤ,
-  pos,
-  negsuc,
-  Bool,
-  ◌&&◌,
-  List,
-  Result,
-  Ok,
-  Err,
-  if◌then◌else◌,
-  ◌==◌,
-  nat_lt,
-  nat_le,
-}
+use Rattle.std.specs.Prelude.{ℕ, ◌+◌, ◌-◌, ◌*◌, ◌/◌, ◌%◌, ℤ, pos, negsuc, Bool, ◌&&◌, List, Result, Ok, Err}
+use Rattle.std.specs.Prelude.{if◌then◌else◌, ◌==◌, nat_lt, nat_le}
 use Rattle.pm_words.specs.declared.error.ExecError.{ExecError}
 use Rattle.pm_words.specs.declared.error.ExecError.TheVariants as error
 use Rattle.pm_words.specs.Words.{filled, moved_up, moved_down, scanned}
@@ -29,19 +10,8 @@ use Rattle.pm_words.specs.Stack.{◌>>=◌, demand, is_even, lies_in_memory, loa
 use Rattle.pm_words.specs.declared.stack.Popped.{Popped}
 use Rattle.pm_calls.specs.declared.registers.Registers.{Registers}
 use Rattle.pm_stdproc.specs.declared.procedures.OnMemory.{OnMemory}
-use Rattle.pm_stdproc.specs.declared.procedures.OnMemory.TheVariants.{
-  CheckIo,
-  New,
-  MoveLeft,
-  MoveRight,
-  Fill,
-  Scan,
-  Mark,
-  Release,
-  IoResult,
-  Halt,
-  FreeMemory,
-}
+use Rattle.pm_stdproc.specs.declared.procedures.OnMemory.TheVariants.{CheckIo, New, MoveLeft, MoveRight, Fill, Scan}
+use Rattle.pm_stdproc.specs.declared.procedures.OnMemory.TheVariants.{Mark, Release, IoResult, Halt, FreeMemory}
 
 -- from the memory and the registers to the memory and the registers
 abbrev pub MemoryRow : Type 0

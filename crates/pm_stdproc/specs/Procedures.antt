@@ -17,14 +17,8 @@ use Rattle.pm_stdproc.specs.UnitRows.{Served, served, units_row}
 use Rattle.pm_stdproc.specs.declared.procedures.OnMemory.TheVariants as memory
 use Rattle.pm_stdproc.specs.declared.procedures.OnUnits.TheVariants as units
 use Rattle.pm_stdproc.specs.declared.procedures.Procedure.{Procedure}
-use Rattle.pm_stdproc.specs.declared.procedures.Procedure.TheVariants.{
-  OnMemory,
-  OnUnits,
-  Exit,
-  Keep,
-  Unkeep,
-  Unimplemented,
-}
+use Rattle.pm_stdproc.specs.declared.procedures.Procedure.TheVariants.{OnMemory, OnUnits, Exit, Keep, Unkeep}
+use Rattle.pm_stdproc.specs.declared.procedures.Procedure.TheVariants.{Unimplemented}
 
 -- what the standard procedures see of the machine
 pub record Reach : Type 0 where

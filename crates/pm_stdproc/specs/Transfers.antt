@@ -1,28 +1,7 @@
 -- What the units give and take. IORESULT is 0 after a transfer, 1 for a bad block, 2 where the number is no unit, 3 for
 -- a unit that cannot do it, 9 for a unit that is not there.
-use Rattle.std.specs.Prelude.{
-  ℕ,
-  ◌*◌,
-  ◌≡◌,
-  Bool,
-  true,
-  false,
-  ◌&&◌,
-  List,
-  ◌++◌,
-  length,
-  take,
-  drop,
-  slice_set,
-  Option,
-  Some,
-  None,
-  Result,
-  Ok,
-  Err,
-  if◌then◌else◌,
-  nat_lt,
-}
+use Rattle.std.specs.Prelude.{ℕ, ◌*◌, ◌≡◌, Bool, true, false, ◌&&◌, List, ◌++◌, length, take, drop, slice_set, Option}
+use Rattle.std.specs.Prelude.{Some, None, Result, Ok, Err, if◌then◌else◌, nat_lt}
 use Rattle.pm_words.specs.Words.{with_bytes, bytes_at}
 use Rattle.pm_volume.specs.Words as disk
 use Rattle.pm_stdproc.specs.Traps.{Pause, Fails, Waits, Outgrows}

@@ -10,14 +10,8 @@ use Rattle.pm_words.specs.Stack.{◌>>=◌, StackRow, demand, lies_in_memory, po
 use Rattle.pm_opcode.specs.declared.operation.Kind.{Kind}
 use Rattle.pm_opcode.specs.declared.operation.Kind.TheVariants.{Real, String, Boolean, Set, Bytes, Words}
 use Rattle.pm_opcode.specs.declared.operation.Relation.{Relation}
-use Rattle.pm_opcode.specs.declared.operation.Relation.TheVariants.{
-  Equal,
-  NotEqual,
-  Less,
-  LessOrEqual,
-  Greater,
-  GreaterOrEqual,
-}
+use Rattle.pm_opcode.specs.declared.operation.Relation.TheVariants.{Equal, NotEqual, Less, LessOrEqual, Greater}
+use Rattle.pm_opcode.specs.declared.operation.Relation.TheVariants.{GreaterOrEqual}
 use Rattle.pm_words.specs.Signed.{truth}
 use Rattle.pm_values.specs.Sets.{is_member, pop_set}
 use Rattle.pm_values.specs.Strings.{string_at}

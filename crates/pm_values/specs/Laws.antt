@@ -3,28 +3,8 @@ use Rattle.std.specs.Cmp.{IsTotalOrder}
 use Rattle.std.specs.Cmp.Lexicographic.{slice_cmp}
 use Rattle.std.specs.Int.{bit_at}
 use Rattle.std.specs.Ordering.{nat_cmp}
-use Rattle.std.specs.Prelude.{
-  ◌≡◌,
-  ◌↔◌,
-  true,
-  ◌⊎◌,
-  ◌<◌,
-  ◌≤◌,
-  ℕ,
-  ◌+◌,
-  ◌*◌,
-  ◌%◌,
-  ◌^◌,
-  ◌&&◌,
-  ◌||◌,
-  Bool,
-  not,
-  max,
-  min,
-  List,
-  length,
-  nat_lt,
-}
+use Rattle.std.specs.Prelude.{◌≡◌, ◌↔◌, true, ◌⊎◌, ◌<◌, ◌≤◌, ℕ, ◌+◌, ◌*◌, ◌%◌, ◌^◌, ◌&&◌, ◌||◌, Bool, not, max, min}
+use Rattle.std.specs.Prelude.{List, length, nat_lt}
 use Rattle.pm_values.specs.Comparisons.{is_subset}
 use Rattle.pm_values.specs.Fields.{field_of, with_field}
 use Rattle.pm_values.specs.Sets.{is_member, set_of}

@@ -1,33 +1,7 @@
 -- Sets of numbers in words: number e is bit e mod 16 of word e div 16. On the stack a set is the count of its words,
 -- and above it the words, the least elements first.
-use Rattle.std.specs.Prelude.{
-  ℕ,
-  zero,
-  suc,
-  ◌+◌,
-  ◌*◌,
-  ◌/◌,
-  ◌%◌,
-  ◌^◌,
-  ◌==◌,
-  ◌&&◌,
-  ◌||◌,
-  Bool,
-  not,
-  max,
-  min,
-  if◌then◌else◌,
-  List,
-  [],
-  ◌∷◌,
-  length,
-  slice_index,
-  int_lt,
-  Result,
-  Ok,
-  nat_lt,
-  nat_le,
-}
+use Rattle.std.specs.Prelude.{ℕ, zero, suc, ◌+◌, ◌*◌, ◌/◌, ◌%◌, ◌^◌, ◌==◌, ◌&&◌, ◌||◌, Bool, not, max, min}
+use Rattle.std.specs.Prelude.{if◌then◌else◌, List, [], ◌∷◌, length, slice_index, int_lt, Result, Ok, nat_lt, nat_le}
 use Rattle.pm_words.specs.Words.{words_at}
 use Rattle.pm_words.specs.declared.error.ExecError.{ExecError}
 use Rattle.pm_words.specs.declared.error.ExecError.TheVariants.{InvalidIndex, InvalidMemory}

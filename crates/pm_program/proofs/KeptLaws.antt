@@ -66,16 +66,10 @@ each_front old new (path ∷ paths) images keeps =
     inr (keeps.0, first_image images, keeps.1, each_front keeps.0 new paths (next_images images) keeps.2)
 
 -- where the printer's bytes are not kept the images are
-pub printer_front : (old ready read new last : Files) (disk path : List ℕ) (others : Others) (saving : Saving)
-    (images : List (Option (List ℕ))) → path ≡ disk → ready ≡ old → read ≡ ready
-    → KeepsEach read new (kept_paths saving path others) images → last ≡ new
-    → KeepsFront old last (kept_paths saving disk others)
-printer_front old ready read new last disk path others saving images is same also keeps stays =
-    subst (λ files. KeepsFront files last (kept_paths saving disk others)) same
-    (subst (λ files. KeepsFront files last (kept_paths saving disk others)) also
-    (subst (λ path. KeepsFront read last (kept_paths saving path others)) is
-    (subst (λ files. KeepsFront read files (kept_paths saving path others)) (sym stays)
-    (each_front read new (kept_paths saving path others) images keeps))))
+pub printer_front : (old new last : Files) (paths images : List (Option (List ℕ))) → KeepsEach old new paths images
+    → last ≡ new → KeepsFront old last paths
+printer_front old new last paths images keeps stays =
+    subst (λ files. KeepsFront old files paths) (sym stays) (each_front old new paths images keeps)
 
 -- what follows where a result is good, or an error
 pub where_ok : {X Y A B : Type 0} (r : Result X Y) → (A → B) → OnOk r A → OnOk r B
@@ -98,15 +92,15 @@ run_told old new paths printing outcome told is keeps = (
 )
 
 -- where the input is known, a run keeps what is said to it of the images that were read
-pub known_run_said : (before after : Streams) (old ready read new : Files) (program : Program) (kept : KeptOfRun)
-    (disks : List (Option (Vec ℕ Global))) (system : Option (Vec ℕ Global)) (outcome : Outcome) (from to : List ℕ)
-    → from ≡ string_bytes program.disk → to ≡ string_bytes program.disk
+pub known_run_said : (before after : Streams) (old read new : Files) (program : Program) (kept : KeptOfRun)
+    (disks : List (Option (Vec ℕ Global))) (system : Option (Vec ℕ Global)) (outcome : Outcome) (to : List ℕ)
+    → to ≡ string_bytes program.disk
     → TellsAll before after outcome (job_said (jobs.Run disks program.name program.limit kept.saving system))
-    → ready ≡ old → read ≡ ready → ReadsEach ready (paths_of from program.others) (images_of disks)
-    → Reads ready (option_map string_bytes program.system) (option_map vec_items system)
+    → read ≡ old → ReadsEach old (paths_of (string_bytes program.disk) program.others) (images_of disks)
+    → Reads old (option_map string_bytes program.system) (option_map vec_items system)
     → KeepsRun read new (kept_paths kept.saving to program.others) kept.printing outcome
     → IfSome before.source.remaining (λ input. KeepsRunSaid old new program kept input)
-known_run_said before after old ready read new program kept disks system outcome from to is_from is_to tells same also reads given keeps =
+known_run_said before after old read new program kept disks system outcome to is_to tells same reads given keeps =
     known before.source.remaining tells
   where
     known : (had : Option (List ℕ))
@@ -116,13 +110,11 @@ known_run_said before after old ready read new program kept disks system outcome
     known (Some input) told = (
       disks,
       system,
-      subst (λ files. ReadsEach files (paths_of (string_bytes program.disk) program.others) (images_of disks)) same
-          (subst (λ path. ReadsEach ready (paths_of path program.others) (images_of disks)) is_from reads),
-      subst (λ files. Reads files (option_map string_bytes program.system) (option_map vec_items system)) same given,
+      reads,
+      given,
       run_told old new (kept_paths kept.saving (string_bytes program.disk) program.others) kept.printing outcome _ told.comes_to
           (subst (λ files. KeepsRun files new (kept_paths kept.saving (string_bytes program.disk) program.others) kept.printing outcome) same
-          (subst (λ files. KeepsRun files new (kept_paths kept.saving (string_bytes program.disk) program.others) kept.printing outcome) also
-          (subst (λ path. KeepsRun read new (kept_paths kept.saving path program.others) kept.printing outcome) is_to keeps))),
+          (subst (λ path. KeepsRun read new (kept_paths kept.saving path program.others) kept.printing outcome) is_to keeps)),
     )
 
 -- where the input is known, a job tells what is said to it of the images that were read

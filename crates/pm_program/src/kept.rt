@@ -361,6 +361,43 @@ fn make_ready<S: Store>(
     Ok(())
 }
 
+/// Makes ready for what a run keeps, and reads its images and the system's code file.
+fn run_inputs<S: Store>(
+    alloc: Global,
+    store: &mut S,
+    program: &Program,
+    kept: &KeptOfRun,
+) -> Result<(Images, Option<Vec<u8>>), DiskFault>
+    ensures stays { S.files store.new ≡ S.files store.old }
+    ensures values { IfOk result (λ read. ReadsEach (S.files store.old)
+        (paths_of (string_bytes program.now.disk) program.now.others) (images_of read.0)) }
+    ensures system { IfOk result (λ read.
+        Reads (S.files store.old) (option_map string_bytes program.now.system) (option_map vec_items read.1)) }
+{
+    let disk = program.disk.as_str();
+    make_ready(store, disk, &program.others, kept)?;
+    inputs(alloc, store, disk, &program.others, &program.system)
+}
+
+/// Keeps what is wanted of a run: its images, and then the printer's bytes.
+fn keep_run<S: Store, O: Sink>(
+    alloc: Global,
+    store: &mut S,
+    sink: &mut O,
+    disk: &str,
+    others: &Others,
+    kept: &KeptOfRun,
+    outcome: &Outcome,
+) -> Result<(), DiskFault>
+    ensures kept { OnOk result (KeepsRun (S.files store.old) (S.files store.new)
+        (kept_paths kept.now.saving disk.now others.now) kept.now.printing outcome.now) }
+    ensures front { OnErr result (KeepsFront (S.files store.old) (S.files store.new)
+        (kept_paths kept.now.saving disk.now others.now)) }
+{
+    keep_images(alloc, store, disk, others, kept.saving, outcome)?;
+    keep_printer(store, sink, &kept.printing, outcome)
+}
+
 /// Runs a program, and then writes the images that are to be kept, as far as the outcome has them, and the printer's
 /// bytes, where the program has run and they are wanted. No other file changes. Neither stream may have failed before.
 /// Where a file cannot be read, held or written, nothing has changed but that the first of the images may be written.
@@ -382,26 +419,23 @@ pub fn do_run<S: Store, I: Source, O: Sink>(
     ensures front { OnErr result (KeepsFront (S.files store.old) (S.files store.new)
         (kept_paths kept.saving (string_bytes program.disk) program.others)) }
 {
+    let (disks, system) = run_inputs(alloc, store, &program, &kept)?;
     let Program {
         disk,
         others,
         name,
         limit,
-        system,
+        ..
     } = program;
-    make_ready(store, disk.as_str(), &others, &kept)?;
-    let KeptOfRun { saving, printing } = kept;
-    let (disks, system) = inputs(alloc, store, disk.as_str(), &others, &system)?;
     let job = Job::Run {
         disks,
         name,
         limit,
-        saving,
+        saving: kept.saving,
         system,
     };
     let outcome = pm_tool::run(alloc, source, sink, job);
-    keep_images(alloc, store, disk.as_str(), &others, saving, &outcome)?;
-    keep_printer(store, sink, &printing, &outcome)?;
+    keep_run(alloc, store, sink, disk.as_str(), &others, &kept, &outcome)?;
     Ok(outcome)
 }
 

@@ -18,7 +18,7 @@ fn exit_of(error: &WordsError) -> Exit {
 }
 
 /// Says why the words are no job, or the version. The status.
-fn refuse<R: Host + Print + Eprint>(rt: &R, error: WordsError) -> u8 {
+fn refuse<R: Host + Print + Eprint>(rt: &R, error: &WordsError) -> u8 {
     if let WordsError::Version(_) = error {
         return match print!(rt; "{error}") {
             Ok(()) => Exit::Ended.number(),
@@ -34,7 +34,7 @@ fn refuse<R: Host + Print + Eprint>(rt: &R, error: WordsError) -> u8 {
         };
     }
     let _ = eprint!(rt; "{error}");
-    exit_of(&error).number()
+    exit_of(error).number()
 }
 
 /// Does what the words of the command line ask for, and answers the exit status.
@@ -43,7 +43,7 @@ fn refuse<R: Host + Print + Eprint>(rt: &R, error: WordsError) -> u8 {
 pub fn program<R: Host + Env + Input + Print + Eprint + AllocGlobal>(rt: &R) -> u8 {
     let plan = match plan_of(rt.alloc(), std::env::args(rt)) {
         Ok(plan) => plan,
-        Err(error) => return refuse(rt, error),
+        Err(error) => return refuse(rt, &error),
     };
     let done = follow(rt, plan);
     let manner = Manner {

@@ -1,6 +1,7 @@
 -- What a verb of `files` keeps is what its job says.
 use Rattle.std.proofs.Common.{◌≡◌, ◌∷◌, [], ℕ, List, Option, None, Some, Result, Ok, Err, OnOk, OnErr, inr}
-use Rattle.std.proofs.Common.{refl, sym, subst, IfSome, option_map, vec_items, string_bytes, Vec}
+use Rattle.std.proofs.Common.{refl, sym, subst, IfOk, IfSome, option_map, vec_items, string_bytes, Vec}
+use Rattle.std.specs.Result.{result_and}
 use Rattle.std.specs.declared.alloc.Global.{Global}
 use Rattle.pm_files.specs.Held.{Files, HoldsFile, Keeps, Puts}
 use Rattle.pm_tool.specs.Outcomes.{Said, IsOutcome, no_others}
@@ -80,6 +81,12 @@ pub where_err : {X Y A B : Type 0} (r : Result X Y) → (A → B) → OnErr r A 
 where_err (Ok x) f a = tt
 where_err (Err e) f a = f a
 
+-- what is known of an outcome behind a good result
+pub and_ok : {A B E Q : Type 0} (P : B → Type 0) (r : Result A E) (x : B) → (Q → P x) → OnOk r Q
+    → IfOk (result_and r (Ok x)) P
+and_ok P (Ok a) x f q = f q
+and_ok P (Err e) x f q = tt
+
 -- what a run keeps of its outcome is what it keeps of what is said
 run_told : (old new : Files) (paths : List (Option (List ℕ))) (printing : Printing) (outcome : Outcome) (told : Said)
     → IsOutcome outcome told → KeepsRun old new paths printing outcome → KeepsTold old new paths printing told
@@ -91,16 +98,23 @@ run_told old new paths printing outcome told is keeps = (
       (subst (λ exit. PrintsIf (has_run exit) keeps.0 new printing outcome.printer.items) is.exit keeps.2),
 )
 
+-- what is kept of the files that were read is kept of those that they are as before
+pub run_keeps : (old read new : Files) (to disk : List ℕ) (others : Others) (kept : KeptOfRun) (outcome : Outcome)
+    → read ≡ old → to ≡ disk → KeepsRun read new (kept_paths kept.saving to others) kept.printing outcome
+    → KeepsRun old new (kept_paths kept.saving disk others) kept.printing outcome
+run_keeps old read new to disk others kept outcome same is keeps =
+    subst (λ files. KeepsRun files new (kept_paths kept.saving disk others) kept.printing outcome) same
+    (subst (λ path. KeepsRun read new (kept_paths kept.saving path others) kept.printing outcome) is keeps)
+
 -- where the input is known, a run keeps what is said to it of the images that were read
-pub known_run_said : (before after : Streams) (old read new : Files) (program : Program) (kept : KeptOfRun)
-    (disks : List (Option (Vec ℕ Global))) (system : Option (Vec ℕ Global)) (outcome : Outcome) (to : List ℕ)
-    → to ≡ string_bytes program.disk
+pub known_run_said : (before after : Streams) (old new : Files) (program : Program) (kept : KeptOfRun)
+    (disks : List (Option (Vec ℕ Global))) (system : Option (Vec ℕ Global)) (outcome : Outcome)
     → TellsAll before after outcome (job_said (jobs.Run disks program.name program.limit kept.saving system))
-    → read ≡ old → ReadsEach old (paths_of (string_bytes program.disk) program.others) (images_of disks)
+    → ReadsEach old (paths_of (string_bytes program.disk) program.others) (images_of disks)
     → Reads old (option_map string_bytes program.system) (option_map vec_items system)
-    → KeepsRun read new (kept_paths kept.saving to program.others) kept.printing outcome
+    → KeepsRun old new (kept_paths kept.saving (string_bytes program.disk) program.others) kept.printing outcome
     → IfSome before.source.remaining (λ input. KeepsRunSaid old new program kept input)
-known_run_said before after old read new program kept disks system outcome to is_to tells same reads given keeps =
+known_run_said before after old new program kept disks system outcome tells reads given keeps =
     known before.source.remaining tells
   where
     known : (had : Option (List ℕ))
@@ -112,9 +126,7 @@ known_run_said before after old read new program kept disks system outcome to is
       system,
       reads,
       given,
-      run_told old new (kept_paths kept.saving (string_bytes program.disk) program.others) kept.printing outcome _ told.comes_to
-          (subst (λ files. KeepsRun files new (kept_paths kept.saving (string_bytes program.disk) program.others) kept.printing outcome) same
-          (subst (λ path. KeepsRun read new (kept_paths kept.saving path program.others) kept.printing outcome) is_to keeps)),
+      run_told old new (kept_paths kept.saving (string_bytes program.disk) program.others) kept.printing outcome _ told.comes_to keeps,
     )
 
 -- where the input is known, a job tells what is said to it of the images that were read

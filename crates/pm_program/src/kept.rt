@@ -435,8 +435,7 @@ pub fn do_run<S: Store, I: Source, O: Sink>(
         system,
     };
     let outcome = pm_tool::run(alloc, source, sink, job);
-    keep_run(alloc, store, sink, disk.as_str(), &others, &kept, &outcome)?;
-    Ok(outcome)
+    keep_run(alloc, store, sink, disk.as_str(), &others, &kept, &outcome).and(Ok(outcome))
 }
 
 /// Writes the trace of a program, the lines that are selected. No file changes. Neither stream may have failed before.

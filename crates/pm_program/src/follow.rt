@@ -16,7 +16,7 @@ use pm_streams::{Reader, Sink, Source, Writer};
 use pm_tool::{Job, Outcome};
 use std::alloc::Global;
 use std::io;
-use std::io::Input;
+use std::io::{Input, Read};
 
 /// The name of standard output's file.
 const OUTPUT: &str = "/dev/stdout";
@@ -36,6 +36,32 @@ impl Terminals {
             output: rt.is_terminal(Stream::Output),
             error: rt.is_terminal(Stream::Error),
         }
+    }
+
+    /// Those of a plan's console: its input and output are none where it has no console.
+    fn of_console(self, plan: &Plan) -> Terminals {
+        match plan {
+            Plan::Run(_, _) => self,
+            _ => Terminals {
+                input: false,
+                output: false,
+                error: self.error,
+            },
+        }
+    }
+
+    /// What is said before a plan's input is read.
+    fn prompt(self, plan: &Plan) -> Prompt {
+        if self.input && self.error {
+            prompt_of(plan)
+        } else {
+            Prompt::Once("")
+        }
+    }
+
+    /// Whether a line that output has begun is one of standard error too.
+    fn has_begun(self, begun: bool) -> bool {
+        begun && self.output && self.error
     }
 }
 
@@ -68,6 +94,13 @@ fn prompt_of(plan: &Plan) -> Prompt {
         ),
         Plan::Debug(_) => Prompt::EachLine("> "),
         _ => Prompt::Once(""),
+    }
+}
+
+fn prompted<'a, E: Eprint, R: Read>(rt: &'a E, keys: R, prompt: Prompt) -> Prompted<'a, E, R> {
+    match prompt {
+        Prompt::Once(text) => Prompted::once(rt, keys, text),
+        Prompt::EachLine(text) => Prompted::each_line(rt, keys, text),
     }
 }
 
@@ -276,39 +309,47 @@ fn end_of_job<S: Store>(
     End::Outcome(outcome, about)
 }
 
+/// Does the job of a plan, and answers its end: where that is told, with what a refusal is about.
+fn end_of_plan<R: Host + AllocGlobal, I: Source, O: Sink>(
+    rt: &R,
+    mut store: HostStore<R>,
+    source: &mut I,
+    sink: &mut O,
+    plan: Plan,
+    is_told: bool,
+) -> End
+    requires well { AreWell (both (I.seen source.old) (O.seen sink.old)) }
+{
+    let disks = if is_told {
+        disks_of(rt.alloc(), &plan)
+    } else {
+        None
+    };
+    match act(rt.alloc(), &mut store, source, sink, plan) {
+        Ok(outcome) => end_of_job(rt.alloc(), &mut store, &disks, outcome),
+        Err(fault) => End::File(fault, store.into_refused()),
+    }
+}
+
 /// Does the job of a plan, with the standard streams and the files of the system.
 pub fn follow<R: Host + Input + Print + Eprint + AllocGlobal>(rt: &R, plan: Plan) -> Done {
     let at = Terminals::of(rt);
-    let mut store = HostStore::new(rt);
+    let store = HostStore::new(rt);
     if let Some(conflict) = conflict_in(&store, &plan) {
         return Done {
             end: End::Words(conflict),
             begun: false,
         };
     }
-    let is_console = matches!(&plan, Plan::Run(_, _));
-    let end = end_of(&plan);
-    let keys = Keys::new(rt.reader(), is_console && at.input, end);
-    let reader = match prompt_of(&plan) {
-        _ if !at.input || !at.error => Prompted::once(rt, keys, ""),
-        Prompt::Once(text) => Prompted::once(rt, keys, text),
-        Prompt::EachLine(text) => Prompted::each_line(rt, keys, text),
-    };
-    let mut lined = Lined::new(io::writer(rt), is_console && at.output);
-    let mut source = Reader::new(reader);
+    let console = at.of_console(&plan);
+    let keys = Keys::new(rt.reader(), console.input, end_of(&plan));
+    let mut lined = Lined::new(io::writer(rt), console.output);
+    let mut source = Reader::new(prompted(rt, keys, at.prompt(&plan)));
     let mut sink = Writer::new(&mut lined);
-    let disks = if at.error {
-        disks_of(rt.alloc(), &plan)
-    } else {
-        None
-    };
-    let end = match act(rt.alloc(), &mut store, &mut source, &mut sink, plan) {
-        Ok(outcome) => end_of_job(rt.alloc(), &mut store, &disks, outcome),
-        Err(fault) => End::File(fault, store.into_refused()),
-    };
+    let end = end_of_plan(rt, store, &mut source, &mut sink, plan, at.error);
     drop(sink);
     Done {
         end,
-        begun: lined.has_begun() && at.output && at.error,
+        begun: at.has_begun(lined.has_begun()),
     }
 }

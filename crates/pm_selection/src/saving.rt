@@ -1,7 +1,7 @@
 //! Which images a run keeps.
 
 /// Which images are kept as a program left them.
-#[derive(Clone, Copy)]
+#[derive(Clone, Copy, Debug, PartialEq, Eq)]
 pub enum Saving {
     /// None.
     Nothing,

@@ -3,7 +3,7 @@ ghost use Rattle.std.specs.Bool.{OnTrue};
 ghost use Rattle.pm_words.specs.Stack.{IsStack};
 
 use pm_calls::{Frames, Registers};
-use pm_opcode::Call;
+use pm_families::Call;
 use pm_words::{ExecError, Memory};
 use std::alloc::{AllocError, Global};
 use std::process::Abort;

@@ -7,7 +7,7 @@ use Rattle.pm_words.specs.Stack.{minus}
 use Rattle.pm_calls.specs.Places.{Parts}
 use Rattle.pm_calls.specs.Calls.{called_at, called_loading, reach_loading}
 use Rattle.pm_words.specs.declared.error.ExecError.{ExecError}
-use Rattle.pm_opcode.specs.declared.operation.Call.{Call}
+use Rattle.pm_families.specs.declared.families.Call.{Call}
 use Rattle.pm_calls.specs.declared.registers.Registers.{Registers}
 use Rattle.pm_calls.specs.declared.frames.Table.{Table}
 use Rattle.pm_calls.specs.Tables.{attributes}

@@ -13,8 +13,8 @@ use Rattle.pm_words.proofs.RangeLaws.{All-bytes_at, byte_at-copied_other, byte_a
 use Rattle.pm_calls.specs.declared.registers.Registers.{Registers}
 use Rattle.pm_calls.specs.declared.frames.Table.{Table}
 use Rattle.pm_calls.specs.declared.frames.SegmentPlace.{SegmentPlace}
-use Rattle.pm_opcode.specs.declared.operation.Call.{Call}
-use Rattle.pm_opcode.specs.declared.operation.Call.TheVariants.{Cxp}
+use Rattle.pm_families.specs.declared.families.Call.{Call}
+use Rattle.pm_families.specs.declared.families.Call.TheVariants.{Cxp}
 use Rattle.pm_calls.specs.Places.{Parts, place_in}
 use Rattle.pm_calls.specs.Links.{static_link}
 use Rattle.pm_calls.specs.Tables.{attributes}

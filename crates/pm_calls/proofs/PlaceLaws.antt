@@ -14,8 +14,8 @@ use Rattle.pm_words.specs.Stack.{is_even, minus}
 use Rattle.pm_words.proofs.RangeLaws.{IsMemory-copied}
 use Rattle.pm_calls.specs.declared.registers.Registers.{Registers}
 use Rattle.pm_calls.specs.declared.frames.Table.{Table}
-use Rattle.pm_opcode.specs.declared.operation.Call.{Call}
-use Rattle.pm_opcode.specs.declared.operation.Call.TheVariants.{Clp, Cgp, Cbp, Cip, Cxp}
+use Rattle.pm_families.specs.declared.families.Call.{Call}
+use Rattle.pm_families.specs.declared.families.Call.TheVariants.{Clp, Cgp, Cbp, Cip, Cxp}
 use Rattle.pm_calls.specs.Links.{static_link}
 use Rattle.pm_calls.specs.Tables.{attributes}
 use Rattle.pm_calls.specs.Calls.{Reached, called, called_at, called_loading, called_slot, called_standing, entered, here, inside}

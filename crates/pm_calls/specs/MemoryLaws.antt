@@ -2,7 +2,7 @@
 use Rattle.std.specs.Prelude.{◌≡◌, ◌<◌, ◌≤◌, ◌⊎◌, ℕ, ◌+◌, ◌-◌, ◌*◌, Bool, List, Option, Ok}
 use Rattle.pm_words.specs.Words.{IsMemory, byte_at}
 use Rattle.pm_calls.specs.declared.frames.Table.{Table}
-use Rattle.pm_opcode.specs.declared.operation.Call.{Call}
+use Rattle.pm_families.specs.declared.families.Call.{Call}
 use Rattle.pm_calls.specs.Places.{Parts}
 use Rattle.pm_calls.specs.Tables.{attributes}
 use Rattle.pm_calls.specs.Calls.{Reached, called, procedure_called}

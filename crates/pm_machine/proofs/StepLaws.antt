@@ -11,11 +11,11 @@ use Rattle.pm_words.proofs.Laws.{word_at-with_word_other}
 use Rattle.pm_opcode.specs.declared.instr.Instr.{Instr}
 use Rattle.pm_opcode.specs.declared.operation.Operation.{Operation}
 use Rattle.pm_opcode.specs.declared.operation.Operation.TheVariants as operation
-use Rattle.pm_opcode.specs.declared.operation.Arithmetic.{Arithmetic}
-use Rattle.pm_opcode.specs.declared.operation.Arithmetic.TheVariants.{Constant, Nil, OnOne, OnTwo, Compare, Check}
-use Rattle.pm_opcode.specs.declared.operation.Scope.{Scope}
-use Rattle.pm_opcode.specs.declared.operation.Call.{Call}
-use Rattle.pm_opcode.specs.declared.operation.Return.{Return}
+use Rattle.pm_families.specs.declared.families.Arithmetic.{Arithmetic}
+use Rattle.pm_families.specs.declared.families.Arithmetic.TheVariants.{Constant, Nil, OnOne, OnTwo, Compare, Check}
+use Rattle.pm_families.specs.declared.families.Scope.{Scope}
+use Rattle.pm_families.specs.declared.families.Call.{Call}
+use Rattle.pm_families.specs.declared.families.Return.{Return}
 use Rattle.pm_opcode.specs.Operations.{operation_of}
 use Rattle.pm_calls.specs.declared.registers.Registers.{Registers}
 use Rattle.pm_calls.specs.Calls.{called}

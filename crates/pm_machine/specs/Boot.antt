@@ -4,7 +4,7 @@ use Rattle.std.specs.Prelude.{is_some, replicate, Result, Ok, Err, IsOk, if◌th
 use Rattle.pm_words.specs.declared.error.ExecError.{ExecError}
 use Rattle.pm_words.specs.Words.{zero_words}
 use Rattle.pm_words.specs.Stack.{◌>>=◌, demand}
-use Rattle.pm_opcode.specs.declared.operation.Call.TheVariants.{Cxp}
+use Rattle.pm_families.specs.declared.families.Call.TheVariants.{Cxp}
 use Rattle.pm_calls.specs.Places.{Parts}
 use Rattle.pm_calls.specs.Calls.{called}
 use Rattle.pm_volume.specs.declared.entry.Entry.{Entry}

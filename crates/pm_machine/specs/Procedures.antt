@@ -2,9 +2,9 @@
 use Rattle.std.specs.Prelude.{ℕ, Bool, true, false, Result, Ok, if◌then◌else◌, ◌==◌}
 use Rattle.pm_words.specs.declared.error.ExecError.{ExecError}
 use Rattle.pm_words.specs.Stack.{◌>>=◌}
-use Rattle.pm_opcode.specs.declared.operation.Return.{Return}
-use Rattle.pm_opcode.specs.declared.operation.Return.TheVariants as return
-use Rattle.pm_opcode.specs.declared.operation.Call.{Call}
+use Rattle.pm_families.specs.declared.families.Return.{Return}
+use Rattle.pm_families.specs.declared.families.Return.TheVariants as return
+use Rattle.pm_families.specs.declared.families.Call.{Call}
 use Rattle.pm_calls.specs.Places.{Parts}
 use Rattle.pm_calls.specs.Calls.{called}
 use Rattle.pm_calls.specs.Returns.{returned}

@@ -4,8 +4,8 @@ use Rattle.pm_words.specs.declared.error.ExecError.{ExecError}
 use Rattle.pm_words.specs.Words.{word_at}
 use Rattle.pm_opcode.specs.declared.instr.Instr.{Instr}
 use Rattle.pm_opcode.specs.declared.operation.Operation.TheVariants as operation
-use Rattle.pm_opcode.specs.declared.operation.Arithmetic.{Arithmetic}
-use Rattle.pm_opcode.specs.declared.operation.Scope.{Scope}
+use Rattle.pm_families.specs.declared.families.Arithmetic.{Arithmetic}
+use Rattle.pm_families.specs.declared.families.Scope.{Scope}
 use Rattle.pm_opcode.specs.Operations.{operation_of}
 use Rattle.pm_calls.specs.declared.registers.Registers.{Registers}
 use Rattle.pm_stdproc.specs.Procedures.{procedure_numbered}

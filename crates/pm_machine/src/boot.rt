@@ -4,7 +4,7 @@ ghost use Rattle.std.specs.Prelude.{◌≡◌, ◌<◌, ◌%◌, IfOk, IfErr, If
 ghost use Rattle.pm_words.specs.Stack.{IsStack};
 ghost use Rattle.pm_calls.specs.Calls.{Leaves, called};
 ghost use Rattle.pm_machine.specs.Agreeing.{InStep};
-ghost use Rattle.pm_opcode.specs.declared.operation.Call.TheVariants.{Cxp};
+ghost use Rattle.pm_families.specs.declared.families.Call.TheVariants.{Cxp};
 ghost use Rattle.pm_codefile.specs.Dictionary.{slot_in};
 ghost use Rattle.pm_machine.specs.Faults.{boot_number};
 ghost use Rattle.pm_machine.specs.Boot.{Begins, begun, code_file, first_parts, image_of, parts_of, row_of, rows_below};
@@ -13,7 +13,7 @@ use crate::machine::{NO_ROW, put_system_frame};
 use crate::state::BootFault;
 use pm_calls::{Frames, Registers};
 use pm_codefile::CodeFile;
-use pm_opcode::Call;
+use pm_families::Call;
 use pm_stdproc::{Port, SlotRow, SlotRows, unit_of};
 use pm_volume::kinds::CODE;
 use pm_volume::{Entry, Volume};

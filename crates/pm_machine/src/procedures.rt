@@ -4,7 +4,7 @@ ghost use Rattle.std.specs.Prelude.{◌≡◌};
 ghost use Rattle.pm_machine.specs.Procedures.{is_base_return, status_after, words_of_return};
 
 use crate::state::Status;
-use pm_opcode::Return;
+use pm_families::Return;
 use pm_words::layout::SYSTEM_FRAME;
 
 /// How many words a return takes along, and whether it puts back BASE.

@@ -13,13 +13,13 @@ use Rattle.pm_words.specs.Stack.{◌>>=◌, demand, is_even, minus, pop}
 use Rattle.pm_opcode.specs.declared.instr.Instr.{Instr}
 use Rattle.pm_opcode.specs.declared.operation.Operation.{Operation}
 use Rattle.pm_opcode.specs.declared.operation.Operation.TheVariants as operation
-use Rattle.pm_opcode.specs.declared.operation.Return.{Return}
+use Rattle.pm_families.specs.declared.families.Return.{Return}
 use Rattle.pm_opcode.specs.Operations.{operation_of}
 use Rattle.pm_calls.specs.declared.registers.Registers.{Registers}
 use Rattle.pm_calls.specs.declared.exits.Wanted.{Wanted}
 use Rattle.pm_calls.specs.declared.frames.SegmentPlace.{SegmentPlace}
-use Rattle.pm_opcode.specs.declared.operation.Call.{Call}
-use Rattle.pm_opcode.specs.declared.operation.Call.TheVariants.{Clp, Cgp, Cbp, Cip, Cxp}
+use Rattle.pm_families.specs.declared.families.Call.{Call}
+use Rattle.pm_families.specs.declared.families.Call.TheVariants.{Clp, Cgp, Cbp, Cip, Cxp}
 use Rattle.pm_calls.specs.Places.{Parts}
 use Rattle.pm_calls.specs.Calls.{Reached, called, called_at, called_loading, called_slot, called_standing}
 use Rattle.pm_calls.specs.Calls.{entered, here, reach_loading, reach_standing, code_fits}

@@ -11,7 +11,7 @@ use Rattle.pm_words.specs.Words.{IsMemory, byte_at, bytes_at, bytes_of, with_byt
 use Rattle.pm_words.specs.Stack.{◌>>=◌, pop}
 use Rattle.pm_words.proofs.Laws.{IsMemory-with_bytes, byte_at-with_bytes}
 use Rattle.pm_words.proofs.Pairs.{length-bytes_of}
-use Rattle.pm_opcode.specs.declared.operation.Call.TheVariants.{Cxp}
+use Rattle.pm_families.specs.declared.families.Call.TheVariants.{Cxp}
 use Rattle.pm_opcode.specs.declared.operation.Operation.TheVariants as operation
 use Rattle.pm_rows.proofs.StoredWords.{popped}
 use Rattle.pm_calls.specs.declared.frames.SegmentPlace.{SegmentPlace}

@@ -11,8 +11,8 @@ use Rattle.pm_opcode.specs.declared.instr.Instr.{Instr}
 use Rattle.pm_opcode.specs.declared.operation.Operation.{Operation}
 use Rattle.pm_opcode.specs.declared.operation.Operation.TheVariants.{Call}
 use Rattle.pm_opcode.specs.Operations.{operation_of}
-use Rattle.pm_opcode.specs.declared.operation.Call as calls
-use Rattle.pm_opcode.specs.declared.operation.Call.TheVariants.{Cxp}
+use Rattle.pm_families.specs.declared.families.Call as calls
+use Rattle.pm_families.specs.declared.families.Call.TheVariants.{Cxp}
 use Rattle.pm_calls.specs.declared.frames.SegmentPlace.{SegmentPlace}
 use Rattle.pm_calls.specs.Places.{Parts, place_in, placed}
 use Rattle.pm_calls.specs.Calls.{called, called_slot}

@@ -9,8 +9,8 @@ use Rattle.pm_words.specs.Words.{with_word}
 use Rattle.pm_words.specs.Stack.{◌>>=◌, demand, is_even, pop, push}
 use Rattle.pm_opcode.specs.declared.operation.Operation.{Operation}
 use Rattle.pm_opcode.specs.declared.operation.Operation.TheVariants as operation
-use Rattle.pm_opcode.specs.declared.operation.Return.{Return}
-use Rattle.pm_opcode.specs.declared.operation.Call.{Call}
+use Rattle.pm_families.specs.declared.families.Return.{Return}
+use Rattle.pm_families.specs.declared.families.Call.{Call}
 use Rattle.pm_opcode.specs.Operations.{operation_of}
 use Rattle.pm_calls.specs.declared.registers.Registers.{Registers}
 use Rattle.pm_calls.specs.Calls.{called}

@@ -8,8 +8,8 @@ use Rattle.pm_words.specs.declared.error.ExecError.TheVariants.{NoSegment, Inval
 use Rattle.pm_words.specs.Words.{IsMemory, copied, word_at}
 use Rattle.pm_words.specs.Stack.{is_even, load, pop, words_lie_in_memory}
 use Rattle.pm_words.proofs.RangeLaws.{IsMemory-copied, word_at-copied, word_at-copied_other}
-use Rattle.pm_opcode.specs.declared.operation.Call.{Call}
-use Rattle.pm_opcode.specs.declared.operation.Call.TheVariants.{Clp, Cgp, Cbp, Cip, Cxp}
+use Rattle.pm_families.specs.declared.families.Call.{Call}
+use Rattle.pm_families.specs.declared.families.Call.TheVariants.{Clp, Cgp, Cbp, Cip, Cxp}
 use Rattle.pm_calls.specs.declared.registers.Registers.{Registers}
 use Rattle.pm_calls.specs.declared.frames.Table.{Table}
 use Rattle.pm_calls.specs.declared.frames.SegmentPlace.{SegmentPlace}

@@ -10,13 +10,13 @@ use Rattle.pm_words.specs.Stack.{◌>>=◌, demand, is_even, pop}
 use Rattle.pm_opcode.specs.declared.instr.Instr.{Instr}
 use Rattle.pm_opcode.specs.declared.operation.Operation.{Operation}
 use Rattle.pm_opcode.specs.declared.operation.Operation.TheVariants as operation
-use Rattle.pm_opcode.specs.declared.operation.Return.{Return}
+use Rattle.pm_families.specs.declared.families.Return.{Return}
 use Rattle.pm_opcode.specs.Operations.{operation_of}
 use Rattle.pm_calls.specs.declared.registers.Registers.{Registers}
 use Rattle.pm_calls.specs.declared.exits.Wanted.{Wanted}
 use Rattle.pm_calls.specs.declared.frames.SegmentPlace.{SegmentPlace}
-use Rattle.pm_opcode.specs.declared.operation.Call.{Call}
-use Rattle.pm_opcode.specs.declared.operation.Call.TheVariants.{Clp, Cgp, Cbp, Cip, Cxp}
+use Rattle.pm_families.specs.declared.families.Call.{Call}
+use Rattle.pm_families.specs.declared.families.Call.TheVariants.{Clp, Cgp, Cbp, Cip, Cxp}
 use Rattle.pm_calls.specs.Places.{Parts}
 use Rattle.pm_calls.specs.Calls.{Reached, called, called_at, called_loading, called_slot, called_standing}
 use Rattle.pm_calls.specs.Links.{static_link}
@@ -48,9 +48,9 @@ use Rattle.pm_rows.specs.Arithmetic.{arithmetic_row}
 use Rattle.pm_machine.specs.Events.{next, or_same}
 use Rattle.pm_machine.specs.Events.Event.{Step, Key, Poke, Mount, Eject}
 use Rattle.pm_rows.specs.Jumps.{case_row, case_target, jump_row, jumped, short_row, target}
-use Rattle.pm_opcode.specs.declared.operation.Condition.TheVariants.{Always, IfFalse, IfDifferent, IfEqual}
-use Rattle.pm_opcode.specs.declared.operation.Jump.{Jump}
-use Rattle.pm_opcode.specs.declared.operation.Jump.TheVariants as jump
+use Rattle.pm_families.specs.declared.families.Condition.TheVariants.{Always, IfFalse, IfDifferent, IfEqual}
+use Rattle.pm_families.specs.declared.families.Jump.{Jump}
+use Rattle.pm_families.specs.declared.families.Jump.TheVariants as jump
 use Rattle.pm_rows.specs.Literals.{literal_row}
 use Rattle.pm_stdproc.specs.Loads.{code_needed}
 use Rattle.pm_rows.specs.Pointers.{pointer_row}

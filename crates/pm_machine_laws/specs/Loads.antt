@@ -2,7 +2,7 @@
 use Rattle.std.specs.Prelude.{◌≡◌, ◌<◌, ℕ, ◌+◌, ◌-◌, List, All, Option, Some, None, Ok, length, slice_get}
 use Rattle.pm_words.specs.Words.{bytes_at, word_at}
 use Rattle.pm_opcode.specs.declared.instr.Instr.{Instr}
-use Rattle.pm_opcode.specs.declared.operation.Call.TheVariants.{Cxp}
+use Rattle.pm_families.specs.declared.families.Call.TheVariants.{Cxp}
 use Rattle.pm_opcode.specs.declared.operation.Operation.TheVariants.{Call}
 use Rattle.pm_opcode.specs.Operations.{operation_of}
 use Rattle.pm_calls.specs.Places.{placed}

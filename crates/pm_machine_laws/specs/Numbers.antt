@@ -2,7 +2,7 @@
 use Rattle.std.specs.Prelude.{◌≡◌, ◌≢◌, ◌<◌, ◌⊎◌, ℕ, ◌+◌, ◌*◌, ◌%◌, ◌&&◌, List, true, Ok, if◌then◌else◌, ℤ, pos, ◌+ℤ◌}
 use Rattle.std.specs.Prelude.{◌-ℤ◌, ◌*ℤ◌, int_le, int_lt, nat_le, unsigned_abs}
 use Rattle.pm_words.specs.Stack.{minus}
-use Rattle.pm_opcode.specs.declared.operation.Binary.TheVariants.{Divide, Modulo}
+use Rattle.pm_families.specs.declared.families.Binary.TheVariants.{Divide, Modulo}
 use Rattle.pm_opcode.specs.Spelling.{jump_count, rank}
 use Rattle.pm_words.specs.Signed.{signed, word}
 use Rattle.pm_rows.specs.Jumps.{case_target, entry_target}

@@ -13,24 +13,24 @@ use Rattle.pm_words.specs.Words.{IsMemory, byte_at, overwritten, with_words, wor
 use Rattle.pm_words.specs.Stack.{◌>>=◌, IsStack, demand, is_even, lies_in_memory, load, pop, push, store, words_lie_in_memory}
 use Rattle.pm_words.proofs.Laws.{length-words_at, word_at-with_word_other}
 use Rattle.pm_words.proofs.RangeLaws.{word_at-copied_other}
-use Rattle.pm_opcode.specs.declared.operation.Arithmetic.{Arithmetic}
-use Rattle.pm_opcode.specs.declared.operation.Arithmetic.TheVariants as arithmetic
-use Rattle.pm_opcode.specs.declared.operation.Variable.{Variable}
-use Rattle.pm_opcode.specs.declared.operation.Variable.TheVariants as variable
-use Rattle.pm_opcode.specs.declared.operation.Pointer.{Pointer}
-use Rattle.pm_opcode.specs.declared.operation.Pointer.TheVariants as pointer
-use Rattle.pm_opcode.specs.declared.operation.Literal.{Literal}
-use Rattle.pm_opcode.specs.declared.operation.Literal.TheVariants as literal
-use Rattle.pm_opcode.specs.declared.operation.Relation.{Relation}
-use Rattle.pm_opcode.specs.declared.operation.Kind.{Kind}
-use Rattle.pm_opcode.specs.declared.operation.Kind.TheVariants as kind
-use Rattle.pm_opcode.specs.declared.operation.Value.{Value}
-use Rattle.pm_opcode.specs.declared.operation.Value.TheVariants as value
-use Rattle.pm_opcode.specs.declared.operation.Byte.TheVariants as byte
-use Rattle.pm_opcode.specs.declared.operation.Set.{Set}
-use Rattle.pm_opcode.specs.declared.operation.Set.TheVariants as set
-use Rattle.pm_opcode.specs.declared.operation.Text.TheVariants as text
-use Rattle.pm_opcode.specs.declared.operation.Field.TheVariants as field
+use Rattle.pm_families.specs.declared.families.Arithmetic.{Arithmetic}
+use Rattle.pm_families.specs.declared.families.Arithmetic.TheVariants as arithmetic
+use Rattle.pm_families.specs.declared.families.Variable.{Variable}
+use Rattle.pm_families.specs.declared.families.Variable.TheVariants as variable
+use Rattle.pm_families.specs.declared.families.Pointer.{Pointer}
+use Rattle.pm_families.specs.declared.families.Pointer.TheVariants as pointer
+use Rattle.pm_families.specs.declared.families.Literal.{Literal}
+use Rattle.pm_families.specs.declared.families.Literal.TheVariants as literal
+use Rattle.pm_families.specs.declared.families.Relation.{Relation}
+use Rattle.pm_families.specs.declared.families.Kind.{Kind}
+use Rattle.pm_families.specs.declared.families.Kind.TheVariants as kind
+use Rattle.pm_families.specs.declared.families.Value.{Value}
+use Rattle.pm_families.specs.declared.families.Value.TheVariants as value
+use Rattle.pm_families.specs.declared.families.Byte.TheVariants as byte
+use Rattle.pm_families.specs.declared.families.Set.{Set}
+use Rattle.pm_families.specs.declared.families.Set.TheVariants as set
+use Rattle.pm_families.specs.declared.families.Text.TheVariants as text
+use Rattle.pm_families.specs.declared.families.Field.TheVariants as field
 use Rattle.pm_calls.specs.declared.registers.Registers.{Registers}
 use Rattle.pm_calls.proofs.ReturnLaws.{bound, ok_same, passed}
 use Rattle.pm_values.specs.Comparisons.{are_words, compare_booleans_row, compare_bytes_row, compare_row, compare_sets_row, compare_strings_row}

@@ -4,11 +4,11 @@
 use Rattle.std.specs.Prelude.{ℕ, ◌&&◌, int_le}
 use Rattle.pm_words.specs.declared.error.ExecError.TheVariants.{InvalidIndex}
 use Rattle.pm_words.specs.Stack.{◌>>=◌, StackRow, demand, pop, push}
-use Rattle.pm_opcode.specs.declared.operation.Unary.{Unary}
-use Rattle.pm_opcode.specs.declared.operation.Binary.{Binary}
-use Rattle.pm_opcode.specs.declared.operation.Relation.{Relation}
-use Rattle.pm_opcode.specs.declared.operation.Arithmetic.{Arithmetic}
-use Rattle.pm_opcode.specs.declared.operation.Arithmetic.TheVariants.{Constant, Nil, OnOne, OnTwo, Compare, Check}
+use Rattle.pm_families.specs.declared.families.Unary.{Unary}
+use Rattle.pm_families.specs.declared.families.Binary.{Binary}
+use Rattle.pm_families.specs.declared.families.Relation.{Relation}
+use Rattle.pm_families.specs.declared.families.Arithmetic.{Arithmetic}
+use Rattle.pm_families.specs.declared.families.Arithmetic.TheVariants.{Constant, Nil, OnOne, OnTwo, Compare, Check}
 use Rattle.pm_words.specs.Signed.{signed, truth}
 use Rattle.pm_rows.specs.Integers.{unary, binary, relation}
 

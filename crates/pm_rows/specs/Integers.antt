@@ -5,13 +5,13 @@ use Rattle.pm_words.specs.declared.error.ExecError.{ExecError}
 use Rattle.pm_words.specs.declared.error.ExecError.TheVariants.{DivideByZero}
 use Rattle.pm_words.specs.Stack.{minus}
 use Rattle.pm_words.specs.Signed.{signed, word}
-use Rattle.pm_opcode.specs.declared.operation.Unary.{Unary}
-use Rattle.pm_opcode.specs.declared.operation.Unary.TheVariants.{Absolute, Negate, Square, Complement}
-use Rattle.pm_opcode.specs.declared.operation.Binary.{Binary}
-use Rattle.pm_opcode.specs.declared.operation.Binary.TheVariants.{Add, Subtract, Multiply, Divide, Modulo, And, Or}
-use Rattle.pm_opcode.specs.declared.operation.Relation.{Relation}
-use Rattle.pm_opcode.specs.declared.operation.Relation.TheVariants.{Equal, GreaterOrEqual, Greater, LessOrEqual, Less}
-use Rattle.pm_opcode.specs.declared.operation.Relation.TheVariants.{NotEqual}
+use Rattle.pm_families.specs.declared.families.Unary.{Unary}
+use Rattle.pm_families.specs.declared.families.Unary.TheVariants.{Absolute, Negate, Square, Complement}
+use Rattle.pm_families.specs.declared.families.Binary.{Binary}
+use Rattle.pm_families.specs.declared.families.Binary.TheVariants.{Add, Subtract, Multiply, Divide, Modulo, And, Or}
+use Rattle.pm_families.specs.declared.families.Relation.{Relation}
+use Rattle.pm_families.specs.declared.families.Relation.TheVariants.{Equal, GreaterOrEqual, Greater, LessOrEqual, Less}
+use Rattle.pm_families.specs.declared.families.Relation.TheVariants.{NotEqual}
 
 -- the absolute value, the negative, the square, all 16 bits turned round
 abbrev pub unary : Unary → ℕ → ℕ

@@ -4,10 +4,10 @@ use Rattle.std.specs.Prelude.{nat_lt, nat_le}
 use Rattle.pm_words.specs.declared.error.ExecError.{ExecError}
 use Rattle.pm_words.specs.declared.error.ExecError.TheVariants.{InvalidMemory}
 use Rattle.pm_words.specs.Stack.{◌>>=◌, demand, is_even, load, minus, pop}
-use Rattle.pm_opcode.specs.declared.operation.Condition.{Condition}
-use Rattle.pm_opcode.specs.declared.operation.Condition.TheVariants.{Always, IfFalse, IfDifferent, IfEqual}
-use Rattle.pm_opcode.specs.declared.operation.Jump.{Jump}
-use Rattle.pm_opcode.specs.declared.operation.Jump.TheVariants.{Short, Case}
+use Rattle.pm_families.specs.declared.families.Condition.{Condition}
+use Rattle.pm_families.specs.declared.families.Condition.TheVariants.{Always, IfFalse, IfDifferent, IfEqual}
+use Rattle.pm_families.specs.declared.families.Jump.{Jump}
+use Rattle.pm_families.specs.declared.families.Jump.TheVariants.{Short, Case}
 use Rattle.pm_opcode.specs.Spelling.{rank}
 use Rattle.pm_calls.specs.declared.registers.Registers.{Registers}
 

@@ -3,8 +3,8 @@ use Rattle.std.specs.Prelude.{ℕ, ◌-◌, ◌+◌, ◌*◌, ◌/◌, ◌%◌, 
 use Rattle.pm_words.specs.declared.error.ExecError.TheVariants.{InvalidMemory, StackOverflow}
 use Rattle.pm_words.specs.Words.{with_words, words_at}
 use Rattle.pm_words.specs.Stack.{◌>>=◌, StackRow, demand, is_even, minus, push, words_lie_in_memory}
-use Rattle.pm_opcode.specs.declared.operation.Literal.{Literal}
-use Rattle.pm_opcode.specs.declared.operation.Literal.TheVariants.{String, Characters, Words}
+use Rattle.pm_families.specs.declared.families.Literal.{Literal}
+use Rattle.pm_families.specs.declared.families.Literal.TheVariants.{String, Characters, Words}
 
 -- LSA and LPA. .. -> .., x
 unfoldable pub literal_address_row : ℕ → StackRow

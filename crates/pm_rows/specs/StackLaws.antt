@@ -3,20 +3,20 @@ use Rattle.std.specs.Prelude.{◌≡◌, ◌<◌, ◌≤◌, ◌⊎◌, ℕ, ◌
 use Rattle.pm_words.specs.declared.error.ExecError.{ExecError}
 use Rattle.pm_words.specs.Words.{IsMemory, word_at}
 use Rattle.pm_words.specs.Stack.{IsStack}
-use Rattle.pm_opcode.specs.declared.operation.Arithmetic.{Arithmetic}
-use Rattle.pm_opcode.specs.declared.operation.Variable.{Variable}
-use Rattle.pm_opcode.specs.declared.operation.Variable.TheVariants as variable
-use Rattle.pm_opcode.specs.declared.operation.Pointer.{Pointer}
-use Rattle.pm_opcode.specs.declared.operation.Pointer.TheVariants as pointer
-use Rattle.pm_opcode.specs.declared.operation.Literal.{Literal}
-use Rattle.pm_opcode.specs.declared.operation.Literal.TheVariants as literal
-use Rattle.pm_opcode.specs.declared.operation.Value.{Value}
-use Rattle.pm_opcode.specs.declared.operation.Value.TheVariants as value
-use Rattle.pm_opcode.specs.declared.operation.Byte.TheVariants as byte
-use Rattle.pm_opcode.specs.declared.operation.Set.{Set}
-use Rattle.pm_opcode.specs.declared.operation.Set.TheVariants as set
-use Rattle.pm_opcode.specs.declared.operation.Text.TheVariants as text
-use Rattle.pm_opcode.specs.declared.operation.Field.TheVariants as field
+use Rattle.pm_families.specs.declared.families.Arithmetic.{Arithmetic}
+use Rattle.pm_families.specs.declared.families.Variable.{Variable}
+use Rattle.pm_families.specs.declared.families.Variable.TheVariants as variable
+use Rattle.pm_families.specs.declared.families.Pointer.{Pointer}
+use Rattle.pm_families.specs.declared.families.Pointer.TheVariants as pointer
+use Rattle.pm_families.specs.declared.families.Literal.{Literal}
+use Rattle.pm_families.specs.declared.families.Literal.TheVariants as literal
+use Rattle.pm_families.specs.declared.families.Value.{Value}
+use Rattle.pm_families.specs.declared.families.Value.TheVariants as value
+use Rattle.pm_families.specs.declared.families.Byte.TheVariants as byte
+use Rattle.pm_families.specs.declared.families.Set.{Set}
+use Rattle.pm_families.specs.declared.families.Set.TheVariants as set
+use Rattle.pm_families.specs.declared.families.Text.TheVariants as text
+use Rattle.pm_families.specs.declared.families.Field.TheVariants as field
 use Rattle.pm_calls.specs.declared.registers.Registers.{Registers}
 use Rattle.pm_rows.specs.Arithmetic.{arithmetic_row}
 use Rattle.pm_rows.specs.Variables.{variable_row}

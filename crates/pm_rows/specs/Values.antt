@@ -1,13 +1,13 @@
 -- The rows on bytes, sets, strings and fields, and the typed comparisons: each is a row of pm_values.
 use Rattle.pm_words.specs.Stack.{StackRow}
-use Rattle.pm_opcode.specs.declared.operation.Value.{Value}
-use Rattle.pm_opcode.specs.declared.operation.Value.TheVariants as value
-use Rattle.pm_opcode.specs.declared.operation.Byte.TheVariants as byte
-use Rattle.pm_opcode.specs.declared.operation.Set.{Set}
-use Rattle.pm_opcode.specs.declared.operation.Set.TheVariants as set
-use Rattle.pm_opcode.specs.declared.operation.Text.TheVariants as text
-use Rattle.pm_opcode.specs.declared.operation.Field.{Field}
-use Rattle.pm_opcode.specs.declared.operation.Field.TheVariants as field
+use Rattle.pm_families.specs.declared.families.Value.{Value}
+use Rattle.pm_families.specs.declared.families.Value.TheVariants as value
+use Rattle.pm_families.specs.declared.families.Byte.TheVariants as byte
+use Rattle.pm_families.specs.declared.families.Set.{Set}
+use Rattle.pm_families.specs.declared.families.Set.TheVariants as set
+use Rattle.pm_families.specs.declared.families.Text.TheVariants as text
+use Rattle.pm_families.specs.declared.families.Field.{Field}
+use Rattle.pm_families.specs.declared.families.Field.TheVariants as field
 use Rattle.pm_values.specs.Comparisons.{compare_row}
 use Rattle.pm_values.specs.Fields.{load_byte_row, store_byte_row, index_field_row, load_field_row, store_field_row}
 use Rattle.pm_values.specs.Sets.{in_set_row, intersect_row, union_row, difference_row, singleton_row, subrange_row}

@@ -3,10 +3,10 @@
 use Rattle.std.specs.Prelude.{ℕ, ◌≡◌, ◌+◌, ◌*◌, ◌%◌, ◌<◌, ◌≤◌, false, length, List, Result, Ok, ⊤}
 use Rattle.pm_words.specs.declared.error.ExecError.{ExecError}
 use Rattle.pm_words.specs.Stack.{◌>>=◌, load, pop, push, store}
-use Rattle.pm_opcode.specs.declared.operation.Scope.{Scope}
-use Rattle.pm_opcode.specs.declared.operation.Scope.TheVariants.{Global, Local, Intermediate}
-use Rattle.pm_opcode.specs.declared.operation.Variable.{Variable}
-use Rattle.pm_opcode.specs.declared.operation.Variable.TheVariants.{Address, Load, Store}
+use Rattle.pm_families.specs.declared.families.Scope.{Scope}
+use Rattle.pm_families.specs.declared.families.Scope.TheVariants.{Global, Local, Intermediate}
+use Rattle.pm_families.specs.declared.families.Variable.{Variable}
+use Rattle.pm_families.specs.declared.families.Variable.TheVariants.{Address, Load, Store}
 use Rattle.pm_calls.specs.declared.registers.Registers.{Registers}
 use Rattle.pm_words.specs.Words.{Contents}
 use Rattle.pm_words.specs.declared.layout.TheConstants.{HIGHEST_WORD}

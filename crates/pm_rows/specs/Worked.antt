@@ -1,9 +1,9 @@
 -- Results computed: what the definitions give for a few words, worked out by hand.
 use Rattle.std.specs.Prelude.{◌≡◌, Ok, Err, true, false}
 use Rattle.pm_words.specs.declared.error.ExecError.TheVariants.{DivideByZero}
-use Rattle.pm_opcode.specs.declared.operation.Unary.TheVariants.{Absolute, Negate, Square, Complement}
-use Rattle.pm_opcode.specs.declared.operation.Binary.TheVariants.{Add, Subtract, Multiply, Divide, Modulo}
-use Rattle.pm_opcode.specs.declared.operation.Relation.TheVariants.{Less}
+use Rattle.pm_families.specs.declared.families.Unary.TheVariants.{Absolute, Negate, Square, Complement}
+use Rattle.pm_families.specs.declared.families.Binary.TheVariants.{Add, Subtract, Multiply, Divide, Modulo}
+use Rattle.pm_families.specs.declared.families.Relation.TheVariants.{Less}
 use Rattle.pm_rows.specs.Integers.{binary, relation, unary}
 
 pub record WorkedResults : Type 0 where

@@ -13,7 +13,7 @@ ghost use Rattle.pm_rows.specs.Arithmetic.{
   unary_row,
 };
 
-use pm_opcode::{Arithmetic, Binary, Relation, Unary};
+use pm_families::{Arithmetic, Binary, Relation, Unary};
 use pm_words::{ExecError, Memory, Top};
 
 // The word that an operation makes of one word.

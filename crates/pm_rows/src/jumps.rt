@@ -14,7 +14,7 @@ ghost use Rattle.pm_rows.specs.Jumps.{
 };
 
 use pm_calls::ValidRegisters;
-use pm_opcode::{Condition, Jump};
+use pm_families::{Condition, Jump};
 use pm_words::stack::load;
 use pm_words::{ExecError, Memory};
 

@@ -7,7 +7,7 @@ ghost use Rattle.pm_words.specs.Words.{with_words, words_at};
 ghost use Rattle.pm_rows.specs.Literals.{literal_address_row, literal_row, words_row};
 
 use arrayvec::ArrayVec;
-use pm_opcode::Literal;
+use pm_families::Literal;
 use pm_words::{ExecError, Memory, Top};
 
 // The words from an even address on.

@@ -14,7 +14,7 @@ ghost use Rattle.pm_rows.specs.Pointers.{
   store_words_row,
 };
 
-use pm_opcode::Pointer;
+use pm_families::Pointer;
 use pm_words::layout::HIGHEST_WORD;
 use pm_words::stack::{load, pop, store};
 use pm_words::{ExecError, Memory, Top};

@@ -6,7 +6,7 @@ ghost use Rattle.pm_words.specs.Stack.{IsStack, Changes};
 ghost use Rattle.pm_words.specs.Top.{MovesTop};
 ghost use Rattle.pm_rows.specs.Values.{field_row, set_row, value_row};
 
-use pm_opcode::{Byte, Field, Set, Text, Value};
+use pm_families::{Byte, Field, Set, Text, Value};
 use pm_words::{ExecError, Memory, Top};
 
 // SP and NP as numbers, as the functions of pm_values take them.

@@ -5,7 +5,7 @@ ghost use Rattle.pm_stdproc.specs.Loads.{code_lent, code_needed, length_of, slot
 
 use crate::units::Units;
 use pm_calls::Frames;
-use pm_opcode::Call;
+use pm_families::Call;
 use pm_words::ExecError;
 use std::marker::Model;
 

@@ -1,8 +1,6 @@
 //! What no decoded instruction shows: operands that no bytes give, and instructions that have no spelling.
-use pm_opcode::{
-    Call, Condition, Encode, Form, Instr, Jump, Operation, Scope, Variable, encode, form_at,
-    implied_number,
-};
+use pm_families::{Call, Condition, Jump, Scope, Variable};
+use pm_opcode::{Encode, Form, Instr, Operation, encode, form_at, implied_number};
 use std::test::Fail;
 
 const NOTHING: Instr = Instr {

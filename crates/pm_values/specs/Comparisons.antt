@@ -7,11 +7,11 @@ use Rattle.std.specs.Prelude.{ℕ, zero, suc, ◌*◌, ◌%◌, ◌&&◌, Bool, 
 use Rattle.pm_words.specs.Words.{compared}
 use Rattle.pm_words.specs.declared.error.ExecError.TheVariants.{InvalidMemory, Unimplemented}
 use Rattle.pm_words.specs.Stack.{◌>>=◌, StackRow, demand, lies_in_memory, pop, push, words_lie_in_memory}
-use Rattle.pm_opcode.specs.declared.operation.Kind.{Kind}
-use Rattle.pm_opcode.specs.declared.operation.Kind.TheVariants.{Real, String, Boolean, Set, Bytes, Words}
-use Rattle.pm_opcode.specs.declared.operation.Relation.{Relation}
-use Rattle.pm_opcode.specs.declared.operation.Relation.TheVariants.{Equal, NotEqual, Less, LessOrEqual, Greater}
-use Rattle.pm_opcode.specs.declared.operation.Relation.TheVariants.{GreaterOrEqual}
+use Rattle.pm_families.specs.declared.families.Kind.{Kind}
+use Rattle.pm_families.specs.declared.families.Kind.TheVariants.{Real, String, Boolean, Set, Bytes, Words}
+use Rattle.pm_families.specs.declared.families.Relation.{Relation}
+use Rattle.pm_families.specs.declared.families.Relation.TheVariants.{Equal, NotEqual, Less, LessOrEqual, Greater}
+use Rattle.pm_families.specs.declared.families.Relation.TheVariants.{GreaterOrEqual}
 use Rattle.pm_words.specs.Signed.{truth}
 use Rattle.pm_values.specs.Sets.{is_member, pop_set}
 use Rattle.pm_values.specs.Strings.{string_at}

@@ -19,7 +19,7 @@ ghost use Rattle.pm_values.specs.Comparisons.{
 
 use crate::sets::{take_set, word_or_zero};
 use crate::strings::characters;
-use pm_opcode::{Kind, Relation};
+use pm_families::{Kind, Relation};
 use pm_words::stack::{pop, push};
 use pm_words::{ExecError, Memory};
 use std::cmp::Ordering;

@@ -6,9 +6,9 @@ use Rattle.std.proofs.lemmas.List.{append-nil, drop_all}
 use Rattle.std.specs.Prelude.{Option, None, Some, Result, Ok, Err, IsOk, if◌then◌else◌}
 use Rattle.pm_volume.specs.Directory.{image_fault}
 use Rattle.pm_volume.specs.declared.fault.VolumeFault.{VolumeFault}
-use Rattle.pm_stdproc.specs.Devices.{Devices, mounted}
-use Rattle.pm_stdproc.specs.declared.ports.MountFault.{MountFault}
-use Rattle.pm_stdproc.specs.declared.ports.MountFault.TheVariants.{NoUnit, Taken}
+use Rattle.pm_units.specs.Devices.{Devices, mounted}
+use Rattle.pm_units.specs.declared.ports.MountFault.{MountFault}
+use Rattle.pm_units.specs.declared.ports.MountFault.TheVariants.{NoUnit, Taken}
 use Rattle.pm_machine.specs.Boot.{boot_start}
 use Rattle.pm_machine.specs.State.{State}
 use Rattle.pm_machine.specs.declared.state.BootFault.{BootFault}

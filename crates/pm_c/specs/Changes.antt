@@ -5,7 +5,7 @@ use Rattle.pm_machine.specs.State.{State, Whole}
 use Rattle.pm_machine.specs.declared.state.BootFault.{BootFault}
 use Rattle.pm_volume.specs.Directory.{image_fault}
 use Rattle.pm_volume.specs.declared.fault.VolumeFault.{VolumeFault}
-use Rattle.pm_stdproc.specs.Devices.{ejected_image}
+use Rattle.pm_units.specs.Devices.{ejected_image}
 use Rattle.pm_machine.specs.Events.{Eject, Mount, next}
 use Rattle.pm_machine.specs.Runs.{Ran}
 use Rattle.pm_machine.specs.Steps.{stepped}

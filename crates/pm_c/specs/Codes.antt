@@ -5,8 +5,8 @@ use Rattle.pm_words.specs.Stack.{is_even}
 use Rattle.pm_volume.specs.Directory.{image_fault}
 use Rattle.pm_volume.specs.Faults.{number_of as volume_number}
 use Rattle.pm_volume.specs.declared.fault.VolumeFault.{VolumeFault}
-use Rattle.pm_stdproc.specs.Devices.{Devices, mount_number, mounted}
-use Rattle.pm_stdproc.specs.declared.ports.MountFault.{MountFault}
+use Rattle.pm_units.specs.Devices.{Devices, mount_number, mounted}
+use Rattle.pm_units.specs.declared.ports.MountFault.{MountFault}
 use Rattle.pm_machine.specs.Boot.{boot_start}
 use Rattle.pm_machine.specs.Faults.{boot_number}
 use Rattle.pm_machine.specs.State.{State}

@@ -1,7 +1,7 @@
 -- Laws of the statuses, and of buffers.
 use Rattle.std.specs.Prelude.{◌≡◌, ◌≢◌, ◌↔◌, ℕ, List, length, None, IsOk}
 use Rattle.pm_volume.specs.Directory.{image_fault}
-use Rattle.pm_stdproc.specs.Devices.{Devices, mounted}
+use Rattle.pm_units.specs.Devices.{Devices, mounted}
 use Rattle.pm_machine.specs.Boot.{boot_start}
 use Rattle.pm_machine.specs.declared.state.Stop.{Stop}
 use Rattle.pm_c.specs.Changes.{fill_code, filled}

@@ -5,7 +5,7 @@ use Rattle.pm_calls.specs.Places.{placed}
 use Rattle.pm_volume.specs.declared.entry.Entry.{Entry}
 use Rattle.pm_volume.specs.Files.{file_bytes, file_named}
 use Rattle.pm_codefile.specs.Dictionary.{file_fault}
-use Rattle.pm_stdproc.specs.Devices.{image_on, unit_of}
+use Rattle.pm_units.specs.Devices.{image_on, unit_of}
 use Rattle.pm_code.specs.Program.{segment_numbered}
 use Rattle.pm_code.specs.Program.{Segment}
 use Rattle.pm_code.specs.Image.{listed_bytes, listed_segment, listing}

@@ -18,7 +18,7 @@ use Rattle.pm_volume.proofs.KeptLaws.{files_within}
 use Rattle.pm_volume.proofs.OrderLaws.{IsWithin}
 use Rattle.pm_codefile.specs.declared.fault.CodeFault.{CodeFault}
 use Rattle.pm_codefile.specs.Dictionary.{block_in, file_fault, first_slot_fault, length_in, or_code_fault, segment_in, slot_fault, slot_in}
-use Rattle.pm_stdproc.specs.Devices.{Devices, code_on, image_on, unit_of}
+use Rattle.pm_units.specs.Devices.{Devices, code_on, image_on, unit_of}
 use Rattle.pm_machine.specs.declared.state.BootFault.{BootFault}
 use Rattle.pm_machine.specs.declared.state.BootFault.TheVariants.{NoFile, NotCode, BadCode}
 use Rattle.pm_stdproc.specs.declared.loads.SlotRow.{SlotRow}

@@ -12,7 +12,7 @@ use Rattle.pm_volume.specs.declared.kinds.TheConstants.{CODE}
 use Rattle.pm_volume.specs.Files.{file_bytes, file_named}
 use Rattle.pm_codefile.specs.declared.file.Slot.{Slot}
 use Rattle.pm_codefile.specs.Dictionary.{file_fault, segment_in, slot_in}
-use Rattle.pm_stdproc.specs.Devices.{image_on, unit_of}
+use Rattle.pm_units.specs.Devices.{image_on, unit_of}
 use Rattle.pm_machine.specs.declared.boot.Begun.{Begun}
 use Rattle.pm_machine.specs.declared.state.BootFault.{BootFault}
 use Rattle.pm_machine.specs.declared.state.BootFault.TheVariants.{NoFile, NotCode, BadCode, Exec, NoMemory}

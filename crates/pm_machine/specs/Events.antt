@@ -2,8 +2,8 @@
 use Rattle.std.specs.Prelude.{ℕ, List, [], ◌∷◌, ◌++◌, Result, Ok, Err, if◌then◌else◌}
 use Rattle.pm_words.specs.Words.{with_word}
 use Rattle.pm_words.specs.Stack.{is_even}
-use Rattle.pm_stdproc.specs.declared.ports.MountFault.{MountFault}
-use Rattle.pm_stdproc.specs.Devices.{Devices, mounted, ejected}
+use Rattle.pm_units.specs.declared.ports.MountFault.{MountFault}
+use Rattle.pm_units.specs.Devices.{Devices, mounted, ejected}
 use Rattle.pm_machine.specs.State.{State}
 use Rattle.pm_machine.specs.Steps.{stepped}
 

@@ -6,7 +6,7 @@ use Rattle.pm_calls.specs.Places.{placed}
 use Rattle.pm_volume.specs.declared.entry.Entry.{Entry}
 use Rattle.pm_volume.specs.Directory.{IsVolume}
 use Rattle.pm_codefile.specs.Dictionary.{segment_in}
-use Rattle.pm_stdproc.specs.Devices.{Devices, image_on, unit_of}
+use Rattle.pm_units.specs.Devices.{Devices, image_on, unit_of}
 use Rattle.pm_machine.specs.Boot.{code_file, image_of, rows_below}
 use Rattle.pm_stdproc.specs.Loads.{code_needed}
 use Rattle.pm_machine.specs.State.{State}

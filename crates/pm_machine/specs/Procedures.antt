@@ -10,7 +10,7 @@ use Rattle.pm_calls.specs.Calls.{called}
 use Rattle.pm_calls.specs.Returns.{returned}
 use Rattle.pm_machine.specs.declared.state.Status.{Status}
 use Rattle.pm_machine.specs.declared.state.Status.TheVariants as status
-use Rattle.pm_stdproc.specs.Traps.{Pause}
+use Rattle.pm_units.specs.Traps.{Pause}
 use Rattle.pm_stdproc.specs.Procedures.{Reach, procedure_numbered, procedure_row}
 use Rattle.pm_machine.specs.State.{State}
 use Rattle.pm_stdproc.specs.Loads.{code_needed}

@@ -2,7 +2,7 @@
 use Rattle.std.specs.Prelude.{ℕ, ◌+◌, ◌%◌, ◌≡◌, List, [], Option, Result, Ok, Err, IsOk, if◌then◌else◌, nat_lt}
 use Rattle.std.specs.Prelude.{length, replicate, None}
 use Rattle.pm_words.specs.Words.{zero_words, with_word, with_bytes}
-use Rattle.pm_stdproc.specs.Devices.{Devices}
+use Rattle.pm_units.specs.Devices.{Devices}
 use Rattle.pm_machine.specs.declared.state.BootFault.{BootFault}
 use Rattle.pm_machine.specs.declared.state.BootFault.TheVariants.{NoFile, NotCode, BadCode, Exec, NoMemory}
 use Rattle.pm_stdproc.specs.declared.loads.SlotRow.{SlotRow}

@@ -2,7 +2,7 @@
 use Rattle.std.specs.Prelude.{ℕ, List, Option}
 use Rattle.pm_calls.specs.declared.registers.Registers.{Registers}
 use Rattle.pm_calls.specs.declared.frames.SegmentPlace.{SegmentPlace}
-use Rattle.pm_stdproc.specs.Devices.{Devices, Room}
+use Rattle.pm_units.specs.Devices.{Devices, Room}
 use Rattle.pm_machine.specs.declared.state.Status.{Status}
 use Rattle.pm_stdproc.specs.declared.loads.SlotRow.{SlotRow}
 

@@ -27,13 +27,13 @@ use Rattle.pm_calls.specs.Keeps.{keep_loading, keep_slot, keep_standing, less_ke
 use Rattle.pm_stdproc.specs.Loads.{length_of, slot_code}
 use Rattle.pm_calls.specs.Exits.{exited, is_wanted, walked_unless}
 use Rattle.pm_calls.specs.Returns.{one_call_less, lessened, released, returned, stands_at}
-use Rattle.pm_stdproc.specs.Traps.{Pause, Fails, Waits, or_fails}
-use Rattle.pm_stdproc.specs.Devices.{Devices, mounted}
+use Rattle.pm_units.specs.Traps.{Pause, Fails, Waits, or_fails}
+use Rattle.pm_units.specs.Devices.{Devices, mounted}
 use Rattle.pm_stdproc.specs.UnitRows.{served, units_row}
 use Rattle.pm_stdproc.specs.Procedures.{Reach, exit_row, keep_row, on_memory, procedure_numbered, procedure_row, unkeep_row}
 use Rattle.pm_stdproc.specs.Procedures as standard
 use Rattle.pm_stdproc.specs.MemoryRows.{memory_row}
-use Rattle.pm_stdproc.specs.declared.ports.MountFault.{MountFault}
+use Rattle.pm_units.specs.declared.ports.MountFault.{MountFault}
 use Rattle.pm_stdproc.specs.declared.procedures.Procedure.{Procedure}
 use Rattle.pm_stdproc.specs.declared.procedures.Procedure.TheVariants as procedure
 use Rattle.pm_codefile.specs.Dictionary.{segment_in}

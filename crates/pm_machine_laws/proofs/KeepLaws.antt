@@ -22,7 +22,7 @@ use Rattle.pm_calls.specs.Calls.{code_fits}
 use Rattle.pm_calls.specs.Keeps.{keep_loading, keep_slot, keep_standing, segment_kept}
 use Rattle.pm_calls.specs.Returns.{one_call_less, lessened, released, returned, stands_at}
 use Rattle.pm_calls.proofs.PlaceLaws.{return_places}
-use Rattle.pm_stdproc.specs.Traps.{Pause, Fails, Waits, or_fails}
+use Rattle.pm_units.specs.Traps.{Pause, Fails, Waits, or_fails}
 use Rattle.pm_stdproc.specs.Loads.{slot_code}
 use Rattle.pm_stdproc.specs.Procedures.{Reach, keep_row, procedure_numbered, procedure_row}
 use Rattle.pm_stdproc.specs.Procedures as standard

@@ -22,10 +22,10 @@ use Rattle.pm_calls.specs.Laws.{IsCode}
 use Rattle.pm_calls.proofs.LoadLaws.{loaded_code_stands}
 use Rattle.pm_calls.proofs.ReturnLaws.{has_room, ok_same}
 use Rattle.pm_codefile.specs.Dictionary.{segment_in}
-use Rattle.pm_stdproc.specs.Devices.{code_on, image_on, unit_of}
+use Rattle.pm_units.specs.Devices.{code_on, image_on, unit_of}
 use Rattle.pm_stdproc.specs.Loads.{code_needed, code_of_row, found_code, slot_code}
 use Rattle.pm_stdproc.specs.Procedures.{Reach, keep_row, procedure_numbered, procedure_row, reach_parts, with_reach_parts}
-use Rattle.pm_stdproc.specs.Traps.{or_fails}
+use Rattle.pm_units.specs.Traps.{or_fails}
 use Rattle.pm_stdproc.specs.declared.loads.SlotRow.{SlotRow}
 use Rattle.pm_machine.specs.declared.state.Stop.TheVariants.{Went}
 use Rattle.pm_machine.specs.Procedures.{call_row, parts, reach, standard_row, with_parts, with_reach}

@@ -20,7 +20,7 @@ use Rattle.pm_calls.specs.Laws.{IsCode}
 use Rattle.pm_calls.proofs.LoadLaws.{loaded_code_stands}
 use Rattle.pm_volume.specs.declared.entry.Entry.{Entry}
 use Rattle.pm_codefile.specs.Dictionary.{segment_in}
-use Rattle.pm_stdproc.specs.Traps.{or_fails}
+use Rattle.pm_units.specs.Traps.{or_fails}
 use Rattle.pm_machine.specs.declared.state.BootFault.{BootFault}
 use Rattle.pm_stdproc.specs.declared.loads.SlotRow.{SlotRow}
 use Rattle.pm_machine.specs.declared.state.Status.TheVariants.{Running}

@@ -18,15 +18,15 @@ use Rattle.pm_calls.specs.Exits.{exited}
 use Rattle.pm_calls.specs.Keeps.{segment_kept, segment_unkept}
 use Rattle.pm_calls.specs.Returns.{returned}
 use Rattle.pm_stdproc.specs.Loads.{code_needed, slot_code}
-use Rattle.pm_stdproc.specs.Traps.{Pause, Fails, Waits, or_fails}
-use Rattle.pm_stdproc.specs.Devices.{Devices, cleared, ejected, ejected_at, image_at, mounted, mounted_at, unit_of}
-use Rattle.pm_stdproc.specs.Transfers.{Moved, can_move, from_disk, from_queue, to_disk, unit_read, unit_written}
+use Rattle.pm_units.specs.Traps.{Pause, Fails, Waits, or_fails}
+use Rattle.pm_units.specs.Devices.{Devices, cleared, ejected, ejected_at, image_at, mounted, mounted_at, unit_of}
+use Rattle.pm_units.specs.Transfers.{Moved, can_move, from_disk, from_queue, to_disk, unit_read, unit_written}
 use Rattle.pm_stdproc.specs.UnitRows.{Served, busy_row, clear_row, ordered, read_row, served, time_row, units_row, wait_row, write_row}
 use Rattle.pm_stdproc.specs.Procedures.{Reach, exit_row, keep_row, procedure_numbered, procedure_row, unkeep_row}
 use Rattle.pm_stdproc.specs.MemoryRows.{memory_row}
-use Rattle.pm_stdproc.specs.declared.ports.Port.{Port}
-use Rattle.pm_stdproc.specs.declared.ports.Port.TheVariants.{Console, Terminal, Absent, Printer, Disk, Unknown}
-use Rattle.pm_stdproc.specs.declared.transfers.Transfer.{Transfer}
+use Rattle.pm_units.specs.declared.ports.Port.{Port}
+use Rattle.pm_units.specs.declared.ports.Port.TheVariants.{Console, Terminal, Absent, Printer, Disk, Unknown}
+use Rattle.pm_units.specs.declared.transfers.Transfer.{Transfer}
 use Rattle.pm_stdproc.specs.declared.procedures.OnUnits.{OnUnits}
 use Rattle.pm_stdproc.specs.declared.procedures.OnUnits.TheVariants as units
 use Rattle.pm_stdproc.specs.declared.procedures.Procedure.{Procedure}

@@ -21,7 +21,7 @@ use Rattle.pm_calls.specs.Calls.{procedure_called, reach_loading, reach_standing
 use Rattle.pm_calls.specs.Laws.{IsCode, Reaches, ReachesSlot}
 use Rattle.pm_calls.proofs.FrameLaws.{below-link, with_control-link}
 use Rattle.pm_calls.proofs.ReturnLaws.{IsFramed, bound, frame_made, loading_memory, low_before, ok_same, passed, standing_memory}
-use Rattle.pm_stdproc.specs.Devices.{unit_of}
+use Rattle.pm_units.specs.Devices.{unit_of}
 use Rattle.pm_rows.specs.Pointers.{move_row}
 use Rattle.pm_rows.proofs.StoredWords.{popped}
 use Rattle.pm_machine_laws.specs.Rows.{CallsAreLinked, ClearingForgetsKeys, IsLinked, IsMoved, LinksAsProgram, LinksOutward, LinksTo, MovesReadFirst}

@@ -25,16 +25,16 @@ use Rattle.pm_calls.specs.Exits.{exited, is_wanted, walked_unless}
 use Rattle.pm_calls.specs.Keeps.{keep_loading, keep_slot, keep_standing, less_kept, segment_kept, segment_unkept, unkeep_slot, unkeep_standing}
 use Rattle.pm_stdproc.specs.Loads.{length_of, slot_code}
 use Rattle.pm_calls.specs.Returns.{lessened, released, returned, stands_at}
-use Rattle.pm_stdproc.specs.Traps.{Pause, Fails, Waits, or_fails}
-use Rattle.pm_stdproc.specs.Devices.{Devices, ejected, ejected_at, image_at, mounted, mounted_at, unit_of}
-use Rattle.pm_stdproc.specs.Transfers.{can_move, to_disk, unit_written}
+use Rattle.pm_units.specs.Traps.{Pause, Fails, Waits, or_fails}
+use Rattle.pm_units.specs.Devices.{Devices, ejected, ejected_at, image_at, mounted, mounted_at, unit_of}
+use Rattle.pm_units.specs.Transfers.{can_move, to_disk, unit_written}
 use Rattle.pm_stdproc.specs.UnitRows.{Served, busy_row, clear_row, ordered, read_row, served, time_row, units_row, wait_row, write_row}
 use Rattle.pm_stdproc.specs.Procedures.{Reach, exit_row, keep_row, on_memory, procedure_numbered, procedure_row, unkeep_row}
 use Rattle.pm_stdproc.specs.Procedures as standard
 use Rattle.pm_stdproc.specs.MemoryRows.{memory_row}
-use Rattle.pm_stdproc.specs.declared.ports.Port.{Port}
-use Rattle.pm_stdproc.specs.declared.ports.Port.TheVariants.{Console, Terminal, Absent, Printer, Disk, Unknown}
-use Rattle.pm_stdproc.specs.declared.transfers.Transfer.{Transfer}
+use Rattle.pm_units.specs.declared.ports.Port.{Port}
+use Rattle.pm_units.specs.declared.ports.Port.TheVariants.{Console, Terminal, Absent, Printer, Disk, Unknown}
+use Rattle.pm_units.specs.declared.transfers.Transfer.{Transfer}
 use Rattle.pm_stdproc.specs.declared.procedures.OnUnits.{OnUnits}
 use Rattle.pm_stdproc.specs.declared.procedures.OnUnits.TheVariants as units
 use Rattle.pm_stdproc.specs.declared.procedures.Procedure.{Procedure}

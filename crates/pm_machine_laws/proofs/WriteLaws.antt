@@ -27,16 +27,16 @@ use Rattle.pm_calls.specs.Exits.{exited, is_wanted, walked_unless}
 use Rattle.pm_calls.specs.Keeps.{keep_loading, keep_slot, keep_standing, segment_kept, segment_unkept, unkeep_slot, unkeep_standing}
 use Rattle.pm_stdproc.specs.Loads.{length_of, slot_code}
 use Rattle.pm_calls.specs.Returns.{returned}
-use Rattle.pm_stdproc.specs.Traps.{Pause, Fails, Waits, or_fails}
-use Rattle.pm_stdproc.specs.Devices.{Devices, cleared, ejected, ejected_at, image_at, mounted, mounted_at, unit_of}
-use Rattle.pm_stdproc.specs.Transfers.{can_move, to_disk, unit_written}
+use Rattle.pm_units.specs.Traps.{Pause, Fails, Waits, or_fails}
+use Rattle.pm_units.specs.Devices.{Devices, cleared, ejected, ejected_at, image_at, mounted, mounted_at, unit_of}
+use Rattle.pm_units.specs.Transfers.{can_move, to_disk, unit_written}
 use Rattle.pm_stdproc.specs.UnitRows.{Served, after_transfer, busy_row, clear_row, ordered, read_row, served, time_row, units_row, wait_row, write_row}
 use Rattle.pm_stdproc.specs.Procedures.{Reach, exit_row, keep_row, on_memory, procedure_numbered, procedure_row, unkeep_row}
 use Rattle.pm_stdproc.specs.Procedures as standard
 use Rattle.pm_stdproc.specs.MemoryRows.{memory_row}
-use Rattle.pm_stdproc.specs.declared.ports.Port.{Port}
-use Rattle.pm_stdproc.specs.declared.ports.Port.TheVariants.{Console, Terminal, Absent, Printer, Disk, Unknown}
-use Rattle.pm_stdproc.specs.declared.transfers.Transfer.{Transfer}
+use Rattle.pm_units.specs.declared.ports.Port.{Port}
+use Rattle.pm_units.specs.declared.ports.Port.TheVariants.{Console, Terminal, Absent, Printer, Disk, Unknown}
+use Rattle.pm_units.specs.declared.transfers.Transfer.{Transfer}
 use Rattle.pm_stdproc.specs.declared.procedures.OnUnits.{OnUnits}
 use Rattle.pm_stdproc.specs.declared.procedures.OnUnits.TheVariants as units
 use Rattle.pm_stdproc.specs.declared.procedures.Procedure.{Procedure}
@@ -64,10 +64,10 @@ use Rattle.pm_machine_laws.specs.Writes.{memory_writes, nothing, operation_write
 use Rattle.pm_machine_laws.specs.Writes.{taking_row, unit_writes}
 use Rattle.pm_stdproc.specs.declared.procedures.OnMemory.{OnMemory}
 use Rattle.pm_stdproc.specs.declared.procedures.OnMemory.TheVariants as memory
-use Rattle.pm_stdproc.specs.declared.transfers.Order.{Order}
+use Rattle.pm_stdproc.specs.declared.rows.Order.{Order}
 use Rattle.pm_stdproc.specs.MemoryRows.{check_io_row, fill_row, filled_with, mark_row, move_bytes_row, moved, new_row, passed_by, pop_place, push_row}
 use Rattle.pm_stdproc.specs.MemoryRows.{release_row, scan_row}
-use Rattle.pm_stdproc.specs.Transfers.{Moved, from_disk, from_queue, unit_read}
+use Rattle.pm_units.specs.Transfers.{Moved, from_disk, from_queue, unit_read}
 use Rattle.pm_words.specs.Words.{moved_down, moved_up, with_word}
 use Rattle.pm_words.specs.Stack.{load, push, store}
 use Rattle.pm_words.proofs.Laws.{word_at-with_word_other}

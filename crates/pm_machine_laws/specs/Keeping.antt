@@ -12,7 +12,7 @@ use Rattle.pm_opcode.specs.Operations.{operation_of}
 use Rattle.pm_calls.specs.declared.frames.SegmentPlace.{SegmentPlace}
 use Rattle.pm_calls.specs.Places.{Parts}
 use Rattle.pm_calls.specs.Returns.{returned, stands_at}
-use Rattle.pm_stdproc.specs.Traps.{Pause, Fails, or_fails}
+use Rattle.pm_units.specs.Traps.{Pause, Fails, or_fails}
 use Rattle.pm_machine.specs.declared.state.Status.{Status}
 use Rattle.pm_machine.specs.declared.state.Status.TheVariants as status
 use Rattle.pm_machine.specs.declared.state.Stop.{Stop}

@@ -9,7 +9,7 @@ use Rattle.pm_calls.specs.Places.{placed}
 use Rattle.pm_volume.specs.declared.entry.Entry.{Entry}
 use Rattle.pm_volume.specs.Directory.{IsVolume}
 use Rattle.pm_codefile.specs.Dictionary.{segment_in}
-use Rattle.pm_stdproc.specs.Devices.{code_on, image_on, unit_of}
+use Rattle.pm_units.specs.Devices.{code_on, image_on, unit_of}
 use Rattle.pm_stdproc.specs.declared.loads.SlotRow.{SlotRow}
 use Rattle.pm_machine.specs.declared.state.Status.TheVariants.{Running}
 use Rattle.pm_machine.specs.declared.state.Stop.TheVariants.{Went}

@@ -1,6 +1,6 @@
 -- What was written stays: the console and the printer only get more.
 use Rattle.std.specs.Prelude.{◌≡◌, ℕ, List, ◌++◌}
-use Rattle.pm_stdproc.specs.Devices.{Devices}
+use Rattle.pm_units.specs.Devices.{Devices}
 use Rattle.pm_machine.specs.State.{State}
 use Rattle.pm_machine.specs.Events.{Event, after_all}
 

@@ -13,7 +13,7 @@ use Rattle.pm_calls.specs.Links.{level_of, up}
 use Rattle.pm_calls.specs.Tables.{attributes}
 use Rattle.pm_calls.specs.Calls.{Reached, called, procedure_called}
 use Rattle.pm_calls.specs.Laws.{IsCode, Reaches}
-use Rattle.pm_stdproc.specs.Devices.{Devices, cleared, unit_of}
+use Rattle.pm_units.specs.Devices.{Devices, cleared, unit_of}
 use Rattle.pm_rows.specs.Pointers.{move_row}
 
 -- ---- the static link of a call

@@ -6,19 +6,19 @@ use Rattle.pm_opcode.specs.declared.instr.Instr.{Instr}
 use Rattle.pm_opcode.specs.declared.operation.Operation.{Operation}
 use Rattle.pm_opcode.specs.declared.operation.Operation.TheVariants as operation
 use Rattle.pm_opcode.specs.Operations.{operation_of}
-use Rattle.pm_stdproc.specs.Devices.{image_at, unit_of}
+use Rattle.pm_units.specs.Devices.{image_at, unit_of}
 use Rattle.pm_stdproc.specs.Procedures.{procedure_numbered}
-use Rattle.pm_stdproc.specs.Traps.{Pause, Fails, Waits}
+use Rattle.pm_units.specs.Traps.{Pause, Fails, Waits}
 use Rattle.pm_stdproc.specs.UnitRows.{ordered}
-use Rattle.pm_stdproc.specs.declared.ports.Port.{Port}
-use Rattle.pm_stdproc.specs.declared.ports.Port.TheVariants.{Console, Terminal, Absent, Printer, Disk, Unknown}
+use Rattle.pm_units.specs.declared.ports.Port.{Port}
+use Rattle.pm_units.specs.declared.ports.Port.TheVariants.{Console, Terminal, Absent, Printer, Disk, Unknown}
 use Rattle.pm_stdproc.specs.declared.procedures.OnMemory.{OnMemory}
 use Rattle.pm_stdproc.specs.declared.procedures.OnMemory.TheVariants as memory
 use Rattle.pm_stdproc.specs.declared.procedures.OnUnits.{OnUnits}
 use Rattle.pm_stdproc.specs.declared.procedures.OnUnits.TheVariants as units
 use Rattle.pm_stdproc.specs.declared.procedures.Procedure.{Procedure}
 use Rattle.pm_stdproc.specs.declared.procedures.Procedure.TheVariants as procedure
-use Rattle.pm_stdproc.specs.declared.transfers.Order.{Order}
+use Rattle.pm_stdproc.specs.declared.rows.Order.{Order}
 use Rattle.pm_machine.specs.declared.state.Status.{Status}
 use Rattle.pm_machine.specs.declared.state.Status.TheVariants as status
 use Rattle.pm_machine.specs.Events.{Event, Step, Key, Poke, Mount, Eject, next}

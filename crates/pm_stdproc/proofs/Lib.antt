@@ -1,4 +1,3 @@
 pub mod MoveLaws
 pub mod ScanLaws
-pub mod DiskLaws
 pub mod Computed

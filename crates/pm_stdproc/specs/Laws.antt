@@ -1,10 +1,6 @@
--- Laws of moves and scans, and of what a disk keeps.
-use Rattle.std.specs.Prelude.{◌≡◌, ◌⊎◌, ◌<◌, ◌≤◌, ℕ, ◌+◌, ◌-◌, ◌*◌, pos, negsuc, ◌-ℤ◌, Bool, true, false, List}
+-- Laws of moves and scans.
+use Rattle.std.specs.Prelude.{◌≡◌, ◌⊎◌, ◌<◌, ◌≤◌, ℕ, ◌+◌, ◌-◌, pos, negsuc, ◌-ℤ◌, Bool, true, false, List}
 use Rattle.pm_words.specs.Words.{IsMemory, byte_at, copied, moved_up, moved_down, scanned, stops}
-use Rattle.pm_volume.specs.Words as disk
-use Rattle.pm_stdproc.specs.Devices.{bytes_from_block}
-use Rattle.pm_stdproc.specs.Transfers.{can_move, named_bytes}
-use Rattle.pm_stdproc.specs.declared.transfers.Transfer.{Transfer}
 
 -- ---- moves
 
@@ -63,11 +59,3 @@ abbrev pub ScansStopFirst : Type 0
 ScansStopFirst =
     ((m : List ℕ) (a n b : ℕ) (equal : Bool) → IsMemory m → a + n ≤ 65536 → ScansUp m a n b equal) ×
     ((m : List ℕ) (a d b : ℕ) (equal : Bool) → IsMemory m → d ≤ a → a < 65536 → ScansDown m a d b equal)
-
--- ---- disks
-
--- what a transfer writes on a disk is what the same transfer reads from it
-abbrev pub DisksKeep : Type 0
-DisksKeep =
-    (m : List ℕ) (image : List ℕ) (t : Transfer) → IsMemory m → t.address + t.count ≤ 65536 → can_move image t ≡ true →
-    bytes_from_block (disk.written image (512 * t.block) (named_bytes m t)) t.block t.count ≡ named_bytes m t

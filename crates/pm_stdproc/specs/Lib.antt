@@ -1,8 +1,5 @@
-pub mod Devices
 pub mod Loads
-pub mod Traps
 pub mod MemoryRows
-pub mod Transfers
 pub mod UnitRows
 pub mod Procedures
 pub mod Laws

@@ -8,7 +8,7 @@ use Rattle.pm_calls.specs.declared.frames.SegmentPlace.{SegmentPlace}
 use Rattle.pm_families.specs.declared.families.Call.{Call}
 use Rattle.pm_families.specs.declared.families.Call.TheVariants.{Clp, Cgp, Cbp, Cip, Cxp}
 use Rattle.pm_calls.specs.Places.{placed}
-use Rattle.pm_stdproc.specs.Devices.{Devices, code_on}
+use Rattle.pm_units.specs.Devices.{Devices, code_on}
 use Rattle.pm_stdproc.specs.declared.loads.SlotRow.{SlotRow}
 
 -- the bytes that a disk has; without them the instruction fails

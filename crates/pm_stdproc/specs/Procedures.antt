@@ -8,8 +8,8 @@ use Rattle.pm_calls.specs.declared.frames.SegmentPlace.{SegmentPlace}
 use Rattle.pm_calls.specs.Places.{Parts}
 use Rattle.pm_calls.specs.Exits.{exited}
 use Rattle.pm_calls.specs.Keeps.{segment_kept, segment_unkept}
-use Rattle.pm_stdproc.specs.Traps.{Pause, Fails, or_fails}
-use Rattle.pm_stdproc.specs.Devices.{Devices}
+use Rattle.pm_units.specs.Traps.{Pause, Fails, or_fails}
+use Rattle.pm_units.specs.Devices.{Devices}
 use Rattle.pm_stdproc.specs.Loads.{length_of, slot_code}
 use Rattle.pm_stdproc.specs.declared.loads.SlotRow.{SlotRow}
 use Rattle.pm_stdproc.specs.MemoryRows.{memory_row}

@@ -5,13 +5,13 @@ use Rattle.pm_words.specs.declared.error.ExecError.TheVariants.{InvalidMemory}
 use Rattle.pm_words.specs.Words.{with_word}
 use Rattle.pm_words.specs.Stack.{◌>>=◌, demand, is_even, lies_in_memory, pop, push}
 use Rattle.pm_calls.specs.declared.registers.Registers.{Registers}
-use Rattle.pm_stdproc.specs.Traps.{Pause, or_fails}
-use Rattle.pm_stdproc.specs.Devices.{Devices, cleared, known, unit_of}
+use Rattle.pm_units.specs.Traps.{Pause, or_fails}
+use Rattle.pm_units.specs.Devices.{Devices, cleared, known, unit_of}
 use Rattle.pm_stdproc.specs.MemoryRows.{pop_place}
-use Rattle.pm_stdproc.specs.Transfers.{Moved, unit_read, unit_written}
+use Rattle.pm_units.specs.Transfers.{Moved, unit_read, unit_written}
 use Rattle.pm_stdproc.specs.declared.procedures.OnUnits.{OnUnits}
 use Rattle.pm_stdproc.specs.declared.procedures.OnUnits.TheVariants.{Read, Write, Time, Busy, Wait, Clear}
-use Rattle.pm_stdproc.specs.declared.transfers.Order.{Order}
+use Rattle.pm_stdproc.specs.declared.rows.Order.{Order}
 
 -- what such a procedure sees of the machine
 pub record Served : Type 0 where

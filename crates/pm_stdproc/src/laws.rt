@@ -1,7 +1,6 @@
-//! Laws of moves and scans, and of what a disk keeps. The functions do nothing.
+//! Laws of moves and scans. The functions do nothing.
 
 ghost use Rattle.pm_stdproc.specs.Laws.{
-  DisksKeep,
   MoveLeftCopies,
   MoveLeftRepeats,
   MoveRightCopies,
@@ -43,10 +42,4 @@ pub fn moves_stay_inside()
 #[tactic(auto, using(crate::proofs::ScanLaws::scans_stop_first))]
 pub fn scans_stop_first()
     ensures law { ScansStopFirst }
-{}
-
-/// What UNITWRITE puts on a disk is what UNITREAD of the same block and count takes from it.
-#[tactic(auto, using(crate::proofs::DiskLaws::disks_keep))]
-pub fn disks_keep()
-    ensures law { DisksKeep }
 {}

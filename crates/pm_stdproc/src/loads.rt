@@ -3,9 +3,9 @@
 ghost use Rattle.std.specs.Prelude.{◌≡◌, ◌%◌, ◌<◌, All, IfOk, IfSome, length, slice_get};
 ghost use Rattle.pm_stdproc.specs.Loads.{code_lent, code_needed, length_of, slot_code};
 
-use crate::units::Units;
 use pm_calls::Frames;
 use pm_families::Call;
+use pm_units::Units;
 use pm_words::ExecError;
 use std::marker::Model;
 

@@ -3,8 +3,8 @@
 ghost use Rattle.std.specs.Prelude.{◌≡◌, ◌≢◌, ◌+◌, ◌≤◌, IfOk, List, OnErr};
 ghost use Rattle.pm_words.specs.Watch.{KeepsWatch};
 ghost use Rattle.pm_calls.specs.Kept.{Agrees};
-ghost use Rattle.pm_stdproc.specs.Traps.{Performs, or_fails};
-ghost use Rattle.pm_stdproc.specs.Devices.{Devices, Room};
+ghost use Rattle.pm_units.specs.Traps.{Performs, or_fails};
+ghost use Rattle.pm_units.specs.Devices.{Devices, Room};
 ghost use Rattle.pm_stdproc.specs.Procedures.{devices_reached, exit_row, keep_row, procedure_numbered};
 ghost use Rattle.pm_stdproc.specs.Procedures.{procedure_row, unkeep_row, reach_of};
 ghost use Rattle.pm_stdproc.specs.declared.loads.SlotRow.{SlotRow};
@@ -24,13 +24,21 @@ ghost use Rattle.pm_stdproc.specs.UnitRows.{
 
 use crate::loads::{SlotRows, length_of, slot_code};
 use crate::memory_rows::{self, pop_place};
-use crate::ports::{known, unit_of};
 use crate::procedures::{OnUnits, Procedure, procedure_of};
-use crate::transfers::{Order, Transfer};
-use crate::trap::Trap;
-use crate::units::Units;
 use pm_calls::{Frames, ValidRegisters};
+use pm_units::{Transfer, Trap, Units, known, unit_of};
 use pm_words::{ExecError, Memory, Top};
+
+/// The operands of a transfer.
+#[derive(Clone, Copy)]
+pub struct Order {
+    /// What is transferred.
+    pub transfer: Transfer,
+    /// The number of the unit.
+    pub unit: u16,
+    /// The SP above the operands.
+    pub sp: u16,
+}
 
 // Takes the operands of a transfer from the stack.
 #[tactic(auto, unfolding(crate::specs::UnitRows::ordered))]
@@ -113,213 +121,235 @@ fn unkeep_row(
     Ok(())
 }
 
-impl Units {
-    /// Does the standard procedure of a number; IPC is the next instruction already, and `rows` says
-    /// where the code of each slot stands on a disk. The answer is an execution error by the
-    /// procedure's row; `Waiting` where a unit has too few bytes to be read; `NoMemory` where there is
-    /// no memory for bytes that are written or shown, and no room is left for them. After each of these
-    /// everything is as it was: the scratch memory keeps what EXIT puts back, and holds anything
-    /// afterwards.
-    #[tactic(auto, unfolding(crate::specs::Procedures::procedure_row), using(pm_words::proofs::WatchLaws::keeps, pm_calls::proofs::TableLaws::carry))]
-    pub fn perform(
-        &mut self,
-        n: u8,
-        memory: &mut Memory,
-        registers: &mut ValidRegisters,
-        frames: &mut Frames,
-        rows: &SlotRows,
-        scratch: &mut Memory,
-    ) -> Result<(), Trap>
-        ensures row { Performs devices_reached self.old.room result
-            (reach_of memory.old.words registers.old frames.old.places rows.now self.old.devices)
-            (reach_of memory.new.words registers.new frames.new.places rows.now self.new.devices)
-            (procedure_row (procedure_numbered n)
-            (reach_of memory.old.words registers.old frames.old.places rows.now self.old.devices)) }
-        ensures refused { OnErr result ((memory.new.words ≡ memory.old.words) × (registers.new ≡ registers.old)
-            × (frames.new.places ≡ frames.old.places) × (self.new ≡ self.old)) }
-        ensures agrees { Agrees memory.old frames.old registers.old.mp → Agrees memory.new frames.new registers.new.mp }
-        ensures keeps { procedure_numbered n ≢ Unkeep → KeepsWatch memory.old memory.new }
-        ensures mp { registers.new.mp ≡ registers.old.mp }
-    {
-        match procedure_of(n) {
-            Procedure::OnMemory(procedure) => {
-                *registers = memory_rows::perform(memory, *registers, procedure)?;
-                Ok(())
-            }
-            Procedure::OnUnits(procedure) => self.on_units(memory, registers, procedure),
-            Procedure::Exit => exit_row(memory, registers, frames, scratch),
-            Procedure::Keep => self.keep_row(memory, registers, frames, rows),
-            Procedure::Unkeep => unkeep_row(memory, registers, frames, rows),
-            Procedure::Unimplemented => Err(Trap::Exec(ExecError::Unimplemented)),
+/// Does the standard procedure of a number; IPC is the next instruction already, and `rows` says
+/// where the code of each slot stands on a disk. The answer is an execution error by the
+/// procedure's row; `Waiting` where a unit has too few bytes to be read; `NoMemory` where there is
+/// no memory for bytes that are written or shown, and no room is left for them. After each of these
+/// everything is as it was: the scratch memory keeps what EXIT puts back, and holds anything
+/// afterwards.
+#[tactic(auto, unfolding(crate::specs::Procedures::procedure_row), using(pm_words::proofs::WatchLaws::keeps, pm_calls::proofs::TableLaws::carry))]
+pub fn perform(
+    units: &mut Units,
+    n: u8,
+    memory: &mut Memory,
+    registers: &mut ValidRegisters,
+    frames: &mut Frames,
+    rows: &SlotRows,
+    scratch: &mut Memory,
+) -> Result<(), Trap>
+    ensures row { Performs devices_reached units.old.room result
+        (reach_of memory.old.words registers.old frames.old.places rows.now units.old.devices)
+        (reach_of memory.new.words registers.new frames.new.places rows.now units.new.devices)
+        (procedure_row (procedure_numbered n)
+        (reach_of memory.old.words registers.old frames.old.places rows.now units.old.devices)) }
+    ensures refused { OnErr result ((memory.new.words ≡ memory.old.words) × (registers.new ≡ registers.old)
+        × (frames.new.places ≡ frames.old.places) × (units.new ≡ units.old)) }
+    ensures agrees { Agrees memory.old frames.old registers.old.mp → Agrees memory.new frames.new registers.new.mp }
+    ensures keeps { procedure_numbered n ≢ Unkeep → KeepsWatch memory.old memory.new }
+    ensures mp { registers.new.mp ≡ registers.old.mp }
+{
+    match procedure_of(n) {
+        Procedure::OnMemory(procedure) => {
+            *registers = memory_rows::perform(memory, *registers, procedure)?;
+            Ok(())
         }
+        Procedure::OnUnits(procedure) => on_units(units, memory, registers, procedure),
+        Procedure::Exit => exit_row(memory, registers, frames, scratch),
+        Procedure::Keep => keep_row(units, memory, registers, frames, rows),
+        Procedure::Unkeep => unkeep_row(memory, registers, frames, rows),
+        Procedure::Unimplemented => Err(Trap::Exec(ExecError::Unimplemented)),
     }
+}
 
-    // CSP 21. Load a segment.
-    #[tactic(auto, unfolding(crate::specs::Procedures::keep_row), using(pm_words::proofs::WatchLaws::keeps))]
-    fn keep_row(
-        &self,
-        memory: &mut Memory,
-        registers: &mut ValidRegisters,
-        frames: &mut Frames,
-        rows: &SlotRows,
-    ) -> Result<(), Trap>
-        ensures row { Performs devices_reached self.now.room result
-            (reach_of memory.old.words registers.old frames.old.places rows.now self.now.devices)
-            (reach_of memory.new.words registers.new frames.new.places rows.now self.now.devices)
-            (or_fails (keep_row
-            (reach_of memory.old.words registers.old frames.old.places rows.now self.now.devices))) }
-        ensures refused { OnErr result ((memory.new.words ≡ memory.old.words) × (registers.new ≡ registers.old)
-            × (frames.new.places ≡ frames.old.places)) }
-        ensures agrees { Agrees memory.old frames.old registers.old.mp → Agrees memory.new frames.new registers.new.mp }
-        ensures keeps { KeepsWatch memory.old memory.new }
-        ensures mp { registers.new.mp ≡ registers.old.mp }
-    {
-        let mut stack = registers.top();
-        let n = stack.pop(memory)?;
-        let code = slot_code(n, frames, rows, self)?;
-        let mut inside = registers.with_top(stack).registers();
-        frames.keep(memory, &mut inside, n, code)?;
-        *registers = ValidRegisters::of(inside);
-        Ok(())
-    }
+// CSP 21. Load a segment.
+#[tactic(auto, unfolding(crate::specs::Procedures::keep_row), using(pm_words::proofs::WatchLaws::keeps))]
+fn keep_row(
+    units: &Units,
+    memory: &mut Memory,
+    registers: &mut ValidRegisters,
+    frames: &mut Frames,
+    rows: &SlotRows,
+) -> Result<(), Trap>
+    ensures row { Performs devices_reached units.now.room result
+        (reach_of memory.old.words registers.old frames.old.places rows.now units.now.devices)
+        (reach_of memory.new.words registers.new frames.new.places rows.now units.now.devices)
+        (or_fails (keep_row
+        (reach_of memory.old.words registers.old frames.old.places rows.now units.now.devices))) }
+    ensures refused { OnErr result ((memory.new.words ≡ memory.old.words) × (registers.new ≡ registers.old)
+        × (frames.new.places ≡ frames.old.places)) }
+    ensures agrees { Agrees memory.old frames.old registers.old.mp → Agrees memory.new frames.new registers.new.mp }
+    ensures keeps { KeepsWatch memory.old memory.new }
+    ensures mp { registers.new.mp ≡ registers.old.mp }
+{
+    let mut stack = registers.top();
+    let n = stack.pop(memory)?;
+    let code = slot_code(n, frames, rows, units)?;
+    let mut inside = registers.with_top(stack).registers();
+    frames.keep(memory, &mut inside, n, code)?;
+    *registers = ValidRegisters::of(inside);
+    Ok(())
+}
 
-    // A standard procedure that works with the units or the clock.
-    #[tactic(auto, unfolding(crate::specs::UnitRows::units_row), using(pm_words::proofs::WatchLaws::keeps))]
-    fn on_units(
-        &mut self,
-        memory: &mut Memory,
-        registers: &mut ValidRegisters,
-        procedure: OnUnits,
-    ) -> Result<(), Trap>
-        ensures row { Performs devices_served self.old.room result
-            (served memory.old.words registers.old self.old.devices)
-            (served memory.new.words registers.new self.new.devices)
-            (units_row procedure (served memory.old.words registers.old self.old.devices)) }
-        ensures room { OnErr result (self.new.room ≡ self.old.room) }
-        ensures keeps { KeepsWatch memory.old memory.new }
-        ensures mp { registers.new.mp ≡ registers.old.mp }
-    {
-        match procedure {
-            OnUnits::Read => self.read_row(memory, registers),
-            OnUnits::Write => self.write_row(memory, registers),
-            OnUnits::Time => self.time_row(memory, registers),
-            OnUnits::Busy => self.busy_row(memory, registers),
-            OnUnits::Wait => self.wait_row(memory, registers),
-            OnUnits::Clear => self.clear_row(memory, registers),
-        }
+// A standard procedure that works with the units or the clock.
+#[tactic(auto, unfolding(crate::specs::UnitRows::units_row), using(pm_words::proofs::WatchLaws::keeps))]
+fn on_units(
+    units: &mut Units,
+    memory: &mut Memory,
+    registers: &mut ValidRegisters,
+    procedure: OnUnits,
+) -> Result<(), Trap>
+    ensures row { Performs devices_served units.old.room result
+        (served memory.old.words registers.old units.old.devices)
+        (served memory.new.words registers.new units.new.devices)
+        (units_row procedure (served memory.old.words registers.old units.old.devices)) }
+    ensures room { OnErr result (units.new.room ≡ units.old.room) }
+    ensures keeps { KeepsWatch memory.old memory.new }
+    ensures mp { registers.new.mp ≡ registers.old.mp }
+{
+    match procedure {
+        OnUnits::Read => read_row(units, memory, registers),
+        OnUnits::Write => write_row(units, memory, registers),
+        OnUnits::Time => time_row(units, memory, registers),
+        OnUnits::Busy => busy_row(units, memory, registers),
+        OnUnits::Wait => wait_row(units, memory, registers),
+        OnUnits::Clear => clear_row(units, memory, registers),
     }
+}
 
-    // UNITREAD.
-    #[tactic(auto, unfolding(crate::specs::UnitRows::read_row), using(pm_words::proofs::WatchLaws::keeps))]
-    fn read_row(&mut self, memory: &mut Memory, registers: &mut ValidRegisters) -> Result<(), Trap>
-        ensures row { Performs devices_served self.old.room result
-            (served memory.old.words registers.old self.old.devices)
-            (served memory.new.words registers.new self.new.devices)
-            (read_row (served memory.old.words registers.old self.old.devices)) }
-        ensures room { OnErr result (self.new.room ≡ self.old.room) }
-        ensures keeps { KeepsWatch memory.old memory.new }
-        ensures mp { registers.new.mp ≡ registers.old.mp }
-    {
-        let mut stack = registers.top();
-        let order = order(&mut stack, memory)?;
-        let ioresult = self.read(memory, unit_of(order.unit), order.transfer)?;
-        *registers = registers.with_top(stack).with_ioresult(ioresult);
-        Ok(())
-    }
+// UNITREAD.
+#[tactic(auto, unfolding(crate::specs::UnitRows::read_row), using(pm_words::proofs::WatchLaws::keeps))]
+fn read_row(
+    units: &mut Units,
+    memory: &mut Memory,
+    registers: &mut ValidRegisters,
+) -> Result<(), Trap>
+    ensures row { Performs devices_served units.old.room result
+        (served memory.old.words registers.old units.old.devices)
+        (served memory.new.words registers.new units.new.devices)
+        (read_row (served memory.old.words registers.old units.old.devices)) }
+    ensures room { OnErr result (units.new.room ≡ units.old.room) }
+    ensures keeps { KeepsWatch memory.old memory.new }
+    ensures mp { registers.new.mp ≡ registers.old.mp }
+{
+    let mut stack = registers.top();
+    let order = order(&mut stack, memory)?;
+    let ioresult = units.read(memory, unit_of(order.unit), order.transfer)?;
+    *registers = registers.with_top(stack).with_ioresult(ioresult);
+    Ok(())
+}
 
-    // UNITWRITE.
-    #[tactic(auto, unfolding(crate::specs::UnitRows::write_row), using(pm_words::proofs::WatchLaws::keeps))]
-    fn write_row(&mut self, memory: &mut Memory, registers: &mut ValidRegisters) -> Result<(), Trap>
-        ensures row { Performs devices_served self.old.room result
-            (served memory.old.words registers.old self.old.devices)
-            (served memory.new.words registers.new self.new.devices)
-            (write_row (served memory.old.words registers.old self.old.devices)) }
-        ensures room { OnErr result (self.new.room ≡ self.old.room) }
-        ensures keeps { KeepsWatch memory.old memory.new }
-        ensures mp { registers.new.mp ≡ registers.old.mp }
-    {
-        let mut stack = registers.top();
-        let order = order(&mut stack, memory)?;
-        let ioresult = self.write(memory, unit_of(order.unit), order.transfer)?;
-        *registers = registers.with_top(stack).with_ioresult(ioresult);
-        Ok(())
-    }
+// UNITWRITE.
+#[tactic(auto, unfolding(crate::specs::UnitRows::write_row), using(pm_words::proofs::WatchLaws::keeps))]
+fn write_row(
+    units: &mut Units,
+    memory: &mut Memory,
+    registers: &mut ValidRegisters,
+) -> Result<(), Trap>
+    ensures row { Performs devices_served units.old.room result
+        (served memory.old.words registers.old units.old.devices)
+        (served memory.new.words registers.new units.new.devices)
+        (write_row (served memory.old.words registers.old units.old.devices)) }
+    ensures room { OnErr result (units.new.room ≡ units.old.room) }
+    ensures keeps { KeepsWatch memory.old memory.new }
+    ensures mp { registers.new.mp ≡ registers.old.mp }
+{
+    let mut stack = registers.top();
+    let order = order(&mut stack, memory)?;
+    let ioresult = units.write(memory, unit_of(order.unit), order.transfer)?;
+    *registers = registers.with_top(stack).with_ioresult(ioresult);
+    Ok(())
+}
 
-    // TIME.
-    #[tactic(auto, unfolding(crate::specs::UnitRows::time_row), using(pm_words::proofs::WatchLaws::keeps))]
-    fn time_row(&mut self, memory: &mut Memory, registers: &mut ValidRegisters) -> Result<(), Trap>
-        ensures row { Performs devices_served self.old.room result
-            (served memory.old.words registers.old self.old.devices)
-            (served memory.new.words registers.new self.new.devices)
-            (or_fails (time_row (served memory.old.words registers.old self.old.devices))) }
-        ensures room { OnErr result (self.new.room ≡ self.old.room) }
-        ensures keeps { KeepsWatch memory.old memory.new }
-        ensures mp { registers.new.mp ≡ registers.old.mp }
-    {
-        let mut stack = registers.top();
-        let low = stack.pop(memory)?;
-        let high = stack.pop(memory)?;
-        if high % 2 != 0 || low % 2 != 0 {
-            return Err(Trap::Exec(ExecError::InvalidMemory));
-        }
-        memory.set_word(high, (self.clock / 65536) as u16);
-        memory.set_word(low, (self.clock % 65536) as u16);
-        *registers = registers.with_top(stack);
-        Ok(())
+// TIME.
+#[tactic(auto, unfolding(crate::specs::UnitRows::time_row), using(pm_words::proofs::WatchLaws::keeps))]
+fn time_row(
+    units: &mut Units,
+    memory: &mut Memory,
+    registers: &mut ValidRegisters,
+) -> Result<(), Trap>
+    ensures row { Performs devices_served units.old.room result
+        (served memory.old.words registers.old units.old.devices)
+        (served memory.new.words registers.new units.new.devices)
+        (or_fails (time_row (served memory.old.words registers.old units.old.devices))) }
+    ensures room { OnErr result (units.new.room ≡ units.old.room) }
+    ensures keeps { KeepsWatch memory.old memory.new }
+    ensures mp { registers.new.mp ≡ registers.old.mp }
+{
+    let mut stack = registers.top();
+    let low = stack.pop(memory)?;
+    let high = stack.pop(memory)?;
+    if high % 2 != 0 || low % 2 != 0 {
+        return Err(Trap::Exec(ExecError::InvalidMemory));
     }
+    memory.set_word(high, (units.clock() / 65536) as u16);
+    memory.set_word(low, (units.clock() % 65536) as u16);
+    *registers = registers.with_top(stack);
+    Ok(())
+}
 
-    // UNITBUSY.
-    #[tactic(auto, unfolding(crate::specs::UnitRows::busy_row), using(pm_words::proofs::WatchLaws::keeps))]
-    fn busy_row(&mut self, memory: &mut Memory, registers: &mut ValidRegisters) -> Result<(), Trap>
-        ensures row { Performs devices_served self.old.room result
-            (served memory.old.words registers.old self.old.devices)
-            (served memory.new.words registers.new self.new.devices)
-            (or_fails (busy_row (served memory.old.words registers.old self.old.devices))) }
-        ensures room { OnErr result (self.new.room ≡ self.old.room) }
-        ensures keeps { KeepsWatch memory.old memory.new }
-        ensures mp { registers.new.mp ≡ registers.old.mp }
-    {
-        let mut stack = registers.top();
-        let unit = stack.pop(memory)?;
-        stack.push(memory, 0)?;
-        let ioresult = known(unit_of(unit));
-        *registers = registers.with_top(stack).with_ioresult(ioresult);
-        Ok(())
-    }
+// UNITBUSY.
+#[tactic(auto, unfolding(crate::specs::UnitRows::busy_row), using(pm_words::proofs::WatchLaws::keeps))]
+fn busy_row(
+    units: &mut Units,
+    memory: &mut Memory,
+    registers: &mut ValidRegisters,
+) -> Result<(), Trap>
+    ensures row { Performs devices_served units.old.room result
+        (served memory.old.words registers.old units.old.devices)
+        (served memory.new.words registers.new units.new.devices)
+        (or_fails (busy_row (served memory.old.words registers.old units.old.devices))) }
+    ensures room { OnErr result (units.new.room ≡ units.old.room) }
+    ensures keeps { KeepsWatch memory.old memory.new }
+    ensures mp { registers.new.mp ≡ registers.old.mp }
+{
+    let mut stack = registers.top();
+    let unit = stack.pop(memory)?;
+    stack.push(memory, 0)?;
+    let ioresult = known(unit_of(unit));
+    *registers = registers.with_top(stack).with_ioresult(ioresult);
+    Ok(())
+}
 
-    // UNITWAIT.
-    #[tactic(auto, unfolding(crate::specs::UnitRows::wait_row), using(pm_words::proofs::WatchLaws::keeps))]
-    fn wait_row(&mut self, memory: &mut Memory, registers: &mut ValidRegisters) -> Result<(), Trap>
-        ensures row { Performs devices_served self.old.room result
-            (served memory.old.words registers.old self.old.devices)
-            (served memory.new.words registers.new self.new.devices)
-            (or_fails (wait_row (served memory.old.words registers.old self.old.devices))) }
-        ensures room { OnErr result (self.new.room ≡ self.old.room) }
-        ensures keeps { KeepsWatch memory.old memory.new }
-        ensures mp { registers.new.mp ≡ registers.old.mp }
-    {
-        let mut stack = registers.top();
-        let unit = stack.pop(memory)?;
-        let ioresult = known(unit_of(unit));
-        *registers = registers.with_top(stack).with_ioresult(ioresult);
-        Ok(())
-    }
+// UNITWAIT.
+#[tactic(auto, unfolding(crate::specs::UnitRows::wait_row), using(pm_words::proofs::WatchLaws::keeps))]
+fn wait_row(
+    units: &mut Units,
+    memory: &mut Memory,
+    registers: &mut ValidRegisters,
+) -> Result<(), Trap>
+    ensures row { Performs devices_served units.old.room result
+        (served memory.old.words registers.old units.old.devices)
+        (served memory.new.words registers.new units.new.devices)
+        (or_fails (wait_row (served memory.old.words registers.old units.old.devices))) }
+    ensures room { OnErr result (units.new.room ≡ units.old.room) }
+    ensures keeps { KeepsWatch memory.old memory.new }
+    ensures mp { registers.new.mp ≡ registers.old.mp }
+{
+    let mut stack = registers.top();
+    let unit = stack.pop(memory)?;
+    let ioresult = known(unit_of(unit));
+    *registers = registers.with_top(stack).with_ioresult(ioresult);
+    Ok(())
+}
 
-    // UNITCLEAR.
-    #[tactic(auto, unfolding(crate::specs::UnitRows::clear_row), using(pm_words::proofs::WatchLaws::keeps))]
-    fn clear_row(&mut self, memory: &mut Memory, registers: &mut ValidRegisters) -> Result<(), Trap>
-        ensures row { Performs devices_served self.old.room result
-            (served memory.old.words registers.old self.old.devices)
-            (served memory.new.words registers.new self.new.devices)
-            (or_fails (clear_row (served memory.old.words registers.old self.old.devices))) }
-        ensures room { OnErr result (self.new.room ≡ self.old.room) }
-        ensures keeps { KeepsWatch memory.old memory.new }
-        ensures mp { registers.new.mp ≡ registers.old.mp }
-    {
-        let mut stack = registers.top();
-        let unit = stack.pop(memory)?;
-        let ioresult = self.clear(unit_of(unit));
-        *registers = registers.with_top(stack).with_ioresult(ioresult);
-        Ok(())
-    }
+// UNITCLEAR.
+#[tactic(auto, unfolding(crate::specs::UnitRows::clear_row), using(pm_words::proofs::WatchLaws::keeps))]
+fn clear_row(
+    units: &mut Units,
+    memory: &mut Memory,
+    registers: &mut ValidRegisters,
+) -> Result<(), Trap>
+    ensures row { Performs devices_served units.old.room result
+        (served memory.old.words registers.old units.old.devices)
+        (served memory.new.words registers.new units.new.devices)
+        (or_fails (clear_row (served memory.old.words registers.old units.old.devices))) }
+    ensures room { OnErr result (units.new.room ≡ units.old.room) }
+    ensures keeps { KeepsWatch memory.old memory.new }
+    ensures mp { registers.new.mp ≡ registers.old.mp }
+{
+    let mut stack = registers.top();
+    let unit = stack.pop(memory)?;
+    let ioresult = units.clear(unit_of(unit));
+    *registers = registers.with_top(stack).with_ioresult(ioresult);
+    Ok(())
 }

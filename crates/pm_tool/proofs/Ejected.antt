@@ -3,8 +3,8 @@ use Rattle.std.proofs.Common.{◌≡◌, ◌≢◌, ◌∙◌, ℕ, List, Option
 use Rattle.std.proofs.lemmas.List.{get_or-set_other}
 use Rattle.pm_machine.specs.State.{State}
 use Rattle.pm_machine.specs.Events.{Eject, next}
-use Rattle.pm_stdproc.specs.Devices.{ejected, ejected_image, unit_of}
-use Rattle.pm_stdproc.specs.declared.ports.Port.TheVariants.{Disk}
+use Rattle.pm_units.specs.Devices.{ejected, ejected_image, unit_of}
+use Rattle.pm_units.specs.declared.ports.Port.TheVariants.{Disk}
 
 -- the image at a place, of a state
 abbrev at_place : ℕ → State → Option (List ℕ)

@@ -5,7 +5,7 @@ use Rattle.std.specs.Io.KnownBytes.{Consumes, Appends, Keeps}
 use Rattle.pm_machine.specs.State.{State}
 use Rattle.pm_selection.specs.declared.saving.Saving.{Saving}
 use Rattle.pm_selection.specs.declared.saving.Saving.TheVariants as savings
-use Rattle.pm_stdproc.specs.Devices.{Devices, ejected_image}
+use Rattle.pm_units.specs.Devices.{Devices, ejected_image}
 use Rattle.pm_streams.specs.declared.fault.Fault.{Fault}
 use Rattle.pm_tool.specs.declared.outcome.Exit.{Exit}
 use Rattle.pm_tool.specs.declared.outcome.Exit.TheVariants as exits

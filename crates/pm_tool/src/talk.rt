@@ -2,7 +2,7 @@
 ghost use Rattle.std.specs.Prelude.{◌≡◌, false, true, [], ◌++◌, List, ℕ, Ok, IfOk, IfErr, OnOk, OnErr};
 ghost use Rattle.std.specs.Prelude.{option_map, vec_items};
 ghost use Rattle.pm_machine.specs.Events.{Eject, next};
-ghost use Rattle.pm_stdproc.specs.Devices.{ejected_image};
+ghost use Rattle.pm_units.specs.Devices.{ejected_image};
 ghost use Rattle.std.specs.Io.KnownBytes.{Appends};
 ghost use Rattle.pm_tool.specs.Disks.{machine_at};
 ghost use Rattle.pm_tool.specs.Outcomes.{IsOutcome, SaysWhy, others_of};

@@ -1,9 +1,9 @@
 -- Why an instruction does not go on.
 use Rattle.std.specs.Prelude.{Result, Ok, Err, ◌≡◌, false}
 use Rattle.pm_words.specs.declared.error.ExecError.{ExecError}
-use Rattle.pm_stdproc.specs.declared.trap.Trap.{Trap}
-use Rattle.pm_stdproc.specs.declared.trap.Trap.TheVariants as trap
-use Rattle.pm_stdproc.specs.Devices.{Devices, Room, has_room}
+use Rattle.pm_units.specs.declared.trap.Trap.{Trap}
+use Rattle.pm_units.specs.declared.trap.Trap.TheVariants as trap
+use Rattle.pm_units.specs.Devices.{Devices, Room, has_room}
 
 -- an execution error, or too few bytes of input; want of memory is no part of any rule
 pub data Pause : Type 0 where

@@ -20,7 +20,7 @@ pub enum Trap {
 
 impl From<ExecError> for Trap {
     ghost use Rattle.std.specs.Prelude.{◌≡◌};
-    ghost use Rattle.pm_stdproc.specs.declared.trap.Trap.TheVariants.{Exec};
+    ghost use Rattle.pm_units.specs.declared.trap.Trap.TheVariants.{Exec};
 
     ghost from_gives = { λ e t. t ≡ Exec e };
 
@@ -31,7 +31,7 @@ impl From<ExecError> for Trap {
 
 impl From<AllocError> for Trap {
     ghost use Rattle.std.specs.Prelude.{◌≡◌};
-    ghost use Rattle.pm_stdproc.specs.declared.trap.Trap.TheVariants.{NoMemory};
+    ghost use Rattle.pm_units.specs.declared.trap.Trap.TheVariants.{NoMemory};
 
     ghost from_gives = { λ _ t. t ≡ NoMemory };
 

@@ -4,13 +4,13 @@ use Rattle.std.specs.Prelude.{ℕ, ◌*◌, ◌≡◌, Bool, true, false, ◌&&�
 use Rattle.std.specs.Prelude.{Some, None, Result, Ok, Err, if◌then◌else◌, nat_lt}
 use Rattle.pm_words.specs.Words.{with_bytes, bytes_at}
 use Rattle.pm_volume.specs.Words as disk
-use Rattle.pm_stdproc.specs.Traps.{Pause, Fails, Waits, Outgrows}
-use Rattle.pm_stdproc.specs.Devices.{Devices, Room, image_at, lies_on, bytes_from_block}
-use Rattle.pm_stdproc.specs.declared.ports.Port.{Port}
-use Rattle.pm_stdproc.specs.declared.ports.Port.TheVariants.{Console, Terminal, Absent, Printer, Disk, Unknown}
-use Rattle.pm_stdproc.specs.declared.transfers.Transfer.{Transfer}
-use Rattle.pm_stdproc.specs.declared.trap.Trap.{Trap}
-use Rattle.pm_stdproc.specs.declared.trap.Trap.TheVariants as trap
+use Rattle.pm_units.specs.Traps.{Pause, Fails, Waits, Outgrows}
+use Rattle.pm_units.specs.Devices.{Devices, Room, image_at, lies_on, bytes_from_block}
+use Rattle.pm_units.specs.declared.ports.Port.{Port}
+use Rattle.pm_units.specs.declared.ports.Port.TheVariants.{Console, Terminal, Absent, Printer, Disk, Unknown}
+use Rattle.pm_units.specs.declared.transfers.Transfer.{Transfer}
+use Rattle.pm_units.specs.declared.trap.Trap.{Trap}
+use Rattle.pm_units.specs.declared.trap.Trap.TheVariants as trap
 
 -- what a transfer leaves
 pub record Moved : Type 0 where

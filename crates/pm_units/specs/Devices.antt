@@ -1,10 +1,10 @@
 -- What stands outside the memory, and the numbers of the units.
 use Rattle.std.specs.Prelude.{ℕ, ◌+◌, ◌*◌, ◌<◌, ◌||◌, ◌&&◌, List, [], length, slice_range, slice_set, slice_index_or}
 use Rattle.std.specs.Prelude.{Option, Some, None, is_none, Result, Ok, Err, if◌then◌else◌, ◌==◌, nat_le, Bool}
-use Rattle.pm_stdproc.specs.declared.ports.Port.{Port}
-use Rattle.pm_stdproc.specs.declared.ports.Port.TheVariants.{Console, Terminal, Absent, Printer, Disk, Unknown}
-use Rattle.pm_stdproc.specs.declared.ports.MountFault.{MountFault}
-use Rattle.pm_stdproc.specs.declared.ports.MountFault.TheVariants.{NoUnit, Taken}
+use Rattle.pm_units.specs.declared.ports.Port.{Port}
+use Rattle.pm_units.specs.declared.ports.Port.TheVariants.{Console, Terminal, Absent, Printer, Disk, Unknown}
+use Rattle.pm_units.specs.declared.ports.MountFault.{MountFault}
+use Rattle.pm_units.specs.declared.ports.MountFault.TheVariants.{NoUnit, Taken}
 
 -- the disks of the units 4, 5, 9, 10, 11 and 12, each the bytes of its image; the bytes that wait to be read; the bytes
 -- that were written to the console and to the printer; the clock

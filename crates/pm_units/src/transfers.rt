@@ -2,8 +2,8 @@
 
 ghost use Rattle.std.specs.Prelude.{◌≡◌, ◌+◌, ◌<◌, ◌≤◌, ◌++◌, drop, length, vec_capacity, vec_len, Ok, OnOk, OnErr};
 ghost use Rattle.pm_words.specs.Watch.{KeepsWatch};
-ghost use Rattle.pm_stdproc.specs.Devices.{HasPlace, cleared, image_at};
-ghost use Rattle.pm_stdproc.specs.Transfers.{
+ghost use Rattle.pm_units.specs.Devices.{HasPlace, cleared, image_at};
+ghost use Rattle.pm_units.specs.Transfers.{
   Transfers,
   can_move,
   from_disk,
@@ -29,17 +29,6 @@ pub struct Transfer {
     pub count: u16,
     /// The block of the disk, a signed number.
     pub block: u16,
-}
-
-/// The operands of a transfer.
-#[derive(Clone, Copy)]
-pub struct Order {
-    /// What is transferred.
-    pub transfer: Transfer,
-    /// The number of the unit.
-    pub unit: u16,
-    /// The SP above the operands.
-    pub sp: u16,
 }
 
 // Puts bytes behind others. Want of memory comes only where there is no room for them, and leaves the bytes and the
@@ -88,12 +77,7 @@ fn can_move(image: &[u8], transfer: Transfer) -> bool
 impl Units {
     /// Reads from a unit into the memory, and gives the IORESULT.
     #[tactic(auto, unfolding(crate::specs::Transfers::unit_read), using(pm_words::proofs::WatchLaws::keeps))]
-    pub(crate) fn read(
-        &mut self,
-        memory: &mut Memory,
-        unit: Port,
-        transfer: Transfer,
-    ) -> Result<u16, Trap>
+    pub fn read(&mut self, memory: &mut Memory, unit: Port, transfer: Transfer) -> Result<u16, Trap>
         requires place { HasPlace unit }
         requires inside { transfer.address + transfer.count ≤ 65536 }
         ensures read { Transfers self.old.room result memory.old.words self.old.devices memory.new.words
@@ -163,7 +147,7 @@ impl Units {
 
     /// Writes from the memory to a unit, and gives the IORESULT.
     #[tactic(auto, unfolding(crate::specs::Transfers::unit_written), using(pm_words::proofs::WatchLaws::keeps))]
-    pub(crate) fn write(
+    pub fn write(
         &mut self,
         memory: &mut Memory,
         unit: Port,
@@ -214,7 +198,7 @@ impl Units {
     }
 
     /// Clears a unit, and gives the IORESULT.
-    pub(crate) fn clear(&mut self, unit: Port) -> u16
+    pub fn clear(&mut self, unit: Port) -> u16
         requires place { HasPlace unit }
         ensures cleared { cleared unit self.old.devices ≡ (result, self.new.devices) }
     {

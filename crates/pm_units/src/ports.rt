@@ -1,7 +1,7 @@
 //! The numbers of the units.
 
 ghost use Rattle.std.specs.Prelude.{◌≡◌};
-ghost use Rattle.pm_stdproc.specs.Devices.{HasPlace, known, mount_number, unit_of};
+ghost use Rattle.pm_units.specs.Devices.{HasPlace, known, mount_number, unit_of};
 
 use thiserror::Error;
 

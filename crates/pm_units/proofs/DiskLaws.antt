@@ -5,8 +5,8 @@ use Rattle.std.proofs.lemmas.List.{length-take-le}
 use Rattle.std.proofs.Math.Seq.{drop-append_seam, take-append_seam}
 use Rattle.pm_words.proofs.RangeLaws.{length-bytes_at}
 use Rattle.pm_volume.specs.Words.{written}
-use Rattle.pm_stdproc.specs.Laws.{DisksKeep}
-use Rattle.pm_stdproc.specs.Transfers.{named_bytes}
+use Rattle.pm_units.specs.Laws.{DisksKeep}
+use Rattle.pm_units.specs.Transfers.{named_bytes}
 
 -- the items written into a list are the items there
 part-written : (xs ys : List ℕ) (i n : ℕ) → length ys ≡ n → i + n ≤ length xs → slice_range (written xs i ys) i (i + n) ≡ ys

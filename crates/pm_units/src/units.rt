@@ -18,7 +18,7 @@ ghost use Rattle.std.specs.Prelude.{
   OnErr,
   option_map,
 };
-ghost use Rattle.pm_stdproc.specs.Devices.{HasPlace, code_in, code_on, ejected, ejected_image, image_on, mounted};
+ghost use Rattle.pm_units.specs.Devices.{HasPlace, code_in, code_on, ejected, ejected_image, image_on, mounted};
 
 use crate::ports::{MountFault, Port, unit_of};
 use crate::transfers::append;
@@ -27,7 +27,7 @@ use std::alloc::{AllocError, Global};
 use std::marker::Model;
 
 /// The bytes of a block.
-pub const BLOCK: usize = 512;
+pub(crate) const BLOCK: usize = 512;
 
 /// The units, seen as what stands outside the memory: the images on the disk units 4, 5, 9, 10, 11
 /// and 12, the bytes of input that wait, the bytes written to the console and to the printer, and
@@ -44,7 +44,7 @@ pub struct Units {
 
 impl Model for Units {
     ghost use Rattle.std.specs.Prelude.{◌-◌, vec_capacity, vec_len};
-    ghost use Rattle.pm_stdproc.specs.Devices.{Held};
+    ghost use Rattle.pm_units.specs.Devices.{Held};
 
     ghost Value = { Held };
 
@@ -142,6 +142,13 @@ impl Units {
         ensures bytes { result.now ≡ self.now.devices.printer }
     {
         &self.printer
+    }
+
+    /// The clock, as it was given: it does not move.
+    pub fn clock(&self) -> u32
+        ensures clock { result ≡ self.now.devices.clock }
+    {
+        self.clock
     }
 
     /// Puts a volume on a disk unit. `NoUnit` for a number that is none, `Taken` where a disk is

@@ -1,0 +1,4 @@
+pub mod Devices
+pub mod Traps
+pub mod Transfers
+pub mod Laws

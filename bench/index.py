@@ -9,11 +9,10 @@ TOP = os.path.join(os.path.dirname(os.path.abspath(__file__)), "..")
 PAGE = os.path.join(TOP, "docs/INDEX.md")
 HEAD = """# Index
 
-Each public call, by crate in the order of crates.txt, and there by its type or module. In brackets the names of the
-clauses, behind `requires` those of what a caller has to meet (conditions); calls with the same ones stand together, and
-with empty ones they promise to return, and nothing else. A call without brackets is a law: its contract speaks of
-definitions alone, and the words above it in the source say what; `worked_..` are computed values. What serves tests
-alone is left out, and counted at the end. Made by `bench/index.py`.
+Each public call, by crate in the order of crates.txt, and there by type or module. In brackets stand the names of its
+clauses, behind `requires` of what a caller has to meet (conditions); with empty ones it promises to return, and nothing
+else. A call without brackets is a law about definitions: the words above it in the source say which; `worked_..` are
+computed values. What serves tests alone is counted at the end. Made by `bench/index.py`.
 """
 # Crates whose calls serve programs of the gate and tests alone.
 FOR_TESTS = ("pm_replay", "pm_fake", "pm_told", "pm_told_jobs")

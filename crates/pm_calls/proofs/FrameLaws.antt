@@ -1,13 +1,13 @@
 -- The laws of a frame's words.
-use Rattle.std.proofs.Common.{take, get_or, ◌≡◌, ℕ, ◌+◌, ◌-◌, ◌*◌, ◌/◌, ◌%◌, ◌<◌, ◌≤◌, List, ◌∙◌, refl, sym, ap, arith, inl, inr, ⊎_elim}
+use Rattle.std.proofs.Common.{take, get_or, ◌≡◌, ℕ, ◌+◌, ◌-◌, ◌*◌, ◌/◌, ◌%◌, ◌<◌, ◌≤◌, List, [], ◌∷◌, ◌∙◌, refl, sym, ap, arith, inl, inr, ⊎_elim}
 use Rattle.std.proofs.lemmas.Bool.{cases_lt, cases_eq}
 use Rattle.std.proofs.lemmas.List.{append-nil, ext_get_or, take-append-drop}
-use Rattle.pm_words.specs.Words.{IsMemory, bytes_at, bytes_of, copied, with_bytes, word_at, with_word}
+use Rattle.pm_words.specs.Words.{IsMemory, bytes_at, bytes_of, copied, with_bytes, word_at, with_word, with_words}
 use Rattle.pm_words.proofs.Pairs.{words_of-bytes_of}
-use Rattle.pm_words.proofs.Laws.{IsMemory-with_word, word_at-with_word, word_at-with_word_other}
+use Rattle.pm_words.proofs.Laws.{IsMemory-with_word, with_words-six, word_at-with_word, word_at-with_word_other}
 use Rattle.pm_words.proofs.RangeLaws.{IsMemory-copied, word_at-copied, word_at-copied_other}
 use Rattle.pm_calls.specs.declared.registers.Registers.{Registers}
-use Rattle.pm_calls.specs.Calls.{with_control}
+use Rattle.pm_calls.specs.Calls.{with_control, with_frame}
 
 -- the static link is the frame's first word
 pub with_control-link : (m : List ℕ) (f static above : ℕ) (r : Registers) → IsMemory m → f % 2 ≡ 0 → f + 12 ≤ 65504
@@ -20,6 +20,20 @@ with_control-link m f static above r h even room =
     ∙ word_at-with_word_other _ (f + 4) f r.jtab (omega arith) even (λ e. absurd (omega arith))
     ∙ word_at-with_word_other _ (f + 2) f r.mp (omega arith) even (λ e. absurd (omega arith))
     ∙ word_at-with_word m f f static refl (omega (arith, h.size))
+
+-- the control words, written at once
+pub with_control-six : (m : List ℕ) (f static above : ℕ) (r : Registers) → IsMemory m → f % 2 ≡ 0 → f + 12 ≤ 65504
+    → with_words m f (static ∷ r.mp ∷ r.jtab ∷ r.seg ∷ r.ipc ∷ above ∷ []) ≡ with_control m f static r above
+unfolding with_control
+with_control-six m f static above r h even room =
+    sym (with_words-six m f static r.mp r.jtab r.seg r.ipc above even (omega (arith, room)) h.size)
+
+-- a frame, of which the parameters are there before its control words
+pub with_frame-six : (m n k : List ℕ) (f static : ℕ) (r : Registers) (parameters : ℕ) → IsMemory n → f % 2 ≡ 0 → f + 12 ≤ 65504
+    → n ≡ copied m r.sp (f + 12) parameters
+    → k ≡ with_words n f (static ∷ r.mp ∷ r.jtab ∷ r.seg ∷ r.ipc ∷ (r.sp + parameters) ∷ []) → k ≡ with_frame m f static r parameters
+with_frame-six m n k f static r parameters h even room e g =
+    g ∙ with_control-six n f static (r.sp + parameters) r h even room ∙ ap (λ x. with_control x f static r (r.sp + parameters)) e
 
 -- a word below a frame leaves the static link
 pub below-link : (m : List ℕ) (f w link : ℕ) → f % 2 ≡ 0 → 2 ≤ f → word_at m f ≡ link → word_at (with_word m (f - 2) w) f ≡ link

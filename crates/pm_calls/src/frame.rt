@@ -13,24 +13,6 @@ use crate::registers::Registers;
 use pm_words::layout::STACK_END;
 use pm_words::{ExecError, Memory};
 
-// Writes the six control words of a frame.
-#[inline(always)]
-#[tactic(auto, unfolding(crate::specs::Calls::with_control), using(pm_words::proofs::WatchLaws::keeps))]
-fn put_control(memory: &mut Memory, frame: u16, link: u16, registers: &Registers, above: u16)
-    requires even { frame % 2 ≡ 0 }
-    requires room { frame + 12 ≤ STACK_END }
-    ensures words { memory.new.words ≡ with_control memory.old.words frame link registers.now above }
-    ensures link { word_at memory.new.words frame ≡ link }
-    ensures keeps { KeepsWatch memory.old memory.new }
-{
-    memory.set_word(frame, link);
-    memory.set_word(frame + 2, registers.mp);
-    memory.set_word(frame + 4, registers.jtab);
-    memory.set_word(frame + 6, registers.seg);
-    memory.set_word(frame + 8, registers.ipc);
-    memory.set_word(frame + 10, above);
-}
-
 // Copies the parameters of a frame to a place that is not above them: few of them word by word, from the lowest on.
 #[inline(always)]
 #[tactic(auto, using(pm_words::proofs::WatchLaws::keeps))]
@@ -98,7 +80,15 @@ fn put_frame(
     ensures keeps { KeepsWatch memory.old memory.new }
 {
     put_parameters(memory, registers.sp, frame + 12, parameters);
-    put_control(memory, frame, link, registers, registers.sp + parameters);
+    let above = registers.sp + parameters;
+    let Registers {
+        mp,
+        jtab,
+        seg,
+        ipc,
+        ..
+    } = *registers;
+    memory.set_six_words(frame, [link, mp, jtab, seg, ipc, above]);
     if base {
         memory.set_word(frame - 2, registers.base);
     }

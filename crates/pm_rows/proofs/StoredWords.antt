@@ -1,6 +1,6 @@
 -- Words that STM stores and LDM loads again.
-use Rattle.std.proofs.Common.{◌≡◌, ◌≢◌, ◌<◌, ◌≤◌, ◌⊎◌, inl, inr, ℕ, ◌+◌, ◌-◌, ◌*◌, ◌/◌, ◌%◌, ◌&&◌, Bool, true}
-use Rattle.std.proofs.Common.{false, cond, nat_lt, nat_le, List, length, Result, Ok, Err, refl, sym, ap, ◌∙◌, arith}
+use Rattle.std.proofs.Common.{◌≡◌, ◌≢◌, ◌<◌, ◌≤◌, ◌⊎◌, inl, inr, ℕ, ◌+◌, ◌-◌, ◌*◌, ◌%◌, Bool, true}
+use Rattle.std.proofs.Common.{false, cond, nat_lt, nat_le, List, Result, Ok, Err, refl, sym, ap, ◌∙◌, arith}
 use Rattle.std.proofs.lemmas.Bool.{and_parts}
 use Rattle.std.proofs.lemmas.Bool.Decides.{nat_tests}
 use Rattle.pm_words.specs.declared.error.ExecError.{ExecError}
@@ -8,8 +8,8 @@ use Rattle.pm_words.specs.declared.error.ExecError.TheVariants.{InvalidMemory, S
 use Rattle.pm_words.specs.declared.stack.Popped.{Popped}
 use Rattle.pm_words.specs.Words.{IsMemory, copied, with_word, word_at}
 use Rattle.pm_words.specs.Stack.{is_even, load, pop, push, store, words_lie_in_memory}
-use Rattle.pm_words.proofs.Laws.{word_at-with_word, word_at-with_word_other, word_at-written}
-use Rattle.pm_words.proofs.RangeLaws.{IsMemory-copied, word_at-copied, word_at-copied_other}
+use Rattle.pm_words.proofs.Laws.{word_at-with_word_other, word_at-written}
+use Rattle.pm_words.proofs.RangeLaws.{IsMemory-copied, word_at-copied}
 use Rattle.pm_rows.specs.Pointers.{load_words_row, store_words_row}
 use Rattle.pm_rows.specs.PointerLaws.{StoredWordsAreLoaded}
 use Rattle.pm_calls.proofs.ReturnLaws.{bound, ok_same, passed}

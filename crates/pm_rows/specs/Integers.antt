@@ -1,5 +1,5 @@
 -- What the rows on integers compute. Results are words again, modulo 65,536.
-use Rattle.std.specs.Prelude.{ℕ, ◌+◌, ◌-◌, ◌*◌, ◌%◌, Bool, not, Result, Ok, Err, if◌then◌else◌, ◌==◌, ℤ, pos, negsuc}
+use Rattle.std.specs.Prelude.{ℕ, ◌+◌, ◌-◌, ◌*◌, ◌%◌, Bool, not, Result, Ok, Err, if◌then◌else◌, ◌==◌, ℤ}
 use Rattle.std.specs.Prelude.{unsigned_abs, int_lt, int_le, int_div, int_rem, bit_and, bit_or}
 use Rattle.pm_words.specs.declared.error.ExecError.{ExecError}
 use Rattle.pm_words.specs.declared.error.ExecError.TheVariants.{DivideByZero}

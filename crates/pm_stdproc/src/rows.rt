@@ -42,7 +42,7 @@ pub struct Order {
 
 // Takes the operands of a transfer from the stack.
 #[tactic(auto, unfolding(crate::specs::UnitRows::ordered))]
-fn order(top: &mut Top, memory: &Memory) -> Result<Order, ExecError>
+fn order_of(top: &mut Top, memory: &Memory) -> Result<Order, ExecError>
     ensures order { result ≡ ordered memory.now.words top.old.sp }
     ensures inside { IfOk result (λ o. o.transfer.address + o.transfer.count ≤ 65536) }
     ensures sp { IfOk result (λ o. top.new.sp ≡ o.sp) }
@@ -232,7 +232,7 @@ fn read_row(
     ensures mp { registers.new.mp ≡ registers.old.mp }
 {
     let mut stack = registers.top();
-    let order = order(&mut stack, memory)?;
+    let order = order_of(&mut stack, memory)?;
     let ioresult = units.read(memory, unit_of(order.unit), order.transfer)?;
     *registers = registers.with_top(stack).with_ioresult(ioresult);
     Ok(())
@@ -254,7 +254,7 @@ fn write_row(
     ensures mp { registers.new.mp ≡ registers.old.mp }
 {
     let mut stack = registers.top();
-    let order = order(&mut stack, memory)?;
+    let order = order_of(&mut stack, memory)?;
     let ioresult = units.write(memory, unit_of(order.unit), order.transfer)?;
     *registers = registers.with_top(stack).with_ioresult(ioresult);
     Ok(())

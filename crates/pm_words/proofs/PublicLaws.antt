@@ -1,7 +1,6 @@
 -- The public laws of the memory.
-use Rattle.std.proofs.Common.{◌≡◌, ◌≢◌, ◌<◌, ◌≤◌, ◌⊎◌, ℕ, ◌+◌, ◌-◌, ◌%◌, ◌/◌, List, length, refl, sym, ap, ◌∙◌, arith}
-use Rattle.std.specs.List.{All}
-use Rattle.pm_words.specs.Words.{IsMemory, byte_at, copied, with_bytes, with_word, word_at}
+use Rattle.std.proofs.Common.{◌≡◌, ◌+◌, ◌-◌, ◌%◌, ◌/◌, refl, ap, ◌∙◌, arith}
+use Rattle.pm_words.specs.Words.{word_at}
 use Rattle.pm_words.specs.Laws.{BytesAreCopied, BytesAreWritten, MovesAreCopies, WordIsWritten, WordsAreTheirBytes}
 use Rattle.pm_words.proofs.Laws.{IsMemory-with_bytes, IsMemory-with_word, byte_at-even, byte_at-odd, byte_at-with_bytes}
 use Rattle.pm_words.proofs.Laws.{byte_at-with_bytes_other, word_at-bytes, word_at-with_word_other, word_at-written}

@@ -8,9 +8,9 @@ use Rattle.std.proofs.lemmas.List.{append-nil, ext_get_or, get_or-take, get_or-d
 use Rattle.std.proofs.lemmas.List.Elements.{All-take, All-drop, All-cons, All-nil, All-replicate}
 use Rattle.pm_words.specs.Watch.{IsSomeWatched, KeepsWatch, times}
 use Rattle.pm_words.specs.Words.{Contents, filled, IsMemory, byte_at, bytes_at, bytes_of, copied}
-use Rattle.pm_words.specs.Words.{moved_down, moved_up, with_byte, with_bytes, with_word, word_at}
+use Rattle.pm_words.specs.Words.{moved_down, moved_up, with_byte, with_bytes, with_word, with_words, word_at}
 use Rattle.pm_words.proofs.Pairs.{words_of-bytes_of}
-use Rattle.pm_words.proofs.Laws.{AreMemoryBytes-bytes_of, IsMemory-with_bytes, byte_at-even, byte_at-odd, byte_at-with_bytes}
+use Rattle.pm_words.proofs.Laws.{AreMemoryBytes-bytes_of, IsMemory-with_bytes, get_or-with_words_other, byte_at-even, byte_at-odd, byte_at-with_bytes}
 use Rattle.pm_words.proofs.Laws.{byte_at-with_bytes_other, word_at-bytes, word_at-with_word, word_at-with_word_other}
 
 -- the bytes of a memory are bytes, and those of a range as many as were asked for
@@ -284,3 +284,22 @@ unfolding filled
 KeepsWatch-filled m n a k b h room fit words watched touched =
     let size = length-replicate k b in
     KeepsWatch-with_bytes m n a (replicate k b) h (omega arith) (All-replicate (λ x. x < 256) k b fit) words watched (rw size touched)
+
+-- words written from an even address on
+pub KeepsWatch-with_words : (m n : Contents) (a : ℕ) (vs : List ℕ) → IsMemory m.words → a % 2 ≡ 0 → a + 2 * length vs ≤ 65536
+    → n.words ≡ with_words m.words a vs → n.watched ≡ m.watched
+    → IsTrue n.touched ↔ (IsTrue m.touched ⊎ IsSomeWatched m.watched a (2 * length vs)) → KeepsWatch m n
+unfolding word_at
+KeepsWatch-with_words m n a vs h even room words watched touched = record {
+  watched = watched;
+  touched = λ t. touched.1 (inl t);
+  values = λ no x set.
+      let beside : (x / 2 < a / 2) ⊎ (a / 2 + length vs ≤ x / 2) = ⊎_elim
+          (λ low. inl low)
+          (λ from. ⊎_elim
+          (λ within. absurd (false≢true (sym no ∙ touched.1 (inr (x, omega (arith, from), omega (arith, within), set)))))
+          (λ past. inr past)
+          (cases_lt (x / 2) (a / 2 + length vs)))
+          (cases_lt (x / 2) (a / 2)) in
+      rw words (get_or-with_words_other m.words vs a (x / 2) (omega (arith, h.size)) beside);
+}

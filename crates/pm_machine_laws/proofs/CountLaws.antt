@@ -1,63 +1,29 @@
 -- No place is for no call and no keep.
-use Rattle.std.proofs.Common.{◌≡◌, ◌<◌, inl, inr, ℕ, ◌+◌, ◌-◌, ◌*◌, ◌==◌, ◌&&◌, ◌||◌, Bool, true, false, cond, nat_lt, nat_le, List, [], ◌∷◌, length, replicate}
-use Rattle.std.proofs.Common.{Option, Some, None, Result, Ok, Err, ap, ◌∙◌, subst, arith}
+use Rattle.std.proofs.Common.{◌≡◌, ◌<◌, inl, inr, ℕ, ◌+◌, ◌-◌, ◌||◌, nat_lt, List, [], ◌∷◌, replicate}
+use Rattle.std.proofs.Common.{Option, Some, None, arith}
 use Rattle.std.specs.Prelude.{slice_get, slice_set, slice_index_or, option_and_then, position}
 use Rattle.std.specs.List.{All}
 use Rattle.std.proofs.lemmas.Bool.Decides.{nat_tests}
 use Rattle.std.proofs.lemmas.List.Elements.{All-replicate, All-set}
 use Rattle.std.proofs.lemmas.Bool.{cases_Bool}
-use Rattle.pm_words.specs.declared.error.ExecError.{ExecError}
-use Rattle.pm_words.specs.declared.error.ExecError.TheVariants.{NoSegment, InvalidMemory, StackOverflow}
-use Rattle.pm_words.specs.Words.{word_at}
-use Rattle.pm_words.specs.Stack.{◌>>=◌, demand, is_even, minus, pop}
-use Rattle.pm_opcode.specs.declared.instr.Instr.{Instr}
-use Rattle.pm_opcode.specs.declared.operation.Operation.{Operation}
-use Rattle.pm_opcode.specs.declared.operation.Operation.TheVariants as operation
-use Rattle.pm_families.specs.declared.families.Return.{Return}
-use Rattle.pm_opcode.specs.Operations.{operation_of}
-use Rattle.pm_calls.specs.declared.registers.Registers.{Registers}
-use Rattle.pm_calls.specs.declared.exits.Wanted.{Wanted}
+use Rattle.pm_words.specs.declared.error.ExecError.TheVariants.{NoSegment, StackOverflow}
+use Rattle.pm_words.specs.Stack.{demand, minus, pop}
 use Rattle.pm_calls.specs.declared.frames.SegmentPlace.{SegmentPlace}
-use Rattle.pm_families.specs.declared.families.Call.{Call}
-use Rattle.pm_families.specs.declared.families.Call.TheVariants.{Clp, Cgp, Cbp, Cip, Cxp}
 use Rattle.pm_calls.specs.Places.{Parts}
-use Rattle.pm_calls.specs.Calls.{Reached, called, called_at, called_loading, called_slot, called_standing}
-use Rattle.pm_calls.specs.Calls.{entered, here, reach_loading, reach_standing, code_fits}
+use Rattle.pm_calls.specs.Calls.{code_fits}
 use Rattle.pm_calls.specs.Keeps.{keep_loading, keep_slot, keep_standing, less_kept, segment_kept, segment_unkept, unkeep_slot, unkeep_standing}
 use Rattle.pm_stdproc.specs.Loads.{length_of, slot_code}
-use Rattle.pm_calls.specs.Exits.{exited, is_wanted, walked_unless}
-use Rattle.pm_calls.specs.Returns.{one_call_less, lessened, released, returned, stands_at}
-use Rattle.pm_units.specs.Traps.{Pause, Fails, Waits, or_fails}
-use Rattle.pm_units.specs.Devices.{Devices, mounted}
-use Rattle.pm_stdproc.specs.UnitRows.{served, units_row}
+use Rattle.pm_calls.specs.Returns.{one_call_less, lessened, released, stands_at}
 use Rattle.pm_stdproc.specs.Procedures.{Reach, exit_row, keep_row, on_memory, procedure_numbered, procedure_row, unkeep_row}
 use Rattle.pm_stdproc.specs.Procedures as standard
-use Rattle.pm_stdproc.specs.MemoryRows.{memory_row}
-use Rattle.pm_units.specs.declared.ports.MountFault.{MountFault}
 use Rattle.pm_stdproc.specs.declared.procedures.Procedure.{Procedure}
 use Rattle.pm_stdproc.specs.declared.procedures.Procedure.TheVariants as procedure
-use Rattle.pm_codefile.specs.Dictionary.{segment_in}
-use Rattle.pm_stdproc.specs.declared.loads.SlotRow.{SlotRow}
-use Rattle.pm_machine.specs.declared.state.Status.{Status}
-use Rattle.pm_machine.specs.declared.state.Status.TheVariants as status
 use Rattle.pm_machine.specs.State.{State}
-use Rattle.pm_rows.specs.Arithmetic.{arithmetic_row}
-use Rattle.pm_machine.specs.Boot.{begun, boot_start, code_file, first_parts, or_exec}
-use Rattle.pm_machine.specs.Events.{Event, after_all, next, or_same}
-use Rattle.pm_machine.specs.Events.Event.{Step, Key, Poke, Mount, Eject}
-use Rattle.pm_rows.specs.Jumps.{jump_row}
-use Rattle.pm_rows.specs.Literals.{literal_row}
-use Rattle.pm_stdproc.specs.Loads.{code_needed}
-use Rattle.pm_rows.specs.Pointers.{pointer_row}
-use Rattle.pm_machine.specs.Procedures.{call_row, is_base_return, parts, reach, return_row, standard_row, words_of_return}
-use Rattle.pm_machine.specs.Rows.{fetched, on_registers, on_stack, past_instruction, performed, row}
-use Rattle.pm_machine.specs.Start.{raw_start}
-use Rattle.pm_machine.specs.Steps.{at_status, executed, settled, stepped}
-use Rattle.pm_rows.specs.Values.{value_row}
-use Rattle.pm_rows.specs.Variables.{variable_row}
+use Rattle.pm_machine.specs.Events.{Event, after_all, next}
+use Rattle.pm_machine.specs.Procedures.{reach}
+use Rattle.pm_machine.specs.Rows.{past_instruction}
 use Rattle.pm_machine_laws.specs.Shapes.{IsCounted, MachinesCountCalls}
-use Rattle.pm_machine_laws.proofs.ShapeLaws.{bound, chosen, ok_same, parts_there}
-use Rattle.pm_machine_laws.proofs.Places.{Holds, Places, after, boot_holds, raw_holds, lifted, next_holds, of_parts, of_reach, of_state, procedure_holds}
+use Rattle.pm_machine_laws.proofs.Places.{Holds, Places, after, boot_holds, raw_holds, lifted, next_holds, of_parts, of_reach, procedure_holds}
 use Rattle.pm_machine_laws.proofs.Places.{standard_holds, then}
 
 abbrev AreCounted : Places → Type 0

@@ -1,5 +1,5 @@
 -- Segments that the program keeps.
-use Rattle.std.proofs.Common.{◌≡◌, ◌≢◌, ◌<◌, ◌≤◌, inl, inr, ℕ, ◌+◌, ◌-◌, ◌==◌, ◌||◌, Bool, true, false, cond, nat_lt, nat_le, List, [], ◌∷◌, length, replicate}
+use Rattle.std.proofs.Common.{◌≡◌, ◌≢◌, ◌<◌, inl, inr, ℕ, ◌+◌, ◌-◌, ◌==◌, ◌||◌, Bool, true, false, cond, nat_lt, List, [], ◌∷◌, length, replicate}
 use Rattle.std.proofs.Common.{Option, Some, None, Result, Ok, Err, refl, sym, ap, ◌∙◌, subst, arith, get_or}
 use Rattle.std.specs.Prelude.{slice_get, slice_set, slice_index_or, option_and_then, position}
 use Rattle.std.specs.List.{All}
@@ -9,7 +9,7 @@ use Rattle.std.proofs.lemmas.List.{get_or-set_same, get_or-set_other, get_or_pas
 use Rattle.std.proofs.lemmas.List.Elements.{All-get_or, All-replicate, All-set}
 use Rattle.std.proofs.lemmas.Option.{get_or_from_slice_get}
 use Rattle.pm_words.specs.declared.error.ExecError.{ExecError}
-use Rattle.pm_words.specs.declared.error.ExecError.TheVariants.{NoSegment, StackOverflow}
+use Rattle.pm_words.specs.declared.error.ExecError.TheVariants.{StackOverflow}
 use Rattle.pm_words.specs.Stack.{◌>>=◌, demand, minus, pop}
 use Rattle.pm_opcode.specs.declared.instr.Instr.{Instr}
 use Rattle.pm_opcode.specs.declared.operation.Operation.{Operation}
@@ -22,7 +22,7 @@ use Rattle.pm_calls.specs.Calls.{code_fits}
 use Rattle.pm_calls.specs.Keeps.{keep_loading, keep_slot, keep_standing, segment_kept}
 use Rattle.pm_calls.specs.Returns.{one_call_less, lessened, released, returned, stands_at}
 use Rattle.pm_calls.proofs.PlaceLaws.{return_places}
-use Rattle.pm_units.specs.Traps.{Pause, Fails, Waits, or_fails}
+use Rattle.pm_units.specs.Traps.{or_fails}
 use Rattle.pm_stdproc.specs.Loads.{slot_code}
 use Rattle.pm_stdproc.specs.Procedures.{Reach, keep_row, procedure_numbered, procedure_row}
 use Rattle.pm_stdproc.specs.Procedures as standard
@@ -33,13 +33,13 @@ use Rattle.pm_machine.specs.declared.state.Status.TheVariants as status
 use Rattle.pm_machine.specs.State.{State}
 use Rattle.pm_machine.specs.Events.{Event, after_all, next}
 use Rattle.pm_machine.specs.Events.Event.{Step, Key, Poke, Mount, Eject}
-use Rattle.pm_machine.specs.Procedures.{is_base_return, parts, reach, return_row, standard_row, status_after, with_parts, words_of_return}
+use Rattle.pm_machine.specs.Procedures.{is_base_return, parts, reach, return_row, status_after, with_parts, words_of_return}
 use Rattle.pm_machine.specs.Rows.{fetched, past_instruction, performed, row}
 use Rattle.pm_machine.specs.Steps.{at_status, executed, settled, stepped}
 use Rattle.pm_machine_laws.specs.Keeping.{IsAtProcedure, IsNeverAt, IsPlainRun, IsUnkept, KeptSegmentsStand, StandsAs, UnkeptMachinesArePlain, plain_after_all}
 use Rattle.pm_machine_laws.specs.Keeping.{plain_at_status, plain_executed, plain_less, plain_lessened, plain_next, plain_performed, plain_released}
 use Rattle.pm_machine_laws.specs.Keeping.{plain_returned, plain_return_row}
-use Rattle.pm_machine_laws.proofs.Places.{Holds, Places, after, boot_holds, lifted, next_holds, not_unkeep, of_parts, of_reach, of_state, other_holds}
+use Rattle.pm_machine_laws.proofs.Places.{Holds, Places, after, boot_holds, lifted, next_holds, not_unkeep, of_parts, of_reach, other_holds}
 use Rattle.pm_machine_laws.proofs.Places.{procedure_holds, raw_holds, standard_holds, then}
 
 -- ---- a kept segment stands where it is

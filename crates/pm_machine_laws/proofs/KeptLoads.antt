@@ -1,5 +1,5 @@
 -- Where code stands that a standard procedure loads, and what the disks have of it now.
-use Rattle.std.proofs.Common.{◌≡◌, ◌==◌, ◌<◌, ◌≤◌, ℕ, ◌+◌, ◌-◌, Bool, false, nat_lt, nat_le, List, length, drop, get_or, Option, Some, None}
+use Rattle.std.proofs.Common.{◌≡◌, ◌==◌, ◌<◌, ◌≤◌, ℕ, ◌+◌, ◌-◌, false, List, length, drop, get_or, Option, Some, None}
 use Rattle.std.proofs.Common.{Result, Ok, Err}
 use Rattle.std.proofs.Common.{refl, sym, ap, ◌∙◌, subst, arith}
 use Rattle.std.specs.Prelude.{slice_get}
@@ -22,18 +22,18 @@ use Rattle.pm_calls.specs.Laws.{IsCode}
 use Rattle.pm_calls.proofs.LoadLaws.{loaded_code_stands}
 use Rattle.pm_calls.proofs.ReturnLaws.{has_room, ok_same}
 use Rattle.pm_codefile.specs.Dictionary.{segment_in}
-use Rattle.pm_units.specs.Devices.{code_on, image_on, unit_of}
-use Rattle.pm_stdproc.specs.Loads.{code_needed, code_of_row, found_code, slot_code}
-use Rattle.pm_stdproc.specs.Procedures.{Reach, keep_row, procedure_numbered, procedure_row, reach_parts, with_reach_parts}
+use Rattle.pm_units.specs.Devices.{code_on}
+use Rattle.pm_stdproc.specs.Loads.{code_needed, slot_code}
+use Rattle.pm_stdproc.specs.Procedures.{Reach, keep_row, procedure_numbered, procedure_row, reach_parts}
 use Rattle.pm_units.specs.Traps.{or_fails}
 use Rattle.pm_stdproc.specs.declared.loads.SlotRow.{SlotRow}
 use Rattle.pm_machine.specs.declared.state.Stop.TheVariants.{Went}
-use Rattle.pm_machine.specs.Procedures.{call_row, parts, reach, standard_row, with_parts, with_reach}
+use Rattle.pm_machine.specs.Procedures.{call_row, parts, reach, standard_row, with_reach}
 use Rattle.pm_machine.specs.Rows.{past_instruction}
 use Rattle.pm_machine.specs.State.{State}
 use Rattle.pm_machine.specs.Steps.{settled, stepped}
 use Rattle.pm_machine.proofs.LoadLaws.{found, loads_give_segments}
-use Rattle.pm_machine_laws.specs.Loads.{IsAtCall, IsAtKeep, LoadsWhatIsThere, StandsBelow, StepsKeepSegments, StepsLoadWhatIsThere}
+use Rattle.pm_machine_laws.specs.Loads.{IsAtKeep, StandsBelow, StepsKeepSegments, StepsLoadWhatIsThere}
 use Rattle.pm_machine_laws.proofs.Bytes.{end_fits, file_fits, segment_fits}
 use Rattle.pm_machine_laws.proofs.LoadLaws.{after_same, booted_rows, executes, needed_same, stepped_runs, went}
 use Rattle.pm_machine_laws.proofs.ShapeLaws.{bound}

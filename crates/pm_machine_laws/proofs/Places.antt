@@ -1,13 +1,11 @@
 -- What holds of the places of a state, and of what a row does to them.
-use Rattle.std.proofs.Common.{◌≡◌, ◌≢◌, ◌<◌, refl, inl, inr, ℕ, ◌+◌, ◌-◌, ◌*◌, ◌==◌, ◌&&◌, ◌||◌, Bool, true, false, cond, nat_lt, nat_le, List, [], ◌∷◌, length}
+use Rattle.std.proofs.Common.{◌≡◌, ◌≢◌, refl, inl, inr, ℕ, ◌+◌, ◌*◌, ◌==◌, ◌&&◌, Bool, true, false, cond, nat_lt, nat_le, List, length}
 use Rattle.std.proofs.Common.{replicate, Option, Some, None, Result, Ok, Err, ap, ◌∙◌, subst, arith}
-use Rattle.std.specs.Prelude.{slice_get, slice_set, slice_index_or, option_and_then, position}
-use Rattle.std.specs.List.{All}
+use Rattle.std.specs.Prelude.{slice_get, slice_set}
 use Rattle.std.proofs.lemmas.Bool.Decides.{nat_tests}
-use Rattle.std.proofs.lemmas.List.Elements.{All-replicate, All-set}
 use Rattle.std.proofs.lemmas.Bool.{cases_Bool}
 use Rattle.pm_words.specs.declared.error.ExecError.{ExecError}
-use Rattle.pm_words.specs.declared.error.ExecError.TheVariants.{NoSegment, InvalidMemory, StackOverflow}
+use Rattle.pm_words.specs.declared.error.ExecError.TheVariants.{InvalidMemory, StackOverflow}
 use Rattle.pm_words.specs.Words.{word_at}
 use Rattle.pm_words.specs.Stack.{◌>>=◌, demand, is_even, minus, pop}
 use Rattle.pm_opcode.specs.declared.instr.Instr.{Instr}
@@ -23,10 +21,8 @@ use Rattle.pm_families.specs.declared.families.Call.TheVariants.{Clp, Cgp, Cbp, 
 use Rattle.pm_calls.specs.Places.{Parts}
 use Rattle.pm_calls.specs.Calls.{Reached, called, called_at, called_loading, called_slot, called_standing}
 use Rattle.pm_calls.specs.Calls.{entered, here, reach_loading, reach_standing, code_fits}
-use Rattle.pm_calls.specs.Keeps.{keep_loading, keep_slot, keep_standing, less_kept, segment_kept, segment_unkept, unkeep_slot, unkeep_standing}
-use Rattle.pm_stdproc.specs.Loads.{length_of, slot_code}
 use Rattle.pm_calls.specs.Exits.{exited, is_wanted, walked_unless}
-use Rattle.pm_calls.specs.Returns.{one_call_less, lessened, released, returned, stands_at}
+use Rattle.pm_calls.specs.Returns.{released, returned}
 use Rattle.pm_units.specs.Traps.{Pause, Fails, Waits, or_fails}
 use Rattle.pm_units.specs.Devices.{Devices, mounted}
 use Rattle.pm_stdproc.specs.UnitRows.{served, units_row}
@@ -43,7 +39,7 @@ use Rattle.pm_machine.specs.declared.state.Status.TheVariants as status
 use Rattle.pm_machine.specs.State.{State}
 use Rattle.pm_rows.specs.Arithmetic.{arithmetic_row}
 use Rattle.pm_machine.specs.Boot.{begun, boot_start, code_file, first_parts, or_exec}
-use Rattle.pm_machine.specs.Events.{Event, after_all, next, or_same}
+use Rattle.pm_machine.specs.Events.{Event, next, or_same}
 use Rattle.pm_machine.specs.Events.Event.{Step, Key, Poke, Mount, Eject}
 use Rattle.pm_rows.specs.Jumps.{jump_row}
 use Rattle.pm_rows.specs.Literals.{literal_row}
@@ -55,7 +51,6 @@ use Rattle.pm_machine.specs.Start.{raw_start}
 use Rattle.pm_machine.specs.Steps.{at_status, executed, settled, stepped}
 use Rattle.pm_rows.specs.Values.{value_row}
 use Rattle.pm_rows.specs.Variables.{variable_row}
-use Rattle.pm_machine_laws.specs.Shapes.{IsCounted, MachinesCountCalls}
 use Rattle.pm_machine_laws.proofs.ShapeLaws.{bound, chosen, ok_same, parts_there}
 
 abbrev pub Places : Type 0

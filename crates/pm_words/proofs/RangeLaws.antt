@@ -295,11 +295,11 @@ KeepsWatch-with_words m n a vs h even room words watched touched = record {
   touched = λ t. touched.1 (inl t);
   values = λ no x set.
       let beside : (x / 2 < a / 2) ⊎ (a / 2 + length vs ≤ x / 2) = ⊎_elim
-          (λ low. inl low)
-          (λ from. ⊎_elim
-          (λ within. absurd (false≢true (sym no ∙ touched.1 (inr (x, omega (arith, from), omega (arith, within), set)))))
-          (λ past. inr past)
-          (cases_lt (x / 2) (a / 2 + length vs)))
-          (cases_lt (x / 2) (a / 2)) in
+      (λ low. inl low)
+      (λ from. ⊎_elim
+      (λ within. absurd (false≢true (sym no ∙ touched.1 (inr (x, omega (arith, from), omega (arith, within), set)))))
+      (λ past. inr past)
+      (cases_lt (x / 2) (a / 2 + length vs)))
+      (cases_lt (x / 2) (a / 2)) in
       rw words (get_or-with_words_other m.words vs a (x / 2) (omega (arith, h.size)) beside);
 }

@@ -1,7 +1,8 @@
 """gate.py: what a run of the gate takes, crate by crate: minutes of the clock and of the processors. By hand.
 
     python3 bench/gate.py run gate.log --anew       runs `rt ci --anew`, and writes its lines into gate.log, each with the
-                                                    time of day, and last what each crate took of the processors
+                                                    time of day, and last what each crate took of the processors; an rt
+                                                    that keeps nothing (kit 13b) proves anew without that word
     python3 bench/gate.py gate.log                  the table of such a log, also while the run goes on
 
 `run` looks once a second at each process of the run that names a crate (`rattle .. --crate-name NAME`), and counts what

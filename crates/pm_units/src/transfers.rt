@@ -75,7 +75,8 @@ fn can_move(image: &[u8], transfer: Transfer) -> bool
 }
 
 impl Units {
-    /// Reads from a unit into the memory, and gives the IORESULT.
+    /// Reads from a unit into the memory, and gives the IORESULT. `Waiting` where fewer bytes of input wait than are to
+    /// be read, `NoMemory` where there is none for what the console shows; nothing has changed then.
     #[tactic(auto, unfolding(crate::specs::Transfers::unit_read), using(pm_words::proofs::WatchLaws::keeps))]
     pub fn read(&mut self, memory: &mut Memory, unit: Port, transfer: Transfer) -> Result<u16, Trap>
         requires place { HasPlace unit }
@@ -145,7 +146,8 @@ impl Units {
         0
     }
 
-    /// Writes from the memory to a unit, and gives the IORESULT.
+    /// Writes from the memory to a unit, and gives the IORESULT. `NoMemory` where there is none for what the console or
+    /// the printer gets; nothing has changed then.
     #[tactic(auto, unfolding(crate::specs::Transfers::unit_written), using(pm_words::proofs::WatchLaws::keeps))]
     pub fn write(
         &mut self,
@@ -197,7 +199,7 @@ impl Units {
         0
     }
 
-    /// Clears a unit, and gives the IORESULT.
+    /// Clears a unit, and gives the IORESULT: input that waits for the console or the terminal goes.
     pub fn clear(&mut self, unit: Port) -> u16
         requires place { HasPlace unit }
         ensures cleared { cleared unit self.old.devices ≡ (result, self.new.devices) }

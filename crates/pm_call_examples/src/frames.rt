@@ -1,8 +1,5 @@
 //! Calls and returns one by one: what is kept of links and tables, and which words are watched.
-ghost use Rattle.std.specs.Bool.{OnTrue};
-ghost use Rattle.pm_words.specs.Stack.{IsStack};
-
-use pm_calls::{Frames, Registers};
+use pm_calls::{Frames, Registers, ValidRegisters};
 use pm_families::Call;
 use pm_words::{ExecError, Memory};
 use std::alloc::{AllocError, Global};
@@ -19,8 +16,8 @@ fn put_segment(memory: &mut Memory) {
     memory.set_word(65492, 65492);
 }
 
-fn registers() -> Registers {
-    Registers {
+fn registers() -> ValidRegisters {
+    ValidRegisters::of(Registers {
         sp: 60000,
         ipc: 0,
         seg: 2000,
@@ -29,15 +26,7 @@ fn registers() -> Registers {
         base: 65492,
         np: 3000,
         ioresult: 0,
-    }
-}
-
-// What a call asks of the registers.
-fn is_stack(registers: &Registers) -> bool
-    ensures stack { OnTrue result (IsStack registers.now.sp registers.now.np) }
-{
-    let Registers { sp, np, .. } = *registers;
-    sp % 2 == 0 && np % 2 == 0 && np <= sp && sp <= 65504
+    })
 }
 
 // The code of a segment with one procedure.
@@ -49,7 +38,7 @@ struct Parts {
     memory: Box<Memory>,
     scratch: Box<Memory>,
     frames: Frames,
-    registers: Registers,
+    registers: ValidRegisters,
 }
 
 impl Parts {
@@ -65,9 +54,6 @@ impl Parts {
     }
 
     fn call(&mut self) -> Result<(), ExecError> {
-        if !is_stack(&self.registers) {
-            return Err(ExecError::InvalidMemory);
-        }
         self.frames.call(
             &mut self.memory,
             &mut self.registers,
@@ -79,9 +65,6 @@ impl Parts {
 
     // A call of procedure 1 of a slot, whose code is lent.
     fn call_slot(&mut self, slot: u8) -> Result<(), ExecError> {
-        if !is_stack(&self.registers) {
-            return Err(ExecError::InvalidMemory);
-        }
         self.frames.call(
             &mut self.memory,
             &mut self.registers,
@@ -97,9 +80,6 @@ impl Parts {
 
     // Keeps slot 3, whose code is lent.
     fn keep_segment(&mut self) -> Result<(), ExecError> {
-        if self.registers.sp % 2 != 0 || self.registers.sp > 65504 {
-            return Err(ExecError::InvalidMemory);
-        }
         self.frames
             .keep(&mut self.memory, &mut self.registers, 3, Some(&CODE))
     }
@@ -111,7 +91,8 @@ impl Parts {
     }
 
     fn link(&mut self, n: u16) -> Result<u16, ExecError> {
-        self.frames.link(&mut self.memory, self.registers.mp, n)
+        self.frames
+            .link(&mut self.memory, self.registers.registers().mp, n)
     }
 
     fn has_bases(&self, rt: &impl Abort, count: usize) {
@@ -149,7 +130,7 @@ fn kept_links_need_no_memory(rt: HostRuntime) -> Result<(), Fail> {
     parts.call()?;
     parts.call()?;
     parts.call()?;
-    let mp = parts.registers.mp;
+    let mp = parts.registers.registers().mp;
     let link = parts.link(2);
     assert!(rt; link == Ok(59988));
     assert!(rt; parts.frames.link(&mut other, mp, 2) == link);
@@ -187,7 +168,7 @@ fn descends(rt: &impl Abort, parts: &mut Parts) -> Result<(), ExecError> {
         parts.ret(false)?;
         parts.is_untouched(rt);
     }
-    assert!(rt; parts.registers.mp == 65492);
+    assert!(rt; parts.registers.registers().mp == 65492);
     parts.has_bases(rt, 1);
     parts.keeps_tables(rt, 1);
     Ok(())
@@ -217,7 +198,7 @@ fn the_129th_base_gives_its_word_back(rt: HostRuntime) -> Result<(), Fail> {
             parts.ret(false)?;
             parts.is_untouched(&rt);
         }
-        assert!(rt; parts.registers.mp == 65492);
+        assert!(rt; parts.registers.registers().mp == 65492);
     }
     Ok(())
 }
@@ -282,7 +263,7 @@ fn calls_of_a_segment_that_stays_touch_nothing(rt: HostRuntime) -> Result<(), Fa
 fn calls_of_a_kept_segment_keep_its_table(rt: HostRuntime) -> Result<(), Fail> {
     let mut parts = Parts::new(rt.alloc())?;
     parts.call()?;
-    let sp = parts.registers.sp;
+    let sp = parts.registers.registers().sp;
     parts.keep_segment()?;
     for _i in 0..100 {
         parts.call_segment()?;
@@ -290,11 +271,11 @@ fn calls_of_a_kept_segment_keep_its_table(rt: HostRuntime) -> Result<(), Fail> {
         parts.keeps_tables(&rt, 2);
         parts.is_untouched(&rt);
     }
-    assert!(rt; parts.registers.sp == sp.wrapping_sub(16));
+    assert!(rt; parts.registers.registers().sp == sp.wrapping_sub(16));
     parts
         .frames
         .unkeep(&mut parts.memory, &mut parts.registers, 3, 16)?;
-    assert!(rt; parts.registers.sp == sp);
+    assert!(rt; parts.registers.registers().sp == sp);
     parts.keeps_tables(&rt, 1);
     parts.memory.set_word(sp.wrapping_sub(2), 7);
     parts.is_untouched(&rt);

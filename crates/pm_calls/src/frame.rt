@@ -3,13 +3,13 @@
 ghost use Rattle.std.specs.Prelude.{◌≡◌, ◌+◌, ◌*◌, ◌%◌, ◌≤◌, Ok, Err, IsTrue, MatchResult, OnOk, OnErr};
 ghost use Rattle.pm_words.specs.Watch.{KeepsWatch};
 ghost use Rattle.pm_words.specs.Words.{copied, word_at};
-ghost use Rattle.pm_words.specs.Stack.{IsStack};
 ghost use Rattle.pm_calls.specs.Tables.{IsEvenTable};
 ghost use Rattle.pm_calls.specs.Calls.{frame_top, framed, inside, kept_below, with_control, with_frame, with_old_base};
 ghost use Rattle.pm_words.specs.declared.layout.TheConstants.{STACK_END};
 
 use crate::frames::Table;
 use crate::registers::Registers;
+use crate::valid_registers::ValidRegisters;
 use pm_words::layout::STACK_END;
 use pm_words::{ExecError, Memory};
 
@@ -109,18 +109,22 @@ fn frame_top(loaded: u16, sp: u16, parameters: u16) -> u32
 
 // Takes the registers into the procedure with this table, whose frame is at `mp`, of the segment at `place`.
 #[inline(always)]
-fn go_inside(registers: &mut Registers, base: bool, place: u16, table: Table, mp: u16)
-    requires below { kept_below base ≤ mp }
+fn go_inside(registers: &mut ValidRegisters, base: bool, place: u16, table: Table, mp: u16)
+    requires even { mp % 2 ≡ 0 }
+    requires above { registers.old.np + kept_below base ≤ mp }
+    requires below { mp ≤ STACK_END }
     ensures inside { registers.new ≡ inside base registers.old place table mp }
 {
-    registers.sp = if base { mp - 2 } else { mp };
-    registers.ipc = table.enter;
-    registers.seg = place;
-    registers.jtab = table.jtab;
-    registers.mp = mp;
-    if base {
-        registers.base = mp;
-    }
+    let old = registers.registers();
+    *registers = ValidRegisters::of(Registers {
+        sp: if base { mp - 2 } else { mp },
+        ipc: table.enter,
+        seg: place,
+        jtab: table.jtab,
+        mp,
+        base: if base { mp } else { old.base },
+        ..old
+    });
 }
 
 /// Enters a procedure of the segment at `place`, of which `loaded` bytes were loaded for it, once
@@ -132,12 +136,11 @@ pub fn enter(
     memory: &mut Memory,
     place: u16,
     loaded: u16,
-    registers: &mut Registers,
+    registers: &mut ValidRegisters,
     base: bool,
     table: Table,
     link: u16,
 ) -> Result<(), ExecError>
-    requires stack { IsStack registers.old.sp registers.old.np }
     requires even { IsEvenTable table }
     requires even_code { loaded % 2 ≡ 0 }
     requires room { loaded ≤ registers.old.sp }
@@ -145,25 +148,25 @@ pub fn enter(
         (λ _. framed memory.old.words place loaded registers.old base table link
         ≡ Ok (memory.new.words, registers.new))
         (λ e. framed memory.old.words place loaded registers.old base table link ≡ Err e) }
-    ensures stack { OnOk result (IsStack registers.new.sp registers.new.np) }
     ensures keeps { KeepsWatch memory.old memory.new }
     ensures refused { OnErr result ((memory.new ≡ memory.old) × (registers.new ≡ registers.old)) }
     ensures even { OnOk result (registers.new.mp % 2 ≡ 0) }
     ensures linked { OnOk result (word_at memory.new.words registers.new.mp ≡ link) }
     ensures table { OnOk result ((registers.new.jtab ≡ table.jtab) × (registers.new.ipc ≡ table.enter)) }
 {
+    let old = registers.registers();
     let parameters = u32::from(table.parameters);
-    if u32::from(registers.sp) + parameters > u32::from(STACK_END) {
+    if u32::from(old.sp) + parameters > u32::from(STACK_END) {
         return Err(ExecError::InvalidMemory);
     }
-    let top = frame_top(loaded, registers.sp, table.parameters);
+    let top = frame_top(loaded, old.sp, table.parameters);
     let kept = if base { 2 } else { 0 };
     let size = u32::from(table.locals) + parameters + 12;
-    if u32::from(registers.np) + kept + size > top {
+    if u32::from(old.np) + kept + size > top {
         return Err(ExecError::StackOverflow);
     }
     let mp = (top - size) as u16;
-    put_frame(memory, mp, link, registers, table.parameters, base);
+    put_frame(memory, mp, link, &old, table.parameters, base);
     go_inside(registers, base, place, table, mp);
     Ok(())
 }

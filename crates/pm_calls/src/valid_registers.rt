@@ -79,6 +79,23 @@ impl ValidRegisters {
         ValidRegisters { registers }
     }
 
+    /// Gives them another SP and NP.
+    #[inline(always)]
+    pub fn set_top(&mut self, top: Top)
+        ensures registers { self.new ≡ record self.old { sp = top.sp; np = top.np } }
+    {
+        self.registers.sp = top.sp();
+        self.registers.np = top.np();
+    }
+
+    /// Gives them another IPC.
+    #[inline(always)]
+    pub fn set_ipc(&mut self, ipc: u16)
+        ensures registers { self.new ≡ record self.old { ipc = ipc } }
+    {
+        self.registers.ipc = ipc;
+    }
+
     /// The same with another IORESULT.
     #[inline(always)]
     pub fn with_ioresult(self, ioresult: u16) -> ValidRegisters

@@ -1,7 +1,6 @@
 //! The start of a program from a code file on a volume.
 
 ghost use Rattle.std.specs.Prelude.{◌≡◌, ◌<◌, ◌%◌, IfOk, IfErr, IfSome, OnOk, length, option_map};
-ghost use Rattle.pm_words.specs.Stack.{IsStack};
 ghost use Rattle.pm_calls.specs.Calls.{Leaves, called};
 ghost use Rattle.pm_machine.specs.Agreeing.{InStep};
 ghost use Rattle.pm_families.specs.declared.families.Call.TheVariants.{Cxp};
@@ -11,7 +10,7 @@ ghost use Rattle.pm_machine.specs.Boot.{Begins, begun, code_file, first_parts, i
 
 use crate::machine::{NO_ROW, put_system_frame};
 use crate::state::BootFault;
-use pm_calls::{Frames, Registers};
+use pm_calls::{Frames, Registers, ValidRegisters};
 use pm_codefile::CodeFile;
 use pm_families::Call;
 use pm_stdproc::{SlotRow, SlotRows};
@@ -27,7 +26,7 @@ use std::alloc::{AllocError, Global};
 pub struct Begun {
     pub memory: Box<Memory>,
     pub scratch: Box<Memory>,
-    pub registers: Registers,
+    pub registers: ValidRegisters,
     pub frames: Frames,
     pub rows: SlotRows,
 }
@@ -108,13 +107,12 @@ fn rows_of(unit: u8, first: u16, file: &CodeFile<'_>) -> SlotRows
 #[tactic(auto, unfolding(crate::specs::Boot::first_parts, crate::specs::Agreeing::InStep), using(pm_calls::proofs::TableLaws::carry))]
 fn start(alloc: Global) -> Result<Begun, AllocError>
     ensures parts { IfOk result (λ b. parts_of b ≡ first_parts) }
-    ensures stack { IfOk result (λ b. IsStack b.registers.sp b.registers.np) }
     ensures agrees { IfOk result (λ b. InStep b.memory.value b.frames b.registers.mp) }
 {
     let mut memory = Memory::new(alloc)?;
     put_system_frame(&mut memory);
     let scratch = Memory::new(alloc)?;
-    let registers = Registers {
+    let registers = ValidRegisters::of(Registers {
         sp: SYSTEM_FRAME,
         ipc: 0,
         seg: 0,
@@ -123,7 +121,7 @@ fn start(alloc: Global) -> Result<Begun, AllocError>
         base: SYSTEM_FRAME,
         np: HEAP,
         ioresult: 0,
-    };
+    });
     Ok(Begun {
         memory,
         scratch,
@@ -136,11 +134,9 @@ fn start(alloc: Global) -> Result<Begun, AllocError>
 // Calls procedure 1 of slot 1.
 #[tactic(auto, unfolding(crate::specs::Agreeing::InStep))]
 fn first_call(start: &mut Begun, code: Option<&[u8]>) -> Result<(), ExecError>
-    requires stack { IsStack start.old.registers.sp start.old.registers.np }
     requires even_code { IfSome code (λ c. length c.now % 2 ≡ 0) }
     requires agrees { InStep start.old.memory.value start.old.frames start.old.registers.mp }
     ensures agrees { InStep start.new.memory.value start.new.frames start.new.registers.mp }
-    ensures stack { OnOk result (IsStack start.new.registers.sp start.new.registers.np) }
     ensures done { Leaves result (parts_of start.old) (parts_of start.new)
         (called (parts_of start.old) (Cxp 1 1) (option_map (λ c. c.now) code.entry)) }
 {
@@ -162,7 +158,6 @@ pub fn begin(
     name: &str,
 ) -> Result<Begun, BootFault>
     ensures begins { Begins result (code_file volumes.now unit name.now) (begun volumes.now unit name.now) }
-    ensures stack { IfOk result (λ b. IsStack b.registers.sp b.registers.np) }
     ensures agrees { IfOk result (λ b. InStep b.memory.value b.frames b.registers.mp) }
 {
     let (entry, file) = code_file(volumes, unit, name)?;

@@ -89,9 +89,9 @@ fn exit_row(
     let mut stack = registers.top();
     let procedure = stack.pop(memory)?;
     let segment = stack.pop(memory)?;
-    let mut inside = registers.with_top(stack).registers();
+    let mut inside = registers.with_top(stack);
     frames.exit(memory, &mut inside, segment, procedure, scratch)?;
-    *registers = ValidRegisters::of(inside);
+    *registers = inside;
     Ok(())
 }
 
@@ -115,9 +115,9 @@ fn unkeep_row(
 {
     let mut stack = registers.top();
     let n = stack.pop(memory)?;
-    let mut inside = registers.with_top(stack).registers();
+    let mut inside = registers.with_top(stack);
     frames.unkeep(memory, &mut inside, n, length_of(n, rows))?;
-    *registers = ValidRegisters::of(inside);
+    *registers = inside;
     Ok(())
 }
 
@@ -184,9 +184,9 @@ fn keep_row(
     let mut stack = registers.top();
     let n = stack.pop(memory)?;
     let code = slot_code(n, frames, rows, units)?;
-    let mut inside = registers.with_top(stack).registers();
+    let mut inside = registers.with_top(stack);
     frames.keep(memory, &mut inside, n, code)?;
-    *registers = ValidRegisters::of(inside);
+    *registers = inside;
     Ok(())
 }
 

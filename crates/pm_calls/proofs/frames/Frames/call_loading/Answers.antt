@@ -16,7 +16,8 @@ invariant_of-self c =
     let room : c.args.registers.now.np + length c.args.code.now ≤ c.args.registers.now.sp = search rules in
     record {
       slots = length-set c.self.inside.places c.args.slot _ ∙ c.self.invariant.slots;
-      low = All-set IsLow c.self.inside.places c.args.slot _ (omega (arith, c.requires.stack.even_sp, c.requires.stack.below, some, room))
+      low = All-set IsLow c.self.inside.places c.args.slot _ (rw c.registers-old.ensures.registers
+      (omega (arith, c.registers-old.ensures.stack.even_sp, c.registers-old.ensures.stack.below, some, room)))
           c.self.invariant.low;
       even = c.self.invariant.even;
       apart = c.self.invariant.apart;
@@ -28,7 +29,8 @@ returns-clause-done c = λ h.
     let some : 0 < length c.args.code.now = search rules in
     let room : c.args.registers.now.np + length c.args.code.now ≤ c.args.registers.now.sp = search rules in
     let places : c.self.inside.places ≡ c.args.self.now.places = search rules in
-    rw places (called_loading-entered _ _ _ _ _ _ some room (rw c.put_code-2.ensures.written at entered))
+    rw (places, c.registers-old.ensures.registers) (called_loading-entered _ _ _ _ _ _ some room
+    (rw (c.put_code-2.ensures.written, c.registers-old.ensures.registers) at entered))
 
 pub returns-clause-agrees : goal.returns-clause-agrees
 returns-clause-agrees c = λ h.
@@ -44,9 +46,10 @@ unfolding bytes_at
 returns-in-Err-clause-refused c =
     let m = c.args.memory.now.words in
     let code = c.args.code.now in
-    let sp = c.args.registers.now.sp in
+    let sp = c.registers-old.result.sp in
     let end = c.from-end.result in
     let fits : length code ≤ sp = search rules in
+    let below : sp ≤ 65504 = rw c.registers-old.ensures.registers c.registers-old.ensures.stack.below in
     let count : sp - (sp - length code) ≡ length code = omega (arith, fits) in
     let bytes : All (λ b. b < 256) code = All-from_get_or (λ b. b < 256) code 0 (λ i l. omega (arith, c.type_inv.code i)) in
     let kept : List ℕ = take (end - (end - length code)) (drop (end - length code) c.bytes.result.now) in
@@ -55,7 +58,7 @@ returns-in-Err-clause-refused c =
     let back_is : back ≡ bytes_at (with_bytes c.args.scratch.now.words (sp - length kept) kept) (sp - length code) (length code)
     = rw (c.bytes-in-Err.ensures.contents, c.put_code.ensures.written, c.from-end.ensures, count) refl in
     let stays = below_put_back m c.args.scratch.now.words code kept back sp c.bytes.ensures.memory c.put_code.ensures.memory bytes fits
-    (omega (arith, c.requires.stack.below)) kept_is back_is in (
+    (omega (arith, below)) kept_is back_is in (
       rw (c.put_code-in-Err.ensures.written, c.in-Err.ensures.refused.0, c.put_code-2.ensures.written) stays,
       c.in-Err.ensures.refused.1,
       c.enter.ensures.places,
@@ -67,6 +70,7 @@ returns-in-Err-clause-done c = λ h.
     let some : 0 < length c.args.code.now = search rules in
     let room : c.args.registers.now.np + length c.args.code.now ≤ c.args.registers.now.sp = search rules in
     let back = returns-in-Err-clause-refused c in (
-      called_loading-refused _ _ _ _ _ some room (rw c.put_code-2.ensures.written at entered),
+      called_loading-refused _ _ _ _ _ some room
+      (rw (c.put_code-2.ensures.written, c.registers-old.ensures.registers) at entered),
       rw (back.0, back.1, back.2) refl,
     )

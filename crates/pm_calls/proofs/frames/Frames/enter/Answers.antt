@@ -15,14 +15,16 @@ pub returns-in_err-link-clause-entered : goal.returns-in_err-link-clause-entered
 returns-in_err-link-clause-entered c = λ h.
     let p = err_from_is_err_and c.from_residual-in_err-link.result c.from_residual-in_err-link.ensures.1 in
     let level : to_z w8 (of_z w8 c.in_ok-table.table.level) ≡ c.in_ok-table.table.level = search rules in
-    let link = rw (c.attributes.ensures.words, level) at (c.in_err-link.ensures.value (c.attributes.ensures.agrees _ h)) in
+    let link = rw (c.registers-old.ensures.registers, c.attributes.ensures.words, level)
+    at (c.in_err-link.ensures.value (rw c.registers-old.ensures.registers (c.attributes.ensures.agrees _ h))) in
     rw (p.1, p.2) (entered-no_link _ _ _ _ c.args.registers.now _ _ _ c.procedure_of.ensures.procedure (c.in_ok-table.ensures.value _ h) link)
 
 pub returns-in_err-enter-clause-entered : goal.returns-in_err-enter-clause-entered
 returns-in_err-enter-clause-entered c = λ h.
     let p = err_from_is_err_and c.from_residual-in_err-enter.result c.from_residual-in_err-enter.ensures.1 in
     let level : to_z w8 (of_z w8 c.in_ok-table.table.level) ≡ c.in_ok-table.table.level = search rules in
-    let link = rw (c.attributes.ensures.words, level) at (c.in_ok-link.ensures.value (c.attributes.ensures.agrees _ h)) in
+    let link = rw (c.registers-old.ensures.registers, c.attributes.ensures.words, level)
+    at (c.in_ok-link.ensures.value (rw c.registers-old.ensures.registers (c.attributes.ensures.agrees _ h))) in
     let words = c.static_link.ensures.words ∙ c.attributes.ensures.words in
     let framed = rw (words, c.is_base-base.ensures.base, level) at c.in_err-enter.ensures.framed in
     rw (p.1, p.2) (entered-framed _ _ _ _ c.args.registers.now _ _ _ c.procedure_of.ensures.procedure (c.in_ok-table.ensures.value _ h) link ∙ framed)
@@ -30,7 +32,8 @@ returns-in_err-enter-clause-entered c = λ h.
 pub returns-then-is_local-clause-entered : goal.returns-then-is_local-clause-entered
 returns-then-is_local-clause-entered c = λ h.
     let level : to_z w8 (of_z w8 c.in_ok-table.table.level) ≡ c.in_ok-table.table.level = search rules in
-    let link = rw (c.attributes.ensures.words, level) at (c.in_ok-link.ensures.value (c.attributes.ensures.agrees _ h)) in
+    let link = rw (c.registers-old.ensures.registers, c.attributes.ensures.words, level)
+    at (c.in_ok-link.ensures.value (rw c.registers-old.ensures.registers (c.attributes.ensures.agrees _ h))) in
     let words = c.static_link.ensures.words ∙ c.attributes.ensures.words in
     let framed = rw (words, c.is_base-base.ensures.base, level) at c.in_ok-enter.ensures.framed in
     rw c.descend.ensures.words
@@ -39,7 +42,8 @@ returns-then-is_local-clause-entered c = λ h.
 pub returns-then-link-caller-clause-entered : goal.returns-then-link-caller-clause-entered
 returns-then-link-caller-clause-entered c = λ h.
     let level : to_z w8 (of_z w8 c.in_ok-table.table.level) ≡ c.in_ok-table.table.level = search rules in
-    let link = rw (c.attributes.ensures.words, level) at (c.in_ok-link.ensures.value (c.attributes.ensures.agrees _ h)) in
+    let link = rw (c.registers-old.ensures.registers, c.attributes.ensures.words, level)
+    at (c.in_ok-link.ensures.value (rw c.registers-old.ensures.registers (c.attributes.ensures.agrees _ h))) in
     let words = c.static_link.ensures.words ∙ c.attributes.ensures.words in
     let framed = rw (words, c.is_base-base.ensures.base, level) at c.in_ok-enter.ensures.framed in
     rw (c.descend-then-link-caller.ensures.words, c.start.ensures.words)
@@ -48,7 +52,8 @@ returns-then-link-caller-clause-entered c = λ h.
 pub returns-else-link-caller-clause-entered : goal.returns-else-link-caller-clause-entered
 returns-else-link-caller-clause-entered c = λ h.
     let level : to_z w8 (of_z w8 c.in_ok-table.table.level) ≡ c.in_ok-table.table.level = search rules in
-    let link = rw (c.attributes.ensures.words, level) at (c.in_ok-link.ensures.value (c.attributes.ensures.agrees _ h)) in
+    let link = rw (c.registers-old.ensures.registers, c.attributes.ensures.words, level)
+    at (c.in_ok-link.ensures.value (rw c.registers-old.ensures.registers (c.attributes.ensures.agrees _ h))) in
     let words = c.static_link.ensures.words ∙ c.attributes.ensures.words in
     let framed = rw (words, c.is_base-base.ensures.base, level) at c.in_ok-enter.ensures.framed in
     rw c.forget.ensures.words
@@ -56,12 +61,13 @@ returns-else-link-caller-clause-entered c = λ h.
 
 pub returns-then-is_local-clause-agrees : goal.returns-then-is_local-clause-agrees
 returns-then-is_local-clause-agrees c = λ h.
-    let before = Agrees-keeps _ _ _ _ c.enter.ensures.keeps (c.static_link.ensures.agrees (c.attributes.ensures.agrees _ h)) in
+    let before = Agrees-keeps _ _ _ _ c.enter.ensures.keeps
+    (c.static_link.ensures.agrees (rw c.registers-old.ensures.registers (c.attributes.ensures.agrees _ h))) in
     record {
       matches = λ quiet.
           let m = rw (← c.self.view_is) at (before.matches (sym c.descend.ensures.touched ∙ quiet)) in
           record {
-            bases = c.descend.ensures.links m.bases;
+            bases = rw (← c.registers-mp.ensures.registers) (c.descend.ensures.links m.bases);
             kept = rw c.descend.ensures.words m.kept;
             watched = c.descend.ensures.watched _ m.watched;
           };
@@ -69,12 +75,14 @@ returns-then-is_local-clause-agrees c = λ h.
 
 pub returns-then-link-caller-clause-agrees : goal.returns-then-link-caller-clause-agrees
 returns-then-link-caller-clause-agrees c = λ h.
-    let before = Agrees-keeps _ _ _ _ c.enter.ensures.keeps (c.static_link.ensures.agrees (c.attributes.ensures.agrees _ h)) in
+    let before = Agrees-keeps _ _ _ _ c.enter.ensures.keeps
+    (c.static_link.ensures.agrees (rw c.registers-old.ensures.registers (c.attributes.ensures.agrees _ h))) in
     record {
       matches = λ quiet.
           let m = rw (← c.self.view_is) at (before.matches (sym (c.descend-then-link-caller.ensures.touched ∙ c.start.ensures.touched) ∙ quiet)) in
           record {
-            bases = c.descend-then-link-caller.ensures.links (c.start.ensures.links _ m.bases);
+            bases = rw (← c.registers-mp.ensures.registers)
+            (c.descend-then-link-caller.ensures.links (c.start.ensures.links _ m.bases));
             kept = rw (c.descend-then-link-caller.ensures.words, c.start.ensures.words) m.kept;
             watched = c.descend-then-link-caller.ensures.watched _ (c.start.ensures.watched _ m.watched);
           };
@@ -82,7 +90,8 @@ returns-then-link-caller-clause-agrees c = λ h.
 
 pub returns-else-link-caller-clause-agrees : goal.returns-else-link-caller-clause-agrees
 returns-else-link-caller-clause-agrees c = λ h.
-    let before = Agrees-keeps _ _ _ _ c.enter.ensures.keeps (c.static_link.ensures.agrees (c.attributes.ensures.agrees _ h)) in
+    let before = Agrees-keeps _ _ _ _ c.enter.ensures.keeps
+    (c.static_link.ensures.agrees (rw c.registers-old.ensures.registers (c.attributes.ensures.agrees _ h))) in
     record {
       matches = λ quiet.
           let m = rw (← c.self.view_is) at (before.matches (sym c.forget.ensures.touched ∙ quiet)) in
@@ -96,7 +105,8 @@ returns-else-link-caller-clause-agrees c = λ h.
 pub returns-then-link-caller-clause-near : goal.returns-then-link-caller-clause-near
 returns-then-link-caller-clause-near c = λ other linked.
     let down = c.descend-then-link-caller.ensures.bases (inr c.start.ensures.begins) in
-    rw down (BeginsWithTwo-down _ _ _ c.start.ensures.begins)
+    rw (down, ← c.registers-mp.ensures.registers, ← c.registers-old.ensures.registers)
+    (BeginsWithTwo-down _ _ _ c.start.ensures.begins)
 
 pub returns-then-link-caller-clause-entry : goal.returns-then-link-caller-clause-entry
 returns-then-link-caller-clause-entry c = λ quiet.

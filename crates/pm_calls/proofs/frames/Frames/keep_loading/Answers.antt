@@ -7,5 +7,5 @@ returns-clause-agrees c = λ h.
     record {
       matches = λ quiet.
           let m = rw (← c.self.view_is) at (kept.matches quiet) in
-          record { bases = m.bases; kept = m.kept; watched = m.watched };
+          record { bases = rw (c.of.ensures.registers, c.registers-old.ensures.registers) m.bases; kept = m.kept; watched = m.watched };
     }

@@ -9,6 +9,5 @@ pub mod LoadLaws
 pub mod PlaceLaws
 pub mod LowLaws
 pub mod KeepLaws
-pub mod RestLaws
 pub mod ExitLaws
 pub mod ExitReturns

@@ -7,5 +7,4 @@ pub mod Returns
 pub mod Keeps
 pub mod Exits
 pub mod Laws
-pub mod MemoryLaws
 pub mod ExitLaws

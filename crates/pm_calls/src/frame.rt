@@ -115,16 +115,14 @@ fn go_inside(registers: &mut ValidRegisters, base: bool, place: u16, table: Tabl
     requires below { mp ≤ STACK_END }
     ensures inside { registers.new ≡ inside base registers.old place table mp }
 {
-    let old = registers.registers();
-    *registers = ValidRegisters::of(Registers {
-        sp: if base { mp - 2 } else { mp },
-        ipc: table.enter,
-        seg: place,
-        jtab: table.jtab,
-        mp,
-        base: if base { mp } else { old.base },
-        ..old
-    });
+    registers.registers.sp = if base { mp - 2 } else { mp };
+    registers.registers.ipc = table.enter;
+    registers.registers.seg = place;
+    registers.registers.jtab = table.jtab;
+    registers.registers.mp = mp;
+    if base {
+        registers.registers.base = mp;
+    }
 }
 
 /// Enters a procedure of the segment at `place`, of which `loaded` bytes were loaded for it, once
@@ -154,19 +152,20 @@ pub fn enter(
     ensures linked { OnOk result (word_at memory.new.words registers.new.mp ≡ link) }
     ensures table { OnOk result ((registers.new.jtab ≡ table.jtab) × (registers.new.ipc ≡ table.enter)) }
 {
-    let old = registers.registers();
+    let Registers { sp, np, .. } = registers.registers;
     let parameters = u32::from(table.parameters);
-    if u32::from(old.sp) + parameters > u32::from(STACK_END) {
+    if u32::from(sp) + parameters > u32::from(STACK_END) {
         return Err(ExecError::InvalidMemory);
     }
-    let top = frame_top(loaded, old.sp, table.parameters);
+    let top = frame_top(loaded, sp, table.parameters);
     let kept = if base { 2 } else { 0 };
     let size = u32::from(table.locals) + parameters + 12;
-    if u32::from(old.np) + kept + size > top {
+    if u32::from(np) + kept + size > top {
         return Err(ExecError::StackOverflow);
     }
     let mp = (top - size) as u16;
-    put_frame(memory, mp, link, &old, table.parameters, base);
+    let caller = &registers.registers;
+    put_frame(memory, mp, link, caller, table.parameters, base);
     go_inside(registers, base, place, table, mp);
     Ok(())
 }

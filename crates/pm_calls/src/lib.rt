@@ -11,7 +11,6 @@ mod frames;
 mod keeps;
 pub mod laws;
 mod links;
-pub mod memory_laws;
 mod registers;
 mod returns;
 mod tables;

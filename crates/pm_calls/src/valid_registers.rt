@@ -45,6 +45,23 @@ impl ValidRegisters {
         self.registers
     }
 
+    /// IPC.
+    #[inline(always)]
+    pub fn ipc(&self) -> u16
+        ensures ipc { result ≡ self.now.ipc }
+    {
+        let registers = &self.registers;
+        registers.ipc
+    }
+
+    /// MP.
+    #[inline(always)]
+    pub fn mp(&self) -> u16
+        ensures mp { result ≡ self.now.mp }
+    {
+        self.registers.mp
+    }
+
     /// SP and NP as one value.
     #[inline(always)]
     pub fn top(self) -> Top

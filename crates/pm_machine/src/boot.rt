@@ -1,6 +1,6 @@
 //! The start of a program from a code file on a volume.
 
-ghost use Rattle.std.specs.Prelude.{◌≡◌, ◌<◌, ◌%◌, IfOk, IfErr, IfSome, OnOk, length, option_map};
+ghost use Rattle.std.specs.Prelude.{◌≡◌, ◌<◌, ◌%◌, IfOk, IfErr, IfSome, length, option_map};
 ghost use Rattle.pm_calls.specs.Calls.{Leaves, called};
 ghost use Rattle.pm_machine.specs.Agreeing.{InStep};
 ghost use Rattle.pm_families.specs.declared.families.Call.TheVariants.{Cxp};

@@ -9,3 +9,4 @@ pub mod KeepLaws
 pub mod RowLaws
 pub mod KeptLoads
 pub mod OutputLaws
+pub mod RestLaws

@@ -5,3 +5,4 @@ pub mod Numbers
 pub mod Keeping
 pub mod Rows
 pub mod Outputs
+pub mod MemoryLaws

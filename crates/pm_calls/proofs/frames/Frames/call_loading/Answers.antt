@@ -17,7 +17,7 @@ invariant_of-self c =
     record {
       slots = length-set c.self.inside.places c.args.slot _ ∙ c.self.invariant.slots;
       low = All-set IsLow c.self.inside.places c.args.slot _ (rw c.registers-old.ensures.registers
-      (omega (arith, c.registers-old.ensures.stack.even_sp, c.registers-old.ensures.stack.below, some, room)))
+          (omega (arith, c.registers-old.ensures.stack.even_sp, c.registers-old.ensures.stack.below, some, room)))
           c.self.invariant.low;
       even = c.self.invariant.even;
       apart = c.self.invariant.apart;
@@ -71,6 +71,6 @@ returns-in-Err-clause-done c = λ h.
     let room : c.args.registers.now.np + length c.args.code.now ≤ c.args.registers.now.sp = search rules in
     let back = returns-in-Err-clause-refused c in (
       called_loading-refused _ _ _ _ _ some room
-      (rw (c.put_code-2.ensures.written, c.registers-old.ensures.registers) at entered),
+          (rw (c.put_code-2.ensures.written, c.registers-old.ensures.registers) at entered),
       rw (back.0, back.1, back.2) refl,
     )

@@ -1,6 +1,6 @@
 //! Laws of what calls, returns and EXIT leave of the memory. The functions do nothing.
 
-ghost use Rattle.pm_calls.specs.MemoryLaws.{CallAndReturnLeaveTheRest};
+ghost use Rattle.pm_machine_laws.specs.MemoryLaws.{CallAndReturnLeaveTheRest};
 
 /// A call and its return leave all memory outside the procedure's frame, the code that was loaded for the call and the
 /// words that are returned as it was.

@@ -22,7 +22,7 @@ use Rattle.pm_calls.specs.Calls.{Reached, called, called_at, called_loading, cal
 use Rattle.pm_calls.specs.Calls.{is_base, kept_below, reach_loading, procedure_called, reach_standing, with_control, with_frame, with_old_base}
 use Rattle.pm_calls.specs.Returns.{returned}
 use Rattle.pm_calls.specs.Laws.{IsCode, Reaches, ReachesSlot}
-use Rattle.pm_calls.specs.MemoryLaws.{CallAndReturnLeaveTheRest, LeavesTheRest, LiesOutside}
+use Rattle.pm_machine_laws.specs.MemoryLaws.{CallAndReturnLeaveTheRest, LeavesTheRest, LiesOutside}
 use Rattle.pm_calls.proofs.ReturnLaws.{bound, has_room, loading_memory, low_before, ok_same, passed, standing_memory}
 
 -- ---- bytes outside a frame

@@ -80,7 +80,7 @@ doubled() {
         "ratio $(awk "BEGIN { if (${first%% *} > 0) printf \"%.1f\", ${second%% *} / ${first%% *} }")"
 }
 
-"$pmach" raw --limit 0 </dev/null >/dev/null # builds it where it is not built yet
+[ "$pmach" != "$here/pmach" ] || [ -x "$here/crates/pmach/out/pmach" ] || "$pmach" --prove || exit 1 # a proved one is measured
 doubled nops nops 29992
 doubled listing nops 29992 --list
 doubled nops nops 2000000

@@ -71,6 +71,7 @@ def typed(command, keys):
     else:
         os.kill(child, signal.SIGKILL)
     os.close(terminal)
+    shown = re.sub(rb"^pmach: not proved[^\n]*\n", b"", shown)  # what the front says of such a program
     return shown.decode().replace("\r\n", "\n"), os.waitstatus_to_exitcode(os.waitpid(child, 0)[1])
 
 

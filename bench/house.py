@@ -200,7 +200,7 @@ for page in ("docs/ARCHITECTURE.md", "docs/DECISIONS.md"):
             tell("name", "%s: %s" % (page, word))
 for page in sorted(glob.glob("docs/*.md")) + ["README.md", "bench/README.md"]:
     text = "\n".join(lines(page))
-    for path in set(re.findall(r"`((?:bench|docs|examples|crates|completions)/[\w./-]+)`", text)):
+    for path in set(re.findall(r"`((?:bench|docs|examples|crates|script|share)/[\w./-]+)`", text)):
         if not os.path.exists(path) and "/out/" not in path:
             tell("path", "%s: %s" % (page, path))
     for path in set(re.findall(r"\]\(([\w./-]+)(?:#[\w-]+)?\)", text)):

@@ -39,6 +39,16 @@ usage() {
     result "$name" $?
 }
 
+# asked NAME WORD..: to the program help is wrong words; the front shows it on standard output, with status 0
+asked() {
+    [ "$(head -c 2 "$pmach")" = '#!' ] || { usage "$@" && return; }
+    local name=$1
+    shift
+    "$pmach" "$@" >"$scratch/out" 2>"$scratch/err" <"$addition"
+    [ $? = 0 ] && [ -s "$scratch/out" ] && [ ! -s "$scratch/err" ]
+    result "$name" $?
+}
+
 addition=$here/crates/pmach/stdin
 trace=$here/crates/pmach/stdout
 nothing=$scratch/nothing
@@ -276,9 +286,9 @@ case_of "no program to debug" 2 "$nothing" "$message" debug --d4 "$programs" NON
 usage "no disk for the debugger" debug LOADS
 
 # words
-usage "--help" --help
-usage "raw --help" raw --help
-usage "help" help
+asked "--help" --help
+asked "raw --help" raw --help
+asked "help" help
 usage "a limit without raw" --limit 5
 usage "a limit with a sign" raw --limit +5
 usage "a limit below zero" raw --limit -5

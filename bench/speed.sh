@@ -9,7 +9,7 @@ steps=${STEPS:-20000000}
 runs=${RUNS:-5}
 scratch=$(mktemp -d)
 trap 'rm -rf "$scratch"' EXIT
-[ -x "$pmach" ] || "$here/../pmach" raw --limit 0 </dev/null >/dev/null # builds it where it is not built yet
+[ -x "$pmach" ] || "$here/../pmach" --prove || exit 1 # a proved one is measured
 compiler=${CC:-$(command -v clang || command -v cc)}
 "$compiler" -O2 -march=x86-64-v2 -fno-slp-vectorize -o "$scratch/speed" "$here/speed.c" 2>/dev/null ||
     "$compiler" -O2 -march=x86-64-v2 -fno-tree-slp-vectorize -o "$scratch/speed" "$here/speed.c" || exit 1

@@ -8,7 +8,7 @@ pmach=$here/crates/pmach/out/pmach
 plain=$(mktemp)
 measured=$(mktemp)
 trap 'rm -f "$plain" "$measured"' EXIT
-"$here/pmach" raw --limit 0 </dev/null >/dev/null # builds it where it is not built yet
+[ -x "$pmach" ] || "$here/pmach" --prove || exit 1 # a proved one is measured
 cc -O2 -o "$plain" "$here/bench/trace.c" || exit 1
 
 # best COMMAND..: the seconds of the best run and the greatest peak in KiB; $code is the input of each

@@ -51,6 +51,8 @@ pub enum Act {
     Lock,
     /// It lets go of the lock, which it has.
     Unlock,
+    /// It moves the folder away and makes another in its place, with its own bytes under the path if it has any.
+    Move,
 }
 
 /// What another program does while one runs, and when.
@@ -69,6 +71,7 @@ pub struct Meanwhile {
 /// What a disk holds, what the streams took, and what has been asked of them.
 #[derive(Drop)]
 pub struct Disk {
+    alloc: Global,
     pub inodes: Vec<Inode>,
     pub names: Vec<Name>,
     /// Whether the folder takes no new name.
@@ -81,8 +84,13 @@ pub struct Disk {
     pub user: u32,
     /// Who could do what, at any moment, with a file that the program made.
     pub widest: u32,
-    /// How many files were opened.
-    pub opened: usize,
+    /// The inode of each file that was opened, by its number.
+    pub opened: Vec<usize>,
+    /// Whether another folder stands where the files stood, so that a path that goes through no open folder leads
+    /// there. Its names begin with `ELSEWHERE`.
+    pub is_moved: bool,
+    /// Whether the system has no paths of open files.
+    pub is_plain: bool,
     /// The calls so far.
     pub calls: usize,
     /// The call that fails, and no other.
@@ -101,6 +109,36 @@ pub struct Disk {
     pub err: String,
 }
 
+/// The number that stands for the folder of the files.
+pub(crate) const FOLDER: usize = usize::MAX;
+
+/// The number that stands for the folder that another program made in its place.
+pub(crate) const OTHER_FOLDER: usize = usize::MAX - 1;
+
+/// What stands before the names in that folder.
+const ELSEWHERE: &str = "elsewhere/";
+
+/// What stands before the number of an open file in a path.
+const OPEN: &str = "/proc/self/fd/";
+
+/// A name in a folder.
+#[derive(Clone, Copy)]
+struct Spot<'a> {
+    is_elsewhere: bool,
+    name: &'a str,
+}
+
+impl Spot<'_> {
+    /// Whether it has this path.
+    fn is(self, path: &str) -> bool {
+        if self.is_elsewhere {
+            path.strip_prefix(ELSEWHERE) == Some(self.name)
+        } else {
+            path.strip_prefix("./").unwrap_or(path) == self.name
+        }
+    }
+}
+
 pub(crate) fn out_of_memory() -> io::Error {
     io::Error::from(ErrorKind::OutOfMemory)
 }
@@ -113,6 +151,7 @@ impl Disk {
     /// An empty disk, on which no call fails.
     pub fn new(alloc: Global) -> Disk {
         Disk {
+            alloc,
             inodes: Vec::new(alloc),
             names: Vec::new(alloc),
             is_closed: false,
@@ -120,7 +159,9 @@ impl Disk {
             is_blind: false,
             user: 0,
             widest: 0,
-            opened: 0,
+            opened: Vec::new(alloc),
+            is_moved: false,
+            is_plain: false,
             calls: 0,
             fails_at: None,
             fails_of: None,
@@ -155,12 +196,45 @@ impl Disk {
         }
     }
 
+    /// The open file that a path names by its number.
+    fn open_at(&self, path: &str) -> Option<usize> {
+        if self.is_plain {
+            return None;
+        }
+        let number: usize = path.strip_prefix(OPEN)?.parse().ok()?;
+        self.opened.get(number).copied()
+    }
+
+    /// Where a path leads, its last name not followed.
+    fn spot<'a>(&self, path: &'a str) -> Spot<'a> {
+        if let Some((folder, name)) = path.rsplit_once('/') {
+            if let Some(folder) = self.open_at(folder) {
+                let is_elsewhere = folder == OTHER_FOLDER;
+                return Spot { is_elsewhere, name };
+            }
+        }
+        let name = path.strip_prefix("./").unwrap_or(path);
+        Spot {
+            is_elsewhere: self.is_moved,
+            name,
+        }
+    }
+
     /// Gives a file a name.
-    fn call(&mut self, path: String, inode: usize) -> io::Result<()> {
+    fn call(&mut self, path: &str, inode: usize) -> io::Result<()> {
+        let Spot { is_elsewhere, name } = self.spot(path);
+        let before = if is_elsewhere { ELSEWHERE } else { "" };
+        let path = format!(in self.alloc; "{before}{name}")?;
         match self.names.push(Name { path, inode }) {
             Ok(()) => Ok(()),
             Err(_) => Err(out_of_memory()),
         }
+    }
+
+    /// Takes a name away.
+    fn forget(&mut self, path: &str) {
+        let spot = self.spot(path);
+        self.names.retain(|name| !spot.is(name.path.as_str()));
     }
 
     /// The file that a path names.
@@ -170,9 +244,8 @@ impl Disk {
     }
 
     /// Another program makes a file, or a symbolic link, in the place of what stands under a path.
-    fn set(&mut self, path: String, bytes: Vec<u8>, link: Option<String>) -> io::Result<()> {
-        self.names
-            .retain(|name| name.path.as_str() != path.as_str());
+    fn set(&mut self, path: &str, bytes: Vec<u8>, link: Option<String>) -> io::Result<()> {
+        self.forget(path);
         let number = self.make(bytes)?;
         if let Some(inode) = self.inodes.get_mut(number) {
             inode.is_foreign = true;
@@ -190,7 +263,8 @@ impl Disk {
             link,
             ..
         } = meanwhile;
-        match (act, self.named(path.as_str())) {
+        let path = path.as_str();
+        match (act, self.named(path)) {
             (Act::Put, Some(inode)) => {
                 inode.bytes = bytes;
                 Ok(())
@@ -198,8 +272,7 @@ impl Disk {
             (Act::Put | Act::Replace, _) => self.set(path, bytes, None),
             (Act::Symlink, _) => self.set(path, bytes, Some(link)),
             (Act::Remove, _) => {
-                self.names
-                    .retain(|name| name.path.as_str() != path.as_str());
+                self.forget(path);
                 Ok(())
             }
             (Act::Lock | Act::Unlock, Some(inode)) => {
@@ -207,6 +280,14 @@ impl Disk {
                 Ok(())
             }
             (Act::Lock | Act::Unlock, None) => Ok(()),
+            (Act::Move, _) => {
+                self.is_moved = true;
+                if bytes.is_empty() {
+                    Ok(())
+                } else {
+                    self.set(path, bytes, None)
+                }
+            }
         }
     }
 
@@ -243,8 +324,12 @@ impl Disk {
 
     /// The number of the file, or of the symbolic link, that a path names.
     pub fn find(&self, path: &str) -> Option<usize> {
+        if let Some(number) = self.open_at(path) {
+            return Some(number);
+        }
+        let spot = self.spot(path);
         for name in self.names.iter() {
-            if name.path.as_str() == path {
+            if spot.is(name.path.as_str()) {
                 return Some(name.inode);
             }
         }
@@ -270,9 +355,17 @@ impl Disk {
     }
 
     /// The number of a file that is opened.
-    pub(crate) fn count_open(&mut self) -> usize {
-        self.opened = self.opened.wrapping_add(1);
-        self.opened
+    pub(crate) fn count_open(&mut self, inode: usize) -> io::Result<usize> {
+        let number = self.opened.len();
+        match self.opened.push(inode) {
+            Ok(()) => Ok(number),
+            Err(_) => Err(out_of_memory()),
+        }
+    }
+
+    /// The folder that stands where the files stood.
+    pub(crate) fn folder_now(&self) -> usize {
+        if self.is_moved { OTHER_FOLDER } else { FOLDER }
     }
 
     /// What a path leads to.
@@ -280,11 +373,11 @@ impl Disk {
         Ok(self.find(self.behind(path)?))
     }
 
-    /// The folder in which all files stand.
-    pub(crate) fn folder(&self) -> Node {
+    /// A folder, by its number.
+    pub(crate) fn folder(&self, number: usize) -> Node {
         Node {
             device: 1,
-            number: u64::MAX,
+            number: number as u64,
             kind: Kind::Other,
             names: 2,
             owner: 0,
@@ -295,6 +388,9 @@ impl Disk {
 
     /// What a file is, by its number.
     pub fn node_of(&self, number: usize) -> Option<Node> {
+        if number == FOLDER || number == OTHER_FOLDER {
+            return Some(self.folder(number));
+        }
         let inode = self.inodes.get(number)?;
         let kind = match &inode.link {
             Some(_) => Kind::Link,
@@ -333,9 +429,8 @@ impl Disk {
     }
 
     /// Adds an empty file.
-    pub(crate) fn add(&mut self, alloc: Global, path: &str) -> io::Result<usize> {
-        let path = String::from_str(alloc, path)?;
-        let inode = self.make(Vec::new(alloc))?;
+    pub(crate) fn add(&mut self, path: &str) -> io::Result<usize> {
+        let inode = self.make(Vec::new(self.alloc))?;
         self.call(path, inode)?;
         Ok(inode)
     }
@@ -344,22 +439,21 @@ impl Disk {
         let Some(inode) = self.find(path) else {
             return Err(missing());
         };
-        self.names.retain(|name| name.path.as_str() != path);
+        self.forget(path);
         Ok(inode)
     }
 
-    pub(crate) fn rename(&mut self, alloc: Global, from: &str, to: &str) -> io::Result<()> {
-        let path = String::from_str(alloc, to)?;
+    pub(crate) fn rename(&mut self, from: &str, to: &str) -> io::Result<()> {
         let inode = self.unlink(from)?;
-        self.names.retain(|name| name.path.as_str() != to);
-        self.call(path, inode)
+        self.forget(to);
+        self.call(to, inode)
     }
 
     /// Adds a file of these bytes, or gives them to the one that is there.
-    pub fn put(&mut self, alloc: Global, path: &str, bytes: &[u8]) -> io::Result<()> {
+    pub fn put(&mut self, path: &str, bytes: &[u8]) -> io::Result<()> {
         let inode = match self.find(path) {
             Some(inode) => inode,
-            None => self.add(alloc, path)?,
+            None => self.add(path)?,
         };
         let Some(inode) = self.inodes.get_mut(inode) else {
             return Err(missing());
@@ -386,9 +480,9 @@ impl Disk {
     }
 
     /// Adds a symbolic link.
-    pub fn symlink(&mut self, alloc: Global, path: &str, link: &str) -> io::Result<()> {
-        let link = String::from_str(alloc, link)?;
-        let made = self.add(alloc, path)?;
+    pub fn symlink(&mut self, path: &str, link: &str) -> io::Result<()> {
+        let link = String::from_str(self.alloc, link)?;
+        let made = self.add(path)?;
         if let Some(inode) = self.inodes.get_mut(made) {
             inode.link = Some(link);
         }
@@ -396,10 +490,9 @@ impl Disk {
     }
 
     /// Gives a file another name.
-    pub fn link(&mut self, alloc: Global, path: &str, other: &str) -> io::Result<()> {
+    pub fn link(&mut self, path: &str, other: &str) -> io::Result<()> {
         let inode = self.find(path).ok_or(missing())?;
-        let path = String::from_str(alloc, other)?;
-        self.call(path, inode)
+        self.call(other, inode)
     }
 
     /// Begins anew: no calls, no log, nothing read or written. The files stay.
@@ -412,8 +505,10 @@ impl Disk {
         self.err.clear();
     }
 
-    /// Ends a program: no file is locked.
+    /// Ends a program: no file is open or locked, and each path is that of a name.
     pub fn release(&mut self) {
+        self.opened.clear();
+        self.is_moved = false;
         for inode in self.inodes.iter_mut() {
             inode.locked = false;
             inode.holder = None;

@@ -1,5 +1,5 @@
 //! A runtime whose files are in memory, and which fails at one of its calls.
-use crate::disk::{Disk, missing, out_of_memory};
+use crate::disk::{Disk, FOLDER, OTHER_FOLDER, missing, out_of_memory};
 use pm_files::{Host, Node, Stream};
 use std::alloc::Global;
 use std::cell::RefCell;
@@ -10,7 +10,7 @@ use std::os::unix::fs::PermissionsExt;
 use std::path::PathBuf;
 use std::rt::Files;
 
-/// An open file, or the folder, whose number is the highest. Its lock goes with it.
+/// An open file, or a folder. Its lock goes with it.
 pub struct FakeFile<'a> {
     disk: &'a RefCell<Disk>,
     inode: usize,
@@ -37,9 +37,6 @@ impl Drop for FakeFile<'_> {
     }
 }
 
-/// The number that stands for the folder.
-const FOLDER: usize = usize::MAX;
-
 /// The longest name.
 const NAME_LIMIT: usize = 255;
 
@@ -58,13 +55,14 @@ pub struct FakeRuntime<'a> {
 
 impl<'a> FakeRuntime<'a> {
     /// A file of the disk, opened at its beginning.
-    fn opened(&self, disk: &mut Disk, inode: usize) -> FakeFile<'a> {
-        FakeFile {
+    fn opened(&self, disk: &mut Disk, inode: usize) -> io::Result<FakeFile<'a>> {
+        let number = disk.count_open(inode)?;
+        Ok(FakeFile {
             disk: self.disk,
             inode,
             at: 0,
-            number: disk.count_open(),
-        }
+            number,
+        })
     }
 }
 
@@ -163,7 +161,10 @@ impl OpenFile for FakeFile<'_> {
     }
 
     fn sync_all(&self) -> io::Result<()> {
-        let letter = if self.inode == FOLDER { 'f' } else { 's' };
+        let letter = match self.inode {
+            FOLDER | OTHER_FOLDER => 'f',
+            _ => 's',
+        };
         match self.disk.try_borrow_mut() {
             Ok(mut disk) => disk.tick(letter),
             Err(_) => Err(in_use()),
@@ -197,13 +198,13 @@ impl<'a> Files for FakeRuntime<'a> {
         let Ok(mut disk) = self.disk.try_borrow_mut() else {
             return Err(in_use());
         };
-        disk.tick('o')?;
+        disk.tick(if path == "." { 'd' } else { 'o' })?;
         if how.asks_create() || how.asks_create_new() || how.asks_truncate() {
             return Err(io::Error::from(ErrorKind::Unsupported));
         }
         let inode = match disk.led_to(path)? {
             Some(inode) => inode,
-            None if path == "." => FOLDER,
+            None if path == "." => disk.folder_now(),
             None => return Err(missing()),
         };
         if let Some(inode) = disk.inodes.get_mut(inode) {
@@ -214,7 +215,7 @@ impl<'a> Files for FakeRuntime<'a> {
                 return Err(io::Error::from(ErrorKind::IsADirectory));
             }
         }
-        Ok(self.opened(&mut disk, inode))
+        self.opened(&mut disk, inode)
     }
 
     fn open_dir(&self, _path: &str) -> io::Result<PipeReader> {
@@ -255,7 +256,7 @@ impl<'a> Files for FakeRuntime<'a> {
         if disk.named(to).is_some_and(|inode| inode.is_busy) {
             return Err(io::Error::from(ErrorKind::ResourceBusy));
         }
-        disk.rename(self.alloc, from, to)
+        disk.rename(from, to)
     }
 
     fn remove_file(&self, path: &str) -> io::Result<()> {
@@ -365,7 +366,7 @@ impl<'a> Host for FakeRuntime<'a> {
         };
         disk.tick(if follows { 'M' } else { 'N' })?;
         if path == "." {
-            return Ok(Some(disk.folder()));
+            return Ok(Some(disk.folder(disk.folder_now())));
         }
         let found = if follows {
             disk.led_to(path)?
@@ -389,15 +390,16 @@ impl<'a> Host for FakeRuntime<'a> {
         if disk.is_closed {
             return Err(closed());
         }
-        if path.len() > NAME_LIMIT {
+        let name = path.rsplit_once('/').map_or(path, |(_, name)| name);
+        if name.len() > NAME_LIMIT {
             return Err(io::Error::from(ErrorKind::InvalidFilename));
         }
-        let inode = disk.add(self.alloc, path)?;
+        let inode = disk.add(path)?;
         if let Some(made) = disk.inodes.get_mut(inode) {
             made.mode = mode & 0o755;
         }
         disk.widest |= mode & 0o755;
-        Ok(self.opened(&mut disk, inode))
+        self.opened(&mut disk, inode)
     }
 
     fn set_owner(&self, file: &FakeFile<'a>, owner: u32, group: u32) -> io::Result<()> {
@@ -415,6 +417,10 @@ impl<'a> Host for FakeRuntime<'a> {
             inode.mode &= 0o1777;
         }
         Ok(())
+    }
+
+    fn number(&self, file: &FakeFile<'a>) -> i32 {
+        i32::try_from(file.number).unwrap_or(i32::MAX)
     }
 
     fn is_same(&self, one: &str, other: &str) -> bool {

@@ -26,10 +26,12 @@ is_file kinds.Other = false
 abbrev pub is_replaced : Node → Bool
 is_replaced node = is_file node.kind && (node.names == 1)
 
--- A file is going to be written. Where one is held it has to be that one; else a regular file is locked first.
-abbrev pub claim_of : Option Node → Node → Claimed
-claim_of (Some held) old = if is_one_file held old then claims.Held else claims.Other
-claim_of None old = if is_file old.kind then claims.Free else claims.Shared
+-- A file was opened to be written. It has to be the one that was made ready for; one that is not held, and regular, is
+-- locked first.
+abbrev pub claim_of : Node → Bool → Node → Claimed
+claim_of was holds opened = if is_one_file was opened
+    then (if holds then claims.Held else (if is_file opened.kind then claims.Free else claims.Shared))
+    else claims.Other
 
 -- The mode that a new file has from its first moment on: 0600, and the old one's later; 0666, less the user's mask,
 -- where it stands for no old one.

@@ -5,6 +5,7 @@ ghost use Rattle.pm_files.specs.Nodes.{is_file, is_one_file, is_replaced};
 use std::fs::{File, Metadata, OpenOptions, TryLockError};
 use std::io;
 use std::io::{ErrorKind, IsTerminal};
+use std::os::fd::AsRawFd;
 use std::os::unix::fs::{MetadataExt, OpenOptionsExt, fchown};
 use std::rt::Files;
 
@@ -88,6 +89,9 @@ pub trait Host: Files {
     /// Gives an open file another owner.
     fn set_owner(&self, file: &Self::File, owner: u32, group: u32) -> io::Result<()>;
 
+    /// The number under which the system has an open file.
+    fn number(&self, file: &Self::File) -> i32;
+
     /// Whether two paths name one file, through links too. Where one of them names none they do not.
     fn is_same(&self, one: &str, other: &str) -> bool;
 
@@ -151,6 +155,10 @@ impl Host for HostRuntime {
 
     fn set_owner(&self, file: &File, owner: u32, group: u32) -> io::Result<()> {
         fchown(file, Some(owner), Some(group))
+    }
+
+    fn number(&self, file: &File) -> i32 {
+        file.as_raw_fd()
     }
 
     fn is_same(&self, one: &str, other: &str) -> bool {

@@ -20,6 +20,22 @@ pub(crate) struct Held<F> {
     pub(crate) file: F,
     /// Whether it is open for reading.
     reads: bool,
+    /// The path by which this file is opened once more, whatever its names are by then. `None`: the system has none such.
+    again: Option<String>,
+}
+
+/// Where another file can be put: a folder, and the paths of two names in it. They lead through the open folder, which
+/// was found once, so that they stay in it whatever is done to the folders and links on the way.
+#[derive(Drop)]
+pub(crate) struct Spot<F> {
+    /// The folder, open as long as this is there.
+    pub(crate) folder: F,
+    /// The path of the file.
+    pub(crate) path: String,
+    /// The path of the file that takes its place.
+    pub(crate) beside: String,
+    /// The latter as the user knows it.
+    pub(crate) told: String,
 }
 
 /// A path to which bytes are going to be written. All memory that this takes is had here, so that none is wanted later.
@@ -27,11 +43,11 @@ pub(crate) struct Held<F> {
 pub(crate) struct WritePath<F> {
     /// The path as it was given.
     pub(crate) name: String,
-    /// The path behind all links, at which another file can be put. `None`: nothing but the file itself can be written,
-    /// as where the links go in a circle.
-    pub(crate) path: Option<String>,
-    /// The path of the file that takes its place.
-    pub(crate) beside: String,
+    /// What it led to when this was made, if anything, or why that could not be seen.
+    pub(crate) was: Result<Option<Node>, ErrorKind>,
+    /// Where its file stands, behind all links. `None`: nothing but the file itself can be written, as where its folder
+    /// cannot be opened.
+    pub(crate) spot: Option<Spot<F>>,
     /// The file, if it is held.
     pub(crate) held: Option<Held<F>>,
 }
@@ -42,6 +58,14 @@ pub(crate) fn folder_of(path: &str) -> &str {
         Some(("", _)) => "/",
         Some((folder, _)) => folder,
         None => ".",
+    }
+}
+
+/// The name of a path in its folder.
+fn name_of(path: &str) -> &str {
+    match path.rsplit_once('/') {
+        Some((_, name)) => name,
+        None => path,
     }
 }
 
@@ -97,45 +121,105 @@ fn resolved<R: Host + AllocGlobal>(rt: &R, name: &str) -> Result<Option<String>,
     }
 }
 
-/// Opens a file that is going to be locked: for reading, or for writing where it may not be read.
-fn opened<R: Files>(rt: &R, path: &str) -> io::Result<Held<R::File>> {
+/// The path of an open file by its number, which leads to it whatever its names are. `None` where the system has no
+/// such paths.
+fn by_number<R: Host + AllocGlobal>(rt: &R, file: &R::File) -> Result<Option<String>, DiskFault> {
+    let number = rt.number(file);
+    let Ok(path) = format!(in rt.alloc(); "/proc/self/fd/{number}") else {
+        return Err(DiskFault::NoMemory);
+    };
+    match (rt.node(file), rt.node_at(path.as_str(), true)) {
+        (Ok(node), Ok(Some(found))) if node.is(found) => Ok(Some(path)),
+        _ => Ok(None),
+    }
+}
+
+/// The path of a file through its open folder, or as it is where the system has no such paths.
+fn through<R: Host + AllocGlobal>(
+    rt: &R,
+    folder: &R::File,
+    path: &str,
+) -> Result<String, DiskFault> {
+    let Some(number) = by_number(rt, folder)? else {
+        return Ok(String::from_str(rt.alloc(), path)?);
+    };
+    let name = name_of(path);
+    match format!(in rt.alloc(); "{number}/{name}") {
+        Ok(path) => Ok(path),
+        Err(_) => Err(DiskFault::NoMemory),
+    }
+}
+
+/// The path of the new file beside one.
+fn beside_of(alloc: Global, path: &str) -> Result<String, DiskFault> {
+    match format!(in alloc; "{path}.pmach-new") {
+        Ok(path) => Ok(path),
+        Err(_) => Err(DiskFault::NoMemory),
+    }
+}
+
+/// Whether a file has no name at its spot, as one of /proc that was removed.
+fn is_nameless<R: Host>(rt: &R, was: Result<Option<Node>, ErrorKind>, path: &str) -> bool {
+    match was {
+        Ok(Some(_)) => matches!(rt.node_at(path, false), Ok(None)),
+        _ => false,
+    }
+}
+
+/// Opens the folder of a path, if that can be done, and makes the paths that lead through it. `None` also where a file
+/// has no name there.
+fn spot_of<R: Host + AllocGlobal>(
+    rt: &R,
+    path: &str,
+    was: Result<Option<Node>, ErrorKind>,
+) -> Result<Option<Spot<R::File>>, DiskFault> {
+    let Ok(folder) = File::open(rt, folder_of(path)) else {
+        return Ok(None);
+    };
+    let told = beside_of(rt.alloc(), path)?;
+    let path = through(rt, &folder, path)?;
+    if is_nameless(rt, was, path.as_str()) {
+        return Ok(None);
+    }
+    let beside = beside_of(rt.alloc(), path.as_str())?;
+    Ok(Some(Spot {
+        folder,
+        path,
+        beside,
+        told,
+    }))
+}
+
+/// Opens a file that is going to be locked: for reading, or for writing where it may not be read. Whether it can be read.
+fn opened<R: Files>(rt: &R, path: &str) -> io::Result<(R::File, bool)> {
     match File::open(rt, path) {
-        Ok(file) => Ok(Held { file, reads: true }),
+        Ok(file) => Ok((file, true)),
         Err(error) if error.kind() == ErrorKind::PermissionDenied => {
-            let file = OpenOptions::new().write(true).open(rt, path)?;
-            Ok(Held { file, reads: false })
+            Ok((OpenOptions::new().write(true).open(rt, path)?, false))
         }
         Err(error) => Err(error),
     }
 }
 
-/// Opens and locks a file, if there is a regular one that may be read or written. `Busy` where another program has it.
-fn locked<R: Host>(rt: &R, path: &str) -> Result<Option<Held<R::File>>, DiskFault> {
-    match rt.node_at(path, true) {
-        Ok(Some(node)) if node.is_file() => {}
-        _ => return Ok(None),
-    }
-    let held = match opened(rt, path) {
-        Ok(held) => held,
+/// Opens and locks a file, if it may be read or written. `Busy` where another program has it.
+fn locked<R: Host + AllocGlobal>(rt: &R, path: &str) -> Result<Option<Held<R::File>>, DiskFault> {
+    let (file, reads) = match opened(rt, path) {
+        Ok(opened) => opened,
         Err(error) if error.kind() == ErrorKind::PermissionDenied => return Ok(None),
         Err(error) => return Err(DiskFault::of_read(error)),
     };
-    if rt.try_lock(&held.file).map_err(DiskFault::of_read)? {
-        Ok(Some(held))
+    if rt.try_lock(&file).map_err(DiskFault::of_read)? {
+        let again = by_number(rt, &file)?;
+        Ok(Some(Held { file, reads, again }))
     } else {
         Err(DiskFault::Busy)
     }
 }
 
-/// Whether a path names this file. `None` where it names nothing.
-fn names<R: Host>(
-    rt: &R,
-    path: &str,
-    follows: bool,
-    node: Node,
-) -> Result<Option<bool>, DiskFault> {
+/// Whether a path names this file.
+fn names<R: Host>(rt: &R, path: &str, follows: bool, node: Node) -> Result<bool, DiskFault> {
     let named = rt.node_at(path, follows).map_err(DiskFault::of_read)?;
-    Ok(named.map(|named| named.is(node)))
+    Ok(named.is_some_and(|named| named.is(node)))
 }
 
 impl<F: Seek + std::io::Read> Held<F> {
@@ -158,31 +242,58 @@ impl<F> WritePath<F> {
         name: &str,
     ) -> Result<WritePath<F>, DiskFault> {
         let path = resolved(rt, name)?;
-        let whole = match &path {
-            Some(path) => path.as_str(),
-            None => name,
-        };
-        let Ok(beside) = format!(in rt.alloc(); "{whole}.pmach-new") else {
-            return Err(DiskFault::NoMemory);
+        let was = rt.node_at(name, true).map_err(|error| error.kind());
+        let spot = match path {
+            Some(path) => spot_of(rt, path.as_str(), was)?,
+            None => None,
         };
         let name = String::from_str(rt.alloc(), name)?;
         Ok(WritePath {
             name,
-            path,
-            beside,
+            was,
+            spot,
             held: None,
         })
     }
 
-    /// Whether the name, and the path behind all links, still lead to this file. A path that names nothing is that of a
-    /// file without a name, as one of /proc that was removed.
-    fn leads_to<R: Host<File = F>>(&self, rt: &R, file: &F) -> Result<bool, DiskFault> {
+    /// The path by which its file is opened: through its folder where that is open.
+    fn found(&self) -> &str {
+        match &self.spot {
+            Some(spot) => spot.path.as_str(),
+            None => self.name.as_str(),
+        }
+    }
+
+    /// The path by which its file is opened to be written: a file that is held is not looked for by a name once more.
+    pub(crate) fn opening(&self) -> &str {
+        match &self.held {
+            Some(
+                Held {
+                    again: Some(again),
+                    ..
+                },
+            ) => again.as_str(),
+            _ => self.found(),
+        }
+    }
+
+    /// The file that is to be locked, if it is a regular one.
+    fn lockable(&self) -> Option<Node> {
+        match self.was {
+            Ok(Some(node)) if node.is_file() => Some(node),
+            _ => None,
+        }
+    }
+
+    /// Whether an open file is the one that this was made for, and the name, and the path behind all links, still lead
+    /// to it.
+    fn leads_to<R: Host<File = F>>(&self, rt: &R, was: Node, file: &F) -> Result<bool, DiskFault> {
         let node = rt.node(file).map_err(DiskFault::of_read)?;
-        if names(rt, self.name.as_str(), true, node)? != Some(true) {
+        if !node.is(was) || !names(rt, self.name.as_str(), true, node)? {
             return Ok(false);
         }
-        match &self.path {
-            Some(path) => Ok(names(rt, path.as_str(), false, node)? != Some(false)),
+        match &self.spot {
+            Some(spot) => names(rt, spot.path.as_str(), false, node),
             None => Ok(true),
         }
     }
@@ -195,11 +306,14 @@ impl<F> WritePath<F> {
     ) -> Result<WritePath<F>, DiskFault> {
         for _ in 0..OPENINGS {
             let mut place = WritePath::new(rt, name)?;
-            let held = match locked(rt, name)? {
+            let Some(was) = place.lockable() else {
+                return Ok(place);
+            };
+            let held = match locked(rt, place.found())? {
                 Some(held) => held,
                 None => return Ok(place),
             };
-            if place.leads_to(rt, &held.file)? {
+            if place.leads_to(rt, was, &held.file)? {
                 place.held = Some(held);
                 return Ok(place);
             }

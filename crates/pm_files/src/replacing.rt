@@ -4,11 +4,10 @@ ghost use Rattle.pm_files.specs.Nodes.{claim_of, first_mode, is_still};
 
 use crate::fault::DiskFault;
 use crate::host::{Host, Node};
-use crate::place::{WritePath, folder_of};
-use std::fs::{File, OpenFile, OpenOptions, Permissions};
-use std::io::{ErrorKind, Write};
+use crate::place::{Spot, WritePath};
+use std::fs::{OpenFile, OpenOptions, Permissions};
+use std::io::{ErrorKind, Seek, SeekFrom, Write};
 use std::os::unix::fs::PermissionsExt;
-use std::rt::Files;
 use std::{fs, io};
 
 /// The mode of a file that is going to have the mode of another one, until it has it.
@@ -23,15 +22,48 @@ const STICKY: u32 = 0o1000;
 /// How often what stands where a new file is to be made is taken away.
 const CLEARINGS: u8 = 100;
 
-/// Writes bytes over those of an open file. No byte is cut off before the new ones stand there, and what is no regular
-/// file keeps its length.
-fn overwrite<F: Write + OpenFile>(file: &mut F, bytes: &[u8]) -> io::Result<()> {
-    file.write_all(bytes)?;
-    if file.metadata()?.is_file() {
-        file.set_len(bytes.len() as u64)?;
-        file.sync_all()?;
+/// Writes bytes behind those of a file, to the disk, or leaves it as it was.
+fn append<F: Write + Seek + OpenFile>(file: &mut F, len: u64, bytes: &[u8]) -> io::Result<()> {
+    if bytes.is_empty() {
+        return Ok(());
     }
-    Ok(())
+    file.seek(SeekFrom::Start(len))?;
+    match file.write_all(bytes).and_then(|_| file.sync_all()) {
+        Ok(()) => Ok(()),
+        Err(error) => {
+            let _ = file.set_len(len);
+            Err(error)
+        }
+    }
+}
+
+/// Writes bytes over those of an open regular file: first those behind its old end, so that want of room leaves it as
+/// it was. No byte is cut off before the new ones stand there.
+fn overwrite_file<F: Write + Seek + OpenFile>(
+    file: &mut F,
+    len: u64,
+    bytes: &[u8],
+) -> io::Result<()> {
+    let front = usize::try_from(len).unwrap_or(usize::MAX);
+    if let Some((front, rest)) = bytes.split_at_checked(front) {
+        append(file, len, rest)?;
+        file.seek(SeekFrom::Start(0))?;
+        file.write_all(front)?;
+    } else {
+        file.write_all(bytes)?;
+        file.set_len(bytes.len() as u64)?;
+    }
+    file.sync_all()
+}
+
+/// Writes bytes over those of an open file. What is no regular file keeps its length.
+fn overwrite<F: Write + Seek + OpenFile>(file: &mut F, bytes: &[u8]) -> io::Result<()> {
+    let old = file.metadata()?;
+    if old.is_file() {
+        overwrite_file(file, old.len(), bytes)
+    } else {
+        file.write_all(bytes)
+    }
 }
 
 /// Whether a folder takes no new name, or the file is one that no other can stand in for.
@@ -46,28 +78,38 @@ fn is_denied(kind: ErrorKind) -> bool {
     )
 }
 
-/// Writes a folder's names to the disk, where the system does that.
-fn sync_folder<R: Files>(rt: &R, path: &str) {
-    if let Ok(folder) = File::open(rt, folder_of(path)) {
-        let _ = folder.sync_all();
+/// What came of a new file that was to take a place.
+#[derive(Clone, Copy)]
+enum Came {
+    /// It stands there.
+    Stands,
+    /// The folder does not take it, or it cannot be given the owner and the mode of the old one. All is as it was.
+    Unfit,
+}
+
+/// A fault that leaves another way is none.
+fn unless_denied(fault: DiskFault) -> Result<Came, DiskFault> {
+    match fault {
+        DiskFault::Write(kind) if is_denied(kind) => Ok(Came::Unfit),
+        fault => Err(fault),
     }
 }
 
-/// Whether the folder of a path keeps users from removing the files of others.
-fn is_in_sticky<R: Host>(rt: &R, path: &str) -> bool {
-    match rt.node_at(folder_of(path), true) {
-        Ok(Some(folder)) => folder.mode & STICKY != 0,
-        _ => false,
+/// Whether a folder keeps users from removing the files of others.
+fn is_sticky<R: Host>(rt: &R, folder: &R::File) -> bool {
+    match rt.node(folder) {
+        Ok(folder) => folder.mode & STICKY != 0,
+        Err(_) => false,
     }
 }
 
 /// Takes away what stands where a new file is to be made. `InTheWay` where that cannot be done.
-fn clear<R: Host>(rt: &R, path: &str) -> Result<(), DiskFault> {
-    match fs::remove_file(rt, path) {
+fn clear<R: Host>(rt: &R, spot: &Spot<R::File>) -> Result<(), DiskFault> {
+    match fs::remove_file(rt, spot.beside.as_str()) {
         Ok(()) => Ok(()),
         Err(error) => match error.kind() {
             ErrorKind::NotFound => Ok(()),
-            ErrorKind::PermissionDenied if !is_in_sticky(rt, path) => {
+            ErrorKind::PermissionDenied if !is_sticky(rt, &spot.folder) => {
                 Err(DiskFault::of_write(error))
             }
             _ => Err(DiskFault::InTheWay),
@@ -77,16 +119,16 @@ fn clear<R: Host>(rt: &R, path: &str) -> Result<(), DiskFault> {
 
 /// Makes and locks the file that is to stand in the place of another. Its name is this program's own: what stands there
 /// is taken away, never opened and never followed.
-fn make_beside<R: Host>(rt: &R, path: &str, mode: u32) -> Result<R::File, DiskFault> {
+fn make_beside<R: Host>(rt: &R, spot: &Spot<R::File>, mode: u32) -> Result<R::File, DiskFault> {
     for _ in 0..CLEARINGS {
-        match rt.make(path, mode) {
+        match rt.make(spot.beside.as_str(), mode) {
             Ok(file) => {
                 if rt.try_lock(&file).map_err(DiskFault::of_write)? {
                     return Ok(file);
                 }
-                clear(rt, path)?;
+                clear(rt, spot)?;
             }
-            Err(error) if error.kind() == ErrorKind::AlreadyExists => clear(rt, path)?,
+            Err(error) if error.kind() == ErrorKind::AlreadyExists => clear(rt, spot)?,
             Err(error) => return Err(DiskFault::of_write(error)),
         }
     }
@@ -102,20 +144,25 @@ fn dress<R: Host>(rt: &R, file: &R::File, old: Node) -> io::Result<()> {
     file.set_permissions(Permissions::from_mode(old.mode))
 }
 
-/// Fills a new file, which gets the owner and the mode of another one first, if there is one.
-fn fill<R: Host>(rt: &R, file: &mut R::File, like: Option<Node>, bytes: &[u8]) -> io::Result<()> {
-    if let Some(old) = like {
-        dress(rt, file, old)?;
+/// Whether a new file has what it is to have of the old one, if there is one.
+fn is_dressed<R: Host>(rt: &R, file: &R::File, old: Option<Node>) -> bool {
+    match old {
+        Some(old) => dress(rt, file, old).is_ok(),
+        None => true,
     }
+}
+
+/// Fills a new file, to the disk.
+fn fill<F: Write + OpenFile>(file: &mut F, bytes: &[u8]) -> io::Result<()> {
     file.write_all(bytes)?;
     file.sync_all()
 }
 
 /// The mode that a new file is made with.
-fn first_mode(like: Option<Node>) -> u32
-    ensures mode { result ≡ first_mode like }
+fn first_mode(old: Option<Node>) -> u32
+    ensures mode { result ≡ first_mode old }
 {
-    match like {
+    match old {
         Some(_) => PRIVATE,
         None => ORDINARY,
     }
@@ -148,11 +195,13 @@ fn expect<R: Host>(rt: &R, path: &str, follows: bool, old: Option<Node>) -> Resu
 fn expect_old<R: Host>(
     rt: &R,
     place: &WritePath<R::File>,
-    path: &str,
     old: Option<Node>,
 ) -> Result<(), DiskFault> {
     expect(rt, place.name.as_str(), true, old)?;
-    expect(rt, path, false, old)
+    match &place.spot {
+        Some(spot) => expect(rt, spot.path.as_str(), false, old),
+        None => Ok(()),
+    }
 }
 
 /// Whether a file stands under a path; `unseen` where the system does not say it.
@@ -168,25 +217,26 @@ fn stands<R: Host>(rt: &R, path: &str, file: Node, unseen: bool) -> bool {
 fn move_over<R: Host>(
     rt: &R,
     place: &WritePath<R::File>,
-    path: &str,
+    spot: &Spot<R::File>,
     new: Node,
     old: Option<Node>,
 ) -> Result<(), DiskFault> {
-    expect(rt, place.beside.as_str(), false, Some(new))?;
-    expect_old(rt, place, path, old)?;
-    fs::rename(rt, place.beside.as_str(), path).map_err(DiskFault::of_write)
+    expect(rt, spot.beside.as_str(), false, Some(new))?;
+    expect_old(rt, place, old)?;
+    fs::rename(rt, spot.beside.as_str(), spot.path.as_str()).map_err(DiskFault::of_write)
 }
 
 /// Puts a filled file in the place of a path, and sees that it stands there.
 fn take_place<R: Host>(
     rt: &R,
     place: &WritePath<R::File>,
-    path: &str,
+    spot: &Spot<R::File>,
     file: &R::File,
     old: Option<Node>,
 ) -> Result<(), DiskFault> {
     let new = rt.node(file).map_err(DiskFault::of_write)?;
-    match move_over(rt, place, path, new, old) {
+    let path = spot.path.as_str();
+    match move_over(rt, place, spot, new, old) {
         Ok(()) if stands(rt, path, new, true) => Ok(()),
         Ok(()) => Err(DiskFault::Replaced),
         // Another program that made the same file may have moved this one.
@@ -204,95 +254,107 @@ fn remove_own<R: Host>(rt: &R, path: &str, file: &R::File) {
     }
 }
 
+/// Fills a file that was made for it, and puts it in the place of a path. `Unfit` where it cannot be dressed; but where
+/// it cannot be filled there is no other way.
+fn put_made<R: Host>(
+    rt: &R,
+    place: &WritePath<R::File>,
+    spot: &Spot<R::File>,
+    file: &mut R::File,
+    old: Option<Node>,
+    bytes: &[u8],
+) -> Result<Came, DiskFault> {
+    if !is_dressed(rt, file, old) {
+        return Ok(Came::Unfit);
+    }
+    fill(file, bytes).map_err(DiskFault::of_write)?;
+    match take_place(rt, place, spot, file, old) {
+        Ok(()) => Ok(Came::Stands),
+        Err(fault) => unless_denied(fault),
+    }
+}
+
 /// Puts a new file with the bytes in the place of a path, or leaves all as it was.
 fn put_beside<R: Host>(
     rt: &R,
     place: &WritePath<R::File>,
-    path: &str,
+    spot: &Spot<R::File>,
     old: Option<Node>,
-    like: Option<Node>,
     bytes: &[u8],
-) -> Result<(), DiskFault> {
-    let beside = place.beside.as_str();
-    let mut file = make_beside(rt, beside, first_mode(like))?;
-    let done = match fill(rt, &mut file, like, bytes) {
-        Ok(()) => take_place(rt, place, path, &file, old),
-        Err(error) => Err(DiskFault::of_write(error)),
+) -> Result<Came, DiskFault> {
+    let mut file = match make_beside(rt, spot, first_mode(old)) {
+        Ok(file) => file,
+        Err(fault) => return unless_denied(fault),
     };
-    if done.is_ok() {
-        sync_folder(rt, path);
-    } else {
-        remove_own(rt, beside, &file);
+    let came = put_made(rt, place, spot, &mut file, old, bytes);
+    match came {
+        // The folder's names, where the system writes them to the disk.
+        Ok(Came::Stands) => {
+            let _ = spot.folder.sync_all();
+        }
+        _ => remove_own(rt, spot.beside.as_str(), &file),
     }
-    done
+    came
 }
 
 /// Makes a file with the bytes under its own name, where none can be made beside it.
-fn make_there<R: Host>(rt: &R, path: &str, like: Option<Node>, bytes: &[u8]) -> io::Result<()> {
-    let mut file = rt.make(path, first_mode(like))?;
-    let done = fill(rt, &mut file, like, bytes);
+fn make_there<R: Host>(rt: &R, path: &str, bytes: &[u8]) -> Result<(), DiskFault> {
+    let mut file = rt.make(path, ORDINARY).map_err(DiskFault::of_write)?;
+    let done = fill(&mut file, bytes);
     if done.is_err() {
         remove_own(rt, path, &file);
     }
-    done
+    done.map_err(DiskFault::of_write)
 }
 
-/// The file that is held, as it is now.
-fn held_node<R: Host>(rt: &R, place: &WritePath<R::File>) -> io::Result<Option<Node>> {
-    match &place.held {
-        Some(held) => Ok(Some(rt.node(&held.file)?)),
-        None => Ok(None),
-    }
-}
-
-/// Writes a file that was not there: it gets the owner and the mode of the one that was held.
+/// Writes a file that was not there. Nothing that is there by now is opened.
 fn write_new<R: Host>(rt: &R, place: &WritePath<R::File>, bytes: &[u8]) -> Result<(), DiskFault> {
-    let like = held_node(rt, place).map_err(DiskFault::of_write)?;
-    let Some(path) = &place.path else {
-        return make_there(rt, place.name.as_str(), like, bytes).map_err(DiskFault::of_write);
+    let Some(spot) = &place.spot else {
+        return make_there(rt, place.name.as_str(), bytes);
     };
-    match put_beside(rt, place, path.as_str(), None, like, bytes) {
-        Err(DiskFault::Write(kind)) if is_denied(kind) => {
-            make_there(rt, path.as_str(), like, bytes).map_err(DiskFault::of_write)
-        }
-        done => done,
+    match put_beside(rt, place, spot, None, bytes)? {
+        Came::Stands => Ok(()),
+        Came::Unfit => make_there(rt, spot.path.as_str(), bytes),
     }
 }
 
-/// What this program has of a file that it is going to write.
+/// What this program has of a file that it has opened for writing.
 #[derive(Clone, Copy)]
 enum Claimed {
     /// It holds this file.
     Held,
-    /// It holds another one.
+    /// It made ready for another one.
     Other,
-    /// It holds none, and this one can be locked.
+    /// It made ready for this one, which can be locked.
     Free,
-    /// It holds none, and this one is a device, a pipe or a socket.
+    /// It made ready for this one, which is a device, a pipe or a socket.
     Shared,
 }
 
-fn claim_of(held: Option<Node>, old: Node) -> Claimed
-    ensures claim { result ≡ claim_of held old }
+fn claim_of(was: Node, holds: bool, opened: Node) -> Claimed
+    ensures claim { result ≡ claim_of was holds opened }
 {
-    match held {
-        Some(held) if held.is(old) => Claimed::Held,
-        Some(_) => Claimed::Other,
-        None if old.is_file() => Claimed::Free,
-        None => Claimed::Shared,
+    if !was.is(opened) {
+        Claimed::Other
+    } else if holds {
+        Claimed::Held
+    } else if opened.is_file() {
+        Claimed::Free
+    } else {
+        Claimed::Shared
     }
 }
 
-/// Whether this program may write a file: it holds it, or has its lock for the time of this. `Replaced` where it holds
-/// another one.
+/// Whether this program may write a file: it holds it, or has its lock for the time of this. `Replaced` where it made
+/// ready for another one.
 fn claim<R: Host>(
     rt: &R,
     place: &WritePath<R::File>,
     file: &R::File,
-    old: Node,
+    was: Node,
+    opened: Node,
 ) -> Result<(), DiskFault> {
-    let held = held_node(rt, place).map_err(DiskFault::of_write)?;
-    match claim_of(held, old) {
+    match claim_of(was, place.held.is_some(), opened) {
         Claimed::Held | Claimed::Shared => Ok(()),
         Claimed::Other => Err(DiskFault::Replaced),
         Claimed::Free if rt.try_lock(file).map_err(DiskFault::of_write)? => Ok(()),
@@ -308,46 +370,55 @@ fn write_over<R: Host>(
     old: Node,
     bytes: &[u8],
 ) -> Result<(), DiskFault> {
-    if old.is_file() {
-        expect(rt, place.name.as_str(), true, Some(old))?;
-    }
+    expect_old(rt, place, Some(old))?;
     overwrite(&mut file, bytes).map_err(DiskFault::of_write)
 }
 
-/// Writes a file that is there, and open for writing.
+/// The file for which a place was made, as it is now where it is held. Some systems give it another number when it is
+/// opened for writing.
+fn known<R: Host>(rt: &R, place: &WritePath<R::File>, was: Node) -> Result<Node, DiskFault> {
+    match &place.held {
+        Some(held) => rt.node(&held.file).map_err(DiskFault::of_write),
+        None => Ok(was),
+    }
+}
+
+/// Writes a file that is there. It is opened where each name still leads to it; else it is `Replaced`.
 fn write_old<R: Host>(
     rt: &R,
     place: &WritePath<R::File>,
-    mut file: R::File,
+    was: Node,
     bytes: &[u8],
 ) -> Result<(), DiskFault> {
+    expect_old(rt, place, Some(known(rt, place, was)?))?;
+    let file = OpenOptions::new()
+        .write(true)
+        .open(rt, place.opening())
+        .map_err(DiskFault::of_write)?;
     let old = rt.node(&file).map_err(DiskFault::of_write)?;
-    claim(rt, place, &file, old)?;
-    let path = match &place.path {
-        Some(path) if old.is_replaced() => path.as_str(),
-        _ => return write_over(rt, place, file, old, bytes),
+    claim(rt, place, &file, known(rt, place, was)?, old)?;
+    let came = match &place.spot {
+        Some(spot) if old.is_replaced() => put_beside(rt, place, spot, Some(old), bytes)?,
+        _ => Came::Unfit,
     };
-    match put_beside(rt, place, path, Some(old), Some(old), bytes) {
-        Err(DiskFault::Write(kind)) if is_denied(kind) => {
-            expect_old(rt, place, path, Some(old))?;
-            overwrite(&mut file, bytes).map_err(DiskFault::of_write)
-        }
-        done => done,
+    match came {
+        Came::Stands => Ok(()),
+        Came::Unfit => write_over(rt, place, file, old, bytes),
     }
 }
 
 /// Makes the bytes those of a file: at each moment it has its old bytes or these. But they are written over the old
-/// ones where the file is no regular one, has other names, or stands in a folder that takes no new name; where that
-/// fails half way it is a mixture. No memory is wanted. `Replaced` where the file was held, and another one has its
-/// name now.
+/// ones where the file is no regular one, has other names, or stands in a folder that takes no new file like it; where
+/// that fails half way it is a mixture. No memory is wanted. What was not there when the place was made is made new, and
+/// what was is `Replaced`, and not opened, where its name leads to another file, or to none, by now.
 pub(crate) fn replace<R: Host>(
     rt: &R,
     place: &WritePath<R::File>,
     bytes: &[u8],
 ) -> Result<(), DiskFault> {
-    match OpenOptions::new().write(true).open(rt, place.name.as_str()) {
-        Ok(file) => write_old(rt, place, file, bytes),
-        Err(error) if error.kind() == ErrorKind::NotFound => write_new(rt, place, bytes),
-        Err(error) => Err(DiskFault::of_write(error)),
+    match place.was {
+        Ok(Some(was)) => write_old(rt, place, was, bytes),
+        Ok(None) => write_new(rt, place, bytes),
+        Err(kind) => Err(DiskFault::Write(kind)),
     }
 }

@@ -119,7 +119,9 @@ impl<'a, R: Host + AllocGlobal> HostStore<'a, R> {
     fn note_beside(&mut self, path: &str) {
         for place in self.places.iter() {
             if place.name.as_str() == path {
-                self.refused = String::from_str(self.rt.alloc(), place.beside.as_str()).ok();
+                if let Some(spot) = &place.spot {
+                    self.refused = String::from_str(self.rt.alloc(), spot.told.as_str()).ok();
+                }
             }
         }
     }

@@ -1,5 +1,5 @@
 //! Where no file can be made, and what is no file.
-use crate::cases::{OLD, make, node, replace, said, text};
+use crate::cases::{NEW, OLD, make, node, replace, said, text};
 use pm_files::{HostStore, Store};
 use std::fs::{OpenFile, OpenOptions, Permissions};
 use std::os::unix::fs::PermissionsExt;
@@ -17,6 +17,24 @@ pub fn closed(rt: &HostRuntime) -> io::Result<()> {
     replace(rt, "in an open folder", "f/w")?;
     replace(rt, "by a path with more in it", "./f/../f/w")?;
     replace(rt, "in no folder", "g/w")
+}
+
+/// A file in a folder that may not be read is written in place, to more bytes and to fewer, and a new one is made.
+pub fn unread(rt: &HostRuntime) -> io::Result<()> {
+    fs::create_dir(rt, "r")?;
+    make(rt, "r/w", NEW, 0o644)?;
+    fs::set_permissions(rt, "r", Permissions::from_mode(0o333))?;
+    let mut store = HostStore::new(rt);
+    println!(rt;
+        "more bytes in place: {}, {}; a new file: {}, {}",
+        said(store.put("r/w", OLD)),
+        text(rt, "r/w"),
+        said(store.put("r/x", OLD)),
+        text(rt, "r/x")
+    )?;
+    drop(store);
+    replace(rt, "in a folder that may not be read", "r/w")?;
+    fs::set_permissions(rt, "r", Permissions::from_mode(0o755))
 }
 
 /// A name of 250 letters, beside which none can be made: it is written in place.

@@ -1,5 +1,5 @@
 //! Two programs at one file.
-use crate::cases::{NEW, OLD, THEIRS, make, node, said, say, tell, text};
+use crate::cases::{NEW, OLD, THEIRS, kind_at, make, node, said, say, tell, text};
 use pm_files::{HostStore, Store};
 use std::os::unix::fs as fs_unix;
 use std::{fs, io};
@@ -38,7 +38,7 @@ pub fn two_stores(rt: &HostRuntime) -> io::Result<()> {
     say(rt, &[("the second holds then", then)])
 }
 
-/// The name of a file that is held is taken away: the file is made anew.
+/// The name of a file that is held is taken away: no file is made.
 pub fn removed(rt: &HostRuntime) -> io::Result<()> {
     make(rt, "a", OLD, 0o640)?;
     let old = node(rt, "a");
@@ -86,5 +86,49 @@ pub fn led_elsewhere(rt: &HostRuntime) -> io::Result<()> {
         ("the one file", text(rt, "b")),
         ("the other", text(rt, "a")),
     ];
+    say(rt, &came)
+}
+
+/// The folder of a file that is held is moved away, and a link to another folder takes its place: neither folder gets a
+/// file, and the image stays.
+pub fn moved(rt: &HostRuntime) -> io::Result<()> {
+    fs::create_dir(rt, "u")?;
+    fs::create_dir(rt, "v")?;
+    make(rt, "u/w", OLD, 0o644)?;
+    let mut store = HostStore::new(rt);
+    let held = said(store.hold("u/w"));
+    let _ = fs::rename(rt, "u", "x");
+    let _ = fs_unix::symlink(rt, "v", "u");
+    let came = [
+        ("its folder held", held),
+        ("moved away, it reads", read(&mut store, rt, "u/w")),
+        ("and writes", said(store.put("u/w", NEW))),
+        ("the folder that was linked has", kind_at(rt, "v/w")),
+        ("the image", text(rt, "x/w")),
+    ];
+    say(rt, &came)
+}
+
+/// A file, a link to one, and a folder appear where nothing was: each stays, and is not written.
+pub fn appeared(rt: &HostRuntime) -> io::Result<()> {
+    make(rt, "theirs", THEIRS, 0o644)?;
+    let mut store = HostStore::new(rt);
+    let ready = [
+        ("nothing is held", said(store.hold("n1"))),
+        ("nothing is prepared", said(store.prepare("n2"))),
+        ("once more", said(store.hold("n3"))),
+    ];
+    make(rt, "n1", THEIRS, 0o666)?;
+    fs_unix::symlink(rt, "theirs", "n2")?;
+    fs::create_dir(rt, "n3")?;
+    let came = [
+        ("a file appeared", said(store.put("n1", NEW))),
+        ("it has", text(rt, "n1")),
+        ("a link appeared", said(store.put("n2", NEW))),
+        ("it leads to", text(rt, "n2")),
+        ("a folder appeared", said(store.put("n3", NEW))),
+        ("beside them", kind_at(rt, "n1.pmach-new")),
+    ];
+    say(rt, &ready)?;
     say(rt, &came)
 }

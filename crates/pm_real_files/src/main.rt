@@ -20,7 +20,10 @@ fn main(rt: HostRuntime) -> io::Result<()> {
     locks::removed(&rt)?;
     locks::replaced(&rt)?;
     locks::led_elsewhere(&rt)?;
+    locks::moved(&rt)?;
+    locks::appeared(&rt)?;
     folders::closed(&rt)?;
+    folders::unread(&rt)?;
     folders::long_names(&rt)?;
     folders::no_files(&rt)
 }

@@ -91,6 +91,7 @@ pub fn copy(alloc: Global, disk: &Disk) -> io::Result<Disk> {
     copy.is_closed = disk.is_closed;
     copy.is_sticky = disk.is_sticky;
     copy.is_blind = disk.is_blind;
+    copy.is_plain = disk.is_plain;
     copy.user = disk.user;
     Ok(copy)
 }

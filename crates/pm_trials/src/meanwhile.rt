@@ -24,6 +24,7 @@ fn act_of(word: &str) -> Option<Act> {
         "symlink" => Some(Act::Symlink),
         "lock" => Some(Act::Lock),
         "unlock" => Some(Act::Unlock),
+        "move" => Some(Act::Move),
         _ => None,
     }
 }

@@ -209,6 +209,7 @@ impl Trials {
             "closed" => disk.is_closed = true,
             "sticky" => disk.is_sticky = true,
             "blind" => disk.is_blind = true,
+            "plain" => disk.is_plain = true,
             "user" => disk.user = user(rest),
             "terminal" => self.on_terminal = rest == "on",
             "<" => add(&mut self.typed, rest, true)?,
@@ -243,16 +244,16 @@ impl Trials {
             "poke" => Ok(self.poke(path, rest)),
             "store" => {
                 let out = std::mem::replace(&mut self.came.disk.out, Vec::new(self.alloc));
-                self.came.disk.put(self.alloc, path, out.as_slice())?;
+                self.came.disk.put(path, out.as_slice())?;
                 self.came.disk.out = out;
                 Ok(true)
             }
             "link" => {
-                self.came.disk.link(self.alloc, path, rest)?;
+                self.came.disk.link(path, rest)?;
                 Ok(true)
             }
             "symlink" => {
-                self.came.disk.symlink(self.alloc, path, rest)?;
+                self.came.disk.symlink(path, rest)?;
                 Ok(true)
             }
             "mode" | "owner" => Ok(self.dress(word, path, rest)),
@@ -264,7 +265,7 @@ impl Trials {
             "zeros" => {
                 let mut zeros = Vec::new(self.alloc);
                 zeros.resize(number(rest), 0)?;
-                self.came.disk.put(self.alloc, path, zeros.as_slice())?;
+                self.came.disk.put(path, zeros.as_slice())?;
                 Ok(true)
             }
             _ => Ok(false),
@@ -293,7 +294,7 @@ impl Trials {
             return Ok(false);
         };
         bytes.extend_from_slice(old)?;
-        self.came.disk.put(self.alloc, to, bytes.as_slice())?;
+        self.came.disk.put(to, bytes.as_slice())?;
         Ok(true)
     }
 
@@ -354,8 +355,8 @@ impl Trials {
     ///
     /// - `$ WORDS`: a command line. `$$ FILES WORDS`: the same, and once more with each call failing, FILES with commas
     ///   between them. `usage WORDS`: one of wrong words.
-    /// - `~ put FILE FROM`, `~ replace FILE FROM`, `~ remove FILE`, `~ symlink FILE TO`, `~ lock FILE`, `~ unlock FILE`
-    ///   and then `$~ FILES WORDS`: a command line during which another program does that, before each call in turn. It
+    /// - `~ put FILE FROM`, `~ replace FILE FROM`, `~ remove FILE`, `~ symlink FILE TO`, `~ lock FILE`, `~ unlock FILE`,
+    ///   `~ move FILE FROM`, which makes another folder where the files stand, whose names are `elsewhere/FILE`, and then `$~ FILES WORDS`: a command line during which another program does that, before each call in turn. It
     ///   prints what stands under FILES then.
     /// - `fail LETTER KIND`: the first call of the next command line that has this letter fails so.
     /// - `< TEXT`: a line of its standard input. `key CODE`: one byte more of it. `<<`: what standard output took
@@ -363,7 +364,8 @@ impl Trials {
     /// - `> TEXT`, `] TEXT`, `! TEXT`, `? TEXT`: what standard output, the same without a line feed, standard error,
     ///   and the same without a line feed took.
     /// - `disk`: no files. `closed`: the folder takes no new name. `sticky`: nor does it let a user take away the files
-    ///   of another. `blind`: no path can be made whole. `user NUMBER`: whose program runs. `terminal on`, or `off`.
+    ///   of another. `blind`: no path can be made whole. `plain`: the system has no paths of open
+    ///   files. `user NUMBER`: whose program runs. `terminal on`, or `off`.
     /// - `hold`, `private`, `read-only`, `folder`: another program holds all files, they may not be read, or not be
     ///   written, or are folders; with a FILE behind it that one alone. `busy FILE`: no other can take its place.
     ///   `foreign FILE`: another program made it and has it open.
@@ -414,6 +416,7 @@ impl Trials {
             | "foreign"
             | "sticky"
             | "blind"
+            | "plain"
             | "user" => { self.set(word, rest) }
             "copy" | "poke" | "link" | "symlink" | "store" | "zeros" | "mode" | "owner" | "fail" =>
                 { self.change(word, first, second) }
@@ -450,7 +453,7 @@ impl Trials {
 
     /// Puts what is typed into a file.
     fn keep_typed(&mut self, path: &str) -> io::Result<bool> {
-        self.came.disk.put(self.alloc, path, self.typed.as_slice())?;
+        self.came.disk.put(path, self.typed.as_slice())?;
         self.typed.clear();
         Ok(true)
     }
@@ -480,7 +483,7 @@ impl Trials {
         };
         let mut copy = Vec::new(self.alloc);
         copy.extend_from_slice(part)?;
-        self.came.disk.put(self.alloc, to, copy.as_slice())?;
+        self.came.disk.put(to, copy.as_slice())?;
         Ok(true)
     }
 

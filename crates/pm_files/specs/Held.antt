@@ -1,5 +1,6 @@
--- What files hold, where a store tells it: under each path its bytes, or none.
-use Rattle.std.specs.Prelude.{◌≡◌, ◌≢◌, ℕ, List, ⊤, Option, None, Some}
+-- What files hold, where a store tells it: under each path its bytes, or none. And which of them are held, so that no
+-- other program writes them.
+use Rattle.std.specs.Prelude.{◌≡◌, ◌≢◌, ◌∷◌, ◌++◌, ℕ, List, [], ⊤, Option, None, Some}
 
 -- what each path holds, where it is known
 abbrev pub Files : Type 0
@@ -21,3 +22,12 @@ Puts (Some files) (Some after) path bytes = (after path ≡ Some bytes)
 abbrev pub Keeps : Files → Files → List ℕ → Option (List ℕ) → Type 0
 Keeps old new path None = new ≡ old
 Keeps old new path (Some bytes) = Puts old new path bytes
+
+-- the paths whose files are held, in the order in which they were taken, where they are known
+abbrev pub Locks : Type 0
+Locks = Option (List (List ℕ))
+
+-- the file of a path is held too
+abbrev pub held_too : List ℕ → Locks → Locks
+held_too path None = None
+held_too path (Some held) = Some (held ++ (path ∷ []))

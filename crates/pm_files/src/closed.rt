@@ -1,14 +1,30 @@
 //! Standard streams that were closed when the program started.
 use std::fs::{File, OpenOptions};
+use std::io;
 use std::os::fd::AsRawFd;
 
-/// The file that stands for a closed stream.
+/// What stands for a closed stream where it can be opened.
 const NOWHERE: &str = "/dev/null";
+
+/// What stands for it elsewhere: a folder, which is always there, and is neither read nor written.
+const ROOT: &str = "/";
+
+/// Opens it for writing alone, which cannot be read, or for reading alone.
+fn open(rt: &HostRuntime, writes: bool) -> io::Result<File> {
+    match OpenOptions::new()
+        .read(!writes)
+        .write(writes)
+        .open(rt, NOWHERE)
+    {
+        Ok(file) => Ok(file),
+        Err(_) => File::open(rt, ROOT),
+    }
+}
 
 /// Puts a file under the lowest number that is free, where that is one of a standard stream: standard input cannot be
 /// read then, and the others cannot be written, as if they were closed; but no other file gets that number.
 fn hold(rt: &HostRuntime) -> Option<File> {
-    let file = OpenOptions::new().write(true).open(rt, NOWHERE).ok()?;
+    let file = open(rt, true).ok()?;
     let number = file.as_raw_fd();
     if number == 0 {
         return Some(file);
@@ -17,7 +33,7 @@ fn hold(rt: &HostRuntime) -> Option<File> {
     if number > 2 {
         return None;
     }
-    File::open(rt, NOWHERE).ok()
+    open(rt, false).ok()
 }
 
 /// Sees to it that no file that is opened from here on takes the number of a standard stream that is closed, as long as

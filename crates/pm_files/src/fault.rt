@@ -18,7 +18,7 @@ pub enum DiskFault {
     Busy,
     /// The file cannot be written.
     Write(ErrorKind),
-    /// Another file has taken its place since it was read.
+    /// Its name leads to another file, or to none, since it was made ready to be written.
     Replaced,
     /// What stands beside the file, where the new one is to be made, cannot be taken away.
     InTheWay,
@@ -57,7 +57,7 @@ impl DiskFault {
             DiskFault::Read(kind) | DiskFault::Write(kind) => words(kind),
             DiskFault::TooLong => "more than 33554432 bytes",
             DiskFault::Busy => "another program is about to write it",
-            DiskFault::Replaced => "another program has replaced it",
+            DiskFault::Replaced => "another program has moved or replaced it",
             DiskFault::InTheWay =>
                 "it stands where the new file is to be made, and cannot be removed",
             DiskFault::NoMemory => "no memory",

@@ -26,7 +26,8 @@ pub(crate) fn read_file<F: Read>(alloc: Global, file: &mut F) -> Result<Vec<u8>,
 }
 
 /// Reads the image of a file, with no lock: a file that is replaced meanwhile is the old one or the new one, and
-/// never a mixture. `TooLong` for more than `IMAGE_LIMIT` bytes.
+/// never a mixture. One that is written in place meanwhile can be read as a mixture, without a word of it. `TooLong`
+/// for more than `IMAGE_LIMIT` bytes.
 pub(crate) fn read_image<R: Files>(
     rt: &R,
     alloc: Global,

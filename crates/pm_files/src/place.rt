@@ -20,7 +20,8 @@ pub(crate) struct Held<F> {
     pub(crate) file: F,
     /// Whether it is open for reading.
     reads: bool,
-    /// The path by which this file is opened once more, whatever its names are by then. `None`: the system has none such.
+    /// The path by which this file is opened once more, whatever its names are by then. `None`: the system has none
+    /// such.
     again: Option<String>,
 }
 
@@ -58,14 +59,6 @@ pub(crate) fn folder_of(path: &str) -> &str {
         Some(("", _)) => "/",
         Some((folder, _)) => folder,
         None => ".",
-    }
-}
-
-/// The name of a path in its folder.
-fn name_of(path: &str) -> &str {
-    match path.rsplit_once('/') {
-        Some((_, name)) => name,
-        None => path,
     }
 }
 
@@ -143,7 +136,10 @@ fn through<R: Host + AllocGlobal>(
     let Some(number) = by_number(rt, folder)? else {
         return Ok(String::from_str(rt.alloc(), path)?);
     };
-    let name = name_of(path);
+    let name = match path.rsplit_once('/') {
+        Some((_, name)) => name,
+        None => path,
+    };
     match format!(in rt.alloc(); "{number}/{name}") {
         Ok(path) => Ok(path),
         Err(_) => Err(DiskFault::NoMemory),
@@ -155,6 +151,17 @@ fn beside_of(alloc: Global, path: &str) -> Result<String, DiskFault> {
     match format!(in alloc; "{path}.pmach-new") {
         Ok(path) => Ok(path),
         Err(_) => Err(DiskFault::NoMemory),
+    }
+}
+
+/// The path of the new file for a path, behind all links; `None` where that cannot be found.
+pub(crate) fn new_path<R: Host + AllocGlobal>(
+    rt: &R,
+    name: &str,
+) -> Result<Option<String>, DiskFault> {
+    match resolved(rt, name)? {
+        Some(path) => Ok(Some(beside_of(rt.alloc(), path.as_str())?)),
+        None => Ok(None),
     }
 }
 
@@ -190,7 +197,8 @@ fn spot_of<R: Host + AllocGlobal>(
     }))
 }
 
-/// Opens a file that is going to be locked: for reading, or for writing where it may not be read. Whether it can be read.
+/// Opens a file that is going to be locked: for reading, or for writing where it may not be read. Whether it can be
+/// read.
 fn opened<R: Files>(rt: &R, path: &str) -> io::Result<(R::File, bool)> {
     match File::open(rt, path) {
         Ok(file) => Ok((file, true)),
@@ -277,14 +285,6 @@ impl<F> WritePath<F> {
         }
     }
 
-    /// The file that is to be locked, if it is a regular one.
-    fn lockable(&self) -> Option<Node> {
-        match self.was {
-            Ok(Some(node)) if node.is_file() => Some(node),
-            _ => None,
-        }
-    }
-
     /// Whether an open file is the one that this was made for, and the name, and the path behind all links, still lead
     /// to it.
     fn leads_to<R: Host<File = F>>(&self, rt: &R, was: Node, file: &F) -> Result<bool, DiskFault> {
@@ -306,8 +306,9 @@ impl<F> WritePath<F> {
     ) -> Result<WritePath<F>, DiskFault> {
         for _ in 0..OPENINGS {
             let mut place = WritePath::new(rt, name)?;
-            let Some(was) = place.lockable() else {
-                return Ok(place);
+            let was = match place.was {
+                Ok(Some(was)) if was.is_file() => was,
+                _ => return Ok(place),
             };
             let held = match locked(rt, place.found())? {
                 Some(held) => held,

@@ -135,21 +135,16 @@ fn make_beside<R: Host>(rt: &R, spot: &Spot<R::File>, mode: u32) -> Result<R::Fi
     Err(DiskFault::InTheWay)
 }
 
-/// Gives a new file the owner and the mode of another.
-fn dress<R: Host>(rt: &R, file: &R::File, old: Node) -> io::Result<()> {
+/// Gives a new file the owner and the mode of the old one, if there is one.
+fn dress<R: Host>(rt: &R, file: &R::File, old: Option<Node>) -> io::Result<()> {
+    let Some(old) = old else {
+        return Ok(());
+    };
     let new = rt.node(file)?;
     if new.owner != old.owner || new.group != old.group {
         rt.set_owner(file, old.owner, old.group)?;
     }
     file.set_permissions(Permissions::from_mode(old.mode))
-}
-
-/// Whether a new file has what it is to have of the old one, if there is one.
-fn is_dressed<R: Host>(rt: &R, file: &R::File, old: Option<Node>) -> bool {
-    match old {
-        Some(old) => dress(rt, file, old).is_ok(),
-        None => true,
-    }
 }
 
 /// Fills a new file, to the disk.
@@ -264,7 +259,7 @@ fn put_made<R: Host>(
     old: Option<Node>,
     bytes: &[u8],
 ) -> Result<Came, DiskFault> {
-    if !is_dressed(rt, file, old) {
+    if dress(rt, file, old).is_err() {
         return Ok(Came::Unfit);
     }
     fill(file, bytes).map_err(DiskFault::of_write)?;
@@ -409,8 +404,8 @@ fn write_old<R: Host>(
 
 /// Makes the bytes those of a file: at each moment it has its old bytes or these. But they are written over the old
 /// ones where the file is no regular one, has other names, or stands in a folder that takes no new file like it; where
-/// that fails half way it is a mixture. No memory is wanted. What was not there when the place was made is made new, and
-/// what was is `Replaced`, and not opened, where its name leads to another file, or to none, by now.
+/// that fails half way it is a mixture. No memory is wanted. What was not there when the place was made is made new,
+/// and what was is `Replaced`, and not opened, where its name leads to another file, or to none, by now.
 pub(crate) fn replace<R: Host>(
     rt: &R,
     place: &WritePath<R::File>,

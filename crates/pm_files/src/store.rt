@@ -1,11 +1,11 @@
 //! Files as the program sees them: which bytes stand under which path.
 ghost use Rattle.std.specs.Prelude.{◌≡◌, ℕ, Bool, List, Option, None, IfOk, IfSome, OnOk, OnErr};
-ghost use Rattle.pm_files.specs.Held.{HoldsFile, Puts};
+ghost use Rattle.pm_files.specs.Held.{HoldsFile, Puts, held_too};
 
 use crate::fault::DiskFault;
 use crate::host::Host;
 use crate::image::read_image;
-use crate::place::WritePath;
+use crate::place::{WritePath, new_path};
 use crate::replacing::replace;
 use std::alloc::Global;
 use std::fs;
@@ -18,31 +18,46 @@ pub trait Store {
     /// Which paths name one file, where it is known.
     ghost same: { Self → Option (List ℕ → List ℕ → Bool) };
 
+    /// At which paths a file is made on the way to writing that of another path, where it is known.
+    ghost beside: { Self → Option (List ℕ → List ℕ → Bool) };
+
     /// Which paths name a folder, where it is known.
     ghost folders: { Self → Option (List ℕ → Bool) };
+
+    /// The paths whose files are held, in the order in which they were taken, where they are known.
+    ghost held: { Self → Option (List (List ℕ)) };
 
     /// Reads a file of at most `IMAGE_LIMIT` bytes.
     fn read(&mut self, alloc: Global, path: &str) -> Result<Vec<u8>, DiskFault>
         ensures stays { files self.new ≡ files self.old }
+        ensures held { held self.new ≡ held self.old }
         ensures value { IfOk result (λ image. HoldsFile (files self.old) path.now image.items) };
 
     /// Takes all memory that writing a file wants.
     fn prepare(&mut self, path: &str) -> Result<(), DiskFault>
-        ensures stays { files self.new ≡ files self.old };
+        ensures stays { files self.new ≡ files self.old }
+        ensures held { held self.new ≡ held self.old };
 
     /// Prepares a file, and keeps all other programs from writing it as long as the store is there. `Busy` where
     /// another one has it.
     fn hold(&mut self, path: &str) -> Result<(), DiskFault>
-        ensures stays { files self.new ≡ files self.old };
+        ensures stays { files self.new ≡ files self.old }
+        ensures held { OnOk result (held self.new ≡ held_too path.now (held self.old)) };
 
     /// Makes the bytes those of a file. Where that fails, no file has changed.
     fn put(&mut self, path: &str, bytes: &[u8]) -> Result<(), DiskFault>
         ensures puts { OnOk result (Puts (files self.old) (files self.new) path.now bytes.now) }
+        ensures held { held self.new ≡ held self.old }
         ensures stays { OnErr result (files self.new ≡ files self.old) };
 
     /// Whether two paths name one file.
     fn is_same(&self, one: &str, other: &str) -> bool
         ensures value { IfSome (same self.now) (λ same. result ≡ same one.now other.now) };
+
+    /// Whether the file of the second path would be taken away on the way to writing that of the first: it stands where
+    /// the new file is made.
+    fn is_beside(&self, path: &str, other: &str) -> bool
+        ensures value { IfSome (beside self.now) (λ beside. result ≡ beside path.now other.now) };
 
     /// Whether a path names a folder.
     fn is_folder(&self, path: &str) -> bool
@@ -132,7 +147,11 @@ impl<R: Host + AllocGlobal> Store for HostStore<'_, R> {
 
     ghost same = { λ _. None };
 
+    ghost beside = { λ _. None };
+
     ghost folders = { λ _. None };
+
+    ghost held = { λ _. None };
 
     fn read(&mut self, alloc: Global, path: &str) -> Result<Vec<u8>, DiskFault> {
         let done = self.read_path(alloc, path);
@@ -160,6 +179,13 @@ impl<R: Host + AllocGlobal> Store for HostStore<'_, R> {
 
     fn is_same(&self, one: &str, other: &str) -> bool {
         self.rt.is_same(one, other)
+    }
+
+    fn is_beside(&self, path: &str, other: &str) -> bool {
+        match new_path(self.rt, path) {
+            Ok(Some(new)) => self.rt.is_same(new.as_str(), other),
+            _ => false,
+        }
     }
 
     fn is_folder(&self, path: &str) -> bool {

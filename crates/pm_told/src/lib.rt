@@ -1,7 +1,7 @@
 //! Stores of one file and of two in memory, of which a contract knows what they hold.
 #![tactic(auto)]
 
-ghost use Rattle.std.specs.Prelude.{◌≡◌, IfOk, Some, false, option_map, string_bytes, vec_items};
+ghost use Rattle.std.specs.Prelude.{◌≡◌, IfOk, None, Some, false, map, option_map, string_bytes, vec_items};
 ghost use Rattle.std.specs.Str.{bytes_eq};
 ghost use Rattle.pm_told.specs.Told.{told, told_first};
 
@@ -36,7 +36,11 @@ impl Store for OneFile {
 
     ghost same = { λ _. Some (λ one other. bytes_eq one other) };
 
+    ghost beside = { λ _. Some (λ _ _. false) };
+
     ghost folders = { λ _. Some (λ _. false) };
+
+    ghost held = { λ _. None };
 
     fn read(&mut self, alloc: Global, path: &str) -> Result<Vec<u8>, DiskFault> {
         if self.path.as_str() != path {
@@ -67,17 +71,23 @@ impl Store for OneFile {
         one == other
     }
 
+    fn is_beside(&self, _path: &str, _other: &str) -> bool {
+        false
+    }
+
     fn is_folder(&self, _path: &str) -> bool {
         false
     }
 }
 
 /// Two paths, and the bytes of the files that they name, if there are any. Where both are one path, the first file has
-/// it.
+/// it. It tells which paths are held.
 #[derive(Drop)]
 pub struct TwoFiles {
     pub first: OneFile,
     pub second: OneFile,
+    /// The paths that are held, in the order in which they were taken.
+    pub held: Vec<String>,
     pub alloc: Global,
 }
 
@@ -87,7 +97,11 @@ impl Store for TwoFiles {
 
     ghost same = { λ _. Some (λ one other. bytes_eq one other) };
 
+    ghost beside = { λ _. Some (λ _ _. false) };
+
     ghost folders = { λ _. Some (λ _. false) };
+
+    ghost held = { λ s. Some (map string_bytes s.held.items) };
 
     fn read(&mut self, alloc: Global, path: &str) -> Result<Vec<u8>, DiskFault> {
         if self.first.path.as_str() == path {
@@ -103,8 +117,13 @@ impl Store for TwoFiles {
         Ok(())
     }
 
-    fn hold(&mut self, _path: &str) -> Result<(), DiskFault> {
-        Ok(())
+    #[tactic(auto, using(std::proofs::lemmas::List::map_push))]
+    fn hold(&mut self, path: &str) -> Result<(), DiskFault> {
+        let path = String::from_str(self.alloc, path)?;
+        match self.held.push(path) {
+            Ok(()) => Ok(()),
+            Err(_) => Err(DiskFault::NoMemory),
+        }
     }
 
     fn put(&mut self, path: &str, bytes: &[u8]) -> Result<(), DiskFault> {
@@ -123,6 +142,10 @@ impl Store for TwoFiles {
 
     fn is_same(&self, one: &str, other: &str) -> bool {
         one == other
+    }
+
+    fn is_beside(&self, _path: &str, _other: &str) -> bool {
+        false
     }
 
     fn is_folder(&self, _path: &str) -> bool {

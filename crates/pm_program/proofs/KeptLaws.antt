@@ -1,15 +1,19 @@
 -- What a verb of `files` keeps is what its job says.
-use Rattle.std.proofs.Common.{◌≡◌, ◌∷◌, [], ℕ, List, Option, None, Some, Result, Ok, Err, OnOk, OnErr, inr}
+use Rattle.std.proofs.Common.{◌≡◌, ◌∙◌, ◌∷◌, [], ℕ, Bool, true, false, List, Option, None, Some, Result, Ok, Err}
+use Rattle.std.proofs.Common.{OnOk, OnErr, inl, inr}
 use Rattle.std.proofs.Common.{refl, sym, subst, IfOk, IfSome, option_map, vec_items, string_bytes, Vec}
 use Rattle.std.specs.Result.{result_and}
 use Rattle.std.specs.declared.alloc.Global.{Global}
 use Rattle.pm_files.specs.Held.{Files, HoldsFile, Keeps, Puts}
-use Rattle.pm_tool.specs.Outcomes.{Said, IsOutcome, no_others}
+use Rattle.pm_tool.specs.Outcomes.{Said, IsOutcome, is_sound_exit, no_others, others_of}
 use Rattle.pm_streams.specs.Streams.{Streams}
-use Rattle.pm_tool.specs.Said.{job_said, Tells, TellsAll}
+use Rattle.pm_tool.specs.Said.{job_said, IsCutShort, IsSoundExit, Tells, TellsAll}
+use Rattle.pm_tool.specs.declared.outcome.Exit.{Exit}
+use Rattle.pm_tool.specs.declared.outcome.Exit.TheVariants as exits
 use Rattle.pm_tool.specs.declared.outcome.Job.{Job}
 use Rattle.pm_tool.specs.declared.outcome.Outcome.{Outcome}
-use Rattle.pm_program.specs.Kept.{KeepsEach, KeepsFront, KeepsRun, KeepsRunSaid, KeepsSaid, KeepsSalvage, KeepsTold, PrintsIf, Reads}
+use Rattle.pm_program.specs.Kept.{KeepsEach, KeepsFront, KeepsFrontSaid, KeepsRun, KeepsRunSaid, KeepsSaid, KeepsSalvage}
+use Rattle.pm_program.specs.Kept.{KeepsTold, PrintsIf, Reads, images_said}
 use Rattle.pm_program.specs.Kept.{ReadsEach, SaysOf, TellsOf, first_image, has_run, kept_paths, next_images, paths_of}
 use Rattle.pm_program.specs.declared.kept.KeptOfRun.{KeptOfRun}
 use Rattle.pm_selection.specs.declared.saving.Saving.{Saving}
@@ -21,6 +25,12 @@ use Rattle.pm_program.specs.declared.kept.Printing.{Printing}
 use Rattle.pm_plan.specs.declared.file_words.SalvagePlan.{SalvagePlan}
 use Rattle.pm_plan.specs.declared.file_words.Verb.{Verb}
 use Rattle.pm_plan.specs.declared.file_words.Verb.TheVariants as verbs
+
+-- there is no image among them
+abbrev AreNone : List (Option (List ℕ)) → Type 0
+AreNone [] = Unit {0}
+AreNone (None ∷ images) = AreNone images
+AreNone (Some image ∷ images) = ⊥
 
 keeps_said : (old new : Files) (path : List ℕ) (verb : Verb) (job : Job) (input : List ℕ) → SaysOf old path verb job
     → Keeps old new path (job_said job input).image → KeepsSaid old new path verb input
@@ -61,16 +71,16 @@ each_alone old new path image others keeps =
 
 -- what is kept of some images is a front of what may be
 each_front : (old new : Files) (paths images : List (Option (List ℕ))) → KeepsEach old new paths images
-    → KeepsFront old new paths
+    → KeepsFront old new paths images
 each_front old new [] images keeps = keeps
 each_front old new (path ∷ paths) images keeps =
-    inr (keeps.0, first_image images, keeps.1, each_front keeps.0 new paths (next_images images) keeps.2)
+    inr (keeps.0, keeps.1, each_front keeps.0 new paths (next_images images) keeps.2)
 
 -- where the printer's bytes are not kept the images are
 pub printer_front : (old new last : Files) (paths images : List (Option (List ℕ))) → KeepsEach old new paths images
-    → last ≡ new → KeepsFront old last paths
+    → last ≡ new → KeepsFront old last paths images
 printer_front old new last paths images keeps stays =
-    subst (λ files. KeepsFront old files paths) (sym stays) (each_front old new paths images keeps)
+    subst (λ files. KeepsFront old files paths images) (sym stays) (each_front old new paths images keeps)
 
 -- what follows where a result is good, or an error
 pub where_ok : {X Y A B : Type 0} (r : Result X Y) → (A → B) → OnOk r A → OnOk r B
@@ -97,6 +107,14 @@ run_told old new paths printing outcome told is keeps = (
   subst (PrintsIf (has_run told.exit) keeps.0 new printing) is.printer
       (subst (λ exit. PrintsIf (has_run exit) keeps.0 new printing outcome.printer.items) is.exit keeps.2),
 )
+
+-- a front of the images of an outcome is one of those that are said
+said_front : (old new : Files) (paths : List (Option (List ℕ))) (outcome : Outcome) (told : Said)
+    → IsOutcome outcome told → KeepsFront old new paths (option_map vec_items outcome.image ∷ others_of outcome.others)
+    → KeepsFront old new paths (images_said told)
+said_front old new paths outcome told is keeps =
+    subst (λ image. KeepsFront old new paths (image ∷ told.others)) is.image
+    (subst (λ others. KeepsFront old new paths (option_map vec_items outcome.image ∷ others)) is.others keeps)
 
 -- what is kept of the files that were read is kept of those that they are as before
 pub run_keeps : (old read new : Files) (to disk : List ℕ) (others : Others) (kept : KeptOfRun) (outcome : Outcome)
@@ -128,6 +146,106 @@ known_run_said before after old new program kept disks system outcome tells read
       given,
       run_told old new (kept_paths kept.saving (string_bytes program.disk) program.others) kept.printing outcome _ told.comes_to keeps,
     )
+
+-- of no images nothing is kept
+each_none : (old new : Files) (paths images : List (Option (List ℕ))) → AreNone images → KeepsEach old new paths images
+    → new ≡ old
+each_none old new [] images none keeps = keeps
+each_none old new (None ∷ paths) [] none keeps = each_none keeps.0 new paths [] tt keeps.2 ∙ keeps.1
+each_none old new (Some path ∷ paths) [] none keeps = each_none keeps.0 new paths [] tt keeps.2 ∙ keeps.1
+each_none old new (None ∷ paths) (None ∷ images) none keeps = each_none keeps.0 new paths images none keeps.2 ∙ keeps.1
+each_none old new (Some path ∷ paths) (None ∷ images) none keeps =
+    each_none keeps.0 new paths images none keeps.2 ∙ keeps.1
+each_none old new (path ∷ paths) (Some image ∷ images) none keeps = absurd none
+
+-- a program that was cut short has not run
+not_run : (exit : Exit) → IsCutShort exit → has_run exit ≡ false
+not_run exits.Ended cut = absurd (cc)
+not_run exits.Usage cut = refl
+not_run exits.Refused cut = refl
+not_run exits.ExecutionError cut = absurd (cc)
+not_run exits.ReadFault cut = refl
+not_run exits.WriteFault cut = refl
+not_run exits.NoMemory cut = refl
+not_run exits.Stopped cut = absurd (cc)
+
+-- of a run that was cut short nothing is kept
+pub cut_run : (old new : Files) (paths : List (Option (List ℕ))) (printing : Printing) (outcome : Outcome)
+    → IsCutShort outcome.exit → outcome.image ≡ None → others_of outcome.others ≡ no_others
+    → KeepsRun old new paths printing outcome → new ≡ old
+cut_run old new paths printing outcome cut image others keeps =
+    subst (λ runs. PrintsIf runs keeps.0 new printing outcome.printer.items) (not_run outcome.exit cut) keeps.2
+    ∙ each_none old keeps.0 paths (None ∷ no_others) tt
+    (subst (λ image. KeepsEach old keeps.0 paths (option_map vec_items image ∷ no_others)) image
+    (subst (λ others. KeepsEach old keeps.0 paths (option_map vec_items outcome.image ∷ others)) others keeps.1))
+
+-- what is known behind an error
+pub and_err : {A B E : Type 0} (P : Type 0) (r : Result A E) (x : B) → OnErr r P → OnErr (result_and r (Ok x)) P
+and_err P (Ok a) x p = tt
+and_err P (Err e) x p = p
+
+-- a front of what is kept, over the files that were read, is one over those that they are as before
+pub front_from : (old read new : Files) (to disk : List ℕ) (others : Others) (saving : Saving)
+    (images : List (Option (List ℕ))) → read ≡ old → to ≡ disk → KeepsFront read new (kept_paths saving to others) images
+    → KeepsFront old new (kept_paths saving disk others) images
+front_from old read new to disk others saving images same is keeps =
+    subst (λ files. KeepsFront files new (kept_paths saving disk others) images) same
+    (subst (λ path. KeepsFront read new (kept_paths saving path others) images) is keeps)
+
+-- a front of no images is none
+front_none : (old new : Files) (paths images : List (Option (List ℕ))) → AreNone images
+    → KeepsFront old new paths images → new ≡ old
+front_none old new [] images none keeps = keeps
+front_none old new (path ∷ paths) images none (inl same) = same
+front_none old new (None ∷ paths) [] none (inr keeps) = front_none keeps.0 new paths [] tt keeps.2 ∙ keeps.1
+front_none old new (Some path ∷ paths) [] none (inr keeps) = front_none keeps.0 new paths [] tt keeps.2 ∙ keeps.1
+front_none old new (None ∷ paths) (None ∷ images) none (inr keeps) =
+    front_none keeps.0 new paths images none keeps.2 ∙ keeps.1
+front_none old new (Some path ∷ paths) (None ∷ images) none (inr keeps) =
+    front_none keeps.0 new paths images none keeps.2 ∙ keeps.1
+front_none old new (path ∷ paths) (Some image ∷ images) none (inr keeps) = absurd none
+
+-- where the input is known, the first of the images are those that are said to it of the images that were read
+pub known_front_said : (before after : Streams) (old new : Files) (program : Program) (kept : KeptOfRun)
+    (disks : List (Option (Vec ℕ Global))) (system : Option (Vec ℕ Global)) (outcome : Outcome)
+    → (IsSoundExit outcome.exit
+    → TellsAll before after outcome (job_said (jobs.Run disks program.name program.limit kept.saving system)))
+    → (IsCutShort outcome.exit
+    → (outcome.image ≡ None) × (others_of outcome.others ≡ no_others) × (outcome.printer.items ≡ []))
+    → ReadsEach old (paths_of (string_bytes program.disk) program.others) (images_of disks)
+    → Reads old (option_map string_bytes program.system) (option_map vec_items system)
+    → KeepsFront old new (kept_paths kept.saving (string_bytes program.disk) program.others)
+    (option_map vec_items outcome.image ∷ others_of outcome.others)
+    → IfSome before.source.remaining (λ input. KeepsFrontSaid old new program kept input)
+known_front_said before after old new program kept disks system outcome tells nothing reads given keeps =
+    known before.source.remaining (is_sound_exit outcome.exit) refl tells
+  where
+    known : (had : Option (List ℕ)) (sound : Bool) → is_sound_exit outcome.exit ≡ sound
+        → (IsSoundExit outcome.exit → IfSome had (λ input.
+        Tells before after outcome (job_said (jobs.Run disks program.name program.limit kept.saving system) input)))
+        → IfSome had (λ input. KeepsFrontSaid old new program kept input)
+    known None sound is told = tt
+    known (Some input) true is told =
+        inr (
+          disks,
+          system,
+          reads,
+          given,
+          said_front old new
+              (kept_paths kept.saving (string_bytes program.disk) program.others) outcome _ (told is).comes_to keeps,
+        )
+    known (Some input) false is told =
+        inl (front_none old new (kept_paths kept.saving (string_bytes program.disk) program.others) (None ∷ no_others) tt
+        (subst (λ image. KeepsFront old new (kept_paths kept.saving (string_bytes program.disk) program.others)
+        (option_map vec_items image ∷ no_others)) (nothing is).0
+        (subst (λ others. KeepsFront old new (kept_paths kept.saving (string_bytes program.disk) program.others)
+        (option_map vec_items outcome.image ∷ others)) (nothing is).1 keeps)))
+
+-- where the files cannot be read nothing has changed
+pub known_front_none : (had : Option (List ℕ)) (old new : Files) (program : Program) (kept : KeptOfRun) → new ≡ old
+    → IfSome had (λ input. KeepsFrontSaid old new program kept input)
+known_front_none None old new program kept same = tt
+known_front_none (Some input) old new program kept same = inl same
 
 -- where the input is known, a job tells what is said to it of the images that were read
 pub known_tells : (job : List (Option (Vec ℕ Global)) → Option (Vec ℕ Global) → Job) (old new : Streams) (files : Files)

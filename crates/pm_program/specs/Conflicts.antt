@@ -1,4 +1,5 @@
--- When the paths of a run do not go together. `same` says which paths name one file, `folders` which name a folder.
+-- When the paths of a run do not go together. `same` says which paths name one file, `folders` which name a folder, and
+-- `beside` which file is taken away where that of another path is written.
 use Rattle.std.specs.Prelude.{ℕ, Bool, true, false, ◌&&◌, ◌||◌, List, [], ◌∷◌, String, Option, None, Some}
 use Rattle.std.specs.Prelude.{option_map, string_bytes}
 use Rattle.std.specs.Prelude.{if◌then◌else◌}
@@ -71,10 +72,41 @@ abbrev pub other_paths : Others → List (Option (List ℕ))
 other_paths others = option_map string_bytes others.d5 ∷ option_map string_bytes others.d9
     ∷ option_map string_bytes others.d10 ∷ option_map string_bytes others.d11 ∷ option_map string_bytes others.d12 ∷ []
 
--- the first thing that is wrong: an image that is to be saved is that of two units; else the printer's path
-abbrev pub conflict_of : (List ℕ → List ℕ → Bool) → (List ℕ → Bool) → Program → Keeping → Option Conflict
-conflict_of same folders program keeping =
+-- what is wrong, or else that a file would be taken away
+abbrev pub or_taken_away : Option Conflict → Bool → Option Conflict
+or_taken_away (Some conflict) taken = Some conflict
+or_taken_away None true = Some conflicts.FileInTheWay
+or_taken_away None false = None
+
+-- a file that is written, if there is one, would take away one of the run: an image, the system's code file or the
+-- printer's file
+abbrev pub takes_away : (List ℕ → List ℕ → Bool) → Option (List ℕ) → Program → Option (List ℕ) → Bool
+takes_away beside None program printer = false
+takes_away beside (Some path) program printer = names_image beside path (Some (string_bytes program.disk))
+    || (is_other beside path program.others
+    || (names_image beside path (option_map string_bytes program.system) || names_image beside path printer))
+
+-- an image on another unit than 4 would do so
+abbrev pub others_take_away : (List ℕ → List ℕ → Bool) → Program → Option (List ℕ) → Bool
+others_take_away beside p printer = takes_away beside (option_map string_bytes p.others.d5) p printer
+    || (takes_away beside (option_map string_bytes p.others.d9) p printer
+    || (takes_away beside (option_map string_bytes p.others.d10) p printer
+    || (takes_away beside (option_map string_bytes p.others.d11) p printer
+    || takes_away beside (option_map string_bytes p.others.d12) p printer)))
+
+-- one of the files that are written would do so
+abbrev pub is_taken_away : (List ℕ → List ℕ → Bool) → Program → Saving → Option (List ℕ) → Bool
+is_taken_away beside program saving printer =
+    (is_saved saving && takes_away beside (Some (string_bytes program.disk)) program printer)
+    || ((are_all_saved saving && others_take_away beside program printer) || takes_away beside printer program printer)
+
+-- the first thing that is wrong: an image that is to be saved is that of two units; else the printer's path; else a
+-- file would be taken away
+abbrev pub conflict_of : (List ℕ → List ℕ → Bool) → (List ℕ → List ℕ → Bool) → (List ℕ → Bool) → Program → Keeping
+    → Option Conflict
+conflict_of same beside folders program keeping =
     if is_saved keeping.saving && is_other same (string_bytes program.disk) program.others
     then Some conflicts.SavedTwice
     else if are_all_saved keeping.saving && are_shared same program.others then Some conflicts.SavedTwice
-    else printer_conflict same folders program (option_map string_bytes keeping.printer)
+    else or_taken_away (printer_conflict same folders program (option_map string_bytes keeping.printer))
+    (is_taken_away beside program keeping.saving (option_map string_bytes keeping.printer))

@@ -2,7 +2,7 @@
 use Rattle.std.specs.Prelude.{◌≡◌, ◌⊎◌, ⊤, ℕ, Bool, true, false, List, [], ◌∷◌}
 use Rattle.std.specs.Prelude.{Option, None, Some, Vec, option_map, vec_items, string_bytes}
 use Rattle.std.specs.declared.alloc.Global.{Global}
-use Rattle.pm_files.specs.Held.{Files, HoldsFile, Keeps, Puts}
+use Rattle.pm_files.specs.Held.{Files, HoldsFile, Keeps, Locks, Puts, held_too}
 use Rattle.pm_filer.specs.Filed.{Order, ListFiles, Get, Put, Remove, Change, GetText}
 use Rattle.pm_filer.specs.Filed.{PutText, Krunch, Date, Zero, Duplicate, Single, GetSlot, GetTextSlot}
 use Rattle.pm_filer.specs.Filed.{RemoveSlot, ChangeSlot, order_of}
@@ -62,6 +62,22 @@ kept_paths savings.Nothing disk others = Some disk ∷ no_others
 kept_paths savings.First disk others = Some disk ∷ no_others
 kept_paths savings.All disk others = paths_of disk others
 
+-- the paths whose files a run holds before it reads them: those of the images that it may write
+abbrev pub held_paths : Saving → List ℕ → Others → List (Option (List ℕ))
+held_paths savings.Nothing disk others = []
+held_paths savings.First disk others = Some disk ∷ []
+held_paths savings.All disk others = paths_of disk others
+
+-- the file of a path, if there is one, is held too
+abbrev pub held_at : Option (List ℕ) → Locks → Locks
+held_at None held = held
+held_at (Some path) held = held_too path held
+
+-- the files of the paths are held too, one behind the other
+abbrev pub held_each : List (Option (List ℕ)) → Locks → Locks
+held_each [] held = held
+held_each (path ∷ paths) held = held_each paths (held_at path held)
+
 -- an image, if there is one, is kept under a path, if there is one
 abbrev pub KeepsAt : Files → Files → Option (List ℕ) → Option (List ℕ) → Type 0
 KeepsAt old new None image = new ≡ old
@@ -108,18 +124,27 @@ may_change (GetTextSlot slot) = false
 may_change (RemoveSlot slot) = true
 may_change (ChangeSlot slot new) = true
 
--- a verb takes the lock of its file before it reads it: each that may write the file
+-- a verb holds its file before it reads it: each that may write the file
 abbrev pub takes_lock : Verb → Bool
 takes_lock (verbs.Command command) = may_change (order_of command)
 takes_lock (verbs.New name blocks) = true
 takes_lock verbs.Repair = true
 takes_lock verbs.Check = false
 
--- the first of some paths, as many as may be, have new images, and nothing else has changed
-abbrev pub KeepsFront : Files → Files → List (Option (List ℕ)) → Type 0
-KeepsFront old new [] = new ≡ old
-KeepsFront old new (path ∷ paths) = (new ≡ old) ⊎ ((between : Files) × (image : Option (List ℕ))
-    × KeepsAt old between path image × KeepsFront between new paths)
+-- what is held behind a verb: its file too, where it takes the lock
+abbrev pub held_by : Bool → List ℕ → Locks → Locks
+held_by true path held = held_too path held
+held_by false path held = held
+
+-- images are kept under the first of their paths, as many as may be, and nothing else has changed
+abbrev pub KeepsFront : Files → Files → List (Option (List ℕ)) → List (Option (List ℕ)) → Type 0
+KeepsFront old new [] images = new ≡ old
+KeepsFront old new (path ∷ paths) images = (new ≡ old) ⊎ ((between : Files)
+    × KeepsAt old between path (first_image images) × KeepsFront between new paths (next_images images))
+
+-- the same of any images
+abbrev pub KeepsSome : Files → Files → List (Option (List ℕ)) → Type 0
+KeepsSome old new paths = (images : List (Option (List ℕ))) × KeepsFront old new paths images
 
 -- A verb of `files` is told to the image that the path holds and to the input: then the file keeps the image that is
 -- said of them, if one is, and nothing else has changed. A new volume is told to the input alone.
@@ -158,6 +183,10 @@ ReadsEach files [] (image ∷ images) = ⊥
 ReadsEach files (path ∷ paths) [] = ⊥
 ReadsEach files (path ∷ paths) (image ∷ images) = Reads files path image × ReadsEach files paths images
 
+-- the images that are said, in the order of their units
+abbrev pub images_said : Said → List (Option (List ℕ))
+images_said told = told.image ∷ told.others
+
 -- first the images that are said, in the order of their units, under their paths, and then the printer's bytes, if the
 -- program has run; nothing else has changed
 abbrev pub KeepsTold : Files → Files → List (Option (List ℕ)) → Printing → Said → Type 0
@@ -173,6 +202,16 @@ KeepsRunSaid old new program kept input = (disks : List (Option (Vec ℕ Global)
     × Reads old (option_map string_bytes program.system) (option_map vec_items system)
     × KeepsTold old new (kept_paths kept.saving (string_bytes program.disk) program.others) kept.printing
     (job_said (jobs.Run disks program.name program.limit kept.saving system) input)
+
+-- The files cannot all be written, or not be read: nothing has changed, or the images that are said of those that the
+-- paths hold, and of the input, are kept under the first of the paths, in their order.
+abbrev pub KeepsFrontSaid : Files → Files → Program → KeptOfRun → List ℕ → Type 0
+KeepsFrontSaid old new program kept input = (new ≡ old) ⊎ ((disks : List (Option (Vec ℕ Global)))
+    × (system : Option (Vec ℕ Global))
+    × ReadsEach old (paths_of (string_bytes program.disk) program.others) (images_of disks)
+    × Reads old (option_map string_bytes program.system) (option_map vec_items system)
+    × KeepsFront old new (kept_paths kept.saving (string_bytes program.disk) program.others)
+    (images_said (job_said (jobs.Run disks program.name program.limit kept.saving system) input)))
 
 -- A job of a program on the images that its paths hold, each on its unit, with the system's code file that its path
 -- holds, if it has one: what is written, answered and left unread is what is said of them and of the input.

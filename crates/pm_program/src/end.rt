@@ -13,6 +13,8 @@ pub enum Conflict {
     PrinterIsSystem,
     /// The printer's bytes would go to a folder.
     PrinterIsFolder,
+    /// A file of the job stands where the new file for another is made.
+    FileInTheWay,
     /// A new volume would take the place of a file.
     TargetIsThere,
 }
@@ -25,6 +27,8 @@ impl Conflict {
             Conflict::PrinterIsImage => "error: the path behind --printer is that of an image",
             Conflict::PrinterIsSystem => "error: the path behind --printer is that behind --system",
             Conflict::PrinterIsFolder => "error: the path behind --printer is that of a folder",
+            Conflict::FileInTheWay =>
+                "error: a path is that of another with .pmach-new, which is taken away where that is written",
             Conflict::TargetIsThere => "error: the path of the new volume is that of a file",
         }
     }

@@ -1,7 +1,7 @@
 //! The whole program, over any runtime.
 use crate::end::End;
 use crate::follow::follow;
-use crate::say::{Manner, say};
+use crate::say::{Manner, PlainLines, say};
 use pm_files::{DiskFault, Host, Stream};
 use pm_plan::{WordsError, plan_of};
 use pm_tool::Exit;
@@ -17,8 +17,16 @@ fn exit_of(error: &WordsError) -> Exit {
     }
 }
 
+/// Says what is wrong with the words. They are repeated as they are, but for what would act on a terminal.
+fn tell<R: Host + Eprint + AllocGlobal>(rt: &R, error: &WordsError) {
+    let _ = match format!(in rt.alloc(); "{error}") {
+        Ok(text) if rt.is_terminal(Stream::Error) => eprint!(rt; "{}", PlainLines(text.as_str())),
+        _ => eprint!(rt; "{error}"),
+    };
+}
+
 /// Says why the words are no job, or the version. The status.
-fn refuse<R: Host + Print + Eprint>(rt: &R, error: &WordsError) -> u8 {
+fn refuse<R: Host + Print + Eprint + AllocGlobal>(rt: &R, error: &WordsError) -> u8 {
     if let WordsError::Version(_) = error {
         return match print!(rt; "{error}") {
             Ok(()) => Exit::Ended.number(),
@@ -33,7 +41,7 @@ fn refuse<R: Host + Print + Eprint>(rt: &R, error: &WordsError) -> u8 {
             }
         };
     }
-    let _ = eprint!(rt; "{error}");
+    tell(rt, error);
     exit_of(error).number()
 }
 

@@ -1,8 +1,9 @@
 //! A plan is followed: its streams, its files, its job.
-ghost use Rattle.std.specs.Prelude.{◌≡◌, IfSome, option_map, string_bytes};
+ghost use Rattle.std.specs.Prelude.{◌≡◌, IfSome, Some, option_map, string_bytes};
 ghost use Rattle.pm_streams.specs.Streams.{AreWell, both};
-ghost use Rattle.pm_program.specs.Conflicts.{are_shared, conflict_of, is_other, names_image, printer_conflict};
-ghost use Rattle.pm_program.specs.Conflicts.{shares, shares_fifth, shares_last, shares_ninth};
+ghost use Rattle.pm_program.specs.Conflicts.{are_shared, conflict_of, is_other, is_taken_away, names_image};
+ghost use Rattle.pm_program.specs.Conflicts.{others_take_away, printer_conflict, shares, shares_fifth, shares_last};
+ghost use Rattle.pm_program.specs.Conflicts.{shares_ninth, takes_away};
 
 use crate::about::{Disks, about, disks_of};
 use crate::console::{END, ESCAPE, Keys, Lined, Prompted};
@@ -253,6 +254,87 @@ fn printer_conflict<S: Store>(
     None
 }
 
+/// Whether writing the file of a path would take away one that may be named.
+fn takes<S: Store>(store: &S, path: &str, other: &Option<String>) -> bool
+    ensures value { IfSome (S.beside store.now) (λ beside.
+        result ≡ names_image beside path.now (option_map string_bytes other.now)) }
+{
+    match other {
+        Some(other) => store.is_beside(path, other.as_str()),
+        None => false,
+    }
+}
+
+/// Whether writing the file of a path would take away an image on another unit than 4.
+fn takes_other<S: Store>(store: &S, path: &str, others: &Others) -> bool
+    ensures value { IfSome (S.beside store.now) (λ beside. result ≡ is_other beside path.now others.now) }
+{
+    takes(store, path, &others.d5)
+        || takes(store, path, &others.d9)
+        || takes(store, path, &others.d10)
+        || takes(store, path, &others.d11)
+        || takes(store, path, &others.d12)
+}
+
+/// Whether writing a file, if there is one, would take away one of the run.
+fn takes_away<S: Store>(
+    store: &S,
+    path: &Option<String>,
+    program: &Program,
+    printer: &Option<String>,
+) -> bool
+    ensures value { IfSome (S.beside store.now) (λ beside. result
+        ≡ takes_away beside (option_map string_bytes path.now) program.now (option_map string_bytes printer.now)) }
+{
+    match path {
+        Some(path) => takes_away_at(store, path.as_str(), program, printer),
+        None => false,
+    }
+}
+
+/// The same of a file that there is.
+fn takes_away_at<S: Store>(
+    store: &S,
+    path: &str,
+    program: &Program,
+    printer: &Option<String>,
+) -> bool
+    ensures value { IfSome (S.beside store.now) (λ beside.
+        result ≡ takes_away beside (Some path.now) program.now (option_map string_bytes printer.now)) }
+{
+    store.is_beside(path, program.disk.as_str())
+        || takes_other(store, path, &program.others)
+        || takes(store, path, &program.system)
+        || takes(store, path, printer)
+}
+
+/// Whether writing the image on another unit than 4 would take away a file of the run.
+fn others_take_away<S: Store>(store: &S, program: &Program, printer: &Option<String>) -> bool
+    ensures value { IfSome (S.beside store.now) (λ beside.
+        result ≡ others_take_away beside program.now (option_map string_bytes printer.now)) }
+{
+    takes_away(store, &program.others.d5, program, printer)
+        || takes_away(store, &program.others.d9, program, printer)
+        || takes_away(store, &program.others.d10, program, printer)
+        || takes_away(store, &program.others.d11, program, printer)
+        || takes_away(store, &program.others.d12, program, printer)
+}
+
+/// Whether writing one of the files that a run writes would take away another of its files.
+fn is_taken_away<S: Store>(
+    store: &S,
+    program: &Program,
+    saving: Saving,
+    printer: &Option<String>,
+) -> bool
+    ensures value { IfSome (S.beside store.now) (λ beside.
+        result ≡ is_taken_away beside program.now saving (option_map string_bytes printer.now)) }
+{
+    (saving != Saving::Nothing && takes_away_at(store, program.disk.as_str(), program, printer))
+        || (saving == Saving::All && others_take_away(store, program, printer))
+        || takes_away(store, printer, program, printer)
+}
+
 /// Whether a path names a file or a folder: one names the same file as itself.
 fn is_there<S: Store>(store: &S, path: &str) -> bool
     ensures value { IfSome (S.same store.now) (λ same. result ≡ same path.now path.now) }
@@ -262,8 +344,8 @@ fn is_there<S: Store>(store: &S, path: &str) -> bool
 
 /// What is wrong with the paths of `run`, if something is.
 fn conflict<S: Store>(store: &S, program: &Program, keeping: &Keeping) -> Option<Conflict>
-    ensures value { IfSome (S.same store.now) (λ same. IfSome (S.folders store.now) (λ folders.
-        result ≡ conflict_of same folders program.now keeping.now)) }
+    ensures value { IfSome (S.same store.now) (λ same. IfSome (S.beside store.now) (λ beside.
+        IfSome (S.folders store.now) (λ folders. result ≡ conflict_of same beside folders program.now keeping.now))) }
 {
     if keeping.saving != Saving::Nothing
         && is_other(store, program.disk.as_str(), &program.others)
@@ -273,7 +355,13 @@ fn conflict<S: Store>(store: &S, program: &Program, keeping: &Keeping) -> Option
     if keeping.saving == Saving::All && are_shared(store, &program.others) {
         return Some(Conflict::SavedTwice);
     }
-    printer_conflict(store, program, &keeping.printer)
+    if let Some(conflict) = printer_conflict(store, program, &keeping.printer) {
+        return Some(conflict);
+    }
+    if is_taken_away(store, program, keeping.saving, &keeping.printer) {
+        return Some(Conflict::FileInTheWay);
+    }
+    None
 }
 
 /// What is wrong with the paths of a plan, if something is.
@@ -282,6 +370,9 @@ fn conflict_in<S: Store>(store: &S, plan: &Plan) -> Option<Conflict> {
         Plan::Run(program, keeping) => conflict(store, program, keeping),
         Plan::Salvage(plan) if is_there(store, plan.target.as_str()) => {
             Some(Conflict::TargetIsThere)
+        }
+        Plan::Salvage(plan) if store.is_beside(plan.target.as_str(), plan.path.as_str()) => {
+            Some(Conflict::FileInTheWay)
         }
         _ => None,
     }

@@ -1,11 +1,12 @@
 //! Jobs with files: what is read before them, and what is written behind them.
 ghost use Rattle.std.specs.Prelude.{◌≡◌, ◌∷◌, false, IfOk, IfSome, OnErr, OnOk, string_bytes, option_map, vec_items};
-ghost use Rattle.pm_tool.specs.Said.{IsSoundExit};
-ghost use Rattle.pm_files.specs.Held.{Keeps, Puts};
+ghost use Rattle.pm_tool.specs.Said.{IsCutShort, IsSoundExit};
+ghost use Rattle.pm_files.specs.Held.{Keeps, Puts, held_too};
 ghost use Rattle.pm_streams.specs.Streams.{AreWell, both};
 ghost use Rattle.pm_program.specs.Conflicts.{other_paths};
-ghost use Rattle.pm_program.specs.Kept.{KeepsAt, KeepsEach, KeepsFront, KeepsRun, KeepsSaid, PrintsIf, SaysOf};
-ghost use Rattle.pm_program.specs.Kept.{has_run, kept_paths, takes_lock};
+ghost use Rattle.pm_program.specs.Kept.{KeepsAt, KeepsEach, KeepsFront, KeepsFrontSaid, KeepsRun, KeepsSaid, KeepsSome};
+ghost use Rattle.pm_program.specs.Kept.{PrintsIf, SaysOf, has_run, held_at, held_by, held_each, held_paths, kept_paths};
+ghost use Rattle.pm_program.specs.Kept.{takes_lock};
 ghost use Rattle.pm_program.specs.Kept.{KeepsRunSaid, KeepsSalvage, Reads, ReadsEach, TellsDebug, TellsTrace, paths_of};
 ghost use Rattle.pm_tool.specs.Disks.{images_of};
 ghost use Rattle.pm_tool.specs.Outcomes.{others_of};
@@ -59,6 +60,7 @@ fn files_job<S: Store>(
     verb: Verb,
 ) -> Result<Job, DiskFault>
     ensures stays { S.files store.new ≡ S.files store.old }
+    ensures held { OnOk result (S.held store.new ≡ held_by (takes_lock verb) path.now (S.held store.old)) }
     ensures job { IfOk result (λ job. SaysOf (S.files store.old) path.now verb job) }
 {
     if takes_lock(&verb) {
@@ -82,9 +84,9 @@ fn files_job<S: Store>(
 }
 
 /// Does a command on the image of a file, and writes the image back where the outcome has one: then it is the file, and
-/// no other file has changed. Neither stream may have failed before. Where a file cannot be read, held or written,
-/// no file has changed. Where the input is known, the image that is kept is the one that is said of the input and
-/// of the image that the file had.
+/// no other file has changed. Neither stream may have failed before. Where a file cannot be read, held or written, or
+/// the job is cut short, no file has changed. A file that may be written is held. Where the input is known, the image
+/// that is kept is the one that is said of the input and of the image that the file had.
 pub fn do_files<S: Store, I: Source, O: Sink>(
     alloc: Global,
     store: &mut S,
@@ -96,6 +98,8 @@ pub fn do_files<S: Store, I: Source, O: Sink>(
     requires well { AreWell (both (I.seen source.old) (O.seen sink.old)) }
     ensures kept { IfOk result (λ outcome.
         Keeps (S.files store.old) (S.files store.new) path.now (option_map vec_items outcome.image)) }
+    ensures cut { IfOk result (λ outcome. IsCutShort outcome.exit → S.files store.new ≡ S.files store.old) }
+    ensures held { OnOk result (S.held store.new ≡ held_by (takes_lock verb) path.now (S.held store.old)) }
     ensures said { IfOk result (λ outcome. IsSoundExit outcome.exit → IfSome (I.seen source.old).remaining (λ input.
         KeepsSaid (S.files store.old) (S.files store.new) path.now verb input)) }
     ensures stays { OnErr result (S.files store.new ≡ S.files store.old) }
@@ -106,9 +110,9 @@ pub fn do_files<S: Store, I: Source, O: Sink>(
     Ok(outcome)
 }
 
-/// Saves the files of an image into a new volume under another path. No other file has changed, and no file at all
-/// where one cannot be read, held or written. Neither stream may have failed before. Where the input is known, the
-/// volume that is kept is the one that is said of the image that the file had.
+/// Saves the files of an image into a new volume under another path, which is held. No other file has changed, and no
+/// file at all where one cannot be read, held or written, or the job is cut short. Neither stream may have failed
+/// before. Where the input is known, the volume that is kept is the one that is said of the image that the file had.
 pub fn do_salvage<S: Store, I: Source, O: Sink>(
     alloc: Global,
     store: &mut S,
@@ -119,6 +123,8 @@ pub fn do_salvage<S: Store, I: Source, O: Sink>(
     requires well { AreWell (both (I.seen source.old) (O.seen sink.old)) }
     ensures kept { IfOk result (λ outcome.
         Keeps (S.files store.old) (S.files store.new) (string_bytes plan.target) (option_map vec_items outcome.image)) }
+    ensures cut { IfOk result (λ outcome. IsCutShort outcome.exit → S.files store.new ≡ S.files store.old) }
+    ensures held { OnOk result (S.held store.new ≡ held_too (string_bytes plan.target) (S.held store.old)) }
     ensures said { IfOk result (λ outcome. IsSoundExit outcome.exit → IfSome (I.seen source.old).remaining (λ input.
         KeepsSalvage (S.files store.old) (S.files store.new) plan input)) }
     ensures stays { OnErr result (S.files store.new ≡ S.files store.old) }
@@ -143,6 +149,7 @@ fn image<S: Store>(
     path: &Option<String>,
 ) -> Result<Option<Vec<u8>>, DiskFault>
     ensures stays { S.files store.new ≡ S.files store.old }
+    ensures held { S.held store.new ≡ S.held store.old }
     ensures value { IfOk result (λ image.
         Reads (S.files store.old) (option_map string_bytes path.now) (option_map vec_items image)) }
 {
@@ -163,6 +170,7 @@ fn images<S: Store>(
     others: &Others,
 ) -> Result<Images, DiskFault>
     ensures stays { S.files store.new ≡ S.files store.old }
+    ensures held { S.held store.new ≡ S.held store.old }
     ensures values { IfOk result (λ images.
         ReadsEach (S.files store.old) (paths_of disk.now others.now) (images_of images)) }
 {
@@ -185,6 +193,7 @@ fn inputs<S: Store>(
     system: &Option<String>,
 ) -> Result<(Images, Option<Vec<u8>>), DiskFault>
     ensures stays { S.files store.new ≡ S.files store.old }
+    ensures held { S.held store.new ≡ S.held store.old }
     ensures values { IfOk result (λ read.
         ReadsEach (S.files store.old) (paths_of disk.now others.now) (images_of read.0)) }
     ensures system { IfOk result (λ read.
@@ -214,6 +223,7 @@ fn print_out<O: Sink>(sink: &mut O, bytes: &[u8]) -> Result<(), DiskFault> {
 fn keep_image<S: Store>(store: &mut S, path: &str, image: &Option<Vec<u8>>) -> Result<(), DiskFault>
     ensures kept { OnOk result (
         Keeps (S.files store.old) (S.files store.new) path.now (option_map vec_items image.now)) }
+    ensures held { S.held store.new ≡ S.held store.old }
     ensures stays { OnErr result (S.files store.new ≡ S.files store.old) }
 {
     match image {
@@ -232,6 +242,7 @@ fn keep_printer<S: Store, O: Sink>(
     ensures kept { OnOk result (
         PrintsIf (has_run outcome.now.exit) (S.files store.old) (S.files store.new) printing.now
         outcome.now.printer.items) }
+    ensures held { S.held store.new ≡ S.held store.old }
     ensures stays { OnErr result (S.files store.new ≡ S.files store.old) }
 {
     if !has_run(outcome.exit) {
@@ -252,6 +263,7 @@ fn put_changed<S: Store>(
     bytes: &[u8],
 ) -> Result<(), DiskFault>
     ensures puts { OnOk result (Puts (S.files store.old) (S.files store.new) path.now bytes.now) }
+    ensures held { S.held store.new ≡ S.held store.old }
     ensures stays { OnErr result (S.files store.new ≡ S.files store.old) }
 {
     match store.read(alloc, path) {
@@ -270,6 +282,7 @@ fn keep_at<S: Store>(
 ) -> Result<(), DiskFault>
     ensures kept { OnOk result (KeepsAt (S.files store.old) (S.files store.new)
         (option_map string_bytes path.now) (option_map vec_items image.now)) }
+    ensures held { S.held store.new ≡ S.held store.old }
     ensures stays { OnErr result (S.files store.new ≡ S.files store.old) }
 {
     match (path, image) {
@@ -287,7 +300,9 @@ fn keep_others<S: Store>(
 ) -> Result<(), DiskFault>
     ensures kept { OnOk result (KeepsEach (S.files store.old) (S.files store.new)
         (other_paths paths.now) (others_of images.now)) }
-    ensures front { OnErr result (KeepsFront (S.files store.old) (S.files store.new) (other_paths paths.now)) }
+    ensures held { S.held store.new ≡ S.held store.old }
+    ensures front { OnErr result (KeepsFront (S.files store.old) (S.files store.new)
+        (other_paths paths.now) (others_of images.now)) }
 {
     keep_at(alloc, store, &paths.d5, &images.d5)?;
     keep_at(alloc, store, &paths.d9, &images.d9)?;
@@ -308,8 +323,10 @@ fn keep_images<S: Store>(
     ensures kept { OnOk result (KeepsEach (S.files store.old) (S.files store.new)
         (kept_paths saving disk.now others.now)
         (option_map vec_items outcome.now.image ∷ others_of outcome.now.others)) }
+    ensures held { S.held store.new ≡ S.held store.old }
     ensures front { OnErr result (KeepsFront (S.files store.old) (S.files store.new)
-        (kept_paths saving disk.now others.now)) }
+        (kept_paths saving disk.now others.now)
+        (option_map vec_items outcome.now.image ∷ others_of outcome.now.others)) }
 {
     keep_image(store, disk, &outcome.image)?;
     match saving {
@@ -322,6 +339,8 @@ fn keep_images<S: Store>(
 /// Holds the file of an image on another unit than 4, where there is one.
 fn hold_at<S: Store>(store: &mut S, path: &Option<String>) -> Result<(), DiskFault>
     ensures stays { S.files store.new ≡ S.files store.old }
+    ensures held { OnOk result (
+        S.held store.new ≡ held_at (option_map string_bytes path.now) (S.held store.old)) }
 {
     match path {
         Some(path) => store.hold(path.as_str()),
@@ -332,6 +351,7 @@ fn hold_at<S: Store>(store: &mut S, path: &Option<String>) -> Result<(), DiskFau
 /// Holds the files of the images on the other units than 4.
 fn hold_others<S: Store>(store: &mut S, others: &Others) -> Result<(), DiskFault>
     ensures stays { S.files store.new ≡ S.files store.old }
+    ensures held { OnOk result (S.held store.new ≡ held_each (other_paths others.now) (S.held store.old)) }
 {
     hold_at(store, &others.d5)?;
     hold_at(store, &others.d9)?;
@@ -348,6 +368,8 @@ fn make_ready<S: Store>(
     kept: &KeptOfRun,
 ) -> Result<(), DiskFault>
     ensures stays { S.files store.new ≡ S.files store.old }
+    ensures held { OnOk result (S.held store.new
+        ≡ held_each (held_paths kept.now.saving disk.now others.now) (S.held store.old)) }
 {
     if kept.saving != Saving::Nothing {
         store.hold(disk)?;
@@ -369,6 +391,8 @@ fn run_inputs<S: Store>(
     kept: &KeptOfRun,
 ) -> Result<(Images, Option<Vec<u8>>), DiskFault>
     ensures stays { S.files store.new ≡ S.files store.old }
+    ensures held { OnOk result (S.held store.new ≡ held_each
+        (held_paths kept.now.saving (string_bytes program.now.disk) program.now.others) (S.held store.old)) }
     ensures values { IfOk result (λ read. ReadsEach (S.files store.old)
         (paths_of (string_bytes program.now.disk) program.now.others) (images_of read.0)) }
     ensures system { IfOk result (λ read.
@@ -391,17 +415,20 @@ fn keep_run<S: Store, O: Sink>(
 ) -> Result<(), DiskFault>
     ensures kept { OnOk result (KeepsRun (S.files store.old) (S.files store.new)
         (kept_paths kept.now.saving disk.now others.now) kept.now.printing outcome.now) }
+    ensures held { S.held store.new ≡ S.held store.old }
     ensures front { OnErr result (KeepsFront (S.files store.old) (S.files store.new)
-        (kept_paths kept.now.saving disk.now others.now)) }
+        (kept_paths kept.now.saving disk.now others.now)
+        (option_map vec_items outcome.now.image ∷ others_of outcome.now.others)) }
 {
     keep_images(alloc, store, disk, others, kept.saving, outcome)?;
     keep_printer(store, sink, &kept.printing, outcome)
 }
 
 /// Runs a program, and then writes the images that are to be kept, as far as the outcome has them, and the printer's
-/// bytes, where the program has run and they are wanted. No other file changes. Neither stream may have failed before.
-/// Where a file cannot be read, held or written, nothing has changed but that the first of the images may be written.
-/// Where the input is known, what is kept is what is said of it and of the images that the files had, each on its unit.
+/// bytes, where the program has run and they are wanted. No other file changes, and none at all where the job is cut
+/// short. Each image that may be written is held. Neither stream may have failed before. Where a file cannot be read,
+/// held or written, nothing has changed but that the first of the images may be written. Where the input is known, what
+/// is kept, all or the first, is what is said of it and of the images that the files had, each on its unit.
 pub fn do_run<S: Store, I: Source, O: Sink>(
     alloc: Global,
     store: &mut S,
@@ -414,10 +441,15 @@ pub fn do_run<S: Store, I: Source, O: Sink>(
     ensures kept { IfOk result (λ outcome.
         KeepsRun (S.files store.old) (S.files store.new)
         (kept_paths kept.saving (string_bytes program.disk) program.others) kept.printing outcome) }
+    ensures cut { IfOk result (λ outcome. IsCutShort outcome.exit → S.files store.new ≡ S.files store.old) }
+    ensures held { OnOk result (S.held store.new
+        ≡ held_each (held_paths kept.saving (string_bytes program.disk) program.others) (S.held store.old)) }
     ensures said { IfOk result (λ outcome. IsSoundExit outcome.exit → IfSome (I.seen source.old).remaining (λ input.
         KeepsRunSaid (S.files store.old) (S.files store.new) program kept input)) }
-    ensures front { OnErr result (KeepsFront (S.files store.old) (S.files store.new)
+    ensures front { OnErr result (KeepsSome (S.files store.old) (S.files store.new)
         (kept_paths kept.saving (string_bytes program.disk) program.others)) }
+    ensures front_said { OnErr result (IfSome (I.seen source.old).remaining (λ input.
+        KeepsFrontSaid (S.files store.old) (S.files store.new) program kept input)) }
 {
     let (disks, system) = run_inputs(alloc, store, &program, &kept)?;
     let Program {
@@ -451,6 +483,7 @@ pub fn do_trace<S: Store, I: Source, O: Sink>(
 ) -> Result<Outcome, DiskFault>
     requires well { AreWell (both (I.seen source.old) (O.seen sink.old)) }
     ensures stays { S.files store.new ≡ S.files store.old }
+    ensures held { S.held store.new ≡ S.held store.old }
     ensures said { IfOk result (λ outcome. IsSoundExit outcome.exit → IfSome (I.seen source.old).remaining (λ input.
         TellsTrace (S.files store.old) (both (I.seen source.old) (O.seen sink.old))
         (both (I.seen source.new) (O.seen sink.new)) outcome program selection input)) }
@@ -480,6 +513,7 @@ pub fn do_debug<S: Store, I: Source, O: Sink>(
 ) -> Result<Outcome, DiskFault>
     requires well { AreWell (both (I.seen source.old) (O.seen sink.old)) }
     ensures stays { S.files store.new ≡ S.files store.old }
+    ensures held { S.held store.new ≡ S.held store.old }
     ensures said { IfOk result (λ outcome. IsSoundExit outcome.exit → IfSome (I.seen source.old).remaining (λ input.
         TellsDebug (S.files store.old) (both (I.seen source.old) (O.seen sink.old))
         (both (I.seen source.new) (O.seen sink.new)) outcome program input)) }

@@ -3,7 +3,8 @@ use crate::end::End;
 use pm_tool::{Ending, Outcome, Reason, RunReason};
 use std::fmt;
 
-/// A text on a terminal: a question mark stands for each character that would move or colour something there.
+/// A text of one line on a terminal: a question mark stands for each character that would move or colour something
+/// there.
 #[derive(Clone, Copy)]
 struct Plain<'a>(&'a str);
 
@@ -11,6 +12,20 @@ impl fmt::Display for Plain<'_> {
     fn fmt<W: fmt::Write>(&self, f: &mut fmt::Formatter<W>) -> fmt::Result {
         for letter in self.0.chars() {
             let acts = letter.is_control() && letter != '\t';
+            f.write_char(if acts { '?' } else { letter })?;
+        }
+        Ok(())
+    }
+}
+
+/// The same of a text of some lines, each with its line feed.
+#[derive(Clone, Copy)]
+pub struct PlainLines<'a>(pub &'a str);
+
+impl fmt::Display for PlainLines<'_> {
+    fn fmt<W: fmt::Write>(&self, f: &mut fmt::Formatter<W>) -> fmt::Result {
+        for letter in self.0.chars() {
+            let acts = letter.is_control() && letter != '\t' && letter != '\n';
             f.write_char(if acts { '?' } else { letter })?;
         }
         Ok(())

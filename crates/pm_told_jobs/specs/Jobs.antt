@@ -1,13 +1,15 @@
 -- What files hold after a job of the program, by their bytes alone.
-use Rattle.std.specs.Prelude.{◌≡◌, ℕ, List, [], ◌∷◌, Option, None, Some, String, Vec, string_bytes}
+use Rattle.std.specs.Prelude.{◌≡◌, ℕ, List, [], ◌∷◌, Option, None, Some, String, Vec}
+use Rattle.std.specs.Prelude.{option_map, string_bytes, vec_items}
 use Rattle.std.specs.declared.alloc.Global.{Global}
 use Rattle.pm_volume.specs.Headers.{blank_fault}
 use Rattle.pm_filer.specs.Filed.{order_of}
 use Rattle.pm_tool.specs.Batches.{said_check, said_files, said_new, said_repair}
 use Rattle.pm_tool.specs.Disks.{images_of}
 use Rattle.pm_tool.specs.Outcomes.{Said}
-use Rattle.pm_tool.specs.Said.{job_said}
+use Rattle.pm_tool.specs.Said.{IsCutShort, job_said}
 use Rattle.pm_tool.specs.declared.outcome.Job.TheVariants as jobs
+use Rattle.pm_tool.specs.declared.outcome.Outcome.{Outcome}
 use Rattle.pm_selection.specs.declared.saving.Saving.{Saving}
 use Rattle.pm_plan.specs.declared.file_words.Verb.{Verb}
 use Rattle.pm_plan.specs.declared.file_words.Verb.TheVariants as verbs
@@ -25,6 +27,14 @@ said_verb image verbs.Check input = said_check image input
 abbrev pub left_in : List ℕ → Option (List ℕ) → List ℕ
 left_in old None = old
 left_in old (Some new) = new
+
+-- a file has the image of the outcome, where there is one, and else the bytes that it had
+abbrev pub KeepsIn : List ℕ → List ℕ → Outcome → Type 0
+KeepsIn old new outcome = new ≡ left_in old (option_map vec_items outcome.image)
+
+-- a file has the bytes that it had where the job was cut short
+abbrev pub StaysWhereCut : List ℕ → List ℕ → Outcome → Type 0
+StaysWhereCut old new outcome = IsCutShort outcome.exit → new ≡ old
 
 -- The bytes that the file of a disk has after a run: those that are said of the disk alone on unit 4 and of the input,
 -- or those that it had.

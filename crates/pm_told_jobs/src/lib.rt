@@ -1,9 +1,9 @@
 //! Jobs of the program over stores in memory that tell what they hold: which bytes the files have afterwards.
 #![tactic(auto)]
 
-ghost use Rattle.std.specs.Prelude.{◌≡◌, IfOk, OnErr, option_map, vec_items};
+ghost use Rattle.std.specs.Prelude.{◌≡◌, IfOk, OnErr};
 ghost use Rattle.pm_tool.specs.Said.{IsSoundExit};
-ghost use Rattle.pm_told_jobs.specs.Jobs.{LeavesRun, left_in, said_verb};
+ghost use Rattle.pm_told_jobs.specs.Jobs.{KeepsIn, LeavesRun, StaysWhereCut, left_in, said_verb};
 
 use pm_files::{DiskFault, Store};
 use pm_plan::{Others, Program, Verb};
@@ -32,8 +32,8 @@ const FILE: &str = "file";
 /// or behind the job.
 pub fn on_file(alloc: Global, image: Vec<u8>, typed: &[u8], verb: Verb) -> Result<OnFile, DiskFault>
     ensures stays { IfOk result (λ came. OnErr came.done (came.file.items ≡ image.items)) }
-    ensures kept { IfOk result (λ came. IfOk came.done (λ outcome.
-        came.file.items ≡ left_in image.items (option_map vec_items outcome.image))) }
+    ensures cut { IfOk result (λ came. IfOk came.done (StaysWhereCut image.items came.file.items)) }
+    ensures kept { IfOk result (λ came. IfOk came.done (KeepsIn image.items came.file.items)) }
     ensures said { IfOk result (λ came. IfOk came.done (λ outcome. IsSoundExit outcome.exit →
         came.file.items ≡ left_in image.items (said_verb image.items verb typed.now).image)) }
 {
@@ -61,8 +61,8 @@ pub fn on_disk(
     limit: u64,
     saving: Saving,
 ) -> Result<OnFile, DiskFault>
-    ensures kept { IfOk result (λ came. IfOk came.done (λ outcome.
-        came.file.items ≡ left_in image.items (option_map vec_items outcome.image))) }
+    ensures kept { IfOk result (λ came. IfOk came.done (KeepsIn image.items came.file.items)) }
+    ensures cut { IfOk result (λ came. IfOk came.done (StaysWhereCut image.items came.file.items)) }
     ensures said { IfOk result (λ came. IfOk came.done (λ outcome. IsSoundExit outcome.exit →
         LeavesRun image.items name limit saving typed.now came.file.items)) }
 {

@@ -2,7 +2,7 @@
 ghost use Rattle.std.specs.Prelude.{◌≡◌, false, true, [], None, IfOk, IfErr, OnOk, OnErr, codes};
 ghost use Rattle.pm_tool.specs.Disks.{loaded};
 ghost use Rattle.pm_tool.specs.Hex.{hex_spelled};
-ghost use Rattle.pm_tool.specs.Outcomes.{SaysWhy, fault_exit, outcome_text};
+ghost use Rattle.pm_tool.specs.Outcomes.{SaysWhy, fault_exit, no_others, others_of, outcome_text};
 ghost use Rattle.pm_tool.specs.Said.{job_said, said_started, IsSoundExit, IsCutShort, Finishes};
 ghost use Rattle.pm_tool.specs.Said.{BreaksOff, TellsAll, TellsFront, IsPrompt, FailsExactly, CountsExactly};
 ghost use Rattle.pm_streams.specs.Streams.{AreWell, IsCounted, both};
@@ -74,6 +74,7 @@ fn do_job<R: Source, W: Sink>(
 fn broken_off(alloc: Global, fault: Fault) -> Outcome
     ensures exit { result.exit ≡ fault_exit fault }
     ensures image { result.image ≡ None }
+    ensures others { others_of result.others ≡ no_others }
     ensures printer { result.printer.items ≡ [] }
     ensures told { SaysWhy result }
 {
@@ -111,7 +112,8 @@ pub fn run<R: Source, W: Sink>(alloc: Global, source: &mut R, sink: &mut W, job:
     ensures fault { result.exit ≡ Exit.ReadFault → outcome_text result ≡ codes "read fault" }
     ensures write { result.exit ≡ Exit.WriteFault → outcome_text result ≡ codes "write fault" }
     ensures memory { result.exit ≡ Exit.NoMemory → outcome_text result ≡ codes "no memory" }
-    ensures nothing_else { IsCutShort result.exit → (result.image ≡ None) × (result.printer.items ≡ []) }
+    ensures nothing_else { IsCutShort result.exit →
+        (result.image ≡ None) × (others_of result.others ≡ no_others) × (result.printer.items ≡ []) }
 
     // A refusal names its fault, which is never want of memory, and the message is its text; nothing else names one.
     ensures told { SaysWhy result }

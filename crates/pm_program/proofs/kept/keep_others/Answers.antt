@@ -7,13 +7,13 @@ pub returns-in_err-keep_at-2-clause-front : goal.returns-in_err-keep_at-2-clause
 returns-in_err-keep_at-2-clause-front g c =
     let r = c.from_residual-in_err-keep_at-2 in
     let p = err_from_is_err_and r.result r.ensures.1 in
-    rw p.1 (inr (_, _, c.in_ok-keep_at.ensures.kept, inl c.in_err-keep_at-2.ensures.stays))
+    rw p.1 (inr (_, c.in_ok-keep_at.ensures.kept, inl c.in_err-keep_at-2.ensures.stays))
 
 pub returns-in_err-keep_at-3-clause-front : goal.returns-in_err-keep_at-3-clause-front
 returns-in_err-keep_at-3-clause-front g c =
     let r = c.from_residual-in_err-keep_at-3 in
     let p = err_from_is_err_and r.result r.ensures.1 in
-    rw p.1 (inr (_, _, c.in_ok-keep_at.ensures.kept, inr (_, _, c.in_ok-keep_at-2.ensures.kept, inl c.in_err-keep_at-3.ensures.stays)))
+    rw p.1 (inr (_, c.in_ok-keep_at.ensures.kept, inr (_, c.in_ok-keep_at-2.ensures.kept, inl c.in_err-keep_at-3.ensures.stays)))
 
 pub returns-in_err-keep_at-4-clause-front : goal.returns-in_err-keep_at-4-clause-front
 returns-in_err-keep_at-4-clause-front g c =
@@ -21,13 +21,11 @@ returns-in_err-keep_at-4-clause-front g c =
     let p = err_from_is_err_and r.result r.ensures.1 in
     rw p.1 (inr (
       _,
-      _,
       c.in_ok-keep_at.ensures.kept,
       inr (
         _,
-        _,
         c.in_ok-keep_at-2.ensures.kept,
-        inr (_, _, c.in_ok-keep_at-3.ensures.kept, inl c.in_err-keep_at-4.ensures.stays),
+        inr (_, c.in_ok-keep_at-3.ensures.kept, inl c.in_err-keep_at-4.ensures.stays),
       ),
     ))
 
@@ -51,13 +49,11 @@ pub returns-clause-front : goal.returns-clause-front
 returns-clause-front g c = where_err c.keep_at-5.result
     (λ stays. inr (
       _,
-      _,
       c.in_ok-keep_at.ensures.kept,
       inr (
         _,
-        _,
         c.in_ok-keep_at-2.ensures.kept,
-        inr (_, _, c.in_ok-keep_at-3.ensures.kept, inr (_, _, c.in_ok-keep_at-4.ensures.kept, inl stays)),
+        inr (_, c.in_ok-keep_at-3.ensures.kept, inr (_, c.in_ok-keep_at-4.ensures.kept, inl stays)),
       ),
     ))
     c.keep_at-5.ensures.stays

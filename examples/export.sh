@@ -31,7 +31,7 @@ if [ -e "$folder" ]; then
     echo "export.sh: $folder is there already: name a new folder" >&2
     exit 1
 fi
-mkdir "$folder" || exit
+mkdir -- "$folder" || exit
 status=0
 read_directory "$image" 1024
 echo "volume $(spelled '' "${directory[@]:7:${directory[6]}}") $(word 14) $(date_of "$(word 20)")" >"$folder/LIST"
@@ -48,9 +48,9 @@ for ((slot = 1; slot <= $(word 16); slot++)); do
         if [ -z "${names[${name^^}]}" ] && [[ $name != *%* ]] &&
             "$pmach" files --image "$image" gettext -- "$name" </dev/null >"$folder/$host%%text" 2>/dev/null; then
             how=text
-            mv "$folder/$host%%text" "$folder/$host"
+            mv -- "$folder/$host%%text" "$folder/$host"
         else
-            rm -f "$folder/$host%%text"
+            rm -f -- "$folder/$host%%text"
             echo "export.sh: slot $slot, $name: comes as bytes, since it cannot be had as a text" >&2
         fi
     fi

@@ -26,7 +26,7 @@ long() { od -An -tu4 -j"$1" -N4 --endian=little "$image" | tr -d ' '; }
 
 # Where the blocks begin, and how many bytes they have: of the whole image, or as a header says.
 place() {
-    begin=0 size=$(stat -c %s "$image") front=
+    begin=0 size=$(stat -c %s -- "$image") front=
     [ "$size" -ge 64 ] && [ "$(head -c 4 "$image" | tr -d '\0')" = 2IMG ] || return
     local at length
     at=$(long 24) length=$(long 28)
@@ -38,8 +38,8 @@ place() {
 # in_order ORDER FROM TO: from this order into blocks, or back
 in_order() {
     case $1 in
-    blocks) cat "$2" >"$3" ;;
-    dos) [ "$(stat -c %s "$2")" = 143360 ] && "$here/dos-order.sh" <"$2" >"$3" ;;
+    blocks) cat -- "$2" >"$3" ;;
+    dos) [ "$(stat -c %s -- "$2")" = 143360 ] && "$here/dos-order.sh" <"$2" >"$3" ;;
     swapped) dd if="$2" of="$3" conv=swab 2>/dev/null ;;
     esac
 }
@@ -93,7 +93,7 @@ fi
 [ ${#forms[@]} = 1 ] || stop 3 "more than one form fits: --as says which"
 [ $# != 1 ] || exit 0
 if [ "$back" ]; then
-    [ "$(stat -c %s "$2")" = "$size" ] || stop 1 "$2 has not the $size bytes of the volume in $image"
+    [ "$(stat -c %s -- "$2")" = "$size" ] || stop 1 "$2 has not the $size bytes of the volume in $image"
     in_order "${forms[0]}" "$2" "$scratch/changed"
     { head -c "$begin" "$image" && cat "$scratch/changed" && tail -c +$((begin + size + 1)) "$image"; } >"$new" || exit
 else

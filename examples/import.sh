@@ -7,6 +7,9 @@
 #
 # A file that is refused is named with the refusal, and the others go on. One that stands there with the same bytes
 # already is not put again, so the same command may be given twice. Status 0: all files are in the volume.
+#
+# FOLDER may be another's: only regular files in it are read, no links and nothing outside it, a date is three numbers,
+# and what LIST says is shown without its control characters.
 [ $# = 2 ] || {
     echo "usage: import.sh FOLDER IMAGE" >&2
     exit 1
@@ -14,16 +17,20 @@
 pmach=${PMACH:-$(dirname "$(readlink -f "$0")")/../pmach}
 folder=$1
 image=$2
-[ -r "$folder/LIST" ] || {
+[ -f "$folder/LIST" ] && [ -r "$folder/LIST" ] || {
     echo "import.sh: $folder has no LIST, as export.sh makes it" >&2
     exit 1
 }
 "$pmach" files --image "$image" list </dev/null >/dev/null || exit
 status=0
 
-# set_date DATE: the volume's last date, from the form in LIST
+# tell WORDS
+tell() { printf 'import.sh: %s\n' "${*//[![:print:][:space:]]/?}" >&2; }
+
+# set_date DATE: the volume's last date, from the form in LIST; false where it is none
 set_date() {
     local year month day
+    [[ $1 =~ ^[0-9]{1,3}-[0-9]{1,2}-[0-9]{1,2}$ ]] || return
     IFS=- read -r year month day <<<"$1"
     "$pmach" files --image "$image" date $((10#$year)) $((10#$month)) $((10#$day)) </dev/null
 }
@@ -35,12 +42,23 @@ is_there() {
     "$pmach" files --image "$image" $verb -- "$2" </dev/null 2>/dev/null | cmp -s - "$3"
 }
 
+# is_file HOST: whether it is the name of a regular file in the folder
+is_file() {
+    [[ $1 != */* ]] && [ -f "$folder/$1" ] && [ ! -L "$folder/$1" ]
+}
+
 # put_one HOST NAME KIND DATE HOW
 put_one() {
     local name said
-    printf -v name '%b' "${2//%/\\x}"
+    is_file "$1" || {
+        tell "$2 is left out: $1 is no file in $folder"
+        status=1
+        return
+    }
+    name=${2//\\/\\\\}
+    printf -v name '%b' "${name//%/\\x}"
     if [ "$4" != 000-00-00 ] && ! said=$(set_date "$4" 2>&1); then
-        echo "import.sh: $2 keeps the date before it: $4 is none" >&2
+        tell "$2 keeps the date before it: $4 is none"
         status=1
     fi
     if [ "$5" = text ]; then
@@ -51,7 +69,7 @@ put_one() {
     if [ "$said" = "refused filer 1 9" ] && is_there "$5" "$name" "$folder/$1"; then
         return
     fi
-    echo "import.sh: $2 is left out: $said" >&2
+    tell "$2 is left out: $said"
     status=1
 }
 

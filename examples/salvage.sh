@@ -22,8 +22,8 @@ if [ -e "$folder" ]; then
     echo "salvage.sh: $folder is there already: name a new folder" >&2
     exit 1
 fi
-mkdir "$folder" || exit 1
-blocks=$(($(stat -c %s "$image") / 512))
+mkdir -- "$folder" || exit 1
+blocks=$(($(stat -c %s -- "$image") / 512))
 status=0
 taken=0
 read_directory "$image" $start

@@ -5,7 +5,7 @@ declare -A hosts
 
 # read_directory IMAGE PLACE: the directory that stands there, byte for byte
 read_directory() {
-    read -r -d '' -a directory < <(od -An -v -tu1 -j"$2" -N2048 "$1" | tr -s ' \n' ' ')
+    read -r -d '' -a directory < <(od -An -v -tu1 -j"$2" -N2048 -- "$1" | tr -s ' \n' ' ')
 }
 
 # word PLACE: two bytes of the directory, the low one first
@@ -51,7 +51,7 @@ take_slot() {
     local size=$((end > first ? 512 * (end - first - 1) + last : 0))
     hosts[=$host]=1
     dd if="$1" bs=512 skip="$first" count=$((end - first)) 2>/dev/null | head -c "$size" >"$2/$host"
-    [ "$(stat -c %s "$2/$host")" = "$size" ]
+    [ "$(stat -c %s -- "$2/$host")" = "$size" ]
 }
 
 # read_pattern PATTERN: one of the filer, in which = and ? stand for any characters, ? asking for each file that fits

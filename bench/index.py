@@ -9,10 +9,10 @@ TOP = os.path.join(os.path.dirname(os.path.abspath(__file__)), "..")
 PAGE = os.path.join(TOP, "docs/INDEX.md")
 HEAD = """# Index
 
-Each public call, by crate in the order of crates.txt, and there by type or module. In brackets stand the names of its
-clauses, behind `requires` of what a caller has to meet (conditions); with empty ones it promises to return, and nothing
-else. A call without brackets is a law about definitions: the words above it in the source say which; `worked_..` are
-computed values. What serves tests alone is counted at the end. Made by `bench/index.py`.
+Each public call, by crate as in crates.txt, and there by type or module: in brackets the names of its clauses, behind
+`requires` those of its conditions; with empty ones it promises to return, and nothing else. One without brackets is a
+law, which the words above it in the source say; `worked_..` are computed values. What serves tests alone is counted at
+the end. Made by `bench/index.py`.
 """
 # Crates whose calls serve programs of the gate and tests alone.
 FOR_TESTS = ("pm_replay", "pm_fake", "pm_told", "pm_told_jobs")
@@ -53,7 +53,7 @@ class Call:
                 (self.clauses if clause.group(1) == "ensures" else self.conditions).append(clause.group(2))
             if line == indent + "{}" or "law" in self.clauses:
                 self.is_law = True
-            if line in (indent + "{", indent + "}", indent + "{}") or not clause and line.endswith((" {", ";")):
+            if line in (indent + "{", indent + "}", indent + "{}") or line.endswith(";") or not clause and line.endswith(" {"):
                 return
 
     def said(self):

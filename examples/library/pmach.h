@@ -59,7 +59,7 @@ uint32_t pmach_get(const uint8_t *image, size_t image_len, const uint8_t *name, 
     uint8_t *out, size_t out_len, size_t *needed);
 uint32_t pmach_get_text(const uint8_t *image, size_t image_len, const uint8_t *name, size_t name_len,
     uint8_t *out, size_t out_len, size_t *needed);
-/* kind: 2 code, 3 text, 5 data, as docs/FILES.md has them */
+/* kind: 2 code, 3 text, 5 data, as docs/FILES.md has them; only its low four bits count */
 uint32_t pmach_put(const uint8_t *image, size_t image_len, const uint8_t *name, size_t name_len,
     uint8_t kind, const uint8_t *bytes, size_t bytes_len, uint8_t *out, size_t out_len, size_t *needed);
 uint32_t pmach_put_text(const uint8_t *image, size_t image_len, const uint8_t *name, size_t name_len,

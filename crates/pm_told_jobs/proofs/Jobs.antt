@@ -4,7 +4,7 @@ use Rattle.std.proofs.Common.{◌∷◌, Bool, String, Vec, ap, refl, subst, sym
 use Rattle.std.specs.declared.alloc.Global.{Global}
 use Rattle.pm_files.specs.Held.{Files, HoldsFile, Keeps}
 use Rattle.pm_files.specs.declared.fault.DiskFault.{DiskFault}
-use Rattle.pm_tool.specs.Said.{IsSoundExit, job_said}
+use Rattle.pm_tool.specs.Said.{IsCutShort, IsSoundExit, job_said}
 use Rattle.pm_tool.specs.declared.outcome.Job.TheVariants as jobs
 use Rattle.pm_tool.specs.declared.outcome.Outcome.{Outcome}
 use Rattle.pm_program.specs.Kept.{KeepsEach, KeepsRun, KeepsRunSaid, KeepsSaid, KeepsTold, PrintsIf, Reads, ReadsEach}
@@ -18,7 +18,7 @@ use Rattle.pm_program.specs.declared.kept.Printing.TheVariants as printings
 use Rattle.pm_plan.specs.declared.file_words.Verb.{Verb}
 use Rattle.pm_plan.specs.declared.file_words.Verb.TheVariants as verbs
 use Rattle.pm_tool.specs.Disks.{images_of}
-use Rattle.pm_told_jobs.specs.Jobs.{LeavesRun, left_in, said_verb}
+use Rattle.pm_told_jobs.specs.Jobs.{LeavesRun, StaysWhereCut, left_in, said_verb}
 
 abbrev bytes_in : Option (List ℕ) → List ℕ
 bytes_in None = []
@@ -39,6 +39,14 @@ pub file_stays : (done : Result Outcome DiskFault) (old new : List ℕ → Optio
     → new path ≡ Some file → OnErr done (Some new ≡ Some old) → old path ≡ Some image → OnErr done (file ≡ image)
 file_stays (Ok outcome) old new path image file has stays had = tt
 file_stays (Err fault) old new path image file has stays had = left old new path image file None has stays had
+
+-- where the job was cut short its file has what it had
+pub file_cut : (done : Result Outcome DiskFault) (old new : List ℕ → Option (List ℕ)) (path image file : List ℕ)
+    → new path ≡ Some file → IfOk done (λ outcome. IsCutShort outcome.exit → Some new ≡ Some old)
+    → old path ≡ Some image → IfOk done (StaysWhereCut image file)
+file_cut (Ok outcome) old new path image file has stays had =
+    λ cut. left old new path image file None has (stays cut) had
+file_cut (Err fault) old new path image file has stays had = tt
 
 -- the file has the image of the outcome, or what it had
 pub file_kept : (done : Result Outcome DiskFault) (old new : List ℕ → Option (List ℕ)) (path image file : List ℕ)

@@ -355,8 +355,9 @@ impl Trials {
     ///
     /// - `$ WORDS`: a command line. `$$ FILES WORDS`: the same, and once more with each call failing, FILES with commas
     ///   between them. `usage WORDS`: one of wrong words.
-    /// - `~ put FILE FROM`, `~ replace FILE FROM`, `~ remove FILE`, `~ symlink FILE TO`, `~ lock FILE`, `~ unlock FILE`,
-    ///   `~ move FILE FROM`, which makes another folder where the files stand, whose names are `elsewhere/FILE`, and then `$~ FILES WORDS`: a command line during which another program does that, before each call in turn. It
+    /// - `~ put FILE FROM`, `~ replace FILE FROM`, `~ remove FILE`, `~ symlink FILE TO`, `~ lock FILE`, `~ unlock
+    ///   FILE`, `~ move FILE FROM`, which makes another folder where the files stand, whose names are `elsewhere/FILE`,
+    ///   and then `$~ FILES WORDS`: a command line during which another program does that, before each call in turn. It
     ///   prints what stands under FILES then.
     /// - `fail LETTER KIND`: the first call of the next command line that has this letter fails so.
     /// - `< TEXT`: a line of its standard input. `key CODE`: one byte more of it. `<<`: what standard output took
@@ -364,8 +365,8 @@ impl Trials {
     /// - `> TEXT`, `] TEXT`, `! TEXT`, `? TEXT`: what standard output, the same without a line feed, standard error,
     ///   and the same without a line feed took.
     /// - `disk`: no files. `closed`: the folder takes no new name. `sticky`: nor does it let a user take away the files
-    ///   of another. `blind`: no path can be made whole. `plain`: the system has no paths of open
-    ///   files. `user NUMBER`: whose program runs. `terminal on`, or `off`.
+    ///   of another. `blind`: no path can be made whole. `plain`: the system has no paths of open files. `user NUMBER`:
+    ///   whose program runs. `terminal on`, or `off`.
     /// - `hold`, `private`, `read-only`, `folder`: another program holds all files, they may not be read, or not be
     ///   written, or are folders; with a FILE behind it that one alone. `busy FILE`: no other can take its place.
     ///   `foreign FILE`: another program made it and has it open.

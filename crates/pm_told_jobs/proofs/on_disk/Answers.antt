@@ -1,6 +1,6 @@
 use Rattle.std.proofs.Common.{rules, Some, codes, string_bytes}
 use Rattle.pm_told.specs.Told.{told}
-use Rattle.pm_told_jobs.proofs.Jobs.{disk_kept, disk_said}
+use Rattle.pm_told_jobs.proofs.Jobs.{disk_kept, disk_said, file_cut}
 use Rattle.pm_told_jobs.proofs.on_disk.Goals as goal
 
 pub returns-clause-kept : goal.returns-clause-kept
@@ -8,6 +8,11 @@ returns-clause-kept c = disk_kept c.args.saving c.do_run-done.result
     (told (string_bytes c.in_ok-from_str.field-0) (Some c.args.image.items)) _ (string_bytes c.in_ok-from_str-2.field-0)
     (codes "file") c.args.image.items c.in_ok-file.file.items c.in_ok-file.ensures.value c.do_run-done.ensures.kept
     (search rules) (search rules)
+
+pub returns-clause-cut : goal.returns-clause-cut
+returns-clause-cut c = file_cut c.do_run-done.result
+    (told (string_bytes c.in_ok-from_str.field-0) (Some c.args.image.items)) _ (codes "file") c.args.image.items
+    c.in_ok-file.file.items c.in_ok-file.ensures.value c.do_run-done.ensures.cut (search rules)
 
 pub returns-clause-said : goal.returns-clause-said
 returns-clause-said c = disk_said c.do_run-done.result

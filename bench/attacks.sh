@@ -4,7 +4,7 @@
 #     bench/attacks.sh [TRIES]
 #
 # It plays root, who works in a folder of another user, and that user (setpriv, number 1234); without root it stops. TRIES
-# is how often the folder is exchanged for a link without pause (100). What wants strace, unshare, python3 or a mount that
+# is how often the folder changes places with a link during a command (100). What wants strace, unshare, python3 or a mount that
 # is not to be had is told as left out. PMACH names another program than ../pmach. Run by hand; no part of the gate.
 here=$(dirname "$(readlink -f "$0")")/..
 pmach=$(readlink -f "${PMACH:-$here/pmach}")
@@ -99,28 +99,38 @@ folder
 said=$(meanwhile "mv u/d u/e; ln -s $scratch/u/e u/d" | within 9 "$pmach" files --image u/d/x put N data)
 comes "a link leads to where the folder is now" "0 , 1" "$said, $(held u/e/x)"
 
-# The folder and a link change places without pause: what has the other folder's name stays, and nothing is added.
+# The folder and a link change places all the time, and strace holds up the command's opens and renames: what has the
+# other folder's name stays, and nothing is added.
 python=$(PATH=/usr/bin:/bin command -v python3)
 if has "the folder and a link change places" "${python:-python3}"; then
     folder
     ln -s ../etc u/l
     echo root >etc/x
     cat >swap.py <<'END'
-import ctypes, os
+import ctypes, os, random, time
 libc = ctypes.CDLL(None)
 while not os.path.exists(b"stop"):
     libc.renameat2(-100, b"u/d", -100, b"u/l", 2)
+    time.sleep(random.random() * 0.06)
 END
     chown -h 1234:1234 u/l
     other "$python" swap.py &
     swapper=$!
+    slow=()
+    command -v strace >/dev/null && slow=(strace -o trace -e trace=openat,rename -e inject=openat:delay_exit=15000
+        -e inject=rename:delay_enter=15000)
+    lost=0
     for ((try = 0; try < tries; try++)); do
-        echo hi | "$pmach" files --image u/d/x put "N$try" data >/dev/null 2>&1
+        echo hi | "${slow[@]}" "$pmach" files --image u/d/x put "N$try" data >/dev/null 2>&1
+        [ "$(ls etc | xargs) $(cat etc/x)" = "x root" ] && continue
+        lost=$((lost + 1))
+        rm -f etc/*
+        echo root >etc/x
     done
     touch stop
     wait $swapper
     rm -f stop
-    comes "the folder and a link change places, $tries tries" "x root" "$(ls etc | tr '\n' ' ')$(cat etc/x)"
+    comes "the folder and a link change places" "0 of $tries lost" "$lost of $tries lost"
 fi
 
 # A LIST that others made is data.

@@ -272,6 +272,23 @@ comes "who may read an image can hold up its writers, as COMMANDS says" "4 read 
 kill $! 2>/dev/null
 wait
 
+if has "a wrong word on a terminal" "${python:-python3}"; then
+    cat >typed.py <<'END'
+import os, pty, sys
+said = b""
+process, terminal = pty.fork()
+if process == 0:
+    os.execv(sys.argv[1], sys.argv[1:])
+try:
+    while some := os.read(terminal, 4096):
+        said += some
+except OSError:
+    pass
+print("raw" if b"\x1b" in said else "plain" if b"?]0;x?" in said else "nothing")
+END
+    comes "a wrong word on a terminal" plain "$("$python" typed.py "$pmach" files --image a $'\e]0;x\a')"
+fi
+
 # A link or a file at the name of the new file is neither followed nor opened.
 folder
 echo secret >etc/x

@@ -88,7 +88,9 @@ impl<'a> Reader<'a> {
         ensures again { result ≡ is_again (reader_seen self.now) (statement_seen statement.now) }
     {
         match (statement, &self.current) {
-            (Statement::Segment { number, .. }, _) => any_number(&self.segments, *number),
+            (Statement::Segment { number, .. }, _) => {
+                *number < 16 && any_number(&self.segments, *number)
+            }
             (
                 Statement::Code(
                     Row::One {

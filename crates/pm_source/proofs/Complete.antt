@@ -1,7 +1,7 @@
 -- The statements of a sound program have no faults, and are read as that program.
 use Rattle.std.proofs.Common.{◌≡◌, ◌≤◌, ℕ, ◌+◌, ◌%◌, Bool, true, false, eqb, not, List, [], ◌∷◌, ◌++◌}
 use Rattle.std.proofs.Common.{length, map, refl, sym, ap, subst, ◌∙◌, arith, append_assoc, Some, None}
-use Rattle.std.specs.Prelude.{◌||◌, nat_eq, ◌==◌}
+use Rattle.std.specs.Prelude.{◌&&◌, ◌||◌, nat_eq, nat_lt, ◌==◌}
 use Rattle.std.specs.List.{list_any, AllByRecursion, IsDistinct}
 use Rattle.std.specs.Option.{option_to_list}
 use Rattle.std.specs.Str.{bytes_eq}
@@ -194,6 +194,10 @@ pub map_append : {A B : Type 0} (f : A → B) (xs ys : List A) → map f (xs ++ 
 map_append f [] ys = refl
 map_append f (x ∷ xs) ys = ap (λ zs. f x ∷ zs) (map_append f xs ys)
 
+and_false : (a b : Bool) → b ≡ false → (a && b) ≡ false
+and_false true b e = e
+and_false false b e = refl
+
 segments_fit : (done ss : List SourceSegment) → IsDistinct nat_eq (map (λ s. s.number) (done ++ ss))
     → AllByRecursion (λ s. AllByRecursion IsSource s.procedures) ss
     → AreFit (outside done) (statements ss) × (after_all (outside done) (statements ss) ≡ outside (done ++ ss))
@@ -203,7 +207,7 @@ segments_fit done (s ∷ ss) d h =
     let new : list_any (λ t. t.number == s.number) done ≡ false = any_number done s.number
     ∙ new_among nat_eq (map (λ t. t.number) done) s.number (map (λ t. t.number) ss)
     (subst (IsDistinct nat_eq) (map_append (λ t. t.number) done (s ∷ ss)) d) in
-    let first : IsFit (outside done) (Segment s.number s.name) = record { in_place = refl; new = new; counted = refl } in
+    let first : IsFit (outside done) (Segment s.number s.name) = record { in_place = refl; new = and_false (nat_lt s.number 16) _ new; counted = refl } in
     let inner = procedures_fit done empty s.procedures 1 (omega arith) h.0 in
     let regrouped : (done ++ s ∷ []) ++ ss ≡ done ++ s ∷ ss = append_assoc done (s ∷ []) ss in
     let more = segments_fit (done ++ s ∷ []) ss (rw regrouped d) h.1 in

@@ -11,6 +11,7 @@ use Rattle.pm_source.proofs.Fit.{AreFit, AllEnd, after_all, taken_in}
 use Rattle.pm_source.proofs.Complete.{append_nil, program_fits}
 use Rattle.pm_source.proofs.Sound.{Reads, reads}
 use Rattle.pm_source.proofs.Lines.{Clean, clean, SaysFit, says_fit}
+use Rattle.pm_source.proofs.Ranged.{said_ranges}
 
 abbrev with : List SourceSegment → Option Source → Reading
 with segments current = record { segments = segments; current = current }
@@ -45,7 +46,7 @@ none_distinct = tt
 pub faultless_is_said : FaultlessIsSaid
 faultless_is_said text e =
     let s : SaysFit start (lines_of text) = says_fit 1 start (lines_of text) e in
-    let r : Reads start s.said = reads start s.said (record { finished = (none_distinct, tt); begun = tt }) s.fit in
+    let r : Reads start s.said = reads start s.said (said_ranges text s.said s.are_said) (record { finished = (none_distinct, tt); begun = tt }) s.fit in
     let end : (after_all start s.said).current ≡ None = closed_at_end [] None s.said s.fit (λ k. absurd (let l : false ≡ true = k in cc)) s.all_end in
     let all : statements (after_all start s.said).segments ≡ s.said = closed_reading (after_all start s.said) s.said r.more end in
     let same : source_of text ≡ (after_all start s.said).segments = ap (λ q. q.segments) s.same in

@@ -1,10 +1,10 @@
 -- What is read without a fault is a sound program, and its statements are those that were read.
-use Rattle.std.proofs.Common.{◌≡◌, ◌≤◌, ℕ, ◌+◌, ◌%◌, Bool, true, false, eqb, not, List, [], ◌∷◌, ◌++◌, length}
+use Rattle.std.proofs.Common.{◌≡◌, ◌<◌, ◌≤◌, ℕ, ◌+◌, ◌%◌, Bool, true, false, eqb, not, List, [], ◌∷◌, ◌++◌, length}
 use Rattle.std.proofs.Common.{map, refl, sym, ap, subst, ◌∙◌, arith, append_assoc, Option, Some, None}
-use Rattle.std.specs.Prelude.{◌&&◌, ◌||◌, nat_eq}
+use Rattle.std.specs.Prelude.{◌&&◌, ◌||◌, ◌==◌, nat_eq, nat_lt}
 use Rattle.std.specs.List.{list_any, AllByRecursion, IsDistinct}
 use Rattle.std.specs.Str.{bytes_eq}
-use Rattle.std.proofs.lemmas.Bool.{eq-eqb, eqb-true}
+use Rattle.std.proofs.lemmas.Bool.{eq-eqb, eqb-true, lt-ltb}
 use Rattle.pm_source.specs.Source.{Name, Row, Statement, Source, SourceSegment, head_statements, entry_statement, statements_from}
 use Rattle.pm_source.specs.Source.{segment_statements, statements, labels_of, exits_of, code_end, entries_used, IsSource}
 use Rattle.pm_source.specs.Source.Row.{Items, Exit}
@@ -12,6 +12,7 @@ use Rattle.pm_source.specs.Source.Statement.{Segment, Begin, Code, Entry, End}
 use Rattle.pm_source.specs.Words.{is_empty}
 use Rattle.pm_source.specs.Faults.{Reading, with_procedure, procedure_count, after}
 use Rattle.pm_source.proofs.Fit.{IsFit, AreFit, after_all, taken_in, IsSound}
+use Rattle.pm_source.proofs.Ranged.{IsRanged}
 use Rattle.pm_source.proofs.Complete.{append_nil, statements_append, labels_append, map_append, exits_append, any_number, has_exit_is, has_label_is}
 
 -- one more that is none of those before it
@@ -40,12 +41,18 @@ pub all_append : {A : Type 0} (P : A → Type 0) (xs ys : List A) → AllByRecur
 all_append P [] ys h k = k
 all_append P (x ∷ xs) ys h k = (h.0, all_append P xs ys h.1 k)
 
-segment_step : (segments : List SourceSegment) (n : ℕ) (name : Name) → IsSound (with segments None) → IsFit (with segments None) (Segment n name)
+-- a test behind one that holds
+behind : (a b : Bool) → a ≡ true → (a && b) ≡ false → b ≡ false
+behind true b e f = f
+behind false b e f = absurd (cc)
+
+segment_step : (segments : List SourceSegment) (n : ℕ) (name : Name) → n < 16 → IsSound (with segments None) → IsFit (with segments None) (Segment n name)
     → Steps (with segments None) (Segment n name)
-segment_step segments n name h f =
+segment_step segments n name small h f =
+    let other : list_any (λ s. s.number == n) segments ≡ false = behind (nat_lt n 16) _ (lt-ltb n 16 small) f.new in
     let new : SourceSegment = record { number = n; name = name; procedures = [] } in
     let numbers : IsDistinct nat_eq (map (λ s. s.number) segments ++ n ∷ []) =
-    distinct_push nat_eq (map (λ s. s.number) segments) n h.finished.0 (sym (any_number segments n) ∙ f.new) in
+    distinct_push nat_eq (map (λ s. s.number) segments) n h.finished.0 (sym (any_number segments n) ∙ other) in
     record {
       sound = record {
         finished = (
@@ -199,27 +206,27 @@ end_step segments p h f =
     never true e f = cc
     never false e f = cc
 
-step : (segments : List SourceSegment) (current : Option Source) (s : Statement) → IsSound (with segments current) → IsFit (with segments current) s
-    → Steps (with segments current) s
-step segments None (Segment n name) h f = segment_step segments n name h f
-step segments None (Begin n level parameters locals) h f = begin_step segments n level parameters locals h f
-step segments None (Code row) h f = absurd (let e : false ≡ true = f.in_place in cc)
-step segments None (Entry line name) h f = absurd (let e : false ≡ true = f.in_place in cc)
-step segments None End h f = absurd (let e : false ≡ true = f.in_place in cc)
-step segments (Some p) (Segment n name) h f = absurd (let e : false ≡ true = f.in_place in cc)
-step segments (Some p) (Begin n level parameters locals) h f = absurd (let e : false ≡ true = f.in_place in cc)
-step segments (Some p) (Code row) h f = code_step segments p row h f
-step segments (Some p) (Entry line name) h f = entry_step segments p line name h
-step segments (Some p) End h f = end_step segments p h f
+step : (segments : List SourceSegment) (current : Option Source) (s : Statement) → IsRanged s → IsSound (with segments current)
+    → IsFit (with segments current) s → Steps (with segments current) s
+step segments None (Segment n name) i h f = segment_step segments n name i.0 h f
+step segments None (Begin n level parameters locals) i h f = begin_step segments n level parameters locals h f
+step segments None (Code row) i h f = absurd (let e : false ≡ true = f.in_place in cc)
+step segments None (Entry line name) i h f = absurd (let e : false ≡ true = f.in_place in cc)
+step segments None End i h f = absurd (let e : false ≡ true = f.in_place in cc)
+step segments (Some p) (Segment n name) i h f = absurd (let e : false ≡ true = f.in_place in cc)
+step segments (Some p) (Begin n level parameters locals) i h f = absurd (let e : false ≡ true = f.in_place in cc)
+step segments (Some p) (Code row) i h f = code_step segments p row h f
+step segments (Some p) (Entry line name) i h f = entry_step segments p line name h
+step segments (Some p) End i h f = end_step segments p h f
 
 -- What a reading of statements without faults gives.
 pub record Reads (r : Reading) (said : List Statement) : Type 0 where
   pub sound : IsSound (after_all r said)
   pub more : taken_in (after_all r said) ≡ taken_in r ++ said
 
-pub reads : (r : Reading) (said : List Statement) → IsSound r → AreFit r said → Reads r said
-reads r [] h f = record { sound = h; more = sym (append_nil (taken_in r)) }
-reads r (s ∷ said) h f =
-    let one : Steps r s = step r.segments r.current s h f.0 in
-    let rest : Reads (after r s) said = reads (after r s) said one.sound f.1 in
+pub reads : (r : Reading) (said : List Statement) → AllByRecursion IsRanged said → IsSound r → AreFit r said → Reads r said
+reads r [] i h f = record { sound = h; more = sym (append_nil (taken_in r)) }
+reads r (s ∷ said) i h f =
+    let one : Steps r s = step r.segments r.current s i.0 h f.0 in
+    let rest : Reads (after r s) said = reads (after r s) said i.1 one.sound f.1 in
     record { sound = rest.sound; more = rest.more ∙ ap (λ ss. ss ++ said) one.more ∙ append_assoc (taken_in r) (s ∷ []) said }

@@ -80,9 +80,9 @@ is_in_place r (Code row) = if_open (λ p. is_empty p.entries) r.current
 is_in_place r (Entry line name) = is_some r.current
 is_in_place r End = if_open has_exit r.current
 
--- A slot, a label of the procedure or the exit code again.
+-- A slot, a label of the procedure or the exit code again. Every number out of its range is 16, which is no slot's.
 abbrev pub is_again : Reading → Statement → Bool
-is_again r (Segment number name) = list_any (λ s. s.number == number) r.segments
+is_again r (Segment number name) = nat_lt number 16 && list_any (λ s. s.number == number) r.segments
 is_again r (Code (Items line (Some label) items)) = if_open (has_label_in label) r.current
 is_again r (Code Exit) = if_open has_exit r.current
 is_again r _ = false

@@ -100,6 +100,11 @@ pub record WorkedFaults : Type 0 where
   -- a label again, before its number is out of range
   pub twice : faults (in_procedure (codes "L: NOP" ∷ codes "L: SLDC 128" ∷ codes ".EXIT" ∷ codes ".END" ∷ []))
       ≡ Twice 4 ∷ Range 4 ∷ []
+  -- segments out of their range, none the slot of one before it; and a slot again
+  pub no_slots : faults (text_of (codes ".SEG 16 A" ∷ codes ".SEG 17 A" ∷ codes ".SEG -1 A" ∷ []))
+      ≡ Range 1 ∷ Range 2 ∷ Range 3 ∷ []
+  pub slot_again : faults (text_of (codes ".SEG 15 A" ∷ codes ".SEG 16 A" ∷ codes ".SEG 15 A" ∷ []))
+      ≡ Range 2 ∷ Twice 3 ∷ []
   -- a short jump backward, and one to a label that stands nowhere
   pub far : faults (in_procedure (codes "L: UJP L" ∷ codes ".EXIT" ∷ codes ".END" ∷ [])) ≡ Far 3 ∷ []
   pub no_label : faults (in_procedure (codes "UJP M" ∷ codes ".EXIT" ∷ codes ".END" ∷ [])) ≡ NoLabel 3 ∷ []

@@ -7,11 +7,6 @@ use pm_tool::{Job, Selection};
 use std::alloc::Global;
 use std::io;
 
-/// What is given.
-pub fn is_given(word: &str) -> bool {
-    matches!(word, "code" | "limit")
-}
-
 /// The steps that a program may make where the case does not say.
 const STEPS: u32 = 100;
 

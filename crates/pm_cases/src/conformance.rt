@@ -5,11 +5,6 @@ use pm_replay::hex_bytes;
 use std::alloc::Global;
 use std::io;
 
-/// What is given: the word is two digits.
-pub fn is_given(word: &str) -> bool {
-    word.len() == 2
-}
-
 /// The steps that a program may make.
 const STEPS: u32 = 10_000;
 
@@ -17,7 +12,7 @@ const STEPS: u32 = 10_000;
 pub fn answers(alloc: Global, case: &Case<'_>) -> io::Result<Came> {
     let mut code = Vec::new(alloc);
     for line in case.lines.iter() {
-        if is_given(line.word) {
+        if line.word.len() == 2 {
             code.extend_from_slice(&hex_bytes(alloc, line.text)?)?;
         }
     }

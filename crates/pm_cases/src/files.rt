@@ -1,31 +1,12 @@
-//! Cases of volumes: a session of commands on one image.
-use crate::case::{Came, Case, Line, MOST_SHOWN};
-use crate::code_file::damage;
-use crate::jobs::{Ran, do_job};
+//! The commands on volumes, as a line of a case spells them.
+use crate::case::Line;
 use pm_filer::FileCommand;
-use pm_replay::{
-    add_escaped, byte, bytes_text, digest_text, hex_bytes, measured, name, number, unreadable, word,
-};
-use pm_tool::Job;
+use pm_replay::{add_escaped, byte, hex_bytes, name, number, unreadable, word};
 use std::alloc::Global;
 use std::io;
 
-/// What is given: commands and damage.
-pub fn is_given(word: &str) -> bool {
-    !matches!(word, "<" | "@")
-}
-
-/// An image, and the one that is remembered.
-#[derive(Drop)]
-struct Session {
-    alloc: Global,
-    image: Vec<u8>,
-    kept: Vec<u8>,
-    came: Came,
-}
-
 /// Two words with a blank between them.
-fn two(text: &str) -> io::Result<(&str, &str)> {
+pub fn two(text: &str) -> io::Result<(&str, &str)> {
     text.split_once(' ').ok_or_else(unreadable)
 }
 
@@ -57,9 +38,10 @@ fn text(alloc: Global, rest: &str) -> io::Result<Vec<u8>> {
 }
 
 /// The bytes that are put.
-fn content(alloc: Global, spelled: &str) -> io::Result<Vec<u8>> {
+fn content(alloc: Global, spelled: &str, program: &[u8]) -> io::Result<Vec<u8>> {
     let line = Line::of(spelled);
     match line.word {
+        "program" => Ok(program.to_vec(alloc)?),
         "hex" => hex_bytes(alloc, line.rest),
         "ramp" => ramp(alloc, line.rest),
         "text" => text(alloc, line.rest),
@@ -89,8 +71,12 @@ fn date(rest: &str) -> io::Result<FileCommand> {
     Ok(FileCommand::Date(byte(year)?, byte(month)?, byte(day)?))
 }
 
-/// The command of a line, and the input that stands for its file.
-fn command(alloc: Global, line: Line<'_>) -> io::Result<(FileCommand, Vec<u8>)> {
+/// The command of a line, and the input that stands for its file. `program` is what the content of that name is.
+pub fn command(
+    alloc: Global,
+    line: Line<'_>,
+    program: &[u8],
+) -> io::Result<(FileCommand, Vec<u8>)> {
     let rest = line.rest;
     let none = Vec::new(alloc);
     match line.word {
@@ -98,12 +84,12 @@ fn command(alloc: Global, line: Line<'_>) -> io::Result<(FileCommand, Vec<u8>)> 
             let (file, rest) = two(rest)?;
             let (spelled, rest) = two(rest)?;
             let command = FileCommand::Put(name(alloc, file)?, kind(spelled)?, none);
-            Ok((command, content(alloc, rest)?))
+            Ok((command, content(alloc, rest, program)?))
         }
         "puttext" => {
             let (file, rest) = two(rest)?;
             let command = FileCommand::PutText(name(alloc, file)?, none);
-            Ok((command, content(alloc, rest)?))
+            Ok((command, content(alloc, rest, program)?))
         }
         "change" => {
             let (old, new) = two(rest)?;
@@ -125,130 +111,18 @@ fn command(alloc: Global, line: Line<'_>) -> io::Result<(FileCommand, Vec<u8>)> 
     }
 }
 
-impl Session {
-    /// Answers what a command came to.
-    fn add(&mut self, ran: Ran) -> io::Result<()> {
-        if ran.is_refused() {
-            self.came.answer("<", ran.outcome.text())?;
-            return Ok(());
-        }
-        self.image = ran.into_image()?;
-        let digest = digest_text(self.alloc, &self.image)?;
-        let line = format!(in self.alloc; "ok {digest}")?;
-        self.came.answer("<", line.as_str())?;
-        Ok(())
-    }
-
-    /// Answers the bytes of a file.
-    fn add_file(&mut self, ran: &Ran) -> io::Result<()> {
-        let bytes = ran.written.as_slice();
-        let line = if ran.is_refused() {
-            String::from_str(self.alloc, ran.outcome.text())?
-        } else if bytes.len() > MOST_SHOWN {
-            let (count, digest) = (bytes.len(), digest_text(self.alloc, bytes)?);
-            format!(in self.alloc; "{count} bytes {digest}")?
-        } else if bytes.is_empty() {
-            String::from_str(self.alloc, "hex")?
-        } else {
-            let digits = hex::encode(self.alloc, bytes)?;
-            format!(in self.alloc; "hex {digits}")?
-        };
-        self.came.answer("<", line.as_str())?;
-        Ok(())
-    }
-
-    /// Answers the lines of a list.
-    fn add_list(&mut self, ran: &Ran) -> io::Result<()> {
-        if ran.is_refused() {
-            self.came.answer("<", ran.outcome.text())?;
-        }
-        let text = ran.text(self.alloc)?;
-        for line in text.as_str().lines() {
-            self.came.answer("<", line)?;
-        }
-        Ok(())
-    }
-
-    /// Does a command.
-    fn command(&mut self, line: Line<'_>) -> io::Result<()> {
-        let (command, input) = command(self.alloc, line)?;
-        let image = self.image.to_vec(self.alloc)?;
-        let ran = do_job(self.alloc, Job::Files { image, command }, &input);
-        match line.word {
-            "list" => self.add_list(&ran),
-            "get" | "gettext" => self.add_file(&ran),
-            _ => self.add(ran),
-        }
-    }
-
-    /// Makes a new volume.
-    fn make(&mut self, rest: &str) -> io::Result<()> {
-        let (volume, blocks) = two(rest)?;
-        let name = name(self.alloc, volume)?;
-        let blocks = word(blocks)?;
-        self.add(do_job(self.alloc, Job::New { name, blocks }, b""))
-    }
-
-    /// Restores the directory from its second copy.
-    fn repair(&mut self) -> io::Result<()> {
-        let image = self.image.to_vec(self.alloc)?;
-        self.add(do_job(self.alloc, Job::Repair { image }, b""))
-    }
-
-    /// Answers the bytes at a place of the image, as many as the line has.
-    fn add_place(&mut self, rest: &str) -> io::Result<()> {
-        let (place, bytes) = two(rest)?;
-        let count = match bytes.split_once(' ') {
-            Some((count, _)) => number(count)?,
-            None => bytes.len() / 2,
-        };
-        let first = number(place)?.min(self.image.len());
-        let behind = &self.image.as_slice()[first..];
-        let part = &behind[..count.min(behind.len())];
-        let text = match bytes.split_once(' ') {
-            Some(_) => measured(self.alloc, part)?,
-            None => hex::encode(self.alloc, part)?,
-        };
-        let line = format!(in self.alloc; "{first} {text}")?;
-        self.came.answer("@", line.as_str())?;
-        Ok(())
-    }
-
-    /// Does one line.
-    fn line(&mut self, line: Line<'_>) -> io::Result<()> {
-        match line.word {
-            "<" => Ok(()),
-            "@" => self.add_place(line.rest),
-            "new" => self.make(line.rest),
-            "repair" => self.repair(),
-            "byte" => damage(&mut self.image, line.rest),
-            "size" => {
-                self.image.resize(number(line.rest)?, 0)?;
-                Ok(())
-            }
-            "keep" => {
-                self.kept = self.image.to_vec(self.alloc)?;
-                Ok(())
-            }
-            "back" => {
-                self.image = self.kept.to_vec(self.alloc)?;
-                Ok(())
-            }
-            _ => self.command(line),
-        }
-    }
-}
-
-/// What comes of a case.
-pub fn answers(alloc: Global, case: &Case<'_>) -> io::Result<Came> {
-    let mut session = Session {
-        alloc,
-        image: Vec::new(alloc),
-        kept: Vec::new(alloc),
-        came: Came::new(alloc),
+/// The command on the file of a slot, if a line names one: `get --slot N`, and such.
+pub fn on_slot(alloc: Global, line: Line<'_>) -> io::Result<Option<FileCommand>> {
+    let Some(rest) = line.rest.strip_prefix("--slot ") else {
+        return Ok(None);
     };
-    for line in case.lines.iter() {
-        session.line(*line)?;
+    let (slot, new) = rest.split_once(' ').unwrap_or((rest, ""));
+    let slot = word(slot)?;
+    match line.word {
+        "get" => Ok(Some(FileCommand::GetSlot(slot))),
+        "gettext" => Ok(Some(FileCommand::GetTextSlot(slot))),
+        "remove" => Ok(Some(FileCommand::RemoveSlot(slot))),
+        "change" => Ok(Some(FileCommand::ChangeSlot(slot, name(alloc, new)?))),
+        _ => Err(unreadable()),
     }
-    Ok(session.came)
 }

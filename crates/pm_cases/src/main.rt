@@ -9,7 +9,11 @@ mod code_file;
 mod conformance;
 mod files;
 mod jobs;
+mod program;
 mod report;
+mod session;
+mod shows;
+mod systems;
 mod texts;
 mod unseen;
 
@@ -18,16 +22,22 @@ use std::{fs, io};
 use unseen::rows;
 
 /// The files, and what their cases are. The planted ones are wrong on purpose, but for the first of each.
-const FILES: [(&str, Kind); 9] = [
+const FILES: [(&str, Kind); 15] = [
     ("bare.cases", Kind::Bare),
     ("boots.cases", Kind::Boots),
     ("files.cases", Kind::Files),
     ("texts.cases", Kind::Texts),
+    ("shows.cases", Kind::Shows),
+    ("disks.cases", Kind::Images),
+    ("systems.cases", Kind::Systems),
     ("bare.txt", Kind::Conformance),
     ("planted-bare.cases", Kind::Bare),
     ("planted-boots.cases", Kind::Boots),
     ("planted-files.cases", Kind::Files),
     ("planted-texts.cases", Kind::Texts),
+    ("planted-shows.cases", Kind::Shows),
+    ("planted-disks.cases", Kind::Images),
+    ("planted-systems.cases", Kind::Systems),
 ];
 
 fn main(rt: HostRuntime) -> io::Result<()> {

@@ -1,6 +1,7 @@
 //! The replay of a file: each case beside its answers, and what is said of those that differ.
 use crate::case::{Came, Case, Line};
-use crate::{bare, boots, conformance, files, texts};
+use crate::texts::{has_text, is_text};
+use crate::{bare, boots, conformance, session, shows, systems, texts};
 use pm_replay::Report;
 use std::alloc::{AllocError, Global};
 use std::io;
@@ -13,6 +14,9 @@ pub enum Kind {
     Boots,
     Files,
     Texts,
+    Shows,
+    Images,
+    Systems,
     Conformance,
 }
 
@@ -25,14 +29,32 @@ impl Kind {
         }
     }
 
-    /// Whether a line of a case is given, and no answer.
+    /// Whether a line of a case is given, and no answer. A text comes to segments, and a code file is given by them.
     fn is_given(self, case: &Case<'_>, word: &str) -> bool {
         match self {
-            Kind::Bare => bare::is_given(word),
-            Kind::Boots => boots::is_given(word),
-            Kind::Files => files::is_given(word),
-            Kind::Texts => texts::is_given(case, word),
-            Kind::Conformance => conformance::is_given(word),
+            Kind::Bare => matches!(word, "code" | "limit"),
+            Kind::Boots => matches!(
+                word,
+                "segment"
+                    | "byte"
+                    | "cut"
+                    | "kind"
+                    | "blocks"
+                    | "disk"
+                    | "name"
+                    | "keys"
+                    | "limit"
+                    | ">"
+            ),
+            Kind::Files | Kind::Images => !matches!(word, "<" | "@"),
+            Kind::Texts if has_text(case) => is_text(word),
+            Kind::Texts => matches!(word, "segment" | "name" | "byte" | "cut"),
+            Kind::Shows => !matches!(word, "<" | "!" | "="),
+            Kind::Systems => matches!(
+                word,
+                "program" | "system" | "on" | "disk" | "name" | "keys" | "limit" | "saves" | ">"
+            ),
+            Kind::Conformance => word.len() == 2,
         }
     }
 
@@ -41,12 +63,18 @@ impl Kind {
         match self {
             Kind::Bare => bare::answers(alloc, case),
             Kind::Boots => boots::answers(alloc, case),
-            Kind::Files => files::answers(alloc, case),
+            Kind::Files => session::answers(alloc, case, usize::MAX),
             Kind::Texts => texts::answers(alloc, case),
+            Kind::Shows => shows::answers(alloc, case),
+            Kind::Images => session::answers(alloc, case, LINES_OF_IMAGE),
+            Kind::Systems => systems::answers(alloc, case),
             Kind::Conformance => conformance::answers(alloc, case),
         }
     }
 }
+
+/// The most lines of a text that a case of any bytes has as they are.
+const LINES_OF_IMAGE: usize = 16;
 
 /// The most lines that are shown of what was expected, of what came, and of a trace.
 const LINES: usize = 8;
@@ -63,18 +91,6 @@ fn expected(alloc: Global, kind: Kind, case: &Case<'_>) -> Result<String, AllocE
         }
     }
     Ok(text)
-}
-
-/// How many lines two texts begin with alike.
-fn alike(one: &str, other: &str) -> usize {
-    let mut count: usize = 0;
-    for (line, beside) in one.lines().zip(other.lines()) {
-        if line != beside {
-            return count;
-        }
-        count = count.saturating_add(1);
-    }
-    count
 }
 
 /// The last line that is given before an answer of this number.
@@ -119,7 +135,8 @@ fn told(
     came: &Came,
 ) -> Result<String, AllocError> {
     let (number, name) = (case.number, case.name);
-    let equal = alike(wanted, came.answers.as_str());
+    let beside = wanted.lines().zip(came.answers.as_str().lines());
+    let equal = beside.take_while(|(line, other)| line == other).count();
     let given = given_before(kind, case, equal);
     let mut text = format!(in alloc; "  line {number}, {name}\n  behind {given}\n")?;
     add_lines(&mut text, "  expected: ", wanted, equal, LINES)?;

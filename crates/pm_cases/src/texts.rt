@@ -8,20 +8,12 @@ use std::alloc::Global;
 use std::io;
 
 /// Whether a word begins a line of a text: `|`, `N*|` or `/`.
-fn is_text(word: &str) -> bool {
+pub fn is_text(word: &str) -> bool {
     word == "/" || word == "|" || word.ends_with("*|")
 }
 
-/// What is given. A text comes to segments, and a code file is given by them.
-pub fn is_given(case: &Case<'_>, word: &str) -> bool {
-    match has_text(case) {
-        true => is_text(word),
-        false => matches!(word, "segment" | "name" | "byte" | "cut"),
-    }
-}
-
 /// Whether a case is a text.
-fn has_text(case: &Case<'_>) -> bool {
+pub fn has_text(case: &Case<'_>) -> bool {
     case.lines.first().is_some_and(|line| is_text(line.word))
 }
 
@@ -43,7 +35,8 @@ fn add_line(text: &mut Vec<u8>, line: Line<'_>) -> io::Result<()> {
     Ok(())
 }
 
-fn text(alloc: Global, case: &Case<'_>) -> io::Result<Vec<u8>> {
+/// The text of a case.
+pub fn text(alloc: Global, case: &Case<'_>) -> io::Result<Vec<u8>> {
     let mut text = Vec::new(alloc);
     for line in case.lines.iter() {
         if is_text(line.word) {

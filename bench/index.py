@@ -124,7 +124,7 @@ def page():
         agree = re.match(r"command lines: (\d+)", line)
         if agree:
             replays.append("%s command lines" % agree.group(1))
-    replays = "The programs of the gate replay, by what they print: %s." % ", ".join(replays)
+    replays = "The gate replays: %s." % ", ".join(replays)
     return "".join(made) + SUMS % (*sums, textwrap.fill(replays, 120))
 
 

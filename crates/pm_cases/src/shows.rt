@@ -67,6 +67,9 @@ impl Words {
                 before = word;
             }
         }
+        if !before.is_empty() {
+            return Err(unreadable());
+        }
         Ok(words)
     }
 }

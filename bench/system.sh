@@ -1,6 +1,6 @@
 #!/bin/bash
 # The system segment of examples/system: each of its procedures by cases, then the programs of that folder, then
-# with-system.sh. What is expected is worked out from the rules of UCSD Pascal. PMACH names another program than
+# with-system.sh, and examples/units with with-units.sh. What is expected is worked out from the rules of UCSD Pascal. PMACH names another program than
 # ../pmach. Run by hand; the gate has the cases of the procedures in crates/pm_trials/data/system.trial.
 here=$(dirname "$(readlink -f "$0")")/..
 pmach=${PMACH:-$here/pmach}
@@ -63,12 +63,16 @@ run_code() { # WORD..: puts the cases on the disk, and runs them
     }
     files remove CASES
     files put CASES code <"$scratch/code"
+    cp "$image" "$scratch/before"
     "$pmach" run --d4 "$image" --save --printer "$scratch/printer" "$@" CASES <"$scratch/typed" >"$scratch/shown" 2>"$scratch/message"
 }
-fresh() { # BLOCKS [VERB..]: a new volume WORK, with a command done first; the cases have blocks 6 to 45
+fresh() { # BLOCKS [VERB..]: a new volume WORK, with a command done first; the cases have its first 40 blocks, from 6
+    # on, or 10 with a second directory, and each free block is full of bytes 229
     files new WORK "$1"
     [ $# = 1 ] || files "${@:2}"
     files date 84 12 1
+    head -c $((512 * ($1 - 10))) /dev/zero | tr '\0' '\345' | files put FILL data
+    files remove FILL
     head -c 20480 /dev/zero | files put CASES code
 }
 run_group() { # [WORD..]: runs the cases, with further words for `run`
@@ -446,6 +450,7 @@ X\r|X\r|0|3
 123\x18456\r|123\x18\x08 \x08\x08 \x08\x08 \x08456\r|456|0
 -5\x086\r|-5\x08 \x086\r|-6|0
 -\x085\r|-\x08 \x085\r|5|0
+-1\x08\r|-1\x08 \x08\r|0|3
 \x089\r|\x08 9\r|9|0
 CASES
 run_group
@@ -562,6 +567,18 @@ call 18
 show_s
 case_is 'a string behind the end is empty' '[]'
 line 'LOD 1, 2'
+call 21
+show_ends
+say B
+line 'LOD 1, 2'
+call 21
+show_ends
+case_is 'READLN behind the end ends, and EOLN is true' 11B11
+line 'LOD 1, 2'
+call 7
+show_ends
+case_is 'GET behind the end: EOLN is true' 11
+line 'LOD 1, 2'
 call 4
 show_ends
 case_is 'RESET(INPUT) forgets the end' 00
@@ -606,14 +623,141 @@ show_c
 case_is 'a file of address 0 is INPUT' LL L
 run_group
 
-# 29, GOTOXY: as terminals have it, from 1 on, the line first
+# The end where a loop, READLN or a string waits for the end of a line; the first call of a program
+until_eoln() { # so many READs of a character to the end of the line, and EOF and EOLN then
+    line 'SLDC 0' 'SRO 259'
+    printf 'loop%s:\n' $loops >>"$scratch/text"
+    line 'LOD 1, 2'
+    function_ 11
+    line LNOT 'FJP past'$loops
+    read_c
+    line 'LDO 259' 'SLDC 1' ADI 'SRO 259' "UJP ^$loops"
+    jumps="$jumps.JUMP loop$loops"$'\n'
+    printf 'past%s:\n' $loops >>"$scratch/text"
+    loops=$((loops + 1))
+    show_i
+    show_ends
+}
 begin
-for place in '0 0' '79 23' '5 10'; do
-    # shellcheck disable=SC2086 # two words
-    set -- $place
-    line "SLDC $1" "SLDC $2" 'CXP 0, 29'
-    case_is "gotoxy($1, $2)" "\\x1b[$(($2 + 1));$(($1 + 1))H"
-done
+line 'LOD 1, 2'
+function_ 11
+line 'SRO 259'
+show_i
+case_is 'EOLN as the first call' 0
+until_eoln
+case_is 'READ to the end of a line' 'AB\r301' 'AB\r'
+until_eoln
+case_is 'and once more: EOLN is true already' 001
+line 'LOD 1, 2'
+call 21
+until_eoln
+case_is 'READ to the end in the middle of a line' 'AB\x03311' 'AB\x03'
+until_eoln
+line 'LOD 1, 2'
+call 21
+until_eoln
+case_is 'READ to the end of a line behind the end, before READLN and behind it' 011011
+line 'LOD 1, 2'
+call 4
+say A
+line 'LOD 1, 2'
+call 21
+say B
+line 'LOD 1, 2'
+call 21
+say C
+case_is 'READLN that the end cuts, and the next' 'A\x03BC' '\x03'
+run_group
+begin
+line 'LOD 1, 2'
+function_ 10
+line 'SRO 259'
+show_i
+case_is 'EOF as the first call' 0
+run_group
+begin
+line 'LOD 1, 2' 'LAO 260' 'CXP 0, 16'
+show_c
+case_is 'READ as the first call' AA A
+run_group
+
+# 29, GOTOXY: as terminals have it, from 1 on, the line first; within 80 columns and 24 lines
+begin
+while read -r x y at; do
+    word "$x"
+    word "$y"
+    line 'CXP 0, 29'
+    case_is "gotoxy($x, $y)" "\\x1b[${at}H"
+done <<'CASES'
+0 0 1;1
+79 23 24;80
+5 10 11;6
+80 24 24;80
+-1 -1 1;1
+-5 100 24;1
+32767 -32768 1;80
+1 22 23;2
+78 1 2;79
+CASES
+
+# The control characters of Apple's screen: 11 clears from the cursor on, 12 all, 25 is the place at the left above, 28 to
+# the right, 29 clears the line from the cursor on, 31 is up
+while IFS='|' read -r value shown; do
+    out
+    word "$value"
+    word 0
+    call 17
+    case_is "write(chr($value)) on the screen" "$shown"
+done <<'CASES'
+11|\x1b[J
+12|\x1b[H\x1b[2J
+25|\x1b[H
+28|\x1b[C
+29|\x1b[K
+31|\x1b[A
+1|\x01
+7|\x07
+8|\x08
+13|\r
+14|\x0e
+24|\x18
+26|\x1a
+27|\x1b
+32| 
+127|\x7f
+CASES
+out
+word 12
+word 3
+call 17
+case_is 'write(chr(12): 3)' '  \x1b[H\x1b[2J'
+while IFS='|' read -r text width shown; do
+    out
+    line "LSA \"$text\""
+    word "$width"
+    call 19
+    case_is "write('$text': $width) on the screen" "$shown"
+done <<'CASES'
+A\0cB|0|A\x1b[H\x1b[2JB
+\0c\0cAB|0|\x1b[H\x1b[2J\x1b[H\x1b[2JAB
+AB\1f|0|AB\x1b[A
+\0b|0|\x1b[J
+\19AB\1cC\1d|8|  \x1b[HAB\x1b[CC\x1b[K
+A\0cB|2|A\x1b[H\x1b[2J
+CASES
+out
+line "LSA \"$(times 255 x | sed 's/x/\\0b/g')\"" 'SLDC 0'
+call 19
+case_is 'write of 255 characters 11' "$(times 255 x | sed 's/x/\\x1b[J/g')"
+out
+line 'LPA "A\0cB"' 'SLDC 0' 'SLDC 3'
+call 20
+case_is 'write of an array on the screen' 'A\x1b[H\x1b[2JB'
+out
+line 'SIND 0' 'SLDC 0' 'SLDC 12' STB
+out
+line 'CXP 0, 8'
+case_is 'PUT(OUTPUT) on the screen' '\x1b[H\x1b[2J'
 run_group
 
 # What is not served: a number, the name, and the place of the call as `break` takes it. The calls begin at 0
@@ -697,6 +841,18 @@ list_is() { # NAME LINE..: the files of the disk but the cases: name, kind, firs
     result "$1" $status
     [ $status = 0 ] || cat "$scratch/got"
 }
+written_are() { # NAME BLOCK..: what the last group changed: these blocks alone, and behind the entries of the
+    # directory nothing stands. A block is a number, or first-last
+    cmp -l "$scratch/before" "$image" | awk '{ n = int(($1 - 1) / 512); if (!seen[n]++) print n }' >"$scratch/got"
+    local range
+    for range in "${@:2}"; do seq "${range%-*}" "${range#*-}"; done | sort -nu | cmp -s - "$scratch/got"
+    local status=$? entries
+    result "$1: the blocks that were written" $status
+    [ $status = 0 ] || tr '\n' ' ' <"$scratch/got"
+    entries=$(od -An -tu1 -j1040 -N1 "$image")
+    tail -c +$((1025 + 26 * (entries + 1))) "$image" | head -c $((26 * (77 - entries))) | tr -d '\0' | cmp -s - /dev/null
+    result "$1: nothing behind the entries" $?
+}
 bytes_are() { # NAME FILE: the bytes of the file are those of standard input
     files get "$2" >"$scratch/got" </dev/null && cmp -s - "$scratch/got"
     local status=$?
@@ -758,7 +914,12 @@ A.DATA[|3
 A.DATA[5|3
 A.DATA[X]|3
 A.DATA[5X]|3
-A.DATA[5]X|3
+A.DATA[5]X|0
+A.DATA[5]X[|0
+A.DATA[5]]|0
+A.DATA[]5|0
+A.DATA]5[|3
+A.DATA[5[|3
 |3
  |3
 CASES
@@ -790,7 +951,17 @@ io
 line "LAO $f" 'LAO 259' 'CXP 0, 12'
 io
 case_is 'GET, PUT, SEEK, BLOCKREAD, RESET, WRITE, READ of a closed file' 9999:0999
+line 'SLDC 81' 'SRO 260' "LAO $f" 'LAO 260' 'CXP 0, 16'
+io
+show_c
+case_is 'READ of a character of a closed file leaves it' 9Q
+line 'SLDC 81' 'SRO 259' "LAO $f" 'LAO 3' 'SLDC 80' 'CXP 0, 18'
+io
+line "LAO $f" 'CXP 0, 21'
+io
+case_is 'READ of a string and READLN of a closed file' 99
 run_group
+written_are 'titles'
 list_is 'nothing changed on the disk' 'A.DATA data 46 1 3 084-12-01' 'FIFTEEN.LETTERS data 47 1 3 084-12-01' \
     'files 3 free 152 largest 152'
 
@@ -808,6 +979,7 @@ for title in 'NAME.TEXT[6]' 'NAME.CODE[6]' 'NAME.BACK[6]' 'NAME.INFO[6]' 'NAME.G
     case_is "rewrite '$title'" 000
 done
 run_group
+written_are kinds 2 46-60
 list_is 'kinds' 'NAME.TEXT text 46 4 512 084-12-01' 'NAME.CODE code 50 1 2 084-12-01' 'NAME.BACK text 51 4 512 084-12-01' \
     'NAME.INFO info 55 1 2 084-12-01' 'NAME.GRAF graf 56 1 2 084-12-01' 'NAME.FOTO foto 57 1 2 084-12-01' \
     'NAME.DATA data 58 1 2 084-12-01' 'NAME data 59 1 2 084-12-01' '.TEXT data 60 1 2 084-12-01' 'files 10 free 139 largest 139'
@@ -895,6 +1067,7 @@ at_end $f
 case_is 'and it is there' 020101
 close $f 0
 run_group
+written_are records 2 46-48
 list_is 'the file of records' 'R data 46 3 182 084-12-01' 'files 2 free 151 largest 151'
 for ((i = 1; i <= 200; i++)); do
     if [ $i = 87 ]; then words 87 4660 $((87 * 87)); else words $i -$i $((i * i)); fi
@@ -952,6 +1125,7 @@ get $f
 at_end $f
 case_is 'records of 600 bytes' 000=77=11=441
 run_group
+written_are 'large records' 2 46-54
 list_is 'seven records of 600 bytes' 'BIG data 46 9 104 084-12-01' 'files 2 free 145 largest 145'
 for ((i = 1; i <= 7; i++)); do times 600 "$i" | tr 1234567 '\1\2\3\4\5\6\7'; done >"$scratch/records"
 bytes_are 'their bytes' BIG <"$scratch/records"
@@ -1015,6 +1189,7 @@ rewrite $f 'EMPTY[2]'
 close $f 1
 case_is 'a new file without records' 00
 run_group
+written_are CLOSE 2 54-56 58
 list_is 'what CLOSE left' 'NORMAL data 46 1 15 084-12-01' 'PURGE data 48 1 14 084-12-01' 'OLDLOCK data 50 1 16 084-12-01' \
     'CRUNCH data 51 1 4 084-12-01' 'SOUGHT data 52 0 512 084-12-01' 'BEHIND data 53 1 15 084-12-01' 'LOCK data 54 1 2 084-12-01' \
     'CRUNCHED data 55 1 2 084-12-01' 'TWICE data 56 0 512 084-12-01' 'ONE data 56 1 4 084-12-01' 'TWO data 58 1 2 084-12-01' \
@@ -1110,7 +1285,52 @@ seek $f 3
 get $f
 show_top "LAO $((f + 300))" 'SLDC 0' LDB
 case_is 'SEEK in a text does nothing' 000"$(printf %d "'N")"
+close $f 0
+# An INTERACTIVE file: a line, GET and READ within the spaces in front of one, and the end
+printf 'ONE\n    AB\n' | files puttext TWO.TEXT
+read_f() {
+    line "LAO $f" 'LAO 260'
+    call 16
+}
+init $g 0
+reset $g TWO.TEXT
+f=$g
+line "LAO $f" 'LAO 3' 'SLDC 80'
+call 18
+line "LAO $f"
+call 21
+show_s
+get $f
+read_f
+show_c
+get $f
+read_f
+show_c
+read_f
+show_c
+read_f
+show_c
+read_f
+show_c
+at_end $f
+case_is 'INTERACTIVE: GET and READ within spaces' '00[ONE]    A0'
+for shown in '[B]00' '[]11' '[]11'; do
+    line "LAO $f" 'LAO 3' 'SLDC 80'
+    call 18
+    line "LAO $f"
+    call 21
+    show_s
+    at_end $f
+    out
+    line "LAO $f"
+    function_ 11
+    line 'SLDC 0'
+    call 13
+    case_is "INTERACTIVE: READ of a string and READLN, $shown" "$shown"
+done
+f=261
 run_group
+written_are 'texts that are read'
 
 # Texts: what is written, up to a full disk. A page ends behind the line that ends in its last 127 bytes: nine lines of
 # 101 bytes end at byte 909, so each of the 6 pages that 14 blocks have has nine
@@ -1137,6 +1357,7 @@ case_is 'the 55th line has no room' '55 91'
 close $f 1
 case_is 'CLOSE LOCK of it' 0
 run_group
+written_are 'a full disk' 2 46-59
 list_is 'the text has all free blocks' 'OUT.TEXT text 46 14 512 084-12-01' 'files 2 free 0 largest 0'
 for ((i = 1; i <= 54; i++)); do echo "  $(times 98 L)"; done >"$scratch/lines"
 files gettext OUT.TEXT | cmp -s - "$scratch/lines"
@@ -1171,19 +1392,86 @@ show_s
 case_is 'and read again' '0[ -32768  !  ABC]'
 rewrite $g 'HALF.DATA[*]'
 close $g 0
-rewrite $g 'X.TEXT[1]'
-case_is 'a text has two blocks at least' 009
+for ((i = 0; i < 4; i++)); do rewrite $g "X.TEXT[$i]" && close $g 0; done
+case_is 'a text has four blocks at least' 0000909090
+rewrite $g 'X.TEXT[4]Y'
+close $g 0
+case_is 'four, and what stands behind a size does not count' 00
 run_group
+written_are 'a small text' 2 46-51
 list_is 'the small text' 'ODD.TEXT text 46 4 512 084-12-01' 'files 2 free 11 largest 11'
 printf ' -32768  !  ABC\nEND\n' >"$scratch/lines"
 files gettext ODD.TEXT | cmp -s - "$scratch/lines"
 result 'its two lines' $?
 
+# PUT of characters ends pages as WRITE does: 15 lines of 61 bytes have 915, the first end of a line in the last 127
+fresh 80
+begin
+init $f -2
+rewrite $f 'PUT.TEXT'
+loop
+line 'SLDC 1' 'SRO 260'
+printf 'inner:\n' >>"$scratch/text"
+line "LAO $((f + 300))" 'SLDC 0' 'SLDC 81' STB "LAO $f"
+call 8
+line 'LDO 260' 'SLDC 1' ADI 'SRO 260' 'LDO 260' 'SLDC 60' GRTI "FJP ^1"
+line "LAO $((f + 300))" 'SLDC 0' 'SLDC 13' STB "LAO $f"
+call 8
+again 30
+jumps="$jumps.JUMP inner"$'\n'
+close $f 1
+case_is '30 lines by PUT' 00
+rewrite $f 'SHORT.TEXT[4]'
+for value in 65 12 13; do
+    line "LAO $f" "SLDC $value" 'SLDC 0'
+    call 17
+done
+close $f 1
+case_is 'byte 12 in a text' 00
+run_group
+written_are PUT 2 46-55
+list_is 'the text of PUT' 'PUT.TEXT text 46 6 512 084-12-01' 'SHORT.TEXT text 52 4 512 084-12-01' 'files 3 free 24 largest 24'
+page() { head -c $((1024 - $(wc -c <"$1"))) /dev/zero | cat "$1" -; }
+for ((i = 0; i < 15; i++)); do printf '%s\r' "$(times 60 Q)"; done >"$scratch/page"
+bytes_are 'its two pages' PUT.TEXT < <(head -c 1024 /dev/zero && page "$scratch/page" && page "$scratch/page")
+printf 'A\f\r' >"$scratch/page"
+bytes_are 'a text keeps byte 12' SHORT.TEXT < <(head -c 1024 /dev/zero && page "$scratch/page")
+
+# Gaps that are too small for a text; the date of a file that is only read, and of one that is written
+for more in 3 4; do
+    fresh $((46 + more))
+    begin
+    init $f -2
+    rewrite $f X.TEXT
+    case_is "a text in a gap of $more blocks" $((more < 4 ? 9 : 0))
+    run_group
+done
+fresh 200
+printf 'READ ME' | files put READ data
+printf 'WRITE ME' | files put WRITE data
+files date 85 1 2
+begin
+init $f 1
+reset $f READ
+get $f
+close $f 0
+reset $f READ
+close $f 1
+reset $f WRITE
+set_window $f 0 'LDCI 16961'
+put $f
+close $f 0
+case_is 'a file that is read, and one that is written' 000000
+run_group
+written_are 'a file that is read, and one that is written' 2 47
+list_is 'their dates' 'READ data 46 1 7 084-12-01' 'WRITE data 47 1 8 085-01-02' 'files 3 free 152 largest 152'
+bytes_are 'their bytes' WRITE < <(printf 'WRABE ME')
+
 # Room: sizes, the largest gap, half of it, files that grow, a full directory
 fresh 100
-head -c 2048 /dev/zero | files put HOLE4 data
+times 2048 A | files put HOLE4 data
 head -c 512 /dev/zero | files put A data
-head -c 5120 /dev/zero | files put HOLE10 data
+times 5120 A | files put HOLE10 data
 head -c 512 /dev/zero | files put B data
 files remove HOLE4
 files remove HOLE10
@@ -1226,6 +1514,7 @@ case_is 'an old file grows into the gap behind it' 000
 rewrite $f 'MUCH[39]'
 case_is 'a size that no gap has' 9
 run_group
+written_are room 2 46-49 51 52 62 81
 list_is 'where they stand' 'FOUR data 46 4 512 084-12-01' 'A data 50 1 512 084-12-01' 'FIVE data 51 2 512 084-12-01' \
     'B data 61 1 512 084-12-01' 'HALF data 62 1 512 084-12-01' 'LARGEST data 81 1 512 084-12-01' 'files 7 free 44 largest 18'
 fresh 200
@@ -1242,6 +1531,7 @@ put $f
 close $f 1
 case_is 'after PURGE of one there is room for one' 0000
 run_group
+written_are 'a full directory' 5 121
 [ "$(files list | tail -n 2 | tr '\n' ' ' | sed 's/  */ /g')" = 'F77 data 121 1 2 084-12-01 files 77 free 78 largest 78 ' ]
 result 'the last of the full directory' $?
 
@@ -1264,7 +1554,7 @@ case_is 'block 1 of a file' 0:190
 blocks $h 1 3 1
 blocks $h 0 0 1
 blocks $h -1 0 1
-case_is 'the block behind the last, no blocks, fewer than none' 0:00:00:0
+case_is 'the block behind the last, no blocks, fewer than none' 0:00:09:0
 close $h 0
 reset $h '#4:'
 blocks $h 1 2 1
@@ -1283,6 +1573,7 @@ blocks $h 2 2 0
 close $h 1
 case_is 'BLOCKWRITE goes on behind the size, where blocks are free' 00:20:10:20
 run_group
+written_are BLOCKWRITE 2 49-52
 list_is 'the blocks that were written' 'Z data 46 3 276 084-12-01' 'NEW data 49 4 512 084-12-01' 'files 3 free 147 largest 147'
 bytes_are 'their bytes' NEW < <(times 2048 Q)
 
@@ -1300,13 +1591,20 @@ case_is 'PRINTER:' 00
 rewrite $f '#6:'
 line "LAO $f" 'LDCI 42' 'SLDC 5'
 call 13
+line "LAO $f" 'LSA "\0c\1f"' 'SLDC 0'
+call 19
 close $f 0
 case_is '#6:' 00
 rewrite $f 'CONSOLE:'
-line "LAO $f" 'LSA "HERE"' 'SLDC 0'
+line "LAO $f" 'LSA "HERE\0c"' 'SLDC 0'
 call 19
 close $f 0
-case_is CONSOLE: 0HERE0
+case_is CONSOLE: '0HERE\x1b[H\x1b[2J0'
+rewrite $f 'SYSTERM:'
+line "LAO $f" 'LSA "\1fTHERE"' 'SLDC 0'
+call 19
+close $f 0
+case_is SYSTERM: '0\x1b[ATHERE0'
 reset $f 'SYSTERM:'
 close $f 0
 case_is 'RESET of SYSTERM: as a TEXT reads its first character' 00 T
@@ -1314,7 +1612,7 @@ line 'LOD 1, 2' 'SLDC 1' 'CXP 0, 6'
 show_ends
 case_is 'INPUT stays open' 00
 run_group
-printf '  ON PAPER\r   42' | cmp -s - "$scratch/printer"
+printf '  ON PAPER\r   42\f\037' | cmp -s - "$scratch/printer"
 result 'the paper' $?
 
 other=$scratch/other
@@ -1341,8 +1639,7 @@ close $f 2
 case_is 'a new text on unit 5' 00010
 run_group --d5 "$other"
 
-fresh 200
-files duplicate 2>/dev/null || { files new WORK 200 && files duplicate && files date 84 12 1 && head -c 20480 /dev/zero | files put CASES code; }
+fresh 200 duplicate
 begin
 init $f -2
 rewrite $f 'ONE.TEXT[8]'
@@ -1350,6 +1647,7 @@ close $f 1
 rewrite $f 'LEFT.TEXT[8]'
 case_is 'a new file that is left open' 000
 run_group
+written_are 'a new file that is left open' 2 6 50-53
 list_is 'it stands in the directory' 'ONE.TEXT text 50 2 512 084-12-01' 'LEFT.TEXT text 52 8 512 100-00-00' 'files 3 free 140 largest 140'
 cmp -s <(dd if="$image" bs=512 skip=2 count=4 2>/dev/null) <(dd if="$image" bs=512 skip=6 count=4 2>/dev/null)
 result 'and in the second copy' $?
@@ -1359,6 +1657,7 @@ reset $f LEFT.TEXT
 reset $f ONE.TEXT
 case_is 'the next program does not see it' 90
 run_group
+written_are 'the next program' 2 6
 list_is 'it is gone' 'ONE.TEXT text 50 2 512 084-12-01' 'files 2 free 148 largest 148'
 cmp -s <(dd if="$image" bs=512 skip=2 count=4 2>/dev/null) <(dd if="$image" bs=512 skip=6 count=4 2>/dev/null)
 result 'and from the second copy' $?

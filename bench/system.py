@@ -4,7 +4,12 @@ Of files: each program has three files of records of one size, and opens, writes
 after each step it shows IORESULT, EOF and the first byte of the window, and at the end the volume has the files and bytes
 of the model. The model keeps a list of entries and, for each open file, its bytes and where the next record is.
 Of texts: LISTER lists, and COPYTEXT copies, a text that `pmach files puttext` has put.
-Of strings and widths: WRITE of each kind, CONCAT, INSERT, COPY, DELETE and POS with lengths, places and widths of all sizes."""
+Of titles: what RESET answers to names, volumes and sizes that are right and wrong.
+Of strings and widths: WRITE of each kind, CONCAT, INSERT, COPY, DELETE and POS with lengths, places and widths of all sizes.
+Of dialogues: READ of each kind, READLN, EOF, EOLN, GET and loops until EOF or EOLN, of INPUT and KEYBOARD, where digits,
+signs, letters, blanks, ends of lines and of the file and the bytes that take characters back are typed; many go on
+behind the end. Of readings: the same of a text on the disk, or of bytes, as a TEXT and as INTERACTIVE. The model reads
+characters one by one as UCSD Pascal does, and says what the console has. Each run has to end by itself."""
 import os
 import random
 import subprocess
@@ -17,6 +22,7 @@ count = int(sys.argv[3]) if len(sys.argv) > 3 else 100
 folder = os.path.dirname(os.path.abspath(__file__)) + "/../examples/system/"
 system = open(folder + "system.text", encoding="ascii").read()
 CASES = 40 # blocks of the program's file, from block 6 on
+FILL = b"\xe5" * 512 # what stands in a block that nothing was written to
 NAMES = ["A", "B", "C", "D"]
 
 
@@ -29,6 +35,7 @@ class Model:
     """A volume of so many blocks with the entries behind the program's."""
     def __init__(self, blocks, size):
         self.blocks, self.size, self.entries = blocks, size, []
+        self.had = set() # the blocks that an entry had at any time: no other is written
         self.files = [None] * 3
         self.shown = [(1, 0)] * 3 # EOF, first byte of the window
 
@@ -67,6 +74,7 @@ class Model:
                 return 9
         entry = Entry(name, at, at + length, bytearray(), True)
         self.entries.insert(place, entry)
+        self.had.update(range(at, at + length))
         self.files[f] = [entry, bytearray(), 0, False] # entry, bytes, place, modified
         self.shown[f] = (0, self.shown[f][1])
         return 0
@@ -105,6 +113,7 @@ class Model:
             place = self.entries.index(entry)
             free = self.entries[place + 1].first if place + 1 < len(self.entries) else self.blocks
             entry.end = max(entry.end, free)
+            self.had.update(range(entry.first, entry.end))
             if after > 512 * (entry.end - entry.first):
                 self.shown[f] = (1, byte)
                 return -9 # the program ends here: part of a record may be there
@@ -145,11 +154,12 @@ def show(lines, file, index, window):
               "SLDC 0", "CXP 0, 17", "LOD 1, 3", "LAO %d" % window, "SLDC 0", "LDB", "SLDC 0", "CXP 0, 13", "LOD 1, 3", "CXP 0, 22"]
 
 
-def code_of(lines):
-    """The code file of a program of straight code."""
+def code_of(lines, jumps=()):
+    """The code file of a program of straight code; these labels are the entries of its jump table."""
     text = system + ".SEG 1 RANDOM\n.PROC 1 0 4 5000\n" + "\n".join(lines) + "\n.EXIT\nRBP 0\n"
+    end = "".join(".JUMP %s\n" % label for label in jumps) + ".END\n"
     for more in ("", "NOP\n"): # for an even length
-        code = subprocess.run([program, "asm"], input=(text + more + ".END\n").encode(), stdout=subprocess.PIPE, stderr=subprocess.PIPE)
+        code = subprocess.run([program, "asm"], input=(text + more + end).encode(), stdout=subprocess.PIPE, stderr=subprocess.PIPE)
         if code.returncode == 0:
             return code.stdout
     raise ValueError(code.stderr)
@@ -159,8 +169,8 @@ def files(*words, data=b""):
     return subprocess.run([program, "files", "--image", image] + list(words), input=data, stdout=subprocess.PIPE, check=True).stdout
 
 
-def run(name, typed=b""):
-    return subprocess.run([program, "run", "--d4", image, "--save", "--limit", "4000000000", name], input=typed,
+def run(name, typed=b"", limit=4000000000):
+    return subprocess.run([program, "run", "--d4", image, "--save", "--limit", str(limit), name], input=typed,
                           stdout=subprocess.PIPE, stderr=subprocess.PIPE)
 
 
@@ -306,6 +316,8 @@ def records(number):
             wanted.append("%d %d %d" % (answer, *model.shown[n]))
             steps.append("the last close of file %d" % n)
     files("new", "WORK", str(blocks))
+    files("put", "FILL", "data", data=FILL * (blocks - 6))
+    files("remove", "FILL")
     files("put", "CASES", "code", data=code_of(lines).ljust(512 * CASES, b"\0"))
     ran = run("CASES")
     got = ran.stdout.decode("latin1").split("\r")[:-1]
@@ -321,17 +333,301 @@ def records(number):
         for e in model.entries:
             if files("get", e.name) != bytes(e.data):
                 return "program %d: other bytes in %s" % (number, e.name)
+    disk = open(image, "rb").read()
+    for block in range(6 + CASES, blocks):
+        if block not in model.had and disk[512 * block:512 * block + 512] != FILL:
+            return "program %d: block %d was written, which no file had" % (number, block)
+    if disk[1024 + 26 * (disk[1040] + 1):1024 + 26 * 78].strip(b"\0"):
+        return "program %d: something stands behind the entries of the directory" % number
     return ""
 
 
+def answer_to(title, names):
+    """IORESULT of RESET, of a file of blocks: 3 a bad title, 9 no such volume or file."""
+    text = "".join(c for c in title if c > " ").upper()
+    if not 1 <= len(text) <= 80:
+        return 3
+    star, text = text[0] == "*", text.removeprefix("*")
+    volume, colon, rest = text.partition(":")
+    if not colon:
+        volume, rest = "", text
+    name, bracket, size = rest.partition("[")
+    if len(volume) > 7 or len(name) > 15:
+        return 3
+    if bracket:
+        size, end, _ = size.partition("]")
+        if not end or size != "*" and not all("0" <= c <= "9" for c in size):
+            return 3
+    unit = {"": 4, "WORK": 4, "*": 4, "CONSOLE": 1, "SYSTERM": 2, "PRINTER": 6}.get(volume, 0)
+    if volume[:1] == "#" and all("0" <= c <= "9" for c in volume[1:]):
+        unit = int(volume[1:] or "0")
+        unit = unit if unit in (1, 2, 4, 6) else 0
+    if unit == 0 or unit == 4 and name and name not in names:
+        return 9
+    return 0
+
+
+def titles(number):
+    chance = random.Random(number)
+    names = ["A", "A.DATA", "WORK", "#5", "FIFTEEN.LETTERS", "X]Y"]
+    files("new", "WORK", "100")
+    for name in names:
+        files("put", name, "data", data=b"x")
+    lines = ["LAO 200", "LDCN", "LDCI -1", "CXP 0, 3"]
+    wanted = []
+    for _ in range(40):
+        title = "".join(chance.choice(["", "", "", "*", ":", "WORK:", "#4:", "#", "4", "12", "A", "A.DATA", "a.data", "work", "[", "]", "[*]",
+                                       "[5]", "[77]", "FIFTEEN.LETTERS", " ", "\t", "\x7f", "CONSOLE:", "X", "Y" * 70])
+                        for _ in range(chance.randrange(1, 7)))
+        if chance.random() < 0.5:
+            title = chance.choice(["", "*", ":", "WORK:", "work :", "#4:", "#04:", "#5:", "SEVENLE:"]) + chance.choice(names) + \
+                chance.choice(["", "[5]", "[*]", "[]", "[5", "[5]Y", "[X]", "]", "[5*]", "[**]", "[12]]", "[", " "])
+        lines += ["LAO 200", 'LSA "%s"' % "".join(c if 32 <= ord(c) < 127 and c not in '"\\' else "\\%02x" % ord(c) for c in title),
+                  "SLDC 1", "LDCN", "CXP 0, 5", "LOD 1, 3", "CSP 34", "SLDC 0", "CXP 0, 13", "LOD 1, 3", "CXP 0, 22",
+                  "LAO 200", "SLDC 0", "CXP 0, 6"]
+        wanted.append((title, str(answer_to(title, names))))
+    files("put", "CASES", "code", data=code_of(lines))
+    ran = run("CASES")
+    for (title, want), have in zip(wanted, ran.stdout.decode().split("\r")):
+        if have != want:
+            return "titles %d: %r answers %s and not %s; %s" % (number, title, have, want, ran.stderr)
+    return "" if ran.returncode == 0 else "titles %d: %s" % (number, ran.stderr)
+
+
+class Reader:
+    """A file that is read: take() is the next byte or the end, None; what the console has is put into `shown`."""
+    def __init__(self, take, shown, screen, ahead):
+        self.take, self.shown, self.screen, self.ahead = take, shown, screen, ahead
+        self.window = 0
+        self.reset()
+
+    def reset(self):
+        self.eof, self.eoln, self.needed = False, False, True
+        if self.ahead:
+            self.get()
+
+    def get(self):
+        if self.eof:
+            self.eoln = True
+            return
+        byte = self.take()
+        self.needed = False
+        self.eof = byte is None
+        self.eoln = byte is None or byte == 13
+        self.window = 32 if self.eoln else byte
+
+    def read(self):
+        if self.needed and not self.ahead:
+            self.get()
+        byte, self.needed = self.window, True
+        if self.ahead:
+            self.get()
+        return byte
+
+    def back(self, taken):
+        """Takes back what was typed, where the window does so; whether it does."""
+        if not self.screen or self.window not in (8, 127, 24):
+            return False
+        if self.window == 8: # the console has moved the cursor already
+            self.shown += b" \x08" if taken else b" "
+            del taken[-1:]
+        while taken and self.window == 24 or taken and self.window == 127:
+            self.shown += b"\x08 \x08"
+            del taken[-1:]
+            if self.window == 127:
+                break
+        return True
+
+    def read_string(self, room):
+        if self.needed and not self.ahead:
+            self.get()
+        text = []
+        while not self.eoln and len(text) < room:
+            if not self.back(text):
+                text.append(self.window)
+            self.get()
+        while not self.eoln:
+            self.get()
+        return bytes(text)
+
+    def read_integer(self):
+        """The number, and IORESULT."""
+        if self.needed and not self.ahead:
+            self.get()
+        text = []
+        while True:
+            if not text and self.eof:
+                return 0, 0
+            if not text and self.window == 32:
+                pass
+            elif 48 <= self.window <= 57 or not text and self.window in (43, 45):
+                text.append(self.window)
+            elif not self.back(text):
+                break
+            self.get()
+            if text and self.eof:
+                break
+        spelled = bytes(text).decode()
+        if spelled.strip("+-") == "":
+            return 0, 3
+        return (int(spelled) + 32768) % 65536 - 32768, 0
+
+    def readln(self):
+        while not self.eoln:
+            self.get()
+        if self.ahead:
+            self.get()
+        else:
+            self.needed, self.eoln = True, self.eof
+
+
+def steps_of(chance, load, reader, lines, name):
+    """A random step: adds its lines and what the console has then."""
+    shown = reader.shown
+
+    def number(line, value):
+        lines.extend(["LOD 1, 3"] + line + ["SLDC 0", "CXP 0, 13", "LOD 1, 3", "SLDC 32", "SLDC 0", "CXP 0, 17"])
+        later.append(b"%d " % value)
+    later = [] # what is shown behind what the step itself makes the console have
+    what = chance.choice(["read", "read", "integer", "integer", "string", "readln", "readln", "get", "until eoln", "until eof",
+                          "reset"])
+    if what == "reset" and not reader.eof and chance.random() < 0.8:
+        what = "readln"
+    result = 0
+    if what == "read":
+        value = reader.read()
+        lines.extend([load, "LAO 5", "CXP 0, 16", "CSP 34", "SRO 4"])
+        number(["LDO 5"], value)
+    elif what == "integer":
+        value, result = reader.read_integer()
+        lines.extend([load, "LAO 5", "CXP 0, 12", "CSP 34", "SRO 4"])
+        number(["LDO 5"], value)
+    elif what == "string":
+        room = chance.choice([0, 1, 3, 80, 80, 255])
+        text = reader.read_string(room)
+        lines.extend([load, "LAO 10", "LDCI %d" % room, "CXP 0, 18", "CSP 34", "SRO 4"])
+        number(["LAO 10", "SLDC 0", "LDB"], len(text))
+        lines.extend(["SLDC 1", "LAO 10", "SLDC 1", "LAO 10", "SLDC 0", "LDB", "SLDC 0", "SLDC 0", "CSP 6"])
+        later.append(text)
+    elif what == "readln":
+        reader.readln()
+        lines.extend([load, "CXP 0, 21", "CSP 34", "SRO 4"])
+    elif what == "get":
+        reader.get()
+        lines.extend([load, "CXP 0, 7", "CSP 34", "SRO 4"])
+        number([load, "SIND 0", "SLDC 0", "LDB"], reader.window)
+    elif what == "reset":
+        reader.reset()
+        lines.extend([load, "CXP 0, 4", "CSP 34", "SRO 4"])
+    else:
+        flag = "eof" if what == "until eof" else "eoln"
+        count = 0
+        lines.extend(["SLDC 0", "SRO 5", "%s: %s" % (name, load), "SLDC 0", "SLDC 0",
+                      "CXP 0, %d" % (10 if flag == "eof" else 11), "LNOT", "FJP past%s" % name, load, "LAO 6", "CXP 0, 16",
+                      "LDO 5", "SLDC 1", "ADI", "SRO 5", "UJP ^%d" % int(name[4:]), "past%s: SLDC 0" % name, "SRO 4"])
+        while not getattr(reader, flag):
+            reader.read()
+            count += 1
+        number(["LDO 5"], count)
+    number(["LDO 4"], result)
+    for procedure, value in ((10, reader.eof), (11, reader.eoln)):
+        lines.extend(["LOD 1, 3", load, "SLDC 0", "SLDC 0", "CXP 0, %d" % procedure, "SLDC 0", "CXP 0, 13"])
+        later.append(b"01"[value:value + 1])
+    lines.extend(["LOD 1, 3", "CXP 0, 22"])
+    shown += b"".join(later) + b"\r"
+    return what
+
+
+def reading(number, lines, names, steps, shown, typed):
+    """Runs the steps. What is wrong: another console, or no end."""
+    files("put", "CASES", "code", data=code_of(lines + ["UJP last", "last:"], names))
+    ran = run("CASES", bytes(typed), 30000000)
+    if ran.stdout == shown and ran.returncode == 0:
+        return ""
+    same = len(os.path.commonprefix([ran.stdout, bytes(shown)]))
+    return "%s, of %s: %r and not %r, typed %r; %s" % (number, ", ".join(steps), ran.stdout[max(0, same - 20):same + 40],
+                                                       bytes(shown[max(0, same - 20):same + 40]), bytes(typed), ran.stderr)
+
+
+def dialogues(number):
+    chance = random.Random(number)
+    typed, shown, lines, steps, names = bytearray(), bytearray(), [], [], []
+    often = chance.choice([0.5, 2, 8]) # how often the end is typed
+
+    def take(unit):
+        kind = chance.choices(["digit", "letter", "blank", "sign", "line", "back", "end", "other"], [40, 10, 10, 8, 12, 14, often, 3])[0]
+        byte = {"digit": chance.randrange(48, 58), "letter": chance.randrange(65, 91), "blank": 32, "sign": chance.choice([43, 45]),
+                "line": 13, "back": chance.choice([8, 8, 127, 24]), "end": chance.choice([3, 26]),
+                "other": chance.choice([0, 1, 7, 9, 10, 12, 16, 27, 31, 128, 255])}[kind]
+        typed.append(byte)
+        if unit == 1:
+            shown.append(byte)
+        return None if byte in (3, 26) else byte
+    readers = [Reader(lambda: take(1), shown, True, False), Reader(lambda: take(2), shown, False, False)]
+    lines += ["LOD 1, 3", 'LSA ""', "SLDC 0", "CXP 0, 19"] # the first call sets up the files
+    for _ in range(chance.randrange(5, 30)):
+        which = chance.choice([0, 0, 0, 1])
+        names.append("loop%d" % len(names))
+        what = steps_of(chance, "LOD 1, %d" % (2 if which == 0 else 4), readers[which], lines, names[-1])
+        if not what.startswith("until"):
+            names.pop()
+        steps.append(what + (" of KEYBOARD" if which else ""))
+    files("new", "WORK", "100")
+    return reading("dialogue %d" % number, lines, names, steps, shown, typed)
+
+
+def readings(number):
+    chance = random.Random(number)
+    files("new", "WORK", "120")
+    kind = chance.choice(["text", "text", "bytes"])
+    most = chance.choice([8, 40, 200])
+
+    def piece():
+        return "".join(chance.choice(["7", "12", " ", "-", "+5", "A", "-32768", "32767", "99999", "word", "   ", "!"])
+                       for _ in range(chance.randrange(4)))[:most]
+    texts = []
+    for _ in range(chance.randrange(chance.choice([3, 12, 60]))):
+        texts.append(" " * chance.choice([0, 0, 0, 1, 2, 9, 60]) + "".join(piece() for _ in range(chance.choice([0, 1, 3, 40]))))
+    stream = "".join(text + "\r" for text in texts).encode()
+    if kind == "text":
+        files("puttext", "READ.TEXT", data=stream.replace(b"\r", b"\n"))
+    else:
+        if chance.random() < 0.5:
+            stream = stream[:-1] # no end of the last line
+        files("put", "READ", "data", data=stream)
+    shown, lines, steps, names = bytearray(), [], [], []
+    at = [0]
+
+    def take():
+        at[0] += 1
+        return stream[at[0] - 1] if at[0] <= len(stream) else None
+    ahead = chance.random() < 0.5
+    reader = Reader(take, shown, False, ahead)
+
+    def reset(again=Reader.reset):
+        at[0] = 0
+        again(reader)
+    reader.reset = reset
+    lines += ["LAO 200", "LAO 600", "LDCI %d" % (-2 if ahead else 0), "CXP 0, 3",
+              "LAO 200", 'LSA "READ%s"' % (".TEXT" if kind == "text" else ""), "SLDC 1", "LDCN", "CXP 0, 5"]
+    for _ in range(chance.randrange(5, 40)):
+        names.append("loop%d" % len(names))
+        what = steps_of(chance, "LAO 200", reader, lines, names[-1])
+        if not what.startswith("until"):
+            names.pop()
+        steps.append(what)
+    return reading("reading %d" % number, lines, names, steps, shown, b"")
+
+
+JOBS = (records, texts, strings, titles, dialogues, readings)
 with tempfile.TemporaryDirectory() as scratch:
     image = os.path.join(scratch, "image")
     bad = 0
     for number in range(seed, seed + count):
-        for tried in (records, texts, strings):
+        for tried in JOBS:
             fault = tried(number)
             if fault:
                 print(fault)
                 bad += 1
-    print("%d passed, %d failed" % (3 * count - bad, bad))
+    print("%d passed, %d failed" % (len(JOBS) * count - bad, bad))
     sys.exit(bad > 0)

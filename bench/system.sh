@@ -1693,11 +1693,12 @@ person 0 ANNA 31
 person 18 BERT 8
 person 36 CHARLES 64
 
-# with-system.sh: what it refuses, and that nothing changes then
-with() { # NAME STATUS TEXT WORD..: the status, and the message begins so
+# The scripts that change a code file. with-system.sh: what it refuses, and that nothing changes then
+script=with-system.sh
+with() { # NAME STATUS TEXT WORD..: the status of $script, and the message begins so
     local name=$1 status=$2 text=$3
     shift 3
-    "$here/examples/with-system.sh" "$@" >"$scratch/out" 2>"$scratch/err" </dev/null
+    "$here/examples/$script" "$@" >"$scratch/out" 2>"$scratch/err" </dev/null
     [ $? = "$status" ] && [ ! -s "$scratch/out" ] && [[ $(cat "$scratch/err") = "$text"* ]]
     result "$name" $?
 }
@@ -1734,6 +1735,162 @@ PREFIX=data with 'a prefix' 0 '' "$image" LISTER
 printf 'LETTER.TEXT\r' | "$pmach" run --d4 "$image" --d5 "$other" LISTER 2>/dev/null |
     cmp -s - <(printf 'LIST WHAT? LETTER.TEXT\r  1: HELLO FROM 5 (12)\r')
 result 'a title without a volume is on the prefix' $?
+
+# with-units.sh: the same refusals, then programs that call units, from each kind of procedure
+assembled() { # [NAME]: puts the program of standard input on the disk, as CASES
+    "$pmach" asm | files put -- "${1:-CASES}" code
+}
+shows() { # NAME SHOWN MESSAGE WORD..: what the words run, with | for the end of a line, and how the message begins
+    "$pmach" run "${@:4}" 2>"$scratch/message" </dev/null | tr '\r' '|' >"$scratch/shown"
+    [ "$(cat "$scratch/shown")" = "$2" ] && [[ $(cat "$scratch/message") = "$3"* ]]
+    local status=$?
+    result "$1" $status
+    [ $status = 0 ] || cat "$scratch/shown" "$scratch/message"
+}
+script=with-units.sh
+files new UNITS 60
+assembled HANOI <"$here/examples/hanoi.text"
+printf text | files put DATA data
+printf short | files put SHORT code
+{ for i in 0 1 2 3 4 5 6 7 8 9 10 11 12 13 14 15; do printf '.SEG %s A\n.PROC 1 0 0 0\nCXP 31, 2\n.EXIT\nRBP 0\nNOP\n.END\n' $i; done; } | assembled FULL
+printf '.SEG 1 A\n.PROC 1 0 0 0\nCXP 31, 2\n.EXIT\nRBP 0\nNOP\n.END\n' | "$pmach" asm >"$scratch/code"
+{ head -c 520 "$scratch/code" && printf '\7' && tail -c +522 "$scratch/code"; } >"$scratch/odd" # the number at JTAB
+files put ODD code <"$scratch/odd"
+cp "$image" "$scratch/before"
+with 'units: no words' 1 usage:
+with 'units: no such file' 2 'with-units.sh: there is no file NONE' "$image" NONE
+with 'units: no code' 2 'with-units.sh: DATA is of kind data' "$image" DATA
+with 'units: no code file' 2 'refused code 1' "$image" SHORT
+with 'units: none is called' 3 'with-units.sh: HANOI calls no unit that is here' "$image" HANOI
+with 'units: no slot is free' 3 'with-units.sh: no slot of FULL is free for segment 31' "$image" FULL
+with 'units: the text is not the file' 3 'with-units.sh: ODD' "$image" ODD
+unchanged 'units: nothing changed'
+
+# Two words of which one stays: that of the stack below a call. RANDOM's first two numbers, from 0 on
+number() { # LINE..: writes what the lines leave
+    out
+    line "$@" 'SLDC 0' 'CXP 0, 13'
+    out
+    line 'SLDC 32' 'SLDC 0' 'CXP 0, 17'
+}
+{
+    begin
+    number 'SLDC 7' 'SLDC 3' 'SLDC 0' 'SLDC 0' 'CXP 22, 2' ADI
+    number 'SLDC 7' 'SLDC 3' 'SLDC 0' 'SLDC 0' 'CXP 22, 3' ADI
+    number 'SLDC 7' 'SLDC 0' 'SLDC 1' 'CXP 22, 4' 'SLDC 0' 'SLDC 0' 'CXP 22, 5' ADI
+    number 'SLDC 7' 'SLDC 9' 'SLDC 9' 'CXP 22, 8' 'CXP 22, 1' 'CXP 31, 1'
+    number 'SLDC 0' 'SLDC 0' 'CXP 22, 6'
+    line 'CXP 2, 1'
+    number 'CXP 22, 7' 'SLDC 0' 'SLDC 0' 'CXP 22, 6'
+    say 'CXP 31, 2'
+    cat "$scratch/text"
+    printf '%s\n' .EXIT 'RBP 0' .END '.SEG 2 TWO' '.PROC 1 1 0 0' 'CLP 2' .EXIT 'RNP 0' .END '.PROC 2 2 0 0' 'LOD 3, 3' 'SLDC 0' \
+        'SLDC 0' 'CXP 22, 6' 'SLDC 0' 'CXP 0, 13' 'LOD 3, 3' 'SLDC 32' 'SLDC 0' 'CXP 0, 17' .EXIT 'RNP 0' .END
+} >"$scratch/units"
+random=()
+seed=0
+for i in 1 2 3 4; do
+    seed=$(((seed * 25173 + 13849) % 65536))
+    random+=($((seed / 256)))
+done
+first=$((random[1] % 128 * 256 + random[0]))
+second=$((random[3] % 128 * 256 + random[2]))
+fresh 100
+files remove CASES
+"$pmach" asm <"$scratch/units" >"$scratch/code"
+for ((i = 224; i < 512; i++)); do printf '\252' | dd of="$scratch/code" bs=1 seek=$i conv=notrunc 2>/dev/null; done
+files put -- -CASES code <"$scratch/code"
+with 'units: put in, of a name with - in front' 0 '' "$image" -CASES
+files get -- -CASES >"$scratch/new"
+cmp -s <(head -c 512 "$scratch/code" | tail -c +193) <(head -c 512 "$scratch/new" | tail -c +193)
+result 'units: what nobody reads of the dictionary stays' $?
+[ "$("$pmach" dis <"$scratch/new" | grep '^.SEG' | tr '\n' ' ')" = '.SEG 1 CASES .SEG 2 TWO .SEG 14 PASCALIO .SEG 15 APPLESTU ' ]
+result 'units: the last slots that are free' $?
+with 'units: not twice' 3 'with-units.sh: -CASES calls no unit' "$image" -CASES
+script=with-system.sh
+with 'units: the system behind them' 0 '' "$image" -CASES
+shows 'units: what they answer' "7 7 7 7 $first $second $first CXP 31, 2" 'ended ' --d4 "$image" -- -CASES
+script=with-units.sh
+odd_path=$scratch/-a' b
+c.img'
+cp "$image" "$odd_path"
+"$pmach" asm <"$here/examples/system/programs/dice.text" | "$pmach" files --image "$odd_path" put DICE code
+with 'units: an image of an odd name' 0 '' "$odd_path" DICE
+PREFIX='*' "$here/examples/with-system.sh" "$odd_path" DICE
+shows 'units: the system before or behind is the same' "$(tr '\n' '|' <"$here/examples/system/programs/dice.out")" 'ended ' --d4 "$odd_path" DICE
+
+# Units that are not there, and slots that a program calls without having them
+printf '%s\n' '.SEG 1 A' '.PROC 1 0 0 0' 'SLDC 0' 'FJP past' 'CXP 15, 1' 'CXP 63, 1' 'past: CXP 31, 1' 'CXP 20, 2' .EXIT \
+    'RBP 0' NOP .END | assembled OTHERS
+with 'units: others are named and stay' 0 'with-units.sh: calls of segment 20 stay: TURTLEGRAPHICS' "$image" OTHERS
+[ "$(sed -n 2p "$scratch/err")" = 'with-units.sh: calls of segment 63 stay: a unit that is not known here' ]
+result 'units: one that is not known' $?
+[ "$(files get OTHERS | "$pmach" dis | grep 'SEG\|CXP' | tr '\n' ' ' | tr -s ' ')" = '.SEG 1 A CXP 15, 1 CXP 63, 1 CXP 14, 1 CXP 20, 2 .SEG 14 PASCALIO CXP 0, 9 CXP 0, 14 CXP 0, 15 ' ]
+result 'units: a slot that is called is not free' $?
+shows 'units: a call of another ends by error 2' '' 'error 2 ' --d4 "$image" OTHERS
+printf '.SEG 1 A\n.PROC 1 0 0 0\nSLDC 0\nSLDC 0\nCXP 31, 3\n.EXIT\nRBP 0\nNOP\n.END\n' | assembled REALS
+with 'units: reals' 0 '' "$image" REALS
+"$here/examples/with-system.sh" "$image" REALS
+shows 'units: reals are missing' '|*** SYSTEM PROCEDURE 14 IS MISSING: READ OF A REAL|*** CALLED AT 15 3 0|' 'error 14 ' --d4 "$image" REALS
+files new SMALL 9
+printf '.SEG 1 A\n.PROC 1 0 0 0\nCXP 31, 1\n.EXIT\nRBP 0\nNOP\n.END\n' | assembled FITS
+cp "$image" "$scratch/before"
+with 'units: no room' 4 'with-units.sh: FITS stays as it is: refused filer 1 7' "$image" FITS
+unchanged 'units: nothing changed without room'
+
+# renumber.sh: a file whose segments stand in other slots, with its dictionary's rows
+script=renumber.sh
+row() { # PLACE SIZE FROM TO: a slot's bytes of that row of $scratch/code, to another slot of $scratch/moved
+    dd if="$scratch/code" of="$scratch/moved" bs=1 skip=$(($1 + $2 * $3)) seek=$(($1 + $2 * $4)) count="$2" conv=notrunc 2>/dev/null
+}
+move() { # FROM TO..: slots of $scratch/code, each to another one of $scratch/moved, whose others are empty
+    { head -c 64 /dev/zero && times 128 ' ' && head -c 96 /dev/zero && tail -c +289 "$scratch/code"; } >"$scratch/moved"
+    while [ $# != 0 ]; do
+        row 0 4 "$1" "$2"
+        row 64 8 "$1" "$2"
+        row 192 2 "$1" "$2"
+        row 224 2 "$1" "$2"
+        row 256 2 "$1" "$2"
+        shift 2
+    done
+}
+"$pmach" asm <"$here/examples/system/programs/towers.text" >"$scratch/code"
+slots=$("$pmach" dis <"$scratch/code" | sed -n 's/^.SEG \([0-9]*\) .*/\1/p' | tr '\n' ' ')
+for slot in $slots; do
+    for place in 192 224 256; do
+        printf %b "\\0$(printf %o $((slot + place / 8)))" | dd of="$scratch/code" bs=1 seek=$((place + 2 * slot)) conv=notrunc 2>/dev/null
+    done
+done
+fresh 100
+moves='' to=2
+for slot in $slots; do
+    moves="$moves $slot $to"
+    to=$((to + 1))
+done
+# shellcheck disable=SC2086 # words
+move $moves
+files put TOWERS code <"$scratch/moved"
+files put THERE code <"$scratch/code"
+row 0 4 "${slots%% *}" 9
+files put TWICE code <"$scratch/moved"
+printf '\20' | dd of="$scratch/moved" bs=1 seek=$((512 + $(od -An -tu2 -j10 -N2 "$scratch/moved") - 2)) conv=notrunc 2>/dev/null
+files put ABOVE code <"$scratch/moved"
+printf text | files put DATA data
+cp "$image" "$scratch/before"
+with 'renumber: no words' 1 usage:
+with 'renumber: no such file' 2 'renumber.sh: there is no file NONE' "$image" NONE
+with 'renumber: no code' 2 'renumber.sh: DATA is of kind data' "$image" DATA
+with 'renumber: all stand there' 3 'renumber.sh: each segment of THERE' "$image" THERE
+with 'renumber: a number above 15' 3 'renumber.sh: slot 2 of ABOVE has number 16' "$image" ABOVE
+with 'renumber: a number twice' 3 'renumber.sh: two slots of TWICE have number' "$image" TWICE
+unchanged 'renumber: nothing changed'
+shows 'renumber: slot 1 is not that of the program' '' 'refused boot 3' --d4 "$image" TOWERS
+with 'renumber: moved' 0 '' "$image" TOWERS
+files get TOWERS >"$scratch/new"
+cmp -s "$scratch/new" "$scratch/code"
+result 'renumber: the file as it was assembled' $?
+"$here/examples/with-system.sh" "$image" TOWERS
+shows 'renumber: and it runs' "$(tr '\n' '|' <"$here/examples/system/programs/towers.out")" 'ended ' --d4 "$image" TOWERS
 
 echo "$passed passed, $failed failed"
 [ $failed = 0 ]

@@ -5,6 +5,8 @@
 #   SIEVE     the primes to 200                 TOWERS    segment procedures that call themselves
 #   PEOPLE    records in a file, with SEEK      COPYTEXT  copies a text, with line numbers
 #   LISTER    lists a text                      KEYS      KEYBOARD: what is typed is not shown
+#   DICE      RANDOM and KEYPRESS of a unit
+# PEOPLE and DICE call units of Apple's library, which ../with-units.sh puts in.
 # PMACH names another program than ../../pmach.
 set -e
 [ $# = 1 ] || {
@@ -23,8 +25,11 @@ files() {
 files new OLD 280
 files date 84 12 1
 printf '%s\n' 'THE PROGRAMS OF THIS DISK' '  HAVE THE SYSTEM SEGMENT' '' 'SO THEY RUN.' | files puttext READ.ME.TEXT
-for name in table guess strings reverse sieve towers people copytext lister keys; do
+for name in table guess strings reverse sieve towers people copytext lister keys dice; do
     "$pmach" asm <"$here/programs/$name.text" >"$scratch/code"
     files put "$name" code <"$scratch/code"
     "$here/../with-system.sh" "$image" "$name"
+done
+for name in people dice; do
+    "$here/../with-units.sh" "$image" "$name"
 done

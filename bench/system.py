@@ -376,9 +376,9 @@ def titles(number):
     lines = ["LAO 200", "LDCN", "LDCI -1", "CXP 0, 3"]
     wanted = []
     for _ in range(40):
-        title = "".join(chance.choice(["", "", "", "*", ":", "WORK:", "#4:", "#", "4", "12", "A", "A.DATA", "a.data", "work", "[", "]", "[*]",
-                                       "[5]", "[77]", "FIFTEEN.LETTERS", " ", "\t", "\x7f", "CONSOLE:", "X", "Y" * 70])
-                        for _ in range(chance.randrange(1, 7)))
+        parts = ["", "", "", "*", ":", "WORK:", "#4:", "#", "4", "12", "A", "A.DATA", "a.data", "work", "[", "]", "[*]", "[5]",
+                 "[77]", "FIFTEEN.LETTERS", " ", "\t", "\x7f", "CONSOLE:", "X", "Y" * 70]
+        title = "".join(chance.choice(parts) for _ in range(chance.randrange(1, 7)))
         if chance.random() < 0.5:
             title = chance.choice(["", "*", ":", "WORK:", "work :", "#4:", "#04:", "#5:", "SEVENLE:"]) + chance.choice(names) + \
                 chance.choice(["", "[5]", "[*]", "[]", "[5", "[5]Y", "[X]", "]", "[5*]", "[**]", "[12]]", "[", " "])

@@ -1,7 +1,8 @@
 #!/bin/bash
 # The system segment of examples/system: each of its procedures by cases, then the programs of that folder, then
-# with-system.sh, and examples/units with with-units.sh. What is expected is worked out from the rules of UCSD Pascal. PMACH names another program than
-# ../pmach. Run by hand; the gate has the cases of the procedures in crates/pm_trials/data/system.trial.
+# with-system.sh, and examples/units with with-units.sh. What is expected is worked out from the rules of UCSD Pascal.
+# PMACH names another program than ../pmach. Run by hand; the gate has the cases of the procedures in
+# crates/pm_trials/data/system.trial.
 here=$(dirname "$(readlink -f "$0")")/..
 pmach=${PMACH:-$here/pmach}
 export PMACH="$pmach"
@@ -1752,7 +1753,8 @@ files new UNITS 60
 assembled HANOI <"$here/examples/hanoi.text"
 printf text | files put DATA data
 printf short | files put SHORT code
-{ for i in 0 1 2 3 4 5 6 7 8 9 10 11 12 13 14 15; do printf '.SEG %s A\n.PROC 1 0 0 0\nCXP 31, 2\n.EXIT\nRBP 0\nNOP\n.END\n' $i; done; } | assembled FULL
+for ((i = 0; i < 16; i++)); do printf '.SEG %s A\n.PROC 1 0 0 0\nCXP 31, 2\n.EXIT\nRBP 0\nNOP\n.END\n' $i; done |
+    assembled FULL
 printf '.SEG 1 A\n.PROC 1 0 0 0\nCXP 31, 2\n.EXIT\nRBP 0\nNOP\n.END\n' | "$pmach" asm >"$scratch/code"
 { head -c 520 "$scratch/code" && printf '\7' && tail -c +522 "$scratch/code"; } >"$scratch/odd" # the number at JTAB
 files put ODD code <"$scratch/odd"
@@ -1825,7 +1827,8 @@ printf '%s\n' '.SEG 1 A' '.PROC 1 0 0 0' 'SLDC 0' 'FJP past' 'CXP 15, 1' 'CXP 63
 with 'units: others are named and stay' 0 'with-units.sh: calls of segment 20 stay: TURTLEGRAPHICS' "$image" OTHERS
 [ "$(sed -n 2p "$scratch/err")" = 'with-units.sh: calls of segment 63 stay: a unit that is not known here' ]
 result 'units: one that is not known' $?
-[ "$(files get OTHERS | "$pmach" dis | grep 'SEG\|CXP' | tr '\n' ' ' | tr -s ' ')" = '.SEG 1 A CXP 15, 1 CXP 63, 1 CXP 14, 1 CXP 20, 2 .SEG 14 PASCALIO CXP 0, 9 CXP 0, 14 CXP 0, 15 ' ]
+files get OTHERS | "$pmach" dis | grep 'SEG\|CXP' | sed 's/^ *//' | cmp -s - <(printf '%s\n' '.SEG 1 A' 'CXP 15, 1' 'CXP 63, 1' \
+    'CXP 14, 1' 'CXP 20, 2' '.SEG 14 PASCALIO' 'CXP 0, 9' 'CXP 0, 14' 'CXP 0, 15')
 result 'units: a slot that is called is not free' $?
 shows 'units: a call of another ends by error 2' '' 'error 2 ' --d4 "$image" OTHERS
 printf '.SEG 1 A\n.PROC 1 0 0 0\nSLDC 0\nSLDC 0\nCXP 31, 3\n.EXIT\nRBP 0\nNOP\n.END\n' | assembled REALS

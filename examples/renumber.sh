@@ -1,11 +1,11 @@
 #!/bin/sh
 # Moves each segment of a code file of a volume to the slot of its number: examples/renumber.sh IMAGE NAME
-# A call names a slot, and the machine starts with that of slot 1. In files that a linker of Apple's made a segment may
-# stand in another slot than that of its number, which is the low byte of its last word. The dictionary's rows of 16
-# slots change places, those that the machine does not read too; no segment is moved. The file keeps its name and kind,
-# and gets the volume's last date. Status 2: no such file, or no code file; 3: each segment stands where it has to, or
-# two have one number, or one has a number above 15, and the file stays as it is; 4: no room, and it stays as it is.
-# PMACH names another program than ../pmach.
+# A call names a slot, and the machine starts with that of slot 1. In some files a segment may stand in another slot
+# than that of its number, which is the low byte of its last word. The dictionary's rows of 16 slots change places,
+# those that the machine does not read too; no segment is moved. The file keeps its name and kind, and gets the volume's
+# last date. Status 2: no such file, or no code file; 3: each segment stands where it has to, or two have one number, or
+# one has a number above 15, and the file stays as it is; 4: no room, and it stays as it is. PMACH names another program
+# than ../pmach.
 set -e
 [ $# = 2 ] || {
     echo "usage: renumber.sh IMAGE NAME" >&2

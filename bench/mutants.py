@@ -1,0 +1,69 @@
+"""mutants.py PMACH [SEED [COUNT]]: faults put into the system segment of examples/system, one at a time, each tried by
+`system.py` (ten rounds of each kind) and `system.sh`. A fault is one operand one more or less, or one operator the other
+one of its pair, at a random item. Each that no case sees is told with its line, to be looked at: it changes nothing that
+shows, or a case is missing."""
+import os
+import random
+import re
+import shutil
+import subprocess
+import sys
+import tempfile
+
+program = os.path.abspath(sys.argv[1])
+chance = random.Random(int(sys.argv[2]) if len(sys.argv) > 2 else 1)
+count = int(sys.argv[3]) if len(sys.argv) > 3 else 88
+here = os.path.dirname(os.path.abspath(__file__))
+lines = open(here + "/../examples/system/system.text", encoding="ascii").read().split("\n")
+PAIRS = [("EQUI", "NEQI"), ("LESI", "LEQI"), ("GRTI", "GEQI"), ("ADI", "SBI"), ("LAND", "LOR"), ("EFJ", "NFJ"), ("DVI", "MODI")]
+OTHER = dict(PAIRS + [(b, a) for a, b in PAIRS])
+ITEM = re.compile(r"^((?:\w+:)? *)([A-Z]+)( *)([^;\"]*?)( *;.*)?$")
+
+
+def fault(line):
+    """The line with a fault, or None where it has nothing to change."""
+    item = ITEM.match(line)
+    if not item or line.startswith((".", ";")) or item[2] in ("NOP", "RBP", "RNP"):
+        return None
+    numbers = list(re.finditer(r"-?\d+", item[4]))
+    changes = []
+    if item[2] in OTHER:
+        changes.append(item[1] + OTHER[item[2]] + item[3] + item[4])
+    if numbers and "^" not in item[4] and item[2] != "XJP":
+        number = chance.choice(numbers)
+        other = str(int(number[0]) + chance.choice([-1, 1]))
+        changes.append(item[1] + item[2] + item[3] + item[4][:number.start()] + other + item[4][number.end():])
+    return chance.choice(changes) if changes else None
+
+
+def seen(folder):
+    """Whether a case sees the segment of the folder."""
+    small = subprocess.run([sys.executable, folder + "/bench/system.py", program, str(chance.randrange(10000)), "10"],
+                           stdout=subprocess.DEVNULL, stderr=subprocess.DEVNULL)
+    if small.returncode:
+        return True
+    with subprocess.Popen([folder + "/bench/system.sh"], stdout=subprocess.PIPE, stderr=subprocess.DEVNULL, text=True,
+                          env=dict(os.environ, PMACH=program)) as cases:
+        failed = any(line.startswith("FAILED") for line in cases.stdout)
+        return cases.wait() != 0 or failed
+
+
+with tempfile.TemporaryDirectory() as scratch:
+    for part in ("bench", "examples"):
+        shutil.copytree(here + "/../" + part, scratch + "/" + part)
+    live = tried = 0
+    while tried < count:
+        at = chance.randrange(len(lines))
+        changed = fault(lines[at])
+        if not changed:
+            continue
+        text = "\n".join(lines[:at] + [changed] + lines[at + 1:])
+        if subprocess.run([program, "asm"], input=text.encode(), stdout=subprocess.DEVNULL, stderr=subprocess.DEVNULL).returncode:
+            continue
+        with open(scratch + "/examples/system/system.text", "w", encoding="ascii") as file:
+            file.write(text)
+        tried += 1
+        if not seen(scratch):
+            live += 1
+            print("line %d: %s\n      not: %s" % (at + 1, changed.rstrip(), lines[at].rstrip()), flush=True)
+    print("%d faults, %d not seen" % (tried, live))

@@ -36,16 +36,21 @@ def fault(line):
     return chance.choice(changes) if changes else None
 
 
+def fails(words):
+    """Whether these cases see a fault: they are stopped at the first that does."""
+    with subprocess.Popen(words, stdout=subprocess.PIPE, stderr=subprocess.DEVNULL, text=True,
+                          env=dict(os.environ, PMACH=program)) as cases:
+        for line in cases.stdout:
+            if not line.startswith("passed") and " passed, 0 failed" not in line:
+                cases.terminate()
+                return True
+        return cases.wait() != 0
+
+
 def seen(folder):
     """Whether a case sees the segment of the folder."""
-    small = subprocess.run([sys.executable, folder + "/bench/system.py", program, str(chance.randrange(10000)), "10"],
-                           stdout=subprocess.DEVNULL, stderr=subprocess.DEVNULL)
-    if small.returncode:
-        return True
-    with subprocess.Popen([folder + "/bench/system.sh"], stdout=subprocess.PIPE, stderr=subprocess.DEVNULL, text=True,
-                          env=dict(os.environ, PMACH=program)) as cases:
-        failed = any(line.startswith("FAILED") for line in cases.stdout)
-        return cases.wait() != 0 or failed
+    return fails([sys.executable, "-u", folder + "/bench/system.py", program, str(chance.randrange(10000)), "10"]) or \
+        fails([folder + "/bench/system.sh"])
 
 
 with tempfile.TemporaryDirectory() as scratch:

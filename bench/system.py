@@ -169,7 +169,7 @@ def files(*words, data=b""):
     return subprocess.run([program, "files", "--image", image] + list(words), input=data, stdout=subprocess.PIPE, check=True).stdout
 
 
-def run(name, typed=b"", limit=4000000000):
+def run(name, typed=b"", limit=100000000):
     return subprocess.run([program, "run", "--d4", image, "--save", "--limit", str(limit), name], input=typed,
                           stdout=subprocess.PIPE, stderr=subprocess.PIPE)
 

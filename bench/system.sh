@@ -1440,7 +1440,7 @@ bytes_are 'its two pages' PUT.TEXT < <(head -c 1024 /dev/zero && page "$scratch/
 printf 'A\f\r' >"$scratch/page"
 bytes_are 'a text keeps byte 12' SHORT.TEXT < <(head -c 1024 /dev/zero && page "$scratch/page")
 
-# Gaps that are too small for a text; the date of a file that is only read, and of one that is written
+# Gaps that are too small for a text, halves of gaps too; the date of a file that is only read, and of one that is written
 for more in 3 4; do
     fresh $((46 + more))
     begin
@@ -1449,6 +1449,15 @@ for more in 3 4; do
     case_is "a text in a gap of $more blocks" $((more < 4 ? 9 : 0))
     run_group
 done
+for more in 6 22; do
+    fresh $((46 + more))
+    begin
+    init $f -2
+    rewrite $f X.TEXT[*]
+    case_is "a text in half of a gap of $more blocks" $((more < 8 ? 9 : 0))
+    run_group
+done
+list_is 'a half is even' 'X.TEXT text 46 10 512 100-00-00' 'files 2 free 12 largest 12'
 fresh 200
 printf 'READ ME' | files put READ data
 printf 'WRITE ME' | files put WRITE data
@@ -1640,6 +1649,27 @@ reset $f DATA:NEW.TEXT
 at_end $f
 close $f 2
 case_is 'a new text on unit 5' 00010
+poke() { # BYTE VALUE: a byte of the directory of unit 5
+    for transfer in 5 6; do
+        line 'SLDC 5' 'LAO 981' 'SLDC 0' 'LDCI 512' 'SLDC 2' 'SLDC 0' "CSP $transfer"
+        [ $transfer = 6 ] || line 'LAO 981' "SLDC $1" "LDCI $2" STB
+    done
+}
+while read -r place value old answer; do # the name's length; the count of files, low and high byte
+    poke "$place" "$value"
+    reset $f '#5:LETTER.TEXT'
+    close $f 0
+    poke "$place" "$old"
+    case_is "byte $place of a directory is $value" "${answer}0"
+done <<'CASES'
+6 0 4 9
+6 7 4 0
+6 8 4 9
+6 255 4 9
+16 77 1 0
+16 78 1 9
+17 255 0 9
+CASES
 run_group --d5 "$other"
 
 fresh 200 duplicate
@@ -1680,6 +1710,13 @@ for text in "$here"/examples/system/programs/*.text; do
     status=$?
     result "program $name" $status
     [ $status = 0 ] || { tr '\r' '\n' <"$scratch/shown" && cat "$scratch/message"; }
+done
+for name in TABLE GUESS STRINGS REVERSE SIEVE TOWERS PEOPLE COPYTEXT LISTER KEYS DICE; do
+    for typed in '' '5\r'; do
+        printf %b "$typed\\0032" | "$pmach" run --d4 "$image" $name >"$scratch/shown" 2>"$scratch/message"
+        [[ $(cat "$scratch/message") = ended* ]]
+        result "program $name ends where its input does, behind '$typed'" $?
+    done
 done
 printf 'THE PROGRAMS OF THIS DISK\n  HAVE THE SYSTEM SEGMENT\n\nSO THEY RUN.\n' | awk '{ printf "%4d %s\n", NR, $0 }' >"$scratch/lines"
 files gettext COPY.TEXT | cmp -s - "$scratch/lines"

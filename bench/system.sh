@@ -1458,6 +1458,24 @@ for more in 6 22; do
     run_group
 done
 list_is 'a half is even' 'X.TEXT text 46 10 512 100-00-00' 'files 2 free 12 largest 12'
+for gaps in '20 12 5' '5 12 20' '12 5 20' '20 5 12'; do # the second largest is more than half of the largest
+    fresh 86
+    at=46
+    for gap in $gaps; do
+        times $((512 * gap)) A | files put "HOLE$gap" data
+        printf x | files put "A$gap" data
+        [ "$gap" != 12 ] || place=$at
+        at=$((at + gap + 1))
+    done
+    for gap in $gaps; do files remove "HOLE$gap"; done
+    begin
+    init $f 1
+    rewrite $f 'X[*]'
+    case_is "the second of the gaps $gaps" 0
+    run_group
+    files list | tr -s ' ' | grep -qx "X data $place 12 512 100-00-00"
+    result "its place among $gaps" $?
+done
 fresh 200
 printf 'READ ME' | files put READ data
 printf 'WRITE ME' | files put WRITE data

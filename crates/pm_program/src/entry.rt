@@ -35,6 +35,7 @@ fn refuse<R: Host + Print + Eprint + AllocGlobal>(rt: &R, error: &WordsError) ->
                 let manner = Manner {
                     explains: false,
                     begun: false,
+                    has_system: false,
                 };
                 say(rt, &end, manner);
                 end.status()
@@ -57,6 +58,7 @@ pub fn program<R: Host + Env + Input + Print + Eprint + AllocGlobal>(rt: &R) -> 
     let manner = Manner {
         explains: rt.is_terminal(Stream::Error),
         begun: done.begun,
+        has_system: done.has_system,
     };
     say(rt, &done.end, manner);
     done.end.status()

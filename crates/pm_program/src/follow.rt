@@ -105,11 +105,22 @@ fn prompted<'a, E: Eprint, R: Read>(rt: &'a E, keys: R, prompt: Prompt) -> Promp
     }
 }
 
-/// What is done, and whether the last line that was written has not ended.
+/// What is done.
 #[derive(Drop)]
 pub struct Done {
     pub end: End,
+    /// Whether the last line that was written has not ended.
     pub begun: bool,
+    /// Whether the system's segment was put into the program.
+    pub has_system: bool,
+}
+
+/// Whether the system's segment is put into the program of a plan.
+fn has_system(plan: &Plan) -> bool {
+    match plan {
+        Plan::Run(program, _) => program.system.is_some(),
+        _ => false,
+    }
 }
 
 /// Does the job of a plan on its streams and files.
@@ -430,8 +441,10 @@ pub fn follow<R: Host + Input + Print + Eprint + AllocGlobal>(rt: &R, plan: Plan
         return Done {
             end: End::Words(conflict),
             begun: false,
+            has_system: false,
         };
     }
+    let has_system = has_system(&plan);
     let console = at.of_console(&plan);
     let keys = Keys::new(rt.reader(), console.input, end_of(&plan));
     let mut lined = Lined::new(io::writer(rt), console.output);
@@ -442,5 +455,6 @@ pub fn follow<R: Host + Input + Print + Eprint + AllocGlobal>(rt: &R, plan: Plan
     Done {
         end,
         begun: at.has_begun(lined.has_begun()),
+        has_system,
     }
 }

@@ -1,6 +1,6 @@
 //! What the program says on standard error at its end.
 use crate::end::End;
-use pm_tool::{Ending, Outcome, Reason, RunReason};
+use pm_tool::{Ending, Outcome, Reason, RunReason, Whereabouts};
 use std::fmt;
 
 /// A text of one line on a terminal: a question mark stands for each character that would move or colour something
@@ -41,14 +41,28 @@ fn message(end: &End) -> &str {
     }
 }
 
-/// Says why a run ended short of the program's end, or why an input was refused, with the unit and the file that it is
-/// about, or the line of the assembler's text that is wrong.
-fn explain_outcome<R: Eprint>(rt: &R, outcome: &Outcome, about: &Option<String>) {
-    if let Some(ending) = outcome.ending
-        && ending != Ending::Ended
-    {
-        let _ = eprintln!(rt; "pmach: {}", RunReason(ending, outcome.called));
+/// Says why a run ended short of the program's end, and where an error stopped it.
+fn explain_run<R: Eprint>(rt: &R, outcome: &Outcome, has_system: bool) {
+    let Some(ending) = outcome.ending else {
+        return;
+    };
+    if ending == Ending::Ended {
+        return;
     }
+    let reason = RunReason {
+        ending,
+        stopped: outcome.stopped.as_ref(),
+        has_system,
+    };
+    let _ = eprintln!(rt; "pmach: {reason}");
+    if let Some(stopped) = &outcome.stopped {
+        let _ = eprintln!(rt; "pmach: {}", Whereabouts(stopped));
+    }
+}
+
+/// Says why an input was refused, with the unit and the file that it is about, or the line of the assembler's text that
+/// is wrong.
+fn explain_refusal<R: Eprint>(rt: &R, outcome: &Outcome, about: &Option<String>) {
     let Some(refusal) = outcome.refusal else {
         return;
     };
@@ -60,7 +74,7 @@ fn explain_outcome<R: Eprint>(rt: &R, outcome: &Outcome, about: &Option<String>)
 }
 
 /// Says more of an end: which file it was about and why, why the input was refused, or why a run ended.
-fn explain<R: Eprint>(rt: &R, end: &End) {
+fn explain<R: Eprint>(rt: &R, end: &End, has_system: bool) {
     let _ = match end {
         End::File(fault, Some(path)) => eprintln!(rt;
             "pmach: {}: {}",
@@ -69,7 +83,8 @@ fn explain<R: Eprint>(rt: &R, end: &End) {
         ),
         End::File(fault, None) => eprintln!(rt; "pmach: {}", fault.reason()),
         End::Outcome(outcome, about) => {
-            explain_outcome(rt, outcome, about);
+            explain_run(rt, outcome, has_system);
+            explain_refusal(rt, outcome, about);
             Ok(())
         }
         End::Words(_) => Ok(()),
@@ -83,6 +98,8 @@ pub struct Manner {
     pub explains: bool,
     /// Whether a line has begun on the same terminal, which is to be ended first.
     pub begun: bool,
+    /// Whether the system's segment was put into the program.
+    pub has_system: bool,
 }
 
 /// Says on standard error what the program came to, where there is something to say.
@@ -96,6 +113,6 @@ pub fn say<R: Eprint>(rt: &R, end: &End, manner: Manner) {
     }
     let _ = eprintln!(rt; "{message}");
     if manner.explains {
-        explain(rt, end);
+        explain(rt, end, manner.has_system);
     }
 }

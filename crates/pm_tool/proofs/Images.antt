@@ -41,7 +41,7 @@ images_are_of_their_units show d4 d5 d9 d10 d11 d12 name input m e =
     (rw d refl, rw d refl)
 
 same : (run : Run) (saving other : Saving) → SayTheSame (run_said saving run) (run_said other run)
-same run saving other = record { written = refl; exit = refl; message = refl; printer = refl; unread = refl }
+same run saving other = record { written = refl; exit = refl; message = refl; printer = refl; unread = refl; stopped = refl }
 
 pub saving_changes_nothing : SavingChangesNothing
 saving_changes_nothing run = record { same = same run; fourth = refl }

@@ -248,6 +248,7 @@ pub done_told : (old new : Streams) (began : Session) (machine : State) (outcome
       others = no_others;
       printer = [];
       unread = unread;
+      stopped = None;
     }))
     → Finishes old new outcome (debugged machine)
 done_told old new began machine outcome o b out = record {

@@ -95,6 +95,7 @@ pub record SayTheSame (told other : Said) : Type 0 where
   pub message : told.message ≡ other.message
   pub printer : told.printer ≡ other.printer
   pub unread : told.unread ≡ other.unread
+  pub stopped : told.stopped ≡ other.stopped
 
 -- which images are kept changes nothing else; and that of unit 4 is the same alone and with the others
 pub record SavesApart (run : Run) : Type 0 where

@@ -1,5 +1,6 @@
 pub mod Hex
 pub mod Run
+pub mod Stops
 pub mod Outcomes
 pub mod Disks
 pub mod Products

@@ -1,6 +1,7 @@
 -- What jobs come to, in numbers and words.
 use Rattle.std.specs.Prelude.{◌≡◌, ℕ, Bool, true, false, List, [], ◌∷◌, Option}
 use Rattle.std.specs.Prelude.{None, Some, vec_items, option_map, string_bytes}
+use Rattle.pm_machine.specs.State.{State}
 use Rattle.pm_streams.specs.Faults.{fault_text}
 use Rattle.pm_streams.specs.declared.fault.Fault.{Fault}
 use Rattle.pm_streams.specs.declared.fault.Fault.TheVariants as faults
@@ -12,6 +13,7 @@ use Rattle.pm_session.specs.declared.ending.Ending.{Ending}
 use Rattle.pm_session.specs.declared.ending.Ending.TheVariants as endings
 use Rattle.pm_tool.specs.declared.outcome.OtherImages.{OtherImages}
 use Rattle.pm_tool.specs.declared.outcome.Outcome.{Outcome}
+use Rattle.pm_tool.specs.Stops.{AreStops}
 
 -- the exit status
 abbrev pub exit_number : Exit → ℕ
@@ -90,7 +92,7 @@ abbrev pub no_others : List (Option (List ℕ))
 no_others = None ∷ None ∷ None ∷ None ∷ None ∷ []
 
 -- what a job says to its input: what it writes, how it ends, its message, the image that is kept and those of the units
--- 5, 9, 10, 11 and 12, its printer bytes, and what of the input is left unread
+-- 5, 9, 10, 11 and 12, its printer bytes, what of the input is left unread, and the state in which an error stopped it
 pub record Said : Type 0 where
   pub written : List ℕ
   pub exit : Exit
@@ -99,6 +101,7 @@ pub record Said : Type 0 where
   pub others : List (Option (List ℕ))
   pub printer : List ℕ
   pub unread : List ℕ
+  pub stopped : Option State
 
 -- a refused input: nothing is written, and the message says why
 abbrev pub refused : Refusal → List ℕ → Said
@@ -111,6 +114,7 @@ refused refusal unread =
       others = no_others;
       printer = [];
       unread = unread;
+      stopped = None;
     }
 
 -- how it ends that an image or a text was judged: well, or refused, and then the message says why
@@ -133,6 +137,7 @@ judged text refusal unread =
       others = no_others;
       printer = [];
       unread = unread;
+      stopped = None;
     }
 
 -- the outcome is what is said
@@ -142,3 +147,4 @@ pub record IsOutcome (outcome : Outcome) (told : Said) : Type 0 where
   pub image : option_map vec_items outcome.image ≡ told.image
   pub others : others_of outcome.others ≡ told.others
   pub printer : outcome.printer.items ≡ told.printer
+  pub stopped : AreStops outcome.stopped told.stopped

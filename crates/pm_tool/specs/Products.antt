@@ -16,6 +16,7 @@ ended written image unread =
       others = no_others;
       printer = [];
       unread = unread;
+      stopped = None;
     }
 
 -- what is said of a product, where this of the input is left unread

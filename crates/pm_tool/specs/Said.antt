@@ -25,6 +25,7 @@ use Rattle.pm_tool.specs.Outcomes.{Said, exit_of, is_sound_exit, no_others, refu
 use Rattle.pm_tool.specs.declared.steps.Show.{Show}
 use Rattle.pm_tool.specs.declared.steps.Show.TheVariants.{Trace, Console}
 use Rattle.pm_tool.specs.Run.{Run, run_of}
+use Rattle.pm_tool.specs.Stops.{stop_of}
 use Rattle.pm_session.specs.Endings.{last_line}
 use Rattle.pm_session.specs.Sessions.{answers, behind_quit, opened, whole_lines}
 use Rattle.pm_session.specs.Words.{lines_of_input}
@@ -42,6 +43,7 @@ traced run = record {
   others = no_others;
   printer = [];
   unread = run.unread;
+  stopped = None;
 }
 
 -- the image on unit 4, where it is to be kept
@@ -68,6 +70,7 @@ run_said saving run = record {
   others = others_kept saving run.machine.devices;
   printer = run.machine.devices.printer;
   unread = run.unread;
+  stopped = stop_of run.ending run.machine;
 }
 
 -- a run, told in one of the two ways
@@ -90,6 +93,7 @@ debugged machine input = record {
   others = no_others;
   printer = [];
   unread = behind_quit (lines_of_input input) input;
+  stopped = None;
 }
 
 -- the session over the machine that starts, or the refusal

@@ -10,6 +10,7 @@ mod outcome;
 mod programs;
 mod reason;
 mod steps;
+mod stopped;
 mod talk;
 mod work;
 
@@ -19,4 +20,5 @@ pub use pm_batch::{Reason, Refusal};
 pub use pm_selection::{Code, Saving, Selection};
 pub use pm_session::Ending;
 pub use pm_streams::{Reader, Sink, Source, Writer};
-pub use reason::RunReason;
+pub use reason::{RunReason, Whereabouts};
+pub use stopped::Stopped;

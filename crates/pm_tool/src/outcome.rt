@@ -3,6 +3,7 @@ ghost use Rattle.std.specs.Prelude.{◌≡◌, false, [], List, ℕ, Some, None,
 ghost use Rattle.pm_tool.specs.Outcomes.{IsOutcome, SaysWhy, exit_number, exit_of, fault_exit, is_refusal, judged};
 ghost use Rattle.pm_tool.specs.Outcomes.{no_others, others_of, outcome_text, refused};
 
+use crate::stopped::Stopped;
 use pm_batch::Refusal;
 use pm_filer::FileCommand;
 use pm_selection::{Saving, Selection};
@@ -222,8 +223,8 @@ pub struct Outcome {
     pub ending: Option<Ending>,
     /// The line of the assembler's text that the refusal names, if it names one and there was memory for its text.
     pub line: Option<String>,
-    /// The procedure of the operating system that was called where the run ended for want of its segment.
-    pub called: Option<u8>,
+    /// Where an error stopped the run that the message tells of, and on what.
+    pub stopped: Option<Stopped>,
 }
 
 impl Outcome {
@@ -235,6 +236,7 @@ impl Outcome {
         ensures others { others_of result.others ≡ no_others }
         ensures printer { result.printer.items ≡ [] }
         ensures refusal { result.refusal ≡ None }
+        ensures stopped { result.stopped ≡ None }
     {
         Outcome {
             exit,
@@ -245,7 +247,7 @@ impl Outcome {
             refusal: None,
             ending: None,
             line: None,
-            called: None,
+            stopped: None,
         }
     }
 
@@ -257,6 +259,7 @@ impl Outcome {
         ensures others { others_of result.others ≡ no_others }
         ensures printer { result.printer.items ≡ [] }
         ensures refusal { result.refusal ≡ None }
+        ensures stopped { result.stopped ≡ None }
     {
         Outcome {
             exit: Exit::Ended,
@@ -267,7 +270,7 @@ impl Outcome {
             refusal: None,
             ending: None,
             line: None,
-            called: None,
+            stopped: None,
         }
     }
 
@@ -306,7 +309,7 @@ pub(crate) fn refuse_line(
         refusal: Some(refusal),
         ending: None,
         line,
-        called: None,
+        stopped: None,
     })
 }
 

@@ -1,10 +1,12 @@
-//! Why a run ended, in words.
+//! Why a run ended, and where, in words.
+use crate::stopped::Stopped;
 use pm_names::system_name;
+use pm_opcode::row_at;
 use pm_session::Ending;
 use pm_words::ExecError;
 use std::fmt;
 
-/// What may be meant where there is no segment.
+/// What may be meant where the operating system is called.
 const SYSTEM: &str = "a CXP 0, n calls the operating system, and --system PATH puts its segment in";
 
 /// A procedure of the operating system, by its number and, where it is known, its name.
@@ -21,27 +23,125 @@ impl fmt::Display for Procedure {
     }
 }
 
-/// Why a run ended, as the text that says what it means and what helps, with the procedure of the operating system that
-/// was called, where one was.
-#[derive(Clone, Copy)]
-pub struct RunReason(pub Ending, pub Option<u8>);
+/// The unit of the system's library whose segment has a number, from memory of Apple Pascal 1.1.
+fn unit_name(segment: u8) -> Option<&'static str> {
+    match segment {
+        20 => Some("TURTLEGRAPHICS"),
+        22 => Some("APPLESTUFF"),
+        28 => Some("CHAINSTUFF"),
+        29 => Some("TRANSCEND"),
+        30 => Some("LONGINTIO"),
+        31 => Some("PASCALIO"),
+        _ => None,
+    }
+}
 
-impl fmt::Display for RunReason {
+/// A call of a procedure in a segment that is not there, or not as it has to be.
+#[derive(Clone, Copy)]
+struct Called {
+    segment: u8,
+    procedure: u8,
+    /// Whether the system's segment was put in.
+    has_system: bool,
+}
+
+impl fmt::Display for Called {
     fn fmt<W: fmt::Write>(&self, f: &mut fmt::Formatter<W>) -> fmt::Result {
-        match self.0 {
+        let (segment, procedure) = (self.segment, self.procedure);
+        if segment == 0 && !self.has_system {
+            return write!(f, "{SYSTEM}; here n is {}", Procedure(procedure));
+        }
+        write!(f, "CXP {segment}, {procedure} calls segment {segment}")?;
+        match unit_name(segment) {
+            Some(name) => write!(f, ", {name}, a unit of the system's library"),
+            None => Ok(()),
+        }
+    }
+}
+
+/// Whether code has reals: an instruction of theirs, a comparison of the type 2, or a standard procedure for them.
+fn is_of_reals(code: [u8; 3]) -> bool {
+    match row_at(code[0]).mnemonic {
+        "ABR" | "ADR" | "DVR" | "FLO" | "FLT" | "MPR" | "NGR" | "SBR" | "SQR" => true,
+        "EQU" | "GEQ" | "GRT" | "LEQ" | "LES" | "NEQ" => code[1] == 2,
+        "CSP" => 23 <= code[1] && code[1] <= 31 || code[1] == 36,
+        _ => false,
+    }
+}
+
+/// Why a run ended, as the text that says what it means and what helps.
+#[derive(Clone, Copy)]
+pub struct RunReason<'a> {
+    pub ending: Ending,
+    /// Where an error stopped it.
+    pub stopped: Option<&'a Stopped>,
+    /// Whether the system's segment was put in.
+    pub has_system: bool,
+}
+
+impl RunReason<'_> {
+    /// What is known beside the error, by the instruction that it stopped.
+    fn write_more<W: fmt::Write>(
+        &self,
+        f: &mut fmt::Formatter<W>,
+        error: ExecError,
+        stopped: &Stopped,
+    ) -> fmt::Result {
+        let [opcode, segment, procedure] = stopped.code;
+        match error {
+            ExecError::NoSegment if row_at(opcode).mnemonic == "CXP" => {
+                let called = Called {
+                    segment,
+                    procedure,
+                    has_system: self.has_system,
+                };
+                write!(f, "; {called}")
+            }
+            ExecError::UserIo => write!(f, "; IORESULT is {}", stopped.ioresult),
+            ExecError::Unimplemented if is_of_reals(stopped.code) => {
+                f.write_str("; reals are not served")
+            }
+            _ => Ok(()),
+        }
+    }
+}
+
+impl fmt::Display for RunReason<'_> {
+    fn fmt<W: fmt::Write>(&self, f: &mut fmt::Formatter<W>) -> fmt::Result {
+        match self.ending {
             Ending::Ended => f.write_str("the program came to its end"),
-            Ending::Error(ExecError::NoSegment) => {
-                write!(f, "{}; {SYSTEM}", ExecError::NoSegment)?;
-                match self.1 {
-                    Some(procedure) => write!(f, "; here n is {}", Procedure(procedure)),
+            Ending::Error(error) => {
+                write!(f, "{error}")?;
+                match self.stopped {
+                    Some(stopped) => self.write_more(f, error, stopped),
                     None => Ok(()),
                 }
             }
-            Ending::Error(error) => write!(f, "{error}"),
             Ending::Limit => f.write_str(
                 "that many steps were made; --limit N or --unlimited allows more",
             ),
             Ending::Waiting => f.write_str("the program waits for a key, and the input has ended"),
+        }
+    }
+}
+
+/// Where an error stopped a run: the place in the code, and the line of a trace for the step that was not made.
+#[derive(Clone, Copy)]
+pub struct Whereabouts<'a>(pub &'a Stopped);
+
+impl fmt::Display for Whereabouts<'_> {
+    fn fmt<W: fmt::Write>(&self, f: &mut fmt::Formatter<W>) -> fmt::Result {
+        f.write_str("stopped")?;
+        if let Some(place) = self.0.place {
+            let (segment, procedure, offset) = (place.segment, place.procedure, place.offset);
+            write!(
+                f,
+                " in segment {segment}, procedure {procedure}, at {offset}"
+            )?;
+        }
+        match &self.0.step {
+            Some(step) => write!(f, ", before {step}"),
+            None => Ok(()),
         }
     }
 }

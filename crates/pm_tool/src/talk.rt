@@ -15,14 +15,13 @@ use crate::debug::converse;
 use crate::outcome::{Exit, OtherImages, Outcome, refuse};
 use crate::programs::{Start, start_on};
 use crate::steps::{Show, drive};
+use crate::stopped::stopped_at;
 use pm_debug::Debugger;
 use pm_machine::Machine;
-use pm_opcode::row_at;
 use pm_selection::Saving;
 use pm_session::{Ending, LastLine};
 use pm_streams::{Fault, Sink, Source, write_all};
 use pm_volume::Disk;
-use pm_words::ExecError;
 use std::alloc::{AllocError, Global};
 
 /// How a machine is talked with.
@@ -32,21 +31,6 @@ pub(crate) enum Talk {
     Run { show: Show, limit: u64 },
     /// A debugger answers each line of the input.
     Session,
-}
-
-/// The procedure of the operating system that the instruction at IPC calls, where a run ended there for want of the
-/// system's segment.
-fn called_without(machine: &Machine, ending: Ending) -> Option<u8> {
-    if ending != Ending::Error(ExecError::NoSegment) {
-        return None;
-    }
-    let ipc = machine.registers().ipc;
-    let memory = machine.memory();
-    if row_at(memory.byte(ipc)).mnemonic == "CXP" && memory.byte(ipc.wrapping_add(1)) == 0 {
-        Some(memory.byte(ipc.wrapping_add(2)))
-    } else {
-        None
-    }
 }
 
 /// Takes away the image of the disk on a unit, where there is one.
@@ -98,6 +82,7 @@ fn left_by_run(
         → IsOutcome outcome (run_said saving (ended_run shown last.ending machine.old.state unread))) }
     ensures told { IfOk result SaysWhy }
 {
+    let stopped = stopped_at(alloc, machine, last.ending);
     let message = format!(in alloc; "{last}")?;
     let printer = Vec::from_slice(alloc, machine.printer())?;
     let (image, others) = images_taken(machine, saving);
@@ -110,7 +95,7 @@ fn left_by_run(
         refusal: None,
         ending: Some(last.ending),
         line: None,
-        called: called_without(machine, last.ending),
+        stopped,
     })
 }
 

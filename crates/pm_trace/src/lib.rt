@@ -8,3 +8,4 @@ mod place;
 mod selected;
 
 pub use lines::Lines;
+pub use place::place_in_code;

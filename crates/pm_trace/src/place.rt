@@ -10,7 +10,7 @@ use std::alloc::AllocError;
 
 /// Where a machine stands in the code; nowhere where SEG or JTAB is odd.
 #[tactic(auto, unfolding(pm_debug::specs::Breaks::place_at))]
-pub(crate) fn place_in_code(machine: &Machine) -> Option<Breakpoint>
+pub fn place_in_code(machine: &Machine) -> Option<Breakpoint>
     ensures place { result ≡ place_in_code machine.now.state }
 {
     let registers = machine.registers();

@@ -10,7 +10,7 @@ with_text : (r : Result Outcome AllocError) (refusal : Refusal)
     → IfOk r (λ outcome. (unread : List ℕ) → IsOutcome outcome (refused refusal unread))
     → IfOk r (λ outcome. (text unread : List ℕ) → IsOutcome outcome (judged text (Some refusal) unread))
 with_text (Ok outcome) refusal h = λ text unread.
-    let i = h unread in record { exit = i.exit; message = i.message; image = i.image; others = i.others; printer = i.printer }
+    let i = h unread in record { exit = i.exit; message = i.message; image = i.image; others = i.others; printer = i.printer; stopped = i.stopped }
 with_text (Err error) refusal h = tt
 
 pub returns-in-Some-clause-outcome : goal.returns-in-Some-clause-outcome

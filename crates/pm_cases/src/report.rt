@@ -93,6 +93,18 @@ fn expected(alloc: Global, kind: Kind, case: &Case<'_>) -> Result<String, AllocE
     Ok(text)
 }
 
+/// How many lines two texts begin with alike.
+fn alike(one: &str, other: &str) -> usize {
+    let mut count: usize = 0;
+    for (line, beside) in one.lines().zip(other.lines()) {
+        if line != beside {
+            return count;
+        }
+        count = count.saturating_add(1);
+    }
+    count
+}
+
 /// The last line that is given before an answer of this number.
 fn given_before<'a>(kind: Kind, case: &Case<'a>, answer: usize) -> &'a str {
     let mut given = "";
@@ -135,8 +147,7 @@ fn told(
     came: &Came,
 ) -> Result<String, AllocError> {
     let (number, name) = (case.number, case.name);
-    let beside = wanted.lines().zip(came.answers.as_str().lines());
-    let equal = beside.take_while(|(line, other)| line == other).count();
+    let equal = alike(wanted, came.answers.as_str());
     let given = given_before(kind, case, equal);
     let mut text = format!(in alloc; "  line {number}, {name}\n  behind {given}\n")?;
     add_lines(&mut text, "  expected: ", wanted, equal, LINES)?;
@@ -151,25 +162,20 @@ fn told(
     Ok(text)
 }
 
-/// What comes of a case.
-fn came_of(alloc: Global, kind: Kind, case: &Case<'_>) -> io::Result<Came> {
-    match kind.answers(alloc, case) {
-        Err(error) if error.kind() == ErrorKind::InvalidData => {
-            let mut came = Came::new(alloc);
-            came.answer(
-                "none: a line cannot be read, or there is no volume for the program",
-                "",
-            )?;
-            Ok(came)
-        }
-        came => came,
-    }
-}
-
 /// Replays a case, and counts it.
 fn add(report: &mut Report, alloc: Global, kind: Kind, case: &Case<'_>) -> io::Result<()> {
     let wanted = expected(alloc, kind, case)?;
-    let came = came_of(alloc, kind, case)?;
+    let came = match kind.answers(alloc, case) {
+        Err(error) if error.kind() == ErrorKind::InvalidData => {
+            let mut none = Came::new(alloc);
+            none.answer(
+                "none: a line cannot be read, or there is no volume for the program",
+                "",
+            )?;
+            none
+        }
+        came => came?,
+    };
     if wanted.as_str() == came.answers.as_str() {
         report.agrees();
     } else {

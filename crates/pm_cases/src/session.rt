@@ -1,5 +1,5 @@
 //! Cases of images: a session of commands and damage on one, which may be of any bytes.
-use crate::case::{Came, Case, Line, MOST_SHOWN};
+use crate::case::{Came, Case, Line, MOST_SHOWN, line_count};
 use crate::code_file::damage;
 use crate::files::{command, on_slot, two};
 use crate::jobs::{Ran, do_job};
@@ -72,7 +72,7 @@ impl Session {
     /// it is.
     fn add_told(&mut self, ran: &Ran) -> io::Result<()> {
         let text = ran.text(self.alloc)?;
-        let count = text.as_str().lines().count();
+        let count = line_count(text.as_str());
         if count > self.most {
             let digest = digest_text(self.alloc, &ran.written)?;
             let line = format!(in self.alloc; "{count} lines {digest}")?;
@@ -184,7 +184,10 @@ impl Session {
                 self.write(number(place)?, &bytes)?;
             }
             "copy" => self.copy(line.rest)?,
-            "blank" => self.image = vec![in self.alloc; 0; number(line.rest)?]?,
+            "blank" => {
+                self.image.clear();
+                self.image.resize(number(line.rest)?, 0)?;
+            }
             "size" => self.image.resize(number(line.rest)?, 0)?,
             "keep" => self.kept = self.image.to_vec(self.alloc)?,
             "back" => self.image = self.kept.to_vec(self.alloc)?,

@@ -1,6 +1,6 @@
 //! Cases of the jobs that show and tell: traces of which lines are selected, texts and lists of code files and of texts
 //! of the assembler, and sessions of the debugger.
-use crate::case::{Came, Case, Line};
+use crate::case::{Came, Case, Line, line_count};
 use crate::code_file::code_file;
 use crate::jobs::{Ran, do_job};
 use crate::program::{BLOCKS, CODE, Program, volume, with_program};
@@ -135,8 +135,7 @@ fn ran_of(alloc: Global, case: &Case<'_>, line: Line<'_>) -> io::Result<Option<R
 /// Answers what a job wrote, and its message if there is one.
 fn add_ran(alloc: Global, ran: &Ran, came: &mut Came) -> io::Result<()> {
     let text = ran.text(alloc)?;
-    let count = text.as_str().lines().count();
-    if count > LINES || text.as_str().lines().any(|line| line.len() > LONGEST) {
+    if line_count(text.as_str()) > LINES || text.as_str().lines().any(|line| line.len() > LONGEST) {
         let measured = measured(alloc, &ran.written)?;
         came.answer("=", measured.as_str())?;
         came.shown = text;

@@ -70,5 +70,5 @@ with tempfile.TemporaryDirectory() as scratch:
         tried += 1
         if not seen(scratch):
             live += 1
-            print("line %d: %s\n      not: %s" % (at + 1, changed.rstrip(), lines[at].rstrip()), flush=True)
+            print("fault %d, line %d: %s\n      not: %s" % (tried, at + 1, changed.rstrip(), lines[at].rstrip()), flush=True)
     print("%d faults, %d not seen" % (tried, live))

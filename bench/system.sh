@@ -4,7 +4,7 @@
 # PMACH names another program than ../pmach. Run by hand; the gate has the cases of the procedures in
 # crates/pm_trials/data/system.trial.
 here=$(dirname "$(readlink -f "$0")")/..
-pmach=${PMACH:-$here/pmach}
+pmach=$(readlink -f "${PMACH:-$here/pmach}")
 export PMACH="$pmach"
 scratch=$(mktemp -d)
 trap 'rm -rf "$scratch"' EXIT
@@ -671,18 +671,44 @@ call 21
 say C
 case_is 'READLN that the end cuts, and the next' 'A\x03BC' '\x03'
 run_group
-begin
-line 'LOD 1, 2'
-function_ 10
-line 'SRO 259'
-show_i
-case_is 'EOF as the first call' 0
-run_group
-begin
-line 'LOD 1, 2' 'LAO 260' 'CXP 0, 16'
-show_c
-case_is 'READ as the first call' AA A
-run_group
+first_call() { # PROCEDURE SHOWN TYPED LINE..: the lines before the call; what it leaves is shown
+    begin
+    line "${@:4}" "CXP 0, $1"
+    case $1 in
+        10 | 27 | 28) line 'SRO 259' && show_i ;;
+        12) show_i ;;
+        16) show_c ;;
+        18 | 23 | 24 | 25 | 26) show_s ;;
+        *) say . ;;
+    esac
+    case_is "procedure $1 as the first call of a program" "$2" "$3"
+    run_group
+}
+s_is=('LAO 3' 'LSA "ABC"' 'SAS 255')
+first_call 3 . '' 'LAO 261' 'LAO 561' 'SLDC 1'
+first_call 4 . '' 'LOD 1, 2'
+first_call 5 . '' 'LAO 261' 'LSA "NONE"' 'SLDC 1' LDCN
+first_call 6 . '' 'LAO 261' 'SLDC 0'
+first_call 7 A. A 'LOD 1, 2'
+first_call 8 . '' LDCN
+first_call 9 . '' 'LAO 261' 'SLDC 0'
+first_call 10 0 '' 'LOD 1, 2' 'SLDC 0' 'SLDC 0'
+first_call 12 '7\r7' '7\r' 'LOD 1, 2' 'LAO 259'
+first_call 13 ' 5.' '' 'LOD 1, 3' 'SLDC 5' 'SLDC 2'
+first_call 16 AA A 'LOD 1, 2' 'LAO 260'
+first_call 17 ' X.' '' 'LOD 1, 3' 'SLDC 88' 'SLDC 2'
+first_call 18 'AB\r[AB]' 'AB\r' 'LOD 1, 2' 'LAO 3' 'SLDC 80'
+first_call 19 ' X.' '' 'LOD 1, 3' 'LSA "X"' 'SLDC 2'
+first_call 20 ' X.' '' 'LOD 1, 3' 'LPA "X"' 'SLDC 2' 'SLDC 1'
+first_call 21 '\r.' '\r' 'LOD 1, 2'
+first_call 22 '\r.' '' 'LOD 1, 3'
+first_call 23 '[ABCX]' '' "${s_is[@]}" 'LAO 3' 'LSA "X"' 'SLDC 80'
+first_call 24 '[XABC]' '' "${s_is[@]}" 'LSA "X"' 'LAO 3' 'SLDC 80' 'SLDC 1'
+first_call 25 '[B]' '' 'LSA "ABC"' 'LAO 3' 'SLDC 2' 'SLDC 1'
+first_call 26 '[AC]' '' "${s_is[@]}" 'LAO 3' 'SLDC 2' 'SLDC 1'
+first_call 27 2 '' 'LSA "B"' 'LSA "ABC"' 'SLDC 0' 'SLDC 0'
+first_call 28 0 '' 'LAO 261' 'LAO 3' 'SLDC 0' 'SLDC 1' 'SLDC 0' 'SLDC 1' 'SLDC 0' 'SLDC 0'
+first_call 29 '\x1b[2;1H.' '' 'SLDC 0' 'SLDC 1'
 
 # 29, GOTOXY: as terminals have it, from 1 on, the line first; within 80 columns and 24 lines
 begin
@@ -761,6 +787,9 @@ line 'SIND 0' 'SLDC 0' 'SLDC 12' STB
 out
 line 'CXP 0, 8'
 case_is 'PUT(OUTPUT) on the screen' '\x1b[H\x1b[2J'
+out
+line 'SIND 0' 'SLDC 0' 'SLDC 81' STB LDCN 'CXP 0, 8'
+case_is 'PUT of a file of address 0 is that of OUTPUT' Q
 run_group
 
 # What is not served: a number, the name, and the place of the call as `break` takes it. The calls begin at 0
@@ -1625,6 +1654,14 @@ line "LAO $f" 'LSA "\0c\1f"' 'SLDC 0'
 call 19
 close $f 0
 case_is '#6:' 00
+init $h -1
+line 'LAO 981' 'SLDC 0' 'LDCI 1024' 'SLDC 80' 'CSP 10'
+rewrite $h 'PRINTER:'
+blocks $h 2 -1 0
+blocks $h 0 5 0
+blocks $h 1 0 1
+close $h 0
+case_is 'PRINTER: as blocks' 00:20:03:00
 rewrite $f 'CONSOLE:'
 line "LAO $f" 'LSA "HERE\0c"' 'SLDC 0'
 call 19
@@ -1642,7 +1679,7 @@ line 'LOD 1, 2' 'SLDC 1' 'CXP 0, 6'
 show_ends
 case_is 'INPUT stays open' 00
 run_group
-printf '  ON PAPER\r   42\f\037' | cmp -s - "$scratch/printer"
+{ printf '  ON PAPER\r   42\f\037' && times 1024 P; } | cmp -s - "$scratch/printer"
 result 'the paper' $?
 
 other=$scratch/other
@@ -1875,6 +1912,14 @@ cp "$image" "$odd_path"
 with 'units: an image of an odd name' 0 '' "$odd_path" DICE
 PREFIX='*' "$here/examples/with-system.sh" "$odd_path" DICE
 shows 'units: the system before or behind is the same' "$(tr '\n' '|' <"$here/examples/system/programs/dice.out")" 'ended ' --d4 "$odd_path" DICE
+
+(
+    cd "$scratch" || exit
+    cp "$image" ./-x.img
+    "$pmach" asm <"$here/examples/system/programs/dice.text" | "$pmach" files --image ./-x.img put -- --SLOT code &&
+        "$here/examples/with-system.sh" -x.img --slot && "$here/examples/with-units.sh" -x.img --SLOT
+) && shows 'units: an image and a file whose names begin with -' "$(tr '\n' '|' <"$here/examples/system/programs/dice.out")" 'ended ' \
+    --d4 "$scratch/-x.img" -- --SLOT
 
 # Units that are not there, and slots that a program calls without having them
 printf '%s\n' '.SEG 1 A' '.PROC 1 0 0 0' 'SLDC 0' 'FJP past' 'CXP 15, 1' 'CXP 63, 1' 'past: CXP 31, 1' 'CXP 20, 2' .EXIT \

@@ -5,6 +5,7 @@
 
 here=$(dirname "$(readlink -f "$0")")
 pmach=${PMACH:-$here/../pmach}
+case $image in -*) image=./$image ;; esac # a path, and no option
 scratch=$(mktemp -d)
 trap 'rm -rf "$scratch"' EXIT
 trap 'exit 129' HUP

@@ -69,10 +69,11 @@ run_code() { # WORD..: puts the cases on the disk, and runs them
 }
 fresh() { # BLOCKS [VERB..]: a new volume WORK, with a command done first; the cases have its first 40 blocks, from 6
     # on, or 10 with a second directory, and each free block is full of bytes 229
+    local first=6
     files new WORK "$1"
-    [ $# = 1 ] || files "${@:2}"
+    [ $# = 1 ] || { files "${@:2}" && first=10; }
     files date 84 12 1
-    head -c $((512 * ($1 - 10))) /dev/zero | tr '\0' '\345' | files put FILL data
+    head -c $((512 * ($1 - first))) /dev/zero | tr '\0' '\345' | files put FILL data
     files remove FILL
     head -c 20480 /dev/zero | files put CASES code
 }
@@ -866,6 +867,12 @@ blocks() { # FILE COUNT BLOCK READ: BLOCKREAD or BLOCKWRITE of a; shows IORESULT
     say :
     show_top 'LDO 260'
 }
+poke() { # UNIT BYTE VALUE: a byte of the directory of a unit
+    for transfer in 5 6; do
+        line "SLDC $1" 'LAO 981' 'SLDC 0' 'LDCI 512' 'SLDC 2' 'SLDC 0' "CSP $transfer"
+        [ $transfer = 6 ] || line 'LAO 981' "SLDC $2" "LDCI $3" STB
+    done
+}
 list_is() { # NAME LINE..: the files of the disk but the cases: name, kind, first, blocks, bytes, date; and what is free
     files list | sed '1d; /^CASES /d; s/  */ /g' >"$scratch/got"
     printf '%s\n' "${@:2}" | cmp -s - "$scratch/got"
@@ -1131,7 +1138,13 @@ at_end $f
 get $f
 at_end $f
 case_is 'the three that had room are there' 00301
+seek $f 100
+put $f
+io
+case_is 'PUT behind SEEK past the room' 9
+close $f 0
 run_group
+written_are 'a full disk of records' 2 46-48
 
 # A record that is larger than a block; what SEEK computes for large files
 fresh 200
@@ -1525,6 +1538,17 @@ run_group
 written_are 'a file that is read, and one that is written' 2 47
 list_is 'their dates' 'READ data 46 1 7 084-12-01' 'WRITE data 47 1 8 085-01-02' 'files 3 free 152 largest 152'
 bytes_are 'their bytes' WRITE < <(printf 'WRABE ME')
+begin
+init $f 1
+poke 4 20 0 # the volume's last date
+poke 4 21 0
+reset $f WRITE
+set_window $f 0 'LDCI 16961'
+put $f
+close $f 0
+case_is 'a file that is written where the volume has no date' 00
+run_group
+list_is 'it keeps its date' 'READ data 46 1 7 084-12-01' 'WRITE data 47 1 8 085-01-02' 'files 3 free 152 largest 152'
 
 # Room: sizes, the largest gap, half of it, files that grow, a full directory
 fresh 100
@@ -1704,20 +1728,15 @@ reset $f DATA:NEW.TEXT
 at_end $f
 close $f 2
 case_is 'a new text on unit 5' 00010
-poke() { # BYTE VALUE: a byte of the directory of unit 5
-    for transfer in 5 6; do
-        line 'SLDC 5' 'LAO 981' 'SLDC 0' 'LDCI 512' 'SLDC 2' 'SLDC 0' "CSP $transfer"
-        [ $transfer = 6 ] || line 'LAO 981' "SLDC $1" "LDCI $2" STB
-    done
-}
 while read -r place value old answer; do # the name's length; the count of files, low and high byte
-    poke "$place" "$value"
+    poke 5 "$place" "$value"
     reset $f '#5:LETTER.TEXT'
     close $f 0
-    poke "$place" "$old"
+    poke 5 "$place" "$old"
     case_is "byte $place of a directory is $value" "${answer}0"
 done <<'CASES'
 6 0 4 9
+6 1 4 0
 6 7 4 0
 6 8 4 9
 6 255 4 9

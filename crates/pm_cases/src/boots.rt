@@ -26,17 +26,15 @@ fn work(alloc: Global, case: &Case<'_>) -> io::Result<Vec<u8>> {
 /// What comes of a case.
 pub fn answers(alloc: Global, case: &Case<'_>) -> io::Result<Came> {
     let mut came = Came::new(alloc);
-    let work = work(alloc, case)?;
     let program = Program {
-        work: &work,
-        name: case.value("name").unwrap_or("P"),
+        work: work(alloc, case)?,
         limit: limit(case)?,
         system: None,
     };
     if case.has("run") {
         let ran = program.run(alloc, case, Saving::First)?;
         add_run(alloc, &ran, &mut came)?;
-        let before = Some(work.to_vec(alloc)?);
+        let before = Some(program.work.to_vec(alloc)?);
         add_image(alloc, "image", &before, &ran.outcome.image, &mut came)?;
     }
     if case.has("trace") {

@@ -21,17 +21,15 @@ pub const UNITS: [&str; 6] = ["4", "5", "9", "10", "11", "12"];
 /// The images of the disks in that order.
 pub type Images = [Option<Vec<u8>>; 6];
 
-/// A program, and how it is started.
-#[derive(Clone, Copy)]
-pub struct Program<'a> {
+/// A program, and how it is started: the file of the name that the case says, or `P`.
+#[derive(Drop)]
+pub struct Program {
     /// The image of unit 4, which has its file.
-    pub work: &'a [u8],
-    /// The name of the file, escaped.
-    pub name: &'a str,
+    pub work: Vec<u8>,
     /// The most steps that it makes.
     pub limit: u64,
     /// The file whose slot 0 stands in, if there is one.
-    pub system: Option<&'a [u8]>,
+    pub system: Option<Vec<u8>>,
 }
 
 /// A volume without files.
@@ -81,20 +79,20 @@ fn typed(alloc: Global, case: &Case<'_>) -> io::Result<Vec<u8>> {
     Ok(typed)
 }
 
-impl Program<'_> {
+impl Program {
     /// The file whose slot 0 stands in.
-    fn system(self, alloc: Global) -> io::Result<Option<Vec<u8>>> {
-        match self.system {
+    fn system(&self, alloc: Global) -> io::Result<Option<Vec<u8>>> {
+        match &self.system {
             Some(file) => Ok(Some(file.to_vec(alloc)?)),
             None => Ok(None),
         }
     }
 
     /// What a run of it comes to.
-    pub fn run(self, alloc: Global, case: &Case<'_>, saving: Saving) -> io::Result<Ran> {
+    pub fn run(&self, alloc: Global, case: &Case<'_>, saving: Saving) -> io::Result<Ran> {
         let job = Job::Run {
-            disks: disks(alloc, case, self.work)?,
-            name: name(alloc, self.name)?,
+            disks: disks(alloc, case, &self.work)?,
+            name: name(alloc, case.value("name").unwrap_or("P"))?,
             limit: self.limit,
             saving,
             system: self.system(alloc)?,
@@ -104,10 +102,10 @@ impl Program<'_> {
     }
 
     /// Its trace.
-    pub fn trace(self, alloc: Global, case: &Case<'_>, selection: Selection) -> io::Result<Ran> {
+    pub fn trace(&self, alloc: Global, case: &Case<'_>, selection: Selection) -> io::Result<Ran> {
         let job = Job::Trace {
-            disks: disks(alloc, case, self.work)?,
-            name: name(alloc, self.name)?,
+            disks: disks(alloc, case, &self.work)?,
+            name: name(alloc, case.value("name").unwrap_or("P"))?,
             limit: self.limit,
             system: self.system(alloc)?,
             selection,
@@ -117,10 +115,10 @@ impl Program<'_> {
     }
 
     /// What the debugger answers to the lines of the case.
-    pub fn debug(self, alloc: Global, case: &Case<'_>) -> io::Result<Ran> {
+    pub fn debug(&self, alloc: Global, case: &Case<'_>) -> io::Result<Ran> {
         let job = Job::Debug {
-            disks: disks(alloc, case, self.work)?,
-            name: name(alloc, self.name)?,
+            disks: disks(alloc, case, &self.work)?,
+            name: name(alloc, case.value("name").unwrap_or("P"))?,
             system: self.system(alloc)?,
         };
         Ok(do_job(alloc, job, &typed(alloc, case)?))

@@ -15,6 +15,28 @@ const LINES: usize = 24;
 
 const LONGEST: usize = 400;
 
+/// A word that has a value behind it.
+#[derive(Clone, Copy)]
+enum Valued {
+    Limit,
+    From,
+    Segment,
+    Procedure,
+}
+
+impl Valued {
+    /// The word that a text is.
+    fn of(word: &str) -> io::Result<Valued> {
+        match word {
+            "--limit" => Ok(Valued::Limit),
+            "--from" => Ok(Valued::From),
+            "--segment" => Ok(Valued::Segment),
+            "--procedure" => Ok(Valued::Procedure),
+            _ => Err(unreadable()),
+        }
+    }
+}
+
 /// What the words behind `raw` and `trace` say.
 #[derive(Clone, Copy)]
 struct Words {
@@ -35,15 +57,15 @@ impl Words {
     }
 
     /// Takes in a word with its value.
-    fn takes_value(&mut self, word: &str, value: &str) -> io::Result<()> {
+    fn takes_value(&mut self, word: Valued, value: &str) -> io::Result<()> {
         match (word, self.selection.code) {
-            ("--limit", _) => self.limit = u64::from(steps(value)?),
-            ("--from", _) => self.selection.from = steps(value)?,
-            ("--segment", _) => {
+            (Valued::Limit, _) => self.limit = u64::from(steps(value)?),
+            (Valued::From, _) => self.selection.from = steps(value)?,
+            (Valued::Segment, _) => {
                 let segment = byte(value)?;
                 self.selection.code = Code::Segment { segment };
             }
-            ("--procedure", Code::Segment { segment }) => {
+            (Valued::Procedure, Code::Segment { segment }) => {
                 let procedure = byte(value)?;
                 self.selection.code = Code::Procedure { segment, procedure };
             }
@@ -58,36 +80,31 @@ impl Words {
             limit: 0,
             selection: Selection::ALL,
         };
-        let mut before = "";
+        let mut before = None;
         for word in text.split(' ') {
-            if !before.is_empty() {
-                words.takes_value(before, word)?;
-                before = "";
+            if let Some(option) = before {
+                words.takes_value(option, word)?;
+                before = None;
             } else if !words.takes(word) {
-                before = word;
+                before = Some(Valued::of(word)?);
             }
         }
-        if !before.is_empty() {
-            return Err(unreadable());
+        match before {
+            Some(_) => Err(unreadable()),
+            None => Ok(words),
         }
-        Ok(words)
     }
 }
 
-/// The program of a case, which has a volume of its own.
-fn work(alloc: Global, case: &Case<'_>) -> io::Result<Vec<u8>> {
+/// The program of a case, which has a volume of its own, with so many steps.
+fn program(alloc: Global, case: &Case<'_>, limit: u64) -> io::Result<Program> {
     let image = volume(alloc, "WORK", BLOCKS)?;
-    with_program(alloc, image, CODE, &code_file(alloc, case, true)?)
-}
-
-/// That program, with so many steps.
-fn program(work: &[u8], limit: u64) -> Program<'_> {
-    Program {
+    let work = with_program(alloc, image, CODE, &code_file(alloc, case, true)?)?;
+    Ok(Program {
         work,
-        name: "P",
         limit,
         system: None,
-    }
+    })
 }
 
 /// The trace of bare code.
@@ -103,8 +120,7 @@ fn raw(alloc: Global, case: &Case<'_>, rest: &str) -> io::Result<Ran> {
 /// The trace of the program.
 fn trace(alloc: Global, case: &Case<'_>, rest: &str) -> io::Result<Ran> {
     let words = Words::of(rest)?;
-    let work = work(alloc, case)?;
-    program(&work, words.limit).trace(alloc, case, words.selection)
+    program(alloc, case, words.limit)?.trace(alloc, case, words.selection)
 }
 
 /// The job of words that have no values.
@@ -157,8 +173,7 @@ fn add_message(ran: &Ran, came: &mut Came) -> io::Result<()> {
 
 /// Answers the session of the debugger: a long line by its length and digest.
 fn add_session(alloc: Global, case: &Case<'_>, came: &mut Came) -> io::Result<()> {
-    let work = work(alloc, case)?;
-    let ran = program(&work, 0).debug(alloc, case)?;
+    let ran = program(alloc, case, 0)?.debug(alloc, case)?;
     let text = ran.text(alloc)?;
     for line in text.as_str().lines() {
         if line.len() > LONGEST {

@@ -41,7 +41,6 @@ fn add_images(
 /// What comes of a case.
 pub fn answers(alloc: Global, case: &Case<'_>) -> io::Result<Came> {
     let mut came = Came::new(alloc);
-    let work = work(alloc, case)?;
     let system = match case.value("system") {
         Some(spelled) => Some(hex_bytes(alloc, spelled)?),
         None => None,
@@ -52,14 +51,13 @@ pub fn answers(alloc: Global, case: &Case<'_>) -> io::Result<Came> {
         None => Saving::Nothing,
     };
     let program = Program {
-        work: &work,
-        name: case.value("name").unwrap_or("P"),
+        work: work(alloc, case)?,
         limit: limit(case)?,
-        system: system.as_deref(),
+        system,
     };
     let ran = program.run(alloc, case, saving)?;
     add_run(alloc, &ran, &mut came)?;
-    add_images(alloc, case, &work, &ran, &mut came)?;
+    add_images(alloc, case, &program.work, &ran, &mut came)?;
     if case.has("trace") {
         let ran = program.trace(alloc, case, Selection::ALL)?;
         add_trace(alloc, &ran, &mut came)?;

@@ -1,0 +1,115 @@
+"""calls.py PMACH [ERROR,..]: each system call of a job fails once, or is where the program is killed, in turn, by strace. Behind it the image
+is the whole old one or the whole new one, with status 0 the new one; a kill apart, nothing of the program's stands beside it. What a job wrote
+in place (its file has two names, or none could be made beside it) may be a mixture, and what another left there may stay; then it says so."""
+import collections
+import os
+import re
+import shutil
+import subprocess
+import sys
+import tempfile
+
+program = os.path.realpath(sys.argv[1])
+ERRORS = (sys.argv[2] if len(sys.argv) > 2 else "KILL,EIO,ENOSPC,EINTR,EACCES,EPERM,EROFS,EDQUOT,EMFILE,ENOENT").split(",")
+EXAMPLES = os.path.join(os.path.dirname(os.path.abspath(__file__)), "../examples")
+PUT = ["files", "--image", "w.img", "put", "NEW", "data"]
+NEW = ["files", "--image", "w.img", "new", "GONE", "48"]
+# a job: how the folder stands before it, its words, and the file that it writes
+JOBS = {
+    "put": ("plain", PUT, "w.img"),
+    "put behind a link": ("link", PUT, "w.img"),
+    "put in place": ("two names", PUT, "w.img"),
+    "put over what was left": ("left", PUT, "w.img"),
+    "new over an image": ("plain", NEW, "w.img"),
+    "new": ("none", NEW, "w.img"),
+    "run --save": ("program", ["run", "--d4", "w.img", "--save", "--printer", "p", "P"], "w.img"),
+    "salvage": ("plain", ["files", "--image", "w.img", "salvage", "s.img"], "s.img"),
+}
+# of the start and the end of the process
+OTHERS = ("execve", "exit", "exit_group", "brk", "mmap", "munmap", "mprotect", "arch_prctl", "set_tid_address", "rt_sigaction", "rt_sigprocmask",
+          "sigaltstack", "futex", "getrandom")
+scratch = tempfile.TemporaryDirectory()
+folder, log = scratch.name + "/folder", scratch.name + "/log"
+
+
+def done(words, typed=b""):
+    return subprocess.run([program, *words], input=typed, capture_output=True, cwd=folder)
+
+
+def lay(kind):
+    """The folder as it stands before a job."""
+    shutil.rmtree(folder, ignore_errors=True)
+    os.mkdir(folder)
+    done(["files", "--image", "w.img", "new", "WORK", "40"])
+    done(["files", "--image", "w.img", "put", "OLD", "data"], b"old" * 200)
+    image = folder + "/w.img"
+    if kind == "link":
+        os.rename(image, folder + "/r.img")
+        os.symlink("r.img", image)
+    elif kind == "two names":
+        os.link(image, folder + "/v.img")
+    elif kind == "left":
+        open(image + ".pmach-new", "w").write("left")
+    elif kind == "program":
+        with open(EXAMPLES + "/keeps.text", "rb") as text:
+            code = done(["asm"], text.read()).stdout
+        done(["files", "--image", "w.img", "put", "P", "code"], code)
+    elif kind == "none":
+        os.remove(image)
+
+
+def bytes_of(name):
+    try:
+        with open(folder + "/" + name, "rb") as file:
+            return file.read()
+    except OSError:
+        return None
+
+
+def calls_of(words):
+    """The calls that a job makes, each with how many of its name came by then."""
+    subprocess.run(["strace", "-f", "-o", log, program, *words], input=b"new" * 300, capture_output=True, cwd=folder)
+    seen, calls = collections.Counter(), []
+    for line in open(log, errors="replace"):
+        name = re.match(r"\d+\s+(\w+)\(", line)
+        if name:
+            seen[name[1]] += 1
+            if name[1] not in OTHERS:
+                calls.append((name[1], seen[name[1]]))
+    return calls
+
+
+def wrong(kind, status, error, old, new, now):
+    """What is wrong with what a job left, or what has to be told of it."""
+    if status == 0 and now != new:
+        return "status 0 without the new image"
+    if kind != "two names" and now not in (old, new):
+        return "a mixture"
+    if error != "KILL" and any(name.endswith(".pmach-new") for name in os.listdir(folder)):
+        return "what another left stays" if kind == "left" else "a leftover"
+    return None
+
+
+runs, failed = 0, 0
+for job, (kind, words, target) in JOBS.items():
+    lay(kind)
+    old = bytes_of(target)
+    calls = calls_of(words)
+    new, told = bytes_of(target), collections.Counter()
+    for name, count in calls:
+        for error in ERRORS:
+            lay(kind)
+            how = "signal=KILL" if error == "KILL" else "error=" + error
+            inject = "inject=%s:%s:when=%d" % (name, how, count)
+            came = subprocess.run(["strace", "-f", "-o", "/dev/null", "-e", "trace=" + name, "-e", inject, program, *words],
+                                  input=b"new" * 300, capture_output=True, cwd=folder)
+            runs += 1
+            what = wrong(kind, came.returncode, error, old, new, bytes_of(target))
+            if what == "what another left stays":
+                told[what] += 1
+            elif what:
+                failed += 1
+                print("FAILED: %s: %s %d, %s, status %d: %s" % (job, name, count, error, came.returncode, what))
+    print("%s: %d calls%s" % (job, len(calls), "".join(", %d times %s" % (n, what) for what, n in told.items())), flush=True)
+print("%d runs, %d failed" % (runs, failed))
+sys.exit(1 if failed else 0)

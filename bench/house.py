@@ -7,9 +7,9 @@
                     attributes, which `rt fmt` joins)
     numbers         that have a name: ends of the stack, the most bytes of bare code, opcodes of jumps (the table of
                     opcodes, table.rt, has its own)
-    the page        of the instructions, of which crates/pm_page/stdin is a copy
-    the cases       of examples/conformance/bare.txt, of which crates/pm_cases/data/bare.txt is a copy
-    the segment     of examples/system/system.text, of which crates/pm_trials/data/system.text is a copy
+    the page        of the instructions, of which crates/test_page/stdin is a copy
+    the cases       of examples/conformance/bare.txt, of which crates/test_cases/data/bare.txt is a copy
+    the segment     of examples/system/system.text, of which crates/test_trials/data/system.text is a copy
     names           that docs/PROMISES.md, docs/ARCHITECTURE.md, docs/DECISIONS.md and the sections of definitions have and
                     the source, or the crates beside, have not; and paths and sections that the pages name
     the index       docs/INDEX.md, which index.py makes of the source
@@ -135,12 +135,12 @@ for name in sorted(set(stands) | set(drawn)):
     if drawn[name] != (floor_of(name), nearest):
         tell("map", "%s: floor %d, on %s" % (name, floor_of(name), ", ".join(sorted(nearest)) or "none"))
 
-if lines("crates/pm_page/stdin") != lines("docs/INSTRUCTIONS.md"):
-    tell("page", "crates/pm_page/stdin is not docs/INSTRUCTIONS.md")
-if lines("crates/pm_cases/data/bare.txt") != lines("examples/conformance/bare.txt"):
-    tell("cases", "crates/pm_cases/data/bare.txt is not examples/conformance/bare.txt")
-if lines("crates/pm_trials/data/system.text") != lines("examples/system/system.text"):
-    tell("segment", "crates/pm_trials/data/system.text is not examples/system/system.text")
+if lines("crates/test_page/stdin") != lines("docs/INSTRUCTIONS.md"):
+    tell("page", "crates/test_page/stdin is not docs/INSTRUCTIONS.md")
+if lines("crates/test_cases/data/bare.txt") != lines("examples/conformance/bare.txt"):
+    tell("cases", "crates/test_cases/data/bare.txt is not examples/conformance/bare.txt")
+if lines("crates/test_trials/data/system.text") != lines("examples/system/system.text"):
+    tell("segment", "crates/test_trials/data/system.text is not examples/system/system.text")
 
 known = set()
 for path in glob.glob("crates/*/src/**/*.rt", recursive=True):

@@ -15,7 +15,7 @@ law, which the words above it in the source say; `worked_..` are computed values
 the end. Made by `bench/index.py`.
 """
 # Crates whose calls serve programs of the gate and tests alone.
-FOR_TESTS = ("pm_replay", "pm_fake", "pm_told", "pm_told_jobs")
+FOR_TESTS = ("test_replay", "test_fake", "law_stores", "law_stores")
 SUMS = """
 ## Counts
 
@@ -115,12 +115,12 @@ def page():
                 if len(told) > 1:
                     made.append("\n%s:\n" % owner + "".join("- %s\n" % one for one in told))
     replays = []
-    for program in ("pm_worked", "pm_cases"):
+    for program in ("test_worked", "test_cases"):
         for line in lines("crates/%s/stdout" % program):
             agree = re.match(r"(\w+\.\w+): (\d+) agree$", line)
             if agree:
                 replays.append("%s of `%s`" % (agree.group(2), agree.group(1)))
-    for line in lines("crates/pm_trials/stdout"):
+    for line in lines("crates/test_trials/stdout"):
         agree = re.match(r"command lines: (\d+)", line)
         if agree:
             replays.append("%s command lines" % agree.group(1))

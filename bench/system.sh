@@ -2,7 +2,7 @@
 # The system segment of examples/system: each of its procedures by cases, then the programs of that folder, then
 # with-system.sh, and examples/units with with-units.sh. What is expected is worked out from the rules of UCSD Pascal.
 # PMACH names another program than ../pmach. Run by hand; the gate has the cases of the procedures in
-# crates/pm_trials/data/system.trial.
+# crates/test_trials/data/system.trial.
 here=$(dirname "$(readlink -f "$0")")/..
 pmach=$(readlink -f "${PMACH:-$here/pmach}")
 export PMACH="$pmach"

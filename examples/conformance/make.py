@@ -203,7 +203,7 @@ def missing(text):
 def main():
     files = {"bare.txt": bare_file()}
     files.update(program_files())
-    copy = os.path.join("..", "..", "crates", "pm_cases", "data", "bare.txt")    # the gate replays it
+    copy = os.path.join("..", "..", "crates", "test_cases", "data", "bare.txt")    # the gate replays it
     wrong = written({**files, copy: files["bare.txt"]})
     print("%d cases of bare code, %d programs, %d bytes" % (
         len(bare), len(files) // 2, sum(map(len, files.values()))))

@@ -4,7 +4,7 @@ use Rattle.pm_volume.specs.Copies.{repaired}
 use Rattle.pm_volume.specs.Headers.{blank_fault}
 use Rattle.pm_volume.specs.declared.fault.VolumeFault.{VolumeFault}
 use Rattle.pm_filer.specs.Filed.{Order, order_of}
-use Rattle.pm_salvage.specs.Saving.{salvaged}
+use Rattle.pm_check.specs.Saving.{salvaged}
 use Rattle.pm_batch.specs.declared.batch.Batch.{Batch}
 use Rattle.pm_batch.specs.declared.batch.Batch.TheVariants as batches
 use Rattle.pm_batch.specs.Assembly.{made_asm, made_faults, made_symbols}

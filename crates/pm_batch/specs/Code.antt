@@ -4,7 +4,7 @@ use Rattle.pm_codefile.specs.Dictionary.{file_fault}
 use Rattle.pm_codefile.specs.declared.fault.CodeFault.{CodeFault}
 use Rattle.pm_disasm.specs.Listing.{file_listing}
 use Rattle.pm_disasm.specs.Shown.{file_text}
-use Rattle.pm_names.specs.Lines.{with_names}
+use Rattle.pm_notes.specs.Lines.{with_names}
 use Rattle.pm_batch.specs.declared.refusal.Refusal.TheVariants as refusals
 use Rattle.pm_batch.specs.Products.{Product, Written, Refused}
 

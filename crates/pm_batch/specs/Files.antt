@@ -8,7 +8,7 @@ use Rattle.pm_filer.specs.Filed.{GetText, PutText, Krunch, Date, Zero, Duplicate
 use Rattle.pm_filer.specs.Filed.{GetSlot, GetTextSlot, RemoveSlot, ChangeSlot}
 use Rattle.pm_filer.specs.declared.fault.FilerFault.{FilerFault}
 use Rattle.pm_check.specs.Checked.{check_text}
-use Rattle.pm_salvage.specs.Saving as saving
+use Rattle.pm_check.specs.Saving as saving
 use Rattle.pm_batch.specs.declared.refusal.Refusal.{Refusal}
 use Rattle.pm_batch.specs.declared.refusal.Refusal.TheVariants as refusals
 use Rattle.pm_batch.specs.Products.{Product, Written, Image, Refused, Judged, Saved}

@@ -29,7 +29,7 @@ pub(crate) fn disassemble_named(alloc: Global, input: &[u8]) -> Result<Made, All
         Err(reason) => return Ok(Made::Refused(Refusal::Code(reason), None)),
     };
     let text = pm_disasm::file(alloc, &file)?;
-    let named = pm_names::with_names(alloc, &file, text.as_bytes())?;
+    let named = pm_notes::with_names(alloc, &file, text.as_bytes())?;
     Ok(Made::Bytes(named))
 }
 

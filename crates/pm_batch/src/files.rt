@@ -7,7 +7,7 @@ ghost use Rattle.pm_batch.specs.Files.{answered, made_check, made_file, made_new
 ghost use Rattle.pm_batch.specs.Files.{opened_image};
 ghost use Rattle.pm_batch.specs.Files.{takes_input, with_input};
 ghost use Rattle.pm_batch.specs.Products.{product_of};
-ghost use Rattle.pm_salvage.specs.Saving.{salvaged};
+ghost use Rattle.pm_check.specs.Saving.{salvaged};
 
 use crate::batch::Made;
 use crate::refusal::Refusal;
@@ -112,7 +112,7 @@ pub(crate) fn check_image(alloc: Global, image: Vec<u8>) -> Result<Made, AllocEr
 pub(crate) fn salvage_image(alloc: Global, image: &[u8], second: bool) -> Result<Made, AllocError>
     ensures made { IfOk result (λ made. product_of made ≡ made_salvage (salvaged image.now second)) }
 {
-    match pm_salvage::salvage(alloc, image, second) {
+    match pm_check::salvage(alloc, image, second) {
         Ok(saved) => Ok(Made::Saved(saved.text.into_bytes(), saved.image)),
         Err(VolumeFault::NoMemory) => Err(AllocError),
         Err(fault) => Ok(Made::Refused(Refusal::Volume(fault), None)),

@@ -1,5 +1,5 @@
 //! The jobs on texts and code: one call each.
-ghost use Rattle.pm_selection.specs.declared.selection.TheConstants.Selection.{ALL};
+ghost use Rattle.pm_choices.specs.declared.selection.TheConstants.Selection.{ALL};
 ghost use Rattle.pm_tool.specs.Said.{job_said};
 ghost use Rattle.pm_c.specs.Answers.{Answers};
 

@@ -1,2 +1,6 @@
 pub mod Steps
 pub mod RuleLaws
+pub mod Names
+pub mod SavingSteps
+pub mod Saves
+pub mod ContentLaws

@@ -2,11 +2,11 @@
 use Rattle.std.specs.Prelude.{ℕ, ◌+◌, ◌*◌, ◌/◌, ◌%◌, ◌==◌, ◌&&◌, ◌||◌, Bool, true, false, nat_le, nat_lt, List}
 use Rattle.std.specs.Prelude.{[], ◌∷◌, ◌++◌, codes, length, slice_index, slice_range, take, if◌then◌else◌}
 use Rattle.std.specs.Str.{bytes_eq}
-use Rattle.pm_base.specs.Words.{word_in}
+use Rattle.pm_bytes.specs.Words.{word_in}
 use Rattle.pm_volume.specs.declared.fields.TheConstants.{DIRECTORY, HEADER_BLOCKS, HEADER_FILES, HEADER_FILES_BEGIN}
 use Rattle.pm_volume.specs.declared.fields.TheConstants.{LONGEST_VOLUME_NAME, MOST_FILES, PAST_DIRECTORY, PAST_SECOND}
 use Rattle.pm_volume.specs.declared.fields.TheConstants.{SLOT}
-use Rattle.pm_base.specs.declared.blocks.TheConstants.{BLOCK}
+use Rattle.pm_bytes.specs.declared.blocks.TheConstants.{BLOCK}
 use Rattle.pm_check.specs.declared.note.Form.TheVariants.{Dos, Swapped, FrontBlocks, FrontDos, FrontSwapped}
 use Rattle.pm_check.specs.declared.note.Note.{Note}
 use Rattle.pm_check.specs.declared.note.Note.TheVariants as notes

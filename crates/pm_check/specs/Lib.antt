@@ -5,3 +5,8 @@ pub mod Forms
 pub mod Notes
 pub mod Checked
 pub mod Laws
+pub mod Believing
+pub mod Naming
+pub mod Report
+pub mod Saving
+pub mod Contents

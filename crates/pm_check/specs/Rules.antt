@@ -5,7 +5,7 @@ use Rattle.pm_volume.specs.Directory.{block_count, directory_of, entry_in, file_
 use Rattle.pm_volume.specs.declared.entry.Entry.{Entry}
 use Rattle.pm_volume.specs.declared.fields.TheConstants.{DIRECTORY_END, HEADER_NAME, LONGEST_NAME}
 use Rattle.pm_volume.specs.declared.fields.TheConstants.{LONGEST_VOLUME_NAME, MOST_FILES, PAST_DIRECTORY, PAST_SECOND}
-use Rattle.pm_base.specs.declared.blocks.TheConstants.{BLOCK}
+use Rattle.pm_bytes.specs.declared.blocks.TheConstants.{BLOCK}
 use Rattle.pm_check.specs.declared.finding.Finding.{Finding}
 use Rattle.pm_check.specs.declared.finding.Finding.TheVariants as findings
 use Rattle.pm_check.specs.declared.finding.SlotFinding.TheVariants as slots

@@ -20,7 +20,7 @@ ghost use Rattle.pm_check.specs.Forms.{
 };
 
 use crate::note::{Form, Note};
-use pm_base::{BLOCK, word};
+use pm_bytes::{BLOCK, word};
 use pm_volume::fields::{
     DIRECTORY, HEADER_BLOCKS, HEADER_FILES, HEADER_FILES_BEGIN, MOST_FILES, PAST_DIRECTORY,
     PAST_SECOND, SLOT,

@@ -1,17 +1,18 @@
-//! What is wrong with the image of a volume, line by line, and in which other form it may be one.
+//! What is wrong with the image of a volume, line by line, and in which other form it may be one; and the files of one
+//! whose directory is damaged, saved into a new volume: each whose entry makes sense by itself.
 #![tactic(auto)]
 
+mod believing;
 mod checked;
-mod directory;
 mod finding;
 mod forms;
 pub mod laws;
+mod naming;
 mod note;
 mod notes;
+mod report;
 mod rules;
+mod saving;
 
 pub use checked::check;
-pub use directory::entry_at;
-pub use finding::SlotFinding;
-pub use notes::{header_name, shares};
-pub use rules::has_wrong_last;
+pub use saving::{Salvaged, salvage};

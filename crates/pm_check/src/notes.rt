@@ -1,7 +1,6 @@
 //! What may be of use to know of an image beside the rules that it breaks.
 ghost use Rattle.std.specs.Prelude.{◌≡◌, ◌-◌, ◌≤◌, ◌++◌, IfOk, OnOk, length};
 ghost use Rattle.pm_volume.specs.Directory.{entry_in};
-ghost use Rattle.pm_volume.specs.Names.{is_same_name};
 ghost use Rattle.pm_volume.specs.declared.fields.TheConstants.{DIRECTORY_END, DIRECTORY_SIZE, MOST_FILES, SECOND_END};
 ghost use Rattle.pm_check.specs.Notes.{
   copies_notes,
@@ -23,16 +22,15 @@ ghost use Rattle.pm_check.specs.Notes.{
 };
 ghost use Rattle.pm_check.specs.Rules.{slot_count};
 
-use crate::directory::entry_at;
 use crate::forms::{push_forms, push_note};
 use crate::note::Note;
 use crate::rules::push_directory;
-use pm_base::{BLOCK, word};
-use pm_volume::Entry;
+use pm_bytes::{BLOCK, word};
 use pm_volume::fields::{
     DIRECTORY, DIRECTORY_END, HEADER_FILES, HEADER_FILES_BEGIN, HEADER_NAME, LONGEST_VOLUME_NAME,
     MOST_FILES, PAST_SECOND, SECOND, SECOND_END, SLOT,
 };
+use pm_volume::{Entry, entry_at, is_same_name};
 use std::alloc::{AllocError, Global};
 
 // Whether each byte of a name is one of 33 to 126.
@@ -41,18 +39,6 @@ fn is_plain(name: &[u8]) -> bool
     ensures value { result ≡ is_plain name.now }
 {
     name.iter().all(|c| 33 <= *c && *c <= 126)
-}
-
-// Whether two names are one, whatever their case.
-#[tactic(auto, unfolding(pm_volume::specs::Names::is_same_name))]
-fn is_same_name(left: &[u8], right: &[u8]) -> bool
-    ensures same { result ≡ is_same_name left.now right.now }
-{
-    left.len() == right.len()
-        && left
-            .iter()
-            .zip(right)
-            .all(|(a, b)| a.to_ascii_uppercase() == b.to_ascii_uppercase())
 }
 
 /// The characters of the volume's name that a directory of 2,048 bytes has, at most 7.

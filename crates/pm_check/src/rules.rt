@@ -13,14 +13,13 @@ ghost use Rattle.pm_check.specs.Rules.{
   slot_findings,
 };
 
-use crate::directory::entry_at;
 use crate::finding::{Finding, SlotFinding};
-use pm_base::{BLOCK, word};
-use pm_volume::Entry;
+use pm_bytes::{BLOCK, word};
 use pm_volume::fields::{
     DIRECTORY, DIRECTORY_END, HEADER_BLOCKS, HEADER_FILES, HEADER_FILES_BEGIN, HEADER_NAME,
     MOST_FILES, PAST_DIRECTORY, PAST_SECOND,
 };
+use pm_volume::{Entry, entry_at};
 use std::alloc::{AllocError, Global};
 
 // Adds a finding where a rule is broken.

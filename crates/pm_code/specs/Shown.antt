@@ -2,7 +2,7 @@
 use Rattle.std.specs.Prelude.{ℕ, zero, suc, ◌+◌, ◌-◌, Bool, List, [], ◌∷◌, ◌++◌, length, map, replicate}
 use Rattle.std.specs.Prelude.{reverse, nat_lt, ◌==◌, if◌then◌else◌, codes, Option, Some, None}
 use Rattle.std.specs.Fmt.{decimal}
-unfoldable pub use Rattle.pm_base.specs.Decimals.{padded}
+unfoldable pub use Rattle.pm_bytes.specs.Decimals.{padded}
 use Rattle.pm_opcode.specs.Table.{mnemonic_of, form_of}
 use Rattle.pm_code.specs.Text.{operands_text, operand_texts, signed_text}
 use Rattle.pm_code.specs.Item.{Item, Target, case_opcode, size}

@@ -10,8 +10,8 @@ use Rattle.std.specs.Prelude.{slice_range, Option, Some, None, if◌then◌else�
 use Rattle.pm_codefile.specs.declared.fault.CodeFault.{CodeFault}
 use Rattle.pm_codefile.specs.declared.fault.CodeFault.TheVariants.{NoDictionary, SlotPastEnd, OddLength}
 use Rattle.pm_codefile.specs.declared.file.Slot.{Slot}
-use Rattle.pm_base.specs.declared.blocks.TheConstants.{BLOCK}
-unfoldable pub use Rattle.pm_base.specs.Words.{word_in}
+use Rattle.pm_bytes.specs.declared.blocks.TheConstants.{BLOCK}
+unfoldable pub use Rattle.pm_bytes.specs.Words.{word_in}
 
 -- The block of slot n.
 abbrev pub block_in : List ℕ → ℕ → ℕ

@@ -1,8 +1,8 @@
 -- The canonical layout of a code file: first the dictionary, with all kinds 0, then the segments of the slots in
 -- ascending order, each from the next block on and filled up to a block with zeros.
 use Rattle.byteorder.specs.Endian.{little_bytes}
-pub use Rattle.pm_base.specs.Blocks.{blocks_for}
-use Rattle.pm_base.specs.declared.blocks.TheConstants.{BLOCK}
+pub use Rattle.pm_bytes.specs.Blocks.{blocks_for}
+use Rattle.pm_bytes.specs.declared.blocks.TheConstants.{BLOCK}
 use Rattle.std.specs.Prelude.{◌==◌, ℕ, ◌+◌, ◌-◌, ◌*◌, List, [], ◌∷◌, ◌++◌, drop, replicate, take, if◌then◌else◌}
 
 -- The block and the length of a slot, as bytes. A slot without a length has block 0.

@@ -29,10 +29,10 @@ ghost use Rattle.pm_codefile.specs.Dictionary.{
   slot_fault,
   slot_in,
 };
-ghost use Rattle.pm_base.specs.declared.blocks.TheConstants.{BLOCK};
+ghost use Rattle.pm_bytes.specs.declared.blocks.TheConstants.{BLOCK};
 
 use crate::fault::CodeFault;
-use pm_base::{BLOCK, word};
+use pm_bytes::{BLOCK, word};
 use std::marker::Model;
 
 /// A slot of the dictionary.

@@ -25,7 +25,7 @@ ghost use Rattle.pm_codefile.specs.Layout.{in_blocks, block_padding, slot_pair, 
 ghost use Rattle.pm_codefile.specs.ReadBack.{ReadsBack};
 
 use byteorder::{ByteOrder, LittleEndian};
-use pm_base::BLOCK;
+use pm_bytes::BLOCK;
 use std::alloc::{AllocError, Global};
 
 const BLANK: [u8; 8] = [b' '; 8];
@@ -78,7 +78,7 @@ fn blocks_for(count: u16) -> u16
     ensures blocks { result ≡ blocks_for count }
     ensures few { result ≤ 128 }
 {
-    pm_base::blocks_for(usize::from(count)) as u16
+    pm_bytes::blocks_for(usize::from(count)) as u16
 }
 
 // Adds the block and the length of a slot.
@@ -133,7 +133,7 @@ fn put_segment(file: &mut Vec<u8>, segment: &[u8]) -> Result<(), AllocError>
 {
     file.extend_from_slice(segment)?;
     let count = segment.len();
-    put_zeros(file, BLOCK * pm_base::blocks_for(count) - count)
+    put_zeros(file, BLOCK * pm_bytes::blocks_for(count) - count)
 }
 
 // Adds segments, each filled up to a block.

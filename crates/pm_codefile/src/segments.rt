@@ -5,7 +5,7 @@ ghost use Rattle.pm_codefile.specs.Dictionary.{word_in};
 ghost use Rattle.pm_codefile.specs.Segments.{attributes_in, less_or_none, procedures_in};
 
 use crate::table::Attributes;
-use pm_base::word;
+use pm_bytes::word;
 
 /// The number of procedures of a segment, which is its last byte; 0 for no bytes.
 pub fn procedures(segment: &[u8]) -> u8

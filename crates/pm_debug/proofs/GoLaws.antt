@@ -14,13 +14,14 @@ use Rattle.pm_machine.specs.Steps.{stepped}
 use Rattle.pm_machine.specs.Runs.{RunOutcome, never, run_from, run_until}
 use Rattle.pm_machine.specs.RunLaws.{EndsSo, as_outcome}
 use Rattle.pm_machine.proofs.UntilLaws.{outcome_of, runs_end_so, same_runs}
-use Rattle.pm_debug.specs.declared.breaks.Breakpoint.{Breakpoint}
+use Rattle.pm_machine.specs.declared.code_place.CodePlace.{CodePlace}
 use Rattle.pm_debug.specs.declared.reason.BreakReason.{BreakReason}
 use Rattle.pm_debug.specs.declared.reason.BreakReason.TheVariants as reasons
 use Rattle.pm_debug.specs.declared.run.Depth.{Depth}
 use Rattle.pm_debug.specs.declared.run.Depth.TheVariants as depths
 use Rattle.pm_debug.specs.declared.watches.WatchedWord.{WatchedWord}
-use Rattle.pm_debug.specs.Breaks.{is_at_break, is_one_of, place_in_code}
+use Rattle.pm_debug.specs.Breaks.{is_at_break, is_one_of}
+use Rattle.pm_machine.specs.CodePlaces.{place_in_code}
 use Rattle.pm_debug.specs.RunLaws.{GoStopsAtBreaks, break_reason, to_a_break}
 use Rattle.pm_debug.specs.Runs.{GoIsRun, Gone, answered_so, gone, gone_by, gone_to, has_ended, is_there, later, nowhere, reason_of}
 use Rattle.pm_debug.specs.Runs.{stops_after, stops_at}
@@ -30,7 +31,7 @@ and_false : (b : Bool) → b && false ≡ false
 and_false true = refl
 and_false false = refl
 
-none_matches : (p : Option Breakpoint) → is_one_of p [] ≡ false
+none_matches : (p : Option CodePlace) → is_one_of p [] ≡ false
 none_matches None = refl
 none_matches (Some b) = refl
 
@@ -39,7 +40,7 @@ pub none_stop : (k : ℕ) (s : State) → later (stops_at [] [] nowhere) k s ≡
 unfolding first_changed
 none_stop k s = ap (λ b. not (k == 0) && b) (none_matches (place_in_code s)) ∙ and_false (not (k == 0))
 
-pub never_stops : (watched : List WatchedWord) (breaks : List Breakpoint) (depth : Depth) → (length watched == 0) ≡ true → (length breaks == 0) ≡ true
+pub never_stops : (watched : List WatchedWord) (breaks : List CodePlace) (depth : Depth) → (length watched == 0) ≡ true → (length breaks == 0) ≡ true
     → depth ≡ depths.Any → (k : ℕ) (s : State) → later (stops_at watched breaks (is_there depth)) k s ≡ false
 never_stops [] [] depth w b d k s = rw d (none_stop k s)
 never_stops [] (x ∷ breaks) depth w b d k s = absurd (omega (arith, eqb-true (length (x ∷ breaks)) 0 b))
@@ -70,7 +71,7 @@ abbrev as_gone : ℕ → BreakReason → State → Gone
 as_gone steps reason machine = record { steps = steps; reason = reason; machine = machine }
 
 -- a run of a machine that has not ended, with its watched words as they were handed to it and to its reason
-pub gone_is : (breaks : List Breakpoint) (watches : List ℕ) (test : State → Bool) (limit : ℕ) (s : State) (watched again : List WatchedWord) (run : RunOutcome)
+pub gone_is : (breaks : List CodePlace) (watches : List ℕ) (test : State → Bool) (limit : ℕ) (s : State) (watched again : List WatchedWord) (run : RunOutcome)
     (reason : BreakReason) → has_ended s.status ≡ false → watched ≡ watched_words watches s.memory → again ≡ watched_words watches s.memory
     → run_until (later (stops_at watched breaks test)) limit s ≡ run → reason ≡ reason_of again breaks run.end run.state
     → gone_to breaks watches test limit s ≡ record { steps = run.count; reason = reason; machine = run.state }
@@ -124,14 +125,14 @@ held_later k b h = behind (not (k == 0)) b h
     behind false b h = absurd (cc)
 
 -- without watched words the reason is that of a run which breakpoints alone may stop
-break_told : (breaks : List Breakpoint) (limit n count : ℕ) (s t : State) (end : RunEnd) → EndsSo (later (is_at_break breaks)) limit n s end count t
+break_told : (breaks : List CodePlace) (limit n count : ℕ) (s t : State) (end : RunEnd) → EndsSo (later (is_at_break breaks)) limit n s end count t
     → reason_of [] breaks end t ≡ break_reason end
 unfolding first_changed
 break_told breaks limit n count s t ends.Limit h = refl
 break_told breaks limit n count s t ends.Stopped h = rw (held_later n (is_at_break breaks t) h.1) refl
 break_told breaks limit n count s t (ends.Answered a) h = refl
 
-told_so : (breaks : List Breakpoint) (run : RunOutcome) → reason_of [] breaks run.end run.state ≡ break_reason run.end
+told_so : (breaks : List CodePlace) (run : RunOutcome) → reason_of [] breaks run.end run.state ≡ break_reason run.end
     → gone_by [] breaks run ≡ to_a_break run
 told_so breaks run h = ap (λ reason. record { steps = run.count; reason = reason; machine = run.state }) h
 

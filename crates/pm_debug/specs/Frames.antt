@@ -4,16 +4,16 @@ use Rattle.pm_words.specs.Words.{word_at}
 use Rattle.pm_words.specs.Stack.{is_even}
 use Rattle.pm_machine.specs.State.{State}
 use Rattle.pm_words.specs.declared.layout.TheConstants.{SYSTEM_FRAME}
-use Rattle.pm_debug.specs.declared.breaks.Breakpoint.{Breakpoint}
+use Rattle.pm_machine.specs.declared.code_place.CodePlace.{CodePlace}
 use Rattle.pm_debug.specs.declared.frames.Frame.{Frame}
-use Rattle.pm_debug.specs.Breaks.{place_at}
+use Rattle.pm_machine.specs.CodePlaces.{place_at}
 use Rattle.pm_debug.specs.Views.{dynamic_chain}
 
 -- the control word of a frame at this distance
 abbrev pub control_word : List ℕ → ℕ → ℕ → ℕ
 control_word m f distance = word_at m ((f + distance) % 65536)
 
-abbrev pub returning : ℕ → Option Breakpoint → Option Frame
+abbrev pub returning : ℕ → Option CodePlace → Option Frame
 returning f None = None
 returning f (Some place) = Some (record { address = f; returns_to = Some place })
 

@@ -5,7 +5,7 @@ use Rattle.pm_machine.specs.declared.state.RunEnd.{RunEnd}
 use Rattle.pm_machine.specs.declared.state.RunEnd.TheVariants as ends
 use Rattle.pm_machine.specs.State.{State}
 use Rattle.pm_machine.specs.Runs.{AllWent, RunOutcome, after_steps, run_until}
-use Rattle.pm_debug.specs.declared.breaks.Breakpoint.{Breakpoint}
+use Rattle.pm_machine.specs.declared.code_place.CodePlace.{CodePlace}
 use Rattle.pm_debug.specs.declared.reason.BreakReason.{BreakReason}
 use Rattle.pm_debug.specs.declared.reason.BreakReason.TheVariants as reasons
 use Rattle.pm_debug.specs.Breaks.{is_at_break}
@@ -32,7 +32,7 @@ pub record StopsAtChange (watches : List ℕ) (s : State) (a steps : ℕ) (t : S
 -- what it means that a run answers that the word at an address has changed
 abbrev pub ChangesAreFirst : Type 0
 ChangesAreFirst =
-    (breaks : List Breakpoint) (watches : List ℕ) (test : State → Bool) (limit : ℕ) (s : State) (a : ℕ) →
+    (breaks : List CodePlace) (watches : List ℕ) (test : State → Bool) (limit : ℕ) (s : State) (a : ℕ) →
     (gone_to breaks watches test limit s).reason ≡ reasons.Changed a →
     StopsAtChange watches s a (gone_to breaks watches test limit s).steps (gone_to breaks watches test limit s).machine
 
@@ -48,5 +48,5 @@ to_a_break run = record { steps = run.count; reason = break_reason run.end; mach
 -- without watched words a run of at most so many steps is the run of the machine that breakpoints alone may stop
 abbrev pub GoStopsAtBreaks : Type 0
 GoStopsAtBreaks =
-    (breaks : List Breakpoint) (limit : ℕ) (s : State) → has_ended s.status ≡ false →
+    (breaks : List CodePlace) (limit : ℕ) (s : State) → has_ended s.status ≡ false →
     gone breaks [] limit s ≡ to_a_break (run_until (later (is_at_break breaks)) limit s)

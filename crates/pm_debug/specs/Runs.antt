@@ -10,7 +10,7 @@ use Rattle.pm_machine.specs.declared.state.Stop.{Stop}
 use Rattle.pm_machine.specs.declared.state.Stop.TheVariants as stop
 use Rattle.pm_machine.specs.State.{State}
 use Rattle.pm_machine.specs.Runs.{Ran, RunOutcome, run_until}
-use Rattle.pm_debug.specs.declared.breaks.Breakpoint.{Breakpoint}
+use Rattle.pm_machine.specs.declared.code_place.CodePlace.{CodePlace}
 use Rattle.pm_debug.specs.declared.reason.BreakReason.{BreakReason}
 use Rattle.pm_debug.specs.declared.reason.BreakReason.TheVariants as reasons
 use Rattle.pm_debug.specs.declared.run.Depth.{Depth}
@@ -26,11 +26,11 @@ abbrev pub later : (State → Bool) → ℕ → State → Bool
 later test k s = not (k == 0) && test s
 
 -- a run stops at s: it is where a test says that it is to go, a watched word has changed, or it is at a breakpoint
-abbrev pub stops_at : List WatchedWord → List Breakpoint → (State → Bool) → State → Bool
+abbrev pub stops_at : List WatchedWord → List CodePlace → (State → Bool) → State → Bool
 stops_at watched breaks test s = (test s || has_changed watched s.memory) || is_at_break breaks s
 
 -- what stops a run that begins at this state, with these breakpoints and the words at these addresses watched
-abbrev pub stops_after : List Breakpoint → List ℕ → (State → Bool) → State → ℕ → State → Bool
+abbrev pub stops_after : List CodePlace → List ℕ → (State → Bool) → State → ℕ → State → Bool
 stops_after breaks watches test began = later (stops_at (watched_words watches began.memory) breaks test)
 
 -- ---- why it ends
@@ -52,12 +52,12 @@ changed_or (Some address) other = reasons.Changed address
 changed_or None other = other
 
 -- why a run stops before a step: for a watched word that has changed, else for a breakpoint, else for where it is to go
-abbrev pub stopped_so : List WatchedWord → List Breakpoint → State → BreakReason
+abbrev pub stopped_so : List WatchedWord → List CodePlace → State → BreakReason
 stopped_so watched breaks s =
     changed_or (first_changed watched s.memory) (if is_at_break breaks s then reasons.Break else reasons.There)
 
 -- why a run of the machine that these may stop makes no more steps
-abbrev pub reason_of : List WatchedWord → List Breakpoint → RunEnd → State → BreakReason
+abbrev pub reason_of : List WatchedWord → List CodePlace → RunEnd → State → BreakReason
 reason_of watched breaks ends.Limit s = reasons.Limit
 reason_of watched breaks ends.Stopped s = stopped_so watched breaks s
 reason_of watched breaks (ends.Answered answer) s = answered_so answer
@@ -70,13 +70,13 @@ pub record Gone : Type 0 where
   pub reason : BreakReason
   pub machine : State
 
-abbrev pub gone_by : List WatchedWord → List Breakpoint → RunOutcome → Gone
+abbrev pub gone_by : List WatchedWord → List CodePlace → RunOutcome → Gone
 gone_by watched breaks run =
     record { steps = run.count; reason = reason_of watched breaks run.end run.state; machine = run.state }
 
 -- The run of at most so many steps to a changed word, to a breakpoint, or to where a test holds. The watched words are
 -- those of the state in which it begins. On a machine that has ended there is no run, and so for no steps as well.
-unfoldable pub gone_to : List Breakpoint → List ℕ → (State → Bool) → ℕ → State → Gone
+unfoldable pub gone_to : List CodePlace → List ℕ → (State → Bool) → ℕ → State → Gone
 gone_to breaks watches test limit s =
     if has_ended s.status then record { steps = 0; reason = reasons.Ended; machine = s }
     else gone_by (watched_words watches s.memory) breaks (run_until (stops_after breaks watches test s) limit s)
@@ -86,7 +86,7 @@ abbrev pub nowhere : State → Bool
 nowhere s = false
 
 -- at most so many steps
-abbrev pub gone : List Breakpoint → List ℕ → ℕ → State → Gone
+abbrev pub gone : List CodePlace → List ℕ → ℕ → State → Gone
 gone breaks watches limit s = gone_to breaks watches nowhere limit s
 
 -- ---- runs over calls
@@ -111,11 +111,11 @@ abbrev pub most_steps : ℕ
 most_steps = 4294967295
 
 -- one instruction: where it is a call, all that is called
-abbrev pub gone_over : List Breakpoint → List ℕ → State → Gone
+abbrev pub gone_over : List CodePlace → List ℕ → State → Gone
 gone_over breaks watches s = gone_to breaks watches (is_back s.registers.mp) most_steps s
 
 -- all of the running procedure that is left, with its return
-abbrev pub gone_out : List Breakpoint → List ℕ → State → Gone
+abbrev pub gone_out : List CodePlace → List ℕ → State → Gone
 gone_out breaks watches s = gone_to breaks watches (has_left s.registers.mp) most_steps s
 
 -- ---- laws

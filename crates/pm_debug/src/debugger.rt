@@ -3,7 +3,8 @@
 ghost use Rattle.std.specs.Prelude.{◌≡◌, ◌<◌, [], false, Ok, Err, IfOk, IfErr, OnOk, OnErr};
 ghost use Rattle.std.specs.Borrow.{sem};
 ghost use Rattle.pm_debug.specs.Ahead.{addresses_ahead};
-ghost use Rattle.pm_debug.specs.Breaks.{break_at, place_in_code, with_break, without_break};
+ghost use Rattle.pm_debug.specs.Breaks.{with_break, without_break};
+ghost use Rattle.pm_machine.specs.CodePlaces.{code_place, place_in_code};
 ghost use Rattle.pm_debug.specs.Frames.{frames};
 ghost use Rattle.pm_debug.specs.Lending.{LendsMachine};
 ghost use Rattle.pm_debug.specs.Refusals.{or_refused};
@@ -15,7 +16,7 @@ ghost use Rattle.pm_debug.specs.Views.{static_chain, words_from};
 ghost use Rattle.pm_debug.specs.Watches.{with_watch, without_watch};
 
 use crate::ahead::addresses_from;
-use crate::breaks::{Breakpoint, Breaks};
+use crate::breaks::Breaks;
 use crate::frames::{Frame, frames};
 use crate::reason::BreakReason;
 use crate::refusal::{DebugRefusal, refusal_of};
@@ -24,7 +25,7 @@ use crate::views::{DYNAMIC_LINK, STATIC_LINK, chain, words_at};
 use crate::watches::Watches;
 use crate::{breaks, watches};
 use arrayvec::ArrayVec;
-use pm_machine::Machine;
+use pm_machine::{CodePlace, Machine, place_in_code};
 use pm_words::layout::STACK_END;
 use std::alloc::{AllocError, Global};
 use std::marker::Model;
@@ -100,13 +101,13 @@ impl Debugger {
         ensures machine { self.new.machine ≡ self.old.machine }
         ensures watches { self.new.watches ≡ self.old.watches }
         ensures shows { self.new.shows_console ≡ self.old.shows_console }
-        ensures set { OnOk result (with_break (break_at segment procedure offset) self.old.breaks
+        ensures set { OnOk result (with_break (code_place segment procedure offset) self.old.breaks
             ≡ Ok self.new.breaks) }
-        ensures refused { IfErr result (λ refusal. with_break (break_at segment procedure offset) self.old.breaks
+        ensures refused { IfErr result (λ refusal. with_break (code_place segment procedure offset) self.old.breaks
             ≡ Err refusal) }
         ensures kept { OnErr result (self.new ≡ self.old) }
     {
-        let place = Breakpoint {
+        let place = CodePlace {
             segment,
             procedure,
             offset,
@@ -124,13 +125,13 @@ impl Debugger {
         ensures machine { self.new.machine ≡ self.old.machine }
         ensures watches { self.new.watches ≡ self.old.watches }
         ensures shows { self.new.shows_console ≡ self.old.shows_console }
-        ensures cleared { OnOk result (without_break (break_at segment procedure offset) self.old.breaks
+        ensures cleared { OnOk result (without_break (code_place segment procedure offset) self.old.breaks
             ≡ Ok self.new.breaks) }
-        ensures refused { IfErr result (λ refusal. without_break (break_at segment procedure offset) self.old.breaks
+        ensures refused { IfErr result (λ refusal. without_break (code_place segment procedure offset) self.old.breaks
             ≡ Err refusal) }
         ensures kept { OnErr result (self.new ≡ self.old) }
     {
-        let place = Breakpoint {
+        let place = CodePlace {
             segment,
             procedure,
             offset,
@@ -323,14 +324,14 @@ impl Debugger {
     }
 
     /// Where the machine stands in the code; nowhere where SEG or JTAB is odd.
-    pub fn place_in_code(&self) -> Option<Breakpoint>
+    pub fn place_in_code(&self) -> Option<CodePlace>
         ensures place { result ≡ place_in_code self.now.machine.state }
     {
-        breaks::place_in_code(&self.machine)
+        place_in_code(&self.machine)
     }
 
     /// The breakpoints, in the order in which they were set.
-    pub fn breaks(&self) -> &[Breakpoint]
+    pub fn breaks(&self) -> &[CodePlace]
         ensures breaks { result.now ≡ self.now.breaks }
     {
         self.breaks.as_slice()

@@ -4,9 +4,9 @@ ghost use Rattle.std.specs.Prelude.{◌≡◌, ◌<◌, length, OnErr};
 ghost use Rattle.pm_debug.specs.Frames.{frame_at, frames_at, frames_of};
 ghost use Rattle.pm_debug.specs.Views.{ShowsChain, chain};
 
-use crate::breaks::{Breakpoint, place_at};
 use crate::refusal::DebugRefusal;
 use crate::views::{DYNAMIC_LINK, chain, control_word};
+use pm_machine::{CodePlace, place_at};
 use pm_words::Memory;
 use pm_words::layout::SYSTEM_FRAME;
 use std::alloc::Global;
@@ -26,7 +26,7 @@ pub struct Frame {
     /// Its address.
     pub address: u16,
     /// The place in the code that its return leads to; none where its return ends the program.
-    pub returns_to: Option<Breakpoint>,
+    pub returns_to: Option<CodePlace>,
 }
 
 /// The frame at an address; none where it is odd, or keeps an odd SEG or JTAB.

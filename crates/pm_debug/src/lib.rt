@@ -12,7 +12,6 @@ mod run;
 mod views;
 mod watches;
 
-pub use breaks::Breakpoint;
 pub use debugger::Debugger;
 pub use frames::Frame;
 pub use reason::BreakReason;

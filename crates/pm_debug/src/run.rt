@@ -6,10 +6,10 @@ ghost use Rattle.pm_debug.specs.Runs.{gone_to, has_ended, is_there, later, reaso
 ghost use Rattle.pm_debug.specs.Runs.{stops_after};
 ghost use Rattle.pm_debug.specs.Watches.{has_changed};
 
-use crate::breaks::{Breakpoint, is_at_break};
+use crate::breaks::is_at_break;
 use crate::reason::BreakReason;
 use crate::watches::{WatchedWord, Watches, first_changed, watched_words};
-use pm_machine::{Machine, RunEnd, Status, Stop, StopTest};
+use pm_machine::{CodePlace, Machine, RunEnd, Status, Stop, StopTest};
 use std::alloc::AllocError;
 
 /// The most steps of a run over calls.
@@ -42,7 +42,7 @@ fn is_there(machine: &Machine, depth: Depth) -> bool
 #[derive(Clone, Copy)]
 struct Stops<'a> {
     watched: &'a [WatchedWord],
-    breaks: &'a [Breakpoint],
+    breaks: &'a [CodePlace],
     depth: Depth,
 }
 
@@ -77,7 +77,7 @@ fn has_ended(status: Status) -> bool
 
 /// Why a run stops before a step: a watched word that has changed is told before a breakpoint, and
 /// this before the depth.
-fn stopped_so(watched: &[WatchedWord], breaks: &[Breakpoint], machine: &Machine) -> BreakReason
+fn stopped_so(watched: &[WatchedWord], breaks: &[CodePlace], machine: &Machine) -> BreakReason
     ensures reason { result ≡ stopped_so watched.now breaks.now machine.now.state }
 {
     match first_changed(watched, machine.memory()) {
@@ -90,7 +90,7 @@ fn stopped_so(watched: &[WatchedWord], breaks: &[Breakpoint], machine: &Machine)
 /// Why a run makes no more steps.
 fn reason_of(
     watched: &[WatchedWord],
-    breaks: &[Breakpoint],
+    breaks: &[CodePlace],
     machine: &Machine,
     end: RunEnd,
 ) -> BreakReason
@@ -110,7 +110,7 @@ fn reason_of(
 #[tactic(auto, unfolding(crate::specs::Runs::gone_to))]
 pub(crate) fn run(
     machine: &mut Machine,
-    breaks: &[Breakpoint],
+    breaks: &[CodePlace],
     watches: &Watches,
     depth: Depth,
     limit: u64,

@@ -2,7 +2,7 @@
 use Rattle.std.specs.Prelude.{ℕ, zero, suc, ◌+◌, List, [], ◌∷◌, ◌++◌, map}
 use Rattle.std.specs.Prelude.{reverse, nat_lt, ◌==◌, if◌then◌else◌, codes, Option, Some, None}
 use Rattle.std.specs.Fmt.{decimal}
-unfoldable pub use Rattle.pm_base.specs.Decimals.{padded}
+unfoldable pub use Rattle.pm_bytes.specs.Decimals.{padded}
 use Rattle.pm_codefile.specs.declared.table.Attributes.{Attributes}
 use Rattle.pm_codefile.specs.Dictionary.{segment_in, slot_in}
 use Rattle.pm_codefile.specs.Segments.{attributes_in, procedures_in}

@@ -3,7 +3,7 @@ use Rattle.std.specs.Prelude.{ℕ, ◌-◌, ◌==◌, ◌&&◌, nat_le, List, []
 use Rattle.std.specs.Prelude.{Some, None, if◌then◌else◌}
 use Rattle.std.specs.Fmt.{decimal}
 use Rattle.std.specs.List.{flat_map}
-unfoldable pub use Rattle.pm_base.specs.Decimals.{padded}
+unfoldable pub use Rattle.pm_bytes.specs.Decimals.{padded}
 use Rattle.pm_volume.specs.Dates.{date_of}
 use Rattle.pm_volume.specs.Files.{files_of}
 use Rattle.pm_volume.specs.Names.{characters_of}

@@ -11,3 +11,4 @@ pub mod Runs
 pub mod Laws
 pub mod RunLaws
 pub mod Quick
+pub mod CodePlaces

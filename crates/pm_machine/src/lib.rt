@@ -3,6 +3,7 @@
 
 mod agreeing;
 mod boot;
+mod code_place;
 pub mod laws;
 mod machine;
 mod procedures;
@@ -13,6 +14,7 @@ pub mod step_laws;
 mod stop_test;
 mod views;
 
+pub use code_place::{CodePlace, place_at, place_in_code};
 pub use machine::Machine;
 pub use pm_calls::Registers;
 pub use pm_stdproc::SlotRow;

@@ -10,11 +10,11 @@ use Rattle.pm_filer.specs.Filed.{Order, ListFiles, Get, Put, Remove, Change, Get
 use Rattle.pm_filer.specs.Filed.{PutText, Krunch, Date, Zero, Duplicate, Single, GetSlot, GetTextSlot}
 use Rattle.pm_filer.specs.Filed.{RemoveSlot, ChangeSlot, order_of}
 use Rattle.pm_filer.specs.Listing.{kind_word}
-use Rattle.pm_selection.specs.declared.saving.Saving.{Saving}
-use Rattle.pm_selection.specs.declared.saving.Saving.TheVariants as savings
-use Rattle.pm_selection.specs.declared.selection.Code.{Code}
-use Rattle.pm_selection.specs.declared.selection.Code.TheVariants as code
-use Rattle.pm_selection.specs.declared.selection.Selection.{Selection}
+use Rattle.pm_choices.specs.declared.saving.Saving.{Saving}
+use Rattle.pm_choices.specs.declared.saving.Saving.TheVariants as savings
+use Rattle.pm_choices.specs.declared.selection.Code.{Code}
+use Rattle.pm_choices.specs.declared.selection.Code.TheVariants as code
+use Rattle.pm_choices.specs.declared.selection.Selection.{Selection}
 use Rattle.pm_plan.specs.declared.file_words.FilesPlan.{FilesPlan}
 use Rattle.pm_plan.specs.declared.file_words.SalvagePlan.{SalvagePlan}
 use Rattle.pm_plan.specs.declared.file_words.Verb.{Verb}

@@ -14,7 +14,7 @@ use crate::run_words::{Keeping, Program, keeping_of, program_of};
 use crate::trace_words::selection_of;
 use clap::ArgMatches;
 use clap::error::ErrorKind;
-use pm_selection::Selection;
+use pm_choices::Selection;
 use pm_streams::Fault;
 use std::alloc::{AllocError, Global};
 use std::env::Args;

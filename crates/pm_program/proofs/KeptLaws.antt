@@ -16,7 +16,7 @@ use Rattle.pm_program.specs.Kept.{KeepsEach, KeepsFront, KeepsFrontSaid, KeepsRu
 use Rattle.pm_program.specs.Kept.{KeepsTold, PrintsIf, Reads, images_said}
 use Rattle.pm_program.specs.Kept.{ReadsEach, SaysOf, TellsOf, first_image, has_run, kept_paths, next_images, paths_of}
 use Rattle.pm_program.specs.declared.kept.KeptOfRun.{KeptOfRun}
-use Rattle.pm_selection.specs.declared.saving.Saving.{Saving}
+use Rattle.pm_choices.specs.declared.saving.Saving.{Saving}
 use Rattle.pm_plan.specs.declared.run_words.Others.{Others}
 use Rattle.pm_plan.specs.declared.run_words.Program.{Program}
 use Rattle.pm_tool.specs.Disks.{images_of}

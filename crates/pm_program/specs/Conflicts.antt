@@ -6,8 +6,8 @@ use Rattle.std.specs.Prelude.{if◌then◌else◌}
 use Rattle.std.specs.declared.alloc.Global.{Global}
 use Rattle.pm_program.specs.declared.end.Conflict.{Conflict}
 use Rattle.pm_program.specs.declared.end.Conflict.TheVariants as conflicts
-use Rattle.pm_selection.specs.declared.saving.Saving.{Saving}
-use Rattle.pm_selection.specs.declared.saving.Saving.TheVariants as savings
+use Rattle.pm_choices.specs.declared.saving.Saving.{Saving}
+use Rattle.pm_choices.specs.declared.saving.Saving.TheVariants as savings
 use Rattle.pm_plan.specs.declared.run_words.Keeping.{Keeping}
 use Rattle.pm_plan.specs.declared.run_words.Others.{Others}
 use Rattle.pm_plan.specs.declared.run_words.Program.{Program}

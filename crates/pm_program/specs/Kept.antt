@@ -17,9 +17,9 @@ use Rattle.pm_tool.specs.declared.outcome.Exit.TheVariants as exits
 use Rattle.pm_tool.specs.declared.outcome.Job.{Job}
 use Rattle.pm_tool.specs.declared.outcome.Job.TheVariants as jobs
 use Rattle.pm_tool.specs.declared.outcome.Outcome.{Outcome}
-use Rattle.pm_selection.specs.declared.saving.Saving.{Saving}
-use Rattle.pm_selection.specs.declared.saving.Saving.TheVariants as savings
-use Rattle.pm_selection.specs.declared.selection.Selection.{Selection}
+use Rattle.pm_choices.specs.declared.saving.Saving.{Saving}
+use Rattle.pm_choices.specs.declared.saving.Saving.TheVariants as savings
+use Rattle.pm_choices.specs.declared.selection.Selection.{Selection}
 use Rattle.pm_plan.specs.declared.file_words.SalvagePlan.{SalvagePlan}
 use Rattle.pm_plan.specs.declared.file_words.Verb.{Verb}
 use Rattle.pm_plan.specs.declared.file_words.Verb.TheVariants as verbs

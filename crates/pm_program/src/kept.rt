@@ -11,9 +11,9 @@ ghost use Rattle.pm_program.specs.Kept.{KeepsRunSaid, KeepsSalvage, Reads, Reads
 ghost use Rattle.pm_tool.specs.Disks.{images_of};
 ghost use Rattle.pm_tool.specs.Outcomes.{others_of};
 
+use pm_choices::{Saving, Selection};
 use pm_files::{DiskFault, Store};
 use pm_plan::{Others, Program, SalvagePlan, Verb};
-use pm_selection::{Saving, Selection};
 use pm_streams::{Sink, Source, write_all};
 use pm_tool::{Exit, Job, OtherImages, Outcome};
 use std::alloc::Global;

@@ -5,7 +5,7 @@ use Rattle.std.specs.Char.{digit_value}
 use Rattle.std.specs.Prelude.{min, nat_lt, if◌then◌else◌}
 use Rattle.std.specs.Str.Parse.{digits_value}
 use Rattle.std.proofs.lemmas.Bool.Decides.{nat_tests}
-use Rattle.pm_names.specs.Names.{is_digit}
+use Rattle.pm_notes.specs.Names.{is_digit}
 use Rattle.pm_session.specs.Commands.{number_and_numbers}
 use Rattle.pm_session.specs.Commands.{word_number, number_behind, numbers}
 

@@ -9,11 +9,11 @@ use Rattle.pm_code.specs.Image.{upper_digit}
 use Rattle.pm_code.specs.Text.{quoted}
 use Rattle.pm_disasm.specs.Text.{line_text}
 use Rattle.pm_debug.specs.Ahead.{addresses_ahead}
-use Rattle.pm_debug.specs.Breaks.{place_in_code}
+use Rattle.pm_machine.specs.CodePlaces.{place_in_code}
 use Rattle.pm_debug.specs.Frames.{frames}
 use Rattle.pm_debug.specs.Session.{Session}
 use Rattle.pm_debug.specs.Views.{bytes_from, console_end, words_from}
-use Rattle.pm_debug.specs.declared.breaks.Breakpoint.{Breakpoint}
+use Rattle.pm_machine.specs.declared.code_place.CodePlace.{CodePlace}
 use Rattle.pm_debug.specs.declared.frames.Frame.{Frame}
 use Rattle.pm_debug.specs.declared.refusal.DebugRefusal.TheVariants.{OddAddress}
 use Rattle.pm_session.specs.declared.commands.Command.{Command}
@@ -25,32 +25,32 @@ use Rattle.pm_session.specs.Texts.{chain_text, more_parts, numbers_text, parts_t
 -- ---- places in the code
 
 -- a segment, a procedure and an offset, as `break` takes them
-abbrev pub point_text : Breakpoint → List ℕ
+abbrev pub point_text : CodePlace → List ℕ
 point_text b = decimal b.segment ++ (32 ∷ decimal b.procedure ++ (32 ∷ decimal b.offset))
 
-abbrev pub breaks_text : List Breakpoint → List ℕ
+abbrev pub breaks_text : List CodePlace → List ℕ
 breaks_text breaks = parts_text (codes ", ") point_text breaks
 
 -- where the machine stands, and the instruction there
-abbrev pub where_text : Option Breakpoint → State → List ℕ
+abbrev pub where_text : Option CodePlace → State → List ℕ
 where_text None s = refused_text OddAddress
 where_text (Some place) s = point_text place ++ (32 ∷ line_text s.memory s.registers.ipc)
 
 -- how far an address stands behind the place where the procedure is entered, modulo 65,536; IPC stands at this place
-abbrev pub offset_at : Breakpoint → State → ℕ → ℕ
+abbrev pub offset_at : CodePlace → State → ℕ → ℕ
 offset_at place s address = (place.offset + minus address s.registers.ipc) % 65536
 
 -- what stands at an address, behind its offset
-abbrev pub ahead_text : Breakpoint → State → ℕ → List ℕ
+abbrev pub ahead_text : CodePlace → State → ℕ → List ℕ
 ahead_text place s address = decimal (offset_at place s address) ++ (32 ∷ line_text s.memory address)
 
-abbrev pub list_text : Option Breakpoint → State → List ℕ → List ℕ
+abbrev pub list_text : Option CodePlace → State → List ℕ → List ℕ
 list_text None s addresses = refused_text OddAddress
 list_text (Some place) s addresses = parts_text (codes "; ") (ahead_text place s) addresses
 
 -- ---- frames
 
-abbrev pub return_text : Option Breakpoint → List ℕ
+abbrev pub return_text : Option CodePlace → List ℕ
 return_text None = []
 return_text (Some place) = 32 ∷ point_text place
 

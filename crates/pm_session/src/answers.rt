@@ -17,7 +17,7 @@ use crate::texts::{chain, numbers, refused};
 use crate::views::shown;
 use pm_debug::{BreakReason, DebugRefusal, Debugger};
 use pm_machine::Registers;
-use pm_trace_line::trace_line;
+use pm_trace::trace_line;
 use std::alloc::{AllocError, Global};
 
 /// Done, or refused.

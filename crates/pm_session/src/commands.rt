@@ -4,7 +4,7 @@ ghost use Rattle.std.specs.Char.{digit_value, is_ascii_hexdigit};
 ghost use Rattle.std.specs.List.{list_all};
 ghost use Rattle.std.specs.Str.Parse.{digits_value};
 ghost use Rattle.pm_session.specs.Commands.{command_in, command_of, command_rows, decimal_number, hexadecimal_number};
-ghost use Rattle.pm_names.specs.Names.{is_digit};
+ghost use Rattle.pm_notes.specs.Names.{is_digit};
 ghost use Rattle.pm_session.specs.Commands.{number_up_to, numbers, setting_in, setting_rows, setting_with, word_number};
 ghost use Rattle.std.specs.Str.{bytes_eq};
 ghost use Rattle.pm_session.specs.Words.{begins_word, words_of_line, without_return};

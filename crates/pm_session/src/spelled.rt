@@ -3,18 +3,19 @@ ghost use Rattle.std.specs.Prelude.{◌≡◌, Some};
 ghost use Rattle.pm_code.specs.Text.{escaped, is_plain, quoted};
 ghost use Rattle.pm_session.specs.Views.{frame_text, pair_text, point_text};
 
-use pm_debug::{Breakpoint, Frame};
+use pm_debug::Frame;
+use pm_machine::CodePlace;
 use std::fmt;
 
 /// A place in the code: its segment, its procedure and its offset, as `break` takes them.
 #[derive(Clone, Copy)]
-pub(crate) struct Point(pub Breakpoint);
+pub(crate) struct Point(pub CodePlace);
 
 impl fmt::Display for Point {
     ghost output = { λ p. Some (point_text p.0) };
 
     fn fmt<W: fmt::Write>(&self, f: &mut fmt::Formatter<W>) -> fmt::Result {
-        let Breakpoint {
+        let CodePlace {
             segment,
             procedure,
             offset,

@@ -11,9 +11,9 @@ ghost use Rattle.pm_session.specs.Views.{pair_text, shown_character, view_text, 
 use crate::commands::View;
 use crate::spelled::{FrameText, Pair, Point, Quoted};
 use crate::texts::{chain, numbers, refused};
-use pm_debug::{Breakpoint, DebugRefusal, Debugger, Frame};
+use pm_debug::{DebugRefusal, Debugger, Frame};
 use pm_disasm::Line;
-use pm_machine::Machine;
+use pm_machine::{CodePlace, Machine};
 use std::alloc::{AllocError, Global};
 
 /// The commands.
@@ -24,7 +24,7 @@ const HELP: &str = concat!(
 );
 
 /// Breakpoints.
-fn breaks(alloc: Global, breaks: &[Breakpoint]) -> Result<String, AllocError>
+fn breaks(alloc: Global, breaks: &[CodePlace]) -> Result<String, AllocError>
     ensures text { IfOk result (λ text. string_bytes text ≡ breaks_text breaks.now) }
 {
     let Some((first, rest)) = breaks.split_first() else {
@@ -40,7 +40,7 @@ fn breaks(alloc: Global, breaks: &[Breakpoint]) -> Result<String, AllocError>
 /// Where the machine stands, and the instruction there.
 fn standing(
     alloc: Global,
-    place: Option<Breakpoint>,
+    place: Option<CodePlace>,
     machine: &Machine,
 ) -> Result<String, AllocError>
     ensures text { IfOk result (λ text. string_bytes text ≡ where_text place machine.now.state) }
@@ -79,7 +79,7 @@ fn frames(alloc: Global, frames: Result<Vec<Frame>, DebugRefusal>) -> Result<Str
 }
 
 /// How far an address stands behind the place where the procedure is entered; IPC stands at this place.
-fn offset_at(place: Breakpoint, machine: &Machine, address: u16) -> u16
+fn offset_at(place: CodePlace, machine: &Machine, address: u16) -> u16
     ensures offset { result ≡ offset_at place machine.now.state address }
 {
     let behind = address.wrapping_sub(machine.registers().ipc);
@@ -89,7 +89,7 @@ fn offset_at(place: Breakpoint, machine: &Machine, address: u16) -> u16
 /// What stands at these addresses, each behind its offset.
 fn list(
     alloc: Global,
-    place: Option<Breakpoint>,
+    place: Option<CodePlace>,
     machine: &Machine,
     addresses: &[u16],
 ) -> Result<String, AllocError>

@@ -5,7 +5,7 @@ use Rattle.std.proofs.Common.{length, get_or, replicate, None, Some, cond, eqb, 
 use Rattle.std.specs.Prelude.{not, slice_range}
 use Rattle.std.proofs.lemmas.Bool.{cases_Bool, cases_lt, eqb-false, eqb-true, le-ltb, lt-ltb, ltb-false}
 use Rattle.std.proofs.lemmas.List.{get_or_append_left, length-replicate, take_all}
-use Rattle.pm_base.specs.Blocks.{blocks_for}
+use Rattle.pm_bytes.specs.Blocks.{blocks_for}
 use Rattle.pm_codefile.specs.Dictionary.{IsCodeFile, block_in, length_in, segment_in, slot_fault, slot_in, word_in}
 use Rattle.pm_codefile.specs.declared.fault.CodeFault.{CodeFault}
 use Rattle.pm_codefile.specs.declared.file.Slot.{Slot}

@@ -1,6 +1,6 @@
 -- What the new code file holds.
 use Rattle.std.specs.Prelude.{◌≡◌, ◌≤◌, ◌<◌, ◌%◌, ℕ, List, length, Some}
-use Rattle.pm_base.specs.Blocks.{blocks_for}
+use Rattle.pm_bytes.specs.Blocks.{blocks_for}
 use Rattle.pm_codefile.specs.Dictionary.{IsCodeFile, block_in, segment_in, slot_in}
 use Rattle.pm_codefile.specs.declared.file.Slot.{Slot}
 use Rattle.pm_system.specs.Segment.{with_segment}

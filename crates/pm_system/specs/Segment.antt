@@ -1,9 +1,9 @@
 -- The code file of a program with the segment that another code file, the system's, has in slot 0.
 use Rattle.std.specs.Prelude.{ℕ, ◌*◌, ◌-◌, List, ◌++◌, length, nat_lt, replicate, Option, Some, None, Result, Ok, Err}
 use Rattle.std.specs.Prelude.{is_some, if◌then◌else◌}
-use Rattle.pm_base.specs.Blocks.{blocks_for}
-use Rattle.pm_base.specs.Words.{with_word_in, written}
-use Rattle.pm_base.specs.declared.blocks.TheConstants.{BLOCK}
+use Rattle.pm_bytes.specs.Blocks.{blocks_for}
+use Rattle.pm_bytes.specs.Words.{with_word_in, written}
+use Rattle.pm_bytes.specs.declared.blocks.TheConstants.{BLOCK}
 use Rattle.pm_codefile.specs.Dictionary.{file_fault, segment_in, slot_in}
 use Rattle.pm_codefile.specs.declared.fault.CodeFault.{CodeFault}
 use Rattle.pm_codefile.specs.declared.file.Slot.{Slot}

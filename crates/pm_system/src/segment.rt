@@ -1,12 +1,12 @@
 //! Code files with the segment of another one.
 ghost use Rattle.std.specs.Prelude.{◌≡◌, ◌≢◌, ◌≤◌, length, Err, Ok, IfErr, IfOk, IsErrOf, IsOk};
-ghost use Rattle.pm_base.specs.declared.blocks.TheConstants.{BLOCK};
-ghost use Rattle.pm_base.specs.Blocks.{blocks_for};
+ghost use Rattle.pm_bytes.specs.declared.blocks.TheConstants.{BLOCK};
+ghost use Rattle.pm_bytes.specs.Blocks.{blocks_for};
 ghost use Rattle.pm_system.specs.Segment.{given, system_slot, with_segment, with_system};
 ghost use Rattle.pm_system.specs.declared.fault.SystemFault.TheVariants.{NoMemory};
 
 use crate::fault::SystemFault;
-use pm_base::{BLOCK, blocks_for, set_bytes, set_word};
+use pm_bytes::{BLOCK, blocks_for, set_bytes, set_word};
 use pm_codefile::{CodeFile, Slot};
 use pm_volume::VolumeFault;
 use std::alloc::{AllocError, Global};

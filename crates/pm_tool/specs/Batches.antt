@@ -3,7 +3,7 @@ use Rattle.std.specs.Prelude.{◌≡◌, ℕ, Bool, true, false, List, [], Optio
 use Rattle.pm_volume.specs.Copies.{repaired}
 use Rattle.pm_volume.specs.declared.fault.VolumeFault.{VolumeFault}
 use Rattle.pm_filer.specs.Filed.{Order}
-use Rattle.pm_salvage.specs.Saving.{salvaged}
+use Rattle.pm_check.specs.Saving.{salvaged}
 use Rattle.pm_streams.specs.Streams.{ReadsAll}
 use Rattle.pm_batch.specs.declared.batch.Batch.{Batch}
 use Rattle.pm_batch.specs.Batches.{made_of, reads_file, reads_input}

@@ -5,8 +5,8 @@ use Rattle.pm_machine.specs.Events.{Event, Step, Key, Poke, Mount, Eject, after_
 use Rattle.pm_machine.specs.Runs.{Ran}
 use Rattle.pm_machine.specs.declared.state.Stop.{Stop}
 use Rattle.pm_machine.specs.declared.state.Stop.TheVariants.{Went, Waiting, Ended, Halted}
-use Rattle.pm_selection.specs.declared.saving.Saving.{Saving}
-use Rattle.pm_selection.specs.declared.saving.Saving.TheVariants as savings
+use Rattle.pm_choices.specs.declared.saving.Saving.{Saving}
+use Rattle.pm_choices.specs.declared.saving.Saving.TheVariants as savings
 use Rattle.pm_session.specs.declared.ending.Ending.TheVariants as endings
 use Rattle.pm_tool.specs.Disks.{booted}
 use Rattle.pm_tool.specs.declared.steps.Show.{Show}

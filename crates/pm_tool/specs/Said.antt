@@ -3,8 +3,8 @@ use Rattle.std.specs.Prelude.{◌≡◌, ◌⊎◌, ◌↔◌, true, false, ◌�
 use Rattle.std.specs.Prelude.{None, Option, Result, Ok, Err, length, IfSome}
 use Rattle.std.specs.Io.KnownBytes.{Consumes, Appends, Keeps}
 use Rattle.pm_machine.specs.State.{State}
-use Rattle.pm_selection.specs.declared.saving.Saving.{Saving}
-use Rattle.pm_selection.specs.declared.saving.Saving.TheVariants as savings
+use Rattle.pm_choices.specs.declared.saving.Saving.{Saving}
+use Rattle.pm_choices.specs.declared.saving.Saving.TheVariants as savings
 use Rattle.pm_units.specs.Devices.{Devices, ejected_image}
 use Rattle.pm_streams.specs.declared.fault.Fault.{Fault}
 use Rattle.pm_tool.specs.declared.outcome.Exit.{Exit}

@@ -2,8 +2,8 @@
 use Rattle.std.specs.Prelude.{◌≡◌, ◌+◌, ◌%◌, ℕ, List, [], ◌∷◌, Option, Some, None, IfSome, string_bytes}
 use Rattle.pm_words.specs.Words.{byte_at}
 use Rattle.pm_machine.specs.State.{State}
-use Rattle.pm_debug.specs.Breaks.{place_in_code}
-use Rattle.pm_trace_line.specs.Trace.{trace_line}
+use Rattle.pm_machine.specs.CodePlaces.{place_in_code}
+use Rattle.pm_trace.specs.Trace.{trace_line}
 use Rattle.pm_session.specs.declared.ending.Ending.{Ending}
 use Rattle.pm_session.specs.declared.ending.Ending.TheVariants as endings
 use Rattle.pm_tool.specs.declared.stopped.Stopped.{Stopped}

@@ -13,7 +13,7 @@ use crate::programs::Start;
 use crate::steps::Show;
 use crate::talk::{Talk, do_talk};
 use crate::work::{Work, work_of};
-use pm_selection::Selection;
+use pm_choices::Selection;
 use pm_streams::{Fault, Nothing, Sink, Source, read_all};
 use std::alloc::Global;
 

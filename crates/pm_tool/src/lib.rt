@@ -17,7 +17,7 @@ mod work;
 pub use engine::run;
 pub use outcome::{Exit, Job, OtherImages, Outcome};
 pub use pm_batch::{Reason, Refusal};
-pub use pm_selection::{Code, Saving, Selection};
+pub use pm_choices::{Code, Saving, Selection};
 pub use pm_session::Ending;
 pub use pm_streams::{Reader, Sink, Source, Writer};
 pub use reason::{RunReason, Whereabouts};

@@ -5,8 +5,8 @@ ghost use Rattle.pm_tool.specs.Outcomes.{no_others, others_of, outcome_text, ref
 
 use crate::stopped::Stopped;
 use pm_batch::Refusal;
+use pm_choices::{Saving, Selection};
 use pm_filer::FileCommand;
-use pm_selection::{Saving, Selection};
 use pm_session::Ending;
 use pm_streams::Fault;
 use std::alloc::{AllocError, Global};

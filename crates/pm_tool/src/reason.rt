@@ -1,6 +1,6 @@
 //! Why a run ended, and where, in words.
 use crate::stopped::Stopped;
-use pm_names::system_name;
+use pm_notes::system_name;
 use pm_opcode::row_at;
 use pm_session::Ending;
 use pm_words::ExecError;

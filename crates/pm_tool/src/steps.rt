@@ -5,8 +5,8 @@ ghost use Rattle.pm_machine.specs.Steps.{stepped};
 ghost use Rattle.pm_tool.specs.Run.{ComesToEnd, StopsShort, Unshown, is_console, shown_by};
 ghost use Rattle.pm_streams.specs.Streams.{AppendsBut, AppendsFront, IsCause, IsCounted, AreWell, both};
 
+use pm_choices::{Saving, Selection};
 use pm_machine::{Machine, Stop};
-use pm_selection::{Saving, Selection};
 use pm_session::Ending;
 use pm_streams::{Fault, Sink, Source, next_byte, write_all};
 use pm_trace::Lines;

@@ -2,11 +2,9 @@
 ghost use Rattle.std.specs.Prelude.{◌≡◌};
 ghost use Rattle.pm_tool.specs.Stops.{AreStops, IsStop, stop_of};
 
-use pm_debug::Breakpoint;
-use pm_machine::Machine;
+use pm_machine::{CodePlace, Machine, place_in_code};
 use pm_session::Ending;
-use pm_trace::place_in_code;
-use pm_trace_line::trace_line;
+use pm_trace::trace_line;
 use std::alloc::Global;
 
 /// What the state shows in which an error stopped a run: its last step was not made.
@@ -14,7 +12,7 @@ use std::alloc::Global;
 pub struct Stopped {
     /// The numbers of the segment and of the procedure, and how many bytes behind its entry IPC stands; nowhere where
     /// SEG or JTAB is odd.
-    pub place: Option<Breakpoint>,
+    pub place: Option<CodePlace>,
     /// The line of a trace for the step, where there was memory for its text.
     pub step: Option<String>,
     /// The three bytes at IPC.

@@ -7,7 +7,7 @@ use crate::programs::Start;
 use crate::steps::Show;
 use crate::talk::Talk;
 use pm_batch::{Batch, open};
-use pm_selection::Selection;
+use pm_choices::Selection;
 
 /// A job, by its shape.
 #[derive(Drop)]

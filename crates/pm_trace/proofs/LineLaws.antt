@@ -1,7 +1,7 @@
 -- The lines that are shown are those of the trace.
 use Rattle.std.proofs.Common.{◌≡◌, ◌⊎◌, ℕ, Bool, true, false, List, [], ◌∷◌, ◌++◌, inl, inr, refl, arith, nat_le, if◌then◌else◌}
 use Rattle.std.proofs.lemmas.Bool.Decides.{nat_tests}
-use Rattle.pm_trace_line.specs.Trace.{trace_line}
+use Rattle.pm_trace.specs.Trace.{trace_line}
 use Rattle.pm_trace.specs.Selected.{front, is_selected, shown_line}
 use Rattle.pm_trace.specs.Laws.{AllIsTheTrace, LinesStay}
 

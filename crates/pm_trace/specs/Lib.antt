@@ -1,2 +1,3 @@
+pub mod Trace
 pub mod Selected
 pub mod Laws

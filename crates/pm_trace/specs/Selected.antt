@@ -10,15 +10,15 @@ use Rattle.pm_words.specs.Stack.{is_even}
 use Rattle.pm_words.specs.declared.layout.TheConstants.{SYSTEM_FRAME}
 use Rattle.pm_machine.specs.State.{State}
 use Rattle.pm_code.specs.Shown.{padded}
-use Rattle.pm_debug.specs.declared.breaks.Breakpoint.{Breakpoint}
-use Rattle.pm_debug.specs.Breaks.{place_in_code}
-use Rattle.pm_trace_line.specs.Trace.{trace_line}
-use Rattle.pm_selection.specs.declared.selection.Code.{Code}
-use Rattle.pm_selection.specs.declared.selection.Code.TheVariants as codes_of
-use Rattle.pm_selection.specs.declared.selection.Selection.{Selection}
+use Rattle.pm_machine.specs.declared.code_place.CodePlace.{CodePlace}
+use Rattle.pm_machine.specs.CodePlaces.{place_in_code}
+use Rattle.pm_trace.specs.Trace.{trace_line}
+use Rattle.pm_choices.specs.declared.selection.Code.{Code}
+use Rattle.pm_choices.specs.declared.selection.Code.TheVariants as codes_of
+use Rattle.pm_choices.specs.declared.selection.Selection.{Selection}
 
 -- a place stands in the code that is asked for; what stands nowhere stands in no segment
-abbrev pub stands_in : Code → Option Breakpoint → Bool
+abbrev pub stands_in : Code → Option CodePlace → Bool
 stands_in codes_of.Anywhere place = true
 stands_in (codes_of.Segment segment) None = false
 stands_in (codes_of.Segment segment) (Some place) = place.segment == segment
@@ -72,7 +72,7 @@ abbrev pub column : ℕ → ℕ → List ℕ
 column width n = padded width n ++ 32 ∷ []
 
 -- the place of a step in columns; dashes where it stands nowhere
-abbrev pub place_columns : Option Breakpoint → List ℕ
+abbrev pub place_columns : Option CodePlace → List ℕ
 place_columns None = codes "--- --- ----- "
 place_columns (Some place) = column 3 place.segment ++ column 3 place.procedure ++ column 5 place.offset
 

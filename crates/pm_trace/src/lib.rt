@@ -1,11 +1,19 @@
-//! The lines of a trace that are selected, and what stands in front of them.
+//! The line of a trace for a machine's next step; the lines that are selected, and what stands in front of them.
 #![tactic(auto)]
 
 mod depth;
+mod digits;
+mod kept_digits;
 pub mod laws;
 mod lines;
+mod number_text;
 mod place;
 mod selected;
+mod state_line;
+mod text;
+mod tracer;
 
 pub use lines::Lines;
-pub use place::place_in_code;
+pub use state_line::TraceLine;
+pub use text::trace_line;
+pub use tracer::Tracer;

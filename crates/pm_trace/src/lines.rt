@@ -3,12 +3,12 @@
 ghost use Rattle.std.specs.Prelude.{◌≡◌, ◌≤◌, ◌++◌, OnOk};
 ghost use Rattle.pm_trace.specs.Selected.{blanks, front, front_blanks, front_place, shown_line};
 
+use crate::Tracer;
 use crate::depth::depth;
-use crate::place::{add_place, place_in_code};
+use crate::place::add_place;
 use crate::selected::is_selected;
-use pm_machine::Machine;
-use pm_selection::Selection;
-use pm_trace_line::Tracer;
+use pm_choices::Selection;
+use pm_machine::{Machine, place_in_code};
 use std::alloc::{AllocError, Global};
 
 /// Blanks in front of the deepest line.

@@ -2,16 +2,14 @@
 
 ghost use Rattle.std.specs.Prelude.{◌≡◌};
 ghost use Rattle.pm_trace.specs.Selected.{is_at_call, is_call_or_return, is_selected, stands_in};
-ghost use Rattle.pm_debug.specs.Breaks.{place_in_code};
+ghost use Rattle.pm_machine.specs.CodePlaces.{place_in_code};
 
-use crate::place::place_in_code;
-use pm_debug::Breakpoint;
-use pm_machine::Machine;
+use pm_choices::{Code, Selection};
+use pm_machine::{CodePlace, Machine, place_in_code};
 use pm_opcode::row_at;
-use pm_selection::{Code, Selection};
 
 /// Whether a place stands in the code that is asked for.
-fn stands_in(code: Code, place: Option<Breakpoint>) -> bool
+fn stands_in(code: Code, place: Option<CodePlace>) -> bool
     ensures value { result ≡ stands_in code place }
 {
     match (code, place) {

@@ -4,7 +4,7 @@ use Rattle.std.specs.Prelude.{◌∷◌, ◌++◌, length, replicate, slice_rang
 use Rattle.std.specs.Prelude.{if◌then◌else◌}
 use Rattle.std.specs.List.{find, insert, list_any, position_from, remove}
 use Rattle.std.specs.Option.{ok_or}
-pub use Rattle.pm_base.specs.Blocks.{blocks_for}
+pub use Rattle.pm_bytes.specs.Blocks.{blocks_for}
 use Rattle.pm_volume.specs.Copies.{and_second, mirrored}
 use Rattle.pm_volume.specs.Directory.{block_count, directory_of, entries_from, entry_in, file_count, files_begin}
 use Rattle.pm_volume.specs.Directory.{files_in}
@@ -19,7 +19,7 @@ use Rattle.pm_volume.specs.declared.gap.Gap.{Gap}
 use Rattle.pm_volume.specs.declared.fields.TheConstants.{DIRECTORY, ENTRY_DATE, ENTRY_END, ENTRY_FIRST, ENTRY_KIND}
 use Rattle.pm_volume.specs.declared.fields.TheConstants.{ENTRY_LAST_BYTES, ENTRY_NAME, HEADER_FILES, LONGEST_NAME}
 use Rattle.pm_volume.specs.declared.fields.TheConstants.{MOST_FILES, SLOT}
-use Rattle.pm_base.specs.declared.blocks.TheConstants.{BLOCK}
+use Rattle.pm_bytes.specs.declared.blocks.TheConstants.{BLOCK}
 
 -- an image with another directory
 abbrev pub with_directory : List ℕ → List ℕ → List ℕ

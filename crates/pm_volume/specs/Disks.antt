@@ -1,6 +1,6 @@
 -- The image of a disk as a list of bytes.
 use Rattle.std.specs.Prelude.{◌≤◌, nat_le, ℕ, ◌+◌, ◌*◌, List, length, slice_range, Option, Some, None, if◌then◌else◌}
-use Rattle.pm_base.specs.declared.blocks.TheConstants.{BLOCK}
+use Rattle.pm_bytes.specs.declared.blocks.TheConstants.{BLOCK}
 
 -- block n of an image, none past its end
 unfoldable pub block_of : List ℕ → ℕ → Option (List ℕ)

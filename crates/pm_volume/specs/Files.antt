@@ -5,7 +5,7 @@ use Rattle.std.specs.List.{find}
 use Rattle.pm_volume.specs.Directory.{directory_of, files_in}
 use Rattle.pm_volume.specs.Names.{characters_of, is_same_name}
 use Rattle.pm_volume.specs.declared.entry.Entry.{Entry}
-use Rattle.pm_base.specs.declared.blocks.TheConstants.{BLOCK}
+use Rattle.pm_bytes.specs.declared.blocks.TheConstants.{BLOCK}
 
 -- the files of an image in block order
 abbrev pub files_of : List ℕ → List Entry

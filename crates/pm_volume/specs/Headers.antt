@@ -9,7 +9,7 @@ use Rattle.pm_volume.specs.declared.fault.VolumeFault.{VolumeFault}
 use Rattle.pm_volume.specs.declared.fault.VolumeFault.TheVariants.{BadHeader, BadName}
 use Rattle.pm_volume.specs.declared.fields.TheConstants.{DIRECTORY_SIZE, HEADER_BLOCKS, HEADER_DATE, HEADER_FILES_BEGIN}
 use Rattle.pm_volume.specs.declared.fields.TheConstants.{HEADER_NAME, LONGEST_VOLUME_NAME, PAST_DIRECTORY}
-use Rattle.pm_base.specs.declared.blocks.TheConstants.{BLOCK}
+use Rattle.pm_bytes.specs.declared.blocks.TheConstants.{BLOCK}
 
 -- the date that a volume was last set to
 abbrev pub last_date_of : List ℕ → ℕ

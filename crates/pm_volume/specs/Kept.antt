@@ -6,7 +6,7 @@ use Rattle.pm_volume.specs.declared.entry.Entry.{Entry}
 use Rattle.pm_volume.specs.declared.fields.TheConstants.{DIRECTORY, DIRECTORY_END, ENTRY_KIND, ENTRY_LAST_BYTES}
 use Rattle.pm_volume.specs.declared.fields.TheConstants.{ENTRY_NAME, HEADER_DATE, HEADER_FILES, HEADER_FILES_BEGIN}
 use Rattle.pm_volume.specs.declared.fields.TheConstants.{SECOND, SECOND_END, SLOT}
-use Rattle.pm_base.specs.declared.blocks.TheConstants.{BLOCK}
+use Rattle.pm_bytes.specs.declared.blocks.TheConstants.{BLOCK}
 
 -- the bytes of all blocks of a file
 abbrev pub blocks_of : List ℕ → Entry → List ℕ

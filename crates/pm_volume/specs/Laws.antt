@@ -9,7 +9,7 @@ use Rattle.pm_volume.specs.Words.{written}
 use Rattle.pm_volume.specs.declared.copies.Copies.TheVariants.{Same}
 use Rattle.pm_volume.specs.declared.fault.VolumeFault.TheVariants.{FirstCopyBad}
 use Rattle.pm_volume.specs.declared.fields.TheConstants.{DIRECTORY, DIRECTORY_SIZE}
-use Rattle.pm_base.specs.declared.blocks.TheConstants.{BLOCK}
+use Rattle.pm_bytes.specs.declared.blocks.TheConstants.{BLOCK}
 
 -- an image is refused for its first copy alone, and repaired it is a volume with the files of the second copy, each
 -- with its bytes

@@ -9,7 +9,7 @@ use Rattle.pm_volume.specs.Kept.{ChangesOnly, Span, blocks_of, blocks_span, plac
 use Rattle.pm_volume.specs.Words.{with_word_in, written}
 use Rattle.pm_volume.specs.declared.entry.Entry.{Entry}
 use Rattle.pm_volume.specs.declared.fields.TheConstants.{ENTRY_END, SLOT}
-use Rattle.pm_base.specs.declared.blocks.TheConstants.{BLOCK}
+use Rattle.pm_bytes.specs.declared.blocks.TheConstants.{BLOCK}
 use Rattle.pm_volume.specs.declared.kinds.TheConstants.{BAD_BLOCKS}
 
 -- a file's entry where its blocks begin at another one

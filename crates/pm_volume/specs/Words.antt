@@ -1,3 +1,3 @@
--- Words and bytes in a list of bytes, as pm_base has them.
-unfoldable pub use Rattle.pm_base.specs.Words.{word_in, written, zeros}
-pub use Rattle.pm_base.specs.Words.{with_word_in}
+-- Words and bytes in a list of bytes, as pm_bytes has them.
+unfoldable pub use Rattle.pm_bytes.specs.Words.{word_in, written, zeros}
+pub use Rattle.pm_bytes.specs.Words.{with_word_in}

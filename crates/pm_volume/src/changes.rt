@@ -23,7 +23,7 @@ ghost use Rattle.pm_volume.specs.declared.fields.TheConstants.{
   MOST_FILES,
   PAST_SECOND,
 };
-ghost use Rattle.pm_base.specs.declared.blocks.TheConstants.{BLOCK};
+ghost use Rattle.pm_bytes.specs.declared.blocks.TheConstants.{BLOCK};
 
 use crate::copies::{has_second, mirror};
 use crate::directory::write_directory;
@@ -34,7 +34,7 @@ use crate::fields::{
 };
 use crate::gap::Gap;
 use crate::slots::{insert_slot, remove_slot};
-use pm_base::{BLOCK, blocks_for, clear, clear_all, set_bytes, set_word};
+use pm_bytes::{BLOCK, blocks_for, clear, clear_all, set_bytes, set_word};
 
 // The entry of a new file in a gap.
 pub(crate) fn new_entry(gap: Gap, name: &str, kind: u8, size: usize, date: u16) -> Entry

@@ -11,7 +11,7 @@ use crate::directory::fault_of_directory;
 use crate::fields::{
     DIRECTORY, DIRECTORY_END, DIRECTORY_SIZE, HEADER_FILES_BEGIN, PAST_SECOND, SECOND, SECOND_END,
 };
-use pm_base::{BLOCK, word};
+use pm_bytes::{BLOCK, word};
 
 /// What a volume has of its directory, in four blocks each: one copy, or two.
 #[derive(Clone, Copy, Debug, PartialEq, Eq)]

@@ -24,11 +24,11 @@ use crate::fields::{
     HEADER_BLOCKS, HEADER_DATE, HEADER_FILES, HEADER_FILES_BEGIN, HEADER_NAME, LONGEST_VOLUME_NAME,
     MOST_FILES, PAST_DIRECTORY, PAST_SECOND, SLOT,
 };
-use pm_base::{clear_all, set_bytes, set_word, word};
+use pm_bytes::{clear_all, set_bytes, set_word, word};
 use std::marker::Model;
 
-// The entry in a slot of a directory.
-pub(crate) fn entry_at(directory: &[u8], n: u16) -> Entry
+/// The entry in a slot of a directory, whether or not it is sound.
+pub fn entry_at(directory: &[u8], n: u16) -> Entry
     requires whole { length directory.now ≡ DIRECTORY_SIZE }
     requires slot { n ≤ MOST_FILES }
     ensures entry { result ≡ entry_in directory.now n }

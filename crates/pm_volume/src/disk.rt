@@ -5,9 +5,9 @@ ghost use Rattle.std.specs.Bool.{OnFalse, OnTrue};
 ghost use Rattle.std.specs.Option.{option_map};
 ghost use Rattle.pm_volume.specs.Disks.{IsInImage, block_of};
 ghost use Rattle.pm_volume.specs.Words.{written};
-ghost use Rattle.pm_base.specs.declared.blocks.TheConstants.{BLOCK};
+ghost use Rattle.pm_bytes.specs.declared.blocks.TheConstants.{BLOCK};
 
-use pm_base::{BLOCK, set_bytes};
+use pm_bytes::{BLOCK, set_bytes};
 use std::marker::Model;
 
 /// A disk: an image of whole blocks of 512 bytes, seen as the list of its bytes.
@@ -18,7 +18,7 @@ pub struct Disk {
 
 impl Model for Disk {
     ghost use Rattle.std.specs.Prelude.{◌≡◌, ◌%◌, ℕ, List, length};
-    ghost use Rattle.pm_base.specs.declared.blocks.TheConstants.{BLOCK};
+    ghost use Rattle.pm_bytes.specs.declared.blocks.TheConstants.{BLOCK};
 
     ghost Value = { List ℕ };
 

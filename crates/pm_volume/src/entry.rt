@@ -10,7 +10,7 @@ use crate::fields::{
     ENTRY_DATE, ENTRY_END, ENTRY_FIRST, ENTRY_KIND, ENTRY_LAST_BYTES, ENTRY_NAME, LONGEST_NAME,
     SLOT,
 };
-use pm_base::{BLOCK, set_bytes, set_word, word};
+use pm_bytes::{BLOCK, set_bytes, set_word, word};
 
 /// A file's entry in the directory.
 #[derive(Clone, Copy)]
@@ -94,9 +94,9 @@ impl Entry {
     }
 }
 
-// Whether two names are one, whatever their case.
+/// Whether two names are one, whatever their case.
 #[tactic(auto, unfolding(crate::specs::Names::is_same_name))]
-fn is_same_name(left: &[u8], right: &[u8]) -> bool
+pub fn is_same_name(left: &[u8], right: &[u8]) -> bool
     ensures same { result ≡ is_same_name left.now right.now }
 {
     left.len() == right.len()

@@ -18,9 +18,9 @@ mod volume;
 
 pub use copies::Copies;
 pub use date::Date;
-pub use directory::Entries;
+pub use directory::{Entries, entry_at};
 pub use disk::Disk;
-pub use entry::Entry;
+pub use entry::{Entry, is_same_name};
 pub use fault::VolumeFault;
 pub use space::Space;
 pub use volume::Volume;

@@ -6,7 +6,7 @@ ghost use Rattle.pm_volume.specs.Directory.{IsVolume, block_count, directory_of,
 ghost use Rattle.pm_volume.specs.Packing.{new_place, packed_image, with_moved, with_places};
 ghost use Rattle.pm_volume.specs.Words.{with_word_in, written};
 ghost use Rattle.pm_volume.specs.declared.fields.TheConstants.{DIRECTORY_END, MOST_FILES, PAST_DIRECTORY};
-ghost use Rattle.pm_base.specs.declared.blocks.TheConstants.{BLOCK};
+ghost use Rattle.pm_bytes.specs.declared.blocks.TheConstants.{BLOCK};
 
 use crate::directory::entry_at;
 use crate::entry::Entry;
@@ -14,7 +14,7 @@ use crate::fields::{
     DIRECTORY, DIRECTORY_END, ENTRY_END, HEADER_BLOCKS, HEADER_FILES, HEADER_FILES_BEGIN, SLOT,
 };
 use crate::kinds::BAD_BLOCKS;
-use pm_base::{BLOCK, set_word, word};
+use pm_bytes::{BLOCK, set_word, word};
 
 // Moves each file to the end of the one before.
 pub(crate) fn pack_files(image: &mut Vec<u8>)

@@ -6,7 +6,7 @@ ghost use Rattle.pm_volume.specs.Directory.{file_count};
 ghost use Rattle.pm_volume.specs.declared.fields.TheConstants.{DIRECTORY_SIZE, MOST_FILES, SLOT};
 
 use crate::fields::{HEADER_FILES, SLOT};
-use pm_base::{set_word, word};
+use pm_bytes::{set_word, word};
 
 // Puts a slot in at n, and moves those behind it up.
 pub(crate) fn insert_slot(directory: &mut [u8], n: u16, slot: &[u8])

@@ -6,7 +6,7 @@ ghost use Rattle.pm_volume.specs.declared.fields.TheConstants.{DIRECTORY_SIZE, M
 
 use crate::directory::entry_at;
 use crate::fields::{HEADER_BLOCKS, HEADER_FILES, HEADER_FILES_BEGIN};
-use pm_base::word;
+use pm_bytes::word;
 
 /// The free space of a volume.
 #[derive(Clone, Copy)]

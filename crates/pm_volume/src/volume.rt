@@ -37,7 +37,7 @@ ghost use Rattle.pm_volume.specs.declared.fields.TheConstants.{
   LONGEST_VOLUME_NAME,
   MOST_FILES,
 };
-ghost use Rattle.pm_base.specs.declared.blocks.TheConstants.{BLOCK};
+ghost use Rattle.pm_bytes.specs.declared.blocks.TheConstants.{BLOCK};
 
 use crate::changes::{
     add_second, date_volume, drop_second, name_file, new_entry, put_file, renew_directory,
@@ -56,7 +56,7 @@ use crate::fields::{
 use crate::gap::Gap;
 use crate::packing::pack_files;
 use crate::space::{Space, space_of};
-use pm_base::{BLOCK, blocks_for, word};
+use pm_bytes::{BLOCK, blocks_for, word};
 use std::alloc::Global;
 use std::marker::Model;
 

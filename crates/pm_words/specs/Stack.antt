@@ -2,7 +2,7 @@
 -- on its top, words are pushed below it, and it ends at 65,504, above which no word is popped.
 use Rattle.std.specs.Prelude.{ℕ, ◌+◌, ◌-◌, ◌%◌, ◌≤◌, ◌≡◌, ◌==◌, Bool, List, Result}
 use Rattle.std.specs.Prelude.{Ok, Err, if◌then◌else◌, ◌&&◌, ◌*◌, nat_le, nat_lt}
-pub use Rattle.pm_base.specs.Steps.{◌>>=◌}
+pub use Rattle.pm_bytes.specs.Steps.{◌>>=◌}
 use Rattle.pm_words.specs.declared.error.ExecError.{ExecError}
 use Rattle.pm_words.specs.declared.error.ExecError.TheVariants.{InvalidMemory, StackOverflow}
 use Rattle.pm_words.specs.Words.{word_at, with_word}

@@ -1,0 +1,68 @@
+-- What a removal and another name by the slot make of the list of files. A file of the list stands behind some files
+-- and before others; its slot is one more than the number of those before it.
+use Rattle.std.specs.Prelude.{◌≡◌, ◌+◌, ℕ, true, false, List, ◌∷◌, ◌++◌, length, None, Result, Ok, IsOk}
+use Rattle.std.specs.List.{All, list_any}
+use Rattle.pm_volume.specs.Directory.{IsVolume}
+use Rattle.pm_volume.specs.Files.{file_bytes, files_of, is_named}
+use Rattle.pm_volume.specs.Names.{is_new_name, name_field}
+use Rattle.pm_volume.specs.declared.entry.Entry.{Entry}
+use Rattle.pm_volume.specs.declared.fault.VolumeFault.TheVariants.{BadName, Duplicate, NoFile}
+use Rattle.pm_filer.specs.Filed.{Done, Filed, Remove, Change, RemoveSlot, ChangeSlot, file_in_slot, filed}
+use Rattle.pm_filer.specs.declared.fault.FilerFault.{FilerFault}
+use Rattle.law_disks.specs.Refusals.{IsRefused}
+
+-- these files have in one image the bytes that they have in another
+abbrev pub HaveBytesOf : List ℕ → List ℕ → List Entry → Type 0
+HaveBytesOf old new files = All (λ (e : Entry). file_bytes new e ≡ file_bytes old e) files
+
+-- a command is done, and leaves this list of files, of which these have the bytes that they had
+pub record Leaves (old : List ℕ) (outcome : Result Filed FilerFault) (list kept : List Entry) : Type 0 where
+  pub new : List ℕ
+  pub done : outcome ≡ Ok (record { image = new; answer = Done })
+  pub files : files_of new ≡ list
+  pub bytes : HaveBytesOf old new kept
+
+-- a file that is removed by its slot is missing from the list, and every other one stands in it, in the order and with
+-- the bytes that it had, whatever names they have
+abbrev pub RemovalTakesOne : Type 0
+RemovalTakesOne =
+    (image : List ℕ) (before after : List Entry) (e : Entry) → IsVolume image → files_of image ≡ before ++ e ∷ after
+    → Leaves image (filed image (RemoveSlot (length before + 1))) (before ++ after) (before ++ after)
+
+-- a file that gets another name by its slot stands in the list with that name and is otherwise as it was, and so is
+-- every other one, where no other one has the new name; its own name is no other's
+abbrev pub ChangeNamesOne : Type 0
+ChangeNamesOne =
+    (image : List ℕ) (before after : List Entry) (e : Entry) (new : List ℕ) → IsVolume image
+    → files_of image ≡ before ++ e ∷ after → is_new_name 15 new ≡ true
+    → list_any (is_named new) (before ++ after) ≡ false
+    → Leaves image (filed image (ChangeSlot (length before + 1) new))
+    (before ++ record e { name = name_field 15 new } ∷ after) (before ++ e ∷ after)
+
+-- another name by the slot: the new one is none; another file has it
+pub record SlotChangeTellsFirst (before after : List Entry) (new : List ℕ) (outcome : Result Filed FilerFault) : Type 0
+  where
+    pub bad_name : is_new_name 15 new ≡ false → IsRefused BadName outcome
+    pub there : is_new_name 15 new ≡ true → list_any (is_named new) (before ++ after) ≡ true
+        → IsRefused Duplicate outcome
+    pub done : is_new_name 15 new ≡ true → list_any (is_named new) (before ++ after) ≡ false → IsOk outcome
+
+abbrev pub SlotChangesTellFirst : Type 0
+SlotChangesTellFirst =
+    (image : List ℕ) (before after : List Entry) (e : Entry) (new : List ℕ) → files_of image ≡ before ++ e ∷ after
+    → SlotChangeTellsFirst before after new (filed image (ChangeSlot (length before + 1) new))
+
+-- a slot without a file is refused as a name that is not there, whatever the new name
+abbrev pub EmptySlotsAreRefused : Type 0
+EmptySlotsAreRefused =
+    (image : List ℕ) (slot : ℕ) → file_in_slot image slot ≡ None
+    → IsRefused NoFile (filed image (RemoveSlot slot))
+    × ((new : List ℕ) → IsRefused NoFile (filed image (ChangeSlot slot new)))
+
+-- a name stands for the slot of the first file that has it
+abbrev pub NamesAreSlots : Type 0
+NamesAreSlots =
+    (image : List ℕ) (before after : List Entry) (e : Entry) (name : List ℕ) → files_of image ≡ before ++ e ∷ after
+    → list_any (is_named name) before ≡ false → is_named name e ≡ true
+    → (filed image (Remove name) ≡ filed image (RemoveSlot (length before + 1)))
+    × ((new : List ℕ) → filed image (Change name new) ≡ filed image (ChangeSlot (length before + 1) new))

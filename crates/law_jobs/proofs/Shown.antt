@@ -1,0 +1,176 @@
+-- Each command of a session leaves the machine as its events do.
+use Rattle.std.proofs.Common.{◌≡◌, ◌≤◌, ℕ, zero, suc, ◌+◌, Bool, true, false, List, [], ◌∷◌, ◌++◌, Option, Some, None, refl, sym, ap}
+use Rattle.std.proofs.Common.{subst, ◌∙◌, arith}
+use Rattle.std.proofs.Common.{◌==◌, ◌&&◌, not, append_assoc}
+use Rattle.std.proofs.lemmas.Bool.Decides.{nat_tests}
+use Rattle.std.specs.Prelude.{◌≢◌, replicate, if◌then◌else◌, Result, Ok, Err}
+use Rattle.pm_machine.specs.State.{State}
+use Rattle.pm_machine.specs.Events.{Event, Step, Key, Poke, after_all}
+use Rattle.pm_machine.specs.Runs.{Passes, after_steps, run_until}
+use Rattle.pm_machine.specs.RunLaws.{EndsSo}
+use Rattle.pm_machine.specs.Steps.{stepped}
+use Rattle.pm_machine.specs.declared.state.RunEnd.{RunEnd}
+use Rattle.pm_machine.specs.declared.state.RunEnd.TheVariants as ends
+use Rattle.pm_machine.specs.declared.state.Stop.{Stop}
+use Rattle.pm_machine.specs.declared.state.Stop.TheVariants as stop
+use Rattle.pm_machine.proofs.EventLaws.{events_go_on}
+use Rattle.pm_machine.proofs.UntilLaws.{after_more, after_none, runs_end_so}
+use Rattle.pm_machine.specs.declared.code_place.CodePlace.{CodePlace}
+use Rattle.pm_debug.specs.declared.reason.BreakReason.TheVariants as reasons
+use Rattle.pm_debug.specs.declared.refusal.DebugRefusal.{DebugRefusal}
+use Rattle.pm_debug.specs.Breaks.{with_break, without_break}
+use Rattle.pm_machine.specs.CodePlaces.{code_place}
+use Rattle.pm_debug.specs.Runs.{gone_by, gone_to, has_ended, has_left, is_back, later, most_steps, nowhere, stops_after, stops_at}
+use Rattle.pm_debug.specs.Session.{Session}
+use Rattle.pm_debug.specs.Watches.{watched_words, with_watch, without_watch}
+use Rattle.pm_session.specs.declared.commands.Command.{Command}
+use Rattle.pm_session.specs.declared.commands.Command.TheVariants as commands
+use Rattle.pm_session.specs.Commands.{command_of}
+use Rattle.pm_session.specs.Answers.{after_command, session_after, with_breaks, with_watches}
+use Rattle.pm_session.specs.Sessions.{answer_line, answers, is_quit, opened}
+use Rattle.law_jobs.specs.Shown.{AreEventsOf, AreEventsOfLines, GoesOn, GoesOnAfter, SessionsShowTheTable, StopsAfter}
+use Rattle.law_jobs.specs.Shown.StopsAfter.{rests, all, breaks_there, stops}
+
+-- ---- steps of a run
+
+-- so many steps are so many events
+all_steps : (n : ℕ) (s : State) → after_steps n s ≡ after_all s (replicate n Step)
+unfolding after_steps
+all_steps zero s = refl
+all_steps (suc n) s = sym (after_first n s) ∙ all_steps n (stepped s).0
+  where
+    after_first : (n : ℕ) (s : State) → after_steps n (stepped s).0 ≡ (stepped (after_steps n s)).0
+    after_first zero s = refl
+    after_first (suc n) s = ap (λ t. (stepped t).0) (after_first n s)
+
+-- the steps that a command makes, and the state that they lead to
+abbrev Makes : (State → Bool) → ℕ → State → State → Type 0
+Makes test limit s t = (steps : ℕ) × StopsAfter test limit s steps × (t ≡ after_steps steps s)
+
+-- a test that does not hold before a step, which is not the first
+free_there : (test : State → Bool) (k : ℕ) (s : State) → 1 ≤ k → later test k s ≡ false → test s ≡ false
+free_there test k s some h = behind (k == 0) (test s) (grind (arith, nat_tests, some)) h
+  where
+    behind : (first at : Bool) → first ≡ false → (not first && at) ≡ false → at ≡ false
+    behind true at e h = absurd (cc)
+    behind false at e h = h
+
+some_steps : (test : State → Bool) (k : ℕ) (s : State) → later test k s ≡ true → (1 ≤ k) × (test s ≡ true)
+some_steps test k s h =
+    let at = both (k == 0) (test s) h in
+    let some = at.0 in
+    (grind (arith, nat_tests, some), at.1)
+  where
+    both : (first at : Bool) → (not first && at) ≡ true → (first ≡ false) × (at ≡ true)
+    both true at h = absurd (cc)
+    both false at h = (refl, h)
+
+goes_on : (test : State → Bool) (n : ℕ) (s : State) → Passes (later test) n s → GoesOn test n s
+goes_on test n s p = record { went = p.went; free = λ k some below. free_there test k (after_steps k s) some (p.free k below) }
+
+made_by : (test : State → Bool) (limit n : ℕ) (s : State) (end : RunEnd) (count : ℕ) (t : State) → Passes (later test) n s
+    → EndsSo (later test) limit n s end count t → Makes test limit s t
+made_by test limit n s ends.Limit count t p h =
+    (limit, all (subst (λ k. GoesOn test k s) h.0 (goes_on test n s p)), h.2 ∙ ap (λ k. after_steps k s) h.0)
+made_by test limit n s ends.Stopped count t p h =
+    let at = some_steps test n t h.1 in
+    (n, breaks_there n at.0 h.0 (goes_on test n s p) (ap test (sym h.3) ∙ at.1), h.3)
+made_by test limit n s (ends.Answered answer) count t p h =
+    let last = h.2 in
+    let other : (stepped (after_steps n s)).1 ≢ stop.Went = λ e. h.0 (sym (ap (λ (q : State × Stop). q.1) last.last) ∙ e) in (
+      n + 1,
+      stops n last.within (goes_on test n s p) (λ some. free_there test n (after_steps n s) some h.1) other,
+      after_more n s (after_steps n s) t answer refl last.last,
+    )
+
+run_steps : (test : State → Bool) (n : ℕ) (s : State) → Makes test n s (run_until (later test) n s).state
+run_steps test n s = let h = runs_end_so (later test) n s in
+    made_by test n h.0 s (run_until (later test) n s).end (run_until (later test) n s).count (run_until (later test) n s).state h.1 h.2
+
+-- the test that stops a run which begins at s
+abbrev Stops : List CodePlace → List ℕ → (State → Bool) → State → State → Bool
+Stops breaks watches test s = stops_at (watched_words watches s.memory) breaks test
+
+gone_steps : (breaks : List CodePlace) (watches : List ℕ) (test : State → Bool) (n : ℕ) (s : State)
+    → Makes (Stops breaks watches test s) n s (gone_to breaks watches test n s).machine
+unfolding gone_to
+gone_steps breaks watches test n s = ended_steps (has_ended s.status) refl
+  where
+    ended_steps : (b : Bool) → has_ended s.status ≡ b → Makes (Stops breaks watches test s) n s
+        (if b then (record { steps = 0; reason = reasons.Ended; machine = s }) else gone_by (watched_words watches s.memory) breaks
+        (run_until (stops_after breaks watches test s) n s)).machine
+    ended_steps true e = (0, rests e, after_none s)
+    ended_steps false e = run_steps (Stops breaks watches test s) n s
+
+-- ---- commands
+
+abbrev Made : Option Command → Session → Type 0
+Made command d = (events : List Event) × AreEventsOf command d events × ((session_after command d).machine ≡ after_all d.machine events)
+
+kept : (d : Session) (r : Result (List CodePlace) DebugRefusal) → (with_breaks d r).machine ≡ d.machine
+kept d (Ok breaks) = refl
+kept d (Err refusal) = refl
+
+kept_watching : (d : Session) (r : Result (List ℕ) DebugRefusal) → (with_watches d r).machine ≡ d.machine
+kept_watching d (Ok watches) = refl
+kept_watching d (Err refusal) = refl
+
+pub command_made : (command : Option Command) (d : Session) → Made command d
+unfolding after_command
+command_made None d = ([], refl, refl)
+command_made (Some (commands.Break s p o)) d = ([], refl, kept d (with_break (code_place s p o) d.breaks))
+command_made (Some (commands.Clear s p o)) d = ([], refl, kept d (without_break (code_place s p o) d.breaks))
+command_made (Some (commands.Watch a)) d = ([], refl, kept_watching d (with_watch a d.watches))
+command_made (Some (commands.Unwatch a)) d = ([], refl, kept_watching d (without_watch a d.watches))
+command_made (Some (commands.Poke a w)) d = (Poke a w ∷ [], refl, refl)
+command_made (Some (commands.Key b)) d = (Key b ∷ [], refl, refl)
+command_made (Some (commands.Go n)) d =
+    let made = gone_steps d.breaks d.watches nowhere n d.machine in
+    (replicate made.0 Step, (made.0, made.1, refl), made.2 ∙ all_steps made.0 d.machine)
+command_made (Some commands.Step) d =
+    let made = gone_steps d.breaks d.watches (is_back d.machine.registers.mp) most_steps d.machine in
+    (replicate made.0 Step, (made.0, made.1, refl), made.2 ∙ all_steps made.0 d.machine)
+command_made (Some commands.Finish) d =
+    let made = gone_steps d.breaks d.watches (has_left d.machine.registers.mp) most_steps d.machine in
+    (replicate made.0 Step, (made.0, made.1, refl), made.2 ∙ all_steps made.0 d.machine)
+command_made (Some command) d = ([], refl, refl)
+
+-- ---- lines
+
+-- what a session of a debugger, whatever its breakpoints and watched words, comes to after lines
+record Shows (lines : List (List ℕ)) (d : Session) : Type 0 where
+  events : List Event
+  named : AreEventsOfLines lines d events
+  session : Session
+  state : session.machine ≡ after_all d.machine events
+  answered : (more : List (List ℕ)) → answers (lines ++ more) d ≡ answers lines d ++ answers more session
+
+answers_more : (line : List ℕ) (lines more : List (List ℕ)) (d t : Session) → is_quit (command_of line) ≡ false
+    → answers (lines ++ more) (session_after (command_of line) d) ≡ answers lines (session_after (command_of line) d) ++ answers more t
+    → answers (line ∷ lines ++ more) d ≡ answers (line ∷ lines) d ++ answers more t
+unfolding answers
+answers_more line lines more d t on e =
+    let front = answer_line (command_of line) d in
+    rw on (ap (λ l. front ++ l) e ∙ sym (append_assoc front _ _))
+
+no_lines : (more : List (List ℕ)) (d : Session) → answers more d ≡ answers [] d ++ answers more d
+unfolding answers
+no_lines more d = refl
+
+shows : (lines : List (List ℕ)) (d : Session) → GoesOnAfter lines → Shows lines d
+shows [] d on = record { events = []; named = refl; session = d; state = refl; answered = λ more. no_lines more d }
+shows (line ∷ lines) d on =
+    let made = command_made (command_of line) d in
+    let rest = shows lines (session_after (command_of line) d) on.1 in
+    record {
+      events = made.0 ++ rest.events;
+      named = (made.0, rest.events, made.1, rest.named, refl);
+      session = rest.session;
+      state = rest.state ∙ ap (λ m. after_all m rest.events) made.2 ∙ sym (events_go_on d.machine made.0 rest.events);
+      answered = λ more. answers_more line lines more d rest.session on.0 (rest.answered more);
+    }
+
+pub sessions_show_the_table : SessionsShowTheTable
+sessions_show_the_table lines s on =
+    let all = shows lines (opened s) on in
+    record { events = all.events; named = all.named; session = all.session; state = all.state; answered = all.answered }

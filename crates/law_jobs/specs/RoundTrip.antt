@@ -1,0 +1,35 @@
+-- Programs that become text, and texts that become programs, one after the other.
+use Rattle.std.specs.Prelude.{◌≡◌, ℕ, List, Ok}
+use Rattle.std.specs.List.{AllByRecursion, AllZip}
+use Rattle.pm_code.specs.Image.{file_of}
+use Rattle.pm_code.specs.Laws.{IsSameSegment}
+use Rattle.pm_code.specs.Program.{AreInstructions, FitSlots, IsProgram, Procedure, Segment}
+use Rattle.pm_disasm.specs.Shown.{file_text}
+use Rattle.pm_notes.specs.Lines.{with_names}
+use Rattle.pm_source.specs.Meaning.{Spells}
+use Rattle.pm_asm.specs.Assembled.{assembled}
+
+-- The text of a program's code file spells a program of the same code file: of the same segments in their bytes, and
+-- the same program where no item is a byte that is no instruction.
+pub record IsShownAgain (ss ts : List Segment) : Type 0 where
+  pub spelled : Spells (file_text (file_of ss)) ts
+  pub segments : AllZip IsSameSegment ss ts
+  pub file : file_of ts ≡ file_of ss
+  pub same : AllByRecursion (λ s. AllByRecursion (λ (p : Procedure). AreInstructions p.items) s.procedures) ss → ts ≡ ss
+
+abbrev pub ShownFileIsSpelled : Type 0
+ShownFileIsSpelled = (ss : List Segment) → IsProgram ss → FitSlots ss → (ts : List Segment) × IsShownAgain ss ts
+
+-- The text that is shown for an assembled code file is assembled to the same code file.
+abbrev pub AssembledIsShownAgain : Type 0
+AssembledIsShownAgain = (text file shown : List ℕ) → assembled text ≡ Ok (file, shown)
+    → (again : List ℕ) × (assembled (file_text file) ≡ Ok (file, again))
+
+-- What is told behind the lines of a text says nothing, whatever the file: it is assembled as the text without it is.
+abbrev pub NamesSayNothing : Type 0
+NamesSayNothing = (file text : List ℕ) → assembled (with_names file text) ≡ assembled text
+
+-- The text with names that is shown for an assembled code file is assembled to the same code file.
+abbrev pub NamedIsShownAgain : Type 0
+NamedIsShownAgain = (text file shown : List ℕ) → assembled text ≡ Ok (file, shown)
+    → (again : List ℕ) × (assembled (with_names file (file_text file)) ≡ Ok (file, again))

@@ -1,0 +1,22 @@
+use Rattle.std.proofs.Common.{rules, Some, codes, string_bytes}
+use Rattle.law_stores.specs.Told.{told}
+use Rattle.law_stores.proofs.Jobs.{disk_kept, disk_said, file_cut}
+use Rattle.law_stores.proofs.jobs.on_disk.Goals as goal
+
+pub returns-clause-kept : goal.returns-clause-kept
+returns-clause-kept c = disk_kept c.args.saving c.do_run-done.result
+    (told (string_bytes c.in_ok-from_str.field-0) (Some c.args.image.items)) _ (string_bytes c.in_ok-from_str-2.field-0)
+    (codes "file") c.args.image.items c.in_ok-file.file.items c.in_ok-file.ensures.value c.do_run-done.ensures.kept
+    (search rules) (search rules)
+
+pub returns-clause-cut : goal.returns-clause-cut
+returns-clause-cut c = file_cut c.do_run-done.result
+    (told (string_bytes c.in_ok-from_str.field-0) (Some c.args.image.items)) _ (codes "file") c.args.image.items
+    c.in_ok-file.file.items c.in_ok-file.ensures.value c.do_run-done.ensures.cut (search rules)
+
+pub returns-clause-said : goal.returns-clause-said
+returns-clause-said c = disk_said c.do_run-done.result
+    (told (string_bytes c.in_ok-from_str.field-0) (Some c.args.image.items)) _ c.in_ok-from_str-2.field-0
+    (codes "file") c.args.image.items c.in_ok-file.file.items c.args.name c.args.limit c.args.saving
+    (Some c.new-source.result.inner.now) c.args.typed.now c.in_ok-file.ensures.value c.do_run-done.ensures.said
+    (search rules) (search rules) (search rules)

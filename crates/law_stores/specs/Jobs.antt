@@ -1,0 +1,44 @@
+-- What files hold after a job of the program, by their bytes alone.
+use Rattle.std.specs.Prelude.{◌≡◌, ℕ, List, [], ◌∷◌, Option, None, Some, String, Vec}
+use Rattle.std.specs.Prelude.{option_map, string_bytes, vec_items}
+use Rattle.std.specs.declared.alloc.Global.{Global}
+use Rattle.pm_volume.specs.Headers.{blank_fault}
+use Rattle.pm_filer.specs.Filed.{order_of}
+use Rattle.pm_tool.specs.Batches.{said_check, said_files, said_new, said_repair}
+use Rattle.pm_tool.specs.Disks.{images_of}
+use Rattle.pm_tool.specs.Outcomes.{Said}
+use Rattle.pm_tool.specs.Said.{IsCutShort, job_said}
+use Rattle.pm_tool.specs.declared.outcome.Job.TheVariants as jobs
+use Rattle.pm_tool.specs.declared.outcome.Outcome.{Outcome}
+use Rattle.pm_choices.specs.declared.saving.Saving.{Saving}
+use Rattle.pm_plan.specs.declared.file_words.Verb.{Verb}
+use Rattle.pm_plan.specs.declared.file_words.Verb.TheVariants as verbs
+
+-- what a verb of `files` says to the bytes that its file holds, and to the input; a new volume is told to the input
+-- alone
+abbrev pub said_verb : List ℕ → Verb → List ℕ → Said
+said_verb image (verbs.Command command) input = said_files image (order_of command) input
+said_verb image (verbs.New name blocks) input =
+    said_new (blank_fault (string_bytes name) blocks) (string_bytes name) blocks input
+said_verb image verbs.Repair input = said_repair image input
+said_verb image verbs.Check input = said_check image input
+
+-- the new bytes of a file, where there are some, and else those that it held
+abbrev pub left_in : List ℕ → Option (List ℕ) → List ℕ
+left_in old None = old
+left_in old (Some new) = new
+
+-- a file has the image of the outcome, where there is one, and else the bytes that it had
+abbrev pub KeepsIn : List ℕ → List ℕ → Outcome → Type 0
+KeepsIn old new outcome = new ≡ left_in old (option_map vec_items outcome.image)
+
+-- a file has the bytes that it had where the job was cut short
+abbrev pub StaysWhereCut : List ℕ → List ℕ → Outcome → Type 0
+StaysWhereCut old new outcome = IsCutShort outcome.exit → new ≡ old
+
+-- The bytes that the file of a disk has after a run: those that are said of the disk alone on unit 4 and of the input,
+-- or those that it had.
+abbrev pub LeavesRun : List ℕ → String Global → ℕ → Saving → List ℕ → List ℕ → Type 0
+LeavesRun image name limit saving input file = (disks : List (Option (Vec ℕ Global)))
+    × (images_of disks ≡ Some image ∷ None ∷ None ∷ None ∷ None ∷ None ∷ [])
+    × (file ≡ left_in image (job_said (jobs.Run disks name limit saving None) input).image)

@@ -1,0 +1,166 @@
+//! Stores of one file and of two in memory, of which a contract knows what they hold.
+
+ghost use Rattle.std.specs.Prelude.{◌≡◌, IfOk, None, Some, false, map, option_map, string_bytes, vec_items};
+ghost use Rattle.std.specs.Str.{bytes_eq};
+ghost use Rattle.law_stores.specs.Told.{told, told_first};
+
+use pm_files::{DiskFault, Store};
+use std::alloc::Global;
+use std::io::ErrorKind;
+
+/// One path, and the bytes of the file that it names, if there is one.
+#[derive(Drop)]
+pub struct OneFile {
+    pub path: String,
+    pub bytes: Option<Vec<u8>>,
+    pub alloc: Global,
+}
+
+/// A file's bytes, copied.
+fn copied(alloc: Global, bytes: &Option<Vec<u8>>) -> Result<Vec<u8>, DiskFault>
+    ensures value { IfOk result (λ copy. option_map vec_items bytes.now ≡ Some copy.items) }
+{
+    match bytes {
+        Some(bytes) => {
+            let mut copy = Vec::new(alloc);
+            copy.extend_from_slice(bytes.as_slice())?;
+            Ok(copy)
+        }
+        None => Err(DiskFault::Read(ErrorKind::NotFound)),
+    }
+}
+
+impl Store for OneFile {
+    ghost files = { λ s. Some (told (string_bytes s.path) (option_map vec_items s.bytes)) };
+
+    ghost same = { λ _. Some (λ one other. bytes_eq one other) };
+
+    ghost beside = { λ _. Some (λ _ _. false) };
+
+    ghost folders = { λ _. Some (λ _. false) };
+
+    ghost held = { λ _. None };
+
+    fn read(&mut self, alloc: Global, path: &str) -> Result<Vec<u8>, DiskFault> {
+        if self.path.as_str() != path {
+            return Err(DiskFault::Read(ErrorKind::NotFound));
+        }
+        copied(alloc, &self.bytes)
+    }
+
+    fn prepare(&mut self, _path: &str) -> Result<(), DiskFault> {
+        Ok(())
+    }
+
+    fn hold(&mut self, _path: &str) -> Result<(), DiskFault> {
+        Ok(())
+    }
+
+    fn put(&mut self, path: &str, bytes: &[u8]) -> Result<(), DiskFault> {
+        if self.path.as_str() != path {
+            return Err(DiskFault::Write(ErrorKind::PermissionDenied));
+        }
+        let mut copy = Vec::new(self.alloc);
+        copy.extend_from_slice(bytes)?;
+        self.bytes = Some(copy);
+        Ok(())
+    }
+
+    fn is_same(&self, one: &str, other: &str) -> bool {
+        one == other
+    }
+
+    fn is_beside(&self, _path: &str, _other: &str) -> bool {
+        false
+    }
+
+    fn is_folder(&self, _path: &str) -> bool {
+        false
+    }
+}
+
+/// Two paths, and the bytes of the files that they name, if there are any. Where both are one path, the first file has
+/// it. It tells which paths are held.
+#[derive(Drop)]
+pub struct TwoFiles {
+    pub first: OneFile,
+    pub second: OneFile,
+    /// The paths that are held, in the order in which they were taken.
+    pub held: Vec<String>,
+    pub alloc: Global,
+}
+
+impl Store for TwoFiles {
+    ghost files = { λ s. Some (told_first (string_bytes s.first.path) (option_map vec_items s.first.bytes)
+        (string_bytes s.second.path) (option_map vec_items s.second.bytes)) };
+
+    ghost same = { λ _. Some (λ one other. bytes_eq one other) };
+
+    ghost beside = { λ _. Some (λ _ _. false) };
+
+    ghost folders = { λ _. Some (λ _. false) };
+
+    ghost held = { λ s. Some (map string_bytes s.held.items) };
+
+    fn read(&mut self, alloc: Global, path: &str) -> Result<Vec<u8>, DiskFault> {
+        if self.first.path.as_str() == path {
+            return copied(alloc, &self.first.bytes);
+        }
+        if self.second.path.as_str() == path {
+            return copied(alloc, &self.second.bytes);
+        }
+        Err(DiskFault::Read(ErrorKind::NotFound))
+    }
+
+    fn prepare(&mut self, _path: &str) -> Result<(), DiskFault> {
+        Ok(())
+    }
+
+    #[tactic(auto, using(std::proofs::lemmas::List::map_push))]
+    fn hold(&mut self, path: &str) -> Result<(), DiskFault> {
+        let path = String::from_str(self.alloc, path)?;
+        match self.held.push(path) {
+            Ok(()) => Ok(()),
+            Err(_) => Err(DiskFault::NoMemory),
+        }
+    }
+
+    fn put(&mut self, path: &str, bytes: &[u8]) -> Result<(), DiskFault> {
+        let mut copy = Vec::new(self.alloc);
+        copy.extend_from_slice(bytes)?;
+        if self.first.path.as_str() == path {
+            self.first.bytes = Some(copy);
+            return Ok(());
+        }
+        if self.second.path.as_str() == path {
+            self.second.bytes = Some(copy);
+            return Ok(());
+        }
+        Err(DiskFault::Write(ErrorKind::PermissionDenied))
+    }
+
+    fn is_same(&self, one: &str, other: &str) -> bool {
+        one == other
+    }
+
+    fn is_beside(&self, _path: &str, _other: &str) -> bool {
+        false
+    }
+
+    fn is_folder(&self, _path: &str) -> bool {
+        false
+    }
+}
+
+/// Writes a file and reads it back: what is read is what was written, since the store tells what it holds.
+pub fn round(
+    alloc: Global,
+    store: &mut OneFile,
+    path: &str,
+    bytes: &[u8],
+) -> Result<Vec<u8>, DiskFault>
+    ensures same { IfOk result (λ read. read.items ≡ bytes.now) }
+{
+    store.put(path, bytes)?;
+    store.read(alloc, path)
+}

@@ -1,0 +1,51 @@
+//! Words and bytes in a slice of bytes.
+
+ghost use Rattle.std.specs.Prelude.{◌≡◌, ◌+◌, ◌≤◌, length, replicate};
+ghost use Rattle.byteorder.specs.Endian.{little_bytes};
+ghost use Rattle.pm_bytes.specs.Words.{word_in, written, zeros};
+
+use byteorder::{ByteOrder, LittleEndian};
+
+/// The word at a place, its low byte first.
+#[tactic(auto, unfolding(crate::specs::Words::word_in))]
+pub fn word(bytes: &[u8], place: usize) -> u16
+    requires room { place + 2 ≤ length bytes.now }
+    ensures word { result ≡ word_in bytes.now place }
+{
+    LittleEndian::read_u16(&bytes[place..])
+}
+
+/// Writes a word at a place, its low byte first.
+#[tactic(auto, unfolding(crate::specs::Words::written))]
+pub fn set_word(bytes: &mut [u8], place: usize, word: u16)
+    requires room { place + 2 ≤ length bytes.old }
+    ensures written { bytes.new ≡ written bytes.old place (little_bytes 2 word) }
+{
+    LittleEndian::write_u16(&mut bytes[place..place + 2], word);
+}
+
+/// Writes bytes at a place.
+#[tactic(auto, unfolding(crate::specs::Words::written))]
+pub fn set_bytes(bytes: &mut [u8], place: usize, new: &[u8])
+    requires room { place + length new.now ≤ length bytes.old }
+    ensures written { bytes.new ≡ written bytes.old place new.now }
+{
+    bytes[place..place + new.len()].copy_from_slice(new);
+}
+
+/// Writes so many zeros at a place.
+#[tactic(auto, unfolding(crate::specs::Words::written))]
+pub fn clear(bytes: &mut [u8], place: usize, count: usize)
+    requires room { place + count ≤ length bytes.old }
+    ensures written { bytes.new ≡ written bytes.old place (replicate count 0) }
+{
+    bytes[place..place + count].fill(0);
+}
+
+/// Makes all bytes zero.
+#[tactic(auto, unfolding(crate::specs::Words::zeros))]
+pub fn clear_all(bytes: &mut [u8])
+    ensures cleared { bytes.new ≡ zeros (length bytes.old) }
+{
+    bytes.fill(0);
+}

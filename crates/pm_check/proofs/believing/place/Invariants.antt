@@ -1,0 +1,10 @@
+use Rattle.std.proofs.Common.{◌≡◌, ◌++◌, drop, take}
+use Rattle.pm_check.specs.Believing.{placed}
+use Rattle.pm_check.proofs.believing.place.Given as goal
+
+-- the place is not among those so far
+abbrev pub invariant-loop-i : goal.invariant-loop-i
+invariant-loop-i l = record {
+  same : l.taken.items ≡ l.fn.taken.items;
+  place : take l.i l.taken.items ++ placed l.file (drop l.i l.taken.items) ≡ placed l.file l.taken.items;
+}

@@ -1,0 +1,107 @@
+-- The volume that is saved of an image.
+use Rattle.std.specs.Prelude.{◌≡◌, ℕ, ◌+◌, ◌/◌, Bool, nat_lt, List, [], ◌∷◌, ◌++◌, length, max, min, Option, None, Some}
+use Rattle.std.specs.Prelude.{Result, Ok, Err, if◌then◌else◌, unwrap_or}
+use Rattle.std.specs.List.{flat_map}
+use Rattle.pm_bytes.specs.declared.blocks.TheConstants.{BLOCK}
+use Rattle.pm_check.specs.Notes.{header_name}
+use Rattle.pm_volume.specs.Directory.{directory_of, file_count, second_of}
+use Rattle.pm_volume.specs.Files.{file_bytes}
+use Rattle.pm_volume.specs.Headers.{blank_fault, blank_image}
+use Rattle.pm_volume.specs.Made.{added}
+use Rattle.pm_volume.specs.Names.{characters_of}
+use Rattle.pm_volume.specs.declared.entry.Entry.{Entry}
+use Rattle.pm_volume.specs.declared.fault.VolumeFault.{VolumeFault}
+use Rattle.pm_volume.specs.declared.fault.VolumeFault.TheVariants.{TooShort}
+use Rattle.pm_volume.specs.declared.fields.TheConstants.{DIRECTORY_END, PAST_DIRECTORY, PAST_SECOND, SECOND_END}
+use Rattle.pm_check.specs.Believing.{blocks_of, left_from, sharing, taken_from}
+use Rattle.pm_check.specs.Naming.{free_name, volume_name}
+use Rattle.pm_check.specs.Report.{counted, doubt_of, last_line, left_line, taken_line}
+use Rattle.pm_check.specs.declared.believing.Left.{Left}
+use Rattle.pm_check.specs.declared.believing.Taken.{Taken}
+
+-- ---- the files
+
+-- the bytes of a file of an image
+unfoldable pub bytes_of : List ℕ → Entry → List ℕ
+bytes_of image e = unwrap_or (file_bytes image e) []
+
+-- a volume with the file of an entry: its kind, its bytes and its date, under a name that no file there has
+unfoldable pub saved_one : List ℕ → List ℕ → Entry → Result (List ℕ) VolumeFault
+saved_one image volume e =
+    added volume (free_name volume (characters_of e.name)) e.kind (bytes_of image e) e.date
+
+-- a volume, what is said, and how many files are doubted
+pub record Saved : Type 0 where
+  pub volume : List ℕ
+  pub text : List ℕ
+  pub doubted : ℕ
+
+-- what comes behind a volume, or why there is none
+abbrev pub behind : Result (List ℕ) VolumeFault → (List ℕ → Result Saved VolumeFault) → Result Saved VolumeFault
+behind (Ok volume) next = next volume
+behind (Err fault) next = Err fault
+
+-- the files one by one
+unfoldable pub saved_from : List ℕ → List Taken → ℕ → List Taken → Saved → Result Saved VolumeFault
+saved_from image all count [] s = Ok s
+saved_from image all count (t ∷ ts) s =
+    behind (saved_one image s.volume t.entry) (λ volume. saved_from image all count ts (record {
+      volume = volume;
+      text = s.text
+          ++ taken_line t.slot (free_name s.volume (characters_of t.entry.name))
+          (doubt_of count t.slot (sharing t all));
+      doubted = counted s.doubted (doubt_of count t.slot (sharing t all));
+    }))
+
+-- ---- the volume
+
+-- the new volume's number of blocks: as many as the image has, and more where the files need more
+unfoldable pub room_for : ℕ → List Taken → ℕ
+room_for blocks taken = min (max blocks (PAST_DIRECTORY + blocks_of taken)) 65535
+
+-- a new volume, or why there is none
+abbrev pub blank : Option VolumeFault → List ℕ → ℕ → Result (List ℕ) VolumeFault
+blank None name blocks = Ok (blank_image name blocks)
+blank (Some fault) name blocks = Err fault
+
+abbrev pub new_volume : List ℕ → ℕ → Result (List ℕ) VolumeFault
+new_volume name blocks = blank (blank_fault name blocks) name blocks
+
+-- with the last line
+abbrev pub finished : ℕ → ℕ → Result Saved VolumeFault → Result Saved VolumeFault
+finished files left (Ok s) = Ok (record {
+  volume = s.volume;
+  text = s.text ++ last_line files left s.doubted;
+  doubted = s.doubted;
+})
+finished files left (Err fault) = Err fault
+
+-- of these entries of an image
+unfoldable pub saved : List ℕ → List ℕ → ℕ → ℕ → List Taken → List Left → Result Saved VolumeFault
+saved image name blocks count taken left =
+    finished (length taken) (length left) (behind (new_volume name (room_for blocks taken)) (λ volume.
+    saved_from image taken count taken
+    (record { volume = volume; text = flat_map left_line left; doubted = 0 })))
+
+-- by a directory of an image of so many blocks, whose files begin at a block or later
+unfoldable pub saved_by : List ℕ → List ℕ → ℕ → ℕ → Result Saved VolumeFault
+saved_by image d lowest blocks =
+    saved image (volume_name (header_name d)) blocks (file_count d) (taken_from d lowest blocks 1 77 [])
+    (left_from d lowest blocks 1 77)
+
+-- the whole blocks of an image, at most 65,535
+abbrev pub image_blocks : List ℕ → ℕ
+image_blocks image = min (length image / BLOCK) 65535
+
+-- by the first copy of the directory, or the second; an image that has none is too short
+unfoldable pub salvaged : List ℕ → Bool → Result Saved VolumeFault
+salvaged image second =
+    if second then (if nat_lt (length image) SECOND_END then Err TooShort
+    else saved_by image (second_of image) PAST_SECOND (image_blocks image))
+    else (if nat_lt (length image) DIRECTORY_END then Err TooShort
+    else saved_by image (directory_of image) PAST_DIRECTORY (image_blocks image))
+
+-- an image and a text are those of a saved volume
+abbrev pub IsSaved : List ℕ → List ℕ → Result Saved VolumeFault → Type 0
+IsSaved image text (Ok s) = (image ≡ s.volume) × (text ≡ s.text)
+IsSaved image text (Err fault) = ⊥

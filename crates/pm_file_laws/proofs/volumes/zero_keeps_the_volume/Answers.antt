@@ -1,5 +1,0 @@
-use Rattle.pm_file_laws.proofs.VolumeLaws.{zero_keeps_the_volume}
-use Rattle.pm_file_laws.proofs.volumes.zero_keeps_the_volume.Goals as goal
-
-pub returns : goal.returns
-returns c = record { law = zero_keeps_the_volume }

@@ -1,5 +1,0 @@
-use Rattle.pm_headline.proofs.Round.{shown_file_is_spelled}
-use Rattle.pm_headline.proofs.round_trip.shown_file_is_spelled.Goals as goal
-
-pub returns : goal.returns
-returns c = record { law = shown_file_is_spelled }

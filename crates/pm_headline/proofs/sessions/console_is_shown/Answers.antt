@@ -1,5 +1,0 @@
-use Rattle.pm_headline.proofs.Console.{console_is_shown}
-use Rattle.pm_headline.proofs.sessions.console_is_shown.Goals as goal
-
-pub returns : goal.returns
-returns c = record { law = console_is_shown }

@@ -1,0 +1,116 @@
+//! The names of the procedures that instructions call by number.
+
+ghost use Rattle.std.specs.Prelude.{◌≡◌, option_map};
+ghost use Rattle.pm_notes.specs.Names.{name_called, number_in, standard_called, standard_name};
+ghost use Rattle.pm_notes.specs.Names.{system_called, system_name};
+
+/// The name of a standard procedure that the machine has, by its number; those that load and unload a segment have
+/// words in its place.
+#[tactic(auto, unfolding(crate::specs::Names::standard_name, crate::specs::Names::standard_names))]
+pub fn standard_name(number: u8) -> Option<&'static str>
+    ensures name { option_map (λ name. name.now) result ≡ standard_name number }
+{
+    match number {
+        0 => Some("IOCHECK"),
+        1 => Some("NEW"),
+        2 => Some("MOVELEFT"),
+        3 => Some("MOVERIGHT"),
+        4 => Some("EXIT"),
+        5 => Some("UNITREAD"),
+        6 => Some("UNITWRITE"),
+        9 => Some("TIME"),
+        10 => Some("FILLCHAR"),
+        11 => Some("SCAN"),
+        21 => Some("load a segment"),
+        22 => Some("unload a segment"),
+        32 => Some("MARK"),
+        33 => Some("RELEASE"),
+        34 => Some("IORESULT"),
+        35 => Some("UNITBUSY"),
+        37 => Some("UNITWAIT"),
+        38 => Some("UNITCLEAR"),
+        39 => Some("HALT"),
+        40 => Some("MEMAVAIL"),
+        _ => None,
+    }
+}
+
+/// The name of a procedure of the operating system, by its number in segment 0, as far as it is known.
+#[tactic(auto, unfolding(crate::specs::Names::system_name, crate::specs::Names::system_names))]
+pub fn system_name(number: u8) -> Option<&'static str>
+    ensures name { option_map (λ name. name.now) result ≡ system_name number }
+{
+    match number {
+        2 => Some("EXECERROR"),
+        3 => Some("FINIT"),
+        4 => Some("FRESET"),
+        5 => Some("FOPEN"),
+        6 => Some("FCLOSE"),
+        7 => Some("FGET"),
+        8 => Some("FPUT"),
+        9 => Some("FSEEK"),
+        10 => Some("FEOF"),
+        11 => Some("FEOLN"),
+        12 => Some("FREADINT"),
+        13 => Some("FWRITEINT"),
+        14 => Some("FREADREAL"),
+        15 => Some("FWRITEREAL"),
+        16 => Some("FREADCHAR"),
+        17 => Some("FWRITECHAR"),
+        18 => Some("FREADSTRING"),
+        19 => Some("FWRITESTRING"),
+        20 => Some("FWRITEBYTES"),
+        21 => Some("FREADLN"),
+        22 => Some("FWRITELN"),
+        23 => Some("SCONCAT"),
+        24 => Some("SINSERT"),
+        25 => Some("SCOPY"),
+        26 => Some("SDELETE"),
+        27 => Some("SPOS"),
+        28 => Some("FBLOCKIO"),
+        29 => Some("FGOTOXY"),
+        _ => None,
+    }
+}
+
+/// The number that one or two decimal digits write.
+pub(crate) fn number_in(digits: &[u8]) -> Option<u8>
+    ensures number { result ≡ number_in digits.now }
+{
+    match digits {
+        [d @ b'0'..=b'9'] => Some(d - b'0'),
+        [c @ b'0'..=b'9', d @ b'0'..=b'9'] => Some(10 * (c - b'0') + (d - b'0')),
+        _ => None,
+    }
+}
+
+/// The name of the standard procedure that a line calls.
+#[tactic(auto, unfolding(crate::specs::Names::standard_called))]
+fn standard_called(line: &[u8]) -> Option<&'static str>
+    ensures name { option_map (λ name. name.now) result ≡ standard_called line.now }
+{
+    let digits = line.strip_prefix(b"  CSP ")?;
+    let number = number_in(digits)?;
+    standard_name(number)
+}
+
+/// The name of the system's procedure that a line calls.
+#[tactic(auto, unfolding(crate::specs::Names::system_called))]
+fn system_called(line: &[u8]) -> Option<&'static str>
+    ensures name { option_map (λ name. name.now) result ≡ system_called line.now }
+{
+    let digits = line.strip_prefix(b"  CXP 0, ")?;
+    let number = number_in(digits)?;
+    system_name(number)
+}
+
+/// The name of the procedure that a line calls, if that has one.
+#[tactic(auto, unfolding(crate::specs::Names::name_called))]
+pub(crate) fn name_called(line: &[u8]) -> Option<&'static str>
+    ensures name { option_map (λ name. name.now) result ≡ name_called line.now }
+{
+    match standard_called(line) {
+        Some(name) => Some(name),
+        None => system_called(line),
+    }
+}

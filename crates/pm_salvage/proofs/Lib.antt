@@ -1,4 +1,0 @@
-pub mod Names
-pub mod Steps
-pub mod Saves
-pub mod ContentLaws

@@ -1,7 +1,0 @@
-use Rattle.std.proofs.Common.{◌≡◌, ◌++◌, drop, string_bytes}
-use Rattle.pm_salvage.specs.Naming.{good_name}
-use Rattle.pm_salvage.proofs.naming.push_good.Given as goal
-
--- the text so far with the bytes that are left is the whole
-abbrev pub invariant-loop-byte : goal.invariant-loop-byte
-invariant-loop-byte l = string_bytes l.text ++ good_name (drop l.byte-index l.name) ≡ string_bytes l.fn.text ++ good_name l.name

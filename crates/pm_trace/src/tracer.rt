@@ -1,0 +1,111 @@
+//! The lines of a trace, one behind the other.
+
+ghost use Rattle.std.specs.Prelude.{◌≡◌, ◌<◌, ◌∷◌, [], ◌++◌, OnOk};
+ghost use Rattle.pm_trace.specs.Trace.{trace_line};
+ghost use Rattle.pm_disasm.specs.Text.{line_text};
+
+use crate::digits::{column, column_or_dashes};
+use crate::kept_digits::{KeptColumn, KeptTens};
+use crate::number_text::add_short;
+use crate::state_line::{TraceLine, top};
+use pm_disasm::Line;
+use pm_machine::Machine;
+use pm_words::Memory;
+use std::alloc::{AllocError, Global};
+
+/// Adds the lines of a trace to a page. What it keeps is how digits were spelled that seldom change, so any machine's
+/// line can come next.
+#[derive(Drop)]
+pub struct Tracer {
+    tens: KeptTens,
+    mp: KeptColumn,
+    base: KeptColumn,
+    np: KeptColumn,
+    // the text of an instruction whose operands are no numbers
+    text: String,
+}
+
+impl Tracer {
+    /// One that has kept nothing.
+    pub fn new(alloc: Global) -> Tracer {
+        Tracer {
+            tens: KeptTens::new(),
+            mp: KeptColumn::new(),
+            base: KeptColumn::new(),
+            np: KeptColumn::new(),
+            text: String::new(alloc),
+        }
+    }
+
+    /// Adds the line of a trace for the step that a machine makes next, with a line feed. After want of memory a part
+    /// of it may stand on the page.
+    #[tactic(auto, unfolding(crate::specs::Trace::trace_line))]
+    pub fn add_line(&mut self, page: &mut Vec<u8>, machine: &Machine) -> Result<(), AllocError>
+        ensures line { OnOk result (page.new.items
+            ≡ page.old.items ++ trace_line machine.now.state ++ 10 ∷ []) }
+    {
+        let count = machine.steps();
+        if count >= 100_000_000 {
+            return self.add_long_line(page, machine);
+        }
+        let front = self.tens.front(count as u32);
+        let registers = machine.registers();
+        let memory = machine.memory();
+        let columns = [
+            column(registers.ipc),
+            column(registers.sp),
+            self.mp.of(registers.mp),
+            self.base.of(registers.base),
+            self.np.of(registers.np),
+            column_or_dashes(top(memory, registers.sp)),
+        ];
+        page.extend_from_slice(&front)?;
+        page.extend_from_slice(columns.as_flattened())?;
+        self.add_place(page, memory, registers.ipc)?;
+        page.push(b'\n')?;
+        Ok(())
+    }
+
+    // Adds the line of a machine that made more steps than eight digits can count.
+    #[inline(never)]
+    fn add_long_line(&mut self, page: &mut Vec<u8>, machine: &Machine) -> Result<(), AllocError>
+        ensures line { OnOk result (page.new.items
+            ≡ page.old.items ++ trace_line machine.now.state ++ 10 ∷ []) }
+    {
+        self.text.clear();
+        writeln!(self.text, "{}", TraceLine::new(machine))?;
+        page.extend_from_slice(self.text.as_bytes())
+    }
+
+    // Adds the text of what stands at an address.
+    #[inline(always)]
+    #[tactic(auto, unfolding(pm_disasm::specs::Text::line_text))]
+    fn add_place(
+        &mut self,
+        page: &mut Vec<u8>,
+        memory: &Memory,
+        address: u16,
+    ) -> Result<(), AllocError>
+        ensures text { OnOk result (page.new.items ≡ page.old.items ++ line_text memory.now.words address) }
+    {
+        if add_short(page, memory.bytes(), usize::from(address))? {
+            return Ok(());
+        }
+        self.add_text(page, memory, address)
+    }
+
+    // Adds the text of what stands at an address, whatever its operands.
+    #[inline(never)]
+    fn add_text(
+        &mut self,
+        page: &mut Vec<u8>,
+        memory: &Memory,
+        address: u16,
+    ) -> Result<(), AllocError>
+        ensures text { OnOk result (page.new.items ≡ page.old.items ++ line_text memory.now.words address) }
+    {
+        self.text.clear();
+        write!(self.text, "{}", Line::new(memory, address))?;
+        page.extend_from_slice(self.text.as_bytes())
+    }
+}

@@ -1,6 +1,0 @@
-pub mod Zeros
-pub mod Columns
-pub mod Decimals
-pub mod ShortText
-pub mod StateLine
-pub mod Pairs

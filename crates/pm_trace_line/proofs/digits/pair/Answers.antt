@@ -1,6 +1,0 @@
-use Rattle.std.proofs.Common.{rules}
-use Rattle.pm_trace_line.proofs.Pairs.{pair_in}
-use Rattle.pm_trace_line.proofs.digits.pair.Goals as goal
-
-pub returns : goal.returns
-returns c = search (rules, pair_in)

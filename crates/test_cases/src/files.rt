@@ -1,0 +1,128 @@
+//! The commands on volumes, as a line of a case spells them.
+use crate::case::Line;
+use pm_filer::FileCommand;
+use std::alloc::Global;
+use std::io;
+use test_replay::{add_escaped, byte, hex_bytes, name, number, unreadable, word};
+
+/// Two words with a blank between them.
+pub fn two(text: &str) -> io::Result<(&str, &str)> {
+    text.split_once(' ').ok_or_else(unreadable)
+}
+
+/// So many bytes, each one more than the one before, modulo 251.
+fn ramp(alloc: Global, rest: &str) -> io::Result<Vec<u8>> {
+    let (count, first) = two(rest)?;
+    let first = number(first)?;
+    let mut bytes = Vec::new(alloc);
+    for place in 0..number(count)? {
+        bytes.push((first.wrapping_add(place) % 251) as u8)?;
+    }
+    Ok(bytes)
+}
+
+/// The text of pieces with blanks between them: escaped, or `N*PIECE`, one N times.
+fn text(alloc: Global, rest: &str) -> io::Result<Vec<u8>> {
+    let mut bytes = Vec::new(alloc);
+    for piece in rest.split(' ') {
+        match piece.split_once('*') {
+            None => add_escaped(&mut bytes, piece)?,
+            Some((count, piece)) => {
+                for _ in 0..number(count)? {
+                    add_escaped(&mut bytes, piece)?;
+                }
+            }
+        }
+    }
+    Ok(bytes)
+}
+
+/// The bytes that are put.
+fn content(alloc: Global, spelled: &str, program: &[u8]) -> io::Result<Vec<u8>> {
+    let line = Line::of(spelled);
+    match line.word {
+        "program" => Ok(program.to_vec(alloc)?),
+        "hex" => hex_bytes(alloc, line.rest),
+        "ramp" => ramp(alloc, line.rest),
+        "text" => text(alloc, line.rest),
+        _ => Err(unreadable()),
+    }
+}
+
+/// The words of the kinds 0 to 8.
+const KINDS: [&str; 9] = [
+    "none", "badb", "code", "text", "info", "data", "graf", "foto", "secd",
+];
+
+/// The kind that a word or a number names.
+fn kind(spelled: &str) -> io::Result<u8> {
+    for (word, kind) in KINDS.iter().zip(0..9) {
+        if *word == spelled {
+            return Ok(kind);
+        }
+    }
+    byte(spelled)
+}
+
+/// The command of a date.
+fn date(rest: &str) -> io::Result<FileCommand> {
+    let (year, day) = two(rest)?;
+    let (month, day) = two(day)?;
+    Ok(FileCommand::Date(byte(year)?, byte(month)?, byte(day)?))
+}
+
+/// The command of a line, and the input that stands for its file. `program` is what the content of that name is.
+pub fn command(
+    alloc: Global,
+    line: Line<'_>,
+    program: &[u8],
+) -> io::Result<(FileCommand, Vec<u8>)> {
+    let rest = line.rest;
+    let none = Vec::new(alloc);
+    match line.word {
+        "put" => {
+            let (file, rest) = two(rest)?;
+            let (spelled, rest) = two(rest)?;
+            let command = FileCommand::Put(name(alloc, file)?, kind(spelled)?, none);
+            Ok((command, content(alloc, rest, program)?))
+        }
+        "puttext" => {
+            let (file, rest) = two(rest)?;
+            let command = FileCommand::PutText(name(alloc, file)?, none);
+            Ok((command, content(alloc, rest, program)?))
+        }
+        "change" => {
+            let (old, new) = two(rest)?;
+            Ok((
+                FileCommand::Change(name(alloc, old)?, name(alloc, new)?),
+                none,
+            ))
+        }
+        "list" => Ok((FileCommand::List, none)),
+        "get" => Ok((FileCommand::Get(name(alloc, rest)?), none)),
+        "gettext" => Ok((FileCommand::GetText(name(alloc, rest)?), none)),
+        "remove" => Ok((FileCommand::Remove(name(alloc, rest)?), none)),
+        "krunch" => Ok((FileCommand::Krunch, none)),
+        "date" => Ok((date(rest)?, none)),
+        "zero" => Ok((FileCommand::Zero(name(alloc, rest)?), none)),
+        "duplicate" => Ok((FileCommand::Duplicate, none)),
+        "single" => Ok((FileCommand::Single, none)),
+        _ => Err(unreadable()),
+    }
+}
+
+/// The command on the file of a slot, if a line names one: `get --slot N`, and such.
+pub fn on_slot(alloc: Global, line: Line<'_>) -> io::Result<Option<FileCommand>> {
+    let Some(rest) = line.rest.strip_prefix("--slot ") else {
+        return Ok(None);
+    };
+    let (slot, new) = rest.split_once(' ').unwrap_or((rest, ""));
+    let slot = word(slot)?;
+    match line.word {
+        "get" => Ok(Some(FileCommand::GetSlot(slot))),
+        "gettext" => Ok(Some(FileCommand::GetTextSlot(slot))),
+        "remove" => Ok(Some(FileCommand::RemoveSlot(slot))),
+        "change" => Ok(Some(FileCommand::ChangeSlot(slot, name(alloc, new)?))),
+        _ => Err(unreadable()),
+    }
+}

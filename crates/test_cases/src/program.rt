@@ -1,0 +1,179 @@
+//! Programs on the volumes of a case: how they are started, and the jobs that run them.
+use crate::case::{Came, Case, MOST_SHOWN};
+use crate::jobs::{Ran, do_job};
+use pm_filer::FileCommand;
+use pm_tool::{Job, Saving, Selection};
+use std::alloc::Global;
+use std::io;
+use test_replay::{add_escaped, bytes_text, digest_text, hex_bytes, name, steps, unreadable, word};
+
+/// The steps that a program may make, and the blocks of its volume, where the case does not say.
+const STEPS: u64 = 200;
+
+pub const BLOCKS: u16 = 83;
+
+/// The kind of the code file where the case does not say: code.
+pub const CODE: u8 = 2;
+
+/// The units of the disks, in their order.
+pub const UNITS: [&str; 6] = ["4", "5", "9", "10", "11", "12"];
+
+/// The images of the disks in that order.
+pub type Images = [Option<Vec<u8>>; 6];
+
+/// A program, and how it is started: the file of the name that the case says, or `P`.
+#[derive(Drop)]
+pub struct Program {
+    /// The image of unit 4, which has its file.
+    pub work: Vec<u8>,
+    /// The most steps that it makes.
+    pub limit: u64,
+    /// The file whose slot 0 stands in, if there is one.
+    pub system: Option<Vec<u8>>,
+}
+
+/// A volume without files.
+pub fn volume(alloc: Global, name: &str, blocks: u16) -> io::Result<Vec<u8>> {
+    let name = String::from_str(alloc, name)?;
+    do_job(alloc, Job::New { name, blocks }, b"").into_image()
+}
+
+/// A volume with a code file `P` more.
+pub fn with_program(alloc: Global, image: Vec<u8>, kind: u8, file: &[u8]) -> io::Result<Vec<u8>> {
+    let command = FileCommand::Put(String::from_str(alloc, "P")?, kind, Vec::new(alloc));
+    do_job(alloc, Job::Files { image, command }, file).into_image()
+}
+
+/// The steps that the program of a case may make.
+pub fn limit(case: &Case<'_>) -> io::Result<u64> {
+    match case.value("limit") {
+        Some(limit) => Ok(u64::from(steps(limit)?)),
+        None => Ok(STEPS),
+    }
+}
+
+/// The disks of a case: a copy of the volume with the program on unit 4, and blank ones.
+pub fn disks(alloc: Global, case: &Case<'_>, work: &[u8]) -> io::Result<Images> {
+    let mut disks = [Some(work.to_vec(alloc)?), None, None, None, None, None];
+    for line in case.lines.iter() {
+        if line.word == "disk" {
+            let (unit, blocks) = line.rest.split_once(' ').ok_or_else(unreadable)?;
+            let place = UNITS.iter().position(|known| *known == unit);
+            let place = place.ok_or_else(unreadable)?;
+            let image = volume(alloc, "V", word(blocks)?)?;
+            *disks.get_mut(place).ok_or_else(unreadable)? = Some(image);
+        }
+    }
+    Ok(disks)
+}
+
+/// The lines that are typed to the debugger.
+fn typed(alloc: Global, case: &Case<'_>) -> io::Result<Vec<u8>> {
+    let mut typed = Vec::new(alloc);
+    for line in case.lines.iter() {
+        if line.word == ">" {
+            add_escaped(&mut typed, line.rest)?;
+            typed.push(b'\n')?;
+        }
+    }
+    Ok(typed)
+}
+
+impl Program {
+    /// The file whose slot 0 stands in.
+    fn system(&self, alloc: Global) -> io::Result<Option<Vec<u8>>> {
+        match &self.system {
+            Some(file) => Ok(Some(file.to_vec(alloc)?)),
+            None => Ok(None),
+        }
+    }
+
+    /// What a run of it comes to.
+    pub fn run(&self, alloc: Global, case: &Case<'_>, saving: Saving) -> io::Result<Ran> {
+        let job = Job::Run {
+            disks: disks(alloc, case, &self.work)?,
+            name: name(alloc, case.value("name").unwrap_or("P"))?,
+            limit: self.limit,
+            saving,
+            system: self.system(alloc)?,
+        };
+        let keys = hex_bytes(alloc, case.value("keys").unwrap_or(""))?;
+        Ok(do_job(alloc, job, &keys))
+    }
+
+    /// Its trace.
+    pub fn trace(&self, alloc: Global, case: &Case<'_>, selection: Selection) -> io::Result<Ran> {
+        let job = Job::Trace {
+            disks: disks(alloc, case, &self.work)?,
+            name: name(alloc, case.value("name").unwrap_or("P"))?,
+            limit: self.limit,
+            system: self.system(alloc)?,
+            selection,
+        };
+        let keys = hex_bytes(alloc, case.value("keys").unwrap_or(""))?;
+        Ok(do_job(alloc, job, &keys))
+    }
+
+    /// What the debugger answers to the lines of the case.
+    pub fn debug(&self, alloc: Global, case: &Case<'_>) -> io::Result<Ran> {
+        let job = Job::Debug {
+            disks: disks(alloc, case, &self.work)?,
+            name: name(alloc, case.value("name").unwrap_or("P"))?,
+            system: self.system(alloc)?,
+        };
+        Ok(do_job(alloc, job, &typed(alloc, case)?))
+    }
+}
+
+/// Answers bytes, if there are any.
+fn add_bytes(alloc: Global, word: &str, bytes: &[u8], came: &mut Came) -> io::Result<()> {
+    if !bytes.is_empty() {
+        let text = bytes_text(alloc, bytes, MOST_SHOWN)?;
+        came.answer(word, text.as_str())?;
+    }
+    Ok(())
+}
+
+/// Answers what a run came to, and what it wrote and printed.
+pub fn add_run(alloc: Global, ran: &Ran, came: &mut Came) -> io::Result<()> {
+    came.answer("run", ran.outcome.text())?;
+    add_bytes(alloc, "console", &ran.written, came)?;
+    add_bytes(alloc, "printer", &ran.outcome.printer, came)
+}
+
+/// Answers the digest of a trace.
+pub fn add_trace(alloc: Global, ran: &Ran, came: &mut Came) -> io::Result<()> {
+    came.shown = ran.text(alloc)?;
+    let digest = digest_text(alloc, &ran.written)?;
+    came.answer("trace", digest.as_str())?;
+    Ok(())
+}
+
+/// Answers a session of the debugger.
+pub fn add_session(alloc: Global, ran: &Ran, came: &mut Came) -> io::Result<()> {
+    let text = ran.text(alloc)?;
+    for line in text.as_str().lines() {
+        came.answer("<", line)?;
+    }
+    if ran.is_refused() {
+        came.answer("<", ran.outcome.text())?;
+    }
+    Ok(())
+}
+
+/// Answers an image that is kept and is not the same as before, with this word.
+pub fn add_image(
+    alloc: Global,
+    word: &str,
+    before: &Option<Vec<u8>>,
+    behind: &Option<Vec<u8>>,
+    came: &mut Came,
+) -> io::Result<()> {
+    if let (Some(before), Some(behind)) = (before, behind)
+        && before.as_slice() != behind.as_slice()
+    {
+        let digest = digest_text(alloc, behind)?;
+        came.answer(word, digest.as_str())?;
+    }
+    Ok(())
+}

@@ -1,0 +1,207 @@
+//! The replay of a file: each case beside its answers, and what is said of those that differ.
+use crate::case::{Came, Case, Line};
+use crate::texts::{has_text, is_text};
+use crate::{bare, boots, conformance, session, shows, systems, texts};
+use std::alloc::{AllocError, Global};
+use std::io;
+use std::io::ErrorKind;
+use test_replay::Report;
+
+/// What the cases of a file are.
+#[derive(Clone, Copy)]
+pub enum Kind {
+    Bare,
+    Boots,
+    Files,
+    Texts,
+    Shows,
+    Images,
+    Systems,
+    Conformance,
+}
+
+impl Kind {
+    /// What stands before the name of a case.
+    fn head(self) -> &'static str {
+        match self {
+            Kind::Conformance => "; ",
+            _ => "case ",
+        }
+    }
+
+    /// Whether a line of a case is given, and no answer. A text comes to segments, and a code file is given by them.
+    fn is_given(self, case: &Case<'_>, word: &str) -> bool {
+        match self {
+            Kind::Bare => matches!(word, "code" | "limit"),
+            Kind::Boots => matches!(
+                word,
+                "segment"
+                    | "byte"
+                    | "cut"
+                    | "kind"
+                    | "blocks"
+                    | "disk"
+                    | "name"
+                    | "keys"
+                    | "limit"
+                    | ">"
+            ),
+            Kind::Files | Kind::Images => !matches!(word, "<" | "@"),
+            Kind::Texts if has_text(case) => is_text(word),
+            Kind::Texts => matches!(word, "segment" | "name" | "byte" | "cut"),
+            Kind::Shows => !matches!(word, "<" | "!" | "="),
+            Kind::Systems => matches!(
+                word,
+                "program" | "system" | "on" | "disk" | "name" | "keys" | "limit" | "saves" | ">"
+            ),
+            Kind::Conformance => word.len() == 2,
+        }
+    }
+
+    /// What comes of a case.
+    fn answers(self, alloc: Global, case: &Case<'_>) -> io::Result<Came> {
+        match self {
+            Kind::Bare => bare::answers(alloc, case),
+            Kind::Boots => boots::answers(alloc, case),
+            Kind::Files => session::answers(alloc, case, usize::MAX),
+            Kind::Texts => texts::answers(alloc, case),
+            Kind::Shows => shows::answers(alloc, case),
+            Kind::Images => session::answers(alloc, case, LINES_OF_IMAGE),
+            Kind::Systems => systems::answers(alloc, case),
+            Kind::Conformance => conformance::answers(alloc, case),
+        }
+    }
+}
+
+/// The most lines of a text that a case of any bytes has as they are.
+const LINES_OF_IMAGE: usize = 16;
+
+/// The most lines that are shown of what was expected, of what came, and of a trace.
+const LINES: usize = 8;
+
+const TRACE: usize = 40;
+
+/// What is expected: the lines of the answers, each with its line feed.
+fn expected(alloc: Global, kind: Kind, case: &Case<'_>) -> Result<String, AllocError> {
+    let mut text = String::new(alloc);
+    for line in case.lines.iter() {
+        if !kind.is_given(case, line.word) {
+            text.push_str(line.text)?;
+            text.push_str("\n")?;
+        }
+    }
+    Ok(text)
+}
+
+/// How many lines two texts begin with alike.
+fn alike(one: &str, other: &str) -> usize {
+    let mut count: usize = 0;
+    for (line, beside) in one.lines().zip(other.lines()) {
+        if line != beside {
+            return count;
+        }
+        count = count.saturating_add(1);
+    }
+    count
+}
+
+/// The last line that is given before an answer of this number.
+fn given_before<'a>(kind: Kind, case: &Case<'a>, answer: usize) -> &'a str {
+    let mut given = "";
+    let mut answers: usize = 0;
+    for line in case.lines.iter() {
+        if kind.is_given(case, line.word) {
+            given = line.text;
+        } else {
+            if answers == answer {
+                return given;
+            }
+            answers = answers.saturating_add(1);
+        }
+    }
+    given
+}
+
+/// Adds some lines of a text, with what they are before each.
+fn add_lines(
+    text: &mut String,
+    what: &str,
+    lines: &str,
+    from: usize,
+    most: usize,
+) -> Result<(), AllocError> {
+    for line in lines.lines().skip(from).take(most) {
+        text.push_str(what)?;
+        text.push_str(line)?;
+        text.push_str("\n")?;
+    }
+    Ok(())
+}
+
+/// What is said of a case that does not agree.
+fn told(
+    alloc: Global,
+    kind: Kind,
+    case: &Case<'_>,
+    wanted: &str,
+    came: &Came,
+) -> Result<String, AllocError> {
+    let (number, name) = (case.number, case.name);
+    let equal = alike(wanted, came.answers.as_str());
+    let given = given_before(kind, case, equal);
+    let mut text = format!(in alloc; "  line {number}, {name}\n  behind {given}\n")?;
+    add_lines(&mut text, "  expected: ", wanted, equal, LINES)?;
+    add_lines(
+        &mut text,
+        "  came:     ",
+        came.answers.as_str(),
+        equal,
+        LINES,
+    )?;
+    add_lines(&mut text, "  shown:    ", came.shown.as_str(), 0, TRACE)?;
+    Ok(text)
+}
+
+/// Replays a case, and counts it.
+fn add(report: &mut Report, alloc: Global, kind: Kind, case: &Case<'_>) -> io::Result<()> {
+    let wanted = expected(alloc, kind, case)?;
+    let came = match kind.answers(alloc, case) {
+        Err(error) if error.kind() == ErrorKind::InvalidData => {
+            let mut none = Came::new(alloc);
+            none.answer(
+                "none: a line cannot be read, or there is no volume for the program",
+                "",
+            )?;
+            none
+        }
+        came => came?,
+    };
+    if wanted.as_str() == came.answers.as_str() {
+        report.agrees();
+    } else {
+        report.differs(told(alloc, kind, case, wanted.as_str(), &came)?);
+    }
+    Ok(())
+}
+
+/// Replays the cases of a file.
+pub fn replay(alloc: Global, text: &str, kind: Kind) -> io::Result<Report> {
+    let mut report = Report::new(alloc);
+    let mut case = Case::new(alloc, "", 0);
+    for (number, line) in text.lines().enumerate() {
+        if let Some(name) = line.strip_prefix(kind.head()) {
+            case = Case::new(alloc, name, number.saturating_add(1));
+        } else if line.is_empty() {
+            if !case.lines.is_empty() {
+                add(&mut report, alloc, kind, &case)?;
+            }
+            case = Case::new(alloc, "", 0);
+        } else if !case.name.is_empty() {
+            case.lines.push(Line::of(line))?;
+        }
+    }
+    if !case.lines.is_empty() {
+        add(&mut report, alloc, kind, &case)?;
+    }
+    Ok(report)
+}

@@ -1,0 +1,225 @@
+//! Cases of images: a session of commands and damage on one, which may be of any bytes.
+use crate::case::{Came, Case, Line, MOST_SHOWN, line_count};
+use crate::code_file::damage;
+use crate::files::{command, on_slot, two};
+use crate::jobs::{Ran, do_job};
+use pm_filer::FileCommand;
+use pm_tool::Job;
+use std::alloc::Global;
+use std::io;
+use test_replay::{digest_text, hex_bytes, measured, name, number, set_byte, unreadable, word};
+
+/// An image, the one that is remembered, and the volume that was saved last.
+#[derive(Drop)]
+pub struct Session {
+    alloc: Global,
+    pub image: Vec<u8>,
+    kept: Vec<u8>,
+    saved: Vec<u8>,
+    /// The most lines of a text that are answered as they are.
+    most: usize,
+    /// The bytes of the content `program`.
+    program: Vec<u8>,
+    came: Came,
+}
+
+impl Session {
+    /// One without an image, that answers so many lines of a text as they are.
+    pub fn new(alloc: Global, most: usize, program: Vec<u8>) -> Session {
+        Session {
+            alloc,
+            image: Vec::new(alloc),
+            kept: Vec::new(alloc),
+            saved: Vec::new(alloc),
+            most,
+            program,
+            came: Came::new(alloc),
+        }
+    }
+
+    /// Answers what a command came to that changes the image.
+    fn add(&mut self, ran: Ran) -> io::Result<()> {
+        if ran.is_refused() {
+            self.came.answer("<", ran.outcome.text())?;
+            return Ok(());
+        }
+        self.image = ran.into_image()?;
+        let digest = digest_text(self.alloc, &self.image)?;
+        let line = format!(in self.alloc; "ok {digest}")?;
+        self.came.answer("<", line.as_str())?;
+        Ok(())
+    }
+
+    /// Answers the bytes of a file.
+    fn add_file(&mut self, ran: &Ran) -> io::Result<()> {
+        let bytes = ran.written.as_slice();
+        let line = if ran.is_refused() {
+            String::from_str(self.alloc, ran.outcome.text())?
+        } else if bytes.len() > MOST_SHOWN {
+            let (count, digest) = (bytes.len(), digest_text(self.alloc, bytes)?);
+            format!(in self.alloc; "{count} bytes {digest}")?
+        } else if bytes.is_empty() {
+            String::from_str(self.alloc, "hex")?
+        } else {
+            let digits = hex::encode(self.alloc, bytes)?;
+            format!(in self.alloc; "hex {digits}")?
+        };
+        self.came.answer("<", line.as_str())?;
+        Ok(())
+    }
+
+    /// Answers what is told of the image, where the lines are many their number and digest; and why it is refused, if
+    /// it is.
+    fn add_told(&mut self, ran: &Ran) -> io::Result<()> {
+        let text = ran.text(self.alloc)?;
+        let count = line_count(text.as_str());
+        if count > self.most {
+            let digest = digest_text(self.alloc, &ran.written)?;
+            let line = format!(in self.alloc; "{count} lines {digest}")?;
+            self.came.answer("<", line.as_str())?;
+        } else {
+            for line in text.as_str().lines() {
+                self.came.answer("<", line)?;
+            }
+        }
+        if ran.is_refused() {
+            self.came.answer("<", ran.outcome.text())?;
+        }
+        Ok(())
+    }
+
+    /// Does a command, of which this is the first word.
+    fn perform(
+        &mut self,
+        word: &str,
+        image: Vec<u8>,
+        command: FileCommand,
+        input: &[u8],
+    ) -> io::Result<()> {
+        let ran = do_job(self.alloc, Job::Files { image, command }, input);
+        match word {
+            "list" => self.add_told(&ran),
+            "get" | "gettext" => self.add_file(&ran),
+            _ => self.add(ran),
+        }
+    }
+
+    /// Does the command of a line.
+    fn command(&mut self, line: Line<'_>, image: Vec<u8>) -> io::Result<()> {
+        if let Some(command) = on_slot(self.alloc, line)? {
+            return self.perform(line.word, image, command, b"");
+        }
+        let (command, input) = command(self.alloc, line, &self.program)?;
+        self.perform(line.word, image, command, &input)
+    }
+
+    /// Makes a new volume.
+    fn make(&mut self, rest: &str) -> io::Result<()> {
+        let (volume, blocks) = two(rest)?;
+        let name = name(self.alloc, volume)?;
+        let blocks = word(blocks)?;
+        self.add(do_job(self.alloc, Job::New { name, blocks }, b""))
+    }
+
+    /// Answers what is saved of the image, and remembers the volume.
+    fn salvage(&mut self, image: Vec<u8>, second: bool) -> io::Result<()> {
+        let ran = do_job(self.alloc, Job::Salvage { image, second }, b"");
+        self.add_told(&ran)?;
+        if ran.is_refused() {
+            return Ok(());
+        }
+        self.saved = ran.into_image()?;
+        let digest = digest_text(self.alloc, &self.saved)?;
+        let line = format!(in self.alloc; "ok {digest}")?;
+        self.came.answer("<", line.as_str())?;
+        Ok(())
+    }
+
+    /// Answers the bytes at a place of the image, as many as the line has.
+    fn add_place(&mut self, rest: &str) -> io::Result<()> {
+        let (place, bytes) = two(rest)?;
+        let count = match bytes.split_once(' ') {
+            Some((count, _)) => number(count)?,
+            None => bytes.len() / 2,
+        };
+        let first = number(place)?.min(self.image.len());
+        let behind = &self.image.as_slice()[first..];
+        let part = &behind[..count.min(behind.len())];
+        let text = match bytes.split_once(' ') {
+            Some(_) => measured(self.alloc, part)?,
+            None => hex::encode(self.alloc, part)?,
+        };
+        let line = format!(in self.alloc; "{first} {text}")?;
+        self.came.answer("@", line.as_str())?;
+        Ok(())
+    }
+
+    /// Writes bytes from a place of the image on.
+    fn write(&mut self, place: usize, bytes: &[u8]) -> io::Result<()> {
+        for (at, byte) in bytes.iter().enumerate() {
+            set_byte(&mut self.image, place.saturating_add(at), *byte)?;
+        }
+        Ok(())
+    }
+
+    /// Copies bytes of the image to another place of it: `FROM N TO`.
+    fn copy(&mut self, rest: &str) -> io::Result<()> {
+        let (from, rest) = two(rest)?;
+        let (count, to) = two(rest)?;
+        let from = number(from)?;
+        let end = from.saturating_add(number(count)?);
+        let part = self.image.get(from..end).ok_or_else(unreadable)?;
+        let part = part.to_vec(self.alloc)?;
+        self.write(number(to)?, &part)
+    }
+
+    /// Changes the image as a line without an answer says; false where the line is none of these.
+    fn prepare(&mut self, line: Line<'_>) -> io::Result<bool> {
+        match line.word {
+            "<" => (),
+            "byte" => damage(&mut self.image, line.rest)?,
+            "bytes" => {
+                let (place, spelled) = two(line.rest)?;
+                let bytes = hex_bytes(self.alloc, spelled)?;
+                self.write(number(place)?, &bytes)?;
+            }
+            "copy" => self.copy(line.rest)?,
+            "blank" => {
+                self.image.clear();
+                self.image.resize(number(line.rest)?, 0)?;
+            }
+            "size" => self.image.resize(number(line.rest)?, 0)?,
+            "keep" => self.kept = self.image.to_vec(self.alloc)?,
+            "back" => self.image = self.kept.to_vec(self.alloc)?,
+            "take" => self.image = self.saved.to_vec(self.alloc)?,
+            _ => return Ok(false),
+        }
+        Ok(true)
+    }
+
+    /// Does one line.
+    pub fn line(&mut self, line: Line<'_>) -> io::Result<()> {
+        if self.prepare(line)? {
+            return Ok(());
+        }
+        let image = self.image.to_vec(self.alloc)?;
+        match (line.word, line.rest) {
+            ("@", rest) => self.add_place(rest),
+            ("new", rest) => self.make(rest),
+            ("repair", "") => self.add(do_job(self.alloc, Job::Repair { image }, b"")),
+            ("check", "") => self.add_told(&do_job(self.alloc, Job::Check { image }, b"")),
+            ("salvage", "") => self.salvage(image, false),
+            ("salvage", "second") => self.salvage(image, true),
+            _ => self.command(line, image),
+        }
+    }
+}
+
+/// What comes of a case, in which so many lines of a text stand as they are.
+pub fn answers(alloc: Global, case: &Case<'_>, most: usize) -> io::Result<Came> {
+    let mut session = Session::new(alloc, most, Vec::new(alloc));
+    for line in case.lines.iter() {
+        session.line(*line)?;
+    }
+    Ok(session.came)
+}

@@ -1,0 +1,201 @@
+//! Cases of the jobs that show and tell: traces of which lines are selected, texts and lists of code files and of texts
+//! of the assembler, and sessions of the debugger.
+use crate::case::{Came, Case, Line, line_count};
+use crate::code_file::code_file;
+use crate::jobs::{Ran, do_job};
+use crate::program::{BLOCKS, CODE, Program, volume, with_program};
+use crate::texts::text;
+use pm_tool::{Code, Job, Selection};
+use std::alloc::Global;
+use std::io;
+use test_replay::{byte, hex_bytes, measured, steps, unreadable};
+
+/// The most lines that a case shows, and the most bytes of each.
+const LINES: usize = 24;
+
+const LONGEST: usize = 400;
+
+/// A word that has a value behind it.
+#[derive(Clone, Copy)]
+enum Valued {
+    Limit,
+    From,
+    Segment,
+    Procedure,
+}
+
+impl Valued {
+    /// The word that a text is.
+    fn of(word: &str) -> io::Result<Valued> {
+        match word {
+            "--limit" => Ok(Valued::Limit),
+            "--from" => Ok(Valued::From),
+            "--segment" => Ok(Valued::Segment),
+            "--procedure" => Ok(Valued::Procedure),
+            _ => Err(unreadable()),
+        }
+    }
+}
+
+/// What the words behind `raw` and `trace` say.
+#[derive(Clone, Copy)]
+struct Words {
+    limit: u64,
+    selection: Selection,
+}
+
+impl Words {
+    /// Takes in a word that stands alone; false where it has a value behind it.
+    fn takes(&mut self, word: &str) -> bool {
+        match word {
+            "--calls" => self.selection.calls = true,
+            "--places" => self.selection.places = true,
+            "--unlimited" => self.limit = u64::MAX,
+            _ => return false,
+        }
+        true
+    }
+
+    /// Takes in a word with its value.
+    fn takes_value(&mut self, word: Valued, value: &str) -> io::Result<()> {
+        match (word, self.selection.code) {
+            (Valued::Limit, _) => self.limit = u64::from(steps(value)?),
+            (Valued::From, _) => self.selection.from = steps(value)?,
+            (Valued::Segment, _) => {
+                let segment = byte(value)?;
+                self.selection.code = Code::Segment { segment };
+            }
+            (Valued::Procedure, Code::Segment { segment }) => {
+                let procedure = byte(value)?;
+                self.selection.code = Code::Procedure { segment, procedure };
+            }
+            _ => return Err(unreadable()),
+        }
+        Ok(())
+    }
+
+    /// Those of a text, with a blank between two.
+    fn of(text: &str) -> io::Result<Words> {
+        let mut words = Words {
+            limit: 0,
+            selection: Selection::ALL,
+        };
+        let mut before = None;
+        for word in text.split(' ') {
+            if let Some(option) = before {
+                words.takes_value(option, word)?;
+                before = None;
+            } else if !words.takes(word) {
+                before = Some(Valued::of(word)?);
+            }
+        }
+        match before {
+            Some(_) => Err(unreadable()),
+            None => Ok(words),
+        }
+    }
+}
+
+/// The program of a case, which has a volume of its own, with so many steps.
+fn program(alloc: Global, case: &Case<'_>, limit: u64) -> io::Result<Program> {
+    let image = volume(alloc, "WORK", BLOCKS)?;
+    let work = with_program(alloc, image, CODE, &code_file(alloc, case, true)?)?;
+    Ok(Program {
+        work,
+        limit,
+        system: None,
+    })
+}
+
+/// The trace of bare code.
+fn raw(alloc: Global, case: &Case<'_>, rest: &str) -> io::Result<Ran> {
+    let words = Words::of(rest)?;
+    let limit = u32::try_from(words.limit).map_err(|_| unreadable())?;
+    let selection = words.selection;
+    let code = hex_bytes(alloc, case.value("code").unwrap_or(""))?;
+    let digits = hex::encode(alloc, &code)?;
+    Ok(do_job(alloc, Job::Raw { limit, selection }, digits.as_bytes()))
+}
+
+/// The trace of the program.
+fn trace(alloc: Global, case: &Case<'_>, rest: &str) -> io::Result<Ran> {
+    let words = Words::of(rest)?;
+    program(alloc, case, words.limit)?.trace(alloc, case, words.selection)
+}
+
+/// The job of words that have no values.
+fn plain_job(words: &str) -> io::Result<Job> {
+    match words {
+        "asm --list" => Ok(Job::Asm { list: true }),
+        "asm --all" => Ok(Job::AsmFaults),
+        "asm --symbols" => Ok(Job::AsmSymbols),
+        "dis" => Ok(Job::Dis),
+        "dis --names" => Ok(Job::DisNames),
+        "dis --list" => Ok(Job::DisList),
+        _ => Err(unreadable()),
+    }
+}
+
+/// What the job of a line comes to, if the line is a job.
+fn ran_of(alloc: Global, case: &Case<'_>, line: Line<'_>) -> io::Result<Option<Ran>> {
+    let ran = match line.word {
+        "raw" => raw(alloc, case, line.rest)?,
+        "trace" => trace(alloc, case, line.rest)?,
+        "asm" => do_job(alloc, plain_job(line.text)?, &text(alloc, case)?),
+        "dis" => do_job(alloc, plain_job(line.text)?, &code_file(alloc, case, true)?),
+        _ => return Ok(None),
+    };
+    Ok(Some(ran))
+}
+
+/// Answers what a job wrote, and its message if there is one.
+fn add_ran(alloc: Global, ran: &Ran, came: &mut Came) -> io::Result<()> {
+    let text = ran.text(alloc)?;
+    if line_count(text.as_str()) > LINES || text.as_str().lines().any(|line| line.len() > LONGEST) {
+        let measured = measured(alloc, &ran.written)?;
+        came.answer("=", measured.as_str())?;
+        came.shown = text;
+        return add_message(ran, came);
+    }
+    for line in text.as_str().lines() {
+        came.answer("<", line)?;
+    }
+    add_message(ran, came)
+}
+
+/// Answers the message of a job, if there is one.
+fn add_message(ran: &Ran, came: &mut Came) -> io::Result<()> {
+    if !ran.outcome.text().is_empty() {
+        came.answer("!", ran.outcome.text())?;
+    }
+    Ok(())
+}
+
+/// Answers the session of the debugger: a long line by its length and digest.
+fn add_session(alloc: Global, case: &Case<'_>, came: &mut Came) -> io::Result<()> {
+    let ran = program(alloc, case, 0)?.debug(alloc, case)?;
+    let text = ran.text(alloc)?;
+    for line in text.as_str().lines() {
+        if line.len() > LONGEST {
+            let measured = measured(alloc, line.as_bytes())?;
+            came.answer("=", measured.as_str())?;
+        } else {
+            came.answer("<", line)?;
+        }
+    }
+    add_message(&ran, came)
+}
+
+/// What comes of a case.
+pub fn answers(alloc: Global, case: &Case<'_>) -> io::Result<Came> {
+    let mut came = Came::new(alloc);
+    for line in case.lines.iter() {
+        if let Some(ran) = ran_of(alloc, case, *line)? {
+            add_ran(alloc, &ran, &mut came)?;
+        }
+    }
+    if case.has(">") {
+        add_session(alloc, case, &mut came)?;
+    }
+    Ok(came)
+}

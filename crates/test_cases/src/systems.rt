@@ -1,0 +1,69 @@
+//! Cases of programs for whose slot 0 a segment stands in, and of images that are kept.
+use crate::case::{Came, Case, Line};
+use crate::jobs::Ran;
+use crate::program::{Program, add_image, add_run, add_session, add_trace, disks, limit};
+use crate::session::Session;
+use pm_tool::{Saving, Selection};
+use std::alloc::Global;
+use std::io;
+use test_replay::hex_bytes;
+
+/// The image of unit 4, as the lines `on` of the case make it.
+fn work(alloc: Global, case: &Case<'_>) -> io::Result<Vec<u8>> {
+    let file = hex_bytes(alloc, case.value("program").unwrap_or(""))?;
+    let mut session = Session::new(alloc, usize::MAX, file);
+    for line in case.lines.iter() {
+        if line.word == "on" {
+            session.line(Line::of(line.rest))?;
+        }
+    }
+    Ok(session.image)
+}
+
+/// Answers the images that a run leaves, where they are not the same.
+fn add_images(
+    alloc: Global,
+    case: &Case<'_>,
+    work: &[u8],
+    ran: &Ran,
+    came: &mut Came,
+) -> io::Result<()> {
+    let before = disks(alloc, case, work)?;
+    let (first, others) = (&ran.outcome.image, &ran.outcome.others);
+    add_image(alloc, "image 4", &before[0], first, came)?;
+    add_image(alloc, "image 5", &before[1], &others.d5, came)?;
+    add_image(alloc, "image 9", &before[2], &others.d9, came)?;
+    add_image(alloc, "image 10", &before[3], &others.d10, came)?;
+    add_image(alloc, "image 11", &before[4], &others.d11, came)?;
+    add_image(alloc, "image 12", &before[5], &others.d12, came)
+}
+
+/// What comes of a case.
+pub fn answers(alloc: Global, case: &Case<'_>) -> io::Result<Came> {
+    let mut came = Came::new(alloc);
+    let system = match case.value("system") {
+        Some(spelled) => Some(hex_bytes(alloc, spelled)?),
+        None => None,
+    };
+    let saving = match case.value("saves") {
+        Some("all") => Saving::All,
+        Some(_) => Saving::First,
+        None => Saving::Nothing,
+    };
+    let program = Program {
+        work: work(alloc, case)?,
+        limit: limit(case)?,
+        system,
+    };
+    let ran = program.run(alloc, case, saving)?;
+    add_run(alloc, &ran, &mut came)?;
+    add_images(alloc, case, &program.work, &ran, &mut came)?;
+    if case.has("trace") {
+        let ran = program.trace(alloc, case, Selection::ALL)?;
+        add_trace(alloc, &ran, &mut came)?;
+    }
+    if case.has(">") {
+        add_session(alloc, &program.debug(alloc, case)?, &mut came)?;
+    }
+    Ok(came)
+}

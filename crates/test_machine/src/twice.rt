@@ -1,0 +1,215 @@
+//! Programs against themselves: each goes step by step in two machines, and in one of them each word of memory is
+//! written with its own value before each step. That drops what is kept of links and tables, and nothing that is seen
+//! may differ.
+ghost use Rattle.std.specs.Prelude.{◌≡◌, length, sum};
+
+use crate::any_bytes::generated;
+use crate::codes::{CALLS, KEEPS, STORED_LINK, TOP};
+use crate::volumes::{boots, volume};
+use pm_calls::Registers;
+use pm_debug::{DebugRefusal, Debugger};
+use pm_machine::{Machine, Stop};
+use pm_words::ExecError;
+use std::alloc::Global;
+use std::process::Abort;
+use std::test::Fail;
+use test_parts::programs::{EXITS, SEGMENTS};
+
+/// A program in two machines.
+#[derive(Drop)]
+struct Twice {
+    plain: Debugger,
+    written: Debugger,
+    made: u16,
+}
+
+/// Memory and the rest of what a machine shows are the same.
+fn are_same(rt: &impl Abort, one: &Machine, other: &Machine) {
+    assert_eq!(rt; one.registers(), other.registers());
+    assert_eq!(rt;
+        (one.steps(), one.status()),
+        (other.steps(), other.status())
+    );
+    assert!(rt; one.memory().bytes() == other.memory().bytes());
+    assert_eq!(rt; one.console(), other.console());
+    assert_eq!(rt; one.printer(), other.printer());
+    for n in 0..16 {
+        assert_eq!(rt; one.place(n), other.place(n));
+        assert_eq!(rt; one.keeps(n), other.keeps(n));
+    }
+}
+
+/// The stack and both chains.
+type Chains = (
+    Vec<u16>,
+    Result<Vec<u16>, DebugRefusal>,
+    Result<Vec<u16>, DebugRefusal>,
+);
+
+fn chains(alloc: Global, debugger: &Debugger) -> Result<Chains, Fail> {
+    Ok((
+        debugger.stack(alloc, 20)?,
+        debugger.static_chain(alloc, 20),
+        debugger.dynamic_chain(alloc, 20),
+    ))
+}
+
+/// Variables of frames up the static links.
+fn locals(debugger: &mut Debugger) -> [Result<u16, DebugRefusal>; 4] {
+    [
+        debugger.local(0, 1),
+        debugger.local(1, 1),
+        debugger.local(2, 2),
+        debugger.local(9, 1),
+    ]
+}
+
+impl Twice {
+    fn new(plain: Machine, written: Machine) -> Twice {
+        Twice {
+            plain: Debugger::new(plain),
+            written: Debugger::new(written),
+            made: 0,
+        }
+    }
+
+    /// Bare code, of which words are written over before the first step.
+    fn raw(alloc: Global, code: &[u8], pokes: &[(u16, u16)]) -> Result<Twice, Fail> {
+        let mut plain = Machine::raw(alloc, code)?;
+        let mut written = Machine::raw(alloc, code)?;
+        for (address, word) in pokes {
+            plain.poke(*address, *word);
+            written.poke(*address, *word);
+        }
+        Ok(Twice::new(plain, written))
+    }
+
+    /// The program of a code file, with these lengths of the slots 1, 2 and 3.
+    fn booted(alloc: Global, lengths: [u16; 3], segments: &[u8]) -> Result<Twice, Fail>
+        requires joined { sum lengths ≡ length segments.now }
+    {
+        let plain = boots(alloc, volume(alloc, 2, lengths, segments)?)?;
+        let written = boots(alloc, volume(alloc, 2, lengths, segments)?)?;
+        Ok(Twice::new(plain, written))
+    }
+
+    /// Writes each word of the one machine with its own value.
+    fn write(&mut self, rt: &impl Abort) {
+        let machine = self.written.machine();
+        for n in 0..32768_u16 {
+            let address = n.wrapping_mul(2);
+            let word = machine.memory().word(address).unwrap_or(0);
+            assert!(rt; machine.poke(address, word));
+        }
+    }
+
+    fn is_same(&mut self, rt: &impl Abort, alloc: Global) -> Result<(), Fail> {
+        are_same(rt, self.plain.machine(), self.written.machine());
+        assert!(rt; chains(alloc, &self.plain)? == chains(alloc, &self.written)?);
+        assert_eq!(rt; locals(&mut self.plain), locals(&mut self.written));
+        Ok(())
+    }
+
+    /// One step of each, which come to the same.
+    fn step(&mut self, rt: &impl Abort, alloc: Global) -> Result<Stop, Fail> {
+        self.write(rt);
+        let stop = self.plain.machine().step()?;
+        assert_eq!(rt; self.written.machine().step()?, stop);
+        self.made = self.made.wrapping_add(1);
+        self.is_same(rt, alloc)?;
+        Ok(stop)
+    }
+
+    /// At most so many steps; how the last one ended.
+    fn run(&mut self, rt: &impl Abort, alloc: Global, limit: u16) -> Result<Stop, Fail> {
+        self.is_same(rt, alloc)?;
+        for _ in 0..limit {
+            let stop = self.step(rt, alloc)?;
+            if stop != Stop::Went {
+                return Ok(stop);
+            }
+        }
+        Ok(Stop::Went)
+    }
+
+    /// The program ends with this step.
+    fn ends(&mut self, rt: &impl Abort, alloc: Global, steps: u16) -> Result<Registers, Fail> {
+        assert_eq!(rt; self.run(rt, alloc, 100)?, Stop::Ended);
+        assert_eq!(rt; self.made, steps);
+        Ok(self.plain.machine().registers())
+    }
+}
+
+#[test]
+fn stored_link(rt: HostRuntime) -> Result<(), Fail> {
+    let alloc = rt.alloc();
+    let mut twice = Twice::raw(alloc, &STORED_LINK, &[(3012, 77)])?;
+    let registers = twice.ends(&rt, alloc, 6)?;
+    assert_eq!(rt; registers.sp, 65488);
+    Ok(())
+}
+
+/// Two nested procedures, of which the outer one calls the inner one twice.
+#[test]
+fn nested_calls(rt: HostRuntime) -> Result<(), Fail> {
+    let alloc = rt.alloc();
+    let mut twice = Twice::raw(alloc, &CALLS, &[TOP])?;
+    let registers = twice.ends(&rt, alloc, 6)?;
+    assert_eq!(rt; registers.sp, 65492);
+    Ok(())
+}
+
+/// EXIT through two segments.
+#[test]
+fn exits(rt: HostRuntime) -> Result<(), Fail> {
+    let alloc = rt.alloc();
+    let mut twice = Twice::booted(alloc, [36, 38, 0], &EXITS)?;
+    twice.ends(&rt, alloc, 10)?;
+    Ok(())
+}
+
+/// Two segments that are loaded one after the other at one place.
+#[test]
+fn segments(rt: HostRuntime) -> Result<(), Fail> {
+    let alloc = rt.alloc();
+    let mut twice = Twice::booted(alloc, [22, 16, 16], &SEGMENTS)?;
+    twice.ends(&rt, alloc, 5)?;
+    Ok(())
+}
+
+/// A segment that is kept, called twice and given up.
+#[test]
+fn kept_segment(rt: HostRuntime) -> Result<(), Fail> {
+    let alloc = rt.alloc();
+    let mut twice = Twice::booted(alloc, [28, 16, 0], &KEEPS)?;
+    twice.ends(&rt, alloc, 9)?;
+    Ok(())
+}
+
+/// Code that stores over code to come: a word of it becomes 2 and 3, and they are added.
+const OWN_CODE: [u8; 12] = [
+    0xC7, 0x08, 0x04, 0xC7, 0x02, 0x03, 0x9A, 0xD7, 0xD6, 0xD6, 0x82, 0xD6,
+];
+
+#[test]
+fn own_code(rt: HostRuntime) -> Result<(), Fail> {
+    let alloc = rt.alloc();
+    let mut twice = Twice::raw(alloc, &OWN_CODE, &[])?;
+    let registers = twice.ends(&rt, alloc, 8)?;
+    let machine = twice.plain.machine();
+    assert_eq!(rt; machine.memory().word(registers.sp), Some(5));
+    Ok(())
+}
+
+/// A hundred codes of any bytes, each of at most twenty steps.
+#[test]
+fn any_bytes(rt: HostRuntime) -> Result<(), Fail> {
+    let alloc = rt.alloc();
+    assert_eq!(rt; generated(1).get(..3), Some([152, 238, 78].as_slice()));
+    for seed in 1..=100 {
+        let code = generated(seed);
+        let mut twice = Twice::raw(alloc, &code, &[])?;
+        twice.run(&rt, alloc, 20)?;
+    }
+    Ok(())
+}

@@ -1,0 +1,244 @@
+//! Each call of a stream fails in turn, once: the job is broken off there, with what it had written before that call,
+//! and calls no stream any more.
+ghost use Rattle.std.specs.Prelude.{◌≡◌, length, sum};
+
+use crate::recorder::{Call, Kind, Manner, Recorded, recorded_run};
+use pm_tool::{Job, Saving, Selection};
+use pm_volume::Volume;
+use std::alloc::{AllocError, Global};
+use std::process::Abort;
+use std::test::Fail;
+use test_parts::programs::{ADDITION, ADDITION_TRACE, ECHO, EXITS, LETTERS};
+
+/// The program that leaves a segment by EXIT from another one.
+const EXITS_TRACE: &str = "\
+00000000 65456 65442 65444 65444 01024 65492 CLP 2
+00000001 65470 65430 65430 65444 01024 65444 CXP 2, 1
+00000002 65392 65378 65380 65380 01024 65444 CLP 2
+00000003 65408 65366 65366 65380 01024 65380 SLDC 1
+00000004 65409 65364 65366 65380 01024 00001 SLDC 2
+00000005 65410 65362 65366 65380 01024 00002 CSP 4
+00000006 65412 65366 65366 65380 01024 65380 RNP 0
+00000007 65396 65378 65380 65380 01024 65444 RBP 0
+00000008 65474 65430 65430 65444 01024 65444 RNP 0
+00000009 65458 65442 65444 65444 01024 65492 RBP 0
+ended 10
+";
+
+/// A session on the same program.
+pub(crate) const COMMANDS: &str = "\
+break 2 2 0
+go 100
+static 10
+poke 65366 65430
+static 10
+stack 1
+oops
+clear 2 2 0
+clear 2 2 0
+quit
+";
+
+pub(crate) const ANSWERS: &str = "\
+ok
+break 3
+65366 65380 65492
+ok
+65366 65430 65444 65492
+65430
+?
+ok
+refused 2
+";
+
+/// A job under test.
+#[derive(Clone, Copy)]
+pub(crate) enum Tried {
+    Addition,
+    Letters,
+    Echo,
+    Exits,
+    ExitsTraced,
+    Session,
+}
+
+/// A volume with the program `P` of the segments 1 and 2, as disk of unit 4.
+pub(crate) fn image(alloc: Global, lengths: [u16; 2], segments: &[u8]) -> Result<Vec<u8>, Fail>
+    requires joined { sum lengths ≡ length segments.now }
+{
+    let [first, second] = lengths;
+    let slots = [0, first, second, 0, 0, 0, 0, 0, 0, 0, 0, 0, 0, 0, 0, 0];
+    let program = pm_codefile::write(alloc, &[[32; 8]; 16], &slots, segments)?;
+    let mut disk = Volume::blank(alloc, "WORK", 83)?;
+    disk.add("P", 2, &program, 0)?;
+    Ok(disk.into_bytes())
+}
+
+impl Tried {
+    /// The image that its job has on unit 4. Bare code has none.
+    pub(crate) fn image(self, alloc: Global) -> Result<Vec<u8>, Fail> {
+        match self {
+            Tried::Addition => Ok(Vec::new(alloc)),
+            Tried::Letters => image(alloc, [28, 0], &LETTERS),
+            Tried::Echo => image(alloc, [38, 0], &ECHO),
+            Tried::Exits | Tried::ExitsTraced | Tried::Session => { image(alloc, [36, 38], &EXITS) }
+        }
+    }
+
+    /// Its job, with this image on unit 4.
+    pub(crate) fn job(self, alloc: Global, image: &[u8]) -> Result<Job, AllocError> {
+        let limit = 100;
+        let name = String::from_str(alloc, "P")?;
+        let disks = [Some(image.to_vec(alloc)?), None, None, None, None, None];
+        Ok(match self {
+            Tried::Addition => Job::Raw {
+                limit: 100,
+                selection: Selection::ALL,
+            },
+            Tried::Letters | Tried::Echo | Tried::Exits => Job::Run {
+                disks,
+                name,
+                limit,
+                saving: Saving::First,
+                system: None,
+            },
+            Tried::ExitsTraced => Job::Trace {
+                disks,
+                name,
+                limit,
+                system: None,
+                selection: Selection::ALL,
+            },
+            Tried::Session => Job::Debug {
+                disks,
+                name,
+                system: None,
+            },
+        })
+    }
+
+    fn input(self) -> &'static str {
+        match self {
+            Tried::Addition => ADDITION,
+            Tried::Echo => "ab.cd",
+            Tried::Session => COMMANDS,
+            Tried::Letters | Tried::Exits | Tried::ExitsTraced => "xyz",
+        }
+    }
+
+    /// The message and the output where no call fails. The status is 0 then.
+    fn told(self) -> (&'static str, &'static str) {
+        match self {
+            Tried::Addition => ("", ADDITION_TRACE),
+            Tried::Letters => ("ended 9", "OK"),
+            Tried::Echo => ("ended 41", "ab."),
+            Tried::Exits => ("ended 10", ""),
+            Tried::ExitsTraced => ("", EXITS_TRACE),
+            Tried::Session => ("", ANSWERS),
+        }
+    }
+
+    pub(crate) fn ran(
+        self,
+        alloc: Global,
+        image: &[u8],
+        manner: Manner,
+    ) -> Result<Recorded, AllocError> {
+        let job = self.job(alloc, image)?;
+        Ok(recorded_run(alloc, job, self.input().as_bytes(), manner))
+    }
+}
+
+impl Recorded {
+    pub(crate) fn is(&self, rt: &impl Abort, status: u8, message: &str, failed: (bool, bool)) {
+        assert_eq!(rt; (self.outcome.exit.number(), self.failed), (status, failed));
+        assert_eq!(rt; self.outcome.text(), message);
+    }
+
+    pub(crate) fn has_written(&self, rt: &impl Abort, bytes: Option<&[u8]>) {
+        assert_eq!(rt; Some(self.written.as_slice()), bytes);
+    }
+
+    fn has_called(&self, rt: &impl Abort, calls: Option<&[Call]>) {
+        assert_eq!(rt; Some(self.calls.as_slice()), calls);
+    }
+
+    fn keeps_nothing(&self, rt: &impl Abort) {
+        assert!(rt; self.outcome.image.is_none());
+        assert!(rt; self.outcome.printer.is_empty());
+    }
+
+    /// The call of this number has failed, and no stream was called behind it.
+    fn is_broken_off(&self, rt: &impl Abort, good: &Recorded, number: usize, call: Call) {
+        match call.kind {
+            Kind::Read => self.is(rt, 4, "read fault", (true, false)),
+            Kind::Write(_) => self.is(rt, 4, "write fault", (false, true)),
+        }
+        self.has_written(rt, good.written.get(..call.before));
+        self.has_called(rt, good.calls.get(..=number));
+        self.keeps_nothing(rt);
+    }
+}
+
+/// Where no call fails there are so many. Then each of them fails.
+fn each_fails(
+    rt: &impl Abort,
+    alloc: Global,
+    tried: Tried,
+    (most, takes_nothing): (usize, bool),
+    calls: usize,
+) -> Result<(), Fail> {
+    let manner = Manner {
+        most,
+        fails_at: None,
+        takes_nothing,
+    };
+    let (message, output) = tried.told();
+    let image = tried.image(alloc)?;
+    let good = tried.ran(alloc, &image, manner)?;
+    good.is(rt, 0, message, (false, false));
+    good.has_written(rt, Some(output.as_bytes()));
+    assert_eq!(rt; good.calls.len(), calls);
+    for (number, call) in good.calls.iter().enumerate() {
+        let fails_at = Some(number);
+        let ran = tried.ran(alloc, &image, Manner { fails_at, ..manner })?;
+        ran.is_broken_off(rt, &good, number, *call);
+    }
+    Ok(())
+}
+
+/// The input is read to its end, and then the trace is written.
+#[test]
+fn addition(rt: HostRuntime) -> Result<(), Fail> {
+    each_fails(&rt, rt.alloc(), Tried::Addition, (1, true), 13 + 210)?;
+    each_fails(&rt, rt.alloc(), Tried::Addition, (usize::MAX, false), 2 + 1)
+}
+
+/// No input is read.
+#[test]
+fn letters(rt: HostRuntime) -> Result<(), Fail> {
+    each_fails(&rt, rt.alloc(), Tried::Letters, (1, false), 2)?;
+    each_fails(&rt, rt.alloc(), Tried::Letters, (usize::MAX, true), 1)
+}
+
+/// Three bytes are read, and each is shown.
+#[test]
+fn echo(rt: HostRuntime) -> Result<(), Fail> {
+    each_fails(&rt, rt.alloc(), Tried::Echo, (1, false), 3 + 3)?;
+    each_fails(&rt, rt.alloc(), Tried::Echo, (usize::MAX, true), 3 + 3)
+}
+
+/// A run without output calls no stream. Its trace is one page, of which a write takes 16 bytes at most, or all.
+#[test]
+fn exits(rt: HostRuntime) -> Result<(), Fail> {
+    each_fails(&rt, rt.alloc(), Tried::Exits, (usize::MAX, false), 0)?;
+    each_fails(&rt, rt.alloc(), Tried::ExitsTraced, (16, true), 33)?;
+    each_fails(&rt, rt.alloc(), Tried::ExitsTraced, (usize::MAX, false), 1)
+}
+
+/// Each byte of the commands is read by a call of its own, and each answer is written by one, or 16 bytes at a time.
+#[test]
+fn session(rt: HostRuntime) -> Result<(), Fail> {
+    each_fails(&rt, rt.alloc(), Tried::Session, (16, true), 98 + 11)?;
+    each_fails(&rt, rt.alloc(), Tried::Session, (usize::MAX, false), 98 + 9)
+}

@@ -1,0 +1,166 @@
+//! Another program acts before each call of a command line in turn.
+use crate::command::{Came, CommandLine, come, copy};
+use std::alloc::Global;
+use std::io;
+use test_fake::{Act, Disk, Meanwhile};
+
+/// What another program does with a file.
+#[derive(Drop)]
+pub struct Deed {
+    act: Act,
+    path: String,
+    /// The bytes that it puts.
+    bytes: Vec<u8>,
+    /// What the link leads to that it puts.
+    link: String,
+}
+
+/// What a word says that another program does.
+fn act_of(word: &str) -> Option<Act> {
+    match word {
+        "put" => Some(Act::Put),
+        "replace" => Some(Act::Replace),
+        "remove" => Some(Act::Remove),
+        "symlink" => Some(Act::Symlink),
+        "lock" => Some(Act::Lock),
+        "unlock" => Some(Act::Unlock),
+        "move" => Some(Act::Move),
+        _ => None,
+    }
+}
+
+fn bytes_of(alloc: Global, bytes: &[u8]) -> io::Result<Vec<u8>> {
+    let mut copy = Vec::new(alloc);
+    copy.extend_from_slice(bytes)?;
+    Ok(copy)
+}
+
+/// What a line says that another program does: a word, a path, and the path of the file whose bytes it puts, or to
+/// which its link leads.
+pub fn deed_of(alloc: Global, disk: &Disk, word: &str, rest: &str) -> io::Result<Option<Deed>> {
+    let (path, from) = rest.split_once(' ').unwrap_or((rest, ""));
+    let Some(act) = act_of(word) else {
+        return Ok(None);
+    };
+    Ok(Some(Deed {
+        act,
+        path: String::from_str(alloc, path)?,
+        bytes: bytes_of(alloc, disk.bytes(from).unwrap_or(b""))?,
+        link: String::from_str(alloc, from)?,
+    }))
+}
+
+/// Another path at which the bytes of one stood before; `none` where it names no file, `other` for other bytes.
+fn name_of<'a>(old: &'a Disk, now: &Disk, path: &str) -> &'a str {
+    let Some(bytes) = now.bytes(path) else {
+        return "none";
+    };
+    for name in old.names.iter() {
+        let name = name.path.as_str();
+        if name != path && old.bytes(name) == Some(bytes) {
+            return name;
+        }
+    }
+    "other"
+}
+
+/// Adds what stands under a path: what a link leads to, or where the bytes of a file stood before; `*` where another
+/// program made it; owner, group and mode where they are not 0, 0 and 644.
+fn tell_path(
+    alloc: Global,
+    text: &mut String,
+    old: &Disk,
+    now: &Disk,
+    path: &str,
+) -> io::Result<()> {
+    let number = now.find(path).unwrap_or(usize::MAX);
+    let (Some(inode), Some(node)) = (now.inodes.get(number), now.node_of(number)) else {
+        text.push_str("=none")?;
+        return Ok(());
+    };
+    match &inode.link {
+        Some(link) => {
+            text.push_str("->")?;
+            text.push_str(link.as_str())?;
+        }
+        None => {
+            text.push('=')?;
+            text.push_str(name_of(old, now, path))?;
+        }
+    }
+    if inode.is_foreign {
+        text.push('*')?;
+    }
+    if (node.owner, node.group, node.mode) != (0, 0, 0o644) {
+        let more = format!(in alloc; "({}:{} {:o})", node.owner, node.group, node.mode)?;
+        text.push_str(more.as_str())?;
+    }
+    Ok(())
+}
+
+/// Tells what a command line came to: its status, what stands at these paths, and the first line of its output.
+fn tell(alloc: Global, old: &Disk, came: &Came, paths: &str) -> io::Result<String> {
+    let mut text = format!(in alloc; "{}", came.status)?;
+    for path in paths.split(',') {
+        text.push(' ')?;
+        text.push_str(path)?;
+        tell_path(alloc, &mut text, old, &came.disk, path)?;
+    }
+    let out = std::str::from_utf8(came.disk.out.as_slice()).unwrap_or("");
+    if let Some(line) = out.lines().next() {
+        text.push_str(" > ")?;
+        text.push_str(line)?;
+    }
+    Ok(text)
+}
+
+/// Does a command line, while another program acts before the call of a number.
+fn come_beside(
+    alloc: Global,
+    old: &Disk,
+    command: CommandLine<'_>,
+    deed: &Deed,
+    before: usize,
+) -> io::Result<Came> {
+    let mut disk = copy(alloc, old)?;
+    disk.meanwhile = Some(Meanwhile {
+        before,
+        act: deed.act,
+        path: String::from_str(alloc, deed.path.as_str())?,
+        bytes: bytes_of(alloc, deed.bytes.as_slice())?,
+        link: String::from_str(alloc, deed.link.as_str())?,
+    });
+    Ok(come(alloc, disk, command, None))
+}
+
+fn end_line(text: &mut String, end: &str) -> io::Result<()> {
+    text.push_str(" ")?;
+    text.push_str(end)?;
+    text.push_str("\n")?;
+    Ok(())
+}
+
+/// Does a command line as often as it makes calls, while another program acts before each of them in turn. A line for
+/// neighbouring calls that came to the same: their letters, and what it came to.
+pub fn meanwhile(
+    alloc: Global,
+    old: &Disk,
+    command: CommandLine<'_>,
+    deed: &Deed,
+    paths: &str,
+) -> io::Result<String> {
+    let good = come(alloc, copy(alloc, old)?, command, None);
+    let mut text = String::new(alloc);
+    let mut last = String::new(alloc);
+    for (number, letter) in good.disk.log.chars().enumerate() {
+        let came = come_beside(alloc, old, command, deed, number)?;
+        let now = tell(alloc, old, &came, paths)?;
+        if number > 0 && now.as_str() != last.as_str() {
+            end_line(&mut text, last.as_str())?;
+        }
+        last = now;
+        text.push(letter)?;
+    }
+    end_line(&mut text, last.as_str())?;
+    Ok(text)
+}

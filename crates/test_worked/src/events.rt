@@ -1,0 +1,110 @@
+//! What is done with a machine.
+use crate::scene::{asked, mount_blank, with_refusal};
+use crate::spelled::words;
+use pm_machine::{Machine, Stop};
+use std::alloc::{AllocError, Global};
+use std::io;
+use test_replay::{byte, hex_bytes, steps, unreadable, word};
+
+/// The most steps of a run that does not say how many go.
+const STEPS: u64 = 1_000_000;
+
+/// What a step comes to.
+pub fn outcome(alloc: Global, stop: Stop) -> Result<String, AllocError> {
+    match stop {
+        Stop::Went => String::from_str(alloc, "went"),
+        Stop::Waiting => String::from_str(alloc, "waiting"),
+        Stop::Ended => String::from_str(alloc, "ended"),
+        Stop::Halted(error) => {
+            let number = error.number();
+            format!(in alloc; "error {number}")
+        }
+    }
+}
+
+/// One step. Where it waits or fails all is as it was.
+fn step(alloc: Global, machine: &mut Machine) -> io::Result<String> {
+    let (registers, steps) = (machine.registers(), machine.steps());
+    let (console, printer) = (machine.console().len(), machine.printer().len());
+    let memory = machine.memory().bytes().to_vec(alloc)?;
+    let stop = machine.step()?;
+    let stays = machine.registers() == registers
+        && machine.steps() == steps
+        && machine.console().len() == console
+        && machine.printer().len() == printer
+        && machine.memory().bytes() == memory.as_slice();
+    let mut text = outcome(alloc, stop)?;
+    if !stays && matches!(stop, Stop::Waiting | Stop::Halted(_)) {
+        text.push_str(" and changes something")?;
+    }
+    Ok(format!(in alloc; "step {text}")?)
+}
+
+/// A run: `COUNT OUTCOME`. It has that limit where all steps went.
+fn run(alloc: Global, machine: &mut Machine, rest: &str) -> io::Result<String> {
+    let (count, wanted) = rest.split_once(' ').ok_or_else(unreadable)?;
+    let limit = match wanted {
+        "went" => u64::from(steps(count)?),
+        _ => STEPS,
+    };
+    let (made, stop) = machine.run(limit)?;
+    let text = outcome(alloc, stop)?;
+    Ok(format!(in alloc; "run {made} {text}")?)
+}
+
+/// Writes words from an address on: `A W ..`; whether all are written.
+fn poke(alloc: Global, machine: &mut Machine, rest: &str) -> io::Result<bool> {
+    let (address, text) = rest.split_once(' ').ok_or_else(unreadable)?;
+    let mut address = word(address)?;
+    let mut all = true;
+    for word in words(alloc, text)?.iter() {
+        all = machine.poke(address, *word) && all;
+        address = address.wrapping_add(2);
+    }
+    Ok(all)
+}
+
+/// Mounts a blank disk: `UNIT BLOCKS`.
+fn disk(alloc: Global, machine: &mut Machine, line: &str, rest: &str) -> io::Result<String> {
+    let (unit, blocks) = asked(rest).split_once(' ').ok_or_else(unreadable)?;
+    let refusal = mount_blank(alloc, machine, byte(unit)?, word(blocks)?)?;
+    with_refusal(alloc, asked(line), refusal)
+}
+
+/// Takes a disk away: `UNIT BLOCKS`, or `UNIT none`.
+fn eject(alloc: Global, machine: &mut Machine, rest: &str) -> io::Result<String> {
+    let (unit, _) = rest.split_once(' ').ok_or_else(unreadable)?;
+    match machine.eject(byte(unit)?) {
+        Some(disk) => {
+            let blocks = disk.blocks();
+            Ok(format!(in alloc; "eject {unit} {blocks}")?)
+        }
+        None => Ok(format!(in alloc; "eject {unit} none")?),
+    }
+}
+
+/// Does what a line says, if it is no view: what it comes to.
+pub fn on_machine(alloc: Global, machine: &mut Machine, line: &str) -> io::Result<Option<String>> {
+    let (word, rest) = line.split_once(' ').unwrap_or((line, ""));
+    let answer = match word {
+        "step" => step(alloc, machine)?,
+        "run" => run(alloc, machine, rest)?,
+        "disk" => disk(alloc, machine, line, rest)?,
+        "eject" => eject(alloc, machine, rest)?,
+        "key" => {
+            for byte in hex_bytes(alloc, rest)?.iter() {
+                machine.key(*byte)?;
+            }
+            String::from_str(alloc, line)?
+        }
+        "poke" => {
+            let mut answer = String::from_str(alloc, asked(line))?;
+            if !poke(alloc, machine, asked(rest))? {
+                answer.push_str(" refused")?;
+            }
+            answer
+        }
+        _ => return Ok(None),
+    };
+    Ok(Some(answer))
+}

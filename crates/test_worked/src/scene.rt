@@ -1,0 +1,165 @@
+//! Scenes: a machine on bare code or on a volume, and lines that are done one after the other. Each line says itself
+//! again where it agrees.
+use crate::code_file::volume;
+use crate::events::on_machine;
+use crate::views::view;
+use pm_machine::{BootFault, Machine};
+use pm_volume::{Volume, kinds};
+use std::alloc::Global;
+use std::io;
+use test_replay::{Segment, byte, hex_bytes, number, unreadable};
+
+/// A scene.
+#[derive(Drop)]
+pub struct Scene {
+    /// It has begun.
+    pub goes: bool,
+    /// One of its lines did not agree.
+    pub fails: bool,
+    machine: Option<Machine>,
+    /// The bare code of the last scene that has some.
+    code: Vec<u8>,
+    segments: Vec<Segment>,
+    kind: u8,
+    clock: u32,
+}
+
+/// Puts a blank volume on a unit; none where it went there, else the fault's number.
+pub fn mount_blank(
+    alloc: Global,
+    machine: &mut Machine,
+    unit: u8,
+    blocks: u16,
+) -> io::Result<Option<u8>> {
+    let volume = Volume::blank(alloc, "V", blocks).map_err(|_| unreadable())?;
+    Ok(mount(machine, unit, volume))
+}
+
+/// Puts a volume on a unit; none where it went there, else the fault's number.
+pub fn mount(machine: &mut Machine, unit: u8, volume: Volume) -> Option<u8> {
+    match machine.mount(unit, volume) {
+        Ok(()) => None,
+        Err((fault, _)) => Some(fault.number()),
+    }
+}
+
+/// A line, and behind it the number of its refusal, if there is one.
+pub fn with_refusal(alloc: Global, line: &str, refusal: Option<u8>) -> io::Result<String> {
+    let mut text = String::from_str(alloc, line)?;
+    if let Some(number) = refusal {
+        let more = format!(in alloc; " refused {number}")?;
+        text.push_str(more.as_str())?;
+    }
+    Ok(text)
+}
+
+/// A line without what stands behind `refused`.
+pub fn asked(line: &str) -> &str {
+    let (asked, _) = line.split_once(" refused").unwrap_or((line, ""));
+    asked
+}
+
+impl Scene {
+    /// No scene yet.
+    pub fn new(alloc: Global) -> Scene {
+        Scene {
+            goes: false,
+            fails: false,
+            machine: None,
+            code: Vec::new(alloc),
+            segments: Vec::new(alloc),
+            kind: kinds::CODE,
+            clock: 0,
+        }
+    }
+
+    /// Ends the scene; its code is kept for `again`.
+    pub fn end(&mut self) {
+        self.goes = false;
+        self.fails = false;
+        self.machine = None;
+        self.segments.clear();
+        self.kind = kinds::CODE;
+        self.clock = 0;
+    }
+
+    /// Begins on the bare code.
+    fn begin(&mut self, alloc: Global) -> io::Result<()> {
+        let machine = Machine::raw(alloc, &self.code).map_err(|_| unreadable())?;
+        self.machine = Some(machine);
+        Ok(())
+    }
+
+    /// Gives a slot its code: `N HEX`.
+    fn add_segment(&mut self, alloc: Global, rest: &str) -> io::Result<()> {
+        let (slot, digits) = rest.split_once(' ').ok_or_else(unreadable)?;
+        let slot = number(slot)?;
+        let bytes = hex_bytes(alloc, digits)?;
+        for segment in self.segments.iter_mut() {
+            if segment.slot == slot {
+                segment.bytes = bytes;
+                return Ok(());
+            }
+        }
+        self.segments.push(Segment { slot, bytes })?;
+        Ok(())
+    }
+
+    /// Boots from the volume on unit 4: `UNIT NAME`; the fault's number and that of an execution error where it is
+    /// refused.
+    fn boot(&mut self, alloc: Global, rest: &str) -> io::Result<Option<BootFault>> {
+        let (unit, name) = asked(rest).split_once(' ').ok_or_else(unreadable)?;
+        let volume = volume(alloc, &self.segments, self.kind)?;
+        let volumes = [Some(volume), None, None, None, None, None];
+        match Machine::boot(alloc, volumes, byte(unit)?, name, self.clock) {
+            Ok(machine) => {
+                self.machine = Some(machine);
+                Ok(None)
+            }
+            Err((fault, _)) => Ok(Some(fault)),
+        }
+    }
+
+    /// Does a line, and says it as it comes out.
+    fn answer(&mut self, alloc: Global, line: &str) -> io::Result<String> {
+        let (word, rest) = line.split_once(' ').unwrap_or((line, ""));
+        match word {
+            "code" => {
+                self.code = hex_bytes(alloc, rest)?;
+                self.begin(alloc)?;
+            }
+            "again" => self.begin(alloc)?,
+            "segment" => self.add_segment(alloc, rest)?,
+            "kind" => self.kind = byte(rest)?,
+            "clock" => self.clock = rest.parse().map_err(|_| unreadable())?,
+            "boot" => {
+                let refusal = self.boot(alloc, rest)?.map(|fault| fault.number());
+                return with_refusal(alloc, asked(line), refusal);
+            }
+            "mount" => {
+                let volume = volume(alloc, &self.segments, self.kind)?;
+                let machine = self.machine.as_mut().ok_or_else(unreadable)?;
+                let refusal = mount(machine, byte(asked(rest))?, volume);
+                return with_refusal(alloc, asked(line), refusal);
+            }
+            _ => {
+                let machine = self.machine.as_mut().ok_or_else(unreadable)?;
+                return match on_machine(alloc, machine, line)? {
+                    Some(answer) => Ok(answer),
+                    None => view(alloc, machine, word, rest),
+                };
+            }
+        }
+        Ok(String::from_str(alloc, line)?)
+    }
+
+    /// What came where a line does not agree.
+    pub fn differing(&mut self, alloc: Global, line: &str) -> io::Result<Option<String>> {
+        let answer = self.answer(alloc, line)?;
+        if answer.as_str() == line {
+            Ok(None)
+        } else {
+            Ok(Some(answer))
+        }
+    }
+}

@@ -1,0 +1,27 @@
+//! How a row spells words.
+use std::alloc::Global;
+use std::io;
+use test_replay::{number, unreadable, word};
+
+/// Words with blanks between them; `N*W` is a word N times.
+pub fn words(alloc: Global, text: &str) -> io::Result<Vec<u16>> {
+    let mut words = Vec::new(alloc);
+    for piece in text.split(' ') {
+        let (count, last) = piece.split_once('*').unwrap_or(("1", piece));
+        if !last.is_empty() {
+            add_times(&mut words, number(count)?, word(last)?)?;
+        }
+    }
+    Ok(words)
+}
+
+/// Adds a word so many times, which are no more than memory has words.
+fn add_times(words: &mut Vec<u16>, count: usize, word: u16) -> io::Result<()> {
+    if count > 32768 {
+        return Err(unreadable());
+    }
+    for _ in 0..count {
+        words.push(word)?;
+    }
+    Ok(())
+}

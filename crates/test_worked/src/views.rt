@@ -1,0 +1,123 @@
+//! What a machine shows.
+use pm_machine::Machine;
+use std::alloc::{AllocError, Global};
+use std::io;
+use test_replay::{byte, hex_text, number, unreadable, word};
+
+/// Numbers with blanks between them.
+fn numbers(alloc: Global, numbers: &[u16]) -> Result<String, AllocError> {
+    let mut text = String::new(alloc);
+    for number in numbers {
+        if !text.is_empty() {
+            text.push(' ')?;
+        }
+        let more = format!(in alloc; "{number}")?;
+        text.push_str(more.as_str())?;
+    }
+    Ok(text)
+}
+
+/// How many words a text has.
+fn count(text: &str) -> usize {
+    if text.is_empty() {
+        return 0;
+    }
+    text.split(' ').count()
+}
+
+/// The first registers of IPC, SP, MP, BASE, NP and IORESULT, so many as are asked for.
+fn registers(alloc: Global, machine: &Machine, rest: &str) -> io::Result<String> {
+    let r = machine.registers();
+    let all = [r.ipc, r.sp, r.mp, r.base, r.np, r.ioresult];
+    let some = all.get(..count(rest)).ok_or_else(unreadable)?;
+    Ok(numbers(alloc, some)?)
+}
+
+/// So many words from an address on.
+fn words(
+    alloc: Global,
+    machine: &Machine,
+    address: u16,
+    count: usize,
+) -> Result<Vec<u16>, AllocError> {
+    let mut words = Vec::new(alloc);
+    let mut place = address;
+    for _ in 0..count {
+        if let Some(word) = machine.memory().word(place) {
+            words.push(word)?;
+        }
+        place = place.wrapping_add(2);
+    }
+    Ok(words)
+}
+
+/// The words from an address on, as many as are asked for: `A W ..`.
+fn words_at(alloc: Global, machine: &Machine, rest: &str) -> io::Result<String> {
+    let (address, asked) = rest.split_once(' ').ok_or_else(unreadable)?;
+    let there = words(alloc, machine, word(address)?, count(asked))?;
+    let text = numbers(alloc, &there)?;
+    Ok(format!(in alloc; "{address} {text}")?)
+}
+
+/// The bytes from an address on, as many as are asked for: `A HEX`.
+fn bytes_at(alloc: Global, machine: &Machine, rest: &str) -> io::Result<String> {
+    let (address, asked) = rest.split_once(' ').ok_or_else(unreadable)?;
+    let begin = number(address)?;
+    let end = begin.saturating_add(count(asked));
+    let there = machine
+        .memory()
+        .bytes()
+        .get(begin..end)
+        .ok_or_else(unreadable)?;
+    let text = hex_text(alloc, there)?;
+    Ok(format!(in alloc; "{address} {text}")?)
+}
+
+/// Where the segment of a slot stands, for how many calls, and how many times it is kept: `N A CALLS KEEPS`, or
+/// `N none`.
+fn place(alloc: Global, machine: &Machine, rest: &str) -> io::Result<String> {
+    let (slot, _) = rest.split_once(' ').ok_or_else(unreadable)?;
+    let n = byte(slot)?;
+    match (machine.place(n), machine.keeps(n)) {
+        (Some((address, calls)), Some(keeps)) => {
+            Ok(format!(in alloc; "{slot} {address} {calls} {keeps}")?)
+        }
+        (None, Some(0)) => Ok(format!(in alloc; "{slot} none")?),
+        (None, None) => Ok(format!(in alloc; "{slot} no slot")?),
+        _ => Ok(format!(in alloc; "{slot} none and yet kept")?),
+    }
+}
+
+/// What a view shows, behind its word.
+fn shown(alloc: Global, machine: &Machine, word: &str, rest: &str) -> io::Result<String> {
+    let r = machine.registers();
+    match word {
+        "regs" => registers(alloc, machine, rest),
+        "sp" => Ok(numbers(alloc, &[r.sp])?),
+        "mp" => Ok(numbers(alloc, &[r.mp])?),
+        "np" => Ok(numbers(alloc, &[r.np])?),
+        "io" => Ok(numbers(alloc, &[r.ioresult])?),
+        "stack" => Ok(numbers(alloc, &words(alloc, machine, r.sp, count(rest))?)?),
+        "word" => words_at(alloc, machine, rest),
+        "bytes" => bytes_at(alloc, machine, rest),
+        "console" => Ok(hex_text(alloc, machine.console())?),
+        "printer" => Ok(hex_text(alloc, machine.printer())?),
+        "made" => {
+            let steps = machine.steps();
+            Ok(format!(in alloc; "{steps}")?)
+        }
+        "place" => place(alloc, machine, rest),
+        _ => Err(unreadable()),
+    }
+}
+
+/// A view as it shows the machine.
+pub fn view(alloc: Global, machine: &Machine, word: &str, rest: &str) -> io::Result<String> {
+    let text = shown(alloc, machine, word, rest)?;
+    let mut line = String::from_str(alloc, word)?;
+    if !text.is_empty() {
+        line.push(' ')?;
+        line.push_str(text.as_str())?;
+    }
+    Ok(line)
+}

@@ -1,3 +1,12 @@
 pub mod RefusalLaws
 pub mod VolumeLaws
 pub mod SlotLaws
+pub mod RuleLaws
+pub mod ChangeLaws
+pub mod FoundFiles
+pub mod FreeLaws
+pub mod GivenLaws
+pub mod LowestLaws
+pub mod SameNames
+pub mod TextLaws
+pub mod SystemSlots

@@ -28,7 +28,7 @@ use Rattle.pm_volume.proofs.SecondLaws.{Changed-zeroed}
 use Rattle.pm_volume.proofs.WrittenLaws.{length-written, word_in-below, word_in-written}
 use Rattle.pm_filer.specs.Filed.{filed}
 use Rattle.pm_filer.specs.Laws.{AreFree, IsVolumeOfBytes}
-use Rattle.pm_filer.proofs.GivenLaws.{changed-ok, word_fits}
+use Rattle.law_disks.proofs.GivenLaws.{changed-ok, word_fits}
 use Rattle.law_disks.specs.Volumes.{IsEmptied, LargestIsAGap, ZeroKeepsTheVolume}
 
 -- ---- a new directory

@@ -1,3 +1,5 @@
 pub mod Refusals
 pub mod Volumes
 pub mod Slots
+pub mod CheckLaws
+pub mod Laws

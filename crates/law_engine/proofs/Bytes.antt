@@ -14,7 +14,7 @@ use Rattle.pm_volume.specs.Words.{word_in}
 use Rattle.pm_volume.proofs.KeptLaws.{files_within}
 use Rattle.pm_volume.proofs.OrderLaws.{IsWithin}
 use Rattle.pm_codefile.specs.Dictionary.{segment_in}
-use Rattle.pm_machine.proofs.LoadLaws.{IsFound, found_all}
+use Rattle.law_engine.proofs.LoadedSegments.{IsFound, found_all}
 use Rattle.law_engine.specs.Loads.{IsImage}
 
 abbrev pub AreBytes : List ℕ → Type 0

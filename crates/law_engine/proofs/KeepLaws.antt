@@ -21,7 +21,7 @@ use Rattle.pm_calls.specs.Places.{Parts}
 use Rattle.pm_calls.specs.Calls.{code_fits}
 use Rattle.pm_calls.specs.Keeps.{keep_loading, keep_slot, keep_standing, segment_kept}
 use Rattle.pm_calls.specs.Returns.{one_call_less, lessened, released, returned, stands_at}
-use Rattle.pm_calls.proofs.PlaceLaws.{return_places}
+use Rattle.law_engine.proofs.PlaceLaws.{return_places}
 use Rattle.pm_units.specs.Traps.{or_fails}
 use Rattle.pm_stdproc.specs.Loads.{slot_code}
 use Rattle.pm_stdproc.specs.Procedures.{Reach, keep_row, procedure_numbered, procedure_row}

@@ -13,7 +13,7 @@ use Rattle.pm_words.proofs.Laws.{IsMemory-with_bytes, byte_at-with_bytes}
 use Rattle.pm_words.proofs.Pairs.{length-bytes_of}
 use Rattle.pm_families.specs.declared.families.Call.TheVariants.{Cxp}
 use Rattle.pm_opcode.specs.declared.operation.Operation.TheVariants as operation
-use Rattle.pm_rows.proofs.StoredWords.{popped}
+use Rattle.law_engine.proofs.StoredWords.{popped}
 use Rattle.pm_calls.specs.declared.frames.SegmentPlace.{SegmentPlace}
 use Rattle.pm_calls.specs.Places.{Parts, place_in, placed}
 use Rattle.pm_calls.specs.Calls.{called}
@@ -32,7 +32,7 @@ use Rattle.pm_machine.specs.Procedures.{call_row, parts, reach, standard_row, wi
 use Rattle.pm_machine.specs.Rows.{past_instruction}
 use Rattle.pm_machine.specs.State.{State}
 use Rattle.pm_machine.specs.Steps.{settled, stepped}
-use Rattle.pm_machine.proofs.LoadLaws.{found, loads_give_segments}
+use Rattle.law_engine.proofs.LoadedSegments.{found, loads_give_segments}
 use Rattle.law_engine.specs.Loads.{IsAtKeep, StandsBelow, StepsKeepSegments, StepsLoadWhatIsThere}
 use Rattle.law_engine.proofs.Bytes.{end_fits, file_fits, segment_fits}
 use Rattle.law_engine.proofs.LoadLaws.{after_same, booted_rows, executes, needed_same, stepped_runs, went}

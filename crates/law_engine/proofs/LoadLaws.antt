@@ -33,7 +33,7 @@ use Rattle.pm_machine.specs.Procedures.{call_row, parts, with_parts}
 use Rattle.pm_machine.specs.Rows.{fetched, past_instruction, performed, row}
 use Rattle.pm_machine.specs.Start.{with_system_frame}
 use Rattle.pm_machine.specs.Steps.{at_status, executed, settled, stepped}
-use Rattle.pm_machine.proofs.LoadLaws.{found, loads_give_segments}
+use Rattle.law_engine.proofs.LoadedSegments.{found, loads_give_segments}
 use Rattle.law_engine.specs.Loads.{BootsLoadSegment, StandsBelow, StepsLoadSegments}
 use Rattle.law_engine.proofs.Bytes.{end_fits, file_fits, segment_fits}
 use Rattle.law_engine.proofs.ShapeLaws.{booted, bound, events_keep_shape, ok_same, parts_there}

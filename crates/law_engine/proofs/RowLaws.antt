@@ -23,7 +23,7 @@ use Rattle.pm_calls.proofs.FrameLaws.{below-link, with_control-link}
 use Rattle.pm_calls.proofs.ReturnLaws.{IsFramed, bound, frame_made, loading_memory, low_before, ok_same, passed, standing_memory}
 use Rattle.pm_units.specs.Devices.{unit_of}
 use Rattle.pm_rows.specs.Pointers.{move_row}
-use Rattle.pm_rows.proofs.StoredWords.{popped}
+use Rattle.law_engine.proofs.StoredWords.{popped}
 use Rattle.law_engine.specs.Rows.{CallsAreLinked, ClearingForgetsKeys, IsLinked, IsMoved, LinksAsProgram, LinksOutward, LinksTo, MovesReadFirst}
 
 -- ---- the static link of a call

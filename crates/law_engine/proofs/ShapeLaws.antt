@@ -61,8 +61,8 @@ use Rattle.pm_machine.specs.Steps.{at_status, executed, settled, stepped}
 use Rattle.pm_rows.specs.Values.{value_row}
 use Rattle.pm_rows.specs.Variables.{variable_row}
 use Rattle.law_engine.specs.Shapes.{EventsKeepShape, HasShape, MachinesHaveShape}
-use Rattle.pm_machine.proofs.LoadLaws.{length-rows}
-use Rattle.pm_machine.proofs.StepLaws as disks
+use Rattle.law_engine.proofs.LoadedSegments.{length-rows}
+use Rattle.law_engine.proofs.StepLaws as disks
 
 -- ---- what a part of a row gives has the old value of a measure
 

@@ -6,3 +6,12 @@ pub mod Keeping
 pub mod Rows
 pub mod Outputs
 pub mod MemoryLaws
+pub mod ExitLaws
+pub mod EventLaws
+pub mod WorkedReadings
+pub mod PointerLaws
+pub mod StackLaws
+pub mod Laws
+pub mod UnitsLaws
+pub mod PackedLaws
+pub mod WordsLaws

@@ -1,13 +1,25 @@
-//! Laws of the machine as a whole: what no event changes, what each machine holds, where loaded and kept code stands,
-//! what a call and its return leave of the memory, that outputs only grow, words as signed numbers, and single rows in
-//! words of their own. The functions do nothing.
+//! Laws of the machine: opcodes and their bytes, words and bytes of the memory, values and sets, rows, calls and
+//! returns, standard procedures, disks, lists of events, runs; what no event changes, what each machine holds, where
+//! loaded and kept code stands, and that outputs only grow. The functions do nothing.
 #![tactic(auto)]
 
+pub mod calls;
+pub mod events;
+pub mod exits;
 pub mod keeping;
 pub mod loads;
 pub mod memory;
 pub mod numbers;
+pub mod opcode;
 pub mod outputs;
+pub mod packed;
+pub mod pointers;
 pub mod rows;
 pub mod shapes;
+pub mod stack;
+pub mod stdproc;
+pub mod steps;
+pub mod units;
+pub mod values;
+pub mod words;
 pub mod writes;

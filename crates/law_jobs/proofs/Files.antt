@@ -6,7 +6,7 @@ use Rattle.pm_codefile.specs.Dictionary.{file_fault, segment_in}
 use Rattle.pm_code.specs.Program.{segment_numbered}
 use Rattle.pm_code.specs.Program.{segment_bytes}
 use Rattle.pm_asm.proofs.Fitting.{short_fits}
-use Rattle.pm_code.proofs.Held.{file_holds_program, file_is_accepted}
+use Rattle.law_text.proofs.Held.{file_holds_program, file_is_accepted}
 use Rattle.pm_source.proofs.Programs.{spelled_is_program}
 use Rattle.pm_asm.specs.Assembled.{Assembles, assembled}
 use Rattle.pm_asm.proofs.Outcomes.{assembled_is_spelled}

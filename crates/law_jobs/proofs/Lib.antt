@@ -7,3 +7,8 @@ pub mod ShownAgain
 pub mod RefusalLaws
 pub mod NamedLines
 pub mod Console
+pub mod FaultLaws
+pub mod RunImages
+pub mod MachineRuns
+pub mod ToolRuns
+pub mod LineLaws

@@ -6,7 +6,7 @@ use Rattle.pm_words.specs.Words.{IsMemory, bytes_at}
 use Rattle.pm_codefile.specs.Dictionary.{segment_in}
 use Rattle.pm_code.specs.Program.{segment_numbered}
 use Rattle.pm_code.specs.Program.{Segment, segment_bytes}
-use Rattle.pm_code.proofs.Listed.{listing_is_segment}
+use Rattle.law_text.proofs.Listed.{listing_is_segment}
 use Rattle.pm_machine.specs.State.{State}
 use Rattle.law_engine.specs.Loads.{StandsBelow}
 use Rattle.law_engine.proofs.LoadLaws.{boots_load_segment, steps_load}

@@ -22,15 +22,15 @@ use Rattle.pm_notes.specs.Marks.{is_native, is_unquoted, kind_name, kind_names, 
 use Rattle.pm_notes.specs.Marks.{number_before_blank, number_note, other_number, slot_note, slot_said}
 use Rattle.pm_notes.specs.Names.{behind, is_digit, name_called, number_in}
 use Rattle.pm_notes.specs.Names.{standard_called, standard_name, standard_names, system_called, system_name, system_names}
-use Rattle.pm_notes.proofs.Unquoted.{decimal_unquoted, may_stand}
+use Rattle.law_text.proofs.Unquoted.{decimal_unquoted, may_stand}
 use Rattle.pm_source.specs.Faults.{after_lines, all_label_faults, faults, faults_from, lines_from, lines_of, start}
 use Rattle.pm_source.specs.Line.{is_character, line_of}
 use Rattle.pm_source.specs.Meaning.{ascending, found_segment, program_of}
-use Rattle.pm_source.specs.Same.{is_open}
+use Rattle.law_text.specs.Same.{is_open}
 use Rattle.pm_source.specs.Words.{is_empty}
-use Rattle.pm_source.proofs.Cutting.{and_parts}
-use Rattle.pm_source.proofs.EndBlanks.{end_blank_says_nothing}
-use Rattle.pm_source.proofs.SameLines.{comment_says_nothing}
+use Rattle.law_text.proofs.Cutting.{and_parts}
+use Rattle.law_text.proofs.EndBlanks.{end_blank_says_nothing}
+use Rattle.law_text.proofs.SameLines.{comment_says_nothing}
 use Rattle.pm_source.specs.declared.fault.AsmFault.{AsmFault}
 use Rattle.pm_reader.specs.Firsts.{first_of}
 use Rattle.pm_asm.specs.Assembled.{assembled, outcome_by, outcome_of}

@@ -7,12 +7,12 @@ use Rattle.pm_codefile.specs.Layout.{layout}
 use Rattle.pm_code.specs.Laws.{IsSameSegment}
 use Rattle.pm_code.specs.Program.{segment_numbered}
 use Rattle.pm_code.specs.Program.{Procedure, Segment, AreInstructions, FitSlots}
-use Rattle.pm_disasm.proofs.ShownFile.{program_is_shown}
+use Rattle.law_text.proofs.ShownFile.{program_is_shown}
 use Rattle.pm_code.specs.Image.{bytes_of_segment, file_of, joined_bytes, name_of_segment, slots_of}
 use Rattle.law_jobs.specs.RoundTrip.{ShownFileIsSpelled}
 use Rattle.pm_source.specs.Meaning.{Spells}
-use Rattle.pm_code.proofs.Held.{file_holds_program}
-use Rattle.pm_source.proofs.ShownPrograms.{shown_is_spelled}
+use Rattle.law_text.proofs.Held.{file_holds_program}
+use Rattle.law_text.proofs.ShownPrograms.{shown_is_spelled}
 
 -- what a slot gives to the file: its name and its bytes
 record IsSameSlot (s t : Option Segment) : Type 0 where

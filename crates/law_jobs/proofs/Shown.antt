@@ -13,7 +13,7 @@ use Rattle.pm_machine.specs.declared.state.RunEnd.{RunEnd}
 use Rattle.pm_machine.specs.declared.state.RunEnd.TheVariants as ends
 use Rattle.pm_machine.specs.declared.state.Stop.{Stop}
 use Rattle.pm_machine.specs.declared.state.Stop.TheVariants as stop
-use Rattle.pm_machine.proofs.EventLaws.{events_go_on}
+use Rattle.law_engine.proofs.EventLaws.{events_go_on}
 use Rattle.pm_machine.proofs.UntilLaws.{after_more, after_none, runs_end_so}
 use Rattle.pm_machine.specs.declared.code_place.CodePlace.{CodePlace}
 use Rattle.pm_debug.specs.declared.reason.BreakReason.TheVariants as reasons

@@ -3,3 +3,5 @@ pub mod Loaded
 pub mod RoundTrip
 pub mod Refusals
 pub mod Console
+pub mod ToolLaws
+pub mod Laws

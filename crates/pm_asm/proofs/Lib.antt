@@ -6,6 +6,4 @@ pub mod Tables
 pub mod FoundLengths
 pub mod Outcomes
 pub mod Stages
-pub mod ListedFile
-pub mod Eachs
 pub mod SymbolPlaces

@@ -5,7 +5,6 @@ mod assembly;
 mod code;
 mod faults;
 mod labels;
-pub mod laws;
 mod lengths;
 mod order;
 mod program;

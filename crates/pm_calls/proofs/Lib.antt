@@ -6,8 +6,4 @@ pub mod CallLaws
 pub mod WalkLaws
 pub mod ReturnLaws
 pub mod LoadLaws
-pub mod PlaceLaws
 pub mod LowLaws
-pub mod KeepLaws
-pub mod ExitLaws
-pub mod ExitReturns

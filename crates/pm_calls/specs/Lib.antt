@@ -7,4 +7,3 @@ pub mod Returns
 pub mod Keeps
 pub mod Exits
 pub mod Laws
-pub mod ExitLaws

@@ -4,12 +4,10 @@
 mod base_list;
 mod bases;
 mod calls;
-pub mod exit_laws;
 mod exits;
 mod frame;
 mod frames;
 mod keeps;
-pub mod laws;
 mod links;
 mod registers;
 mod returns;

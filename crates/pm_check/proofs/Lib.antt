@@ -1,5 +1,4 @@
 pub mod Steps
-pub mod RuleLaws
 pub mod Names
 pub mod SavingSteps
 pub mod Saves

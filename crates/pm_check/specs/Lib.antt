@@ -4,7 +4,6 @@ pub mod Rules
 pub mod Forms
 pub mod Notes
 pub mod Checked
-pub mod Laws
 pub mod Believing
 pub mod Naming
 pub mod Report

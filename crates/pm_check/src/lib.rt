@@ -6,7 +6,6 @@ mod believing;
 mod checked;
 mod finding;
 mod forms;
-pub mod laws;
 mod naming;
 mod note;
 mod notes;

@@ -13,8 +13,8 @@ ghost use Rattle.pm_check.specs.Saving.{IsSaved, bytes_of, image_blocks, room_fo
 ghost use Rattle.pm_check.specs.Saving.{saved_from, saved_one};
 
 use crate::believing::{Left, Taken, left_out, sharing, taken_files};
-use crate::notes::header_name;
 use crate::naming::{free_name, volume_name};
+use crate::notes::header_name;
 use crate::report::{Doubt, counted, doubt_of, push_all_left, push_last, push_taken};
 use pm_bytes::{BLOCK, word};
 use pm_volume::fields::{

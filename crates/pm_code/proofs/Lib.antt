@@ -10,6 +10,4 @@ pub mod Pushed
 pub mod Slotted
 pub mod ListedMore
 pub mod Counted
-pub mod Listed
-pub mod Held
 pub mod Computed

@@ -6,7 +6,6 @@ mod entries;
 mod image;
 mod instruction;
 mod item;
-pub mod laws;
 mod lengths;
 mod listing;
 mod names;

@@ -5,7 +5,6 @@ mod ahead;
 mod breaks;
 mod debugger;
 mod frames;
-pub mod laws;
 mod reason;
 mod refusal;
 mod run;

@@ -6,7 +6,6 @@ mod cuts;
 mod decoded;
 mod found;
 mod front;
-pub mod laws;
 mod lines;
 mod listed;
 mod named;

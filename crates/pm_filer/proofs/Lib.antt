@@ -1,11 +1,4 @@
 pub mod Widths
 pub mod Columns
 pub mod Made
-pub mod SameNames
 pub mod SlotLaws
-pub mod FoundFiles
-pub mod GivenLaws
-pub mod TextLaws
-pub mod ChangeLaws
-pub mod FreeLaws
-pub mod LowestLaws

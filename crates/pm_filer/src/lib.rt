@@ -3,7 +3,6 @@
 
 mod command;
 mod fault;
-pub mod laws;
 mod listing;
 
 pub use command::{FileCommand, Reply, apply};

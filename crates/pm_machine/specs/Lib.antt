@@ -8,7 +8,6 @@ pub mod Events
 pub mod Start
 pub mod Boot
 pub mod Runs
-pub mod Laws
 pub mod RunLaws
 pub mod Quick
 pub mod CodePlaces

@@ -4,13 +4,11 @@
 mod agreeing;
 mod boot;
 mod code_place;
-pub mod laws;
 mod machine;
 mod procedures;
 mod quick;
 mod runs;
 mod state;
-pub mod step_laws;
 mod stop_test;
 mod views;
 

@@ -1,4 +1,3 @@
 pub mod Names
 pub mod Marks
 pub mod Lines
-pub mod Laws

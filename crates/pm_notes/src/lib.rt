@@ -2,7 +2,6 @@
 //! number, and what is no p-code of this machine.
 #![tactic(auto)]
 
-pub mod laws;
 mod lines;
 mod marks;
 mod names;

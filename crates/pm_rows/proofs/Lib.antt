@@ -1,4 +1,2 @@
 pub mod WordLists
-pub mod StoredWords
-pub mod StackRows
 pub mod Computed

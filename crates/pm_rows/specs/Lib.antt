@@ -5,6 +5,4 @@ pub mod Pointers
 pub mod Values
 pub mod Literals
 pub mod Jumps
-pub mod PointerLaws
-pub mod StackLaws
 pub mod Worked

@@ -6,10 +6,8 @@
 pub mod arithmetic;
 pub mod jumps;
 pub mod literals;
-pub mod pointer_laws;
 pub mod pointers;
 pub mod sound;
-pub mod stack_laws;
 pub mod values;
 pub mod variables;
 pub mod worked;

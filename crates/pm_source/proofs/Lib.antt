@@ -1,4 +1,3 @@
-pub mod Denoting
 pub mod Labels
 pub mod Unlabelled
 pub mod Fit
@@ -17,22 +16,4 @@ pub mod Instructions
 pub mod Sizes
 pub mod Placed
 pub mod Programs
-pub mod Cutting
-pub mod Operanded
-pub mod Numbers
-pub mod Quoting
-pub mod Mnemonics
-pub mod ShownInstructions
-pub mod SpokenLines
-pub mod ShownRows
-pub mod ShownExits
-pub mod ShownLengths
-pub mod ShownProcedures
-pub mod ShownPrograms
 pub mod Computed
-pub mod SameLines
-pub mod EndBlanks
-pub mod OneOperand
-pub mod Between
-pub mod Ascending
-pub mod AscendingLabels

@@ -7,4 +7,3 @@ pub mod Meaning
 pub mod Denoted
 pub mod Laws
 pub mod Worked
-pub mod Same

@@ -2,9 +2,7 @@
 #![tactic(auto)]
 
 mod fault;
-pub mod laws;
 mod number;
-pub mod shown;
 pub mod worked;
 
 pub use fault::AsmFault;

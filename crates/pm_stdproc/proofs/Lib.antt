@@ -1,3 +1,1 @@
-pub mod MoveLaws
-pub mod ScanLaws
 pub mod Computed

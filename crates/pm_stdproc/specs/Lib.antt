@@ -2,5 +2,4 @@ pub mod Loads
 pub mod MemoryRows
 pub mod UnitRows
 pub mod Procedures
-pub mod Laws
 pub mod Worked

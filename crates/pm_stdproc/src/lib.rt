@@ -1,7 +1,6 @@
 //! The standard procedures of the p-machine.
 #![tactic(auto)]
 
-pub mod laws;
 mod loads;
 mod memory_rows;
 mod procedures;

@@ -2,7 +2,6 @@
 #![tactic(auto)]
 
 mod fault;
-pub mod laws;
 mod nothing;
 mod sink;
 mod source;

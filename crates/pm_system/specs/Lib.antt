@@ -1,4 +1,3 @@
 pub mod Faults
 pub mod Segment
 pub mod Disk
-pub mod Laws

@@ -3,7 +3,6 @@
 
 mod disk;
 mod fault;
-pub mod laws;
 mod segment;
 
 pub use disk::put_system;

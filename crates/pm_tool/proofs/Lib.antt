@@ -7,9 +7,5 @@ pub mod Unread
 pub mod Batched
 pub mod Played
 pub mod Opening
-pub mod RunLaws
 pub mod Talked
-pub mod MachineRuns
 pub mod Ejected
-pub mod FaultLaws
-pub mod Images

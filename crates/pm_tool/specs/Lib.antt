@@ -7,5 +7,4 @@ pub mod Products
 pub mod Batches
 pub mod Work
 pub mod Said
-pub mod Laws
 pub mod Talks

@@ -5,7 +5,6 @@ mod batch;
 mod debug;
 mod engine;
 mod hex;
-pub mod laws;
 mod outcome;
 mod programs;
 mod reason;

@@ -6,4 +6,3 @@ pub mod StateLine
 pub mod Pairs
 pub mod Depths
 pub mod PlaceDigits
-pub mod LineLaws

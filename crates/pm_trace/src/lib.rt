@@ -4,7 +4,6 @@
 mod depth;
 mod digits;
 mod kept_digits;
-pub mod laws;
 mod lines;
 mod number_text;
 mod place;

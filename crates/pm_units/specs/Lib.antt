@@ -1,4 +1,3 @@
 pub mod Devices
 pub mod Traps
 pub mod Transfers
-pub mod Laws

@@ -1,7 +1,6 @@
 //! The units that a machine reads and writes: disks, the console, the printer and the clock.
 #![tactic(auto)]
 
-pub mod laws;
 mod ports;
 mod transfers;
 mod trap;

@@ -5,5 +5,4 @@ pub mod Combinations
 pub mod Strings
 pub mod Comparisons
 pub mod Laws
-pub mod PackedLaws
 pub mod Worked

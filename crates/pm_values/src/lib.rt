@@ -3,8 +3,6 @@
 
 mod comparisons;
 mod fields;
-pub mod laws;
-pub mod packed_laws;
 mod sets;
 mod stack;
 mod strings;

@@ -4,4 +4,3 @@ pub mod Errors
 pub mod Signed
 pub mod Stack
 pub mod Top
-pub mod Laws

@@ -4,7 +4,6 @@
 mod error;
 pub mod layout;
 mod memory;
-pub mod memory_laws;
 mod ranges;
 pub mod stack;
 mod top;

@@ -1,0 +1,2 @@
+pub mod NotesLaws
+pub mod Same

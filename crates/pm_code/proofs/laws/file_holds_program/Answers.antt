@@ -1,5 +1,0 @@
-use Rattle.pm_code.proofs.laws.file_holds_program.Goals as goal
-use Rattle.pm_code.proofs.Held.{file_holds_program, file_is_accepted}
-
-pub returns : goal.returns
-returns c = record { law = file_holds_program; accepted = file_is_accepted }

@@ -1,5 +1,0 @@
-use Rattle.pm_debug.proofs.WatchLaws.{changes_are_first}
-use Rattle.pm_debug.proofs.laws.changes_are_first.Goals as goal
-
-pub returns : goal.returns
-returns c = record { law = changes_are_first }

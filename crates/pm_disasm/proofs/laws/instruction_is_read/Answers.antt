@@ -1,5 +1,0 @@
-use Rattle.pm_disasm.proofs.Read.{instruction_is_read}
-use Rattle.pm_disasm.proofs.laws.instruction_is_read.Goals as goal
-
-pub returns : goal.returns
-returns c = record { law = instruction_is_read }

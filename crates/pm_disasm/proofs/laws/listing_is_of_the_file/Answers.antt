@@ -1,9 +1,0 @@
-use Rattle.pm_disasm.proofs.laws.listing_is_of_the_file.Goals as goal
-use Rattle.pm_disasm.proofs.OwnListing.{listing_is_programmed}
-use Rattle.pm_disasm.proofs.Stores.{lines_are_stored}
-
-pub returns-clause-stored : goal.returns-clause-stored
-returns-clause-stored c = lines_are_stored
-
-pub returns-clause-programmed : goal.returns-clause-programmed
-returns-clause-programmed c = listing_is_programmed

@@ -1,5 +1,0 @@
-use Rattle.pm_volume.proofs.SavedLaws.{damage_is_undone}
-use Rattle.pm_filer.proofs.laws.damage_is_undone.Goals as goal
-
-pub returns : goal.returns
-returns c = record { law = damage_is_undone }

@@ -1,8 +1,0 @@
-use Rattle.pm_filer.proofs.TextLaws.{text_is_got, text_keeps_others}
-use Rattle.pm_filer.proofs.laws.text_is_got.Goals as goal
-
-pub returns-clause-law : goal.returns-clause-law
-returns-clause-law c = text_is_got
-
-pub returns-clause-others : goal.returns-clause-others
-returns-clause-others c = text_keeps_others

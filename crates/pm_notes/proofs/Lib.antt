@@ -1,2 +1,0 @@
-pub mod Unquoted
-pub mod Told

@@ -1,5 +1,0 @@
-use Rattle.pm_source.proofs.laws.faultless_is_said.Goals as goal
-use Rattle.pm_source.proofs.Exactly.{faultless_is_said}
-
-pub returns : goal.returns
-returns c = record { law = faultless_is_said }

@@ -1,5 +1,0 @@
-use Rattle.pm_source.proofs.laws.found_is_faultless.Goals as goal
-use Rattle.pm_source.proofs.Unlabelled.{found_is_faultless}
-
-pub returns : goal.returns
-returns c = record { law = found_is_faultless }

@@ -1,5 +1,0 @@
-use Rattle.pm_source.proofs.laws.labels_are_found.Goals as goal
-use Rattle.pm_source.proofs.Labels.{labels_found}
-
-pub returns : goal.returns
-returns c = record { law = labels_found }

@@ -1,5 +1,0 @@
-use Rattle.pm_source.proofs.laws.listing_is_read.Goals as goal
-use Rattle.pm_source.proofs.Denoting.{listing_denotes_segments, listing_is_read}
-
-pub returns : goal.returns
-returns c = record { law = listing_is_read; segments = listing_denotes_segments }

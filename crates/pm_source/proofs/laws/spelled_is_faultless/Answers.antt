@@ -1,5 +1,0 @@
-use Rattle.pm_source.proofs.laws.spelled_is_faultless.Goals as goal
-use Rattle.pm_source.proofs.Spelled.{spelled_is_faultless}
-
-pub returns : goal.returns
-returns c = record { law = spelled_is_faultless }

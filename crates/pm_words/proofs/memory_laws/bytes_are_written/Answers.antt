@@ -1,5 +1,0 @@
-use Rattle.pm_words.proofs.PublicLaws.{bytes_are_written}
-use Rattle.pm_words.proofs.memory_laws.bytes_are_written.Goals as goal
-
-pub returns : goal.returns
-returns c = record { law = bytes_are_written }

@@ -1,7 +1,6 @@
 //! Where the procedures and the labels of a text stand, as the debugger counts.
 
 ghost use Rattle.std.specs.Prelude.{◌≡◌, ◌≢◌, ◌∷◌, ◌++◌, [], Err, IfOk, IfErr, OnOk, Ok, Some, map, option_map};
-ghost use Rattle.pm_code.specs.Shown.{padded};
 ghost use Rattle.pm_line.specs.Views.{row_seen, text_seen};
 ghost use Rattle.pm_reader.specs.Views.{labelled_procedure, labelled_segments};
 ghost use Rattle.pm_source.specs.declared.fault.AsmFault.TheVariants.{NoMemory};
@@ -15,11 +14,11 @@ ghost use Rattle.pm_asm.specs.Symbols.{symbols_from};
 use crate::assembly::program_of;
 use crate::code::Code;
 use crate::table::{place_of, table_of};
+use pm_code::{FiveDigits, ThreeDigits};
 use pm_line::Row;
 use pm_reader::{LabelledProcedure, LabelledSegment, label_of, source_end, source_of};
 use pm_source::AsmFault;
 use std::alloc::{AllocError, Global};
-use std::fmt;
 
 /// A procedure, or a label of its code.
 #[derive(Clone, Copy)]
@@ -142,34 +141,6 @@ fn symbols_of<'a>(
     Ok(found)
 }
 
-/// A number of a segment or a procedure in three digits.
-#[derive(Clone, Copy)]
-struct Number(usize);
-
-impl fmt::Display for Number {
-    ghost output = { λ n. Some (padded 3 n.0) };
-
-    #[tactic(auto, using(pm_code::proofs::Digits::padded_written))]
-    fn fmt<W: fmt::Write>(&self, f: &mut fmt::Formatter<W>) -> fmt::Result {
-        let number = self.0;
-        write!(f, "{number:03}")
-    }
-}
-
-/// An offset in five digits.
-#[derive(Clone, Copy)]
-struct Offset(usize);
-
-impl fmt::Display for Offset {
-    ghost output = { λ n. Some (padded 5 n.0) };
-
-    #[tactic(auto, using(pm_code::proofs::Digits::padded_written))]
-    fn fmt<W: fmt::Write>(&self, f: &mut fmt::Formatter<W>) -> fmt::Result {
-        let offset = self.0;
-        write!(f, "{offset:05}")
-    }
-}
-
 /// What a line says behind its numbers.
 fn symbol_name<'a>(label: Option<&'a [u8]>) -> &'a [u8]
     ensures name { result.now ≡ symbol_name (option_map text_seen label.entry) }
@@ -185,9 +156,9 @@ fn symbol_name<'a>(label: Option<&'a [u8]>) -> &'a [u8]
 fn push_line(alloc: Global, lines: &mut Vec<u8>, symbol: &Symbol<'_>) -> Result<(), AllocError>
     ensures line { OnOk result (lines.new.items ≡ lines.old.items ++ symbol_line (symbol_seen symbol.now)) }
 {
-    let segment = Number(usize::from(symbol.segment));
-    let procedure = Number(symbol.procedure);
-    let offset = Offset(symbol.offset);
+    let segment = ThreeDigits(usize::from(symbol.segment));
+    let procedure = ThreeDigits(symbol.procedure);
+    let offset = FiveDigits(symbol.offset);
     let numbers = format!(in alloc; "{segment} {procedure} {offset} ")?;
     lines.extend_from_slice(numbers.as_bytes())?;
     lines.extend_from_slice(symbol_name(symbol.label))?;

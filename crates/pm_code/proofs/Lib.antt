@@ -11,3 +11,4 @@ pub mod Slotted
 pub mod ListedMore
 pub mod Counted
 pub mod Computed
+pub mod Capped

@@ -16,6 +16,7 @@ ghost use Rattle.pm_code.specs.Views.{placed_item, procedure_seen, program_seen,
 
 use crate::bytes::{push_attributes, push_dictionary, push_distance, push_item};
 use crate::item::Item;
+use crate::numbers::{FiveDigits, ThreeDigits};
 use crate::program::{Procedure, Segment};
 use crate::shown::Label;
 use std::alloc::{AllocError, Global};
@@ -41,34 +42,6 @@ impl fmt::Display for SegmentNumber {
     fn fmt<W: fmt::Write>(&self, f: &mut fmt::Formatter<W>) -> fmt::Result {
         let number = self.0;
         write!(f, "{number:02}")
-    }
-}
-
-/// A procedure's number in three digits.
-#[derive(Clone, Copy)]
-struct ProcedureNumber(u8);
-
-impl fmt::Display for ProcedureNumber {
-    ghost output = { λ n. Some (padded 3 n.0) };
-
-    #[tactic(auto, using(crate::proofs::Digits::padded_written))]
-    fn fmt<W: fmt::Write>(&self, f: &mut fmt::Formatter<W>) -> fmt::Result {
-        let number = self.0;
-        write!(f, "{number:03}")
-    }
-}
-
-/// An offset in five digits.
-#[derive(Clone, Copy)]
-struct Offset(usize);
-
-impl fmt::Display for Offset {
-    ghost output = { λ n. Some (padded 5 n.0) };
-
-    #[tactic(auto, using(crate::proofs::Digits::padded_written))]
-    fn fmt<W: fmt::Write>(&self, f: &mut fmt::Formatter<W>) -> fmt::Result {
-        let offset = self.0;
-        write!(f, "{offset:05}")
     }
 }
 
@@ -117,8 +90,8 @@ fn push_front(
         })) }
 {
     let segment = SegmentNumber(place.segment);
-    let procedure = ProcedureNumber(place.procedure);
-    let at = Offset(offset);
+    let procedure = ThreeDigits(usize::from(place.procedure));
+    let at = FiveDigits(offset);
     write!(text, "{segment} {procedure} {at}")?;
     push_pairs(text, bytes)?;
     write!(text, "  ")?;

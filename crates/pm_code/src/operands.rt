@@ -112,9 +112,9 @@ impl fmt::Display for Escaped {
     }
 }
 
-/// Bytes between quotes.
+/// Bytes between quotes, as the assembler takes them.
 #[derive(Clone, Copy)]
-pub(crate) struct Quoted<'a>(pub &'a [u8]);
+pub struct Quoted<'a>(pub &'a [u8]);
 
 impl fmt::Display for Quoted<'_> {
     ghost output = { λ q. Some (quoted q.0.now) };

@@ -1,4 +1,3 @@
-pub mod Capped
 pub mod Blanks
 pub mod Onto
 pub mod Escapes

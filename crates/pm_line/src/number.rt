@@ -1,27 +1,12 @@
 //! Numbers of a text.
 
-ghost use Rattle.std.specs.Prelude.{◌≡◌, ◌<◌, ◌≤◌, min};
-ghost use Rattle.std.specs.Char.{digit_value, is_ascii_digit, is_ascii_hexdigit};
+ghost use Rattle.std.specs.Prelude.{◌≡◌, ◌<◌};
+ghost use Rattle.std.specs.Char.{is_ascii_digit, is_ascii_hexdigit};
 ghost use Rattle.std.specs.List.{list_all};
-ghost use Rattle.std.specs.Str.Parse.{digits_value};
 ghost use Rattle.pm_source.specs.Words.{decimal_number, hexadecimal_number, number, stored, within};
 
+use pm_code::magnitude;
 use pm_source::Numeral;
-
-/// Where magnitudes are cut off: more than any operand can be.
-const LARGEST: u32 = 1_000_000;
-
-fn digit_value(digit: u8) -> u32
-    ensures value { result ≡ digit_value digit }
-    ensures small { result ≤ 36 }
-{
-    match digit {
-        b'0'..=b'9' => u32::from(digit - b'0'),
-        b'A'..=b'Z' => u32::from(digit - b'A') + 10,
-        b'a'..=b'z' => u32::from(digit - b'a') + 10,
-        _ => 36,
-    }
-}
 
 fn are_decimal(digits: &[u8]) -> bool
     ensures decimal { result ≡ list_all is_ascii_digit digits.now }
@@ -33,18 +18,6 @@ fn are_hexadecimal(digits: &[u8]) -> bool
     ensures hexadecimal { result ≡ list_all is_ascii_hexdigit digits.now }
 {
     digits.iter().all(|digit| digit.is_ascii_hexdigit())
-}
-
-/// What digits are worth, cut off at a million.
-fn magnitude(radix: u32, digits: &[u8]) -> u32
-    requires radix { (1 ≤ radix) × (radix ≤ 16) }
-    ensures value { result ≡ min 1000000 (digits_value radix digits.now) }
-{
-    let mut magnitude = 0;
-    for digit in digits {
-        magnitude = LARGEST.min(magnitude * radix + digit_value(*digit));
-    }
-    magnitude
 }
 
 /// The number that decimal digits are.
@@ -62,7 +35,7 @@ fn decimal_number(negative: bool, digits: &[u8]) -> Option<Numeral>
 }
 
 /// The number that one to four hexadecimal digits are.
-#[tactic(auto, using(crate::proofs::Capped::four_digits))]
+#[tactic(auto, using(pm_code::proofs::Capped::four_digits))]
 fn hexadecimal_number(digits: &[u8]) -> Option<Numeral>
     ensures number { result ≡ hexadecimal_number digits.now }
 {

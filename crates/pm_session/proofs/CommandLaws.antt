@@ -54,23 +54,6 @@ module _ (whole : Option ℕ) (n : ℕ) (rest : List ℕ) (h : whole ≡ number_
     pub number_too_large : is_digit c ≡ true → 4294967295 < 10 * n + (c - 48) → whole ≡ None
     number_too_large d large = number_next d ∙ number_large (10 * n + (c - 48)) tail large
 
--- ---- hexadecimal digits
-
-pub capped : (v d : ℕ) → min 1000000 (min 1000000 v * 16 + d) ≡ min 1000000 (v * 16 + d)
-capped v d = omega arith
-
-digit_small : (c : ℕ) → digit_value c ≤ 36
-digit_small c = grind (arith, nat_tests)
-
--- so few digits are never cut off
-pub four_digits : (ds : List ℕ) → length ds ≤ 4 → min 1000000 (digits_value 16 ds) ≡ digits_value 16 ds
-four_digits [] h = omega arith
-four_digits (a ∷ []) h = omega (arith, digit_small a)
-four_digits (a ∷ b ∷ []) h = omega (arith, digit_small a, digit_small b)
-four_digits (a ∷ b ∷ c ∷ []) h = omega (arith, digit_small a, digit_small b, digit_small c)
-four_digits (a ∷ b ∷ c ∷ d ∷ []) h = omega (arith, digit_small a, digit_small b, digit_small c, digit_small d)
-four_digits (a ∷ b ∷ c ∷ d ∷ e ∷ ds) h = absurd (omega (arith, h))
-
 -- ---- words that are numbers
 
 -- numbers that stand before others

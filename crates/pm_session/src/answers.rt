@@ -12,9 +12,9 @@ ghost use Rattle.pm_session.specs.Texts.{refused_text};
 
 use crate::commands::{Command, command_of};
 use crate::ending::{Ending, LastLine};
-use crate::spelled::Quoted;
 use crate::texts::{chain, numbers, refused};
 use crate::views::shown;
+use pm_code::Quoted;
 use pm_debug::{BreakReason, DebugRefusal, Debugger};
 use pm_machine::Registers;
 use pm_trace::trace_line;

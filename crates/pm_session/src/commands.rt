@@ -1,8 +1,7 @@
 //! The commands of a debugger's line.
 ghost use Rattle.std.specs.Prelude.{◌≡◌, ◌<◌, ◌≤◌, ◌⊎◌, min, true, [], ◌∷◌, Some, None, IfSome, IfNone, length};
-ghost use Rattle.std.specs.Char.{digit_value, is_ascii_hexdigit};
+ghost use Rattle.std.specs.Char.{is_ascii_hexdigit};
 ghost use Rattle.std.specs.List.{list_all};
-ghost use Rattle.std.specs.Str.Parse.{digits_value};
 ghost use Rattle.pm_session.specs.Commands.{command_in, command_of, command_rows, decimal_number, hexadecimal_number};
 ghost use Rattle.pm_notes.specs.Names.{is_digit};
 ghost use Rattle.pm_session.specs.Commands.{number_up_to, numbers, setting_in, setting_rows, setting_with, word_number};
@@ -10,9 +9,7 @@ ghost use Rattle.std.specs.Str.{bytes_eq};
 ghost use Rattle.pm_session.specs.Words.{begins_word, words_of_line, without_return};
 
 use arrayvec::ArrayVec;
-
-/// Where magnitudes are cut off: more than four hexadecimal digits can be.
-const LARGEST: u32 = 1_000_000;
+use pm_code::magnitude;
 
 /// A command of the debugger.
 #[derive(Clone, Copy)]
@@ -112,30 +109,6 @@ fn decimal(word: &[u8]) -> Option<u32>
     Some(value as u32)
 }
 
-/// What a digit is worth; for a byte that is none some number from 36 on.
-fn digit_value(digit: u8) -> u32
-    ensures value { result ≡ digit_value digit }
-    ensures small { result ≤ 36 }
-{
-    match digit {
-        b'0'..=b'9' => u32::from(digit - b'0'),
-        b'A'..=b'Z' => u32::from(digit - b'A') + 10,
-        b'a'..=b'z' => u32::from(digit - b'a') + 10,
-        _ => 36,
-    }
-}
-
-/// What hexadecimal digits are worth, cut off at a million.
-fn magnitude(digits: &[u8]) -> u32
-    ensures value { result ≡ min 1000000 (digits_value 16 digits.now) }
-{
-    let mut magnitude: u32 = 0;
-    for digit in digits {
-        magnitude = LARGEST.min(magnitude * 16 + digit_value(*digit));
-    }
-    magnitude
-}
-
 fn are_hexadecimal(digits: &[u8]) -> bool
     ensures hexadecimal { result ≡ list_all is_ascii_hexdigit digits.now }
 {
@@ -143,14 +116,14 @@ fn are_hexadecimal(digits: &[u8]) -> bool
 }
 
 /// The number that one to four hexadecimal digits are.
-#[tactic(auto, using(crate::proofs::CommandLaws::four_digits))]
+#[tactic(auto, using(pm_code::proofs::Capped::four_digits))]
 fn hexadecimal(digits: &[u8]) -> Option<u32>
     ensures number { result ≡ hexadecimal_number digits.now }
 {
     if digits.is_empty() || digits.len() > 4 || !are_hexadecimal(digits) {
         return None;
     }
-    Some(magnitude(digits))
+    Some(magnitude(16, digits))
 }
 
 /// The number that a word is: decimal digits, or `$` and hexadecimal ones.

@@ -1,6 +1,5 @@
 //! Places in the code, frames and bytes as text.
 ghost use Rattle.std.specs.Prelude.{◌≡◌, Some};
-ghost use Rattle.pm_code.specs.Text.{escaped, is_plain, quoted};
 ghost use Rattle.pm_session.specs.Views.{frame_text, pair_text, point_text};
 
 use pm_debug::Frame;
@@ -51,46 +50,5 @@ impl fmt::Display for Pair {
     fn fmt<W: fmt::Write>(&self, f: &mut fmt::Formatter<W>) -> fmt::Result {
         let byte = self.0;
         write!(f, "{byte:02X}")
-    }
-}
-
-fn is_plain_byte(byte: u8) -> bool
-    ensures plain { result ≡ is_plain byte }
-{
-    byte != b'"' && byte != b'\\' && byte >= 32 && byte <= 126
-}
-
-/// A byte between quotes.
-#[derive(Clone, Copy)]
-struct Escaped(u8);
-
-impl fmt::Display for Escaped {
-    ghost output = { λ e. Some (escaped e.0) };
-
-    #[tactic(auto, using(std::proofs::lemmas::Fmt::hex_byte))]
-    fn fmt<W: fmt::Write>(&self, f: &mut fmt::Formatter<W>) -> fmt::Result {
-        let byte = self.0;
-        if is_plain_byte(byte) {
-            write!(f, "{}", char::from(byte))
-        } else {
-            write!(f, "\\{byte:02x}")
-        }
-    }
-}
-
-/// Bytes between quotes, as the assembler takes them.
-#[derive(Clone, Copy)]
-pub(crate) struct Quoted<'a>(pub &'a [u8]);
-
-impl fmt::Display for Quoted<'_> {
-    ghost output = { λ q. Some (quoted q.0.now) };
-
-    fn fmt<W: fmt::Write>(&self, f: &mut fmt::Formatter<W>) -> fmt::Result {
-        let bytes = self.0;
-        write!(f, "\"")?;
-        for byte in bytes {
-            write!(f, "{}", Escaped(*byte))?;
-        }
-        write!(f, "\"")
     }
 }

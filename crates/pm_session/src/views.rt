@@ -9,8 +9,9 @@ ghost use Rattle.pm_session.specs.Views.{breaks_text, bytes_text, frames_text, l
 ghost use Rattle.pm_session.specs.Views.{pair_text, shown_character, view_text, where_text};
 
 use crate::commands::View;
-use crate::spelled::{FrameText, Pair, Point, Quoted};
+use crate::spelled::{FrameText, Pair, Point};
 use crate::texts::{chain, numbers, refused};
+use pm_code::Quoted;
 use pm_debug::{DebugRefusal, Debugger, Frame};
 use pm_disasm::Line;
 use pm_machine::{CodePlace, Machine};

@@ -2,8 +2,8 @@ use Rattle.std.proofs.Common.{arith, ◌∙◌, ap, min, ◌*◌, ◌+◌}
 use Rattle.std.specs.Str.Parse.{digits_value}
 use Rattle.std.specs.Prelude.{take}
 use Rattle.std.proofs.lemmas.Int.Digits.{digits_value_more}
-use Rattle.pm_line.proofs.Capped.{capped}
-use Rattle.pm_line.proofs.number.magnitude.Goals as goal
+use Rattle.pm_code.proofs.Capped.{capped}
+use Rattle.pm_code.proofs.numbers.magnitude.Goals as goal
 
 pub loop-digit-preserved : goal.loop-digit-preserved
 loop-digit-preserved c =

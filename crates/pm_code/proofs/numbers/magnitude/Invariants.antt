@@ -1,6 +1,6 @@
 use Rattle.std.proofs.Common.{◌≡◌, min, take}
 use Rattle.std.specs.Str.Parse.{digits_value}
-use Rattle.pm_line.proofs.number.magnitude.Given as goal
+use Rattle.pm_code.proofs.numbers.magnitude.Given as goal
 
 -- what the digits so far are worth
 abbrev pub invariant-loop-digit : goal.invariant-loop-digit

@@ -1,7 +1,0 @@
-use Rattle.std.proofs.Common.{◌≡◌, min, take}
-use Rattle.std.specs.Str.Parse.{digits_value}
-use Rattle.pm_session.proofs.commands.magnitude.Given as goal
-
--- what the digits so far are worth
-abbrev pub invariant-loop-digit : goal.invariant-loop-digit
-invariant-loop-digit l = l.magnitude ≡ min 1000000 (digits_value 16 (take l.digit-index l.digits))

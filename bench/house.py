@@ -12,7 +12,7 @@
     the segment     of examples/system/system.text, of which crates/test_trials/data/system.text is a copy
     names           that docs/PROMISES.md, docs/ARCHITECTURE.md, docs/DECISIONS.md and the sections of definitions have and
                     the source, or the crates beside, have not; and paths and sections that the pages name
-    the index       docs/INDEX.md, which index.py makes of the source
+    the index       INDEX.md, which index.py makes of the source
     pages           of more bytes than they may have
     the map         of docs/ARCHITECTURE.md: each crate with its floor and those that it stands on, beside crates.txt
 The status is 1 where anything is found."""
@@ -88,25 +88,25 @@ for path in sorted(glob.glob("crates/*/src/**/*.rt", recursive=True)):
 for folder in sorted(glob.glob("crates/*")):
     count = sum(len(re.findall(r"^ *(?:pub(?:\([a-z]+\))? )?fn ", "\n".join(lines(path)), re.M))
                 for path in glob.glob(folder + "/src/**/*.rt", recursive=True) if not path.endswith("tests.rt"))
-    if count > 100 and not folder.endswith("_examples"):
+    if count > 100 and not os.path.basename(folder).startswith("test_"):
         tell("crate", "%s has %d functions" % (folder, count))
 
 for pattern, most in (("crates/*/src/**/*.rt", 120), ("crates/*/specs/**/*.antt", 120), ("crates/*/proofs/**/*.antt", 160),
                       ("docs/*.md", 120), ("README.md", 120)):
     for path in sorted(glob.glob(pattern, recursive=True)):
         long = [n + 1 for n, line in enumerate(lines(path)) if len(line) > most and not line.lstrip().startswith(("|", "#["))]
-        if long and path != "docs/INDEX.md":
+        if long:
             tell("line", "%s: %d over %d characters, the first at %d" % (path, len(long), most, long[0]))
 
 NUMBERS = r"\b(65_?492|65_?502|65_?504|60_?000|172|185)\b"
 for path in sorted(glob.glob("crates/*/src/**/*.rt", recursive=True)):
-    if re.search(r"(layout|fields|worked|tests|table)\.rt$", path) or "_examples/" in path:
+    if re.search(r"(layout|fields|worked|tests|table)\.rt$", path) or path.startswith("crates/test_"):
         continue
     for number, line in enumerate(lines(path)):
         if re.search(NUMBERS, line.split("//")[0]) and not re.match(r"\s*(const|pub const|pub\(crate\) const)", line):
             tell("number", "%s:%d %s" % (path, number + 1, line.strip()[:80]))
 
-# The map: of each crate its floor, and the nearest crates below, without pm_.
+# The map: of each crate its floor, and the nearest crates below, those of pm_ without it.
 stands = {}
 for line in lines("crates.txt"):
     if line and not line.startswith("#"):
@@ -125,8 +125,8 @@ def floor_of(name):
 
 page = "\n".join(lines("docs/ARCHITECTURE.md"))
 drawn = {}
-for floor, name, below in re.findall(r"^\| (\d+) \| (pm\w*) \| ([\w ]*?) ?\|", page, re.M):
-    drawn[name] = (int(floor), set("pm_" + word for word in below.split()))
+for floor, name, below in re.findall(r"^\| (\d+) \| ((?:pm|law_|test_)\w*) \| ([\w ]*?) ?\|", page, re.M):
+    drawn[name] = (int(floor), {word if word in stands else "pm_" + word for word in below.split()})
 for name in sorted(set(stands) | set(drawn)):
     if name not in drawn or name not in stands:
         tell("map", "%s stands in %s alone" % (name, "crates.txt" if name in stands else "the table"))
@@ -169,13 +169,13 @@ for page, text in pages.items():
         for name in word.split("::"):
             if name not in known and name not in OTHERS:
                 tell("name", "%s: %s" % (page, word))
-    for path in re.findall(r"`(pm_\w+/specs/\w+\.antt)`", text):
+    for path in re.findall(r"`((?:pm|law)_\w+/specs/\w+\.antt)`", text):
         if not os.path.exists("crates/" + path):
             tell("name", "%s: %s" % (page, path))
 
 # What a page of promises says is of a crate is a call or a clause there.
 for page in PROMISES:
-    for name, crate in re.findall(r"`(\w+)`(?: \([^)]*\))? of (pm_\w+)", " ".join(pages[page].split())):
+    for name, crate in re.findall(r"`(\w+)`(?: \([^)]*\))? of ((?:pm|law)_\w+)", " ".join(pages[page].split())):
         source = "\n".join("\n".join(lines(path)) for path in glob.glob("crates/%s/src/**/*.rt" % crate, recursive=True))
         if not re.search(r"(?:fn|ensures\*?) %s\b" % name, source):
             tell("name", "%s: %s is not of %s" % (page, name, crate))
@@ -185,7 +185,7 @@ for page, text in pages.items():
     if page in PROMISES:
         continue
     source = ""
-    for crate in re.findall(r"\bpm_\w+", text):
+    for crate in re.findall(r"\b(?:pm|law)_\w+", text):
         paths = glob.glob("crates/%s/specs/**/*.antt" % crate, recursive=True) + glob.glob("crates/%s/src/**/*.rt" % crate, recursive=True)
         source += "\n".join("\n".join(lines(path)) for path in paths) + "\n"
     defined = set(re.findall(r"^ *(?:(?:abbrev|unfoldable) )?pub (?:record |data |struct |enum )?([^\s:()]+)", source, re.M))
@@ -214,11 +214,11 @@ for page in sorted(glob.glob("docs/*.md")) + ["README.md", "bench/README.md"]:
         if os.path.exists(path) and not any(re.match("#+ %s$" % re.escape(title), line) for line in lines(path)):
             tell("name", '%s: %s has no section "%s"' % (page, path, title))
 
-if "\n".join(lines("docs/INDEX.md")) != index.page():
-    tell("index", "docs/INDEX.md is not that of the source: python3 bench/index.py")
+if "\n".join(lines("INDEX.md")) != index.page():
+    tell("index", "INDEX.md is not that of the source: python3 bench/index.py")
 
 # The most bytes of a page, and of all of docs/.
-MOST = {"PROMISES": 12600, "DECISIONS": 8200, "ARCHITECTURE": 12200, "COMMANDS": 31600, "FILES": 25700, "INDEX": 15200,
+MOST = {"PROMISES": 12600, "DECISIONS": 8200, "ARCHITECTURE": 12200, "COMMANDS": 31600, "FILES": 25700,
         "INSTRUCTIONS": 20000, "ASSEMBLY": 18000, "WORKING": 14900, "PROCEDURES": 13900, "MACHINE": 13100, "GLOSSARY": 6600,
         "CASES": 3500, "LIBRARY": 5100, "DISKS": 4300}
 ALL_PAGES = 204800

@@ -1,4 +1,4 @@
-"""index.py: docs/INDEX.md, made from the source: each public call with the names of its clauses, each law, and the counts
+"""index.py: INDEX.md, made from the source: each public call with the names of its clauses, each law, and the counts
 that the pages speak of. `index.py` writes the page; house.py asks whether it is that of the source."""
 import glob
 import os
@@ -6,16 +6,14 @@ import re
 import textwrap
 
 TOP = os.path.join(os.path.dirname(os.path.abspath(__file__)), "..")
-PAGE = os.path.join(TOP, "docs/INDEX.md")
+PAGE = os.path.join(TOP, "INDEX.md")
 HEAD = """# Index
 
 Each public call, by crate as in crates.txt, and there by type or module: in brackets the names of its clauses, behind
-`requires` those of its conditions; with empty ones it promises to return, and nothing else. One without brackets is a
-law, which the words above it in the source say; `worked_..` are computed values. What serves tests alone is counted at
+`requires` those of its conditions; with empty ones it promises to return, and nothing else. A line of its own is a law,
+with the words that stand above it in the source; `worked_..` are computed values. What serves tests alone is counted at
 the end. Made by `bench/index.py`.
 """
-# Crates whose calls serve programs of the gate and tests alone.
-FOR_TESTS = ("test_replay", "test_fake", "law_stores", "law_stores")
 SUMS = """
 ## Counts
 
@@ -43,10 +41,16 @@ class Call:
 
     def __init__(self, owner, name):
         self.owner, self.name = owner, name
-        self.clauses, self.conditions, self.is_law = [], [], False
+        self.clauses, self.conditions, self.is_law, self.prose = [], [], False, ""
 
     def read(self, source, number, indent):
-        """Reads the clauses from the head of the call on."""
+        """Reads the words above the head of the call, and the clauses from there on."""
+        above = []
+        for line in reversed(source[:number]):
+            if not line.strip().startswith(("///", "#[")):
+                break
+            above += [line.strip()[3:].strip()] if line.strip().startswith("///") else []
+        self.prose = " ".join(reversed(above))
         for line in source[number:]:
             clause = re.match(r"\s+(ensures|requires)\*? (\w+) \{", line)
             if clause:
@@ -63,10 +67,13 @@ class Call:
 
 
 def rows(calls):
-    """What is told of the calls of one owner, the laws last."""
+    """What is told of the calls of one owner: those with one promise in a row, then each law with its words."""
     made = []
-    for said in sorted(dict.fromkeys(it.said() for it in calls), key=lambda said: said is None):
-        made.append(", ".join(it.name for it in calls if it.said() == said) + (said or ""))
+    for said in dict.fromkeys(it.said() for it in calls if not it.is_law):
+        made.append(", ".join(it.name for it in calls if it.said() == said) + said)
+    for it in calls:
+        if it.is_law:
+            made.append(it.name if it.name.startswith("worked") else "%s: %s" % (it.name, it.prose))
     return made
 
 
@@ -105,7 +112,7 @@ def page():
         row = [sum(not it.is_law for it in calls), sum(it.is_law for it in calls), sum(len(it.clauses) for it in calls),
                sum(bool(it.conditions) for it in calls), sum(edits), edits[0]]
         sums = [one + more for one, more in zip(sums, row)]
-        if calls and not crate.endswith("_examples") and crate not in FOR_TESTS:
+        if calls and not crate.startswith("test_"):
             made.append("\n## %s\n" % crate)
             owners = dict.fromkeys(it.owner for it in calls)
             owners = [(owner, rows([it for it in calls if it.owner == owner])) for owner in owners]

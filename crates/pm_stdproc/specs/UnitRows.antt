@@ -1,12 +1,14 @@
 -- The standard procedures that work with the units or the clock.
-use Rattle.std.specs.Prelude.{ℕ, ◌/◌, ◌%◌, ◌&&◌, List, Result, Ok}
+use Rattle.std.specs.Prelude.{ℕ, ◌≡◌, ◌/◌, ◌%◌, ◌&&◌, List, Result, Ok, OnErr}
 use Rattle.pm_words.specs.declared.error.ExecError.{ExecError}
 use Rattle.pm_words.specs.declared.error.ExecError.TheVariants.{InvalidMemory}
-use Rattle.pm_words.specs.Words.{with_word}
+use Rattle.pm_words.specs.Watch.{KeepsWatch}
+use Rattle.pm_words.specs.Words.{Contents, with_word}
 use Rattle.pm_words.specs.Stack.{◌>>=◌, demand, is_even, lies_in_memory, pop, push}
 use Rattle.pm_calls.specs.declared.registers.Registers.{Registers}
-use Rattle.pm_units.specs.Traps.{Pause, or_fails}
-use Rattle.pm_units.specs.Devices.{Devices, cleared, known, unit_of}
+use Rattle.pm_units.specs.Traps.{Pause, Performs, or_fails}
+use Rattle.pm_units.specs.declared.trap.Trap.{Trap}
+use Rattle.pm_units.specs.Devices.{Devices, Held, cleared, known, unit_of}
 use Rattle.pm_stdproc.specs.MemoryRows.{pop_place}
 use Rattle.pm_units.specs.Transfers.{Moved, unit_read, unit_written}
 use Rattle.pm_stdproc.specs.declared.procedures.OnUnits.{OnUnits}
@@ -24,6 +26,16 @@ served m r d = record { memory = m; registers = r; devices = d }
 
 abbrev pub devices_served : Served → Devices
 devices_served s = s.devices
+
+-- A row of the units is done: it gives what its definition gives, or leaves all as it was, the room of the units too.
+-- The memory's watch knows of each word that it writes, and MP stays.
+pub record Serves (row : Served → Result Served Pause) {A : Type 0} (result : Result A Trap) (old new : Held)
+    (memory changed : Contents) (registers after : Registers) : Type 0 where
+  pub gives : Performs devices_served old.room result (served memory.words registers old.devices)
+      (served changed.words after new.devices) (row (served memory.words registers old.devices))
+  pub room : OnErr result (new.room ≡ old.room)
+  pub watch : KeepsWatch memory changed
+  pub mp : after.mp ≡ registers.mp
 
 -- ---- transfers
 

@@ -12,10 +12,9 @@ ghost use Rattle.pm_stdproc.specs.declared.procedures.Procedure.TheVariants.{Unk
 ghost use Rattle.pm_stdproc.specs.UnitRows.{
   busy_row,
   clear_row,
-  devices_served,
+  Serves,
   ordered,
   read_row,
-  served,
   time_row,
   units_row,
   wait_row,
@@ -198,13 +197,8 @@ fn on_units(
     registers: &mut ValidRegisters,
     procedure: OnUnits,
 ) -> Result<(), Trap>
-    ensures row { Performs devices_served units.old.room result
-        (served memory.old.words registers.old units.old.devices)
-        (served memory.new.words registers.new units.new.devices)
-        (units_row procedure (served memory.old.words registers.old units.old.devices)) }
-    ensures room { OnErr result (units.new.room ≡ units.old.room) }
-    ensures keeps { KeepsWatch memory.old memory.new }
-    ensures mp { registers.new.mp ≡ registers.old.mp }
+    ensures serves { Serves (units_row procedure) result units.old units.new
+        memory.old memory.new registers.old registers.new }
 {
     match procedure {
         OnUnits::Read => read_row(units, memory, registers),
@@ -223,13 +217,8 @@ fn read_row(
     memory: &mut Memory,
     registers: &mut ValidRegisters,
 ) -> Result<(), Trap>
-    ensures row { Performs devices_served units.old.room result
-        (served memory.old.words registers.old units.old.devices)
-        (served memory.new.words registers.new units.new.devices)
-        (read_row (served memory.old.words registers.old units.old.devices)) }
-    ensures room { OnErr result (units.new.room ≡ units.old.room) }
-    ensures keeps { KeepsWatch memory.old memory.new }
-    ensures mp { registers.new.mp ≡ registers.old.mp }
+    ensures serves { Serves read_row result units.old units.new
+        memory.old memory.new registers.old registers.new }
 {
     let mut stack = registers.top();
     let order = order_of(&mut stack, memory)?;
@@ -245,13 +234,8 @@ fn write_row(
     memory: &mut Memory,
     registers: &mut ValidRegisters,
 ) -> Result<(), Trap>
-    ensures row { Performs devices_served units.old.room result
-        (served memory.old.words registers.old units.old.devices)
-        (served memory.new.words registers.new units.new.devices)
-        (write_row (served memory.old.words registers.old units.old.devices)) }
-    ensures room { OnErr result (units.new.room ≡ units.old.room) }
-    ensures keeps { KeepsWatch memory.old memory.new }
-    ensures mp { registers.new.mp ≡ registers.old.mp }
+    ensures serves { Serves write_row result units.old units.new
+        memory.old memory.new registers.old registers.new }
 {
     let mut stack = registers.top();
     let order = order_of(&mut stack, memory)?;
@@ -267,13 +251,8 @@ fn time_row(
     memory: &mut Memory,
     registers: &mut ValidRegisters,
 ) -> Result<(), Trap>
-    ensures row { Performs devices_served units.old.room result
-        (served memory.old.words registers.old units.old.devices)
-        (served memory.new.words registers.new units.new.devices)
-        (or_fails (time_row (served memory.old.words registers.old units.old.devices))) }
-    ensures room { OnErr result (units.new.room ≡ units.old.room) }
-    ensures keeps { KeepsWatch memory.old memory.new }
-    ensures mp { registers.new.mp ≡ registers.old.mp }
+    ensures serves { Serves (λ s. or_fails (time_row s)) result units.old units.new
+        memory.old memory.new registers.old registers.new }
 {
     let mut stack = registers.top();
     let low = stack.pop(memory)?;
@@ -294,13 +273,8 @@ fn busy_row(
     memory: &mut Memory,
     registers: &mut ValidRegisters,
 ) -> Result<(), Trap>
-    ensures row { Performs devices_served units.old.room result
-        (served memory.old.words registers.old units.old.devices)
-        (served memory.new.words registers.new units.new.devices)
-        (or_fails (busy_row (served memory.old.words registers.old units.old.devices))) }
-    ensures room { OnErr result (units.new.room ≡ units.old.room) }
-    ensures keeps { KeepsWatch memory.old memory.new }
-    ensures mp { registers.new.mp ≡ registers.old.mp }
+    ensures serves { Serves (λ s. or_fails (busy_row s)) result units.old units.new
+        memory.old memory.new registers.old registers.new }
 {
     let mut stack = registers.top();
     let unit = stack.pop(memory)?;
@@ -317,13 +291,8 @@ fn wait_row(
     memory: &mut Memory,
     registers: &mut ValidRegisters,
 ) -> Result<(), Trap>
-    ensures row { Performs devices_served units.old.room result
-        (served memory.old.words registers.old units.old.devices)
-        (served memory.new.words registers.new units.new.devices)
-        (or_fails (wait_row (served memory.old.words registers.old units.old.devices))) }
-    ensures room { OnErr result (units.new.room ≡ units.old.room) }
-    ensures keeps { KeepsWatch memory.old memory.new }
-    ensures mp { registers.new.mp ≡ registers.old.mp }
+    ensures serves { Serves (λ s. or_fails (wait_row s)) result units.old units.new
+        memory.old memory.new registers.old registers.new }
 {
     let mut stack = registers.top();
     let unit = stack.pop(memory)?;
@@ -339,13 +308,8 @@ fn clear_row(
     memory: &mut Memory,
     registers: &mut ValidRegisters,
 ) -> Result<(), Trap>
-    ensures row { Performs devices_served units.old.room result
-        (served memory.old.words registers.old units.old.devices)
-        (served memory.new.words registers.new units.new.devices)
-        (or_fails (clear_row (served memory.old.words registers.old units.old.devices))) }
-    ensures room { OnErr result (units.new.room ≡ units.old.room) }
-    ensures keeps { KeepsWatch memory.old memory.new }
-    ensures mp { registers.new.mp ≡ registers.old.mp }
+    ensures serves { Serves (λ s. or_fails (clear_row s)) result units.old units.new
+        memory.old memory.new registers.old registers.new }
 {
     let mut stack = registers.top();
     let unit = stack.pop(memory)?;

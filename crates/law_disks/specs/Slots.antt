@@ -16,7 +16,7 @@ abbrev pub HaveBytesOf : List ℕ → List ℕ → List Entry → Type 0
 HaveBytesOf old new files = All (λ (e : Entry). file_bytes new e ≡ file_bytes old e) files
 
 -- a command is done, and leaves this list of files, of which these have the bytes that they had
-pub record Leaves (old : List ℕ) (outcome : Result Filed FilerFault) (list kept : List Entry) : Type 0 where
+pub record LeavesFiles (old : List ℕ) (outcome : Result Filed FilerFault) (list kept : List Entry) : Type 0 where
   pub new : List ℕ
   pub done : outcome ≡ Ok (record { image = new; answer = Done })
   pub files : files_of new ≡ list
@@ -27,7 +27,7 @@ pub record Leaves (old : List ℕ) (outcome : Result Filed FilerFault) (list kep
 abbrev pub RemovalTakesOne : Type 0
 RemovalTakesOne =
     (image : List ℕ) (before after : List Entry) (e : Entry) → IsVolume image → files_of image ≡ before ++ e ∷ after
-    → Leaves image (filed image (RemoveSlot (length before + 1))) (before ++ after) (before ++ after)
+    → LeavesFiles image (filed image (RemoveSlot (length before + 1))) (before ++ after) (before ++ after)
 
 -- a file that gets another name by its slot stands in the list with that name and is otherwise as it was, and so is
 -- every other one, where no other one has the new name; its own name is no other's
@@ -36,7 +36,7 @@ ChangeNamesOne =
     (image : List ℕ) (before after : List Entry) (e : Entry) (new : List ℕ) → IsVolume image
     → files_of image ≡ before ++ e ∷ after → is_new_name 15 new ≡ true
     → list_any (is_named new) (before ++ after) ≡ false
-    → Leaves image (filed image (ChangeSlot (length before + 1) new))
+    → LeavesFiles image (filed image (ChangeSlot (length before + 1) new))
     (before ++ record e { name = name_field 15 new } ∷ after) (before ++ e ∷ after)
 
 -- another name by the slot: the new one is none; another file has it

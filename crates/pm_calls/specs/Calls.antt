@@ -160,8 +160,3 @@ called c (Clp p) code = called_at c (Clp p) (here c)
 called c (Cgp p) code = called_at c (Cgp p) (here c)
 called c (Cbp p) code = called_at c (Cbp p) (here c)
 called c (Cip p) code = called_at c (Cip p) (here c)
-
--- a call or a return gives the new parts, or an error with the parts as they were
-abbrev pub Leaves : {A : Type 0} → Result A ExecError → Parts → Parts → Result Parts ExecError → Type 0
-Leaves (Ok x) old new done = done ≡ Ok new
-Leaves (Err e) old new done = (done ≡ Err e) × (new ≡ old)

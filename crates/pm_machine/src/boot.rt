@@ -1,7 +1,8 @@
 //! The start of a program from a code file on a volume.
 
 ghost use Rattle.std.specs.Prelude.{◌≡◌, ◌<◌, ◌%◌, IfOk, IfErr, IfSome, length, option_map};
-ghost use Rattle.pm_calls.specs.Calls.{Leaves, called};
+ghost use Rattle.pm_calls.specs.Calls.{called};
+ghost use Rattle.pm_words.specs.Stack.{Leaves};
 ghost use Rattle.pm_machine.specs.Agreeing.{InStep};
 ghost use Rattle.pm_families.specs.declared.families.Call.TheVariants.{Cxp};
 ghost use Rattle.pm_codefile.specs.Dictionary.{slot_in};

@@ -2,7 +2,7 @@
 
 ghost use Rattle.std.specs.Prelude.{◌≡◌, ◌-◌, ◌/◌, IfOk};
 ghost use Rattle.pm_words.specs.Watch.{KeepsWatch};
-ghost use Rattle.pm_words.specs.Stack.{Changes, Stores};
+ghost use Rattle.pm_words.specs.Stack.{Changes, Leaves};
 ghost use Rattle.pm_words.specs.Top.{Pops};
 ghost use Rattle.pm_words.specs.Words.{moved_up, moved_down};
 ghost use Rattle.pm_stdproc.specs.MemoryRows.{
@@ -83,7 +83,7 @@ fn new(memory: &mut Memory, registers: ValidRegisters) -> Result<ValidRegisters,
 // Moves bytes one by one, the lowest first.
 #[tactic(auto, using(pm_words::proofs::WatchLaws::keeps))]
 fn move_up(memory: &mut Memory, from: u16, to: u16, count: u16) -> Result<(), ExecError>
-    ensures moved { Stores result memory.old.words memory.new.words (moved moved_up memory.old.words from to count) }
+    ensures moved { Leaves result memory.old.words memory.new.words (moved moved_up memory.old.words from to count) }
     ensures keeps { KeepsWatch memory.old memory.new }
 {
     if !is_positive(count) || memory.copy_up(from, to, count) {
@@ -96,7 +96,7 @@ fn move_up(memory: &mut Memory, from: u16, to: u16, count: u16) -> Result<(), Ex
 // Moves bytes one by one, the highest first.
 #[tactic(auto, using(pm_words::proofs::WatchLaws::keeps))]
 fn move_down(memory: &mut Memory, from: u16, to: u16, count: u16) -> Result<(), ExecError>
-    ensures moved { Stores result memory.old.words memory.new.words (moved moved_down memory.old.words from to count) }
+    ensures moved { Leaves result memory.old.words memory.new.words (moved moved_down memory.old.words from to count) }
     ensures keeps { KeepsWatch memory.old memory.new }
 {
     if !is_positive(count) || memory.copy_down(from, to, count) {
@@ -141,7 +141,7 @@ fn move_right(memory: &mut Memory, registers: ValidRegisters) -> Result<ValidReg
 // Fills a range with one byte.
 #[tactic(auto, using(pm_words::proofs::WatchLaws::keeps))]
 fn fill_with(memory: &mut Memory, at: u16, count: u16, byte: u8) -> Result<(), ExecError>
-    ensures filled { Stores result memory.old.words memory.new.words (filled_with memory.old.words at count byte) }
+    ensures filled { Leaves result memory.old.words memory.new.words (filled_with memory.old.words at count byte) }
     ensures keeps { KeepsWatch memory.old memory.new }
 {
     if !is_positive(count) || memory.fill(at, count, byte) {

@@ -55,10 +55,11 @@ abbrev pub Changes : {A : Type 0} → Result A ExecError → List ℕ → List �
 Changes (Ok x) old new row = row ≡ Ok (new, x)
 Changes (Err e) old new row = (row ≡ Err e) × (new ≡ old)
 
--- a write was done, or an error leaves the memory as it was
-abbrev pub Stores : {A : Type 0} → Result A ExecError → List ℕ → List ℕ → Result (List ℕ) ExecError → Type 0
-Stores (Ok x) old new stored = stored ≡ Ok new
-Stores (Err e) old new stored = (stored ≡ Err e) × (new ≡ old)
+-- something was done that may fail: it leaves what its definition gives, of the memory as of all that a call changes;
+-- or an error leaves what was
+abbrev pub Leaves : {A B : Type 0} → Result A ExecError → B → B → Result B ExecError → Type 0
+Leaves (Ok x) old new done = done ≡ Ok new
+Leaves (Err e) old new done = (done ≡ Err e) × (new ≡ old)
 
 -- what every machine keeps: SP and NP are even, and NP ≤ SP ≤ 65,504
 pub record IsStack (sp np : ℕ) : Type 0 where

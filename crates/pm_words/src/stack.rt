@@ -3,7 +3,7 @@
 
 ghost use Rattle.std.specs.Prelude.{◌≡◌, ℕ, IfOk};
 ghost use Rattle.pm_words.specs.Watch.{KeepsWatch};
-ghost use Rattle.pm_words.specs.Stack.{IsStack, Changes, Stores, load, pop, push, store};
+ghost use Rattle.pm_words.specs.Stack.{Changes, IsStack, Leaves, load, pop, push, store};
 
 use crate::layout::HIGHEST_WORD;
 use crate::{ExecError, Memory};
@@ -19,7 +19,7 @@ pub fn load(memory: &Memory, address: u16) -> Result<u16, ExecError>
 /// Writes a word at an address; `InvalidMemory`, and nothing changed, where that is odd.
 #[inline(always)]
 pub fn store(memory: &mut Memory, address: u16, word: u16) -> Result<(), ExecError>
-    ensures stored { Stores result memory.old.words memory.new.words (store memory.old.words address word) }
+    ensures stored { Leaves result memory.old.words memory.new.words (store memory.old.words address word) }
     ensures keeps { KeepsWatch memory.old memory.new }
 {
     if memory.set_word(address, word) {

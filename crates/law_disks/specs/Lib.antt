@@ -2,4 +2,4 @@ pub mod Refusals
 pub mod Volumes
 pub mod Slots
 pub mod CheckLaws
-pub mod Laws
+pub mod SystemLaws

@@ -1,5 +1,5 @@
 //! Laws of code files with the system's segment. The functions do nothing.
-ghost use Rattle.law_disks.specs.Laws.{NewFileIsSound, SegmentsStay};
+ghost use Rattle.law_disks.specs.SystemLaws.{NewFileIsSound, SegmentsStay};
 
 /// A code file that was given a segment has its bytes in slot 0; each other slot is what it was, and where its segment
 /// begins behind the dictionary it has the bytes that it had.

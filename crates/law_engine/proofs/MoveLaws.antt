@@ -4,7 +4,7 @@ use Rattle.std.proofs.lemmas.Bool.{cases_lt, cases_eq}
 use Rattle.pm_words.specs.Words.{IsMemory, byte_at, moved_down, moved_up, with_byte}
 use Rattle.pm_words.proofs.Laws.{AreMemoryBytes-bytes_of}
 use Rattle.pm_words.proofs.RangeLaws.{IsMemory-with_byte, byte_at-with_byte, byte_at-with_byte_other, moved_down-copied, moved_up-copied}
-use Rattle.law_engine.specs.Laws.{MoveLeftCopies, MoveLeftRepeats, MoveRightCopies, MoveRightRepeats, MovesStayInside}
+use Rattle.law_engine.specs.ProcedureLaws.{MoveLeftCopies, MoveLeftRepeats, MoveRightCopies, MoveRightRepeats, MovesStayInside}
 
 pub move_left_copies : MoveLeftCopies
 move_left_copies m from to n h source room apart = moved_up-copied n m from to h source room apart

@@ -9,7 +9,7 @@ use Rattle.std.proofs.lemmas.List.Sums.{fails_before_first, passes_at_first}
 use Rattle.pm_words.specs.Words.{IsMemory, byte_at, bytes_at, bytes_of, passed, stops}
 use Rattle.pm_words.proofs.Laws.{scanned-down, scanned-up}
 use Rattle.pm_words.proofs.RangeLaws.{length-bytes_at}
-use Rattle.law_engine.specs.Laws.{IsFirst, ScansDown, ScansStopFirst, ScansUp}
+use Rattle.law_engine.specs.ProcedureLaws.{IsFirst, ScansDown, ScansStopFirst, ScansUp}
 
 -- what a scan passes in a list of bytes
 passed-first : (bs : List ℕ) (b : ℕ) (equal : Bool) → IsFirst (λ i. stops equal b (get_or bs i 0)) (length bs) (passed bs b equal)

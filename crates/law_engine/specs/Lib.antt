@@ -11,7 +11,7 @@ pub mod EventLaws
 pub mod WorkedReadings
 pub mod PointerLaws
 pub mod StackLaws
-pub mod Laws
+pub mod ProcedureLaws
 pub mod UnitsLaws
 pub mod PackedLaws
 pub mod WordsLaws

@@ -1,6 +1,6 @@
 //! Laws of moves and scans. The functions do nothing.
 
-ghost use Rattle.law_engine.specs.Laws.{
+ghost use Rattle.law_engine.specs.ProcedureLaws.{
   MoveLeftCopies,
   MoveLeftRepeats,
   MoveRightCopies,

@@ -3,7 +3,7 @@ use Rattle.std.proofs.Common.{◌≡◌, ◌⊎◌, ℕ, Bool, true, false, List
 use Rattle.std.proofs.lemmas.Bool.Decides.{nat_tests}
 use Rattle.pm_trace.specs.Trace.{trace_line}
 use Rattle.pm_trace.specs.Selected.{front, is_selected, shown_line}
-use Rattle.law_jobs.specs.Laws.{AllIsTheTrace, LinesStay}
+use Rattle.law_jobs.specs.TraceLaws.{AllIsTheTrace, LinesStay}
 
 from_none : (n : ℕ) → nat_le 0 n ≡ true
 from_none n = grind (arith, nat_tests)

@@ -4,4 +4,4 @@ pub mod RoundTrip
 pub mod Refusals
 pub mod Console
 pub mod ToolLaws
-pub mod Laws
+pub mod TraceLaws

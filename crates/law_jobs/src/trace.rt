@@ -1,5 +1,5 @@
 //! Laws of the lines of a trace that are selected. The functions do nothing.
-ghost use Rattle.law_jobs.specs.Laws.{AllIsTheTrace, LinesStay};
+ghost use Rattle.law_jobs.specs.TraceLaws.{AllIsTheTrace, LinesStay};
 
 /// Where every line is selected, and nothing is put in front of it, each is shown as it is.
 #[tactic(auto, using(crate::proofs::LineLaws::all_is_the_trace))]

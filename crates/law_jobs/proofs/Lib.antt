@@ -12,3 +12,4 @@ pub mod RunImages
 pub mod MachineRuns
 pub mod ToolRuns
 pub mod LineLaws
+pub mod Breakpoints

@@ -5,3 +5,4 @@ pub mod Refusals
 pub mod Console
 pub mod ToolLaws
 pub mod TraceLaws
+pub mod Breakpoints

@@ -1,5 +1,7 @@
 //! What a session of the debugger shows is the table's.
 
+ghost use Rattle.law_jobs.specs.Breakpoints.{BreakSetsOne, BreaksStay, ClearTakesOne, UnwatchTakesOne};
+ghost use Rattle.law_jobs.specs.Breakpoints.{WatchAddsOne, WatchesStay};
 ghost use Rattle.law_jobs.specs.Console.{ConsoleIsShown};
 ghost use Rattle.law_jobs.specs.Shown.{SessionsShowTheTable};
 
@@ -18,4 +20,22 @@ pub fn sessions_show_the_table()
 /// other's, are what the console has more after them.
 pub fn console_is_shown()
     ensures law { ConsoleIsShown }
+{}
+
+/// Lines among which there is no `break` and no `clear` leave the breakpoints of a session as they are, whatever steps
+/// they make; and those without `watch` and `unwatch` the watched words.
+#[tactic(auto, using(crate::proofs::Breakpoints::breaks_stay, crate::proofs::Breakpoints::watches_stay))]
+pub fn other_lines_leave_the_breakpoints()
+    ensures breaks { BreaksStay }
+    ensures watches { WatchesStay }
+{}
+
+/// After `break`, where fewer than 64 are set, its place is a breakpoint, after `clear` it is none, and each other place
+/// is one exactly if it was one before; and so of the words that `watch` and `unwatch` name.
+#[tactic(auto, using(crate::proofs::Breakpoints::break_sets_one, crate::proofs::Breakpoints::clear_takes_one, crate::proofs::Breakpoints::watch_adds_one, crate::proofs::Breakpoints::unwatch_takes_one))]
+pub fn a_command_changes_one_breakpoint()
+    ensures sets { BreakSetsOne }
+    ensures takes { ClearTakesOne }
+    ensures adds { WatchAddsOne }
+    ensures unwatches { UnwatchTakesOne }
 {}

@@ -1,0 +1,195 @@
+-- Breakpoints and watched words, by what is in them.
+use Rattle.std.proofs.Common.{◌≡◌, ◌∙◌, ◌<◌, ℕ, Bool, true, false, List, [], ◌∷◌, ◌++◌, length, Option, None, Some, Result, Ok, Err, refl, sym, ap, arith}
+use Rattle.std.specs.Prelude.{◌==◌, ◌||◌, ◌&&◌, not, filter, if◌then◌else◌, nat_lt}
+use Rattle.std.specs.Cmp.{IsEquivalence}
+use Rattle.std.specs.List.{list_any}
+use Rattle.std.proofs.lemmas.Bool.Decides.{nat_tests}
+use Rattle.std.proofs.lemmas.Cmp.{nat_eq_equiv}
+use Rattle.std.proofs.lemmas.List.Folds.{list_any-append}
+use Rattle.std.proofs.lemmas.Map.Steps.{list_any_congr}
+use Rattle.std.proofs.lemmas.Map.Views.{any-filter_same}
+use Rattle.pm_words.specs.Stack.{is_even}
+use Rattle.pm_machine.specs.CodePlaces.{code_place}
+use Rattle.pm_machine.specs.declared.code_place.CodePlace.{CodePlace}
+use Rattle.pm_debug.specs.declared.refusal.DebugRefusal.{DebugRefusal}
+use Rattle.pm_debug.specs.declared.refusal.DebugRefusal.TheVariants.{Full}
+use Rattle.pm_debug.specs.Breaks.{is_same, is_set, with_break, without_break}
+use Rattle.pm_debug.specs.Session.{Session}
+use Rattle.pm_debug.specs.Watches.{is_watched, with_watch, without_watch}
+use Rattle.pm_session.specs.declared.commands.Command.{Command}
+use Rattle.pm_session.specs.declared.commands.Command.TheVariants as commands
+use Rattle.pm_session.specs.Answers.{after_command, session_after, with_breaks, with_watches}
+use Rattle.pm_session.specs.Commands.{command_of}
+use Rattle.law_jobs.specs.Breakpoints.{BreakSetsOne, BreaksStay, ClearTakesOne, UnwatchTakesOne, WatchAddsOne, WatchesStay, is_of_breaks, is_of_watches}
+use Rattle.law_jobs.specs.Console.{after_lines}
+
+-- ---- lines that are of neither set
+
+watched_so : (d : Session) (r : Result (List ℕ) DebugRefusal) → (with_watches d r).breaks ≡ d.breaks
+watched_so d (Ok watches) = refl
+watched_so d (Err refusal) = refl
+
+broken_so : (d : Session) (r : Result (List CodePlace) DebugRefusal) → (with_breaks d r).watches ≡ d.watches
+broken_so d (Ok breaks) = refl
+broken_so d (Err refusal) = refl
+
+breaks_stay_once : (command : Option Command) (d : Session) → is_of_breaks command ≡ false → (session_after command d).breaks ≡ d.breaks
+unfolding after_command
+breaks_stay_once None d other = refl
+breaks_stay_once (Some (commands.Break s p o)) d other = absurd (cc)
+breaks_stay_once (Some (commands.Clear s p o)) d other = absurd (cc)
+breaks_stay_once (Some (commands.Watch a)) d other = watched_so d (with_watch a d.watches)
+breaks_stay_once (Some (commands.Unwatch a)) d other = watched_so d (without_watch a d.watches)
+breaks_stay_once (Some (commands.Poke a w)) d other = refl
+breaks_stay_once (Some (commands.Key b)) d other = refl
+breaks_stay_once (Some (commands.ShowConsole shows)) d other = refl
+breaks_stay_once (Some (commands.Go n)) d other = refl
+breaks_stay_once (Some commands.Step) d other = refl
+breaks_stay_once (Some commands.Finish) d other = refl
+breaks_stay_once (Some command) d other = refl
+
+watches_stay_once : (command : Option Command) (d : Session) → is_of_watches command ≡ false → (session_after command d).watches ≡ d.watches
+unfolding after_command
+watches_stay_once None d other = refl
+watches_stay_once (Some (commands.Break s p o)) d other = broken_so d (with_break (code_place s p o) d.breaks)
+watches_stay_once (Some (commands.Clear s p o)) d other = broken_so d (without_break (code_place s p o) d.breaks)
+watches_stay_once (Some (commands.Watch a)) d other = absurd (cc)
+watches_stay_once (Some (commands.Unwatch a)) d other = absurd (cc)
+watches_stay_once (Some (commands.Poke a w)) d other = refl
+watches_stay_once (Some (commands.Key b)) d other = refl
+watches_stay_once (Some (commands.ShowConsole shows)) d other = refl
+watches_stay_once (Some (commands.Go n)) d other = refl
+watches_stay_once (Some commands.Step) d other = refl
+watches_stay_once (Some commands.Finish) d other = refl
+watches_stay_once (Some command) d other = refl
+
+pub breaks_stay : BreaksStay
+breaks_stay [] d none = refl
+breaks_stay (line ∷ lines) d none =
+    breaks_stay lines (session_after (command_of line) d) none.1 ∙ breaks_stay_once (command_of line) d none.0
+
+pub watches_stay : WatchesStay
+watches_stay [] d none = refl
+watches_stay (line ∷ lines) d none =
+    watches_stay lines (session_after (command_of line) d) none.1 ∙ watches_stay_once (command_of line) d none.0
+
+-- ---- one more and one less, of any values with a test of being the same
+
+or_is : (b c : Bool) → (b ≡ true → c ≡ true) → c ≡ (b || c)
+or_is true c so = so refl
+or_is false c so = refl
+
+or_turned : (b c : Bool) → (c || (b || false)) ≡ (b || c)
+or_turned true true = refl
+or_turned true false = refl
+or_turned false true = refl
+or_turned false false = refl
+
+and_is : (b c : Bool) → (b ≡ true → c ≡ false) → c ≡ (not b && c)
+and_is true c so = so refl
+and_is false c so = refl
+
+module _ {K : Type 0} (E : K → K → Bool) (laws : IsEquivalence E) (q x : K) (xs : List K) where
+  -- what is there already
+  there : list_any (E x) xs ≡ true → list_any (E q) xs ≡ (E q x || list_any (E q) xs)
+  there has = or_is (E q x) (list_any (E q) xs) (λ same. list_any_congr laws q x xs same ∙ has)
+
+  -- one more behind the others
+  one_more : list_any (E q) (xs ++ x ∷ []) ≡ (E q x || list_any (E q) xs)
+  one_more = list_any-append (E q) xs (x ∷ []) ∙ or_turned (E q x) (list_any (E q) xs)
+
+  -- what is not there
+  missing : list_any (E x) xs ≡ false → list_any (E q) xs ≡ (not (E q x) && list_any (E q) xs)
+  missing has = and_is (E q x) (list_any (E q) xs) (λ same. list_any_congr laws q x xs same ∙ has)
+
+  -- all but one
+  one_less : list_any (E q) (filter (λ c. not (E x c)) xs) ≡ (not (E q x) && list_any (E q) xs)
+  one_less = any-filter_same (E q) (λ c. not (E x c)) (not (E q x)) same_of xs
+    where
+      same_of : (c : K) → E q c ≡ true → not (E x c) ≡ not (E q x)
+      same_of c is = ap not (laws.symm x c ∙ sym (laws.congr q c x is))
+
+-- ---- places
+
+three_are : (a b c : Bool) → a ≡ true → b ≡ true → c ≡ true → (a && (b && c)) ≡ true
+three_are true true true _ _ _ = refl
+three_are true true false _ _ no = absurd (cc)
+three_are true false c _ no _ = absurd (cc)
+three_are false b c no _ _ = absurd (cc)
+
+three_of : (a b c : Bool) → (a && (b && c)) ≡ true → (a ≡ true) × ((b ≡ true) × (c ≡ true))
+three_of true true true is = (refl, (refl, refl))
+three_of true true false no = absurd (cc)
+three_of true false c no = absurd (cc)
+three_of false b c no = absurd (cc)
+
+three_alike : (a b c x y z : Bool) → a ≡ x → b ≡ y → c ≡ z → (a && (b && c)) ≡ (x && (y && z))
+three_alike a b c x y z one two three = rw one (rw two (rw three refl))
+
+same_places : IsEquivalence is_same
+same_places = record {
+  refl = λ x. three_are (x.segment == x.segment) (x.procedure == x.procedure) (x.offset == x.offset)
+      (nat_eq_equiv.refl x.segment) (nat_eq_equiv.refl x.procedure) (nat_eq_equiv.refl x.offset);
+  symm = λ x y. three_alike (x.segment == y.segment) (x.procedure == y.procedure) (x.offset == y.offset)
+      (y.segment == x.segment) (y.procedure == x.procedure) (y.offset == x.offset)
+      (nat_eq_equiv.symm x.segment y.segment) (nat_eq_equiv.symm x.procedure y.procedure) (nat_eq_equiv.symm x.offset y.offset);
+  congr = λ x y z is.
+      let parts = three_of (x.segment == y.segment) (x.procedure == y.procedure) (x.offset == y.offset) is in
+      three_alike (x.segment == z.segment) (x.procedure == z.procedure) (x.offset == z.offset)
+      (y.segment == z.segment) (y.procedure == z.procedure) (y.offset == z.offset)
+      (nat_eq_equiv.congr x.segment y.segment z.segment parts.0)
+      (nat_eq_equiv.congr x.procedure y.procedure z.procedure parts.1.0)
+      (nat_eq_equiv.congr x.offset y.offset z.offset parts.1.1);
+}
+
+pub break_sets_one : BreakSetsOne
+unfolding after_command with_break
+break_sets_one s p o d place few = go (is_set (code_place s p o) d.breaks) refl
+  where
+    room : nat_lt (length d.breaks) 64 ≡ true
+    room = grind (arith, nat_tests)
+
+    go : (b : Bool) → is_set (code_place s p o) d.breaks ≡ b
+        → is_set place (session_after (Some (commands.Break s p o)) d).breaks ≡ (is_same place (code_place s p o) || is_set place d.breaks)
+    go true has = rw has (there is_same same_places place (code_place s p o) d.breaks has)
+    go false has = rw has (rw room (one_more is_same same_places place (code_place s p o) d.breaks))
+
+pub clear_takes_one : ClearTakesOne
+unfolding after_command without_break
+clear_takes_one s p o d place = go (is_set (code_place s p o) d.breaks) refl
+  where
+    go : (b : Bool) → is_set (code_place s p o) d.breaks ≡ b
+        → is_set place (session_after (Some (commands.Clear s p o)) d).breaks ≡ (not (is_same place (code_place s p o)) && is_set place d.breaks)
+    go true has = rw has (one_less is_same same_places place (code_place s p o) d.breaks)
+    go false has = rw has (missing is_same same_places place (code_place s p o) d.breaks has)
+
+-- ---- words
+
+same_addresses : IsEquivalence (λ a b. b == a)
+same_addresses = record {
+  refl = nat_eq_equiv.refl;
+  symm = λ x y. nat_eq_equiv.symm y x;
+  congr = λ x y z is. nat_eq_equiv.symm z x ∙ nat_eq_equiv.congr x y z (nat_eq_equiv.symm x y ∙ is) ∙ nat_eq_equiv.symm y z;
+}
+
+pub watch_adds_one : WatchAddsOne
+unfolding after_command with_watch
+watch_adds_one a d address even few = rw even (go (is_watched a d.watches) refl)
+  where
+    room : nat_lt (length d.watches) 64 ≡ true
+    room = grind (arith, nat_tests)
+
+    go : (b : Bool) → is_watched a d.watches ≡ b
+        → is_watched address (with_watches d (if b then Ok d.watches else if nat_lt (length d.watches) 64 then Ok (d.watches ++ a ∷ []) else Err Full)).watches
+        ≡ (a == address || is_watched address d.watches)
+    go true has = there (λ a b. b == a) same_addresses address a d.watches has
+    go false has = rw room (one_more (λ a b. b == a) same_addresses address a d.watches)
+
+pub unwatch_takes_one : UnwatchTakesOne
+unfolding after_command without_watch
+unwatch_takes_one a d address = go (is_watched a d.watches) refl
+  where
+    go : (b : Bool) → is_watched a d.watches ≡ b
+        → is_watched address (session_after (Some (commands.Unwatch a)) d).watches ≡ (not (a == address) && is_watched address d.watches)
+    go true has = rw has (one_less (λ a b. b == a) same_addresses address a d.watches)
+    go false has = rw has (missing (λ a b. b == a) same_addresses address a d.watches has)

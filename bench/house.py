@@ -1,6 +1,7 @@
 """house.py: what the house asks of its source and what this script finds against it. By hand; no part of the gate.
 
-    definitions     of the same text in specs/ of two crates
+    definitions     of the same shape in specs/ of two crates: equal but for their own names and those of their parameters;
+                    and so bodies of functions in two files
     functions       of more than 40 lines with their signature, without the rows of a table that a macro takes, and crates
                     of more than 100 functions
     lines           over 120 characters in code, definitions and docs, over 160 in proofs (tables and the index apart, and
@@ -54,13 +55,36 @@ def definitions(path):
         name, text = (head.group(1), [line]) if head else (None, [])
 
 
-by_text = collections.defaultdict(set)
+def shape(name, text, parameters):
+    """The text with its own name as $, and its parameters as $1, $2 ..: what it is, whatever its words."""
+    order = {name: "$"}
+    for word in parameters:
+        order.setdefault(word, "$%d" % len(order))
+    return re.sub(r"[A-Za-z_][\w'-]*", lambda word: order.get(word[0], word[0]), text)
+
+
+# Two of one shape that say different things, or where neither crate stands on the other.
+APART = ({"number_and_numbers", "byte_and_bytes"}, {"IsImage", "IsVolumeOfBytes"}, {"characters_of", "text_of"},
+         {"control", "control_word"}, {"is_even"}, {"Name", "TextLine"}, {"push_slots"}, {"push_word"})
+by_shape = collections.defaultdict(set)
 for path in glob.glob("crates/*/specs/**/*.antt", recursive=True):
     for name, text in definitions(path):
+        equations = re.findall(r"%s ((?:[^=]|=(?! ))*?) = " % re.escape(name), text)
+        parameters = re.findall(r"[a-z_][\w'-]*", " ".join(equations))
         if len(text.split()) > 6:
-            by_text[re.sub(r"^(abbrev|unfoldable) ", "", text)].add((path.split("/")[1], name))
-for places in by_text.values():
-    if len({crate for crate, _ in places}) > 1:
+            text = re.sub(r"^(abbrev|unfoldable) ", "", text)
+            by_shape[shape(name, text, parameters)].add((path.split("/")[1], name))
+FUNCTION = r"^( *)(?:pub(?:\([a-z]+\))? )?(?:const )?fn (\w+)(?:<[^(]*>)?\(([^)]*)\).*?\n\1\{\n(.*?)\n\1\}"
+for path in (path for path in glob.glob("crates/*/src/**/*.rt", recursive=True) if not path.startswith("crates/test_")):
+    for _, name, parameters, body in re.findall(FUNCTION, "\n".join(lines(path)), re.M | re.S):
+        words = re.findall(r"(\w+):", parameters) + re.findall(r"\blet (?:mut )?(\w+)|\bfor (\w+) in|\|(\w+)\|", body)
+        words = [word for one in words for word in ([one] if isinstance(one, str) else one) if word]
+        text = shape(name, " ".join(body.split()), words)
+        if len(text) > 60:
+            by_shape[text].add((path[7:], name))
+for places in by_shape.values():
+    names = {name for _, name in places}
+    if len({crate for crate, _ in places}) > 1 and names not in APART:
         tell("definition", ", ".join("%s of %s" % (name, crate) for crate, name in sorted(places)))
 
 for path in sorted(glob.glob("crates/*/src/**/*.rt", recursive=True)):
@@ -218,7 +242,7 @@ if "\n".join(lines("INDEX.md")) != index.page():
     tell("index", "INDEX.md is not that of the source: python3 bench/index.py")
 
 # The most bytes of a page, and of all of docs/.
-MOST = {"PROMISES": 12600, "DECISIONS": 8200, "ARCHITECTURE": 12200, "COMMANDS": 31600, "FILES": 25700,
+MOST = {"PROMISES": 12600, "DECISIONS": 8200, "ARCHITECTURE": 12800, "COMMANDS": 31600, "FILES": 25700,
         "INSTRUCTIONS": 20000, "ASSEMBLY": 18000, "WORKING": 14900, "PROCEDURES": 13900, "MACHINE": 13100, "GLOSSARY": 6600,
         "CASES": 3500, "LIBRARY": 5100, "DISKS": 4300}
 ALL_PAGES = 204800

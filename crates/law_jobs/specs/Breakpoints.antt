@@ -1,6 +1,7 @@
--- What the breakpoints and the watched words of a session are after its lines, as sets: which are in them, and which are
--- not.
-use Rattle.std.specs.Prelude.{◌≡◌, ◌<◌, ◌==◌, ◌||◌, ◌&&◌, not, ℕ, Bool, true, false, List, [], ◌∷◌, length, Option, Some, ⊤}
+-- What the breakpoints and the watched words of a session are after its lines, as sets: which are in them, and which
+-- are not.
+use Rattle.std.specs.Prelude.{◌≡◌, ◌<◌, ◌==◌, ◌||◌, ◌&&◌, not, ℕ, Bool, true, false, List, [], ◌∷◌, length}
+use Rattle.std.specs.Prelude.{Option, Some, ⊤}
 use Rattle.pm_words.specs.Stack.{is_even}
 use Rattle.pm_machine.specs.CodePlaces.{code_place}
 use Rattle.pm_machine.specs.declared.code_place.CodePlace.{CodePlace}
@@ -51,7 +52,8 @@ ClearTakesOne = (s p o : ℕ) (d : Session) (place : CodePlace)
     → is_set place (session_after (Some (commands.Clear s p o)) d).breaks
     ≡ (not (is_same place (code_place s p o)) && is_set place d.breaks)
 
--- After `watch` with an even address, where fewer than 64 are watched, the word there is watched, and each other as before.
+-- After `watch` with an even address, where fewer than 64 are watched, the word there is watched, and each other as
+-- before.
 abbrev pub WatchAddsOne : Type 0
 WatchAddsOne = (a : ℕ) (d : Session) (address : ℕ) → is_even a ≡ true → length d.watches < 64
     → is_watched address (session_after (Some (commands.Watch a)) d).watches

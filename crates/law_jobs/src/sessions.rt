@@ -30,8 +30,8 @@ pub fn other_lines_leave_the_breakpoints()
     ensures watches { WatchesStay }
 {}
 
-/// After `break`, where fewer than 64 are set, its place is a breakpoint, after `clear` it is none, and each other place
-/// is one exactly if it was one before; and so of the words that `watch` and `unwatch` name.
+/// After `break`, where fewer than 64 are set, its place is a breakpoint, after `clear` it is none, and each other
+/// place is one exactly if it was one before; and so of the words that `watch` and `unwatch` name.
 #[tactic(auto, using(crate::proofs::Breakpoints::break_sets_one, crate::proofs::Breakpoints::clear_takes_one, crate::proofs::Breakpoints::watch_adds_one, crate::proofs::Breakpoints::unwatch_takes_one))]
 pub fn a_command_changes_one_breakpoint()
     ensures sets { BreakSetsOne }

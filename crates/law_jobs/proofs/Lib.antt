@@ -13,3 +13,4 @@ pub mod MachineRuns
 pub mod ToolRuns
 pub mod LineLaws
 pub mod Breakpoints
+pub mod SelectedLines

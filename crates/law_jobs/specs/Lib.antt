@@ -6,3 +6,4 @@ pub mod Console
 pub mod ToolLaws
 pub mod TraceLaws
 pub mod Breakpoints
+pub mod Selections

@@ -24,7 +24,7 @@ files() {
     done
     echo "$program lib/pmach/$which/pmach"
     (cd "$here" && find share -type f) | sed 's/.*/& &/'
-    (cd "$here" && find README.md docs examples -type f ! -name '*.pyc') | sed 's|.*|& share/doc/pmach/&|'
+    (cd "$here" && find README.md INDEX.md docs examples -type f ! -name '*.pyc') | sed 's|.*|& share/doc/pmach/&|'
 }
 
 # What else is made: the sentence of a program that is not proved, and a link by which the examples find the program.

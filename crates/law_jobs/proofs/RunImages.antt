@@ -44,4 +44,4 @@ same : (run : Run) (saving other : Saving) → SayTheSame (run_said saving run) 
 same run saving other = record { written = refl; exit = refl; message = refl; printer = refl; unread = refl; stopped = refl }
 
 pub saving_changes_nothing : SavingChangesNothing
-saving_changes_nothing run = record { same = same run; fourth = refl }
+saving_changes_nothing run = record { same = same run; fourth = refl; others = refl; no_fourth = refl }

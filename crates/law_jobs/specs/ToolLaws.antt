@@ -97,10 +97,13 @@ pub record SayTheSame (told other : Said) : Type 0 where
   pub unread : told.unread ≡ other.unread
   pub stopped : told.stopped ≡ other.stopped
 
--- which images are kept changes nothing else; and that of unit 4 is the same alone and with the others
+-- Which images are kept changes nothing else; that of unit 4 is the same alone and with the others, and these are the
+-- same with it and without it, where no image of unit 4 is kept.
 pub record SavesApart (run : Run) : Type 0 where
   pub same : (saving other : Saving) → SayTheSame (run_said saving run) (run_said other run)
   pub fourth : (run_said savings.First run).image ≡ (run_said savings.All run).image
+  pub others : (run_said savings.Others run).others ≡ (run_said savings.All run).others
+  pub no_fourth : (run_said savings.Others run).image ≡ None
 
 abbrev pub SavingChangesNothing : Type 0
 SavingChangesNothing = (run : Run) → SavesApart run

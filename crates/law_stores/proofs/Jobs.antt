@@ -4,11 +4,14 @@ use Rattle.std.proofs.Common.{◌∷◌, Bool, String, Vec, ap, refl, subst, sym
 use Rattle.std.specs.declared.alloc.Global.{Global}
 use Rattle.pm_files.specs.Held.{Files, HoldsFile, Keeps}
 use Rattle.pm_files.specs.declared.fault.DiskFault.{DiskFault}
-use Rattle.pm_tool.specs.Said.{IsCutShort, IsSoundExit, job_said}
+use Rattle.pm_batch.specs.declared.refusal.Refusal.{Refusal}
+use Rattle.pm_machine.specs.State.{State}
+use Rattle.pm_tool.specs.Said.{IsCutShort, IsSoundExit, job_said, said_started}
+use Rattle.pm_tool.specs.declared.steps.Show.TheVariants.{Console}
 use Rattle.pm_tool.specs.declared.outcome.Job.TheVariants as jobs
 use Rattle.pm_tool.specs.declared.outcome.Outcome.{Outcome}
 use Rattle.pm_program.specs.Kept.{KeepsEach, KeepsRun, KeepsRunSaid, KeepsSaid, KeepsTold, PrintsIf, Reads, ReadsEach}
-use Rattle.pm_program.specs.Kept.{first_image, has_run, kept_paths}
+use Rattle.pm_program.specs.Kept.{first_image, has_run, kept_paths, next_images}
 use Rattle.pm_program.specs.declared.kept.KeptOfRun.{KeptOfRun}
 use Rattle.pm_choices.specs.declared.saving.Saving.{Saving}
 use Rattle.pm_choices.specs.declared.saving.Saving.TheVariants as savings
@@ -17,8 +20,8 @@ use Rattle.pm_plan.specs.declared.run_words.Program.{Program}
 use Rattle.pm_program.specs.declared.kept.Printing.TheVariants as printings
 use Rattle.pm_plan.specs.declared.file_words.Verb.{Verb}
 use Rattle.pm_plan.specs.declared.file_words.Verb.TheVariants as verbs
-use Rattle.pm_tool.specs.Disks.{images_of}
-use Rattle.law_stores.specs.Jobs.{LeavesRun, StaysWhereCut, left_in, said_verb}
+use Rattle.pm_tool.specs.Disks.{booted, images_of}
+use Rattle.law_stores.specs.Jobs.{KeepsDisk, LeavesRun, StaysWhereCut, fourth_kept, left_in, said_verb}
 
 abbrev bytes_in : Option (List ℕ) → List ℕ
 bytes_in None = []
@@ -89,25 +92,52 @@ file_said (Err fault) old new path image file verb known input has keeps is had 
 abbrev none_other : Others
 none_other = record { d5 = None; d9 = None; d10 = None; d11 = None; d12 = None }
 
+-- of five other units none has a path
+others_none : (old between : Files) (images : List (Option (List ℕ)))
+    → KeepsEach old between (None ∷ None ∷ None ∷ None ∷ None ∷ []) images → between ≡ old
+others_none old between images keeps =
+    let d9 = keeps.2 in
+    let d10 = d9.2 in
+    let d11 = d10.2 in
+    let d12 = d11.2 in
+    d12.2 ∙ d12.1 ∙ d11.1 ∙ d10.1 ∙ d9.1 ∙ keeps.1
+
+-- nor has unit 4
+none : (old between : Files) (images : List (Option (List ℕ)))
+    → KeepsEach old between (None ∷ None ∷ None ∷ None ∷ None ∷ None ∷ []) images → between ≡ old
+none old between images keeps = others_none keeps.0 between (next_images images) keeps.2 ∙ keeps.1
+
 alone : (old : List ℕ → Option (List ℕ)) (between : Files) (path : List ℕ) (images : List (Option (List ℕ)))
     → KeepsEach (Some old) between (Some path ∷ None ∷ None ∷ None ∷ None ∷ None ∷ []) images
     → Keeps (Some old) between path (first_image images)
 alone old between path images keeps =
-    let d5 = keeps.2 in
-    let d9 = d5.2 in
-    let d10 = d9.2 in
-    let d11 = d10.2 in
-    let d12 = d11.2 in
     subst (λ files. Keeps (Some old) files path (first_image images))
-    (sym (d12.2 ∙ d12.1 ∙ d11.1 ∙ d10.1 ∙ d9.1 ∙ d5.1)) keeps.1
+    (sym (others_none keeps.0 between (next_images images) keeps.2)) keeps.1
 
--- of one disk its image alone is kept
+-- of one disk its image alone is kept, or none
 one_kept : (old : List ℕ → Option (List ℕ)) (between : Files) (saving : Saving) (path : List ℕ)
     (images : List (Option (List ℕ))) → KeepsEach (Some old) between (kept_paths saving path none_other) images
-    → Keeps (Some old) between path (first_image images)
-one_kept old between savings.Nothing path images keeps = alone old between path images keeps
+    → Keeps (Some old) between path (fourth_kept saving (first_image images))
+one_kept old between savings.Nothing path images keeps = none (Some old) between images keeps
 one_kept old between savings.First path images keeps = alone old between path images keeps
 one_kept old between savings.All path images keeps = alone old between path images keeps
+one_kept old between savings.Others path images keeps = none (Some old) between images keeps
+
+fourth_none : (saving : Saving) → fourth_kept saving None ≡ None
+fourth_none savings.Nothing = refl
+fourth_none savings.First = refl
+fourth_none savings.All = refl
+fourth_none savings.Others = refl
+
+-- of what is said of a run that image is kept which is there
+fourth_said : (saving : Saving) (limit : ℕ) (start : Result State Refusal) (input : List ℕ)
+    → fourth_kept saving (said_started (Console saving) limit start input).image
+    ≡ (said_started (Console saving) limit start input).image
+fourth_said savings.Nothing limit (Ok machine) input = refl
+fourth_said savings.First limit (Ok machine) input = refl
+fourth_said savings.All limit (Ok machine) input = refl
+fourth_said savings.Others limit (Ok machine) input = refl
+fourth_said saving limit (Err refusal) input = fourth_none saving
 
 run_left : (old new : List ℕ → Option (List ℕ)) (between : Files) (path image file : List ℕ) (kept : Option (List ℕ))
     (runs : Bool) (printed : List ℕ) → new path ≡ Some file → Keeps (Some old) between path kept
@@ -122,7 +152,7 @@ pub disk_kept : (saving : Saving) (done : Result Outcome DiskFault) (old new : L
     (from path image file : List ℕ) → new path ≡ Some file
     → IfOk done (λ outcome. KeepsRun (Some old) (Some new) (kept_paths saving from none_other) printings.Nowhere outcome)
     → from ≡ path → old path ≡ Some image
-    → IfOk done (λ outcome. file ≡ left_in image (option_map vec_items outcome.image))
+    → IfOk done (KeepsDisk saving image file)
 disk_kept saving (Ok outcome) old new from path image file has keeps is had =
     run_left old new keeps.0 from image file _ _ _ (subst (λ path. new path ≡ Some file) (sym is) has)
     (one_kept old keeps.0 saving from _ keeps.1) keeps.2 (subst (λ path. old path ≡ Some image) (sym is) had)
@@ -188,9 +218,11 @@ disk_said (Ok outcome) old new from path image file name limit saving known inpu
     leaves disks None reads given told held = (
       disks,
       reads_one old (string_bytes from) image (images_of disks) reads held,
-      run_left old new told.0 (string_bytes from) image file (job_said (jobs.Run disks name limit saving None) input).image
+      subst (λ kept. file ≡ left_in image kept) (fourth_said saving limit (booted (images_of disks) (string_bytes name) None) input)
+          (run_left old new told.0 (string_bytes from) image file
+          (fourth_kept saving (job_said (jobs.Run disks name limit saving None) input).image)
           (has_run (job_said (jobs.Run disks name limit saving None) input).exit)
           (job_said (jobs.Run disks name limit saving None) input).printer (subst (λ path. new path ≡ Some file) (sym at) has)
-          (one_kept old told.0 saving (string_bytes from) _ told.1) told.2 held,
+          (one_kept old told.0 saving (string_bytes from) _ told.1) told.2 held),
     )
 disk_said (Err fault) old new from path image file name limit saving known input has keeps is at had = tt

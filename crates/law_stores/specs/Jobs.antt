@@ -11,6 +11,7 @@ use Rattle.pm_tool.specs.Said.{IsCutShort, job_said}
 use Rattle.pm_tool.specs.declared.outcome.Job.TheVariants as jobs
 use Rattle.pm_tool.specs.declared.outcome.Outcome.{Outcome}
 use Rattle.pm_choices.specs.declared.saving.Saving.{Saving}
+use Rattle.pm_choices.specs.declared.saving.Saving.TheVariants as savings
 use Rattle.pm_plan.specs.declared.file_words.Verb.{Verb}
 use Rattle.pm_plan.specs.declared.file_words.Verb.TheVariants as verbs
 
@@ -31,6 +32,18 @@ left_in old (Some new) = new
 -- a file has the image of the outcome, where there is one, and else the bytes that it had
 abbrev pub KeepsIn : List ℕ → List ℕ → Outcome → Type 0
 KeepsIn old new outcome = new ≡ left_in old (option_map vec_items outcome.image)
+
+-- the image of an outcome that the file of unit 4 gets: none where it is not among those that are kept
+abbrev pub fourth_kept : Saving → Option (List ℕ) → Option (List ℕ)
+fourth_kept savings.Nothing image = None
+fourth_kept savings.First image = image
+fourth_kept savings.All image = image
+fourth_kept savings.Others image = None
+
+-- the file of a disk on unit 4 has the image of the outcome, where it is to be kept and there is one, and else the bytes
+-- that it had
+abbrev pub KeepsDisk : Saving → List ℕ → List ℕ → Outcome → Type 0
+KeepsDisk saving old new outcome = new ≡ left_in old (fourth_kept saving (option_map vec_items outcome.image))
 
 -- a file has the bytes that it had where the job was cut short
 abbrev pub StaysWhereCut : List ℕ → List ℕ → Outcome → Type 0

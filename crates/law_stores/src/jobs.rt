@@ -2,7 +2,7 @@
 
 ghost use Rattle.std.specs.Prelude.{◌≡◌, IfOk, OnErr};
 ghost use Rattle.pm_tool.specs.Said.{IsSoundExit};
-ghost use Rattle.law_stores.specs.Jobs.{KeepsIn, LeavesRun, StaysWhereCut, left_in, said_verb};
+ghost use Rattle.law_stores.specs.Jobs.{KeepsDisk, KeepsIn, LeavesRun, StaysWhereCut, left_in, said_verb};
 
 use crate::stores::OneFile;
 use pm_choices::Saving;
@@ -60,7 +60,7 @@ pub fn on_disk(
     limit: u64,
     saving: Saving,
 ) -> Result<OnFile, DiskFault>
-    ensures kept { IfOk result (λ came. IfOk came.done (KeepsIn image.items came.file.items)) }
+    ensures kept { IfOk result (λ came. IfOk came.done (KeepsDisk saving image.items came.file.items)) }
     ensures cut { IfOk result (λ came. IfOk came.done (StaysWhereCut image.items came.file.items)) }
     ensures said { IfOk result (λ came. IfOk came.done (λ outcome. IsSoundExit outcome.exit →
         LeavesRun image.items name limit saving typed.now came.file.items)) }

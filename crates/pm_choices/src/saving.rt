@@ -1,7 +1,9 @@
 //! Which images a run keeps.
+ghost use Rattle.std.specs.Prelude.{◌≡◌};
+ghost use Rattle.pm_choices.specs.Savings.{has_first, has_others};
 
 /// Which images are kept as a program left them.
-#[derive(Clone, Copy, Debug, PartialEq, Eq)]
+#[derive(Clone, Copy)]
 pub enum Saving {
     /// None.
     Nothing,
@@ -9,4 +11,22 @@ pub enum Saving {
     First,
     /// Those of the disks on all units.
     All,
+    /// Those of the disks on the units other than 4.
+    Others,
+}
+
+impl Saving {
+    /// Whether the image of unit 4 is kept.
+    pub fn has_first(self) -> bool
+        ensures value { result ≡ has_first self }
+    {
+        matches!(self, Saving::First | Saving::All)
+    }
+
+    /// Whether the images of the other units are kept.
+    pub fn has_others(self) -> bool
+        ensures value { result ≡ has_others self }
+    {
+        matches!(self, Saving::All | Saving::Others)
+    }
 }

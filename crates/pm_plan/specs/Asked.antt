@@ -110,17 +110,22 @@ pub record AsksProgram (rows : List Row) (program : Program) : Type 0 where
   pub limit : IsRunLimit (is_set (word_found rows (codes "unlimited"))) (word_found rows (codes "limit")) program.limit
   pub system : word_found rows (codes "system") ≡ option_map string_bytes program.system
 
+-- All images that are the program's own: beside `--system` not that of unit 4, on which the system's segment stands.
+abbrev pub all_own : Option (List ℕ) → Saving
+all_own None = savings.All
+all_own (Some system) = savings.Others
+
 -- which images are kept, whether or not the words say `--save`, and `--save-all`: they do not say both
-abbrev pub IsSaving : Bool → Bool → Saving → Type 0
-IsSaving false false saving = saving ≡ savings.Nothing
-IsSaving true false saving = saving ≡ savings.First
-IsSaving false true saving = saving ≡ savings.All
-IsSaving true true saving = ⊥
+abbrev pub IsSaving : Bool → Bool → Option (List ℕ) → Saving → Type 0
+IsSaving false false system saving = saving ≡ savings.Nothing
+IsSaving true false system saving = saving ≡ savings.First
+IsSaving false true system saving = saving ≡ all_own system
+IsSaving true true system saving = ⊥
 
 -- the further words of run
 pub record AsksKeeping (rows : List Row) (keeping : Keeping) : Type 0 where
   pub saving : IsSaving (is_set (word_found rows (codes "save"))) (is_set (word_found rows (codes "save-all")))
-      keeping.saving
+      (word_found rows (codes "system")) keeping.saving
   pub printer : word_found rows (codes "printer") ≡ option_map string_bytes keeping.printer
   pub escape : IsFlag (one_of (codes "escape") rows) keeping.escape
 

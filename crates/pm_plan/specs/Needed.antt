@@ -1,5 +1,5 @@
 -- Which words are good: what a command line has to have, word by word.
-use Rattle.std.specs.Prelude.{◌≡◌, ◌≢◌, ◌≤◌, ◌||◌, ⊤, ℕ, Bool, true, false, List, [], ◌∷◌, ◌++◌, Option, None, Some}
+use Rattle.std.specs.Prelude.{◌≡◌, ◌≢◌, ◌≤◌, ⊤, ℕ, Bool, true, false, List, [], ◌∷◌, ◌++◌, Option, None, Some}
 use Rattle.std.specs.Prelude.{codes, is_some, if◌then◌else◌}
 use Rattle.std.specs.Bool.{MatchBool}
 use Rattle.std.specs.Str.{bytes_eq}
@@ -71,7 +71,7 @@ pub data Need : Type 0 where
   Limit : Need
   -- the limit of a run or a trace, which may be missing, and is so beside `--unlimited`
   RunLimit : Need
-  -- an option that is missing beside `--save` and beside `--save-all`
+  -- an option that is missing beside `--save`
   NotSaved : Need
   -- an option without a value that is not given beside this one
   NotBeside : List ℕ → Need
@@ -88,8 +88,7 @@ Meets rows Kind word = IsKindWord word
 Meets rows (Number most) word = IsNumberWord most word
 Meets rows Limit word = IsLimitWord word
 Meets rows RunLimit word = IsRunLimitWord (is_set (word_found rows (codes "unlimited"))) word
-Meets rows NotSaved word = IsAlone (is_set (word_found rows (codes "save"))
-    || is_set (word_found rows (codes "save-all"))) word
+Meets rows NotSaved word = IsAlone (is_set (word_found rows (codes "save"))) word
 Meets rows (NotBeside other) word = IsNotBoth (is_set word) (is_set (word_found rows other))
 Meets rows NameOrSlot word = IsNameOrSlot word (word_found rows (codes "slot"))
 Meets rows Segment word = IsCodeWords word (word_found rows (codes "procedure"))

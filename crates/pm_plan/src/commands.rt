@@ -113,7 +113,7 @@ const SAVE: WordRow = (
 const SAVE_ALL: WordRow = (
     "save-all",
     Form::Flag,
-    "Writes the image of unit 4 back, and those of the other units that have changed",
+    "Writes the image of unit 4 back, and those of the other units that have changed; with --system these alone",
 );
 
 const ESCAPE: WordRow = (

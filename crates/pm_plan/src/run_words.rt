@@ -1,7 +1,7 @@
 //! The words of `run`, `trace` and `debug`.
-ghost use Rattle.std.specs.Prelude.{◌≡◌, ◌↔◌, ◌||◌, IfErr, IfOk, IsOk, IsOkUnless, Some, codes, string_bytes};
+ghost use Rattle.std.specs.Prelude.{◌≡◌, ◌↔◌, IfErr, IfOk, IsOk, IsOkUnless, Some, codes, string_bytes};
 ghost use Rattle.pm_plan.specs.Asked.{AsksKeeping, AsksOthers, AsksProgram, IsRunLimit, IsRunLimitWord, IsSaving};
-ghost use Rattle.pm_plan.specs.Asked.{is_set, word_found, words_of};
+ghost use Rattle.pm_plan.specs.Asked.{all_own, is_set, word_found, words_of};
 ghost use Rattle.pm_plan.specs.Needed.{IsAlone, IsGiven, IsNotBoth, IsWrong, MeetEach, keeping_needs, others_needs};
 ghost use Rattle.pm_plan.specs.Needed.{program_needs};
 ghost use Rattle.pm_plan.specs.declared.words.WordsError.TheVariants.{NoMemory};
@@ -109,10 +109,21 @@ pub fn program_of(alloc: Global, matches: &ArgMatches<'_>) -> Result<Program, Wo
     })
 }
 
+/// Which images `--save-all` writes back: beside `--system` not that of unit 4, which has the system's segment.
+fn all_own(matches: &ArgMatches<'_>) -> Saving
+    ensures value { result ≡ all_own (word_found (words_of matches.now) (codes "system")) }
+{
+    match found(matches, "system") {
+        None => Saving::All,
+        Some(_) => Saving::Others,
+    }
+}
+
 /// Which images are written back. Refused where `--save` and `--save-all` both are given.
 fn saving_of(matches: &ArgMatches<'_>) -> Result<Saving, WordsError>
     ensures asked { IfOk result (λ saving. IsSaving (is_set (word_found (words_of matches.now) (codes "save")))
-        (is_set (word_found (words_of matches.now) (codes "save-all"))) saving) }
+        (is_set (word_found (words_of matches.now) (codes "save-all")))
+        (word_found (words_of matches.now) (codes "system")) saving) }
     ensures good { IsOk result ↔ IsNotBoth (is_set (word_found (words_of matches.now) (codes "save-all")))
         (is_set (word_found (words_of matches.now) (codes "save"))) }
     ensures refused { IfErr result IsWrong }
@@ -120,21 +131,18 @@ fn saving_of(matches: &ArgMatches<'_>) -> Result<Saving, WordsError>
     match (is_set(matches, "save"), is_set(matches, "save-all")) {
         (false, false) => Ok(Saving::Nothing),
         (true, false) => Ok(Saving::First),
-        (false, true) => Ok(Saving::All),
+        (false, true) => Ok(all_own(matches)),
         (true, true) => Err(WordsError::Wrong("--save and --save-all do not go together")),
     }
 }
 
-/// Refuses `--save` and `--save-all` beside `--system`: the image that would be saved has the system's segment.
+/// Refuses `--save` beside `--system`: the image that would be saved has the system's segment.
 fn unsaved(matches: &ArgMatches<'_>) -> Result<(), WordsError>
-    ensures good { IsOk result ↔ IsAlone (is_set (word_found (words_of matches.now) (codes "save"))
-        || is_set (word_found (words_of matches.now) (codes "save-all")))
+    ensures good { IsOk result ↔ IsAlone (is_set (word_found (words_of matches.now) (codes "save")))
         (word_found (words_of matches.now) (codes "system")) }
     ensures refused { IfErr result IsWrong }
 {
-    if (is_set(matches, "save") || is_set(matches, "save-all"))
-        && found(matches, "system").is_some()
-    {
+    if is_set(matches, "save") && found(matches, "system").is_some() {
         return Err(WordsError::Wrong(
             "--save would keep the segment of --system in the image; examples/with-system.sh puts it there for good",
         ));

@@ -7,7 +7,7 @@ use Rattle.std.specs.declared.alloc.Global.{Global}
 use Rattle.pm_program.specs.declared.end.Conflict.{Conflict}
 use Rattle.pm_program.specs.declared.end.Conflict.TheVariants as conflicts
 use Rattle.pm_choices.specs.declared.saving.Saving.{Saving}
-use Rattle.pm_choices.specs.declared.saving.Saving.TheVariants as savings
+use Rattle.pm_choices.specs.Savings.{has_first, has_others}
 use Rattle.pm_plan.specs.declared.run_words.Keeping.{Keeping}
 use Rattle.pm_plan.specs.declared.run_words.Others.{Others}
 use Rattle.pm_plan.specs.declared.run_words.Program.{Program}
@@ -33,17 +33,6 @@ printer_conflict same folders program (Some path) =
     else if names_image same path (option_map string_bytes program.system) then Some conflicts.PrinterIsSystem
     else if folders path then Some conflicts.PrinterIsFolder
     else None
-
--- the image of unit 4 is to be saved, alone or with the others
-abbrev pub is_saved : Saving → Bool
-is_saved savings.Nothing = false
-is_saved savings.First = true
-is_saved savings.All = true
-
-abbrev pub are_all_saved : Saving → Bool
-are_all_saved savings.Nothing = false
-are_all_saved savings.First = false
-are_all_saved savings.All = true
 
 -- two paths, if there are both, name one file
 abbrev pub shares : (List ℕ → List ℕ → Bool) → Option (String Global) → Option (String Global) → Bool
@@ -97,16 +86,16 @@ others_take_away beside p printer = takes_away beside (option_map string_bytes p
 -- one of the files that are written would do so
 abbrev pub is_taken_away : (List ℕ → List ℕ → Bool) → Program → Saving → Option (List ℕ) → Bool
 is_taken_away beside program saving printer =
-    (is_saved saving && takes_away beside (Some (string_bytes program.disk)) program printer)
-    || ((are_all_saved saving && others_take_away beside program printer) || takes_away beside printer program printer)
+    (has_first saving && takes_away beside (Some (string_bytes program.disk)) program printer)
+    || ((has_others saving && others_take_away beside program printer) || takes_away beside printer program printer)
 
--- the first thing that is wrong: an image that is to be saved is that of two units; else the printer's path; else a
--- file would be taken away
+-- The first thing that is wrong: where an image is to be saved, that of unit 4 is that of another unit too; one of the
+-- others that are to be saved is that of two units; else the printer's path; else a file would be taken away.
 abbrev pub conflict_of : (List ℕ → List ℕ → Bool) → (List ℕ → List ℕ → Bool) → (List ℕ → Bool) → Program → Keeping
     → Option Conflict
 conflict_of same beside folders program keeping =
-    if is_saved keeping.saving && is_other same (string_bytes program.disk) program.others
+    if (has_first keeping.saving || has_others keeping.saving) && is_other same (string_bytes program.disk) program.others
     then Some conflicts.SavedTwice
-    else if are_all_saved keeping.saving && are_shared same program.others then Some conflicts.SavedTwice
+    else if has_others keeping.saving && are_shared same program.others then Some conflicts.SavedTwice
     else or_taken_away (printer_conflict same folders program (option_map string_bytes keeping.printer))
     (is_taken_away beside program keeping.saving (option_map string_bytes keeping.printer))

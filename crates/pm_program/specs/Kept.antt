@@ -19,6 +19,7 @@ use Rattle.pm_tool.specs.declared.outcome.Job.TheVariants as jobs
 use Rattle.pm_tool.specs.declared.outcome.Outcome.{Outcome}
 use Rattle.pm_choices.specs.declared.saving.Saving.{Saving}
 use Rattle.pm_choices.specs.declared.saving.Saving.TheVariants as savings
+use Rattle.pm_program.specs.Conflicts.{other_paths}
 use Rattle.pm_choices.specs.declared.selection.Selection.{Selection}
 use Rattle.pm_plan.specs.declared.file_words.SalvagePlan.{SalvagePlan}
 use Rattle.pm_plan.specs.declared.file_words.Verb.{Verb}
@@ -53,20 +54,21 @@ PrintsIf false old new printing bytes = new ≡ old
 
 -- the paths of a program's disks, in the order of the units 4, 5, 9, 10, 11 and 12
 abbrev pub paths_of : List ℕ → Others → List (Option (List ℕ))
-paths_of disk others = Some disk ∷ option_map string_bytes others.d5 ∷ option_map string_bytes others.d9
-    ∷ option_map string_bytes others.d10 ∷ option_map string_bytes others.d11 ∷ option_map string_bytes others.d12 ∷ []
+paths_of disk others = Some disk ∷ other_paths others
 
--- the paths under which a run keeps the images of its units: that of unit 4, or all
+-- the paths under which a run keeps the images of its units: none, that of unit 4, all, or all but that of unit 4
 abbrev pub kept_paths : Saving → List ℕ → Others → List (Option (List ℕ))
-kept_paths savings.Nothing disk others = Some disk ∷ no_others
+kept_paths savings.Nothing disk others = None ∷ no_others
 kept_paths savings.First disk others = Some disk ∷ no_others
-kept_paths savings.All disk others = paths_of disk others
+kept_paths savings.All disk others = Some disk ∷ other_paths others
+kept_paths savings.Others disk others = None ∷ other_paths others
 
 -- the paths whose files a run holds before it reads them: those of the images that it may write
 abbrev pub held_paths : Saving → List ℕ → Others → List (Option (List ℕ))
 held_paths savings.Nothing disk others = []
 held_paths savings.First disk others = Some disk ∷ []
-held_paths savings.All disk others = paths_of disk others
+held_paths savings.All disk others = Some disk ∷ other_paths others
+held_paths savings.Others disk others = other_paths others
 
 -- the file of a path, if there is one, is held too
 abbrev pub held_at : Option (List ℕ) → Locks → Locks

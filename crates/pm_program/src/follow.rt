@@ -341,8 +341,8 @@ fn is_taken_away<S: Store>(
     ensures value { IfSome (S.beside store.now) (λ beside.
         result ≡ is_taken_away beside program.now saving (option_map string_bytes printer.now)) }
 {
-    (saving != Saving::Nothing && takes_away_at(store, program.disk.as_str(), program, printer))
-        || (saving == Saving::All && others_take_away(store, program, printer))
+    (saving.has_first() && takes_away_at(store, program.disk.as_str(), program, printer))
+        || (saving.has_others() && others_take_away(store, program, printer))
         || takes_away(store, printer, program, printer)
 }
 
@@ -358,12 +358,13 @@ fn conflict<S: Store>(store: &S, program: &Program, keeping: &Keeping) -> Option
     ensures value { IfSome (S.same store.now) (λ same. IfSome (S.beside store.now) (λ beside.
         IfSome (S.folders store.now) (λ folders. result ≡ conflict_of same beside folders program.now keeping.now))) }
 {
-    if keeping.saving != Saving::Nothing
+    let saving = keeping.saving;
+    if (saving.has_first() || saving.has_others())
         && is_other(store, program.disk.as_str(), &program.others)
     {
         return Some(Conflict::SavedTwice);
     }
-    if keeping.saving == Saving::All && are_shared(store, &program.others) {
+    if saving.has_others() && are_shared(store, &program.others) {
         return Some(Conflict::SavedTwice);
     }
     if let Some(conflict) = printer_conflict(store, program, &keeping.printer) {

@@ -328,11 +328,14 @@ fn keep_images<S: Store>(
         (kept_paths saving disk.now others.now)
         (option_map vec_items outcome.now.image ∷ others_of outcome.now.others)) }
 {
-    keep_image(store, disk, &outcome.image)?;
     match saving {
         Saving::Nothing => Ok(()),
-        Saving::First => Ok(()),
-        Saving::All => keep_others(alloc, store, others, &outcome.others),
+        Saving::First => keep_image(store, disk, &outcome.image),
+        Saving::All => {
+            keep_image(store, disk, &outcome.image)?;
+            keep_others(alloc, store, others, &outcome.others)
+        }
+        Saving::Others => keep_others(alloc, store, others, &outcome.others),
     }
 }
 
@@ -360,6 +363,27 @@ fn hold_others<S: Store>(store: &mut S, others: &Others) -> Result<(), DiskFault
     hold_at(store, &others.d12)
 }
 
+/// Holds the files of the images that are going to be saved.
+fn hold_images<S: Store>(
+    store: &mut S,
+    disk: &str,
+    others: &Others,
+    saving: Saving,
+) -> Result<(), DiskFault>
+    ensures stays { S.files store.new ≡ S.files store.old }
+    ensures held { OnOk result (S.held store.new ≡ held_each (held_paths saving disk.now others.now) (S.held store.old)) }
+{
+    match saving {
+        Saving::Nothing => Ok(()),
+        Saving::First => store.hold(disk),
+        Saving::All => {
+            store.hold(disk)?;
+            hold_others(store, others)
+        }
+        Saving::Others => hold_others(store, others),
+    }
+}
+
 /// Holds the files of the images that are going to be saved, and makes ready for the printer's file.
 fn make_ready<S: Store>(
     store: &mut S,
@@ -371,12 +395,7 @@ fn make_ready<S: Store>(
     ensures held { OnOk result (S.held store.new
         ≡ held_each (held_paths kept.now.saving disk.now others.now) (S.held store.old)) }
 {
-    if kept.saving != Saving::Nothing {
-        store.hold(disk)?;
-    }
-    if kept.saving == Saving::All {
-        hold_others(store, others)?;
-    }
+    hold_images(store, disk, others, kept.saving)?;
     if let Printing::File(path) = &kept.printing {
         store.prepare(path.as_str())?;
     }

@@ -51,13 +51,19 @@ abbrev pub first_kept : Saving → Devices → Option (List ℕ)
 first_kept savings.Nothing devices = None
 first_kept savings.First devices = ejected_image 4 devices
 first_kept savings.All devices = ejected_image 4 devices
+first_kept savings.Others devices = None
 
--- the images on the other disk units, where they are to be kept
+-- the images on the other disk units
+abbrev pub others_in : Devices → List (Option (List ℕ))
+others_in devices = ejected_image 5 devices ∷ ejected_image 9 devices ∷ ejected_image 10 devices
+    ∷ ejected_image 11 devices ∷ ejected_image 12 devices ∷ []
+
+-- the same, where they are to be kept
 abbrev pub others_kept : Saving → Devices → List (Option (List ℕ))
 others_kept savings.Nothing devices = no_others
 others_kept savings.First devices = no_others
-others_kept savings.All devices = ejected_image 5 devices ∷ ejected_image 9 devices ∷ ejected_image 10 devices
-    ∷ ejected_image 11 devices ∷ ejected_image 12 devices ∷ []
+others_kept savings.All devices = others_in devices
+others_kept savings.Others devices = others_in devices
 
 -- a run that is told by its console bytes: its last line is the message, and the images that it leaves are kept as is
 -- to be

@@ -7,7 +7,7 @@ ghost use Rattle.std.specs.Io.KnownBytes.{Appends};
 ghost use Rattle.pm_tool.specs.Disks.{machine_at};
 ghost use Rattle.pm_tool.specs.Outcomes.{IsOutcome, SaysWhy, others_of};
 ghost use Rattle.pm_tool.specs.Run.{end_text, ended_run};
-ghost use Rattle.pm_tool.specs.Said.{BreaksOff, Finishes, WritesInTime, first_kept, others_kept};
+ghost use Rattle.pm_tool.specs.Said.{BreaksOff, Finishes, WritesInTime, first_kept, others_in, others_kept};
 ghost use Rattle.pm_tool.specs.Said.{run_said, said_run, said_talk, shown_talk};
 ghost use Rattle.pm_streams.specs.Streams.{AppendsFront, AreWell, IsCause, IsCounted, both};
 
@@ -45,7 +45,7 @@ fn taken(machine: &mut Machine, unit: u8) -> Option<Vec<u8>>
 #[tactic(auto, using(crate::proofs::Ejected::left))]
 fn all_taken(machine: &mut Machine) -> (Option<Vec<u8>>, OtherImages)
     ensures first { option_map vec_items result.0 ≡ first_kept Saving.All machine.old.state.devices }
-    ensures others { others_of result.1 ≡ others_kept Saving.All machine.old.state.devices }
+    ensures others { others_of result.1 ≡ others_in machine.old.state.devices }
 {
     let first = taken(machine, 4);
     let others = OtherImages {
@@ -67,6 +67,7 @@ fn images_taken(machine: &mut Machine, saving: Saving) -> (Option<Vec<u8>>, Othe
         Saving::Nothing => (None, OtherImages::none()),
         Saving::First => (taken(machine, 4), OtherImages::none()),
         Saving::All => all_taken(machine),
+        Saving::Others => (None, all_taken(machine).1),
     }
 }
 

@@ -1,0 +1,18 @@
+-- Which images a run keeps.
+use Rattle.std.specs.Prelude.{Bool, true, false}
+use Rattle.pm_choices.specs.declared.saving.Saving.{Saving}
+use Rattle.pm_choices.specs.declared.saving.Saving.TheVariants as savings
+
+-- the image of unit 4 is kept
+abbrev pub has_first : Saving → Bool
+has_first savings.Nothing = false
+has_first savings.First = true
+has_first savings.All = true
+has_first savings.Others = false
+
+-- those of the other units are kept
+abbrev pub has_others : Saving → Bool
+has_others savings.Nothing = false
+has_others savings.First = false
+has_others savings.All = true
+has_others savings.Others = true

@@ -8,7 +8,8 @@
                     attributes, which `rt fmt` joins)
     numbers         that have a name: ends of the stack, the most bytes of bare code, opcodes of jumps (the table of
                     opcodes, table.rt, has its own)
-    the page        of the instructions, of which crates/test_page/stdin is a copy
+    the pages       with the tables of the instructions, the standard procedures and the system's procedures, of which
+                    crates/test_page/stdin is a copy, one behind another
     the cases       of examples/conformance/bare.txt, of which crates/test_cases/data/bare.txt is a copy
     the segment     of examples/system/system.text, of which crates/test_trials/data/system.text is a copy
     names           that docs/PROMISES.md, docs/ARCHITECTURE.md, docs/DECISIONS.md and the sections of definitions have and
@@ -159,8 +160,9 @@ for name in sorted(set(stands) | set(drawn)):
     if drawn[name] != (floor_of(name), nearest):
         tell("map", "%s: floor %d, on %s" % (name, floor_of(name), ", ".join(sorted(nearest)) or "none"))
 
-if lines("crates/test_page/stdin") != lines("docs/INSTRUCTIONS.md"):
-    tell("page", "crates/test_page/stdin is not docs/INSTRUCTIONS.md")
+TABLES = ("docs/INSTRUCTIONS.md", "docs/PROCEDURES.md", "examples/system/README.md")
+if "\n".join(lines("crates/test_page/stdin")) != "".join("\n".join(lines(page)) for page in TABLES):
+    tell("page", "crates/test_page/stdin is not %s" % ", ".join(TABLES))
 if lines("crates/test_cases/data/bare.txt") != lines("examples/conformance/bare.txt"):
     tell("cases", "crates/test_cases/data/bare.txt is not examples/conformance/bare.txt")
 if lines("crates/test_trials/data/system.text") != lines("examples/system/system.text"):

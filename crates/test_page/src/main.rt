@@ -1,19 +1,28 @@
-//! The table of docs/INSTRUCTIONS.md beside the program's: a program of the gate, whose input is that page. It prints
-//! each row that says another number, name or form than the table has, and how many opcodes the page has rows for.
+//! The tables of docs/INSTRUCTIONS.md, docs/PROCEDURES.md and examples/system/README.md beside the program's: a program
+//! of the gate, whose input is these pages, one behind another. It prints each row that does not say what the program
+//! has, and the number behind the last that has a row.
 #![tactic(auto)]
 
 mod page;
+mod row;
 
 use page::Page;
+use row::Table;
 use std::io;
 
 fn main(rt: HostRuntime) -> io::Result<()> {
-    let mut page = Page::new();
+    let mut opcodes = Page::new(Table::Opcodes);
+    let mut standard = Page::new(Table::Standard);
+    let mut system = Page::new(Table::System);
     for line in rt.lines(rt.alloc()) {
         let line = line?;
-        if !page.line(rt.alloc(), line.as_str())? {
-            println!(rt; "not so: {line}")?;
+        for page in [&mut opcodes, &mut standard, &mut system] {
+            if !page.line(rt.alloc(), line.as_str())? {
+                println!(rt; "not so: {line}")?;
+            }
         }
     }
-    println!(rt; "opcodes: {}", page.opcodes())
+    println!(rt; "opcodes below {}", opcodes.next())?;
+    println!(rt; "standard procedures below {}", standard.next())?;
+    println!(rt; "procedures of the system below {}", system.next())
 }

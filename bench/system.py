@@ -155,9 +155,12 @@ def show(lines, file, index, window):
 
 
 def code_of(lines, jumps=()):
-    """The code file of a program of straight code; these labels are the entries of its jump table."""
-    text = system + ".SEG 1 RANDOM\n.PROC 1 0 4 5000\n" + "\n".join(lines) + "\n.EXIT\nRBP 0\n"
+    """The code file of a program of straight code; these labels are the entries of its jump table. Before each call of the
+    system procedure 2 leaves bytes below the stack, so that what a procedure of the system finds in its variables is no 0."""
+    lines = "\n".join("CLP 2\n" + line if line.startswith("CXP 0,") else line for line in lines)
+    text = system + ".SEG 1 RANDOM\n.PROC 1 0 4 5000\n" + lines + "\n.EXIT\nRBP 0\n"
     end = "".join(".JUMP %s\n" % label for label in jumps) + ".END\n"
+    end += ".PROC 2 1 0 600\nLLA 1\nSLDC 0\nLDCI 600\nSLDC 77\nCSP 10\nNOP\n.EXIT\nRNP 0\n.END\n"
     for more in ("", "NOP\n"): # for an even length
         code = subprocess.run([program, "asm"], input=(text + more + end).encode(), stdout=subprocess.PIPE, stderr=subprocess.PIPE)
         if code.returncode == 0:

@@ -1203,6 +1203,9 @@ case_is 'CLOSE PURGE of an old file' 00
 reset $f OLDLOCK
 close $f 1
 case_is 'CLOSE LOCK of an old file' 00
+reset $f WORK:
+close $f 2
+case_is 'CLOSE PURGE of a volume, behind that of a file' 00
 reset $f CRUNCH
 get $f
 close $f 3

@@ -12,6 +12,7 @@
                     crates/test_page/stdin is a copy, one behind another
     the cases       of examples/conformance/bare.txt, of which crates/test_cases/data/bare.txt is a copy
     the segment     of examples/system/system.text, of which crates/test_trials/data/system.text is a copy
+    the header      examples/library/pmach.h, whose numbers of answers are those that crates/pm_c/specs/Worked.antt has
     names           that docs/PROMISES.md, docs/ARCHITECTURE.md, docs/DECISIONS.md and the sections of definitions have and
                     the source, or the crates beside, have not; and paths and sections that the pages name
     the index       INDEX.md, which index.py makes of the source
@@ -167,6 +168,11 @@ if lines("crates/test_cases/data/bare.txt") != lines("examples/conformance/bare.
     tell("cases", "crates/test_cases/data/bare.txt is not examples/conformance/bare.txt")
 if lines("crates/test_trials/data/system.text") != lines("examples/system/system.text"):
     tell("segment", "crates/test_trials/data/system.text is not examples/system/system.text")
+
+worked = re.findall(r"^  pub \w+ : ([A-Z_]+) ≡ (\d+)$", "\n".join(lines("crates/pm_c/specs/Worked.antt")), re.M)
+header = re.findall(r"^    PMACH_([A-Z_]+) = (\d+)", "\n".join(lines("examples/library/pmach.h")), re.M)
+for name, number in sorted(set(worked) ^ set(header)):
+    tell("header", "%s is %s in %s alone" % (name, number, "Worked.antt" if (name, number) in worked else "pmach.h"))
 
 known = set()
 for path in glob.glob("crates/*/src/**/*.rt", recursive=True):

@@ -1,3 +1,4 @@
+pub mod Computed
 mod LooseValues
 pub mod StatusLaws
 mod Values

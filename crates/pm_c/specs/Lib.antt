@@ -3,3 +3,4 @@ pub mod Changes
 pub mod Codes
 pub mod Laws
 pub mod Owned
+pub mod Worked

@@ -17,3 +17,4 @@ pub mod shows;
 pub mod starts;
 mod status;
 pub mod volumes;
+pub mod worked;

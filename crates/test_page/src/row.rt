@@ -57,7 +57,10 @@ fn numbers(cell: &str) -> Option<(u8, u8)> {
     if let Some(first) = cell.strip_suffix(" on") {
         return Some((first.parse().ok()?, 255));
     }
-    let run = cell.split_once("..").or(cell.split_once(" to ")).or(cell.split_once(", "));
+    let run = cell
+        .split_once("..")
+        .or(cell.split_once(" to "))
+        .or(cell.split_once(", "));
     let (first, last) = run.unwrap_or((cell, cell));
     Some((first.parse().ok()?, last.parse().ok()?))
 }

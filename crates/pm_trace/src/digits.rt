@@ -60,7 +60,7 @@ pub(crate) struct Count(pub u64);
 impl fmt::Display for Count {
     ghost output = { λ c. Some (padded 8 c.0) };
 
-    #[tactic(auto, using(pm_code::proofs::PlaceDigits::padded_written))]
+    #[tactic(auto, using(pm_code::proofs::Digits::padded_written))]
     fn fmt<W: fmt::Write>(&self, f: &mut fmt::Formatter<W>) -> fmt::Result {
         let count = self.0;
         write!(f, "{count:08}")

@@ -16,10 +16,11 @@ fn main(rt: HostRuntime) -> io::Result<()> {
     let mut system = Page::new(Table::System);
     for line in rt.lines(rt.alloc()) {
         let line = line?;
-        for page in [&mut opcodes, &mut standard, &mut system] {
-            if !page.line(rt.alloc(), line.as_str())? {
-                println!(rt; "not so: {line}")?;
-            }
+        let opcode = opcodes.line(rt.alloc(), line.as_str())?;
+        let procedure = standard.line(rt.alloc(), line.as_str())?;
+        let of_system = system.line(rt.alloc(), line.as_str())?;
+        if !opcode || !procedure || !of_system {
+            println!(rt; "not so: {line}")?;
         }
     }
     println!(rt; "opcodes below {}", opcodes.next())?;

@@ -6,6 +6,7 @@ mod file_words;
 mod run_words;
 mod trace_words;
 mod words;
+pub mod worked;
 
 pub use file_words::{FilesPlan, SalvagePlan, Verb};
 pub use run_words::{Keeping, Others, Program};

@@ -1,2 +1,2 @@
 pub mod Found
-pub mod Worked
+pub mod Computed

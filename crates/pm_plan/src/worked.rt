@@ -2,7 +2,7 @@
 ghost use Rattle.pm_plan.specs.Worked.{WorkedLimits};
 
 /// The most steps of a run, with `--unlimited` and without a word.
-#[tactic(auto, using(crate::proofs::Worked::worked_limits))]
+#[tactic(auto, using(crate::proofs::Computed::worked_limits))]
 pub fn worked_limits()
     ensures law { WorkedLimits }
 {}

@@ -93,7 +93,7 @@ abbrev none_other : Others
 none_other = record { d5 = None; d9 = None; d10 = None; d11 = None; d12 = None }
 
 -- of five other units none has a path
-others_none : (old between : Files) (images : List (Option (List ℕ)))
+others_none_kept : (old between : Files) (images : List (Option (List ℕ)))
     → KeepsEach old between (None ∷ None ∷ None ∷ None ∷ None ∷ []) images → between ≡ old
 others_none old between images keeps =
     let d9 = keeps.2 in
@@ -103,9 +103,9 @@ others_none old between images keeps =
     d12.2 ∙ d12.1 ∙ d11.1 ∙ d10.1 ∙ d9.1 ∙ keeps.1
 
 -- nor has unit 4
-none : (old between : Files) (images : List (Option (List ℕ)))
+none_kept : (old between : Files) (images : List (Option (List ℕ)))
     → KeepsEach old between (None ∷ None ∷ None ∷ None ∷ None ∷ None ∷ []) images → between ≡ old
-none old between images keeps = others_none keeps.0 between (next_images images) keeps.2 ∙ keeps.1
+none_kept old between images keeps = others_none keeps.0 between (next_images images) keeps.2 ∙ keeps.1
 
 alone : (old : List ℕ → Option (List ℕ)) (between : Files) (path : List ℕ) (images : List (Option (List ℕ)))
     → KeepsEach (Some old) between (Some path ∷ None ∷ None ∷ None ∷ None ∷ None ∷ []) images
@@ -118,10 +118,10 @@ alone old between path images keeps =
 one_kept : (old : List ℕ → Option (List ℕ)) (between : Files) (saving : Saving) (path : List ℕ)
     (images : List (Option (List ℕ))) → KeepsEach (Some old) between (kept_paths saving path none_other) images
     → Keeps (Some old) between path (fourth_kept saving (first_image images))
-one_kept old between savings.Nothing path images keeps = none (Some old) between images keeps
+one_kept old between savings.Nothing path images keeps = none_kept (Some old) between images keeps
 one_kept old between savings.First path images keeps = alone old between path images keeps
 one_kept old between savings.All path images keeps = alone old between path images keeps
-one_kept old between savings.Others path images keeps = none (Some old) between images keeps
+one_kept old between savings.Others path images keeps = none_kept (Some old) between images keeps
 
 fourth_none : (saving : Saving) → fourth_kept saving None ≡ None
 fourth_none savings.Nothing = refl

@@ -1,5 +1,6 @@
 //! Jobs with files: what is read before them, and what is written behind them.
-ghost use Rattle.std.specs.Prelude.{◌≡◌, ◌∷◌, false, IfOk, IfSome, OnErr, OnOk, string_bytes, option_map, vec_items};
+ghost use Rattle.std.specs.Prelude.{◌≡◌, ◌∷◌, false, IfOk, IfSome, OnErr, OnOk, Some, string_bytes, option_map};
+ghost use Rattle.std.specs.Prelude.{vec_items};
 ghost use Rattle.pm_tool.specs.Said.{IsCutShort, IsSoundExit};
 ghost use Rattle.pm_files.specs.Held.{Keeps, Puts, held_too};
 ghost use Rattle.pm_streams.specs.Streams.{AreWell, both};
@@ -311,7 +312,27 @@ fn keep_others<S: Store>(
     keep_at(alloc, store, &paths.d12, &images.d12)
 }
 
-/// Keeps the images of a run that are to be kept: first that of unit 4.
+/// Keeps the images of all units under their paths: first that of unit 4.
+fn keep_all<S: Store>(
+    alloc: Global,
+    store: &mut S,
+    disk: &str,
+    others: &Others,
+    outcome: &Outcome,
+) -> Result<(), DiskFault>
+    ensures kept { OnOk result (KeepsEach (S.files store.old) (S.files store.new)
+        (Some disk.now ∷ other_paths others.now)
+        (option_map vec_items outcome.now.image ∷ others_of outcome.now.others)) }
+    ensures held { S.held store.new ≡ S.held store.old }
+    ensures front { OnErr result (KeepsFront (S.files store.old) (S.files store.new)
+        (Some disk.now ∷ other_paths others.now)
+        (option_map vec_items outcome.now.image ∷ others_of outcome.now.others)) }
+{
+    keep_image(store, disk, &outcome.image)?;
+    keep_others(alloc, store, others, &outcome.others)
+}
+
+/// Keeps the images of a run that are to be kept.
 fn keep_images<S: Store>(
     alloc: Global,
     store: &mut S,
@@ -331,10 +352,7 @@ fn keep_images<S: Store>(
     match saving {
         Saving::Nothing => Ok(()),
         Saving::First => keep_image(store, disk, &outcome.image),
-        Saving::All => {
-            keep_image(store, disk, &outcome.image)?;
-            keep_others(alloc, store, others, &outcome.others)
-        }
+        Saving::All => keep_all(alloc, store, disk, others, outcome),
         Saving::Others => keep_others(alloc, store, others, &outcome.others),
     }
 }

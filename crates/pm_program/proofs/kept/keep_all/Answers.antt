@@ -1,0 +1,7 @@
+use Rattle.std.proofs.Common.{inr}
+use Rattle.pm_program.proofs.KeptLaws.{where_err}
+use Rattle.pm_program.proofs.kept.keep_all.Goals as goal
+
+pub returns-clause-front : goal.returns-clause-front
+returns-clause-front g c = where_err c.keep_others.result
+    (λ front. inr (_, c.in_ok-keep_image.ensures.kept, front)) c.keep_others.ensures.front

@@ -93,7 +93,7 @@ abbrev none_other : Others
 none_other = record { d5 = None; d9 = None; d10 = None; d11 = None; d12 = None }
 
 -- of five other units none has a path
-others_none_kept : (old between : Files) (images : List (Option (List ℕ)))
+others_none : (old between : Files) (images : List (Option (List ℕ)))
     → KeepsEach old between (None ∷ None ∷ None ∷ None ∷ None ∷ []) images → between ≡ old
 others_none old between images keeps =
     let d9 = keeps.2 in

@@ -38,8 +38,12 @@ pub fn add_trace(alloc: Global, code: &[u8], limit: u32, came: &mut Came) -> io:
     Ok(())
 }
 
-/// Answers the registers and the words from SP upward.
-fn add_state(alloc: Global, machine: &Machine, came: &mut Came) -> io::Result<()> {
+/// Runs the machine itself, and answers the registers and the words from SP upward that it is left with.
+fn add_end(alloc: Global, code: &[u8], limit: u32, came: &mut Came) -> io::Result<()> {
+    let Ok(mut machine) = Machine::raw(alloc, code) else {
+        return Ok(());
+    };
+    machine.run(u64::from(limit))?;
     let r = machine.registers();
     let (ipc, sp, mp, base, np, ioresult) = (r.ipc, r.sp, r.mp, r.base, r.np, r.ioresult);
     let registers = format!(in alloc; "{ipc} {sp} {mp} {base} {np} {ioresult}")?;
@@ -55,15 +59,6 @@ fn add_state(alloc: Global, machine: &Machine, came: &mut Came) -> io::Result<()
         }
     }
     came.answers.push_str("\n")?;
-    Ok(())
-}
-
-/// Runs the machine itself, and answers what it is left with.
-fn add_end(alloc: Global, code: &[u8], limit: u32, came: &mut Came) -> io::Result<()> {
-    if let Ok(mut machine) = Machine::raw(alloc, code) {
-        machine.run(u64::from(limit))?;
-        add_state(alloc, &machine, came)?;
-    }
     Ok(())
 }
 

@@ -4,15 +4,6 @@ use std::alloc::{AllocError, Global};
 /// The most bytes that a case shows as they are.
 pub const MOST_SHOWN: usize = 64;
 
-/// How many lines a text has.
-pub fn line_count(text: &str) -> usize {
-    let mut count: usize = 0;
-    for _ in text.lines() {
-        count = count.saturating_add(1);
-    }
-    count
-}
-
 /// A line of a case.
 #[derive(Clone, Copy)]
 pub struct Line<'a> {

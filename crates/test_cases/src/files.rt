@@ -3,7 +3,7 @@ use crate::case::Line;
 use pm_filer::FileCommand;
 use std::alloc::Global;
 use std::io;
-use test_replay::{add_escaped, byte, hex_bytes, name, number, unreadable, word};
+use test_replay::{add_escaped, byte, hex_bytes, name, number, unreadable};
 
 /// Two words with a blank between them.
 pub fn two(text: &str) -> io::Result<(&str, &str)> {
@@ -79,6 +79,9 @@ pub fn command(
 ) -> io::Result<(FileCommand, Vec<u8>)> {
     let rest = line.rest;
     let none = Vec::new(alloc);
+    if let Some(rest) = rest.strip_prefix("--slot ") {
+        return Ok((on_slot(alloc, line.word, rest)?, none));
+    }
     match line.word {
         "put" => {
             let (file, rest) = two(rest)?;
@@ -93,10 +96,8 @@ pub fn command(
         }
         "change" => {
             let (old, new) = two(rest)?;
-            Ok((
-                FileCommand::Change(name(alloc, old)?, name(alloc, new)?),
-                none,
-            ))
+            let command = FileCommand::Change(name(alloc, old)?, name(alloc, new)?);
+            Ok((command, none))
         }
         "list" => Ok((FileCommand::List, none)),
         "get" => Ok((FileCommand::Get(name(alloc, rest)?), none)),
@@ -111,18 +112,15 @@ pub fn command(
     }
 }
 
-/// The command on the file of a slot, if a line names one: `get --slot N`, and such.
-pub fn on_slot(alloc: Global, line: Line<'_>) -> io::Result<Option<FileCommand>> {
-    let Some(rest) = line.rest.strip_prefix("--slot ") else {
-        return Ok(None);
-    };
+/// The command of this word on the file of a slot, `N` or `N NEW`.
+fn on_slot(alloc: Global, word: &str, rest: &str) -> io::Result<FileCommand> {
     let (slot, new) = rest.split_once(' ').unwrap_or((rest, ""));
-    let slot = word(slot)?;
-    match line.word {
-        "get" => Ok(Some(FileCommand::GetSlot(slot))),
-        "gettext" => Ok(Some(FileCommand::GetTextSlot(slot))),
-        "remove" => Ok(Some(FileCommand::RemoveSlot(slot))),
-        "change" => Ok(Some(FileCommand::ChangeSlot(slot, name(alloc, new)?))),
+    let slot = test_replay::word(slot)?;
+    match word {
+        "get" => Ok(FileCommand::GetSlot(slot)),
+        "gettext" => Ok(FileCommand::GetTextSlot(slot)),
+        "remove" => Ok(FileCommand::RemoveSlot(slot)),
+        "change" => Ok(FileCommand::ChangeSlot(slot, name(alloc, new)?)),
         _ => Err(unreadable()),
     }
 }

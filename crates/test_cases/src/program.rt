@@ -1,19 +1,22 @@
 //! Programs on the volumes of a case: how they are started, and the jobs that run them.
 use crate::case::{Came, Case, MOST_SHOWN};
+use crate::code_file::code_file;
 use crate::jobs::{Ran, do_job};
 use pm_filer::FileCommand;
 use pm_tool::{Job, Saving, Selection};
 use std::alloc::Global;
 use std::io;
-use test_replay::{add_escaped, bytes_text, digest_text, hex_bytes, name, steps, unreadable, word};
+use test_replay::{
+    add_escaped, byte, bytes_text, digest_text, hex_bytes, name, steps, unreadable, word,
+};
 
-/// The steps that a program may make, and the blocks of its volume, where the case does not say.
+/// The steps that a program may make, the blocks of its volume and the kind of its file, code, where the case does not
+/// say.
 const STEPS: u64 = 200;
 
-pub const BLOCKS: u16 = 83;
+const BLOCKS: u16 = 83;
 
-/// The kind of the code file where the case does not say: code.
-pub const CODE: u8 = 2;
+const CODE: u8 = 2;
 
 /// The units of the disks, in their order.
 pub const UNITS: [&str; 6] = ["4", "5", "9", "10", "11", "12"];
@@ -33,15 +36,25 @@ pub struct Program {
 }
 
 /// A volume without files.
-pub fn volume(alloc: Global, name: &str, blocks: u16) -> io::Result<Vec<u8>> {
+fn volume(alloc: Global, name: &str, blocks: u16) -> io::Result<Vec<u8>> {
     let name = String::from_str(alloc, name)?;
     do_job(alloc, Job::New { name, blocks }, b"").into_image()
 }
 
-/// A volume with a code file `P` more.
-pub fn with_program(alloc: Global, image: Vec<u8>, kind: u8, file: &[u8]) -> io::Result<Vec<u8>> {
+/// The volume of a case, which has its code file under the name `P`, with the names of its slots where `named`.
+pub fn work(alloc: Global, case: &Case<'_>, named: bool) -> io::Result<Vec<u8>> {
+    let blocks = match case.value("blocks") {
+        Some(blocks) => word(blocks)?,
+        None => BLOCKS,
+    };
+    let kind = match case.value("kind") {
+        Some(kind) => byte(kind)?,
+        None => CODE,
+    };
+    let image = volume(alloc, "WORK", blocks)?;
     let command = FileCommand::Put(String::from_str(alloc, "P")?, kind, Vec::new(alloc));
-    do_job(alloc, Job::Files { image, command }, file).into_image()
+    let file = code_file(alloc, case, named)?;
+    do_job(alloc, Job::Files { image, command }, &file).into_image()
 }
 
 /// The steps that the program of a case may make.
@@ -65,18 +78,6 @@ pub fn disks(alloc: Global, case: &Case<'_>, work: &[u8]) -> io::Result<Images> 
         }
     }
     Ok(disks)
-}
-
-/// The lines that are typed to the debugger.
-fn typed(alloc: Global, case: &Case<'_>) -> io::Result<Vec<u8>> {
-    let mut typed = Vec::new(alloc);
-    for line in case.lines.iter() {
-        if line.word == ">" {
-            add_escaped(&mut typed, line.rest)?;
-            typed.push(b'\n')?;
-        }
-    }
-    Ok(typed)
 }
 
 impl Program {
@@ -121,7 +122,35 @@ impl Program {
             name: name(alloc, case.value("name").unwrap_or("P"))?,
             system: self.system(alloc)?,
         };
-        Ok(do_job(alloc, job, &typed(alloc, case)?))
+        let mut typed = Vec::new(alloc);
+        for line in case.lines.iter() {
+            if line.word == ">" {
+                add_escaped(&mut typed, line.rest)?;
+                typed.push(b'\n')?;
+            }
+        }
+        Ok(do_job(alloc, job, &typed))
+    }
+
+    /// Answers the digest of its trace and what the debugger answers, each where the case asks for it.
+    pub fn add_shown(&self, alloc: Global, case: &Case<'_>, came: &mut Came) -> io::Result<()> {
+        if case.has("trace") {
+            let ran = self.trace(alloc, case, Selection::ALL)?;
+            came.shown = ran.text(alloc)?;
+            let digest = digest_text(alloc, &ran.written)?;
+            came.answer("trace", digest.as_str())?;
+        }
+        if case.has(">") {
+            let ran = self.debug(alloc, case)?;
+            let text = ran.text(alloc)?;
+            for line in text.as_str().lines() {
+                came.answer("<", line)?;
+            }
+            if ran.is_refused() {
+                came.answer("<", ran.outcome.text())?;
+            }
+        }
+        Ok(())
     }
 }
 
@@ -139,26 +168,6 @@ pub fn add_run(alloc: Global, ran: &Ran, came: &mut Came) -> io::Result<()> {
     came.answer("run", ran.outcome.text())?;
     add_bytes(alloc, "console", &ran.written, came)?;
     add_bytes(alloc, "printer", &ran.outcome.printer, came)
-}
-
-/// Answers the digest of a trace.
-pub fn add_trace(alloc: Global, ran: &Ran, came: &mut Came) -> io::Result<()> {
-    came.shown = ran.text(alloc)?;
-    let digest = digest_text(alloc, &ran.written)?;
-    came.answer("trace", digest.as_str())?;
-    Ok(())
-}
-
-/// Answers a session of the debugger.
-pub fn add_session(alloc: Global, ran: &Ran, came: &mut Came) -> io::Result<()> {
-    let text = ran.text(alloc)?;
-    for line in text.as_str().lines() {
-        came.answer("<", line)?;
-    }
-    if ran.is_refused() {
-        came.answer("<", ran.outcome.text())?;
-    }
-    Ok(())
 }
 
 /// Answers an image that is kept and is not the same as before, with this word.

@@ -1,9 +1,8 @@
 //! Cases of images: a session of commands and damage on one, which may be of any bytes.
-use crate::case::{Came, Case, Line, MOST_SHOWN, line_count};
+use crate::case::{Came, Case, Line, MOST_SHOWN};
 use crate::code_file::damage;
-use crate::files::{command, on_slot, two};
+use crate::files::{command, two};
 use crate::jobs::{Ran, do_job};
-use pm_filer::FileCommand;
 use pm_tool::Job;
 use std::alloc::Global;
 use std::io;
@@ -43,11 +42,16 @@ impl Session {
             self.came.answer("<", ran.outcome.text())?;
             return Ok(());
         }
-        self.image = ran.into_image()?;
-        let digest = digest_text(self.alloc, &self.image)?;
-        let line = format!(in self.alloc; "ok {digest}")?;
-        self.came.answer("<", line.as_str())?;
+        self.image = self.made(ran)?;
         Ok(())
+    }
+
+    /// Answers the digest of the image that a job made, and gives the image.
+    fn made(&mut self, ran: Ran) -> io::Result<Vec<u8>> {
+        let image = ran.into_image()?;
+        let digest = digest_text(self.alloc, &image)?;
+        self.came.answer("< ok", digest.as_str())?;
+        Ok(image)
     }
 
     /// Answers the bytes of a file.
@@ -72,7 +76,7 @@ impl Session {
     /// it is.
     fn add_told(&mut self, ran: &Ran) -> io::Result<()> {
         let text = ran.text(self.alloc)?;
-        let count = line_count(text.as_str());
+        let count = text.as_str().lines().count();
         if count > self.most {
             let digest = digest_text(self.alloc, &ran.written)?;
             let line = format!(in self.alloc; "{count} lines {digest}")?;
@@ -88,29 +92,15 @@ impl Session {
         Ok(())
     }
 
-    /// Does a command, of which this is the first word.
-    fn perform(
-        &mut self,
-        word: &str,
-        image: Vec<u8>,
-        command: FileCommand,
-        input: &[u8],
-    ) -> io::Result<()> {
-        let ran = do_job(self.alloc, Job::Files { image, command }, input);
-        match word {
+    /// Does the command of a line.
+    fn command(&mut self, line: Line<'_>, image: Vec<u8>) -> io::Result<()> {
+        let (command, input) = command(self.alloc, line, &self.program)?;
+        let ran = do_job(self.alloc, Job::Files { image, command }, &input);
+        match line.word {
             "list" => self.add_told(&ran),
             "get" | "gettext" => self.add_file(&ran),
             _ => self.add(ran),
         }
-    }
-
-    /// Does the command of a line.
-    fn command(&mut self, line: Line<'_>, image: Vec<u8>) -> io::Result<()> {
-        if let Some(command) = on_slot(self.alloc, line)? {
-            return self.perform(line.word, image, command, b"");
-        }
-        let (command, input) = command(self.alloc, line, &self.program)?;
-        self.perform(line.word, image, command, &input)
     }
 
     /// Makes a new volume.
@@ -128,10 +118,7 @@ impl Session {
         if ran.is_refused() {
             return Ok(());
         }
-        self.saved = ran.into_image()?;
-        let digest = digest_text(self.alloc, &self.saved)?;
-        let line = format!(in self.alloc; "ok {digest}")?;
-        self.came.answer("<", line.as_str())?;
+        self.saved = self.made(ran)?;
         Ok(())
     }
 

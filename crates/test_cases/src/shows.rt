@@ -1,9 +1,9 @@
 //! Cases of the jobs that show and tell: traces of which lines are selected, texts and lists of code files and of texts
 //! of the assembler, and sessions of the debugger.
-use crate::case::{Came, Case, Line, line_count};
+use crate::case::{Came, Case, Line};
 use crate::code_file::code_file;
 use crate::jobs::{Ran, do_job};
-use crate::program::{BLOCKS, CODE, Program, volume, with_program};
+use crate::program::{Program, work};
 use crate::texts::text;
 use pm_tool::{Code, Job, Selection};
 use std::alloc::Global;
@@ -98,10 +98,8 @@ impl Words {
 
 /// The program of a case, which has a volume of its own, with so many steps.
 fn program(alloc: Global, case: &Case<'_>, limit: u64) -> io::Result<Program> {
-    let image = volume(alloc, "WORK", BLOCKS)?;
-    let work = with_program(alloc, image, CODE, &code_file(alloc, case, true)?)?;
     Ok(Program {
-        work,
+        work: work(alloc, case, true)?,
         limit,
         system: None,
     })
@@ -115,12 +113,6 @@ fn raw(alloc: Global, case: &Case<'_>, rest: &str) -> io::Result<Ran> {
     let code = hex_bytes(alloc, case.value("code").unwrap_or(""))?;
     let digits = hex::encode(alloc, &code)?;
     Ok(do_job(alloc, Job::Raw { limit, selection }, digits.as_bytes()))
-}
-
-/// The trace of the program.
-fn trace(alloc: Global, case: &Case<'_>, rest: &str) -> io::Result<Ran> {
-    let words = Words::of(rest)?;
-    program(alloc, case, words.limit)?.trace(alloc, case, words.selection)
 }
 
 /// The job of words that have no values.
@@ -140,7 +132,10 @@ fn plain_job(words: &str) -> io::Result<Job> {
 fn ran_of(alloc: Global, case: &Case<'_>, line: Line<'_>) -> io::Result<Option<Ran>> {
     let ran = match line.word {
         "raw" => raw(alloc, case, line.rest)?,
-        "trace" => trace(alloc, case, line.rest)?,
+        "trace" => {
+            let words = Words::of(line.rest)?;
+            program(alloc, case, words.limit)?.trace(alloc, case, words.selection)?
+        }
         "asm" => do_job(alloc, plain_job(line.text)?, &text(alloc, case)?),
         "dis" => do_job(alloc, plain_job(line.text)?, &code_file(alloc, case, true)?),
         _ => return Ok(None),
@@ -151,7 +146,9 @@ fn ran_of(alloc: Global, case: &Case<'_>, line: Line<'_>) -> io::Result<Option<R
 /// Answers what a job wrote, and its message if there is one.
 fn add_ran(alloc: Global, ran: &Ran, came: &mut Came) -> io::Result<()> {
     let text = ran.text(alloc)?;
-    if line_count(text.as_str()) > LINES || text.as_str().lines().any(|line| line.len() > LONGEST) {
+    if text.as_str().lines().count() > LINES
+        || text.as_str().lines().any(|line| line.len() > LONGEST)
+    {
         let measured = measured(alloc, &ran.written)?;
         came.answer("=", measured.as_str())?;
         came.shown = text;

@@ -1,9 +1,9 @@
 //! Cases of programs for whose slot 0 a segment stands in, and of images that are kept.
 use crate::case::{Came, Case, Line};
 use crate::jobs::Ran;
-use crate::program::{Program, add_image, add_run, add_session, add_trace, disks, limit};
+use crate::program::{Program, add_image, add_run, disks, limit};
 use crate::session::Session;
-use pm_tool::{Saving, Selection};
+use pm_tool::Saving;
 use std::alloc::Global;
 use std::io;
 use test_replay::hex_bytes;
@@ -58,12 +58,6 @@ pub fn answers(alloc: Global, case: &Case<'_>) -> io::Result<Came> {
     let ran = program.run(alloc, case, saving)?;
     add_run(alloc, &ran, &mut came)?;
     add_images(alloc, case, &program.work, &ran, &mut came)?;
-    if case.has("trace") {
-        let ran = program.trace(alloc, case, Selection::ALL)?;
-        add_trace(alloc, &ran, &mut came)?;
-    }
-    if case.has(">") {
-        add_session(alloc, &program.debug(alloc, case)?, &mut came)?;
-    }
+    program.add_shown(alloc, case, &mut came)?;
     Ok(came)
 }

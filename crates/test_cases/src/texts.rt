@@ -82,10 +82,7 @@ fn add_measured(alloc: Global, word: &str, bytes: &[u8], came: &mut Came) -> io:
 fn add_shown(alloc: Global, case: &Case<'_>, file: &[u8], came: &mut Came) -> io::Result<()> {
     let ran = do_job(alloc, Job::Dis, file);
     if ran.is_refused() {
-        came.answer(
-            "refused",
-            ran.outcome.text().strip_prefix("refused ").unwrap_or(""),
-        )?;
+        came.answer(ran.outcome.text(), "")?;
         return Ok(());
     }
     add_measured(alloc, "shown", &ran.written, came)?;
@@ -103,10 +100,7 @@ fn add_assembled(alloc: Global, case: &Case<'_>, came: &mut Came) -> io::Result<
     let text = text(alloc, case)?;
     let made = do_job(alloc, Job::Asm { list: false }, &text);
     if made.is_refused() {
-        came.answer(
-            "refused",
-            made.outcome.text().strip_prefix("refused ").unwrap_or(""),
-        )?;
+        came.answer(made.outcome.text(), "")?;
         return Ok(());
     }
     add_segments(alloc, &made.written, came)?;

@@ -40,8 +40,8 @@ fourth_kept savings.First image = image
 fourth_kept savings.All image = image
 fourth_kept savings.Others image = None
 
--- the file of a disk on unit 4 has the image of the outcome, where it is to be kept and there is one, and else the bytes
--- that it had
+-- the file of a disk on unit 4 has the image of the outcome, where it is to be kept and there is one, and else the
+-- bytes that it had
 abbrev pub KeepsDisk : Saving → List ℕ → List ℕ → Outcome → Type 0
 KeepsDisk saving old new outcome = new ≡ left_in old (fourth_kept saving (option_map vec_items outcome.image))
 

@@ -94,8 +94,8 @@ is_taken_away beside program saving printer =
 abbrev pub conflict_of : (List ℕ → List ℕ → Bool) → (List ℕ → List ℕ → Bool) → (List ℕ → Bool) → Program → Keeping
     → Option Conflict
 conflict_of same beside folders program keeping =
-    if (has_first keeping.saving || has_others keeping.saving) && is_other same (string_bytes program.disk) program.others
-    then Some conflicts.SavedTwice
+    if (has_first keeping.saving || has_others keeping.saving)
+    && is_other same (string_bytes program.disk) program.others then Some conflicts.SavedTwice
     else if has_others keeping.saving && are_shared same program.others then Some conflicts.SavedTwice
     else or_taken_away (printer_conflict same folders program (option_map string_bytes keeping.printer))
     (is_taken_away beside program keeping.saving (option_map string_bytes keeping.printer))

@@ -389,7 +389,8 @@ fn hold_images<S: Store>(
     saving: Saving,
 ) -> Result<(), DiskFault>
     ensures stays { S.files store.new ≡ S.files store.old }
-    ensures held { OnOk result (S.held store.new ≡ held_each (held_paths saving disk.now others.now) (S.held store.old)) }
+    ensures held { OnOk result
+        (S.held store.new ≡ held_each (held_paths saving disk.now others.now) (S.held store.old)) }
 {
     match saving {
         Saving::Nothing => Ok(()),

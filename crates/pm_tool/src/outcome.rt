@@ -27,9 +27,10 @@ pub enum Job {
     /// that does not start by `refused boot N`, both before any input is read. The input is the console's: each time
     /// that the program waits for console bytes, one is read. The output is what the program writes to the console. The
     /// message is the last line of a trace; the outcome has the printer's bytes and, as `saving` says, the image on
-    /// unit 4, those on the other disk units or all, as the program left them. With `system`, the program is that of the image on
-    /// which the code file `name` has the segment of slot 0 of this code file, as `pm_system::put_system` puts it in;
-    /// where it is not put in, the job is refused by `refused system N`, behind the images and before the start.
+    /// unit 4, those on the other disk units or all, as the program left them. With `system`, the program is that of
+    /// the image on which the code file `name` has the segment of slot 0 of this code file, as `pm_system::put_system`
+    /// puts it in; where it is not put in, the job is refused by `refused system N`, behind the images and before the
+    /// start.
     Run {
         disks: [Option<Vec<u8>>; 6],
         name: String,

@@ -111,17 +111,19 @@ module _ {K : Type 0} (E : K → K → Bool) (laws : IsEquivalence E) (q x : K) 
 
 -- ---- places
 
+and_of : (a b : Bool) → (a && b) ≡ true → (a ≡ true) × (b ≡ true)
+and_of true b is = (refl, is)
+and_of false b is = absurd (cc)
+
+are_and : (a b : Bool) → a ≡ true → b ≡ true → (a && b) ≡ true
+are_and true b one two = two
+are_and false b one two = absurd (cc)
+
 three_are : (a b c : Bool) → a ≡ true → b ≡ true → c ≡ true → (a && (b && c)) ≡ true
-three_are true true true _ _ _ = refl
-three_are true true false _ _ no = absurd (cc)
-three_are true false c _ no _ = absurd (cc)
-three_are false b c no _ _ = absurd (cc)
+three_are a b c one two three = are_and a (b && c) one (are_and b c two three)
 
 three_of : (a b c : Bool) → (a && (b && c)) ≡ true → (a ≡ true) × ((b ≡ true) × (c ≡ true))
-three_of true true true is = (refl, (refl, refl))
-three_of true true false no = absurd (cc)
-three_of true false c no = absurd (cc)
-three_of false b c no = absurd (cc)
+three_of a b c is = let both = and_of a (b && c) is in (both.0, and_of b c both.1)
 
 three_alike : (a b c x y z : Bool) → a ≡ x → b ≡ y → c ≡ z → (a && (b && c)) ≡ (x && (y && z))
 three_alike a b c x y z one two three = rw one (rw two (rw three refl))

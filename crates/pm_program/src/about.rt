@@ -1,12 +1,7 @@
-//! Which unit and which file a refused program is about: what a terminal is told.
-use pm_files::Store;
+//! Which file a refused program is about: what a terminal is told.
 use pm_plan::{Plan, Program};
-use pm_tool::Refusal;
-use pm_volume::{Volume, VolumeFault};
+use pm_tool::About;
 use std::alloc::{AllocError, Global};
-
-/// The units of the disks.
-const UNITS: [u8; 6] = [4, 5, 9, 10, 11, 12];
 
 /// The paths of a program's disks, in the order of their units, and that of the system's code file.
 #[derive(Drop)]
@@ -49,61 +44,24 @@ pub fn disks_of(alloc: Global, plan: &Plan) -> Option<Disks> {
     }
 }
 
-/// Whether the image that a file has now is refused by this fault.
-fn has_fault<S: Store>(alloc: Global, store: &mut S, path: &str, fault: VolumeFault) -> bool {
-    let Ok(image) = store.read(alloc, path) else {
-        return false;
+/// A unit and its path.
+fn on_unit(alloc: Global, disks: &Disks, unit: u8) -> Option<String> {
+    let path = match unit {
+        4 => disks.paths[0].as_ref()?,
+        5 => disks.paths[1].as_ref()?,
+        9 => disks.paths[2].as_ref()?,
+        10 => disks.paths[3].as_ref()?,
+        11 => disks.paths[4].as_ref()?,
+        _ => disks.paths[5].as_ref()?,
     };
-    match Volume::open(image) {
-        Ok(_) => false,
-        Err((found, _)) => found == fault,
-    }
-}
-
-/// The place of the first disk whose image is refused by this fault, read once more. Where there is one disk alone,
-/// nothing is read.
-fn place_of<S: Store>(
-    alloc: Global,
-    store: &mut S,
-    disks: &Disks,
-    fault: VolumeFault,
-) -> Option<usize> {
-    if disks.paths.iter().skip(1).all(|path| path.is_none()) {
-        return Some(0);
-    }
-    for place in 0..6 {
-        if let Some(path) = &disks.paths[place]
-            && has_fault(alloc, store, path.as_str(), fault)
-        {
-            return Some(place);
-        }
-    }
-    None
-}
-
-/// A unit and its path, by its place among the disks.
-fn on_unit(alloc: Global, disks: &Disks, place: usize) -> Option<String> {
-    let unit = UNITS.get(place)?;
-    let path = disks.paths.get(place)?.as_ref()?;
     format!(in alloc; "unit {unit}: {path}").ok()
 }
 
-/// What a refusal is about: the unit and the path of the image that is no volume, or of unit 4, on which the program
-/// stands, or the path of the system's code file. `None` where that is not known, or there is no memory for the text.
-pub fn about<S: Store>(
-    alloc: Global,
-    store: &mut S,
-    disks: &Disks,
-    refusal: Refusal,
-) -> Option<String> {
-    match refusal {
-        Refusal::Volume(fault) => {
-            let place = place_of(alloc, store, disks, fault)?;
-            on_unit(alloc, disks, place)
-        }
-        // Faults 1 and 2 are of the system's code file, the others of the program.
-        Refusal::System(fault) if fault.number() < 3 => copy_of(alloc, &disks.system).ok()?,
-        Refusal::Boot(_) | Refusal::System(_) => on_unit(alloc, disks, 0),
-        _ => None,
+/// The file that a refusal is about: its unit and its path, or the path of the system's code file. `None` where there is
+/// no memory for the text.
+pub fn about(alloc: Global, disks: &Disks, about: About) -> Option<String> {
+    match about {
+        About::Unit(unit) => on_unit(alloc, disks, unit),
+        About::System => copy_of(alloc, &disks.system).ok()?,
     }
 }

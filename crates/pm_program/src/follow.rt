@@ -399,14 +399,9 @@ fn end_of(plan: &Plan) -> u8 {
 }
 
 /// The end of a job that was done, with what its refusal is about.
-fn end_of_job<S: Store>(
-    alloc: Global,
-    store: &mut S,
-    disks: &Option<Disks>,
-    outcome: Outcome,
-) -> End {
-    let about = match (disks, outcome.refusal) {
-        (Some(disks), Some(refusal)) => about(alloc, store, disks, refusal),
+fn end_of_job(alloc: Global, disks: &Option<Disks>, outcome: Outcome) -> End {
+    let about = match (disks, outcome.about) {
+        (Some(disks), Some(file)) => about(alloc, disks, file),
         _ => None,
     };
     End::Outcome(outcome, about)
@@ -429,7 +424,7 @@ fn end_of_plan<R: Host + AllocGlobal, I: Source, O: Sink>(
         None
     };
     match act(rt.alloc(), &mut store, source, sink, plan) {
-        Ok(outcome) => end_of_job(rt.alloc(), &mut store, &disks, outcome),
+        Ok(outcome) => end_of_job(rt.alloc(), &disks, outcome),
         Err(fault) => End::File(fault, store.into_refused()),
     }
 }

@@ -4,7 +4,7 @@ use Rattle.std.proofs.Common.{length, take, set, refl, sym, ap, ◌∙◌, appen
 use Rattle.std.proofs.lemmas.List.{take_more_set}
 use Rattle.std.proofs.Math.Seq.{take-length}
 use Rattle.pm_volume.specs.declared.fault.VolumeFault.{VolumeFault}
-use Rattle.pm_tool.specs.Disks.{disk_fault, first_disk_fault, images_of, or_next}
+use Rattle.pm_tool.specs.Disks.{disk_fault, first_bad, first_disk_fault, here_or, images_of, or_next}
 
 module _ {Z : Type 0} (rest rest' : List (Option (Vec ℕ Z))) (image : Option (Vec ℕ Z)) (next : rest ≡ image ∷ rest') where
   -- one place more is taken
@@ -30,6 +30,19 @@ module _ {Z : Type 0} (rest rest' : List (Option (Vec ℕ Z))) (image : Option (
   fault_here fault this so_far found =
       so_far ∙ ap (λ images. first_disk_fault (images_of images)) next ∙ ap (λ f. or_next f (first_disk_fault (images_of rest'))) found
 
+  -- the same of its place
+  pub place_later : (found : Option ℕ) (place : ℕ) → found ≡ first_bad place (images_of rest)
+      → disk_fault (option_map vec_items image) ≡ None → found ≡ first_bad (place + 1) (images_of rest')
+  place_later found place so_far sound =
+      so_far ∙ ap (λ images. first_bad place (images_of images)) next
+      ∙ ap (λ f. here_or place f (first_bad (place + 1) (images_of rest'))) sound
+
+  pub place_here : (found : Option ℕ) (place : ℕ) (this : VolumeFault) → found ≡ first_bad place (images_of rest)
+      → disk_fault (option_map vec_items image) ≡ Some this → found ≡ Some place
+  place_here found place this so_far bad =
+      so_far ∙ ap (λ images. first_bad place (images_of images)) next
+      ∙ ap (λ f. here_or place f (first_bad (place + 1) (images_of rest'))) bad
+
   pub opened_next : (whole volumes : List (Option (List ℕ))) (place : ℕ) (volume : Option (List ℕ)) → whole ≡ take place volumes ++ images_of rest
       → place < length volumes
       → volume ≡ option_map vec_items image → whole ≡ take (place + 1) (set volumes place volume) ++ images_of rest'
@@ -44,6 +57,9 @@ module _ {Z : Type 0} (rest : List (Option (Vec ℕ Z))) (none : length rest ≡
 
   pub fault_none : (fault : Option VolumeFault) → fault ≡ first_disk_fault (images_of rest) → fault ≡ None
   fault_none fault so_far = so_far ∙ ap (λ images. first_disk_fault (images_of images)) no_more
+
+  pub place_none : (found : Option ℕ) (place : ℕ) → found ≡ first_bad place (images_of rest) → found ≡ None
+  place_none found place so_far = so_far ∙ ap (λ images. first_bad place (images_of images)) no_more
 
   pub opened_all : (whole volumes : List (Option (List ℕ))) (place : ℕ) → whole ≡ take place volumes ++ images_of rest → place + length rest ≡ 6
       → length volumes ≡ 6 → volumes ≡ whole

@@ -1,6 +1,6 @@
 -- The images of a program's disks, and the machine that starts on them.
-use Rattle.std.specs.Prelude.{ℕ, List, [], ◌∷◌, Option, Some, None, Result, Ok, Err}
-use Rattle.std.specs.Prelude.{Vec, vec_items, option_map, map, string_bytes}
+use Rattle.std.specs.Prelude.{◌≡◌, ℕ, ◌+◌, ◌==◌, List, [], ◌∷◌, Option, Some, None, Result, Ok, Err}
+use Rattle.std.specs.Prelude.{IfSome, Vec, vec_items, option_map, map, string_bytes, if◌then◌else◌}
 use Rattle.pm_volume.specs.Directory.{image_fault}
 use Rattle.pm_volume.specs.declared.fault.VolumeFault.{VolumeFault}
 use Rattle.pm_machine.specs.State.{State, Whole}
@@ -13,6 +13,13 @@ use Rattle.pm_tool.specs.declared.programs.Start.{Start}
 use Rattle.pm_tool.specs.declared.programs.Start.TheVariants as starts
 use Rattle.pm_system.specs.Disk.{image_with_system}
 use Rattle.pm_system.specs.declared.fault.SystemFault.{SystemFault}
+use Rattle.pm_system.specs.declared.fault.SystemFault.TheVariants as faults
+use Rattle.pm_tool.specs.declared.outcome.About.{About}
+use Rattle.pm_tool.specs.declared.outcome.About.TheVariants as abouts
+use Rattle.pm_tool.specs.declared.outcome.Outcome.{Outcome}
+use Rattle.pm_tool.specs.declared.programs.NoStart.{NoStart}
+use Rattle.pm_tool.specs.declared.work.Work.{Work}
+use Rattle.pm_tool.specs.declared.work.Work.TheVariants as works
 use Rattle.pm_tool.specs.Hex.{hex_spelled}
 
 -- the images, as lists of bytes
@@ -84,7 +91,67 @@ machine_at (starts.Bare text) = loaded (hex_spelled text.items)
 machine_at (starts.Booted disks name system) =
     booted (images_of disks) (string_bytes name) (option_map vec_items system)
 
--- the state of the machine that was started
-abbrev pub state_in : Result Whole Refusal → Result State Refusal
+-- the state of the machine that was started, or why none was
+abbrev pub state_in : Result Whole NoStart → Result State Refusal
 state_in (Ok m) = Ok m.state
-state_in (Err refusal) = Err refusal
+state_in (Err none) = Err none.refusal
+
+-- ---- what a refusal is about
+
+-- the unit of the disk at a place
+abbrev pub unit_at : ℕ → ℕ
+unit_at place =
+    if place == 0 then 4
+    else (if place == 1 then 5
+    else (if place == 2 then 9
+    else (if place == 3 then 10
+    else (if place == 4 then 11 else 12))))
+
+abbrev pub here_or : ℕ → Option VolumeFault → Option ℕ → Option ℕ
+here_or place None later = later
+here_or place (Some fault) later = Some place
+
+-- the place of the first image that is no volume, the first of them standing at this place
+abbrev pub first_bad : ℕ → List (Option (List ℕ)) → Option ℕ
+first_bad place [] = None
+first_bad place (image ∷ images) = here_or place (disk_fault image) (first_bad (place + 1) images)
+
+-- faults 1 and 2 are of the system's code file, the others of the program and its volume
+abbrev pub system_about : SystemFault → About
+system_about (faults.NoCode fault) = abouts.System
+system_about faults.NoSegment = abouts.System
+system_about (faults.NoProgram fault) = abouts.Unit 4
+system_about faults.Taken = abouts.Unit 4
+system_about (faults.Volume fault) = abouts.Unit 4
+system_about faults.NoMemory = abouts.Unit 4
+
+abbrev pub refusal_about : Refusal → About
+refusal_about refusals.Hex = abouts.Unit 4
+refusal_about (refusals.Boot fault) = abouts.Unit 4
+refusal_about (refusals.Volume fault) = abouts.Unit 4
+refusal_about (refusals.Filer fault) = abouts.Unit 4
+refusal_about (refusals.Code fault) = abouts.Unit 4
+refusal_about (refusals.Asm fault) = abouts.Unit 4
+refusal_about (refusals.System fault) = system_about fault
+
+-- What the refusal of a program is about: the first image that is no volume; else the system's code file, where that is
+-- refused; else the image of unit 4, on which the program stands.
+abbrev pub booted_about : Option ℕ → Result (List (Option (List ℕ))) Refusal → About
+booted_about (Some place) images = abouts.Unit (unit_at place)
+booted_about None (Ok images) = abouts.Unit 4
+booted_about None (Err refusal) = refusal_about refusal
+
+-- the same of a program on these images; a program that the input spells is about no file
+abbrev pub start_about : Start → Option About
+start_about (starts.Bare text) = None
+start_about (starts.Booted disks name system) = Some (booted_about (first_bad 0 (images_of disks))
+    (images_with (option_map vec_items system) (string_bytes name) (images_of disks)))
+
+-- the outcome of a program that is refused says what that is about
+abbrev pub NamesFile : Start → Outcome → Type 0
+NamesFile start outcome = IfSome outcome.refusal (λ refusal. outcome.about ≡ start_about start)
+
+abbrev pub NamesFileIn : Work → Outcome → Type 0
+NamesFileIn (works.Raw limit selection) outcome = Unit {0}
+NamesFileIn (works.Talk start talk) outcome = NamesFile start outcome
+NamesFileIn (works.Batch job) outcome = Unit {0}

@@ -1,10 +1,11 @@
 //! Jobs, from the bytes that are read to the bytes that are written.
 ghost use Rattle.std.specs.Prelude.{◌≡◌, false, true, [], None, IfOk, IfErr, OnOk, OnErr, codes};
-ghost use Rattle.pm_tool.specs.Disks.{loaded};
+ghost use Rattle.pm_tool.specs.Disks.{NamesFileIn, loaded};
 ghost use Rattle.pm_tool.specs.Hex.{hex_spelled};
 ghost use Rattle.pm_tool.specs.Outcomes.{SaysWhy, fault_exit, no_others, others_of, outcome_text};
 ghost use Rattle.pm_tool.specs.Said.{job_said, said_started, IsSoundExit, IsCutShort, Finishes};
 ghost use Rattle.pm_tool.specs.Said.{BreaksOff, TellsAll, TellsFront, IsPrompt, FailsExactly, CountsExactly};
+ghost use Rattle.pm_tool.specs.Work.{work_of};
 ghost use Rattle.pm_streams.specs.Streams.{AreWell, IsCounted, both};
 
 use crate::batch::do_batch;
@@ -62,6 +63,7 @@ fn do_job<R: Source, W: Sink>(
     ensures prompt { OnErr result (IsPrompt job (both (R.seen source.old) (W.seen sink.old))
         (both (R.seen source.new) (W.seen sink.new))) }
     ensures counts { IsCounted (R.seen source.old) (R.seen source.new) result }
+    ensures about { IfOk result (NamesFileIn (work_of job)) }
 {
     match work_of(job) {
         Work::Raw { limit, selection } => raw(alloc, source, sink, limit, selection),
@@ -117,6 +119,9 @@ pub fn run<R: Source, W: Sink>(alloc: Global, source: &mut R, sink: &mut W, job:
 
     // A refusal names its fault, which is never want of memory, and the message is its text; nothing else names one.
     ensures told { SaysWhy result }
+
+    // A refusal of a program of a disk names the file that it is about.
+    ensures about { IsSoundExit result.exit → NamesFileIn (work_of job) result }
 {
     match do_job(alloc, source, sink, job) {
         Ok(outcome) => outcome,

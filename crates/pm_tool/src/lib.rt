@@ -14,7 +14,7 @@ mod talk;
 mod work;
 
 pub use engine::run;
-pub use outcome::{Exit, Job, OtherImages, Outcome};
+pub use outcome::{About, Exit, Job, OtherImages, Outcome};
 pub use pm_batch::{Reason, Refusal};
 pub use pm_choices::{Code, Saving, Selection};
 pub use pm_session::Ending;

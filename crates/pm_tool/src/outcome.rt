@@ -205,6 +205,15 @@ impl OtherImages {
     }
 }
 
+/// Which file the refusal of a program is about.
+#[derive(Clone, Copy)]
+pub enum About {
+    /// That of the image on this unit: one that is no volume, or that of unit 4, on which the program stands.
+    Unit(u8),
+    /// The system's code file.
+    System,
+}
+
 /// What a job comes to, beside what it wrote.
 #[derive(Drop)]
 pub struct Outcome {
@@ -226,6 +235,8 @@ pub struct Outcome {
     pub line: Option<String>,
     /// Where an error stopped the run that the message tells of, and on what.
     pub stopped: Option<Stopped>,
+    /// What the refusal of a program is about.
+    pub about: Option<About>,
 }
 
 impl Outcome {
@@ -249,6 +260,7 @@ impl Outcome {
             ending: None,
             line: None,
             stopped: None,
+            about: None,
         }
     }
 
@@ -272,6 +284,7 @@ impl Outcome {
             ending: None,
             line: None,
             stopped: None,
+            about: None,
         }
     }
 
@@ -288,14 +301,17 @@ impl Outcome {
     }
 }
 
-/// Refuses the input for what stands in a line of it, if that is known: nothing is written.
-pub(crate) fn refuse_line(
+/// Refuses the input for what stands in a line of it, and with the file that it is about, as far as these are known:
+/// nothing is written.
+pub(crate) fn refuse_for(
     alloc: Global,
     refusal: Refusal,
     line: Option<String>,
+    about: Option<About>,
 ) -> Result<Outcome, AllocError>
     ensures outcome { IfOk result (λ outcome. (unread : List ℕ) → IsOutcome outcome (refused refusal unread)) }
     ensures told { IfOk result SaysWhy }
+    ensures about { IfOk result (λ outcome. outcome.about ≡ about) }
 {
     if refusal.is_want() {
         return Err(AllocError);
@@ -311,7 +327,20 @@ pub(crate) fn refuse_line(
         ending: None,
         line,
         stopped: None,
+        about,
     })
+}
+
+/// Refuses the input for what stands in a line of it, if that is known: nothing is written.
+pub(crate) fn refuse_line(
+    alloc: Global,
+    refusal: Refusal,
+    line: Option<String>,
+) -> Result<Outcome, AllocError>
+    ensures outcome { IfOk result (λ outcome. (unread : List ℕ) → IsOutcome outcome (refused refusal unread)) }
+    ensures told { IfOk result SaysWhy }
+{
+    refuse_for(alloc, refusal, line, None)
 }
 
 /// What a job comes to that judges an image or a text: an end, or a refusal, with the line that it names if that is
@@ -328,12 +357,4 @@ pub(crate) fn conclude(
         None => Ok(Outcome::plain(alloc, Exit::Ended, String::new(alloc))),
         Some(refusal) => refuse_line(alloc, refusal, line),
     }
-}
-
-/// Refuses the input: nothing is written.
-pub(crate) fn refuse(alloc: Global, refusal: Refusal) -> Result<Outcome, AllocError>
-    ensures outcome { IfOk result (λ outcome. (unread : List ℕ) → IsOutcome outcome (refused refusal unread)) }
-    ensures told { IfOk result SaysWhy }
-{
-    refuse_line(alloc, refusal, None)
 }

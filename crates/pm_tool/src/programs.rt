@@ -1,10 +1,12 @@
 //! The machines that programs start on.
 ghost use Rattle.std.specs.Prelude.{◌≡◌, ◌≢◌, Ok, Err, Some, None, IfOk, IfErr, OnOk, option_map, vec_items};
-ghost use Rattle.pm_tool.specs.Disks.{booted, state_in, disk_fault, first_disk_fault, first_with, images_of};
-ghost use Rattle.pm_tool.specs.Disks.{images_with, loaded, machine_at};
+ghost use Rattle.pm_tool.specs.Disks.{booted, booted_about, disk_fault, first_bad, first_disk_fault, first_with};
+ghost use Rattle.pm_tool.specs.Disks.{images_of, images_with, loaded, machine_at, start_about, state_in, system_about};
+ghost use Rattle.pm_tool.specs.Disks.{unit_at};
 ghost use Rattle.pm_tool.specs.Hex.{hex_spelled};
 
 use crate::hex;
+use crate::outcome::About;
 use pm_batch::Refusal;
 use pm_machine::{BootFault, Machine};
 use pm_system::{SystemFault, put_system};
@@ -26,31 +28,70 @@ pub(crate) enum Start {
     },
 }
 
-/// The volume that an image is, where there is one.
-fn volume_of(image: Option<Vec<u8>>) -> Result<Option<Volume>, VolumeFault>
+/// Why no machine starts.
+#[derive(Drop)]
+pub(crate) struct NoStart {
+    /// Why the program is refused.
+    pub refusal: Refusal,
+    /// Which file that is about, where it is one.
+    pub about: Option<About>,
+}
+
+/// The unit of the disk at a place: 4, 5, 9, 10, 11 or 12.
+fn unit_at(place: usize) -> u8
+    ensures unit { result ≡ unit_at place }
+{
+    match place {
+        0 => 4,
+        1 => 5,
+        2 => 9,
+        3 => 10,
+        4 => 11,
+        _ => 12,
+    }
+}
+
+/// What a fault of the system's segment is about: its code file, or the program on unit 4.
+fn system_about(fault: SystemFault) -> About
+    ensures about { result ≡ system_about fault }
+{
+    match fault {
+        SystemFault::NoCode(_) | SystemFault::NoSegment => About::System,
+        _ => About::Unit(4),
+    }
+}
+
+/// The volume that the image at a place is, where there is one.
+fn volume_of(
+    image: Option<Vec<u8>>,
+    place: usize,
+) -> Result<Option<Volume>, (usize, VolumeFault)>
     ensures volume { IfOk result (λ volume. volume ≡ option_map vec_items image) }
     ensures sound { OnOk result (disk_fault (option_map vec_items image) ≡ None) }
-    ensures fault { IfErr result (λ fault. disk_fault (option_map vec_items image) ≡ Some fault) }
+    ensures fault { IfErr result (λ bad. disk_fault (option_map vec_items image) ≡ Some bad.1) }
+    ensures place { IfErr result (λ bad. bad.0 ≡ place) }
 {
     match image {
         None => Ok(None),
         Some(image) => match Volume::open(image) {
             Ok(volume) => Ok(Some(volume)),
-            Err((fault, _)) => Err(fault),
+            Err((fault, _)) => Err((place, fault)),
         },
     }
 }
 
-/// The volumes that the images are, or the first fault.
-fn volumes_of(disks: [Option<Vec<u8>>; 6]) -> Result<[Option<Volume>; 6], VolumeFault>
+/// The volumes that the images are, or the place of the first that is none, and its fault.
+fn volumes_of(disks: [Option<Vec<u8>>; 6]) -> Result<[Option<Volume>; 6], (usize, VolumeFault)>
     ensures volumes { IfOk result (λ volumes. volumes ≡ images_of disks) }
     ensures sound { OnOk result (first_disk_fault (images_of disks) ≡ None) }
-    ensures fault { IfErr result (λ fault. first_disk_fault (images_of disks) ≡ Some fault) }
+    ensures all { OnOk result (first_bad 0 (images_of disks) ≡ None) }
+    ensures fault { IfErr result (λ bad. first_disk_fault (images_of disks) ≡ Some bad.1) }
+    ensures place { IfErr result (λ bad. first_bad 0 (images_of disks) ≡ Some bad.0) }
 {
     let mut volumes = [None, None, None, None, None, None];
     let mut place = 0;
     'opening: for image in disks {
-        volumes[place] = volume_of(image)?;
+        volumes[place] = volume_of(image, place)?;
         place += 1;
     }
     Ok(volumes)
@@ -94,49 +135,75 @@ fn with_system(
     Ok(volumes)
 }
 
+/// No machine, for this and about that file.
+fn no_start(refusal: Refusal, about: About) -> NoStart
+    ensures refusal { result.refusal ≡ refusal }
+    ensures about { result.about ≡ Some about }
+{
+    let about = Some(about);
+    NoStart { refusal, about }
+}
+
 /// The machine at the start of a program of unit 4, or why there is none.
 fn boot(
     alloc: Global,
     disks: [Option<Vec<u8>>; 6],
     name: &str,
     system: Option<Vec<u8>>,
-) -> Result<Result<Machine, Refusal>, AllocError>
+) -> Result<Result<Machine, NoStart>, AllocError>
     ensures machine { IfOk result (λ machine. state_in machine
         ≡ booted (images_of disks) name.now (option_map vec_items system)) }
+    ensures about { IfOk result (λ machine. IfErr machine (λ none. none.about
+        ≡ Some (booted_about (first_bad 0 (images_of disks))
+        (images_with (option_map vec_items system) name.now (images_of disks))))) }
 {
     let volumes = match volumes_of(disks) {
         Ok(volumes) => volumes,
-        Err(fault) => return Ok(Err(Refusal::Volume(fault))),
+        Err((place, fault)) => {
+            let unit = unit_at(place);
+            return Ok(Err(no_start(Refusal::Volume(fault), About::Unit(unit))));
+        }
     };
     let volumes = match with_system(alloc, volumes, name, system) {
         Ok(volumes) => volumes,
         Err(SystemFault::NoMemory) => return Err(AllocError),
-        Err(fault) => return Ok(Err(Refusal::System(fault))),
+        Err(fault) => return Ok(Err(no_start(Refusal::System(fault), system_about(fault)))),
     };
     match Machine::boot(alloc, volumes, 4, name, 0) {
         Ok(machine) => Ok(Ok(machine)),
         Err((BootFault::NoMemory, _)) => Err(AllocError),
-        Err((fault, _)) => Ok(Err(Refusal::Boot(fault))),
+        Err((fault, _)) => Ok(Err(no_start(Refusal::Boot(fault), About::Unit(4)))),
     }
 }
 
+/// No machine for a program that the input spells, which is about no file.
+fn no_bare_start(refusal: Refusal) -> NoStart
+    ensures refusal { result.refusal ≡ refusal }
+    ensures about { result.about ≡ None }
+{
+    let about = None;
+    NoStart { refusal, about }
+}
+
 /// The machine at its start on the program that the text spells, or why there is none.
-fn load(alloc: Global, text: &[u8]) -> Result<Result<Machine, Refusal>, AllocError>
+fn load(alloc: Global, text: &[u8]) -> Result<Result<Machine, NoStart>, AllocError>
     ensures machine { IfOk result (λ machine. state_in machine ≡ loaded (hex_spelled text.now)) }
+    ensures about { IfOk result (λ machine. IfErr machine (λ none. none.about ≡ None)) }
 {
     let Some(program) = hex::decode(alloc, text)? else {
-        return Ok(Err(Refusal::Hex));
+        return Ok(Err(no_bare_start(Refusal::Hex)));
     };
     match Machine::raw(alloc, &program) {
         Ok(machine) => Ok(Ok(machine)),
         Err(BootFault::NoMemory) => Err(AllocError),
-        Err(fault) => Ok(Err(Refusal::Boot(fault))),
+        Err(fault) => Ok(Err(no_bare_start(Refusal::Boot(fault)))),
     }
 }
 
 /// The machine that starts, or why there is none.
-pub(crate) fn start_on(alloc: Global, start: Start) -> Result<Result<Machine, Refusal>, AllocError>
+pub(crate) fn start_on(alloc: Global, start: Start) -> Result<Result<Machine, NoStart>, AllocError>
     ensures machine { IfOk result (λ machine. state_in machine ≡ machine_at start) }
+    ensures about { IfOk result (λ machine. IfErr machine (λ none. none.about ≡ start_about start)) }
 {
     match start {
         Start::Bare { text } => load(alloc, &text),

@@ -1,10 +1,10 @@
 //! Jobs that talk with a machine: its run is shown and gets the input, or a debugger answers lines.
 ghost use Rattle.std.specs.Prelude.{◌≡◌, false, true, [], ◌++◌, List, ℕ, Ok, IfOk, IfErr, OnOk, OnErr};
-ghost use Rattle.std.specs.Prelude.{option_map, vec_items};
+ghost use Rattle.std.specs.Prelude.{None, option_map, vec_items};
 ghost use Rattle.pm_machine.specs.Events.{Eject, next};
 ghost use Rattle.pm_units.specs.Devices.{ejected_image};
 ghost use Rattle.std.specs.Io.KnownBytes.{Appends};
-ghost use Rattle.pm_tool.specs.Disks.{machine_at};
+ghost use Rattle.pm_tool.specs.Disks.{NamesFile, machine_at};
 ghost use Rattle.pm_tool.specs.Outcomes.{IsOutcome, SaysWhy, others_of};
 ghost use Rattle.pm_tool.specs.Run.{end_text, ended_run};
 ghost use Rattle.pm_tool.specs.Said.{BreaksOff, Finishes, WritesInTime, first_kept, others_in, others_kept};
@@ -12,7 +12,7 @@ ghost use Rattle.pm_tool.specs.Said.{run_said, said_run, said_talk, shown_talk};
 ghost use Rattle.pm_streams.specs.Streams.{AppendsFront, AreWell, IsCause, IsCounted, both};
 
 use crate::debug::converse;
-use crate::outcome::{Exit, OtherImages, Outcome, refuse};
+use crate::outcome::{Exit, OtherImages, Outcome, refuse_for};
 use crate::programs::{Start, start_on};
 use crate::steps::{Show, drive};
 use crate::stopped::stopped_at;
@@ -82,6 +82,7 @@ fn left_by_run(
     ensures outcome { last.steps ≡ machine.old.state.steps → IfOk result (λ outcome. (shown unread : List ℕ)
         → IsOutcome outcome (run_said saving (ended_run shown last.ending machine.old.state unread))) }
     ensures told { IfOk result SaysWhy }
+    ensures accepted { IfOk result (λ outcome. outcome.refusal ≡ None) }
 {
     let stopped = stopped_at(alloc, machine, last.ending);
     let message = format!(in alloc; "{last}")?;
@@ -97,6 +98,7 @@ fn left_by_run(
         ending: Some(last.ending),
         line: None,
         stopped,
+        about: None,
     })
 }
 
@@ -119,6 +121,7 @@ fn tell<W: Sink>(
         (page.items ++ end_text show ending machine.old.state.steps)) }
     ensures cause { IfErr result (λ fault. IsCause fault false (W.seen sink.new).failed []) }
     ensures told { IfOk result SaysWhy }
+    ensures accepted { IfOk result (λ outcome. outcome.refusal ≡ None) }
 {
     let last = LastLine {
         ending,
@@ -159,6 +162,7 @@ fn do_run<R: Source, W: Sink>(
     ensures prompt { OnErr result (WritesInTime (both (R.seen source.old) (W.seen sink.old))
         (both (R.seen source.new) (W.seen sink.new)) (shown_talk (Talk.Run show limit) (Ok machine.old.state))) }
     ensures counts { IsCounted (R.seen source.old) (R.seen source.new) result }
+    ensures accepted { IfOk result (λ outcome. outcome.refusal ≡ None) }
 {
     let (ending, page) = drive(alloc, source, sink, machine, show, limit)?;
     let outcome = tell(alloc, sink, machine, show, ending, page)?;
@@ -182,6 +186,7 @@ fn do_session<R: Source, W: Sink>(
     ensures prompt { OnErr result (WritesInTime (both (R.seen source.old) (W.seen sink.old))
         (both (R.seen source.new) (W.seen sink.new)) (shown_talk Talk.Session (Ok machine.state))) }
     ensures counts { IsCounted (R.seen source.old) (R.seen source.new) result }
+    ensures accepted { IfOk result (λ outcome. outcome.refusal ≡ None) }
 {
     let mut debugger = Debugger::new(machine);
     converse(alloc, source, sink, &mut debugger)?;
@@ -206,10 +211,11 @@ pub(crate) fn do_talk<R: Source, W: Sink>(
     ensures prompt { OnErr result (WritesInTime (both (R.seen source.old) (W.seen sink.old))
         (both (R.seen source.new) (W.seen sink.new)) (shown_talk talk (machine_at start))) }
     ensures counts { IsCounted (R.seen source.old) (R.seen source.new) result }
+    ensures about { IfOk result (NamesFile start) }
 {
     let mut machine = match start_on(alloc, start)? {
         Ok(machine) => machine,
-        Err(refusal) => return Ok(refuse(alloc, refusal)?),
+        Err(none) => return Ok(refuse_for(alloc, none.refusal, None, none.about)?),
     };
     match talk {
         Talk::Run { show, limit } => do_run(alloc, source, sink, &mut machine, show, limit),

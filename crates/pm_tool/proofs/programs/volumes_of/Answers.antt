@@ -1,8 +1,9 @@
-use Rattle.std.proofs.Common.{arith, ap, sym, refl, ◌∙◌}
+use Rattle.std.proofs.Common.{arith, ap, sym, refl, ◌∙◌, Some}
 use Rattle.std.proofs.lemmas.Result.{err_from_is_err_and}
 use Rattle.std.proofs.lemmas.List.{length-set}
-use Rattle.pm_tool.specs.Disks.{first_disk_fault, images_of}
+use Rattle.pm_tool.specs.Disks.{first_bad, first_disk_fault, images_of}
 use Rattle.pm_tool.proofs.Opening.{place_below, place_next, fault_later, fault_here, opened_next, fault_none, opened_all}
+use Rattle.pm_tool.proofs.Opening.{place_here, place_later, place_none}
 use Rattle.pm_tool.proofs.programs.volumes_of.Goals as goal
 
 pub opening-init : goal.opening-init
@@ -12,6 +13,7 @@ opening-init c =
     record {
       opened = ap images_of (sym all);
       sound = ap (λ disks. first_disk_fault (images_of disks)) (sym all);
+      bad = ap (λ disks. first_bad 0 (images_of disks)) (sym all);
       count = omega arith;
       size = refl;
     }
@@ -20,6 +22,12 @@ pub returns-in_err-volumes-clause-fault : goal.returns-in_err-volumes-clause-fau
 returns-in_err-volumes-clause-fault c =
     let p = err_from_is_err_and c.from_residual.result c.from_residual.ensures.1 in
     rw (p.1, p.2) (fault_here _ _ c.in-Some.image c.in-Some.ensures.steps _ _ c.opening.invariant.sound c.in_err-volumes.ensures.fault)
+
+pub returns-in_err-volumes-clause-place : goal.returns-in_err-volumes-clause-place
+returns-in_err-volumes-clause-place c =
+    let p = err_from_is_err_and c.from_residual.result c.from_residual.ensures.1 in
+    rw (p.1, p.2) (place_here _ _ c.in-Some.image c.in-Some.ensures.steps _ c.opening.place _ c.opening.invariant.bad
+    c.in_err-volumes.ensures.fault ∙ ap Some (sym c.in_err-volumes.ensures.place))
 
 pub offset_bounds-volumes-place : goal.offset_bounds-volumes-place
 offset_bounds-volumes-place c =
@@ -48,6 +56,8 @@ opening-preserved c =
       opened = opened_next _ _ c.in-Some.image c.in-Some.ensures.steps _ c.opening.volumes c.opening.place c.in_ok-volumes.field-0 c.opening.invariant.opened
           (omega arith) c.in_ok-volumes.ensures.volume;
       sound = fault_later _ _ c.in-Some.image c.in-Some.ensures.steps _ c.opening.invariant.sound c.in_ok-volumes.ensures.sound;
+      bad = place_later _ _ c.in-Some.image c.in-Some.ensures.steps _ c.opening.place c.opening.invariant.bad
+          c.in_ok-volumes.ensures.sound;
       count = place_next _ _ c.in-Some.image c.in-Some.ensures.steps c.opening.place c.opening.invariant.count;
       size = length-set _ _ _ ∙ size;
     }
@@ -55,6 +65,9 @@ opening-preserved c =
 pub returns-clause-volumes : goal.returns-clause-volumes
 returns-clause-volumes c =
     opened_all _ c.in-None.ensures.steps.0 _ c.opening.volumes c.opening.place c.opening.invariant.opened c.opening.invariant.count c.opening.invariant.size
+
+pub returns-clause-all : goal.returns-clause-all
+returns-clause-all c = place_none _ c.in-None.ensures.steps.0 _ c.opening.place c.opening.invariant.bad
 
 pub returns-clause-sound : goal.returns-clause-sound
 returns-clause-sound c = fault_none _ c.in-None.ensures.steps.0 _ c.opening.invariant.sound

@@ -10,11 +10,11 @@ returns-in_err-machine-clause-broken g c =
     let p = err_from_is_err_and c.from_residual.result c.from_residual.ensures.1 in
     rw (p.1, p.2) (broken_unwritten _ _ _ _ [] (consumes_none _) (c.requires.well.1, c.requires.well.0, omega arith))
 
-pub returns-in_err-refuse-in-Err-clause-broken : goal.returns-in_err-refuse-in-Err-clause-broken
-returns-in_err-refuse-in-Err-clause-broken g c =
-    let r = c.from_residual-in_err-refuse-in-Err in
+pub returns-in_err-refuse_for-in-Err-clause-broken : goal.returns-in_err-refuse_for-in-Err-clause-broken
+returns-in_err-refuse_for-in-Err-clause-broken g c =
+    let r = c.from_residual-in_err-refuse_for-in-Err in
     let p = err_from_is_err_and r.result r.ensures.1 in
     rw (p.1, p.2) (broken_unwritten _ _ _ _ [] (consumes_none _) (c.requires.well.1, c.requires.well.0, omega arith))
 
 pub returns-in-Err-clause-done : goal.returns-in-Err-clause-done
-returns-in-Err-clause-done g c = talk_refused _ _ _ c.in-Err.refusal _ (search rules) c.in_ok-refuse-in-Err.ensures.outcome
+returns-in-Err-clause-done g c = talk_refused _ _ _ c.in-Err.none.refusal _ (search rules) c.in_ok-refuse_for-in-Err.ensures.outcome

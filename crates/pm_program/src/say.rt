@@ -1,6 +1,6 @@
 //! What the program says on standard error at its end.
 use crate::end::End;
-use pm_tool::{Ending, Outcome, Reason, RunReason, Whereabouts};
+use pm_tool::{Ending, Outcome, Reason, Refusal, RunReason, Whereabouts};
 use std::fmt;
 
 /// A text of one line on a terminal: a question mark stands for each character that would move or colour something
@@ -32,6 +32,29 @@ impl fmt::Display for PlainLines<'_> {
     }
 }
 
+/// Why an input was refused, with the unit and the file that it is about before it, and behind it what helps, or the line
+/// of the assembler's text that is wrong.
+#[derive(Clone, Copy)]
+struct Refused<'a> {
+    refusal: Refusal,
+    about: &'a Option<String>,
+    outcome: &'a Outcome,
+}
+
+impl fmt::Display for Refused<'_> {
+    fn fmt<W: fmt::Write>(&self, f: &mut fmt::Formatter<W>) -> fmt::Result {
+        if let Some(about) = self.about {
+            write!(f, "{}: ", Plain(about.as_str()))?;
+        }
+        write!(f, "{}", Reason(self.refusal))?;
+        match (&self.outcome.hint, &self.outcome.line) {
+            (Some(hint), _) => write!(f, "; {hint}"),
+            (None, Some(line)) => write!(f, ": {}", Plain(line.as_str())),
+            (None, None) => Ok(()),
+        }
+    }
+}
+
 /// The message of an end. It may be empty.
 fn message(end: &End) -> &str {
     match end {
@@ -60,17 +83,17 @@ fn explain_run<R: Eprint>(rt: &R, outcome: &Outcome, has_system: bool) {
     }
 }
 
-/// Says why an input was refused, with the unit and the file that it is about, or the line of the assembler's text that
-/// is wrong.
+/// Says why an input was refused.
 fn explain_refusal<R: Eprint>(rt: &R, outcome: &Outcome, about: &Option<String>) {
     let Some(refusal) = outcome.refusal else {
         return;
     };
-    let _ = match (about, &outcome.line) {
-        (Some(about), _) => eprintln!(rt; "pmach: {}: {}", Plain(about.as_str()), Reason(refusal)),
-        (None, Some(line)) => eprintln!(rt; "pmach: {}: {}", Reason(refusal), Plain(line.as_str())),
-        (None, None) => eprintln!(rt; "pmach: {}", Reason(refusal)),
+    let refused = Refused {
+        refusal,
+        about,
+        outcome,
     };
+    let _ = eprintln!(rt; "pmach: {refused}");
 }
 
 /// Says more of an end: which file it was about and why, why the input was refused, or why a run ended.

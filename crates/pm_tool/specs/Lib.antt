@@ -1,4 +1,5 @@
 pub mod Hex
+pub mod Hints
 pub mod Run
 pub mod Stops
 pub mod Outcomes

@@ -5,6 +5,7 @@ mod batch;
 mod debug;
 mod engine;
 mod hex;
+mod hint;
 mod outcome;
 mod programs;
 mod reason;
@@ -14,6 +15,7 @@ mod talk;
 mod work;
 
 pub use engine::run;
+pub use hint::Hint;
 pub use outcome::{About, Exit, Job, OtherImages, Outcome};
 pub use pm_batch::{Reason, Refusal};
 pub use pm_choices::{Code, Saving, Selection};

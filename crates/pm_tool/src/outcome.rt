@@ -3,6 +3,7 @@ ghost use Rattle.std.specs.Prelude.{◌≡◌, false, [], List, ℕ, Some, None,
 ghost use Rattle.pm_tool.specs.Outcomes.{IsOutcome, SaysWhy, exit_number, exit_of, fault_exit, is_refusal, judged};
 ghost use Rattle.pm_tool.specs.Outcomes.{no_others, others_of, outcome_text, refused};
 
+use crate::hint::Hint;
 use crate::stopped::Stopped;
 use pm_batch::Refusal;
 use pm_choices::{Saving, Selection};
@@ -237,6 +238,8 @@ pub struct Outcome {
     pub stopped: Option<Stopped>,
     /// What the refusal of a program is about.
     pub about: Option<About>,
+    /// What helps where a program does not start, if something does and there was memory for it.
+    pub hint: Option<Hint>,
 }
 
 impl Outcome {
@@ -261,6 +264,7 @@ impl Outcome {
             line: None,
             stopped: None,
             about: None,
+            hint: None,
         }
     }
 
@@ -285,6 +289,7 @@ impl Outcome {
             line: None,
             stopped: None,
             about: None,
+            hint: None,
         }
     }
 
@@ -301,13 +306,14 @@ impl Outcome {
     }
 }
 
-/// Refuses the input for what stands in a line of it, and with the file that it is about, as far as these are known:
-/// nothing is written.
+/// Refuses the input for what stands in a line of it, with the file that it is about and what helps, as far as these are
+/// known: nothing is written.
 pub(crate) fn refuse_for(
     alloc: Global,
     refusal: Refusal,
     line: Option<String>,
     about: Option<About>,
+    hint: Option<Hint>,
 ) -> Result<Outcome, AllocError>
     ensures outcome { IfOk result (λ outcome. (unread : List ℕ) → IsOutcome outcome (refused refusal unread)) }
     ensures told { IfOk result SaysWhy }
@@ -328,6 +334,7 @@ pub(crate) fn refuse_for(
         line,
         stopped: None,
         about,
+        hint,
     })
 }
 
@@ -340,7 +347,7 @@ pub(crate) fn refuse_line(
     ensures outcome { IfOk result (λ outcome. (unread : List ℕ) → IsOutcome outcome (refused refusal unread)) }
     ensures told { IfOk result SaysWhy }
 {
-    refuse_for(alloc, refusal, line, None)
+    refuse_for(alloc, refusal, line, None, None)
 }
 
 /// What a job comes to that judges an image or a text: an end, or a refusal, with the line that it names if that is

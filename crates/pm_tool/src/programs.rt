@@ -6,6 +6,7 @@ ghost use Rattle.pm_tool.specs.Disks.{unit_at};
 ghost use Rattle.pm_tool.specs.Hex.{hex_spelled};
 
 use crate::hex;
+use crate::hint::{Hint, hint_for};
 use crate::outcome::About;
 use pm_batch::Refusal;
 use pm_machine::{BootFault, Machine};
@@ -35,6 +36,8 @@ pub(crate) struct NoStart {
     pub refusal: Refusal,
     /// Which file that is about, where it is one.
     pub about: Option<About>,
+    /// What helps, if something does.
+    pub hint: Option<Hint>,
 }
 
 /// The unit of the disk at a place: 4, 5, 9, 10, 11 or 12.
@@ -62,10 +65,7 @@ fn system_about(fault: SystemFault) -> About
 }
 
 /// The volume that the image at a place is, where there is one.
-fn volume_of(
-    image: Option<Vec<u8>>,
-    place: usize,
-) -> Result<Option<Volume>, (usize, VolumeFault)>
+fn volume_of(image: Option<Vec<u8>>, place: usize) -> Result<Option<Volume>, (usize, VolumeFault)>
     ensures volume { IfOk result (λ volume. volume ≡ option_map vec_items image) }
     ensures sound { OnOk result (disk_fault (option_map vec_items image) ≡ None) }
     ensures fault { IfErr result (λ bad. disk_fault (option_map vec_items image) ≡ Some bad.1) }
@@ -135,13 +135,17 @@ fn with_system(
     Ok(volumes)
 }
 
-/// No machine, for this and about that file.
-fn no_start(refusal: Refusal, about: About) -> NoStart
+/// No machine, for this and about that file, and this helps.
+fn no_start(refusal: Refusal, about: About, hint: Option<Hint>) -> NoStart
     ensures refusal { result.refusal ≡ refusal }
     ensures about { result.about ≡ Some about }
 {
     let about = Some(about);
-    NoStart { refusal, about }
+    NoStart {
+        refusal,
+        about,
+        hint,
+    }
 }
 
 /// The machine at the start of a program of unit 4, or why there is none.
@@ -161,18 +165,21 @@ fn boot(
         Ok(volumes) => volumes,
         Err((place, fault)) => {
             let unit = unit_at(place);
-            return Ok(Err(no_start(Refusal::Volume(fault), About::Unit(unit))));
+            return Ok(Err(no_start(Refusal::Volume(fault), About::Unit(unit), None)));
         }
     };
     let volumes = match with_system(alloc, volumes, name, system) {
         Ok(volumes) => volumes,
         Err(SystemFault::NoMemory) => return Err(AllocError),
-        Err(fault) => return Ok(Err(no_start(Refusal::System(fault), system_about(fault)))),
+        Err(fault) => return Ok(Err(no_start(Refusal::System(fault), system_about(fault), None))),
     };
     match Machine::boot(alloc, volumes, 4, name, 0) {
         Ok(machine) => Ok(Ok(machine)),
         Err((BootFault::NoMemory, _)) => Err(AllocError),
-        Err((fault, _)) => Ok(Err(no_start(Refusal::Boot(fault), About::Unit(4)))),
+        Err((fault, volumes)) => {
+            let hint = hint_for(alloc, &volumes[0], name, fault);
+            Ok(Err(no_start(Refusal::Boot(fault), About::Unit(4), hint)))
+        }
     }
 }
 
@@ -181,8 +188,11 @@ fn no_bare_start(refusal: Refusal) -> NoStart
     ensures refusal { result.refusal ≡ refusal }
     ensures about { result.about ≡ None }
 {
-    let about = None;
-    NoStart { refusal, about }
+    NoStart {
+        refusal,
+        about: None,
+        hint: None,
+    }
 }
 
 /// The machine at its start on the program that the text spells, or why there is none.

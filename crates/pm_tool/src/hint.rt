@@ -1,0 +1,111 @@
+//! What helps where a program does not start.
+ghost use Rattle.std.specs.Prelude.{◌≡◌, IfSome, true};
+ghost use Rattle.pm_codefile.specs.Dictionary.{segment_in};
+ghost use Rattle.pm_tool.specs.Hints.{has_number};
+
+use pm_codefile::{CodeFault, CodeFile};
+use pm_machine::BootFault;
+use pm_volume::Volume;
+use std::alloc::Global;
+use std::fmt;
+
+/// What helps where a program does not start.
+#[derive(Drop)]
+pub enum Hint {
+    /// No file has the program's name, but one has this, with `.CODE` behind it.
+    Named(String),
+    /// Slot 1 of the program's code file is empty.
+    NoFirst {
+        /// The first slot that has a segment with number 1, if one has.
+        first: Option<u8>,
+        /// Whether slot 0 has a segment.
+        has_system: bool,
+    },
+    /// The program's file is no code file, for this.
+    NoCode(CodeFault),
+}
+
+impl fmt::Display for Hint {
+    fn fmt<W: fmt::Write>(&self, f: &mut fmt::Formatter<W>) -> fmt::Result {
+        match self {
+            Hint::Named(name) => write!(f, "{name} is there"),
+            Hint::NoFirst {
+                first: Some(slot),
+                ..
+            } => write!(
+                f,
+                "slot 1 is empty, and slot {slot} has the segment with number 1; examples/renumber.sh moves it"
+            ),
+            Hint::NoFirst {
+                first: None,
+                has_system: true,
+            } => f.write_str(
+                "slot 1 is empty, and no slot has a segment with number 1; slot 0 has one, as a file for --system",
+            ),
+            Hint::NoFirst {
+                first: None,
+                has_system: false,
+            } => f.write_str("slot 1 is empty, and no slot has a segment with number 1"),
+            Hint::NoCode(fault) => write!(f, "{fault}"),
+        }
+    }
+}
+
+/// Whether a slot has a segment with this number, which is the low byte of its highest word.
+fn has_number(file: &CodeFile<'_>, slot: u8, number: u8) -> bool
+    ensures value { result ≡ has_number number (segment_in file.now slot) }
+{
+    match file.segment(slot) {
+        Some(code) if code.len() >= 2 => code[code.len() - 2] == number,
+        _ => false,
+    }
+}
+
+/// The first slot that has a segment with this number, if one has.
+fn slot_of(file: &CodeFile<'_>, number: u8) -> Option<u8>
+    ensures has { IfSome result (λ slot. has_number number (segment_in file.now slot) ≡ true) }
+{
+    for slot in 0..16 {
+        if has_number(file, slot, number) {
+            return Some(slot);
+        }
+    }
+    None
+}
+
+/// What is wrong with the code file of a name, if there is one.
+fn hint_of_code(volume: &Volume, name: &str) -> Option<Hint> {
+    let entry = volume.find(name)?;
+    match CodeFile::read(volume.file(&entry)?) {
+        Ok(file) => Some(Hint::NoFirst {
+            first: slot_of(&file, 1),
+            has_system: file.segment(0).is_some(),
+        }),
+        Err(fault) => Some(Hint::NoCode(fault)),
+    }
+}
+
+/// A name with `.CODE` behind it, if it is that of a file, and can be shown.
+fn hint_of_name(alloc: Global, volume: &Volume, name: &str) -> Option<Hint> {
+    let longer = format!(in alloc; "{name}.CODE").ok()?;
+    volume.find(longer.as_str())?;
+    if name.chars().any(char::is_control) {
+        return None;
+    }
+    Some(Hint::Named(longer))
+}
+
+/// What helps where a program of a volume does not start by this fault, if something does.
+pub(crate) fn hint_for(
+    alloc: Global,
+    volume: &Option<Volume>,
+    name: &str,
+    fault: BootFault,
+) -> Option<Hint> {
+    let volume = volume.as_ref()?;
+    match fault {
+        BootFault::NoFile => hint_of_name(alloc, volume, name),
+        BootFault::BadCode => hint_of_code(volume, name),
+        _ => None,
+    }
+}

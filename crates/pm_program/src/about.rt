@@ -57,8 +57,8 @@ fn on_unit(alloc: Global, disks: &Disks, unit: u8) -> Option<String> {
     format!(in alloc; "unit {unit}: {path}").ok()
 }
 
-/// The file that a refusal is about: its unit and its path, or the path of the system's code file. `None` where there is
-/// no memory for the text.
+/// The file that a refusal is about: its unit and its path, or the path of the system's code file. `None` where there
+/// is no memory for the text.
 pub fn about(alloc: Global, disks: &Disks, about: About) -> Option<String> {
     match about {
         About::Unit(unit) => on_unit(alloc, disks, unit),

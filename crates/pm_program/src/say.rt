@@ -32,8 +32,8 @@ impl fmt::Display for PlainLines<'_> {
     }
 }
 
-/// Why an input was refused, with the unit and the file that it is about before it, and behind it what helps, or the line
-/// of the assembler's text that is wrong.
+/// Why an input was refused, with the unit and the file that it is about before it, and behind it what helps, or the
+/// line of the assembler's text that is wrong.
 #[derive(Clone, Copy)]
 struct Refused<'a> {
     refusal: Refusal,

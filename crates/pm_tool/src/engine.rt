@@ -117,10 +117,8 @@ pub fn run<R: Source, W: Sink>(alloc: Global, source: &mut R, sink: &mut W, job:
     ensures nothing_else { IsCutShort result.exit →
         (result.image ≡ None) × (others_of result.others ≡ no_others) × (result.printer.items ≡ []) }
 
-    // A refusal names its fault, which is never want of memory, and the message is its text; nothing else names one.
+    // A refusal names its fault, never want of memory, by its text, and of a program the file that it is about.
     ensures told { SaysWhy result }
-
-    // A refusal of a program of a disk names the file that it is about.
     ensures about { IsSoundExit result.exit → NamesFileIn (work_of job) result }
 {
     match do_job(alloc, source, sink, job) {

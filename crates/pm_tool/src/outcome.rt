@@ -306,8 +306,8 @@ impl Outcome {
     }
 }
 
-/// Refuses the input for what stands in a line of it, with the file that it is about and what helps, as far as these are
-/// known: nothing is written.
+/// Refuses the input for what stands in a line of it, with the file that it is about and what helps, as far as these
+/// are known: nothing is written.
 pub(crate) fn refuse_for(
     alloc: Global,
     refusal: Refusal,

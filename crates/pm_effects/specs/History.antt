@@ -1,0 +1,63 @@
+-- What instructions take and leave that this machine answers with error 11, as the historical machine had them. A real
+-- number has two words. No law of this machine speaks of these rows.
+use Rattle.std.specs.Prelude.{ℕ, List, [], ◌∷◌, ◌==◌, Option, Some, None}
+use Rattle.std.specs.Map.{lookup}
+use Rattle.std.specs.Option.{option_or}
+use Rattle.pm_families.specs.declared.families.Kind.TheVariants as kind
+use Rattle.pm_families.specs.declared.families.Value.TheVariants as value
+use Rattle.pm_opcode.specs.declared.instr.Instr.{Instr}
+use Rattle.pm_opcode.specs.declared.operation.Operation.{Operation}
+use Rattle.pm_opcode.specs.declared.operation.Operation.TheVariants as operation
+use Rattle.pm_opcode.specs.Operations.{operation_of}
+use Rattle.pm_effects.specs.declared.effect.Effect.{Effect}
+use Rattle.pm_effects.specs.Effects.{effect_of, words}
+
+-- by opcode: ABR, ADR, DVR, FLO, FLT, MPR, NGR, SBR, SQR; LDE, LAE, STE. FLO turns the integer below a real number into
+-- one.
+unfoldable pub opcode_effects : List (ℕ × Effect)
+opcode_effects =
+    (129, words 2 2) ∷
+    (131, words 4 2) ∷
+    (135, words 4 2) ∷
+    (137, words 3 4) ∷
+    (138, words 1 2) ∷
+    (144, words 4 2) ∷
+    (146, words 2 2) ∷
+    (150, words 4 2) ∷
+    (153, words 2 2) ∷
+    (157, words 0 1) ∷
+    (167, words 0 1) ∷
+    (209, words 1 0) ∷
+    []
+
+-- standard procedures by number: TRUNC and ROUND; SIN, COS, LOG, ATAN, LN, EXP, SQRT; the power of ten
+unfoldable pub standard_effects : List (ℕ × Effect)
+standard_effects =
+    (23, words 2 1) ∷
+    (24, words 2 1) ∷
+    (25, words 2 2) ∷
+    (26, words 2 2) ∷
+    (27, words 2 2) ∷
+    (28, words 2 2) ∷
+    (29, words 2 2) ∷
+    (30, words 2 2) ∷
+    (31, words 2 2) ∷
+    (36, words 1 2) ∷
+    []
+
+unfoldable pub opcode_effect : ℕ → Option Effect
+opcode_effect op = lookup (λ m. m == op) opcode_effects
+
+unfoldable pub standard_effect : ℕ → Option Effect
+standard_effect n = lookup (λ m. m == n) standard_effects
+
+-- a comparison of real numbers takes two of them
+abbrev pub historical_effect : Operation → ℕ → Option Effect
+historical_effect (operation.Value (value.Compare r kind.Real)) op = Some (words 4 1)
+historical_effect (operation.Standard n) op = standard_effect n
+historical_effect operation.Unimplemented op = opcode_effect op
+historical_effect _ op = None
+
+-- What an instruction takes and leaves: by the table of this machine, else as the historical machine had it.
+abbrev pub instruction_effect : Instr → Option Effect
+instruction_effect i = option_or (effect_of (operation_of i)) (historical_effect (operation_of i) i.op)

@@ -27,3 +27,5 @@ pub mod ScanLaws
 pub mod DiskLaws
 pub mod PackedLaws
 pub mod PublicLaws
+pub mod EffectLaws
+pub mod StandardEffectLaws

@@ -15,3 +15,5 @@ pub mod ProcedureLaws
 pub mod UnitsLaws
 pub mod PackedLaws
 pub mod WordsLaws
+pub mod Effects
+pub mod StandardEffects

@@ -4,6 +4,7 @@
 #![tactic(auto)]
 
 pub mod calls;
+pub mod effects;
 pub mod events;
 pub mod exits;
 pub mod keeping;

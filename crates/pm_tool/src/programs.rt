@@ -173,14 +173,17 @@ fn boot(
         Err(SystemFault::NoMemory) => return Err(AllocError),
         Err(fault) => return Ok(Err(no_start(Refusal::System(fault), system_about(fault), None))),
     };
-    match Machine::boot(alloc, volumes, 4, name, 0) {
-        Ok(machine) => Ok(Ok(machine)),
-        Err((BootFault::NoMemory, _)) => Err(AllocError),
-        Err((fault, volumes)) => {
-            let hint = hint_for(alloc, &volumes[0], name, fault);
-            Ok(Err(no_start(Refusal::Boot(fault), About::Unit(4), hint)))
-        }
+    let refused = match Machine::boot(alloc, volumes, 4, name, 0) {
+        Ok(machine) => return Ok(Ok(machine)),
+        Err(refused) => refused,
+    };
+    let fault = refused.0;
+    let volumes = refused.1;
+    if matches!(fault, BootFault::NoMemory) {
+        return Err(AllocError);
     }
+    let hint = hint_for(alloc, &volumes[0], name, fault);
+    Ok(Err(no_start(Refusal::Boot(fault), About::Unit(4), hint)))
 }
 
 /// No machine for a program that the input spells, which is about no file.

@@ -1,0 +1,19 @@
+//! The law that the table of what instructions take off the stack and leave there is the machine's. The functions do
+//! nothing.
+
+ghost use Rattle.law_engine.specs.Effects.{EffectsAreTheMachines};
+ghost use Rattle.law_engine.specs.StandardEffects.{StandardEffectsAreTheMachines};
+
+/// Each row that ends well moves SP by what it leaves less what it takes, of a set its count and the words below it; a
+/// row without an entry in the table never ends well.
+#[tactic(auto, using(crate::proofs::EffectLaws::effects_are_the_machines))]
+pub fn effects_are_the_machines()
+    ensures law { EffectsAreTheMachines }
+{}
+
+/// So does each standard procedure on memory and on units. `EXIT`, and what loads and unloads a segment, leave SP
+/// elsewhere: of these the law says the number alone.
+#[tactic(auto, using(crate::proofs::StandardEffectLaws::standard_effects_are_the_machines))]
+pub fn standard_effects_are_the_machines()
+    ensures law { StandardEffectsAreTheMachines }
+{}

@@ -54,7 +54,8 @@ use Rattle.law_engine.proofs.StoredWords.{popped}
 use Rattle.pm_effects.specs.declared.effect.Share.{Share}
 use Rattle.pm_effects.specs.declared.effect.Share.TheVariants as share
 use Rattle.pm_effects.specs.declared.effect.Effect.{Effect}
-use Rattle.pm_effects.specs.Effects.{arithmetic_effect, variable_effect, pointer_effect, literal_effect, value_effect, jump_effect, set_effect, field_effect, compare_effect}
+use Rattle.pm_effects.specs.Effects.{arithmetic_effect, variable_effect, pointer_effect, literal_effect}
+use Rattle.pm_effects.specs.Effects.{value_effect, jump_effect, set_effect, field_effect, compare_effect}
 use Rattle.law_engine.specs.Effects.{EffectsAreTheMachines, EndsAt, LeavesSpAt, Moves, MovesIf, words_of, words_taken}
 
 -- ---- steps of a row

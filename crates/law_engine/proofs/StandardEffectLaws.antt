@@ -1,5 +1,6 @@
 -- Where SP stands behind each standard procedure.
-use Rattle.std.proofs.Common.{◌≡◌, ◌<◌, ◌≤◌, ◌⊎◌, inl, inr, ℕ, ◌+◌, ◌-◌, ◌*◌, ◌/◌, ◌%◌, ◌==◌, ◌&&◌, Bool, true, false, nat_lt, nat_le, List, Result, Ok, Err, refl, sym, ap, ◌∙◌, subst, arith}
+use Rattle.std.proofs.Common.{◌≡◌, ◌<◌, ◌≤◌, ◌⊎◌, inl, inr, ℕ, ◌+◌, ◌-◌, ◌*◌, ◌/◌, ◌%◌, ◌==◌, ◌&&◌}
+use Rattle.std.proofs.Common.{Bool, true, false, nat_lt, nat_le, List, Result, Ok, Err, refl, sym, ap, ◌∙◌, subst, arith}
 use Rattle.std.specs.Prelude.{Option, Some, None, if◌then◌else◌}
 use Rattle.std.proofs.lemmas.Bool.{cases_Bool}
 use Rattle.std.proofs.lemmas.Bool.Decides.{nat_tests}
@@ -19,7 +20,8 @@ use Rattle.pm_stdproc.specs.declared.procedures.OnUnits.TheVariants as units
 use Rattle.pm_stdproc.specs.declared.procedures.Procedure.{Procedure}
 use Rattle.pm_stdproc.specs.declared.procedures.Procedure.TheVariants as procedure
 use Rattle.pm_stdproc.specs.declared.rows.Order.{Order}
-use Rattle.pm_stdproc.specs.MemoryRows.{check_io_row, fill_row, filled_with, moved, passed_by, mark_row, memory_row, move_bytes_row, new_row, pop_place, push_row, release_row, scan_row}
+use Rattle.pm_stdproc.specs.MemoryRows.{check_io_row, fill_row, filled_with, moved, passed_by, mark_row}
+use Rattle.pm_stdproc.specs.MemoryRows.{memory_row, move_bytes_row, new_row, pop_place, push_row, release_row, scan_row}
 use Rattle.pm_stdproc.specs.Procedures.{procedure_numbered}
 use Rattle.pm_stdproc.specs.UnitRows.{Served, busy_row, clear_row, ordered, read_row, time_row, units_row, wait_row, write_row}
 use Rattle.law_engine.proofs.StoredWords.{popped}
@@ -123,7 +125,8 @@ unfolding memory_row check_io_row new_row fill_row scan_row mark_row release_row
 memory_moves memory.CheckIo m r = step (Ends (r.sp + 2 * 0) (words 0 0)) (demand (r.ioresult == 0) UserIo) _ (λ u h. refl)
 memory_moves memory.New m r = pops (Ends (r.sp + 2 * 2) (words 2 0)) (r.sp + 2 * 2) m r.sp 1 _ refl (λ n d.
     pops (Ends (r.sp + 2 * 2) (words 2 0)) (r.sp + 2 * 2) m n.above 0 _ d (λ a e.
-    step (Ends (r.sp + 2 * 2) (words 2 0)) (store m a.word r.np) _ (λ new h. step (Ends (r.sp + 2 * 2) (words 2 0)) (demand (nat_le (r.np + 2 * n.word) a.above) StackOverflow) _ (λ u k. e))))
+    step (Ends (r.sp + 2 * 2) (words 2 0)) (store m a.word r.np) _ (λ new h. step (Ends (r.sp + 2 * 2) (words 2 0)) (demand (nat_le
+    (r.np + 2 * n.word) a.above) StackOverflow) _ (λ u k. e))))
 memory_moves memory.MoveLeft m r = move_moves _ m r
 memory_moves memory.MoveRight m r = move_moves _ m r
 memory_moves memory.Fill m r = pops (Ends (r.sp + 2 * 4) (words 4 0)) (r.sp + 2 * 4) m r.sp 3 _ refl (λ ch x.
@@ -135,7 +138,8 @@ memory_moves memory.Scan m r = pops (Ends (r.sp + 2 * 6) (words 6 1)) (r.sp + 2 
     pops (Ends (r.sp + 2 * 6) (words 6 1)) (r.sp + 2 * 6) m place.above 2 _ y (λ ch x.
     pops (Ends (r.sp + 2 * 6) (words 6 1)) (r.sp + 2 * 6) m ch.above 1 _ x (λ kind d.
     pops (Ends (r.sp + 2 * 6) (words 6 1)) (r.sp + 2 * 6) m kind.above 0 _ d (λ limit e.
-    step (Ends (r.sp + 2 * 6) (words 6 1)) (passed_by m place.word limit.word (ch.word % 256) (kind.word % 2 == 0)) _ (λ k h. step (Ends (r.sp + 2 * 6) (words 6 1)) (push m limit.above r.np k) _ (λ t q.
+    step (Ends (r.sp + 2 * 6) (words 6 1)) (passed_by m place.word limit.word (ch.word % 256) (kind.word % 2 == 0)) _ (λ k h. step (Ends (r.sp + 2 * 6)
+    (words 6 1)) (push m limit.above r.np k) _ (λ t q.
     let up = pushed m limit.above r.np k t q in omega (arith, up, e))))))))
 memory_moves memory.Mark m r = pops (Ends (r.sp + 2 * 1) (words 1 0)) (r.sp + 2 * 1) m r.sp 0 _ refl (λ a e.
     step (Ends (r.sp + 2 * 1) (words 1 0)) (store m a.word r.np) _ (λ new h. e))
@@ -172,16 +176,19 @@ above_order : (m : List ℕ) (sp : ℕ) → AllOk (OrderEnds sp) (ordered m sp)
 unfolding ordered
 above_order m sp = pops (OrderEnds sp) (sp + 2 * 6) m sp 5 _ refl (λ mode z. pops (OrderEnds sp) (sp + 2 * 6) m mode.above 4 _ z (λ block y.
     pops (OrderEnds sp) (sp + 2 * 6) m block.above 3 _ y (λ count x. pops_place (OrderEnds sp) (sp + 2 * 6) m count.above 1 _ x (λ place d.
-    pops (OrderEnds sp) (sp + 2 * 6) m place.above 0 _ d (λ unit e. step (OrderEnds sp) (demand (lies_in_memory place.word count.word) InvalidMemory) _ (λ u h. e))))))
+    pops (OrderEnds sp) (sp + 2 * 6) m place.above 0 _ d (λ unit e. step (OrderEnds sp) (demand (lies_in_memory place.word count.word) InvalidMemory) _
+    (λ u h. e))))))
 
 abbrev Served_ends : ℕ → Effect → Served → Type 0
 Served_ends g e t = EndsIn g e t.memory t.registers
 
 units_move : (o : OnUnits) (s : Served)
-    → AllOk (λ (t : Served). EndsIn (s.registers.sp + 2 * words_taken (units_effect o) s.memory s.registers.sp) (units_effect o) t.memory t.registers) (units_row o s)
+    → AllOk (λ (t : Served). EndsIn (s.registers.sp + 2 * words_taken (units_effect o) s.memory s.registers.sp) (units_effect o) t.memory t.registers)
+    (units_row o s)
 unfolding units_row read_row write_row time_row busy_row wait_row clear_row
 units_move units.Read s = step (Served_ends (s.registers.sp + 2 * 6) (words 6 0)) (or_fails (ordered s.memory s.registers.sp)) _ (λ o h.
-    step (Served_ends (s.registers.sp + 2 * 6) (words 6 0)) (unit_read (unit_of o.unit) o.transfer s.memory s.devices) _ (λ t k. of_ok (OrderEnds s.registers.sp) (ordered s.memory s.registers.sp) o (above_order s.memory s.registers.sp) h))
+    step (Served_ends (s.registers.sp + 2 * 6) (words 6 0)) (unit_read (unit_of o.unit) o.transfer s.memory s.devices) _ (λ t k. of_ok
+    (OrderEnds s.registers.sp) (ordered s.memory s.registers.sp) o (above_order s.memory s.registers.sp) h))
 units_move units.Write s = step (Served_ends (s.registers.sp + 2 * 6) (words 6 0)) (or_fails (ordered s.memory s.registers.sp)) _ (λ o h.
     of_ok (OrderEnds s.registers.sp) (ordered s.memory s.registers.sp) o (above_order s.memory s.registers.sp) h)
 units_move units.Time s = failing (Served_ends (s.registers.sp + 2 * 2) (words 2 0)) _

@@ -57,7 +57,9 @@ pub record StandardEffectsAreTheMachines : Type 0 where
   pub numbers : (n : ℕ) → standard_effect n ≡ procedure_effect (procedure_numbered n)
   pub on_memory :
       (o : OnMemory) (m : List ℕ) (r : Registers) →
-      AllOk (λ (t : List ℕ × Registers). EndsIn (r.sp + 2 * words_taken (memory_effect o) m r.sp) (memory_effect o) t.0 t.1) (memory_row o m r)
+      AllOk (λ (t : List ℕ × Registers). EndsIn (r.sp + 2 * words_taken (memory_effect o) m r.sp)
+      (memory_effect o) t.0 t.1) (memory_row o m r)
   pub on_units :
       (o : OnUnits) (s : Served) →
-      AllOk (λ (t : Served). EndsIn (s.registers.sp + 2 * words_taken (units_effect o) s.memory s.registers.sp) (units_effect o) t.memory t.registers) (units_row o s)
+      AllOk (λ (t : Served). EndsIn (s.registers.sp + 2 * words_taken (units_effect o) s.memory s.registers.sp)
+      (units_effect o) t.memory t.registers) (units_row o s)

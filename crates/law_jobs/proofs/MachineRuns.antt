@@ -10,7 +10,6 @@ use Rattle.pm_machine.specs.declared.state.Status.TheVariants as status
 use Rattle.pm_machine.specs.declared.state.Stop.{Stop}
 use Rattle.pm_machine.specs.declared.state.Stop.TheVariants.{Went, Waiting, Ended, Halted}
 use Rattle.pm_session.specs.declared.ending.Ending.TheVariants as endings
-use Rattle.pm_tool.specs.declared.steps.Show.{Show}
 use Rattle.law_jobs.specs.ToolLaws.{AreAlike, RunsGoByTheMachine}
 use Rattle.pm_tool.specs.Run.{Run, ended_run, run_of, turn}
 
@@ -19,13 +18,13 @@ then_alike a b c h k = record { ending = h.ending ∙ k.ending; machine = h.mach
 
 -- ---- steps that went
 
-turn_went : (show : Show) (rest : List ℕ → State → Run) (bytes : List ℕ) (m : State) → (stepped m).1 ≡ Went
+turn_went : (show : _) (rest : List ℕ → State → Run) (bytes : List ℕ) (m : State) → (stepped m).1 ≡ Went
     → AreAlike (turn show rest bytes m) (rest bytes (stepped m).0)
 unfolding turn
 turn_went show rest [] m e = rw e (record { ending = refl; machine = refl; unread = refl })
 turn_went show rest (byte ∷ bytes) m e = rw e (record { ending = refl; machine = refl; unread = refl })
 
-steps_first : (show : Show) (n k : ℕ) (bytes : List ℕ) (m : State) → AllWent n m
+steps_first : (show : _) (n k : ℕ) (bytes : List ℕ) (m : State) → AllWent n m
     → AreAlike (run_of show (n + k) bytes m) (run_of show k bytes (after_steps n m))
 unfolding after_steps run_of
 steps_first show zero k bytes m went =
@@ -41,24 +40,24 @@ steps_first show (suc n) k bytes m went =
 
 -- ---- the last step
 
-turn_ended : (show : Show) (rest : List ℕ → State → Run) (bytes : List ℕ) (m t : State) → stepped m ≡ (t, Ended)
+turn_ended : (show : _) (rest : List ℕ → State → Run) (bytes : List ℕ) (m t : State) → stepped m ≡ (t, Ended)
     → AreAlike (turn show rest bytes m) (ended_run [] endings.Ended t bytes)
 unfolding turn
 turn_ended show rest [] m t e = rw e (record { ending = refl; machine = refl; unread = refl })
 turn_ended show rest (byte ∷ bytes) m t e = rw e (record { ending = refl; machine = refl; unread = refl })
 
-turn_halted : (show : Show) (rest : List ℕ → State → Run) (bytes : List ℕ) (m t : State) (error : ExecError) → stepped m ≡ (t, Halted error)
+turn_halted : (show : _) (rest : List ℕ → State → Run) (bytes : List ℕ) (m t : State) (error : ExecError) → stepped m ≡ (t, Halted error)
     → AreAlike (turn show rest bytes m) (ended_run [] (endings.Error error) t bytes)
 unfolding turn
 turn_halted show rest [] m t error e = rw e (record { ending = refl; machine = refl; unread = refl })
 turn_halted show rest (byte ∷ bytes) m t error e = rw e (record { ending = refl; machine = refl; unread = refl })
 
-turn_starved : (show : Show) (rest : List ℕ → State → Run) (m t : State) → stepped m ≡ (t, Waiting)
+turn_starved : (show : _) (rest : List ℕ → State → Run) (m t : State) → stepped m ≡ (t, Waiting)
     → AreAlike (turn show rest [] m) (ended_run [] endings.Waiting t [])
 unfolding turn
 turn_starved show rest m t e = rw e (record { ending = refl; machine = refl; unread = refl })
 
-turn_keyed : (show : Show) (rest : List ℕ → State → Run) (byte : ℕ) (bytes : List ℕ) (m t : State) → stepped m ≡ (t, Waiting)
+turn_keyed : (show : _) (rest : List ℕ → State → Run) (byte : ℕ) (bytes : List ℕ) (m t : State) → stepped m ≡ (t, Waiting)
     → turn show rest (byte ∷ bytes) m ≡ turn show rest bytes (next t (Key byte))
 unfolding turn
 turn_keyed show rest byte bytes m t e = rw e refl
@@ -72,7 +71,7 @@ waiting_counts (status.Halted e) = refl
 -- ---- a run that an answer stopped
 
 -- the run up to the last step, and what is left of the limit then
-to_the_last : (show : Show) (limit count n : ℕ) (bytes : List ℕ) (m t : State) (stop : Stop) → StoppedAfter n limit m count stop t
+to_the_last : (show : _) (limit count n : ℕ) (bytes : List ℕ) (m t : State) (stop : Stop) → StoppedAfter n limit m count stop t
     → AreAlike (run_of show limit bytes m) (turn show (run_of show (limit - suc n)) bytes (after_steps n m))
 unfolding run_of
 to_the_last show limit count n bytes m t stop h =
@@ -81,7 +80,7 @@ to_the_last show limit count n bytes m t stop h =
     steps_first show n (suc (limit - suc n)) bytes m h.went in
     subst (λ l. AreAlike (run_of show l bytes m) (turn show (run_of show (limit - suc n)) bytes (after_steps n m))) (sym e) first
 
-keyed_on : (show : Show) (limit count n byte : ℕ) (bytes : List ℕ) (m t : State) → StoppedAfter n limit m count Waiting t
+keyed_on : (show : _) (limit count n byte : ℕ) (bytes : List ℕ) (m t : State) → StoppedAfter n limit m count Waiting t
     → turn show (run_of show (limit - suc n)) (byte ∷ bytes) (after_steps n m) ≡ run_of show (limit - count) bytes (next t (Key byte))
 unfolding run_of
 keyed_on show limit count n byte bytes m t h =

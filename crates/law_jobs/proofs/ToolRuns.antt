@@ -5,7 +5,6 @@ use Rattle.pm_machine.specs.Steps.{stepped}
 use Rattle.pm_machine.specs.Events.{Event, Step, Key, next}
 use Rattle.pm_machine.specs.declared.state.Stop.{Stop}
 use Rattle.pm_machine.specs.declared.state.Stop.TheVariants.{Went, Waiting, Ended, Halted}
-use Rattle.pm_tool.specs.declared.steps.Show.{Show}
 use Rattle.law_jobs.specs.ToolLaws.{IsOfEvents, RunsAreEvents, AreAlike, ShowingChangesNothing}
 use Rattle.pm_tool.specs.Run.{Run, follows, is_waiting, run_of, turn}
 
@@ -23,7 +22,7 @@ key_before run byte bytes m e = (Key byte ∷ e.0, record { alone = e.1.alone; l
 none_made : (run : Run) (m : State) → run.machine ≡ m → Made run run.unread m
 none_made run m e = ([], record { alone = refl; left = e; read = refl })
 
-follows_made : (show : Show) (rest : List ℕ → State → Run) (m after : State) (stop : Stop) (bytes : List ℕ)
+follows_made : (show : _) (rest : List ℕ → State → Run) (m after : State) (stop : Stop) (bytes : List ℕ)
     → ((bytes' : List ℕ) (m' : State) → Made (rest bytes' m') bytes' m')
     → Made (follows show rest m after stop bytes) bytes after
 follows_made show rest m after Went bytes made =
@@ -36,7 +35,7 @@ either_made : (waits : Bool) (run other : Run) (bytes : List ℕ) (m : State) �
 either_made true run other bytes m a b = a
 either_made false run other bytes m a b = b
 
-turn_made : (show : Show) (rest : List ℕ → State → Run) (bytes : List ℕ) (m : State) → ((bytes' : List ℕ) (m' : State) → Made (rest bytes' m') bytes' m')
+turn_made : (show : _) (rest : List ℕ → State → Run) (bytes : List ℕ) (m : State) → ((bytes' : List ℕ) (m' : State) → Made (rest bytes' m') bytes' m')
     → Made (turn show rest bytes m) bytes m
 unfolding turn
 turn_made show rest [] m made = step_before _ [] m (follows_made show rest m (stepped m).0 (stepped m).1 [] made)
@@ -52,7 +51,7 @@ runs_are_events show (suc n) bytes m = turn_made show (run_of show n) bytes m (�
 
 -- ---- what is shown
 
-follows_alike : (show other : Show) (rest rest' : List ℕ → State → Run) (m after : State) (stop : Stop) (bytes : List ℕ)
+follows_alike : (show other : _) (rest rest' : List ℕ → State → Run) (m after : State) (stop : Stop) (bytes : List ℕ)
     → ((bytes' : List ℕ) (m' : State) → AreAlike (rest bytes' m') (rest' bytes' m'))
     → AreAlike (follows show rest m after stop bytes) (follows other rest' m after stop bytes)
 follows_alike show other rest rest' m after Went bytes alike =
@@ -66,7 +65,7 @@ either_alike : (waits : Bool) (run run' other other' : Run) → AreAlike run run
 either_alike true run run' other other' a b = a
 either_alike false run run' other other' a b = b
 
-turn_alike : (show other : Show) (rest rest' : List ℕ → State → Run) (bytes : List ℕ) (m : State)
+turn_alike : (show other : _) (rest rest' : List ℕ → State → Run) (bytes : List ℕ) (m : State)
     → ((bytes' : List ℕ) (m' : State) → AreAlike (rest bytes' m') (rest' bytes' m'))
     → AreAlike (turn show rest bytes m) (turn other rest' bytes m)
 unfolding turn

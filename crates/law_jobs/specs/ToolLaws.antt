@@ -9,7 +9,6 @@ use Rattle.pm_choices.specs.declared.saving.Saving.{Saving}
 use Rattle.pm_choices.specs.declared.saving.Saving.TheVariants as savings
 use Rattle.pm_session.specs.declared.ending.Ending.TheVariants as endings
 use Rattle.pm_tool.specs.Disks.{booted}
-use Rattle.pm_tool.specs.declared.steps.Show.{Show}
 use Rattle.pm_tool.specs.Run.{Run, ended_run, run_of}
 use Rattle.pm_tool.specs.declared.outcome.Exit.TheVariants as exits
 use Rattle.pm_tool.specs.declared.outcome.Job.TheVariants as jobs
@@ -43,7 +42,7 @@ pub record IsOfEvents (run : Run) (bytes : List ℕ) (m : State) (events : List 
 -- each run is one of steps and keys, and the bytes that are keyed are exactly those that are read
 abbrev pub RunsAreEvents : Type 0
 RunsAreEvents =
-    (show : Show) (limit : ℕ) (bytes : List ℕ) (m : State)
+    (show : _) (limit : ℕ) (bytes : List ℕ) (m : State)
     → (events : List Event) × IsOfEvents (run_of show limit bytes m) bytes m events
 
 -- runs that differ in what they show alone
@@ -55,27 +54,27 @@ pub record AreAlike (run other : Run) : Type 0 where
 -- what is shown of a run changes nothing else of it
 abbrev pub ShowingChangesNothing : Type 0
 ShowingChangesNothing =
-    (show other : Show) (limit : ℕ) (bytes : List ℕ) (m : State)
+    (show other : _) (limit : ℕ) (bytes : List ℕ) (m : State)
     → AreAlike (run_of show limit bytes m) (run_of other limit bytes m)
 
 -- ---- runs of the machine
 
 -- What a run is, where the machine's own run without input has this count, last answer and state: that run, and no byte
 -- is read; but where it waits, the next byte is keyed and what is left of the limit is run from there.
-abbrev pub GoesOn : Show → ℕ → List ℕ → State → ℕ → Stop → State → Type 0
-GoesOn show limit bytes m count Went t = AreAlike (run_of show limit bytes m) (ended_run [] endings.Limit t bytes)
-GoesOn show limit bytes m count Ended t = AreAlike (run_of show limit bytes m) (ended_run [] endings.Ended t bytes)
-GoesOn show limit bytes m count (Halted error) t =
-    AreAlike (run_of show limit bytes m) (ended_run [] (endings.Error error) t bytes)
-GoesOn show limit [] m count Waiting t = AreAlike (run_of show limit [] m) (ended_run [] endings.Waiting t [])
-GoesOn show limit (byte ∷ bytes) m count Waiting t =
-    AreAlike (run_of show limit (byte ∷ bytes) m) (run_of show (limit - count) bytes (next t (Key byte)))
+abbrev pub GoesOn : (ℕ → List ℕ → State → Run) → ℕ → List ℕ → State → ℕ → Stop → State → Type 0
+GoesOn run limit bytes m count Went t = AreAlike (run limit bytes m) (ended_run [] endings.Limit t bytes)
+GoesOn run limit bytes m count Ended t = AreAlike (run limit bytes m) (ended_run [] endings.Ended t bytes)
+GoesOn run limit bytes m count (Halted error) t =
+    AreAlike (run limit bytes m) (ended_run [] (endings.Error error) t bytes)
+GoesOn run limit [] m count Waiting t = AreAlike (run limit [] m) (ended_run [] endings.Waiting t [])
+GoesOn run limit (byte ∷ bytes) m count Waiting t =
+    AreAlike (run limit (byte ∷ bytes) m) (run (limit - count) bytes (next t (Key byte)))
 
 -- each run goes on so
 abbrev pub RunsGoByTheMachine : Type 0
 RunsGoByTheMachine =
-    (show : Show) (limit count : ℕ) (bytes : List ℕ) (m t : State) (stop : Stop) →
-    Ran limit m count stop t → GoesOn show limit bytes m count stop t
+    (show : _) (limit count : ℕ) (bytes : List ℕ) (m t : State) (stop : Stop) →
+    Ran limit m count stop t → GoesOn (run_of show) limit bytes m count stop t
 
 -- ---- the images that a run leaves
 
@@ -83,7 +82,7 @@ RunsGoByTheMachine =
 -- those of units 5, 9, 10, 11 and 12.
 abbrev pub ImagesAreOfTheirUnits : Type 0
 ImagesAreOfTheirUnits =
-    (show : Show) (d4 d5 d9 d10 d11 d12 : Option (List ℕ)) (name input : List ℕ) (m : State)
+    (show : _) (d4 d5 d9 d10 d11 d12 : Option (List ℕ)) (name input : List ℕ) (m : State)
     → booted (d4 ∷ d5 ∷ d9 ∷ d10 ∷ d11 ∷ d12 ∷ []) name None ≡ Ok m
     → ((run_said savings.All (run_of show 0 input m)).image ≡ d4)
     × ((run_said savings.All (run_of show 0 input m)).others ≡ d5 ∷ d9 ∷ d10 ∷ d11 ∷ d12 ∷ [])

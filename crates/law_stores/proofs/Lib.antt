@@ -1,1 +1,1 @@
-mod Jobs
+mod HeldFiles

@@ -1,6 +1,6 @@
 use Rattle.std.proofs.Common.{rules, Some, codes, string_bytes}
 use Rattle.law_stores.specs.Told.{told}
-use Rattle.law_stores.proofs.Jobs.{disk_kept, disk_said, file_cut}
+use Rattle.law_stores.proofs.HeldFiles.{disk_kept, disk_said, file_cut}
 use Rattle.law_stores.proofs.jobs.on_disk.Goals as goal
 
 pub returns-clause-kept : goal.returns-clause-kept

@@ -1,6 +1,6 @@
 use Rattle.std.proofs.Common.{rules, Some, codes, string_bytes}
 use Rattle.law_stores.specs.Told.{told}
-use Rattle.law_stores.proofs.Jobs.{file_cut, file_kept, file_said, file_stays}
+use Rattle.law_stores.proofs.HeldFiles.{file_cut, file_kept, file_said, file_stays}
 use Rattle.law_stores.proofs.jobs.on_file.Goals as goal
 
 pub returns-clause-stays : goal.returns-clause-stays

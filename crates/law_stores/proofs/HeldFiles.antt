@@ -6,8 +6,7 @@ use Rattle.pm_files.specs.Held.{Files, HoldsFile, Keeps}
 use Rattle.pm_files.specs.declared.fault.DiskFault.{DiskFault}
 use Rattle.pm_batch.specs.declared.refusal.Refusal.{Refusal}
 use Rattle.pm_machine.specs.State.{State}
-use Rattle.pm_tool.specs.Said.{IsCutShort, IsSoundExit, job_said, said_started}
-use Rattle.pm_tool.specs.declared.steps.Show.TheVariants.{Console}
+use Rattle.pm_tool.specs.Said.{IsCutShort, IsSoundExit, job_said}
 use Rattle.pm_tool.specs.declared.outcome.Job.TheVariants as jobs
 use Rattle.pm_tool.specs.declared.outcome.Outcome.{Outcome}
 use Rattle.pm_program.specs.Kept.{KeepsEach, KeepsRun, KeepsRunSaid, KeepsSaid, KeepsTold, PrintsIf, Reads, ReadsEach}
@@ -123,21 +122,24 @@ one_kept old between savings.First path images keeps = alone old between path im
 one_kept old between savings.All path images keeps = alone old between path images keeps
 one_kept old between savings.Others path images keeps = none_kept (Some old) between images keeps
 
-fourth_none : (saving : Saving) → fourth_kept saving None ≡ None
-fourth_none savings.Nothing = refl
-fourth_none savings.First = refl
-fourth_none savings.All = refl
-fourth_none savings.Others = refl
-
 -- of what is said of a run that image is kept which is there
-fourth_said : (saving : Saving) (limit : ℕ) (start : Result State Refusal) (input : List ℕ)
-    → fourth_kept saving (said_started (Console saving) limit start input).image
-    ≡ (said_started (Console saving) limit start input).image
-fourth_said savings.Nothing limit (Ok machine) input = refl
-fourth_said savings.First limit (Ok machine) input = refl
-fourth_said savings.All limit (Ok machine) input = refl
-fourth_said savings.Others limit (Ok machine) input = refl
-fourth_said saving limit (Err refusal) input = fourth_none saving
+fourth_said : (saving : Saving) (limit : ℕ) (disks : List (Option (Vec ℕ Global))) (name : String Global) (input : List ℕ)
+    → fourth_kept saving (job_said (jobs.Run disks name limit saving None) input).image
+    ≡ (job_said (jobs.Run disks name limit saving None) input).image
+fourth_said savings.First limit disks name input = refl
+fourth_said savings.All limit disks name input = refl
+fourth_said savings.Nothing limit disks name input = go (booted (images_of disks) (string_bytes name) None) refl
+  where
+    go : (start : Result State Refusal) → booted (images_of disks) (string_bytes name) None ≡ start
+        → None ≡ (job_said (jobs.Run disks name limit savings.Nothing None) input).image
+    go (Ok machine) is = rw is refl
+    go (Err refusal) is = rw is refl
+fourth_said savings.Others limit disks name input = go (booted (images_of disks) (string_bytes name) None) refl
+  where
+    go : (start : Result State Refusal) → booted (images_of disks) (string_bytes name) None ≡ start
+        → None ≡ (job_said (jobs.Run disks name limit savings.Others None) input).image
+    go (Ok machine) is = rw is refl
+    go (Err refusal) is = rw is refl
 
 run_left : (old new : List ℕ → Option (List ℕ)) (between : Files) (path image file : List ℕ) (kept : Option (List ℕ))
     (runs : Bool) (printed : List ℕ) → new path ≡ Some file → Keeps (Some old) between path kept
@@ -218,7 +220,7 @@ disk_said (Ok outcome) old new from path image file name limit saving known inpu
     leaves disks None reads given told held = (
       disks,
       reads_one old (string_bytes from) image (images_of disks) reads held,
-      subst (λ kept. file ≡ left_in image kept) (fourth_said saving limit (booted (images_of disks) (string_bytes name) None) input)
+      subst (λ kept. file ≡ left_in image kept) (fourth_said saving limit disks name input)
           (run_left old new told.0 (string_bytes from) image file
           (fourth_kept saving (job_said (jobs.Run disks name limit saving None) input).image)
           (has_run (job_said (jobs.Run disks name limit saving None) input).exit)

@@ -19,7 +19,7 @@ use Rattle.pm_volume.proofs.SecondLaws.{Changed-named}
 use Rattle.pm_volume.proofs.SlotChanges.{length-entries_from}
 use Rattle.pm_filer.specs.Filed.{bytes_of_file, filed}
 use Rattle.pm_filer.specs.Laws.{ChangeKeepsOthers, NewNameGives, file_given}
-use Rattle.law_disks.proofs.FoundFiles.{found_kept, position-within}
+use Rattle.law_disks.proofs.FoundFiles.{found_stays, position-within}
 use Rattle.law_disks.proofs.GivenLaws.{changed-ok, missed}
 use Rattle.law_disks.proofs.SameNames.{named-new, same-from_upper, same-right, upper-from_same}
 
@@ -151,22 +151,22 @@ module _ (image old new other : List ℕ) (slot : ℕ) (v : IsVolume image) (s :
       let alone : list_any (is_named other) (front ++ back) ≡ false =
       any_same (is_named other) (is_named new) (front ++ back) (λ e. same-right _ other new (sym (upper-from_same new other same))) ∙ s.alone in
       let only = found_only (is_named other) front named back (own ∙ same) alone in
-      let kept = found_kept (is_named old) image after (files_of image) c.kept in
-      let first = rw parts at kept in
+      let stay = found_stays (is_named old) image after (files_of image) c.stay in
+      let first = rw parts at stay in
       let bytes : bytes_of_file after (Some file) ≡ bytes_of_file image (Some file) = rw was.1 at first in
       rw (files, only, parts, was.1) (own_bytes ∙ bytes)
 
-  others_kept : is_same_name new other ≡ false → is_same_name old other ≡ false → file_given after other ≡ file_given image other
+  others_stay : is_same_name new other ≡ false → is_same_name old other ≡ false → file_given after other ≡ file_given image other
   unfolding d after
-  others_kept unlike apart =
+  others_stay unlike apart =
       let c = Changed-named image v new slot size.0 size.1 within.0 last in
       let stops : is_named other file ≡ false = elim (cases_Bool (is_named other file)) [
         | inl both ↦ let same = same-from_upper old other (sym (upper-from_same _ old was.0) ∙ upper-from_same _ other both) in cc
         | inr no' ↦ no'
       ] in
       let past = found_past (is_named other) front file named back stops (own ∙ unlike) in
-      let kept = found_kept (is_named other) image after (files_of image) c.kept in
-      let there = rw parts at kept in
+      let stay = found_stays (is_named other) image after (files_of image) c.stay in
+      let there = rw parts at stay in
       rw (files, past, parts) there
 
   NewNameGives-slot : is_same_name new other ≡ true → file_given (mirrored (with_name image slot new)) other ≡ file_given image old
@@ -176,7 +176,7 @@ module _ (image old new other : List ℕ) (slot : ℕ) (v : IsVolume image) (s :
   OthersKept-slot : is_same_name new other ≡ false → is_same_name old other ≡ false
       → file_given (mirrored (with_name image slot new)) other ≡ file_given image other
   unfolding after
-  OthersKept-slot = others_kept
+  OthersKept-slot = others_stay
 
 renamed-ok : (image name : List ℕ) (r : Result ℕ VolumeFault) (new : List ℕ) → renamed_at image name r ≡ Ok new
     → (slot : ℕ) × (r ≡ Ok slot) × (mirrored (with_name image slot name) ≡ new)

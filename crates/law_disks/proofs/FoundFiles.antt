@@ -4,23 +4,23 @@ use Rattle.std.proofs.lemmas.Bool.{cases_Bool}
 use Rattle.std.proofs.lemmas.List.Elements.{All-head, All-tail}
 use Rattle.std.specs.List.{All, AllZip, find, insert, position_from, remove}
 use Rattle.pm_volume.specs.Files.{files_of, is_named}
-use Rattle.pm_volume.specs.Kept.{KeepsFile, KeepsFiles}
+use Rattle.pm_volume.specs.Stays.{FileStays, FilesStay}
 use Rattle.pm_volume.specs.Packing.{MovesFile, new_place, packed}
 use Rattle.pm_volume.specs.declared.entry.Entry.{Entry}
 use Rattle.pm_filer.specs.Filed.{bytes_of_file}
 use Rattle.pm_filer.specs.Laws.{file_given}
 
 -- the same files with the same bytes
-pub found_kept : (p : Entry → Bool) (old new : List ℕ) (es : List Entry) → All (KeepsFile old new) es
+pub found_stays : (p : Entry → Bool) (old new : List ℕ) (es : List Entry) → All (FileStays old new) es
     → bytes_of_file new (find p es) ≡ bytes_of_file old (find p es)
-found_kept p old new [] kept = refl
-found_kept p old new (e ∷ es) kept = elim (cases_Bool (p e)) [
-  | inl here ↦ rw here (All-head (KeepsFile old new) e es kept).bytes
-  | inr on ↦ rw on (found_kept p old new es (All-tail (KeepsFile old new) e es kept))
+found_stays p old new [] stay = refl
+found_stays p old new (e ∷ es) stay = elim (cases_Bool (p e)) [
+  | inl here ↦ rw here (All-head (FileStays old new) e es stay).bytes
+  | inr on ↦ rw on (found_stays p old new es (All-tail (FileStays old new) e es stay))
 ]
 
-pub given_kept : (old new : List ℕ) → files_of new ≡ files_of old → KeepsFiles old new → (name : List ℕ) → file_given new name ≡ file_given old name
-given_kept old new files kept name = rw files (found_kept (is_named name) old new (files_of old) kept)
+pub given_stays : (old new : List ℕ) → files_of new ≡ files_of old → FilesStay old new → (name : List ℕ) → file_given new name ≡ file_given old name
+given_stays old new files stay name = rw files (found_stays (is_named name) old new (files_of old) stay)
 
 -- files moved, each with its bytes
 pub found_moved : (name old new : List ℕ) (from : ℕ) (es : List Entry) → AllZip (MovesFile old new) es (packed from es)

@@ -15,7 +15,7 @@ use Rattle.pm_volume.specs.Words.{word_in}
 use Rattle.pm_volume.specs.declared.entry.Entry.{Entry}
 use Rattle.pm_volume.specs.declared.fault.VolumeFault.{VolumeFault}
 use Rattle.pm_volume.proofs.DoubledLaws.{Recopied-doubled}
-use Rattle.pm_volume.proofs.KeptLaws.{directory_byte}
+use Rattle.pm_volume.proofs.StayLaws.{directory_byte}
 use Rattle.pm_volume.proofs.KrunchLaws.{Krunches-krunched}
 use Rattle.pm_volume.proofs.NameLaws.{length-name_field, length-new_name}
 use Rattle.pm_volume.proofs.PlaceLaws.{IsPlaced, IsPlaced-from_ok, IsRoomFor-placed, gap_in}
@@ -25,7 +25,7 @@ use Rattle.pm_volume.proofs.SlotChanges.{length-entries_from}
 use Rattle.pm_filer.specs.Filed.{Filed, changed, filed}
 use Rattle.pm_volume.specs.Dates.{date_word, is_date}
 use Rattle.pm_filer.specs.Laws.{IsVolumeOfBytes, NamesAreKept, PutIsGot, RemovalKeepsOthers, duplicate, date, file_given, krunch, single}
-use Rattle.law_disks.proofs.FoundFiles.{found_beside, found_kept, found_left, found_moved, found_new, given_kept, position-within}
+use Rattle.law_disks.proofs.FoundFiles.{found_beside, found_stays, found_left, found_moved, found_new, given_stays, position-within}
 use Rattle.law_disks.proofs.SameNames.{named-new, same-from_upper, same-right, upper-from_same}
 
 -- a word of a directory of bytes
@@ -120,7 +120,7 @@ module _ (image name : List ℕ) (kind : ℕ) (bytes : List ℕ) (g : _) (b : Is
           | inl same ↦ rw (same, put_found other same) (bytes-added_second image name bytes kind day g b.volume p fit)
           | inr unlike ↦
               let at = found_beside (is_named other) (files_of image) (g.place - 1) e (own ∙ unlike) in
-              rw (unlike, c.files, at) (found_kept (is_named other) image new (files_of image) c.kept)
+              rw (unlike, c.files, at) (found_stays (is_named other) image new (files_of image) c.stay)
         ]
 
 pub put_is_got : PutIsGot
@@ -142,7 +142,7 @@ removed_given image name other slot v found unlike =
       | inl both ↦ let same = same-from_upper name other (sym (upper-from_same _ name named) ∙ upper-from_same _ other both) in cc
       | inr apart ↦ apart
     ]) in
-    rw (c.files, left) (found_kept (is_named other) image (mirrored (without_file image slot)) (files_of image) c.kept)
+    rw (c.files, left) (found_stays (is_named other) image (mirrored (without_file image slot)) (files_of image) c.stay)
 
 pub removal_keeps_others : RemovalKeepsOthers
 unfolding filed file_removed
@@ -179,15 +179,15 @@ names_are_kept image order f b (date year month day) done name = elim (cases_Boo
       let told = rw good at done in
       let same : dated_image image (date_word year month day) ≡ f.image = cc in
       let c = Changed-dated image b.volume (date_word year month day) in
-      subst (λ new. file_given new name ≡ file_given image name) same (given_kept image (dated_image image (date_word year month day)) c.files c.kept name)
+      subst (λ new. file_given new name ≡ file_given image name) same (given_stays image (dated_image image (date_word year month day)) c.files c.stay name)
   | inr bad ↦ let told = rw bad at done in cc
 ]
 names_are_kept image order f b duplicate done name =
     let made = changed-ok _ f done in
     let parts = doubled-ok image f.image made in
     let c = Recopied-doubled image b.volume parts.0 parts.1 in
-    subst (λ new. file_given new name ≡ file_given image name) parts.2 (given_kept image (mirrored (begun_at image 10)) c.files c.kept name)
+    subst (λ new. file_given new name ≡ file_given image name) parts.2 (given_stays image (mirrored (begun_at image 10)) c.files c.stay name)
 names_are_kept image order f b single done name =
     let same : singled image ≡ f.image = cc in
     let c = Recopied-singled image b.volume in
-    subst (λ new. file_given new name ≡ file_given image name) same (given_kept image (singled image) c.files c.kept name)
+    subst (λ new. file_given new name ≡ file_given image name) same (given_stays image (singled image) c.files c.stay name)

@@ -22,10 +22,10 @@ last true f h = cc
 last false f h = refl
 
 more : (b : Bool) (f : Finding) (rest : List Finding) → b ≡ false → rest ≡ [] → found_if b f ++ rest ≡ []
-more b f rest kept empty = rw (kept, empty) refl
+more b f rest stay empty = rw (stay, empty) refl
 
 lone : (b : Bool) (f : Finding) → b ≡ false → found_if b f ≡ []
-lone b f kept = rw kept refl
+lone b f stay = rw stay refl
 
 parts : (xs ys : List Finding) → xs ++ ys ≡ [] → (xs ≡ []) × (ys ≡ [])
 parts [] ys h = (refl, h)

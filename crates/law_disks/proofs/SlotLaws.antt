@@ -11,7 +11,7 @@ use Rattle.pm_volume.specs.Changes.{files_beside, is_named_beside, slot_named, s
 use Rattle.pm_volume.specs.Copies.{mirrored}
 use Rattle.pm_volume.specs.Directory.{directory_of, entries_from, entry_in, file_count}
 use Rattle.pm_volume.specs.Files.{file_bytes, files_of, is_named}
-use Rattle.pm_volume.specs.Kept.{KeepsFile}
+use Rattle.pm_volume.specs.Stays.{FileStays}
 use Rattle.pm_volume.specs.Made.{file_removed, renamed, slot_removed, slot_renamed}
 use Rattle.pm_volume.specs.Names.{is_new_name, name_field}
 use Rattle.pm_volume.specs.declared.entry.Entry.{Entry}
@@ -62,8 +62,8 @@ first_at p n (x ∷ xs) e ys none here = elim (cases_Bool (p x)) [
       rw on (first_at p (n + 1) xs e ys rest here ∙ ap Some same)
 ]
 
-bytes_kept : (old new : List ℕ) (es : List Entry) → All (KeepsFile old new) es → HaveBytesOf old new es
-bytes_kept old new es kept = λ k d low. (kept k d low).bytes
+bytes_stay : (old new : List ℕ) (es : List Entry) → All (FileStays old new) es → HaveBytesOf old new es
+bytes_stay old new es stay = λ k d low. (stay k d low).bytes
 
 all_beside : (P : Entry → Type 0) (xs : List Entry) (e : Entry) (ys : List Entry) → All P (xs ++ e ∷ ys) → All P (xs ++ ys)
 all_beside P [] e ys all = All-tail P e ys all
@@ -123,8 +123,8 @@ pub removal_takes_one : RemovalTakesOne
 unfolding filed slot_removed
 removal_takes_one image before after e v files =
     let c = Changed-removed image v (length before + 1) (omega arith) (last image before after e files) in
-    let kept = bytes_kept image (mirrored (without_file image (length before + 1))) (files_of image) c.kept in
-    let split = rw files at kept in
+    let stay = bytes_stay image (mirrored (without_file image (length before + 1))) (files_of image) c.stay in
+    let split = rw files at stay in
     record {
       new = mirrored (without_file image (length before + 1));
       done = rw (numbered image before after e files) refl;
@@ -137,14 +137,14 @@ unfolding filed slot_renamed
 change_names_one image before after e new v files good alone =
     let size = length-new_name 15 new good in
     let c = Changed-named image v new (length before + 1) size.0 size.1 (omega arith) (last image before after e files) in
-    let kept = bytes_kept image (mirrored (with_name image (length before + 1) new)) (files_of image) c.kept in
+    let stay = bytes_stay image (mirrored (with_name image (length before + 1) new)) (files_of image) c.stay in
     let found = to_rename image before after e files new false alone in
     let own = (parts image before after e files).one in
     record {
       new = mirrored (with_name image (length before + 1) new);
       done = rw (found, good) refl;
       files = c.files ∙ rw (files, place image before after e files, own) (set-append_seam before e after (record e { name = name_field 15 new }));
-      bytes = rw files at kept;
+      bytes = rw files at stay;
     }
 
 pub slot_changes_tell_first : SlotChangesTellFirst

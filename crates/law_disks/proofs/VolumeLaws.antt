@@ -195,8 +195,8 @@ no_more need count a blocks n from [] some less =
 no_more need count a blocks n from (e ∷ es) some less =
     let more : (need == 0) ≡ false = grind (arith, nat_tests, some) in
     let here = le-max_right a (e.first - from) in
-    let kept = keeps_most (max a (e.first - from)) (gaps blocks (n + 1) e.end es) in
-    let small : leb need (e.first - from) ≡ false = grind (arith, nat_tests, here, kept, less) in
+    let stay = keeps_most (max a (e.first - from)) (gaps blocks (n + 1) e.end es) in
+    let small : leb need (e.first - from) ≡ false = grind (arith, nat_tests, here, stay, less) in
     rw (more, small) (no_more need count (max a (e.first - from)) blocks (n + 1) e.end es some less)
 
 module _ (image : List ℕ) (v : IsVolume image) where

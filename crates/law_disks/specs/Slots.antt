@@ -16,11 +16,11 @@ abbrev pub HaveBytesOf : List ℕ → List ℕ → List Entry → Type 0
 HaveBytesOf old new files = All (λ (e : Entry). file_bytes new e ≡ file_bytes old e) files
 
 -- a command is done, and leaves this list of files, of which these have the bytes that they had
-pub record LeavesFiles (old : List ℕ) (outcome : Result Filed FilerFault) (list kept : List Entry) : Type 0 where
+pub record LeavesFiles (old : List ℕ) (outcome : Result Filed FilerFault) (list stay : List Entry) : Type 0 where
   pub new : List ℕ
   pub done : outcome ≡ Ok (record { image = new; answer = Done })
   pub files : files_of new ≡ list
-  pub bytes : HaveBytesOf old new kept
+  pub bytes : HaveBytesOf old new stay
 
 -- a file that is removed by its slot is missing from the list, and every other one stands in it, in the order and with
 -- the bytes that it had, whatever names they have

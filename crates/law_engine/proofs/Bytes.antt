@@ -11,7 +11,7 @@ use Rattle.pm_volume.specs.declared.entry.Entry.{Entry}
 use Rattle.pm_volume.specs.Directory.{block_count, directory_of, files_begin}
 use Rattle.pm_volume.specs.Files.{file_bytes, files_of, is_named}
 use Rattle.pm_volume.specs.Words.{word_in}
-use Rattle.pm_volume.proofs.KeptLaws.{files_within}
+use Rattle.pm_volume.proofs.StayLaws.{files_within}
 use Rattle.pm_volume.proofs.OrderLaws.{IsWithin}
 use Rattle.pm_codefile.specs.Dictionary.{segment_in}
 use Rattle.law_engine.proofs.LoadedSegments.{IsFound, found_all}

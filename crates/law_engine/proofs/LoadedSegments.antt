@@ -14,7 +14,7 @@ use Rattle.pm_words.specs.Stack.{◌>>=◌, demand}
 use Rattle.pm_volume.specs.declared.entry.Entry.{Entry}
 use Rattle.pm_volume.specs.Directory.{block_count, directory_of, files_begin}
 use Rattle.pm_volume.specs.Files.{file_bytes, file_named, files_of, is_named}
-use Rattle.pm_volume.proofs.KeptLaws.{files_within}
+use Rattle.pm_volume.proofs.StayLaws.{files_within}
 use Rattle.pm_volume.proofs.OrderLaws.{IsWithin}
 use Rattle.pm_codefile.specs.declared.fault.CodeFault.{CodeFault}
 use Rattle.pm_codefile.specs.Dictionary.{block_in, file_fault, first_slot_fault, length_in, or_code_fault, segment_in, slot_fault, slot_in}

@@ -2,25 +2,25 @@
 use Rattle.std.proofs.Common.{◌≡◌, ◌∙◌, ℕ, true, false, List, [], Option, None, Some, Result, Ok, Err, IfOk, IfSome, OnErr}
 use Rattle.std.proofs.Common.{◌∷◌, Bool, String, Vec, ap, refl, subst, sym, option_map, vec_items, string_bytes}
 use Rattle.std.specs.declared.alloc.Global.{Global}
-use Rattle.pm_files.specs.Held.{Files, HoldsFile, Keeps}
+use Rattle.pm_files.specs.Held.{Files, HoldsFile, Saves}
 use Rattle.pm_files.specs.declared.fault.DiskFault.{DiskFault}
 use Rattle.pm_batch.specs.declared.refusal.Refusal.{Refusal}
 use Rattle.pm_machine.specs.State.{State}
 use Rattle.pm_tool.specs.Said.{IsCutShort, IsSoundExit, job_said}
 use Rattle.pm_tool.specs.declared.outcome.Job.TheVariants as jobs
 use Rattle.pm_tool.specs.declared.outcome.Outcome.{Outcome}
-use Rattle.pm_program.specs.Kept.{KeepsEach, KeepsRun, KeepsRunSaid, KeepsSaid, KeepsTold, PrintsIf, Reads, ReadsEach}
-use Rattle.pm_program.specs.Kept.{first_image, has_run, kept_paths, next_images}
-use Rattle.pm_program.specs.declared.kept.KeptOfRun.{KeptOfRun}
+use Rattle.pm_program.specs.Saved.{SavesEach, SavesRun, SavesRunSaid, SavesSaid, SavesTold, PrintsIf, Reads, ReadsEach}
+use Rattle.pm_program.specs.Saved.{first_image, has_run, saved_paths, next_images}
+use Rattle.pm_program.specs.declared.saved.SavedOfRun.{SavedOfRun}
 use Rattle.pm_choices.specs.declared.saving.Saving.{Saving}
 use Rattle.pm_choices.specs.declared.saving.Saving.TheVariants as savings
 use Rattle.pm_plan.specs.declared.run_words.Others.{Others}
 use Rattle.pm_plan.specs.declared.run_words.Program.{Program}
-use Rattle.pm_program.specs.declared.kept.Printing.TheVariants as printings
+use Rattle.pm_program.specs.declared.saved.Printing.TheVariants as printings
 use Rattle.pm_plan.specs.declared.file_words.Verb.{Verb}
 use Rattle.pm_plan.specs.declared.file_words.Verb.TheVariants as verbs
 use Rattle.pm_tool.specs.Disks.{booted, images_of}
-use Rattle.law_stores.specs.Jobs.{KeepsDisk, LeavesRun, StaysWhereCut, fourth_kept, left_in, said_verb}
+use Rattle.law_stores.specs.Jobs.{SavesDisk, LeavesRun, StaysWhereCut, fourth_saved, left_in, said_verb}
 
 abbrev bytes_in : Option (List ℕ) → List ℕ
 bytes_in None = []
@@ -30,11 +30,11 @@ bytes_in (Some bytes) = bytes
 same : (image file : List ℕ) → Some image ≡ Some file → file ≡ image
 same image file is = sym (ap bytes_in is)
 
-left : (old new : List ℕ → Option (List ℕ)) (path image file : List ℕ) (kept : Option (List ℕ))
-    → new path ≡ Some file → Keeps (Some old) (Some new) path kept → old path ≡ Some image → file ≡ left_in image kept
-left old new path image file None has keeps had =
-    same image file (sym had ∙ subst (λ files. HoldsFile files path file) keeps has)
-left old new path image file (Some bytes) has keeps had = same bytes file (sym keeps.0 ∙ has)
+left : (old new : List ℕ → Option (List ℕ)) (path image file : List ℕ) (saved : Option (List ℕ))
+    → new path ≡ Some file → Saves (Some old) (Some new) path saved → old path ≡ Some image → file ≡ left_in image saved
+left old new path image file None has saves had =
+    same image file (sym had ∙ subst (λ files. HoldsFile files path file) saves has)
+left old new path image file (Some bytes) has saves had = same bytes file (sym saves.0 ∙ has)
 
 -- where a job is refused its file, that has what it had
 pub file_stays : (done : Result Outcome DiskFault) (old new : List ℕ → Option (List ℕ)) (path image file : List ℕ)
@@ -51,41 +51,41 @@ file_cut (Ok outcome) old new path image file has stays had =
 file_cut (Err fault) old new path image file has stays had = tt
 
 -- the file has the image of the outcome, or what it had
-pub file_kept : (done : Result Outcome DiskFault) (old new : List ℕ → Option (List ℕ)) (path image file : List ℕ)
+pub file_saved : (done : Result Outcome DiskFault) (old new : List ℕ → Option (List ℕ)) (path image file : List ℕ)
     → new path ≡ Some file
-    → IfOk done (λ outcome. Keeps (Some old) (Some new) path (option_map vec_items outcome.image))
+    → IfOk done (λ outcome. Saves (Some old) (Some new) path (option_map vec_items outcome.image))
     → old path ≡ Some image
     → IfOk done (λ outcome. file ≡ left_in image (option_map vec_items outcome.image))
-file_kept (Ok outcome) old new path image file has keeps had = left old new path image file _ has keeps had
-file_kept (Err fault) old new path image file has keeps had = tt
+file_saved (Ok outcome) old new path image file has saves had = left old new path image file _ has saves had
+file_saved (Err fault) old new path image file has saves had = tt
 
 verb_said : (old new : List ℕ → Option (List ℕ)) (path image file : List ℕ) (verb : Verb) (input : List ℕ)
-    → new path ≡ Some file → KeepsSaid (Some old) (Some new) path verb input → old path ≡ Some image
+    → new path ≡ Some file → SavesSaid (Some old) (Some new) path verb input → old path ≡ Some image
     → file ≡ left_in image (said_verb image verb input).image
-verb_said old new path image file (verbs.Command command) input has keeps had = left old new path image file _ has
-    (subst (λ bytes. Keeps (Some old) (Some new) path (said_verb bytes (verbs.Command command) input).image)
-    (same image keeps.0 (sym had ∙ keeps.1)) keeps.2) had
-verb_said old new path image file (verbs.New name blocks) input has keeps had =
-    left old new path image file _ has keeps had
-verb_said old new path image file verbs.Repair input has keeps had = left old new path image file _ has
-    (subst (λ bytes. Keeps (Some old) (Some new) path (said_verb bytes verbs.Repair input).image)
-    (same image keeps.0 (sym had ∙ keeps.1)) keeps.2) had
-verb_said old new path image file verbs.Check input has keeps had =
+verb_said old new path image file (verbs.Command command) input has saves had = left old new path image file _ has
+    (subst (λ bytes. Saves (Some old) (Some new) path (said_verb bytes (verbs.Command command) input).image)
+    (same image saves.0 (sym had ∙ saves.1)) saves.2) had
+verb_said old new path image file (verbs.New name blocks) input has saves had =
+    left old new path image file _ has saves had
+verb_said old new path image file verbs.Repair input has saves had = left old new path image file _ has
+    (subst (λ bytes. Saves (Some old) (Some new) path (said_verb bytes verbs.Repair input).image)
+    (same image saves.0 (sym had ∙ saves.1)) saves.2) had
+verb_said old new path image file verbs.Check input has saves had =
     left old new path image file ((said_verb image verbs.Check input).image) has
-    (subst (λ bytes. Keeps (Some old) (Some new) path (said_verb bytes verbs.Check input).image)
-    (same image keeps.0 (sym had ∙ keeps.1)) keeps.2) had
+    (subst (λ bytes. Saves (Some old) (Some new) path (said_verb bytes verbs.Check input).image)
+    (same image saves.0 (sym had ∙ saves.1)) saves.2) had
 
 -- the file has the image that is said of what it had and of the input, or what it had
 pub file_said : (done : Result Outcome DiskFault) (old new : List ℕ → Option (List ℕ)) (path image file : List ℕ)
     (verb : Verb) (known : Option (List ℕ)) (input : List ℕ) → new path ≡ Some file
     → IfOk done (λ outcome. IsSoundExit outcome.exit
-    → IfSome known (λ input. KeepsSaid (Some old) (Some new) path verb input))
+    → IfSome known (λ input. SavesSaid (Some old) (Some new) path verb input))
     → known ≡ Some input → old path ≡ Some image
     → IfOk done (λ outcome. IsSoundExit outcome.exit → file ≡ left_in image (said_verb image verb input).image)
-file_said (Ok outcome) old new path image file verb known input has keeps is had = λ sound.
+file_said (Ok outcome) old new path image file verb known input has saves is had = λ sound.
     verb_said old new path image file verb input has
-    (subst (λ known. IfSome known (λ input. KeepsSaid (Some old) (Some new) path verb input)) is (keeps sound)) had
-file_said (Err fault) old new path image file verb known input has keeps is had = tt
+    (subst (λ known. IfSome known (λ input. SavesSaid (Some old) (Some new) path verb input)) is (saves sound)) had
+file_said (Err fault) old new path image file verb known input has saves is had = tt
 
 -- no disk stands on another unit
 abbrev none_other : Others
@@ -93,38 +93,38 @@ none_other = record { d5 = None; d9 = None; d10 = None; d11 = None; d12 = None }
 
 -- of five other units none has a path
 others_none : (old between : Files) (images : List (Option (List ℕ)))
-    → KeepsEach old between (None ∷ None ∷ None ∷ None ∷ None ∷ []) images → between ≡ old
-others_none old between images keeps =
-    let d9 = keeps.2 in
+    → SavesEach old between (None ∷ None ∷ None ∷ None ∷ None ∷ []) images → between ≡ old
+others_none old between images saves =
+    let d9 = saves.2 in
     let d10 = d9.2 in
     let d11 = d10.2 in
     let d12 = d11.2 in
-    d12.2 ∙ d12.1 ∙ d11.1 ∙ d10.1 ∙ d9.1 ∙ keeps.1
+    d12.2 ∙ d12.1 ∙ d11.1 ∙ d10.1 ∙ d9.1 ∙ saves.1
 
 -- nor has unit 4
-none_kept : (old between : Files) (images : List (Option (List ℕ)))
-    → KeepsEach old between (None ∷ None ∷ None ∷ None ∷ None ∷ None ∷ []) images → between ≡ old
-none_kept old between images keeps = others_none keeps.0 between (next_images images) keeps.2 ∙ keeps.1
+none_saved : (old between : Files) (images : List (Option (List ℕ)))
+    → SavesEach old between (None ∷ None ∷ None ∷ None ∷ None ∷ None ∷ []) images → between ≡ old
+none_saved old between images saves = others_none saves.0 between (next_images images) saves.2 ∙ saves.1
 
 alone : (old : List ℕ → Option (List ℕ)) (between : Files) (path : List ℕ) (images : List (Option (List ℕ)))
-    → KeepsEach (Some old) between (Some path ∷ None ∷ None ∷ None ∷ None ∷ None ∷ []) images
-    → Keeps (Some old) between path (first_image images)
-alone old between path images keeps =
-    subst (λ files. Keeps (Some old) files path (first_image images))
-    (sym (others_none keeps.0 between (next_images images) keeps.2)) keeps.1
+    → SavesEach (Some old) between (Some path ∷ None ∷ None ∷ None ∷ None ∷ None ∷ []) images
+    → Saves (Some old) between path (first_image images)
+alone old between path images saves =
+    subst (λ files. Saves (Some old) files path (first_image images))
+    (sym (others_none saves.0 between (next_images images) saves.2)) saves.1
 
--- of one disk its image alone is kept, or none
-one_kept : (old : List ℕ → Option (List ℕ)) (between : Files) (saving : Saving) (path : List ℕ)
-    (images : List (Option (List ℕ))) → KeepsEach (Some old) between (kept_paths saving path none_other) images
-    → Keeps (Some old) between path (fourth_kept saving (first_image images))
-one_kept old between savings.Nothing path images keeps = none_kept (Some old) between images keeps
-one_kept old between savings.First path images keeps = alone old between path images keeps
-one_kept old between savings.All path images keeps = alone old between path images keeps
-one_kept old between savings.Others path images keeps = none_kept (Some old) between images keeps
+-- of one disk its image alone is saved, or none
+one_saved : (old : List ℕ → Option (List ℕ)) (between : Files) (saving : Saving) (path : List ℕ)
+    (images : List (Option (List ℕ))) → SavesEach (Some old) between (saved_paths saving path none_other) images
+    → Saves (Some old) between path (fourth_saved saving (first_image images))
+one_saved old between savings.Nothing path images saves = none_saved (Some old) between images saves
+one_saved old between savings.First path images saves = alone old between path images saves
+one_saved old between savings.All path images saves = alone old between path images saves
+one_saved old between savings.Others path images saves = none_saved (Some old) between images saves
 
--- of what is said of a run that image is kept which is there
+-- of what is said of a run that image is saved which is there
 fourth_said : (saving : Saving) (limit : ℕ) (disks : List (Option (Vec ℕ Global))) (name : String Global) (input : List ℕ)
-    → fourth_kept saving (job_said (jobs.Run disks name limit saving None) input).image
+    → fourth_saved saving (job_said (jobs.Run disks name limit saving None) input).image
     ≡ (job_said (jobs.Run disks name limit saving None) input).image
 fourth_said savings.First limit disks name input = refl
 fourth_said savings.All limit disks name input = refl
@@ -141,24 +141,24 @@ fourth_said savings.Others limit disks name input = go (booted (images_of disks)
     go (Ok machine) is = rw is refl
     go (Err refusal) is = rw is refl
 
-run_left : (old new : List ℕ → Option (List ℕ)) (between : Files) (path image file : List ℕ) (kept : Option (List ℕ))
-    (runs : Bool) (printed : List ℕ) → new path ≡ Some file → Keeps (Some old) between path kept
-    → PrintsIf runs between (Some new) printings.Nowhere printed → old path ≡ Some image → file ≡ left_in image kept
-run_left old new between path image file kept true printed has keeps prints had =
-    left old new path image file kept has (subst (λ files. Keeps (Some old) files path kept) (sym prints) keeps) had
-run_left old new between path image file kept false printed has keeps prints had =
-    left old new path image file kept has (subst (λ files. Keeps (Some old) files path kept) (sym prints) keeps) had
+run_left : (old new : List ℕ → Option (List ℕ)) (between : Files) (path image file : List ℕ) (saved : Option (List ℕ))
+    (runs : Bool) (printed : List ℕ) → new path ≡ Some file → Saves (Some old) between path saved
+    → PrintsIf runs between (Some new) printings.Nowhere printed → old path ≡ Some image → file ≡ left_in image saved
+run_left old new between path image file saved true printed has saves prints had =
+    left old new path image file saved has (subst (λ files. Saves (Some old) files path saved) (sym prints) saves) had
+run_left old new between path image file saved false printed has saves prints had =
+    left old new path image file saved has (subst (λ files. Saves (Some old) files path saved) (sym prints) saves) had
 
 -- the file of the disk has the image of the outcome, or what it had
-pub disk_kept : (saving : Saving) (done : Result Outcome DiskFault) (old new : List ℕ → Option (List ℕ))
+pub disk_saved : (saving : Saving) (done : Result Outcome DiskFault) (old new : List ℕ → Option (List ℕ))
     (from path image file : List ℕ) → new path ≡ Some file
-    → IfOk done (λ outcome. KeepsRun (Some old) (Some new) (kept_paths saving from none_other) printings.Nowhere outcome)
+    → IfOk done (λ outcome. SavesRun (Some old) (Some new) (saved_paths saving from none_other) printings.Nowhere outcome)
     → from ≡ path → old path ≡ Some image
-    → IfOk done (KeepsDisk saving image file)
-disk_kept saving (Ok outcome) old new from path image file has keeps is had =
-    run_left old new keeps.0 from image file _ _ _ (subst (λ path. new path ≡ Some file) (sym is) has)
-    (one_kept old keeps.0 saving from _ keeps.1) keeps.2 (subst (λ path. old path ≡ Some image) (sym is) had)
-disk_kept saving (Err fault) old new from path image file has keeps is had = tt
+    → IfOk done (SavesDisk saving image file)
+disk_saved saving (Ok outcome) old new from path image file has saves is had =
+    run_left old new saves.0 from image file _ _ _ (subst (λ path. new path ≡ Some file) (sym is) has)
+    (one_saved old saves.0 saving from _ saves.1) saves.2 (subst (λ path. old path ≡ Some image) (sym is) had)
+disk_saved saving (Err fault) old new from path image file has saves is had = tt
 
 -- no image is read where there is no path
 reads_none : (files : Files) (paths images : List (Option (List ℕ))) → ReadsEach files (None ∷ paths) images
@@ -198,33 +198,33 @@ reads_one old path image images reads had =
 pub disk_said : (done : Result Outcome DiskFault) (old new : List ℕ → Option (List ℕ)) (from : String Global)
     (path image file : List ℕ) (name : String Global) (limit : ℕ) (saving : Saving) (known : Option (List ℕ)) (input : List ℕ)
     → new path ≡ Some file
-    → IfOk done (λ outcome. IsSoundExit outcome.exit → IfSome known (λ input. KeepsRunSaid (Some old) (Some new)
+    → IfOk done (λ outcome. IsSoundExit outcome.exit → IfSome known (λ input. SavesRunSaid (Some old) (Some new)
     (record { disk = from; others = none_other; name = name; limit = limit; system = None })
     (record { saving = saving; printing = printings.Nowhere }) input))
     → known ≡ Some input → string_bytes from ≡ path → old path ≡ Some image
     → IfOk done (λ outcome. IsSoundExit outcome.exit → LeavesRun image name limit saving input file)
-disk_said (Ok outcome) old new from path image file name limit saving known input has keeps is at had = λ sound.
-    let told = subst (λ known. IfSome known (λ input. KeepsRunSaid (Some old) (Some new)
+disk_said (Ok outcome) old new from path image file name limit saving known input has saves is at had = λ sound.
+    let told = subst (λ known. IfSome known (λ input. SavesRunSaid (Some old) (Some new)
     (record { disk = from; others = none_other; name = name; limit = limit; system = None })
-    (record { saving = saving; printing = printings.Nowhere }) input)) is (keeps sound) in
+    (record { saving = saving; printing = printings.Nowhere }) input)) is (saves sound) in
     let held = subst (λ path. old path ≡ Some image) (sym at) had in
     leaves told.0 told.1 told.2 told.3 told.4 held
   where
     leaves : (disks : List (Option (Vec ℕ Global))) (system : Option (Vec ℕ Global))
         → ReadsEach (Some old) (Some (string_bytes from) ∷ None ∷ None ∷ None ∷ None ∷ None ∷ []) (images_of disks)
         → Reads (Some old) None (option_map vec_items system)
-        → KeepsTold (Some old) (Some new) (kept_paths saving (string_bytes from) none_other) printings.Nowhere
+        → SavesTold (Some old) (Some new) (saved_paths saving (string_bytes from) none_other) printings.Nowhere
         (job_said (jobs.Run disks name limit saving system) input)
         → old (string_bytes from) ≡ Some image → LeavesRun image name limit saving input file
     leaves disks (Some code) reads given told held = absurd given
     leaves disks None reads given told held = (
       disks,
       reads_one old (string_bytes from) image (images_of disks) reads held,
-      subst (λ kept. file ≡ left_in image kept) (fourth_said saving limit disks name input)
+      subst (λ saved. file ≡ left_in image saved) (fourth_said saving limit disks name input)
           (run_left old new told.0 (string_bytes from) image file
-          (fourth_kept saving (job_said (jobs.Run disks name limit saving None) input).image)
+          (fourth_saved saving (job_said (jobs.Run disks name limit saving None) input).image)
           (has_run (job_said (jobs.Run disks name limit saving None) input).exit)
           (job_said (jobs.Run disks name limit saving None) input).printer (subst (λ path. new path ≡ Some file) (sym at) has)
-          (one_kept old told.0 saving (string_bytes from) _ told.1) told.2 held),
+          (one_saved old told.0 saving (string_bytes from) _ told.1) told.2 held),
     )
-disk_said (Err fault) old new from path image file name limit saving known input has keeps is at had = tt
+disk_said (Err fault) old new from path image file name limit saving known input has saves is at had = tt

@@ -30,20 +30,20 @@ left_in old None = old
 left_in old (Some new) = new
 
 -- a file has the image of the outcome, where there is one, and else the bytes that it had
-abbrev pub KeepsIn : List ℕ → List ℕ → Outcome → Type 0
-KeepsIn old new outcome = new ≡ left_in old (option_map vec_items outcome.image)
+abbrev pub SavesIn : List ℕ → List ℕ → Outcome → Type 0
+SavesIn old new outcome = new ≡ left_in old (option_map vec_items outcome.image)
 
--- the image of an outcome that the file of unit 4 gets: none where it is not among those that are kept
-abbrev pub fourth_kept : Saving → Option (List ℕ) → Option (List ℕ)
-fourth_kept savings.Nothing image = None
-fourth_kept savings.First image = image
-fourth_kept savings.All image = image
-fourth_kept savings.Others image = None
+-- the image of an outcome that the file of unit 4 gets: none where it is not among those that are saved
+abbrev pub fourth_saved : Saving → Option (List ℕ) → Option (List ℕ)
+fourth_saved savings.Nothing image = None
+fourth_saved savings.First image = image
+fourth_saved savings.All image = image
+fourth_saved savings.Others image = None
 
--- the file of a disk on unit 4 has the image of the outcome, where it is to be kept and there is one, and else the
+-- the file of a disk on unit 4 has the image of the outcome, where it is to be saved and there is one, and else the
 -- bytes that it had
-abbrev pub KeepsDisk : Saving → List ℕ → List ℕ → Outcome → Type 0
-KeepsDisk saving old new outcome = new ≡ left_in old (fourth_kept saving (option_map vec_items outcome.image))
+abbrev pub SavesDisk : Saving → List ℕ → List ℕ → Outcome → Type 0
+SavesDisk saving old new outcome = new ≡ left_in old (fourth_saved saving (option_map vec_items outcome.image))
 
 -- a file has the bytes that it had where the job was cut short
 abbrev pub StaysWhereCut : List ℕ → List ℕ → Outcome → Type 0

@@ -2,13 +2,13 @@
 
 ghost use Rattle.std.specs.Prelude.{◌≡◌, IfOk, OnErr};
 ghost use Rattle.pm_tool.specs.Said.{IsSoundExit};
-ghost use Rattle.law_stores.specs.Jobs.{KeepsDisk, KeepsIn, LeavesRun, StaysWhereCut, left_in, said_verb};
+ghost use Rattle.law_stores.specs.Jobs.{SavesDisk, SavesIn, LeavesRun, StaysWhereCut, left_in, said_verb};
 
 use crate::stores::OneFile;
 use pm_choices::Saving;
 use pm_files::{DiskFault, Store};
 use pm_plan::{Others, Program, Verb};
-use pm_program::{KeptOfRun, Printing, do_files, do_run};
+use pm_program::{Printing, SavedOfRun, do_files, do_run};
 use pm_streams::{Reader, Writer};
 use pm_tool::Outcome;
 use std::alloc::Global;
@@ -32,7 +32,7 @@ const FILE: &str = "file";
 pub fn on_file(alloc: Global, image: Vec<u8>, typed: &[u8], verb: Verb) -> Result<OnFile, DiskFault>
     ensures stays { IfOk result (λ came. OnErr came.done (came.file.items ≡ image.items)) }
     ensures cut { IfOk result (λ came. IfOk came.done (StaysWhereCut image.items came.file.items)) }
-    ensures kept { IfOk result (λ came. IfOk came.done (KeepsIn image.items came.file.items)) }
+    ensures saved { IfOk result (λ came. IfOk came.done (SavesIn image.items came.file.items)) }
     ensures said { IfOk result (λ came. IfOk came.done (λ outcome. IsSoundExit outcome.exit →
         came.file.items ≡ left_in image.items (said_verb image.items verb typed.now).image)) }
 {
@@ -60,7 +60,7 @@ pub fn on_disk(
     limit: u64,
     saving: Saving,
 ) -> Result<OnFile, DiskFault>
-    ensures kept { IfOk result (λ came. IfOk came.done (KeepsDisk saving image.items came.file.items)) }
+    ensures saved { IfOk result (λ came. IfOk came.done (SavesDisk saving image.items came.file.items)) }
     ensures cut { IfOk result (λ came. IfOk came.done (StaysWhereCut image.items came.file.items)) }
     ensures said { IfOk result (λ came. IfOk came.done (λ outcome. IsSoundExit outcome.exit →
         LeavesRun image.items name limit saving typed.now came.file.items)) }
@@ -84,11 +84,11 @@ pub fn on_disk(
         system: None,
     };
     let printing = Printing::Nowhere;
-    let kept = KeptOfRun { saving, printing };
+    let saved = SavedOfRun { saving, printing };
     let mut written = Vec::new(alloc);
     let mut source = Reader::new(typed);
     let mut sink = Writer::new(&mut written);
-    let done = do_run(alloc, &mut store, &mut source, &mut sink, program, kept);
+    let done = do_run(alloc, &mut store, &mut source, &mut sink, program, saved);
     let file = store.read(alloc, FILE)?;
     Ok(OnFile { done, file })
 }

@@ -1,7 +1,7 @@
 //! A frame on the stack.
 
 ghost use Rattle.std.specs.Prelude.{◌≡◌, ◌+◌, ◌*◌, ◌%◌, ◌≤◌, Ok, Err, IsTrue, MatchResult, OnOk, OnErr};
-ghost use Rattle.pm_words.specs.Watch.{KeepsWatch};
+ghost use Rattle.pm_words.specs.Watch.{WatchStays};
 ghost use Rattle.pm_words.specs.Words.{copied, word_at};
 ghost use Rattle.pm_calls.specs.Tables.{IsEvenTable};
 ghost use Rattle.pm_calls.specs.Calls.{frame_top, framed, inside, kept_below, with_control, with_frame, with_old_base};
@@ -15,13 +15,13 @@ use pm_words::{ExecError, Memory};
 
 // Copies the parameters of a frame to a place that is not above them: few of them word by word, from the lowest on.
 #[inline(always)]
-#[tactic(auto, using(pm_words::proofs::WatchLaws::keeps))]
+#[tactic(auto, using(pm_words::proofs::WatchLaws::stays))]
 fn put_parameters(memory: &mut Memory, from: u16, to: u16, count: u16)
     requires even { (from % 2 ≡ 0) × (to % 2 ≡ 0) × (count % 2 ≡ 0) }
     requires below { to ≤ from }
     requires within { (from + count ≤ STACK_END) × (to + count ≤ STACK_END) }
     ensures words { memory.new.words ≡ copied memory.old.words from to count }
-    ensures keeps { KeepsWatch memory.old memory.new }
+    ensures watch { WatchStays memory.old memory.new }
 {
     if count > 16 {
         put_block(memory, from, to, count);
@@ -35,20 +35,20 @@ fn put_parameters(memory: &mut Memory, from: u16, to: u16, count: u16)
 fn put_block(memory: &mut Memory, from: u16, to: u16, count: u16)
     requires within { (from + count ≤ STACK_END) × (to + count ≤ STACK_END) }
     ensures words { memory.new.words ≡ copied memory.old.words from to count }
-    ensures keeps { KeepsWatch memory.old memory.new }
+    ensures watch { WatchStays memory.old memory.new }
 {
     memory.copy(from, to, count);
 }
 
 // Copies words one by one, from the lowest on, to a place that is not above them.
 #[inline(always)]
-#[tactic(auto, using(pm_words::proofs::WatchLaws::keeps))]
+#[tactic(auto, using(pm_words::proofs::WatchLaws::stays))]
 fn put_words(memory: &mut Memory, from: u16, to: u16, count: u16)
     requires even { (from % 2 ≡ 0) × (to % 2 ≡ 0) }
     requires below { to ≤ from }
     requires within { (from + 2 * count ≤ STACK_END) × (to + 2 * count ≤ STACK_END) }
     ensures words { memory.new.words ≡ copied memory.old.words from to (2 * count) }
-    ensures keeps { KeepsWatch memory.old memory.new }
+    ensures watch { WatchStays memory.old memory.new }
 {
     let _ = memory.bytes(); // for the size of the memory
     for i in 0..count {
@@ -59,7 +59,7 @@ fn put_words(memory: &mut Memory, from: u16, to: u16, count: u16)
 
 // Writes a frame: the parameters, then the six control words, and for a base call the old BASE below them.
 #[inline(always)]
-#[tactic(auto, using(pm_words::proofs::WatchLaws::keeps))]
+#[tactic(auto, using(pm_words::proofs::WatchLaws::stays))]
 fn put_frame(
     memory: &mut Memory,
     frame: u16,
@@ -77,7 +77,7 @@ fn put_frame(
         ≡ with_old_base base (with_frame memory.old.words frame link registers.now parameters) frame
         registers.now.base }
     ensures link { word_at memory.new.words frame ≡ link }
-    ensures keeps { KeepsWatch memory.old memory.new }
+    ensures watch { WatchStays memory.old memory.new }
 {
     put_parameters(memory, registers.sp, frame + 12, parameters);
     let above = registers.sp + parameters;
@@ -129,7 +129,7 @@ fn go_inside(registers: &mut ValidRegisters, base: bool, place: u16, table: Tabl
 /// its table and its static link are known: writes its frame, and takes the registers into it.
 /// An error changes nothing.
 #[inline(always)]
-#[tactic(auto, unfolding(crate::specs::Calls::framed), using(pm_words::proofs::WatchLaws::keeps))]
+#[tactic(auto, unfolding(crate::specs::Calls::framed), using(pm_words::proofs::WatchLaws::stays))]
 pub fn enter(
     memory: &mut Memory,
     place: u16,
@@ -146,7 +146,7 @@ pub fn enter(
         (λ _. framed memory.old.words place loaded registers.old base table link
         ≡ Ok (memory.new.words, registers.new))
         (λ e. framed memory.old.words place loaded registers.old base table link ≡ Err e) }
-    ensures keeps { KeepsWatch memory.old memory.new }
+    ensures watch { WatchStays memory.old memory.new }
     ensures refused { OnErr result ((memory.new ≡ memory.old) × (registers.new ≡ registers.old)) }
     ensures even { OnOk result (registers.new.mp % 2 ≡ 0) }
     ensures linked { OnOk result (word_at memory.new.words registers.new.mp ≡ link) }

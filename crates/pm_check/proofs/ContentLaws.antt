@@ -16,7 +16,7 @@ use Rattle.pm_volume.specs.Entries.{is_sound_entry}
 use Rattle.pm_volume.specs.Files.{file_bytes, files_of}
 use Rattle.pm_volume.specs.Changes.{AddsFile}
 use Rattle.pm_volume.specs.declared.fault.VolumeFault.{VolumeFault}
-use Rattle.pm_volume.specs.Kept.{KeepsFile, KeepsFiles}
+use Rattle.pm_volume.specs.Stays.{FileStays, FilesStay}
 use Rattle.pm_volume.specs.declared.entry.Entry.{Entry}
 use Rattle.pm_check.specs.declared.believing.Taken.{Taken}
 use Rattle.pm_check.specs.Believing.{placed, taken_from, taken_with, why_left}
@@ -123,19 +123,19 @@ module _ (d : List ℕ) (lowest blocks : ℕ) where
 
 -- ---- one file more
 
-contents_kept : (old new : List ℕ) (es : List Entry) → All (KeepsFile old new) es → map (content_in new) es ≡ map (content_in old) es
+contents_stay : (old new : List ℕ) (es : List Entry) → All (FileStays old new) es → map (content_in new) es ≡ map (content_in old) es
 unfolding content_in
-contents_kept old new [] h = refl
-contents_kept old new (e ∷ es) h =
-    let first : file_bytes new e ≡ file_bytes old e = (All-head (KeepsFile old new) e es h).bytes in
-    rw (first, contents_kept old new es (All-tail (KeepsFile old new) e es h)) refl
+contents_stay old new [] h = refl
+contents_stay old new (e ∷ es) h =
+    let first : file_bytes new e ≡ file_bytes old e = (All-head (FileStays old new) e es h).bytes in
+    rw (first, contents_stay old new es (All-tail (FileStays old new) e es h)) refl
 
-pub contents_more : (old new : List ℕ) (k : ℕ) (e : Entry) → files_of new ≡ insert (files_of old) k e → KeepsFiles old new
+pub contents_more : (old new : List ℕ) (k : ℕ) (e : Entry) → files_of new ≡ insert (files_of old) k e → FilesStay old new
     → IsPermutation (content_in new e ∷ contents_of old) (contents_of new)
-contents_more old new k e files kept =
+contents_more old new k e files stay =
     let h : IsPermutation (content_in new e ∷ map (content_in new) (files_of old)) (map (content_in new) (insert (files_of old) k e)) =
     IsPermutation-map (content_in new) _ _ (IsPermutation-insert (files_of old) k e) in
-    let same : map (content_in new) (files_of old) ≡ map (content_in old) (files_of old) = contents_kept old new (files_of old) kept in
+    let same : map (content_in new) (files_of old) ≡ map (content_in old) (files_of old) = contents_stay old new (files_of old) stay in
     rw (same, ← files) at h
 
 mod_twice : (n : ℕ) → n % 16 % 16 ≡ n % 16
@@ -149,12 +149,12 @@ content_saved image new e file bytes kind date there is = rw (there, is, kind, d
 
 -- the file of an entry was added
 pub content_added : (image old new name : List ℕ) (e : Entry) (bytes : List ℕ) (file : Entry) → AddsFile old new name e.kind bytes e.date file
-    → ((k : ℕ) × (files_of new ≡ insert (files_of old) k file)) → file_bytes new file ≡ Some bytes → KeepsFiles old new
+    → ((k : ℕ) × (files_of new ≡ insert (files_of old) k file)) → file_bytes new file ≡ Some bytes → FilesStay old new
     → bytes ≡ bytes_of image e → IsPermutation (content_in image e ∷ contents_of old) (contents_of new)
 unfolding bytes_of
-content_added image old new name e bytes file added files there kept is =
+content_added image old new name e bytes file added files there stay is =
     let same = content_saved image new e file bytes (ap (λ (x : Entry). x.kind) added.entry) (ap (λ (x : Entry). x.date) added.entry) there is in
-    let more = contents_more old new files.0 file files.1 kept in
+    let more = contents_more old new files.0 file files.1 stay in
     rw same at more
 
 -- ---- the files one by one
@@ -167,9 +167,9 @@ contents_next image volume new base ts d i below before saved =
     let c : Content = content_in image (get_or ts i d).entry in
     let had : List Content = map (content_in image) (entries_taken (take i ts)) in
     let front : IsPermutation (had ++ c ∷ contents_of base) (c ∷ (had ++ contents_of base)) = IsPermutation-middle had c (contents_of base) in
-    let kept : IsPermutation (c ∷ (had ++ contents_of base)) (c ∷ contents_of volume) = IsPermutation-cons c _ _ before in
+    let stay : IsPermutation (c ∷ (had ++ contents_of base)) (c ∷ contents_of volume) = IsPermutation-cons c _ _ before in
     let all : IsPermutation (had ++ c ∷ contents_of base) (contents_of new) =
-    IsPermutation-trans _ _ _ front (IsPermutation-trans _ _ _ kept saved) in
+    IsPermutation-trans _ _ _ front (IsPermutation-trans _ _ _ stay saved) in
     let one : List Taken = get_or ts i d ∷ [] in
     rw (
       take_more ts i d below,

@@ -1,4 +1,4 @@
-//! Which lines of a trace are shown and what stands in front of them, and which images a run keeps.
+//! Which lines of a trace are shown and what stands in front of them, and which images a run saves.
 #![tactic(auto)]
 
 mod saving;

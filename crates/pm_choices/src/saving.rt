@@ -1,8 +1,8 @@
-//! Which images a run keeps.
+//! Which images a run saves.
 ghost use Rattle.std.specs.Prelude.{◌≡◌};
 ghost use Rattle.pm_choices.specs.Savings.{has_first, has_others};
 
-/// Which images are kept as a program left them.
+/// Which images are saved as a program left them.
 #[derive(Clone, Copy)]
 pub enum Saving {
     /// None.
@@ -16,14 +16,14 @@ pub enum Saving {
 }
 
 impl Saving {
-    /// Whether the image of unit 4 is kept.
+    /// Whether the image of unit 4 is saved.
     pub fn has_first(self) -> bool
         ensures value { result ≡ has_first self }
     {
         matches!(self, Saving::First | Saving::All)
     }
 
-    /// Whether the images of the other units are kept.
+    /// Whether the images of the other units are saved.
     pub fn has_others(self) -> bool
         ensures value { result ≡ has_others self }
     {

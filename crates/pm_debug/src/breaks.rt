@@ -32,7 +32,7 @@ fn is_set(breaks: &[CodePlace], wanted: CodePlace) -> bool
 pub(crate) fn set(breaks: &mut Breaks, new: CodePlace) -> Result<(), DebugRefusal>
     ensures set { OnOk result (with_break new breaks.old.items ≡ Ok breaks.new.items) }
     ensures refused { IfErr result (λ refusal. with_break new breaks.old.items ≡ Err refusal) }
-    ensures kept { OnErr result (breaks.new ≡ breaks.old) }
+    ensures unchanged { OnErr result (breaks.new ≡ breaks.old) }
 {
     if is_set(breaks, new) {
         return Ok(());
@@ -49,7 +49,7 @@ pub(crate) fn set(breaks: &mut Breaks, new: CodePlace) -> Result<(), DebugRefusa
 pub(crate) fn clear(breaks: &mut Breaks, old: CodePlace) -> Result<(), DebugRefusal>
     ensures cleared { OnOk result (without_break old breaks.old.items ≡ Ok breaks.new.items) }
     ensures refused { IfErr result (λ refusal. without_break old breaks.old.items ≡ Err refusal) }
-    ensures kept { OnErr result (breaks.new ≡ breaks.old) }
+    ensures unchanged { OnErr result (breaks.new ≡ breaks.old) }
 {
     if !is_set(breaks, old) {
         return Err(DebugRefusal::NotSet);

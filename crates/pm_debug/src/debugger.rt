@@ -105,7 +105,7 @@ impl Debugger {
             ≡ Ok self.new.breaks) }
         ensures refused { IfErr result (λ refusal. with_break (code_place segment procedure offset) self.old.breaks
             ≡ Err refusal) }
-        ensures kept { OnErr result (self.new ≡ self.old) }
+        ensures unchanged { OnErr result (self.new ≡ self.old) }
     {
         let place = CodePlace {
             segment,
@@ -129,7 +129,7 @@ impl Debugger {
             ≡ Ok self.new.breaks) }
         ensures refused { IfErr result (λ refusal. without_break (code_place segment procedure offset) self.old.breaks
             ≡ Err refusal) }
-        ensures kept { OnErr result (self.new ≡ self.old) }
+        ensures unchanged { OnErr result (self.new ≡ self.old) }
     {
         let place = CodePlace {
             segment,
@@ -148,7 +148,7 @@ impl Debugger {
         ensures shows { self.new.shows_console ≡ self.old.shows_console }
         ensures set { OnOk result (with_watch address self.old.watches ≡ Ok self.new.watches) }
         ensures refused { IfErr result (λ refusal. with_watch address self.old.watches ≡ Err refusal) }
-        ensures kept { OnErr result (self.new ≡ self.old) }
+        ensures unchanged { OnErr result (self.new ≡ self.old) }
     {
         watches::set(&mut self.watches, address)
     }
@@ -160,7 +160,7 @@ impl Debugger {
         ensures shows { self.new.shows_console ≡ self.old.shows_console }
         ensures cleared { OnOk result (without_watch address self.old.watches ≡ Ok self.new.watches) }
         ensures refused { IfErr result (λ refusal. without_watch address self.old.watches ≡ Err refusal) }
-        ensures kept { OnErr result (self.new ≡ self.old) }
+        ensures unchanged { OnErr result (self.new ≡ self.old) }
     {
         watches::clear(&mut self.watches, address)
     }

@@ -19,9 +19,9 @@ Puts (Some files) (Some after) path bytes = (after path ≡ Some bytes)
     × ((other : List ℕ) → other ≢ path → after other ≡ files other)
 
 -- a path holds the bytes that are to be kept, if any are; all else is as it was
-abbrev pub Keeps : Files → Files → List ℕ → Option (List ℕ) → Type 0
-Keeps old new path None = new ≡ old
-Keeps old new path (Some bytes) = Puts old new path bytes
+abbrev pub Saves : Files → Files → List ℕ → Option (List ℕ) → Type 0
+Saves old new path None = new ≡ old
+Saves old new path (Some bytes) = Puts old new path bytes
 
 -- the paths whose files are held, in the order in which they were taken, where they are known
 abbrev pub Locks : Type 0

@@ -21,7 +21,7 @@ use Rattle.pm_plan.specs.declared.file_words.Verb.{Verb}
 use Rattle.pm_plan.specs.declared.file_words.Verb.TheVariants as verbs
 use Rattle.pm_plan.specs.declared.file_words.Chosen.{Chosen}
 use Rattle.pm_plan.specs.declared.file_words.Chosen.TheVariants as chosen
-use Rattle.pm_plan.specs.declared.run_words.Keeping.{Keeping}
+use Rattle.pm_plan.specs.declared.run_words.RunChoices.{RunChoices}
 use Rattle.pm_plan.specs.declared.run_words.Others.{Others}
 use Rattle.pm_plan.specs.declared.run_words.Program.{Program}
 use Rattle.pm_plan.specs.declared.words.Plan.{Plan}
@@ -123,11 +123,11 @@ IsSaving false true system saving = saving ≡ all_own system
 IsSaving true true system saving = ⊥
 
 -- the further words of run
-pub record AsksKeeping (rows : List Row) (keeping : Keeping) : Type 0 where
+pub record AsksChoices (rows : List Row) (choices : RunChoices) : Type 0 where
   pub saving : IsSaving (is_set (word_found rows (codes "save"))) (is_set (word_found rows (codes "save-all")))
-      (word_found rows (codes "system")) keeping.saving
-  pub printer : word_found rows (codes "printer") ≡ option_map string_bytes keeping.printer
-  pub escape : IsFlag (one_of (codes "escape") rows) keeping.escape
+      (word_found rows (codes "system")) choices.saving
+  pub printer : word_found rows (codes "printer") ≡ option_map string_bytes choices.printer
+  pub escape : IsFlag (one_of (codes "escape") rows) choices.escape
 
 -- the word of this id is a name, and no slot stands beside it; or it is missing, and the number of a slot is there
 abbrev pub AsksName : List ℕ → List Row → List ℕ → Type 0
@@ -234,8 +234,8 @@ Asks command m plans.Dis = (command ≡ codes "dis") × (is_set (word_found (wor
 Asks command m plans.DisList = (command ≡ codes "dis") × (is_set (word_found (words_of m) (codes "list")) ≡ true)
 Asks command m plans.DisNames = (command ≡ codes "dis") × (is_set (word_found (words_of m) (codes "names")) ≡ true)
 Asks command m (plans.Files plan) = (command ≡ codes "files") × AsksFiles m plan
-Asks command m (plans.Run program keeping) =
-    (command ≡ codes "run") × AsksProgram (words_of m) program × AsksKeeping (words_of m) keeping
+Asks command m (plans.Run program choices) =
+    (command ≡ codes "run") × AsksProgram (words_of m) program × AsksChoices (words_of m) choices
 Asks command m (plans.Trace program selection) =
     (command ≡ codes "trace") × AsksProgram (words_of m) program × AsksSelection (words_of m) selection
 Asks command m (plans.Debug program) = (command ≡ codes "debug") × AsksProgram (words_of m) program

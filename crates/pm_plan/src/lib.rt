@@ -9,5 +9,5 @@ mod words;
 pub mod worked;
 
 pub use file_words::{FilesPlan, SalvagePlan, Verb};
-pub use run_words::{Keeping, Others, Program};
+pub use run_words::{Others, Program, RunChoices};
 pub use words::{Plan, WordsError, plan_of};

@@ -1,6 +1,6 @@
 //! The words of `run`, `trace` and `debug`.
 ghost use Rattle.std.specs.Prelude.{◌≡◌, ◌↔◌, IfErr, IfOk, IsOk, IsOkUnless, Some, codes, string_bytes};
-ghost use Rattle.pm_plan.specs.Asked.{AsksKeeping, AsksOthers, AsksProgram, IsRunLimit, IsRunLimitWord, IsSaving};
+ghost use Rattle.pm_plan.specs.Asked.{AsksChoices, AsksOthers, AsksProgram, IsRunLimit, IsRunLimitWord, IsSaving};
 ghost use Rattle.pm_plan.specs.Asked.{all_own, is_set, word_found, words_of};
 ghost use Rattle.pm_plan.specs.Needed.{IsAlone, IsGiven, IsNotBoth, IsWrong, MeetEach, keeping_needs, others_needs};
 ghost use Rattle.pm_plan.specs.Needed.{program_needs};
@@ -39,7 +39,7 @@ pub struct Program {
 
 /// What the words of `run` say beside the program.
 #[derive(Drop)]
-pub struct Keeping {
+pub struct RunChoices {
     /// Which images are written back.
     pub saving: Saving,
     /// The path that gets the printer's bytes.
@@ -152,13 +152,13 @@ fn unsaved(matches: &ArgMatches<'_>) -> Result<(), WordsError>
 
 /// What the words of `run` say beside the program. Refused where they save an image with the system's segment, or say
 /// twice what is saved.
-pub fn keeping_of(alloc: Global, matches: &ArgMatches<'_>) -> Result<Keeping, WordsError>
-    ensures asked { IfOk result (λ keeping. AsksKeeping (words_of matches.now) keeping) }
+pub fn choices_of(alloc: Global, matches: &ArgMatches<'_>) -> Result<RunChoices, WordsError>
+    ensures asked { IfOk result (λ choices. AsksChoices (words_of matches.now) choices) }
     ensures good { IsOk result → MeetEach (words_of matches.now) keeping_needs }
     ensures taken { MeetEach (words_of matches.now) keeping_needs → IsOkUnless result NoMemory }
 {
     unsaved(matches)?;
-    Ok(Keeping {
+    Ok(RunChoices {
         saving: saving_of(matches)?,
         printer: given(alloc, matches, "printer")?,
         escape: flag(matches, "escape"),

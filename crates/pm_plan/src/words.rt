@@ -10,7 +10,7 @@ ghost use Rattle.pm_plan.specs.declared.words.WordsError.TheVariants.{NoCommand,
 
 use crate::commands::all_commands;
 use crate::file_words::{FilesPlan, SalvagePlan, files_plan, is_salvage, salvage_plan};
-use crate::run_words::{Keeping, Program, keeping_of, program_of};
+use crate::run_words::{Program, RunChoices, choices_of, program_of};
 use crate::trace_words::selection_of;
 use clap::ArgMatches;
 use clap::error::ErrorKind;
@@ -44,7 +44,7 @@ pub enum Plan {
     /// A command on the image that a file has, or a new image for it.
     Files(FilesPlan),
     /// A program to be run.
-    Run(Program, Keeping),
+    Run(Program, RunChoices),
     /// A program whose trace is written, the lines that are selected.
     Trace(Program, Selection),
     /// A program that is debugged.
@@ -247,7 +247,7 @@ fn plan_by(alloc: Global, command: &str, matches: &ArgMatches<'_>) -> Result<Pla
             limit: limit_of(matches)?,
             selection: selection_of(matches)?,
         }),
-        "run" => Ok(Plan::Run(program_of(alloc, matches)?, keeping_of(alloc, matches)?)),
+        "run" => Ok(Plan::Run(program_of(alloc, matches)?, choices_of(alloc, matches)?)),
         "trace" => Ok(Plan::Trace(program_of(alloc, matches)?, selection_of(matches)?)),
         "debug" => Ok(Plan::Debug(program_of(alloc, matches)?)),
         "asm" => asm_asked(matches),

@@ -1,1 +1,1 @@
-mod KeptLaws
+mod SavedLaws

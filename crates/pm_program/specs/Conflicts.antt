@@ -8,7 +8,7 @@ use Rattle.pm_program.specs.declared.end.Conflict.{Conflict}
 use Rattle.pm_program.specs.declared.end.Conflict.TheVariants as conflicts
 use Rattle.pm_choices.specs.declared.saving.Saving.{Saving}
 use Rattle.pm_choices.specs.Savings.{has_first, has_others}
-use Rattle.pm_plan.specs.declared.run_words.Keeping.{Keeping}
+use Rattle.pm_plan.specs.declared.run_words.RunChoices.{RunChoices}
 use Rattle.pm_plan.specs.declared.run_words.Others.{Others}
 use Rattle.pm_plan.specs.declared.run_words.Program.{Program}
 
@@ -91,11 +91,11 @@ is_taken_away beside program saving printer =
 
 -- The first thing that is wrong: where an image is to be saved, that of unit 4 is that of another unit too; one of the
 -- others that are to be saved is that of two units; else the printer's path; else a file would be taken away.
-abbrev pub conflict_of : (List ℕ → List ℕ → Bool) → (List ℕ → List ℕ → Bool) → (List ℕ → Bool) → Program → Keeping
+abbrev pub conflict_of : (List ℕ → List ℕ → Bool) → (List ℕ → List ℕ → Bool) → (List ℕ → Bool) → Program → RunChoices
     → Option Conflict
-conflict_of same beside folders program keeping =
-    if (has_first keeping.saving || has_others keeping.saving)
+conflict_of same beside folders program choices =
+    if (has_first choices.saving || has_others choices.saving)
     && is_other same (string_bytes program.disk) program.others then Some conflicts.SavedTwice
-    else if has_others keeping.saving && are_shared same program.others then Some conflicts.SavedTwice
-    else or_taken_away (printer_conflict same folders program (option_map string_bytes keeping.printer))
-    (is_taken_away beside program keeping.saving (option_map string_bytes keeping.printer))
+    else if has_others choices.saving && are_shared same program.others then Some conflicts.SavedTwice
+    else or_taken_away (printer_conflict same folders program (option_map string_bytes choices.printer))
+    (is_taken_away beside program choices.saving (option_map string_bytes choices.printer))

@@ -8,11 +8,11 @@ ghost use Rattle.pm_program.specs.Conflicts.{shares_ninth, takes_away};
 use crate::about::{Disks, about, disks_of};
 use crate::console::{END, ESCAPE, Keys, Lined, Prompted};
 use crate::end::{Conflict, End};
-use crate::kept::{KeptOfRun, Printing, do_debug, do_files, do_run, do_salvage, do_trace};
+use crate::saved::{Printing, SavedOfRun, do_debug, do_files, do_run, do_salvage, do_trace};
 use pm_choices::Saving;
 use pm_filer::FileCommand;
 use pm_files::{DiskFault, Host, HostStore, Store, Stream};
-use pm_plan::{FilesPlan, Keeping, Others, Plan, Program, Verb};
+use pm_plan::{FilesPlan, Others, Plan, Program, RunChoices, Verb};
 use pm_streams::{Reader, Sink, Source, Writer};
 use pm_tool::{Job, Outcome};
 use std::alloc::Global;
@@ -144,9 +144,9 @@ fn act<S: Store, I: Source, O: Sink>(
         Plan::Files(FilesPlan { path, verb }) => {
             return do_files(alloc, store, source, sink, path.as_str(), verb);
         }
-        Plan::Run(program, keeping) => {
-            let kept = kept_of(store, keeping);
-            return do_run(alloc, store, source, sink, program, kept);
+        Plan::Run(program, choices) => {
+            let saved = saved_of(store, choices);
+            return do_run(alloc, store, source, sink, program, saved);
         }
         Plan::Trace(program, selection) => {
             return do_trace(alloc, store, source, sink, program, selection);
@@ -158,12 +158,12 @@ fn act<S: Store, I: Source, O: Sink>(
 }
 
 /// Where the printer's bytes go: a path of standard output's file is standard output.
-fn kept_of<S: Store>(store: &S, keeping: Keeping) -> KeptOfRun {
-    let Keeping {
+fn saved_of<S: Store>(store: &S, choices: RunChoices) -> SavedOfRun {
+    let RunChoices {
         saving,
         printer,
         ..
-    } = keeping;
+    } = choices;
     let is_output = match &printer {
         Some(path) => store.is_same(path.as_str(), OUTPUT),
         None => false,
@@ -173,7 +173,7 @@ fn kept_of<S: Store>(store: &S, keeping: Keeping) -> KeptOfRun {
         (Some(_), true) => Printing::Output,
         (None, _) => Printing::Nowhere,
     };
-    KeptOfRun { saving, printing }
+    SavedOfRun { saving, printing }
 }
 
 /// Whether a path names the file of an image, if there is one.
@@ -354,11 +354,11 @@ fn is_there<S: Store>(store: &S, path: &str) -> bool
 }
 
 /// What is wrong with the paths of `run`, if something is.
-fn conflict<S: Store>(store: &S, program: &Program, keeping: &Keeping) -> Option<Conflict>
+fn conflict<S: Store>(store: &S, program: &Program, choices: &RunChoices) -> Option<Conflict>
     ensures value { IfSome (S.same store.now) (λ same. IfSome (S.beside store.now) (λ beside.
-        IfSome (S.folders store.now) (λ folders. result ≡ conflict_of same beside folders program.now keeping.now))) }
+        IfSome (S.folders store.now) (λ folders. result ≡ conflict_of same beside folders program.now choices.now))) }
 {
-    let saving = keeping.saving;
+    let saving = choices.saving;
     if (saving.has_first() || saving.has_others())
         && is_other(store, program.disk.as_str(), &program.others)
     {
@@ -367,10 +367,10 @@ fn conflict<S: Store>(store: &S, program: &Program, keeping: &Keeping) -> Option
     if saving.has_others() && are_shared(store, &program.others) {
         return Some(Conflict::SavedTwice);
     }
-    if let Some(conflict) = printer_conflict(store, program, &keeping.printer) {
+    if let Some(conflict) = printer_conflict(store, program, &choices.printer) {
         return Some(conflict);
     }
-    if is_taken_away(store, program, keeping.saving, &keeping.printer) {
+    if is_taken_away(store, program, choices.saving, &choices.printer) {
         return Some(Conflict::FileInTheWay);
     }
     None
@@ -379,7 +379,7 @@ fn conflict<S: Store>(store: &S, program: &Program, keeping: &Keeping) -> Option
 /// What is wrong with the paths of a plan, if something is.
 fn conflict_in<S: Store>(store: &S, plan: &Plan) -> Option<Conflict> {
     match plan {
-        Plan::Run(program, keeping) => conflict(store, program, keeping),
+        Plan::Run(program, choices) => conflict(store, program, choices),
         Plan::Salvage(plan) if is_there(store, plan.target.as_str()) => {
             Some(Conflict::TargetIsThere)
         }
@@ -393,7 +393,7 @@ fn conflict_in<S: Store>(store: &S, plan: &Plan) -> Option<Conflict> {
 /// The byte that ends the input of a plan's console.
 fn end_of(plan: &Plan) -> u8 {
     match plan {
-        Plan::Run(_, keeping) if keeping.escape => ESCAPE,
+        Plan::Run(_, choices) if choices.escape => ESCAPE,
         _ => END,
     }
 }

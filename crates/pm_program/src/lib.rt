@@ -6,8 +6,8 @@ mod console;
 mod end;
 mod entry;
 mod follow;
-mod kept;
+mod saved;
 mod say;
 
 pub use entry::program;
-pub use kept::{KeptOfRun, Printing, do_debug, do_files, do_run, do_trace};
+pub use saved::{Printing, SavedOfRun, do_debug, do_files, do_run, do_trace};

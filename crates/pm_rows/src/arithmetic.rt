@@ -1,7 +1,7 @@
 //! The rows on words as integers.
 
 ghost use Rattle.std.specs.Prelude.{◌≡◌};
-ghost use Rattle.pm_words.specs.Watch.{KeepsWatch};
+ghost use Rattle.pm_words.specs.Watch.{WatchStays};
 ghost use Rattle.pm_words.specs.Top.{MovesTop};
 ghost use Rattle.pm_rows.specs.Integers.{unary, binary, relation};
 ghost use Rattle.pm_rows.specs.Arithmetic.{
@@ -86,11 +86,11 @@ fn holds(operation: Relation, a: u16, b: u16) -> bool
 
 // SLDC, LDCI and LDCN. .. -> .., word
 #[inline(always)]
-#[tactic(auto, unfolding(crate::specs::Arithmetic::constant_row), using(pm_words::proofs::WatchLaws::keeps))]
+#[tactic(auto, unfolding(crate::specs::Arithmetic::constant_row), using(pm_words::proofs::WatchLaws::stays))]
 fn constant(memory: &mut Memory, top: Top, word: u16) -> Result<Top, ExecError>
     ensures row { MovesTop result top memory.old.words memory.new.words
         (constant_row word memory.old.words top.sp top.np) }
-    ensures keeps { KeepsWatch memory.old memory.new }
+    ensures watch { WatchStays memory.old memory.new }
 {
     let mut stack = top;
     stack.push(memory, word)?;
@@ -99,11 +99,11 @@ fn constant(memory: &mut Memory, top: Top, word: u16) -> Result<Top, ExecError>
 
 // ABI, NGI, SQI and LNOT. .., a -> .., b
 #[inline(always)]
-#[tactic(auto, unfolding(crate::specs::Arithmetic::unary_row), using(pm_words::proofs::WatchLaws::keeps))]
+#[tactic(auto, unfolding(crate::specs::Arithmetic::unary_row), using(pm_words::proofs::WatchLaws::stays))]
 fn unary(memory: &mut Memory, top: Top, operation: Unary) -> Result<Top, ExecError>
     ensures row { MovesTop result top memory.old.words memory.new.words
         (unary_row operation memory.old.words top.sp top.np) }
-    ensures keeps { KeepsWatch memory.old memory.new }
+    ensures watch { WatchStays memory.old memory.new }
 {
     let mut stack = top;
     let a = stack.one(memory)?;
@@ -113,11 +113,11 @@ fn unary(memory: &mut Memory, top: Top, operation: Unary) -> Result<Top, ExecErr
 
 // ADI, SBI, MPI, DVI, MODI, LAND and LOR. .., a, b -> .., c
 #[inline(always)]
-#[tactic(auto, unfolding(crate::specs::Arithmetic::binary_row), using(pm_words::proofs::WatchLaws::keeps))]
+#[tactic(auto, unfolding(crate::specs::Arithmetic::binary_row), using(pm_words::proofs::WatchLaws::stays))]
 fn binary(memory: &mut Memory, top: Top, operation: Binary) -> Result<Top, ExecError>
     ensures row { MovesTop result top memory.old.words memory.new.words
         (binary_row operation memory.old.words top.sp top.np) }
-    ensures keeps { KeepsWatch memory.old memory.new }
+    ensures watch { WatchStays memory.old memory.new }
 {
     let mut stack = top;
     let (a, b) = stack.two(memory)?;
@@ -128,11 +128,11 @@ fn binary(memory: &mut Memory, top: Top, operation: Binary) -> Result<Top, ExecE
 
 // EQUI, NEQI, LESI, LEQI, GRTI and GEQI. .., a, b -> .., 1 or 0
 #[inline(always)]
-#[tactic(auto, unfolding(crate::specs::Arithmetic::relation_row), using(pm_words::proofs::WatchLaws::keeps))]
+#[tactic(auto, unfolding(crate::specs::Arithmetic::relation_row), using(pm_words::proofs::WatchLaws::stays))]
 fn relation(memory: &mut Memory, top: Top, operation: Relation) -> Result<Top, ExecError>
     ensures row { MovesTop result top memory.old.words memory.new.words
         (relation_row operation memory.old.words top.sp top.np) }
-    ensures keeps { KeepsWatch memory.old memory.new }
+    ensures watch { WatchStays memory.old memory.new }
 {
     let mut stack = top;
     let (a, b) = stack.two(memory)?;
@@ -142,10 +142,10 @@ fn relation(memory: &mut Memory, top: Top, operation: Relation) -> Result<Top, E
 
 // CHK. .., a, b, c -> .., a
 #[inline(always)]
-#[tactic(auto, unfolding(crate::specs::Arithmetic::check_row), using(pm_words::proofs::WatchLaws::keeps))]
+#[tactic(auto, unfolding(crate::specs::Arithmetic::check_row), using(pm_words::proofs::WatchLaws::stays))]
 fn check(memory: &mut Memory, top: Top) -> Result<Top, ExecError>
     ensures row { MovesTop result top memory.old.words memory.new.words (check_row memory.old.words top.sp top.np) }
-    ensures keeps { KeepsWatch memory.old memory.new }
+    ensures watch { WatchStays memory.old memory.new }
 {
     let mut stack = top;
     let c = stack.pop(memory)?;
@@ -161,11 +161,11 @@ fn check(memory: &mut Memory, top: Top) -> Result<Top, ExecError>
 
 /// Does an operation on words as integers, and gives the new top. An error changes nothing.
 #[inline(always)]
-#[tactic(auto, unfolding(crate::specs::Arithmetic::arithmetic_row), using(pm_words::proofs::WatchLaws::keeps))]
+#[tactic(auto, unfolding(crate::specs::Arithmetic::arithmetic_row), using(pm_words::proofs::WatchLaws::stays))]
 pub fn perform(memory: &mut Memory, top: Top, operation: Arithmetic) -> Result<Top, ExecError>
     ensures row { MovesTop result top memory.old.words memory.new.words
         (arithmetic_row operation memory.old.words top.sp top.np) }
-    ensures keeps { KeepsWatch memory.old memory.new }
+    ensures watch { WatchStays memory.old memory.new }
 {
     match operation {
         Arithmetic::Constant(word) => constant(memory, top, word),

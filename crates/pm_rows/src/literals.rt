@@ -1,7 +1,7 @@
 //! The rows on what stands in the code.
 
 ghost use Rattle.std.specs.Prelude.{◌≡◌, ◌+◌, ◌-◌, ◌*◌, ◌%◌, ◌≤◌, length, reverse};
-ghost use Rattle.pm_words.specs.Watch.{KeepsWatch};
+ghost use Rattle.pm_words.specs.Watch.{WatchStays};
 ghost use Rattle.pm_words.specs.Top.{MovesTop};
 ghost use Rattle.pm_words.specs.Words.{with_words, words_at};
 ghost use Rattle.pm_rows.specs.Literals.{literal_address_row, literal_row, words_row};
@@ -26,12 +26,12 @@ fn words_in(memory: &Memory, start: u32, count: u8) -> ArrayVec<u16, 255>
 }
 
 // Writes words below an even SP, the first one highest.
-#[tactic(auto, using(pm_words::proofs::WatchLaws::keeps))]
+#[tactic(auto, using(pm_words::proofs::WatchLaws::stays))]
 fn put_words(memory: &mut Memory, sp: u16, words: &[u16])
     requires even { sp % 2 ≡ 0 }
     requires room { 2 * length words.now ≤ sp }
     ensures written { memory.new.words ≡ with_words memory.old.words (sp - 2 * length words.now) (reverse words.now) }
-    ensures keeps { KeepsWatch memory.old memory.new }
+    ensures watch { WatchStays memory.old memory.new }
 {
     let _ = memory.bytes(); // for the size of the memory
     let mut at = sp;
@@ -42,11 +42,11 @@ fn put_words(memory: &mut Memory, sp: u16, words: &[u16])
 }
 
 // LDC. .. -> .., the words
-#[tactic(auto, unfolding(crate::specs::Literals::words_row), using(pm_words::proofs::WatchLaws::keeps))]
+#[tactic(auto, unfolding(crate::specs::Literals::words_row), using(pm_words::proofs::WatchLaws::stays))]
 fn words(memory: &mut Memory, top: Top, start: u32, count: u8) -> Result<Top, ExecError>
     ensures row { MovesTop result top memory.old.words memory.new.words
         (words_row start count memory.old.words top.sp top.np) }
-    ensures keeps { KeepsWatch memory.old memory.new }
+    ensures watch { WatchStays memory.old memory.new }
 {
     let (sp, np) = (top.sp(), top.np());
     let size = 2 * u16::from(count);
@@ -62,11 +62,11 @@ fn words(memory: &mut Memory, top: Top, start: u32, count: u8) -> Result<Top, Ex
 }
 
 // LSA and LPA. .. -> .., address
-#[tactic(auto, unfolding(crate::specs::Literals::literal_address_row), using(pm_words::proofs::WatchLaws::keeps))]
+#[tactic(auto, unfolding(crate::specs::Literals::literal_address_row), using(pm_words::proofs::WatchLaws::stays))]
 fn address(memory: &mut Memory, top: Top, address: u16) -> Result<Top, ExecError>
     ensures row { MovesTop result top memory.old.words memory.new.words
         (literal_address_row address memory.old.words top.sp top.np) }
-    ensures keeps { KeepsWatch memory.old memory.new }
+    ensures watch { WatchStays memory.old memory.new }
 {
     let mut stack = top;
     stack.push(memory, address)?;
@@ -74,11 +74,11 @@ fn address(memory: &mut Memory, top: Top, address: u16) -> Result<Top, ExecError
 }
 
 /// Pushes what stands in the code, and gives the new top. An error changes nothing.
-#[tactic(auto, unfolding(crate::specs::Literals::literal_row), using(pm_words::proofs::WatchLaws::keeps))]
+#[tactic(auto, unfolding(crate::specs::Literals::literal_row), using(pm_words::proofs::WatchLaws::stays))]
 pub fn perform(memory: &mut Memory, top: Top, operation: Literal) -> Result<Top, ExecError>
     ensures row { MovesTop result top memory.old.words memory.new.words
         (literal_row operation memory.old.words top.sp top.np) }
-    ensures keeps { KeepsWatch memory.old memory.new }
+    ensures watch { WatchStays memory.old memory.new }
 {
     match operation {
         Literal::String(start) => {

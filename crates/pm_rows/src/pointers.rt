@@ -1,7 +1,7 @@
 //! The rows on addresses that are on the stack.
 
 ghost use Rattle.std.specs.Prelude.{◌≡◌, ◌+◌, ◌*◌, ◌%◌};
-ghost use Rattle.pm_words.specs.Watch.{KeepsWatch};
+ghost use Rattle.pm_words.specs.Watch.{WatchStays};
 ghost use Rattle.pm_words.specs.Top.{MovesTop};
 ghost use Rattle.pm_rows.specs.Pointers.{
   increment_row,
@@ -21,11 +21,11 @@ use pm_words::{ExecError, Memory, Top};
 
 // INC. .., a -> .., a + 2 * by
 #[inline(always)]
-#[tactic(auto, unfolding(crate::specs::Pointers::increment_row), using(pm_words::proofs::WatchLaws::keeps))]
+#[tactic(auto, unfolding(crate::specs::Pointers::increment_row), using(pm_words::proofs::WatchLaws::stays))]
 fn increment(memory: &mut Memory, top: Top, by: u16) -> Result<Top, ExecError>
     ensures row { MovesTop result top memory.old.words memory.new.words
         (increment_row by memory.old.words top.sp top.np) }
-    ensures keeps { KeepsWatch memory.old memory.new }
+    ensures watch { WatchStays memory.old memory.new }
 {
     let mut stack = top;
     let a = stack.one(memory)?;
@@ -35,11 +35,11 @@ fn increment(memory: &mut Memory, top: Top, by: u16) -> Result<Top, ExecError>
 
 // IND and SIND. .., a -> .., the word at a + 2 * by
 #[inline(always)]
-#[tactic(auto, unfolding(crate::specs::Pointers::indirect_row), using(pm_words::proofs::WatchLaws::keeps))]
+#[tactic(auto, unfolding(crate::specs::Pointers::indirect_row), using(pm_words::proofs::WatchLaws::stays))]
 fn indirect(memory: &mut Memory, top: Top, by: u16) -> Result<Top, ExecError>
     ensures row { MovesTop result top memory.old.words memory.new.words
         (indirect_row by memory.old.words top.sp top.np) }
-    ensures keeps { KeepsWatch memory.old memory.new }
+    ensures watch { WatchStays memory.old memory.new }
 {
     let mut stack = top;
     let a = stack.one(memory)?;
@@ -59,11 +59,11 @@ fn item_at(a: u16, size: u16, i: u16) -> u16
 
 // IXA. .., a, i -> .., the address of item i
 #[inline(always)]
-#[tactic(auto, unfolding(crate::specs::Pointers::index_row), using(pm_words::proofs::WatchLaws::keeps))]
+#[tactic(auto, unfolding(crate::specs::Pointers::index_row), using(pm_words::proofs::WatchLaws::stays))]
 fn index(memory: &mut Memory, top: Top, size: u16) -> Result<Top, ExecError>
     ensures row { MovesTop result top memory.old.words memory.new.words
         (index_row size memory.old.words top.sp top.np) }
-    ensures keeps { KeepsWatch memory.old memory.new }
+    ensures watch { WatchStays memory.old memory.new }
 {
     let mut stack = top;
     let (a, i) = stack.two(memory)?;
@@ -73,11 +73,11 @@ fn index(memory: &mut Memory, top: Top, size: u16) -> Result<Top, ExecError>
 
 // STO. .., a, v -> ..
 #[inline(always)]
-#[tactic(auto, unfolding(crate::specs::Pointers::store_indirect_row), using(pm_words::proofs::WatchLaws::keeps))]
+#[tactic(auto, unfolding(crate::specs::Pointers::store_indirect_row), using(pm_words::proofs::WatchLaws::stays))]
 fn store_indirect(memory: &mut Memory, top: Top) -> Result<Top, ExecError>
     ensures row { MovesTop result top memory.old.words memory.new.words
         (store_indirect_row memory.old.words top.sp top.np) }
-    ensures keeps { KeepsWatch memory.old memory.new }
+    ensures watch { WatchStays memory.old memory.new }
 {
     let mut stack = top;
     let v = stack.pop(memory)?;
@@ -87,11 +87,11 @@ fn store_indirect(memory: &mut Memory, top: Top) -> Result<Top, ExecError>
 }
 
 // LDM. .., a -> .., the words
-#[tactic(auto, unfolding(crate::specs::Pointers::load_words_row), using(pm_words::proofs::WatchLaws::keeps))]
+#[tactic(auto, unfolding(crate::specs::Pointers::load_words_row), using(pm_words::proofs::WatchLaws::stays))]
 fn load_words(memory: &mut Memory, top: Top, words: u8) -> Result<Top, ExecError>
     ensures row { MovesTop result top memory.old.words memory.new.words
         (load_words_row words memory.old.words top.sp top.np) }
-    ensures keeps { KeepsWatch memory.old memory.new }
+    ensures watch { WatchStays memory.old memory.new }
 {
     let size = 2 * u16::from(words);
     let np = top.np();
@@ -107,11 +107,11 @@ fn load_words(memory: &mut Memory, top: Top, words: u8) -> Result<Top, ExecError
 }
 
 // STM. .., a, the words -> ..
-#[tactic(auto, unfolding(crate::specs::Pointers::store_words_row), using(pm_words::proofs::WatchLaws::keeps))]
+#[tactic(auto, unfolding(crate::specs::Pointers::store_words_row), using(pm_words::proofs::WatchLaws::stays))]
 fn store_words(memory: &mut Memory, top: Top, words: u8) -> Result<Top, ExecError>
     ensures row { MovesTop result top memory.old.words memory.new.words
         (store_words_row words memory.old.words top.sp top.np) }
-    ensures keeps { KeepsWatch memory.old memory.new }
+    ensures watch { WatchStays memory.old memory.new }
 {
     let size = 2 * u16::from(words);
     let sp = top.sp();
@@ -127,11 +127,11 @@ fn store_words(memory: &mut Memory, top: Top, words: u8) -> Result<Top, ExecErro
 }
 
 // MOV. .., to, from -> ..
-#[tactic(auto, unfolding(crate::specs::Pointers::move_row), using(pm_words::proofs::WatchLaws::keeps))]
+#[tactic(auto, unfolding(crate::specs::Pointers::move_row), using(pm_words::proofs::WatchLaws::stays))]
 fn move_words(memory: &mut Memory, top: Top, words: u16) -> Result<Top, ExecError>
     ensures row { MovesTop result top memory.old.words memory.new.words
         (move_row words memory.old.words top.sp top.np) }
-    ensures keeps { KeepsWatch memory.old memory.new }
+    ensures watch { WatchStays memory.old memory.new }
 {
     let mut stack = top;
     let from = stack.pop(memory)?;
@@ -153,11 +153,11 @@ fn move_words(memory: &mut Memory, top: Top, words: u16) -> Result<Top, ExecErro
 /// Does an operation on an address that is on the stack, and gives the new top. An error changes
 /// nothing.
 #[inline(always)]
-#[tactic(auto, unfolding(crate::specs::Pointers::pointer_row), using(pm_words::proofs::WatchLaws::keeps))]
+#[tactic(auto, unfolding(crate::specs::Pointers::pointer_row), using(pm_words::proofs::WatchLaws::stays))]
 pub fn perform(memory: &mut Memory, top: Top, operation: Pointer) -> Result<Top, ExecError>
     ensures row { MovesTop result top memory.old.words memory.new.words
         (pointer_row operation memory.old.words top.sp top.np) }
-    ensures keeps { KeepsWatch memory.old memory.new }
+    ensures watch { WatchStays memory.old memory.new }
 {
     match operation {
         Pointer::Increment(by) => increment(memory, top, by),

@@ -2,7 +2,7 @@
 use Rattle.std.specs.Prelude.{ℕ, ◌≡◌, ◌/◌, ◌%◌, ◌&&◌, List, Result, Ok, OnErr}
 use Rattle.pm_words.specs.declared.error.ExecError.{ExecError}
 use Rattle.pm_words.specs.declared.error.ExecError.TheVariants.{InvalidMemory}
-use Rattle.pm_words.specs.Watch.{KeepsWatch}
+use Rattle.pm_words.specs.Watch.{WatchStays}
 use Rattle.pm_words.specs.Words.{Contents, with_word}
 use Rattle.pm_words.specs.Stack.{◌>>=◌, demand, is_even, lies_in_memory, pop, push}
 use Rattle.pm_calls.specs.declared.registers.Registers.{Registers}
@@ -34,7 +34,7 @@ pub record Serves (row : Served → Result Served Pause) {A : Type 0} (result : 
   pub gives : Performs devices_served old.room result (served memory.words registers old.devices)
       (served changed.words after new.devices) (row (served memory.words registers old.devices))
   pub room : OnErr result (new.room ≡ old.room)
-  pub watch : KeepsWatch memory changed
+  pub watch : WatchStays memory changed
   pub mp : after.mp ≡ registers.mp
 
 -- ---- transfers

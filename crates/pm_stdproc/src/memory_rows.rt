@@ -1,7 +1,7 @@
 //! The standard procedures that work on the stack, the heap and the memory alone.
 
 ghost use Rattle.std.specs.Prelude.{◌≡◌, ◌-◌, ◌/◌, IfOk};
-ghost use Rattle.pm_words.specs.Watch.{KeepsWatch};
+ghost use Rattle.pm_words.specs.Watch.{WatchStays};
 ghost use Rattle.pm_words.specs.Stack.{Changes, Leaves};
 ghost use Rattle.pm_words.specs.Top.{Pops};
 ghost use Rattle.pm_words.specs.Words.{moved_up, moved_down};
@@ -46,10 +46,10 @@ fn is_positive(word: u16) -> bool
 }
 
 // IOCHECK.
-#[tactic(auto, unfolding(crate::specs::MemoryRows::check_io_row), using(pm_words::proofs::WatchLaws::keeps))]
+#[tactic(auto, unfolding(crate::specs::MemoryRows::check_io_row), using(pm_words::proofs::WatchLaws::stays))]
 fn check_io(memory: &mut Memory, registers: ValidRegisters) -> Result<ValidRegisters, ExecError>
     ensures row { Changes result memory.old.words memory.new.words (check_io_row memory.old.words registers) }
-    ensures keeps { KeepsWatch memory.old memory.new }
+    ensures watch { WatchStays memory.old memory.new }
     ensures mp { IfOk result (λ r. r.mp ≡ registers.mp) }
 {
     if registers.registers().ioresult != 0 {
@@ -59,10 +59,10 @@ fn check_io(memory: &mut Memory, registers: ValidRegisters) -> Result<ValidRegis
 }
 
 // NEW.
-#[tactic(auto, unfolding(crate::specs::MemoryRows::new_row), using(pm_words::proofs::WatchLaws::keeps))]
+#[tactic(auto, unfolding(crate::specs::MemoryRows::new_row), using(pm_words::proofs::WatchLaws::stays))]
 fn new(memory: &mut Memory, registers: ValidRegisters) -> Result<ValidRegisters, ExecError>
     ensures row { Changes result memory.old.words memory.new.words (new_row memory.old.words registers) }
-    ensures keeps { KeepsWatch memory.old memory.new }
+    ensures watch { WatchStays memory.old memory.new }
     ensures mp { IfOk result (λ r. r.mp ≡ registers.mp) }
 {
     let mut stack = registers.top();
@@ -81,10 +81,10 @@ fn new(memory: &mut Memory, registers: ValidRegisters) -> Result<ValidRegisters,
 }
 
 // Moves bytes one by one, the lowest first.
-#[tactic(auto, using(pm_words::proofs::WatchLaws::keeps))]
+#[tactic(auto, using(pm_words::proofs::WatchLaws::stays))]
 fn move_up(memory: &mut Memory, from: u16, to: u16, count: u16) -> Result<(), ExecError>
     ensures moved { Leaves result memory.old.words memory.new.words (moved moved_up memory.old.words from to count) }
-    ensures keeps { KeepsWatch memory.old memory.new }
+    ensures watch { WatchStays memory.old memory.new }
 {
     if !is_positive(count) || memory.copy_up(from, to, count) {
         Ok(())
@@ -94,10 +94,10 @@ fn move_up(memory: &mut Memory, from: u16, to: u16, count: u16) -> Result<(), Ex
 }
 
 // Moves bytes one by one, the highest first.
-#[tactic(auto, using(pm_words::proofs::WatchLaws::keeps))]
+#[tactic(auto, using(pm_words::proofs::WatchLaws::stays))]
 fn move_down(memory: &mut Memory, from: u16, to: u16, count: u16) -> Result<(), ExecError>
     ensures moved { Leaves result memory.old.words memory.new.words (moved moved_down memory.old.words from to count) }
-    ensures keeps { KeepsWatch memory.old memory.new }
+    ensures watch { WatchStays memory.old memory.new }
 {
     if !is_positive(count) || memory.copy_down(from, to, count) {
         Ok(())
@@ -107,11 +107,11 @@ fn move_down(memory: &mut Memory, from: u16, to: u16, count: u16) -> Result<(), 
 }
 
 // MOVELEFT.
-#[tactic(auto, unfolding(crate::specs::MemoryRows::move_bytes_row), using(pm_words::proofs::WatchLaws::keeps))]
+#[tactic(auto, unfolding(crate::specs::MemoryRows::move_bytes_row), using(pm_words::proofs::WatchLaws::stays))]
 fn move_left(memory: &mut Memory, registers: ValidRegisters) -> Result<ValidRegisters, ExecError>
     ensures row { Changes result memory.old.words memory.new.words
         (move_bytes_row moved_up memory.old.words registers) }
-    ensures keeps { KeepsWatch memory.old memory.new }
+    ensures watch { WatchStays memory.old memory.new }
     ensures mp { IfOk result (λ r. r.mp ≡ registers.mp) }
 {
     let mut stack = registers.top();
@@ -123,11 +123,11 @@ fn move_left(memory: &mut Memory, registers: ValidRegisters) -> Result<ValidRegi
 }
 
 // MOVERIGHT.
-#[tactic(auto, unfolding(crate::specs::MemoryRows::move_bytes_row), using(pm_words::proofs::WatchLaws::keeps))]
+#[tactic(auto, unfolding(crate::specs::MemoryRows::move_bytes_row), using(pm_words::proofs::WatchLaws::stays))]
 fn move_right(memory: &mut Memory, registers: ValidRegisters) -> Result<ValidRegisters, ExecError>
     ensures row { Changes result memory.old.words memory.new.words
         (move_bytes_row moved_down memory.old.words registers) }
-    ensures keeps { KeepsWatch memory.old memory.new }
+    ensures watch { WatchStays memory.old memory.new }
     ensures mp { IfOk result (λ r. r.mp ≡ registers.mp) }
 {
     let mut stack = registers.top();
@@ -139,10 +139,10 @@ fn move_right(memory: &mut Memory, registers: ValidRegisters) -> Result<ValidReg
 }
 
 // Fills a range with one byte.
-#[tactic(auto, using(pm_words::proofs::WatchLaws::keeps))]
+#[tactic(auto, using(pm_words::proofs::WatchLaws::stays))]
 fn fill_with(memory: &mut Memory, at: u16, count: u16, byte: u8) -> Result<(), ExecError>
     ensures filled { Leaves result memory.old.words memory.new.words (filled_with memory.old.words at count byte) }
-    ensures keeps { KeepsWatch memory.old memory.new }
+    ensures watch { WatchStays memory.old memory.new }
 {
     if !is_positive(count) || memory.fill(at, count, byte) {
         Ok(())
@@ -152,10 +152,10 @@ fn fill_with(memory: &mut Memory, at: u16, count: u16, byte: u8) -> Result<(), E
 }
 
 // FILLCHAR.
-#[tactic(auto, unfolding(crate::specs::MemoryRows::fill_row), using(pm_words::proofs::WatchLaws::keeps))]
+#[tactic(auto, unfolding(crate::specs::MemoryRows::fill_row), using(pm_words::proofs::WatchLaws::stays))]
 fn fill(memory: &mut Memory, registers: ValidRegisters) -> Result<ValidRegisters, ExecError>
     ensures row { Changes result memory.old.words memory.new.words (fill_row memory.old.words registers) }
-    ensures keeps { KeepsWatch memory.old memory.new }
+    ensures watch { WatchStays memory.old memory.new }
     ensures mp { IfOk result (λ r. r.mp ≡ registers.mp) }
 {
     let mut stack = registers.top();
@@ -175,10 +175,10 @@ fn passed_by(memory: &Memory, at: u16, limit: u16, byte: u8, equal: bool) -> Res
 }
 
 // SCAN.
-#[tactic(auto, unfolding(crate::specs::MemoryRows::scan_row), using(pm_words::proofs::WatchLaws::keeps))]
+#[tactic(auto, unfolding(crate::specs::MemoryRows::scan_row), using(pm_words::proofs::WatchLaws::stays))]
 fn scan(memory: &mut Memory, registers: ValidRegisters) -> Result<ValidRegisters, ExecError>
     ensures row { Changes result memory.old.words memory.new.words (scan_row memory.old.words registers) }
-    ensures keeps { KeepsWatch memory.old memory.new }
+    ensures watch { WatchStays memory.old memory.new }
     ensures mp { IfOk result (λ r. r.mp ≡ registers.mp) }
 {
     let mut stack = registers.top();
@@ -193,10 +193,10 @@ fn scan(memory: &mut Memory, registers: ValidRegisters) -> Result<ValidRegisters
 }
 
 // MARK.
-#[tactic(auto, unfolding(crate::specs::MemoryRows::mark_row), using(pm_words::proofs::WatchLaws::keeps))]
+#[tactic(auto, unfolding(crate::specs::MemoryRows::mark_row), using(pm_words::proofs::WatchLaws::stays))]
 fn mark(memory: &mut Memory, registers: ValidRegisters) -> Result<ValidRegisters, ExecError>
     ensures row { Changes result memory.old.words memory.new.words (mark_row memory.old.words registers) }
-    ensures keeps { KeepsWatch memory.old memory.new }
+    ensures watch { WatchStays memory.old memory.new }
     ensures mp { IfOk result (λ r. r.mp ≡ registers.mp) }
 {
     let mut stack = registers.top();
@@ -206,10 +206,10 @@ fn mark(memory: &mut Memory, registers: ValidRegisters) -> Result<ValidRegisters
 }
 
 // RELEASE.
-#[tactic(auto, unfolding(crate::specs::MemoryRows::release_row), using(pm_words::proofs::WatchLaws::keeps))]
+#[tactic(auto, unfolding(crate::specs::MemoryRows::release_row), using(pm_words::proofs::WatchLaws::stays))]
 fn release(memory: &mut Memory, registers: ValidRegisters) -> Result<ValidRegisters, ExecError>
     ensures row { Changes result memory.old.words memory.new.words (release_row memory.old.words registers) }
-    ensures keeps { KeepsWatch memory.old memory.new }
+    ensures watch { WatchStays memory.old memory.new }
     ensures mp { IfOk result (λ r. r.mp ≡ registers.mp) }
 {
     let mut stack = registers.top();
@@ -225,14 +225,14 @@ fn release(memory: &mut Memory, registers: ValidRegisters) -> Result<ValidRegist
 }
 
 // IORESULT and MEMAVAIL. Puts a word on the stack.
-#[tactic(auto, unfolding(crate::specs::MemoryRows::push_row), using(pm_words::proofs::WatchLaws::keeps))]
+#[tactic(auto, unfolding(crate::specs::MemoryRows::push_row), using(pm_words::proofs::WatchLaws::stays))]
 fn put(
     memory: &mut Memory,
     registers: ValidRegisters,
     word: u16,
 ) -> Result<ValidRegisters, ExecError>
     ensures row { Changes result memory.old.words memory.new.words (push_row word memory.old.words registers) }
-    ensures keeps { KeepsWatch memory.old memory.new }
+    ensures watch { WatchStays memory.old memory.new }
     ensures mp { IfOk result (λ r. r.mp ≡ registers.mp) }
 {
     let mut stack = registers.top();
@@ -248,14 +248,14 @@ fn free_words(top: Top) -> u16
 }
 
 /// One of these procedures: it gives the registers after it; an error leaves the memory as it was.
-#[tactic(auto, unfolding(crate::specs::MemoryRows::memory_row), using(pm_words::proofs::WatchLaws::keeps))]
+#[tactic(auto, unfolding(crate::specs::MemoryRows::memory_row), using(pm_words::proofs::WatchLaws::stays))]
 pub fn perform(
     memory: &mut Memory,
     registers: ValidRegisters,
     procedure: OnMemory,
 ) -> Result<ValidRegisters, ExecError>
     ensures row { Changes result memory.old.words memory.new.words (memory_row procedure memory.old.words registers) }
-    ensures keeps { KeepsWatch memory.old memory.new }
+    ensures watch { WatchStays memory.old memory.new }
     ensures mp { IfOk result (λ r. r.mp ≡ registers.mp) }
 {
     match procedure {

@@ -1,7 +1,7 @@
 //! The standard procedures, by their numbers.
 
 ghost use Rattle.std.specs.Prelude.{◌≡◌, ◌≢◌, ◌+◌, ◌≤◌, IfOk, List, OnErr};
-ghost use Rattle.pm_words.specs.Watch.{KeepsWatch};
+ghost use Rattle.pm_words.specs.Watch.{WatchStays};
 ghost use Rattle.pm_calls.specs.Kept.{Agrees};
 ghost use Rattle.pm_units.specs.Traps.{Performs, or_fails};
 ghost use Rattle.pm_units.specs.Devices.{Devices, Room};
@@ -68,7 +68,7 @@ fn order_of(top: &mut Top, memory: &Memory) -> Result<Order, ExecError>
 }
 
 // EXIT.
-#[tactic(auto, unfolding(crate::specs::Procedures::exit_row), using(pm_words::proofs::WatchLaws::keeps, pm_calls::proofs::TableLaws::carry))]
+#[tactic(auto, unfolding(crate::specs::Procedures::exit_row), using(pm_words::proofs::WatchLaws::stays, pm_calls::proofs::TableLaws::carry))]
 fn exit_row(
     memory: &mut Memory,
     registers: &mut ValidRegisters,
@@ -82,7 +82,7 @@ fn exit_row(
     ensures refused { OnErr result ((memory.new.words ≡ memory.old.words) × (registers.new ≡ registers.old)
         × (frames.new.places ≡ frames.old.places)) }
     ensures agrees { Agrees memory.old frames.old registers.old.mp → Agrees memory.new frames.new registers.new.mp }
-    ensures keeps { KeepsWatch memory.old memory.new }
+    ensures watch { WatchStays memory.old memory.new }
     ensures mp { registers.new.mp ≡ registers.old.mp }
 {
     let mut stack = registers.top();
@@ -126,7 +126,7 @@ fn unkeep_row(
 /// no memory for bytes that are written or shown, and no room is left for them. After each of these
 /// everything is as it was: the scratch memory keeps what EXIT puts back, and holds anything
 /// afterwards.
-#[tactic(auto, unfolding(crate::specs::Procedures::procedure_row), using(pm_words::proofs::WatchLaws::keeps, pm_calls::proofs::TableLaws::carry))]
+#[tactic(auto, unfolding(crate::specs::Procedures::procedure_row), using(pm_words::proofs::WatchLaws::stays, pm_calls::proofs::TableLaws::carry))]
 pub fn perform(
     units: &mut Units,
     n: u8,
@@ -144,7 +144,7 @@ pub fn perform(
     ensures refused { OnErr result ((memory.new.words ≡ memory.old.words) × (registers.new ≡ registers.old)
         × (frames.new.places ≡ frames.old.places) × (units.new ≡ units.old)) }
     ensures agrees { Agrees memory.old frames.old registers.old.mp → Agrees memory.new frames.new registers.new.mp }
-    ensures keeps { procedure_numbered n ≢ Unkeep → KeepsWatch memory.old memory.new }
+    ensures watch { procedure_numbered n ≢ Unkeep → WatchStays memory.old memory.new }
     ensures mp { registers.new.mp ≡ registers.old.mp }
 {
     match procedure_of(n) {
@@ -161,7 +161,7 @@ pub fn perform(
 }
 
 // CSP 21. Load a segment.
-#[tactic(auto, unfolding(crate::specs::Procedures::keep_row), using(pm_words::proofs::WatchLaws::keeps))]
+#[tactic(auto, unfolding(crate::specs::Procedures::keep_row), using(pm_words::proofs::WatchLaws::stays))]
 fn keep_row(
     units: &Units,
     memory: &mut Memory,
@@ -177,7 +177,7 @@ fn keep_row(
     ensures refused { OnErr result ((memory.new.words ≡ memory.old.words) × (registers.new ≡ registers.old)
         × (frames.new.places ≡ frames.old.places)) }
     ensures agrees { Agrees memory.old frames.old registers.old.mp → Agrees memory.new frames.new registers.new.mp }
-    ensures keeps { KeepsWatch memory.old memory.new }
+    ensures watch { WatchStays memory.old memory.new }
     ensures mp { registers.new.mp ≡ registers.old.mp }
 {
     let mut stack = registers.top();
@@ -190,7 +190,7 @@ fn keep_row(
 }
 
 // A standard procedure that works with the units or the clock.
-#[tactic(auto, unfolding(crate::specs::UnitRows::units_row), using(pm_words::proofs::WatchLaws::keeps))]
+#[tactic(auto, unfolding(crate::specs::UnitRows::units_row), using(pm_words::proofs::WatchLaws::stays))]
 fn on_units(
     units: &mut Units,
     memory: &mut Memory,
@@ -211,7 +211,7 @@ fn on_units(
 }
 
 // UNITREAD.
-#[tactic(auto, unfolding(crate::specs::UnitRows::read_row), using(pm_words::proofs::WatchLaws::keeps))]
+#[tactic(auto, unfolding(crate::specs::UnitRows::read_row), using(pm_words::proofs::WatchLaws::stays))]
 fn read_row(
     units: &mut Units,
     memory: &mut Memory,
@@ -228,7 +228,7 @@ fn read_row(
 }
 
 // UNITWRITE.
-#[tactic(auto, unfolding(crate::specs::UnitRows::write_row), using(pm_words::proofs::WatchLaws::keeps))]
+#[tactic(auto, unfolding(crate::specs::UnitRows::write_row), using(pm_words::proofs::WatchLaws::stays))]
 fn write_row(
     units: &mut Units,
     memory: &mut Memory,
@@ -245,7 +245,7 @@ fn write_row(
 }
 
 // TIME.
-#[tactic(auto, unfolding(crate::specs::UnitRows::time_row), using(pm_words::proofs::WatchLaws::keeps))]
+#[tactic(auto, unfolding(crate::specs::UnitRows::time_row), using(pm_words::proofs::WatchLaws::stays))]
 fn time_row(
     units: &mut Units,
     memory: &mut Memory,
@@ -267,7 +267,7 @@ fn time_row(
 }
 
 // UNITBUSY.
-#[tactic(auto, unfolding(crate::specs::UnitRows::busy_row), using(pm_words::proofs::WatchLaws::keeps))]
+#[tactic(auto, unfolding(crate::specs::UnitRows::busy_row), using(pm_words::proofs::WatchLaws::stays))]
 fn busy_row(
     units: &mut Units,
     memory: &mut Memory,
@@ -285,7 +285,7 @@ fn busy_row(
 }
 
 // UNITWAIT.
-#[tactic(auto, unfolding(crate::specs::UnitRows::wait_row), using(pm_words::proofs::WatchLaws::keeps))]
+#[tactic(auto, unfolding(crate::specs::UnitRows::wait_row), using(pm_words::proofs::WatchLaws::stays))]
 fn wait_row(
     units: &mut Units,
     memory: &mut Memory,
@@ -302,7 +302,7 @@ fn wait_row(
 }
 
 // UNITCLEAR.
-#[tactic(auto, unfolding(crate::specs::UnitRows::clear_row), using(pm_words::proofs::WatchLaws::keeps))]
+#[tactic(auto, unfolding(crate::specs::UnitRows::clear_row), using(pm_words::proofs::WatchLaws::stays))]
 fn clear_row(
     units: &mut Units,
     memory: &mut Memory,

@@ -6,7 +6,7 @@ ghost use Rattle.pm_system.specs.declared.fault.SystemFault.TheVariants.{NoMemor
 ghost use Rattle.pm_volume.specs.Changes.{slot_named};
 ghost use Rattle.pm_volume.specs.Directory.{directory_of};
 ghost use Rattle.pm_volume.specs.Files.{files_of};
-ghost use Rattle.pm_volume.specs.Kept.{KeepsFile, KeepsFiles};
+ghost use Rattle.pm_volume.specs.Stays.{FileStays, FilesStay};
 ghost use Rattle.pm_volume.specs.Made.{file_removed};
 
 use crate::fault::SystemFault;
@@ -32,7 +32,7 @@ fn program_file<'a>(volume: &'a Volume, name: &str) -> Option<&'a [u8]>
 fn put_code(volume: &mut Volume, name: &str, file: &[u8]) -> Result<(), VolumeFault>
     ensures done { OnOk result (put_code volume.old name.now file.now ≡ Ok volume.new) }
     ensures refused { IfErr result (λ fault. put_code volume.old name.now file.now ≡ Err fault) }
-    ensures kept { OnOk result (KeepsFiles volume.old volume.new) }
+    ensures stay { OnOk result (FilesStay volume.old volume.new) }
 {
     let date = volume.last_date();
     volume.add(name, CODE, file, date)?;
@@ -45,8 +45,8 @@ fn exchange(volume: &mut Volume, name: &str, file: &[u8]) -> Result<(), VolumeFa
     ensures done { OnOk result (put_anew name.now file.now (file_removed volume.old name.now) ≡ Ok volume.new) }
     ensures refused { IfErr result (λ fault.
         put_anew name.now file.now (file_removed volume.old name.now) ≡ Err fault) }
-    ensures kept { OnOk result (IfSome (slot_named (directory_of volume.old) name.now) (λ slot.
-        All (KeepsFile volume.old volume.new) (remove (files_of volume.old) (slot - 1)))) }
+    ensures stay { OnOk result (IfSome (slot_named (directory_of volume.old) name.now) (λ slot.
+        All (FileStays volume.old volume.new) (remove (files_of volume.old) (slot - 1)))) }
 {
     volume.remove(name)?;
     put_code(volume, name, file)
@@ -68,8 +68,8 @@ pub fn put_system(
     ensures done { IfOk result (λ new. image_with_system volume name.now system.now ≡ Ok new) }
     ensures refused { IfErr result (λ fault. fault ≢ NoMemory →
         image_with_system volume name.now system.now ≡ Err fault) }
-    ensures kept { IfOk result (λ new. IfSome (slot_named (directory_of volume) name.now) (λ slot.
-        All (KeepsFile volume new) (remove (files_of volume) (slot - 1)))) }
+    ensures stay { IfOk result (λ new. IfSome (slot_named (directory_of volume) name.now) (λ slot.
+        All (FileStays volume new) (remove (files_of volume) (slot - 1)))) }
 {
     let (slot, segment) = system_slot(system)?;
     let mut volume = volume;

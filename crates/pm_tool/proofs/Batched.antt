@@ -10,7 +10,7 @@ use Rattle.pm_batch.specs.Products.{Product, Written, Image, Refused, Judged, Sa
 use Rattle.pm_tool.specs.Products.{said_product}
 use Rattle.pm_tool.specs.Said.{BreaksOff, Finishes, IsSoundExit}
 use Rattle.pm_streams.specs.Streams.{Incoming, Streams, both, AppendsFront, IsCause}
-use Rattle.pm_tool.proofs.Kept.{broken_unwritten, broken_writing, done_whole}
+use Rattle.pm_tool.proofs.ReadWhole.{broken_unwritten, broken_writing, done_whole}
 use Rattle.pm_tool.proofs.Unread.{broken_unread, consumes_none, done_unread}
 
 sound_product : (p : Product) (unread : List ℕ) → IsSoundExit (said_product p unread).exit

@@ -17,7 +17,7 @@ use Rattle.pm_tool.specs.declared.steps.Show.{Show}
 use Rattle.pm_tool.specs.Run.{after_showing, ended_run, shown_of, shown_by, run_of, ComesToEnd, StopsShort}
 use Rattle.pm_streams.specs.Streams.{Incoming, Outgoing, Streams, both, IsFront, AppendsFront, AppendsBut, IsCause, ReadsByte, TakesNone}
 use Rattle.pm_streams.proofs.Pages.{but_none, but_grown, but_turned, but_front, but_lost, but_cleared}
-use Rattle.pm_tool.proofs.Kept.{not_failed}
+use Rattle.pm_tool.proofs.ReadWhole.{not_failed}
 use Rattle.pm_tool.proofs.Runs.{run_of-goes, run_of-waits, run_of-stuck, run_of-none}
 use Rattle.pm_streams.proofs.Transfers.{cause_longer, front_trans}
 

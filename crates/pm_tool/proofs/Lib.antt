@@ -2,7 +2,7 @@ pub mod Spelled
 pub mod Runs
 pub mod Driven
 pub mod QuickSteps
-pub mod Kept
+pub mod ReadWhole
 pub mod Unread
 pub mod Batched
 pub mod Played

@@ -17,7 +17,7 @@ use Rattle.pm_tool.specs.declared.talk.Talk.TheVariants as talks
 use Rattle.pm_tool.specs.Said.{said_debug, said_run, said_started, said_talk, IsSoundExit, Finishes, BreaksOff}
 use Rattle.pm_streams.specs.Streams.{Outgoing, Streams, both, IsFront, AppendsBut, AppendsFront, IsCause}
 use Rattle.pm_tool.proofs.Unread.{done_unread}
-use Rattle.pm_tool.proofs.Kept.{if_known, tells_known}
+use Rattle.pm_tool.proofs.ReadWhole.{if_known, tells_known}
 use Rattle.pm_streams.proofs.Pages.{but_all, but_front, but_grown}
 use Rattle.pm_streams.proofs.Transfers.{cause_longer, front_trans}
 

@@ -20,7 +20,7 @@ use Rattle.pm_tool.specs.Said.{BreaksOff, Finishes, IsSoundExit, WritesFirst, de
 use Rattle.pm_session.specs.Sessions.{Told, answer_line, is_quit, opened, told, whole_lines}
 use Rattle.pm_streams.specs.Streams.{Incoming, Outgoing, Streams, both, IsFront, AppendsFront, IsCause, ReadsByte, TakesNone}
 use Rattle.pm_tool.specs.Talks.{IsAnswered, IsInterrupted}
-use Rattle.pm_tool.proofs.Kept.{if_known, not_failed, tells_known}
+use Rattle.pm_tool.proofs.ReadWhole.{if_known, not_failed, tells_known}
 use Rattle.pm_session.proofs.SessionLaws.{after_telling, answer_quit, told_byte, told_from, told_last, told_line, told_none, told_nothing}
 use Rattle.pm_session.proofs.SessionLaws.{told_quit, told_start, whole_lines_byte, whole_lines_feed, whole_lines_none}
 use Rattle.pm_streams.proofs.Transfers.{cause_longer, front_after, front_trans}

@@ -7,7 +7,7 @@ use Rattle.pm_tool.specs.declared.outcome.Outcome.{Outcome}
 use Rattle.pm_tool.specs.Outcomes.{Said, IsOutcome}
 use Rattle.pm_tool.specs.Said.{BreaksOff, Finishes, IsSoundExit}
 use Rattle.pm_streams.specs.Streams.{Streams, AppendsFront, IsCause}
-use Rattle.pm_tool.proofs.Kept.{if_known}
+use Rattle.pm_tool.proofs.ReadWhole.{if_known}
 
 pub consumes_none : (had : Option (List ℕ)) → Consumes had had []
 consumes_none had = Consumes-nil had

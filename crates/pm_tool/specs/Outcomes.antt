@@ -91,7 +91,7 @@ others_of others = option_map vec_items others.d5 ∷ option_map vec_items other
 abbrev pub no_others : List (Option (List ℕ))
 no_others = None ∷ None ∷ None ∷ None ∷ None ∷ []
 
--- what a job says to its input: what it writes, how it ends, its message, the image that is kept and those of the units
+-- what a job says to its input: what it writes, how it ends, its message, the image that is saved and those of the units
 -- 5, 9, 10, 11 and 12, its printer bytes, what of the input is left unread, and the state in which an error stopped it
 pub record Said : Type 0 where
   pub written : List ℕ

@@ -4,7 +4,7 @@ use Rattle.pm_batch.specs.Products.{Product, Written, Image, Refused, Judged, Sa
 use Rattle.pm_tool.specs.declared.outcome.Exit.TheVariants as exits
 use Rattle.pm_tool.specs.Outcomes.{Said, judged, no_others, refused}
 
--- a job comes to its end: these bytes are written, this image is kept, if there is one, and this of the input is left
+-- a job comes to its end: these bytes are written, this image is saved, if there is one, and this of the input is left
 -- unread
 abbrev pub ended : List ℕ → Option (List ℕ) → List ℕ → Said
 ended written image unread =

@@ -46,7 +46,7 @@ traced run = record {
   stopped = None;
 }
 
--- the image on unit 4, where it is to be kept
+-- the image on unit 4, where it is to be saved
 abbrev pub first_kept : Saving → Devices → Option (List ℕ)
 first_kept savings.Nothing devices = None
 first_kept savings.First devices = ejected_image 4 devices
@@ -58,14 +58,14 @@ abbrev pub others_in : Devices → List (Option (List ℕ))
 others_in devices = ejected_image 5 devices ∷ ejected_image 9 devices ∷ ejected_image 10 devices
     ∷ ejected_image 11 devices ∷ ejected_image 12 devices ∷ []
 
--- the same, where they are to be kept
+-- the same, where they are to be saved
 abbrev pub others_kept : Saving → Devices → List (Option (List ℕ))
 others_kept savings.Nothing devices = no_others
 others_kept savings.First devices = no_others
 others_kept savings.All devices = others_in devices
 others_kept savings.Others devices = others_in devices
 
--- a run that is told by its console bytes: its last line is the message, and the images that it leaves are kept as is
+-- a run that is told by its console bytes: its last line is the message, and the images that it leaves are saved as is
 -- to be
 abbrev pub run_said : Saving → Run → Said
 run_said saving run = record {

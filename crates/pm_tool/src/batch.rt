@@ -50,7 +50,7 @@ fn deliver<W: Sink>(alloc: Global, sink: &mut W, made: Made) -> Result<Outcome, 
             write_all(sink, &bytes)?;
             Ok(Outcome::plain(alloc, Exit::Ended, String::new(alloc)))
         }
-        Made::Image(image) => Ok(Outcome::keeping(alloc, image)),
+        Made::Image(image) => Ok(Outcome::with_image(alloc, image)),
         Made::Refused(refusal, line) => Ok(refuse_line(alloc, refusal, line)?),
         Made::Judged(text, refusal, line) => {
             let outcome = conclude(alloc, refusal, line)?;
@@ -59,7 +59,7 @@ fn deliver<W: Sink>(alloc: Global, sink: &mut W, made: Made) -> Result<Outcome, 
         }
         Made::Saved(text, image) => {
             write_all(sink, &text)?;
-            Ok(Outcome::keeping(alloc, image))
+            Ok(Outcome::with_image(alloc, image))
         }
     }
 }

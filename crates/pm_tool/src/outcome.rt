@@ -85,7 +85,7 @@ pub enum Job {
     DisList,
     /// A command on the volume that an image is. The input's bytes stand in the place of a put's, of bytes or text, and
     /// no other command reads any. The output is the list, the bytes or the text of a file; after a change the outcome
-    /// has the image that is to be kept. An image that is no volume is refused by `refused volume N`, before the input
+    /// has the image that is to be saved. An image that is no volume is refused by `refused volume N`, before the input
     /// is read; a command that the volume refuses by `refused filer 1 N`, N being the number of the volume's fault; a
     /// text or a text file by `refused filer 2 N`, with the number of its fault and the line or place; a date by
     /// `refused filer 3`.
@@ -100,7 +100,7 @@ pub enum Job {
         blocks: u16,
     },
     /// An image whose first copy of the directory alone is damaged, with the good second copy in that place; an image
-    /// that is a volume stays as it is. The outcome has the image that is to be kept. The input is not read. Any other
+    /// that is a volume stays as it is. The outcome has the image that is to be saved. The input is not read. Any other
     /// image is refused by `refused volume N`.
     Repair {
         image: Vec<u8>,
@@ -181,7 +181,7 @@ impl Exit {
     }
 }
 
-/// The images on the units 5, 9, 10, 11 and 12 that are to be kept.
+/// The images on the units 5, 9, 10, 11 and 12 that are to be saved.
 #[derive(Drop)]
 pub struct OtherImages {
     pub d5: Option<Vec<u8>>,
@@ -222,9 +222,9 @@ pub struct Outcome {
     /// What is said of it, with no line feed at the end. It may be empty, and is so after a fault: `text` has what is
     /// said then.
     pub message: String,
-    /// The image of a volume to be kept, if there is one: of a run that on unit 4.
+    /// The image of a volume to be saved, if there is one: of a run that on unit 4.
     pub image: Option<Vec<u8>>,
-    /// The images on the other disk units that are to be kept of a run.
+    /// The images on the other disk units that are to be saved of a run.
     pub others: OtherImages,
     /// The bytes that were printed.
     pub printer: Vec<u8>,
@@ -268,8 +268,8 @@ impl Outcome {
         }
     }
 
-    /// An outcome that keeps an image, with no message and no printer bytes.
-    pub(crate) fn keeping(alloc: Global, image: Vec<u8>) -> Outcome
+    /// An outcome that has an image to save, with no message and no printer bytes.
+    pub(crate) fn with_image(alloc: Global, image: Vec<u8>) -> Outcome
         ensures exit { result.exit ≡ Exit.Ended }
         ensures message { string_bytes result.message ≡ [] }
         ensures image { option_map vec_items result.image ≡ Some image.items }

@@ -17,7 +17,7 @@ use std::alloc::{AllocError, Global};
 pub(crate) enum Show {
     /// A line for each step that is selected, and a last line that says why the run ended.
     Trace(Selection),
-    /// The bytes that the program writes to the console. `saving` says which images are kept.
+    /// The bytes that the program writes to the console. `saving` says which images are saved.
     Console { saving: Saving },
 }
 

@@ -58,7 +58,7 @@ fn all_taken(machine: &mut Machine) -> (Option<Vec<u8>>, OtherImages)
     (first, others)
 }
 
-/// Takes away the images that are to be kept.
+/// Takes away the images that are to be saved.
 fn images_taken(machine: &mut Machine, saving: Saving) -> (Option<Vec<u8>>, OtherImages)
     ensures first { option_map vec_items result.0 ≡ first_kept saving machine.old.state.devices }
     ensures others { others_of result.1 ≡ others_kept saving machine.old.state.devices }
@@ -72,7 +72,7 @@ fn images_taken(machine: &mut Machine, saving: Saving) -> (Option<Vec<u8>>, Othe
 }
 
 /// What a run comes to that is told by its console bytes: its last line, what was printed, and the images that are to
-/// be kept.
+/// be saved.
 fn left_by_run(
     alloc: Global,
     machine: &mut Machine,

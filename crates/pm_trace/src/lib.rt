@@ -1,9 +1,9 @@
 //! The line of a trace for a machine's next step; the lines that are selected, and what stands in front of them.
 #![tactic(auto)]
 
+mod cached_digits;
 mod depth;
 mod digits;
-mod kept_digits;
 mod lines;
 mod number_text;
 mod place;

@@ -4,8 +4,8 @@ ghost use Rattle.std.specs.Prelude.{◌≡◌, ◌<◌, ◌∷◌, [], ◌++◌,
 ghost use Rattle.pm_trace.specs.Trace.{trace_line};
 ghost use Rattle.pm_disasm.specs.Text.{line_text};
 
+use crate::cached_digits::{CachedColumn, CachedTens};
 use crate::digits::{column, column_or_dashes};
-use crate::kept_digits::{KeptColumn, KeptTens};
 use crate::number_text::add_short;
 use crate::state_line::{TraceLine, top};
 use pm_disasm::Line;
@@ -17,10 +17,10 @@ use std::alloc::{AllocError, Global};
 /// line can come next.
 #[derive(Drop)]
 pub struct Tracer {
-    tens: KeptTens,
-    mp: KeptColumn,
-    base: KeptColumn,
-    np: KeptColumn,
+    tens: CachedTens,
+    mp: CachedColumn,
+    base: CachedColumn,
+    np: CachedColumn,
     // the text of an instruction whose operands are no numbers
     text: String,
 }
@@ -29,10 +29,10 @@ impl Tracer {
     /// One that has kept nothing.
     pub fn new(alloc: Global) -> Tracer {
         Tracer {
-            tens: KeptTens::new(),
-            mp: KeptColumn::new(),
-            base: KeptColumn::new(),
-            np: KeptColumn::new(),
+            tens: CachedTens::new(),
+            mp: CachedColumn::new(),
+            base: CachedColumn::new(),
+            np: CachedColumn::new(),
             text: String::new(alloc),
         }
     }

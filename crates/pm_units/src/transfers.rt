@@ -1,7 +1,7 @@
 //! What the units give and take.
 
 ghost use Rattle.std.specs.Prelude.{◌≡◌, ◌+◌, ◌<◌, ◌≤◌, ◌++◌, drop, length, vec_capacity, vec_len, Ok, OnOk, OnErr};
-ghost use Rattle.pm_words.specs.Watch.{KeepsWatch};
+ghost use Rattle.pm_words.specs.Watch.{WatchStays};
 ghost use Rattle.pm_units.specs.Devices.{HasPlace, cleared, image_at};
 ghost use Rattle.pm_units.specs.Transfers.{
   Transfers,
@@ -77,14 +77,14 @@ fn can_move(image: &[u8], transfer: Transfer) -> bool
 impl Units {
     /// Reads from a unit into the memory, and gives the IORESULT. `Waiting` where fewer bytes of input wait than are to
     /// be read, `NoMemory` where there is none for what the console shows; nothing has changed then.
-    #[tactic(auto, unfolding(crate::specs::Transfers::unit_read), using(pm_words::proofs::WatchLaws::keeps))]
+    #[tactic(auto, unfolding(crate::specs::Transfers::unit_read), using(pm_words::proofs::WatchLaws::stays))]
     pub fn read(&mut self, memory: &mut Memory, unit: Port, transfer: Transfer) -> Result<u16, Trap>
         requires place { HasPlace unit }
         requires inside { transfer.address + transfer.count ≤ 65536 }
         ensures read { Transfers self.old.room result memory.old.words self.old.devices memory.new.words
             self.new.devices (unit_read unit transfer memory.old.words self.old.devices) }
         ensures room { OnErr result (self.new.room ≡ self.old.room) }
-        ensures keeps { KeepsWatch memory.old memory.new }
+        ensures watch { WatchStays memory.old memory.new }
     {
         match unit {
             Port::Unknown => Ok(2),
@@ -97,7 +97,7 @@ impl Units {
     }
 
     // Reads the first bytes that wait, and perhaps shows them on the console.
-    #[tactic(auto, using(pm_words::proofs::WatchLaws::keeps))]
+    #[tactic(auto, using(pm_words::proofs::WatchLaws::stays))]
     fn read_queue(
         &mut self,
         memory: &mut Memory,
@@ -108,7 +108,7 @@ impl Units {
         ensures read { Transfers self.old.room result memory.old.words self.old.devices memory.new.words
             self.new.devices (from_queue echo transfer memory.old.words self.old.devices) }
         ensures room { OnErr result (self.new.room ≡ self.old.room) }
-        ensures keeps { KeepsWatch memory.old memory.new }
+        ensures watch { WatchStays memory.old memory.new }
     {
         let count = usize::from(transfer.count);
         if self.queue.len() < count {
@@ -123,13 +123,13 @@ impl Units {
     }
 
     // Reads from a disk, and gives the IORESULT.
-    #[tactic(auto, using(pm_words::proofs::WatchLaws::keeps))]
+    #[tactic(auto, using(pm_words::proofs::WatchLaws::stays))]
     fn read_disk(&mut self, memory: &mut Memory, k: usize, transfer: Transfer) -> u16
         requires place { k < 6 }
         requires inside { transfer.address + transfer.count ≤ 65536 }
         ensures read { Transfers self.old.room (Ok result) memory.old.words self.old.devices memory.new.words
             self.new.devices (Ok (from_disk (image_at self.old.devices k) transfer memory.old.words self.old.devices)) }
-        ensures keeps { KeepsWatch memory.old memory.new }
+        ensures watch { WatchStays memory.old memory.new }
     {
         let Some(disk) = &self.disks[k] else {
             return 9;
@@ -148,7 +148,7 @@ impl Units {
 
     /// Writes from the memory to a unit, and gives the IORESULT. `NoMemory` where there is none for what the console or
     /// the printer gets; nothing has changed then.
-    #[tactic(auto, unfolding(crate::specs::Transfers::unit_written), using(pm_words::proofs::WatchLaws::keeps))]
+    #[tactic(auto, unfolding(crate::specs::Transfers::unit_written), using(pm_words::proofs::WatchLaws::stays))]
     pub fn write(
         &mut self,
         memory: &mut Memory,
@@ -160,7 +160,7 @@ impl Units {
         ensures written { Transfers self.old.room result memory.old.words self.old.devices memory.new.words
             self.new.devices (Ok (unit_written unit transfer memory.old.words self.old.devices)) }
         ensures room { OnErr result (self.new.room ≡ self.old.room) }
-        ensures keeps { KeepsWatch memory.old memory.new }
+        ensures watch { WatchStays memory.old memory.new }
     {
         match unit {
             Port::Unknown => Ok(2),
@@ -178,13 +178,13 @@ impl Units {
     }
 
     // Writes to a disk, and gives the IORESULT.
-    #[tactic(auto, using(pm_words::proofs::WatchLaws::keeps))]
+    #[tactic(auto, using(pm_words::proofs::WatchLaws::stays))]
     fn write_disk(&mut self, memory: &mut Memory, k: usize, transfer: Transfer) -> u16
         requires place { k < 6 }
         requires inside { transfer.address + transfer.count ≤ 65536 }
         ensures written { Transfers self.old.room (Ok result) memory.old.words self.old.devices memory.new.words
             self.new.devices (Ok (to_disk k (image_at self.old.devices k) transfer memory.old.words self.old.devices)) }
-        ensures keeps { KeepsWatch memory.old memory.new }
+        ensures watch { WatchStays memory.old memory.new }
     {
         let Some(disk) = &mut self.disks[k] else {
             return 9;

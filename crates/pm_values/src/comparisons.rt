@@ -1,7 +1,7 @@
 //! The typed comparisons.
 
 ghost use Rattle.std.specs.Prelude.{◌≡◌, IfOk};
-ghost use Rattle.pm_words.specs.Watch.{KeepsWatch};
+ghost use Rattle.pm_words.specs.Watch.{WatchStays};
 ghost use Rattle.pm_words.specs.Stack.{IsStack, Changes};
 ghost use Rattle.pm_values.specs.Comparisons.{
   compare_booleans_row,
@@ -30,7 +30,7 @@ use std::cmp::Ordering;
 /// there are too few words, or an operand passes the end of memory, or words begin at an odd address; `InvalidIndex`
 /// for a set of more than 255 words. An error changes nothing.
 #[inline(always)]
-#[tactic(auto, unfolding(crate::specs::Comparisons::compare_row), using(pm_words::proofs::WatchLaws::keeps))]
+#[tactic(auto, unfolding(crate::specs::Comparisons::compare_row), using(pm_words::proofs::WatchLaws::stays))]
 pub fn compare(
     memory: &mut Memory,
     sp: u16,
@@ -40,7 +40,7 @@ pub fn compare(
 ) -> Result<u16, ExecError>
     ensures row { Changes result memory.old.words memory.new.words (compare_row relation kind memory.old.words sp np) }
     ensures stack { IsStack sp np → IfOk result (λ sp. IsStack sp np) }
-    ensures keeps { KeepsWatch memory.old memory.new }
+    ensures watch { WatchStays memory.old memory.new }
 {
     match kind {
         Kind::Real => Err(ExecError::Unimplemented),
@@ -53,7 +53,7 @@ pub fn compare(
 }
 
 // Two strings, by their characters.
-#[tactic(auto, unfolding(crate::specs::Comparisons::compare_strings_row), using(pm_words::proofs::WatchLaws::keeps))]
+#[tactic(auto, unfolding(crate::specs::Comparisons::compare_strings_row), using(pm_words::proofs::WatchLaws::stays))]
 fn compare_strings(
     memory: &mut Memory,
     sp: u16,
@@ -63,7 +63,7 @@ fn compare_strings(
     ensures row { Changes result memory.old.words memory.new.words
         (compare_strings_row relation memory.old.words sp np) }
     ensures stack { IsStack sp np → IfOk result (λ sp. IsStack sp np) }
-    ensures keeps { KeepsWatch memory.old memory.new }
+    ensures watch { WatchStays memory.old memory.new }
 {
     let right = pop(memory, sp)?;
     let left = pop(memory, right.above)?;
@@ -74,7 +74,7 @@ fn compare_strings(
 }
 
 // Two truth values, by bit 0 alone.
-#[tactic(auto, unfolding(crate::specs::Comparisons::compare_booleans_row), using(pm_words::proofs::WatchLaws::keeps))]
+#[tactic(auto, unfolding(crate::specs::Comparisons::compare_booleans_row), using(pm_words::proofs::WatchLaws::stays))]
 fn compare_booleans(
     memory: &mut Memory,
     sp: u16,
@@ -84,7 +84,7 @@ fn compare_booleans(
     ensures row { Changes result memory.old.words memory.new.words
         (compare_booleans_row relation memory.old.words sp np) }
     ensures stack { IsStack sp np → IfOk result (λ sp. IsStack sp np) }
-    ensures keeps { KeepsWatch memory.old memory.new }
+    ensures watch { WatchStays memory.old memory.new }
 {
     let right = pop(memory, sp)?;
     let left = pop(memory, right.above)?;
@@ -94,7 +94,7 @@ fn compare_booleans(
 }
 
 // Two ranges of bytes.
-#[tactic(auto, unfolding(crate::specs::Comparisons::compare_bytes_row), using(pm_words::proofs::WatchLaws::keeps))]
+#[tactic(auto, unfolding(crate::specs::Comparisons::compare_bytes_row), using(pm_words::proofs::WatchLaws::stays))]
 fn compare_bytes(
     memory: &mut Memory,
     sp: u16,
@@ -105,7 +105,7 @@ fn compare_bytes(
     ensures row { Changes result memory.old.words memory.new.words
         (compare_bytes_row count relation memory.old.words sp np) }
     ensures stack { IsStack sp np → IfOk result (λ sp. IsStack sp np) }
-    ensures keeps { KeepsWatch memory.old memory.new }
+    ensures watch { WatchStays memory.old memory.new }
 {
     let right = pop(memory, sp)?;
     let left = pop(memory, right.above)?;
@@ -116,7 +116,7 @@ fn compare_bytes(
 }
 
 // Two ranges of words.
-#[tactic(auto, unfolding(crate::specs::Comparisons::compare_words_row), using(pm_words::proofs::WatchLaws::keeps))]
+#[tactic(auto, unfolding(crate::specs::Comparisons::compare_words_row), using(pm_words::proofs::WatchLaws::stays))]
 fn compare_words(
     memory: &mut Memory,
     sp: u16,
@@ -127,7 +127,7 @@ fn compare_words(
     ensures row { Changes result memory.old.words memory.new.words
         (compare_words_row count relation memory.old.words sp np) }
     ensures stack { IsStack sp np → IfOk result (λ sp. IsStack sp np) }
-    ensures keeps { KeepsWatch memory.old memory.new }
+    ensures watch { WatchStays memory.old memory.new }
 {
     if !is_equality(relation) {
         return Err(ExecError::Unimplemented);
@@ -144,11 +144,11 @@ fn compare_words(
 }
 
 // Two sets, as sets of numbers.
-#[tactic(auto, unfolding(crate::specs::Comparisons::compare_sets_row), using(pm_words::proofs::WatchLaws::keeps))]
+#[tactic(auto, unfolding(crate::specs::Comparisons::compare_sets_row), using(pm_words::proofs::WatchLaws::stays))]
 fn compare_sets(memory: &mut Memory, sp: u16, np: u16, relation: Relation) -> Result<u16, ExecError>
     ensures row { Changes result memory.old.words memory.new.words (compare_sets_row relation memory.old.words sp np) }
     ensures stack { IsStack sp np → IfOk result (λ sp. IsStack sp np) }
-    ensures keeps { KeepsWatch memory.old memory.new }
+    ensures watch { WatchStays memory.old memory.new }
 {
     if !is_of_sets(relation) {
         return Err(ExecError::Unimplemented);

@@ -1,7 +1,7 @@
 //! Bytes, and fields of words.
 
 ghost use Rattle.std.specs.Prelude.{◌≡◌, ◌+◌, ◌≤◌, IfOk, Err};
-ghost use Rattle.pm_words.specs.Watch.{KeepsWatch};
+ghost use Rattle.pm_words.specs.Watch.{WatchStays};
 ghost use Rattle.pm_words.specs.Stack.{IsStack, Changes, demand};
 ghost use Rattle.pm_words.specs.declared.error.ExecError.TheVariants.{InvalidIndex};
 ghost use Rattle.pm_values.specs.Fields.{
@@ -21,11 +21,11 @@ use pm_words::{ExecError, Memory};
 
 /// `LDB`. Replaces a base and an index in bytes by the byte at their sum, and gives the new SP; `InvalidMemory` where
 /// there are too few words. An error changes nothing.
-#[tactic(auto, unfolding(crate::specs::Fields::load_byte_row), using(pm_words::proofs::WatchLaws::keeps))]
+#[tactic(auto, unfolding(crate::specs::Fields::load_byte_row), using(pm_words::proofs::WatchLaws::stays))]
 pub fn load_byte(memory: &mut Memory, sp: u16, np: u16) -> Result<u16, ExecError>
     ensures row { Changes result memory.old.words memory.new.words (load_byte_row memory.old.words sp np) }
     ensures stack { IsStack sp np → IfOk result (λ sp. IsStack sp np) }
-    ensures keeps { KeepsWatch memory.old memory.new }
+    ensures watch { WatchStays memory.old memory.new }
 {
     let index = pop(memory, sp)?;
     let base = pop(memory, index.above)?;
@@ -35,11 +35,11 @@ pub fn load_byte(memory: &mut Memory, sp: u16, np: u16) -> Result<u16, ExecError
 
 /// `STB`. Takes a base, an index in bytes and a value from the stack, writes the value's low byte at their sum, and
 /// gives the new SP; `InvalidMemory` where there are too few words. An error changes nothing.
-#[tactic(auto, unfolding(crate::specs::Fields::store_byte_row), using(pm_words::proofs::WatchLaws::keeps))]
+#[tactic(auto, unfolding(crate::specs::Fields::store_byte_row), using(pm_words::proofs::WatchLaws::stays))]
 pub fn store_byte(memory: &mut Memory, sp: u16, np: u16) -> Result<u16, ExecError>
     ensures row { Changes result memory.old.words memory.new.words (store_byte_row memory.old.words sp np) }
     ensures stack { IsStack sp np → IfOk result (λ sp. IsStack sp np) }
-    ensures keeps { KeepsWatch memory.old memory.new }
+    ensures watch { WatchStays memory.old memory.new }
 {
     let value = pop(memory, sp)?;
     let index = pop(memory, value.above)?;
@@ -53,7 +53,7 @@ pub fn store_byte(memory: &mut Memory, sp: u16, np: u16) -> Result<u16, ExecErro
 /// bits in each word, the first in the lowest bits. `InvalidMemory` where there are too few words; `InvalidIndex` for a
 /// negative index, for no fields a word, and for bits that are no field of a word; `StackOverflow`. An error changes
 /// nothing.
-#[tactic(auto, unfolding(crate::specs::Fields::index_field_row), using(pm_words::proofs::WatchLaws::keeps))]
+#[tactic(auto, unfolding(crate::specs::Fields::index_field_row), using(pm_words::proofs::WatchLaws::stays))]
 pub fn index_field(
     memory: &mut Memory,
     sp: u16,
@@ -64,7 +64,7 @@ pub fn index_field(
     ensures row { Changes result memory.old.words memory.new.words
         (index_field_row per_word width memory.old.words sp np) }
     ensures stack { IsStack sp np → IfOk result (λ sp. IsStack sp np) }
-    ensures keeps { KeepsWatch memory.old memory.new }
+    ensures watch { WatchStays memory.old memory.new }
 {
     let index = pop(memory, sp)?;
     let base = pop(memory, index.above)?;
@@ -81,11 +81,11 @@ pub fn index_field(
 /// `LDP`. Replaces the place of a field by the field, and gives the new SP. `InvalidMemory` where there are too few
 /// words; `InvalidIndex` for bits that are no field of a word; `InvalidMemory` for an odd address. An error changes
 /// nothing.
-#[tactic(auto, unfolding(crate::specs::Fields::load_field_row), using(pm_words::proofs::WatchLaws::keeps))]
+#[tactic(auto, unfolding(crate::specs::Fields::load_field_row), using(pm_words::proofs::WatchLaws::stays))]
 pub fn load_field(memory: &mut Memory, sp: u16, np: u16) -> Result<u16, ExecError>
     ensures row { Changes result memory.old.words memory.new.words (load_field_row memory.old.words sp np) }
     ensures stack { IsStack sp np → IfOk result (λ sp. IsStack sp np) }
-    ensures keeps { KeepsWatch memory.old memory.new }
+    ensures watch { WatchStays memory.old memory.new }
 {
     let lowest = pop(memory, sp)?;
     let width = pop(memory, lowest.above)?;
@@ -103,11 +103,11 @@ pub fn load_field(memory: &mut Memory, sp: u16, np: u16) -> Result<u16, ExecErro
 /// `STP`. Takes the place of a field and a value from the stack, writes the value's low bits into the field, and gives
 /// the new SP. `InvalidMemory` where there are too few words; `InvalidIndex` for bits that are no field of a word;
 /// `InvalidMemory` for an odd address. An error changes nothing.
-#[tactic(auto, unfolding(crate::specs::Fields::store_field_row), using(pm_words::proofs::WatchLaws::keeps))]
+#[tactic(auto, unfolding(crate::specs::Fields::store_field_row), using(pm_words::proofs::WatchLaws::stays))]
 pub fn store_field(memory: &mut Memory, sp: u16, np: u16) -> Result<u16, ExecError>
     ensures row { Changes result memory.old.words memory.new.words (store_field_row memory.old.words sp np) }
     ensures stack { IsStack sp np → IfOk result (λ sp. IsStack sp np) }
-    ensures keeps { KeepsWatch memory.old memory.new }
+    ensures watch { WatchStays memory.old memory.new }
 {
     let value = pop(memory, sp)?;
     let lowest = pop(memory, value.above)?;

@@ -19,7 +19,7 @@ ghost use Rattle.std.specs.Prelude.{
   nat_le,
   slice_index,
 };
-ghost use Rattle.pm_words.specs.Watch.{KeepsWatch};
+ghost use Rattle.pm_words.specs.Watch.{WatchStays};
 ghost use Rattle.pm_words.specs.Stack.{IsStack, Changes};
 ghost use Rattle.pm_words.specs.Words.{with_words, words_at};
 ghost use Rattle.pm_values.specs.Several.{push_words};
@@ -80,11 +80,11 @@ pub struct StackSet {
 /// `INN`. Replaces a value and a set by 1 or 0, whether the signed value is an element, and gives the new SP.
 /// `InvalidMemory` where there are too few words; `InvalidIndex` for a set of more than 255 words. An error changes
 /// nothing.
-#[tactic(auto, unfolding(crate::specs::Sets::in_set_row), using(pm_words::proofs::WatchLaws::keeps))]
+#[tactic(auto, unfolding(crate::specs::Sets::in_set_row), using(pm_words::proofs::WatchLaws::stays))]
 pub fn in_set(memory: &mut Memory, sp: u16, np: u16) -> Result<u16, ExecError>
     ensures row { Changes result memory.old.words memory.new.words (in_set_row memory.old.words sp np) }
     ensures stack { IsStack sp np → IfOk result (λ sp. IsStack sp np) }
-    ensures keeps { KeepsWatch memory.old memory.new }
+    ensures watch { WatchStays memory.old memory.new }
 {
     let set = find_set(memory, sp)?;
     let value = pop(memory, set.above)?;
@@ -95,44 +95,44 @@ pub fn in_set(memory: &mut Memory, sp: u16, np: u16) -> Result<u16, ExecError>
 /// `INT`. Replaces two sets by the set of the numbers in both, in as many words as the smaller has, and gives the new
 /// SP. For each operand, the top one first: `InvalidMemory` where there are too few words, `InvalidIndex` for a set of
 /// more than 255 words; then `StackOverflow`. An error changes nothing.
-#[tactic(auto, unfolding(crate::specs::Sets::intersect_row), using(pm_words::proofs::WatchLaws::keeps))]
+#[tactic(auto, unfolding(crate::specs::Sets::intersect_row), using(pm_words::proofs::WatchLaws::stays))]
 pub fn intersect(memory: &mut Memory, sp: u16, np: u16) -> Result<u16, ExecError>
     ensures row { Changes result memory.old.words memory.new.words (intersect_row memory.old.words sp np) }
     ensures stack { IsStack sp np → IfOk result (λ sp. IsStack sp np) }
-    ensures keeps { KeepsWatch memory.old memory.new }
+    ensures watch { WatchStays memory.old memory.new }
 {
     combine(memory, sp, np, Combination::Intersection)
 }
 
 /// `UNI`. Replaces two sets by the set of the numbers in either, in as many words as the larger has, and gives the new
 /// SP. Errors as in `intersect`; an error changes nothing.
-#[tactic(auto, unfolding(crate::specs::Sets::union_row), using(pm_words::proofs::WatchLaws::keeps))]
+#[tactic(auto, unfolding(crate::specs::Sets::union_row), using(pm_words::proofs::WatchLaws::stays))]
 pub fn union(memory: &mut Memory, sp: u16, np: u16) -> Result<u16, ExecError>
     ensures row { Changes result memory.old.words memory.new.words (union_row memory.old.words sp np) }
     ensures stack { IsStack sp np → IfOk result (λ sp. IsStack sp np) }
-    ensures keeps { KeepsWatch memory.old memory.new }
+    ensures watch { WatchStays memory.old memory.new }
 {
     combine(memory, sp, np, Combination::Union)
 }
 
 /// `DIF`. Replaces two sets by the set of the numbers in the lower and not in the upper one, in as many words as the
 /// lower set has, and gives the new SP. Errors as in `intersect`; an error changes nothing.
-#[tactic(auto, unfolding(crate::specs::Sets::difference_row), using(pm_words::proofs::WatchLaws::keeps))]
+#[tactic(auto, unfolding(crate::specs::Sets::difference_row), using(pm_words::proofs::WatchLaws::stays))]
 pub fn difference(memory: &mut Memory, sp: u16, np: u16) -> Result<u16, ExecError>
     ensures row { Changes result memory.old.words memory.new.words (difference_row memory.old.words sp np) }
     ensures stack { IsStack sp np → IfOk result (λ sp. IsStack sp np) }
-    ensures keeps { KeepsWatch memory.old memory.new }
+    ensures watch { WatchStays memory.old memory.new }
 {
     combine(memory, sp, np, Combination::Difference)
 }
 
 /// `SGS`. Replaces a value by the set of that number alone, and gives the new SP. `InvalidMemory` where there are too
 /// few words; `InvalidIndex` for a value that is not 0 to 4,079; `StackOverflow`. An error changes nothing.
-#[tactic(auto, unfolding(crate::specs::Sets::singleton_row), using(pm_words::proofs::WatchLaws::keeps))]
+#[tactic(auto, unfolding(crate::specs::Sets::singleton_row), using(pm_words::proofs::WatchLaws::stays))]
 pub fn singleton(memory: &mut Memory, sp: u16, np: u16) -> Result<u16, ExecError>
     ensures row { Changes result memory.old.words memory.new.words (singleton_row memory.old.words sp np) }
     ensures stack { IsStack sp np → IfOk result (λ sp. IsStack sp np) }
-    ensures keeps { KeepsWatch memory.old memory.new }
+    ensures watch { WatchStays memory.old memory.new }
 {
     let value = pop(memory, sp)?;
     if value.word > LAST_MEMBER {
@@ -144,11 +144,11 @@ pub fn singleton(memory: &mut Memory, sp: u16, np: u16) -> Result<u16, ExecError
 /// `SRS`. Replaces two signed values by the set of the numbers from the lower word to the upper one, or by the set of
 /// no words if the first is the greater, and gives the new SP. `InvalidMemory` where there are too few words;
 /// `InvalidIndex` for a bound that is not 0 to 4,079; `StackOverflow`. An error changes nothing.
-#[tactic(auto, unfolding(crate::specs::Sets::subrange_row), using(pm_words::proofs::WatchLaws::keeps))]
+#[tactic(auto, unfolding(crate::specs::Sets::subrange_row), using(pm_words::proofs::WatchLaws::stays))]
 pub fn subrange(memory: &mut Memory, sp: u16, np: u16) -> Result<u16, ExecError>
     ensures row { Changes result memory.old.words memory.new.words (subrange_row memory.old.words sp np) }
     ensures stack { IsStack sp np → IfOk result (λ sp. IsStack sp np) }
-    ensures keeps { KeepsWatch memory.old memory.new }
+    ensures watch { WatchStays memory.old memory.new }
 {
     let high = pop(memory, sp)?;
     let low = pop(memory, high.above)?;
@@ -164,11 +164,11 @@ pub fn subrange(memory: &mut Memory, sp: u16, np: u16) -> Result<u16, ExecError>
 /// `ADJ`. Replaces a set by `words` words without a count, cut or filled up by zeros at the end of the greatest
 /// elements, and gives the new SP. `InvalidMemory` where there are too few words; `InvalidIndex` for a set of more than
 /// 255 words; `StackOverflow`. An error changes nothing.
-#[tactic(auto, unfolding(crate::specs::Sets::adjust_row), using(pm_words::proofs::WatchLaws::keeps))]
+#[tactic(auto, unfolding(crate::specs::Sets::adjust_row), using(pm_words::proofs::WatchLaws::stays))]
 pub fn adjust(memory: &mut Memory, sp: u16, np: u16, words: u8) -> Result<u16, ExecError>
     ensures row { Changes result memory.old.words memory.new.words (adjust_row words memory.old.words sp np) }
     ensures stack { IsStack sp np → IfOk result (λ sp. IsStack sp np) }
-    ensures keeps { KeepsWatch memory.old memory.new }
+    ensures watch { WatchStays memory.old memory.new }
 {
     let set = find_set(memory, sp)?;
     let size = 2 * u16::from(words);
@@ -181,7 +181,7 @@ pub fn adjust(memory: &mut Memory, sp: u16, np: u16, words: u8) -> Result<u16, E
 }
 
 // Replaces two sets by the one that they make.
-#[tactic(auto, using(pm_words::proofs::WatchLaws::keeps))]
+#[tactic(auto, using(pm_words::proofs::WatchLaws::stays))]
 fn combine(
     memory: &mut Memory,
     sp: u16,
@@ -191,7 +191,7 @@ fn combine(
     ensures row { Changes result memory.old.words memory.new.words
         (two_sets_row (count_of combination) (test_of combination) memory.old.words sp np) }
     ensures stack { IsStack sp np → IfOk result (λ sp. IsStack sp np) }
-    ensures keeps { KeepsWatch memory.old memory.new }
+    ensures watch { WatchStays memory.old memory.new }
 {
     let _ = memory.bytes(); // for its first clause
     let upper = find_set(memory, sp)?;
@@ -212,7 +212,7 @@ fn combine(
 // Replaces two sets by the one that they make where that has as many words as the lower one: it stands in the lower
 // one's place.
 #[inline(always)]
-#[tactic(auto, using(pm_words::proofs::WatchLaws::keeps))]
+#[tactic(auto, using(pm_words::proofs::WatchLaws::stays))]
 fn combine_in_place(
     memory: &mut Memory,
     np: u16,
@@ -230,7 +230,7 @@ fn combine_in_place(
         (is_member (words_at memory.old.words lower.address lower.count) e)
         (is_member (words_at memory.old.words upper.address upper.count) e)))) }
     ensures stack { IsStack lower.above np → IfOk result (λ sp. IsStack sp np) }
-    ensures keeps { KeepsWatch memory.old memory.new }
+    ensures watch { WatchStays memory.old memory.new }
 {
     let _ = memory.bytes(); // for its first clause
     if u32::from(lower.address) < u32::from(np) + 2 {
@@ -253,7 +253,7 @@ fn write_combined(memory: &mut Memory, combination: Combination, lower: SetPlace
         (set_of lower.count (λ e. test_of combination
         (is_member (words_at memory.old.words lower.address lower.count) e)
         (is_member (words_at memory.old.words upper.address upper.count) e))) }
-    ensures keeps { KeepsWatch memory.old memory.new }
+    ensures watch { WatchStays memory.old memory.new }
 {
     let _ = memory.bytes(); // for its first clause
     for i in 0..lower.count {
@@ -454,7 +454,7 @@ fn resize(memory: &mut Memory, set: SetPlace, to: u16, count: u16)
     requires inside_to { to + 2 * count ≤ STACK_END }
     ensures words { memory.new.words ≡ with_words memory.old.words to
         (set_of count (λ e. is_member (words_at memory.old.words set.address set.count) e)) }
-    ensures keeps { KeepsWatch memory.old memory.new }
+    ensures watch { WatchStays memory.old memory.new }
 {
     let kept = set.count.min(count);
     memory.copy(set.address, to, 2 * kept);

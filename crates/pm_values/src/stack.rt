@@ -1,7 +1,7 @@
 //! Several words put on the stack at once.
 
 ghost use Rattle.std.specs.Prelude.{◌≡◌, ◌%◌, ◌≤◌, IfOk, length};
-ghost use Rattle.pm_words.specs.Watch.{KeepsWatch};
+ghost use Rattle.pm_words.specs.Watch.{WatchStays};
 ghost use Rattle.pm_words.specs.Stack.{IsStack, Changes};
 ghost use Rattle.pm_values.specs.Several.{push_words};
 
@@ -9,13 +9,13 @@ use pm_words::{ExecError, Memory};
 
 /// Puts words on the stack, the first of them on its top, and gives the new SP; `StackOverflow`,
 /// and nothing changed, where that would be below NP.
-#[tactic(auto, using(pm_words::proofs::WatchLaws::keeps))]
+#[tactic(auto, using(pm_words::proofs::WatchLaws::stays))]
 pub fn push_words(memory: &mut Memory, sp: u16, np: u16, words: &[u16]) -> Result<u16, ExecError>
     requires even { sp % 2 ≡ 0 }
     requires few { length words.now ≤ 256 }
     ensures row { Changes result memory.old.words memory.new.words (push_words memory.old.words sp np words.now) }
     ensures stack { IsStack sp np → IfOk result (λ sp. IsStack sp np) }
-    ensures keeps { KeepsWatch memory.old memory.new }
+    ensures watch { WatchStays memory.old memory.new }
 {
     let _ = memory.bytes(); // for its first clause
     let size = 2 * words.len() as u16;

@@ -1,7 +1,7 @@
 //! Strings in memory.
 
 ghost use Rattle.std.specs.Prelude.{◌≡◌, ◌≤◌, IfOk, MatchResult, Ok, Err, length};
-ghost use Rattle.pm_words.specs.Watch.{KeepsWatch};
+ghost use Rattle.pm_words.specs.Watch.{WatchStays};
 ghost use Rattle.pm_words.specs.Stack.{IsStack, Changes};
 ghost use Rattle.pm_words.specs.Words.{IsMemory, byte_at};
 ghost use Rattle.pm_values.specs.Strings.{assign_row, index_string_row, string_at};
@@ -12,11 +12,11 @@ use pm_words::{ExecError, Memory};
 /// `IXS`. Checks an index against the string whose address stands below it, leaves both, and gives the SP as it was.
 /// `InvalidMemory` where there are too few words; `InvalidIndex` for an index above the string's length, both unsigned.
 /// It changes nothing.
-#[tactic(auto, unfolding(crate::specs::Strings::index_string_row), using(pm_words::proofs::WatchLaws::keeps))]
+#[tactic(auto, unfolding(crate::specs::Strings::index_string_row), using(pm_words::proofs::WatchLaws::stays))]
 pub fn index_string(memory: &mut Memory, sp: u16, np: u16) -> Result<u16, ExecError>
     ensures row { Changes result memory.old.words memory.new.words (index_string_row memory.old.words sp np) }
     ensures stack { IsStack sp np → IfOk result (λ sp. IsStack sp np) }
-    ensures keeps { KeepsWatch memory.old memory.new }
+    ensures watch { WatchStays memory.old memory.new }
 {
     let index = pop(memory, sp)?;
     let string = pop(memory, index.above)?;
@@ -30,11 +30,11 @@ pub fn index_string(memory: &mut Memory, sp: u16, np: u16) -> Result<u16, ExecEr
 /// destination, and gives the new SP. A source below 256 is one character, another the address of a string.
 /// `InvalidMemory` where there are too few words, or the string passes the end of memory; `StringTooLong` for more than
 /// `limit` characters; `InvalidMemory` where the destination passes the end. An error changes nothing.
-#[tactic(auto, unfolding(crate::specs::Strings::assign_row), using(pm_words::proofs::WatchLaws::keeps, crate::proofs::StringLaws::strings))]
+#[tactic(auto, unfolding(crate::specs::Strings::assign_row), using(pm_words::proofs::WatchLaws::stays, crate::proofs::StringLaws::strings))]
 pub fn assign(memory: &mut Memory, sp: u16, np: u16, limit: u8) -> Result<u16, ExecError>
     ensures row { Changes result memory.old.words memory.new.words (assign_row limit memory.old.words sp np) }
     ensures stack { IsStack sp np → IfOk result (λ sp. IsStack sp np) }
-    ensures keeps { KeepsWatch memory.old memory.new }
+    ensures watch { WatchStays memory.old memory.new }
 {
     let source = pop(memory, sp)?;
     let place = pop(memory, source.above)?;

@@ -8,14 +8,14 @@ use Rattle.pm_volume.specs.Copies.{has_second}
 use Rattle.pm_volume.specs.Directory.{IsDirectory, IsVolume, block_count, directory_of, entries_from, file_count, files_begin, files_in}
 use Rattle.pm_volume.specs.Entries.{AreInOrder}
 use Rattle.pm_volume.specs.Files.{files_of}
-use Rattle.pm_volume.specs.Kept.{ChangesOnly, KeepsFile, KeepsFiles, past_span, second_span}
+use Rattle.pm_volume.specs.Stays.{ChangesOnly, FileStays, FilesStay, past_span, second_span}
 use Rattle.pm_volume.specs.Made.{begun_at}
 use Rattle.pm_volume.specs.Words.{with_word_in}
 use Rattle.pm_volume.specs.declared.entry.Entry.{Entry}
-use Rattle.pm_volume.proofs.CopyLaws.{KeepsFile-both}
+use Rattle.pm_volume.proofs.CopyLaws.{FileStays-both}
 use Rattle.pm_volume.proofs.HeaderLaws.{entry_in-behind}
 use Rattle.pm_volume.proofs.ImageLaws.{IsVolume-with, directory-with}
-use Rattle.pm_volume.proofs.KeptLaws.{ChangesOnly-with_directory, KeepsFiles-with_directory}
+use Rattle.pm_volume.proofs.StayLaws.{ChangesOnly-with_directory, FilesStay-with_directory}
 use Rattle.pm_volume.proofs.OrderLaws.{IsSound-later}
 use Rattle.pm_volume.proofs.SlotChanges.{entries_from-same}
 use Rattle.pm_volume.proofs.WrittenLaws.{get_written_above, get_written_outside, length-directory, length-written, shifted, word_in-above, word_in-written}
@@ -76,8 +76,8 @@ module _ (image : List ℕ) (v : IsVolume image) (past : ℕ) (begins : (past �
   pub files-image : files_of (begun_at image past) ≡ files_of image
   files-image = ap files_in own ∙ files-begun (directory_of image) past (length-directory image v.long) v.has_directory.few
 
-  pub KeepsFiles-begun : KeepsFiles image (begun_at image past)
-  KeepsFiles-begun = KeepsFiles-with_directory image (with_word_in (directory_of image) 2 past) v size
+  pub FilesStay-begun : FilesStay image (begun_at image past)
+  FilesStay-begun = FilesStay-with_directory image (with_word_in (directory_of image) 2 past) v size
 
   pub ChangesOnly-begun : ChangesOnly (past_span ∷ []) image (begun_at image past)
   ChangesOnly-begun =
@@ -89,7 +89,7 @@ module _ (image : List ℕ) (v : IsVolume image) (past : ℕ) (begins : (past �
 pub record Recopied (old new : List ℕ) : Type 0 where
   pub volume : IsVolume new
   pub files : files_of new ≡ files_of old
-  pub kept : KeepsFiles old new
+  pub stay : FilesStay old new
   pub only : ChangesOnly (past_span ∷ second_span ∷ []) old new
 
 -- files of which none begins below block 10 are in order from there on
@@ -100,8 +100,8 @@ order-free blocks from (e ∷ es) order free =
     let first = or_parts (ltb e.first 10) (list_any (λ (x : Entry). ltb x.first 10) es) free in
     (IsSound-later from 10 e (ltb-false e.first 10 first.0) order.0, order.1, order.2)
 
-pub kept_both : (old m new : List ℕ) (es : List Entry) → All (KeepsFile old m) es → All (KeepsFile m new) es → All (KeepsFile old new) es
-kept_both old m new es left right = λ k e h. KeepsFile-both old m new _ (left k e h) (right k e h)
+pub both_stay : (old m new : List ℕ) (es : List Entry) → All (FileStays old m) es → All (FileStays m new) es → All (FileStays old new) es
+both_stay old m new es left right = λ k e h. FileStays-both old m new _ (left k e h) (right k e h)
 
 -- what the header of a volume says of a second copy
 pub second_said : (image : List ℕ) → IsVolume image → has_second image ≡ true → files_begin (directory_of image) ≡ 10

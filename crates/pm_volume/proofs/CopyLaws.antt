@@ -5,16 +5,16 @@ use Rattle.std.proofs.lemmas.Bool.Decides.{nat_tests}
 use Rattle.std.proofs.lemmas.List.{take_all}
 use Rattle.std.proofs.lemmas.List.Elements.{All-head, All-tail, All-weaker}
 use Rattle.std.specs.List.{All, AllZip}
-use Rattle.pm_volume.specs.Copies.{HasCopies, KeepsCopies, and_second, has_second, mirrored}
+use Rattle.pm_volume.specs.Copies.{HasCopies, CopiesStay, and_second, has_second, mirrored}
 use Rattle.pm_volume.specs.Directory.{IsVolume, block_count, directory_of, files_begin, second_of}
 use Rattle.pm_volume.specs.Files.{files_of}
-use Rattle.pm_volume.specs.Kept.{ChangesOnly, IsOutside, KeepsFile, KeepsFiles, Span}
+use Rattle.pm_volume.specs.Stays.{ChangesOnly, IsOutside, FileStays, FilesStay, Span}
 use Rattle.pm_volume.specs.Packing.{MovesFile}
 use Rattle.pm_volume.specs.Words.{word_in, written}
 use Rattle.pm_volume.specs.declared.copies.Copies.TheVariants.{Single, Same}
 use Rattle.pm_volume.specs.declared.entry.Entry.{Entry}
 use Rattle.pm_volume.proofs.DirectoryLaws.{past_directory}
-use Rattle.pm_volume.proofs.KeptLaws.{KeepsFile-from_outside, directory_byte, files_within}
+use Rattle.pm_volume.proofs.StayLaws.{FileStays-from_outside, directory_byte, files_within}
 use Rattle.pm_volume.proofs.OrderLaws.{IsWithin}
 use Rattle.pm_volume.proofs.WrittenLaws.{get_written_above, get_written_below, get_written_in, length-directory, length-written, same_parts}
 
@@ -111,16 +111,16 @@ module _ (m : List ℕ) (v : IsVolume m) where
   files-mirrored = rw directory-mirrored refl
 
   -- the file of such an entry has the same bytes
-  pub KeepsFile-mirrored : (e : Entry) → files_begin (directory_of m) ≤ e.first → e.first ≤ e.end → 512 * e.end ≤ length m
-      → (e.first < e.end → e.last_bytes ≤ 512) → KeepsFile m (mirrored m) e
-  KeepsFile-mirrored e after ordered within one_block =
-      KeepsFile-from_outside m (mirrored m) e length-mirrored within ordered one_block
+  pub FileStays-mirrored : (e : Entry) → files_begin (directory_of m) ≤ e.first → e.first ≤ e.end → 512 * e.end ≤ length m
+      → (e.first < e.end → e.last_bytes ≤ 512) → FileStays m (mirrored m) e
+  FileStays-mirrored e after ordered within one_block =
+      FileStays-from_outside m (mirrored m) e length-mirrored within ordered one_block
       (λ place from to. mirrored_outside place (inr (omega (arith, after, from))))
 
-  pub KeepsFiles-own : KeepsFiles m (mirrored m)
-  KeepsFiles-own =
-      All-weaker (IsWithin (files_begin (directory_of m)) (block_count (directory_of m))) (KeepsFile m (mirrored m))
-      (λ e w. KeepsFile-mirrored e w.after w.ordered (omega (arith, w.within, v.has_directory.within, v.whole)) w.one_block) (files_of m) (files_within m v)
+  pub FilesStay-own : FilesStay m (mirrored m)
+  FilesStay-own =
+      All-weaker (IsWithin (files_begin (directory_of m)) (block_count (directory_of m))) (FileStays m (mirrored m))
+      (λ e w. FileStays-mirrored e w.after w.ordered (omega (arith, w.within, v.has_directory.within, v.whole)) w.one_block) (files_of m) (files_within m v)
 
   pub HasCopies-same : files_begin (directory_of m) ≡ 10 → HasCopies (mirrored m) Same
   HasCopies-same ten = (rw directory-mirrored ten, second-ten m (ten_long ten) ten ∙ sym directory-mirrored)
@@ -128,13 +128,13 @@ module _ (m : List ℕ) (v : IsVolume m) where
   pub HasCopies-single : files_begin (directory_of m) ≡ 6 → HasCopies (mirrored m) Single
   HasCopies-single six = rw directory-mirrored six
 
-pub KeepsFile-both : (old m new : List ℕ) (e : Entry) → KeepsFile old m e → KeepsFile m new e → KeepsFile old new e
-KeepsFile-both old m new e left right = record { bytes = right.bytes ∙ left.bytes; blocks = right.blocks ∙ left.blocks }
+pub FileStays-both : (old m new : List ℕ) (e : Entry) → FileStays old m e → FileStays m new e → FileStays old new e
+FileStays-both old m new e left right = record { bytes = right.bytes ∙ left.bytes; blocks = right.blocks ∙ left.blocks }
 
 -- a changed image, its second copy made the same
 module _ (spans : List Span) (old m : List ℕ) (u : IsVolume old) (v : IsVolume m) (same : files_begin (directory_of m) ≡ files_begin (directory_of old)) where
-  pub KeepsCopies-mirrored : KeepsCopies old (mirrored m)
-  KeepsCopies-mirrored = record {
+  pub CopiesStay-mirrored : CopiesStay old (mirrored m)
+  CopiesStay-mirrored = record {
     single = λ six. HasCopies-single m v (same ∙ six);
     same = λ ten. HasCopies-same m v (same ∙ ten);
   }
@@ -157,18 +157,18 @@ module _ (spans : List Span) (old m : List ℕ) (u : IsVolume old) (v : IsVolume
             rest = λ place out. mirrored_outside m v place (apart place (same ∙ ten) out.0) ∙ c.rest place out.1;
           })
 
-  pub KeepsFiles-mirrored : length m ≡ length old → KeepsFiles old m → KeepsFiles old (mirrored m)
-  KeepsFiles-mirrored size kept = λ k e h.
+  pub FilesStay-mirrored : length m ≡ length old → FilesStay old m → FilesStay old (mirrored m)
+  FilesStay-mirrored size stay = λ k e h.
       let w = files_within old u k e h in
-      KeepsFile-both old m (mirrored m) _ (kept k e h)
-      (KeepsFile-from_outside m (mirrored m) _ (length-mirrored m v) (omega (arith, w.within, u.has_directory.within, u.whole, size)) w.ordered w.one_block
+      FileStays-both old m (mirrored m) _ (stay k e h)
+      (FileStays-from_outside m (mirrored m) _ (length-mirrored m v) (omega (arith, w.within, u.has_directory.within, u.whole, size)) w.ordered w.one_block
       (λ place from to. mirrored_outside m v place (inr (omega (arith, w.after, from, same)))))
 
 -- a change that leaves the place where files begin leaves where files begin
-pub begins-kept : (spans : List Span) (old m : List ℕ) → ChangesOnly spans old m → IsOutside 1026 spans → IsOutside 1027 spans
+pub begins-stay : (spans : List Span) (old m : List ℕ) → ChangesOnly spans old m → IsOutside 1026 spans → IsOutside 1027 spans
     → files_begin (directory_of m) ≡ files_begin (directory_of old)
 unfolding word_in
-begins-kept spans old m c low high =
+begins-stay spans old m c low high =
     let at : (place : ℕ) → place < 2048 → get_or m (1024 + place) 0 ≡ get_or old (1024 + place) 0 →
     get_or (directory_of m) place 0 ≡ get_or (directory_of old) place 0 =
     λ place below e. directory_byte m place below ∙ e ∙ sym (directory_byte old place below) in
@@ -178,30 +178,30 @@ begins-kept spans old m c low high =
 pub record Changed (spans : List Span) (list : List Entry) (old new : List ℕ) : Type 0 where
   pub volume : IsVolume new
   pub files : files_of new ≡ list
-  pub copies : KeepsCopies old new
-  pub kept : KeepsFiles old new
+  pub copies : CopiesStay old new
+  pub stay : FilesStay old new
   pub only : ChangesOnly (and_second (directory_of old) spans) old new
 
 pub Changed-mirrored : (spans : List Span) (list : List Entry) (old m : List ℕ) → IsVolume old → IsVolume m
-    → files_begin (directory_of m) ≡ files_begin (directory_of old) → files_of m ≡ list → KeepsFiles old m → ChangesOnly spans old m
+    → files_begin (directory_of m) ≡ files_begin (directory_of old) → files_of m ≡ list → FilesStay old m → ChangesOnly spans old m
     → Changed spans list old (mirrored m)
-Changed-mirrored spans list old m u v begins listed kept only = record {
+Changed-mirrored spans list old m u v begins listed stay only = record {
   volume = IsVolume-mirrored m v;
   files = files-mirrored m v ∙ listed;
-  copies = KeepsCopies-mirrored spans old m u v begins;
-  kept = KeepsFiles-mirrored spans old m u v begins only.size kept;
+  copies = CopiesStay-mirrored spans old m u v begins;
+  stay = FilesStay-mirrored spans old m u v begins only.size stay;
   only = ChangesOnly-mirrored spans old m u v begins only;
 }
 
 -- files that were moved, and then the second copy made the same
-pub moved-mirrored : (old m : List ℕ) (es fs : List Entry) → All (KeepsFile m (mirrored m)) fs → AllZip (MovesFile old m) es fs
+pub moved-mirrored : (old m : List ℕ) (es fs : List Entry) → All (FileStays m (mirrored m)) fs → AllZip (MovesFile old m) es fs
     → AllZip (MovesFile old (mirrored m)) es fs
-moved-mirrored old m [] [] kept zip = zip
-moved-mirrored old m [] (f ∷ fs) kept zip = zip
-moved-mirrored old m (e ∷ es) [] kept zip = zip
-moved-mirrored old m (e ∷ es) (f ∷ fs) kept zip =
-    let k = All-head (KeepsFile m (mirrored m)) f fs kept in (
+moved-mirrored old m [] [] stay zip = zip
+moved-mirrored old m [] (f ∷ fs) stay zip = zip
+moved-mirrored old m (e ∷ es) [] stay zip = zip
+moved-mirrored old m (e ∷ es) (f ∷ fs) stay zip =
+    let k = All-head (FileStays m (mirrored m)) f fs stay in (
       record { bytes = k.bytes ∙ zip.0.bytes; blocks = k.blocks ∙ zip.0.blocks },
-      moved-mirrored old m es fs (All-tail (KeepsFile m (mirrored m)) f fs kept)
+      moved-mirrored old m es fs (All-tail (FileStays m (mirrored m)) f fs stay)
           zip.1,
     )

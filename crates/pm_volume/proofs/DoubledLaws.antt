@@ -5,11 +5,11 @@ use Rattle.pm_volume.specs.Copies.{HasCopies, mirrored}
 use Rattle.pm_volume.specs.Directory.{IsVolume, block_count, directory_of, files_begin}
 use Rattle.pm_volume.specs.Entries.{AreInOrder}
 use Rattle.pm_volume.specs.Files.{files_of}
-use Rattle.pm_volume.specs.Kept.{ChangesOnly, KeepsFile, KeepsFiles, past_span}
+use Rattle.pm_volume.specs.Stays.{ChangesOnly, FileStays, FilesStay, past_span}
 use Rattle.pm_volume.specs.Made.{begun_at, is_occupied}
 use Rattle.pm_volume.specs.declared.copies.Copies.TheVariants.{Same}
-use Rattle.pm_volume.proofs.BegunLaws.{ChangesOnly-begun, IsVolume-begun, KeepsFiles-begun, Recopied, begins-image, files-image, kept_both, order-free}
-use Rattle.pm_volume.proofs.CopyLaws.{HasCopies-same, IsVolume-mirrored, KeepsFiles-own, files-mirrored, length-mirrored, mirrored_outside}
+use Rattle.pm_volume.proofs.BegunLaws.{ChangesOnly-begun, IsVolume-begun, FilesStay-begun, Recopied, begins-image, files-image, both_stay, order-free}
+use Rattle.pm_volume.proofs.CopyLaws.{HasCopies-same, IsVolume-mirrored, FilesStay-own, files-mirrored, length-mirrored, mirrored_outside}
 
 -- a second copy that is made
 module _ (image : List ℕ) (v : IsVolume image) (blocks : 10 ≤ block_count (directory_of image)) (free : is_occupied image ≡ false) where
@@ -31,16 +31,16 @@ module _ (image : List ℕ) (v : IsVolume image) (blocks : 10 ≤ block_count (d
   unfolding m
   files = files-image image v 10 (inr refl) (omega arith) blocks order
 
-  kept : KeepsFiles image m
+  stay : FilesStay image m
   unfolding m
-  kept = KeepsFiles-begun image v 10 (inr refl) (omega arith) blocks order
+  stay = FilesStay-begun image v 10 (inr refl) (omega arith) blocks order
 
   only : ChangesOnly (past_span ∷ []) image m
   unfolding m
   only = ChangesOnly-begun image v 10 (inr refl) (omega arith) blocks order
 
-  mirrored_files : All (KeepsFile m (mirrored m)) (files_of image)
-  mirrored_files = subst (All (KeepsFile m (mirrored m))) files (KeepsFiles-own m volume)
+  mirrored_files : All (FileStays m (mirrored m)) (files_of image)
+  mirrored_files = subst (All (FileStays m (mirrored m))) files (FilesStay-own m volume)
 
   beside : (place : ℕ) → (place < 3072) ⊎ (5120 ≤ place) → (place < 3072) ⊎ (512 * files_begin (directory_of m) ≤ place)
   beside place (inl below) = inl below
@@ -51,7 +51,7 @@ module _ (image : List ℕ) (v : IsVolume image) (blocks : 10 ≤ block_count (d
   Recopied-doubled = record {
     volume = IsVolume-mirrored m volume;
     files = files-mirrored m volume ∙ files;
-    kept = kept_both image m (mirrored m) (files_of image) kept mirrored_files;
+    stay = both_stay image m (mirrored m) (files_of image) stay mirrored_files;
     only = record {
       size = length-mirrored m volume ∙ only.size;
       rest = λ place out. mirrored_outside m volume place (beside place out.1.0) ∙ only.rest place (out.0, tt);

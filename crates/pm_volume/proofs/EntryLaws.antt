@@ -57,9 +57,9 @@ module _ (e : Entry) (f : FitsSlot e) where
   l6 = length-written s5 24 (little_bytes 2 e.date) (omega (arith, l5)) ∙ l5
 
   -- a word below the name survives the name, the bytes of the last block and the date
-  kept : (place : ℕ) → place + 2 ≤ 6 → word_in s6 place ≡ word_in s3 place
+  stay : (place : ℕ) → place + 2 ≤ 6 → word_in s6 place ≡ word_in s3 place
   unfolding s4 s5 s6
-  kept place below =
+  stay place below =
       word_in-below s5 24 (little_bytes 2 e.date) place (omega (arith, l5)) (omega arith)
       ∙ word_in-below s4 22 (little_bytes 2 e.last_bytes) place (omega (arith, l4)) (omega arith)
       ∙ word_in-below s3 6 e.name place (omega (arith, l3, f.name)) below
@@ -67,20 +67,20 @@ module _ (e : Entry) (f : FitsSlot e) where
   first_read : word_in s6 0 ≡ e.first
   unfolding s1 s2 s3
   first_read =
-      kept 0 (omega arith) ∙ word_in-below s2 4 (little_bytes 2 e.kind) 0 (omega (arith, l2)) (omega arith)
+      stay 0 (omega arith) ∙ word_in-below s2 4 (little_bytes 2 e.kind) 0 (omega (arith, l2)) (omega arith)
       ∙ word_in-below s1 2 (little_bytes 2 e.end) 0 (omega (arith, l1)) (omega arith)
       ∙ word_in-written no_slot 0 e.first (omega (arith, length-no_slot)) f.first
 
   end_read : word_in s6 2 ≡ e.end
   unfolding s2 s3
   end_read =
-      kept 2 (omega arith) ∙ word_in-below s2 4 (little_bytes 2 e.kind) 2 (omega (arith, l2)) (omega arith)
+      stay 2 (omega arith) ∙ word_in-below s2 4 (little_bytes 2 e.kind) 2 (omega (arith, l2)) (omega arith)
       ∙ word_in-written s1 2 e.end (omega (arith, l1)) f.end
 
   kind_read : word_in s6 4 % 16 ≡ e.kind
   unfolding s3
   kind_read =
-      ap (λ (w : ℕ). w % 16) (kept 4 (omega arith) ∙ word_in-written s2 4 e.kind (omega (arith, l2)) (omega (arith, f.kind)))
+      ap (λ (w : ℕ). w % 16) (stay 4 (omega arith) ∙ word_in-written s2 4 e.kind (omega (arith, l2)) (omega (arith, f.kind)))
       ∙ mod-eq_of_lt f.kind
 
   last_bytes_read : word_in s6 22 ≡ e.last_bytes

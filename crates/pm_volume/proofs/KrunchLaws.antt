@@ -4,19 +4,19 @@ use Rattle.std.proofs.lemmas.Bool.{cases_lt, le-leb, lt-leb}
 use Rattle.std.proofs.lemmas.List.{get_or-drop, get_or-take}
 use Rattle.std.specs.List.{AllZip}
 use Rattle.pm_volume.specs.Changes.{gaps}
-use Rattle.pm_volume.specs.Copies.{KeepsCopies}
+use Rattle.pm_volume.specs.Copies.{CopiesStay}
 use Rattle.pm_volume.specs.Directory.{IsVolume, block_count, directory_of, entries_from, file_count, files_begin}
 use Rattle.pm_volume.specs.Entries.{AreInOrder}
 use Rattle.pm_volume.specs.Files.{file_bytes, files_of}
-use Rattle.pm_volume.specs.Kept.{ChangesOnly, blocks_of}
+use Rattle.pm_volume.specs.Stays.{ChangesOnly, blocks_of}
 use Rattle.pm_volume.specs.Packing.{Krunches, MovesFile, krunched_image, moved_entry, new_place, packed, packed_image, packed_spans}
 use Rattle.pm_volume.specs.Space.{gaps_in}
 use Rattle.pm_volume.specs.Words.{word_in}
 use Rattle.pm_volume.specs.declared.entry.Entry.{Entry}
-use Rattle.pm_volume.proofs.CopyLaws.{ChangesOnly-mirrored, IsVolume-mirrored, KeepsCopies-mirrored, KeepsFiles-own, directory-mirrored, files-mirrored}
+use Rattle.pm_volume.proofs.CopyLaws.{ChangesOnly-mirrored, IsVolume-mirrored, CopiesStay-mirrored, FilesStay-own, directory-mirrored, files-mirrored}
 use Rattle.pm_volume.proofs.CopyLaws.{moved-mirrored}
 use Rattle.pm_volume.proofs.DirectoryLaws.{past_directory}
-use Rattle.pm_volume.proofs.KeptLaws.{directory_byte}
+use Rattle.pm_volume.proofs.StayLaws.{directory_byte}
 use Rattle.pm_volume.proofs.PackedLaws.{Packs, SameBlocks, new_place-down, order-packed, packs, spans-outside}
 use Rattle.pm_volume.proofs.SlotChanges.{length-entries_from}
 use Rattle.pm_volume.proofs.SlotRemoval.{earlier}
@@ -142,7 +142,7 @@ module _ (image : List ℕ) (v : IsVolume image) (fits : block_count (directory_
       let same = files-mirrored new volume in
       record {
         files = same ∙ files;
-        moved = rw same (moved-mirrored image new (files_of image) (files_of new) (KeepsFiles-own new volume) zip);
+        moved = rw same (moved-mirrored image new (files_of image) (files_of new) (FilesStay-own new volume) zip);
         rest = rw same (ChangesOnly-mirrored (packed_spans 1 (files_of new)) image new v volume begins only);
       }
 
@@ -152,9 +152,9 @@ module _ (image : List ℕ) (v : IsVolume image) (fits : block_count (directory_
   unfolding new
   gaps-krunched = rw (directory-mirrored new volume, word 14 (omega arith), begins, files) refl
 
-  pub KeepsCopies-krunched : KeepsCopies image (krunched_image image)
+  pub CopiesStay-krunched : CopiesStay image (krunched_image image)
   unfolding new
-  KeepsCopies-krunched = KeepsCopies-mirrored [] image new v volume begins
+  CopiesStay-krunched = CopiesStay-mirrored [] image new v volume begins
 
   pub IsVolume-krunched : IsVolume (krunched_image image)
   unfolding new

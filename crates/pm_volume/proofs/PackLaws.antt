@@ -5,13 +5,13 @@ use Rattle.std.proofs.Common.{length-take, length-drop}
 use Rattle.std.proofs.lemmas.List.{get_or-drop, get_or-take}
 use Rattle.pm_volume.specs.Directory.{directory_of, entries_from, entry_in}
 use Rattle.pm_volume.specs.Entries.{entry_of}
-use Rattle.pm_volume.specs.Kept.{blocks_of}
+use Rattle.pm_volume.specs.Stays.{blocks_of}
 use Rattle.pm_volume.specs.Packing.{moved_entry, with_moved, with_places}
 use Rattle.pm_volume.specs.Words.{with_word_in, word_in, written}
 use Rattle.pm_volume.specs.declared.entry.Entry.{Entry}
 use Rattle.pm_volume.proofs.HeaderLaws.{entry_in-behind}
 use Rattle.pm_volume.proofs.ImageLaws.{directory-with}
-use Rattle.pm_volume.proofs.KeptLaws.{length-with_directory, with_directory_outside, with_directory_same}
+use Rattle.pm_volume.proofs.StayLaws.{length-with_directory, with_directory_outside, with_directory_same}
 use Rattle.pm_volume.proofs.RenameLaws.{slot_byte, slot_word}
 use Rattle.pm_volume.proofs.SlotChanges.{entries_from-same}
 use Rattle.pm_volume.proofs.WrittenLaws.{get_written_in, get_written_outside, length-directory, length-written, same_parts, shifted, word_in-above}
@@ -62,17 +62,17 @@ module _ (d : List ℕ) (n first end : ℕ) (whole : length d ≡ 2048) (slot : 
   unfolding with_places d1
   end_read fits = word_in-written d1 (26 * n + 2) end (omega (arith, l1, slot)) fits
 
-  word_kept : (p : ℕ) → 4 ≤ p → p + 2 ≤ 26
+  word_stays : (p : ℕ) → 4 ≤ p → p + 2 ≤ 26
       → word_in (slice_range (with_places d n first end) (26 * n) (26 * n + 26)) p ≡ word_in (slice_range d (26 * n) (26 * n + 26)) p
   unfolding with_places d1
-  word_kept p above below =
+  word_stays p above below =
       slot_word (with_places d n first end) n p below
       ∙ word_in-above d1 (26 * n + 2) (little_bytes 2 end) (26 * n + p) r2 (omega arith)
       ∙ word_in-above d (26 * n) (little_bytes 2 first) (26 * n + p) r1 (omega arith)
       ∙ sym (slot_word d n p below)
 
-  name_kept : slice_range (slice_range (with_places d n first end) (26 * n) (26 * n + 26)) 6 22 ≡ slice_range (slice_range d (26 * n) (26 * n + 26)) 6 22
-  name_kept =
+  name_stays : slice_range (slice_range (with_places d n first end) (26 * n) (26 * n + 26)) 6 22 ≡ slice_range (slice_range d (26 * n) (26 * n + 26)) 6 22
+  name_stays =
       let size : 26 * n + 26 - 26 * n ≡ 26 = omega arith in
       let left : length (slice_range (with_places d n first end) (26 * n) (26 * n + 26)) ≡ 26 =
       rw size (omega
@@ -92,7 +92,14 @@ module _ (d : List ℕ) (n first end : ℕ) (whole : length d ≡ 2048) (slot : 
       let zeroth : 26 * n + 0 ≡ 26 * n = omega arith in
       let first' : word_in (slice_range (with_places d n first end) (26 * n) (26 * n + 26)) 0 ≡ first = here ∙ rw zeroth (first_read fits) in
       let end' : word_in (slice_range (with_places d n first end) (26 * n) (26 * n + 26)) 2 ≡ end = there ∙ end_read fits' in
-      rw (name_kept, word_kept 4 (omega arith) (omega arith), first', end', word_kept 22 (omega arith) (omega arith), word_kept 24 (omega arith) (omega arith))
+      rw (
+        name_stays,
+        word_stays 4 (omega arith) (omega arith),
+        first',
+        end',
+        word_stays 22 (omega arith) (omega arith),
+        word_stays 24 (omega arith) (omega arith),
+      )
       refl
 
 -- one file moved down

@@ -4,11 +4,11 @@ use Rattle.std.proofs.lemmas.Bool.{cases_Bool}
 use Rattle.std.specs.List.{AllZip}
 use Rattle.pm_volume.specs.Directory.{directory_of, entries_from, entry_in}
 use Rattle.pm_volume.specs.Entries.{AreInOrder, IsSoundEntry, entry_of}
-use Rattle.pm_volume.specs.Kept.{ChangesOnly, IsOutside, blocks_of}
+use Rattle.pm_volume.specs.Stays.{ChangesOnly, IsOutside, blocks_of}
 use Rattle.pm_volume.specs.Packing.{moved_entry, new_place, packed, packed_image, packed_spans, with_moved}
 use Rattle.pm_volume.specs.declared.entry.Entry.{Entry}
 use Rattle.pm_volume.proofs.DirectoryLaws.{entries_from-more}
-use Rattle.pm_volume.proofs.KeptLaws.{directory_byte}
+use Rattle.pm_volume.proofs.StayLaws.{directory_byte}
 use Rattle.pm_volume.proofs.SlotChanges.{length-entries_from}
 use Rattle.pm_volume.proofs.SlotRemoval.{earlier}
 use Rattle.pm_volume.proofs.PackLaws.{entries-behind, entry-moved, length-moved, moved_inside, moved_outside}

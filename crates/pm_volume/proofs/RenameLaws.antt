@@ -104,15 +104,15 @@ module _ (d name : List ℕ) (n : ℕ) (whole : length d ≡ 2048) (short : leng
         word_behind 24 (omega arith) (omega arith),
       ) refl
 
-  word_kept : (p : ℕ) → p + 2 ≤ 26 → word_in named p ≡ word_in d p
+  word_stays : (p : ℕ) → p + 2 ≤ 26 → word_in named p ≡ word_in d p
   unfolding named
-  word_kept p below = word_in-below d (26 * n + 6) field p room (omega (arith, from))
+  word_stays p below = word_in-below d (26 * n + 6) field p room (omega (arith, from))
 
   module _ (within : n ≤ file_count d) (few : file_count d ≤ 77) where
     split-named : files_in named ≡ entries_from d 1 (n - 1) ++ (record (entry_in d n) { name = field }) ∷ entries_from d (n + 1) (file_count d - n)
     unfolding named
     split-named =
-        let count : file_count named ≡ (n - 1) + (1 + (file_count d - n)) = word_kept 16 (omega arith) ∙ omega arith in
+        let count : file_count named ≡ (n - 1) + (1 + (file_count d - n)) = word_stays 16 (omega arith) ∙ omega arith in
         let mid : 1 + (n - 1) ≡ n = omega arith in
         let front : entries_from named 1 (n - 1) ≡ entries_from d 1 (n - 1) =
         entries_from-same named d (n - 1) 1 1 (λ k below. entry_in-before d (26 * n + 6) field room (1 + k) (omega arith)) in
@@ -138,9 +138,9 @@ module _ (d name : List ℕ) (n : ℕ) (whole : length d ≡ 2048) (short : leng
     unfolding named field name_field
     IsDirectory-named blocks some old =
         let title = get_written_below d (26 * n + 6) field 6 room (omega arith) in
-        let begins = word_kept 2 (omega arith) in
-        let total = word_kept 14 (omega arith) in
-        let count = word_kept 16 (omega arith) in
+        let begins = word_stays 2 (omega arith) in
+        let total = word_stays 14 (omega arith) in
+        let count = word_stays 16 (omega arith) in
         let order = rw (files-split d n from within) at old.in_order in
         record {
           named = omega (arith, title, old.named);

@@ -12,7 +12,7 @@ use Rattle.pm_volume.specs.Copies.{HasCopies, repaired, restored}
 use Rattle.pm_volume.specs.Directory.{IsVolume, block_count, directory_fault, directory_of, fault_beside, files_begin, files_in, image_fault, is_second_good}
 use Rattle.pm_volume.specs.Directory.{second_of}
 use Rattle.pm_volume.specs.Faults.{number_of}
-use Rattle.pm_volume.specs.Kept.{KeepsFile}
+use Rattle.pm_volume.specs.Stays.{FileStays}
 use Rattle.pm_volume.specs.Laws.{DamageIsUndone, GoodImagesStay, IsSaved, SecondCopySaves}
 use Rattle.pm_volume.specs.Words.{written}
 use Rattle.pm_volume.specs.declared.copies.Copies.TheVariants.{Same}
@@ -20,7 +20,7 @@ use Rattle.pm_volume.specs.declared.fault.VolumeFault.{VolumeFault}
 use Rattle.pm_volume.specs.declared.fault.VolumeFault.TheVariants.{FirstCopyBad}
 use Rattle.pm_volume.proofs.Faults.{IsDirectory-from_none, IsFirstBad, none-from_directory, none-from_volume, none_from_test}
 use Rattle.pm_volume.proofs.ImageLaws.{directory-with}
-use Rattle.pm_volume.proofs.KeptLaws.{KeepsFile-from_outside, directory_byte, with_directory_outside, length-with_directory}
+use Rattle.pm_volume.proofs.StayLaws.{FileStays-from_outside, directory_byte, with_directory_outside, length-with_directory}
 use Rattle.pm_volume.proofs.OrderLaws.{IsWithin, all_within}
 use Rattle.pm_volume.proofs.SingledLaws.{IsVolume-restored}
 use Rattle.pm_volume.proofs.WrittenLaws.{get_written_above, get_written_below, get_written_in, length-directory, length-written, same_parts}
@@ -65,11 +65,11 @@ module _ (image : List ℕ) (b : IsFirstBad image) where
   unfolding restored
   directory = directory-with image (second_of image) (omega (arith, b.long)) size
 
-  kept : All (KeepsFile image (restored image)) (files_in (second_of image))
+  stay : All (FileStays image (restored image)) (files_in (second_of image))
   unfolding restored
-  kept =
-      All-weaker (IsWithin (files_begin (second_of image)) (block_count (second_of image))) (KeepsFile image (with_directory image (second_of image)))
-      (λ e w. KeepsFile-from_outside image (with_directory image (second_of image)) e
+  stay =
+      All-weaker (IsWithin (files_begin (second_of image)) (block_count (second_of image))) (FileStays image (with_directory image (second_of image)))
+      (λ e w. FileStays-from_outside image (with_directory image (second_of image)) e
       (length-with_directory image (second_of image) (omega (arith, b.long)) size)
       (omega (arith, w.within, b.second.within, b.whole)) w.ordered w.one_block
       (λ place from to. with_directory_outside image (second_of image) place (omega (arith, b.long)) size (inr (omega (arith, w.after, b.begins)))))
@@ -83,7 +83,7 @@ module _ (image : List ℕ) (b : IsFirstBad image) where
     repaired = repaired-first image number e;
     volume = IsVolume-restored image b;
     files = ap files_in directory;
-    kept = rw directory kept;
+    stay = rw directory stay;
   }
 
 pub second_copy_saves : SecondCopySaves

@@ -8,16 +8,16 @@ use Rattle.pm_volume.specs.Copies.{HasCopies, has_second, restored}
 use Rattle.pm_volume.specs.Directory.{IsVolume, block_count, directory_of, files_begin, second_of}
 use Rattle.pm_volume.specs.Entries.{AreInOrder}
 use Rattle.pm_volume.specs.Files.{files_of}
-use Rattle.pm_volume.specs.Kept.{ChangesOnly, KeepsFile, KeepsFiles, past_span}
+use Rattle.pm_volume.specs.Stays.{ChangesOnly, FileStays, FilesStay, past_span}
 use Rattle.pm_volume.specs.Made.{begun_at, singled}
 use Rattle.pm_volume.specs.Words.{written, zeros}
 use Rattle.pm_volume.specs.declared.copies.Copies.TheVariants.{Single}
-use Rattle.pm_volume.proofs.BegunLaws.{ChangesOnly-begun, IsVolume-begun, KeepsFiles-begun, Recopied, begins-image, files-image, kept_both, second_said}
+use Rattle.pm_volume.proofs.BegunLaws.{ChangesOnly-begun, IsVolume-begun, FilesStay-begun, Recopied, begins-image, files-image, both_stay, second_said}
 use Rattle.pm_volume.proofs.BegunLaws.{second_unsaid}
 use Rattle.pm_volume.proofs.Faults.{IsFirstBad}
 use Rattle.pm_volume.proofs.HeaderLaws.{length-zeros}
 use Rattle.pm_volume.proofs.ImageLaws.{IsVolume-from_directory}
-use Rattle.pm_volume.proofs.KeptLaws.{KeepsFile-from_outside, files_within}
+use Rattle.pm_volume.proofs.StayLaws.{FileStays-from_outside, files_within}
 use Rattle.pm_volume.proofs.OrderLaws.{IsWithin}
 use Rattle.pm_volume.proofs.SlotRemoval.{earlier}
 use Rattle.pm_volume.proofs.WrittenLaws.{get_written_above, get_written_below, length-written, same_parts}
@@ -48,9 +48,9 @@ module _ (image : List ℕ) (v : IsVolume image) (said : has_second image ≡ tr
   unfolding m
   files = files-image image v 6 (inl refl) (omega arith) blocks order
 
-  kept : KeepsFiles image m
+  stay : FilesStay image m
   unfolding m
-  kept = KeepsFiles-begun image v 6 (inl refl) (omega arith) blocks order
+  stay = FilesStay-begun image v 6 (inl refl) (omega arith) blocks order
 
   only : ChangesOnly (past_span ∷ []) image m
   unfolding m
@@ -74,10 +74,10 @@ module _ (image : List ℕ) (v : IsVolume image) (said : has_second image ≡ tr
   directory : directory_of new ≡ directory_of m
   directory = same_parts new m 1024 1024 2048 (omega (arith, size, long)) (omega (arith, long)) (λ k below. outside (1024 + k) (inl (omega arith)))
 
-  own : All (KeepsFile m new) (files_of image)
+  own : All (FileStays m new) (files_of image)
   own =
-      All-weaker (IsWithin (files_begin (directory_of image)) (block_count (directory_of image))) (KeepsFile m new)
-      (λ e w. KeepsFile-from_outside m new e size (omega (arith, w.within, v.has_directory.within, v.whole, only.size)) w.ordered w.one_block
+      All-weaker (IsWithin (files_begin (directory_of image)) (block_count (directory_of image))) (FileStays m new)
+      (λ e w. FileStays-from_outside m new e size (omega (arith, w.within, v.has_directory.within, v.whole, only.size)) w.ordered w.one_block
       (λ place from to. outside place (inr (omega (arith, w.after, from, ten))))) (files_of image) (files_within image v)
 
   same : singled image ≡ new
@@ -92,7 +92,7 @@ module _ (image : List ℕ) (v : IsVolume image) (said : has_second image ≡ tr
       has_directory = rw (directory, size) volume.has_directory;
     };
     files = rw directory files;
-    kept = kept_both image m new (files_of image) kept own;
+    stay = both_stay image m new (files_of image) stay own;
     only = record {
       size = size ∙ only.size;
       rest = λ place out. outside place out.1.0 ∙ only.rest place (out.0, tt);
@@ -112,7 +112,7 @@ module _ (image : List ℕ) (v : IsVolume image) (none : has_second image ≡ fa
   Recopied-none = rw singled-none (record {
     volume = v;
     files = refl;
-    kept = λ k e h. record { bytes = refl; blocks = refl };
+    stay = λ k e h. record { bytes = refl; blocks = refl };
     only = record { size = refl; rest = λ place out. refl };
   })
 

@@ -9,7 +9,7 @@ use Rattle.pm_volume.specs.Copies.{and_second, mirrored}
 use Rattle.pm_volume.specs.Directory.{block_count, directory_of, entries_from, entry_in, file_count, files_begin}
 use Rattle.pm_volume.specs.Directory.{files_in}
 use Rattle.pm_volume.specs.Files.{file_named, files_of, is_named}
-use Rattle.pm_volume.specs.Kept.{Span, blocks_span, count_span, slots_span}
+use Rattle.pm_volume.specs.Stays.{Span, blocks_span, count_span, slots_span}
 use Rattle.pm_volume.specs.Names.{is_new_name, name_field}
 use Rattle.pm_volume.specs.Words.{with_word_in, written}
 use Rattle.pm_volume.specs.declared.entry.Entry.{Entry}

@@ -2,7 +2,7 @@
 use Rattle.std.specs.Prelude.{◌≡◌, ◌≢◌, ◌==◌, ◌&&◌, Bool, nat_le, ℕ, List, ◌∷◌, length, Option, Some, None, Result, Ok}
 use Rattle.std.specs.Prelude.{Err, if◌then◌else◌}
 use Rattle.pm_volume.specs.Directory.{directory_of, files_begin, image_fault, second_of}
-use Rattle.pm_volume.specs.Kept.{Span, second_span}
+use Rattle.pm_volume.specs.Stays.{Span, second_span}
 use Rattle.pm_volume.specs.Words.{written}
 use Rattle.pm_volume.specs.declared.copies.Copies.{Copies}
 use Rattle.pm_volume.specs.declared.copies.Copies.TheVariants.{Single, Same, Differs}
@@ -21,7 +21,7 @@ HasCopies image Same = (files_begin (directory_of image) ≡ PAST_SECOND) × (se
 HasCopies image Differs = (files_begin (directory_of image) ≡ PAST_SECOND) × (second_of image ≢ directory_of image)
 
 -- after a change there are as many copies as before, and two are the same
-pub record KeepsCopies (old new : List ℕ) : Type 0 where
+pub record CopiesStay (old new : List ℕ) : Type 0 where
   pub single : files_begin (directory_of old) ≡ PAST_DIRECTORY → HasCopies new Single
   pub same : files_begin (directory_of old) ≡ PAST_SECOND → HasCopies new Same
 

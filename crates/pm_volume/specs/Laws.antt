@@ -4,7 +4,7 @@ use Rattle.std.specs.List.{All}
 use Rattle.pm_volume.specs.Copies.{HasCopies, repaired}
 use Rattle.pm_volume.specs.Directory.{IsVolume, image_fault, files_in, is_second_good, second_of}
 use Rattle.pm_volume.specs.Files.{files_of}
-use Rattle.pm_volume.specs.Kept.{KeepsFile}
+use Rattle.pm_volume.specs.Stays.{FileStays}
 use Rattle.pm_volume.specs.Words.{written}
 use Rattle.pm_volume.specs.declared.copies.Copies.TheVariants.{Same}
 use Rattle.pm_volume.specs.declared.fault.VolumeFault.TheVariants.{FirstCopyBad}
@@ -20,7 +20,7 @@ pub record IsSaved (image : List ℕ) : Type 0 where
   pub repaired : repaired image ≡ Ok new
   pub volume : IsVolume new
   pub files : files_of new ≡ files_in (second_of image)
-  pub kept : All (KeepsFile image new) (files_of new)
+  pub stay : All (FileStays image new) (files_of new)
 
 -- an image of whole blocks whose second copy is good opens by its first copy, or its files are saved by the second,
 -- whatever bytes stand in the first

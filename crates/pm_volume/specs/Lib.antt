@@ -5,7 +5,7 @@ pub mod Names
 pub mod Entries
 pub mod Directory
 pub mod Files
-pub mod Kept
+pub mod Stays
 pub mod Copies
 pub mod Changes
 pub mod Headers

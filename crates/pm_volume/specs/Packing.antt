@@ -5,7 +5,7 @@ use Rattle.pm_volume.specs.Changes.{with_directory}
 use Rattle.pm_volume.specs.Copies.{and_second, mirrored}
 use Rattle.pm_volume.specs.Directory.{directory_of, entry_in, file_count, files_begin}
 use Rattle.pm_volume.specs.Files.{file_bytes, files_of}
-use Rattle.pm_volume.specs.Kept.{ChangesOnly, Span, blocks_of, blocks_span, places_span}
+use Rattle.pm_volume.specs.Stays.{ChangesOnly, Span, blocks_of, blocks_span, places_span}
 use Rattle.pm_volume.specs.Words.{with_word_in, written}
 use Rattle.pm_volume.specs.declared.entry.Entry.{Entry}
 use Rattle.pm_volume.specs.declared.fields.TheConstants.{ENTRY_END, SLOT}

@@ -89,13 +89,13 @@ impl Volume {
       slot_numbered,
       slot_to_rename,
     };
-    ghost use Rattle.pm_volume.specs.Copies.{HasCopies, KeepsCopies, and_second, repaired};
+    ghost use Rattle.pm_volume.specs.Copies.{HasCopies, CopiesStay, and_second, repaired};
     ghost use Rattle.pm_volume.specs.declared.copies.Copies.TheVariants as copies;
     ghost use Rattle.pm_volume.specs.Made.{doubled, is_occupied, singled};
     ghost use Rattle.pm_volume.specs.Headers.{blank_fault, blank_image, dated_image, zeroed_image};
-    ghost use Rattle.pm_volume.specs.Kept.{
+    ghost use Rattle.pm_volume.specs.Stays.{
       ChangesOnly,
-      KeepsFiles,
+      FilesStay,
       date_span,
       directory_span,
       name_span,
@@ -288,8 +288,8 @@ impl Volume {
         ensures files { IfOk result (λ e. (k : ℕ) × (files_of self.new ≡ insert (files_of self.old) k e)) }
         ensures contents { IfOk result (λ e. file_bytes self.new e ≡ Some bytes.now) }
         ensures volume { IsVolume self.new }
-        ensures copies { OnOk result (KeepsCopies self.old self.new) }
-        ensures kept { OnOk result (KeepsFiles self.old self.new) }
+        ensures copies { OnOk result (CopiesStay self.old self.new) }
+        ensures stay { OnOk result (FilesStay self.old self.new) }
         ensures rest { IfOk result (λ e. IfOk (place_for self.old name.now (blocks_for (length bytes.now)))
             (λ gap. ChangesOnly (added_spans (directory_of self.old) gap e) self.old self.new)) }
         ensures refused { IfErr result
@@ -310,8 +310,8 @@ impl Volume {
         ensures removed { OnOk result
             (RemovesFile self.old self.new (slot_named (directory_of self.old) name.now)) }
         ensures volume { IsVolume self.new }
-        ensures copies { OnOk result (KeepsCopies self.old self.new) }
-        ensures kept { OnOk result (KeepsFiles self.old self.new) }
+        ensures copies { OnOk result (CopiesStay self.old self.new) }
+        ensures stay { OnOk result (FilesStay self.old self.new) }
         ensures rest { IfSome (slot_named (directory_of self.old) name.now)
             (λ slot. ChangesOnly (removed_spans (directory_of self.old) slot) self.old self.new) }
         ensures refused { IfErr result (λ fault. (fault ≡ VolumeFault.NoFile)
@@ -329,8 +329,8 @@ impl Volume {
         ensures removed { OnOk result
             (RemovesFile self.old self.new (slot_numbered (directory_of self.old) slot)) }
         ensures volume { IsVolume self.new }
-        ensures copies { OnOk result (KeepsCopies self.old self.new) }
-        ensures kept { OnOk result (KeepsFiles self.old self.new) }
+        ensures copies { OnOk result (CopiesStay self.old self.new) }
+        ensures stay { OnOk result (FilesStay self.old self.new) }
         ensures rest { IfSome (slot_numbered (directory_of self.old) slot)
             (λ slot. ChangesOnly (removed_spans (directory_of self.old) slot) self.old self.new) }
         ensures refused { IfErr result (λ fault. (fault ≡ VolumeFault.NoFile)
@@ -348,8 +348,8 @@ impl Volume {
         ensures renamed { OnOk result
             (RenamesFile self.old self.new (slot_named (directory_of self.old) old.now) new.now) }
         ensures volume { IsVolume self.new }
-        ensures copies { OnOk result (KeepsCopies self.old self.new) }
-        ensures kept { OnOk result (KeepsFiles self.old self.new) }
+        ensures copies { OnOk result (CopiesStay self.old self.new) }
+        ensures stay { OnOk result (FilesStay self.old self.new) }
         ensures rest { IfOk
             (slot_to_rename (directory_of self.old) (slot_named (directory_of self.old) old.now) new.now)
             (λ slot. ChangesOnly (and_second (directory_of self.old) (name_span slot ∷ [])) self.old self.new) }
@@ -368,8 +368,8 @@ impl Volume {
         ensures renamed { OnOk result
             (RenamesFile self.old self.new (slot_numbered (directory_of self.old) slot) new.now) }
         ensures volume { IsVolume self.new }
-        ensures copies { OnOk result (KeepsCopies self.old self.new) }
-        ensures kept { OnOk result (KeepsFiles self.old self.new) }
+        ensures copies { OnOk result (CopiesStay self.old self.new) }
+        ensures stay { OnOk result (FilesStay self.old self.new) }
         ensures rest { IfOk
             (slot_to_rename (directory_of self.old) (slot_numbered (directory_of self.old) slot) new.now)
             (λ slot. ChangesOnly (and_second (directory_of self.old) (name_span slot ∷ [])) self.old self.new) }
@@ -388,7 +388,7 @@ impl Volume {
         ensures krunched { Krunches self.old self.new }
         ensures exact { self.new ≡ krunched_image self.old }
         ensures volume { IsVolume self.new }
-        ensures copies { KeepsCopies self.old self.new }
+        ensures copies { CopiesStay self.old self.new }
     {
         pack_files(&mut self.bytes);
         mirror(&mut self.bytes);
@@ -398,7 +398,7 @@ impl Volume {
     pub fn set_date(&mut self, date: u16)
         ensures dated { self.new ≡ dated_image self.old date }
         ensures volume { IsVolume self.new }
-        ensures copies { KeepsCopies self.old self.new }
+        ensures copies { CopiesStay self.old self.new }
         ensures files { files_of self.new ≡ files_of self.old }
         ensures rest { ChangesOnly (and_second (directory_of self.old) (date_span ∷ [])) self.old self.new }
     {
@@ -415,7 +415,7 @@ impl Volume {
         ensures zeroed { OnOk result (self.new ≡ zeroed_image self.old name.now) }
         ensures empty { OnOk result (files_of self.new ≡ []) }
         ensures volume { IsVolume self.new }
-        ensures copies { OnOk result (KeepsCopies self.old self.new) }
+        ensures copies { OnOk result (CopiesStay self.old self.new) }
         ensures rest { OnOk result
             (ChangesOnly (and_second (directory_of self.old) (directory_span ∷ [])) self.old self.new) }
         ensures refused { IfErr result (λ fault. fault ≡ VolumeFault.BadName) }
@@ -443,7 +443,7 @@ impl Volume {
         ensures volume { IsVolume self.new }
         ensures copies { OnOk result (HasCopies self.new copies.Same) }
         ensures files { OnOk result (files_of self.new ≡ files_of self.old) }
-        ensures kept { OnOk result (KeepsFiles self.old self.new) }
+        ensures stay { OnOk result (FilesStay self.old self.new) }
         ensures rest { OnOk result (ChangesOnly (past_span ∷ second_span ∷ []) self.old self.new) }
         ensures refused { IfErr result (λ fault. doubled self.old ≡ Err fault) }
         ensures unchanged { OnErr result (self.new ≡ self.old) }
@@ -465,7 +465,7 @@ impl Volume {
         ensures volume { IsVolume self.new }
         ensures copies { HasCopies self.new copies.Single }
         ensures files { files_of self.new ≡ files_of self.old }
-        ensures kept { KeepsFiles self.old self.new }
+        ensures stay { FilesStay self.old self.new }
         ensures rest { ChangesOnly (past_span ∷ second_span ∷ []) self.old self.new }
     {
         drop_second(&mut self.bytes);
@@ -512,8 +512,8 @@ impl Volume {
         requires within { IfSome slot (λ slot. (1 ≤ slot) × (slot ≤ file_count (directory_of self.old))) }
         ensures removed { OnOk result (RemovesFile self.old self.new slot) }
         ensures volume { IsVolume self.new }
-        ensures copies { OnOk result (KeepsCopies self.old self.new) }
-        ensures kept { OnOk result (KeepsFiles self.old self.new) }
+        ensures copies { OnOk result (CopiesStay self.old self.new) }
+        ensures stay { OnOk result (FilesStay self.old self.new) }
         ensures rest { IfSome slot
             (λ slot. ChangesOnly (removed_spans (directory_of self.old) slot) self.old self.new) }
         ensures refused { IfErr result (λ fault. (fault ≡ VolumeFault.NoFile) × (slot ≡ None)) }
@@ -532,8 +532,8 @@ impl Volume {
         requires within { IfSome slot (λ slot. (1 ≤ slot) × (slot ≤ file_count (directory_of self.old))) }
         ensures renamed { OnOk result (RenamesFile self.old self.new slot new.now) }
         ensures volume { IsVolume self.new }
-        ensures copies { OnOk result (KeepsCopies self.old self.new) }
-        ensures kept { OnOk result (KeepsFiles self.old self.new) }
+        ensures copies { OnOk result (CopiesStay self.old self.new) }
+        ensures stay { OnOk result (FilesStay self.old self.new) }
         ensures rest { IfOk (slot_to_rename (directory_of self.old) slot new.now)
             (λ slot. ChangesOnly (and_second (directory_of self.old) (name_span slot ∷ [])) self.old self.new) }
         ensures refused { IfErr result (λ fault. slot_to_rename (directory_of self.old) slot new.now ≡ Err fault) }

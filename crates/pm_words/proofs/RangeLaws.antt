@@ -6,7 +6,7 @@ use Rattle.std.specs.List.{All}
 use Rattle.std.proofs.lemmas.Bool.{cases_lt, cases_eq, false≢true}
 use Rattle.std.proofs.lemmas.List.{append-nil, ext_get_or, get_or-take, get_or-drop, length-take-le, length-drop, length-replicate, take-append-drop}
 use Rattle.std.proofs.lemmas.List.Elements.{All-take, All-drop, All-cons, All-nil, All-replicate}
-use Rattle.pm_words.specs.Watch.{IsSomeWatched, KeepsWatch, times}
+use Rattle.pm_words.specs.Watch.{IsSomeWatched, WatchStays, times}
 use Rattle.pm_words.specs.Words.{Contents, filled, IsMemory, byte_at, bytes_at, bytes_of, copied}
 use Rattle.pm_words.specs.Words.{moved_down, moved_up, with_byte, with_bytes, with_word, with_words, word_at}
 use Rattle.pm_words.proofs.Pairs.{words_of-bytes_of}
@@ -259,9 +259,9 @@ watched_word_stays ws ys a x h room fit none =
         (λ more. ⊎_elim (λ inside. absurd (none y more inside e)) (λ past. inr past) (cases_lt y (a + length ys)))
         (cases_lt y a)
 
-pub KeepsWatch-with_bytes : (m n : Contents) (a : ℕ) (ys : List ℕ) → IsMemory m.words → a + length ys ≤ 65536 → All (λ b. b < 256) ys
-    → n.words ≡ with_bytes m.words a ys → n.watched ≡ m.watched → IsTrue n.touched ↔ (IsTrue m.touched ⊎ IsSomeWatched m.watched a (length ys)) → KeepsWatch m n
-KeepsWatch-with_bytes m n a ys h room fit words watched touched = record {
+pub WatchStays-with_bytes : (m n : Contents) (a : ℕ) (ys : List ℕ) → IsMemory m.words → a + length ys ≤ 65536 → All (λ b. b < 256) ys
+    → n.words ≡ with_bytes m.words a ys → n.watched ≡ m.watched → IsTrue n.touched ↔ (IsTrue m.touched ⊎ IsSomeWatched m.watched a (length ys)) → WatchStays m n
+WatchStays-with_bytes m n a ys h room fit words watched touched = record {
   watched = watched;
   touched = λ t. touched.1 (inl t);
   values = λ no x set.
@@ -270,27 +270,27 @@ KeepsWatch-with_bytes m n a ys h room fit words watched touched = record {
 }
 
 -- a copy keeps the watch
-pub KeepsWatch-copied : (m n : Contents) (from to k : ℕ) → IsMemory m.words → from + k ≤ 65536 → to + k ≤ 65536 → n.words ≡ copied m.words from to k
-    → n.watched ≡ m.watched → IsTrue n.touched ↔ (IsTrue m.touched ⊎ IsSomeWatched m.watched to k) → KeepsWatch m n
+pub WatchStays-copied : (m n : Contents) (from to k : ℕ) → IsMemory m.words → from + k ≤ 65536 → to + k ≤ 65536 → n.words ≡ copied m.words from to k
+    → n.watched ≡ m.watched → IsTrue n.touched ↔ (IsTrue m.touched ⊎ IsSomeWatched m.watched to k) → WatchStays m n
 unfolding copied
-KeepsWatch-copied m n from to k h source room words watched touched =
+WatchStays-copied m n from to k h source room words watched touched =
     let size = length-bytes_at m.words from k h source in
-    KeepsWatch-with_bytes m n to (bytes_at m.words from k) h (omega arith) (All-bytes_at m.words from k h) words watched (rw size touched)
+    WatchStays-with_bytes m n to (bytes_at m.words from k) h (omega arith) (All-bytes_at m.words from k h) words watched (rw size touched)
 
 -- and so does a fill
-pub KeepsWatch-filled : (m n : Contents) (a k b : ℕ) → IsMemory m.words → a + k ≤ 65536 → b < 256 → n.words ≡ filled m.words a k b → n.watched ≡ m.watched
-    → IsTrue n.touched ↔ (IsTrue m.touched ⊎ IsSomeWatched m.watched a k) → KeepsWatch m n
+pub WatchStays-filled : (m n : Contents) (a k b : ℕ) → IsMemory m.words → a + k ≤ 65536 → b < 256 → n.words ≡ filled m.words a k b → n.watched ≡ m.watched
+    → IsTrue n.touched ↔ (IsTrue m.touched ⊎ IsSomeWatched m.watched a k) → WatchStays m n
 unfolding filled
-KeepsWatch-filled m n a k b h room fit words watched touched =
+WatchStays-filled m n a k b h room fit words watched touched =
     let size = length-replicate k b in
-    KeepsWatch-with_bytes m n a (replicate k b) h (omega arith) (All-replicate (λ x. x < 256) k b fit) words watched (rw size touched)
+    WatchStays-with_bytes m n a (replicate k b) h (omega arith) (All-replicate (λ x. x < 256) k b fit) words watched (rw size touched)
 
 -- words written from an even address on
-pub KeepsWatch-with_words : (m n : Contents) (a : ℕ) (vs : List ℕ) → IsMemory m.words → a % 2 ≡ 0 → a + 2 * length vs ≤ 65536
+pub WatchStays-with_words : (m n : Contents) (a : ℕ) (vs : List ℕ) → IsMemory m.words → a % 2 ≡ 0 → a + 2 * length vs ≤ 65536
     → n.words ≡ with_words m.words a vs → n.watched ≡ m.watched
-    → IsTrue n.touched ↔ (IsTrue m.touched ⊎ IsSomeWatched m.watched a (2 * length vs)) → KeepsWatch m n
+    → IsTrue n.touched ↔ (IsTrue m.touched ⊎ IsSomeWatched m.watched a (2 * length vs)) → WatchStays m n
 unfolding word_at
-KeepsWatch-with_words m n a vs h even room words watched touched = record {
+WatchStays-with_words m n a vs h even room words watched touched = record {
   watched = watched;
   touched = λ t. touched.1 (inl t);
   values = λ no x set.

@@ -1,12 +1,12 @@
 use Rattle.std.proofs.Common.{rules, Some, codes, string_bytes}
 use Rattle.law_stores.specs.Told.{told}
-use Rattle.law_stores.proofs.HeldFiles.{disk_kept, disk_said, file_cut}
+use Rattle.law_stores.proofs.HeldFiles.{disk_saved, disk_said, file_cut}
 use Rattle.law_stores.proofs.jobs.on_disk.Goals as goal
 
-pub returns-clause-kept : goal.returns-clause-kept
-returns-clause-kept c = disk_kept c.args.saving c.do_run-done.result
+pub returns-clause-saved : goal.returns-clause-saved
+returns-clause-saved c = disk_saved c.args.saving c.do_run-done.result
     (told (string_bytes c.in_ok-from_str.field-0) (Some c.args.image.items)) _ (string_bytes c.in_ok-from_str-2.field-0)
-    (codes "file") c.args.image.items c.in_ok-file.file.items c.in_ok-file.ensures.value c.do_run-done.ensures.kept
+    (codes "file") c.args.image.items c.in_ok-file.file.items c.in_ok-file.ensures.value c.do_run-done.ensures.saved
     (search rules) (search rules)
 
 pub returns-clause-cut : goal.returns-clause-cut

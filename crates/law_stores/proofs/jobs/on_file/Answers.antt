@@ -1,6 +1,6 @@
 use Rattle.std.proofs.Common.{rules, Some, codes, string_bytes}
 use Rattle.law_stores.specs.Told.{told}
-use Rattle.law_stores.proofs.HeldFiles.{file_cut, file_kept, file_said, file_stays}
+use Rattle.law_stores.proofs.HeldFiles.{file_cut, file_saved, file_said, file_stays}
 use Rattle.law_stores.proofs.jobs.on_file.Goals as goal
 
 pub returns-clause-stays : goal.returns-clause-stays
@@ -8,10 +8,10 @@ returns-clause-stays c = file_stays c.do_files-done.result
     (told (string_bytes c.in_ok-from_str.field-0) (Some c.args.image.items)) _ (codes "file") c.args.image.items
     c.in_ok-file.file.items c.in_ok-file.ensures.value c.do_files-done.ensures.stays (search rules)
 
-pub returns-clause-kept : goal.returns-clause-kept
-returns-clause-kept c = file_kept c.do_files-done.result
+pub returns-clause-saved : goal.returns-clause-saved
+returns-clause-saved c = file_saved c.do_files-done.result
     (told (string_bytes c.in_ok-from_str.field-0) (Some c.args.image.items)) _ (codes "file") c.args.image.items
-    c.in_ok-file.file.items c.in_ok-file.ensures.value c.do_files-done.ensures.kept (search rules)
+    c.in_ok-file.file.items c.in_ok-file.ensures.value c.do_files-done.ensures.saved (search rules)
 
 pub returns-clause-cut : goal.returns-clause-cut
 returns-clause-cut c = file_cut c.do_files-done.result

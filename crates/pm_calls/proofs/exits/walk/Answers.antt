@@ -1,6 +1,6 @@
 use Rattle.std.proofs.Common.{◌≡◌, Ok, false, true, rules, refl, sym, ◌∙◌, arith}
 use Rattle.std.proofs.lemmas.Result.{err_from_is_err_and}
-use Rattle.pm_words.proofs.WatchLaws.{KeepsWatch-refl, KeepsWatch-trans}
+use Rattle.pm_words.proofs.WatchLaws.{WatchStays-refl, WatchStays-trans}
 use borrow.Author.Count.{below_more}
 use Rattle.pm_calls.specs.Exits.{frame_up, met, with_exits}
 use Rattle.pm_calls.proofs.WalkLaws.{frame_up-more, walked-fails, walked-round, walked-there, with_exits-more}
@@ -8,7 +8,7 @@ use Rattle.pm_calls.proofs.exits.walk.Goals as goal
 
 pub loop-count-init : goal.loop-count-init
 unfolding frame_up with_exits
-loop-count-init c = record { frame = refl; passed = λ i l. absurd (omega arith); written = c.requires.same; keeps = KeepsWatch-refl _ }
+loop-count-init c = record { frame = refl; passed = λ i l. absurd (omega arith); written = c.requires.same; watch = WatchStays-refl _ }
 
 pub loop-count-preserved : goal.loop-count-preserved
 loop-count-preserved c =
@@ -19,17 +19,17 @@ loop-count-preserved c =
       frame = sym (frame_up-more _ _ _ _ c.loop-count.invariant.frame ∙ search rules);
       passed = below_more _ _ c.loop-count.invariant.passed here;
       written = sym (with_exits-more _ _ _ _ c.loop-count.invariant.frame ∙ rw (← c.loop-count.invariant.written) (sym c.leave.ensures.written));
-      keeps = KeepsWatch-trans _ _ _ c.loop-count.invariant.keeps c.leave.ensures.keeps;
+      watch = WatchStays-trans _ _ _ c.loop-count.invariant.watch c.leave.ensures.watch;
     }
 
-pub returns-in_err-is_last-clause-keeps : goal.returns-in_err-is_last-clause-keeps
-returns-in_err-is_last-clause-keeps c = c.loop-count.invariant.keeps
+pub returns-in_err-is_last-clause-watch : goal.returns-in_err-is_last-clause-watch
+returns-in_err-is_last-clause-watch c = c.loop-count.invariant.watch
 
-pub returns-then-is_last-clause-keeps : goal.returns-then-is_last-clause-keeps
-returns-then-is_last-clause-keeps c = KeepsWatch-trans _ _ _ c.loop-count.invariant.keeps c.leave.ensures.keeps
+pub returns-then-is_last-clause-watch : goal.returns-then-is_last-clause-watch
+returns-then-is_last-clause-watch c = WatchStays-trans _ _ _ c.loop-count.invariant.watch c.leave.ensures.watch
 
-pub returns-clause-keeps : goal.returns-clause-keeps
-returns-clause-keeps c = c.loop-count.invariant.keeps
+pub returns-clause-watch : goal.returns-clause-watch
+returns-clause-watch c = c.loop-count.invariant.watch
 
 pub returns-in_err-is_last-clause-stopped : goal.returns-in_err-is_last-clause-stopped
 returns-in_err-is_last-clause-stopped c =

@@ -1,13 +1,13 @@
 use Rattle.std.proofs.Common.{◌≡◌, ◌∙◌, ◌+◌, ◌*◌, ◌<◌, ◌≤◌, ◌%◌, ℕ, List, refl, sym, arith, rules}
 use Rattle.pm_words.specs.Words.{IsMemory, with_word, word_at}
-use Rattle.pm_words.proofs.WatchLaws.{KeepsWatch-refl, KeepsWatch-trans}
+use Rattle.pm_words.proofs.WatchLaws.{WatchStays-refl, WatchStays-trans}
 use Rattle.pm_calls.proofs.FrameLaws.{copied-ahead, copied-word, no_bytes_copied}
 use Rattle.pm_calls.proofs.frame.put_words.Goals as goal
 
 pub loop-i-init : goal.loop-i-init
 loop-i-init c = record {
   written = sym (no_bytes_copied _ _ _ _ refl);
-  keeps = KeepsWatch-refl _;
+  watch = WatchStays-refl _;
 }
 
 pub loop-i-preserved : goal.loop-i-preserved
@@ -28,5 +28,5 @@ loop-i-preserved c =
     record {
       written = wrote ∙ rw (c.loop-i.invariant.written, more)
           (copied-word m c.args.from c.args.to (2 * i) c.unwrap_or-word.result memory from to (omega arith) source room word (omega arith));
-      keeps = KeepsWatch-trans _ _ _ c.loop-i.invariant.keeps c.set_word.ensures.keeps;
+      watch = WatchStays-trans _ _ _ c.loop-i.invariant.watch c.set_word.ensures.watch;
     }

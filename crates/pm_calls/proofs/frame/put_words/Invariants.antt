@@ -1,5 +1,5 @@
 use Rattle.std.proofs.Common.{◌≡◌, ◌*◌}
-use Rattle.pm_words.specs.Watch.{KeepsWatch}
+use Rattle.pm_words.specs.Watch.{WatchStays}
 use Rattle.pm_words.specs.Words.{copied}
 use Rattle.pm_calls.proofs.frame.put_words.Given as goal
 
@@ -7,5 +7,5 @@ use Rattle.pm_calls.proofs.frame.put_words.Given as goal
 abbrev pub invariant-loop-i : goal.invariant-loop-i
 invariant-loop-i l = record {
   written : l.memory.words ≡ copied l.fn.memory.words l.from l.to (2 * l.i);
-  keeps : KeepsWatch l.fn.memory l.memory;
+  watch : WatchStays l.fn.memory l.memory;
 }

@@ -15,9 +15,9 @@ returns-then-is_none c =
 pub loop-n-preserved : goal.loop-n-preserved
 loop-n-preserved c =
     let below : c.loop-n.n < 77 = omega arith in
-    let kept : is_none (file_named c.args.volume.now (numbered c.args.name.now c.loop-n.n)) ≡ false =
+    let stay : is_none (file_named c.args.volume.now (numbered c.args.name.now c.loop-n.n)) ≡ false =
     rw (← c.in_ok-text.ensures.name, ← c.as_str.ensures.value, ← c.find.ensures.first, c.is_none.ensures, c.if-is_none.false) refl in
-    sym (free_from-more c.args.volume.now c.args.name.now c.loop-n.n 77 below kept) ∙ c.loop-n.invariant
+    sym (free_from-more c.args.volume.now c.args.name.now c.loop-n.n 77 below stay) ∙ c.loop-n.invariant
 
 pub returns : goal.returns
 returns c =

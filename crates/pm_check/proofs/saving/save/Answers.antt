@@ -19,5 +19,5 @@ returns-in-Ok-push_taken-clause-saved c =
 
 pub returns-in-Ok-push_taken-clause-content : goal.returns-in-Ok-push_taken-clause-content
 returns-in-Ok-push_taken-clause-content c =
-    content_added _ _ _ _ _ _ _ c.in_ok-add.ensures.added c.in_ok-add.ensures.files c.in_ok-add.ensures.contents c.in_ok-add.ensures.kept
+    content_added _ _ _ _ _ _ _ c.in_ok-add.ensures.added c.in_ok-add.ensures.files c.in_ok-add.ensures.contents c.in_ok-add.ensures.stay
     c.bytes_of.ensures.bytes

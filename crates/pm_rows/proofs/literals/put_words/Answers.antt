@@ -2,11 +2,11 @@ use Rattle.std.proofs.Common.{◌≡◌, ◌∙◌, ◌-◌, ◌+◌, ◌<◌, �
 use Rattle.pm_words.specs.Words.{with_word}
 use Rattle.pm_words.proofs.Laws.{with_words-none}
 use Rattle.pm_rows.proofs.WordLists.{put_more}
-use Rattle.pm_words.proofs.WatchLaws.{KeepsWatch-refl, KeepsWatch-trans}
+use Rattle.pm_words.proofs.WatchLaws.{WatchStays-refl, WatchStays-trans}
 use Rattle.pm_rows.proofs.literals.put_words.Goals as goal
 
 pub loop-word-init : goal.loop-word-init
-loop-word-init c = record { place = omega arith; written = sym (with_words-none _ _); keeps = KeepsWatch-refl _ }
+loop-word-init c = record { place = omega arith; written = sym (with_words-none _ _); watch = WatchStays-refl _ }
 
 pub loop-word-preserved : goal.loop-word-preserved
 loop-word-preserved c =
@@ -19,5 +19,5 @@ loop-word-preserved c =
     record {
       place = omega arith;
       written = wrote ∙ rw c.loop-word.invariant.written (put_more _ _ _ _ _ c.bytes.ensures.memory.size even below (omega arith) next);
-      keeps = KeepsWatch-trans _ _ _ c.loop-word.invariant.keeps c.set_word.ensures.keeps;
+      watch = WatchStays-trans _ _ _ c.loop-word.invariant.watch c.set_word.ensures.watch;
     }

@@ -1,4 +1,4 @@
-use Rattle.pm_system.proofs.Kept.{kept_beside, where_ok}
+use Rattle.pm_system.proofs.Kept.{stay_beside, where_ok}
 use Rattle.pm_system.proofs.Made.{made-removed}
 use Rattle.pm_system.proofs.disk.exchange.Goals as goal
 
@@ -8,6 +8,6 @@ returns-clause-done c = rw (made-removed _ _ _ c.in_ok-remove.ensures.removed) c
 pub returns-clause-refused : goal.returns-clause-refused
 returns-clause-refused c = rw (made-removed _ _ _ c.in_ok-remove.ensures.removed) c.put_code.ensures.refused
 
-pub returns-clause-kept : goal.returns-clause-kept
-returns-clause-kept c = where_ok c.put_code.result
-    (kept_beside _ _ _ _ c.in_ok-remove.ensures.removed c.in_ok-remove.ensures.kept) c.put_code.ensures.kept
+pub returns-clause-stay : goal.returns-clause-stay
+returns-clause-stay c = where_ok c.put_code.result
+    (stay_beside _ _ _ _ c.in_ok-remove.ensures.removed c.in_ok-remove.ensures.stay) c.put_code.ensures.stay

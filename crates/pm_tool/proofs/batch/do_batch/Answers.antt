@@ -1,7 +1,7 @@
 use Rattle.std.proofs.lemmas.Result.{err_from_is_err_and}
 use Rattle.pm_batch.specs.Batches.{made_of, reads_input}
 use Rattle.pm_tool.proofs.Batched.{batch_broken, batch_done, batch_unwritten}
-use Rattle.pm_tool.proofs.Kept.{broken_unwritten}
+use Rattle.pm_tool.proofs.ReadWhole.{broken_unwritten}
 use Rattle.pm_tool.proofs.batch.do_batch.Goals as goal
 
 pub returns-in_err-input-clause-broken : goal.returns-in_err-input-clause-broken

@@ -1,6 +1,6 @@
 use Rattle.pm_tool.specs.declared.work.Work.TheVariants as works
 use Rattle.pm_tool.specs.Work.{work_of}
-use Rattle.pm_tool.proofs.Kept.{broken_work}
+use Rattle.pm_tool.proofs.ReadWhole.{broken_work}
 use Rattle.pm_tool.proofs.engine.do_job.Goals as goal
 
 pub returns-in-Raw-clause-broken : goal.returns-in-Raw-clause-broken

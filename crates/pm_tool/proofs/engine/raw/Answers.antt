@@ -1,5 +1,5 @@
 use Rattle.std.proofs.lemmas.Result.{err_from_is_err_and}
-use Rattle.pm_tool.proofs.Kept.{broken_unwritten, raw_done, raw_broken}
+use Rattle.pm_tool.proofs.ReadWhole.{broken_unwritten, raw_done, raw_broken}
 use Rattle.pm_tool.proofs.engine.raw.Goals as goal
 
 pub returns-in_err-text-clause-broken : goal.returns-in_err-text-clause-broken

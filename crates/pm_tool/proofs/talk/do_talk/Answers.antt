@@ -1,7 +1,7 @@
 use Rattle.std.proofs.Common.{rules, [], arith}
 use Rattle.std.proofs.lemmas.Result.{err_from_is_err_and}
 use Rattle.pm_tool.proofs.Unread.{consumes_none}
-use Rattle.pm_tool.proofs.Kept.{broken_unwritten}
+use Rattle.pm_tool.proofs.ReadWhole.{broken_unwritten}
 use Rattle.pm_tool.proofs.Played.{talk_refused}
 use Rattle.pm_tool.proofs.talk.do_talk.Goals as goal
 

@@ -2,11 +2,11 @@ use Rattle.std.proofs.Common.{◌≡◌, ◌+◌, ◌-◌, ◌*◌, ◌/◌, ◌
 use Rattle.std.proofs.lemmas.Grind.{common_steps}
 use Rattle.std.proofs.lemmas.List.{length-take-le}
 use Rattle.pm_words.proofs.Laws.{with_words-more, with_words-none}
-use Rattle.pm_words.proofs.WatchLaws.{KeepsWatch-refl, KeepsWatch-trans}
+use Rattle.pm_words.proofs.WatchLaws.{WatchStays-refl, WatchStays-trans}
 use Rattle.pm_values.proofs.stack.push_words.Goals as goal
 
 pub loop-word-init : goal.loop-word-init
-loop-word-init c = record { place = omega arith; words = sym (with_words-none _ _); keeps = KeepsWatch-refl _ }
+loop-word-init c = record { place = omega arith; words = sym (with_words-none _ _); watch = WatchStays-refl _ }
 
 pub loop-word-preserved : goal.loop-word-preserved
 loop-word-preserved c =
@@ -17,4 +17,4 @@ loop-word-preserved c =
     let place : c.loop-word.place ≡ top + 2 * length front = omega (arith, c.loop-word.invariant.place) in
     let even : top % 2 ≡ 0 = omega arith in
     let more = with_words-more c.args.memory.now.words front top c.loop-word.place (get_or c.args.words.now c.loop-word.word-index 0) even place inside in
-    record { place = omega arith; words = grind (arith, common_steps); keeps = KeepsWatch-trans _ _ _ c.loop-word.invariant.keeps c.set_word.ensures.keeps }
+    record { place = omega arith; words = grind (arith, common_steps); watch = WatchStays-trans _ _ _ c.loop-word.invariant.watch c.set_word.ensures.watch }

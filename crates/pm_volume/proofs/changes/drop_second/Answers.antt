@@ -13,9 +13,9 @@ returns-then-has_second c =
     let image = c.args.image.now in
     let said : has_second image ≡ true = cc in
     let m = c.begin_at.new.image in
-    let kept : length m ≡ length image = c.begin_at.auto.image in
+    let stay : length m ≡ length image = c.begin_at.auto.image in
     let long : 5120 ≤ length image = search (rules, tests) in
-    let size : length (slice_range m 3072 5120) ≡ 2048 = omega (arith, kept, long, length-take 2048 (drop 3072 m), length-drop 3072 m) in
+    let size : length (slice_range m 3072 5120) ≡ 2048 = omega (arith, stay, long, length-take 2048 (drop 3072 m), length-drop 3072 m) in
     let zeroed = rw size at c.clear_all.ensures.cleared in
     record {
       image = rw said

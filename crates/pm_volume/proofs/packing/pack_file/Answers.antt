@@ -1,6 +1,6 @@
 use Rattle.std.proofs.Common.{◌≡◌, ◌∙◌, ◌*◌, ap, length, arith}
 use Rattle.pm_volume.specs.Directory.{directory_of, entry_in}
-use Rattle.pm_volume.specs.Kept.{blocks_of}
+use Rattle.pm_volume.specs.Stays.{blocks_of}
 use Rattle.pm_volume.specs.Packing.{new_place, with_moved}
 use Rattle.pm_volume.specs.Words.{written}
 use Rattle.pm_volume.proofs.PackLaws.{directory-copied, length-copied_blocks}

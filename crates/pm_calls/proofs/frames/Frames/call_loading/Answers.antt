@@ -25,7 +25,7 @@ invariant_of-self c =
 
 pub returns-clause-done : goal.returns-clause-done
 returns-clause-done c = λ h.
-    let entered = c.in_default.ensures.entered (Agrees-keeps _ _ _ _ c.put_code-2.ensures.keeps h) in
+    let entered = c.in_default.ensures.entered (Agrees-keeps _ _ _ _ c.put_code-2.ensures.watch h) in
     let some : 0 < length c.args.code.now = search rules in
     let room : c.args.registers.now.np + length c.args.code.now ≤ c.args.registers.now.sp = search rules in
     let places : c.self.inside.places ≡ c.args.self.now.places = search rules in
@@ -34,7 +34,7 @@ returns-clause-done c = λ h.
 
 pub returns-clause-agrees : goal.returns-clause-agrees
 returns-clause-agrees c = λ h.
-    let inside = c.in_default.ensures.agrees (Agrees-keeps _ _ _ _ c.put_code-2.ensures.keeps h) in
+    let inside = c.in_default.ensures.agrees (Agrees-keeps _ _ _ _ c.put_code-2.ensures.watch h) in
     record {
       matches = λ quiet.
           let m = rw (← c.self.view_is) at (inside.matches quiet) in
@@ -66,7 +66,7 @@ returns-in-Err-clause-refused c =
 
 pub returns-in-Err-clause-done : goal.returns-in-Err-clause-done
 returns-in-Err-clause-done c = λ h.
-    let entered = c.in-Err.ensures.entered (Agrees-keeps _ _ _ _ c.put_code-2.ensures.keeps h) in
+    let entered = c.in-Err.ensures.entered (Agrees-keeps _ _ _ _ c.put_code-2.ensures.watch h) in
     let some : 0 < length c.args.code.now = search rules in
     let room : c.args.registers.now.np + length c.args.code.now ≤ c.args.registers.now.sp = search rules in
     let back = returns-in-Err-clause-refused c in (

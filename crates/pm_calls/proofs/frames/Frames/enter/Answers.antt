@@ -62,7 +62,7 @@ returns-else-link-caller-clause-entered c = λ h.
 
 pub returns-then-matches-clause-agrees : goal.returns-then-matches-clause-agrees
 returns-then-matches-clause-agrees c = λ h.
-    let before = Agrees-keeps _ _ _ _ c.enter.ensures.keeps
+    let before = Agrees-keeps _ _ _ _ c.enter.ensures.watch
     (c.static_link.ensures.agrees (c.attributes.ensures.agrees _ h)) in
     record {
       matches = λ quiet.
@@ -76,7 +76,7 @@ returns-then-matches-clause-agrees c = λ h.
 
 pub returns-then-link-caller-clause-agrees : goal.returns-then-link-caller-clause-agrees
 returns-then-link-caller-clause-agrees c = λ h.
-    let before = Agrees-keeps _ _ _ _ c.enter.ensures.keeps
+    let before = Agrees-keeps _ _ _ _ c.enter.ensures.watch
     (c.static_link.ensures.agrees (c.attributes.ensures.agrees _ h)) in
     record {
       matches = λ quiet.
@@ -91,7 +91,7 @@ returns-then-link-caller-clause-agrees c = λ h.
 
 pub returns-else-link-caller-clause-agrees : goal.returns-else-link-caller-clause-agrees
 returns-else-link-caller-clause-agrees c = λ h.
-    let before = Agrees-keeps _ _ _ _ c.enter.ensures.keeps
+    let before = Agrees-keeps _ _ _ _ c.enter.ensures.watch
     (c.static_link.ensures.agrees (c.attributes.ensures.agrees _ h)) in
     record {
       matches = λ quiet.

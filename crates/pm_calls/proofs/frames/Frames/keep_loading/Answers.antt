@@ -3,7 +3,7 @@ use Rattle.pm_calls.proofs.frames.Frames.keep_loading.Goals as goal
 
 pub returns-clause-agrees : goal.returns-clause-agrees
 returns-clause-agrees c = λ h.
-    let kept = Agrees-keeps _ _ _ _ c.put_code.ensures.keeps h in
+    let kept = Agrees-keeps _ _ _ _ c.put_code.ensures.watch h in
     record {
       matches = λ quiet.
           let m = rw (← c.self.view_is) at (kept.matches quiet) in

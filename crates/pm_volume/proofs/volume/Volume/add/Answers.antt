@@ -102,13 +102,13 @@ returns-clause-contents c =
     rw (image_after w, c.new_entry-entry.ensures.entry)
     (bytes-added_second c.args.self.now c.args.name.now c.args.bytes.now c.args.kind c.args.date c.in_ok-gap.gap c.place.ensures.volume p fit)
 
-pub returns-clause-kept : goal.returns-clause-kept
-returns-clause-kept c =
-    let w = (goal.at.returns-clause-kept c).After-put_file in
+pub returns-clause-stay : goal.returns-clause-stay
+returns-clause-stay c =
+    let w = (goal.at.returns-clause-stay c).After-put_file in
     let fit = rw c.new_entry-entry.ensures.entry at c.new_entry-entry.ensures.fits in
-    let p = placed (goal.at.returns-clause-kept c).In_ok-gap in
+    let p = placed (goal.at.returns-clause-stay c).In_ok-gap in
     rw (image_after w, c.new_entry-entry.ensures.entry)
-    ((Changed-added c.args.self.now c.args.name.now c.args.bytes.now c.args.kind c.args.date c.in_ok-gap.gap c.place.ensures.volume p fit).kept)
+    ((Changed-added c.args.self.now c.args.name.now c.args.bytes.now c.args.kind c.args.date c.in_ok-gap.gap c.place.ensures.volume p fit).stay)
 
 pub returns-clause-rest : goal.returns-clause-rest
 returns-clause-rest c =

@@ -45,10 +45,10 @@ returns-clause-files c =
     let w = (goal.at.returns-clause-files c).After-add_second in
     rw (image_after w) ((Recopied-doubled c.args.self.now (volume w) (blocks w) (free w)).files)
 
-pub returns-clause-kept : goal.returns-clause-kept
-returns-clause-kept c =
-    let w = (goal.at.returns-clause-kept c).After-add_second in
-    rw (image_after w) ((Recopied-doubled c.args.self.now (volume w) (blocks w) (free w)).kept)
+pub returns-clause-stay : goal.returns-clause-stay
+returns-clause-stay c =
+    let w = (goal.at.returns-clause-stay c).After-add_second in
+    rw (image_after w) ((Recopied-doubled c.args.self.now (volume w) (blocks w) (free w)).stay)
 
 pub returns-clause-rest : goal.returns-clause-rest
 returns-clause-rest c =

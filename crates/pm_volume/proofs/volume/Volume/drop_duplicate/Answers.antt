@@ -39,10 +39,10 @@ returns-clause-files c =
     let w = (goal.at.returns-clause-files c).After-drop_second in
     rw (image_after w) ((Recopied-singled c.args.self.now (volume w)).files)
 
-pub returns-clause-kept : goal.returns-clause-kept
-returns-clause-kept c =
-    let w = (goal.at.returns-clause-kept c).After-drop_second in
-    rw (image_after w) ((Recopied-singled c.args.self.now (volume w)).kept)
+pub returns-clause-stay : goal.returns-clause-stay
+returns-clause-stay c =
+    let w = (goal.at.returns-clause-stay c).After-drop_second in
+    rw (image_after w) ((Recopied-singled c.args.self.now (volume w)).stay)
 
 pub returns-clause-rest : goal.returns-clause-rest
 returns-clause-rest c =

@@ -2,7 +2,7 @@ use Rattle.std.proofs.Common.{◌≡◌, ◌<◌, ◌∙◌, ap, subst, ℕ, Lis
 use Rattle.pm_volume.specs.Copies.{mirrored}
 use Rattle.pm_volume.specs.Directory.{IsVolume, block_count, directory_of, file_count, files_begin}
 use Rattle.pm_volume.specs.Packing.{krunched_image, packed_image}
-use Rattle.pm_volume.proofs.KrunchLaws.{IsVolume-krunched, IsVolume-packed, KeepsCopies-krunched, Krunches-krunched}
+use Rattle.pm_volume.proofs.KrunchLaws.{IsVolume-krunched, IsVolume-packed, CopiesStay-krunched, Krunches-krunched}
 use Rattle.pm_volume.proofs.SlotLaws.{written_back}
 use Rattle.pm_volume.proofs.volume.Volume.krunch.Goals as goal
 use Rattle.pm_volume.proofs.volume.Volume.krunch.Goals.{After-mirror, After-pack_files}
@@ -49,5 +49,5 @@ returns c =
       krunched = rw same (Krunches-krunched c.args.self.now (volume w) (fits w));
       exact = same;
       volume = rw same (IsVolume-krunched c.args.self.now (volume w) (fits w));
-      copies = rw same (KeepsCopies-krunched c.args.self.now (volume w) (fits w));
+      copies = rw same (CopiesStay-krunched c.args.self.now (volume w) (fits w));
     }

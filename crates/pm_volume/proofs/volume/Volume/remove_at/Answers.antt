@@ -40,11 +40,11 @@ returns-clause-removed c =
       files = rw (image_after w) ((Changed-removed c.args.self.now (volume w) c.in-Some.slot slot.0 slot.1).files);
     }
 
-pub returns-clause-kept : goal.returns-clause-kept
-returns-clause-kept c =
-    let w = (goal.at.returns-clause-kept c).After-take_file in
+pub returns-clause-stay : goal.returns-clause-stay
+returns-clause-stay c =
+    let w = (goal.at.returns-clause-stay c).After-take_file in
     let slot = within w in
-    rw (image_after w) ((Changed-removed c.args.self.now (volume w) c.in-Some.slot slot.0 slot.1).kept)
+    rw (image_after w) ((Changed-removed c.args.self.now (volume w) c.in-Some.slot slot.0 slot.1).stay)
 
 pub returns-clause-rest : goal.returns-clause-rest
 returns-clause-rest c =

@@ -36,12 +36,12 @@ returns-clause-renamed c =
           ((Changed-named c.args.self.now c.slot_to_rename.ensures.volume c.args.new.now c.in_ok-slot.slot new.0 new.1 slot.0 slot.1).files);
     }
 
-pub returns-clause-kept : goal.returns-clause-kept
-returns-clause-kept c =
-    let w = (goal.at.returns-clause-kept c).After-name_file in
+pub returns-clause-stay : goal.returns-clause-stay
+returns-clause-stay c =
+    let w = (goal.at.returns-clause-stay c).After-name_file in
     let slot = c.in_ok-slot.ensures.within in
     let new = c.in_ok-slot.ensures.named in
-    rw (image_after w) ((Changed-named c.args.self.now c.slot_to_rename.ensures.volume c.args.new.now c.in_ok-slot.slot new.0 new.1 slot.0 slot.1).kept)
+    rw (image_after w) ((Changed-named c.args.self.now c.slot_to_rename.ensures.volume c.args.new.now c.in_ok-slot.slot new.0 new.1 slot.0 slot.1).stay)
 
 pub returns-clause-rest : goal.returns-clause-rest
 returns-clause-rest c =

@@ -2,13 +2,16 @@
 ghost use Rattle.std.specs.Prelude.{◌≡◌, ◌∷◌, false, IfOk, IfSome, OnErr, OnOk, Some, string_bytes, option_map};
 ghost use Rattle.std.specs.Prelude.{vec_items};
 ghost use Rattle.pm_tool.specs.Said.{IsCutShort, IsSoundExit};
-ghost use Rattle.pm_files.specs.Held.{Keeps, Puts, held_too};
+ghost use Rattle.pm_files.specs.Held.{Saves, Puts, held_too};
 ghost use Rattle.pm_streams.specs.Streams.{AreWell, both};
 ghost use Rattle.pm_program.specs.Conflicts.{other_paths};
-ghost use Rattle.pm_program.specs.Kept.{KeepsAt, KeepsEach, KeepsFront, KeepsFrontSaid, KeepsRun, KeepsSaid, KeepsSome};
-ghost use Rattle.pm_program.specs.Kept.{PrintsIf, SaysOf, has_run, held_at, held_by, held_each, held_paths, kept_paths};
-ghost use Rattle.pm_program.specs.Kept.{takes_lock};
-ghost use Rattle.pm_program.specs.Kept.{KeepsRunSaid, KeepsSalvage, Reads, ReadsEach, TellsDebug, TellsTrace, paths_of};
+ghost use Rattle.pm_program.specs.Saved.{SavesAt, SavesEach, SavesFront, SavesFrontSaid, SavesRun};
+ghost use Rattle.pm_program.specs.Saved.{SavesSaid, SavesSome};
+ghost use Rattle.pm_program.specs.Saved.{PrintsIf, SaysOf, has_run, held_at, held_by, held_each, held_paths};
+ghost use Rattle.pm_program.specs.Saved.{saved_paths};
+ghost use Rattle.pm_program.specs.Saved.{takes_lock};
+ghost use Rattle.pm_program.specs.Saved.{Reads, ReadsEach, SavesRunSaid, SavesSalvage, TellsDebug, TellsTrace};
+ghost use Rattle.pm_program.specs.Saved.{paths_of};
 ghost use Rattle.pm_tool.specs.Disks.{images_of};
 ghost use Rattle.pm_tool.specs.Outcomes.{others_of};
 
@@ -31,9 +34,9 @@ pub enum Printing {
     File(String),
 }
 
-/// What is kept of a run.
+/// What is saved of a run.
 #[derive(Drop)]
-pub struct KeptOfRun {
+pub struct SavedOfRun {
     /// Which images are written back.
     pub saving: Saving,
     /// Where the printer's bytes go.
@@ -87,7 +90,7 @@ fn files_job<S: Store>(
 /// Does a command on the image of a file, and writes the image back where the outcome has one: then it is the file, and
 /// no other file has changed. Neither stream may have failed before. Where a file cannot be read, held or written, or
 /// the job is cut short, no file has changed. A file that may be written is held. Where the input is known, the image
-/// that is kept is the one that is said of the input and of the image that the file had.
+/// that is saved is the one that is said of the input and of the image that the file had.
 pub fn do_files<S: Store, I: Source, O: Sink>(
     alloc: Global,
     store: &mut S,
@@ -97,23 +100,23 @@ pub fn do_files<S: Store, I: Source, O: Sink>(
     verb: Verb,
 ) -> Result<Outcome, DiskFault>
     requires well { AreWell (both (I.seen source.old) (O.seen sink.old)) }
-    ensures kept { IfOk result (λ outcome.
-        Keeps (S.files store.old) (S.files store.new) path.now (option_map vec_items outcome.image)) }
+    ensures saved { IfOk result (λ outcome.
+        Saves (S.files store.old) (S.files store.new) path.now (option_map vec_items outcome.image)) }
     ensures cut { IfOk result (λ outcome. IsCutShort outcome.exit → S.files store.new ≡ S.files store.old) }
     ensures held { OnOk result (S.held store.new ≡ held_by (takes_lock verb) path.now (S.held store.old)) }
     ensures said { IfOk result (λ outcome. IsSoundExit outcome.exit → IfSome (I.seen source.old).remaining (λ input.
-        KeepsSaid (S.files store.old) (S.files store.new) path.now verb input)) }
+        SavesSaid (S.files store.old) (S.files store.new) path.now verb input)) }
     ensures stays { OnErr result (S.files store.new ≡ S.files store.old) }
 {
     let job = files_job(alloc, store, path, verb)?;
     let outcome = pm_tool::run(alloc, source, sink, job);
-    keep_image(store, path, &outcome.image)?;
+    save_image(store, path, &outcome.image)?;
     Ok(outcome)
 }
 
 /// Saves the files of an image into a new volume under another path, which is held. No other file has changed, and no
 /// file at all where one cannot be read, held or written, or the job is cut short. Neither stream may have failed
-/// before. Where the input is known, the volume that is kept is the one that is said of the image that the file had.
+/// before. Where the input is known, the volume that is saved is the one that is said of the image that the file had.
 pub fn do_salvage<S: Store, I: Source, O: Sink>(
     alloc: Global,
     store: &mut S,
@@ -122,12 +125,12 @@ pub fn do_salvage<S: Store, I: Source, O: Sink>(
     plan: SalvagePlan,
 ) -> Result<Outcome, DiskFault>
     requires well { AreWell (both (I.seen source.old) (O.seen sink.old)) }
-    ensures kept { IfOk result (λ outcome.
-        Keeps (S.files store.old) (S.files store.new) (string_bytes plan.target) (option_map vec_items outcome.image)) }
+    ensures saved { IfOk result (λ outcome.
+        Saves (S.files store.old) (S.files store.new) (string_bytes plan.target) (option_map vec_items outcome.image)) }
     ensures cut { IfOk result (λ outcome. IsCutShort outcome.exit → S.files store.new ≡ S.files store.old) }
     ensures held { OnOk result (S.held store.new ≡ held_too (string_bytes plan.target) (S.held store.old)) }
     ensures said { IfOk result (λ outcome. IsSoundExit outcome.exit → IfSome (I.seen source.old).remaining (λ input.
-        KeepsSalvage (S.files store.old) (S.files store.new) plan input)) }
+        SavesSalvage (S.files store.old) (S.files store.new) plan input)) }
     ensures stays { OnErr result (S.files store.new ≡ S.files store.old) }
 {
     let SalvagePlan {
@@ -139,7 +142,7 @@ pub fn do_salvage<S: Store, I: Source, O: Sink>(
     let image = store.read(alloc, path.as_str())?;
     let job = Job::Salvage { image, second };
     let outcome = pm_tool::run(alloc, source, sink, job);
-    keep_image(store, target.as_str(), &outcome.image)?;
+    save_image(store, target.as_str(), &outcome.image)?;
     Ok(outcome)
 }
 
@@ -221,9 +224,9 @@ fn print_out<O: Sink>(sink: &mut O, bytes: &[u8]) -> Result<(), DiskFault> {
 }
 
 /// Writes an image, where there is one.
-fn keep_image<S: Store>(store: &mut S, path: &str, image: &Option<Vec<u8>>) -> Result<(), DiskFault>
-    ensures kept { OnOk result (
-        Keeps (S.files store.old) (S.files store.new) path.now (option_map vec_items image.now)) }
+fn save_image<S: Store>(store: &mut S, path: &str, image: &Option<Vec<u8>>) -> Result<(), DiskFault>
+    ensures saved { OnOk result (
+        Saves (S.files store.old) (S.files store.new) path.now (option_map vec_items image.now)) }
     ensures held { S.held store.new ≡ S.held store.old }
     ensures stays { OnErr result (S.files store.new ≡ S.files store.old) }
 {
@@ -234,13 +237,13 @@ fn keep_image<S: Store>(store: &mut S, path: &str, image: &Option<Vec<u8>>) -> R
 }
 
 /// Writes the printer's bytes where they are wanted, if the program has run.
-fn keep_printer<S: Store, O: Sink>(
+fn save_printer<S: Store, O: Sink>(
     store: &mut S,
     sink: &mut O,
     printing: &Printing,
     outcome: &Outcome,
 ) -> Result<(), DiskFault>
-    ensures kept { OnOk result (
+    ensures saved { OnOk result (
         PrintsIf (has_run outcome.now.exit) (S.files store.old) (S.files store.new) printing.now
         outcome.now.printer.items) }
     ensures held { S.held store.new ≡ S.held store.old }
@@ -274,14 +277,14 @@ fn put_changed<S: Store>(
     }
 }
 
-/// Keeps the image of a unit under its path, where there are both. A file that has it is not written.
-fn keep_at<S: Store>(
+/// Saves the image of a unit under its path, where there are both. A file that has it is not written.
+fn save_at<S: Store>(
     alloc: Global,
     store: &mut S,
     path: &Option<String>,
     image: &Option<Vec<u8>>,
 ) -> Result<(), DiskFault>
-    ensures kept { OnOk result (KeepsAt (S.files store.old) (S.files store.new)
+    ensures saved { OnOk result (SavesAt (S.files store.old) (S.files store.new)
         (option_map string_bytes path.now) (option_map vec_items image.now)) }
     ensures held { S.held store.new ≡ S.held store.old }
     ensures stays { OnErr result (S.files store.new ≡ S.files store.old) }
@@ -292,48 +295,48 @@ fn keep_at<S: Store>(
     }
 }
 
-/// Keeps the images of the other units than 4 under their paths.
-fn keep_others<S: Store>(
+/// Saves the images of the other units than 4 under their paths.
+fn save_others<S: Store>(
     alloc: Global,
     store: &mut S,
     paths: &Others,
     images: &OtherImages,
 ) -> Result<(), DiskFault>
-    ensures kept { OnOk result (KeepsEach (S.files store.old) (S.files store.new)
+    ensures saved { OnOk result (SavesEach (S.files store.old) (S.files store.new)
         (other_paths paths.now) (others_of images.now)) }
     ensures held { S.held store.new ≡ S.held store.old }
-    ensures front { OnErr result (KeepsFront (S.files store.old) (S.files store.new)
+    ensures front { OnErr result (SavesFront (S.files store.old) (S.files store.new)
         (other_paths paths.now) (others_of images.now)) }
 {
-    keep_at(alloc, store, &paths.d5, &images.d5)?;
-    keep_at(alloc, store, &paths.d9, &images.d9)?;
-    keep_at(alloc, store, &paths.d10, &images.d10)?;
-    keep_at(alloc, store, &paths.d11, &images.d11)?;
-    keep_at(alloc, store, &paths.d12, &images.d12)
+    save_at(alloc, store, &paths.d5, &images.d5)?;
+    save_at(alloc, store, &paths.d9, &images.d9)?;
+    save_at(alloc, store, &paths.d10, &images.d10)?;
+    save_at(alloc, store, &paths.d11, &images.d11)?;
+    save_at(alloc, store, &paths.d12, &images.d12)
 }
 
-/// Keeps the images of all units under their paths: first that of unit 4.
-fn keep_all<S: Store>(
+/// Saves the images of all units under their paths: first that of unit 4.
+fn save_all<S: Store>(
     alloc: Global,
     store: &mut S,
     disk: &str,
     others: &Others,
     outcome: &Outcome,
 ) -> Result<(), DiskFault>
-    ensures kept { OnOk result (KeepsEach (S.files store.old) (S.files store.new)
+    ensures saved { OnOk result (SavesEach (S.files store.old) (S.files store.new)
         (Some disk.now ∷ other_paths others.now)
         (option_map vec_items outcome.now.image ∷ others_of outcome.now.others)) }
     ensures held { S.held store.new ≡ S.held store.old }
-    ensures front { OnErr result (KeepsFront (S.files store.old) (S.files store.new)
+    ensures front { OnErr result (SavesFront (S.files store.old) (S.files store.new)
         (Some disk.now ∷ other_paths others.now)
         (option_map vec_items outcome.now.image ∷ others_of outcome.now.others)) }
 {
-    keep_image(store, disk, &outcome.image)?;
-    keep_others(alloc, store, others, &outcome.others)
+    save_image(store, disk, &outcome.image)?;
+    save_others(alloc, store, others, &outcome.others)
 }
 
-/// Keeps the images of a run that are to be kept.
-fn keep_images<S: Store>(
+/// Saves the images of a run that are to be saved.
+fn save_images<S: Store>(
     alloc: Global,
     store: &mut S,
     disk: &str,
@@ -341,19 +344,19 @@ fn keep_images<S: Store>(
     saving: Saving,
     outcome: &Outcome,
 ) -> Result<(), DiskFault>
-    ensures kept { OnOk result (KeepsEach (S.files store.old) (S.files store.new)
-        (kept_paths saving disk.now others.now)
+    ensures saved { OnOk result (SavesEach (S.files store.old) (S.files store.new)
+        (saved_paths saving disk.now others.now)
         (option_map vec_items outcome.now.image ∷ others_of outcome.now.others)) }
     ensures held { S.held store.new ≡ S.held store.old }
-    ensures front { OnErr result (KeepsFront (S.files store.old) (S.files store.new)
-        (kept_paths saving disk.now others.now)
+    ensures front { OnErr result (SavesFront (S.files store.old) (S.files store.new)
+        (saved_paths saving disk.now others.now)
         (option_map vec_items outcome.now.image ∷ others_of outcome.now.others)) }
 {
     match saving {
         Saving::Nothing => Ok(()),
-        Saving::First => keep_image(store, disk, &outcome.image),
-        Saving::All => keep_all(alloc, store, disk, others, outcome),
-        Saving::Others => keep_others(alloc, store, others, &outcome.others),
+        Saving::First => save_image(store, disk, &outcome.image),
+        Saving::All => save_all(alloc, store, disk, others, outcome),
+        Saving::Others => save_others(alloc, store, others, &outcome.others),
     }
 }
 
@@ -408,88 +411,88 @@ fn make_ready<S: Store>(
     store: &mut S,
     disk: &str,
     others: &Others,
-    kept: &KeptOfRun,
+    saved: &SavedOfRun,
 ) -> Result<(), DiskFault>
     ensures stays { S.files store.new ≡ S.files store.old }
     ensures held { OnOk result (S.held store.new
-        ≡ held_each (held_paths kept.now.saving disk.now others.now) (S.held store.old)) }
+        ≡ held_each (held_paths saved.now.saving disk.now others.now) (S.held store.old)) }
 {
-    hold_images(store, disk, others, kept.saving)?;
-    if let Printing::File(path) = &kept.printing {
+    hold_images(store, disk, others, saved.saving)?;
+    if let Printing::File(path) = &saved.printing {
         store.prepare(path.as_str())?;
     }
     Ok(())
 }
 
-/// Makes ready for what a run keeps, and reads its images and the system's code file.
+/// Makes ready for what a run saves, and reads its images and the system's code file.
 fn run_inputs<S: Store>(
     alloc: Global,
     store: &mut S,
     program: &Program,
-    kept: &KeptOfRun,
+    saved: &SavedOfRun,
 ) -> Result<(Images, Option<Vec<u8>>), DiskFault>
     ensures stays { S.files store.new ≡ S.files store.old }
     ensures held { OnOk result (S.held store.new ≡ held_each
-        (held_paths kept.now.saving (string_bytes program.now.disk) program.now.others) (S.held store.old)) }
+        (held_paths saved.now.saving (string_bytes program.now.disk) program.now.others) (S.held store.old)) }
     ensures values { IfOk result (λ read. ReadsEach (S.files store.old)
         (paths_of (string_bytes program.now.disk) program.now.others) (images_of read.0)) }
     ensures system { IfOk result (λ read.
         Reads (S.files store.old) (option_map string_bytes program.now.system) (option_map vec_items read.1)) }
 {
     let disk = program.disk.as_str();
-    make_ready(store, disk, &program.others, kept)?;
+    make_ready(store, disk, &program.others, saved)?;
     inputs(alloc, store, disk, &program.others, &program.system)
 }
 
-/// Keeps what is wanted of a run: its images, and then the printer's bytes.
-fn keep_run<S: Store, O: Sink>(
+/// Saves what is wanted of a run: its images, and then the printer's bytes.
+fn save_run<S: Store, O: Sink>(
     alloc: Global,
     store: &mut S,
     sink: &mut O,
     disk: &str,
     others: &Others,
-    kept: &KeptOfRun,
+    saved: &SavedOfRun,
     outcome: &Outcome,
 ) -> Result<(), DiskFault>
-    ensures kept { OnOk result (KeepsRun (S.files store.old) (S.files store.new)
-        (kept_paths kept.now.saving disk.now others.now) kept.now.printing outcome.now) }
+    ensures saved { OnOk result (SavesRun (S.files store.old) (S.files store.new)
+        (saved_paths saved.now.saving disk.now others.now) saved.now.printing outcome.now) }
     ensures held { S.held store.new ≡ S.held store.old }
-    ensures front { OnErr result (KeepsFront (S.files store.old) (S.files store.new)
-        (kept_paths kept.now.saving disk.now others.now)
+    ensures front { OnErr result (SavesFront (S.files store.old) (S.files store.new)
+        (saved_paths saved.now.saving disk.now others.now)
         (option_map vec_items outcome.now.image ∷ others_of outcome.now.others)) }
 {
-    keep_images(alloc, store, disk, others, kept.saving, outcome)?;
-    keep_printer(store, sink, &kept.printing, outcome)
+    save_images(alloc, store, disk, others, saved.saving, outcome)?;
+    save_printer(store, sink, &saved.printing, outcome)
 }
 
-/// Runs a program, and then writes the images that are to be kept, as far as the outcome has them, and the printer's
+/// Runs a program, and then writes the images that are to be saved, as far as the outcome has them, and the printer's
 /// bytes, where the program has run and they are wanted. No other file changes, and none at all where the job is cut
 /// short. Each image that may be written is held. Neither stream may have failed before. Where a file cannot be read,
 /// held or written, nothing has changed but that the first of the images may be written. Where the input is known, what
-/// is kept, all or the first, is what is said of it and of the images that the files had, each on its unit.
+/// is saved, all or the first, is what is said of it and of the images that the files had, each on its unit.
 pub fn do_run<S: Store, I: Source, O: Sink>(
     alloc: Global,
     store: &mut S,
     source: &mut I,
     sink: &mut O,
     program: Program,
-    kept: KeptOfRun,
+    saved: SavedOfRun,
 ) -> Result<Outcome, DiskFault>
     requires well { AreWell (both (I.seen source.old) (O.seen sink.old)) }
-    ensures kept { IfOk result (λ outcome.
-        KeepsRun (S.files store.old) (S.files store.new)
-        (kept_paths kept.saving (string_bytes program.disk) program.others) kept.printing outcome) }
+    ensures saved { IfOk result (λ outcome.
+        SavesRun (S.files store.old) (S.files store.new)
+        (saved_paths saved.saving (string_bytes program.disk) program.others) saved.printing outcome) }
     ensures cut { IfOk result (λ outcome. IsCutShort outcome.exit → S.files store.new ≡ S.files store.old) }
     ensures held { OnOk result (S.held store.new
-        ≡ held_each (held_paths kept.saving (string_bytes program.disk) program.others) (S.held store.old)) }
+        ≡ held_each (held_paths saved.saving (string_bytes program.disk) program.others) (S.held store.old)) }
     ensures said { IfOk result (λ outcome. IsSoundExit outcome.exit → IfSome (I.seen source.old).remaining (λ input.
-        KeepsRunSaid (S.files store.old) (S.files store.new) program kept input)) }
-    ensures front { OnErr result (KeepsSome (S.files store.old) (S.files store.new)
-        (kept_paths kept.saving (string_bytes program.disk) program.others)) }
+        SavesRunSaid (S.files store.old) (S.files store.new) program saved input)) }
+    ensures front { OnErr result (SavesSome (S.files store.old) (S.files store.new)
+        (saved_paths saved.saving (string_bytes program.disk) program.others)) }
     ensures front_said { OnErr result (IfSome (I.seen source.old).remaining (λ input.
-        KeepsFrontSaid (S.files store.old) (S.files store.new) program kept input)) }
+        SavesFrontSaid (S.files store.old) (S.files store.new) program saved input)) }
 {
-    let (disks, system) = run_inputs(alloc, store, &program, &kept)?;
+    let (disks, system) = run_inputs(alloc, store, &program, &saved)?;
     let Program {
         disk,
         others,
@@ -501,11 +504,11 @@ pub fn do_run<S: Store, I: Source, O: Sink>(
         disks,
         name,
         limit,
-        saving: kept.saving,
+        saving: saved.saving,
         system,
     };
     let outcome = pm_tool::run(alloc, source, sink, job);
-    keep_run(alloc, store, sink, disk.as_str(), &others, &kept, &outcome).and(Ok(outcome))
+    save_run(alloc, store, sink, disk.as_str(), &others, &saved, &outcome).and(Ok(outcome))
 }
 
 /// Writes the trace of a program, the lines that are selected. No file changes. Neither stream may have failed before.

@@ -8,12 +8,12 @@ use std::marker::Model;
 
 /// A word and its column, seen as the word.
 #[derive(Drop)]
-pub(crate) struct KeptColumn {
+pub(crate) struct CachedColumn {
     word: u16,
     column: Column,
 }
 
-impl Model for KeptColumn {
+impl Model for CachedColumn {
     ghost use Rattle.std.specs.Prelude.{ℕ, ◌≡◌, ◌∷◌, ◌++◌, []};
     ghost use Rattle.pm_code.specs.Shown.{padded};
 
@@ -26,10 +26,10 @@ impl Model for KeptColumn {
     } };
 }
 
-impl KeptColumn {
+impl CachedColumn {
     /// The column of 0.
-    pub(crate) fn new() -> KeptColumn {
-        KeptColumn {
+    pub(crate) fn new() -> CachedColumn {
+        CachedColumn {
             word: 0,
             column: column(0),
         }
@@ -50,12 +50,12 @@ impl KeptColumn {
 
 /// A number of tens and its seven digits, seen as the number.
 #[derive(Drop)]
-pub(crate) struct KeptTens {
+pub(crate) struct CachedTens {
     tens: u32,
     digits: [u8; 7],
 }
 
-impl Model for KeptTens {
+impl Model for CachedTens {
     ghost use Rattle.std.specs.Prelude.{ℕ, ◌≡◌, ◌∷◌};
     ghost use Rattle.pm_code.specs.Shown.{padded};
 
@@ -68,10 +68,10 @@ impl Model for KeptTens {
     } };
 }
 
-impl KeptTens {
+impl CachedTens {
     /// The digits of 0.
-    pub(crate) fn new() -> KeptTens {
-        KeptTens {
+    pub(crate) fn new() -> CachedTens {
+        CachedTens {
             tens: 0,
             digits: seven_digits(0),
         }

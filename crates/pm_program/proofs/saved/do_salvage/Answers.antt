@@ -1,7 +1,7 @@
 use Rattle.std.proofs.Common.{rules}
 use Rattle.pm_streams.specs.Streams.{both}
-use Rattle.pm_program.proofs.KeptLaws.{known_salvage}
-use Rattle.pm_program.proofs.kept.do_salvage.Goals as goal
+use Rattle.pm_program.proofs.SavedLaws.{known_salvage}
+use Rattle.pm_program.proofs.saved.do_salvage.Goals as goal
 
 pub returns-clause-said : goal.returns-clause-said
 returns-clause-said g c = λ sound. known_salvage
@@ -11,4 +11,4 @@ returns-clause-said g c = λ sound. known_salvage
     _ c.args.plan c.in_ok-image.image c.run-outcome.result
     c.as_str-2.result.now c.as_str-3.result.now (search rules) (search rules)
     (c.run-outcome.ensures.exact sound) c.hold.ensures.stays c.read.ensures.stays c.in_ok-image.ensures.value
-    c.in_ok-keep_image.ensures.kept
+    c.in_ok-save_image.ensures.saved

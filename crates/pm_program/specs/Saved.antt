@@ -2,7 +2,7 @@
 use Rattle.std.specs.Prelude.{◌≡◌, ◌⊎◌, ⊤, ℕ, Bool, true, false, List, [], ◌∷◌}
 use Rattle.std.specs.Prelude.{Option, None, Some, Vec, option_map, vec_items, string_bytes}
 use Rattle.std.specs.declared.alloc.Global.{Global}
-use Rattle.pm_files.specs.Held.{Files, HoldsFile, Keeps, Locks, Puts, held_too}
+use Rattle.pm_files.specs.Held.{Files, HoldsFile, Saves, Locks, Puts, held_too}
 use Rattle.pm_filer.specs.Filed.{Order, ListFiles, Get, Put, Remove, Change, GetText}
 use Rattle.pm_filer.specs.Filed.{PutText, Krunch, Date, Zero, Duplicate, Single, GetSlot, GetTextSlot}
 use Rattle.pm_filer.specs.Filed.{RemoveSlot, ChangeSlot, order_of}
@@ -24,11 +24,11 @@ use Rattle.pm_choices.specs.declared.selection.Selection.{Selection}
 use Rattle.pm_plan.specs.declared.file_words.SalvagePlan.{SalvagePlan}
 use Rattle.pm_plan.specs.declared.file_words.Verb.{Verb}
 use Rattle.pm_plan.specs.declared.file_words.Verb.TheVariants as verbs
-use Rattle.pm_program.specs.declared.kept.KeptOfRun.{KeptOfRun}
+use Rattle.pm_program.specs.declared.saved.SavedOfRun.{SavedOfRun}
 use Rattle.pm_plan.specs.declared.run_words.Others.{Others}
-use Rattle.pm_program.specs.declared.kept.Printing.{Printing}
+use Rattle.pm_program.specs.declared.saved.Printing.{Printing}
 use Rattle.pm_plan.specs.declared.run_words.Program.{Program}
-use Rattle.pm_program.specs.declared.kept.Printing.TheVariants as printings
+use Rattle.pm_program.specs.declared.saved.Printing.TheVariants as printings
 
 -- a program came to an end of its own, of its steps or of its input
 abbrev pub has_run : Exit → Bool
@@ -56,12 +56,12 @@ PrintsIf false old new printing bytes = new ≡ old
 abbrev pub paths_of : List ℕ → Others → List (Option (List ℕ))
 paths_of disk others = Some disk ∷ other_paths others
 
--- the paths under which a run keeps the images of its units: none, that of unit 4, all, or all but that of unit 4
-abbrev pub kept_paths : Saving → List ℕ → Others → List (Option (List ℕ))
-kept_paths savings.Nothing disk others = None ∷ no_others
-kept_paths savings.First disk others = Some disk ∷ no_others
-kept_paths savings.All disk others = Some disk ∷ other_paths others
-kept_paths savings.Others disk others = None ∷ other_paths others
+-- the paths under which a run saves the images of its units: none, that of unit 4, all, or all but that of unit 4
+abbrev pub saved_paths : Saving → List ℕ → Others → List (Option (List ℕ))
+saved_paths savings.Nothing disk others = None ∷ no_others
+saved_paths savings.First disk others = Some disk ∷ no_others
+saved_paths savings.All disk others = Some disk ∷ other_paths others
+saved_paths savings.Others disk others = None ∷ other_paths others
 
 -- the paths whose files a run holds before it reads them: those of the images that it may write
 abbrev pub held_paths : Saving → List ℕ → Others → List (Option (List ℕ))
@@ -80,10 +80,10 @@ abbrev pub held_each : List (Option (List ℕ)) → Locks → Locks
 held_each [] held = held
 held_each (path ∷ paths) held = held_each paths (held_at path held)
 
--- an image, if there is one, is kept under a path, if there is one
-abbrev pub KeepsAt : Files → Files → Option (List ℕ) → Option (List ℕ) → Type 0
-KeepsAt old new None image = new ≡ old
-KeepsAt old new (Some path) image = Keeps old new path image
+-- an image, if there is one, is saved under a path, if there is one
+abbrev pub SavesAt : Files → Files → Option (List ℕ) → Option (List ℕ) → Type 0
+SavesAt old new None image = new ≡ old
+SavesAt old new (Some path) image = Saves old new path image
 
 -- the first of some images, and those behind it
 abbrev pub first_image : List (Option (List ℕ)) → Option (List ℕ)
@@ -94,17 +94,17 @@ abbrev pub next_images : List (Option (List ℕ)) → List (Option (List ℕ))
 next_images [] = []
 next_images (image ∷ images) = images
 
--- images are kept under their paths, one behind the other
-abbrev pub KeepsEach : Files → Files → List (Option (List ℕ)) → List (Option (List ℕ)) → Type 0
-KeepsEach old new [] images = new ≡ old
-KeepsEach old new (path ∷ paths) images = (between : Files)
-    × KeepsAt old between path (first_image images) × KeepsEach between new paths (next_images images)
+-- images are saved under their paths, one behind the other
+abbrev pub SavesEach : Files → Files → List (Option (List ℕ)) → List (Option (List ℕ)) → Type 0
+SavesEach old new [] images = new ≡ old
+SavesEach old new (path ∷ paths) images = (between : Files)
+    × SavesAt old between path (first_image images) × SavesEach between new paths (next_images images)
 
 -- First the images that the outcome has, in the order of their units, and then the printer's bytes, if the program has
 -- run: these stand under their paths, and nothing else has changed.
-abbrev pub KeepsRun : Files → Files → List (Option (List ℕ)) → Printing → Outcome → Type 0
-KeepsRun old new paths printing outcome = (between : Files)
-    × KeepsEach old between paths (option_map vec_items outcome.image ∷ others_of outcome.others)
+abbrev pub SavesRun : Files → Files → List (Option (List ℕ)) → Printing → Outcome → Type 0
+SavesRun old new paths printing outcome = (between : Files)
+    × SavesEach old between paths (option_map vec_items outcome.image ∷ others_of outcome.others)
     × PrintsIf (has_run outcome.exit) between new printing outcome.printer.items
 
 -- a command on a volume may change it
@@ -138,27 +138,27 @@ abbrev pub held_by : Bool → List ℕ → Locks → Locks
 held_by true path held = held_too path held
 held_by false path held = held
 
--- images are kept under the first of their paths, as many as may be, and nothing else has changed
-abbrev pub KeepsFront : Files → Files → List (Option (List ℕ)) → List (Option (List ℕ)) → Type 0
-KeepsFront old new [] images = new ≡ old
-KeepsFront old new (path ∷ paths) images = (new ≡ old) ⊎ ((between : Files)
-    × KeepsAt old between path (first_image images) × KeepsFront between new paths (next_images images))
+-- images are saved under the first of their paths, as many as may be, and nothing else has changed
+abbrev pub SavesFront : Files → Files → List (Option (List ℕ)) → List (Option (List ℕ)) → Type 0
+SavesFront old new [] images = new ≡ old
+SavesFront old new (path ∷ paths) images = (new ≡ old) ⊎ ((between : Files)
+    × SavesAt old between path (first_image images) × SavesFront between new paths (next_images images))
 
 -- the same of any images
-abbrev pub KeepsSome : Files → Files → List (Option (List ℕ)) → Type 0
-KeepsSome old new paths = (images : List (Option (List ℕ))) × KeepsFront old new paths images
+abbrev pub SavesSome : Files → Files → List (Option (List ℕ)) → Type 0
+SavesSome old new paths = (images : List (Option (List ℕ))) × SavesFront old new paths images
 
 -- A verb of `files` is told to the image that the path holds and to the input: then the file keeps the image that is
 -- said of them, if one is, and nothing else has changed. A new volume is told to the input alone.
-abbrev pub KeepsSaid : Files → Files → List ℕ → Verb → List ℕ → Type 0
-KeepsSaid old new path (verbs.Command command) input = (image : List ℕ)
-    × HoldsFile old path image × Keeps old new path (said_files image (order_of command) input).image
-KeepsSaid old new path (verbs.New name blocks) input =
-    Keeps old new path (said_new (blank_fault (string_bytes name) blocks) (string_bytes name) blocks input).image
-KeepsSaid old new path verbs.Repair input = (image : List ℕ)
-    × HoldsFile old path image × Keeps old new path (said_repair image input).image
-KeepsSaid old new path verbs.Check input = (image : List ℕ)
-    × HoldsFile old path image × Keeps old new path (said_check image input).image
+abbrev pub SavesSaid : Files → Files → List ℕ → Verb → List ℕ → Type 0
+SavesSaid old new path (verbs.Command command) input = (image : List ℕ)
+    × HoldsFile old path image × Saves old new path (said_files image (order_of command) input).image
+SavesSaid old new path (verbs.New name blocks) input =
+    Saves old new path (said_new (blank_fault (string_bytes name) blocks) (string_bytes name) blocks input).image
+SavesSaid old new path verbs.Repair input = (image : List ℕ)
+    × HoldsFile old path image × Saves old new path (said_repair image input).image
+SavesSaid old new path verbs.Check input = (image : List ℕ)
+    × HoldsFile old path image × Saves old new path (said_check image input).image
 
 -- the job of a verb says to each input what the verb does of the image that the path holds
 abbrev pub SaysOf : Files → List ℕ → Verb → Job → Type 0
@@ -191,29 +191,29 @@ images_said told = told.image ∷ told.others
 
 -- first the images that are said, in the order of their units, under their paths, and then the printer's bytes, if the
 -- program has run; nothing else has changed
-abbrev pub KeepsTold : Files → Files → List (Option (List ℕ)) → Printing → Said → Type 0
-KeepsTold old new paths printing told = (between : Files)
-    × KeepsEach old between paths (told.image ∷ told.others)
+abbrev pub SavesTold : Files → Files → List (Option (List ℕ)) → Printing → Said → Type 0
+SavesTold old new paths printing told = (between : Files)
+    × SavesEach old between paths (told.image ∷ told.others)
     × PrintsIf (has_run told.exit) between new printing told.printer
 
 -- A program is run on the images that its paths hold, each on its unit, with the system's code file that its path
--- holds, if it has one: what is kept is what is said of them and of the input.
-abbrev pub KeepsRunSaid : Files → Files → Program → KeptOfRun → List ℕ → Type 0
-KeepsRunSaid old new program kept input = (disks : List (Option (Vec ℕ Global))) × (system : Option (Vec ℕ Global))
+-- holds, if it has one: what is saved is what is said of them and of the input.
+abbrev pub SavesRunSaid : Files → Files → Program → SavedOfRun → List ℕ → Type 0
+SavesRunSaid old new program saved input = (disks : List (Option (Vec ℕ Global))) × (system : Option (Vec ℕ Global))
     × ReadsEach old (paths_of (string_bytes program.disk) program.others) (images_of disks)
     × Reads old (option_map string_bytes program.system) (option_map vec_items system)
-    × KeepsTold old new (kept_paths kept.saving (string_bytes program.disk) program.others) kept.printing
-    (job_said (jobs.Run disks program.name program.limit kept.saving system) input)
+    × SavesTold old new (saved_paths saved.saving (string_bytes program.disk) program.others) saved.printing
+    (job_said (jobs.Run disks program.name program.limit saved.saving system) input)
 
 -- The files cannot all be written, or not be read: nothing has changed, or the images that are said of those that the
--- paths hold, and of the input, are kept under the first of the paths, in their order.
-abbrev pub KeepsFrontSaid : Files → Files → Program → KeptOfRun → List ℕ → Type 0
-KeepsFrontSaid old new program kept input = (new ≡ old) ⊎ ((disks : List (Option (Vec ℕ Global)))
+-- paths hold, and of the input, are saved under the first of the paths, in their order.
+abbrev pub SavesFrontSaid : Files → Files → Program → SavedOfRun → List ℕ → Type 0
+SavesFrontSaid old new program saved input = (new ≡ old) ⊎ ((disks : List (Option (Vec ℕ Global)))
     × (system : Option (Vec ℕ Global))
     × ReadsEach old (paths_of (string_bytes program.disk) program.others) (images_of disks)
     × Reads old (option_map string_bytes program.system) (option_map vec_items system)
-    × KeepsFront old new (kept_paths kept.saving (string_bytes program.disk) program.others)
-    (images_said (job_said (jobs.Run disks program.name program.limit kept.saving system) input)))
+    × SavesFront old new (saved_paths saved.saving (string_bytes program.disk) program.others)
+    (images_said (job_said (jobs.Run disks program.name program.limit saved.saving system) input)))
 
 -- A job of a program on the images that its paths hold, each on its unit, with the system's code file that its path
 -- holds, if it has one: what is written, answered and left unread is what is said of them and of the input.
@@ -236,6 +236,6 @@ TellsDebug files old new outcome program input =
 
 -- The files of the image that a path holds are saved: the path of the new volume keeps the one that is said of them, if
 -- one is, and nothing else has changed.
-abbrev pub KeepsSalvage : Files → Files → SalvagePlan → List ℕ → Type 0
-KeepsSalvage old new plan input = (image : List ℕ) × HoldsFile old (string_bytes plan.path) image
-    × Keeps old new (string_bytes plan.target) (said_salvage image plan.second input).image
+abbrev pub SavesSalvage : Files → Files → SalvagePlan → List ℕ → Type 0
+SavesSalvage old new plan input = (image : List ℕ) × HoldsFile old (string_bytes plan.path) image
+    × Saves old new (string_bytes plan.target) (said_salvage image plan.second input).image

@@ -9,7 +9,7 @@ use Rattle.pm_volume.specs.Changes.{with_directory, with_name, without_file, wit
 use Rattle.pm_volume.specs.Directory.{IsVolume, block_count, directory_of, file_count, files_begin}
 use Rattle.pm_volume.specs.Files.{file_bytes, files_of}
 use Rattle.pm_volume.specs.Headers.{last_date_of, new_directory}
-use Rattle.pm_volume.specs.Kept.{ChangesOnly, IsOutside, KeepsFile, KeepsFiles, Span, count_span, date_span, directory_span, name_span, slots_span}
+use Rattle.pm_volume.specs.Stays.{ChangesOnly, IsOutside, FileStays, FilesStay, Span, count_span, date_span, directory_span, name_span, slots_span}
 use Rattle.pm_volume.specs.Names.{name_field}
 use Rattle.pm_volume.specs.Words.{with_word_in, written}
 use Rattle.pm_volume.specs.declared.entry.Entry.{Entry}
@@ -52,12 +52,12 @@ pub length-with_directory : (image d : List ℕ) → 3072 ≤ length image → l
 length-with_directory image d long size = length-written image 1024 d (omega arith)
 
 -- a file keeps its bytes where no byte of its blocks changes
-pub KeepsFile-from_outside : (old new : List ℕ) (e : Entry) → length new ≡ length old → 512 * e.end ≤ length old
+pub FileStays-from_outside : (old new : List ℕ) (e : Entry) → length new ≡ length old → 512 * e.end ≤ length old
     → e.first ≤ e.end → (e.first < e.end → e.last_bytes ≤ 512)
     → ((place : ℕ) → 512 * e.first ≤ place → place < 512 * e.end → get_or new place 0 ≡ get_or old place 0)
-    → KeepsFile old new e
+    → FileStays old new e
 unfolding file_bytes
-KeepsFile-from_outside old new e size within ordered one_block same = record {
+FileStays-from_outside old new e size within ordered one_block same = record {
   bytes = elim (cases_lt e.first e.end) [
     | inl some ↦
         let more = lt-leb e.end e.first some in
@@ -77,10 +77,10 @@ pub files_within : (image : List ℕ) → IsVolume image → All (IsWithin (file
 files_within image v = all_within (block_count (directory_of image)) (files_begin (directory_of image)) (files_of image) v.has_directory.in_order
 
 -- all files keep their bytes where the directory alone is another one
-pub KeepsFiles-with_directory : (image d : List ℕ) → IsVolume image → length d ≡ 2048 → KeepsFiles image (with_directory image d)
-KeepsFiles-with_directory image d v size =
-    All-weaker (IsWithin (files_begin (directory_of image)) (block_count (directory_of image))) (KeepsFile image (with_directory image d))
-    (λ e w. KeepsFile-from_outside image (with_directory image d) e (length-with_directory image d v.long size)
+pub FilesStay-with_directory : (image d : List ℕ) → IsVolume image → length d ≡ 2048 → FilesStay image (with_directory image d)
+FilesStay-with_directory image d v size =
+    All-weaker (IsWithin (files_begin (directory_of image)) (block_count (directory_of image))) (FileStays image (with_directory image d))
+    (λ e w. FileStays-from_outside image (with_directory image d) e (length-with_directory image d v.long size)
     (omega (arith, w.within, v.has_directory.within, v.whole)) w.ordered w.one_block
     (λ place from to.
     with_directory_outside image d place v.long size
@@ -138,8 +138,8 @@ module _ (image : List ℕ) (v : IsVolume image) where
           (λ place out after below. get_written_outside d (26 * n + 6) field (place - 1024) (omega (arith, whole, v.has_directory.few))
           (rw end (shifted 1024 (26 * n + 6) (26 * n + 22) place after out.0)))
 
-      pub KeepsFiles-named : KeepsFiles image (with_name image n name)
-      KeepsFiles-named = KeepsFiles-with_directory image (written (directory_of image) (26 * n + 6) (name_field 15 name)) v length-with_name
+      pub FilesStay-named : FilesStay image (with_name image n name)
+      FilesStay-named = FilesStay-with_directory image (written (directory_of image) (26 * n + 6) (name_field 15 name)) v length-with_name
 
     -- a removed file
     pub ChangesOnly-removed : ChangesOnly (removed_first (directory_of image) n) image (without_file image n)
@@ -151,7 +151,7 @@ module _ (image : List ℕ) (v : IsVolume image) where
         (λ place out after below. without_slot_outside d n whole few from to (place - 1024)
         (shifted 1024 16 18 place after out.0) (shifted 1024 (26 * n) (26 * (file_count d + 1)) place after out.1.0))
 
-    pub KeepsFiles-removed : KeepsFiles image (without_file image n)
-    KeepsFiles-removed =
+    pub FilesStay-removed : FilesStay image (without_file image n)
+    FilesStay-removed =
         let d = directory_of image in
-        KeepsFiles-with_directory image (without_slot d n) v (length-without_slot d n (length-directory image v.long) v.has_directory.few from to)
+        FilesStay-with_directory image (without_slot d n) v (length-without_slot d n (length-directory image v.long) v.has_directory.few from to)

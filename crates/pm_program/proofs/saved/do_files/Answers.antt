@@ -1,11 +1,11 @@
 use Rattle.pm_streams.specs.Streams.{both}
-use Rattle.pm_program.proofs.KeptLaws.{known_keeps_said}
-use Rattle.pm_program.proofs.kept.do_files.Goals as goal
+use Rattle.pm_program.proofs.SavedLaws.{known_saves_said}
+use Rattle.pm_program.proofs.saved.do_files.Goals as goal
 
 pub returns-clause-said : goal.returns-clause-said
-returns-clause-said g c = λ sound. known_keeps_said
+returns-clause-said g c = λ sound. known_saves_said
     (both (g.I.Source.seen c.args.source.now) (g.O.Sink.seen c.args.sink.now))
     (both (g.I.Source.seen c.run-outcome.new.source) (g.O.Sink.seen c.run-outcome.new.sink))
     (g.S.Store.files c.args.store.now) (g.S.Store.files c.files_job.new.store)
     _ c.args.path.now c.args.verb c.in_ok-job.job c.run-outcome.result (c.run-outcome.ensures.exact sound) c.in_ok-job.ensures.job
-    c.in_ok-job.ensures.stays c.in_ok-keep_image.ensures.kept
+    c.in_ok-job.ensures.stays c.in_ok-save_image.ensures.saved

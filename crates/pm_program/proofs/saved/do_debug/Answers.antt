@@ -1,12 +1,12 @@
 use Rattle.std.proofs.Common.{rules}
 use Rattle.pm_tool.specs.declared.outcome.Job.TheVariants as jobs
 use Rattle.pm_streams.specs.Streams.{both}
-use Rattle.pm_program.proofs.KeptLaws.{known_tells}
-use Rattle.pm_program.proofs.kept.do_trace.Goals as goal
+use Rattle.pm_program.proofs.SavedLaws.{known_tells}
+use Rattle.pm_program.proofs.saved.do_debug.Goals as goal
 
 pub returns-clause-said : goal.returns-clause-said
 returns-clause-said g c = λ sound. known_tells
-    (λ disks system. jobs.Trace disks c.args.program.name c.args.program.limit system c.args.selection)
+    (λ disks system. jobs.Debug disks c.args.program.name system)
     (both (g.I.Source.seen c.args.source.now) (g.O.Sink.seen c.args.sink.now)) (both (g.I.Source.seen c.run.new.source) (g.O.Sink.seen c.run.new.sink))
     (g.S.Store.files c.args.store.now)
     c.args.program c.in_ok-disks.disks c.in_ok-disks.system c.run.result c.as_str-disk.result.now (search rules)

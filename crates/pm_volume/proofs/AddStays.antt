@@ -3,13 +3,13 @@ use Rattle.std.proofs.Common.{◌≡◌, ◌<◌, ◌≤◌, ◌⊎◌, ℕ, ◌
 use Rattle.pm_volume.specs.Changes.{FitsSlot, blocks_for, new_entry, entry_slot, with_directory, with_file, with_slot}
 use Rattle.pm_volume.specs.Directory.{IsVolume, directory_of, file_count}
 use Rattle.pm_volume.specs.Files.{files_of}
-use Rattle.pm_volume.specs.Kept.{ChangesOnly, KeepsFiles, Span, blocks_span, count_span, slots_span}
+use Rattle.pm_volume.specs.Stays.{ChangesOnly, FilesStay, Span, blocks_span, count_span, slots_span}
 use Rattle.pm_volume.specs.declared.entry.Entry.{Entry}
 use Rattle.pm_volume.specs.declared.gap.Gap.{Gap}
 use Rattle.pm_volume.proofs.DirectoryLaws.{past_directory}
 use Rattle.pm_volume.proofs.EntryLaws.{length-slot_of}
 use Rattle.pm_volume.proofs.FileLaws.{length-with_file, outside_file}
-use Rattle.pm_volume.proofs.KeptLaws.{KeepsFile-from_outside, files_within, with_directory_outside, with_directory_same}
+use Rattle.pm_volume.proofs.StayLaws.{FileStays-from_outside, files_within, with_directory_outside, with_directory_same}
 use Rattle.pm_volume.proofs.PlaceLaws.{IsPlaced, IsRoomFor, IsRoomFor-placed, gap_in}
 use Rattle.pm_volume.proofs.SlotChanges.{length-with_slot, with_slot_outside}
 use Rattle.pm_volume.proofs.WrittenLaws.{length-directory, shifted}
@@ -66,12 +66,12 @@ module _ (image name bytes : List ℕ) (kind date : ℕ) (g : Gap) (v : IsVolume
   apart e place (inl before) from to = inl (omega arith)
   apart e place (inr behind) from to = inr (omega (arith, r.fits))
 
-  pub KeepsFiles-added : KeepsFiles image (with_file image g.place (new_entry g name kind (length bytes) date) bytes)
+  pub FilesStay-added : FilesStay image (with_file image g.place (new_entry g name kind (length bytes) date) bytes)
   unfolding d entry
-  KeepsFiles-added = λ k e h.
+  FilesStay-added = λ k e h.
       let w = files_within image v k e h in
       let out = (gap_in image name (blocks_for (length bytes)) g v p).apart k e h in
-      KeepsFile-from_outside image (with_file image g.place entry bytes) _ long (omega (arith, w.within, v.has_directory.within, v.whole)) w.ordered w.one_block
+      FileStays-from_outside image (with_file image g.place entry bytes) _ long (omega (arith, w.within, v.has_directory.within, v.whole)) w.ordered w.one_block
       (λ place from to. outside place (apart (get_or (files_of image) k e) place out from to)
       ∙ with_directory_outside image d place v.long size
       (inr (omega (arith, w.after, past_directory (directory_of image) (length image / 512) v.has_directory))))

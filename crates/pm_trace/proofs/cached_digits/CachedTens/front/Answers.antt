@@ -1,6 +1,6 @@
 use Rattle.std.proofs.Common.{◌/◌, refl, arith}
 use Rattle.pm_trace.proofs.Zeros.{last_of_eight, seven_digits}
-use Rattle.pm_trace.proofs.kept_digits.KeptTens.front.Goals as goal
+use Rattle.pm_trace.proofs.cached_digits.CachedTens.front.Goals as goal
 
 pub returns : goal.returns
 returns c = record {

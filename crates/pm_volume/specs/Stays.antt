@@ -13,13 +13,13 @@ abbrev pub blocks_of : List ℕ → Entry → List ℕ
 blocks_of image e = slice_range image (BLOCK * e.first) (BLOCK * e.end)
 
 -- a file has the same bytes in two images, those of its last block behind the file's end too
-pub record KeepsFile (old new : List ℕ) (e : Entry) : Type 0 where
+pub record FileStays (old new : List ℕ) (e : Entry) : Type 0 where
   pub bytes : file_bytes new e ≡ file_bytes old e
   pub blocks : blocks_of new e ≡ blocks_of old e
 
 -- each file that was there has its bytes where they were
-abbrev pub KeepsFiles : List ℕ → List ℕ → Type 0
-KeepsFiles old new = All (KeepsFile old new) (files_of old)
+abbrev pub FilesStay : List ℕ → List ℕ → Type 0
+FilesStay old new = All (FileStays old new) (files_of old)
 
 -- the bytes of an image from one place on, up to another
 pub record Span : Type 0 where

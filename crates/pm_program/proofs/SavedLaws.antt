@@ -1,0 +1,289 @@
+-- What a verb of `files` keeps is what its job says.
+use Rattle.std.proofs.Common.{◌≡◌, ◌∙◌, ◌∷◌, [], ℕ, Bool, true, false, List, Option, None, Some, Result, Ok, Err}
+use Rattle.std.proofs.Common.{OnOk, OnErr, inl, inr}
+use Rattle.std.proofs.Common.{refl, sym, subst, IfOk, IfSome, option_map, vec_items, string_bytes, Vec}
+use Rattle.std.specs.Result.{result_and}
+use Rattle.std.specs.declared.alloc.Global.{Global}
+use Rattle.pm_files.specs.Held.{Files, HoldsFile, Saves, Puts}
+use Rattle.pm_tool.specs.Outcomes.{Said, IsOutcome, is_sound_exit, no_others, others_of}
+use Rattle.pm_streams.specs.Streams.{Streams}
+use Rattle.pm_tool.specs.Said.{job_said, IsCutShort, IsSoundExit, Tells, TellsAll}
+use Rattle.pm_tool.specs.declared.outcome.Exit.{Exit}
+use Rattle.pm_tool.specs.declared.outcome.Exit.TheVariants as exits
+use Rattle.pm_tool.specs.declared.outcome.Job.{Job}
+use Rattle.pm_tool.specs.declared.outcome.Outcome.{Outcome}
+use Rattle.pm_program.specs.Saved.{SavesEach, SavesFront, SavesFrontSaid, SavesRun, SavesRunSaid, SavesSaid, SavesSalvage}
+use Rattle.pm_program.specs.Saved.{SavesTold, PrintsIf, Reads, images_said}
+use Rattle.pm_program.specs.Saved.{ReadsEach, SaysOf, TellsOf, first_image, has_run, saved_paths, next_images, paths_of}
+use Rattle.pm_program.specs.declared.saved.SavedOfRun.{SavedOfRun}
+use Rattle.pm_choices.specs.declared.saving.Saving.{Saving}
+use Rattle.pm_plan.specs.declared.run_words.Others.{Others}
+use Rattle.pm_plan.specs.declared.run_words.Program.{Program}
+use Rattle.pm_tool.specs.Disks.{images_of}
+use Rattle.pm_tool.specs.declared.outcome.Job.TheVariants as jobs
+use Rattle.pm_program.specs.declared.saved.Printing.{Printing}
+use Rattle.pm_plan.specs.declared.file_words.SalvagePlan.{SalvagePlan}
+use Rattle.pm_plan.specs.declared.file_words.Verb.{Verb}
+use Rattle.pm_plan.specs.declared.file_words.Verb.TheVariants as verbs
+
+-- there is no image among them
+abbrev AreNone : List (Option (List ℕ)) → Type 0
+AreNone [] = Unit {0}
+AreNone (None ∷ images) = AreNone images
+AreNone (Some image ∷ images) = ⊥
+
+saves_said : (old new : Files) (path : List ℕ) (verb : Verb) (job : Job) (input : List ℕ) → SaysOf old path verb job
+    → Saves old new path (job_said job input).image → SavesSaid old new path verb input
+saves_said old new path (verbs.Command command) job input says saves =
+    (says.0, says.1, subst (λ told. Saves old new path told.image) (says.2 input) saves)
+saves_said old new path (verbs.New name blocks) job input says saves =
+    subst (λ told. Saves old new path told.image) (says input) saves
+saves_said old new path verbs.Repair job input says saves =
+    (says.0, says.1, subst (λ told. Saves old new path told.image) (says.2 input) saves)
+saves_said old new path verbs.Check job input says saves =
+    (says.0, says.1, subst (λ told. Saves old new path told.image) (says.2 input) saves)
+
+-- where the input is known, the file keeps what is said to it
+pub known_saves_said : (before after : Streams) (old read new : Files) (path : List ℕ) (verb : Verb) (job : Job)
+    (outcome : Outcome) → TellsAll before after outcome (job_said job) → SaysOf old path verb job
+    → read ≡ old → Saves read new path (option_map vec_items outcome.image)
+    → IfSome before.source.remaining (λ input. SavesSaid old new path verb input)
+known_saves_said before after old read new path verb job outcome tells says same saves = known before.source.remaining tells
+  where
+    known : (had : Option (List ℕ)) → IfSome had (λ input. Tells before after outcome (job_said job input))
+        → IfSome had (λ input. SavesSaid old new path verb input)
+    known None told = tt
+    known (Some input) told =
+        saves_said old new path verb job input says
+        (subst (Saves old new path) told.comes_to.image
+        (subst (λ files. Saves files new path (option_map vec_items outcome.image)) same saves))
+
+-- a file that has these bytes is as if they were put there
+pub puts_same : (files : Files) (path bytes : List ℕ) → HoldsFile files path bytes → Puts files files path bytes
+puts_same None path bytes holds = tt
+puts_same (Some files) path bytes holds = (holds, λ other differs. refl)
+
+-- of one path alone the image behind it is saved
+pub each_alone : (old new : Files) (path : List ℕ) (image : Option (List ℕ)) (others : List (Option (List ℕ)))
+    → Saves old new path image → SavesEach old new (Some path ∷ no_others) (image ∷ others)
+each_alone old new path image others saves =
+    (new, saves, (new, refl, (new, refl, (new, refl, (new, refl, (new, refl, refl))))))
+
+-- what is saved of some images is a front of what may be
+each_front : (old new : Files) (paths images : List (Option (List ℕ))) → SavesEach old new paths images
+    → SavesFront old new paths images
+each_front old new [] images saves = saves
+each_front old new (path ∷ paths) images saves =
+    inr (saves.0, saves.1, each_front saves.0 new paths (next_images images) saves.2)
+
+-- where the printer's bytes are not saved the images are
+pub printer_front : (old new last : Files) (paths images : List (Option (List ℕ))) → SavesEach old new paths images
+    → last ≡ new → SavesFront old last paths images
+printer_front old new last paths images saves stays =
+    subst (λ files. SavesFront old files paths images) (sym stays) (each_front old new paths images saves)
+
+-- what follows where a result is good, or an error
+pub where_ok : {X Y A B : Type 0} (r : Result X Y) → (A → B) → OnOk r A → OnOk r B
+where_ok (Ok x) f a = f a
+where_ok (Err e) f a = tt
+
+pub where_err : {X Y A B : Type 0} (r : Result X Y) → (A → B) → OnErr r A → OnErr r B
+where_err (Ok x) f a = tt
+where_err (Err e) f a = f a
+
+-- what is known of an outcome behind a good result
+pub and_ok : {A B E Q : Type 0} (P : B → Type 0) (r : Result A E) (x : B) → (Q → P x) → OnOk r Q
+    → IfOk (result_and r (Ok x)) P
+and_ok P (Ok a) x f q = f q
+and_ok P (Err e) x f q = tt
+
+-- what a run saves of its outcome is what it saves of what is said
+run_told : (old new : Files) (paths : List (Option (List ℕ))) (printing : Printing) (outcome : Outcome) (told : Said)
+    → IsOutcome outcome told → SavesRun old new paths printing outcome → SavesTold old new paths printing told
+run_told old new paths printing outcome told is saves = (
+  saves.0,
+  subst (λ image. SavesEach old saves.0 paths (image ∷ told.others)) is.image
+      (subst (λ others. SavesEach old saves.0 paths (option_map vec_items outcome.image ∷ others)) is.others saves.1),
+  subst (PrintsIf (has_run told.exit) saves.0 new printing) is.printer
+      (subst (λ exit. PrintsIf (has_run exit) saves.0 new printing outcome.printer.items) is.exit saves.2),
+)
+
+-- a front of the images of an outcome is one of those that are said
+said_front : (old new : Files) (paths : List (Option (List ℕ))) (outcome : Outcome) (told : Said)
+    → IsOutcome outcome told → SavesFront old new paths (option_map vec_items outcome.image ∷ others_of outcome.others)
+    → SavesFront old new paths (images_said told)
+said_front old new paths outcome told is saves =
+    subst (λ image. SavesFront old new paths (image ∷ told.others)) is.image
+    (subst (λ others. SavesFront old new paths (option_map vec_items outcome.image ∷ others)) is.others saves)
+
+-- what is saved of the files that were read is saved of those that they are as before
+pub run_saves : (old read new : Files) (to disk : List ℕ) (others : Others) (saved : SavedOfRun) (outcome : Outcome)
+    → read ≡ old → to ≡ disk → SavesRun read new (saved_paths saved.saving to others) saved.printing outcome
+    → SavesRun old new (saved_paths saved.saving disk others) saved.printing outcome
+run_saves old read new to disk others saved outcome same is saves =
+    subst (λ files. SavesRun files new (saved_paths saved.saving disk others) saved.printing outcome) same
+    (subst (λ path. SavesRun read new (saved_paths saved.saving path others) saved.printing outcome) is saves)
+
+-- where the input is known, a run saves what is said to it of the images that were read
+pub known_run_said : (before after : Streams) (old new : Files) (program : Program) (saved : SavedOfRun)
+    (disks : List (Option (Vec ℕ Global))) (system : Option (Vec ℕ Global)) (outcome : Outcome)
+    → TellsAll before after outcome (job_said (jobs.Run disks program.name program.limit saved.saving system))
+    → ReadsEach old (paths_of (string_bytes program.disk) program.others) (images_of disks)
+    → Reads old (option_map string_bytes program.system) (option_map vec_items system)
+    → SavesRun old new (saved_paths saved.saving (string_bytes program.disk) program.others) saved.printing outcome
+    → IfSome before.source.remaining (λ input. SavesRunSaid old new program saved input)
+known_run_said before after old new program saved disks system outcome tells reads given saves =
+    known before.source.remaining tells
+  where
+    known : (had : Option (List ℕ))
+        → IfSome had (λ input. Tells before after outcome (job_said (jobs.Run disks program.name program.limit saved.saving system) input))
+        → IfSome had (λ input. SavesRunSaid old new program saved input)
+    known None told = tt
+    known (Some input) told = (
+      disks,
+      system,
+      reads,
+      given,
+      run_told old new (saved_paths saved.saving (string_bytes program.disk) program.others) saved.printing outcome _ told.comes_to saves,
+    )
+
+-- of no images nothing is saved
+each_none : (old new : Files) (paths images : List (Option (List ℕ))) → AreNone images → SavesEach old new paths images
+    → new ≡ old
+each_none old new [] images none saves = saves
+each_none old new (None ∷ paths) [] none saves = each_none saves.0 new paths [] tt saves.2 ∙ saves.1
+each_none old new (Some path ∷ paths) [] none saves = each_none saves.0 new paths [] tt saves.2 ∙ saves.1
+each_none old new (None ∷ paths) (None ∷ images) none saves = each_none saves.0 new paths images none saves.2 ∙ saves.1
+each_none old new (Some path ∷ paths) (None ∷ images) none saves =
+    each_none saves.0 new paths images none saves.2 ∙ saves.1
+each_none old new (path ∷ paths) (Some image ∷ images) none saves = absurd none
+
+-- a program that was cut short has not run
+not_run : (exit : Exit) → IsCutShort exit → has_run exit ≡ false
+not_run exits.Ended cut = absurd (cc)
+not_run exits.Usage cut = refl
+not_run exits.Refused cut = refl
+not_run exits.ExecutionError cut = absurd (cc)
+not_run exits.ReadFault cut = refl
+not_run exits.WriteFault cut = refl
+not_run exits.NoMemory cut = refl
+not_run exits.Stopped cut = absurd (cc)
+
+-- of a run that was cut short nothing is saved
+pub cut_run : (old new : Files) (paths : List (Option (List ℕ))) (printing : Printing) (outcome : Outcome)
+    → IsCutShort outcome.exit → outcome.image ≡ None → others_of outcome.others ≡ no_others
+    → SavesRun old new paths printing outcome → new ≡ old
+cut_run old new paths printing outcome cut image others saves =
+    subst (λ runs. PrintsIf runs saves.0 new printing outcome.printer.items) (not_run outcome.exit cut) saves.2
+    ∙ each_none old saves.0 paths (None ∷ no_others) tt
+    (subst (λ image. SavesEach old saves.0 paths (option_map vec_items image ∷ no_others)) image
+    (subst (λ others. SavesEach old saves.0 paths (option_map vec_items outcome.image ∷ others)) others saves.1))
+
+-- what is known behind an error
+pub and_err : {A B E : Type 0} (P : Type 0) (r : Result A E) (x : B) → OnErr r P → OnErr (result_and r (Ok x)) P
+and_err P (Ok a) x p = tt
+and_err P (Err e) x p = p
+
+-- a front of what is saved, over the files that were read, is one over those that they are as before
+pub front_from : (old read new : Files) (to disk : List ℕ) (others : Others) (saving : Saving)
+    (images : List (Option (List ℕ))) → read ≡ old → to ≡ disk → SavesFront read new (saved_paths saving to others) images
+    → SavesFront old new (saved_paths saving disk others) images
+front_from old read new to disk others saving images same is saves =
+    subst (λ files. SavesFront files new (saved_paths saving disk others) images) same
+    (subst (λ path. SavesFront read new (saved_paths saving path others) images) is saves)
+
+-- a front of no images is none
+front_none : (old new : Files) (paths images : List (Option (List ℕ))) → AreNone images
+    → SavesFront old new paths images → new ≡ old
+front_none old new [] images none saves = saves
+front_none old new (path ∷ paths) images none (inl same) = same
+front_none old new (None ∷ paths) [] none (inr saves) = front_none saves.0 new paths [] tt saves.2 ∙ saves.1
+front_none old new (Some path ∷ paths) [] none (inr saves) = front_none saves.0 new paths [] tt saves.2 ∙ saves.1
+front_none old new (None ∷ paths) (None ∷ images) none (inr saves) =
+    front_none saves.0 new paths images none saves.2 ∙ saves.1
+front_none old new (Some path ∷ paths) (None ∷ images) none (inr saves) =
+    front_none saves.0 new paths images none saves.2 ∙ saves.1
+front_none old new (path ∷ paths) (Some image ∷ images) none (inr saves) = absurd none
+
+-- where the input is known, the first of the images are those that are said to it of the images that were read
+pub known_front_said : (before after : Streams) (old new : Files) (program : Program) (saved : SavedOfRun)
+    (disks : List (Option (Vec ℕ Global))) (system : Option (Vec ℕ Global)) (outcome : Outcome)
+    → (IsSoundExit outcome.exit
+    → TellsAll before after outcome (job_said (jobs.Run disks program.name program.limit saved.saving system)))
+    → (IsCutShort outcome.exit
+    → (outcome.image ≡ None) × (others_of outcome.others ≡ no_others) × (outcome.printer.items ≡ []))
+    → ReadsEach old (paths_of (string_bytes program.disk) program.others) (images_of disks)
+    → Reads old (option_map string_bytes program.system) (option_map vec_items system)
+    → SavesFront old new (saved_paths saved.saving (string_bytes program.disk) program.others)
+    (option_map vec_items outcome.image ∷ others_of outcome.others)
+    → IfSome before.source.remaining (λ input. SavesFrontSaid old new program saved input)
+known_front_said before after old new program saved disks system outcome tells nothing reads given saves =
+    known before.source.remaining (is_sound_exit outcome.exit) refl tells
+  where
+    known : (had : Option (List ℕ)) (sound : Bool) → is_sound_exit outcome.exit ≡ sound
+        → (IsSoundExit outcome.exit → IfSome had (λ input.
+        Tells before after outcome (job_said (jobs.Run disks program.name program.limit saved.saving system) input)))
+        → IfSome had (λ input. SavesFrontSaid old new program saved input)
+    known None sound is told = tt
+    known (Some input) true is told =
+        inr (
+          disks,
+          system,
+          reads,
+          given,
+          said_front old new
+              (saved_paths saved.saving (string_bytes program.disk) program.others) outcome _ (told is).comes_to saves,
+        )
+    known (Some input) false is told =
+        inl (front_none old new (saved_paths saved.saving (string_bytes program.disk) program.others) (None ∷ no_others) tt
+        (subst (λ image. SavesFront old new (saved_paths saved.saving (string_bytes program.disk) program.others)
+        (option_map vec_items image ∷ no_others)) (nothing is).0
+        (subst (λ others. SavesFront old new (saved_paths saved.saving (string_bytes program.disk) program.others)
+        (option_map vec_items outcome.image ∷ others)) (nothing is).1 saves)))
+
+-- where the files cannot be read nothing has changed
+pub known_front_none : (had : Option (List ℕ)) (old new : Files) (program : Program) (saved : SavedOfRun) → new ≡ old
+    → IfSome had (λ input. SavesFrontSaid old new program saved input)
+known_front_none None old new program saved same = tt
+known_front_none (Some input) old new program saved same = inl same
+
+-- where the input is known, a job tells what is said to it of the images that were read
+pub known_tells : (job : List (Option (Vec ℕ Global)) → Option (Vec ℕ Global) → Job) (old new : Streams) (files : Files)
+    (program : Program) (disks : List (Option (Vec ℕ Global))) (system : Option (Vec ℕ Global)) (outcome : Outcome) (from : List ℕ)
+    → from ≡ string_bytes program.disk
+    → TellsAll old new outcome (job_said (job disks system))
+    → ReadsEach files (paths_of from program.others) (images_of disks)
+    → Reads files (option_map string_bytes program.system) (option_map vec_items system)
+    → IfSome old.source.remaining (λ input. TellsOf job files old new outcome program input)
+known_tells job old new files program disks system outcome from is_from tells reads given = known old.source.remaining tells
+  where
+    known : (had : Option (List ℕ))
+        → IfSome had (λ input. Tells old new outcome (job_said (job disks system) input))
+        → IfSome had (λ input. TellsOf job files old new outcome program input)
+    known None told = tt
+    known (Some input) told =
+        (disks, system, subst (λ path. ReadsEach files (paths_of path program.others) (images_of disks)) is_from reads, given, told)
+
+-- where the input is known, the new volume is the one that is said of the image that was read
+pub known_salvage : (before after : Streams) (old held read new : Files) (plan : SalvagePlan) (image : Vec ℕ Global)
+    (outcome : Outcome) (from to : List ℕ) → from ≡ string_bytes plan.path → to ≡ string_bytes plan.target
+    → TellsAll before after outcome (job_said (jobs.Salvage image plan.second))
+    → held ≡ old → read ≡ held → HoldsFile held from image.items
+    → Saves read new to (option_map vec_items outcome.image)
+    → IfSome before.source.remaining (λ input. SavesSalvage old new plan input)
+known_salvage before after old held read new plan image outcome from to is_from is_to tells same also holds saves =
+    known before.source.remaining tells
+  where
+    known : (had : Option (List ℕ))
+        → IfSome had (λ input. Tells before after outcome (job_said (jobs.Salvage image plan.second) input))
+        → IfSome had (λ input. SavesSalvage old new plan input)
+    known None told = tt
+    known (Some input) told = (
+      image.items,
+      subst (λ files. HoldsFile files (string_bytes plan.path) image.items) same
+          (subst (λ path. HoldsFile held path image.items) is_from holds),
+      subst (Saves old new (string_bytes plan.target)) told.comes_to.image
+          (subst (λ files. Saves files new (string_bytes plan.target) (option_map vec_items outcome.image)) same
+          (subst (λ files. Saves files new (string_bytes plan.target) (option_map vec_items outcome.image)) also
+          (subst (λ path. Saves read new path (option_map vec_items outcome.image)) is_to saves))),
+    )

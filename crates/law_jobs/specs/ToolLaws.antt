@@ -9,6 +9,7 @@ use Rattle.pm_choices.specs.declared.saving.Saving.{Saving}
 use Rattle.pm_choices.specs.declared.saving.Saving.TheVariants as savings
 use Rattle.pm_session.specs.declared.ending.Ending.TheVariants as endings
 use Rattle.pm_tool.specs.Disks.{booted}
+use Rattle.pm_choices.specs.declared.output.AsmOutput.TheVariants as asm
 use Rattle.pm_tool.specs.Run.{Run, ended_run, run_of}
 use Rattle.pm_tool.specs.declared.outcome.Exit.TheVariants as exits
 use Rattle.pm_tool.specs.declared.outcome.Job.TheVariants as jobs
@@ -117,4 +118,4 @@ pub record EndsAs (told other : Said) : Type 0 where
 
 -- all faults of a text are told with the end that its assembling has
 abbrev pub FaultsEndAsAssembling : Type 0
-FaultsEndAsAssembling = (input : List ℕ) → EndsAs (job_said jobs.AsmFaults input) (job_said (jobs.Asm false) input)
+FaultsEndAsAssembling = (input : List ℕ) → EndsAs (job_said (jobs.Asm asm.Faults) input) (job_said (jobs.Asm asm.File) input)

@@ -1,5 +1,7 @@
 -- Jobs that turn bytes into bytes: what each makes of its input, and which read it.
 use Rattle.std.specs.Prelude.{ℕ, Bool, true, false, List, Result, Ok, Err, string_bytes}
+use Rattle.pm_choices.specs.declared.output.AsmOutput.TheVariants as asm
+use Rattle.pm_choices.specs.declared.output.DisOutput.TheVariants as dis
 use Rattle.pm_volume.specs.Copies.{repaired}
 use Rattle.pm_volume.specs.Headers.{blank_fault}
 use Rattle.pm_volume.specs.declared.fault.VolumeFault.{VolumeFault}
@@ -14,12 +16,13 @@ use Rattle.pm_batch.specs.Products.{Product}
 
 -- what a job makes of its input
 abbrev pub made_of : Batch → List ℕ → Product
-made_of (batches.Asm list) input = made_asm list input
-made_of batches.AsmFaults input = made_faults input
-made_of batches.AsmSymbols input = made_symbols input
-made_of batches.Dis input = made_dis input
-made_of batches.DisNames input = made_dis_names input
-made_of batches.DisList input = made_dis_list input
+made_of (batches.Asm asm.File) input = made_asm false input
+made_of (batches.Asm asm.Listing) input = made_asm true input
+made_of (batches.Asm asm.Faults) input = made_faults input
+made_of (batches.Asm asm.Symbols) input = made_symbols input
+made_of (batches.Dis dis.Text) input = made_dis input
+made_of (batches.Dis dis.Names) input = made_dis_names input
+made_of (batches.Dis dis.Listing) input = made_dis_list input
 made_of (batches.Files opened command) input = made_file opened (order_of command) input
 made_of (batches.New name blocks) input =
     made_new (blank_fault (string_bytes name) blocks) (string_bytes name) blocks
@@ -34,12 +37,8 @@ reads_file (Err fault) order = false
 
 -- whether a job reads its input, to its end; else it reads none of it
 abbrev pub reads_input : Batch → Bool
-reads_input (batches.Asm list) = true
-reads_input batches.AsmFaults = true
-reads_input batches.AsmSymbols = true
-reads_input batches.Dis = true
-reads_input batches.DisNames = true
-reads_input batches.DisList = true
+reads_input (batches.Asm what) = true
+reads_input (batches.Dis what) = true
 reads_input (batches.Files opened command) = reads_file opened (order_of command)
 reads_input (batches.New name blocks) = false
 reads_input (batches.Repair image) = false

@@ -7,6 +7,7 @@ use crate::assembly::{assemble, find_faults, list_symbols};
 use crate::code::{disassemble, disassemble_named, list_file};
 use crate::files::{check_image, file, new_volume, repair_volume, salvage_image, takes_input};
 use crate::refusal::Refusal;
+use pm_choices::{AsmOutput, DisOutput};
 use pm_filer::FileCommand;
 use pm_volume::{Volume, VolumeFault};
 use std::alloc::{AllocError, Global};
@@ -14,20 +15,10 @@ use std::alloc::{AllocError, Global};
 /// A job that turns bytes into bytes.
 #[derive(Drop)]
 pub enum Batch {
-    /// The text of an assembler becomes a code file, or with `list` a listing.
-    Asm {
-        list: bool,
-    },
-    /// The faults of a text of the assembler.
-    AsmFaults,
-    /// A text of the assembler becomes a list of its procedures and labels.
-    AsmSymbols,
-    /// A code file becomes a text.
-    Dis,
-    /// A code file becomes a text with the names of procedures.
-    DisNames,
-    /// A code file becomes a listing.
-    DisList,
+    /// What `asm` writes of a text of the assembler.
+    Asm(AsmOutput),
+    /// What `dis` writes of a code file.
+    Dis(DisOutput),
     /// A command on a volume; an image that is none is refused.
     Files {
         opened: Result<Volume, VolumeFault>,
@@ -59,8 +50,7 @@ impl Batch {
         ensures value { result ≡ reads_input self.now }
     {
         match self {
-            Batch::Asm { .. } | Batch::AsmFaults | Batch::AsmSymbols => true,
-            Batch::Dis | Batch::DisNames | Batch::DisList => true,
+            Batch::Asm(_) | Batch::Dis(_) => true,
             Batch::Files { opened, command } => opened.is_ok() && takes_input(command),
             Batch::New { .. } | Batch::Repair { .. } | Batch::Check { .. } => false,
             Batch::Salvage { .. } => false,
@@ -89,12 +79,13 @@ pub fn make(alloc: Global, job: Batch, input: Vec<u8>) -> Result<Made, AllocErro
     ensures made { IfOk result (λ made. product_of made ≡ made_of job input.items) }
 {
     match job {
-        Batch::Asm { list } => assemble(alloc, input, list),
-        Batch::AsmFaults => find_faults(alloc, input),
-        Batch::AsmSymbols => list_symbols(alloc, input),
-        Batch::Dis => disassemble(alloc, &input),
-        Batch::DisNames => disassemble_named(alloc, &input),
-        Batch::DisList => list_file(alloc, &input),
+        Batch::Asm(AsmOutput::File) => assemble(alloc, input, false),
+        Batch::Asm(AsmOutput::Listing) => assemble(alloc, input, true),
+        Batch::Asm(AsmOutput::Faults) => find_faults(alloc, input),
+        Batch::Asm(AsmOutput::Symbols) => list_symbols(alloc, input),
+        Batch::Dis(DisOutput::Text) => disassemble(alloc, &input),
+        Batch::Dis(DisOutput::Names) => disassemble_named(alloc, &input),
+        Batch::Dis(DisOutput::Listing) => list_file(alloc, &input),
         Batch::Files { opened, command } => file(alloc, opened, command, input),
         Batch::New { name, blocks } => new_volume(alloc, name.as_str(), blocks),
         Batch::Repair { image } => Ok(repair_volume(image)),

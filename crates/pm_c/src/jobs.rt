@@ -1,10 +1,11 @@
 //! The jobs on texts and code: one call each.
+ghost use Rattle.std.specs.Prelude.{if◌then◌else◌};
 ghost use Rattle.pm_choices.specs.declared.selection.TheConstants.Selection.{ALL};
 ghost use Rattle.pm_tool.specs.Said.{job_said};
 ghost use Rattle.pm_c.specs.Answers.{Answers};
 
 use crate::answers::answer;
-use pm_tool::{Job, Selection};
+use pm_tool::{AsmOutput, DisOutput, Job, Selection};
 use std::alloc::Global;
 
 /// Gives the code file of a text of the assembler, or with `list` its listing: 0. 2 where the text is refused, and the
@@ -21,9 +22,11 @@ pub extern "C" fn pmach_assemble(
     out: &mut [u8],
     needed: &mut usize,
 ) -> u32
-    ensures answers { Answers (job_said (Job.Asm list) text.now) result out.old out.new needed.new }
+    ensures answers { Answers (job_said (Job.Asm (if list then AsmOutput.Listing else AsmOutput.File)) text.now) result out.old
+        out.new needed.new }
 {
-    answer(alloc, text, Job::Asm { list }, out, needed)
+    let what = if list { AsmOutput::Listing } else { AsmOutput::File };
+    answer(alloc, text, Job::Asm(what), out, needed)
 }
 
 /// Gives the text of a code file: 0. 2 where the bytes are no code file, and the answer then says why.
@@ -34,9 +37,9 @@ pub extern "C" fn pmach_disassemble(
     out: &mut [u8],
     needed: &mut usize,
 ) -> u32
-    ensures answers { Answers (job_said Job.Dis file.now) result out.old out.new needed.new }
+    ensures answers { Answers (job_said (Job.Dis DisOutput.Text) file.now) result out.old out.new needed.new }
 {
-    answer(alloc, file, Job::Dis, out, needed)
+    answer(alloc, file, Job::Dis(DisOutput::Text), out, needed)
 }
 
 /// Gives the trace of at most `limit` steps of bare code, which a text spells as pairs of hexadecimal digits: 0 where

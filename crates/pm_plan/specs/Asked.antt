@@ -10,6 +10,10 @@ use Rattle.pm_filer.specs.Filed.{Order, ListFiles, Get, Put, Remove, Change, Get
 use Rattle.pm_filer.specs.Filed.{PutText, Krunch, Date, Zero, Duplicate, Single, GetSlot, GetTextSlot}
 use Rattle.pm_filer.specs.Filed.{RemoveSlot, ChangeSlot, order_of}
 use Rattle.pm_filer.specs.Listing.{kind_word}
+use Rattle.pm_choices.specs.declared.output.AsmOutput.{AsmOutput}
+use Rattle.pm_choices.specs.declared.output.AsmOutput.TheVariants as asm
+use Rattle.pm_choices.specs.declared.output.DisOutput.{DisOutput}
+use Rattle.pm_choices.specs.declared.output.DisOutput.TheVariants as dis
 use Rattle.pm_choices.specs.declared.saving.Saving.{Saving}
 use Rattle.pm_choices.specs.declared.saving.Saving.TheVariants as savings
 use Rattle.pm_choices.specs.declared.selection.Code.{Code}
@@ -216,6 +220,25 @@ pub record AsksSelection (rows : List Row) (selection : Selection) : Type 0 wher
   pub calls : IsFlag (one_of (codes "calls") rows) selection.calls
   pub places : IsFlag (one_of (codes "places") rows) selection.places
 
+-- ---- what asm and dis write
+
+-- what asm writes, whether or not the words say `--all`, `--list` and `--symbols`, of which one alone may stand
+abbrev pub IsAsm : Bool → Bool → Bool → AsmOutput → Type 0
+IsAsm false false false what = what ≡ asm.File
+IsAsm false true false what = what ≡ asm.Listing
+IsAsm true false false what = what ≡ asm.Faults
+IsAsm false false true what = what ≡ asm.Symbols
+IsAsm true true symbols what = ⊥
+IsAsm true false true what = ⊥
+IsAsm false true true what = ⊥
+
+-- what dis writes, whether or not the words say `--names` and `--list`: they do not say both
+abbrev pub IsDis : Bool → Bool → DisOutput → Type 0
+IsDis false false what = what ≡ dis.Text
+IsDis true false what = what ≡ dis.Names
+IsDis false true what = what ≡ dis.Listing
+IsDis true true what = ⊥
+
 -- ---- all words
 
 -- a command and its words
@@ -223,16 +246,10 @@ abbrev pub Asks : List ℕ → ArgMatches → Plan → Type 0
 Asks command m (plans.Raw limit selection) =
     (command ≡ codes "raw") × IsLimit (word_found (words_of m) (codes "limit")) limit
     × AsksSelection (words_of m) selection
-Asks command m (plans.Asm list) = (command ≡ codes "asm") × (is_set (word_found (words_of m) (codes "all")) ≡ false)
-    × (is_set (word_found (words_of m) (codes "symbols")) ≡ false)
-    × IsFlag (one_of (codes "list") (words_of m)) list
-Asks command m plans.AsmFaults = (command ≡ codes "asm") × (is_set (word_found (words_of m) (codes "all")) ≡ true)
-Asks command m plans.AsmSymbols =
-    (command ≡ codes "asm") × (is_set (word_found (words_of m) (codes "symbols")) ≡ true)
-Asks command m plans.Dis = (command ≡ codes "dis") × (is_set (word_found (words_of m) (codes "names")) ≡ false)
-    × (is_set (word_found (words_of m) (codes "list")) ≡ false)
-Asks command m plans.DisList = (command ≡ codes "dis") × (is_set (word_found (words_of m) (codes "list")) ≡ true)
-Asks command m plans.DisNames = (command ≡ codes "dis") × (is_set (word_found (words_of m) (codes "names")) ≡ true)
+Asks command m (plans.Asm what) = (command ≡ codes "asm") × IsAsm (is_set (word_found (words_of m) (codes "all")))
+    (is_set (word_found (words_of m) (codes "list"))) (is_set (word_found (words_of m) (codes "symbols"))) what
+Asks command m (plans.Dis what) = (command ≡ codes "dis")
+    × IsDis (is_set (word_found (words_of m) (codes "names"))) (is_set (word_found (words_of m) (codes "list"))) what
 Asks command m (plans.Files plan) = (command ≡ codes "files") × AsksFiles m plan
 Asks command m (plans.Run program choices) =
     (command ≡ codes "run") × AsksProgram (words_of m) program × AsksChoices (words_of m) choices

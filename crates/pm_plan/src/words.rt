@@ -14,7 +14,7 @@ use crate::run_words::{Program, RunChoices, choices_of, program_of};
 use crate::trace_words::selection_of;
 use clap::ArgMatches;
 use clap::error::ErrorKind;
-use pm_choices::Selection;
+use pm_choices::{AsmOutput, DisOutput, Selection};
 use pm_streams::Fault;
 use std::alloc::{AllocError, Global};
 use std::env::Args;
@@ -29,18 +29,10 @@ pub enum Plan {
     /// The program that standard input spells is run and traced, at most so many steps, of which the lines that are
     /// selected are written.
     Raw { limit: u32, selection: Selection },
-    /// The code file of the text that standard input is, or its listing.
-    Asm { list: bool },
-    /// The faults of the text that standard input is.
-    AsmFaults,
-    /// Where the procedures and labels of that text stand.
-    AsmSymbols,
-    /// The text of the code file that standard input is.
-    Dis,
-    /// The same with the names of procedures.
-    DisNames,
-    /// The listing of that code file.
-    DisList,
+    /// What `asm` writes of the text that standard input is.
+    Asm(AsmOutput),
+    /// What `dis` writes of the code file that standard input is.
+    Dis(DisOutput),
     /// A command on the image that a file has, or a new image for it.
     Files(FilesPlan),
     /// A program to be run.
@@ -211,12 +203,12 @@ fn asm_asked(matches: &ArgMatches<'_>) -> Result<Plan, WordsError>
     ensures good { IsOk result ↔ MeetEach (words_of matches.now) asm_needs }
     ensures refused { IfErr result IsWrong }
 {
-    let list = flag(matches, "list");
     let symbols = is_set(matches, "symbols");
     match (is_set(matches, "all"), is_set(matches, "list"), symbols) {
-        (false, _, false) => Ok(Plan::Asm { list }),
-        (true, false, false) => Ok(Plan::AsmFaults),
-        (false, false, true) => Ok(Plan::AsmSymbols),
+        (false, false, false) => Ok(Plan::Asm(AsmOutput::File)),
+        (false, true, false) => Ok(Plan::Asm(AsmOutput::Listing)),
+        (true, false, false) => Ok(Plan::Asm(AsmOutput::Faults)),
+        (false, false, true) => Ok(Plan::Asm(AsmOutput::Symbols)),
         _ => Err(WordsError::Wrong("of --list, --all and --symbols one alone may stand")),
     }
 }
@@ -228,9 +220,9 @@ fn dis_asked(matches: &ArgMatches<'_>) -> Result<Plan, WordsError>
     ensures refused { IfErr result IsWrong }
 {
     match (is_set(matches, "names"), is_set(matches, "list")) {
-        (false, false) => Ok(Plan::Dis),
-        (true, false) => Ok(Plan::DisNames),
-        (false, true) => Ok(Plan::DisList),
+        (false, false) => Ok(Plan::Dis(DisOutput::Text)),
+        (true, false) => Ok(Plan::Dis(DisOutput::Names)),
+        (false, true) => Ok(Plan::Dis(DisOutput::Listing)),
         (true, true) => Err(WordsError::Wrong("--names and --list do not go together")),
     }
 }

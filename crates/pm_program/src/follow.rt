@@ -84,12 +84,8 @@ fn reads(verb: &Verb) -> bool {
 fn prompt_of(plan: &Plan) -> Prompt {
     match plan {
         Plan::Raw { .. } => Prompt::Once("pmach: reads hexadecimal digits; Ctrl-D ends them\n"),
-        Plan::Asm { .. } | Plan::AsmFaults | Plan::AsmSymbols => Prompt::Once(
-            "pmach: reads a text of the assembler; Ctrl-D ends it\n",
-        ),
-        Plan::Dis | Plan::DisNames | Plan::DisList => Prompt::Once(
-            "pmach: reads a code file; Ctrl-D ends it\n",
-        ),
+        Plan::Asm(_) => Prompt::Once("pmach: reads a text of the assembler; Ctrl-D ends it\n"),
+        Plan::Dis(_) => Prompt::Once("pmach: reads a code file; Ctrl-D ends it\n"),
         Plan::Files(plan) if reads(&plan.verb) => Prompt::Once(
             "pmach: reads the file; Ctrl-D ends it\n",
         ),
@@ -135,12 +131,8 @@ fn act<S: Store, I: Source, O: Sink>(
 {
     let job = match plan {
         Plan::Raw { limit, selection } => Job::Raw { limit, selection },
-        Plan::Asm { list } => Job::Asm { list },
-        Plan::AsmFaults => Job::AsmFaults,
-        Plan::AsmSymbols => Job::AsmSymbols,
-        Plan::Dis => Job::Dis,
-        Plan::DisNames => Job::DisNames,
-        Plan::DisList => Job::DisList,
+        Plan::Asm(what) => Job::Asm(what),
+        Plan::Dis(what) => Job::Dis(what),
         Plan::Files(FilesPlan { path, verb }) => {
             return do_files(alloc, store, source, sink, path.as_str(), verb);
         }

@@ -17,12 +17,8 @@ work_of (jobs.Run disks name limit saving system) =
 work_of (jobs.Trace disks name limit system selection) =
     works.Talk (starts.Booted disks name system) (talks.Run (Trace selection) limit)
 work_of (jobs.Debug disks name system) = works.Talk (starts.Booted disks name system) talks.Session
-work_of (jobs.Asm list) = works.Batch (batches.Asm list)
-work_of jobs.AsmFaults = works.Batch batches.AsmFaults
-work_of jobs.AsmSymbols = works.Batch batches.AsmSymbols
-work_of jobs.Dis = works.Batch batches.Dis
-work_of jobs.DisNames = works.Batch batches.DisNames
-work_of jobs.DisList = works.Batch batches.DisList
+work_of (jobs.Asm what) = works.Batch (batches.Asm what)
+work_of (jobs.Dis what) = works.Batch (batches.Dis what)
 work_of (jobs.Files image command) = works.Batch (batches.Files (opened_image image.items) command)
 work_of (jobs.New name blocks) = works.Batch (batches.New name blocks)
 work_of (jobs.Repair image) = works.Batch (batches.Repair image)

@@ -18,7 +18,7 @@ pub use engine::run;
 pub use hint::Hint;
 pub use outcome::{About, Exit, Job, OtherImages, Outcome};
 pub use pm_batch::{Reason, Refusal};
-pub use pm_choices::{Code, Saving, Selection};
+pub use pm_choices::{AsmOutput, Code, DisOutput, Saving, Selection};
 pub use pm_session::Ending;
 pub use pm_streams::{Reader, Sink, Source, Writer};
 pub use reason::{RunReason, Whereabouts};

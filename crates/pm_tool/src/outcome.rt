@@ -6,7 +6,7 @@ ghost use Rattle.pm_tool.specs.Outcomes.{no_others, others_of, outcome_text, ref
 use crate::hint::Hint;
 use crate::stopped::Stopped;
 use pm_batch::Refusal;
-use pm_choices::{Saving, Selection};
+use pm_choices::{AsmOutput, DisOutput, Saving, Selection};
 use pm_filer::FileCommand;
 use pm_session::Ending;
 use pm_streams::Fault;
@@ -57,32 +57,29 @@ pub enum Job {
         name: String,
         system: Option<Vec<u8>>,
     },
-    /// The input is a text of the assembler, each byte above 127 being character 127, and the output is the code file
-    /// of its program, or with `list` its listing alone. Any other text is refused by `refused asm N LINE`, with the
-    /// number of its first fault and its line, and one with a segment that is too long by `refused asm 7 SEGMENT`.
-    Asm {
-        list: bool,
-    },
-    /// The input is such a text, and the output has a line for each of its faults, in the order of the lines that they
-    /// name: the message of `Asm` for a text with that fault alone. They are the first fault of each line that has one;
-    /// where no line has any, the first of the labels of each line; where there is none of these either, the segment
-    /// that is too long. The job is refused by the first of them, as `Asm` is; where there is none, nothing is written.
-    AsmFaults,
-    /// The input is such a text, and the output has a line `SSS PPP OOOOO NAME` for each of its procedures and labels,
-    /// in the order of the text: the number of the segment, that of the procedure, the offset in bytes from where the
-    /// procedure is entered, and the label, or `.PROC` for the procedure itself. Any other text is refused as by `Asm`.
-    AsmSymbols,
-    /// The input is a code file, and the output is its text: its segments by ascending slot, each with its procedures.
-    /// An input that is no code file is refused by `refused code N`, with the slot that the fault names.
-    Dis,
-    /// The input is a code file, and the output is the text of `Dis` with names: behind each line that is `CSP n` or
-    /// `CXP 0, n` a comment with that of the standard procedure, or of the system's, where the number has one. The
-    /// refusals are those of `Dis`.
-    DisNames,
-    /// The input is a code file, and the output is its listing by its own bytes and offsets, whatever laid them out:
-    /// for each segment, ascending, a line for each item, jump entry and attribute table of its procedures, in the
-    /// order of its dictionary, and for the dictionary. The refusals are those of `Dis`.
-    DisList,
+    /// The input is a text of the assembler, each byte above 127 being character 127. The output is one of four:
+    ///
+    /// - The code file of its program, or the listing of it. Any other text is refused by `refused asm N LINE`, with
+    ///   the number of its first fault and its line, and one with a segment that is too long by `refused asm 7
+    ///   SEGMENT`.
+    /// - A line for each of its faults, in the order of the lines that they name: the message for a text with that
+    ///   fault alone. They are the first fault of each line that has one; where no line has any, the first of the
+    ///   labels of each line; where there is none of these either, the segment that is too long. The job is refused by
+    ///   the first of them, as above; where there is none, nothing is written.
+    /// - A line `SSS PPP OOOOO NAME` for each of its procedures and labels, in the order of the text: the number of the
+    ///   segment, that of the procedure, the offset in bytes from where the procedure is entered, and the label, or
+    ///   `.PROC` for the procedure itself. Any other text is refused as above.
+    Asm(AsmOutput),
+    /// The input is a code file. One that is none is refused by `refused code N`, with the slot that the fault names.
+    /// The output is one of three:
+    ///
+    /// - Its text: its segments by ascending slot, each with its procedures.
+    /// - The same with names: behind each line that is `CSP n` or `CXP 0, n` a comment with that of the standard
+    ///   procedure, or of the system's, where the number has one.
+    /// - Its listing by its own bytes and offsets, whatever laid them out: for each segment, ascending, a line for each
+    ///   item, jump entry and attribute table of its procedures, in the order of its dictionary, and for the
+    ///   dictionary.
+    Dis(DisOutput),
     /// A command on the volume that an image is. The input's bytes stand in the place of a put's, of bytes or text, and
     /// no other command reads any. The output is the list, the bytes or the text of a file; after a change the outcome
     /// has the image that is to be saved. An image that is no volume is refused by `refused volume N`, before the input

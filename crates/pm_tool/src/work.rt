@@ -71,12 +71,8 @@ pub(crate) fn work_of(job: Job) -> Work
             name,
             system,
         } => talk(disks, name, system, Talk::Session),
-        Job::Asm { list } => Work::Batch(Batch::Asm { list }),
-        Job::AsmFaults => Work::Batch(Batch::AsmFaults),
-        Job::AsmSymbols => Work::Batch(Batch::AsmSymbols),
-        Job::Dis => Work::Batch(Batch::Dis),
-        Job::DisNames => Work::Batch(Batch::DisNames),
-        Job::DisList => Work::Batch(Batch::DisList),
+        Job::Asm(what) => Work::Batch(Batch::Asm(what)),
+        Job::Dis(what) => Work::Batch(Batch::Dis(what)),
         Job::Files { image, command } => {
             let opened = open(image);
             Work::Batch(Batch::Files { opened, command })

@@ -5,7 +5,7 @@ use crate::code_file::code_file;
 use crate::jobs::{Ran, do_job};
 use crate::program::{Program, work};
 use crate::texts::text;
-use pm_tool::{Code, Job, Selection};
+use pm_tool::{AsmOutput, Code, DisOutput, Job, Selection};
 use std::alloc::Global;
 use std::io;
 use test_replay::{byte, hex_bytes, measured, steps, unreadable};
@@ -118,12 +118,12 @@ fn raw(alloc: Global, case: &Case<'_>, rest: &str) -> io::Result<Ran> {
 /// The job of words that have no values.
 fn plain_job(words: &str) -> io::Result<Job> {
     match words {
-        "asm --list" => Ok(Job::Asm { list: true }),
-        "asm --all" => Ok(Job::AsmFaults),
-        "asm --symbols" => Ok(Job::AsmSymbols),
-        "dis" => Ok(Job::Dis),
-        "dis --names" => Ok(Job::DisNames),
-        "dis --list" => Ok(Job::DisList),
+        "asm --list" => Ok(Job::Asm(AsmOutput::Listing)),
+        "asm --all" => Ok(Job::Asm(AsmOutput::Faults)),
+        "asm --symbols" => Ok(Job::Asm(AsmOutput::Symbols)),
+        "dis" => Ok(Job::Dis(DisOutput::Text)),
+        "dis --names" => Ok(Job::Dis(DisOutput::Names)),
+        "dis --list" => Ok(Job::Dis(DisOutput::Listing)),
         _ => Err(unreadable()),
     }
 }

@@ -2,7 +2,7 @@
 use crate::case::{Came, Case, Line};
 use crate::code_file::code_file;
 use crate::jobs::do_job;
-use pm_tool::Job;
+use pm_tool::{AsmOutput, DisOutput, Job};
 use std::alloc::Global;
 use std::io;
 use test_replay::{add_escaped, measured, number};
@@ -80,7 +80,7 @@ fn add_measured(alloc: Global, word: &str, bytes: &[u8], came: &mut Came) -> io:
 
 /// Answers what the disassembler shows of a code file, with its lines where the case has some.
 fn add_shown(alloc: Global, case: &Case<'_>, file: &[u8], came: &mut Came) -> io::Result<()> {
-    let ran = do_job(alloc, Job::Dis, file);
+    let ran = do_job(alloc, Job::Dis(DisOutput::Text), file);
     if ran.is_refused() {
         came.answer(ran.outcome.text(), "")?;
         return Ok(());
@@ -98,14 +98,14 @@ fn add_shown(alloc: Global, case: &Case<'_>, file: &[u8], came: &mut Came) -> io
 /// Answers what the assembler makes of a text, and what is shown of it then.
 fn add_assembled(alloc: Global, case: &Case<'_>, came: &mut Came) -> io::Result<()> {
     let text = text(alloc, case)?;
-    let made = do_job(alloc, Job::Asm { list: false }, &text);
+    let made = do_job(alloc, Job::Asm(AsmOutput::File), &text);
     if made.is_refused() {
         came.answer(made.outcome.text(), "")?;
         return Ok(());
     }
     add_segments(alloc, &made.written, came)?;
     add_measured(alloc, "code", &made.written, came)?;
-    let listing = do_job(alloc, Job::Asm { list: true }, &text);
+    let listing = do_job(alloc, Job::Asm(AsmOutput::Listing), &text);
     add_measured(alloc, "listing", &listing.written, came)?;
     add_shown(alloc, case, &made.written, came)
 }

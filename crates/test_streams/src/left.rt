@@ -4,7 +4,7 @@ ghost use Rattle.std.specs.Prelude.{◌≡◌, length, sum};
 
 use crate::jobs::{Told, job_run, tells};
 use pm_filer::FileCommand;
-use pm_tool::{Job, Saving, Selection};
+use pm_tool::{AsmOutput, DisOutput, Job, Saving, Selection};
 use std::alloc::Global;
 use std::process::Abort;
 use test_parts::programs::{ADDITION, ADDITION_TRACE, ECHO, LETTERS};
@@ -33,11 +33,11 @@ fn of_bytes_and_texts(rt: HostRuntime) {
         selection: Selection::ALL,
     };
     tells(&rt, alloc, raw, b"0G 02", (2, "refused hex 1", "", 0));
-    for list in [false, true] {
+    for what in [AsmOutput::File, AsmOutput::Listing] {
         tells(
             &rt,
             alloc,
-            Job::Asm { list },
+            Job::Asm(what),
             b"FOO\n",
             (2, "refused asm 2 1", "", 0),
         );
@@ -45,7 +45,7 @@ fn of_bytes_and_texts(rt: HostRuntime) {
     tells(
         &rt,
         alloc,
-        Job::Dis,
+        Job::Dis(DisOutput::Text),
         &[0; 511],
         (2, "refused code 1", "", 0),
     );

@@ -14,7 +14,7 @@ use Rattle.pm_program.specs.Saved.{first_image, has_run, saved_paths, next_image
 use Rattle.pm_program.specs.declared.saved.SavedOfRun.{SavedOfRun}
 use Rattle.pm_choices.specs.declared.saving.Saving.{Saving}
 use Rattle.pm_choices.specs.declared.saving.Saving.TheVariants as savings
-use Rattle.pm_plan.specs.declared.run_words.Others.{Others}
+use Rattle.pm_plan.specs.Asked.{paths_in}
 use Rattle.pm_plan.specs.declared.run_words.Program.{Program}
 use Rattle.pm_program.specs.declared.saved.Printing.TheVariants as printings
 use Rattle.pm_plan.specs.declared.file_words.Verb.{Verb}
@@ -115,7 +115,7 @@ alone old between path images saves =
 
 -- of one disk its image alone is saved, or none
 one_saved : (old : List ℕ → Option (List ℕ)) (between : Files) (saving : Saving) (path : List ℕ)
-    (images : List (Option (List ℕ))) → SavesEach (Some old) between (saved_paths saving path none_other) images
+    (images : List (Option (List ℕ))) → SavesEach (Some old) between (saved_paths saving path (paths_in none_other)) images
     → Saves (Some old) between path (fourth_saved saving (first_image images))
 one_saved old between savings.Nothing path images saves = none_saved (Some old) between images saves
 one_saved old between savings.First path images saves = alone old between path images saves
@@ -152,7 +152,7 @@ run_left old new between path image file saved false printed has saves prints ha
 -- the file of the disk has the image of the outcome, or what it had
 pub disk_saved : (saving : Saving) (done : Result Outcome DiskFault) (old new : List ℕ → Option (List ℕ))
     (from path image file : List ℕ) → new path ≡ Some file
-    → IfOk done (λ outcome. SavesRun (Some old) (Some new) (saved_paths saving from none_other) printings.Nowhere outcome)
+    → IfOk done (λ outcome. SavesRun (Some old) (Some new) (saved_paths saving from (paths_in none_other)) printings.Nowhere outcome)
     → from ≡ path → old path ≡ Some image
     → IfOk done (SavesDisk saving image file)
 disk_saved saving (Ok outcome) old new from path image file has saves is had =
@@ -213,7 +213,7 @@ disk_said (Ok outcome) old new from path image file name limit saving known inpu
     leaves : (disks : List (Option (Vec ℕ Global))) (system : Option (Vec ℕ Global))
         → ReadsEach (Some old) (Some (string_bytes from) ∷ None ∷ None ∷ None ∷ None ∷ None ∷ []) (images_of disks)
         → Reads (Some old) None (option_map vec_items system)
-        → SavesTold (Some old) (Some new) (saved_paths saving (string_bytes from) none_other) printings.Nowhere
+        → SavesTold (Some old) (Some new) (saved_paths saving (string_bytes from) (paths_in none_other)) printings.Nowhere
         (job_said (jobs.Run disks name limit saving system) input)
         → old (string_bytes from) ≡ Some image → LeavesRun image name limit saving input file
     leaves disks (Some code) reads given told held = absurd given

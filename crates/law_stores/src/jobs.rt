@@ -7,7 +7,7 @@ ghost use Rattle.law_stores.specs.Jobs.{SavesDisk, SavesIn, LeavesRun, StaysWher
 use crate::stores::OneFile;
 use pm_choices::Saving;
 use pm_files::{DiskFault, Store};
-use pm_plan::{Others, Program, Verb};
+use pm_plan::{Program, Verb};
 use pm_program::{Printing, SavedOfRun, do_files, do_run};
 use pm_streams::{Reader, Writer};
 use pm_tool::Outcome;
@@ -72,13 +72,7 @@ pub fn on_disk(
     };
     let program = Program {
         disk: String::from_str(alloc, FILE)?,
-        others: Others {
-            d5: None,
-            d9: None,
-            d10: None,
-            d11: None,
-            d12: None,
-        },
+        others: [None, None, None, None, None],
         name,
         limit,
         system: None,

@@ -25,7 +25,11 @@ pub extern "C" fn pmach_assemble(
     ensures answers { Answers (job_said (Job.Asm (if list then AsmOutput.Listing else AsmOutput.File)) text.now) result out.old
         out.new needed.new }
 {
-    let what = if list { AsmOutput::Listing } else { AsmOutput::File };
+    let what = if list {
+        AsmOutput::Listing
+    } else {
+        AsmOutput::File
+    };
     answer(alloc, text, Job::Asm(what), out, needed)
 }
 

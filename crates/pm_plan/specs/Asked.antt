@@ -1,7 +1,8 @@
 -- Which words give which job. What clap finds of the words of a command it keeps in rows, each under an id; the command
 -- behind it, or the verb, stands apart, with its name and rows of its own.
-use Rattle.std.specs.Prelude.{◌≡◌, ◌≤◌, ◌⊎◌, ⊤, ℕ, Bool, true, false, List, [], Option}
-use Rattle.std.specs.Prelude.{None, Some, option_map, string_bytes, codes}
+use Rattle.std.specs.Prelude.{◌≡◌, ◌≤◌, ◌⊎◌, ⊤, ℕ, Bool, true, false, List, [], ◌∷◌, Option, String}
+use Rattle.std.specs.Prelude.{None, Some, map, option_map, string_bytes, codes}
+use Rattle.std.specs.declared.alloc.Global.{Global}
 use Rattle.std.specs.Str.{bytes_eq}
 use Rattle.std.specs.Str.Parse.{IsNumeral, digits_value}
 use Rattle.clap.specs.Words.{Row, first_of, found_of, one_of, rows_of, subcommand_rows_of}
@@ -26,7 +27,6 @@ use Rattle.pm_plan.specs.declared.file_words.Verb.TheVariants as verbs
 use Rattle.pm_plan.specs.declared.file_words.Chosen.{Chosen}
 use Rattle.pm_plan.specs.declared.file_words.Chosen.TheVariants as chosen
 use Rattle.pm_plan.specs.declared.run_words.RunChoices.{RunChoices}
-use Rattle.pm_plan.specs.declared.run_words.Others.{Others}
 use Rattle.pm_plan.specs.declared.run_words.Program.{Program}
 use Rattle.pm_plan.specs.declared.words.Plan.{Plan}
 use Rattle.pm_plan.specs.declared.words.Plan.TheVariants as plans
@@ -94,22 +94,19 @@ pub record IsFlag (found : Option (List ℕ)) (flag : Bool) : Type 0 where
   pub given : found ≡ Some (codes "true") → flag ≡ true
   pub denied : found ≡ Some (codes "false") → flag ≡ false
 
+-- paths, as lists of bytes
+abbrev pub paths_in : List (Option (String Global)) → List (Option (List ℕ))
+paths_in paths = map (option_map string_bytes) paths
+
 -- the words for the disks on the other units than 4, each by its unit's option
-pub record AsksOthers (rows : List Row) (others : Others) : Type 0 where
-  pub d5 : word_found rows (codes "d5") ≡ option_map string_bytes others.d5
-  pub d9 : word_found rows (codes "d9") ≡ option_map string_bytes others.d9
-  pub d10 : word_found rows (codes "d10") ≡ option_map string_bytes others.d10
-  pub d11 : word_found rows (codes "d11") ≡ option_map string_bytes others.d11
-  pub d12 : word_found rows (codes "d12") ≡ option_map string_bytes others.d12
+abbrev pub other_words : List Row → List (Option (List ℕ))
+other_words rows = word_found rows (codes "d5") ∷ word_found rows (codes "d9") ∷ word_found rows (codes "d10")
+    ∷ word_found rows (codes "d11") ∷ word_found rows (codes "d12") ∷ []
 
 -- the words of run, trace and debug: each disk by its unit's option
 pub record AsksProgram (rows : List Row) (program : Program) : Type 0 where
   pub disk : word_found rows (codes "d4") ≡ Some (string_bytes program.disk)
-  pub d5 : word_found rows (codes "d5") ≡ option_map string_bytes program.others.d5
-  pub d9 : word_found rows (codes "d9") ≡ option_map string_bytes program.others.d9
-  pub d10 : word_found rows (codes "d10") ≡ option_map string_bytes program.others.d10
-  pub d11 : word_found rows (codes "d11") ≡ option_map string_bytes program.others.d11
-  pub d12 : word_found rows (codes "d12") ≡ option_map string_bytes program.others.d12
+  pub others : paths_in program.others ≡ other_words rows
   pub name : word_found rows (codes "NAME") ≡ Some (string_bytes program.name)
   pub limit : IsRunLimit (is_set (word_found rows (codes "unlimited"))) (word_found rows (codes "limit")) program.limit
   pub system : word_found rows (codes "system") ≡ option_map string_bytes program.system

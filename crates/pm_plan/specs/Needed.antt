@@ -115,8 +115,8 @@ program_needs = (codes "d4", Given) ∷ (codes "d5", Optional) ∷ (codes "d9", 
     ∷ (codes "system", Optional) ∷ []
 
 -- what run needs beside these
-abbrev pub keeping_needs : List (List ℕ × Need)
-keeping_needs = (codes "system", NotSaved) ∷ (codes "save-all", NotBeside (codes "save"))
+abbrev pub choices_needs : List (List ℕ × Need)
+choices_needs = (codes "system", NotSaved) ∷ (codes "save-all", NotBeside (codes "save"))
     ∷ (codes "printer", Optional) ∷ []
 
 -- what raw and trace need beside their limit and their program
@@ -136,7 +136,7 @@ dis_needs = (codes "list", NotBeside (codes "names")) ∷ []
 abbrev pub command_needs : List ℕ → Option (List (List ℕ × Need))
 command_needs command =
     if bytes_eq command (codes "raw") then Some ((codes "limit", Limit) ∷ selection_needs)
-    else (if bytes_eq command (codes "run") then Some (keeping_needs ++ program_needs)
+    else (if bytes_eq command (codes "run") then Some (choices_needs ++ program_needs)
     else (if bytes_eq command (codes "trace") then Some (selection_needs ++ program_needs)
     else (if bytes_eq command (codes "debug") then Some program_needs
     else (if bytes_eq command (codes "asm") then Some asm_needs

@@ -1,8 +1,8 @@
 //! The words of `run`, `trace` and `debug`.
 ghost use Rattle.std.specs.Prelude.{◌≡◌, ◌↔◌, IfErr, IfOk, IsOk, IsOkUnless, Some, codes, string_bytes};
-ghost use Rattle.pm_plan.specs.Asked.{AsksChoices, AsksOthers, AsksProgram, IsRunLimit, IsRunLimitWord, IsSaving};
-ghost use Rattle.pm_plan.specs.Asked.{all_own, is_set, word_found, words_of};
-ghost use Rattle.pm_plan.specs.Needed.{IsAlone, IsGiven, IsNotBoth, IsWrong, MeetEach, keeping_needs, others_needs};
+ghost use Rattle.pm_plan.specs.Asked.{AsksChoices, AsksProgram, IsRunLimit, IsRunLimitWord, IsSaving};
+ghost use Rattle.pm_plan.specs.Asked.{all_own, is_set, other_words, paths_in, word_found, words_of};
+ghost use Rattle.pm_plan.specs.Needed.{IsAlone, IsGiven, IsNotBoth, IsWrong, MeetEach, choices_needs, others_needs};
 ghost use Rattle.pm_plan.specs.Needed.{program_needs};
 ghost use Rattle.pm_plan.specs.declared.words.WordsError.TheVariants.{NoMemory};
 
@@ -12,15 +12,8 @@ use clap::ArgMatches;
 use pm_choices::Saving;
 use std::alloc::Global;
 
-/// The files that have the images of the disks on the other units.
-#[derive(Drop)]
-pub struct Others {
-    pub d5: Option<String>,
-    pub d9: Option<String>,
-    pub d10: Option<String>,
-    pub d11: Option<String>,
-    pub d12: Option<String>,
-}
+/// The files that have the images of the disks on the units 5, 9, 10, 11 and 12, in their order.
+pub type Others = [Option<String>; 5];
 
 /// A program to be run.
 #[derive(Drop)]
@@ -76,17 +69,17 @@ fn disk_of(alloc: Global, matches: &ArgMatches<'_>) -> Result<String, WordsError
 
 /// The files that have the images of the disks on the other units.
 fn others_of(alloc: Global, matches: &ArgMatches<'_>) -> Result<Others, WordsError>
-    ensures asked { IfOk result (AsksOthers (words_of matches.now)) }
+    ensures asked { IfOk result (λ others. paths_in others ≡ other_words (words_of matches.now)) }
     ensures good { IsOk result → MeetEach (words_of matches.now) others_needs }
     ensures taken { MeetEach (words_of matches.now) others_needs → IsOkUnless result NoMemory }
 {
-    Ok(Others {
-        d5: given(alloc, matches, "d5")?,
-        d9: given(alloc, matches, "d9")?,
-        d10: given(alloc, matches, "d10")?,
-        d11: given(alloc, matches, "d11")?,
-        d12: given(alloc, matches, "d12")?,
-    })
+    Ok([
+        given(alloc, matches, "d5")?,
+        given(alloc, matches, "d9")?,
+        given(alloc, matches, "d10")?,
+        given(alloc, matches, "d11")?,
+        given(alloc, matches, "d12")?,
+    ])
 }
 
 /// The program that the words name.
@@ -154,8 +147,8 @@ fn unsaved(matches: &ArgMatches<'_>) -> Result<(), WordsError>
 /// twice what is saved.
 pub fn choices_of(alloc: Global, matches: &ArgMatches<'_>) -> Result<RunChoices, WordsError>
     ensures asked { IfOk result (λ choices. AsksChoices (words_of matches.now) choices) }
-    ensures good { IsOk result → MeetEach (words_of matches.now) keeping_needs }
-    ensures taken { MeetEach (words_of matches.now) keeping_needs → IsOkUnless result NoMemory }
+    ensures good { IsOk result → MeetEach (words_of matches.now) choices_needs }
+    ensures taken { MeetEach (words_of matches.now) choices_needs → IsOkUnless result NoMemory }
 {
     unsaved(matches)?;
     Ok(RunChoices {

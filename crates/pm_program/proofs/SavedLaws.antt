@@ -5,7 +5,7 @@ use Rattle.std.proofs.Common.{refl, sym, subst, IfOk, IfSome, option_map, vec_it
 use Rattle.std.specs.Result.{result_and}
 use Rattle.std.specs.declared.alloc.Global.{Global}
 use Rattle.pm_files.specs.Held.{Files, HoldsFile, Saves, Puts}
-use Rattle.pm_tool.specs.Outcomes.{Said, IsOutcome, is_sound_exit, no_others, others_of}
+use Rattle.pm_tool.specs.Outcomes.{Said, IsOutcome, is_sound_exit, no_others}
 use Rattle.pm_streams.specs.Streams.{Streams}
 use Rattle.pm_tool.specs.Said.{job_said, IsCutShort, IsSoundExit, Tells, TellsAll}
 use Rattle.pm_tool.specs.declared.outcome.Exit.{Exit}
@@ -17,7 +17,7 @@ use Rattle.pm_program.specs.Saved.{SavesTold, PrintsIf, Reads, images_said}
 use Rattle.pm_program.specs.Saved.{ReadsEach, SaysOf, TellsOf, first_image, has_run, saved_paths, next_images, paths_of}
 use Rattle.pm_program.specs.declared.saved.SavedOfRun.{SavedOfRun}
 use Rattle.pm_choices.specs.declared.saving.Saving.{Saving}
-use Rattle.pm_plan.specs.declared.run_words.Others.{Others}
+use Rattle.pm_plan.specs.Asked.{paths_in}
 use Rattle.pm_plan.specs.declared.run_words.Program.{Program}
 use Rattle.pm_tool.specs.Disks.{images_of}
 use Rattle.pm_tool.specs.declared.outcome.Job.TheVariants as jobs
@@ -110,14 +110,14 @@ run_told old new paths printing outcome told is saves = (
 
 -- a front of the images of an outcome is one of those that are said
 said_front : (old new : Files) (paths : List (Option (List ℕ))) (outcome : Outcome) (told : Said)
-    → IsOutcome outcome told → SavesFront old new paths (option_map vec_items outcome.image ∷ others_of outcome.others)
+    → IsOutcome outcome told → SavesFront old new paths (option_map vec_items outcome.image ∷ images_of outcome.others)
     → SavesFront old new paths (images_said told)
 said_front old new paths outcome told is saves =
     subst (λ image. SavesFront old new paths (image ∷ told.others)) is.image
     (subst (λ others. SavesFront old new paths (option_map vec_items outcome.image ∷ others)) is.others saves)
 
 -- what is saved of the files that were read is saved of those that they are as before
-pub run_saves : (old read new : Files) (to disk : List ℕ) (others : Others) (saved : SavedOfRun) (outcome : Outcome)
+pub run_saves : (old read new : Files) (to disk : List ℕ) (others : List (Option (List ℕ))) (saved : SavedOfRun) (outcome : Outcome)
     → read ≡ old → to ≡ disk → SavesRun read new (saved_paths saved.saving to others) saved.printing outcome
     → SavesRun old new (saved_paths saved.saving disk others) saved.printing outcome
 run_saves old read new to disk others saved outcome same is saves =
@@ -128,9 +128,9 @@ run_saves old read new to disk others saved outcome same is saves =
 pub known_run_said : (before after : Streams) (old new : Files) (program : Program) (saved : SavedOfRun)
     (disks : List (Option (Vec ℕ Global))) (system : Option (Vec ℕ Global)) (outcome : Outcome)
     → TellsAll before after outcome (job_said (jobs.Run disks program.name program.limit saved.saving system))
-    → ReadsEach old (paths_of (string_bytes program.disk) program.others) (images_of disks)
+    → ReadsEach old (paths_of (string_bytes program.disk) (paths_in program.others)) (images_of disks)
     → Reads old (option_map string_bytes program.system) (option_map vec_items system)
-    → SavesRun old new (saved_paths saved.saving (string_bytes program.disk) program.others) saved.printing outcome
+    → SavesRun old new (saved_paths saved.saving (string_bytes program.disk) (paths_in program.others)) saved.printing outcome
     → IfSome before.source.remaining (λ input. SavesRunSaid old new program saved input)
 known_run_said before after old new program saved disks system outcome tells reads given saves =
     known before.source.remaining tells
@@ -144,8 +144,14 @@ known_run_said before after old new program saved disks system outcome tells rea
       system,
       reads,
       given,
-      run_told old new (saved_paths saved.saving (string_bytes program.disk) program.others) saved.printing outcome _ told.comes_to saves,
+      run_told old new (saved_paths saved.saving (string_bytes program.disk) (paths_in program.others)) saved.printing outcome _ told.comes_to saves,
     )
+
+-- where there are no images nothing is saved
+pub each_nothing : (files : Files) (paths : List (Option (List ℕ))) → SavesEach files files paths []
+each_nothing files [] = refl
+each_nothing files (None ∷ paths) = (files, refl, each_nothing files paths)
+each_nothing files (Some path ∷ paths) = (files, refl, each_nothing files paths)
 
 -- of no images nothing is saved
 each_none : (old new : Files) (paths images : List (Option (List ℕ))) → AreNone images → SavesEach old new paths images
@@ -171,7 +177,7 @@ not_run exits.Stopped cut = absurd (cc)
 
 -- of a run that was cut short nothing is saved
 pub cut_run : (old new : Files) (paths : List (Option (List ℕ))) (printing : Printing) (outcome : Outcome)
-    → IsCutShort outcome.exit → outcome.image ≡ None → others_of outcome.others ≡ no_others
+    → IsCutShort outcome.exit → outcome.image ≡ None → images_of outcome.others ≡ no_others
     → SavesRun old new paths printing outcome → new ≡ old
 cut_run old new paths printing outcome cut image others saves =
     subst (λ runs. PrintsIf runs saves.0 new printing outcome.printer.items) (not_run outcome.exit cut) saves.2
@@ -185,7 +191,7 @@ and_err P (Ok a) x p = tt
 and_err P (Err e) x p = p
 
 -- a front of what is saved, over the files that were read, is one over those that they are as before
-pub front_from : (old read new : Files) (to disk : List ℕ) (others : Others) (saving : Saving)
+pub front_from : (old read new : Files) (to disk : List ℕ) (others : List (Option (List ℕ))) (saving : Saving)
     (images : List (Option (List ℕ))) → read ≡ old → to ≡ disk → SavesFront read new (saved_paths saving to others) images
     → SavesFront old new (saved_paths saving disk others) images
 front_from old read new to disk others saving images same is saves =
@@ -211,11 +217,11 @@ pub known_front_said : (before after : Streams) (old new : Files) (program : Pro
     → (IsSoundExit outcome.exit
     → TellsAll before after outcome (job_said (jobs.Run disks program.name program.limit saved.saving system)))
     → (IsCutShort outcome.exit
-    → (outcome.image ≡ None) × (others_of outcome.others ≡ no_others) × (outcome.printer.items ≡ []))
-    → ReadsEach old (paths_of (string_bytes program.disk) program.others) (images_of disks)
+    → (outcome.image ≡ None) × (images_of outcome.others ≡ no_others) × (outcome.printer.items ≡ []))
+    → ReadsEach old (paths_of (string_bytes program.disk) (paths_in program.others)) (images_of disks)
     → Reads old (option_map string_bytes program.system) (option_map vec_items system)
-    → SavesFront old new (saved_paths saved.saving (string_bytes program.disk) program.others)
-    (option_map vec_items outcome.image ∷ others_of outcome.others)
+    → SavesFront old new (saved_paths saved.saving (string_bytes program.disk) (paths_in program.others))
+    (option_map vec_items outcome.image ∷ images_of outcome.others)
     → IfSome before.source.remaining (λ input. SavesFrontSaid old new program saved input)
 known_front_said before after old new program saved disks system outcome tells nothing reads given saves =
     known before.source.remaining (is_sound_exit outcome.exit) refl tells
@@ -232,13 +238,13 @@ known_front_said before after old new program saved disks system outcome tells n
           reads,
           given,
           said_front old new
-              (saved_paths saved.saving (string_bytes program.disk) program.others) outcome _ (told is).comes_to saves,
+              (saved_paths saved.saving (string_bytes program.disk) (paths_in program.others)) outcome _ (told is).comes_to saves,
         )
     known (Some input) false is told =
-        inl (front_none old new (saved_paths saved.saving (string_bytes program.disk) program.others) (None ∷ no_others) tt
-        (subst (λ image. SavesFront old new (saved_paths saved.saving (string_bytes program.disk) program.others)
+        inl (front_none old new (saved_paths saved.saving (string_bytes program.disk) (paths_in program.others)) (None ∷ no_others) tt
+        (subst (λ image. SavesFront old new (saved_paths saved.saving (string_bytes program.disk) (paths_in program.others))
         (option_map vec_items image ∷ no_others)) (nothing is).0
-        (subst (λ others. SavesFront old new (saved_paths saved.saving (string_bytes program.disk) program.others)
+        (subst (λ others. SavesFront old new (saved_paths saved.saving (string_bytes program.disk) (paths_in program.others))
         (option_map vec_items outcome.image ∷ others)) (nothing is).1 saves)))
 
 -- where the files cannot be read nothing has changed
@@ -252,7 +258,7 @@ pub known_tells : (job : List (Option (Vec ℕ Global)) → Option (Vec ℕ Glob
     (program : Program) (disks : List (Option (Vec ℕ Global))) (system : Option (Vec ℕ Global)) (outcome : Outcome) (from : List ℕ)
     → from ≡ string_bytes program.disk
     → TellsAll old new outcome (job_said (job disks system))
-    → ReadsEach files (paths_of from program.others) (images_of disks)
+    → ReadsEach files (paths_of from (paths_in program.others)) (images_of disks)
     → Reads files (option_map string_bytes program.system) (option_map vec_items system)
     → IfSome old.source.remaining (λ input. TellsOf job files old new outcome program input)
 known_tells job old new files program disks system outcome from is_from tells reads given = known old.source.remaining tells
@@ -262,7 +268,7 @@ known_tells job old new files program disks system outcome from is_from tells re
         → IfSome had (λ input. TellsOf job files old new outcome program input)
     known None told = tt
     known (Some input) told =
-        (disks, system, subst (λ path. ReadsEach files (paths_of path program.others) (images_of disks)) is_from reads, given, told)
+        (disks, system, subst (λ path. ReadsEach files (paths_of path (paths_in program.others)) (images_of disks)) is_from reads, given, told)
 
 -- where the input is known, the new volume is the one that is said of the image that was read
 pub known_salvage : (before after : Streams) (old held read new : Files) (plan : SalvagePlan) (image : Vec ℕ Global)

@@ -9,7 +9,7 @@ use Rattle.pm_filer.specs.Filed.{RemoveSlot, ChangeSlot, order_of}
 use Rattle.pm_volume.specs.Headers.{blank_fault}
 use Rattle.pm_tool.specs.Batches.{said_check, said_files, said_new, said_repair, said_salvage}
 use Rattle.pm_tool.specs.Disks.{images_of}
-use Rattle.pm_tool.specs.Outcomes.{Said, no_others, others_of}
+use Rattle.pm_tool.specs.Outcomes.{Said, no_others}
 use Rattle.pm_streams.specs.Streams.{Streams}
 use Rattle.pm_tool.specs.Said.{Tells, job_said}
 use Rattle.pm_tool.specs.declared.outcome.Exit.{Exit}
@@ -19,13 +19,12 @@ use Rattle.pm_tool.specs.declared.outcome.Job.TheVariants as jobs
 use Rattle.pm_tool.specs.declared.outcome.Outcome.{Outcome}
 use Rattle.pm_choices.specs.declared.saving.Saving.{Saving}
 use Rattle.pm_choices.specs.declared.saving.Saving.TheVariants as savings
-use Rattle.pm_program.specs.Conflicts.{other_paths}
 use Rattle.pm_choices.specs.declared.selection.Selection.{Selection}
 use Rattle.pm_plan.specs.declared.file_words.SalvagePlan.{SalvagePlan}
 use Rattle.pm_plan.specs.declared.file_words.Verb.{Verb}
 use Rattle.pm_plan.specs.declared.file_words.Verb.TheVariants as verbs
 use Rattle.pm_program.specs.declared.saved.SavedOfRun.{SavedOfRun}
-use Rattle.pm_plan.specs.declared.run_words.Others.{Others}
+use Rattle.pm_plan.specs.Asked.{paths_in}
 use Rattle.pm_program.specs.declared.saved.Printing.{Printing}
 use Rattle.pm_plan.specs.declared.run_words.Program.{Program}
 use Rattle.pm_program.specs.declared.saved.Printing.TheVariants as printings
@@ -53,22 +52,22 @@ PrintsIf true old new printing bytes = Prints old new printing bytes
 PrintsIf false old new printing bytes = new ≡ old
 
 -- the paths of a program's disks, in the order of the units 4, 5, 9, 10, 11 and 12
-abbrev pub paths_of : List ℕ → Others → List (Option (List ℕ))
-paths_of disk others = Some disk ∷ other_paths others
+abbrev pub paths_of : List ℕ → List (Option (List ℕ)) → List (Option (List ℕ))
+paths_of disk others = Some disk ∷ others
 
 -- the paths under which a run saves the images of its units: none, that of unit 4, all, or all but that of unit 4
-abbrev pub saved_paths : Saving → List ℕ → Others → List (Option (List ℕ))
+abbrev pub saved_paths : Saving → List ℕ → List (Option (List ℕ)) → List (Option (List ℕ))
 saved_paths savings.Nothing disk others = None ∷ no_others
 saved_paths savings.First disk others = Some disk ∷ no_others
-saved_paths savings.All disk others = Some disk ∷ other_paths others
-saved_paths savings.Others disk others = None ∷ other_paths others
+saved_paths savings.All disk others = Some disk ∷ others
+saved_paths savings.Others disk others = None ∷ others
 
 -- the paths whose files a run holds before it reads them: those of the images that it may write
-abbrev pub held_paths : Saving → List ℕ → Others → List (Option (List ℕ))
+abbrev pub held_paths : Saving → List ℕ → List (Option (List ℕ)) → List (Option (List ℕ))
 held_paths savings.Nothing disk others = []
 held_paths savings.First disk others = Some disk ∷ []
-held_paths savings.All disk others = Some disk ∷ other_paths others
-held_paths savings.Others disk others = other_paths others
+held_paths savings.All disk others = Some disk ∷ others
+held_paths savings.Others disk others = others
 
 -- the file of a path, if there is one, is held too
 abbrev pub held_at : Option (List ℕ) → Locks → Locks
@@ -104,7 +103,7 @@ SavesEach old new (path ∷ paths) images = (between : Files)
 -- run: these stand under their paths, and nothing else has changed.
 abbrev pub SavesRun : Files → Files → List (Option (List ℕ)) → Printing → Outcome → Type 0
 SavesRun old new paths printing outcome = (between : Files)
-    × SavesEach old between paths (option_map vec_items outcome.image ∷ others_of outcome.others)
+    × SavesEach old between paths (option_map vec_items outcome.image ∷ images_of outcome.others)
     × PrintsIf (has_run outcome.exit) between new printing outcome.printer.items
 
 -- a command on a volume may change it
@@ -200,9 +199,9 @@ SavesTold old new paths printing told = (between : Files)
 -- holds, if it has one: what is saved is what is said of them and of the input.
 abbrev pub SavesRunSaid : Files → Files → Program → SavedOfRun → List ℕ → Type 0
 SavesRunSaid old new program saved input = (disks : List (Option (Vec ℕ Global))) × (system : Option (Vec ℕ Global))
-    × ReadsEach old (paths_of (string_bytes program.disk) program.others) (images_of disks)
+    × ReadsEach old (paths_of (string_bytes program.disk) (paths_in program.others)) (images_of disks)
     × Reads old (option_map string_bytes program.system) (option_map vec_items system)
-    × SavesTold old new (saved_paths saved.saving (string_bytes program.disk) program.others) saved.printing
+    × SavesTold old new (saved_paths saved.saving (string_bytes program.disk) (paths_in program.others)) saved.printing
     (job_said (jobs.Run disks program.name program.limit saved.saving system) input)
 
 -- The files cannot all be written, or not be read: nothing has changed, or the images that are said of those that the
@@ -210,9 +209,9 @@ SavesRunSaid old new program saved input = (disks : List (Option (Vec ℕ Global
 abbrev pub SavesFrontSaid : Files → Files → Program → SavedOfRun → List ℕ → Type 0
 SavesFrontSaid old new program saved input = (new ≡ old) ⊎ ((disks : List (Option (Vec ℕ Global)))
     × (system : Option (Vec ℕ Global))
-    × ReadsEach old (paths_of (string_bytes program.disk) program.others) (images_of disks)
+    × ReadsEach old (paths_of (string_bytes program.disk) (paths_in program.others)) (images_of disks)
     × Reads old (option_map string_bytes program.system) (option_map vec_items system)
-    × SavesFront old new (saved_paths saved.saving (string_bytes program.disk) program.others)
+    × SavesFront old new (saved_paths saved.saving (string_bytes program.disk) (paths_in program.others))
     (images_said (job_said (jobs.Run disks program.name program.limit saved.saving system) input)))
 
 -- A job of a program on the images that its paths hold, each on its unit, with the system's code file that its path
@@ -221,7 +220,7 @@ abbrev pub TellsOf : (List (Option (Vec ℕ Global)) → Option (Vec ℕ Global)
     → Program → List ℕ → Type 0
 TellsOf job files old new outcome program input = (disks : List (Option (Vec ℕ Global)))
     × (system : Option (Vec ℕ Global))
-    × ReadsEach files (paths_of (string_bytes program.disk) program.others) (images_of disks)
+    × ReadsEach files (paths_of (string_bytes program.disk) (paths_in program.others)) (images_of disks)
     × Reads files (option_map string_bytes program.system) (option_map vec_items system)
     × Tells old new outcome (job_said (job disks system) input)
 

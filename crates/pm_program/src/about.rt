@@ -20,15 +20,15 @@ fn copy_of(alloc: Global, path: &Option<String>) -> Result<Option<String>, Alloc
 
 /// The paths of a program's disks.
 fn paths_of(alloc: Global, program: &Program) -> Result<Disks, AllocError> {
-    let others = &program.others;
+    let [fifth, ninth, tenth, eleventh, twelfth] = &program.others;
     Ok(Disks {
         paths: [
             Some(String::from_str(alloc, program.disk.as_str())?),
-            copy_of(alloc, &others.d5)?,
-            copy_of(alloc, &others.d9)?,
-            copy_of(alloc, &others.d10)?,
-            copy_of(alloc, &others.d11)?,
-            copy_of(alloc, &others.d12)?,
+            copy_of(alloc, fifth)?,
+            copy_of(alloc, ninth)?,
+            copy_of(alloc, tenth)?,
+            copy_of(alloc, eleventh)?,
+            copy_of(alloc, twelfth)?,
         ],
         system: copy_of(alloc, &program.system)?,
     })

@@ -1,4 +1,6 @@
 //! The whole program, over any runtime.
+ghost use Rattle.std.specs.Prelude.{◌≡◌};
+
 use crate::end::End;
 use crate::follow::follow;
 use crate::say::{Manner, PlainLines, say};
@@ -8,8 +10,10 @@ use pm_tool::Exit;
 use std::env::Env;
 use std::io::{ErrorKind, Input};
 
-/// The exit status of words that are no job.
-fn exit_of(error: &WordsError) -> Exit {
+/// How words end that are no job: want of memory is told from words that are wrong.
+fn exit_of(error: &WordsError) -> Exit
+    ensures memory { error.now ≡ WordsError.NoMemory → result ≡ Exit.NoMemory }
+{
     match error {
         WordsError::NoMemory => Exit::NoMemory,
         WordsError::Version(_) => Exit::Ended,

@@ -1,9 +1,9 @@
 //! A plan is followed: its streams, its files, its job.
 ghost use Rattle.std.specs.Prelude.{◌≡◌, IfSome, Some, option_map, string_bytes};
 ghost use Rattle.pm_streams.specs.Streams.{AreWell, both};
+ghost use Rattle.pm_plan.specs.Asked.{paths_in};
 ghost use Rattle.pm_program.specs.Conflicts.{are_shared, conflict_of, is_other, is_taken_away, names_image};
-ghost use Rattle.pm_program.specs.Conflicts.{others_take_away, printer_conflict, shares, shares_fifth, shares_last};
-ghost use Rattle.pm_program.specs.Conflicts.{shares_ninth, takes_away};
+ghost use Rattle.pm_program.specs.Conflicts.{others_take_away, printer_conflict, takes_away};
 
 use crate::about::{Disks, about, disks_of};
 use crate::console::{END, ESCAPE, Keys, Lined, Prompted};
@@ -12,7 +12,7 @@ use crate::saved::{Printing, SavedOfRun, do_debug, do_files, do_run, do_salvage,
 use pm_choices::Saving;
 use pm_filer::FileCommand;
 use pm_files::{DiskFault, Host, HostStore, Store, Stream};
-use pm_plan::{FilesPlan, Others, Plan, Program, RunChoices, Verb};
+use pm_plan::{FilesPlan, Plan, Program, RunChoices, Verb};
 use pm_streams::{Reader, Sink, Source, Writer};
 use pm_tool::{Job, Outcome};
 use std::alloc::Global;
@@ -179,57 +179,25 @@ fn names_image<S: Store>(store: &S, path: &str, image: &Option<String>) -> bool
     }
 }
 
-/// Whether a path names the file of an image on another unit than 4.
-fn is_other<S: Store>(store: &S, path: &str, others: &Others) -> bool
-    ensures value { IfSome (S.same store.now) (λ same. result ≡ is_other same path.now others.now) }
+/// Whether a path names the file of one of some images.
+fn is_other<S: Store>(store: &S, path: &str, images: &[Option<String>]) -> bool
+    ensures value { IfSome (S.same store.now) (λ same. result ≡ is_other same path.now (paths_in images.now)) }
 {
-    names_image(store, path, &others.d5)
-        || names_image(store, path, &others.d9)
-        || names_image(store, path, &others.d10)
-        || names_image(store, path, &others.d11)
-        || names_image(store, path, &others.d12)
-}
-
-/// Whether two paths, where there are both, name one file.
-fn shares<S: Store>(store: &S, one: &Option<String>, other: &Option<String>) -> bool
-    ensures value { IfSome (S.same store.now) (λ same. result ≡ shares same one.now other.now) }
-{
-    match one {
-        Some(path) => names_image(store, path.as_str(), other),
-        None => false,
+    match images {
+        [] => false,
+        [image, more @ ..] => names_image(store, path, image) || is_other(store, path, more),
     }
 }
 
-fn shares_fifth<S: Store>(store: &S, others: &Others) -> bool
-    ensures value { IfSome (S.same store.now) (λ same. result ≡ shares_fifth same others.now) }
+/// Whether two of some images are one file.
+fn are_shared<S: Store>(store: &S, images: &[Option<String>]) -> bool
+    ensures value { IfSome (S.same store.now) (λ same. result ≡ are_shared same (paths_in images.now)) }
 {
-    shares(store, &others.d5, &others.d9)
-        || shares(store, &others.d5, &others.d10)
-        || shares(store, &others.d5, &others.d11)
-        || shares(store, &others.d5, &others.d12)
-}
-
-fn shares_ninth<S: Store>(store: &S, others: &Others) -> bool
-    ensures value { IfSome (S.same store.now) (λ same. result ≡ shares_ninth same others.now) }
-{
-    shares(store, &others.d9, &others.d10)
-        || shares(store, &others.d9, &others.d11)
-        || shares(store, &others.d9, &others.d12)
-}
-
-fn shares_last<S: Store>(store: &S, others: &Others) -> bool
-    ensures value { IfSome (S.same store.now) (λ same. result ≡ shares_last same others.now) }
-{
-    shares(store, &others.d10, &others.d11)
-        || shares(store, &others.d10, &others.d12)
-        || shares(store, &others.d11, &others.d12)
-}
-
-/// Whether two of the images on other units than 4 are one file.
-fn are_shared<S: Store>(store: &S, others: &Others) -> bool
-    ensures value { IfSome (S.same store.now) (λ same. result ≡ are_shared same others.now) }
-{
-    shares_fifth(store, others) || shares_ninth(store, others) || shares_last(store, others)
+    match images {
+        [] => false,
+        [None, more @ ..] => are_shared(store, more),
+        [Some(path), more @ ..] => is_other(store, path.as_str(), more) || are_shared(store, more),
+    }
 }
 
 /// What is wrong with the printer's path, if something is.
@@ -268,15 +236,14 @@ fn takes<S: Store>(store: &S, path: &str, other: &Option<String>) -> bool
     }
 }
 
-/// Whether writing the file of a path would take away an image on another unit than 4.
-fn takes_other<S: Store>(store: &S, path: &str, others: &Others) -> bool
-    ensures value { IfSome (S.beside store.now) (λ beside. result ≡ is_other beside path.now others.now) }
+/// Whether writing the file of a path would take away one of some images.
+fn takes_other<S: Store>(store: &S, path: &str, images: &[Option<String>]) -> bool
+    ensures value { IfSome (S.beside store.now) (λ beside. result ≡ is_other beside path.now (paths_in images.now)) }
 {
-    takes(store, path, &others.d5)
-        || takes(store, path, &others.d9)
-        || takes(store, path, &others.d10)
-        || takes(store, path, &others.d11)
-        || takes(store, path, &others.d12)
+    match images {
+        [] => false,
+        [image, more @ ..] => takes(store, path, image) || takes_other(store, path, more),
+    }
 }
 
 /// Whether writing a file, if there is one, would take away one of the run.
@@ -311,16 +278,23 @@ fn takes_away_at<S: Store>(
         || takes(store, path, printer)
 }
 
-/// Whether writing the image on another unit than 4 would take away a file of the run.
-fn others_take_away<S: Store>(store: &S, program: &Program, printer: &Option<String>) -> bool
-    ensures value { IfSome (S.beside store.now) (λ beside.
-        result ≡ others_take_away beside program.now (option_map string_bytes printer.now)) }
+/// Whether writing one of some images would take away a file of the run.
+fn others_take_away<S: Store>(
+    store: &S,
+    images: &[Option<String>],
+    program: &Program,
+    printer: &Option<String>,
+) -> bool
+    ensures value { IfSome (S.beside store.now) (λ beside. result
+        ≡ others_take_away beside (paths_in images.now) program.now (option_map string_bytes printer.now)) }
 {
-    takes_away(store, &program.others.d5, program, printer)
-        || takes_away(store, &program.others.d9, program, printer)
-        || takes_away(store, &program.others.d10, program, printer)
-        || takes_away(store, &program.others.d11, program, printer)
-        || takes_away(store, &program.others.d12, program, printer)
+    match images {
+        [] => false,
+        [image, more @ ..] => {
+            takes_away(store, image, program, printer)
+                || others_take_away(store, more, program, printer)
+        }
+    }
 }
 
 /// Whether writing one of the files that a run writes would take away another of its files.
@@ -334,7 +308,7 @@ fn is_taken_away<S: Store>(
         result ≡ is_taken_away beside program.now saving (option_map string_bytes printer.now)) }
 {
     (saving.has_first() && takes_away_at(store, program.disk.as_str(), program, printer))
-        || (saving.has_others() && others_take_away(store, program, printer))
+        || (saving.has_others() && others_take_away(store, &program.others, program, printer))
         || takes_away(store, printer, program, printer)
 }
 

@@ -4,7 +4,7 @@ ghost use Rattle.std.specs.Prelude.{vec_items};
 ghost use Rattle.pm_tool.specs.Said.{IsCutShort, IsSoundExit};
 ghost use Rattle.pm_files.specs.Held.{Saves, Puts, held_too};
 ghost use Rattle.pm_streams.specs.Streams.{AreWell, both};
-ghost use Rattle.pm_program.specs.Conflicts.{other_paths};
+ghost use Rattle.pm_plan.specs.Asked.{paths_in};
 ghost use Rattle.pm_program.specs.Saved.{SavesAt, SavesEach, SavesFront, SavesFrontSaid, SavesRun};
 ghost use Rattle.pm_program.specs.Saved.{SavesSaid, SavesSome};
 ghost use Rattle.pm_program.specs.Saved.{PrintsIf, SaysOf, has_run, held_at, held_by, held_each, held_paths};
@@ -13,13 +13,12 @@ ghost use Rattle.pm_program.specs.Saved.{takes_lock};
 ghost use Rattle.pm_program.specs.Saved.{Reads, ReadsEach, SavesRunSaid, SavesSalvage, TellsDebug, TellsTrace};
 ghost use Rattle.pm_program.specs.Saved.{paths_of};
 ghost use Rattle.pm_tool.specs.Disks.{images_of};
-ghost use Rattle.pm_tool.specs.Outcomes.{others_of};
 
 use pm_choices::{Saving, Selection};
 use pm_files::{DiskFault, Store};
 use pm_plan::{Others, Program, SalvagePlan, Verb};
 use pm_streams::{Sink, Source, write_all};
-use pm_tool::{Exit, Job, OtherImages, Outcome};
+use pm_tool::{Exit, Job, Outcome};
 use std::alloc::Global;
 use std::io::ErrorKind;
 
@@ -176,15 +175,16 @@ fn images<S: Store>(
     ensures stays { S.files store.new ≡ S.files store.old }
     ensures held { S.held store.new ≡ S.held store.old }
     ensures values { IfOk result (λ images.
-        ReadsEach (S.files store.old) (paths_of disk.now others.now) (images_of images)) }
+        ReadsEach (S.files store.old) (paths_of disk.now (paths_in others.now)) (images_of images)) }
 {
+    let [fifth, ninth, tenth, eleventh, twelfth] = others;
     Ok([
         Some(store.read(alloc, disk)?),
-        image(alloc, store, &others.d5)?,
-        image(alloc, store, &others.d9)?,
-        image(alloc, store, &others.d10)?,
-        image(alloc, store, &others.d11)?,
-        image(alloc, store, &others.d12)?,
+        image(alloc, store, fifth)?,
+        image(alloc, store, ninth)?,
+        image(alloc, store, tenth)?,
+        image(alloc, store, eleventh)?,
+        image(alloc, store, twelfth)?,
     ])
 }
 
@@ -199,7 +199,7 @@ fn inputs<S: Store>(
     ensures stays { S.files store.new ≡ S.files store.old }
     ensures held { S.held store.new ≡ S.held store.old }
     ensures values { IfOk result (λ read.
-        ReadsEach (S.files store.old) (paths_of disk.now others.now) (images_of read.0)) }
+        ReadsEach (S.files store.old) (paths_of disk.now (paths_in others.now)) (images_of read.0)) }
     ensures system { IfOk result (λ read.
         Reads (S.files store.old) (option_map string_bytes system.now) (option_map vec_items read.1)) }
 {
@@ -295,24 +295,27 @@ fn save_at<S: Store>(
     }
 }
 
-/// Saves the images of the other units than 4 under their paths.
-fn save_others<S: Store>(
+/// Saves images under their paths, one behind the other.
+fn save_each<S: Store>(
     alloc: Global,
     store: &mut S,
-    paths: &Others,
-    images: &OtherImages,
+    paths: &[Option<String>],
+    images: &[Option<Vec<u8>>],
 ) -> Result<(), DiskFault>
     ensures saved { OnOk result (SavesEach (S.files store.old) (S.files store.new)
-        (other_paths paths.now) (others_of images.now)) }
+        (paths_in paths.now) (images_of images.now)) }
     ensures held { S.held store.new ≡ S.held store.old }
     ensures front { OnErr result (SavesFront (S.files store.old) (S.files store.new)
-        (other_paths paths.now) (others_of images.now)) }
+        (paths_in paths.now) (images_of images.now)) }
 {
-    save_at(alloc, store, &paths.d5, &images.d5)?;
-    save_at(alloc, store, &paths.d9, &images.d9)?;
-    save_at(alloc, store, &paths.d10, &images.d10)?;
-    save_at(alloc, store, &paths.d11, &images.d11)?;
-    save_at(alloc, store, &paths.d12, &images.d12)
+    let [path, paths @ ..] = paths else {
+        return Ok(());
+    };
+    let [image, images @ ..] = images else {
+        return Ok(());
+    };
+    save_at(alloc, store, path, image)?;
+    save_each(alloc, store, paths, images)
 }
 
 /// Saves the images of all units under their paths: first that of unit 4.
@@ -324,15 +327,15 @@ fn save_all<S: Store>(
     outcome: &Outcome,
 ) -> Result<(), DiskFault>
     ensures saved { OnOk result (SavesEach (S.files store.old) (S.files store.new)
-        (Some disk.now ∷ other_paths others.now)
-        (option_map vec_items outcome.now.image ∷ others_of outcome.now.others)) }
+        (Some disk.now ∷ paths_in others.now)
+        (option_map vec_items outcome.now.image ∷ images_of outcome.now.others)) }
     ensures held { S.held store.new ≡ S.held store.old }
     ensures front { OnErr result (SavesFront (S.files store.old) (S.files store.new)
-        (Some disk.now ∷ other_paths others.now)
-        (option_map vec_items outcome.now.image ∷ others_of outcome.now.others)) }
+        (Some disk.now ∷ paths_in others.now)
+        (option_map vec_items outcome.now.image ∷ images_of outcome.now.others)) }
 {
     save_image(store, disk, &outcome.image)?;
-    save_others(alloc, store, others, &outcome.others)
+    save_each(alloc, store, others, &outcome.others)
 }
 
 /// Saves the images of a run that are to be saved.
@@ -345,18 +348,18 @@ fn save_images<S: Store>(
     outcome: &Outcome,
 ) -> Result<(), DiskFault>
     ensures saved { OnOk result (SavesEach (S.files store.old) (S.files store.new)
-        (saved_paths saving disk.now others.now)
-        (option_map vec_items outcome.now.image ∷ others_of outcome.now.others)) }
+        (saved_paths saving disk.now (paths_in others.now))
+        (option_map vec_items outcome.now.image ∷ images_of outcome.now.others)) }
     ensures held { S.held store.new ≡ S.held store.old }
     ensures front { OnErr result (SavesFront (S.files store.old) (S.files store.new)
-        (saved_paths saving disk.now others.now)
-        (option_map vec_items outcome.now.image ∷ others_of outcome.now.others)) }
+        (saved_paths saving disk.now (paths_in others.now))
+        (option_map vec_items outcome.now.image ∷ images_of outcome.now.others)) }
 {
     match saving {
         Saving::Nothing => Ok(()),
         Saving::First => save_image(store, disk, &outcome.image),
         Saving::All => save_all(alloc, store, disk, others, outcome),
-        Saving::Others => save_others(alloc, store, others, &outcome.others),
+        Saving::Others => save_each(alloc, store, others, &outcome.others),
     }
 }
 
@@ -372,16 +375,18 @@ fn hold_at<S: Store>(store: &mut S, path: &Option<String>) -> Result<(), DiskFau
     }
 }
 
-/// Holds the files of the images on the other units than 4.
-fn hold_others<S: Store>(store: &mut S, others: &Others) -> Result<(), DiskFault>
+/// Holds the files of images, one behind the other.
+fn hold_each<S: Store>(store: &mut S, paths: &[Option<String>]) -> Result<(), DiskFault>
     ensures stays { S.files store.new ≡ S.files store.old }
-    ensures held { OnOk result (S.held store.new ≡ held_each (other_paths others.now) (S.held store.old)) }
+    ensures held { OnOk result (S.held store.new ≡ held_each (paths_in paths.now) (S.held store.old)) }
 {
-    hold_at(store, &others.d5)?;
-    hold_at(store, &others.d9)?;
-    hold_at(store, &others.d10)?;
-    hold_at(store, &others.d11)?;
-    hold_at(store, &others.d12)
+    match paths {
+        [] => Ok(()),
+        [path, paths @ ..] => {
+            hold_at(store, path)?;
+            hold_each(store, paths)
+        }
+    }
 }
 
 /// Holds the files of the images that are going to be saved.
@@ -393,16 +398,16 @@ fn hold_images<S: Store>(
 ) -> Result<(), DiskFault>
     ensures stays { S.files store.new ≡ S.files store.old }
     ensures held { OnOk result
-        (S.held store.new ≡ held_each (held_paths saving disk.now others.now) (S.held store.old)) }
+        (S.held store.new ≡ held_each (held_paths saving disk.now (paths_in others.now)) (S.held store.old)) }
 {
     match saving {
         Saving::Nothing => Ok(()),
         Saving::First => store.hold(disk),
         Saving::All => {
             store.hold(disk)?;
-            hold_others(store, others)
+            hold_each(store, others)
         }
-        Saving::Others => hold_others(store, others),
+        Saving::Others => hold_each(store, others),
     }
 }
 
@@ -415,7 +420,7 @@ fn make_ready<S: Store>(
 ) -> Result<(), DiskFault>
     ensures stays { S.files store.new ≡ S.files store.old }
     ensures held { OnOk result (S.held store.new
-        ≡ held_each (held_paths saved.now.saving disk.now others.now) (S.held store.old)) }
+        ≡ held_each (held_paths saved.now.saving disk.now (paths_in others.now)) (S.held store.old)) }
 {
     hold_images(store, disk, others, saved.saving)?;
     if let Printing::File(path) = &saved.printing {
@@ -433,9 +438,9 @@ fn run_inputs<S: Store>(
 ) -> Result<(Images, Option<Vec<u8>>), DiskFault>
     ensures stays { S.files store.new ≡ S.files store.old }
     ensures held { OnOk result (S.held store.new ≡ held_each
-        (held_paths saved.now.saving (string_bytes program.now.disk) program.now.others) (S.held store.old)) }
+        (held_paths saved.now.saving (string_bytes program.now.disk) (paths_in program.now.others)) (S.held store.old)) }
     ensures values { IfOk result (λ read. ReadsEach (S.files store.old)
-        (paths_of (string_bytes program.now.disk) program.now.others) (images_of read.0)) }
+        (paths_of (string_bytes program.now.disk) (paths_in program.now.others)) (images_of read.0)) }
     ensures system { IfOk result (λ read.
         Reads (S.files store.old) (option_map string_bytes program.now.system) (option_map vec_items read.1)) }
 {
@@ -455,11 +460,11 @@ fn save_run<S: Store, O: Sink>(
     outcome: &Outcome,
 ) -> Result<(), DiskFault>
     ensures saved { OnOk result (SavesRun (S.files store.old) (S.files store.new)
-        (saved_paths saved.now.saving disk.now others.now) saved.now.printing outcome.now) }
+        (saved_paths saved.now.saving disk.now (paths_in others.now)) saved.now.printing outcome.now) }
     ensures held { S.held store.new ≡ S.held store.old }
     ensures front { OnErr result (SavesFront (S.files store.old) (S.files store.new)
-        (saved_paths saved.now.saving disk.now others.now)
-        (option_map vec_items outcome.now.image ∷ others_of outcome.now.others)) }
+        (saved_paths saved.now.saving disk.now (paths_in others.now))
+        (option_map vec_items outcome.now.image ∷ images_of outcome.now.others)) }
 {
     save_images(alloc, store, disk, others, saved.saving, outcome)?;
     save_printer(store, sink, &saved.printing, outcome)
@@ -481,14 +486,14 @@ pub fn do_run<S: Store, I: Source, O: Sink>(
     requires well { AreWell (both (I.seen source.old) (O.seen sink.old)) }
     ensures saved { IfOk result (λ outcome.
         SavesRun (S.files store.old) (S.files store.new)
-        (saved_paths saved.saving (string_bytes program.disk) program.others) saved.printing outcome) }
+        (saved_paths saved.saving (string_bytes program.disk) (paths_in program.others)) saved.printing outcome) }
     ensures cut { IfOk result (λ outcome. IsCutShort outcome.exit → S.files store.new ≡ S.files store.old) }
     ensures held { OnOk result (S.held store.new
-        ≡ held_each (held_paths saved.saving (string_bytes program.disk) program.others) (S.held store.old)) }
+        ≡ held_each (held_paths saved.saving (string_bytes program.disk) (paths_in program.others)) (S.held store.old)) }
     ensures said { IfOk result (λ outcome. IsSoundExit outcome.exit → IfSome (I.seen source.old).remaining (λ input.
         SavesRunSaid (S.files store.old) (S.files store.new) program saved input)) }
     ensures front { OnErr result (SavesSome (S.files store.old) (S.files store.new)
-        (saved_paths saved.saving (string_bytes program.disk) program.others)) }
+        (saved_paths saved.saving (string_bytes program.disk) (paths_in program.others))) }
     ensures front_said { OnErr result (IfSome (I.seen source.old).remaining (λ input.
         SavesFrontSaid (S.files store.old) (S.files store.new) program saved input)) }
 {

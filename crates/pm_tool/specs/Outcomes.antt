@@ -11,8 +11,8 @@ use Rattle.pm_tool.specs.declared.outcome.Exit.{Exit}
 use Rattle.pm_tool.specs.declared.outcome.Exit.TheVariants as exits
 use Rattle.pm_session.specs.declared.ending.Ending.{Ending}
 use Rattle.pm_session.specs.declared.ending.Ending.TheVariants as endings
-use Rattle.pm_tool.specs.declared.outcome.OtherImages.{OtherImages}
 use Rattle.pm_tool.specs.declared.outcome.Outcome.{Outcome}
+use Rattle.pm_tool.specs.Disks.{images_of}
 use Rattle.pm_tool.specs.Stops.{AreStops}
 
 -- the exit status
@@ -82,12 +82,7 @@ Names exit (Some refusal) message =
 abbrev pub SaysWhy : Outcome → Type 0
 SaysWhy outcome = Names outcome.exit outcome.refusal (string_bytes outcome.message)
 
--- the images on the units 5, 9, 10, 11 and 12
-abbrev pub others_of : OtherImages → List (Option (List ℕ))
-others_of others = option_map vec_items others.d5 ∷ option_map vec_items others.d9 ∷ option_map vec_items others.d10
-    ∷ option_map vec_items others.d11 ∷ option_map vec_items others.d12 ∷ []
-
--- none of them
+-- no images on the units 5, 9, 10, 11 and 12
 abbrev pub no_others : List (Option (List ℕ))
 no_others = None ∷ None ∷ None ∷ None ∷ None ∷ []
 
@@ -145,6 +140,6 @@ pub record IsOutcome (outcome : Outcome) (told : Said) : Type 0 where
   pub exit : outcome.exit ≡ told.exit
   pub message : string_bytes outcome.message ≡ told.message
   pub image : option_map vec_items outcome.image ≡ told.image
-  pub others : others_of outcome.others ≡ told.others
+  pub others : images_of outcome.others ≡ told.others
   pub printer : outcome.printer.items ≡ told.printer
   pub stopped : AreStops outcome.stopped told.stopped

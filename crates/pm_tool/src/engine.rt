@@ -1,8 +1,8 @@
 //! Jobs, from the bytes that are read to the bytes that are written.
 ghost use Rattle.std.specs.Prelude.{◌≡◌, false, true, [], None, IfOk, IfErr, OnOk, OnErr, codes};
-ghost use Rattle.pm_tool.specs.Disks.{NamesFileIn, loaded};
+ghost use Rattle.pm_tool.specs.Disks.{NamesFileIn, loaded, images_of};
 ghost use Rattle.pm_tool.specs.Hex.{hex_spelled};
-ghost use Rattle.pm_tool.specs.Outcomes.{SaysWhy, fault_exit, no_others, others_of, outcome_text};
+ghost use Rattle.pm_tool.specs.Outcomes.{SaysWhy, fault_exit, no_others, outcome_text};
 ghost use Rattle.pm_tool.specs.Said.{job_said, said_started, IsSoundExit, IsCutShort, Finishes};
 ghost use Rattle.pm_tool.specs.Said.{BreaksOff, TellsAll, TellsFront, IsPrompt, FailsExactly, CountsExactly};
 ghost use Rattle.pm_tool.specs.Work.{work_of};
@@ -76,7 +76,7 @@ fn do_job<R: Source, W: Sink>(
 fn broken_off(alloc: Global, fault: Fault) -> Outcome
     ensures exit { result.exit ≡ fault_exit fault }
     ensures image { result.image ≡ None }
-    ensures others { others_of result.others ≡ no_others }
+    ensures others { images_of result.others ≡ no_others }
     ensures printer { result.printer.items ≡ [] }
     ensures told { SaysWhy result }
 {
@@ -115,7 +115,7 @@ pub fn run<R: Source, W: Sink>(alloc: Global, source: &mut R, sink: &mut W, job:
     ensures write { result.exit ≡ Exit.WriteFault → outcome_text result ≡ codes "write fault" }
     ensures memory { result.exit ≡ Exit.NoMemory → outcome_text result ≡ codes "no memory" }
     ensures nothing_else { IsCutShort result.exit →
-        (result.image ≡ None) × (others_of result.others ≡ no_others) × (result.printer.items ≡ []) }
+        (result.image ≡ None) × (images_of result.others ≡ no_others) × (result.printer.items ≡ []) }
 
     // A refusal names its fault, never want of memory, by its text, and of a program the file that it is about.
     ensures told { SaysWhy result }

@@ -1,7 +1,8 @@
 //! Jobs, and what they come to.
 ghost use Rattle.std.specs.Prelude.{◌≡◌, false, [], List, ℕ, Some, None, IfOk, option_map, string_bytes, vec_items};
+ghost use Rattle.pm_tool.specs.Disks.{images_of};
 ghost use Rattle.pm_tool.specs.Outcomes.{IsOutcome, SaysWhy, exit_number, exit_of, fault_exit, is_refusal, judged};
-ghost use Rattle.pm_tool.specs.Outcomes.{no_others, others_of, outcome_text, refused};
+ghost use Rattle.pm_tool.specs.Outcomes.{no_others, outcome_text, refused};
 
 use crate::hint::Hint;
 use crate::stopped::Stopped;
@@ -178,29 +179,14 @@ impl Exit {
     }
 }
 
-/// The images on the units 5, 9, 10, 11 and 12 that are to be saved.
-#[derive(Drop)]
-pub struct OtherImages {
-    pub d5: Option<Vec<u8>>,
-    pub d9: Option<Vec<u8>>,
-    pub d10: Option<Vec<u8>>,
-    pub d11: Option<Vec<u8>>,
-    pub d12: Option<Vec<u8>>,
-}
+/// The images on the units 5, 9, 10, 11 and 12, in their order, that are to be saved.
+pub type OtherImages = [Option<Vec<u8>>; 5];
 
-impl OtherImages {
-    /// None of them.
-    pub(crate) fn none() -> OtherImages
-        ensures none { others_of result ≡ no_others }
-    {
-        OtherImages {
-            d5: None,
-            d9: None,
-            d10: None,
-            d11: None,
-            d12: None,
-        }
-    }
+/// None of them.
+pub(crate) fn no_images() -> OtherImages
+    ensures none { images_of result ≡ no_others }
+{
+    [None, None, None, None, None]
 }
 
 /// Which file the refusal of a program is about.
@@ -245,7 +231,7 @@ impl Outcome {
         ensures exit { result.exit ≡ exit }
         ensures message { result.message ≡ message }
         ensures image { result.image ≡ None }
-        ensures others { others_of result.others ≡ no_others }
+        ensures others { images_of result.others ≡ no_others }
         ensures printer { result.printer.items ≡ [] }
         ensures refusal { result.refusal ≡ None }
         ensures stopped { result.stopped ≡ None }
@@ -254,7 +240,7 @@ impl Outcome {
             exit,
             message,
             image: None,
-            others: OtherImages::none(),
+            others: no_images(),
             printer: Vec::new(alloc),
             refusal: None,
             ending: None,
@@ -270,7 +256,7 @@ impl Outcome {
         ensures exit { result.exit ≡ Exit.Ended }
         ensures message { string_bytes result.message ≡ [] }
         ensures image { option_map vec_items result.image ≡ Some image.items }
-        ensures others { others_of result.others ≡ no_others }
+        ensures others { images_of result.others ≡ no_others }
         ensures printer { result.printer.items ≡ [] }
         ensures refusal { result.refusal ≡ None }
         ensures stopped { result.stopped ≡ None }
@@ -279,7 +265,7 @@ impl Outcome {
             exit: Exit::Ended,
             message: String::new(alloc),
             image: Some(image),
-            others: OtherImages::none(),
+            others: no_images(),
             printer: Vec::new(alloc),
             refusal: None,
             ending: None,
@@ -324,7 +310,7 @@ pub(crate) fn refuse_for(
         exit: Exit::Refused,
         message,
         image: None,
-        others: OtherImages::none(),
+        others: no_images(),
         printer: Vec::new(alloc),
         refusal: Some(refusal),
         ending: None,

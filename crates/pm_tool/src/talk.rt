@@ -4,15 +4,15 @@ ghost use Rattle.std.specs.Prelude.{None, option_map, vec_items};
 ghost use Rattle.pm_machine.specs.Events.{Eject, next};
 ghost use Rattle.pm_units.specs.Devices.{ejected_image};
 ghost use Rattle.std.specs.Io.KnownBytes.{Appends};
-ghost use Rattle.pm_tool.specs.Disks.{NamesFile, machine_at};
-ghost use Rattle.pm_tool.specs.Outcomes.{IsOutcome, SaysWhy, others_of};
+ghost use Rattle.pm_tool.specs.Disks.{NamesFile, machine_at, images_of};
+ghost use Rattle.pm_tool.specs.Outcomes.{IsOutcome, SaysWhy};
 ghost use Rattle.pm_tool.specs.Run.{end_text, ended_run};
 ghost use Rattle.pm_tool.specs.Said.{BreaksOff, Finishes, WritesInTime, first_kept, others_in, others_kept};
 ghost use Rattle.pm_tool.specs.Said.{run_said, said_run, said_talk, shown_talk};
 ghost use Rattle.pm_streams.specs.Streams.{AppendsFront, AreWell, IsCause, IsCounted, both};
 
 use crate::debug::converse;
-use crate::outcome::{Exit, OtherImages, Outcome, refuse_for};
+use crate::outcome::{Exit, OtherImages, Outcome, no_images, refuse_for};
 use crate::programs::{Start, start_on};
 use crate::steps::{Show, drive};
 use crate::stopped::stopped_at;
@@ -45,27 +45,27 @@ fn taken(machine: &mut Machine, unit: u8) -> Option<Vec<u8>>
 #[tactic(auto, using(crate::proofs::Ejected::left))]
 fn all_taken(machine: &mut Machine) -> (Option<Vec<u8>>, OtherImages)
     ensures first { option_map vec_items result.0 ≡ first_kept Saving.All machine.old.state.devices }
-    ensures others { others_of result.1 ≡ others_in machine.old.state.devices }
+    ensures others { images_of result.1 ≡ others_in machine.old.state.devices }
 {
     let first = taken(machine, 4);
-    let others = OtherImages {
-        d5: taken(machine, 5),
-        d9: taken(machine, 9),
-        d10: taken(machine, 10),
-        d11: taken(machine, 11),
-        d12: taken(machine, 12),
-    };
+    let others = [
+        taken(machine, 5),
+        taken(machine, 9),
+        taken(machine, 10),
+        taken(machine, 11),
+        taken(machine, 12),
+    ];
     (first, others)
 }
 
 /// Takes away the images that are to be saved.
 fn images_taken(machine: &mut Machine, saving: Saving) -> (Option<Vec<u8>>, OtherImages)
     ensures first { option_map vec_items result.0 ≡ first_kept saving machine.old.state.devices }
-    ensures others { others_of result.1 ≡ others_kept saving machine.old.state.devices }
+    ensures others { images_of result.1 ≡ others_kept saving machine.old.state.devices }
 {
     match saving {
-        Saving::Nothing => (None, OtherImages::none()),
-        Saving::First => (taken(machine, 4), OtherImages::none()),
+        Saving::Nothing => (None, no_images()),
+        Saving::First => (taken(machine, 4), no_images()),
         Saving::All => all_taken(machine),
         Saving::Others => (None, all_taken(machine).1),
     }

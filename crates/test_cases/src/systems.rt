@@ -31,11 +31,11 @@ fn add_images(
     let before = disks(alloc, case, work)?;
     let (first, others) = (&ran.outcome.image, &ran.outcome.others);
     add_image(alloc, "image 4", &before[0], first, came)?;
-    add_image(alloc, "image 5", &before[1], &others.d5, came)?;
-    add_image(alloc, "image 9", &before[2], &others.d9, came)?;
-    add_image(alloc, "image 10", &before[3], &others.d10, came)?;
-    add_image(alloc, "image 11", &before[4], &others.d11, came)?;
-    add_image(alloc, "image 12", &before[5], &others.d12, came)
+    add_image(alloc, "image 5", &before[1], &others[0], came)?;
+    add_image(alloc, "image 9", &before[2], &others[1], came)?;
+    add_image(alloc, "image 10", &before[3], &others[2], came)?;
+    add_image(alloc, "image 11", &before[4], &others[3], came)?;
+    add_image(alloc, "image 12", &before[5], &others[4], came)
 }
 
 /// What comes of a case.

@@ -1,3 +1,4 @@
+use Rattle.pm_plan.specs.Asked.{paths_in}
 use Rattle.std.proofs.Common.{◌≡◌, IfSome, string_bytes, rules}
 use Rattle.pm_streams.specs.Streams.{both}
 use Rattle.pm_tool.specs.Said.{IsCutShort, IsSoundExit}
@@ -9,10 +10,10 @@ use Rattle.pm_program.proofs.saved.do_run.Goals as goal
 pub returns-clause-saved : goal.returns-clause-saved
 returns-clause-saved g c = rw c.and.ensures (and_ok
     (SavesRun (g.S.Store.files c.args.store.now) (g.S.Store.files c.save_run.new.store)
-    (saved_paths c.args.saved.saving (string_bytes c.args.program.disk) c.args.program.others) c.args.saved.printing)
+    (saved_paths c.args.saved.saving (string_bytes c.args.program.disk) (paths_in c.args.program.others)) c.args.saved.printing)
     c.save_run.result c.run-outcome.result
     (run_saves (g.S.Store.files c.args.store.now) (g.S.Store.files c.run_inputs.new.store) _ c.as_str.result.now
-    (string_bytes c.args.program.disk) c.args.program.others c.args.saved c.run-outcome.result
+    (string_bytes c.args.program.disk) (paths_in c.args.program.others) c.args.saved c.run-outcome.result
     c.run_inputs.ensures.stays (search rules)) c.save_run.ensures.saved)
 
 pub returns-clause-said : goal.returns-clause-said
@@ -26,7 +27,7 @@ returns-clause-said g c = rw c.and.ensures (and_ok
     c.in_ok-disks.disks c.in_ok-disks.system c.run-outcome.result (c.run-outcome.ensures.exact sound)
     c.in_ok-disks.ensures.values c.in_ok-disks.ensures.system
     (run_saves (g.S.Store.files c.args.store.now) (g.S.Store.files c.run_inputs.new.store) _ c.as_str.result.now
-    (string_bytes c.args.program.disk) c.args.program.others c.args.saved c.run-outcome.result
+    (string_bytes c.args.program.disk) (paths_in c.args.program.others) c.args.saved c.run-outcome.result
     c.run_inputs.ensures.stays (search rules) saves)) c.save_run.ensures.saved)
 
 pub returns-clause-cut : goal.returns-clause-cut
@@ -37,17 +38,17 @@ returns-clause-cut g c = rw c.and.ensures (and_ok
     cut_run (g.S.Store.files c.args.store.now) (g.S.Store.files c.save_run.new.store) _ c.args.saved.printing
     c.run-outcome.result cut nothing.0 nothing.1
     (run_saves (g.S.Store.files c.args.store.now) (g.S.Store.files c.run_inputs.new.store) _ c.as_str.result.now
-    (string_bytes c.args.program.disk) c.args.program.others c.args.saved c.run-outcome.result
+    (string_bytes c.args.program.disk) (paths_in c.args.program.others) c.args.saved c.run-outcome.result
     c.run_inputs.ensures.stays (search rules) saves)) c.save_run.ensures.saved)
 
 pub returns-clause-front : goal.returns-clause-front
 returns-clause-front g c = rw c.and.ensures (and_err
     (SavesSome (g.S.Store.files c.args.store.now) (g.S.Store.files c.save_run.new.store)
-    (saved_paths c.args.saved.saving (string_bytes c.args.program.disk) c.args.program.others))
+    (saved_paths c.args.saved.saving (string_bytes c.args.program.disk) (paths_in c.args.program.others)))
     c.save_run.result c.run-outcome.result (where_err c.save_run.result (λ saves. (
       _,
       front_from (g.S.Store.files c.args.store.now) (g.S.Store.files c.run_inputs.new.store) _ c.as_str.result.now
-          (string_bytes c.args.program.disk) c.args.program.others c.args.saved.saving _
+          (string_bytes c.args.program.disk) (paths_in c.args.program.others) c.args.saved.saving _
           c.run_inputs.ensures.stays (search rules) saves,
     )) c.save_run.ensures.front))
 
@@ -62,5 +63,5 @@ returns-clause-front_said g c = rw c.and.ensures (and_err
     c.in_ok-disks.disks c.in_ok-disks.system c.run-outcome.result c.run-outcome.ensures.exact
     c.run-outcome.ensures.nothing_else c.in_ok-disks.ensures.values c.in_ok-disks.ensures.system
     (front_from (g.S.Store.files c.args.store.now) (g.S.Store.files c.run_inputs.new.store) _ c.as_str.result.now
-    (string_bytes c.args.program.disk) c.args.program.others c.args.saved.saving _
+    (string_bytes c.args.program.disk) (paths_in c.args.program.others) c.args.saved.saving _
     c.run_inputs.ensures.stays (search rules) saves)) c.save_run.ensures.front))

@@ -118,4 +118,5 @@ pub record EndsAs (told other : Said) : Type 0 where
 
 -- all faults of a text are told with the end that its assembling has
 abbrev pub FaultsEndAsAssembling : Type 0
-FaultsEndAsAssembling = (input : List ℕ) → EndsAs (job_said (jobs.Asm asm.Faults) input) (job_said (jobs.Asm asm.File) input)
+FaultsEndAsAssembling =
+    (input : List ℕ) → EndsAs (job_said (jobs.Asm asm.Faults) input) (job_said (jobs.Asm asm.File) input)

@@ -22,8 +22,8 @@ pub extern "C" fn pmach_assemble(
     out: &mut [u8],
     needed: &mut usize,
 ) -> u32
-    ensures answers { Answers (job_said (Job.Asm (if list then AsmOutput.Listing else AsmOutput.File)) text.now) result out.old
-        out.new needed.new }
+    ensures answers { Answers (job_said (Job.Asm (if list then AsmOutput.Listing else AsmOutput.File)) text.now)
+        result out.old out.new needed.new }
 {
     let what = if list {
         AsmOutput::Listing

@@ -25,7 +25,8 @@ is_other same path (image ∷ images) = names_image same path image || is_other 
 abbrev pub printer_conflict : (List ℕ → List ℕ → Bool) → (List ℕ → Bool) → Program → Option (List ℕ) → Option Conflict
 printer_conflict same folders program None = None
 printer_conflict same folders program (Some path) =
-    if same path (string_bytes program.disk) || is_other same path (paths_in program.others) then Some conflicts.PrinterIsImage
+    if same path (string_bytes program.disk) || is_other same path (paths_in program.others)
+    then Some conflicts.PrinterIsImage
     else if names_image same path (option_map string_bytes program.system) then Some conflicts.PrinterIsSystem
     else if folders path then Some conflicts.PrinterIsFolder
     else None
@@ -60,7 +61,8 @@ others_take_away beside (image ∷ images) program printer =
 abbrev pub is_taken_away : (List ℕ → List ℕ → Bool) → Program → Saving → Option (List ℕ) → Bool
 is_taken_away beside program saving printer =
     (has_first saving && takes_away beside (Some (string_bytes program.disk)) program printer)
-    || ((has_others saving && others_take_away beside (paths_in program.others) program printer) || takes_away beside printer program printer)
+    || ((has_others saving && others_take_away beside (paths_in program.others) program printer)
+    || takes_away beside printer program printer)
 
 -- The first thing that is wrong: where an image is to be saved, that of unit 4 is that of another unit too; one of the
 -- others that are to be saved is that of two units; else the printer's path; else a file would be taken away.

@@ -438,7 +438,8 @@ fn run_inputs<S: Store>(
 ) -> Result<(Images, Option<Vec<u8>>), DiskFault>
     ensures stays { S.files store.new ≡ S.files store.old }
     ensures held { OnOk result (S.held store.new ≡ held_each
-        (held_paths saved.now.saving (string_bytes program.now.disk) (paths_in program.now.others)) (S.held store.old)) }
+        (held_paths saved.now.saving (string_bytes program.now.disk) (paths_in program.now.others))
+        (S.held store.old)) }
     ensures values { IfOk result (λ read. ReadsEach (S.files store.old)
         (paths_of (string_bytes program.now.disk) (paths_in program.now.others)) (images_of read.0)) }
     ensures system { IfOk result (λ read.
@@ -488,8 +489,8 @@ pub fn do_run<S: Store, I: Source, O: Sink>(
         SavesRun (S.files store.old) (S.files store.new)
         (saved_paths saved.saving (string_bytes program.disk) (paths_in program.others)) saved.printing outcome) }
     ensures cut { IfOk result (λ outcome. IsCutShort outcome.exit → S.files store.new ≡ S.files store.old) }
-    ensures held { OnOk result (S.held store.new
-        ≡ held_each (held_paths saved.saving (string_bytes program.disk) (paths_in program.others)) (S.held store.old)) }
+    ensures held { OnOk result (S.held store.new ≡ held_each
+        (held_paths saved.saving (string_bytes program.disk) (paths_in program.others)) (S.held store.old)) }
     ensures said { IfOk result (λ outcome. IsSoundExit outcome.exit → IfSome (I.seen source.old).remaining (λ input.
         SavesRunSaid (S.files store.old) (S.files store.new) program saved input)) }
     ensures front { OnErr result (SavesSome (S.files store.old) (S.files store.new)

@@ -86,8 +86,9 @@ SaysWhy outcome = Names outcome.exit outcome.refusal (string_bytes outcome.messa
 abbrev pub no_others : List (Option (List ℕ))
 no_others = None ∷ None ∷ None ∷ None ∷ None ∷ []
 
--- what a job says to its input: what it writes, how it ends, its message, the image that is saved and those of the units
--- 5, 9, 10, 11 and 12, its printer bytes, what of the input is left unread, and the state in which an error stopped it
+-- what a job says to its input: what it writes, how it ends, its message, the image that is saved and those of the
+-- units 5, 9, 10, 11 and 12, its printer bytes, what of the input is left unread, and the state in which an error
+-- stopped it
 pub record Said : Type 0 where
   pub written : List ℕ
   pub exit : Exit

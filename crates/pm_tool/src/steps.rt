@@ -5,6 +5,7 @@ ghost use Rattle.pm_machine.specs.Steps.{stepped};
 ghost use Rattle.pm_tool.specs.Run.{ComesToEnd, StopsShort, Unshown, is_console, shown_by};
 ghost use Rattle.pm_streams.specs.Streams.{AppendsBut, AppendsFront, IsCause, IsCounted, AreWell, both};
 
+use crate::pace::Pace;
 use pm_choices::{Saving, Selection};
 use pm_machine::{Machine, Stop};
 use pm_session::Ending;
@@ -14,7 +15,7 @@ use std::alloc::{AllocError, Global};
 
 /// What is shown of a run.
 #[derive(Clone, Copy)]
-pub(crate) enum Show {
+pub enum Show {
     /// A line for each step that is selected, and a last line that says why the run ended.
     Trace(Selection),
     /// The bytes that the program writes to the console. `saving` says which images are saved.
@@ -22,10 +23,10 @@ pub(crate) enum Show {
 }
 
 /// Makes one step, the quick way where that can.
-fn next_step(machine: &mut Machine) -> Result<Stop, AllocError>
+fn next_step<P: Pace>(machine: &mut Machine, pace: &mut P) -> Result<Stop, AllocError>
     ensures next { IfOk result (λ stop. stepped machine.old.state ≡ (machine.new.state, stop)) }
 {
-    if machine.quick_steps(1) == 1 {
+    if pace.quick_steps(machine, 1) == 1 {
         return Ok(Stop::Went);
     }
     let stop = machine.step()?;
@@ -34,11 +35,12 @@ fn next_step(machine: &mut Machine) -> Result<Stop, AllocError>
 
 /// Makes one step. Its line goes onto the page, if it is selected, unless the step waits.
 #[inline(never)]
-fn traced_step(
+fn traced_step<P: Pace>(
     machine: &mut Machine,
     wanted: Selection,
     lines: &mut Lines,
     page: &mut Vec<u8>,
+    pace: &mut P,
 ) -> Result<Stop, AllocError>
     ensures next { IfOk result (λ stop. stepped machine.old.state ≡ (machine.new.state, stop)) }
     ensures page { IfOk result (λ stop. page.new.items
@@ -46,7 +48,7 @@ fn traced_step(
 {
     let start = page.len();
     lines.add(page, machine, wanted)?;
-    let stop = next_step(machine)?;
+    let stop = next_step(machine, pace)?;
     if matches!(stop, Stop::Waiting) {
         page.truncate(start);
     }
@@ -69,29 +71,30 @@ fn console_step(machine: &mut Machine, page: &mut Vec<u8>) -> Result<Stop, Alloc
 }
 
 /// Makes one step. What it shows goes onto the page.
-fn step(
+fn step<P: Pace>(
     machine: &mut Machine,
     show: Show,
     lines: &mut Lines,
     page: &mut Vec<u8>,
+    pace: &mut P,
 ) -> Result<Stop, AllocError>
     ensures next { IfOk result (λ stop. stepped machine.old.state ≡ (machine.new.state, stop)) }
     ensures page { IfOk result (λ stop. page.new.items
         ≡ page.old.items ++ shown_by show machine.old.state machine.new.state stop) }
 {
     match show {
-        Show::Trace(wanted) => traced_step(machine, wanted, lines, page),
+        Show::Trace(wanted) => traced_step(machine, wanted, lines, page, pace),
         Show::Console { .. } => console_step(machine, page),
     }
 }
 
 /// Makes some steps that show nothing, at most `limit` and perhaps none: how many.
-fn unshown_steps(machine: &mut Machine, show: Show, limit: u64) -> u64
+fn unshown_steps<P: Pace>(machine: &mut Machine, show: Show, limit: u64, pace: &mut P) -> u64
     ensures unshown { Unshown show limit machine.old.state result machine.new.state }
 {
     match show {
         Show::Trace(_) => 0,
-        Show::Console { .. } => machine.quick_steps(limit),
+        Show::Console { .. } => pace.quick_steps(machine, limit),
     }
 }
 
@@ -133,14 +136,19 @@ fn turn_page<W: Sink>(sink: &mut W, page: &mut Vec<u8>, show: Show) -> Result<()
 }
 
 /// Makes at most `limit` steps and writes what they show, but for the page that it gives back. Each time that the
-/// machine waits, the page is written and the machine gets the next byte of the input.
-pub(crate) fn drive<R: Source, W: Sink>(
+/// machine waits, the page is written and the machine gets the next byte of the input. `pace` is asked for all steps of
+/// a trace, and for all of a run that write nothing to the console but the first, one at a time or as many as it makes.
+///
+/// Neither stream may have failed before. After a fault of a stream or want of memory what was written is a front of
+/// what the steps show.
+pub fn drive<R: Source, W: Sink, P: Pace>(
     alloc: Global,
     source: &mut R,
     sink: &mut W,
     machine: &mut Machine,
     show: Show,
     limit: u64,
+    pace: &mut P,
 ) -> Result<(Ending, Vec<u8>), Fault>
     requires well { AreWell (both (R.seen source.old) (W.seen sink.old)) }
     ensures over { IfOk result (λ r. ComesToEnd (both (R.seen source.old) (W.seen sink.old))
@@ -152,14 +160,13 @@ pub(crate) fn drive<R: Source, W: Sink>(
 {
     let mut lines = Lines::new(alloc);
     let mut page = Vec::new(alloc);
-    let mut went = 0;
-    let mut taken = 0;
+    let (mut went, mut taken) = (0, 0);
     'steps: while went < limit {
-        match step(machine, show, &mut lines, &mut page)? {
+        match step(machine, show, &mut lines, &mut page, pace)? {
             Stop::Went => {
                 went += 1;
                 turn_page(sink, &mut page, show)?;
-                went += unshown_steps(machine, show, limit - went);
+                went += unshown_steps(machine, show, limit - went, pace);
             }
             Stop::Ended => return Ok((Ending::Ended, page)),
             Stop::Halted(error) => return Ok((Ending::Error(error), page)),

@@ -13,6 +13,7 @@ ghost use Rattle.pm_streams.specs.Streams.{AppendsFront, AreWell, IsCause, IsCou
 
 use crate::debug::converse;
 use crate::outcome::{Exit, OtherImages, Outcome, no_images, refuse_for};
+use crate::pace::Quick;
 use crate::programs::{Start, start_on};
 use crate::steps::{Show, drive};
 use crate::stopped::stopped_at;
@@ -165,7 +166,7 @@ fn do_run<R: Source, W: Sink>(
     ensures counts { IsCounted (R.seen source.old) (R.seen source.new) result }
     ensures accepted { IfOk result (λ outcome. outcome.refusal ≡ None) }
 {
-    let (ending, page) = drive(alloc, source, sink, machine, show, limit)?;
+    let (ending, page) = drive(alloc, source, sink, machine, show, limit, &mut Quick)?;
     let outcome = tell(alloc, sink, machine, show, ending, page)?;
     Ok(outcome)
 }

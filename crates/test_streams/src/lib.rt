@@ -13,6 +13,8 @@ mod faults;
 mod jobs;
 #[cfg(test)]
 mod left;
+#[cfg(test)]
+mod pace;
 pub mod recorder;
 #[cfg(test)]
 mod sessions;

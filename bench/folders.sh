@@ -154,6 +154,25 @@ check "no volume" ends 2 "$here/examples/form.sh" header
 printf "2IMG" >short
 check "a header that is cut" ends 2 "$here/examples/form.sh" short
 
+# a hurt volume opens in no form: the one that is named is made all the same
+files two new TWO 280
+printf 'hi\n' | files two puttext A.TEXT
+printf hello | files two put B data
+byte two $((1024 + 26 + 6)) 00
+"$here/examples/dos-order.sh" <two >twodos
+cat header twodos >two.2mg
+check "a hurt disk fits no form" ends 2 "$here/examples/form.sh" twodos
+check "hurt, in the form that is named" ends 0 "$here/examples/form.sh" --as dos twodos two.new
+check "hurt, that is said" grep -q "no volume opens as dos" err
+check "hurt, its blocks" cmp two two.new
+check "hurt, its sound file" ends 0 "$PMACH" files --image two.new salvage two.saved
+check "hurt, the file's bytes" [ "$(files two.saved get B | head -c 5)" = hello ]
+check "hurt, behind a header" ends 0 "$here/examples/form.sh" --as 2mg-dos two.2mg two.out
+check "hurt, its blocks behind a header" cmp two two.out
+check "hurt, as what no image is" ends 2 "$here/examples/form.sh" --as cpm twodos none
+check "hurt, no header for the form" ends 2 "$here/examples/form.sh" --as 2mg-dos twodos none
+check "hurt, not back" ends 2 "$here/examples/form.sh" --back twodos two none
+
 check "what fits a pattern" ends 0 "$here/examples/export.sh" --only 'du=' a fo
 check "and nothing else" [ "$(echo fo/*)" = "fo/DUP fo/DUQ fo/LIST" ]
 check "its slots" [ "$(cut -f 6 fo/LIST | tr '\n' ' ')" = "volume SHOE 100 085-01-02 1 2 " ]

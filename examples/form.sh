@@ -3,14 +3,15 @@
 #
 #     examples/form.sh IMAGE                   a line for each form in which the volume opens, with the list's last line
 #     examples/form.sh IMAGE NEW               the volume as NEW, where one form fits
-#     examples/form.sh --as FORM IMAGE NEW     the same in a form that is named, where more than one fits
+#     examples/form.sh --as FORM IMAGE NEW     the same in a form that is named, where more than one fits; where none
+#                                              does, as on a hurt disk, NEW has its blocks, for files check and salvage
 #     examples/form.sh --back IMAGE BLOCKS NEW the volume BLOCKS in the form of IMAGE as NEW, with its header and what
 #                                              stands behind its blocks; BLOCKS has as many bytes as the volume there
 #
 # A form is an order: blocks, dos (the sectors of a 140 KB disk in DOS order) or swapped (the two bytes of each word), and
 # has 2mg- in front where the image begins with a header of that kind, whose words say where the blocks begin and end.
 # Nothing is guessed: a form fits where the program opens the volume in it. No file is written over.
-# Status 0: one form fits; 1 wrong words, or NEW is there; 2 none fits; 3 more than one does.
+# Status 0: one form fits, or NEW is made; 1 wrong words, or NEW is there; 2 none fits; 3 more than one does.
 here=$(dirname "$(readlink -f "$0")")
 pmach=${PMACH:-$here/../pmach}
 scratch=$(mktemp -d)
@@ -82,8 +83,13 @@ new=${*: -1}
 place
 look
 if [ "$as" ]; then
-    [[ " ${forms[*]/#/$front} " = *" $as "* ]] || stop 2 "$image is no volume as $as"
-    forms=("${as#2mg-}")
+    order=${as#"$front"}
+    if ! [[ " ${forms[*]/#/$front} " = *" $as "* ]]; then
+        [ ${#forms[@]}$back = 0 ] && [ $# = 2 ] && [ "$front$order" = "$as" ] && [ -s "$scratch/$order" ] ||
+            stop 2 "$image is no volume as $as"
+        echo "form.sh: no volume opens as $as; its blocks go to $new, for files check and salvage" >&2
+    fi
+    forms=("$order")
 elif [ $# = 1 ] || [ ${#forms[@]} != 1 ]; then
     for order in "${forms[@]}"; do
         echo "$front$order $(head -n 1 "$scratch/$order.list") $(tail -n 1 "$scratch/$order.list")"

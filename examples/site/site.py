@@ -1,0 +1,507 @@
+"""Pages of a disk, out of pmach's own answers.
+
+    site.py IMAGE FOLDER [--run NAME [--input FILE] [--limit N]]
+
+makes FOLDER/index.html: the volume, a map of its blocks, what `check` says of it, and a page for each file. An image in another form is
+brought into blocks by form.sh, and of a hurt one the pages have what `salvage` takes. Whatever bytes stand on the disk are shown as what
+they are: nothing of it is markup, a path or a script, which a policy in each page forbids besides. The same image gives the same pages.
+
+FOLDER is new, or made by this script before: then its pages are written anew. Status 0; 1 wrong words; 2 no volume, and no file either."""
+import argparse
+import html
+import os
+import re
+import subprocess
+import sys
+import tempfile
+
+HERE = os.path.dirname(os.path.abspath(__file__))
+EXAMPLES = os.path.dirname(HERE)
+PMACH = os.environ.get("PMACH", os.path.join(os.path.dirname(EXAMPLES), "pmach"))
+MARK = ".pmach-site"
+DUMPED, LINES, LISTED, STEPS = 65536, 20000, 60000, 2_000_000
+
+STYLE = """:root{color-scheme:light dark;--ink:#1b1b1b;--paper:#fdfdfb;--line:#bbb;--soft:#f0efe9;--link:#0b4f9e;--bad:#b3261e}
+@media(prefers-color-scheme:dark){:root{--ink:#e6e4de;--paper:#17181a;--line:#555;--soft:#242629;--link:#8ab4f8;--bad:#ff9c94}}
+body{margin:0 auto;max-width:64rem;padding:1rem;font:16px/1.5 system-ui,sans-serif;color:var(--ink);background:var(--paper)}
+a{color:var(--link)}h1,h2,h3{line-height:1.2}table{border-collapse:collapse;margin:1rem 0}
+th,td{border:1px solid var(--line);padding:.2rem .6rem;text-align:left;vertical-align:top}th{background:var(--soft)}td.n{text-align:right}
+pre{background:var(--soft);padding:.7rem;overflow-x:auto;font:13px/1.45 ui-monospace,monospace}.scroll{overflow-x:auto}
+svg{width:100%;height:auto;background:var(--soft);display:block}svg text{font:12px ui-monospace,monospace;fill:#111}
+.directory{fill:#8d99ae}.code{fill:#6a994e}.text{fill:#e0a458}.data{fill:#5c8ec9}.other{fill:#a984c2}.gap{fill:none}.beyond{fill:#ddd}
+.doubt{fill:#d1495b}rect{stroke:#fff;stroke-width:.5}.bad{color:var(--bad);font-weight:600}.key span{display:inline-block;width:1em;height:1em;margin:0 .3em 0 1em}
+:target{outline:2px solid var(--link)}nav{margin-bottom:1rem}"""
+KEY = {"directory": "#8d99ae", "code": "#6a994e", "text": "#e0a458", "data": "#5c8ec9", "other": "#a984c2", "doubt": "#d1495b"}
+
+
+def told(text):
+    """Text of any kind as text of a page: no markup, and each control character by its number."""
+    return html.escape(re.sub(r"[^\n\x20-\x7e]", lambda c: "\\x%02x" % ord(c[0]), text), quote=True)
+
+
+def pmach(words, given=b""):
+    """What the program writes and says, and its status."""
+    done = subprocess.run([PMACH, *words], input=given, stdout=subprocess.PIPE, stderr=subprocess.PIPE)
+    return done.returncode, done.stdout, done.stderr.decode("latin-1").strip()
+
+
+def latin(data):
+    return data.decode("latin-1")
+
+
+# ---- the disk
+
+
+class Entry:
+    """A file of the directory, by its slot."""
+
+    def __init__(self, slot, name, kind, first, blocks, last, date):
+        self.slot, self.name, self.kind, self.first, self.blocks, self.last, self.date = slot, name, kind, first, blocks, last, date
+        self.doubt = ""
+
+    @property
+    def page(self):
+        return "file-%02d.html" % self.slot
+
+    @property
+    def look(self):
+        return "doubt" if self.doubt else self.kind if self.kind in ("code", "text", "data") else "other"
+
+
+class Disk:
+    """A volume: its image in the order of blocks, the list of its files, and what was said of it."""
+
+    def __init__(self, path, scratch):
+        self.notes, self.path, self.form = [], path, "blocks"
+        self.findings = latin(pmach(["files", "--image", path, "check"])[1]).splitlines()
+        if not self.listed():
+            self.brought(scratch)
+        if not self.listed():
+            self.saved(scratch)
+
+    def listed(self):
+        status, out, self.message = pmach(["files", "--image", self.path, "list"])
+        if status:
+            return False
+        lines = latin(out).splitlines()
+        self.name, self.files, self.space = lines[0].rstrip(":"), [], lines[-1]
+        for slot, line in enumerate(lines[1:-1], 1):
+            kind, first, blocks, last, date = line[16:].split()
+            self.files.append(Entry(slot, line[:15].rstrip(), kind, int(first), int(blocks), int(last), date))
+        return True
+
+    def brought(self, scratch):
+        """Brings an image in another form into blocks, where one form fits or `check` names one."""
+        new = os.path.join(scratch, "blocks")
+        form = os.path.join(EXAMPLES, "form.sh")
+        run = lambda *words: subprocess.run([form, *words], stdin=subprocess.DEVNULL, stdout=subprocess.PIPE, stderr=subprocess.PIPE, env=dict(os.environ, PMACH=PMACH))
+        told_forms = [line.split()[2] for line in self.findings if line.startswith("note form ")]
+        for words in [[self.path, new]] + [["--as", form_name, self.path, new] for form_name in told_forms]:
+            done = run(*words)
+            if done.returncode == 0 and os.path.getsize(new):
+                if words[0] == "--as":
+                    self.form = words[1]
+                else:
+                    self.form = latin(run(self.path).stdout).split(" ")[0] or "another form"
+                self.notes.append("The image is in the form %s. Brought into blocks by: examples/form.sh%s IMAGE NEW" % (self.form, " --as " + self.form if words[0] == "--as" else ""))
+                self.path = new
+                self.findings = latin(pmach(["files", "--image", new, "check"])[1]).splitlines()
+                return
+
+    def saved(self, scratch):
+        """Of a hurt image: what salvage takes, as a volume of its own."""
+        new = os.path.join(scratch, "saved")
+        hurt, message = self.path, self.message
+        status, out, said = pmach(["files", "--image", hurt, "salvage", new])
+        self.salvage = latin(out).splitlines()
+        self.path = new
+        if status or not self.listed() or not self.files:
+            print("site.py: no volume, and no file that salvage takes: %s" % (message or said), file=sys.stderr)
+            sys.exit(2)
+        self.message = message
+        with open(hurt, "rb") as file:
+            image = file.read()
+        self.blocks_of_image = len(image) // 512
+        place(self, image)
+        self.notes.append("The directory is damaged: %s. The pages have what salvage takes: pmach files --image IMAGE salvage NEW" % message)
+
+
+def place(disk, image):
+    """Where the files stand in the hurt image, by the slots that salvage names: those that it took, and those that it left out."""
+    taken, left = [], []
+    for line in disk.salvage:
+        m = re.match(r"slot (\d+) (.*)", line)
+        if m and m[2].startswith("left out"):
+            left.append((int(m[1]), m[2]))
+        elif m:
+            taken.append((int(m[1]), m[2]))
+    word = lambda slot, at: int.from_bytes(image[1024 + 26 * slot + at : 1024 + 26 * slot + at + 2], "little")
+    for entry, (slot, words) in zip(disk.files, taken):
+        entry.first = word(slot, 0)
+        entry.doubt = "" if words.startswith("taken as ") and ", " not in words else words
+    disk.left = [(word(slot, 0), word(slot, 2), "slot %d %s" % (slot, words)) for slot, words in left]
+
+
+def blocks_of(disk):
+    """How many blocks the volume has."""
+    if hasattr(disk, "blocks_of_image"):
+        return disk.blocks_of_image
+    with open(disk.path, "rb") as file:
+        head = file.read(1024 + 26)
+    return int.from_bytes(head[1024 + 14 : 1024 + 16], "little")
+
+
+# ---- pages
+
+
+def page(title, body, back=True):
+    nav = '<nav><a href="index.html">The disk</a></nav>' if back else ""
+    return (
+        '<!DOCTYPE html>\n<html lang="en">\n<head>\n<meta charset="utf-8">\n'
+        "<meta http-equiv=\"Content-Security-Policy\" content=\"default-src 'none'; style-src 'unsafe-inline'\">\n"
+        '<meta name="viewport" content="width=device-width, initial-scale=1">\n'
+        f"<title>{told(title)}</title>\n<style>{STYLE}</style>\n</head>\n<body>\n{nav}<main>\n<h1>{told(title)}</h1>\n{body}\n</main>\n</body>\n</html>\n"
+    )
+
+
+def table(heads, rows):
+    """A table; the cells are markup already, a number stands right."""
+    cells = lambda row: "".join('<td class="n">%d</td>' % c if isinstance(c, int) else "<td>%s</td>" % c for c in row)
+    head = "".join('<th scope="col">%s</th>' % told(h) for h in heads)
+    return '<div class="scroll"><table><thead><tr>%s</tr></thead><tbody>%s</tbody></table></div>' % (head, "".join("<tr>%s</tr>" % cells(r) for r in rows))
+
+
+def block_map(disk):
+    """The blocks of the volume as a picture: rows of cells, each run of one file a rectangle."""
+    count = max(blocks_of(disk), 6)
+    columns = 40 if count <= 400 else 80 if count <= 3200 else 256
+    size = 1000 / columns
+    shapes = []
+
+    def run(first, end, look, words, link):
+        block = first
+        while block < end:
+            row = block // columns
+            stop = min(end, (row + 1) * columns)
+            rect = '<rect class="%s" x="%.2f" y="%.2f" width="%.2f" height="%.2f"><title>%s</title></rect>' % (
+                look, block % columns * size, row * size, (stop - block) * size, size, told(words))
+            shapes.append('<a href="%s">%s</a>' % (link, rect) if link else rect)
+            block = stop
+
+    start = min([10] + [e.first for e in disk.files if e.blocks]) if disk.files else 6
+    run(0, 2, "directory", "blocks 0 and 1, for a boot program", None)
+    run(2, 6, "directory", "blocks 2 to 5, the directory", None)
+    if start >= 10:
+        run(6, 10, "directory", "blocks 6 to 9, its second copy or free", None)
+    for e in disk.files:
+        if e.blocks:
+            run(e.first, min(e.first + e.blocks, count), e.look, "%s, %s, blocks %d to %d %s" % (e.name, e.kind, e.first, e.first + e.blocks - 1, e.doubt), e.page)
+    for first, end, words in getattr(disk, "left", []):
+        if 6 <= first < end <= count:
+            run(first, end, "doubt", words, None)
+    high = -(-count // columns) * size
+    last = '<rect class="gap" style="stroke:var(--ink)" x="0" y="0" width="1000" height="%.2f"/>' % high
+    key = "".join('<span style="background:%s"></span>%s' % (color, look) for look, color in KEY.items())
+    return (
+        '<svg viewBox="-1 -1 1002 %.2f" role="img" aria-label="Map of %d blocks, %d in a row: the directory and %d files">%s%s</svg>\n<p class="key">%s; what has no color is free</p>'
+        % (high + 2, count, columns, len(disk.files), "".join(shapes), last, key)
+    )
+
+
+def mending(disk):
+    """Which command mends what was said."""
+    if "refused volume 13" in disk.message:
+        return "The second copy of the directory is good: pmach files --image IMAGE repair"
+    if hasattr(disk, "salvage"):
+        return "pmach files --image IMAGE salvage NEW, which gave the files below"
+    return ""
+
+
+def index(disk, image_name, run_name):
+    body = ["<p>%s, <strong>%s</strong></p>" % (told(os.path.basename(image_name)), told(disk.space))]
+    body += ["<p>%s</p>" % told(note) for note in disk.notes]
+    body.append("<h2>Its blocks</h2>\n" + block_map(disk))
+    rows = [[e.slot, '<a href="%s">%s</a>' % (e.page, told(e.name)), told(e.kind) + (' <span class="bad">%s</span>' % told(e.doubt) if e.doubt else ""), e.first, e.blocks, e.last, told(e.date)] for e in disk.files]
+    body.append("<h2>Its files</h2>\n" + table(["slot", "name", "kind", "first block", "blocks", "last bytes", "date"], rows))
+    if run_name:
+        body.append('<p><a href="run.html">A run of %s</a></p>' % told(run_name))
+    body.append("<h2>What check says</h2>\n<pre>%s</pre>" % told("\n".join(disk.findings[:400])))
+    if len(disk.findings) > 400:
+        body.append("<p>%d lines more</p>" % (len(disk.findings) - 400))
+    if mending(disk):
+        body.append("<p>%s</p>" % told(mending(disk)))
+    if hasattr(disk, "salvage"):
+        body.append("<h2>What salvage says</h2>\n<pre>%s</pre>" % told("\n".join(disk.salvage[:400])))
+    return page("Volume " + (disk.name or "without a name"), "\n".join(body), back=False)
+
+
+def dump(data):
+    """Bytes with their offsets and characters."""
+    lines = []
+    for at in range(0, min(len(data), DUMPED), 16):
+        part = data[at : at + 16]
+        shown = "".join(chr(b) if 32 <= b < 127 else "." for b in part)
+        lines.append("%06x  %-47s  %s" % (at, part.hex(" "), shown))
+    more = "<p>The first %d of %d bytes.</p>" % (DUMPED, len(data)) if len(data) > DUMPED else ""
+    return "<h2>Its bytes</h2>\n<pre>%s</pre>%s" % (told("\n".join(lines)), more)
+
+
+def text_page(text):
+    lines = latin(text).split("\n")
+    shown = lines[:LINES]
+    rows = "\n".join('<span id="l%d">%5d  %s</span>' % (n, n, told(line)) for n, line in enumerate(shown, 1))
+    more = "<p>The first %d of %d lines.</p>" % (LINES, len(lines)) if len(lines) > LINES else ""
+    return "<h2>Its lines</h2>\n<pre>%s</pre>%s" % (rows, more)
+
+
+# ---- code
+
+CALL = re.compile(r"^(CLP|CGP|CIP|CBP) (\d+)$|^CXP (\d+), (\d+)$")
+STANDARD = re.compile(r"^\s+((?:CSP \d+)|(?:CXP 0, \d+))\s*; (\S+)")
+
+
+class Code:
+    """The segments, procedures and lines of a code file, and who calls whom."""
+
+    def __init__(self, data):
+        status, out, self.message = pmach(["dis"], data)
+        self.good = status == 0
+        if not self.good:
+            return
+        self.names = dict(re.findall(r"^\.SEG (\d+) (.*)$", latin(out), re.M))
+        named = latin(pmach(["dis", "--names"], data)[1])
+        self.called = {m[1]: m[2] for m in map(STANDARD.match, named.splitlines()) if m}
+        self.lines = latin(pmach(["dis", "--list"], data)[1]).splitlines()
+        self.procedures, self.calls = [], {}
+        for line in self.lines:
+            slot, number = int(line[0:2]), int(line[3:6])
+            words = line.split("  ", 1)[1] if "  " in line else ""
+            if words.startswith(".DICT"):
+                continue
+            here = (slot, number)
+            if here not in self.procedures:
+                self.procedures.append(here)
+            to = self.callee(slot, words)
+            if to:
+                self.calls.setdefault(here, {}).setdefault(to, 0)
+                self.calls[here][to] += 1
+        self.callers = {}
+        for here, those in self.calls.items():
+            for to in those:
+                self.callers.setdefault(to, []).append(here)
+
+    @staticmethod
+    def callee(slot, words):
+        m = CALL.match(words)
+        return None if not m else (slot, int(m[2])) if m[1] else (int(m[3]), int(m[4]))
+
+    def procedure(self, here):
+        return "%d.%d" % here
+
+    def link(self, to):
+        """A procedure as a link, where it is in the file; one of the system's with its name."""
+        if to in self.procedures:
+            return '<a href="#p%d-%d">%s</a>' % (*to, self.procedure(to))
+        name = self.called.get("CXP 0, %d" % to[1]) if to[0] == 0 else None
+        return told(self.procedure(to) + (" " + name if name else ""))
+
+    def line(self, slot, line, seen):
+        """A line of the listing: labels lead to their line, calls to what they call."""
+        place, words = line.split("  ", 1) if "  " in line else (line, "")
+        at = int(place[7:12])
+        shown = told(words)
+        to = self.callee(slot, words)
+        if to and to in self.procedures:
+            shown = '<a href="#p%d-%d">%s</a>' % (*to, shown)
+        else:
+            shown = re.sub(r"\bL(\d{5})\b", lambda m: '<a href="#o%d-%s">%s</a>' % (slot, m[1], m[0]) if int(m[1]) in self.places[slot] else m[0], shown)
+        name = self.called.get(words)
+        anchor = "o%d-%05d" % (slot, at)
+        mark = "" if anchor in seen else ' id="%s"' % anchor
+        seen.add(anchor)
+        return "<span%s>%s</span>  %s%s" % (mark, told("%-32s" % place), shown, told("  ; " + name) if name else "")
+
+    def body(self):
+        if not self.good:
+            return '<p class="bad">%s</p>' % told(self.message)
+        self.places = {}
+        for line in self.lines:
+            self.places.setdefault(int(line[0:2]), set()).add(int(line[7:12]))
+        parts = ["<h2>Segments</h2>", table(["slot", "name", "procedures"], [
+            [int(slot), told(name), " ".join(self.link(p) for p in self.procedures if p[0] == int(slot))] for slot, name in self.names.items()])]
+        rows = [[self.link(p), ", ".join(self.link(t) + (" ×%d" % n if n > 1 else "") for t, n in sorted(self.calls.get(p, {}).items())) or "nobody",
+                 ", ".join(self.link(c) for c in self.callers.get(p, [])) or "nobody here"] for p in self.procedures]
+        parts += ["<h2>Who calls whom</h2>", table(["procedure", "calls", "is called by"], rows), self.graph()]
+        seen, shown = set(), 0
+        for here in self.procedures:
+            slot, number = here
+            own = [line for line in self.lines if line.startswith("%02d %03d " % here) and "  .DICT" not in line]
+            parts.append('<h3 id="p%d-%d">Procedure %d of segment %d %s</h3>' % (slot, number, number, slot, told(self.names.get(str(slot), ""))))
+            parts.append("<p>Called by %s.</p>" % (", ".join(self.link(c) for c in self.callers.get(here, [])) or "nobody in this file"))
+            if shown + len(own) > LISTED:
+                parts.append("<p>%d lines, which are left out: the page has %d.</p>" % (len(own), shown))
+                continue
+            shown += len(own)
+            parts.append("<pre>%s</pre>" % "\n".join(self.line(slot, line, seen) for line in own))
+        return "\n".join(parts)
+
+    def graph(self):
+        """The calls as a picture, where graphviz is there."""
+        edges = sorted((a, b) for a, those in self.calls.items() for b in those if b in self.procedures)
+        if not edges or len(edges) > 400:
+            return ""
+        lines = ["digraph calls { rankdir=LR; node [shape=box, fontname=monospace];"]
+        lines += ['"%d.%d";' % p for p in self.procedures] + ['"%d.%d" -> "%d.%d";' % (*a, *b) for a, b in edges] + ["}"]
+        try:
+            done = subprocess.run(["dot", "-Tsvg"], input="\n".join(lines).encode(), stdout=subprocess.PIPE, stderr=subprocess.DEVNULL)
+        except OSError:
+            return ""
+        picture = re.sub(r"^.*?(?=<svg)|<!--.*?-->", "", latin(done.stdout), flags=re.S)
+        return '<figure role="img" aria-label="Calls of %d procedures">%s</figure>' % (len(self.procedures), picture) if done.returncode == 0 else ""
+
+
+def file_page(disk, entry):
+    words = ["files", "--image", disk.path]
+    status, data, said = pmach([*words, "get", "--slot", str(entry.slot)])
+    head = "<p>%s, %d blocks from %d, %d bytes, %s</p>" % (told(entry.kind), entry.blocks, entry.first, len(data), told(entry.date))
+    if status:
+        return page(entry.name, head + '<p class="bad">%s</p>' % told(said))
+    if entry.kind == "text":
+        status, text, said = pmach([*words, "gettext", "--slot", str(entry.slot)])
+        if status == 0:
+            return page(entry.name, head + text_page(text))
+        head += '<p class="bad">%s</p>' % told(said)
+    if entry.kind == "code":
+        code = Code(data)
+        if code.good:
+            return page(entry.name, head + code.body())
+        head += '<p class="bad">%s</p>' % told(code.message)
+    return page(entry.name, head + dump(data))
+
+
+# ---- a run
+
+
+class Calls:
+    """The steps of a run by the stack of procedures, out of a trace of calls and returns with their places."""
+
+    def __init__(self, lines):
+        self.root = {"name": "all", "self": 0, "in": {}}
+        path, before = [], 0
+        deep = lambda line: (len(line) - len(line.lstrip())) // 2
+        least = min(map(deep, lines), default=0)
+        for line in lines:
+            words = line.split()
+            if len(words) < 5 or not re.match(r"\d{8}", words[3]):
+                continue
+            depth = deep(line) - least
+            step = int(words[3])
+            name = "%s.%s" % (words[0].lstrip("0") or "0", words[1].lstrip("0") or "0") if words[0] != "---" else "?"
+            path = path[: depth] + ["?"] * (depth - len(path)) + [name]
+            node = self.root
+            for part in path:
+                node = node["in"].setdefault(part, {"name": part, "self": 0, "in": {}})
+            node["self"] += step + 1 - before
+            before = step + 1
+
+    def total(self, node):
+        return node["self"] + sum(map(self.total, node["in"].values()))
+
+    def picture(self):
+        shapes, deepest = [], [0]
+        all_steps = max(self.total(self.root), 1)
+
+        def draw(node, x, level):
+            width = 1000 * self.total(node) / all_steps
+            if width < 0.5 or level > 60:
+                return
+            deepest[0] = max(deepest[0], level)
+            words = "%s: %d of %d steps, %d of its own" % (node["name"], self.total(node), all_steps, node["self"])
+            shapes.append('<g><title>%s</title><rect x="%.2f" y="%d" width="%.2f" height="20" fill="hsl(%d 70%% 70%%)"/>%s</g>' % (
+                told(words), x, level * 21, width, 20 + 37 * level % 60, '<text x="%.2f" y="%d">%s</text>' % (x + 3, level * 21 + 15, told(node["name"])) if width > 30 else ""))
+            for child in sorted(node["in"].values(), key=lambda c: (-self.total(c), c["name"])):
+                draw(child, x, level + 1)
+                x += 1000 * self.total(child) / all_steps
+
+        draw(self.root, 0, 0)
+        return '<svg viewBox="0 0 1000 %d" role="img" aria-label="Steps by procedure, each below its caller">%s</svg>' % (21 * (deepest[0] + 1), "".join(shapes))
+
+
+def run_page(disk, name, given, limit):
+    words = ["--d4", disk.path, "--limit", str(limit), name]
+    status, out, said = pmach(["run", *words], given)
+    trace = latin(pmach(["trace", "--calls", "--places", *words], given)[1]).splitlines()
+    body = ["<p>%s (status %d)</p>" % (told(said), status), "<h2>Its console</h2>\n<pre>%s</pre>" % told(latin(out[:DUMPED]).replace("\r", "\n"))]
+    if len(trace) > 1:
+        body.append("<h2>Where its steps stood</h2>\n<p>Each bar is a procedure, segment and number, below the one that called it; its width is its share of the steps up to the last call or return.</p>")
+        body.append(Calls(trace[:-1]).picture())
+    return page("A run of " + name, "\n".join(body))
+
+
+# ---- the folder
+
+
+def made_before(folder):
+    """The names that this script wrote there, or none where the folder is another's."""
+    try:
+        with open(os.path.join(folder, MARK)) as file:
+            return file.read().split("\n")
+    except OSError:
+        return None
+
+
+def write(folder, pages):
+    if os.path.lexists(folder):
+        old = made_before(folder)
+        if old is None:
+            print("site.py: %s is there, and was not made by this script" % folder, file=sys.stderr)
+            sys.exit(1)
+        for name in old:
+            if re.fullmatch(r"(index|run|file-\d\d)\.html", name) and os.path.lexists(os.path.join(folder, name)):
+                os.remove(os.path.join(folder, name))
+    else:
+        os.mkdir(folder)
+    with open(os.path.join(folder, MARK), "w") as file:
+        file.write("\n".join(sorted(pages)))
+    for name, text in pages.items():
+        with open(os.path.join(folder, name), "w", encoding="utf-8") as file:
+            file.write(text)
+
+
+def main():
+    words = argparse.ArgumentParser(prog="site.sh", description=__doc__, formatter_class=argparse.RawDescriptionHelpFormatter)
+    words.exit_on_error = False
+    words.add_argument("image")
+    words.add_argument("folder")
+    words.add_argument("--run", metavar="NAME", help="a program of the disk to run")
+    words.add_argument("--input", metavar="FILE", help="its console's bytes, else none")
+    words.add_argument("--limit", type=int, default=STEPS, metavar="N", help="at most so many steps (%(default)s)")
+    try:
+        given = words.parse_args()
+    except SystemExit as end:
+        sys.exit(1 if end.code else 0)
+    except argparse.ArgumentError as fault:
+        print("site.sh: %s" % fault, file=sys.stderr)
+        sys.exit(1)
+    if not os.path.isfile(given.image) or given.image.startswith("-"):
+        print("site.sh: no such image: %s" % given.image, file=sys.stderr)
+        sys.exit(1)
+    if os.path.lexists(given.folder) and made_before(given.folder) is None:
+        print("site.sh: %s is there, and was not made by this script" % given.folder, file=sys.stderr)
+        sys.exit(1)
+    with tempfile.TemporaryDirectory() as scratch:
+        disk = Disk(given.image, scratch)
+        pages = {"index.html": index(disk, given.image, given.run)}
+        for entry in disk.files:
+            pages[entry.page] = file_page(disk, entry)
+        if given.run:
+            typed = b""
+            if given.input:
+                with open(given.input, "rb") as file:
+                    typed = file.read()
+            pages["run.html"] = run_page(disk, given.run, typed, given.limit)
+    write(given.folder, pages)
+    print("%s: %d pages, %d bytes; open %s" % (given.folder, len(pages), sum(len(t.encode()) for t in pages.values()), os.path.join(given.folder, "index.html")))
+
+
+main()

@@ -5,7 +5,7 @@ use pm_machine::Machine;
 use pm_tool::{Job, Selection};
 use std::alloc::Global;
 use std::io;
-use test_replay::{digest_text, hex_bytes, steps};
+use test_parts::{digest_text, hex_bytes, steps};
 
 /// The steps that a program may make where the case does not say.
 const STEPS: u32 = 100;

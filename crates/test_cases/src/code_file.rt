@@ -2,7 +2,7 @@
 use crate::case::Case;
 use std::alloc::Global;
 use std::io;
-use test_replay::{Segment, add_escaped, byte, hex_bytes, number, set_byte, set_name, unreadable};
+use test_parts::{Segment, add_escaped, byte, hex_bytes, number, set_byte, set_name, unreadable};
 
 /// The bytes of the segment of a slot, if the case has one.
 fn segment(alloc: Global, case: &Case<'_>, slot: usize) -> io::Result<Option<Vec<u8>>> {
@@ -26,7 +26,7 @@ fn laid_out(alloc: Global, case: &Case<'_>) -> io::Result<Vec<u8>> {
             segments.push(Segment { slot, bytes })?;
         }
     }
-    test_replay::code_file(alloc, &segments)
+    test_parts::code_file(alloc, &segments)
 }
 
 /// Gives a slot its name: `N NAME`.

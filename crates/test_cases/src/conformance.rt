@@ -3,7 +3,7 @@ use crate::bare::add_trace;
 use crate::case::{Came, Case};
 use std::alloc::Global;
 use std::io;
-use test_replay::hex_bytes;
+use test_parts::hex_bytes;
 
 /// The steps that a program may make.
 const STEPS: u32 = 10_000;

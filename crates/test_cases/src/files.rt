@@ -3,7 +3,7 @@ use crate::case::Line;
 use pm_filer::FileCommand;
 use std::alloc::Global;
 use std::io;
-use test_replay::{add_escaped, byte, hex_bytes, name, number, unreadable};
+use test_parts::{add_escaped, byte, hex_bytes, name, number, unreadable};
 
 /// Two words with a blank between them.
 pub fn two(text: &str) -> io::Result<(&str, &str)> {
@@ -115,7 +115,7 @@ pub fn command(
 /// The command of this word on the file of a slot, `N` or `N NEW`.
 fn on_slot(alloc: Global, word: &str, rest: &str) -> io::Result<FileCommand> {
     let (slot, new) = rest.split_once(' ').unwrap_or((rest, ""));
-    let slot = test_replay::word(slot)?;
+    let slot = test_parts::word(slot)?;
     match word {
         "get" => Ok(FileCommand::GetSlot(slot)),
         "gettext" => Ok(FileCommand::GetTextSlot(slot)),

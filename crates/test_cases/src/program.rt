@@ -6,7 +6,7 @@ use pm_filer::FileCommand;
 use pm_tool::{Job, Saving, Selection};
 use std::alloc::Global;
 use std::io;
-use test_replay::{
+use test_parts::{
     add_escaped, byte, bytes_text, digest_text, hex_bytes, name, steps, unreadable, word,
 };
 

@@ -5,7 +5,7 @@ use crate::{bare, boots, conformance, session, shows, systems, texts};
 use std::alloc::{AllocError, Global};
 use std::io;
 use std::io::ErrorKind;
-use test_replay::Report;
+use test_parts::Report;
 
 /// What the cases of a file are.
 #[derive(Clone, Copy)]

@@ -6,7 +6,7 @@ use crate::jobs::{Ran, do_job};
 use pm_tool::Job;
 use std::alloc::Global;
 use std::io;
-use test_replay::{digest_text, hex_bytes, measured, name, number, set_byte, unreadable, word};
+use test_parts::{digest_text, hex_bytes, measured, name, number, set_byte, unreadable, word};
 
 /// An image, the one that is remembered, and the volume that was saved last.
 #[derive(Drop)]

@@ -8,7 +8,7 @@ use crate::texts::text;
 use pm_tool::{AsmOutput, Code, DisOutput, Job, Selection};
 use std::alloc::Global;
 use std::io;
-use test_replay::{byte, hex_bytes, measured, steps, unreadable};
+use test_parts::{byte, hex_bytes, measured, steps, unreadable};
 
 /// The most lines that a case shows, and the most bytes of each.
 const LINES: usize = 24;

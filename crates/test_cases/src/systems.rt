@@ -6,7 +6,7 @@ use crate::session::Session;
 use pm_tool::Saving;
 use std::alloc::Global;
 use std::io;
-use test_replay::hex_bytes;
+use test_parts::hex_bytes;
 
 /// The image of unit 4, as the lines `on` of the case make it.
 fn work(alloc: Global, case: &Case<'_>) -> io::Result<Vec<u8>> {

@@ -5,7 +5,7 @@ use crate::jobs::do_job;
 use pm_tool::{AsmOutput, DisOutput, Job};
 use std::alloc::Global;
 use std::io;
-use test_replay::{add_escaped, measured, number};
+use test_parts::{add_escaped, measured, number};
 
 /// Whether a word begins a line of a text: `|`, `N*|` or `/`.
 pub fn is_text(word: &str) -> bool {

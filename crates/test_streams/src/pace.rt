@@ -1,7 +1,8 @@
 //! Runs and traces are made the quick way.
 use pm_machine::{BootFault, Machine};
 use pm_tool::{Ending, Pace, Reader, Saving, Selection, Show, Writer, drive};
-use std::process::{Abort, HostRuntime};
+use std::alloc::Global;
+use std::process::Abort;
 
 /// A loop that goes on for ever and writes nothing.
 const WHILE: [u8; 10] = [0x01, 0x02, 0x82, 0xAB, 0x01, 0x00, 0xA1, 0xFE, 0x08, 0x00];

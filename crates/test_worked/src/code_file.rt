@@ -2,7 +2,7 @@
 use pm_volume::Volume;
 use std::alloc::Global;
 use std::io;
-use test_replay::{Segment, code_file, unreadable};
+use test_parts::{Segment, code_file, unreadable};
 
 /// A volume of 83 blocks that has the code file of these segments as `P`, with this kind.
 pub fn volume(alloc: Global, segments: &[Segment], kind: u8) -> io::Result<Volume> {

@@ -4,7 +4,7 @@ use crate::spelled::words;
 use pm_machine::{Machine, Stop};
 use std::alloc::{AllocError, Global};
 use std::io;
-use test_replay::{byte, hex_bytes, steps, unreadable, word};
+use test_parts::{byte, hex_bytes, steps, unreadable, word};
 
 /// The most steps of a run that does not say how many go.
 const STEPS: u64 = 1_000_000;

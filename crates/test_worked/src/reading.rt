@@ -2,7 +2,7 @@
 use pm_opcode::{Decode, Instr, decode, encode};
 use std::alloc::{AllocError, Global};
 use std::io;
-use test_replay::{hex_bytes, hex_text, number, unreadable};
+use test_parts::{hex_bytes, hex_text, number, unreadable};
 
 /// The fields of an instruction.
 fn fields(alloc: Global, i: &Instr) -> Result<String, AllocError> {

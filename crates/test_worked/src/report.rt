@@ -4,7 +4,7 @@ use crate::{reading, row};
 use std::alloc::Global;
 use std::io;
 use std::io::ErrorKind;
-use test_replay::Report;
+use test_parts::Report;
 
 /// How far a file is replayed.
 #[derive(Drop)]

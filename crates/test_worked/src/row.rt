@@ -7,7 +7,7 @@ use pm_opcode::row_at;
 use pm_words::Memory;
 use std::alloc::{AllocError, Global};
 use std::io;
-use test_replay::{hex_bytes, hex_text, unreadable};
+use test_parts::{hex_bytes, hex_text, unreadable};
 
 /// The most words of the stack that are shown.
 const WORDS: u16 = 8;

@@ -7,7 +7,7 @@ use pm_machine::{BootFault, Machine};
 use pm_volume::{Volume, kinds};
 use std::alloc::Global;
 use std::io;
-use test_replay::{Segment, byte, hex_bytes, number, unreadable};
+use test_parts::{Segment, byte, hex_bytes, number, unreadable};
 
 /// A scene.
 #[derive(Drop)]

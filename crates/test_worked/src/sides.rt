@@ -4,7 +4,7 @@ use pm_machine::Registers;
 use pm_words::Memory;
 use std::alloc::Global;
 use std::io;
-use test_replay::{byte, hex_bytes, unreadable, word};
+use test_parts::{byte, hex_bytes, unreadable, word};
 
 /// Where the stack ends.
 const STACK_END: u16 = 65504;

@@ -1,7 +1,7 @@
 //! How a row spells words.
 use std::alloc::Global;
 use std::io;
-use test_replay::{number, unreadable, word};
+use test_parts::{number, unreadable, word};
 
 /// Words with blanks between them; `N*W` is a word N times.
 pub fn words(alloc: Global, text: &str) -> io::Result<Vec<u16>> {

@@ -4,7 +4,7 @@ use crate::sides::Side;
 use pm_machine::{Machine, Stop};
 use std::alloc::Global;
 use std::io;
-use test_replay::unreadable;
+use test_parts::unreadable;
 
 /// RNP 0, from the frame of the system, whose dynamic link and IPC are written over.
 const RETURN: &[u8] = &[0xAD, 0x00];

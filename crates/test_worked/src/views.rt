@@ -2,7 +2,7 @@
 use pm_machine::Machine;
 use std::alloc::{AllocError, Global};
 use std::io;
-use test_replay::{byte, hex_text, number, unreadable, word};
+use test_parts::{byte, hex_text, number, unreadable, word};
 
 /// Numbers with blanks between them.
 fn numbers(alloc: Global, numbers: &[u16]) -> Result<String, AllocError> {

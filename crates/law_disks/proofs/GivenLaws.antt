@@ -64,7 +64,7 @@ none_from_test None h = refl
 none_from_test (Some e) h = cc
 
 -- where a place was found no file has the name
-not_there : (image name : List ℕ) (need : ℕ) (g : _) → place_for image name need ≡ Ok g → file_named image name ≡ None
+pub not_there : (image name : List ℕ) (need : ℕ) (g : _) → place_for image name need ≡ Ok g → file_named image name ≡ None
 unfolding place_for
 not_there image name need g h =
     let named = passed (is_new_name 15 name) _ _ g h in

@@ -10,3 +10,6 @@ pub mod LowestLaws
 pub mod SameNames
 pub mod TextLaws
 pub mod SystemSlots
+pub mod SavedNames
+pub mod SavedFiles
+pub mod SalvagedFiles

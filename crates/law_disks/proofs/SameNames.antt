@@ -8,7 +8,7 @@ use Rattle.std.specs.Char.{to_ascii_uppercase}
 use Rattle.std.specs.List.{list_all, zip}
 use Rattle.pm_volume.specs.Names.{characters_of, is_same_name, name_field}
 
-pub upper : List ℕ → List ℕ
+unfoldable pub upper : List ℕ → List ℕ
 upper name = map to_ascii_uppercase name
 
 pairs_same : (a b : List ℕ) → length a ≡ length b → list_all (λ (p : ℕ × ℕ). to_ascii_uppercase p.0 == to_ascii_uppercase p.1) (zip a b) ≡ true →
@@ -71,7 +71,7 @@ same-right a b b' same = elim (cases_Bool (is_same_name a b)) [
       ]
 ]
 
-upper-upper : (name : List ℕ) → upper (upper name) ≡ upper name
+pub upper-upper : (name : List ℕ) → upper (upper name) ≡ upper name
 unfolding upper
 upper-upper [] = refl
 upper-upper (c ∷ cs) =

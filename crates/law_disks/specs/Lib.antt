@@ -3,3 +3,4 @@ pub mod Volumes
 pub mod Slots
 pub mod CheckLaws
 pub mod SystemLaws
+pub mod SalvageLaws

@@ -1,5 +1,6 @@
-//! Laws of what is told of an image. The functions do nothing.
+//! Laws of what is told and saved of an image. The functions do nothing.
 ghost use Rattle.law_disks.specs.CheckLaws.{GoodImagesOpen, SharedBlocks};
+ghost use Rattle.law_disks.specs.SalvageLaws.{EntriesAreSaved};
 
 /// An image opens as a volume exactly if no fault of it is told.
 #[tactic(auto, using(crate::proofs::RuleLaws::good_images_open))]
@@ -11,4 +12,12 @@ pub fn good_images_open()
 #[tactic(auto, using(crate::proofs::RuleLaws::shared_blocks))]
 pub fn shared_blocks()
     ensures law { SharedBlocks }
+{}
+
+/// The files of a volume that is saved of an image are those of the entries that could stand by themselves, one for
+/// each: with the entry's kind, date and bytes, and its name made good. No two have one name: a number stands behind it
+/// where other files have it with each lower one, 0 for none; so none does where the names of the entries differ.
+#[tactic(auto, using(crate::proofs::SalvagedFiles::entries_are_saved))]
+pub fn entries_are_saved()
+    ensures law { EntriesAreSaved }
 {}

@@ -16,7 +16,7 @@ use Rattle.law_text.proofs.Again.{later, earlier}
 use Rattle.law_text.proofs.OwnCount.{own_count, own_fits, smaller_count_fails}
 use Rattle.law_text.proofs.ShownAs.{Counted, fits_counted, counted_shown}
 
-least_fits : (segment : List ℕ) (a : Attributes) (t count : ℕ) → IfSome (least_from segment a t count) (λ u. fits segment a u ≡ true)
+pub least_fits : (segment : List ℕ) (a : Attributes) (t count : ℕ) → IfSome (least_from segment a t count) (λ u. fits segment a u ≡ true)
 least_fits segment a t zero = tt
 least_fits segment a t (suc count) = elim (cases_Bool (fits segment a t)) [
   | inl e ↦ rw e e

@@ -2,6 +2,8 @@ pub mod Eachs
 pub mod ListedFile
 pub mod Held
 pub mod Listed
+pub mod Covering
+pub mod SymbolsDefined
 pub mod Again
 pub mod Boundaries
 pub mod FoundTables

@@ -1,2 +1,4 @@
 pub mod NotesLaws
 pub mod Same
+pub mod ListingLaws
+pub mod SymbolLaws

@@ -3,6 +3,7 @@ ghost use Rattle.pm_asm.specs.Assembled.{AssembledIsListed};
 ghost use Rattle.pm_asm.specs.Assembled.{AssembledIsSpelled, RefusedSpellsNothing};
 ghost use Rattle.pm_asm.specs.Each.{FirstOfAll};
 ghost use Rattle.pm_asm.specs.Symbols.{JumpsLeadToSymbols};
+ghost use Rattle.law_text.specs.SymbolLaws.{SymbolsAreDefined, SymbolsAreOfTheProgram};
 
 /// A text is assembled exactly where it spells a program of which no segment has more than 60,000 bytes: what it gives
 /// is the code file and the listing of such a program, and where they are those of one, it gives them.
@@ -31,4 +32,12 @@ pub fn first_of_all()
 /// breakpoint at the segment, the procedure and the offset of that line stops where such a jump leads.
 pub fn jumps_lead_to_symbols()
     ensures law { JumpsLeadToSymbols }
+{}
+
+/// The symbols of segments are those of their procedures and of the labels of their code, and no others: of a procedure
+/// by its number in the segment, and of a label by how far it stands behind where the program's procedure is entered.
+/// What is told of a text are the lines of the symbols of its segments, whose program it spells.
+pub fn symbols_are_defined()
+    ensures law { SymbolsAreDefined }
+    ensures program { SymbolsAreOfTheProgram }
 {}

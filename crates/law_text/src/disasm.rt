@@ -3,6 +3,7 @@
 
 ghost use Rattle.pm_disasm.specs.Laws.{InstructionIsRead, SplitKeepsBytes, OwnCountFits};
 ghost use Rattle.pm_disasm.specs.Laws.{SmallerCountFails, ProcedureIsShown, ProgramIsShown};
+ghost use Rattle.law_text.specs.ListingLaws.{LinesCoverProcedures, LinesCoverSegments};
 ghost use Rattle.pm_disasm.specs.Listing.{LinesAreStored, ListingIsProgrammed};
 
 /// An instruction is read in its own bytes, whatever follows them.
@@ -45,4 +46,13 @@ pub fn program_is_shown()
 pub fn listing_is_of_the_file()
     ensures stored { LinesAreStored }
     ensures programmed { ListingIsProgrammed }
+{}
+
+/// The lines of a procedure in the listing of a code file begin with its code and follow each other to the end of its
+/// table, so that each of its bytes stands in one line: whatever laid the file out, where its exit code does not lie
+/// before its code. The lines of a program's segment, of at most 65,534 bytes, do so from its begin to its end.
+#[tactic(auto, using(crate::proofs::Covering::lines_cover_procedures, crate::proofs::Covering::lines_cover_segments))]
+pub fn lines_cover_their_bytes()
+    ensures procedures { LinesCoverProcedures }
+    ensures segments { LinesCoverSegments }
 {}

@@ -1,0 +1,44 @@
+-- Which procedures and labels the symbols of a text have.
+use Rattle.std.specs.Prelude.{◌≡◌, ◌↔◌, ℕ, ◌+◌, List, ◌∷◌, ◌++◌, length, map, Option, Some, None, Ok}
+use Rattle.std.specs.List.{Contains}
+use Rattle.pm_code.specs.Program.{Procedure}
+use Rattle.pm_source.specs.Faults.{place_of, source_of}
+use Rattle.pm_source.specs.Meaning.{Spells, ascending, found_segment}
+use Rattle.pm_source.specs.Source.{Name, Source, SourceSegment}
+use Rattle.pm_asm.specs.Symbols.{Symbol, symbol_lines, symbol_text, symbols}
+
+-- What stands so many bytes behind where a procedure is entered: without a label the procedure itself, at 0; with one
+-- that label of its code.
+abbrev pub StandsBehind : ℕ → Source → ℕ → Option Name → Type 0
+StandsBehind entered p offset None = offset ≡ 0
+StandsBehind entered p offset (Some name) = place_of entered p.code name ≡ Some (entered + offset)
+
+-- A segment of a text has a symbol: with its number, and the number of one of its procedures, one more than there are
+-- before it; and it stands so many bytes behind where the procedure in the same place of the program begins.
+pub record IsSymbolOf (s : SourceSegment) (x : Symbol) : Type 0 where
+  pub before : List Source
+  pub procedure : Source
+  pub after : List Source
+  pub there : s.procedures ≡ before ++ procedure ∷ after
+  pub front : List Procedure
+  pub found : Procedure
+  pub back : List Procedure
+  pub meant : (found_segment s).procedures ≡ front ++ found ∷ back
+  pub as_many : length front ≡ length before
+  pub segment : x.segment ≡ s.number
+  pub number : x.procedure ≡ length before + 1
+  pub stands : StandsBehind found.start procedure x.offset x.label
+
+-- The symbols of segments are those of their procedures and labels, and no others.
+abbrev pub SymbolsAreDefined : Type 0
+SymbolsAreDefined =
+    (ss : List SourceSegment) (x : Symbol)
+    → Contains (symbols ss) x ↔ ((s : SourceSegment) × Contains ss s × IsSymbolOf s x)
+
+-- The lines that are told of a text are those of the symbols of its segments, of which the text spells the program.
+pub record AreLinesOf (text lines : List ℕ) : Type 0 where
+  pub told : lines ≡ symbol_lines (symbols (source_of text))
+  pub spelled : Spells text (map found_segment (ascending (source_of text)))
+
+abbrev pub SymbolsAreOfTheProgram : Type 0
+SymbolsAreOfTheProgram = (text lines : List ℕ) → symbol_text text ≡ Ok lines → AreLinesOf text lines

@@ -12,11 +12,11 @@ use std::alloc::{AllocError, Global};
 
 /// A segment as it is decoded.
 #[derive(Drop)]
-pub(crate) struct Decoded<'a> {
+pub struct Decoded<'a> {
     /// What is read at each offset, be there code or not.
-    pub fronts: Vec<Option<Front<'a>>>,
+    pub(crate) fronts: Vec<Option<Front<'a>>>,
     /// The counts of jump entries that this takes, and 0: no other count fits a procedure.
-    pub counts: PlaceSet,
+    pub(crate) counts: PlaceSet,
 }
 
 /// What is read at each offset of a segment.
@@ -63,7 +63,7 @@ fn counts_of(alloc: Global, fronts: &[Option<Front<'_>>]) -> Result<PlaceSet, Al
 }
 
 /// What is read at each offset of a segment, and the counts of entries that this takes.
-pub(crate) fn decode_segment(alloc: Global, segment: &[u8]) -> Result<Decoded<'_>, AllocError>
+pub fn decode_segment(alloc: Global, segment: &[u8]) -> Result<Decoded<'_>, AllocError>
     requires short { length segment.now ≤ 65534 }
     ensures decoded { IfOk result (λ decoded. IsDecoded decoded segment.now) }
 {

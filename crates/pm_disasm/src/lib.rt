@@ -6,6 +6,7 @@ mod cuts;
 mod decoded;
 mod found;
 mod front;
+mod items;
 mod lines;
 mod listed;
 mod named;
@@ -19,6 +20,8 @@ mod taking;
 mod text;
 mod written;
 
+pub use decoded::{Decoded, decode_segment};
+pub use items::code;
 pub use listed::listing;
 pub use place::Line;
 pub use segments::{file, item, procedure};

@@ -1,0 +1,111 @@
+//! Procedures as items.
+
+ghost use Rattle.std.specs.Prelude.{◌≡◌, ◌≤◌, ◌++◌, ℕ, Some, length, map, option_map, IfOk, OnOk};
+ghost use Rattle.pm_code.specs.Item.Item.{OneByte};
+ghost use Rattle.pm_code.specs.Views.{placed_item, procedure_seen};
+ghost use Rattle.pm_codefile.specs.Segments.{attributes_in};
+ghost use Rattle.pm_disasm.specs.Follow.{items_or_bytes, written_by};
+ghost use Rattle.pm_disasm.specs.Offsets.{IsDecoded};
+ghost use Rattle.pm_disasm.specs.Split.{procedure_of};
+ghost use Rattle.pm_disasm.specs.Views.{found_seen, has, part_seen};
+
+use crate::counts::shown_code;
+use crate::decoded::Decoded;
+use crate::found::Found;
+use crate::parts::Part;
+use crate::places::PlaceSet;
+use crate::procedures::entries_of;
+use crate::written::item_led;
+use pm_code::{Item, Procedure};
+use pm_codefile::Attributes;
+use std::alloc::{AllocError, Global};
+
+/// Adds bytes, each as an item of its own.
+fn add_bytes(items: &mut Vec<Item<usize>>, bytes: &[u8]) -> Result<(), AllocError>
+    ensures items { OnOk result (map placed_item items.new.items
+        ≡ map placed_item items.old.items ++ map OneByte bytes.now) }
+{
+    for byte in bytes {
+        items.push(Item::OneByte(*byte))?;
+    }
+    Ok(())
+}
+
+/// Adds the item or the bytes that are written for a part.
+fn add_part(
+    alloc: Global,
+    items: &mut Vec<Item<usize>>,
+    bytes: &[u8],
+    found: Option<Found<'_>>,
+) -> Result<(), AllocError>
+    ensures items { OnOk result (map placed_item items.new.items
+        ≡ map placed_item items.old.items ++ items_or_bytes bytes.now (option_map found_seen found.entry)) }
+{
+    let Some(found) = found else {
+        return add_bytes(items, bytes);
+    };
+    let item = found.item(alloc)?;
+    items.push(item)?;
+    Ok(())
+}
+
+/// The items that are written for parts.
+fn items_of(
+    alloc: Global,
+    parts: &[Part<'_>],
+    boundaries: &PlaceSet,
+    allowed: bool,
+) -> Result<Vec<Item<usize>>, AllocError>
+    ensures items { IfOk result (λ items. map placed_item items.items
+        ≡ written_by (has boundaries.now) allowed (map part_seen parts.now)) }
+{
+    let mut items = Vec::new(alloc);
+    for part in parts {
+        let found = item_led(*part, boundaries, allowed);
+        add_part(alloc, &mut items, part.bytes, found)?;
+    }
+    Ok(items)
+}
+
+/// Places as offsets.
+fn offsets_of(alloc: Global, places: &[u16]) -> Result<Vec<usize>, AllocError>
+    ensures offsets { IfOk result (λ offsets. offsets.items ≡ places.now) }
+{
+    let mut offsets = Vec::new(alloc);
+    for place in places {
+        offsets.push(usize::from(*place))?;
+    }
+    Ok(offsets)
+}
+
+/// A procedure of a segment by its table, as its text shows it: with the least count of jump entries that fits, and what
+/// is no instruction, or jumps between instructions, as bytes. The table has to be that of a procedure of the segment,
+/// which has at most 65,534 bytes, and its exit code may not lie before its code. `decoded` is what `decode_segment`
+/// reads of that segment.
+pub fn code<'a>(
+    alloc: Global,
+    segment: &'a [u8],
+    decoded: &Decoded<'a>,
+    attributes: &Attributes,
+) -> Result<Procedure, AllocError>
+    requires short { length segment.now ≤ 65534 }
+    requires of_segment { (p : ℕ) × (attributes_in segment.now p ≡ Some attributes.now) }
+    requires order { attributes.now.enter ≤ attributes.now.exit }
+    requires decoded { IsDecoded decoded.now segment.now }
+    ensures procedure { IfOk result (λ p. procedure_seen p ≡ procedure_of segment.now attributes.now) }
+{
+    let shown = shown_code(alloc, segment, decoded, attributes)?;
+    let parts = &shown.reading.code.parts;
+    let boundaries = &shown.reading.code.boundaries;
+    let items = items_of(alloc, parts, boundaries, shown.allowed)?;
+    let entries = offsets_of(alloc, entries_of(&shown.reading.forced))?;
+    Ok(Procedure {
+        level: segment[usize::from(attributes.jtab) + 1],
+        parameters: attributes.parameters,
+        locals: attributes.locals,
+        start: usize::from(attributes.enter),
+        items,
+        exit: usize::from(attributes.exit),
+        entries,
+    })
+}

@@ -1,0 +1,60 @@
+-- Operations on words as integers.
+use Rattle.std.specs.Prelude.{ℕ, ◌+◌, nat_lt, if◌then◌else◌, List, ◌++◌, codes, Option, Some, None}
+use Rattle.pm_families.specs.declared.families.Arithmetic.{Arithmetic}
+use Rattle.pm_families.specs.declared.families.Arithmetic.TheVariants as arithmetic
+use Rattle.pm_families.specs.declared.families.Unary.{Unary}
+use Rattle.pm_families.specs.declared.families.Unary.TheVariants as unary
+use Rattle.pm_code.specs.Text.{signed_text}
+use Rattle.pm_phrases.specs.declared.operand.Form.{Form}
+use Rattle.pm_phrases.specs.declared.operand.Form.TheVariants as form
+use Rattle.pm_phrases.specs.declared.spelling.Spelling.{Spelling}
+use Rattle.pm_phrases.specs.Shown.{Shown, value, value_text}
+use Rattle.pm_phrases.specs.Signs.{binary_sign, binary_strength, relation_sign}
+use Rattle.pm_phrases.specs.Spelled.{marks}
+
+-- an operator between its operands; what stands to its right holds together more, since operators of one strength are
+-- done from left to right
+unfoldable pub between : Shown → List ℕ → ℕ → Shown → Shown
+between a sign strength b =
+    value strength (value_text a strength ++ (codes " " ++ (sign ++ (codes " " ++ value_text b (strength + 1)))))
+
+-- a number with a minus is weaker
+abbrev pub constant_strength : ℕ → ℕ
+constant_strength w = if nat_lt w 32768 then 9 else 4
+
+-- SLDC, LDCI, LDCN
+unfoldable pub arithmetic_alone : Spelling → Arithmetic → Option Shown
+arithmetic_alone s (arithmetic.Constant w) = Some (value (constant_strength w) (signed_text w ++ marks s))
+arithmetic_alone s arithmetic.Nil = Some (value 9 (codes "NIL"))
+arithmetic_alone s _ = None
+
+-- ABI, NGI, SQI, LNOT
+unfoldable pub unary_on : Unary → Shown → Shown
+unary_on unary.Absolute a = value 9 (codes "ABS(" ++ (value_text a 0 ++ codes ")"))
+unary_on unary.Negate a = value 4 (codes "-(" ++ (value_text a 0 ++ codes ")"))
+unary_on unary.Square a = value 9 (codes "SQR(" ++ (value_text a 0 ++ codes ")"))
+unary_on unary.Complement a = value 4 (codes "NOT " ++ value_text a 4)
+
+unfoldable pub arithmetic_one : Arithmetic → Shown → Option Shown
+arithmetic_one (arithmetic.OnOne o) a = Some (unary_on o a)
+arithmetic_one _ a = None
+
+abbrev pub words_two : Arithmetic → Shown → Shown → Option Shown
+words_two (arithmetic.OnTwo o) a b = Some (between a (binary_sign o) (binary_strength o) b)
+words_two (arithmetic.Compare r) a b = Some (between a (relation_sign r) 1 b)
+words_two _ a b = None
+
+abbrev pub unless_set : Form → Option Shown → Option Shown
+unless_set (form.Set k) shown = None
+unless_set _ shown = shown
+
+-- ADI and its kin, EQUI and its kin. Of sets the same signs say something else.
+unfoldable pub arithmetic_two : Arithmetic → Shown → Shown → Option Shown
+arithmetic_two o a b = unless_set a.form (words_two o a b)
+
+-- CHK
+unfoldable pub arithmetic_three : Arithmetic → Shown → Shown → Shown → Option Shown
+arithmetic_three arithmetic.Check a b c =
+    Some (value 9 (codes "CHECK("
+    ++ (value_text a 0 ++ (codes ", " ++ (value_text b 0 ++ (codes ".." ++ (value_text c 0 ++ codes ")")))))))
+arithmetic_three _ a b c = None

@@ -1,0 +1,17 @@
+pub mod Shown
+pub mod Missing
+pub mod Spelled
+pub mod Signs
+pub mod Variables
+pub mod Arithmetic
+pub mod Pointers
+pub mod Calls
+pub mod Jumps
+pub mod Cases
+pub mod Literals
+pub mod Comparisons
+pub mod Parts
+pub mod Sets
+pub mod Counts
+pub mod Phrases
+pub mod Worked

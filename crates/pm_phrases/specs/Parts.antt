@@ -1,0 +1,80 @@
+-- Bytes, characters of strings, and bits of words.
+use Rattle.std.specs.Prelude.{ℕ, ◌++◌, codes, Option, Some, None}
+use Rattle.std.specs.Fmt.{decimal}
+use Rattle.pm_families.specs.declared.families.Byte.{Byte}
+use Rattle.pm_families.specs.declared.families.Byte.TheVariants as byte
+use Rattle.pm_families.specs.declared.families.Field.{Field}
+use Rattle.pm_families.specs.declared.families.Field.TheVariants as field
+use Rattle.pm_families.specs.declared.families.Text.{Text}
+use Rattle.pm_families.specs.declared.families.Text.TheVariants as text
+use Rattle.pm_phrases.specs.declared.operand.Form.{Form}
+use Rattle.pm_phrases.specs.declared.operand.Form.TheVariants as form
+use Rattle.pm_phrases.specs.Shown.{Shown, place_text, standing, value, value_text}
+
+-- a part of what an address leads to is its own text as a value
+abbrev pub own_text : Shown → Shown
+own_text a = value 9 a.text
+
+unfoldable pub part_stored : Shown → Shown → Shown
+part_stored a v = value 0 (a.text ++ (codes " := " ++ value_text v 0))
+
+abbrev pub if_character : Form → Shown → Option Shown
+if_character form.Character s = Some s
+if_character _ s = None
+
+abbrev pub if_bits : Form → Shown → Option Shown
+if_bits form.Bits s = Some s
+if_bits _ s = None
+
+-- LDB behind IXS
+unfoldable pub byte_one : Byte → Shown → Option Shown
+byte_one byte.Load a = if_character a.form (own_text a)
+byte_one byte.Store a = None
+
+-- LDB of an address and an index; STB behind IXS
+unfoldable pub byte_two : Byte → Shown → Shown → Option Shown
+byte_two byte.Load a i = Some (value 9 (place_text a ++ (codes ".byte[" ++ (value_text i 0 ++ codes "]"))))
+byte_two byte.Store a v = if_character a.form (part_stored a v)
+
+-- STB
+unfoldable pub byte_three : Byte → Shown → Shown → Shown → Option Shown
+byte_three byte.Load a i v = None
+byte_three byte.Store a i v =
+    Some (value 0 (place_text a ++ (codes ".byte[" ++ (value_text i 0 ++ (codes "] := " ++ value_text v 0)))))
+
+-- IXS, SAS
+unfoldable pub text_two : Text → Shown → Shown → Shown
+text_two text.Index a i =
+    standing form.Character (place_text a ++ (codes ".char[" ++ (value_text i 0 ++ codes "]")))
+text_two (text.Assign n) a b =
+    value 0 (place_text a ++ (codes " := string[" ++ (decimal n ++ (codes "] " ++ place_text b))))
+
+-- LDP behind IXP
+unfoldable pub field_one : Field → Shown → Option Shown
+field_one field.Load a = if_bits a.form (own_text a)
+field_one _ a = None
+
+unfoldable pub packed : ℕ → ℕ → Shown → Shown → Shown
+packed per_word width a i =
+    standing form.Bits (place_text a ++ (codes ".packed[" ++ (value_text i 0 ++ (codes ": "
+    ++ (decimal per_word ++ (codes " of " ++ (decimal width ++ codes " bits]")))))))
+
+-- IXP; STP behind it
+unfoldable pub field_two : Field → Shown → Shown → Option Shown
+field_two (field.Index per_word width) a i = Some (packed per_word width a i)
+field_two field.Store a v = if_bits a.form (part_stored a v)
+field_two field.Load a i = None
+
+-- LDP of an address, so many bits, from a bit on
+unfoldable pub field_three : Field → Shown → Shown → Shown → Option Shown
+field_three field.Load a k r =
+    Some (value 9 (place_text a ++ (codes ".bits[" ++ (value_text k 0 ++ (codes ": "
+    ++ (value_text r 0 ++ codes "]"))))))
+field_three _ a k r = None
+
+-- STP
+unfoldable pub field_four : Field → Shown → Shown → Shown → Shown → Option Shown
+field_four field.Store a k r v =
+    Some (value 0 (place_text a ++ (codes ".bits[" ++ (value_text k 0 ++ (codes ": "
+    ++ (value_text r 0 ++ (codes "] := " ++ value_text v 0)))))))
+field_four _ a k r v = None

@@ -1,0 +1,92 @@
+//! Case jumps.
+
+ghost use Rattle.std.specs.Prelude.{◌≡◌, ◌%◌, ◌∷◌, ◌++◌, ◌+◌, IfOk, Some};
+ghost use Rattle.pm_code.specs.Views.{placed_target};
+ghost use Rattle.pm_phrases.specs.Cases as texts;
+
+use crate::arithmetic::Signed;
+use crate::operand::{Phrase, Value, valued};
+use pm_code::{Label, Target};
+use std::alloc::{AllocError, Global};
+use std::fmt;
+
+/// The number behind another, the first behind the last.
+fn next_value(value: u16) -> u16
+    ensures next { result ≡ texts.next_value value }
+{
+    if value == 65535 { 0 } else { value + 1 }
+}
+
+/// A value of a case and the place that it leads to.
+#[derive(Clone, Copy)]
+struct Arm(u16, usize);
+
+impl fmt::Display for Arm {
+    ghost output = { λ a. Some (texts.arm_text a.0 a.1) };
+
+    #[tactic(auto, unfolding(crate::specs::Cases::arm_text))]
+    fn fmt<W: fmt::Write>(&self, f: &mut fmt::Formatter<W>) -> fmt::Result {
+        write!(f, "{}: {}", Signed(self.0), Label(self.1))
+    }
+}
+
+/// Further arms of a case, from a value on.
+#[derive(Clone, Copy)]
+struct MoreArms<'a> {
+    value: u16,
+    places: &'a [usize],
+}
+
+impl fmt::Display for MoreArms<'_> {
+    ghost output = { λ a. Some (texts.more_arms a.value a.places.now) };
+
+    fn fmt<W: fmt::Write>(&self, f: &mut fmt::Formatter<W>) -> fmt::Result {
+        let mut value = self.value;
+        let places = self.places;
+        for place in places {
+            let arm = Arm(value, *place);
+            write!(f, "; {arm}")?;
+            value = next_value(value);
+        }
+        Ok(())
+    }
+}
+
+/// What a case jump leads to: its bounds and the places of its table.
+#[derive(Clone, Copy)]
+pub(crate) struct Table<'a> {
+    pub low: u16,
+    pub high: u16,
+    pub places: &'a [usize],
+}
+
+impl fmt::Display for Table<'_> {
+    ghost output = { λ t. Some (texts.table_text t.low t.high t.places.now) };
+
+    #[tactic(auto, unfolding(crate::specs::Cases::table_text))]
+    fn fmt<W: fmt::Write>(&self, f: &mut fmt::Formatter<W>) -> fmt::Result {
+        let low = self.low;
+        match self.places {
+            [] => write!(f, "{{{}, {}}}", Signed(low), Signed(self.high)),
+            [first, places @ ..] => {
+                let value = next_value(low);
+                write!(f, "{}{}", Arm(low, *first), MoreArms { value, places })
+            }
+        }
+    }
+}
+
+#[tactic(auto, unfolding(crate::specs::Cases::case_on))]
+pub(crate) fn case_on(
+    alloc: Global,
+    table: &Table<'_>,
+    otherwise: &Target<usize>,
+    a: &Phrase,
+) -> Result<Phrase, AllocError>
+    ensures shown { IfOk result
+        (λ p. p ≡ texts.case_on table.now.low table.now.high (placed_target otherwise.now)
+        table.now.places.now a.now) }
+{
+    let text = format!(in alloc; "CASE {} OF {table} ELSE {otherwise}", Value(a, 0))?;
+    Ok(valued(text, 0))
+}

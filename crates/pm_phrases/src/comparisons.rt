@@ -1,0 +1,87 @@
+//! Comparisons of strings, truth values, sets, bytes and words.
+
+ghost use Rattle.std.specs.Prelude.{◌≡◌, IfOk, Some};
+ghost use Rattle.pm_phrases.specs.Comparisons as texts;
+
+use crate::operand::{Phrase, Place, Value, valued};
+use crate::signs::relation_sign;
+use crate::spelling::{Marks, Spelling};
+use pm_families::{Kind, Relation};
+use std::alloc::{AllocError, Global};
+use std::fmt;
+
+/// What is compared, with its size where it has one.
+#[derive(Clone, Copy)]
+struct KindName {
+    kind: Kind,
+    spelling: Spelling,
+}
+
+impl fmt::Display for KindName {
+    ghost output = { λ k. Some (texts.kind_text k.spelling k.kind) };
+
+    #[tactic(auto, unfolding(crate::specs::Comparisons::kind_text))]
+    fn fmt<W: fmt::Write>(&self, f: &mut fmt::Formatter<W>) -> fmt::Result {
+        let marks = Marks(self.spelling);
+        match self.kind {
+            Kind::Real => write!(f, "real"),
+            Kind::String => write!(f, "str"),
+            Kind::Boolean => write!(f, "bool"),
+            Kind::Set => write!(f, "sets"),
+            Kind::Bytes(n) => write!(f, "bytes[{n}{marks}]"),
+            Kind::Words(n) => write!(f, "words[{n}{marks}]"),
+        }
+    }
+}
+
+/// A comparison of values on the stack.
+#[tactic(auto, unfolding(crate::specs::Comparisons::values_compared))]
+fn values_compared(
+    alloc: Global,
+    name: KindName,
+    r: Relation,
+    a: &Phrase,
+    b: &Phrase,
+) -> Result<Phrase, AllocError>
+    ensures shown { IfOk result
+        (λ p. p ≡ texts.values_compared (texts.kind_text name.spelling name.kind) r a.now b.now) }
+{
+    let sign = relation_sign(r);
+    let text = format!(in alloc; "{name} {} {sign} {}", Value(a, 2), Value(b, 2))?;
+    Ok(valued(text, 1))
+}
+
+/// A comparison of what two addresses lead to.
+#[tactic(auto, unfolding(crate::specs::Comparisons::places_compared))]
+fn places_compared(
+    alloc: Global,
+    name: KindName,
+    r: Relation,
+    a: &Phrase,
+    b: &Phrase,
+) -> Result<Phrase, AllocError>
+    ensures shown { IfOk result
+        (λ p. p ≡ texts.places_compared (texts.kind_text name.spelling name.kind) r a.now b.now) }
+{
+    let sign = relation_sign(r);
+    let text = format!(in alloc; "{name} {} {sign} {}", Place(a), Place(b))?;
+    Ok(valued(text, 1))
+}
+
+#[tactic(auto, unfolding(crate::specs::Comparisons::compare_two))]
+pub(crate) fn compare_two(
+    alloc: Global,
+    spelling: Spelling,
+    r: Relation,
+    kind: Kind,
+    a: &Phrase,
+    b: &Phrase,
+) -> Result<Phrase, AllocError>
+    ensures shown { IfOk result (λ p. p ≡ texts.compare_two spelling r kind a.now b.now) }
+{
+    let name = KindName { kind, spelling };
+    match kind {
+        Kind::Real | Kind::Boolean | Kind::Set => values_compared(alloc, name, r, a, b),
+        Kind::String | Kind::Bytes(_) | Kind::Words(_) => places_compared(alloc, name, r, a, b),
+    }
+}

@@ -1,0 +1,269 @@
+//! Items by the number of their operands, and by families.
+
+ghost use Rattle.std.specs.Prelude.{◌≡◌, ◌∷◌, ◌++◌, IfOk};
+ghost use Rattle.pm_code.specs.Views.{placed_item};
+ghost use Rattle.pm_phrases.specs.Counts as texts;
+ghost use Rattle.pm_phrases.specs.Missing.{listed};
+
+use crate::arithmetic::{arithmetic_alone, arithmetic_one, arithmetic_three, arithmetic_two};
+use crate::around::{Around, Pops};
+use crate::calls::returned;
+use crate::cases::{Table, case_on};
+use crate::comparisons::compare_two;
+use crate::jumps::{jump_alone, jump_one, jump_two};
+use crate::literals::literal_alone;
+use crate::operand::Phrase;
+use crate::parts::{
+    byte_one, byte_three, byte_two, field_four, field_one, field_three, field_two, text_two,
+};
+use crate::pointers::{pointer_one, pointer_two};
+use crate::sets::{set_four, set_one, set_three, set_two};
+use crate::spelling::spelling_of;
+use crate::variables::{variable_alone, variable_one};
+use pm_code::Item;
+use pm_families::Value;
+use pm_opcode::{Instr, Operation};
+use std::alloc::{AllocError, Global};
+
+#[tactic(auto, unfolding(crate::specs::Counts::plain_none))]
+fn plain_none(
+    alloc: Global,
+    around: Around,
+    i: &Instr,
+    named: &[u8],
+) -> Result<Option<Phrase>, AllocError>
+    ensures shown { IfOk result (λ p. p ≡ texts.plain_none around i.now named.now) }
+{
+    let what = Operation::of(i);
+    let spelling = spelling_of(i, what);
+    match what {
+        Operation::Arithmetic(what) => arithmetic_alone(alloc, spelling, what),
+        Operation::Variable(what) => variable_alone(alloc, around, spelling, what),
+        Operation::Literal(what) => literal_alone(alloc, what, named),
+        Operation::Return(what) => Ok(Some(returned(alloc, what)?)),
+        _ => Ok(None),
+    }
+}
+
+#[tactic(auto, unfolding(crate::specs::Counts::plain_one))]
+fn plain_one(
+    alloc: Global,
+    around: Around,
+    i: &Instr,
+    a: &Phrase,
+) -> Result<Option<Phrase>, AllocError>
+    ensures shown { IfOk result (λ p. p ≡ texts.plain_one around i.now a.now) }
+{
+    let what = Operation::of(i);
+    let spelling = spelling_of(i, what);
+    match what {
+        Operation::Arithmetic(what) => arithmetic_one(alloc, what, a),
+        Operation::Variable(what) => variable_one(alloc, around, spelling, what, a),
+        Operation::Pointer(what) => pointer_one(alloc, spelling, what, a),
+        Operation::Value(Value::Byte(what)) => byte_one(alloc, what, a),
+        Operation::Value(Value::Field(what)) => field_one(alloc, what, a),
+        Operation::Value(Value::Set(what)) => set_one(alloc, what, a),
+        _ => Ok(None),
+    }
+}
+
+#[tactic(auto, unfolding(crate::specs::Counts::plain_two))]
+fn plain_two(alloc: Global, i: &Instr, a: &Phrase, b: &Phrase) -> Result<Option<Phrase>, AllocError>
+    ensures shown { IfOk result (λ p. p ≡ texts.plain_two i.now a.now b.now) }
+{
+    let what = Operation::of(i);
+    let spelling = spelling_of(i, what);
+    match what {
+        Operation::Arithmetic(what) => arithmetic_two(alloc, what, a, b),
+        Operation::Pointer(what) => pointer_two(alloc, spelling, what, a, b),
+        Operation::Value(Value::Byte(what)) => byte_two(alloc, what, a, b),
+        Operation::Value(Value::Text(what)) => Ok(Some(text_two(alloc, what, a, b)?)),
+        Operation::Value(Value::Field(what)) => field_two(alloc, what, a, b),
+        Operation::Value(Value::Set(what)) => set_two(alloc, what, a, b),
+        Operation::Value(Value::Compare(r, kind)) => {
+            Ok(Some(compare_two(alloc, spelling, r, kind, a, b)?))
+        }
+        _ => Ok(None),
+    }
+}
+
+#[tactic(auto, unfolding(crate::specs::Counts::of_none))]
+fn of_none(alloc: Global, around: Around, item: &Item<usize>) -> Result<Option<Phrase>, AllocError>
+    ensures shown { IfOk result (λ p. p ≡ texts.of_none around (placed_item item.now)) }
+{
+    match item {
+        Item::Plain(i, named) => plain_none(alloc, around, i, named),
+        Item::Jump(op, target) => jump_alone(alloc, *op, target),
+        _ => Ok(None),
+    }
+}
+
+#[tactic(auto, unfolding(crate::specs::Counts::of_one))]
+fn of_one(
+    alloc: Global,
+    around: Around,
+    item: &Item<usize>,
+    a: &Phrase,
+) -> Result<Option<Phrase>, AllocError>
+    ensures shown { IfOk result (λ p. p ≡ texts.of_one around (placed_item item.now) a.now) }
+{
+    match item {
+        Item::Plain(i, _) => plain_one(alloc, around, i, a),
+        Item::Jump(op, target) => jump_one(alloc, *op, target, a),
+        Item::Case {
+            low,
+            high,
+            otherwise,
+            places,
+        } => {
+            let (low, high) = (*low, *high);
+            let table = Table { low, high, places };
+            Ok(Some(case_on(alloc, &table, otherwise, a)?))
+        }
+        Item::OneByte(_) => Ok(None),
+    }
+}
+
+#[tactic(auto, unfolding(crate::specs::Counts::of_two))]
+fn of_two(
+    alloc: Global,
+    item: &Item<usize>,
+    a: &Phrase,
+    b: &Phrase,
+) -> Result<Option<Phrase>, AllocError>
+    ensures shown { IfOk result (λ p. p ≡ texts.of_two (placed_item item.now) a.now b.now) }
+{
+    match item {
+        Item::Plain(i, _) => plain_two(alloc, i, a, b),
+        Item::Jump(op, target) => jump_two(alloc, *op, target, a, b),
+        _ => Ok(None),
+    }
+}
+
+/// What the instruction of an item does; nothing where it is none, or a jump.
+#[tactic(auto, unfolding(crate::specs::Counts::operation_in))]
+pub(crate) fn operation_in(item: &Item<usize>) -> Operation
+    ensures operation { result ≡ texts.operation_in (placed_item item.now) }
+{
+    match item {
+        Item::Plain(i, _) => Operation::of(i),
+        _ => Operation::Nothing,
+    }
+}
+
+#[tactic(auto, unfolding(crate::specs::Counts::of_three))]
+fn of_three(
+    alloc: Global,
+    item: &Item<usize>,
+    a: &Phrase,
+    b: &Phrase,
+    c: &Phrase,
+) -> Result<Option<Phrase>, AllocError>
+    ensures shown { IfOk result
+        (λ p. p ≡ texts.of_three (placed_item item.now) a.now b.now c.now) }
+{
+    match operation_in(item) {
+        Operation::Arithmetic(what) => arithmetic_three(alloc, what, a, b, c),
+        Operation::Value(Value::Byte(what)) => byte_three(alloc, what, a, b, c),
+        Operation::Value(Value::Field(what)) => field_three(alloc, what, a, b, c),
+        Operation::Value(Value::Set(what)) => set_three(alloc, what, a, b, c),
+        _ => Ok(None),
+    }
+}
+
+#[tactic(auto, unfolding(crate::specs::Counts::of_four))]
+fn of_four(
+    alloc: Global,
+    item: &Item<usize>,
+    a: &Phrase,
+    b: &Phrase,
+    c: &Phrase,
+    d: &Phrase,
+) -> Result<Option<Phrase>, AllocError>
+    ensures shown { IfOk result
+        (λ p. p ≡ texts.of_four (placed_item item.now) a.now b.now c.now d.now) }
+{
+    match operation_in(item) {
+        Operation::Value(Value::Field(what)) => field_four(alloc, what, a, b, c, d),
+        Operation::Value(Value::Set(what)) => set_four(alloc, what, a, b, c, d),
+        _ => Ok(None),
+    }
+}
+
+#[tactic(auto, unfolding(crate::specs::Counts::by_count))]
+fn by_count(
+    alloc: Global,
+    around: Around,
+    item: &Item<usize>,
+    operands: &[Phrase],
+) -> Result<Option<Phrase>, AllocError>
+    ensures shown { IfOk result
+        (λ p. p ≡ texts.by_count around (placed_item item.now) operands.now) }
+{
+    match operands {
+        [] => of_none(alloc, around, item),
+        [a] => of_one(alloc, around, item, a),
+        [a, b] => of_two(alloc, item, a, b),
+        [a, b, c] => of_three(alloc, item, a, b, c),
+        [a, b, c, d] => of_four(alloc, item, a, b, c, d),
+        _ => Ok(None),
+    }
+}
+
+#[tactic(auto, unfolding(crate::specs::Counts::by_count))]
+fn behind_one(
+    alloc: Global,
+    around: Around,
+    item: &Item<usize>,
+    a: &Phrase,
+    operands: &[Phrase],
+) -> Result<Option<Phrase>, AllocError>
+    ensures shown { IfOk result
+        (λ p. p ≡ texts.by_count around (placed_item item.now) (a.now ∷ operands.now)) }
+{
+    match operands {
+        [] => of_one(alloc, around, item, a),
+        [b] => of_two(alloc, item, a, b),
+        [b, c] => of_three(alloc, item, a, b, c),
+        [b, c, d] => of_four(alloc, item, a, b, c, d),
+        _ => Ok(None),
+    }
+}
+
+#[tactic(auto, unfolding(crate::specs::Counts::by_count))]
+fn behind_two(
+    alloc: Global,
+    around: Around,
+    item: &Item<usize>,
+    a: &Phrase,
+    b: &Phrase,
+    operands: &[Phrase],
+) -> Result<Option<Phrase>, AllocError>
+    ensures shown { IfOk result
+        (λ p. p ≡ texts.by_count around (placed_item item.now) (a.now ∷ b.now ∷ operands.now)) }
+{
+    match operands {
+        [] => of_two(alloc, item, a, b),
+        [c] => of_three(alloc, item, a, b, c),
+        [c, d] => of_four(alloc, item, a, b, c, d),
+        _ => Ok(None),
+    }
+}
+
+/// The text of an item by the number of its operands, behind those that stand for what is missing.
+pub(crate) fn counted(
+    alloc: Global,
+    around: Around,
+    item: &Item<usize>,
+    pops: &Pops,
+    operands: &[Phrase],
+) -> Result<Option<Phrase>, AllocError>
+    ensures shown { IfOk result
+        (λ p. p ≡ texts.by_count around (placed_item item.now) (listed pops.now ++ operands.now)) }
+{
+    match pops {
+        Pops::None => by_count(alloc, around, item, operands),
+        Pops::One(p) => behind_one(alloc, around, item, p, operands),
+        Pops::Two(p, q) => behind_two(alloc, around, item, p, q, operands),
+    }
+}

@@ -1,0 +1,24 @@
+//! An operation on its operands as text.
+#![tactic(auto)]
+
+mod arithmetic;
+mod around;
+mod calls;
+mod cases;
+mod comparisons;
+mod counts;
+mod jumps;
+mod literals;
+mod operand;
+mod parts;
+mod pointers;
+mod sets;
+mod signs;
+mod spelling;
+mod variables;
+mod whole;
+pub mod worked;
+
+pub use around::{Around, Missing};
+pub use operand::{Form, Phrase};
+pub use whole::phrase;

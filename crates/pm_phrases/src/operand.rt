@@ -1,0 +1,181 @@
+//! Texts as operands.
+
+ghost use Rattle.std.specs.Prelude.{◌≡◌, ◌∷◌, ◌++◌, Some, string_bytes};
+ghost use Rattle.std.specs.List.{flat_map};
+ghost use Rattle.pm_phrases.specs.Shown as shown;
+
+use std::fmt;
+use std::marker::Model;
+
+/// How a text stands as an operand.
+#[derive(Clone, Copy, Drop)]
+pub enum Form {
+    /// A value, and how strongly it holds together.
+    Value(u8),
+    /// A set, and how strongly it holds together.
+    Set(u8),
+    /// The variable that an address leads to.
+    Variable,
+    /// A word so many words behind the place that an address leads to.
+    Place,
+    /// The item of an array that an address leads to.
+    Element,
+    /// Characters in the code, which stand for their address.
+    Literal,
+    /// The character of a string that its address and its index lead to.
+    Character,
+    /// The bits of a word that its address, their place and their number lead to.
+    Bits,
+}
+
+/// A text as an operand.
+#[derive(Drop)]
+pub struct Phrase {
+    /// The text.
+    pub text: String,
+    /// How it stands.
+    pub form: Form,
+}
+
+impl Model for Phrase {
+    ghost use Rattle.std.specs.Prelude.{string_bytes};
+    ghost use Rattle.pm_phrases.specs.Shown.{Shown};
+
+    ghost Value = { Shown };
+
+    ghost view = { λ o. record { text = string_bytes o.text; form = o.form } };
+}
+
+/// How strongly a text of a form holds together as a value.
+pub(crate) fn strength_of(form: Form) -> u8
+    ensures strength { result ≡ shown.strength_of form }
+{
+    match form {
+        Form::Value(strength) | Form::Set(strength) => strength,
+        Form::Literal => 9,
+        Form::Variable | Form::Place | Form::Element | Form::Character | Form::Bits => 8,
+    }
+}
+
+/// What stands before a text of a form as a value.
+fn lead_of(form: Form) -> &'static str
+    ensures lead { result.now ≡ shown.lead_of form }
+{
+    match form {
+        Form::Value(_) | Form::Set(_) | Form::Literal => "",
+        Form::Variable | Form::Place | Form::Element | Form::Character | Form::Bits => "@",
+    }
+}
+
+/// Whether a text of a form is itself what an address leads to.
+fn is_place(form: Form) -> bool
+    ensures place { result ≡ shown.is_place form }
+{
+    match form {
+        Form::Variable | Form::Place | Form::Element | Form::Literal => true,
+        Form::Value(_) | Form::Set(_) | Form::Character | Form::Bits => false,
+    }
+}
+
+/// An operand as a value, beside something of a strength.
+#[derive(Clone, Copy)]
+pub(crate) struct Value<'a>(pub &'a Phrase, pub u8);
+
+impl fmt::Display for Value<'_> {
+    ghost output = { λ v. Some (shown.value_text v.0.now v.1) };
+
+    #[tactic(auto, unfolding(crate::specs::Shown::value_text))]
+    fn fmt<W: fmt::Write>(&self, f: &mut fmt::Formatter<W>) -> fmt::Result {
+        let operand = self.0;
+        let text = &operand.text;
+        let form = operand.form;
+        let lead = lead_of(form);
+        if strength_of(form) < self.1 {
+            write!(f, "({lead}{text})")
+        } else {
+            write!(f, "{lead}{text}")
+        }
+    }
+}
+
+/// What an operand leads to, which is an address.
+#[derive(Clone, Copy)]
+pub(crate) struct Place<'a>(pub &'a Phrase);
+
+impl fmt::Display for Place<'_> {
+    ghost output = { λ p. Some (shown.place_text p.0.now) };
+
+    #[tactic(auto, unfolding(crate::specs::Shown::place_text))]
+    fn fmt<W: fmt::Write>(&self, f: &mut fmt::Formatter<W>) -> fmt::Result {
+        let operand = self.0;
+        if is_place(operand.form) {
+            let text = &operand.text;
+            write!(f, "{text}")
+        } else {
+            write!(f, "{}^", Value(operand, 9))
+        }
+    }
+}
+
+/// The place that a word is stored to by its address, also where that is a variable's.
+#[derive(Clone, Copy)]
+pub(crate) struct Stored<'a>(pub &'a Phrase);
+
+impl fmt::Display for Stored<'_> {
+    ghost output = { λ p. Some (shown.stored_text p.0.now) };
+
+    #[tactic(auto, unfolding(crate::specs::Shown::stored_text))]
+    fn fmt<W: fmt::Write>(&self, f: &mut fmt::Formatter<W>) -> fmt::Result {
+        let operand = self.0;
+        match operand.form {
+            Form::Variable => write!(f, "{}^", Value(operand, 9)),
+            _ => write!(f, "{}", Place(operand)),
+        }
+    }
+}
+
+/// Operands, each behind a comma.
+#[derive(Clone, Copy)]
+pub(crate) struct Further<'a>(pub &'a [Phrase]);
+
+impl fmt::Display for Further<'_> {
+    ghost output = { λ a. Some (flat_map shown.further a.0.now) };
+
+    fn fmt<W: fmt::Write>(&self, f: &mut fmt::Formatter<W>) -> fmt::Result {
+        let operands = self.0;
+        for operand in operands {
+            write!(f, ", {}", Value(operand, 0))?;
+        }
+        Ok(())
+    }
+}
+
+/// Operands behind a name.
+#[derive(Clone, Copy)]
+pub(crate) struct Arguments<'a>(pub &'a [Phrase]);
+
+impl fmt::Display for Arguments<'_> {
+    ghost output = { λ a. Some (shown.arguments a.0.now) };
+
+    fn fmt<W: fmt::Write>(&self, f: &mut fmt::Formatter<W>) -> fmt::Result {
+        match self.0 {
+            [] => Ok(()),
+            [first, more @ ..] => write!(f, "({}{})", Value(first, 0), Further(more)),
+        }
+    }
+}
+
+pub(crate) fn valued(text: String, strength: u8) -> Phrase
+    ensures value { result ≡ shown.value strength (string_bytes text) }
+{
+    Phrase {
+        text,
+        form: Form::Value(strength),
+    }
+}
+
+pub(crate) fn standing(text: String, form: Form) -> Phrase
+    ensures standing { result ≡ shown.standing form (string_bytes text) }
+{
+    Phrase { text, form }
+}

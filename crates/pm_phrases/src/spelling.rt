@@ -1,0 +1,61 @@
+//! How an instruction is spelled, beside its shortest spelling.
+
+ghost use Rattle.std.specs.Prelude.{◌≡◌, Some};
+ghost use Rattle.pm_phrases.specs.Spelled as spelled;
+
+use pm_families::{Arithmetic, Pointer, Scope, Variable};
+use pm_opcode::{Instr, Operation, implied_number};
+use std::fmt;
+
+/// How an instruction is spelled.
+#[derive(Clone, Copy)]
+pub(crate) enum Spelling {
+    /// As short as can be.
+    Shortest,
+    /// Its number in two bytes where one would do, or in place of an opcode that has the number in itself.
+    Longer,
+    /// Both.
+    Longest,
+}
+
+/// The marks of a spelling.
+#[derive(Clone, Copy)]
+pub(crate) struct Marks(pub Spelling);
+
+impl fmt::Display for Marks {
+    ghost output = { λ m. Some (spelled.marks m.0) };
+
+    fn fmt<W: fmt::Write>(&self, f: &mut fmt::Formatter<W>) -> fmt::Result {
+        match self.0 {
+            Spelling::Shortest => Ok(()),
+            Spelling::Longer => write!(f, "!"),
+            Spelling::Longest => write!(f, "!!"),
+        }
+    }
+}
+
+/// Whether an opcode has the number of the operation in itself.
+#[tactic(auto, unfolding(crate::specs::Spelled::fits_opcode))]
+fn fits_opcode(what: Operation) -> bool
+    ensures fits { result ≡ spelled.fits_opcode what }
+{
+    match what {
+        Operation::Arithmetic(Arithmetic::Constant(n)) => n < 128,
+        Operation::Variable(Variable::Load(Scope::Global | Scope::Local, n)) => 1 <= n && n <= 16,
+        Operation::Pointer(Pointer::Load(n)) => n < 8,
+        _ => false,
+    }
+}
+
+/// How an instruction is spelled that is this operation.
+#[tactic(auto, unfolding(crate::specs::Spelled::spelling_of, crate::specs::Spelled::has_shorter))]
+pub(crate) fn spelling_of(i: &Instr, what: Operation) -> Spelling
+    ensures spelling { result ≡ spelled.spelling_of i.now what }
+{
+    let shorter = implied_number(i.op).is_none() && fits_opcode(what);
+    match (i.long, shorter) {
+        (false, false) => Spelling::Shortest,
+        (true, true) => Spelling::Longest,
+        _ => Spelling::Longer,
+    }
+}

@@ -1,0 +1,106 @@
+//! Variables.
+
+ghost use Rattle.std.specs.Prelude.{◌≡◌, IfOk, Some};
+ghost use Rattle.pm_phrases.specs.Variables as texts;
+
+use crate::around::Around;
+use crate::operand::{Form, Phrase, Value, standing, valued};
+use crate::spelling::{Marks, Spelling};
+use pm_families::{Scope, Variable};
+use std::alloc::{AllocError, Global};
+use std::fmt;
+
+/// What a variable of the procedure is.
+#[tactic(auto, unfolding(crate::specs::Variables::local_word))]
+fn local_word(around: Around, number: u16) -> &'static str
+    ensures word { result.now ≡ texts.local_word around number }
+{
+    if 1 <= number && number <= around.parameters {
+        "param"
+    } else {
+        "local"
+    }
+}
+
+/// A variable by its scope and number, with the marks of a spelling.
+#[derive(Clone, Copy)]
+struct Named {
+    around: Around,
+    scope: Scope,
+    number: u16,
+    spelling: Spelling,
+}
+
+impl fmt::Display for Named {
+    ghost output = { λ n. Some (texts.variable_text n.around n.scope n.number n.spelling) };
+
+    #[tactic(auto, unfolding(crate::specs::Variables::variable_text))]
+    fn fmt<W: fmt::Write>(&self, f: &mut fmt::Formatter<W>) -> fmt::Result {
+        let number = self.number;
+        let marks = Marks(self.spelling);
+        match self.scope {
+            Scope::Global => write!(f, "global{number}{marks}"),
+            Scope::Local => {
+                let word = local_word(self.around, number);
+                write!(f, "{word}{number}{marks}")
+            }
+            Scope::Intermediate(links) => write!(f, "up{links}_{number}{marks}"),
+        }
+    }
+}
+
+#[tactic(auto, unfolding(crate::specs::Variables::variable_alone))]
+pub(crate) fn variable_alone(
+    alloc: Global,
+    around: Around,
+    spelling: Spelling,
+    what: Variable,
+) -> Result<Option<Phrase>, AllocError>
+    ensures shown { IfOk result (λ p. p ≡ texts.variable_alone around spelling what) }
+{
+    match what {
+        Variable::Address(scope, number) => {
+            let name = Named {
+                around,
+                scope,
+                number,
+                spelling,
+            };
+            Ok(Some(standing(format!(in alloc; "{name}")?, Form::Variable)))
+        }
+        Variable::Load(scope, number) => {
+            let name = Named {
+                around,
+                scope,
+                number,
+                spelling,
+            };
+            Ok(Some(valued(format!(in alloc; "{name}")?, 9)))
+        }
+        Variable::Store(_, _) => Ok(None),
+    }
+}
+
+#[tactic(auto, unfolding(crate::specs::Variables::variable_one))]
+pub(crate) fn variable_one(
+    alloc: Global,
+    around: Around,
+    spelling: Spelling,
+    what: Variable,
+    a: &Phrase,
+) -> Result<Option<Phrase>, AllocError>
+    ensures shown { IfOk result (λ p. p ≡ texts.variable_one around spelling what a.now) }
+{
+    match what {
+        Variable::Store(scope, number) => {
+            let name = Named {
+                around,
+                scope,
+                number,
+                spelling,
+            };
+            Ok(Some(valued(format!(in alloc; "{name} := {}", Value(a, 0))?, 0)))
+        }
+        _ => Ok(None),
+    }
+}

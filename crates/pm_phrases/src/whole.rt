@@ -1,0 +1,52 @@
+//! The text of an operation on its operands.
+
+ghost use Rattle.std.specs.Prelude.{◌≡◌, ◌++◌, IfOk};
+ghost use Rattle.pm_code.specs.Views.{placed_item};
+ghost use Rattle.pm_phrases.specs.Missing.{listed};
+ghost use Rattle.pm_phrases.specs.Phrases as texts;
+
+use crate::around::{AllArguments, Around, Missing, Pops, stand_ins};
+use crate::calls::called;
+use crate::counts::{counted, operation_in};
+use crate::operand::{Phrase, valued};
+use pm_code::Item;
+use std::alloc::{AllocError, Global};
+
+#[tactic(auto, unfolding(crate::specs::Phrases::template))]
+fn template(
+    alloc: Global,
+    around: Around,
+    item: &Item<usize>,
+    pops: &Pops,
+    operands: &[Phrase],
+) -> Result<Option<Phrase>, AllocError>
+    ensures shown { IfOk result
+        (λ p. p ≡ texts.template around (placed_item item.now) (listed pops.now ++ operands.now)) }
+{
+    match called(alloc, operation_in(item), pops, operands)? {
+        Some(call) => Ok(Some(call)),
+        None => counted(alloc, around, item, pops, operands),
+    }
+}
+
+/// The text of an operation on its operands, from the first to the last.
+#[tactic(auto, unfolding(crate::specs::Phrases::phrase_of))]
+pub fn phrase(
+    alloc: Global,
+    around: Around,
+    item: &Item<usize>,
+    missing: Missing,
+    operands: &[Phrase],
+) -> Result<Phrase, AllocError>
+    ensures shown { IfOk result
+        (λ p. p ≡ texts.phrase_of around (placed_item item.now) missing operands.now) }
+{
+    let pops = stand_ins(alloc, missing)?;
+    match template(alloc, around, item, &pops, operands)? {
+        Some(phrase) => Ok(phrase),
+        None => {
+            let arguments = AllArguments(&pops, operands);
+            Ok(valued(format!(in alloc; "{{{item}}}{arguments}")?, 9))
+        }
+    }
+}

@@ -1,0 +1,19 @@
+//! What the definitions give for code, computed. The function does nothing.
+
+ghost use Rattle.pm_phrases.specs.Worked as worked;
+
+/// Texts of each family, computed.
+#[tactic(auto, using(crate::proofs::Computed::worked_variables, crate::proofs::Computed::worked_operators, crate::proofs::Computed::worked_addresses, crate::proofs::Computed::worked_missing, crate::proofs::Computed::worked_calls, crate::proofs::Computed::worked_jumps, crate::proofs::Computed::worked_others, crate::proofs::Computed::worked_literals, crate::proofs::Computed::worked_comparisons, crate::proofs::Computed::worked_parts, crate::proofs::Computed::worked_sets))]
+pub fn worked_texts()
+    ensures variables { worked.WorkedVariables }
+    ensures operators { worked.WorkedOperators }
+    ensures addresses { worked.WorkedAddresses }
+    ensures missing { worked.WorkedMissing }
+    ensures calls { worked.WorkedCalls }
+    ensures jumps { worked.WorkedJumps }
+    ensures others { worked.WorkedOthers }
+    ensures literals { worked.WorkedLiterals }
+    ensures comparisons { worked.WorkedComparisons }
+    ensures parts { worked.WorkedParts }
+    ensures sets { worked.WorkedSets }
+{}

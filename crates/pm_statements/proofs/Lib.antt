@@ -1,0 +1,10 @@
+pub mod Grown
+pub mod Fair
+pub mod Labels
+pub mod Written
+pub mod Ends
+pub mod Listed
+pub mod Marked
+pub mod Called
+pub mod Computed
+pub mod First

@@ -1,0 +1,43 @@
+-- The lines of statements, one after another.
+use Rattle.std.proofs.Common.{◌≡◌, ◌≤◌, ℕ, Bool, List, [], ◌∷◌, ◌++◌, ◌+◌, drop, length, refl, sym, ap, ◌∙◌, append_assoc}
+use Rattle.std.proofs.lemmas.List.{append-nil, drop_all}
+use Rattle.pm_code.specs.Item.{Item, size}
+use Rattle.pm_phrases.specs.Shown.{Shown}
+use Rattle.pm_statements.specs.declared.left.Left.{Left}
+use Rattle.pm_statements.specs.Parts.{Known, Part, part_of, parts, place_at}
+use Rattle.pm_statements.specs.Texts.{is_call, line, lines}
+
+pub lines_none : (behind_call : Bool) (ls : List Left) → lines behind_call ls [] ≡ []
+unfolding lines
+lines_none b [] = refl
+lines_none b (l ∷ ls) = refl
+
+pub lines_done : (behind_call : Bool) (i : ℕ) (ls : List Left) (ss : List Shown) → length ls ≤ i → lines behind_call (drop i ls) ss ≡ []
+unfolding lines
+lines_done b i ls ss high = ap (λ l. lines b l ss) (drop_all i ls high)
+
+pub lines_step : (behind_call : Bool) (ls more : List Left) (ss rest : List Shown) (l : Left) (s : Shown) (before : List ℕ)
+    → ls ≡ l ∷ more → ss ≡ s ∷ rest
+    → (before ++ line behind_call l s) ++ lines (is_call l) more rest ≡ before ++ lines behind_call ls ss
+unfolding lines
+lines_step b ls more ss rest l s before e f =
+    append_assoc before (line b l s) (lines (is_call l) more rest)
+    ∙ sym (ap (λ x. before ++ lines b x ss) e ∙ ap (λ x. before ++ lines b (l ∷ more) x) f)
+
+-- one part more
+pub parts_step : (k : Known) (used : List ℕ) (exit at next : ℕ) (item : Item ℕ) (items all : List (Item ℕ)) (part : Part) (front more : List Part)
+    → all ≡ item ∷ items → part ≡ part_of k item (place_at used exit at) → next ≡ at + size at item → more ≡ front ++ part ∷ []
+    → more ++ parts k used exit next items ≡ front ++ parts k used exit at all
+parts_step k used exit at next item items all part front more a c d e =
+    ap (λ m. m ++ parts k used exit next items) e
+    ∙ append_assoc front (part ∷ []) (parts k used exit next items)
+    ∙ ap (λ p. front ++ p ∷ parts k used exit next items) c
+    ∙ ap (λ (n : ℕ). front ++ part_of k item (place_at used exit at) ∷ parts k used exit n items) d
+    ∙ ap (λ is. front ++ parts k used exit at is) (sym a)
+
+pub parts_done : (k : Known) (used : List ℕ) (exit at : ℕ) (items : List (Item ℕ)) (front : List Part) → items ≡ []
+    → front ++ parts k used exit at items ≡ front
+parts_done k used exit at items front e = ap (λ is. front ++ parts k used exit at is) e ∙ append-nil front
+
+pub text_joined : (old middle new first second : List ℕ) → middle ≡ old ++ first → new ≡ middle ++ second → new ≡ old ++ (first ++ second)
+text_joined old middle new first second e f = f ∙ ap (λ t. t ++ second) e ∙ append_assoc old first second

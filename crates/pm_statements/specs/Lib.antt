@@ -1,0 +1,7 @@
+pub mod Parts
+pub mod Trees
+pub mod Laws
+pub mod Texts
+pub mod Marks
+pub mod Callees
+pub mod Worked

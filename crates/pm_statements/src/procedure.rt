@@ -1,0 +1,97 @@
+//! The statements of a procedure.
+
+ghost use Rattle.std.specs.Prelude.{◌≡◌, ◌+◌, ◌++◌, ℕ, List, string_bytes, IfOk, OnOk};
+ghost use Rattle.pm_code.specs.Item.{size};
+ghost use Rattle.pm_code.specs.Views.{placed_item, procedure_seen};
+ghost use Rattle.pm_statements.specs.Marks.{Marks};
+ghost use Rattle.pm_statements.specs.Parts as parts;
+ghost use Rattle.pm_statements.specs.Texts as texts;
+
+use crate::grow::statements;
+use crate::items::{Known, part_of};
+use crate::lines::{push_place, push_statements};
+use crate::marks::labels_of;
+use crate::part::{Part, Place};
+use pm_code::{Item, Procedure, items_end};
+use pm_phrases::Around;
+use std::alloc::{AllocError, Global};
+
+/// A place, where these have labels and the exit code begins at one.
+#[tactic(auto, using(crate::proofs::Marked::place_known))]
+fn place_at(labels: &[bool], exit: usize, at: usize) -> Place
+    ensures place { (used : List ℕ) → Marks labels.now used → result ≡ parts.place_at used exit at }
+{
+    Place {
+        offset: at,
+        has_label: labels.get(at).copied().unwrap_or(false),
+        is_exit: exit == at,
+    }
+}
+
+/// Where the item behind this one begins. No memory holds one that would begin beyond all places.
+fn behind(at: usize, item: &Item<usize>) -> Result<usize, AllocError>
+    ensures behind { IfOk result (λ next. next ≡ at + size at (placed_item item.now)) }
+{
+    let Some(size) = item.size(at) else {
+        return Err(AllocError);
+    };
+    match at.checked_add(size) {
+        Some(next) => Ok(next),
+        None => Err(AllocError),
+    }
+}
+
+/// The items of a procedure as parts, where these places have labels.
+fn parts_of<'a>(
+    alloc: Global,
+    known: &Known<'_>,
+    labels: &[bool],
+    procedure: &'a Procedure,
+) -> Result<Vec<Part<'a>>, AllocError>
+    requires labels { Marks labels.now (parts.labelled_places (procedure_seen procedure.now)) }
+    ensures parts { IfOk result (λ ps. ps.items ≡ parts.procedure_parts known.now (procedure_seen procedure.now)) }
+{
+    let mut parts = Vec::new(alloc);
+    let mut at = procedure.start;
+    let items = &procedure.items;
+    for item in items {
+        let place = place_at(labels, procedure.exit, at);
+        parts.push(part_of(known, item, place))?;
+        at = behind(at, item)?;
+    }
+    Ok(parts)
+}
+
+/// Adds the lines of the place where a procedure's code ends.
+fn push_end(out: &mut String, labels: &[bool], procedure: &Procedure) -> Result<(), AllocError>
+    requires labels { Marks labels.now (parts.labelled_places (procedure_seen procedure.now)) }
+    ensures text { OnOk result (string_bytes out.new
+        ≡ string_bytes out.old ++ texts.place_lines (texts.end_place (procedure_seen procedure.now))) }
+{
+    let Some(end) = items_end(procedure.start, &procedure.items) else {
+        return Err(AllocError);
+    };
+    push_place(out, place_at(labels, procedure.exit, end))
+}
+
+/// Adds the text of a procedure's code as statements: a line for each, behind a line feed, with lines for the labels
+/// and the exit code as the text of the procedure has them.
+#[tactic(auto, using(crate::proofs::Listed::text_joined), unfolding(crate::specs::Texts::statement_lines))]
+pub fn push_procedure(
+    alloc: Global,
+    out: &mut String,
+    known: &Known<'_>,
+    procedure: &Procedure,
+) -> Result<(), AllocError>
+    ensures text { OnOk result (string_bytes out.new
+        ≡ string_bytes out.old ++ texts.procedure_statements known.now (procedure_seen procedure.now)) }
+{
+    let around = Around {
+        parameters: procedure.parameters / 2,
+    };
+    let labels = labels_of(alloc, procedure)?;
+    let parts = parts_of(alloc, known, &labels, procedure)?;
+    let statements = statements(alloc, around, &parts)?;
+    push_statements(out, &statements)?;
+    push_end(out, &labels, procedure)
+}

@@ -1,7 +1,7 @@
 #!/bin/bash
 # Times `dis` on code files of a size and of twice that size, and says how much longer the larger one takes: 2 means in proportion. Least
 # processor time of RUNS runs, and the most memory where GNU time is there. Run by hand; no part of the gate.
-#     dis.sh [PMACH]          RUNS=3 by default
+#     dis.sh [PMACH]          RUNS=3 by default; WORDS stand behind dis, as --statements
 #   plain   one procedure of NOPs
 #   counts  one procedure whose jump table has 60 entries, the last of which is taken by a jump
 #   jumps   the same, each entry being taken by a jump, so that 61 counts of entries are tried
@@ -85,13 +85,13 @@ distinct() {
 timed() {
     local k
     for k in $(seq "$runs"); do
-        { TIMEFORMAT='%U %S'; time "$pmach" dis <"$scratch/code" >/dev/null 2>&1; } 2>&1
+        { TIMEFORMAT='%U %S'; time "$pmach" dis $WORDS <"$scratch/code" >/dev/null 2>&1; } 2>&1
     done | awk '{ s = $1 + $2; if (NR == 1 || s < least) least = s } END { printf "%.3f", least }'
 }
 
 # memory: the most memory, where GNU time tells it
 memory() {
-    command time -q -f '%M' "$pmach" dis <"$scratch/code" 2>&1 >/dev/null | tail -n 1 | awk '/^[0-9]+$/ { printf "%d MB", $1 / 1000 }'
+    command time -q -f '%M' "$pmach" dis $WORDS <"$scratch/code" 2>&1 >/dev/null | tail -n 1 | awk '/^[0-9]+$/ { printf "%d MB", $1 / 1000 }'
 }
 
 # doubled NAME SEGMENT SIZE SLOTS: code of a size and of twice that
@@ -103,7 +103,7 @@ doubled() {
     "$2" $((2 * $3)) >"$scratch/segment"
     file "$4" >"$scratch/code"
     second=$(timed)
-    echo "$1: code of $3 bytes, $first s; $((2 * $3)), $second s, text of $("$pmach" dis <"$scratch/code" | wc -c) bytes, $(memory)" \
+    echo "$1: code of $3 bytes, $first s; $((2 * $3)), $second s, text of $("$pmach" dis $WORDS <"$scratch/code" | wc -c) bytes, $(memory)" \
         "ratio $(awk "BEGIN { if ($first > 0) printf \"%.1f\", $second / $first }")"
 }
 

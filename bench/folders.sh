@@ -154,6 +154,55 @@ check "no volume" ends 2 "$here/examples/form.sh" header
 printf "2IMG" >short
 check "a header that is cut" ends 2 "$here/examples/form.sh" short
 
+# a header of DiskCopy 4.2, over blocks and over DOS order: 84 bytes, with the bytes of data and their sum
+sum_of() { python3 -c '
+import sys
+s = 0
+data = open(sys.argv[1], "rb").read()
+for k in range(0, len(data), 2):
+    s = (s + int.from_bytes(data[k:k + 2], "big")) & 0xFFFFFFFF
+    s = s >> 1 | (s & 1) << 31
+sys.stdout.buffer.write(s.to_bytes(4, "big"))' "$1"; }
+for form in po:blocks dos:dos; do
+    file=${form%:*}
+    {
+        printf '\004DISK' && head -c 59 /dev/zero && printf '\0\x02\x30\0\0\0\0\0' && sum_of "$file"
+        printf '\0\0\0\0\x00\x02\x01\x00' && cat "$file"
+    } >"$file.dc"
+    check "$form behind DiskCopy" ends 0 "$here/examples/form.sh" "$file.dc" "$file.dcout"
+    check "$form, the same volume behind DiskCopy" cmp po "$file.dcout"
+    check "$form, a sound sum" [ ! -s err ]
+    check "$form behind DiskCopy is told" ends 0 "$here/examples/form.sh" "$file.dc"
+    check "$form by its name" grep -q "^dc42-${form#*:} BIG:" out
+    check "$form behind DiskCopy again" ends 0 "$here/examples/form.sh" --back "$file.dc" po "$file.dcback"
+    check "$form, the same image behind DiskCopy" cmp "$file.dc" "$file.dcback"
+done
+cp po.dcout more.po && printf 'there\n' | files more.po puttext B.TEXT
+check "a file more behind DiskCopy" ends 0 "$here/examples/form.sh" --back dos.dc more.po dos.dcmore
+check "its sum is its own" ends 0 "$here/examples/form.sh" dos.dcmore more.again
+check "its sum is sound" [ ! -s err ]
+check "the file is there" cmp more.po more.again
+byte dos.dcmore 90000 7F
+"$here/examples/form.sh" dos.dcmore >out 2>err </dev/null
+check "another sum is told" grep -q 'the sum in the header is another' err
+{ cat dos && head -c 128 /dev/zero; } >dos.long
+check "128 bytes more" ends 0 "$here/examples/form.sh" dos.long dos.longout
+check "are no part of the disk" cmp po dos.longout
+check "and stay" ends 0 "$here/examples/form.sh" --back dos.long po dos.longback
+check "where they were" cmp dos.long dos.longback
+gzip -c po >po.gz
+check "what is compressed" ends 2 "$here/examples/form.sh" po.gz
+check "is named" grep -q 'for gunzip' err
+{ printf 'WOZ2' && head -c 5000 /dev/zero; } >flux.woz
+check "a .woz" ends 2 "$here/examples/form.sh" flux.woz
+check "is named so" grep -q 'looks like .woz' err
+head -c 232960 /dev/zero >some.nib
+check "a .nib" ends 2 "$here/examples/form.sh" some.nib
+check "is named by its length" grep -q 'length of .nib' err
+{ head -c 69632 /dev/zero && printf '\x04\x11\x0f\x03' && head -c 73724 /dev/zero; } >dos33.dsk
+check "a disk of DOS 3.3" ends 2 "$here/examples/form.sh" dos33.dsk
+check "is named as one" grep -q 'DOS 3.3' err
+
 # a hurt volume opens in no form: the one that is named is made all the same
 files two new TWO 280
 printf 'hi\n' | files two puttext A.TEXT

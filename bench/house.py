@@ -67,7 +67,8 @@ def shape(name, text, parameters):
 
 # Two of one shape that say different things, or where neither crate stands on the other.
 APART = ({"number_and_numbers", "byte_and_bytes"}, {"IsImage", "IsVolumeOfBytes"}, {"characters_of", "text_of"},
-         {"control", "control_word"}, {"is_even"}, {"Name", "TextLine"}, {"push_slots"}, {"push_word"})
+         {"control", "control_word"}, {"is_even"}, {"Name", "TextLine"}, {"push_slots"}, {"push_word"},
+         {"bare", "bare_instruction"}, {"text_of"})
 by_shape = collections.defaultdict(set)
 for path in glob.glob("crates/*/specs/**/*.antt", recursive=True):
     for name, text in definitions(path):
@@ -250,9 +251,9 @@ if "\n".join(lines("INDEX.md")) != index.page():
     tell("index", "INDEX.md is not that of the source: python3 bench/index.py")
 
 # The most bytes of a page, and of all of docs/.
-MOST = {"PROMISES": 13000, "DECISIONS": 8400, "ARCHITECTURE": 12900, "COMMANDS": 32100, "FILES": 25700,
-        "INSTRUCTIONS": 20000, "ASSEMBLY": 18000, "WORKING": 15100, "PROCEDURES": 13900, "MACHINE": 13100, "GLOSSARY": 6600,
-        "CASES": 3500, "LIBRARY": 5100, "DISKS": 5000}
+MOST = {"PROMISES": 13800, "DECISIONS": 9000, "ARCHITECTURE": 12900, "COMMANDS": 32100, "FILES": 25700,
+        "INSTRUCTIONS": 20000, "ASSEMBLY": 18000, "WORKING": 15200, "PROCEDURES": 13900, "MACHINE": 13100, "GLOSSARY": 6600,
+        "CASES": 3500, "LIBRARY": 5100, "DISKS": 5700}
 ALL_PAGES = 204800
 for name, most in MOST.items():
     size = os.path.getsize("docs/%s.md" % name)

@@ -9,7 +9,9 @@
 #                                              stands behind its blocks; BLOCKS has as many bytes as the volume there
 #
 # A form is an order: blocks, dos (the sectors of a 140 KB disk in DOS order) or swapped (the two bytes of each word), and
-# has 2mg- in front where the image begins with a header of that kind, whose words say where the blocks begin and end.
+# has 2mg- in front where the image begins with a header of that kind, whose words say where the blocks begin and end, and
+# dc42- where it begins with one of DiskCopy 4.2, whose sum is looked at, and made anew by --back. Of 143,488 bytes the
+# last 128 are no part of the disk. What looks like something else is named.
 # Nothing is guessed: a form fits where the program opens the volume in it. No file is written over.
 # Status 0: one form fits, or NEW is made; 1 wrong words, or NEW is there; 2 none fits; 3 more than one does.
 here=$(dirname "$(readlink -f "$0")")
@@ -25,9 +27,49 @@ stop() {
 # long PLACE: four bytes of the image, the low one first
 long() { od -An -tu4 -j"$1" -N4 --endian=little "$image" | tr -d ' '; }
 
+# high PLACE: four bytes of the image, the high one first
+high() { od -An -tu4 -j"$1" -N4 --endian=big "$image" | tr -d ' '; }
+
+# The sum of DiskCopy over a file: each word added, the high byte first, and then the sum turned right by a bit.
+sum_of() {
+    od -An -v -tu2 -w2 --endian=big -- "$1" |
+        awk '{ s = (s + $1) % 4294967296; s = int(s / 2) + s % 2 * 2147483648 } END { printf "%d", s }'
+}
+
+# Whether the image begins with a header of DiskCopy 4.2: 84 bytes, 1 and 0 in the last two, the bytes of data at 64.
+is_disk_copy() {
+    [ "$size" -ge 84 ] && [ "$(od -An -tx1 -j82 -N2 "$image" | tr -d ' ')" = 0100 ] && [ "$(high 64)" -gt 0 ] &&
+        [ $((84 + $(high 64) + $(high 68))) -le "$size" ]
+}
+
+# What the image looks like that is no volume in any form.
+foreign() {
+    local first
+    first=$(od -An -tx1 -N4 "$image" | tr -d ' ')
+    case $first:$size in
+    1f8b*) echo ": it is compressed, for gunzip" ;;
+    574f5a*) echo ": it looks like .woz, the bits of a disk, which other tools turn into sectors" ;;
+    *:232960) echo ": it has the length of .nib, the nibbles of a disk, which other tools turn into sectors" ;;
+    *)
+        case $(od -An -tx1 -j1024 -N6 "$image" | tr -d ' '):$(od -An -tx1 -j69632 -N4 "$image" | tr -d ' ') in
+        4244*) echo ": it looks like a disk of the Macintosh (HFS)" ;;
+        0000????f?*) echo ": it looks like a disk of ProDOS" ;;
+        *:0411??03 | *:??11??03) echo ": it looks like a disk of DOS 3.3" ;;
+        esac
+        ;;
+    esac 2>/dev/null
+}
+
 # Where the blocks begin, and how many bytes they have: of the whole image, or as a header says.
 place() {
     begin=0 size=$(stat -c %s -- "$image") front=
+    [ "$size" != 143488 ] || size=143360
+    if is_disk_copy; then
+        begin=84 size=$(high 64) front=dc42-
+        tail -c +85 "$image" | head -c "$size" >"$scratch/data"
+        [ "$(sum_of "$scratch/data")" = "$(high 72)" ] || echo "form.sh: the sum in the header is another: bytes are damaged" >&2
+        return
+    fi
     [ "$size" -ge 64 ] && [ "$(head -c 4 "$image" | tr -d '\0')" = 2IMG ] || return
     local at length
     at=$(long 24) length=$(long 28)
@@ -95,13 +137,16 @@ elif [ $# = 1 ] || [ ${#forms[@]} != 1 ]; then
         echo "$front$order $(head -n 1 "$scratch/$order.list") $(tail -n 1 "$scratch/$order.list")"
     done
 fi
-[ ${#forms[@]} != 0 ] || stop 2 "$image is no volume in any of these forms"
+[ ${#forms[@]} != 0 ] || stop 2 "$image is no volume in any of these forms$(foreign)"
 [ ${#forms[@]} = 1 ] || stop 3 "more than one form fits: --as says which"
 [ $# != 1 ] || exit 0
 if [ "$back" ]; then
     [ "$(stat -c %s -- "$2")" = "$size" ] || stop 1 "$2 has not the $size bytes of the volume in $image"
     in_order "${forms[0]}" "$2" "$scratch/changed"
     { head -c "$begin" "$image" && cat "$scratch/changed" && tail -c +$((begin + size + 1)) "$image"; } >"$new" || exit
+    [ "$front" != dc42- ] || printf "$(printf '\\x%02x\\x%02x\\x%02x\\x%02x' $(sum_of "$scratch/changed" |
+        awk '{ print int($1 / 16777216), int($1 / 65536) % 256, int($1 / 256) % 256, $1 % 256 }'))" |
+        dd of="$new" bs=1 seek=72 conv=notrunc 2>/dev/null
 else
     cat "$scratch/${forms[0]}" >"$new" || exit
 fi

@@ -11,11 +11,9 @@ use Rattle.pm_tool.specs.declared.outcome.Job.TheVariants as jobs
 use Rattle.pm_tool.specs.declared.outcome.Outcome.{Outcome}
 use Rattle.pm_program.specs.Saved.{SavesEach, SavesRun, SavesRunSaid, SavesSaid, SavesTold, PrintsIf, Reads, ReadsEach}
 use Rattle.pm_program.specs.Saved.{first_image, has_run, saved_paths, next_images}
-use Rattle.pm_program.specs.declared.saved.SavedOfRun.{SavedOfRun}
 use Rattle.pm_choices.specs.declared.saving.Saving.{Saving}
 use Rattle.pm_choices.specs.declared.saving.Saving.TheVariants as savings
 use Rattle.pm_plan.specs.Asked.{paths_in}
-use Rattle.pm_plan.specs.declared.run_words.Program.{Program}
 use Rattle.pm_program.specs.declared.saved.Printing.TheVariants as printings
 use Rattle.pm_plan.specs.declared.file_words.Verb.{Verb}
 use Rattle.pm_plan.specs.declared.file_words.Verb.TheVariants as verbs
@@ -88,8 +86,8 @@ file_said (Ok outcome) old new path image file verb known input has saves is had
 file_said (Err fault) old new path image file verb known input has saves is had = tt
 
 -- no disk stands on another unit
-abbrev none_other : Others
-none_other = record { d5 = None; d9 = None; d10 = None; d11 = None; d12 = None }
+abbrev none_other : List (Option (String Global))
+none_other = None ∷ None ∷ None ∷ None ∷ None ∷ []
 
 -- of five other units none has a path
 others_none : (old between : Files) (images : List (Option (List ℕ)))

@@ -5,6 +5,7 @@ use Rattle.pm_codefile.specs.declared.fault.CodeFault.{CodeFault}
 use Rattle.pm_disasm.specs.Listing.{file_listing}
 use Rattle.pm_disasm.specs.Shown.{file_text}
 use Rattle.pm_notes.specs.Lines.{with_names}
+use Rattle.pm_statements.specs.Files.{file_statements}
 use Rattle.pm_batch.specs.declared.refusal.Refusal.TheVariants as refusals
 use Rattle.pm_batch.specs.Products.{Product, Written, Refused}
 
@@ -32,3 +33,11 @@ made_listing (Some fault) file = Refused (refusals.Code fault)
 
 abbrev pub made_dis_list : List ℕ → Product
 made_dis_list input = made_listing (file_fault input) input
+
+-- the statements of a code file, or why it is none
+abbrev pub made_statements : Option CodeFault → List ℕ → Product
+made_statements None file = Written (file_statements file)
+made_statements (Some fault) file = Refused (refusals.Code fault)
+
+abbrev pub made_dis_statements : List ℕ → Product
+made_dis_statements input = made_statements (file_fault input) input

@@ -22,4 +22,6 @@ pub enum DisOutput {
     Names,
     /// Its listing by its own bytes and offsets.
     Listing,
+    /// Its code as statements.
+    Statements,
 }

@@ -20,5 +20,5 @@ mod whole;
 pub mod worked;
 
 pub use around::{Around, Missing};
-pub use operand::{Form, Phrase};
+pub use operand::{Form, Phrase, Value};
 pub use whole::phrase;

@@ -77,9 +77,10 @@ fn is_place(form: Form) -> bool
     }
 }
 
-/// An operand as a value, beside something of a strength.
+/// A text as a value, beside something of a strength: in brackets where it is weaker, and with `@` in front where it is
+/// the place that an address leads to.
 #[derive(Clone, Copy)]
-pub(crate) struct Value<'a>(pub &'a Phrase, pub u8);
+pub struct Value<'a>(pub &'a Phrase, pub u8);
 
 impl fmt::Display for Value<'_> {
     ghost output = { λ v. Some (shown.value_text v.0.now v.1) };

@@ -229,12 +229,15 @@ IsAsm true true symbols what = ⊥
 IsAsm true false true what = ⊥
 IsAsm false true true what = ⊥
 
--- what dis writes, whether or not the words say `--names` and `--list`: they do not say both
-abbrev pub IsDis : Bool → Bool → DisOutput → Type 0
-IsDis false false what = what ≡ dis.Text
-IsDis true false what = what ≡ dis.Names
-IsDis false true what = what ≡ dis.Listing
-IsDis true true what = ⊥
+-- what dis writes, whether or not the words say `--names`, `--list` and `--statements`, of which one alone may stand
+abbrev pub IsDis : Bool → Bool → Bool → DisOutput → Type 0
+IsDis false false false what = what ≡ dis.Text
+IsDis true false false what = what ≡ dis.Names
+IsDis false true false what = what ≡ dis.Listing
+IsDis false false true what = what ≡ dis.Statements
+IsDis true true statements what = ⊥
+IsDis true false true what = ⊥
+IsDis false true true what = ⊥
 
 -- ---- all words
 
@@ -246,7 +249,8 @@ Asks command m (plans.Raw limit selection) =
 Asks command m (plans.Asm what) = (command ≡ codes "asm") × IsAsm (is_set (word_found (words_of m) (codes "all")))
     (is_set (word_found (words_of m) (codes "list"))) (is_set (word_found (words_of m) (codes "symbols"))) what
 Asks command m (plans.Dis what) = (command ≡ codes "dis")
-    × IsDis (is_set (word_found (words_of m) (codes "names"))) (is_set (word_found (words_of m) (codes "list"))) what
+    × IsDis (is_set (word_found (words_of m) (codes "names"))) (is_set (word_found (words_of m) (codes "list")))
+    (is_set (word_found (words_of m) (codes "statements"))) what
 Asks command m (plans.Files plan) = (command ≡ codes "files") × AsksFiles m plan
 Asks command m (plans.Run program choices) =
     (command ≡ codes "run") × AsksProgram (words_of m) program × AsksChoices (words_of m) choices

@@ -351,10 +351,16 @@ const OWN_LISTING: WordRow = (
     "Writes the listing in place of the text, by the file's own bytes and offsets; not beside --names",
 );
 
+const STATEMENTS: WordRow = (
+    "statements",
+    Form::Flag,
+    "Writes the code as statements, in the terms of Pascal; not beside --names or --list",
+);
+
 const DIS: CommandRow = (
     "dis",
     "Writes the text of the code file that standard input is: its segments, procedures and items",
-    &[NAMES, OWN_LISTING],
+    &[NAMES, OWN_LISTING, STATEMENTS],
 );
 
 const LIST: WordRow = (

@@ -213,17 +213,24 @@ fn asm_asked(matches: &ArgMatches<'_>) -> Result<Plan, WordsError>
     }
 }
 
-/// What the words of `dis` ask for. Refused where they ask for names and for the listing.
+/// What the words of `dis` ask for. Refused where they ask for more than one of names, the listing and statements.
 fn dis_asked(matches: &ArgMatches<'_>) -> Result<Plan, WordsError>
     ensures asked { IfOk result (λ plan. Asks (codes "dis") matches.now plan) }
     ensures good { IsOk result ↔ MeetEach (words_of matches.now) dis_needs }
     ensures refused { IfErr result IsWrong }
 {
-    match (is_set(matches, "names"), is_set(matches, "list")) {
-        (false, false) => Ok(Plan::Dis(DisOutput::Text)),
-        (true, false) => Ok(Plan::Dis(DisOutput::Names)),
-        (false, true) => Ok(Plan::Dis(DisOutput::Listing)),
-        (true, true) => Err(WordsError::Wrong("--names and --list do not go together")),
+    let statements = is_set(matches, "statements");
+    match (
+        is_set(matches, "names"),
+        is_set(matches, "list"),
+        statements,
+    ) {
+        (false, false, false) => Ok(Plan::Dis(DisOutput::Text)),
+        (true, false, false) => Ok(Plan::Dis(DisOutput::Names)),
+        (false, true, false) => Ok(Plan::Dis(DisOutput::Listing)),
+        (false, false, true) => Ok(Plan::Dis(DisOutput::Statements)),
+        (true, true, false) => Err(WordsError::Wrong("--names and --list do not go together")),
+        _ => Err(WordsError::Wrong("of --names, --list and --statements one alone may stand")),
     }
 }
 

@@ -1,7 +1,8 @@
 -- What a verb of `files` keeps is what its job says.
 use Rattle.std.proofs.Common.{◌≡◌, ◌∙◌, ◌∷◌, [], ℕ, Bool, true, false, List, Option, None, Some, Result, Ok, Err}
 use Rattle.std.proofs.Common.{OnOk, OnErr, inl, inr}
-use Rattle.std.proofs.Common.{refl, sym, subst, IfOk, IfSome, option_map, vec_items, string_bytes, Vec}
+use Rattle.std.proofs.Common.{refl, sym, subst, IfOk, IfSome, option_map, vec_items, string_bytes, Vec, length, get_or}
+use Rattle.std.proofs.Common.{arith}
 use Rattle.std.specs.Result.{result_and}
 use Rattle.std.specs.declared.alloc.Global.{Global}
 use Rattle.pm_files.specs.Held.{Files, HoldsFile, Saves, Puts}
@@ -25,6 +26,17 @@ use Rattle.pm_program.specs.declared.saved.Printing.{Printing}
 use Rattle.pm_plan.specs.declared.file_words.SalvagePlan.{SalvagePlan}
 use Rattle.pm_plan.specs.declared.file_words.Verb.{Verb}
 use Rattle.pm_plan.specs.declared.file_words.Verb.TheVariants as verbs
+
+-- a list of five things is that of those that are read of it
+pub five_are : {X : Type 0} (xs : List X) (a b c d e : X) → length xs ≡ 5
+    → xs ≡ get_or xs 0 a ∷ get_or xs 1 b ∷ get_or xs 2 c ∷ get_or xs 3 d ∷ get_or xs 4 e ∷ []
+five_are [] a b c d e n = absurd (omega arith)
+five_are (p ∷ []) a b c d e n = absurd (omega arith)
+five_are (p ∷ q ∷ []) a b c d e n = absurd (omega arith)
+five_are (p ∷ q ∷ r ∷ []) a b c d e n = absurd (omega arith)
+five_are (p ∷ q ∷ r ∷ s ∷ []) a b c d e n = absurd (omega arith)
+five_are (p ∷ q ∷ r ∷ s ∷ t ∷ []) a b c d e n = refl
+five_are (p ∷ q ∷ r ∷ s ∷ t ∷ u ∷ xs) a b c d e n = absurd (omega arith)
 
 -- there is no image among them
 abbrev AreNone : List (Option (List ℕ)) → Type 0
@@ -146,12 +158,6 @@ known_run_said before after old new program saved disks system outcome tells rea
       given,
       run_told old new (saved_paths saved.saving (string_bytes program.disk) (paths_in program.others)) saved.printing outcome _ told.comes_to saves,
     )
-
--- where there are no images nothing is saved
-pub each_nothing : (files : Files) (paths : List (Option (List ℕ))) → SavesEach files files paths []
-each_nothing files [] = refl
-each_nothing files (None ∷ paths) = (files, refl, each_nothing files paths)
-each_nothing files (Some path ∷ paths) = (files, refl, each_nothing files paths)
 
 -- of no images nothing is saved
 each_none : (old new : Files) (paths images : List (Option (List ℕ))) → AreNone images → SavesEach old new paths images

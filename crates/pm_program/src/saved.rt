@@ -18,7 +18,7 @@ use pm_choices::{Saving, Selection};
 use pm_files::{DiskFault, Store};
 use pm_plan::{Others, Program, SalvagePlan, Verb};
 use pm_streams::{Sink, Source, write_all};
-use pm_tool::{Exit, Job, Outcome};
+use pm_tool::{Exit, Job, OtherImages, Outcome};
 use std::alloc::Global;
 use std::io::ErrorKind;
 
@@ -295,12 +295,12 @@ fn save_at<S: Store>(
     }
 }
 
-/// Saves images under their paths, one behind the other.
-fn save_each<S: Store>(
+/// Saves the images of the other units than 4 under their paths.
+fn save_others<S: Store>(
     alloc: Global,
     store: &mut S,
-    paths: &[Option<String>],
-    images: &[Option<Vec<u8>>],
+    paths: &Others,
+    images: &OtherImages,
 ) -> Result<(), DiskFault>
     ensures saved { OnOk result (SavesEach (S.files store.old) (S.files store.new)
         (paths_in paths.now) (images_of images.now)) }
@@ -308,14 +308,19 @@ fn save_each<S: Store>(
     ensures front { OnErr result (SavesFront (S.files store.old) (S.files store.new)
         (paths_in paths.now) (images_of images.now)) }
 {
-    let [path, paths @ ..] = paths else {
-        return Ok(());
-    };
-    let [image, images @ ..] = images else {
-        return Ok(());
-    };
-    save_at(alloc, store, path, image)?;
-    save_each(alloc, store, paths, images)
+    let [fifth, ninth, tenth, eleventh, twelfth] = paths;
+    let [
+        fifth_image,
+        ninth_image,
+        tenth_image,
+        eleventh_image,
+        twelfth_image,
+    ] = images;
+    save_at(alloc, store, fifth, fifth_image)?;
+    save_at(alloc, store, ninth, ninth_image)?;
+    save_at(alloc, store, tenth, tenth_image)?;
+    save_at(alloc, store, eleventh, eleventh_image)?;
+    save_at(alloc, store, twelfth, twelfth_image)
 }
 
 /// Saves the images of all units under their paths: first that of unit 4.
@@ -335,7 +340,7 @@ fn save_all<S: Store>(
         (option_map vec_items outcome.now.image ∷ images_of outcome.now.others)) }
 {
     save_image(store, disk, &outcome.image)?;
-    save_each(alloc, store, others, &outcome.others)
+    save_others(alloc, store, others, &outcome.others)
 }
 
 /// Saves the images of a run that are to be saved.
@@ -359,7 +364,7 @@ fn save_images<S: Store>(
         Saving::Nothing => Ok(()),
         Saving::First => save_image(store, disk, &outcome.image),
         Saving::All => save_all(alloc, store, disk, others, outcome),
-        Saving::Others => save_each(alloc, store, others, &outcome.others),
+        Saving::Others => save_others(alloc, store, others, &outcome.others),
     }
 }
 
@@ -375,18 +380,17 @@ fn hold_at<S: Store>(store: &mut S, path: &Option<String>) -> Result<(), DiskFau
     }
 }
 
-/// Holds the files of images, one behind the other.
-fn hold_each<S: Store>(store: &mut S, paths: &[Option<String>]) -> Result<(), DiskFault>
+/// Holds the files of the images on the other units than 4.
+fn hold_others<S: Store>(store: &mut S, others: &Others) -> Result<(), DiskFault>
     ensures stays { S.files store.new ≡ S.files store.old }
-    ensures held { OnOk result (S.held store.new ≡ held_each (paths_in paths.now) (S.held store.old)) }
+    ensures held { OnOk result (S.held store.new ≡ held_each (paths_in others.now) (S.held store.old)) }
 {
-    match paths {
-        [] => Ok(()),
-        [path, paths @ ..] => {
-            hold_at(store, path)?;
-            hold_each(store, paths)
-        }
-    }
+    let [fifth, ninth, tenth, eleventh, twelfth] = others;
+    hold_at(store, fifth)?;
+    hold_at(store, ninth)?;
+    hold_at(store, tenth)?;
+    hold_at(store, eleventh)?;
+    hold_at(store, twelfth)
 }
 
 /// Holds the files of the images that are going to be saved.
@@ -405,9 +409,9 @@ fn hold_images<S: Store>(
         Saving::First => store.hold(disk),
         Saving::All => {
             store.hold(disk)?;
-            hold_each(store, others)
+            hold_others(store, others)
         }
-        Saving::Others => hold_each(store, others),
+        Saving::Others => hold_others(store, others),
     }
 }
 

@@ -8,3 +8,4 @@ pub mod Marked
 pub mod Called
 pub mod Computed
 pub mod First
+pub mod Filed

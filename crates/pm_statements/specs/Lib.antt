@@ -5,3 +5,4 @@ pub mod Texts
 pub mod Marks
 pub mod Callees
 pub mod Worked
+pub mod Files

@@ -6,7 +6,7 @@ use Rattle.pm_code.specs.Shown.{label_text, padded}
 use Rattle.pm_phrases.specs.declared.around.Around.{Around}
 use Rattle.pm_phrases.specs.declared.around.Missing.{Missing}
 use Rattle.pm_phrases.specs.Phrases.{phrase_of}
-use Rattle.pm_phrases.specs.Shown.{Shown}
+use Rattle.pm_phrases.specs.Shown.{Shown, value_text}
 use Rattle.pm_statements.specs.declared.left.Left.{Left}
 use Rattle.pm_statements.specs.declared.left.Role.{Role}
 use Rattle.pm_statements.specs.declared.left.Role.TheVariants as role
@@ -120,8 +120,8 @@ is_check l = not (is_reached l.place) && has_check_role l.role
 abbrev pub line : Bool → Left → Shown → List ℕ
 line behind_call l s =
     if behind_call && is_check l
-    then 32 ∷ s.text
-    else place_lines l.place ++ (10 ∷ padded 5 l.place.offset ++ (32 ∷ push_text l.leaves ++ s.text))
+    then 32 ∷ value_text s 0
+    else place_lines l.place ++ (10 ∷ padded 5 l.place.offset ++ (32 ∷ push_text l.leaves ++ value_text s 0))
 
 -- statements, the first one first, behind a call or not
 unfoldable pub lines : Bool → List Left → List Shown → List ℕ

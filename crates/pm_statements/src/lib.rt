@@ -12,6 +12,8 @@ mod marks;
 mod part;
 mod pile;
 mod procedure;
+mod shown;
+mod sized;
 pub mod worked;
 
 pub use callees::{callee_of, system_callee};
@@ -22,3 +24,4 @@ pub use lines::push_statements;
 pub use part::{Callee, Leaves, Part, Place, Takes};
 pub use pile::Pile;
 pub use procedure::push_procedure;
+pub use shown::file;

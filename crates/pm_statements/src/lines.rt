@@ -8,7 +8,7 @@ use crate::left::{Left, Role, is_reached};
 use crate::part::{Leaves, Place};
 use crate::pile::Pile;
 use pm_code::{FiveDigits, Label};
-use pm_phrases::Phrase;
+use pm_phrases::{Phrase, Value};
 use std::alloc::AllocError;
 use std::fmt;
 use std::fmt::Write;
@@ -75,7 +75,7 @@ impl fmt::Display for Line<'_> {
     fn fmt<W: fmt::Write>(&self, f: &mut fmt::Formatter<W>) -> fmt::Result {
         let left = self.left;
         let phrase = self.phrase;
-        let text = &phrase.text;
+        let text = Value(phrase, 0);
         if self.behind_call && is_check(left) {
             return write!(f, " {text}");
         }

@@ -72,7 +72,7 @@ pub enum Job {
     ///   `.PROC` for the procedure itself. Any other text is refused as above.
     Asm(AsmOutput),
     /// The input is a code file. One that is none is refused by `refused code N`, with the slot that the fault names.
-    /// The output is one of three:
+    /// The output is one of four:
     ///
     /// - Its text: its segments by ascending slot, each with its procedures.
     /// - The same with names: behind each line that is `CSP n` or `CXP 0, n` a comment with that of the standard
@@ -80,6 +80,8 @@ pub enum Job {
     /// - Its listing by its own bytes and offsets, whatever laid them out: for each segment, ascending, a line for each
     ///   item, jump entry and attribute table of its procedures, in the order of its dictionary, and for the
     ///   dictionary.
+    /// - Its code as statements: for each segment, ascending, of each procedure a line that names it and a line for
+    ///   each statement, which is its instructions with each operation on its operands.
     Dis(DisOutput),
     /// A command on the volume that an image is. The input's bytes stand in the place of a put's, of bytes or text, and
     /// no other command reads any. The output is the list, the bytes or the text of a file; after a change the outcome

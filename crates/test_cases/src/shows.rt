@@ -124,6 +124,7 @@ fn plain_job(words: &str) -> io::Result<Job> {
         "dis" => Ok(Job::Dis(DisOutput::Text)),
         "dis --names" => Ok(Job::Dis(DisOutput::Names)),
         "dis --list" => Ok(Job::Dis(DisOutput::Listing)),
+        "dis --statements" => Ok(Job::Dis(DisOutput::Statements)),
         _ => Err(unreadable()),
     }
 }

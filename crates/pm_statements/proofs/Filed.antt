@@ -1,0 +1,70 @@
+-- Lists that grow piece by piece, as the text of a file does.
+use Rattle.std.proofs.Common.{◌≡◌, ◌<◌, ◌+◌, ◌-◌, ◌++◌, ◌∷◌, [], ◌∙◌, ℕ, suc, List, ap, append_assoc, arith, refl, sym, subst}
+use Rattle.std.proofs.Common.{Option, None, Some, IfSome}
+use Rattle.pm_codefile.specs.Dictionary.{segment_in}
+use Rattle.pm_codefile.specs.Segments.{attributes_in}
+use Rattle.pm_statements.specs.Callees.{system_callee}
+use Rattle.pm_statements.specs.Files.{callee_in, callees_from, numbered_text, slot_callees, slot_text, slots_callees, slots_text, system_from, tables_text}
+use Rattle.pm_statements.specs.Parts.{Known}
+use Rattle.pm_statements.specs.declared.part.Callee.{Callee}
+
+-- a list of pieces, of which the next one is there
+next : {A : Type 0} (all : ℕ → ℕ → List A) (piece : ℕ → List A) → ((n k : ℕ) → all n (suc k) ≡ piece n ++ all (n + 1) k)
+    → (n done count : ℕ) (after before whole : List A) → done < count → after ≡ before ++ piece n
+    → before ++ all n (count - done) ≡ whole → after ++ all (n + 1) (count - (done + 1)) ≡ whole
+next all piece step n done count after before whole h t i =
+    let more : count - done ≡ suc (count - (done + 1)) = omega (arith, h) in
+    let rest = all (n + 1) (count - (done + 1)) in
+    ap (λ u. u ++ rest) t
+    ∙ append_assoc before (piece n) rest
+    ∙ ap (λ u. before ++ u) (sym (step n (count - (done + 1))))
+    ∙ ap (λ k. before ++ all n k) (sym more)
+    ∙ i
+
+-- one procedure of a segment more
+pub next_callee : (segment : List ℕ) (done : ℕ) (after before whole : List (Option Callee)) (callee : Option Callee) → done < 255
+    → callee_in segment (attributes_in segment (done + 1)) ≡ callee → after ≡ before ++ callee ∷ []
+    → before ++ callees_from segment (done + 1) (255 - done) ≡ whole
+    → after ++ callees_from segment (done + 1 + 1) (255 - (done + 1)) ≡ whole
+next_callee segment done after before whole callee h e t i =
+    next (callees_from segment) (λ n. callee_in segment (attributes_in segment n) ∷ []) (λ n k. refl) (done + 1) done 255
+    after before whole h (t ∙ ap (λ c. before ++ c ∷ []) (sym e)) i
+
+-- one of the system's more
+pub next_system : (done : ℕ) (after before whole : List (Option Callee)) → done < 255
+    → after ≡ before ++ system_callee (done + 1) ∷ [] → before ++ system_from (done + 1) (255 - done) ≡ whole
+    → after ++ system_from (done + 1 + 1) (255 - (done + 1)) ≡ whole
+next_system done after before whole h t i =
+    next system_from (λ n. system_callee n ∷ []) (λ n k. refl) (done + 1) done 255 after before whole h t i
+
+-- those of one slot more
+pub next_slot : (file : List ℕ) (n : ℕ) (after before whole : List (Option Callee)) → n < 16
+    → after ≡ before ++ slot_callees n (segment_in file n) → before ++ slots_callees file n (16 - n) ≡ whole
+    → after ++ slots_callees file (n + 1) (16 - (n + 1)) ≡ whole
+next_slot file n after before whole h t i =
+    next (slots_callees file) (λ n. slot_callees n (segment_in file n)) (λ n k. refl) n n 16 after before whole h t i
+
+-- the text of one procedure more
+pub next_table : (k : Known) (segment : List ℕ) (done count : ℕ) (after before whole text : List ℕ) → done < count
+    → numbered_text k segment (done + 1) (attributes_in segment (done + 1)) ≡ text → after ≡ before ++ text
+    → before ++ tables_text k segment (done + 1) (count - done) ≡ whole
+    → after ++ tables_text k segment (done + 1 + 1) (count - (done + 1)) ≡ whole
+next_table k segment done count after before whole text h e t i =
+    next (tables_text k segment) (λ n. numbered_text k segment n (attributes_in segment n)) (λ n m. refl) (done + 1) done count
+    after before whole h (t ∙ ap (λ u. before ++ u) (sym e)) i
+
+-- that of one slot more
+pub next_text : (callees : List (Option Callee)) (file : List ℕ) (n : ℕ) (after before whole : List ℕ) → n < 16
+    → after ≡ before ++ slot_text callees n (segment_in file n) → before ++ slots_text callees file n (16 - n) ≡ whole
+    → after ++ slots_text callees file (n + 1) (16 - (n + 1)) ≡ whole
+next_text callees file n after before whole h t i =
+    next (slots_text callees file) (λ n. slot_text callees n (segment_in file n)) (λ n k. refl) n n 16 after before whole h t i
+
+-- what is known of what is there
+pub given : {A : Type 0} (P : A → Type 0) (o : Option A) (x : A) → o ≡ Some x → IfSome o P → P x
+given P o x e h = let g : IfSome (Some x) P = subst (λ k. IfSome k P) e h in g
+
+-- three pieces of text, one behind another
+pub three_pieces : (t0 t1 t2 t3 a b c : List ℕ) → t1 ≡ t0 ++ a → t2 ≡ t1 ++ b → t3 ≡ t2 ++ c → t3 ≡ t0 ++ ((a ++ b) ++ c)
+three_pieces t0 t1 t2 t3 a b c e f g =
+    g ∙ ap (λ t. t ++ c) (f ∙ ap (λ t. t ++ b) e ∙ append_assoc t0 a b) ∙ append_assoc t0 (a ++ b) c

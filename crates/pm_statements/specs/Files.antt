@@ -1,0 +1,102 @@
+-- The text of a code file as statements.
+use Rattle.std.specs.Prelude.{◌≡◌, ℕ, zero, suc, ◌+◌, ◌==◌, List, [], ◌∷◌, ◌++◌, nat_le, Option, Some, None}
+use Rattle.std.specs.Prelude.{codes, string_bytes, if◌then◌else◌}
+use Rattle.std.specs.Fmt.{decimal}
+use Rattle.pm_codefile.specs.Dictionary.{segment_in}
+use Rattle.pm_codefile.specs.Segments.{attributes_in, procedures_in}
+use Rattle.pm_codefile.specs.declared.table.Attributes.{Attributes}
+use Rattle.pm_disasm.specs.Split.{procedure_of}
+use Rattle.pm_statements.specs.Callees.{callee_of, system_callee}
+use Rattle.pm_statements.specs.Parts.{Known}
+use Rattle.pm_statements.specs.Texts.{procedure_statements}
+use Rattle.pm_statements.specs.declared.part.Callee.{Callee}
+use Rattle.pm_statements.specs.declared.sized.SizedTable.{SizedTable}
+use Rattle.pm_statements.specs.declared.shown.ShownTable.{ShownTable}
+
+-- ---- what the procedures of a file take and leave
+
+-- that of a table, unless its exit code lies before its code
+unfoldable pub table_callee : List ℕ → Attributes → Option Callee
+table_callee segment a = if nat_le a.enter a.exit then callee_of (procedure_of segment a) else None
+
+-- that of a procedure of a segment, if it has a table
+abbrev pub callee_in : List ℕ → Option Attributes → Option Callee
+callee_in segment None = None
+callee_in segment (Some a) = table_callee segment a
+
+-- those of so many numbers of a segment, from one on
+abbrev pub callees_from : List ℕ → ℕ → ℕ → List (Option Callee)
+callees_from segment n zero = []
+callees_from segment n (suc count) = callee_in segment (attributes_in segment n) ∷ callees_from segment (n + 1) count
+
+-- and of the operating system
+abbrev pub system_from : ℕ → ℕ → List (Option Callee)
+system_from n zero = []
+system_from n (suc count) = system_callee n ∷ system_from (n + 1) count
+
+-- those of the 256 numbers of a slot: of its segment; of slot 0, where it has none, of the operating system
+abbrev pub slot_callees : ℕ → Option (List ℕ) → List (Option Callee)
+slot_callees n (Some segment) = None ∷ callees_from segment 1 255
+slot_callees n None = if n == 0 then None ∷ system_from 1 255 else None ∷ callees_from [] 1 255
+
+-- those of so many slots, from one on
+abbrev pub slots_callees : List ℕ → ℕ → ℕ → List (Option Callee)
+slots_callees file n zero = []
+slots_callees file n (suc count) = slot_callees n (segment_in file n) ++ slots_callees file (n + 1) count
+
+-- Of each slot 256, by their numbers.
+unfoldable pub file_callees : List ℕ → List (Option Callee)
+file_callees file = slots_callees file 0 16
+
+-- what a table's procedure takes and leaves in this segment
+abbrev pub IsSizedTable : List ℕ → SizedTable → Type 0
+IsSizedTable segment s = s.callee ≡ table_callee segment s.table
+
+-- ---- the text
+
+-- the front of a procedure's first line: its number and its slot
+abbrev pub named : ℕ → ℕ → List ℕ
+named number slot = codes "PROCEDURE " ++ (decimal number ++ (codes " OF SEGMENT " ++ decimal slot))
+
+-- that line, with the bytes of parameters and of locals
+abbrev pub header : ℕ → ℕ → ℕ → ℕ → List ℕ
+header number slot parameters locals = named number slot ++ (codes ": " ++ (decimal parameters
+    ++ (codes " bytes of parameters, " ++ (decimal locals ++ codes " of locals"))))
+
+-- A procedure by its table: that line, and behind it the lines of its statements. Where its exit code lies before its
+-- code it has none.
+unfoldable pub table_text : Known → List ℕ → Attributes → List ℕ
+table_text k segment a = if nat_le a.enter a.exit
+    then (header a.procedure k.segment a.parameters a.locals ++ procedure_statements k (procedure_of segment a))
+    ++ 10 ∷ []
+    else named a.procedure k.segment ++ (codes ": no code" ++ 10 ∷ [])
+
+-- procedure p of a segment, by its number alone where it has no table
+abbrev pub numbered_text : Known → List ℕ → ℕ → Option Attributes → List ℕ
+numbered_text k segment p None = named p k.segment ++ (codes ": no table" ++ 10 ∷ [])
+numbered_text k segment p (Some a) = table_text k segment a
+
+-- so many procedures of a segment, from procedure p on
+abbrev pub tables_text : Known → List ℕ → ℕ → ℕ → List ℕ
+tables_text k segment p zero = []
+tables_text k segment p (suc count) =
+    numbered_text k segment p (attributes_in segment p) ++ tables_text k segment (p + 1) count
+
+-- the segment of a slot, if it has one
+abbrev pub slot_text : List (Option Callee) → ℕ → Option (List ℕ) → List ℕ
+slot_text callees n None = []
+slot_text callees n (Some segment) =
+    tables_text (record { segment = n; callees = callees }) segment 1 (procedures_in segment)
+
+-- so many slots, from slot n on
+abbrev pub slots_text : List (Option Callee) → List ℕ → ℕ → ℕ → List ℕ
+slots_text callees file n zero = []
+slots_text callees file n (suc count) = slot_text callees n (segment_in file n) ++ slots_text callees file (n + 1) count
+
+-- The text of a code file as statements: its segments by ascending slot.
+unfoldable pub file_statements : List ℕ → List ℕ
+file_statements file = slots_text (file_callees file) file 0 16
+
+-- a table with the text that is shown for it in this segment
+abbrev pub IsShownTable : Known → List ℕ → ShownTable → Type 0
+IsShownTable k segment s = string_bytes s.text ≡ table_text k segment s.table

@@ -1,0 +1,206 @@
+//! Code files as statements.
+
+ghost use Rattle.std.specs.Prelude.{◌≡◌, ◌%◌, ◌≤◌, ◌++◌, List, ℕ, Some, length, nat_le, string_bytes, IfOk};
+ghost use Rattle.std.specs.Prelude.{IfSome, OnOk};
+ghost use Rattle.std.specs.List.{AllByRecursion};
+ghost use Rattle.pm_codefile.specs.Dictionary.{segment_in};
+ghost use Rattle.pm_codefile.specs.Segments.{attributes_in, procedures_in};
+ghost use Rattle.pm_codefile.specs.declared.table.Attributes.{Attributes};
+ghost use Rattle.pm_disasm.specs.Offsets.{IsDecoded};
+ghost use Rattle.pm_statements.specs.Files as files;
+
+use crate::items::Known;
+use crate::part::Callee;
+use crate::procedure::push_procedure;
+use crate::sized::file_callees;
+use pm_codefile::{Attributes, CodeFile, attributes, procedures};
+use pm_disasm::{Decoded, code, decode_segment};
+use std::alloc::{AllocError, Global};
+use std::fmt;
+use std::fmt::Write;
+
+/// A procedure's table, and the text that is shown for it.
+#[derive(Drop)]
+pub(crate) struct ShownTable {
+    /// The table.
+    pub table: Attributes,
+    /// The text.
+    pub text: String,
+}
+
+/// The text that is shown for a table, if it is among those that were shown.
+fn text_of<'a>(shown: &'a [ShownTable], a: &Attributes) -> Option<&'a str>
+    ensures text { (shows : Attributes → List ℕ) → AllByRecursion (λ s. string_bytes s.text ≡ shows s.table) shown.now
+        → IfSome result (λ text. text.now ≡ shows a.now) }
+{
+    for known in shown {
+        if known.table == *a {
+            return Some(known.text.as_str());
+        }
+    }
+    None
+}
+
+/// The front of a procedure's first line: its number and its slot.
+#[derive(Clone, Copy)]
+struct Named(u8, u8);
+
+impl fmt::Display for Named {
+    ghost output = { λ n. Some (files.named n.0 n.1) };
+
+    fn fmt<W: fmt::Write>(&self, f: &mut fmt::Formatter<W>) -> fmt::Result {
+        let (number, slot) = (self.0, self.1);
+        write!(f, "PROCEDURE {number} OF SEGMENT {slot}")
+    }
+}
+
+/// A procedure's first line: its number and slot, the bytes of its parameters and of its locals.
+#[derive(Clone, Copy)]
+struct Header(Named, u16, u16);
+
+impl fmt::Display for Header {
+    ghost output = { λ h. Some (files.header h.0.0 h.0.1 h.1 h.2) };
+
+    fn fmt<W: fmt::Write>(&self, f: &mut fmt::Formatter<W>) -> fmt::Result {
+        let (named, parameters, locals) = (self.0, self.1, self.2);
+        write!(
+            f,
+            "{named}: {parameters} bytes of parameters, {locals} of locals"
+        )
+    }
+}
+
+/// The slot of the code.
+fn slot_of(known: &Known<'_>) -> u8
+    ensures slot { result ≡ known.now.segment }
+{
+    known.segment
+}
+
+/// Whether the exit code of a procedure does not lie before its code.
+fn has_code(a: &Attributes) -> bool
+    ensures code { result ≡ nat_le a.now.enter a.now.exit }
+{
+    a.enter <= a.exit
+}
+
+/// Adds a procedure by its table.
+fn push_table<'a>(
+    alloc: Global,
+    text: &mut String,
+    known: &Known<'_>,
+    segment: &'a [u8],
+    decoded: &Decoded<'a>,
+    a: &Attributes,
+) -> Result<(), AllocError>
+    requires short { length segment.now ≤ 65534 }
+    requires of_segment { (p : ℕ) × (attributes_in segment.now p ≡ Some a.now) }
+    requires decoded { IsDecoded decoded.now segment.now }
+    ensures text { OnOk result (string_bytes text.new
+        ≡ string_bytes text.old ++ files.table_text known.now segment.now a.now) }
+{
+    let named = Named(a.procedure, slot_of(known));
+    if !has_code(a) {
+        writeln!(text, "{named}: no code")?;
+        return Ok(());
+    }
+    let procedure = code(alloc, segment, decoded, a)?;
+    let header = Header(named, a.parameters, a.locals);
+    write!(text, "{header}")?;
+    push_procedure(alloc, text, known, &procedure)?;
+    text.push_str("\n")?;
+    Ok(())
+}
+
+/// Adds a procedure by its table, a copy where the same table was shown before. Many words of a dictionary may lead to
+/// one table.
+fn push_table_once<'a>(
+    alloc: Global,
+    text: &mut String,
+    known: &Known<'_>,
+    segment: &'a [u8],
+    decoded: &Decoded<'a>,
+    shown: &mut Vec<ShownTable>,
+    a: Attributes,
+) -> Result<(), AllocError>
+    requires short { length segment.now ≤ 65534 }
+    requires of_segment { (p : ℕ) × (attributes_in segment.now p ≡ Some a) }
+    requires decoded { IsDecoded decoded.now segment.now }
+    requires shown { AllByRecursion (files.IsShownTable known.now segment.now) shown.old.items }
+    ensures text { OnOk result (string_bytes text.new
+        ≡ string_bytes text.old ++ files.table_text known.now segment.now a) }
+    ensures shown { OnOk result (AllByRecursion (files.IsShownTable known.now segment.now) shown.new.items) }
+{
+    if let Some(before) = text_of(shown, &a) {
+        text.push_str(before)?;
+        return Ok(());
+    }
+    let mut own = String::new(alloc);
+    push_table(alloc, &mut own, known, segment, decoded, &a)?;
+    text.push_str(own.as_str())?;
+    shown.push(ShownTable {
+        table: a,
+        text: own,
+    })?;
+    Ok(())
+}
+
+/// Adds the procedures of a segment.
+fn push_segment(
+    alloc: Global,
+    text: &mut String,
+    known: &Known<'_>,
+    segment: &[u8],
+) -> Result<(), AllocError>
+    requires even { length segment.now % 2 ≡ 0 }
+    requires short { length segment.now ≤ 65534 }
+    ensures text { OnOk result (string_bytes text.new
+        ≡ string_bytes text.old ++ files.tables_text known.now segment.now 1 (procedures_in segment.now)) }
+{
+    let decoded = decode_segment(alloc, segment)?;
+    let mut shown = Vec::new(alloc);
+    for done in 0..procedures(segment) {
+        let number = done + 1;
+        let named = Named(number, slot_of(known));
+        match attributes(segment, number) {
+            Some(a) => push_table_once(alloc, text, known, segment, &decoded, &mut shown, a)?,
+            None => writeln!(text, "{named}: no table")?,
+        }
+    }
+    Ok(())
+}
+
+/// Adds the segment of a slot, if it has one.
+fn push_slot(
+    alloc: Global,
+    text: &mut String,
+    file: &CodeFile<'_>,
+    callees: &[Option<Callee>],
+    n: u8,
+) -> Result<(), AllocError>
+    ensures text { OnOk result (string_bytes text.new
+        ≡ string_bytes text.old ++ files.slot_text callees.now n (segment_in file.now n)) }
+{
+    let Some(segment) = file.segment(n) else {
+        return Ok(());
+    };
+    let known = Known {
+        segment: n,
+        callees,
+    };
+    push_segment(alloc, text, &known, segment)
+}
+
+/// The text of a code file as statements: its segments by ascending slot, of each its procedures by their numbers, of
+/// each a line that names it, and a line for each statement.
+#[tactic(auto, unfolding(crate::specs::Files::file_statements))]
+pub fn file(alloc: Global, file: &CodeFile<'_>) -> Result<String, AllocError>
+    ensures text { IfOk result (λ text. string_bytes text ≡ files.file_statements file.now) }
+{
+    let callees = file_callees(alloc, file)?;
+    let mut text = String::new(alloc);
+    for n in 0..16 {
+        push_slot(alloc, &mut text, file, &callees, n)?;
+    }
+    Ok(text)
+}

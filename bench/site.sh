@@ -101,7 +101,8 @@ check "a sound disk" ends 0 "$site" sound.img sound
 check "whole" whole sound
 check "its name" grep -q '<h1>Volume ' sound/index.html
 check "a text is no markup" grep -rq 'hi &lt;b&gt;&amp;amp; &quot;there&quot;' sound
-check "its code" grep -rq 'Who calls whom' sound
+check "its code" grep -rq "Who calls whom" sound
+check "its statements" grep -rq "IF NOT (param3 &gt; 0)" sound
 cp -r sound before
 check "again" ends 0 "$site" sound.img sound
 check "the same bytes" diff -r before sound

@@ -27,7 +27,7 @@ body{margin:0 auto;max-width:64rem;padding:1rem;font:16px/1.5 system-ui,sans-ser
 a{color:var(--link)}h1,h2,h3{line-height:1.2}table{border-collapse:collapse;margin:1rem 0}
 th,td{border:1px solid var(--line);padding:.2rem .6rem;text-align:left;vertical-align:top}th{background:var(--soft)}td.n{text-align:right}
 pre{background:var(--soft);padding:.7rem;overflow-x:auto;font:13px/1.45 ui-monospace,monospace}.scroll{overflow-x:auto}
-svg{width:100%;height:auto;background:var(--soft);display:block}svg text{font:12px ui-monospace,monospace;fill:#111}
+svg{width:100%;height:auto;background:var(--soft);display:block}figure svg{width:auto;max-width:100%}svg text{font:12px ui-monospace,monospace;fill:#111}
 .directory{fill:#8d99ae}.code{fill:#6a994e}.text{fill:#e0a458}.data{fill:#5c8ec9}.other{fill:#a984c2}.gap{fill:none}.beyond{fill:#ddd}
 .doubt{fill:#d1495b}rect{stroke:#fff;stroke-width:.5}.bad{color:var(--bad);font-weight:600}.key span{display:inline-block;width:1em;height:1em;margin:0 .3em 0 1em}
 :target{outline:2px solid var(--link)}nav{margin-bottom:1rem}"""
@@ -142,6 +142,33 @@ def place(disk, image):
     disk.left = [(word(slot, 0), word(slot, 2), "slot %d %s" % (slot, words)) for slot, words in left]
 
 
+def date_of(disk):
+    """The last date of the volume, as the list has dates."""
+    with open(disk.path, "rb") as file:
+        word = int.from_bytes(file.read(1024 + 26)[1024 + 20 : 1024 + 22], "little")
+    return "%03d-%02d-%02d" % (word // 512, word % 16, word // 16 % 32)
+
+
+def with_gaps(disk):
+    """The files in their order, and what is free before, between and behind them, as rows of the table."""
+    rows, place = [], 6 if not disk.files or disk.files[0].first < 10 else 10
+    if hasattr(disk, "salvage"):
+        return [row_of(e) for e in disk.files]
+    for e in disk.files:
+        if e.first > place:
+            rows.append(["", "free", "", place, e.first - place, "", ""])
+        rows.append(row_of(e))
+        place = e.first + e.blocks
+    if blocks_of(disk) > place:
+        rows.append(["", "free", "", place, blocks_of(disk) - place, "", ""])
+    return rows
+
+
+def row_of(e):
+    doubt = ' <span class="bad">%s</span>' % told(e.doubt) if e.doubt else ""
+    return [e.slot, '<a href="%s">%s</a>' % (e.page, told(e.name or "no name")), told(e.kind) + doubt, e.first, e.blocks, e.last, told(e.date)]
+
+
 def blocks_of(disk):
     """How many blocks the volume has."""
     if hasattr(disk, "blocks_of_image"):
@@ -218,11 +245,10 @@ def mending(disk):
 
 
 def index(disk, image_name, run_name):
-    body = ["<p>%s, <strong>%s</strong></p>" % (told(os.path.basename(image_name)), told(disk.space))]
+    body = ["<p>%s, %d blocks, last date %s, <strong>%s</strong></p>" % (told(os.path.basename(image_name)), blocks_of(disk), date_of(disk), told(disk.space))]
     body += ["<p>%s</p>" % told(note) for note in disk.notes]
     body.append("<h2>Its blocks</h2>\n" + block_map(disk))
-    rows = [[e.slot, '<a href="%s">%s</a>' % (e.page, told(e.name)), told(e.kind) + (' <span class="bad">%s</span>' % told(e.doubt) if e.doubt else ""), e.first, e.blocks, e.last, told(e.date)] for e in disk.files]
-    body.append("<h2>Its files</h2>\n" + table(["slot", "name", "kind", "first block", "blocks", "last bytes", "date"], rows))
+    body.append("<h2>Its files</h2>\n" + table(["slot", "name", "kind", "first block", "blocks", "last bytes", "date"], with_gaps(disk)))
     if run_name:
         body.append('<p><a href="run.html">A run of %s</a></p>' % told(run_name))
     body.append("<h2>What check says</h2>\n<pre>%s</pre>" % told("\n".join(disk.findings[:400])))
@@ -272,6 +298,14 @@ class Code:
         named = latin(pmach(["dis", "--names"], data)[1])
         self.called = {m[1]: m[2] for m in map(STANDARD.match, named.splitlines()) if m}
         self.lines = latin(pmach(["dis", "--list"], data)[1]).splitlines()
+        self.statements, here = {}, None
+        for line in latin(pmach(["dis", "--statements"], data)[1]).splitlines():
+            m = re.match(r"PROCEDURE (\d+) OF SEGMENT (\d+): ", line)
+            if m:
+                here = (int(m[2]), int(m[1]))
+                own = self.statements.setdefault(here, []) if here not in self.statements else []
+            else:
+                own.append(line)
         self.procedures, self.calls = [], {}
         for line in self.lines:
             slot, number = int(line[0:2]), int(line[3:6])
@@ -321,6 +355,22 @@ class Code:
         seen.add(anchor)
         return "<span%s>%s</span>  %s%s" % (mark, told("%-32s" % place), shown, told("  ; " + name) if name else "")
 
+    def statement(self, slot, line):
+        """A statement: its offset leads to its line of the listing, and so do labels; a call to what is called."""
+        m = re.match(r"(\d{5}) (.*)$", line)
+        place, words = (m[1], m[2]) if m else ("", line)
+        shown = told(words)
+        shown = re.sub(r"\bL(\d{5})\b", lambda m: '<a href="#o%d-%s">%s</a>' % (slot, m[1], m[0]) if int(m[1]) in self.places[slot] else m[0], shown)
+
+        def call(m):
+            to = (int(m[2]), int(m[3])) if m[1] == "CXP" and m[3] else (slot, int(m[2]))
+            return '<a href="#p%d-%d">%s</a>' % (*to, m[0]) if to in self.procedures else m[0]
+
+        shown = re.sub(r"\b(CLP|CGP|CIP|CBP|CXP)_(\d+)(?:_(\d+))?\b", call, shown)
+        if place and int(place) in self.places[slot]:
+            place = '<a href="#o%d-%s">%s</a>' % (slot, place, place)
+        return "%s %s" % (place, shown) if place else "      " + shown
+
     def body(self):
         if not self.good:
             return '<p class="bad">%s</p>' % told(self.message)
@@ -342,7 +392,12 @@ class Code:
                 parts.append("<p>%d lines, which are left out: the page has %d.</p>" % (len(own), shown))
                 continue
             shown += len(own)
+            if self.statements.get(here):
+                parts.append("<pre>%s</pre>" % "\n".join(self.statement(slot, line) for line in self.statements[here]))
+                parts.append("<details><summary>Its %d lines of p-code</summary>" % len(own))
             parts.append("<pre>%s</pre>" % "\n".join(self.line(slot, line, seen) for line in own))
+            if self.statements.get(here):
+                parts.append("</details>")
         return "\n".join(parts)
 
     def graph(self):

@@ -1,0 +1,138 @@
+/* Each call of the library that takes memory, with each of its allocations refused in turn, until none is: it answers 5, all that it was
+   lent is as before, and made again it answers what it answers with memory. For library.sh, which links it with malloc and realloc wrapped. */
+#include "pmach.h"
+#include <stdio.h>
+#include <stdlib.h>
+#include <string.h>
+
+static long armed, taken;
+void *__real_malloc(size_t);
+void *__real_realloc(void *, size_t);
+static int refused(void) { return armed && ++taken == armed; }
+void *__wrap_malloc(size_t size) { return refused() ? NULL : __real_malloc(size); }
+void *__wrap_realloc(void *block, size_t size) { return refused() ? NULL : __real_realloc(block, size); }
+
+enum { ROOM = 1 << 20 };
+static uint8_t image[ROOM], text[ROOM], out[ROOM], before[ROOM];
+static size_t image_len, text_len, code_len, needed;
+static uint8_t code[ROOM];
+static struct pmach h;
+static const uint8_t name[] = "HANOI", other[] = "OTHER", typed[] = "go 20\nframes\nquit\n", bare[] = {2, 3, 130, 215, 0, 0};
+
+#define NAME name, 5
+#define OUT out, ROOM, &needed
+static uint32_t assemble(void) { return pmach_assemble(text, text_len, true, OUT); }
+static uint32_t disassemble(void) { return pmach_disassemble(code, code_len, OUT); }
+static uint32_t raw(void) { return pmach_raw((const uint8_t *)"02 03 82 D7", 11, 100, OUT); }
+static uint32_t debug(void) { return pmach_debug(image, image_len, NAME, typed, sizeof typed - 1, OUT); }
+static uint32_t volume(void) { return pmach_volume(NAME, 280, OUT); }
+static uint32_t list(void) { return pmach_list(image, image_len, OUT); }
+static uint32_t get(void) { return pmach_get(image, image_len, NAME, OUT); }
+static uint32_t get_text(void) { return pmach_get_text(image, image_len, other, 5, OUT); }
+static uint32_t put(void) { return pmach_put(image, image_len, (const uint8_t *)"NEW", 3, 5, text, text_len, OUT); }
+static uint32_t put_text(void) { return pmach_put_text(image, image_len, (const uint8_t *)"NEW", 3, text, text_len, OUT); }
+static uint32_t take(void) { return pmach_remove(image, image_len, NAME, OUT); }
+static uint32_t change(void) { return pmach_change(image, image_len, NAME, (const uint8_t *)"NEW", 3, OUT); }
+static uint32_t date(void) { return pmach_date(image, image_len, 84, 1, 24, OUT); }
+static uint32_t zero(void) { return pmach_zero(image, image_len, NAME, OUT); }
+static uint32_t duplicate(void) { return pmach_duplicate(image, image_len, OUT); }
+static uint32_t single(void) { return pmach_single(image, image_len, OUT); }
+static uint32_t krunch(void) { return pmach_krunch(image, image_len, OUT); }
+static uint32_t repair(void) { return pmach_repair(image, image_len, OUT); }
+static uint32_t check(void) { return pmach_check(image, image_len, OUT); }
+static uint32_t salvage(void) { return pmach_salvage(image, image_len, false, OUT); }
+static uint32_t start(void) { return pmach_new(&h, bare, sizeof bare); }
+static uint32_t boot(void) { return pmach_boot(&h, image, image_len, NAME, 0); }
+static uint32_t step(void) { return pmach_step(&h); }
+static uint32_t run(void) { uint64_t steps; return pmach_run(&h, 100000, &steps); }
+static uint32_t key(void) { return pmach_key(&h, 'x'); }
+static uint32_t mount(void) { return pmach_mount(&h, 5, image, image_len); }
+static uint32_t eject(void) { return pmach_eject(&h, 4); }
+
+static const struct job { const char *name; uint32_t (*call)(void); int has_machine; int partial; } jobs[] = {
+    {"assemble", assemble, 0, 0}, {"disassemble", disassemble, 0, 0}, {"raw", raw, 0, 0}, {"debug", debug, 0, 0},
+    {"volume", volume, 0, 0}, {"list", list, 0, 0}, {"get", get, 0, 0}, {"get_text", get_text, 0, 0}, {"put", put, 0, 0},
+    {"put_text", put_text, 0, 0}, {"remove", take, 0, 0}, {"change", change, 0, 0}, {"date", date, 0, 0}, {"zero", zero, 0, 0},
+    {"duplicate", duplicate, 0, 0}, {"single", single, 0, 0}, {"krunch", krunch, 0, 0}, {"repair", repair, 0, 0},
+    {"check", check, 0, 0}, {"salvage", salvage, 0, 0}, {"new", start, 0, 0}, {"boot", boot, 0, 0}, {"step", step, 1, 0},
+    {"run", run, 1, 1}, {"key", key, 1, 0}, {"mount", mount, 1, 0}, {"eject", eject, 1, 0},
+};
+
+/* what the machine of a handle shows: registers, memory, both outputs; nothing of an empty one */
+static size_t shown(uint8_t *to) {
+    struct pmach_shown s;
+    size_t n = sizeof s, more;
+    memset(&s, 0, sizeof s);
+    if (pmach_registers(&h, &s)) return 0;
+    memcpy(to, &s, sizeof s);
+    for (unsigned a = 0; a < 65536; a += 2, n += 2) {
+        uint16_t word;
+        pmach_word(&h, a, &word);
+        memcpy(to + n, &word, 2);
+    }
+    pmach_console(&h, 0, to + n, ROOM - n, &more);
+    n += more;
+    pmach_printer(&h, 0, to + n, ROOM - n, &more);
+    return n + more;
+}
+
+static void ready(const struct job *job) {
+    pmach_free(&h);
+    if (job->has_machine && boot()) exit(2);
+    memset(out, 0xA5, ROOM);
+    needed = 0;
+}
+
+static long wrong;
+static void fail(const struct job *job, long k, const char *what) {
+    printf("WRONG %s, allocation %ld: %s\n", job->name, k, what);
+    wrong++;
+}
+
+/* one job with its allocation k refused: whether there was one */
+static int refuse(const struct job *job, long k, uint32_t usual, const uint8_t *wanted, size_t wanted_len, const uint8_t *kept) {
+    static uint8_t after[ROOM];
+    ready(job);
+    size_t n = shown(before);
+    armed = k, taken = 0;
+    uint32_t answer = job->call();
+    int was = taken >= k;
+    armed = 0;
+    if (!was) return 0;
+    if (answer == usual) return 1; /* nothing that it needs: it went another way */
+    if (answer != PMACH_NO_MEMORY) fail(job, k, "answers something else than 5");
+    if (needed) fail(job, k, "an answer without memory");
+    for (size_t i = 0; i < ROOM; i++) if (out[i] != 0xA5) { fail(job, k, "the buffer is written"); break; }
+    if (memcmp(image, kept, image_len)) fail(job, k, "the image is written");
+    if (!job->partial && (shown(after) != n || memcmp(before, after, n))) fail(job, k, "the machine has changed");
+    if (job->partial) ready(job);
+    if (job->call() != usual || needed != wanted_len || memcmp(out, wanted, wanted_len)) fail(job, k, "made again it answers something else");
+    return 1;
+}
+
+int main(int argc, char **argv) {
+    static uint8_t wanted[ROOM], kept[ROOM];
+    long calls = 0, allocations = 0;
+    FILE *file = argc == 2 ? fopen(argv[1], "rb") : NULL;
+    if (!file) return 2;
+    text_len = fread(text, 1, ROOM, file);
+    fclose(file);
+    if (pmach_assemble(text, text_len, false, code, ROOM, &code_len)) return 2;
+    if (pmach_volume((const uint8_t *)"OWN", 3, 280, OUT)) return 2;
+    memcpy(image, out, image_len = needed);
+    if (pmach_put(image, image_len, NAME, 2, code, code_len, OUT)) return 2;
+    memcpy(image, out, image_len = needed);
+    if (pmach_put_text(image, image_len, other, 5, text, text_len, OUT)) return 2;
+    memcpy(image, out, image_len = needed);
+    memcpy(kept, image, image_len);
+    for (size_t j = 0; j < sizeof jobs / sizeof *jobs; j++, calls++) {
+        ready(&jobs[j]);
+        uint32_t usual = jobs[j].call();
+        size_t wanted_len = needed;
+        memcpy(wanted, out, wanted_len);
+        for (long k = 1; refuse(&jobs[j], k, usual, wanted, wanted_len, kept); k++) allocations++;
+    }
+    pmach_free(&h);
+    printf("%ld calls, %ld allocations refused, %ld wrong\n", calls, allocations, wrong);
+    return wrong != 0;
+}

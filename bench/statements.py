@@ -1,0 +1,608 @@
+"""statements.py FILE.. | --random SEED COUNT | --damaged SEED COUNT FILE..: the statements of `pmach dis --statements`, read back by the page (docs/STATEMENTS.md) alone,
+are the instructions of `pmach dis`, procedure by procedure, each once and in order.
+
+FILE is a code file. With --random so many programs are made, of single instructions and of whole expressions, by turns; with --damaged up to
+eight bytes of a file are others, so often. By hand; no part of the gate. PMACH names another program than ./pmach."""
+import os
+import random
+import re
+import subprocess
+import sys
+
+PMACH = os.environ.get("PMACH", os.path.join(os.path.dirname(os.path.abspath(__file__)), "..", "pmach"))
+BINARY = {"+": ("ADI", 2), "-": ("SBI", 2), "OR": ("LOR", 2), "*": ("MPI", 3), "DIV": ("DVI", 3), "MOD": ("MODI", 3), "AND": ("LAND", 3),
+          "=": ("EQUI", 1), "<>": ("NEQI", 1), "<": ("LESI", 1), "<=": ("LEQI", 1), ">": ("GRTI", 1), ">=": ("GEQI", 1)}
+SETS = {"+": "UNI", "-": "DIF", "*": "INT"}
+TYPED = {"=": "EQU", "<>": "NEQ", "<": "LES", "<=": "LEQ", ">": "GRT", ">=": "GEQ"}
+KINDS = {"str": "STR", "bool": "BOOL", "bytes": "BYTES", "words": "WORDS", "sets": "SET", "real": "REAL"}
+TOKEN = re.compile(r"""\s*(?:('(?:[^']|'')*')|("[^"]*")|(\{[^}"]*(?:"[^"]*"[^}"]*)*\})|(POP\*\d+)|(\.\.|:=|<>|<=|>=|[-+*=<>()\[\]^@,#:;.?!])|(\d+)|([A-Za-z_][A-Za-z_0-9]*))""")
+
+
+def run(words, given):
+    done = subprocess.run([PMACH, *words], input=given, stdout=subprocess.PIPE, stderr=subprocess.PIPE)
+    return done.returncode, done.stdout.decode("latin-1")
+
+
+class Reader:
+    """Reads one statement: its instructions as the text of `dis` spells them."""
+
+    def __init__(self, line, names):
+        self.names, self.tokens, self.at, place = names, [], 0, 0
+        while place < len(line):
+            m = TOKEN.match(line, place)
+            if not m:
+                raise SyntaxError(line[place:])
+            self.tokens.append(m.group().lstrip())
+            place = m.end()
+
+    def peek(self, more=0):
+        return self.tokens[self.at + more] if self.at + more < len(self.tokens) else ""
+
+    def next(self):
+        self.at += 1
+        return self.tokens[self.at - 1]
+
+    def eat(self, word):
+        if self.peek() != word:
+            raise SyntaxError("%s wanted at %s of %s" % (word, self.tokens[self.at:], " ".join(self.tokens)))
+        self.at += 1
+
+    def skip(self, word):
+        if self.peek() == word:
+            self.at += 1
+            return True
+        return False
+
+    def marks(self):
+        count = 0
+        while self.skip("!"):
+            count += 1
+        return count
+
+    def constant(self, value, marks):
+        value %= 65536
+        if value > 127:
+            return ["LDCI %d" % value]
+        return ["LDCI %d" % value] if marks else ["SLDC %d" % value]
+
+    # an expression gives its code, and whether it is a set
+    def expression(self, strength=0):
+        code, is_set = self.unary()
+        while True:
+            word = self.peek()
+            if word == "IN" and strength <= 1:
+                self.next()
+                code, is_set = code + self.expression(2)[0] + ["INN"], False
+            elif word in BINARY and BINARY[word][1] >= strength:
+                name, own = BINARY[word]
+                self.next()
+                right, right_set = self.expression(own + 1)
+                if is_set and right_set and word in SETS:
+                    code = code + right + [SETS[word]]
+                else:
+                    code, is_set = code + right + [name], False
+            else:
+                return code, is_set
+
+    def unary(self):
+        word = self.peek()
+        if word in KINDS and self.peek(1) not in (":=",):
+            self.next()
+            tag = KINDS[word]
+            if word in ("bytes", "words"):
+                self.eat("[")
+                tag += " " + self.next() + "!" * self.marks()
+                self.eat("]")
+            a = self.expression(2)[0] if word in ("bool", "sets", "real") else self.text()
+            name = TYPED[self.next()]
+            b = self.expression(2)[0] if word in ("bool", "sets", "real") else self.text()
+            return a + b + ["%s %s" % (name, tag)], False
+        if word == "NOT":
+            self.next()
+            return self.expression(4)[0] + ["LNOT"], False
+        if word == "-":
+            self.next()
+            if self.peek() == "(":
+                self.next()
+                code = self.expression()[0]
+                self.eat(")")
+                return code + ["NGI"], False
+            value = -int(self.next())
+            return self.constant(value, self.marks()), False
+        if word in ("adj", "load"):
+            self.next()
+            self.eat("[")
+            n = self.next() + "!" * self.marks()
+            self.eat("]")
+            if word == "adj":
+                return self.expression(4)[0] + ["ADJ %s" % n], True
+            return self.address() + ["LDM %s" % n], False
+        return self.value(self.chain())
+
+    def text(self):
+        if self.peek()[:1] in ("'", '"') and self.peek(1) not in ("^", ".", "["):
+            return self.literal(self.next())
+        return self.address()
+
+    def literal(self, word):
+        inside = word[1:-1]
+        if word[0] == '"':
+            return ['LPA "%s"' % inside]
+        return ['LSA "%s"' % inside.replace("''", "'").replace('"', "\\22")]
+
+    def arguments(self):
+        code = []
+        if self.skip("("):
+            while True:
+                code += self.expression()[0]
+                if self.skip(".."):
+                    continue
+                if not self.skip(","):
+                    break
+            self.eat(")")
+        return code
+
+    def variable(self, word):
+        m = re.fullmatch(r"(param|local|global)(\d+)", word)
+        if m:
+            return ("G" if m[1] == "global" else "L", None, int(m[2]), self.marks())
+        m = re.fullmatch(r"up(\d+)_(\d+)", word)
+        return ("U", int(m[1]), int(m[2]), self.marks()) if m else None
+
+    def load(self, v, store=False):
+        scope, links, n, marks = v
+        if scope == "U":
+            return ["%s %d, %d%s" % ("STR" if store else "LOD", links, n, "!" * marks)]
+        if store:
+            return ["%s %d%s" % ("STL" if scope == "L" else "SRO", n, "!" * marks)]
+        letter = "L" if scope == "L" else "O"
+        if 1 <= n <= 16:
+            return ["SLD%s %d" % (letter, n)] if marks == 0 else ["LD%s %d%s" % (letter, n, "!" * (marks - 1))]
+        return ["LD%s %d%s" % (letter, n, "!" * marks)]
+
+    def lend(self, v):
+        scope, links, n, marks = v
+        if scope == "U":
+            return ["LDA %d, %d%s" % (links, n, "!" * marks)]
+        return ["%s %d%s" % ("LLA" if scope == "L" else "LAO", n, "!" * marks)]
+
+    def primary(self):
+        word = self.next()
+        if word[0] in "'\"":
+            return "e", (self.literal(word), False)
+        if word[0] == "{":
+            return "e", (self.arguments() + [word[1:-1]], False)
+        if word == "(":
+            inside = self.expression()
+            self.eat(")")
+            return "e", inside
+        if word == "@":
+            return "e", (self.address(), False)
+        if word == "[":
+            code = self.expression()[0]
+            name = "SGS"
+            if self.skip(".."):
+                code, name = code + self.expression()[0], "SRS"
+            self.eat("]")
+            return "e", (code + [name], True)
+        if word.isdigit():
+            return "e", (self.constant(int(word), self.marks()), False)
+        if word == "NIL":
+            return "e", (["LDCN"], False)
+        if word == "POP":
+            return "e", ([], self.skip("SET"))
+        if word.startswith("POP*"):
+            return "e", ([], False)
+        if word in ("ABS", "SQR"):
+            return "e", (self.arguments() + [{"ABS": "ABI", "SQR": "SQI"}[word]], False)
+        if word == "CHECK":
+            return "e", (self.arguments() + ["CHK"], False)
+        if word == "SET":
+            return "e", (self.arguments(), True)
+        v = self.variable(word)
+        if v:
+            return "v", v
+        if word in self.names:
+            return "e", (self.arguments() + [self.names[word]], False)
+        m = re.fullmatch(r"(CXP|CLP|CGP|CBP|CIP|CSP)((?:_\d+)+)", word)
+        if m:
+            return "e", (self.arguments() + [m[1] + " " + ", ".join(m[2][1:].split("_"))], False)
+        raise SyntaxError("%s in %s" % (word, " ".join(self.tokens)))
+
+    def chain(self):
+        """A primary and what stands behind it: a value, or a place with the code of its address."""
+        state = self.primary()
+        while True:
+            word = self.peek()
+            if word == "^":
+                self.next()
+                state = ("d", self.value(state)[0])
+            elif word == "." and self.peek(1).isdigit():
+                self.next()
+                n = self.next()
+                state = ("i", self.base(state), n, self.marks())
+            elif word == "[" and (state[0] in "vdix" or self.is_literal(state)):
+                self.next()
+                code, b = self.base(state), "1"
+                code = code + self.expression()[0]
+                if self.skip(":"):
+                    b = self.next() + "!" * self.marks()
+                self.eat("]")
+                state = ("x", code + ["IXA %s" % b])
+            elif word == "." and self.peek(1) in ("byte", "char", "packed", "bits"):
+                self.next()
+                kind = self.next()
+                code = self.base(state)
+                self.eat("[")
+                code = code + self.expression()[0]
+                if kind in ("byte", "char"):
+                    state = ("t", code + (["IXS"] if kind == "char" else []), "LDB", "STB")
+                elif kind == "bits":
+                    self.eat(":")
+                    state = ("t", code + self.expression()[0], "LDP", "STP")
+                else:
+                    self.eat(":")
+                    n = self.next()
+                    self.eat("of")
+                    state = ("t", code + ["IXP %s, %s" % (n, self.next())], "LDP", "STP")
+                    self.eat("bits")
+                self.eat("]")
+            else:
+                return state
+
+    @staticmethod
+    def is_literal(state):
+        return state[0] == "e" and len(state[1][0]) == 1 and state[1][0][0][:4] in ("LSA ", "LPA ")
+
+    def base(self, state):
+        """The code of the address of a place."""
+        kind = state[0]
+        if self.is_literal(state):
+            return state[1][0]
+        if kind == "v":
+            return self.lend(state[1])
+        if kind in "dx":
+            return state[1]
+        if kind == "i":
+            return state[1] + ["INC %s%s" % (state[2], "!" * state[3])]
+        if kind == "t" and state[1][-1].split()[0] in ("IXS", "IXP"):
+            return state[1]
+        raise SyntaxError("no place: %s in %s" % (state, " ".join(self.tokens)))
+
+    def value(self, state):
+        kind = state[0]
+        if kind == "v":
+            return self.load(state[1]), False
+        if kind == "e":
+            return state[1]
+        if kind in "dx":
+            return state[1] + ["SIND 0"], False
+        if kind == "t":
+            return state[1] + [state[2]], False
+        n, marks = state[2], state[3]
+        if int(n) < 8 and marks == 0:
+            return state[1] + ["SIND %s" % n], False
+        return state[1] + ["IND %s%s" % (n, "!" * (marks - 1 if int(n) < 8 else marks))], False
+
+    def address(self):
+        return self.base(self.chain())
+
+    def target(self):
+        return "^" + self.next() if self.skip("^") else self.next()
+
+    def statement(self):
+        word = self.peek()
+        if word == "PUSH":
+            self.next()
+            return self.expression()[0]
+        if word == "GOTO":
+            self.next()
+            return ["UJP " + self.target()]
+        if word == "IF":
+            self.next()
+            if self.peek() == "NOT" and self.peek(1) == "(":
+                self.next()
+                self.next()
+                code = self.expression()[0]
+                self.eat(")")
+                self.eat("GOTO")
+                return code + ["FJP " + self.target()]
+            a = self.expression(2)[0]
+            sign = self.next()
+            b = self.expression(2)[0]
+            self.eat("GOTO")
+            return a + b + [("EFJ " if sign == "<>" else "NFJ ") + self.target()]
+        if word == "CASE":
+            return self.case()
+        if word == "RETURN":
+            self.next()
+            name = "RNP"
+            if self.skip("FROM"):
+                self.eat("BASE")
+                name = "RBP"
+            return ["%s %s" % (name, self.next() if self.peek().isdigit() else "0")]
+        state = None if word in ("adj", "load") or word in KINDS else self.chain()
+        if state is None:
+            return self.expression()[0]
+        if self.skip(":="):
+            return self.stored(state)
+        code = self.value(state)[0]
+        if self.at != len(self.tokens): # the first operand of an operator
+            self.at = 0
+            return self.expression()[0]
+        return code
+
+    def stored(self, state):
+        word = self.peek()
+        if word in ("move", "string") and self.peek(1) == "[":
+            self.next()
+            self.next()
+            n = self.next() + "!" * self.marks()
+            self.eat("]")
+            source = self.text() if word == "move" or self.peek()[:1] in ("'", '"') else self.source()
+            return self.base(state) + source + ["%s %s" % ("MOV" if word == "move" else "SAS", n)]
+        if word == "[" and re.fullmatch(r"\d+", self.peek(1)) and self.is_multiple():
+            self.next()
+            n = self.next() + "!" * self.marks()
+            self.eat("]")
+            return self.base(state) + self.expression()[0] + ["STM %s" % n]
+        if state[0] == "v":
+            return self.expression()[0] + self.load(state[1], True)
+        if state[0] == "t":
+            return state[1] + self.expression()[0] + [state[3]]
+        return self.base(state) + self.expression()[0] + ["STO"]
+
+    def source(self):
+        """What a string is given of: a place, or the value of an address."""
+        return self.address()
+
+    def is_multiple(self):
+        return getattr(self, "multiple", False)
+
+    def case(self):
+        self.next()
+        code = self.expression()[0]
+        self.eat("OF")
+        if self.peek()[0] == "{":
+            bounds = self.next()[1:-1]
+            self.eat("ELSE")
+            return code + ["XJP %s, %s" % (bounds, self.target())]
+        numbers, labels = [], []
+        while self.peek() != "ELSE":
+            sign = -1 if self.skip("-") else 1
+            numbers.append(sign * int(self.next()))
+            self.eat(":")
+            labels.append(self.next())
+            self.skip(";")
+        self.eat("ELSE")
+        return code + ["XJP %d, %d, %s" % (numbers[0], numbers[-1], ", ".join([self.target()] + labels))]
+
+
+def back(line, names):
+    reader = Reader(line.replace("unload a segment", "UNLOADSEGMENT").replace("load a segment", "LOADSEGMENT"), names)
+    reader.multiple = ":=[" in line
+    code = reader.statement()
+    if reader.at != len(reader.tokens):
+        raise SyntaxError("left over: " + " ".join(reader.tokens[reader.at:]))
+    return code
+
+
+def compared(data, told):
+    """How many statements of a code file are read back, and how many are not."""
+    status, text = run(["dis"], data)
+    if status:
+        return 0, 0
+    names = {}
+    for line in run(["dis", "--names"], data)[1].splitlines():
+        m = re.match(r"  (CSP \d+|CXP 0, \d+) ; (.*)$", line)
+        if m:
+            names[{"load a segment": "LOADSEGMENT", "unload a segment": "UNLOADSEGMENT"}.get(m[2], m[2])] = m[1]
+    wanted, segment = {}, None
+    for line in text.split("\n"):
+        if line.startswith(".SEG"):
+            segment = line.split()[1]
+        elif line.startswith(".PROC"):
+            key = (segment, line.split()[1])
+            key = (*key, sum(k[:2] == key for k in wanted))
+            wanted[key] = []
+        elif line.startswith("  "):
+            wanted[key].append(line[2:])
+    shown, key = {}, None
+    for line in run(["dis", "--statements"], data)[1].split("\n"):
+        m = re.match(r"PROCEDURE (\d+) OF SEGMENT (\d+): \d+ bytes", line)
+        if m:
+            key = (m[2], m[1])
+            key = (*key, sum(k[:2] == key for k in shown))
+            shown[key] = []
+        elif re.match(r"\d{5} ", line):
+            shown[key].append(line[6:])
+    if wanted.keys() != shown.keys():
+        print("procedures differ: %s" % (wanted.keys() ^ shown.keys()))
+        return 0, 1
+    good = bad = 0
+    for key, lines in shown.items():
+        code = []
+        for line in lines:
+            check = line.endswith(" IOCHECK")
+            try:
+                own = back(line[: -len(" IOCHECK")] if check else line, names) + (["CSP 0"] if check else [])
+            except Exception as fault:
+                own = [repr(fault)]
+            if own != wanted[key][len(code) : len(code) + len(own)]:
+                bad += 1
+                if told[0] < 20:
+                    told[0] += 1
+                    print(line, "\n  wanted", wanted[key][len(code) : len(code) + max(len(own), 4)], "\n  read  ", own)
+                break
+            code += own
+            good += 1
+        else:
+            if code != wanted[key]:
+                bad += 1
+                print("procedure %s has %d instructions, its statements %d" % (key, len(wanted[key]), len(code)))
+    return good, bad
+
+
+def programs(seed, count):
+    """Random texts of the assembler: single instructions, and whole statements, by turns."""
+    R = random.Random(seed)
+    byte = lambda: R.choice([0, 1, 2, 3, 8, 16, R.randrange(256)])
+
+    def big():
+        n = R.choice([0, 1, 2, 3, 7, 8, 16, 17, R.randrange(128), R.randrange(32768)])
+        return "%d!" % n if n < 128 and R.random() < 0.1 else "%d" % n
+
+    word = lambda: R.choice([0, 1, 65535, 32768, R.randrange(65536), R.randrange(200)])
+    text = lambda: '"' + "".join(R.choice(["a", "b", "'", " ", "\\22", "\\0d", ";", ",", "{", "}", "(", "Z", "\\5c"]) for _ in range(R.randrange(6))) + '"'
+    plain = ("ABI ADI LAND DIF DVI CHK INN INT LOR MODI MPI NGI LNOT SRS SBI SGS SQI STO IXS UNI LDCN LDP STP LDB STB EQUI GEQI GRTI LEQI LESI NEQI "
+             "XIT NOP FLT ADR FLO").split()
+    typed = ["EQU", "NEQ", "LES", "LEQ", "GRT", "GEQ"]
+
+    def single():
+        k = R.randrange(30)
+        if k < 9:
+            return R.choice(plain)
+        if k < 13:
+            return R.choice(["SLDC %d" % R.randrange(128), "SLDL %d" % R.randrange(1, 17), "SLDO %d" % R.randrange(1, 17), "SIND %d" % R.randrange(8), "LDCI %d" % word()])
+        if k < 17:
+            return R.choice(["LAO", "LDO", "SRO", "LLA", "LDL", "STL", "INC", "IND", "IXA", "MOV"]) + " " + big()
+        if k < 19:
+            return R.choice(["LDA", "LOD", "STR"]) + " %d, %s" % (byte(), big())
+        if k < 21:
+            return R.choice(["LSA", "LPA"]) + " " + text()
+        if k == 21:
+            return "LDC " + ", ".join(str(word()) for _ in range(R.randrange(1, 6)))
+        if k == 22:
+            return R.choice(["ADJ", "SAS", "LDM", "STM", "CSP"]) + " %d" % byte()
+        if k == 23:
+            return R.choice(typed) + " " + R.choice(["REAL", "STR", "BOOL", "SET", "SET", "BYTES " + big(), "WORDS " + big()])
+        if k == 24:
+            return "IXP %d, %d" % (byte(), byte())
+        if k == 25:
+            return R.choice(["CXP 0, %d" % R.randrange(40), "CXP 2, %d" % R.randrange(4), "CLP %d" % R.randrange(1, 4), "CGP %d" % R.randrange(1, 4), "CIP %d" % R.randrange(1, 4), "CBP %d" % R.randrange(1, 4), "CSP %d" % R.randrange(42)])
+        if k == 26:
+            return R.choice(["RNP", "RBP"]) + " %d" % R.randrange(3)
+        if k == 27:
+            return R.choice(["FJP", "UJP", "EFJ", "NFJ"]) + R.choice([" last", " ^0", " ^1"])
+        if k == 28:
+            return R.choice(["XJP 1, 2, last, here, last", "XJP -1, 1, ^0, here, here, last", "XJP 5, 4, last", "LDE 1, %s" % big(), "LAE 1, 2", "STE 3, 4", "BPT 3", "DVR"])
+        return R.choice(["SLDC %d" % R.randrange(5), ".BYTE 210"])
+
+    def expression(d):
+        if d == 0:
+            return [R.choice(["SLDC %d" % R.randrange(128), "SLDL %d" % R.randrange(1, 17), "SLDO %d" % R.randrange(1, 17), "LDCI %d" % word(), "LLA " + big(), "LAO " + big(), "LOD %d, %s" % (R.randrange(4), big()), "LDCN", "LSA " + text(), "LPA " + text()])]
+        k = R.randrange(16)
+        e = lambda: expression(R.randrange(d))
+        if k < 4:
+            return e() + e() + [R.choice([name for name, _ in BINARY.values()])]
+        if k == 4:
+            return e() + [R.choice(["ABI", "NGI", "LNOT", "SQI"])]
+        if k < 7:
+            return e() + [R.choice(["IND " + big(), "SIND %d" % R.randrange(8), "INC " + big()])]
+        if k == 7:
+            return e() + e() + ["IXA " + big()]
+        if k == 8:
+            return e() + e() + R.choice([[], ["IXS"]]) + ["LDB"]
+        if k == 9:
+            return e() + e() + R.choice([["IXP 8, 2"], e()]) + ["LDP"]
+        if k == 10:
+            return a_set(d) + a_set(d) + [R.choice(["EQU SET", "LEQ SET", "GEQ SET", "NEQ SET"])]
+        if k == 11:
+            return e() + a_set(d) + ["INN"]
+        if k == 12:
+            return e() + e() + [R.choice(typed) + " " + R.choice(["STR", "BOOL", "BYTES " + big(), "WORDS " + big()])]
+        if k == 13:
+            return e() + e() + e() + ["CHK"]
+        if k == 14:
+            return e() + ["SLDC 0", "SLDC 0", "CLP 2"]
+        return e() + ["CSP 35"]
+
+    def a_set(d):
+        if d == 0:
+            return R.choice([["SLDC 0"], ["SLDC %d" % R.randrange(128), "SLDC 1"], ["LDCI %d" % R.randrange(128, 65536), "SLDC 1"], ["LDC " + ", ".join(str(word()) for _ in range(3)), "SLDC 3"], ["LAO 5", "LDM 4", "SLDC 4"], ["LDC 5", "SLDC 1"]])
+        k = R.randrange(6)
+        if k < 3:
+            return a_set(R.randrange(d)) + a_set(R.randrange(d)) + [R.choice(["UNI", "DIF", "INT"])]
+        if k == 3:
+            return expression(R.randrange(d)) + ["SGS"]
+        if k == 4:
+            return expression(R.randrange(d)) + expression(R.randrange(d)) + ["SRS"]
+        return expression(R.randrange(d)) + ["LDM 2", "SLDC 2"]
+
+    def whole():
+        e = lambda: expression(R.randrange(5))
+        k = R.randrange(14)
+        if k < 3:
+            return e() + [["STL " + big()], ["SRO " + big()], ["STR %d, %s" % (byte(), big())]][k]
+        if k == 3:
+            return e() + e() + ["STO"]
+        if k == 4:
+            return e() + e() + R.choice([[], ["IXS"]]) + e() + ["STB"]
+        if k == 5:
+            return e() + e() + R.choice([["IXP 8, 2"], e()]) + e() + ["STP"]
+        if k == 6:
+            return e() + e() + ["MOV " + big()]
+        if k == 7:
+            return e() + e() + ["SAS %d" % byte()]
+        if k == 8:
+            n = R.randrange(1, 6)
+            return e() + a_set(3) + ["ADJ %d" % n, "STM %d" % n]
+        if k == 9:
+            return e() + [R.choice(["FJP last", "FJP ^0"])]
+        if k == 10:
+            return e() + e() + [R.choice(["EFJ last", "NFJ ^1"])]
+        if k == 11:
+            return e() + ["XJP 1, 2, last, here, last"]
+        if k == 12:
+            return e() + e() + ["SLDC 0", "SLDC 0", "CLP 2", "CSP 9"]
+        return e() + ["LDM 3"]
+
+    tail = ".JUMP here\n.JUMP last\n.END\n.PROC 2 1 6 4\n NOP\n.EXIT\n RNP 1\n NOP\n.END\n.PROC 3 1 2 4\n.EXIT\n RNP 0\n.END\n"
+    ends = [tail, ".JUMP here\n" + tail[tail.index(".END"):], tail[tail.index(".END"):]]
+    for number in range(count):
+        body = []
+        while len(body) < 28:
+            body += whole() if number % 2 else [single()]
+        source = ".SEG 1 R\n.PROC 1 0 4 40\nhere:\n" + "".join("  %s\n" % line for line in body) + "last:\n.EXIT\n  RBP 0\n"
+        for pad in ("", "  NOP\n"):
+            made = [run_bytes(source + pad + end) for end in ends]
+            made = [code for code in made if code]
+            if made:
+                yield made[0]
+                break
+
+
+def damaged(seed, count, paths):
+    """Code files of which some bytes behind the dictionary are others."""
+    R = random.Random(seed)
+    files = [open(path, "rb").read() for path in paths]
+    for _ in range(count):
+        data = bytearray(R.choice(files))
+        for _ in range(R.randrange(1, 9)):
+            data[R.randrange(512, len(data))] = R.randrange(256)
+        yield bytes(data)
+
+
+def run_bytes(text):
+    done = subprocess.run([PMACH, "asm"], input=text.encode("latin-1"), stdout=subprocess.PIPE, stderr=subprocess.DEVNULL)
+    return done.stdout if done.returncode == 0 else None
+
+
+def main():
+    if not sys.argv[1:]:
+        sys.exit(__doc__)
+    if sys.argv[1] == "--random":
+        files = programs(int(sys.argv[2]), int(sys.argv[3]))
+    elif sys.argv[1] == "--damaged":
+        files = damaged(int(sys.argv[2]), int(sys.argv[3]), sys.argv[4:])
+    else:
+        files = (open(path, "rb").read() for path in sys.argv[1:])
+    told, total = [0], [0, 0, 0]
+    for data in files:
+        good, bad = compared(data, told)
+        total = [total[0] + good, total[1] + bad, total[2] + 1]
+    print("%d statements of %d files read back, %d not" % (total[0], total[2], total[1]))
+    sys.exit(total[1] != 0)
+
+
+main()

@@ -4,6 +4,7 @@ use Rattle.std.proofs.Common.{List, [], ◌∷◌, length, take, drop, get_or, s
 use Rattle.std.proofs.Common.{◌∙◌, ap, subst, arith, take-take, drop-drop}
 use Rattle.std.specs.Prelude.{slice_get}
 use Rattle.std.specs.List.{All, find}
+use Rattle.std.specs.Option.{option_or}
 use Rattle.std.proofs.lemmas.Bool.{cases_Bool}
 use Rattle.std.proofs.lemmas.Bool.Decides.{nat_tests}
 use Rattle.std.proofs.lemmas.List.{drop-take, length-take, length-append}
@@ -17,7 +18,7 @@ use Rattle.pm_volume.specs.Files.{file_bytes, file_named, files_of, is_named}
 use Rattle.pm_volume.proofs.StayLaws.{files_within}
 use Rattle.pm_volume.proofs.OrderLaws.{IsWithin}
 use Rattle.pm_codefile.specs.declared.fault.CodeFault.{CodeFault}
-use Rattle.pm_codefile.specs.Dictionary.{block_in, file_fault, first_slot_fault, length_in, or_code_fault, segment_in, slot_fault, slot_in}
+use Rattle.pm_codefile.specs.Dictionary.{block_in, file_fault, first_slot_fault, length_in, segment_in, slot_fault, slot_in}
 use Rattle.pm_units.specs.Devices.{Devices, code_on, image_on, unit_of}
 use Rattle.pm_machine.specs.declared.state.BootFault.{BootFault}
 use Rattle.pm_machine.specs.declared.state.BootFault.TheVariants.{NoFile, NotCode, BadCode}
@@ -97,7 +98,7 @@ found images image name file entry unit on h =
 
 -- ---- the slots of a sound file
 
-or_none : (a b : Option CodeFault) → or_code_fault a b ≡ None → (a ≡ None) × (b ≡ None)
+or_none : (a b : Option CodeFault) → option_or a b ≡ None → (a ≡ None) × (b ≡ None)
 or_none None b h = (refl, h)
 or_none (Some f) b h = cc
 

@@ -25,6 +25,6 @@ pub use listing::listing_of;
 pub use names::is_name_character;
 pub use numbers::{FiveDigits, ThreeDigits, magnitude};
 pub use opcodes::{CASE_JUMP, JUMP};
-pub use operands::Quoted;
+pub use operands::{Quoted, Signed};
 pub use program::{Procedure, Segment};
 pub use shown::Label;

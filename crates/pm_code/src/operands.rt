@@ -10,9 +10,9 @@ ghost use Rattle.pm_words.specs.Words.{words_of};
 use pm_opcode::implied_number;
 use std::fmt;
 
-/// A word as a signed number.
+/// A word as the signed number of Pascal's integers: from -32768 to 32767.
 #[derive(Clone, Copy)]
-pub(crate) struct Signed(pub u16);
+pub struct Signed(pub u16);
 
 impl fmt::Display for Signed {
     ghost output = { λ s. Some (signed_text s.0) };

@@ -7,6 +7,7 @@
 -- first.
 use Rattle.std.specs.Prelude.{◌≡◌, ◌==◌, ◌≤◌, ◌<◌, ◌&&◌, not, nat_lt, ℕ, zero, suc, ◌+◌, ◌*◌, ◌%◌, List, length}
 use Rattle.std.specs.Prelude.{slice_range, Option, Some, None, if◌then◌else◌}
+use Rattle.std.specs.Option.{option_or}
 use Rattle.pm_codefile.specs.declared.fault.CodeFault.{CodeFault}
 use Rattle.pm_codefile.specs.declared.fault.CodeFault.TheVariants.{NoDictionary, SlotPastEnd, OddLength}
 use Rattle.pm_codefile.specs.declared.file.Slot.{Slot}
@@ -30,15 +31,10 @@ slot_fault file n =
     then Some (SlotPastEnd n)
     else None)
 
--- A fault, or else what else may be one.
-abbrev pub or_code_fault : Option CodeFault → Option CodeFault → Option CodeFault
-or_code_fault (Some fault) rest = Some fault
-or_code_fault None rest = rest
-
 -- The first fault among so many slots from slot n on.
 unfoldable pub first_slot_fault : List ℕ → ℕ → ℕ → Option CodeFault
 first_slot_fault file n zero = None
-first_slot_fault file n (suc left) = or_code_fault (slot_fault file n) (first_slot_fault file (n + 1) left)
+first_slot_fault file n (suc left) = option_or (slot_fault file n) (first_slot_fault file (n + 1) left)
 
 -- Why a file is refused.
 unfoldable pub file_fault : List ℕ → Option CodeFault

@@ -78,8 +78,8 @@ fn offsets_of(alloc: Global, places: &[u16]) -> Result<Vec<usize>, AllocError>
     Ok(offsets)
 }
 
-/// A procedure of a segment by its table, as its text shows it: with the least count of jump entries that fits, and what
-/// is no instruction, or jumps between instructions, as bytes. The table has to be that of a procedure of the segment,
+/// A procedure of a segment by its table, as its text shows it: with the least count of jump entries that fits, and
+/// what is no instruction, or jumps between instructions, as bytes. The table has to be that of a procedure of it,
 /// which has at most 65,534 bytes, and its exit code may not lie before its code. `decoded` is what `decode_segment`
 /// reads of that segment.
 pub fn code<'a>(

@@ -1,33 +1,14 @@
 //! Operations on words as integers.
 
-ghost use Rattle.std.specs.Prelude.{◌≡◌, ◌<◌, IfOk, Some};
-ghost use Rattle.pm_code.specs.Text.{signed_text};
+ghost use Rattle.std.specs.Prelude.{◌≡◌, ◌<◌, IfOk};
 ghost use Rattle.pm_phrases.specs.Arithmetic as texts;
 
 use crate::operand::{Form, Phrase, Value, valued};
 use crate::signs::{binary_sign, binary_strength, relation_sign};
 use crate::spelling::{Marks, Spelling};
+use pm_code::Signed;
 use pm_families::{Arithmetic, Unary};
 use std::alloc::{AllocError, Global};
-use std::fmt;
-
-/// A word as a signed number.
-#[derive(Clone, Copy)]
-pub(crate) struct Signed(pub u16);
-
-impl fmt::Display for Signed {
-    ghost output = { λ s. Some (signed_text s.0) };
-
-    fn fmt<W: fmt::Write>(&self, f: &mut fmt::Formatter<W>) -> fmt::Result {
-        let word = self.0;
-        if word < 32768 {
-            write!(f, "{word}")
-        } else {
-            let size = 65536 - u32::from(word);
-            write!(f, "-{size}")
-        }
-    }
-}
 
 /// An operator between its operands.
 #[tactic(auto, unfolding(crate::specs::Arithmetic::between))]

@@ -4,9 +4,8 @@ ghost use Rattle.std.specs.Prelude.{◌≡◌, ◌%◌, ◌∷◌, ◌++◌, ◌
 ghost use Rattle.pm_code.specs.Views.{placed_target};
 ghost use Rattle.pm_phrases.specs.Cases as texts;
 
-use crate::arithmetic::Signed;
 use crate::operand::{Phrase, Value, valued};
-use pm_code::{Label, Target};
+use pm_code::{Label, Signed, Target};
 use std::alloc::{AllocError, Global};
 use std::fmt;
 

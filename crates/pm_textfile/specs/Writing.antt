@@ -3,6 +3,7 @@
 use Rattle.std.specs.Prelude.{◌≡◌, ◌==◌, ◌&&◌, ◌<◌, ◌≤◌, Bool, not, nat_lt, IsTrue, ℕ, ◌+◌, ◌-◌, List, [], ◌∷◌, ◌++◌}
 use Rattle.std.specs.Prelude.{drop, length, replicate, take, Option, Some, None, true, if◌then◌else◌}
 use Rattle.std.specs.List.{AllByRecursion, flat_map, list_all, prefix_len}
+use Rattle.std.specs.Option.{option_or}
 use Rattle.pm_textfile.specs.declared.fault.TextFault.{TextFault}
 use Rattle.pm_textfile.specs.declared.fault.TextFault.TheVariants.{BadByte, LineTooLong}
 
@@ -84,16 +85,11 @@ line_fault place number line =
     (BadByte (place + prefix_len stands_for_itself line))
     else (if nat_lt 1024 (length (coded line)) then Some (LineTooLong number) else None)
 
--- A fault, or else what else may be one.
-abbrev pub or_text_fault : Option TextFault → Option TextFault → Option TextFault
-or_text_fault (Some fault) rest = Some fault
-or_text_fault None rest = rest
-
 -- The first fault of lines, the first of which begins at a place and has a number.
 unfoldable pub lines_fault : ℕ → ℕ → List TextLine → Option TextFault
 lines_fault place number [] = None
 lines_fault place number (line ∷ lines) =
-    or_text_fault (line_fault place number line) (lines_fault (place + length line + 1) (number + 1) lines)
+    option_or (line_fault place number line) (lines_fault (place + length line + 1) (number + 1) lines)
 
 -- The first fault of a text. Places count from 0, lines from 1.
 abbrev pub text_fault : List ℕ → Option TextFault

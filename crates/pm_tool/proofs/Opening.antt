@@ -2,9 +2,10 @@
 use Rattle.std.proofs.Common.{◌≡◌, ◌<◌, ℕ, ◌+◌, List, [], ◌∷◌, ◌++◌, Option, None, Some, Vec, vec_items, option_map}
 use Rattle.std.proofs.Common.{length, take, set, refl, sym, ap, ◌∙◌, append_assoc, append-nil, arith}
 use Rattle.std.proofs.lemmas.List.{take_more_set}
+use Rattle.std.specs.Option.{option_or}
 use Rattle.std.proofs.Math.Seq.{take-length}
 use Rattle.pm_volume.specs.declared.fault.VolumeFault.{VolumeFault}
-use Rattle.pm_tool.specs.Disks.{disk_fault, first_bad, first_disk_fault, here_or, images_of, or_next}
+use Rattle.pm_tool.specs.Disks.{disk_fault, first_bad, first_disk_fault, here_or, images_of}
 
 module _ {Z : Type 0} (rest rest' : List (Option (Vec ℕ Z))) (image : Option (Vec ℕ Z)) (next : rest ≡ image ∷ rest') where
   -- one place more is taken
@@ -22,13 +23,13 @@ module _ {Z : Type 0} (rest rest' : List (Option (Vec ℕ Z))) (image : Option (
   pub fault_later : (fault : Option VolumeFault) → fault ≡ first_disk_fault (images_of rest) → disk_fault (option_map vec_items image) ≡ None
       → fault ≡ first_disk_fault (images_of rest')
   fault_later fault so_far sound =
-      so_far ∙ ap (λ images. first_disk_fault (images_of images)) next ∙ ap (λ f. or_next f (first_disk_fault (images_of rest'))) sound
+      so_far ∙ ap (λ images. first_disk_fault (images_of images)) next ∙ ap (λ f. option_or f (first_disk_fault (images_of rest'))) sound
 
   -- the image is none
   pub fault_here : (fault : Option VolumeFault) (this : VolumeFault) → fault ≡ first_disk_fault (images_of rest)
       → disk_fault (option_map vec_items image) ≡ Some this → fault ≡ Some this
   fault_here fault this so_far found =
-      so_far ∙ ap (λ images. first_disk_fault (images_of images)) next ∙ ap (λ f. or_next f (first_disk_fault (images_of rest'))) found
+      so_far ∙ ap (λ images. first_disk_fault (images_of images)) next ∙ ap (λ f. option_or f (first_disk_fault (images_of rest'))) found
 
   -- the same of its place
   pub place_later : (found : Option ℕ) (place : ℕ) → found ≡ first_bad place (images_of rest)

@@ -1,6 +1,7 @@
 -- The images of a program's disks, and the machine that starts on them.
 use Rattle.std.specs.Prelude.{◌≡◌, ℕ, ◌+◌, ◌==◌, List, [], ◌∷◌, Option, Some, None, Result, Ok, Err}
 use Rattle.std.specs.Prelude.{IfSome, Vec, vec_items, option_map, map, string_bytes, if◌then◌else◌}
+use Rattle.std.specs.Option.{option_or}
 use Rattle.pm_volume.specs.Directory.{image_fault}
 use Rattle.pm_volume.specs.declared.fault.VolumeFault.{VolumeFault}
 use Rattle.pm_machine.specs.State.{State, Whole}
@@ -31,14 +32,10 @@ abbrev pub disk_fault : Option (List ℕ) → Option VolumeFault
 disk_fault None = None
 disk_fault (Some image) = image_fault image
 
-abbrev pub or_next : Option VolumeFault → Option VolumeFault → Option VolumeFault
-or_next (Some fault) next = Some fault
-or_next None next = next
-
 -- the first fault of the images, in the order of their units
 abbrev pub first_disk_fault : List (Option (List ℕ)) → Option VolumeFault
 first_disk_fault [] = None
-first_disk_fault (image ∷ images) = or_next (disk_fault image) (first_disk_fault images)
+first_disk_fault (image ∷ images) = option_or (disk_fault image) (first_disk_fault images)
 
 -- the machine that starts, or why the input is refused
 abbrev pub started : Result State BootFault → Result State Refusal

@@ -22,8 +22,8 @@ Leads status (Some m) None P = ⊥
 Leads status (Some m) (Some n) P = P m n
 
 -- the machine changes so, and the disk that was taken out stays
-abbrev pub Changes : (Whole → Whole → Type 0) → Held → Held → Type 0
-Changes P m n = P m.machine n.machine × (n.ejected ≡ m.ejected)
+abbrev pub ChangesMachine : (Whole → Whole → Type 0) → Held → Held → Type 0
+ChangesMachine P m n = P m.machine n.machine × (n.ejected ≡ m.ejected)
 
 -- one step, and the status of its answer
 abbrev pub StepsTo : ℕ → Whole → Whole → Type 0
@@ -100,6 +100,6 @@ pub record Ejects (unit status : ℕ) (m n : Held) : Type 0 where
   pub event : n.machine.state ≡ next m.machine.state (Eject unit)
 
 -- an image is given to a buffer, if there is one
-abbrev pub Gives : Option (List ℕ) → ℕ → List ℕ → List ℕ → ℕ → Type 0
-Gives None status old new needed = (status ≡ NO_DISK) × (new ≡ old)
-Gives (Some image) status old new needed = Fills image status old new needed
+abbrev pub GivesImage : Option (List ℕ) → ℕ → List ℕ → List ℕ → ℕ → Type 0
+GivesImage None status old new needed = (status ≡ NO_DISK) × (new ≡ old)
+GivesImage (Some image) status old new needed = Fills image status old new needed

@@ -1,6 +1,6 @@
 //! Disks on the units of a machine.
 ghost use Rattle.std.specs.Prelude.{◌≡◌, None, IfOk};
-ghost use Rattle.pm_c.specs.Changes.{Changes, Ejects, Gives, Leads, Looks, Mounts, Opens};
+ghost use Rattle.pm_c.specs.Changes.{ChangesMachine, Ejects, GivesImage, Leads, Looks, Mounts, Opens};
 
 use crate::buffer::give;
 use crate::handle::{Handle, taken};
@@ -43,7 +43,7 @@ fn mount(alloc: Global, machine: &mut Machine, unit: u8, image: &[u8]) -> u32
 /// there. Nothing has changed then.
 #[unsafe(no_mangle)]
 pub extern "C" fn pmach_mount(alloc: Global, handle: &mut Handle, unit: u8, image: &[u8]) -> u32
-    ensures mounts { Leads result handle.old.held handle.new.held (Changes (Mounts unit image.now result)) }
+    ensures mounts { Leads result handle.old.held handle.new.held (ChangesMachine (Mounts unit image.now result)) }
 {
     let Some(held) = taken(alloc, handle) else {
         return NO_MACHINE;
@@ -83,7 +83,7 @@ pub extern "C" fn pmach_eject(alloc: Global, handle: &mut Handle, unit: u8) -> u
 }
 
 fn give_ejected(held: &Held, out: &mut [u8], needed: &mut usize) -> u32
-    ensures gives { Gives held.now.ejected result out.old out.new needed.new }
+    ensures gives { GivesImage held.now.ejected result out.old out.new needed.new }
 {
     match &held.ejected {
         Some(disk) => give(disk.bytes(), out, needed),
@@ -104,7 +104,7 @@ pub extern "C" fn pmach_ejected(
     needed: &mut usize,
 ) -> u32
     ensures looks { Leads result handle.old.held handle.new.held (Looks (λ m.
-        Gives m.ejected result out.old out.new needed.new)) }
+        GivesImage m.ejected result out.old out.new needed.new)) }
     ensures same { handle.old.held ≡ None → out.new ≡ out.old }
 {
     let Some(held) = taken(alloc, handle) else {

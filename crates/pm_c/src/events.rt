@@ -3,7 +3,7 @@ ghost use Rattle.std.specs.Prelude.{◌≡◌, ◌≢◌, None};
 ghost use Rattle.pm_machine.specs.Events.{Key, Poke, next};
 ghost use Rattle.pm_machine.specs.Runs.{GaveUp, never};
 ghost use Rattle.pm_machine.specs.Steps.{WantsMemory};
-ghost use Rattle.pm_c.specs.Changes.{Changes, Leads, RunsTo, StepsTo};
+ghost use Rattle.pm_c.specs.Changes.{ChangesMachine, Leads, RunsTo, StepsTo};
 ghost use Rattle.pm_c.specs.Codes.{poke_code};
 
 use crate::handle::{Handle, taken};
@@ -27,7 +27,7 @@ fn step_code(machine: &mut Machine) -> u32
 /// changed then.
 #[unsafe(no_mangle)]
 pub extern "C" fn pmach_step(alloc: Global, handle: &mut Handle) -> u32
-    ensures step { Leads result handle.old.held handle.new.held (Changes (λ m n.
+    ensures step { Leads result handle.old.held handle.new.held (ChangesMachine (λ m n.
         result ≢ NO_MEMORY → StepsTo result m n)) }
     ensures err { result ≡ NO_MEMORY → handle.new.held ≡ handle.old.held }
     ensures wanted { Leads result handle.old.held handle.new.held (λ m _.
@@ -64,9 +64,9 @@ fn run_code(machine: &mut Machine, limit: u64, steps: &mut u64) -> u32
 /// went, and `steps` is 0 then.
 #[unsafe(no_mangle)]
 pub extern "C" fn pmach_run(alloc: Global, handle: &mut Handle, limit: u64, steps: &mut u64) -> u32
-    ensures ran { Leads result handle.old.held handle.new.held (Changes (λ m n.
+    ensures ran { Leads result handle.old.held handle.new.held (ChangesMachine (λ m n.
         result ≢ NO_MEMORY → RunsTo limit steps.new result m n)) }
-    ensures err { Leads result handle.old.held handle.new.held (Changes (λ m n. result ≡ NO_MEMORY →
+    ensures err { Leads result handle.old.held handle.new.held (ChangesMachine (λ m n. result ≡ NO_MEMORY →
         GaveUp never limit m n × (steps.new ≡ 0))) }
     ensures same { handle.old.held ≡ None → steps.new ≡ steps.old }
 {
@@ -83,7 +83,7 @@ pub extern "C" fn pmach_run(alloc: Global, handle: &mut Handle, limit: u64, step
 /// changed then.
 #[unsafe(no_mangle)]
 pub extern "C" fn pmach_key(alloc: Global, handle: &mut Handle, byte: u8) -> u32
-    ensures event { Leads result handle.old.held handle.new.held (Changes (λ m n. result ≢ NO_MEMORY →
+    ensures event { Leads result handle.old.held handle.new.held (ChangesMachine (λ m n. result ≢ NO_MEMORY →
         (result ≡ DONE) × (n.state ≡ next m.state (Key byte)))) }
     ensures err { result ≡ NO_MEMORY → handle.new.held ≡ handle.old.held }
     ensures full { Leads result handle.old.held handle.new.held (λ m _.
@@ -104,7 +104,7 @@ pub extern "C" fn pmach_key(alloc: Global, handle: &mut Handle, byte: u8) -> u32
 /// Writes a word at an even address: 0. 10 at an odd address, and nothing changed then. 8 where the handle is empty.
 #[unsafe(no_mangle)]
 pub extern "C" fn pmach_poke(alloc: Global, handle: &mut Handle, address: u16, word: u16) -> u32
-    ensures event { Leads result handle.old.held handle.new.held (Changes (λ m n.
+    ensures event { Leads result handle.old.held handle.new.held (ChangesMachine (λ m n.
         (result ≡ poke_code address) × (n.state ≡ next m.state (Poke address word)))) }
 {
     let Some(held) = taken(alloc, handle) else {

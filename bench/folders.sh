@@ -73,6 +73,7 @@ check "a name that cannot be typed" cmp <(tail -n +2 fb/B%E9%20) <(tail -n +2 fa
 files d new SHOE 100
 check "in, but for two" ends 1 "$here/examples/import.sh" fb d
 check "each is named" [ "$(grep -c 'is left out' err)" = 2 ]
+check "and why" grep -q 'filer 1 10, no new name' err
 check "the others are there" [ "$(files d list | wc -l)" = 7 ]
 check "as text" ends 0 "$here/examples/export.sh" --text a ft
 check "the text" cmp ft/A.TEXT <(printf 'line\n  two\n')
@@ -85,6 +86,7 @@ check "no folder of it" [ ! -e fbad ]
 files f new SHOE 12
 check "a small volume" ends 1 "$here/examples/import.sh" fa f
 check "what is left out is named" grep -q 'is left out: refused filer 1 7' err
+check "and why" grep -q 'filer 1 7, no free gap is large enough' err
 files g new EMPTY 20
 check "no file out" ends 0 "$here/examples/export.sh" g fg
 check "no file in" ends 0 "$here/examples/import.sh" fg g

@@ -35,6 +35,18 @@ set_date() {
     "$pmach" files --image "$image" date $((10#$year)) $((10#$month)) $((10#$day)) </dev/null
 }
 
+# why REFUSAL: the words of a refusal of a put, if they are known here
+why() {
+    case $1 in
+        "refused filer 1 7") echo ', no free gap is large enough: pmach files --image IMAGE krunch' ;;
+        "refused filer 1 8") echo ', the directory is full: it has 77 files' ;;
+        "refused filer 1 9") echo ', another file of that name is there' ;;
+        "refused filer 1 10") echo ', no new name: 1 to 15 characters, none of them a blank or a colon' ;;
+        "refused filer 2 3 "*) echo ", line ${1##* } of the text is too long" ;;
+        "refused filer 2 4 "*) echo ", byte ${1##* } of the text, from 0, cannot stand in one" ;;
+    esac
+}
+
 # is_there HOW NAME FILE: whether the volume has this file with these bytes
 is_there() {
     local verb=get
@@ -69,7 +81,7 @@ put_one() {
     if [ "$said" = "refused filer 1 9" ] && is_there "$5" "$name" "$folder/$1"; then
         return
     fi
-    tell "$2 is left out: $said"
+    tell "$2 is left out: $said$(why "$said")"
     status=1
 }
 

@@ -1,6 +1,7 @@
-"""debugger.py PMACH: `pmach debug` on a pseudo terminal, where a long `go` is made in slices of 1,000,000 steps: each answer is the one that the
-program gives for the whole in a pipe, with breakpoints and watched words round the ends of slices, for each of many counts of steps. Ctrl-C in
-`go`, in `step` and at the prompt, Ctrl-D, `quit`, refusals, signals, and that no program and no folder is left behind."""
+"""debugger.py PMACH: `pmach debug` on a pseudo terminal, where a long run is made in slices of 1,000,000 steps: each answer is the one that the
+program gives for the whole in a pipe, with breakpoints and watched words round the ends of slices, for each of many counts of steps; long answers
+have many lines. Ctrl-C in `go`, `step` and `finish`, after which `on` goes on, and at the prompt, Ctrl-D, `quit`, refusals, signals, and that no
+program and no folder is left behind. With a program `rlwrap` on the path also that lines are edited and come back."""
 import glob
 import os
 import pty
@@ -17,6 +18,7 @@ scratch = tempfile.TemporaryDirectory()
 image, folders = scratch.name + "/debugged.img", scratch.name + "/folders"
 os.mkdir(folders)
 os.environ["TMPDIR"] = folders
+os.environ["TERM"] = "dumb"
 words = [program, "debug", "--d4", image]
 failed = 0
 
@@ -75,8 +77,33 @@ def typed(command, keys):
     return shown.decode().replace("\r\n", "\n"), os.waitstatus_to_exitcode(os.waitpid(child, 0)[1])
 
 
+def folded(line, answer):
+    """How a terminal shows an answer."""
+    word = (line.split(" ") + [""])[0] if line.strip(" ") == line else line.split()[0] if line.split() else ""
+    if answer == "?":
+        uses = [usage for usage in piped("LONG", ["help"])[0].split(", ") if usage.split()[0] == word]
+        return "?\n" + ("usage: " + ", ".join(uses) if uses else "help lists the commands")
+    if not answer or answer.startswith("refused"):
+        return answer
+    if word in ("frames", "breaks", "help"):
+        return answer.replace(", ", "\n")
+    if word == "list":
+        return "".join(part if n % 2 else part.replace("; ", "\n") for n, part in enumerate(re.split('("[^"]*")', answer)))
+    if word in ("bytes", "peek"):
+        given = line.split()[1]
+        at = int(given[1:], 16) if given.startswith("$") else int(given)
+    if word == "bytes":
+        pairs, characters = answer.split("  ", 1)
+        pairs = pairs.split(" ")
+        return "\n".join("%5d  %-47s  %s" % (at + k, " ".join(pairs[k:k + 16]), characters[k:k + 16]) for k in range(0, len(pairs), 16))
+    if word == "peek":
+        given = answer.split()
+        return "\n".join("%5d " % (at + 2 * k) + "".join(" %5s" % w for w in given[k:k + 8]) for k in range(0, len(given), 8))
+    return answer
+
+
 def prompted(lines, answers):
-    return "".join("> %s\n%s\n" % pair for pair in zip(lines, answers))
+    return "".join("> %s\n%s\n" % (line, folded(line, answer)) for line, answer in zip(lines, answers))
 
 
 def check(name, holds, shown):
@@ -133,7 +160,9 @@ check("they changed in the last step of a slice", {"changed 1000000 %d" % word(n
 error = ["poke %d %d" % (start - 5 + here & 65534, 210 * 257), "go 3000000", "go 3000000", "regs"]
 told = same("ends, errors and waiting", [("OK", ["go 2000000", "go 2000000"]), ("LONG", ["go 2000000", *error]), ("LONG", error),
             ("LONG", ["break 1 1 %d" % offsets[0], *error]), ("CHAT", ["go 4000000000", "go 4000000000", "key 65", "go 2000000"])])
-same("other lines", [("LONG", ["", "?", "step", "finish 1", "watch 1", "go", "go 5000000 5", "GO 5000000", "  go   2000000  ", "*", "r\u00e9gs", "go 5000000\\", "go\t2000000", "help"])])
+same("other lines", [("LONG", ["", "?", "step", "finish 1", "watch 1", "go", "go 5000000 5", "GO 5000000", "  go   2000000  ", "*", "r\u00e9gs", "go 5000000\\", "go\t2000000", "help",
+      "break 1 1 0", "break 1 2 3", "breaks", "bytes 64960 40", "bytes $FFFF 5", "bytes 5 0", "bytes 0064960 16", "peek 64960 20", "peek 1 1", "peek 65534 9",
+      "list 20", "list 0", "frames 5", "finish 3", "step 5000000000", "on 5", "console", "console on"])])
 
 lines = ["console on", "go 1400000", "console 200", "console off", "go 2000000"]
 answers = piped("CHAT", lines)
@@ -143,17 +172,20 @@ check("the console by slices", len(texts) == 2 and 'console "%s"' % "".join(text
       re.sub('^console ".*"\n', "", shown, flags=re.M) == prompted(lines, answers[:1] + answers[2:]) + "> quit\n", (answers, shown))
 
 INT, END = "\x03", "\x04"
-after = ["regs", "where", "go 5", "regs"]
-for name, before in ("Ctrl-C in go", []), ("Ctrl-C in go with a word and a breakpoint", ["watch %d" % base, "break 1 2 0"]):
-    shown, status = typed(words + ["LONG"], [line + "\n" for line in before + ["go 4000000000"]] + [INT] + [line + "\n" for line in after + ["quit"]])
-    made = re.search("\nlimit ([0-9]*)\n", shown)
-    lines = before + ["go %s" % (made and made.group(1)), *after]
-    expected = prompted(lines, piped("LONG", lines)).replace(lines[len(before)], "go 4000000000\n^C") + "> quit\n"
-    check(name, made and int(made.group(1)) % 1000000 == 0 and (shown, status) == (expected, 0), (shown, expected))
-shown, status = typed(words + ["SLOW"], ["step\n", INT, "where\n", "go 3\n", "quit\n"])
-lines = ["step", "where", "go 3"]
-check("Ctrl-C in step, which ends by itself", (shown, status) == (prompted(lines, piped("SLOW", lines)).replace("step", "step\n^C") + "> quit\n", 0), shown)
-check("a second Ctrl-C in finish", typed(words + ["LONG"], ["finish\n", INT, INT]) == ("> finish\n^C\n^C\n", 130), shown)
+after = ["regs", "where", "go 5", "regs", "on 7", "regs"]
+for name, begun, before in [("Ctrl-C in " + begun, begun, before) for begun in ("go 4000000000", "finish", "finish 4000000000", "on 4000000000")
+                            for before in ([], ["watch %d" % base, "break 1 2 0"])] + [("Ctrl-C in step", "step", [])]:
+    image_name, before = ("SLOW", before) if begun == "step" else ("LONG", before + ["go 9"] * begun.startswith("on"))
+    shown, status = typed(words + [image_name], [line + "\n" for line in before + [begun]] + [INT] + [line + "\n" for line in after + ["quit"]])
+    made = re.findall("\nlimit ([0-9]*)\n", shown)
+    made = int(made[len(before) - ("watch" in "".join(before)) * 2]) if made else 0
+    steps = made - 9 * begun.startswith("on")
+    lines = before + ["%s %d" % (begun.split()[0], steps), *after]
+    expected = prompted(lines, piped(image_name, lines)).replace("> " + lines[len(before)] + "\n", "> " + begun + "\n^C\n") + "> quit\n"
+    check(name, made and steps % 1000000 == 0 and (shown, status) == (expected, 0), (shown, expected))
+shown, status = typed(words + ["SLOW"], ["step\n", INT, "where\n", "on 4000000000\n", "quit\n"])
+whole = piped("SLOW", ["step"])[0]
+check("on goes on with a step after Ctrl-C", status == 0 and "\n%s\n" % whole in shown and whole.startswith("stop "), (shown, whole))
 shown, status = typed(words + ["LONG"], ["go 1\n", "reg", INT, "go 2\n", INT, INT, "go 3\n", "quit\n"])
 check("Ctrl-C at the prompt", (shown, status) == ("> go 1\nlimit 1\n> reg^C\n> go 2\nlimit 2\n> ^C\n> ^C\n> go 3\nlimit 3\n> quit\n", 0), shown)
 shown, status = typed(words + ["LONG"], ["go 1\n", END])

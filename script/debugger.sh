@@ -1,8 +1,15 @@
 #!/bin/sh
-# `debugger.sh PROGRAM debug WORDS..`: the debugger on a terminal, where Ctrl-C ends a long `go` and not the session. The
-# program knows no signals, and the lines that it reads tell all that it does. It stands behind two pipes, and a `go` of
-# more steps than these is passed on in slices of so many, between which Ctrl-C ends it.
+# `debugger.sh PROGRAM debug WORDS..`: the debugger on a terminal, where Ctrl-C ends a run and not the session, and long
+# answers have many lines. The program knows no signals, and the lines that it reads tell all that it does. It stands
+# behind two pipes, and a run of more steps than these is begun with so many, and goes on with so many, as `on` goes on.
 slice=1000000
+
+# Where the shell has rlwrap, lines are edited, and those before come back.
+case ${TERM:-dumb},$1 in
+    dumb,* | *,--edited) ;;
+    *) ! command -v rlwrap >/dev/null 2>&1 || exec rlwrap -C pmach "$0" --edited "$@" ;;
+esac
+[ "$1" != --edited ] || shift
 
 # Reads a line of the program's into `answer`, in parts where Ctrl-C comes between. Fails where the program has ended.
 hear() {
@@ -34,17 +41,16 @@ say() {
     [ ! -t 2 ] || printf '%b' "$1" >&2
 }
 
-# Ctrl-C. A `go` sees that it came; what is passed on whole ends by itself, and while it is made a second one ends all.
+# Ctrl-C, which is seen between two slices.
 interrupt() {
     interrupts=$((interrupts + 1))
     say '\n'
-    [ "$whole" = no ] || [ "$interrupts" -lt 2 ] || exit 130
 }
 
 # Reads a line that is typed, anew after Ctrl-C. Fails where the input has ended, unless it ends within a line.
 read_line() {
     while :; do
-        interrupts=0 whole=no
+        interrupts=0
         say '> '
         IFS= read -r line && return
         [ "$interrupts" != 0 ] || break
@@ -53,68 +59,88 @@ read_line() {
     [ -n "$line" ]
 }
 
-# Whether words are a `go` of more than a slice, with its steps without leading zeros. All else is passed on whole.
+# Whether words are a run of more than a slice, with its steps without leading zeros. All else is passed on whole.
 is_long() {
-    [ "$#" = 2 ] && [ "$1" = go ] || return
-    case $2 in
+    case $#,${1-} in
+        1,step | 1,finish) steps=4294967295 ;;
+        2,go | 2,step | 2,finish | 2,on) steps=${2#"${2%%[!0]*}"} ;;
+        *) return 1 ;;
+    esac
+    case $steps in
         *[!0-9]*) return 1 ;;
     esac
-    steps=${2#"${2%%[!0]*}"}
     [ "${#steps}" -le 10 ] && [ "${steps:-0}" -gt "$slice" ] && [ "$steps" -le 4294967295 ]
 }
 
-# The answer of a slice becomes that of all slices up to it, and `made` the steps of these.
-add() {
+# Makes a run in slices, as long as each ends by its limit. The last answer is that of the whole.
+run() {
+    ask "$1 $slice" || return
+    while steps=$((steps - slice)) && [ "$steps" -gt 0 ] && [ "$interrupts" = 0 ]; do
+        case $answer in
+            'limit '*) ;;
+            *) return 0 ;;
+        esac
+        [ "$steps" -ge "$slice" ] || slice=$steps
+        ask "on $slice" || return
+    done
+}
+
+# What is made of long answers: bytes, 16 a line, as pairs of digits and as characters, behind the address of the first;
+# words, 8 a line, behind that; one instruction a line, where no semicolon between quotes parts two; one part a line.
+bytes='{
+    pairs = substr($0, 1, index($0, "  ") - 1)
+    characters = substr($0, length(pairs) + 3)
+    for (k = 0; 3 * k < length(pairs); k += 16)
+        printf "%5d  %-47s  %s\n", at + k, substr(pairs, 3 * k + 1, 47), substr(characters, k + 1, 16)
+}'
+words='{
+    for (k = 0; k < NF; k += 8) {
+        printf "%5d ", at + 2 * k
+        for (n = k + 1; n <= NF && n <= k + 8; n++) printf " %5d", $n
+        print ""
+    }
+}'
+instructions='{
+    parts = split($0, part, "\"")
+    for (k = 1; k <= parts; k += 2) gsub("; ", "\n", part[k])
+    for (k = 1; k < parts; k++) printf "%s\"", part[k]
+    print part[parts]
+}'
+members='{ gsub(", ", "\n"); print }'
+
+# What may be wrong with a line whose first word this is: by `help`, how the command is used.
+usage='{
+    for (k = split($0, usage, ", "); k > 0; k--) {
+        split(usage[k], words, " ")
+        if (words[1] == word) text = usage[k] (text == "" ? "" : ", ") text
+    }
+    print (text == "" ? "help lists the commands" : "usage: " text)
+}'
+
+# An address in decimal digits.
+number() {
     case $1 in
-        error) made=$((made + $3)) answer="error $2 $made" ;;
-        changed) made=$((made + $2)) answer="changed $made $3" ;;
-        *) made=$((made + $2)) answer="$1 $made" ;;
+        '$'*) echo "$((0x${1#?}))" ;;
+        *) echo "$1" ;;
     esac
 }
 
-# Whether `go` stops between two slices, with its answer: where a watched word is another than at the beginning, or at a
-# breakpoint. The next slice, which is a `go` of its own, does not look before its first step.
-must_stop() {
-    set -- $values
-    for address in $watches; do
-        ask "peek $address 1" || return
-        [ "$answer" = "$1" ] || { answer="changed $made $address" && return; }
-        shift
-    done
-    [ -n "$breaks" ] && ask where || return
-    set -- $answer
-    case ", $breaks, " in
-        *", $1 $2 ${3-}, "*) answer="break $made" ;;
-        *) return 1 ;;
+# Shows the answer to words.
+show() {
+    case ${1-},$answer in
+        bytes,??' '*) printf '%s\n' "$answer" | awk -v at="$(number "$2")" "$bytes" ;;
+        peek,[0-9]*) printf '%s\n' "$answer" | awk -v at="$(number "$2")" "$words" ;;
+        list,[0-9]*) printf '%s\n' "$answer" | awk "$instructions" ;;
+        frames,[0-9]* | breaks,[0-9]* | help,[a-z]*) printf '%s\n' "$answer" | awk "$members" ;;
+        *,'?') echo '?' && ask help && printf '%s\n' "$answer" | awk -v word="${1-}" "$usage" ;;
+        *) printf '%s\n' "$answer" ;;
     esac
-}
-
-# Makes the steps of a `go` in slices. The answer is that of the whole, or `limit` with the steps made where Ctrl-C came.
-go() {
-    made=0 values=''
-    ask breaks && breaks=$answer && ask watches && watches=$answer || return
-    for address in $watches; do
-        ask "peek $address 1" && values="$values $answer" || return
-    done
-    while :; do
-        next=$(($1 - made))
-        [ "$next" -le "$slice" ] || next=$slice
-        ask "go $next" || return
-        add $answer
-        [ "$answer" = "limit $made" ] && [ "$made" -lt "$1" ] || return 0
-        ! must_stop || return 0
-        answer="limit $made"
-        [ "$interrupts" = 0 ] || return 0
-    done
 }
 
 # Answers a line. Fails where the program has ended.
 answer_line() {
-    case $line in
-        *step* | *finish*) whole=yes ;;
-    esac
-    if is_long $line; then go "$steps"; else ask "$line"; fi || return
-    printf '%s\n' "$answer"
+    if is_long $line; then run $line; else ask "$line"; fi || return
+    show $line
 }
 
 # Whether the program has begun: then it answers an empty line by `?`. What it says in place of that is shown.
@@ -143,7 +169,7 @@ start() {
 }
 
 # The debugger from its start to its end. Before the first prompt Ctrl-C ends it with 130.
-program=$1 folder='' process='' interrupts=0 whole=no more=yes IFS=' '
+program=$1 folder='' process='' interrupts=0 more=yes IFS=' '
 shift
 set -f
 trap leave EXIT

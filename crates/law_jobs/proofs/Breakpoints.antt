@@ -44,8 +44,9 @@ breaks_stay_once (Some (commands.Poke a w)) d other = refl
 breaks_stay_once (Some (commands.Key b)) d other = refl
 breaks_stay_once (Some (commands.ShowConsole shows)) d other = refl
 breaks_stay_once (Some (commands.Go n)) d other = refl
-breaks_stay_once (Some commands.Step) d other = refl
-breaks_stay_once (Some commands.Finish) d other = refl
+breaks_stay_once (Some (commands.Step n)) d other = refl
+breaks_stay_once (Some (commands.Finish n)) d other = refl
+breaks_stay_once (Some (commands.On n)) d other = refl
 breaks_stay_once (Some command) d other = refl
 
 watches_stay_once : (command : Option Command) (d : Session) → is_of_watches command ≡ false → (session_after command d).watches ≡ d.watches
@@ -59,8 +60,9 @@ watches_stay_once (Some (commands.Poke a w)) d other = refl
 watches_stay_once (Some (commands.Key b)) d other = refl
 watches_stay_once (Some (commands.ShowConsole shows)) d other = refl
 watches_stay_once (Some (commands.Go n)) d other = refl
-watches_stay_once (Some commands.Step) d other = refl
-watches_stay_once (Some commands.Finish) d other = refl
+watches_stay_once (Some (commands.Step n)) d other = refl
+watches_stay_once (Some (commands.Finish n)) d other = refl
+watches_stay_once (Some (commands.On n)) d other = refl
 watches_stay_once (Some command) d other = refl
 
 pub breaks_stay : BreaksStay

@@ -52,8 +52,9 @@ still_on (Some (commands.Poke a w)) d stays on = on
 still_on (Some (commands.Key b)) d stays on = on
 still_on (Some (commands.ShowConsole shows)) d stays on = stays
 still_on (Some (commands.Go n)) d stays on = on
-still_on (Some commands.Step) d stays on = on
-still_on (Some commands.Finish) d stays on = on
+still_on (Some (commands.Step n)) d stays on = on
+still_on (Some (commands.Finish n)) d stays on = on
+still_on (Some (commands.On n)) d stays on = on
 still_on (Some command) d stays on = on
 
 goes_on : (command : Option Command) → stays_on command ≡ true → is_quit command ≡ false

@@ -14,3 +14,4 @@ pub mod ToolRuns
 pub mod LineLaws
 pub mod Breakpoints
 pub mod SelectedLines
+pub mod OneRun

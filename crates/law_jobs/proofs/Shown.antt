@@ -6,7 +6,7 @@ use Rattle.std.proofs.lemmas.Bool.Decides.{nat_tests}
 use Rattle.std.specs.Prelude.{◌≢◌, replicate, if◌then◌else◌, Result, Ok, Err}
 use Rattle.pm_machine.specs.State.{State}
 use Rattle.pm_machine.specs.Events.{Event, Step, Key, Poke, after_all}
-use Rattle.pm_machine.specs.Runs.{Passes, after_steps, run_until}
+use Rattle.pm_machine.specs.Runs.{Passes, RunOutcome, after_steps, run_from, run_until}
 use Rattle.pm_machine.specs.RunLaws.{EndsSo}
 use Rattle.pm_machine.specs.Steps.{stepped}
 use Rattle.pm_machine.specs.declared.state.RunEnd.{RunEnd}
@@ -20,15 +20,19 @@ use Rattle.pm_debug.specs.declared.reason.BreakReason.TheVariants as reasons
 use Rattle.pm_debug.specs.declared.refusal.DebugRefusal.{DebugRefusal}
 use Rattle.pm_debug.specs.Breaks.{with_break, without_break}
 use Rattle.pm_machine.specs.CodePlaces.{code_place}
-use Rattle.pm_debug.specs.Runs.{gone_by, gone_to, has_ended, has_left, is_back, later, most_steps, nowhere, stops_after, stops_at}
+use Rattle.pm_debug.specs.Runs.{Left, behind_steps, countable, gone_by, gone_on, gone_to, has_ended, has_left, is_back, is_there, later}
+use Rattle.pm_debug.specs.Runs.{nowhere, stops_after, stops_at}
+use Rattle.pm_debug.specs.Runs.Left.{Nothing, Rest}
+use Rattle.pm_debug.proofs.OnLaws.{goes_on_behind}
 use Rattle.pm_debug.specs.Session.{Session}
 use Rattle.pm_debug.specs.Watches.{watched_words, with_watch, without_watch}
 use Rattle.pm_session.specs.declared.commands.Command.{Command}
 use Rattle.pm_session.specs.declared.commands.Command.TheVariants as commands
 use Rattle.pm_session.specs.Commands.{command_of}
-use Rattle.pm_session.specs.Answers.{after_command, session_after, with_breaks, with_watches}
+use Rattle.pm_session.specs.Answers.{after_command, machine_on, session_after, with_breaks, with_watches}
 use Rattle.pm_session.specs.Sessions.{answer_line, answers, is_quit, opened}
-use Rattle.law_jobs.specs.Shown.{AreEventsOf, AreEventsOfLines, GoesOn, GoesOnAfter, SessionsShowTheTable, StopsAfter}
+use Rattle.law_jobs.specs.Shown.{AreEventsOf, AreEventsOfLines, AreStepsOn, GoesOn, GoesOnAfter, SessionsShowTheTable, StopsAfter}
+use Rattle.law_jobs.specs.Shown.{first_look}
 use Rattle.law_jobs.specs.Shown.StopsAfter.{rests, all, breaks_there, stops}
 
 -- ---- steps of a run
@@ -44,63 +48,89 @@ all_steps (suc n) s = sym (after_first n s) ∙ all_steps n (stepped s).0
     after_first (suc n) s = ap (λ t. (stepped t).0) (after_first n s)
 
 -- the steps that a command makes, and the state that they lead to
-abbrev Makes : (State → Bool) → ℕ → State → State → Type 0
-Makes test limit s t = (steps : ℕ) × StopsAfter test limit s steps × (t ≡ after_steps steps s)
+abbrev Makes : (State → Bool) → ℕ → ℕ → State → State → Type 0
+Makes test first limit s t = (steps : ℕ) × StopsAfter test first limit s steps × (t ≡ after_steps steps s)
 
--- a test that does not hold before a step, which is not the first
-free_there : (test : State → Bool) (k : ℕ) (s : State) → 1 ≤ k → later test k s ≡ false → test s ≡ false
-free_there test k s some h = behind (k == 0) (test s) (grind (arith, nat_tests, some)) h
+-- the test of a run that has made so many steps
+abbrev Asked : ℕ → (State → Bool) → ℕ → State → Bool
+Asked made test = behind_steps made (later test)
+
+-- a test that does not hold before a step at which it is looked
+free_there : (test : State → Bool) (made k : ℕ) (s : State) → first_look made ≤ k → Asked made test k s ≡ false → test s ≡ false
+free_there test zero k s some h = behind (0 + k == 0) (test s) (grind (arith, nat_tests, some)) h
+  where
+    behind : (first at : Bool) → first ≡ false → (not first && at) ≡ false → at ≡ false
+    behind true at e h = absurd (cc)
+    behind false at e h = h
+free_there test (suc made) k s some h = behind (suc made + k == 0) (test s) (grind (arith, nat_tests, some)) h
   where
     behind : (first at : Bool) → first ≡ false → (not first && at) ≡ false → at ≡ false
     behind true at e h = absurd (cc)
     behind false at e h = h
 
-some_steps : (test : State → Bool) (k : ℕ) (s : State) → later test k s ≡ true → (1 ≤ k) × (test s ≡ true)
-some_steps test k s h =
-    let at = both (k == 0) (test s) h in
+some_steps : (test : State → Bool) (made k : ℕ) (s : State) → Asked made test k s ≡ true → (first_look made ≤ k) × (test s ≡ true)
+some_steps test zero k s h =
+    let at = both (0 + k == 0) (test s) h in
     let some = at.0 in
     (grind (arith, nat_tests, some), at.1)
   where
     both : (first at : Bool) → (not first && at) ≡ true → (first ≡ false) × (at ≡ true)
     both true at h = absurd (cc)
     both false at h = (refl, h)
+some_steps test (suc made) k s h = (omega arith, both (suc made + k == 0) (test s) h)
+  where
+    both : (first at : Bool) → (not first && at) ≡ true → at ≡ true
+    both true at h = absurd (cc)
+    both false at h = h
 
-goes_on : (test : State → Bool) (n : ℕ) (s : State) → Passes (later test) n s → GoesOn test n s
-goes_on test n s p = record { went = p.went; free = λ k some below. free_there test k (after_steps k s) some (p.free k below) }
+goes_on : (test : State → Bool) (made n : ℕ) (s : State) → Passes (Asked made test) n s → GoesOn test (first_look made) n s
+goes_on test made n s p = record { went = p.went; free = λ k some below. free_there test made k (after_steps k s) some (p.free k below) }
 
-made_by : (test : State → Bool) (limit n : ℕ) (s : State) (end : RunEnd) (count : ℕ) (t : State) → Passes (later test) n s
-    → EndsSo (later test) limit n s end count t → Makes test limit s t
-made_by test limit n s ends.Limit count t p h =
-    (limit, all (subst (λ k. GoesOn test k s) h.0 (goes_on test n s p)), h.2 ∙ ap (λ k. after_steps k s) h.0)
-made_by test limit n s ends.Stopped count t p h =
-    let at = some_steps test n t h.1 in
-    (n, breaks_there n at.0 h.0 (goes_on test n s p) (ap test (sym h.3) ∙ at.1), h.3)
-made_by test limit n s (ends.Answered answer) count t p h =
+made_by : (test : State → Bool) (made limit n : ℕ) (s : State) (end : RunEnd) (count : ℕ) (t : State) → Passes (Asked made test) n s
+    → EndsSo (Asked made test) limit n s end count t → Makes test (first_look made) limit s t
+made_by test made limit n s ends.Limit count t p h =
+    (limit, all (subst (λ k. GoesOn test (first_look made) k s) h.0 (goes_on test made n s p)), h.2 ∙ ap (λ k. after_steps k s) h.0)
+made_by test made limit n s ends.Stopped count t p h =
+    let at = some_steps test made n t h.1 in
+    (n, breaks_there n at.0 h.0 (goes_on test made n s p) (ap test (sym h.3) ∙ at.1), h.3)
+made_by test made limit n s (ends.Answered answer) count t p h =
     let last = h.2 in
     let other : (stepped (after_steps n s)).1 ≢ stop.Went = λ e. h.0 (sym (ap (λ (q : State × Stop). q.1) last.last) ∙ e) in (
       n + 1,
-      stops n last.within (goes_on test n s p) (λ some. free_there test n (after_steps n s) some h.1) other,
+      stops n last.within (goes_on test made n s p) (λ some. free_there test made n (after_steps n s) some h.1) other,
       after_more n s (after_steps n s) t answer refl last.last,
     )
 
-run_steps : (test : State → Bool) (n : ℕ) (s : State) → Makes test n s (run_until (later test) n s).state
-run_steps test n s = let h = runs_end_so (later test) n s in
-    made_by test n h.0 s (run_until (later test) n s).end (run_until (later test) n s).count (run_until (later test) n s).state h.1 h.2
+run_steps : (test : State → Bool) (made n : ℕ) (s : State) → Makes test (first_look made) n s (run_from (later test) made n s).state
+run_steps test made n s =
+    let run = run_until (Asked made test) n s in
+    let h = runs_end_so (Asked made test) n s in
+    let same : (run_from (later test) made n s).state ≡ run.state = ap (λ (r : RunOutcome). r.state) (goes_on_behind (later test) made n s) in
+    let steps = made_by test made n h.0 s run.end run.count run.state h.1 h.2 in
+    (steps.0, steps.1, same ∙ steps.2)
 
 -- the test that stops a run which begins at s
 abbrev Stops : List CodePlace → List ℕ → (State → Bool) → State → State → Bool
 Stops breaks watches test s = stops_at (watched_words watches s.memory) breaks test
 
 gone_steps : (breaks : List CodePlace) (watches : List ℕ) (test : State → Bool) (n : ℕ) (s : State)
-    → Makes (Stops breaks watches test s) n s (gone_to breaks watches test n s).machine
+    → Makes (Stops breaks watches test s) 1 n s (gone_to breaks watches test n s).machine
 unfolding gone_to
 gone_steps breaks watches test n s = ended_steps (has_ended s.status) refl
   where
-    ended_steps : (b : Bool) → has_ended s.status ≡ b → Makes (Stops breaks watches test s) n s
+    ended_steps : (b : Bool) → has_ended s.status ≡ b → Makes (Stops breaks watches test s) 1 n s
         (if b then (record { steps = 0; reason = reasons.Ended; machine = s }) else gone_by (watched_words watches s.memory) breaks
         (run_until (stops_after breaks watches test s) n s)).machine
     ended_steps true e = (0, rests e, after_none s)
-    ended_steps false e = run_steps (Stops breaks watches test s) n s
+    ended_steps false e = run_steps (Stops breaks watches test s) 0 n s
+
+-- the steps of what is left of a run are events
+on_steps : (breaks : List CodePlace) (left : Left) (n : ℕ) (s : State)
+    → (events : List Event) × AreStepsOn breaks left n s events × (machine_on s (gone_on breaks left n s) ≡ after_all s events)
+on_steps breaks Nothing n s = ([], refl, refl)
+on_steps breaks (Rest depth made watched) n s =
+    let steps = run_steps (stops_at watched breaks (is_there depth)) made (countable made n) s in
+    (replicate steps.0 Step, (steps.0, steps.1, refl), steps.2 ∙ all_steps steps.0 s)
 
 -- ---- commands
 
@@ -127,12 +157,13 @@ command_made (Some (commands.Key b)) d = (Key b ∷ [], refl, refl)
 command_made (Some (commands.Go n)) d =
     let made = gone_steps d.breaks d.watches nowhere n d.machine in
     (replicate made.0 Step, (made.0, made.1, refl), made.2 ∙ all_steps made.0 d.machine)
-command_made (Some commands.Step) d =
-    let made = gone_steps d.breaks d.watches (is_back d.machine.registers.mp) most_steps d.machine in
+command_made (Some (commands.Step n)) d =
+    let made = gone_steps d.breaks d.watches (is_back d.machine.registers.mp) n d.machine in
     (replicate made.0 Step, (made.0, made.1, refl), made.2 ∙ all_steps made.0 d.machine)
-command_made (Some commands.Finish) d =
-    let made = gone_steps d.breaks d.watches (has_left d.machine.registers.mp) most_steps d.machine in
+command_made (Some (commands.Finish n)) d =
+    let made = gone_steps d.breaks d.watches (has_left d.machine.registers.mp) n d.machine in
     (replicate made.0 Step, (made.0, made.1, refl), made.2 ∙ all_steps made.0 d.machine)
+command_made (Some (commands.On n)) d = on_steps d.breaks d.left n d.machine
 command_made (Some command) d = ([], refl, refl)
 
 -- ---- lines

@@ -7,3 +7,4 @@ pub mod ToolLaws
 pub mod TraceLaws
 pub mod Breakpoints
 pub mod Selections
+pub mod OneRun

@@ -1,5 +1,5 @@
 -- Sessions of the debugger as lists of events.
-use Rattle.std.specs.Prelude.{◌≡◌, ◌≢◌, ◌<◌, ◌≤◌, ◌+◌, ◌||◌, nat_le, nat_lt, ℕ, Bool, true, false}
+use Rattle.std.specs.Prelude.{◌≡◌, ◌≢◌, ◌<◌, ◌≤◌, ◌+◌, ◌||◌, nat_le, nat_lt, ℕ, zero, suc, Bool, true, false}
 use Rattle.std.specs.Prelude.{List, [], ◌∷◌, ◌++◌, replicate, Option, Some, ⊤}
 use Rattle.pm_machine.specs.State.{State}
 use Rattle.pm_machine.specs.Events.{Event, Step, Key, Poke, after_all}
@@ -7,7 +7,9 @@ use Rattle.pm_machine.specs.Runs.{AllWent, after_steps}
 use Rattle.pm_machine.specs.Steps.{stepped}
 use Rattle.pm_machine.specs.declared.state.Stop.TheVariants as stop
 use Rattle.pm_debug.specs.Breaks.{is_at_break}
-use Rattle.pm_debug.specs.Runs.{has_ended}
+use Rattle.pm_machine.specs.declared.code_place.CodePlace.{CodePlace}
+use Rattle.pm_debug.specs.Runs.{Left, countable, has_ended, is_there}
+use Rattle.pm_debug.specs.Runs.Left.{Nothing, Rest}
 use Rattle.pm_debug.specs.Session.{Session}
 use Rattle.pm_debug.specs.Watches.{has_changed, watched_words}
 use Rattle.pm_session.specs.declared.commands.Command.{Command}
@@ -18,25 +20,41 @@ use Rattle.pm_session.specs.Sessions.{answers, is_quit, opened}
 
 -- ---- the steps of `go`, `step` and `finish`
 
--- the machine goes on after each of so many steps, and the test, as of a breakpoint or of a changed word, holds before
--- none of them but perhaps the first
-pub record GoesOn (test : State → Bool) (n : ℕ) (s : State) : Type 0 where
+-- The machine goes on after each of so many steps, and the test, as of a breakpoint or of a changed word, holds before
+-- none of them from this one on: a run looks before each step but its first.
+pub record GoesOn (test : State → Bool) (first n : ℕ) (s : State) : Type 0 where
   pub went : AllWent n s
-  pub free : (k : ℕ) → 1 ≤ k → k < n → test (after_steps k s) ≡ false
+  pub free : (k : ℕ) → first ≤ k → k < n → test (after_steps k s) ≡ false
 
 -- why a command makes no more steps than these: the machine has ended before; they are as many as it may make; the test
 -- holds behind the last of them; or the machine does not go on after the last of them, which ends it, halts it or waits
-pub data StopsAfter (test : State → Bool) (limit : ℕ) (s : State) : ℕ → Type 0 where
-  rests : has_ended s.status ≡ true → StopsAfter test limit s 0
-  all : GoesOn test limit s → StopsAfter test limit s limit
-  breaks_there : (n : ℕ) → 1 ≤ n → n < limit → GoesOn test n s → test (after_steps n s) ≡ true
-      → StopsAfter test limit s n
-  stops : (n : ℕ) → n < limit → GoesOn test n s → (1 ≤ n → test (after_steps n s) ≡ false)
-      → (stepped (after_steps n s)).1 ≢ stop.Went → StopsAfter test limit s (n + 1)
+pub data StopsAfter (test : State → Bool) (first limit : ℕ) (s : State) : ℕ → Type 0 where
+  rests : has_ended s.status ≡ true → StopsAfter test first limit s 0
+  all : GoesOn test first limit s → StopsAfter test first limit s limit
+  breaks_there : (n : ℕ) → first ≤ n → n < limit → GoesOn test first n s → test (after_steps n s) ≡ true
+      → StopsAfter test first limit s n
+  stops : (n : ℕ) → n < limit → GoesOn test first n s → (first ≤ n → test (after_steps n s) ≡ false)
+      → (stepped (after_steps n s)).1 ≢ stop.Went → StopsAfter test first limit s (n + 1)
 
--- so many steps, up to where a test holds
+-- so many steps, up to where a test holds, which is looked at from this one on
+abbrev pub AreStepsFrom : ℕ → (State → Bool) → ℕ → State → List Event → Type 0
+AreStepsFrom first test limit s events =
+    (steps : ℕ) × StopsAfter test first limit s steps × (events ≡ replicate steps Step)
+
+-- so many steps of a run that begins
 abbrev pub AreStepsTo : (State → Bool) → ℕ → State → List Event → Type 0
-AreStepsTo test limit s events = (steps : ℕ) × StopsAfter test limit s steps × (events ≡ replicate steps Step)
+AreStepsTo test limit s events = AreStepsFrom 1 test limit s events
+
+-- a run that has made a step looks before the next one at once
+abbrev pub first_look : ℕ → ℕ
+first_look zero = 1
+first_look (suc made) = 0
+
+-- so many steps of what is left of a run
+abbrev pub AreStepsOn : List CodePlace → Left → ℕ → State → List Event → Type 0
+AreStepsOn breaks Nothing limit s events = events ≡ []
+AreStepsOn breaks (Rest depth made watched) limit s events = AreStepsFrom (first_look made)
+    (λ t. (is_there depth t || has_changed watched t.memory) || is_at_break breaks t) (countable made limit) s events
 
 -- ---- sessions
 
@@ -46,19 +64,20 @@ has_changed_since d s = has_changed (watched_words d.watches d.machine.memory) s
 
 -- The events of a command in a session, of a line that is none no events: a poke and a key are one; `go` is as many
 -- steps as it makes, up to a watched word that has changed or to a breakpoint, and so are `step` and `finish`, up to
--- these or to where the machine stands in the frame of now again or above it, or above it; and all others only show, or
--- set and clear breakpoints and watched words.
+-- these or to where the machine stands in the frame of now again or above it, or above it; `on` is as many as what is
+-- left of the last run makes; and all others only show, or set and clear breakpoints and watched words.
 abbrev pub AreEventsOf : Option Command → Session → List Event → Type 0
 AreEventsOf (Some (commands.Poke a w)) d events = events ≡ Poke a w ∷ []
 AreEventsOf (Some (commands.Key b)) d events = events ≡ Key b ∷ []
 AreEventsOf (Some (commands.Go n)) d events =
     AreStepsTo (λ s. has_changed_since d s || is_at_break d.breaks s) n d.machine events
-AreEventsOf (Some commands.Step) d events =
+AreEventsOf (Some (commands.Step n)) d events =
     AreStepsTo (λ s. (nat_le d.machine.registers.mp s.registers.mp || has_changed_since d s) || is_at_break d.breaks s)
-    4294967295 d.machine events
-AreEventsOf (Some commands.Finish) d events =
+    n d.machine events
+AreEventsOf (Some (commands.Finish n)) d events =
     AreStepsTo (λ s. (nat_lt d.machine.registers.mp s.registers.mp || has_changed_since d s) || is_at_break d.breaks s)
-    4294967295 d.machine events
+    n d.machine events
+AreEventsOf (Some (commands.On n)) d events = AreStepsOn d.breaks d.left n d.machine events
 AreEventsOf other d events = events ≡ []
 
 -- the events of lines in a session, one line after the other

@@ -3,7 +3,9 @@
 ghost use Rattle.law_jobs.specs.Breakpoints.{BreakSetsOne, BreaksStay, ClearTakesOne, UnwatchTakesOne};
 ghost use Rattle.law_jobs.specs.Breakpoints.{WatchAddsOne, WatchesStay};
 ghost use Rattle.law_jobs.specs.Console.{ConsoleIsShown};
+ghost use Rattle.law_jobs.specs.OneRun.{GoesOnAsOne, NothingGoesOn};
 ghost use Rattle.law_jobs.specs.Shown.{SessionsShowTheTable};
+ghost use Rattle.pm_session.specs.declared.commands.Command.TheVariants.{Finish, Go, Step};
 
 /// After any lines of a session without `quit`, the machine is as the table leaves it after the steps, the keys and the
 /// pokes of these lines, in their order; and what is answered to the lines that follow is what is shown of that state.
@@ -38,4 +40,14 @@ pub fn a_command_changes_one_breakpoint()
     ensures takes { ClearTakesOne }
     ensures adds { WatchAddsOne }
     ensures unwatches { UnwatchTakesOne }
+{}
+
+/// A `go` of at most a steps that its limit stopped, and then an `on` of at most b, leave the session that a `go` of at
+/// most a + b leaves, and the `on` is answered as this; and so of `step` and of `finish`. Where nothing is left of the
+/// last run, `on` is refused and changes nothing.
+pub fn runs_go_on()
+    ensures go { GoesOnAsOne Go }
+    ensures step { GoesOnAsOne Step }
+    ensures finish { GoesOnAsOne Finish }
+    ensures nothing { NothingGoesOn }
 {}

@@ -67,22 +67,6 @@ outcome_state count stop.Waiting t = refl
 outcome_state count stop.Ended t = refl
 outcome_state count (stop.Halted e) t = refl
 
-abbrev as_gone : ℕ → BreakReason → State → Gone
-as_gone steps reason machine = record { steps = steps; reason = reason; machine = machine }
-
--- a run of a machine that has not ended, with its watched words as they were handed to it and to its reason
-pub gone_is : (breaks : List CodePlace) (watches : List ℕ) (test : State → Bool) (limit : ℕ) (s : State) (watched again : List WatchedWord) (run : RunOutcome)
-    (reason : BreakReason) → has_ended s.status ≡ false → watched ≡ watched_words watches s.memory → again ≡ watched_words watches s.memory
-    → run_until (later (stops_at watched breaks test)) limit s ≡ run → reason ≡ reason_of again breaks run.end run.state
-    → gone_to breaks watches test limit s ≡ record { steps = run.count; reason = reason; machine = run.state }
-unfolding gone_to
-gone_is breaks watches test limit s watched again run reason going w v made told =
-    let ran : run_until (stops_after breaks watches test s) limit s ≡ run =
-    subst (λ ws. run_until (later (stops_at ws breaks test)) limit s ≡ run) w made in
-    let so : reason ≡ reason_of (watched_words watches s.memory) breaks run.end run.state =
-    subst (λ ws. reason ≡ reason_of ws breaks run.end run.state) v told in
-    rw going (ap (gone_by (watched_words watches s.memory) breaks) ran ∙ ap (λ r. as_gone run.count r run.state) (sym so))
-
 -- a machine that has ended makes no step
 ended_is : (st : Status) → has_ended st ≡ true → st ≡ status.Ended
 ended_is status.Ended h = refl

@@ -3,3 +3,4 @@ pub mod FrameLaws
 pub mod AheadLaws
 pub mod GoLaws
 pub mod WatchLaws
+pub mod OnLaws

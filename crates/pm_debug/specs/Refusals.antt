@@ -4,6 +4,7 @@ use Rattle.pm_words.specs.declared.error.ExecError.{ExecError}
 use Rattle.pm_words.specs.declared.error.ExecError.TheVariants as errors
 use Rattle.pm_debug.specs.declared.refusal.DebugRefusal.{DebugRefusal}
 use Rattle.pm_debug.specs.declared.refusal.DebugRefusal.TheVariants.{Full, NotSet, OddAddress, NoMemory, TooDeep}
+use Rattle.pm_debug.specs.declared.refusal.DebugRefusal.TheVariants.{NothingLeft}
 
 abbrev pub number_of : DebugRefusal → ℕ
 number_of Full = 1
@@ -11,6 +12,7 @@ number_of NotSet = 2
 number_of OddAddress = 3
 number_of NoMemory = 4
 number_of TooDeep = 5
+number_of NothingLeft = 6
 
 -- the refusal of a read that fails: too many static links, or an odd address on the way
 abbrev pub refusal_of : ExecError → DebugRefusal

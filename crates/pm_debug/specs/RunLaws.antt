@@ -1,5 +1,5 @@
 -- Laws of the debugger's runs.
-use Rattle.std.specs.Prelude.{◌≡◌, ◌≢◌, ℕ, ◌<◌, ◌≤◌, Bool, false, List, [], ◌∷◌, ◌++◌, All}
+use Rattle.std.specs.Prelude.{◌≡◌, ◌≢◌, ℕ, ◌<◌, ◌≤◌, ◌+◌, Some, Bool, false, List, [], ◌∷◌, ◌++◌, All}
 use Rattle.pm_words.specs.Words.{word_at}
 use Rattle.pm_machine.specs.declared.state.RunEnd.{RunEnd}
 use Rattle.pm_machine.specs.declared.state.RunEnd.TheVariants as ends
@@ -9,7 +9,9 @@ use Rattle.pm_machine.specs.declared.code_place.CodePlace.{CodePlace}
 use Rattle.pm_debug.specs.declared.reason.BreakReason.{BreakReason}
 use Rattle.pm_debug.specs.declared.reason.BreakReason.TheVariants as reasons
 use Rattle.pm_debug.specs.Breaks.{is_at_break}
-use Rattle.pm_debug.specs.Runs.{Gone, answered_so, gone, gone_to, has_ended, later}
+use Rattle.pm_debug.specs.declared.run.Depth.{Depth}
+use Rattle.pm_debug.specs.Runs.{Gone, Left, answered_so, gone, gone_on, gone_to, has_ended, is_there, later, left_of}
+use Rattle.pm_debug.specs.Runs.{left_on}
 
 -- each word at one of these addresses is in t as it is in s
 abbrev pub AreAsIn : State → List ℕ → State → Type 0
@@ -50,3 +52,18 @@ abbrev pub GoStopsAtBreaks : Type 0
 GoStopsAtBreaks =
     (breaks : List CodePlace) (limit : ℕ) (s : State) → has_ended s.status ≡ false →
     gone breaks [] limit s ≡ to_a_break (run_until (later (is_at_break breaks)) limit s)
+
+-- A run that its limit stopped, and what goes on from there, are one run of both limits: its steps, its reason and its
+-- machine; and what is left then is what is left of that run.
+pub record AreOneRun (breaks : List CodePlace) (watches : List ℕ) (depth : Depth) (limit more : ℕ) (s t : State)
+    (rest : Left) : Type 0 where
+  pub ran : gone_on breaks rest more t ≡ Some (gone_to breaks watches (is_there depth) (limit + more) s)
+  pub left : left_on breaks rest more t
+      ≡ left_of depth watches s (gone_to breaks watches (is_there depth) (limit + more) s)
+
+abbrev pub RunsGoOnAsOne : Type 0
+RunsGoOnAsOne =
+    (breaks : List CodePlace) (watches : List ℕ) (depth : Depth) (limit more : ℕ) (s : State) →
+    limit + more ≤ 18446744073709551615 → (gone_to breaks watches (is_there depth) limit s).reason ≡ reasons.Limit →
+    AreOneRun breaks watches depth limit more s (gone_to breaks watches (is_there depth) limit s).machine
+    (left_of depth watches s (gone_to breaks watches (is_there depth) limit s))

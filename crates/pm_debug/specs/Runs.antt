@@ -1,6 +1,6 @@
 -- Runs of the debugger: runs of the machine that stop before a step where a watched word has changed, at a breakpoint,
 -- or where they are to go.
-use Rattle.std.specs.Prelude.{◌≡◌, ℕ, ◌==◌, ◌&&◌, ◌||◌, not, nat_le, nat_lt, Bool, true, false, List, []}
+use Rattle.std.specs.Prelude.{◌≡◌, ℕ, ◌+◌, ◌-◌, min, ◌==◌, ◌&&◌, ◌||◌, not, nat_le, nat_lt, Bool, true, false, List, []}
 use Rattle.std.specs.Prelude.{Option, Some, None, if◌then◌else◌}
 use Rattle.pm_machine.specs.declared.state.RunEnd.{RunEnd}
 use Rattle.pm_machine.specs.declared.state.RunEnd.TheVariants as ends
@@ -8,13 +8,15 @@ use Rattle.pm_machine.specs.declared.state.Status.{Status}
 use Rattle.pm_machine.specs.declared.state.Status.TheVariants as status
 use Rattle.pm_machine.specs.declared.state.Stop.{Stop}
 use Rattle.pm_machine.specs.declared.state.Stop.TheVariants as stop
-use Rattle.pm_machine.specs.State.{State}
-use Rattle.pm_machine.specs.Runs.{Ran, RunOutcome, run_until}
+use Rattle.pm_machine.specs.State.{State, Whole}
+use Rattle.pm_machine.specs.Runs.{GaveUp, Ran, RunOutcome, run_from}
 use Rattle.pm_machine.specs.declared.code_place.CodePlace.{CodePlace}
 use Rattle.pm_debug.specs.declared.reason.BreakReason.{BreakReason}
 use Rattle.pm_debug.specs.declared.reason.BreakReason.TheVariants as reasons
 use Rattle.pm_debug.specs.declared.run.Depth.{Depth}
 use Rattle.pm_debug.specs.declared.run.Depth.TheVariants as depths
+use Rattle.pm_debug.specs.declared.run.LastRun.{LastRun}
+use Rattle.pm_debug.specs.declared.run.LastRun.TheVariants as last
 use Rattle.pm_debug.specs.declared.watches.WatchedWord.{WatchedWord}
 use Rattle.pm_debug.specs.Breaks.{is_at_break}
 use Rattle.pm_debug.specs.Watches.{first_changed, has_changed, watched_words}
@@ -74,12 +76,18 @@ abbrev pub gone_by : List WatchedWord → List CodePlace → RunOutcome → Gone
 gone_by watched breaks run =
     record { steps = run.count; reason = reason_of watched breaks run.end run.state; machine = run.state }
 
+-- The rest of a run that has made so many steps, of at most so many more. Before each step, but the first of the whole
+-- run, it is looked at what may stop it. The watched words are those of the state in which the whole run began.
+abbrev pub gone_from : List CodePlace → List WatchedWord → (State → Bool) → ℕ → ℕ → State → Gone
+gone_from breaks watched test made limit s =
+    gone_by watched breaks (run_from (later (stops_at watched breaks test)) made limit s)
+
 -- The run of at most so many steps to a changed word, to a breakpoint, or to where a test holds. The watched words are
 -- those of the state in which it begins. On a machine that has ended there is no run, and so for no steps as well.
 unfoldable pub gone_to : List CodePlace → List ℕ → (State → Bool) → ℕ → State → Gone
 gone_to breaks watches test limit s =
     if has_ended s.status then record { steps = 0; reason = reasons.Ended; machine = s }
-    else gone_by (watched_words watches s.memory) breaks (run_until (stops_after breaks watches test s) limit s)
+    else gone_from breaks (watched_words watches s.memory) test 0 limit s
 
 -- a run that is to go as far as it may
 abbrev pub nowhere : State → Bool
@@ -111,12 +119,67 @@ abbrev pub most_steps : ℕ
 most_steps = 4294967295
 
 -- one instruction: where it is a call, all that is called
-abbrev pub gone_over : List CodePlace → List ℕ → State → Gone
-gone_over breaks watches s = gone_to breaks watches (is_back s.registers.mp) most_steps s
+abbrev pub gone_over : List CodePlace → List ℕ → ℕ → State → Gone
+gone_over breaks watches limit s = gone_to breaks watches (is_back s.registers.mp) limit s
 
 -- all of the running procedure that is left, with its return
-abbrev pub gone_out : List CodePlace → List ℕ → State → Gone
-gone_out breaks watches s = gone_to breaks watches (has_left s.registers.mp) most_steps s
+abbrev pub gone_out : List CodePlace → List ℕ → ℕ → State → Gone
+gone_out breaks watches limit s = gone_to breaks watches (has_left s.registers.mp) limit s
+
+-- ---- runs that go on
+
+-- What is left of the last run: nothing, where it did not end by its limit; else how far it goes, how many steps it has
+-- made, and the watched words as they were when it began.
+pub data Left : Type 0 where
+  Nothing : Left
+  Rest : Depth → ℕ → List WatchedWord → Left
+
+-- the run is over, or its limit stopped it
+abbrev pub left_so : Depth → List WatchedWord → ℕ → BreakReason → Left
+left_so depth watched steps reasons.Limit = Rest depth steps watched
+left_so depth watched steps other = Nothing
+
+-- what is left of a run that began at this state, with the words at these addresses watched
+abbrev pub left_after : Depth → List ℕ → State → ℕ → BreakReason → Left
+left_after depth watches began steps reason = left_so depth (watched_words watches began.memory) steps reason
+
+abbrev pub left_of : Depth → List ℕ → State → Gone → Left
+left_of depth watches began run = left_after depth watches began run.steps run.reason
+
+-- as which the last run is seen, with the watched words as they were when it began
+abbrev pub left_seen : LastRun → List WatchedWord → Left
+left_seen last.Over watched = Nothing
+left_seen (last.AtLimit depth steps) watched = Rest depth steps watched
+
+-- the steps of a run are counted up to the greatest number of 64 bits: of so many asked for, those that it may make
+-- behind those that it has made
+abbrev pub countable : ℕ → ℕ → ℕ
+countable made limit = min limit (18446744073709551615 - made)
+
+-- the rest of the last run, of at most so many steps more; there is none where nothing is left of it
+abbrev pub gone_on : List CodePlace → Left → ℕ → State → Option Gone
+gone_on breaks Nothing limit s = None
+gone_on breaks (Rest depth made watched) limit s =
+    Some (gone_from breaks watched (is_there depth) made (countable made limit) s)
+
+abbrev pub left_behind : Depth → List WatchedWord → Gone → Left
+left_behind depth watched run = left_so depth watched run.steps run.reason
+
+-- what is left after that
+abbrev pub left_on : List CodePlace → Left → ℕ → State → Left
+left_on breaks Nothing limit s = Nothing
+left_on breaks (Rest depth made watched) limit s =
+    left_behind depth watched (gone_from breaks watched (is_there depth) made (countable made limit) s)
+
+-- a test of a run's steps and state, for the rest of a run that has made so many
+abbrev pub behind_steps : ℕ → (ℕ → State → Bool) → ℕ → State → Bool
+behind_steps made test k s = test (made + k) s
+
+-- the rest of the last run was given up for want of memory
+abbrev pub GaveUpOn : List CodePlace → Left → ℕ → Whole → Whole → Type 0
+GaveUpOn breaks Nothing limit m t = ⊥
+GaveUpOn breaks (Rest depth made watched) limit m t =
+    GaveUp (behind_steps made (later (stops_at watched breaks (is_there depth)))) (countable made limit) m t
 
 -- ---- laws
 

@@ -1,13 +1,19 @@
 -- A debugger: its machine; its breakpoints and the addresses of its watched words, in the order in which they were set;
--- and whether a session shows what its commands add to the console.
-use Rattle.std.specs.Prelude.{ℕ, Bool, List}
+-- what is left of its last run; and whether a session shows what its commands add to the console.
+use Rattle.std.specs.Prelude.{◌≡◌, ℕ, Bool, List}
 use Rattle.pm_machine.specs.State.{State, Whole}
 use Rattle.pm_machine.specs.declared.code_place.CodePlace.{CodePlace}
+use Rattle.pm_debug.specs.declared.refusal.DebugRefusal.{DebugRefusal}
+use Rattle.pm_debug.specs.declared.refusal.DebugRefusal.TheVariants.{Full, NotSet, OddAddress, NoMemory, TooDeep}
+use Rattle.pm_debug.specs.declared.refusal.DebugRefusal.TheVariants.{NothingLeft}
+use Rattle.pm_debug.specs.Runs.{GaveUpOn, Left}
+use Rattle.pm_debug.specs.Runs.Left.{Nothing}
 
 pub record Session : Type 0 where
   pub machine : State
   pub breaks : List CodePlace
   pub watches : List ℕ
+  pub left : Left
   pub shows_console : Bool
 
 -- what a debugger is seen as: its machine with its room for input and output, and the others as they are
@@ -15,6 +21,7 @@ pub record Debugged : Type 0 where
   pub machine : Whole
   pub breaks : List CodePlace
   pub watches : List ℕ
+  pub left : Left
   pub shows_console : Bool
 
 abbrev pub session_of : Debugged → Session
@@ -22,5 +29,15 @@ session_of d = record {
   machine = d.machine.state;
   breaks = d.breaks;
   watches = d.watches;
+  left = d.left;
   shows_console = d.shows_console;
 }
+
+-- the last run does not go on: nothing is left of it and nothing changes, or there is no memory
+abbrev pub StopsShort : DebugRefusal → ℕ → Debugged → Debugged → Type 0
+StopsShort NothingLeft limit d e = (d.left ≡ Nothing) × (e ≡ d)
+StopsShort NoMemory limit d e = GaveUpOn d.breaks d.left limit d.machine e.machine
+StopsShort Full limit d e = ⊥
+StopsShort NotSet limit d e = ⊥
+StopsShort OddAddress limit d e = ⊥
+StopsShort TooDeep limit d e = ⊥

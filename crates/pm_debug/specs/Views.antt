@@ -8,6 +8,7 @@ use Rattle.pm_machine.specs.State.{State}
 use Rattle.pm_words.specs.declared.error.ExecError.{ExecError}
 use Rattle.pm_debug.specs.declared.refusal.DebugRefusal.{DebugRefusal}
 use Rattle.pm_debug.specs.declared.refusal.DebugRefusal.TheVariants.{Full, NotSet, OddAddress, NoMemory, TooDeep}
+use Rattle.pm_debug.specs.declared.refusal.DebugRefusal.TheVariants.{NothingLeft}
 use Rattle.pm_words.specs.declared.layout.TheConstants.{STACK_END, SYSTEM_FRAME}
 
 -- the words on the stack from SP up, below 65,504, at most n of them
@@ -59,3 +60,4 @@ ShowsChain view (Err NoMemory) chain = ⊤
 ShowsChain view (Err Full) chain = ⊥
 ShowsChain view (Err NotSet) chain = ⊥
 ShowsChain view (Err TooDeep) chain = ⊥
+ShowsChain view (Err NothingLeft) chain = ⊥

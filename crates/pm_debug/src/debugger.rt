@@ -1,15 +1,19 @@
 //! The debugger.
 
-ghost use Rattle.std.specs.Prelude.{◌≡◌, ◌<◌, [], false, Ok, Err, IfOk, IfErr, OnOk, OnErr};
+ghost use Rattle.std.specs.Prelude.{◌≡◌, ◌<◌, ◌≤◌, ◌+◌, Some, [], false, Ok, Err, IfOk, IfErr, OnOk, OnErr};
 ghost use Rattle.std.specs.Borrow.{sem};
 ghost use Rattle.pm_debug.specs.Ahead.{addresses_ahead};
 ghost use Rattle.pm_debug.specs.Breaks.{with_break, without_break};
 ghost use Rattle.pm_machine.specs.CodePlaces.{code_place, place_in_code};
 ghost use Rattle.pm_debug.specs.Frames.{frames};
 ghost use Rattle.pm_debug.specs.Lending.{LendsMachine};
+ghost use Rattle.pm_debug.specs.Session.{StopsShort};
 ghost use Rattle.pm_debug.specs.Refusals.{or_refused};
-ghost use Rattle.pm_debug.specs.Runs.{gone, gone_out, gone_over, gone_to, has_left, is_back, is_there};
-ghost use Rattle.pm_debug.specs.Runs.{most_steps, nowhere, stops_after};
+ghost use Rattle.pm_debug.specs.Runs.{gone, gone_on, gone_out, gone_over, gone_to, has_left, is_back, is_there};
+ghost use Rattle.pm_debug.specs.Runs.{left_after, left_on, nowhere, stops_after};
+ghost use Rattle.pm_debug.specs.Runs.Left.{Nothing};
+ghost use Rattle.pm_debug.specs.declared.run.Depth.TheVariants.{Any, Back};
+ghost use Rattle.pm_debug.specs.declared.run.Depth.TheVariants as depths;
 ghost use Rattle.pm_machine.specs.Runs.{GaveUp};
 ghost use Rattle.pm_debug.specs.Views.{ShowsChain, bytes_from, console_end, dynamic_chain, local, stack_words};
 ghost use Rattle.pm_debug.specs.Views.{static_chain, words_from};
@@ -20,9 +24,9 @@ use crate::breaks::Breaks;
 use crate::frames::{Frame, frames};
 use crate::reason::BreakReason;
 use crate::refusal::{DebugRefusal, refusal_of};
-use crate::run::{Depth, MOST_STEPS, run};
+use crate::run::{Depth, LastRun, has_ended, last_run, run};
 use crate::views::{DYNAMIC_LINK, STATIC_LINK, chain, words_at};
-use crate::watches::Watches;
+use crate::watches::{WatchedWords, Watches, watched_words};
 use crate::{breaks, watches};
 use arrayvec::ArrayVec;
 use pm_machine::{CodePlace, Machine, place_in_code};
@@ -30,19 +34,22 @@ use pm_words::layout::STACK_END;
 use std::alloc::{AllocError, Global};
 use std::marker::Model;
 
-/// A machine, the breakpoints and the watched words at which a run of it stops, and whether a session
-/// shows what its commands add to the console, seen as the state of the machine, the lists of the
-/// breakpoints and of the watched addresses, and that. What it shows is the state as it is, whatever
-/// was shown, written or run before.
+/// A machine, the breakpoints and the watched words at which a run of it stops, what is left of its last
+/// run, and whether a session shows what its commands add to the console, seen as the state of the
+/// machine, the lists of the breakpoints and of the watched addresses, and these. What it shows is the
+/// state as it is, whatever was shown, written or run before.
 #[derive(Drop)]
 pub struct Debugger {
     machine: Machine,
     breaks: Breaks,
     watches: Watches,
+    last_run: LastRun,
+    watched: WatchedWords,
     shows_console: bool,
 }
 
 impl Model for Debugger {
+    ghost use Rattle.pm_debug.specs.Runs.{left_seen};
     ghost use Rattle.pm_debug.specs.Session.{Debugged};
 
     ghost Value = { Debugged };
@@ -51,6 +58,7 @@ impl Model for Debugger {
       machine = d.machine;
       breaks = d.breaks.items;
       watches = d.watches.items;
+      left = left_seen d.last_run d.watched.items;
       shows_console = d.shows_console;
     } };
 }
@@ -61,12 +69,15 @@ impl Debugger {
         ensures machine { result.machine ≡ machine }
         ensures breaks { result.breaks ≡ [] }
         ensures watches { result.watches ≡ [] }
+        ensures left { result.left ≡ Nothing }
         ensures shows { result.shows_console ≡ false }
     {
         Debugger {
             machine,
             breaks: ArrayVec::new(),
             watches: ArrayVec::new(),
+            last_run: LastRun::Over,
+            watched: ArrayVec::new(),
             shows_console: false,
         }
     }
@@ -100,6 +111,7 @@ impl Debugger {
     pub fn set_break(&mut self, segment: u8, procedure: u8, offset: u16) -> Result<(), DebugRefusal>
         ensures machine { self.new.machine ≡ self.old.machine }
         ensures watches { self.new.watches ≡ self.old.watches }
+        ensures left { self.new.left ≡ self.old.left }
         ensures shows { self.new.shows_console ≡ self.old.shows_console }
         ensures set { OnOk result (with_break (code_place segment procedure offset) self.old.breaks
             ≡ Ok self.new.breaks) }
@@ -124,6 +136,7 @@ impl Debugger {
     ) -> Result<(), DebugRefusal>
         ensures machine { self.new.machine ≡ self.old.machine }
         ensures watches { self.new.watches ≡ self.old.watches }
+        ensures left { self.new.left ≡ self.old.left }
         ensures shows { self.new.shows_console ≡ self.old.shows_console }
         ensures cleared { OnOk result (without_break (code_place segment procedure offset) self.old.breaks
             ≡ Ok self.new.breaks) }
@@ -140,29 +153,37 @@ impl Debugger {
     }
 
     /// Watches the word at an even address: a run stops before a step, but the first, where it is
-    /// another than when the run began. One that is watched already stays, also beside 64 others;
-    /// `OddAddress` for an odd address, and `Full` for a new one beside 64.
+    /// another than when the run began. Nothing is left of the last run. One that is watched already
+    /// stays, also beside 64 others; `OddAddress` for an odd address, and `Full` for a new one beside
+    /// 64.
     pub fn set_watch(&mut self, address: u16) -> Result<(), DebugRefusal>
         ensures machine { self.new.machine ≡ self.old.machine }
         ensures breaks { self.new.breaks ≡ self.old.breaks }
+        ensures left { OnOk result (self.new.left ≡ Nothing) }
         ensures shows { self.new.shows_console ≡ self.old.shows_console }
         ensures set { OnOk result (with_watch address self.old.watches ≡ Ok self.new.watches) }
         ensures refused { IfErr result (λ refusal. with_watch address self.old.watches ≡ Err refusal) }
         ensures unchanged { OnErr result (self.new ≡ self.old) }
     {
-        watches::set(&mut self.watches, address)
+        watches::set(&mut self.watches, address)?;
+        self.last_run = LastRun::Over;
+        Ok(())
     }
 
-    /// Watches the word at an address no more; `NotSet` where it is not watched.
+    /// Watches the word at an address no more, and leaves nothing of the last run; `NotSet` where it is
+    /// not watched.
     pub fn clear_watch(&mut self, address: u16) -> Result<(), DebugRefusal>
         ensures machine { self.new.machine ≡ self.old.machine }
         ensures breaks { self.new.breaks ≡ self.old.breaks }
+        ensures left { OnOk result (self.new.left ≡ Nothing) }
         ensures shows { self.new.shows_console ≡ self.old.shows_console }
         ensures cleared { OnOk result (without_watch address self.old.watches ≡ Ok self.new.watches) }
         ensures refused { IfErr result (λ refusal. without_watch address self.old.watches ≡ Err refusal) }
         ensures unchanged { OnErr result (self.new ≡ self.old) }
     {
-        watches::clear(&mut self.watches, address)
+        watches::clear(&mut self.watches, address)?;
+        self.last_run = LastRun::Over;
+        Ok(())
     }
 
     /// Lets a session show what its commands add to the console from now on, or no more.
@@ -173,6 +194,7 @@ impl Debugger {
     }
 
     // Makes a run of at most `limit` steps.
+    #[tactic(auto, unfolding(crate::specs::Runs::gone_to), using(crate::proofs::OnLaws::gave_up_first))]
     fn run_to(&mut self, depth: Depth, limit: u64) -> Result<(u64, BreakReason), AllocError>
         ensures breaks { self.new.breaks ≡ self.old.breaks }
         ensures watches { self.new.watches ≡ self.old.watches }
@@ -180,12 +202,21 @@ impl Debugger {
         ensures gone { IfOk result (λ r.
             gone_to self.old.breaks self.old.watches (is_there depth) limit self.old.machine.state
             ≡ record { steps = r.0; reason = r.1; machine = self.new.machine.state }) }
+        ensures left { IfOk result (λ r. self.new.left
+            ≡ left_after depth self.old.watches self.old.machine.state r.0 r.1) }
         ensures err { OnErr result (GaveUp
             (stops_after self.old.breaks self.old.watches (is_there depth) self.old.machine.state)
             limit self.old.machine self.new.machine) }
     {
-        let gone = run(&mut self.machine, &self.breaks, &self.watches, depth, limit)?;
-        Ok(gone)
+        self.watched = watched_words(self.machine.memory(), &self.watches);
+        self.last_run = LastRun::Over;
+        if has_ended(self.machine.status()) {
+            return Ok((0, BreakReason::Ended));
+        }
+        let machine = &mut self.machine;
+        let ran = run(machine, &self.breaks, &self.watched, depth, 0, limit)?;
+        self.last_run = last_run(depth, ran);
+        Ok(ran)
     }
 
     /// Makes at most `limit` steps, and stops before that where after the first step a watched word is
@@ -199,6 +230,8 @@ impl Debugger {
         ensures shows { self.new.shows_console ≡ self.old.shows_console }
         ensures gone { IfOk result (λ r. gone self.old.breaks self.old.watches limit self.old.machine.state
             ≡ record { steps = r.0; reason = r.1; machine = self.new.machine.state }) }
+        ensures left { IfOk result (λ r. self.new.left
+            ≡ left_after Any self.old.watches self.old.machine.state r.0 r.1) }
         ensures err { OnErr result (GaveUp
             (stops_after self.old.breaks self.old.watches nowhere self.old.machine.state)
             limit self.old.machine self.new.machine) }
@@ -207,36 +240,69 @@ impl Debugger {
     }
 
     /// Makes one instruction, and where it is a call all that is called: steps until the machine stands
-    /// in the frame of now again, or in one above it. It stops as `go` does as well, and after
-    /// 4,294,967,295 steps.
-    pub fn step_over(&mut self) -> Result<(u64, BreakReason), AllocError>
+    /// in the frame of now again, or in one above it. It stops as `go` does as well, and after so many
+    /// steps.
+    pub fn step_over(&mut self, limit: u64) -> Result<(u64, BreakReason), AllocError>
         ensures breaks { self.new.breaks ≡ self.old.breaks }
         ensures watches { self.new.watches ≡ self.old.watches }
         ensures shows { self.new.shows_console ≡ self.old.shows_console }
-        ensures gone { IfOk result (λ r. gone_over self.old.breaks self.old.watches self.old.machine.state
+        ensures gone { IfOk result (λ r. gone_over self.old.breaks self.old.watches limit self.old.machine.state
             ≡ record { steps = r.0; reason = r.1; machine = self.new.machine.state }) }
+        ensures left { IfOk result (λ r. self.new.left
+            ≡ left_after (Back self.old.machine.state.registers.mp) self.old.watches self.old.machine.state r.0 r.1) }
         ensures err { OnErr result (GaveUp (stops_after self.old.breaks self.old.watches
             (is_back self.old.machine.state.registers.mp) self.old.machine.state)
-            most_steps self.old.machine self.new.machine) }
+            limit self.old.machine self.new.machine) }
     {
         let depth = Depth::Back(self.machine.registers().mp);
-        self.run_to(depth, MOST_STEPS)
+        self.run_to(depth, limit)
     }
 
     /// Makes what is left of the running procedure, with its return: steps until the machine stands in
-    /// a frame above that of now. It stops as `go` does as well, and after 4,294,967,295 steps.
-    pub fn finish(&mut self) -> Result<(u64, BreakReason), AllocError>
+    /// a frame above that of now. It stops as `go` does as well, and after so many steps.
+    pub fn finish(&mut self, limit: u64) -> Result<(u64, BreakReason), AllocError>
         ensures breaks { self.new.breaks ≡ self.old.breaks }
         ensures watches { self.new.watches ≡ self.old.watches }
         ensures shows { self.new.shows_console ≡ self.old.shows_console }
-        ensures gone { IfOk result (λ r. gone_out self.old.breaks self.old.watches self.old.machine.state
+        ensures gone { IfOk result (λ r. gone_out self.old.breaks self.old.watches limit self.old.machine.state
             ≡ record { steps = r.0; reason = r.1; machine = self.new.machine.state }) }
+        ensures left { IfOk result (λ r. self.new.left ≡ left_after
+            (depths.Left self.old.machine.state.registers.mp) self.old.watches self.old.machine.state r.0 r.1) }
         ensures err { OnErr result (GaveUp (stops_after self.old.breaks self.old.watches
             (has_left self.old.machine.state.registers.mp) self.old.machine.state)
-            most_steps self.old.machine self.new.machine) }
+            limit self.old.machine self.new.machine) }
     {
         let depth = Depth::Left(self.machine.registers().mp);
-        self.run_to(depth, MOST_STEPS)
+        self.run_to(depth, limit)
+    }
+
+    /// Goes on with the last run, where its limit stopped it, for at most `limit` steps more, as if it had
+    /// not been stopped: the steps that are counted are those of the whole run, up to the greatest u64,
+    /// and before each that is not the first of the whole it is looked at breakpoints, at the watched
+    /// words, which are compared with those when the run began, and at where the run is to go.
+    /// `NothingLeft` where the last run did not end by its limit, or words were watched, or watched no
+    /// more, since; nothing changes then.
+    #[tactic(auto, unfolding(crate::specs::Runs::gone_on))]
+    pub fn go_on(&mut self, limit: u64) -> Result<(u64, BreakReason), DebugRefusal>
+        ensures breaks { self.new.breaks ≡ self.old.breaks }
+        ensures watches { self.new.watches ≡ self.old.watches }
+        ensures shows { self.new.shows_console ≡ self.old.shows_console }
+        ensures gone { IfOk result (λ r. gone_on self.old.breaks self.old.left limit self.old.machine.state
+            ≡ Some (record { steps = r.0; reason = r.1; machine = self.new.machine.state })) }
+        ensures left { OnOk result (self.new.left
+            ≡ left_on self.old.breaks self.old.left limit self.old.machine.state) }
+        ensures refused { IfErr result (λ refusal. StopsShort refusal limit self.old self.new) }
+    {
+        match self.last_run {
+            LastRun::Over => Err(DebugRefusal::NothingLeft),
+            LastRun::AtLimit(depth, made) => {
+                let most = limit.min(u64::MAX - made);
+                let machine = &mut self.machine;
+                let ran = run(machine, &self.breaks, &self.watched, depth, made, most)?;
+                self.last_run = last_run(depth, ran);
+                Ok(ran)
+            }
+        }
     }
 
     /// The words on the stack from SP up, at most `n`, and none from 65,504 on. None of them want no memory.

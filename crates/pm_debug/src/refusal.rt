@@ -25,6 +25,9 @@ pub enum DebugRefusal {
     /// 5: more than 127 static links.
     #[error("too many static links")]
     TooDeep,
+    /// 6: nothing is left of the last run.
+    #[error("nothing is left of the last run")]
+    NothingLeft,
 }
 
 impl DebugRefusal {
@@ -38,6 +41,7 @@ impl DebugRefusal {
             DebugRefusal::OddAddress => 3,
             DebugRefusal::NoMemory => 4,
             DebugRefusal::TooDeep => 5,
+            DebugRefusal::NothingLeft => 6,
         }
     }
 }

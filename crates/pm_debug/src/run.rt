@@ -1,19 +1,17 @@
 //! Runs to a breakpoint, to a watched word that has changed, or to a depth of calls.
 
-ghost use Rattle.std.specs.Prelude.{◌≡◌, IfOk, OnErr};
+ghost use Rattle.std.specs.Prelude.{◌≡◌, ◌+◌, ◌≤◌, List, IfOk, OnErr};
 ghost use Rattle.pm_machine.specs.Runs.{GaveUp};
-ghost use Rattle.pm_debug.specs.Runs.{gone_to, has_ended, is_there, later, reason_of, stopped_so, stops_at};
-ghost use Rattle.pm_debug.specs.Runs.{stops_after};
+ghost use Rattle.pm_debug.specs.Runs.{behind_steps, gone_from, has_ended, is_there, later, reason_of, stopped_so};
+ghost use Rattle.pm_debug.specs.Runs.{left_seen, left_so, stops_at};
+ghost use Rattle.pm_debug.specs.declared.watches.WatchedWord.{WatchedWord};
 ghost use Rattle.pm_debug.specs.Watches.{has_changed};
 
 use crate::breaks::is_at_break;
 use crate::reason::BreakReason;
-use crate::watches::{WatchedWord, Watches, first_changed, watched_words};
+use crate::watches::{WatchedWord, first_changed};
 use pm_machine::{CodePlace, Machine, RunEnd, Status, Stop, StopTest};
 use std::alloc::AllocError;
-
-/// The most steps of a run over calls.
-pub(crate) const MOST_STEPS: u64 = 4_294_967_295;
 
 /// How far a run goes from a frame.
 #[derive(Clone, Copy)]
@@ -24,6 +22,15 @@ pub(crate) enum Depth {
     Back(u16),
     /// Until the frame at this address is left.
     Left(u16),
+}
+
+/// What came of the last run.
+#[derive(Clone, Copy)]
+pub(crate) enum LastRun {
+    /// Nothing of it is left.
+    Over,
+    /// Its limit stopped it: how far it goes, and how many steps it has made.
+    AtLimit(Depth, u64),
 }
 
 /// Whether a machine stands where a run is to stop by its depth.
@@ -44,15 +51,17 @@ struct Stops<'a> {
     watched: &'a [WatchedWord],
     breaks: &'a [CodePlace],
     depth: Depth,
+    /// How many steps were made before.
+    made: u64,
 }
 
 impl StopTest for Stops<'_> {
-    ghost use Rattle.pm_debug.specs.Runs.{is_there, later, stops_at};
+    ghost use Rattle.pm_debug.specs.Runs.{behind_steps, is_there, later, stops_at};
 
-    ghost stops = { λ t. later (stops_at t.watched.now t.breaks.now (is_there t.depth)) };
+    ghost stops = { λ t. behind_steps t.made (later (stops_at t.watched.now t.breaks.now (is_there t.depth))) };
 
     fn stops(&self, count: u64, machine: &Machine) -> bool {
-        count != 0
+        (self.made != 0 || count != 0)
             && (is_there(machine, self.depth)
                 || has_changed(self.watched, machine)
                 || is_at_break(machine, self.breaks))
@@ -69,7 +78,7 @@ fn has_changed(watched: &[WatchedWord], machine: &Machine) -> bool
     first_changed(watched, machine.memory()).is_some()
 }
 
-fn has_ended(status: Status) -> bool
+pub(crate) fn has_ended(status: Status) -> bool
     ensures ended { result ≡ has_ended status }
 {
     matches!(status, Status::Ended)
@@ -105,30 +114,41 @@ fn reason_of(
     }
 }
 
-/// Makes at most `limit` steps, and stops before that where a watched word is another than now, at a
-/// breakpoint, or where the depth is reached.
-#[tactic(auto, unfolding(crate::specs::Runs::gone_to))]
+/// What comes of a run that ended so: its limit stopped it, or it is over.
+pub(crate) fn last_run(depth: Depth, ran: (u64, BreakReason)) -> LastRun
+    ensures left { (watched : List WatchedWord) → left_seen result watched ≡ left_so depth watched ran.0 ran.1 }
+{
+    match ran {
+        (steps, BreakReason::Limit) => LastRun::AtLimit(depth, steps),
+        _ => LastRun::Over,
+    }
+}
+
+/// Makes the rest of a run that has made so many steps, of at most `limit` more, and stops before that
+/// where a watched word is another than when the run began, at a breakpoint, or where the depth is
+/// reached. The steps that are counted are those of the whole run.
+
 pub(crate) fn run(
     machine: &mut Machine,
     breaks: &[CodePlace],
-    watches: &Watches,
+    watched: &[WatchedWord],
     depth: Depth,
+    made: u64,
     limit: u64,
 ) -> Result<(u64, BreakReason), AllocError>
-    ensures gone { IfOk result (λ r. gone_to breaks.now watches.now.items (is_there depth) limit machine.old.state
+    requires counts { made + limit ≤ 18446744073709551615 }
+    ensures gone { IfOk result (λ r. gone_from breaks.now watched.now (is_there depth) made limit machine.old.state
         ≡ record { steps = r.0; reason = r.1; machine = machine.new.state }) }
-    ensures err { OnErr result (GaveUp (stops_after breaks.now watches.now.items (is_there depth) machine.old.state)
+    ensures err { OnErr result (GaveUp
+        (behind_steps made (later (stops_at watched.now breaks.now (is_there depth))))
         limit machine.old machine.new) }
 {
-    if has_ended(machine.status()) {
-        return Ok((0, BreakReason::Ended));
-    }
-    let watched = watched_words(machine.memory(), watches);
     let test = Stops {
-        watched: &watched,
+        watched,
         breaks,
         depth,
+        made,
     };
     let (steps, end) = machine.run_until(limit, &test)?;
-    Ok((steps, reason_of(&watched, breaks, machine, end)))
+    Ok((made + steps, reason_of(watched, breaks, machine, end)))
 }

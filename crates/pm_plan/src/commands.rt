@@ -291,15 +291,17 @@ Commands, one a line, numbers in decimal, or as $1F with at most four hexadecima
   console N      the last N bytes of the console, as the assembler spells a text
   console on     shows before each answer what the command wrote to the console
   console off    shows it no more
-  step           makes one instruction, with all that it calls
-  finish         makes what is left of the running procedure, with its return
+  step [N]       makes one instruction, with all that it calls, by at most N steps
+  finish [N]     makes what is left of the running procedure, with its return, by at most N steps
+  on N           goes on with the last run, where its limit stopped it, by at most N steps more
   watch A        stops a run before a step where the word at an even address has changed
   unwatch A      watches it no more
   watches        the addresses of the watched words
   help           the commands
   quit           ends the session
 Answers: ok, numbers, ended K, error N K, limit K, waiting K, break K, stop K, changed K A; `?` is no command,
-and refused N: 1 beside 64 breakpoints or watched words, 2 no such one, 3 an odd address, 5 a depth above 127
+and refused N: 1 beside 64 breakpoints or watched words, 2 no such one, 3 an odd address, 5 a depth above 127,
+6 nothing is left of the last run
 `--limit` has no effect here.
 ";
 

@@ -8,7 +8,11 @@ use Rattle.pm_machine.specs.Events.{Key, Poke, next}
 use Rattle.pm_debug.specs.Breaks.{with_break, without_break}
 use Rattle.pm_machine.specs.CodePlaces.{code_place}
 use Rattle.pm_debug.specs.Refusals.{or_refused}
-use Rattle.pm_debug.specs.Runs.{gone, gone_out, gone_over}
+use Rattle.pm_debug.specs.Runs.{Gone, gone, gone_on, gone_out, gone_over, left_after, left_on}
+use Rattle.pm_debug.specs.Runs.Left.{Nothing}
+use Rattle.pm_debug.specs.declared.run.Depth.{Depth}
+use Rattle.pm_debug.specs.declared.run.Depth.TheVariants as depths
+use Rattle.pm_machine.specs.State.{State}
 use Rattle.pm_debug.specs.Session.{Session}
 use Rattle.pm_trace.specs.Trace.{trace_line}
 use Rattle.pm_debug.specs.Views.{dynamic_chain, local, stack_words, static_chain}
@@ -17,7 +21,7 @@ use Rattle.pm_machine.specs.declared.code_place.CodePlace.{CodePlace}
 use Rattle.pm_debug.specs.declared.reason.BreakReason.{BreakReason}
 use Rattle.pm_debug.specs.declared.reason.BreakReason.TheVariants as reasons
 use Rattle.pm_debug.specs.declared.refusal.DebugRefusal.{DebugRefusal}
-use Rattle.pm_debug.specs.declared.refusal.DebugRefusal.TheVariants.{OddAddress}
+use Rattle.pm_debug.specs.declared.refusal.DebugRefusal.TheVariants.{NothingLeft, OddAddress}
 use Rattle.pm_session.specs.declared.commands.Command.{Command}
 use Rattle.pm_session.specs.declared.commands.Command.TheVariants as commands
 use Rattle.pm_session.specs.declared.ending.Ending.TheVariants as endings
@@ -51,6 +55,11 @@ gone_text reasons.Waiting steps = last_line endings.Waiting steps
 gone_text reasons.Ended steps = last_line endings.Ended steps
 gone_text (reasons.Halted error) steps = last_line (endings.Error error) steps
 
+-- of a run that goes on the steps of the whole, or that there is none
+abbrev pub on_text : Option Gone → List ℕ
+on_text (Some run) = gone_text run.reason run.steps
+on_text None = refused_text NothingLeft
+
 unfoldable pub registers_text : Registers → List ℕ
 registers_text r =
     codes "IPC " ++ (decimal r.ipc ++ (codes " SP "
@@ -69,10 +78,11 @@ command_text (commands.Key b) d = Some (codes "ok")
 command_text (commands.ShowConsole shows) d = Some (codes "ok")
 command_text (commands.Go n) d =
     Some (gone_text (gone d.breaks d.watches n d.machine).reason (gone d.breaks d.watches n d.machine).steps)
-command_text commands.Step d =
-    Some (gone_text (gone_over d.breaks d.watches d.machine).reason (gone_over d.breaks d.watches d.machine).steps)
-command_text commands.Finish d =
-    Some (gone_text (gone_out d.breaks d.watches d.machine).reason (gone_out d.breaks d.watches d.machine).steps)
+command_text (commands.Step n) d =
+    Some (gone_text (gone_over d.breaks d.watches n d.machine).reason (gone_over d.breaks d.watches n d.machine).steps)
+command_text (commands.Finish n) d =
+    Some (gone_text (gone_out d.breaks d.watches n d.machine).reason (gone_out d.breaks d.watches n d.machine).steps)
+command_text (commands.On n) d = Some (on_text (gone_on d.breaks d.left n d.machine))
 command_text (commands.Stack n) d = Some (numbers_text (stack_words d.machine n))
 command_text (commands.Static n) d = Some (chain_text (static_chain d.machine n))
 command_text (commands.Dynamic n) d = Some (chain_text (dynamic_chain d.machine n))
@@ -89,10 +99,28 @@ abbrev pub with_breaks : Session → Result (List CodePlace) DebugRefusal → Se
 with_breaks d (Ok breaks) = record d { breaks = breaks }
 with_breaks d (Err refusal) = d
 
--- the watched words after one was added or taken away; a refusal leaves them
+-- the watched words after one was added or taken away, when nothing is left of the last run; a refusal leaves them
 abbrev pub with_watches : Session → Result (List ℕ) DebugRefusal → Session
-with_watches d (Ok watches) = record d { watches = watches }
+with_watches d (Ok watches) = record d { watches = watches; left = Nothing }
 with_watches d (Err refusal) = d
+
+-- the debugger after a run that goes so far
+abbrev pub after_run : Session → Depth → Gone → Session
+after_run d depth run = record d {
+  machine = run.machine;
+  left = left_after depth d.watches d.machine run.steps run.reason;
+}
+
+-- the machine after a run that goes on, or as it was
+abbrev pub machine_on : State → Option Gone → State
+machine_on s (Some run) = run.machine
+machine_on s None = s
+
+abbrev pub after_on : Session → ℕ → Session
+after_on d n = record d {
+  machine = machine_on d.machine (gone_on d.breaks d.left n d.machine);
+  left = left_on d.breaks d.left n d.machine;
+}
 
 -- the debugger after a command; those that are not named here only show it, or end the session
 unfoldable pub after_command : Command → Session → Session
@@ -103,9 +131,12 @@ after_command (commands.Unwatch a) d = with_watches d (without_watch a d.watches
 after_command (commands.Poke a w) d = record d { machine = next d.machine (Poke a w) }
 after_command (commands.Key b) d = record d { machine = next d.machine (Key b) }
 after_command (commands.ShowConsole shows) d = record d { shows_console = shows }
-after_command (commands.Go n) d = record d { machine = (gone d.breaks d.watches n d.machine).machine }
-after_command commands.Step d = record d { machine = (gone_over d.breaks d.watches d.machine).machine }
-after_command commands.Finish d = record d { machine = (gone_out d.breaks d.watches d.machine).machine }
+after_command (commands.Go n) d = after_run d depths.Any (gone d.breaks d.watches n d.machine)
+after_command (commands.Step n) d =
+    after_run d (depths.Back d.machine.registers.mp) (gone_over d.breaks d.watches n d.machine)
+after_command (commands.Finish n) d =
+    after_run d (depths.Left d.machine.registers.mp) (gone_out d.breaks d.watches n d.machine)
+after_command (commands.On n) d = after_on d n
 after_command other d = d
 
 -- what is answered to a line, without a line feed; to one that is no command `?`

@@ -66,6 +66,12 @@ one most command [] = None
 one most command (n ∷ []) = option_map command (number_up_to most n)
 one most command (n ∷ m ∷ more) = None
 
+-- one number up to this one, which stands for none as well
+abbrev pub most_or : ℕ → (ℕ → Command) → Reading
+most_or most command [] = Some (command most)
+most_or most command (n ∷ []) = option_map command (number_up_to most n)
+most_or most command (n ∷ m ∷ more) = None
+
 -- two words of 16 bits
 abbrev pub two : (ℕ → ℕ → Command) → Reading
 two command [] = None
@@ -104,8 +110,9 @@ command_rows =
     ∷ (codes "frames", codes " N", one 65535 (λ n. commands.Show (views.Frames n)))
     ∷ (codes "list", codes " N", one 65535 (λ n. commands.Show (views.Ahead n)))
     ∷ (codes "console", codes " N", one 65535 (λ n. commands.Show (views.Console n)))
-    ∷ (codes "step", [], alone commands.Step)
-    ∷ (codes "finish", [], alone commands.Finish)
+    ∷ (codes "step", codes " [N]", most_or 4294967295 commands.Step)
+    ∷ (codes "finish", codes " [N]", most_or 4294967295 commands.Finish)
+    ∷ (codes "on", codes " N", one 4294967295 commands.On)
     ∷ (codes "watch", codes " A", one 65535 commands.Watch)
     ∷ (codes "unwatch", codes " A", one 65535 commands.Unwatch)
     ∷ (codes "watches", [], alone (commands.Show views.Watches))

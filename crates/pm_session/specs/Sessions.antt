@@ -3,6 +3,7 @@ use Rattle.std.specs.Prelude.{◌==◌, ℕ, ◌+◌, Bool, true, false, List, [
 use Rattle.std.specs.Prelude.{length, reverse, Option, Some, None, if◌then◌else◌, codes}
 use Rattle.pm_machine.specs.State.{State}
 use Rattle.pm_code.specs.Text.{quoted}
+use Rattle.pm_debug.specs.Runs.Left.{Nothing}
 use Rattle.pm_debug.specs.Session.{Session}
 use Rattle.pm_session.specs.declared.commands.Command.{Command}
 use Rattle.pm_session.specs.declared.commands.Command.TheVariants as commands
@@ -50,9 +51,9 @@ behind_quit [] input = input
 behind_quit (line ∷ lines) input =
     if is_quit (command_of line) then drop (length line + 1) input else behind_quit lines (drop (length line + 1) input)
 
--- a debugger of a machine, without breakpoints and watched words, whose session does not show the console
+-- a debugger of a machine, without breakpoints and watched words, which has made no run and does not show the console
 abbrev pub opened : State → Session
-opened machine = record { machine = machine; breaks = []; watches = []; shows_console = false }
+opened machine = record { machine = machine; breaks = []; watches = []; left = Nothing; shows_console = false }
 
 -- the answers to an input, and what of it is left unread
 pub record Told : Type 0 where

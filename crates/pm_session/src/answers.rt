@@ -5,7 +5,9 @@ ghost use Rattle.pm_debug.specs.Session.{session_of};
 ghost use Rattle.pm_words.specs.Stack.{is_even};
 ghost use Rattle.pm_machine.specs.Events.{Key, Poke, next};
 ghost use Rattle.pm_session.specs.Answers.{after_command, session_after, command_text, done_text};
-ghost use Rattle.pm_session.specs.Answers.{gone_text, answer_text, place_text, registers_text, word_text};
+ghost use Rattle.pm_debug.specs.Runs.{gone_on};
+ghost use Rattle.pm_session.specs.Answers.{after_on, gone_text, answer_text, on_text, place_text, registers_text};
+ghost use Rattle.pm_session.specs.Answers.{word_text};
 ghost use Rattle.pm_session.specs.Commands.{command_of};
 ghost use Rattle.pm_session.specs.Sessions.{answer_line, console_line, is_quit};
 ghost use Rattle.pm_session.specs.Texts.{refused_text};
@@ -110,6 +112,19 @@ fn key(debugger: &mut Debugger, byte: u8) -> Result<(), AllocError>
     Ok(())
 }
 
+/// Goes on with the last run: why it ended, or that nothing is left of it.
+fn go_on(alloc: Global, debugger: &mut Debugger, limit: u32) -> Result<String, AllocError>
+    ensures text { IfOk result (λ text. string_bytes text
+        ≡ on_text (gone_on debugger.old.breaks debugger.old.left limit debugger.old.machine.state)) }
+    ensures session { OnOk result ((session_of debugger.new) ≡ after_on (session_of debugger.old) limit) }
+{
+    match debugger.go_on(u64::from(limit)) {
+        Ok(run) => gone(alloc, run),
+        Err(DebugRefusal::NoMemory) => Err(AllocError),
+        Err(refusal) => refused(alloc, refusal),
+    }
+}
+
 /// Does a command, and gives its answer without a line feed. `quit` has none.
 #[tactic(auto, unfolding(crate::specs::Answers::command_text, crate::specs::Answers::after_command))]
 fn do_command(
@@ -133,8 +148,9 @@ fn do_command(
         }
         Command::ShowConsole(shows) => done(alloc, Ok(debugger.set_shows_console(shows))),
         Command::Go(limit) => gone(alloc, debugger.go(u64::from(limit))?),
-        Command::Step => gone(alloc, debugger.step_over()?),
-        Command::Finish => gone(alloc, debugger.finish()?),
+        Command::Step(limit) => gone(alloc, debugger.step_over(u64::from(limit))?),
+        Command::Finish(limit) => gone(alloc, debugger.finish(u64::from(limit))?),
+        Command::On(limit) => go_on(alloc, debugger, limit),
         Command::Stack(n) => numbers(alloc, &debugger.stack(alloc, n)?),
         Command::Static(limit) => chain(alloc, debugger.static_chain(alloc, limit)),
         Command::Dynamic(limit) => chain(alloc, debugger.dynamic_chain(alloc, limit)),

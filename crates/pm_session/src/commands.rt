@@ -11,6 +11,9 @@ ghost use Rattle.pm_session.specs.Words.{begins_word, words_of_line, without_ret
 use arrayvec::ArrayVec;
 use pm_code::magnitude;
 
+/// The most steps of a run.
+const MOST_STEPS: u32 = 4_294_967_295;
+
 /// A command of the debugger.
 #[derive(Clone, Copy)]
 pub enum Command {
@@ -30,10 +33,12 @@ pub enum Command {
     ShowConsole(bool),
     /// Makes at most so many steps, up to a breakpoint or to a watched word that has changed.
     Go(u32),
-    /// Makes one instruction, and where it is a call all that is called.
-    Step,
-    /// Makes what is left of the running procedure, with its return.
-    Finish,
+    /// Makes one instruction, and where it is a call all that is called, with at most so many steps.
+    Step(u32),
+    /// Makes what is left of the running procedure, with its return, with at most so many steps.
+    Finish(u32),
+    /// Goes on with the last run, where its limit stopped it, for at most so many steps more.
+    On(u32),
     /// Shows the words on the stack, at most so many.
     Stack(u16),
     /// Shows the static chain, at most so many frames.
@@ -241,8 +246,8 @@ fn named_alone(name: &[u8]) -> Option<Command>
         _ if is_text(name, "trace") => Command::Trace,
         _ if is_text(name, "where") => Command::Show(View::Where),
         _ if is_text(name, "breaks") => Command::Show(View::Breaks),
-        _ if is_text(name, "step") => Command::Step,
-        _ if is_text(name, "finish") => Command::Finish,
+        _ if is_text(name, "step") => Command::Step(MOST_STEPS),
+        _ if is_text(name, "finish") => Command::Finish(MOST_STEPS),
         _ if is_text(name, "watches") => Command::Show(View::Watches),
         _ if is_text(name, "help") => Command::Show(View::Help),
         _ if is_text(name, "quit") => Command::Quit,
@@ -259,6 +264,9 @@ fn named_with_one(name: &[u8], n: u32) -> Option<Command>
     let command = match name {
         _ if is_text(name, "key") => Command::Key(byte(n)?),
         _ if is_text(name, "go") => Command::Go(n),
+        _ if is_text(name, "step") => Command::Step(n),
+        _ if is_text(name, "finish") => Command::Finish(n),
+        _ if is_text(name, "on") => Command::On(n),
         _ if is_text(name, "stack") => Command::Stack(word(n)?),
         _ if is_text(name, "static") => Command::Static(word(n)?),
         _ if is_text(name, "dynamic") => Command::Dynamic(word(n)?),

@@ -1,9 +1,12 @@
-use Rattle.std.proofs.Common.{◌≡◌, ◌∙◌, false, rules}
-use Rattle.pm_debug.specs.Runs.{has_ended}
-use Rattle.pm_debug.proofs.GoLaws.{gone_is}
+use Rattle.std.proofs.Common.{arith}
+use Rattle.pm_debug.proofs.OnLaws.{gone_rest, within}
 use Rattle.pm_debug.proofs.run.run.Goals as goal
 
+pub overflow_add-result : goal.overflow_add-result
+overflow_add-result c =
+    let few = within _ _ _ _ _ _ c.in_ok-steps.ensures.run in
+    let counted = c.requires.counts in
+    omega (arith, few, counted)
+
 pub returns-clause-gone : goal.returns-clause-gone
-returns-clause-gone c =
-    let going : has_ended c.args.machine.now.state.status ≡ false = search rules in
-    gone_is _ _ _ _ _ c.deref.result.now c.deref-2.result.now _ _ going (search rules) (search rules) c.in_ok-steps.ensures.run c.reason_of.ensures.reason
+returns-clause-gone c = gone_rest _ _ _ _ _ _ _ _ c.in_ok-steps.ensures.run c.reason_of.ensures.reason

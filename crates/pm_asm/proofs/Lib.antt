@@ -7,3 +7,6 @@ pub mod FoundLengths
 pub mod Outcomes
 pub mod Stages
 pub mod SymbolPlaces
+pub mod Liked
+pub mod Examples
+pub mod Computed

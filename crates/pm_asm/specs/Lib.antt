@@ -6,3 +6,7 @@ pub mod Assembled
 pub mod Each
 pub mod Symbols
 pub mod SymbolViews
+pub mod Near
+pub mod Hints
+pub mod HintTexts
+pub mod WorkedHints

@@ -1,19 +1,26 @@
-//! The assembler: a text becomes a program, and this its code file, its listing, or a list of where its labels stand.
+//! The assembler: a text becomes a program, and this its code file, its listing, or a list of where its labels stand;
+//! and what helps where a line of it has a fault.
 #![tactic(auto)]
 
 mod assembly;
 mod code;
 mod faults;
+mod hint;
+mod hint_text;
 mod labels;
 mod lengths;
+mod near;
 mod order;
 mod program;
 mod resolved;
 mod symbols;
 mod table;
+mod worked;
 
 pub use assembly::{Assembly, assemble, assemble_file, assemble_listing};
 pub use faults::all_faults;
+pub use hint::{Hint, hint_of};
 pub use lengths::LONGEST;
 pub use pm_source::AsmFault;
 pub use symbols::assemble_symbols;
+pub use worked::{examples_are_taken, worked_hints};

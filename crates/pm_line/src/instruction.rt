@@ -46,7 +46,7 @@ pub(crate) fn plain<'a>(alloc: Global, instr: Instr) -> Item<&'a [u8]>
 }
 
 /// The least and the greatest number that the opcodes of one name stand for, for the first of these opcodes.
-fn short_range(op: u8) -> Option<(u8, u8)>
+pub fn short_range(op: u8) -> Option<(u8, u8)>
     ensures range { result ≡ short_range op }
     ensures small { IfSome result (λ range. (range.1 ≤ 127) × (op + range.1 < 256)) }
 {

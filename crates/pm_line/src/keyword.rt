@@ -10,12 +10,18 @@ use pm_opcode::row_at;
 
 /// What such a word can be.
 #[derive(Clone, Copy)]
-pub(crate) enum Keyword {
+pub enum Keyword {
+    /// `.SEG`.
     Segment,
+    /// `.PROC`.
     Procedure,
+    /// `.EXIT`.
     Exit,
+    /// `.JUMP`.
     Jump,
+    /// `.END`.
     End,
+    /// `.BYTE`.
     Bytes,
     /// The first opcode of a mnemonic.
     Mnemonic(u8),

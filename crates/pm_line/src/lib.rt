@@ -1,12 +1,13 @@
 //! Lines of the assembler's text: what each says.
 //!
 //! `line` reads one line. What it answers borrows from the text: names and labels are slices of the line. `line_ends`
-//! tells alone whether it ends a procedure.
+//! tells alone whether it ends a procedure, and `front_of` which words stand in front of it.
 #![tactic(auto)]
 
 mod comparison;
 mod counted;
 mod directive;
+mod fronts;
 mod instruction;
 mod item;
 mod keyword;
@@ -17,5 +18,9 @@ mod pieces;
 mod spoken;
 mod words;
 
+pub use fronts::{Front, front_of};
+pub use instruction::short_range;
 pub use item::{Flaw, Line, Row, Statement};
+pub use keyword::Keyword;
 pub use spoken::{line, line_ends};
+pub use words::is_name;

@@ -155,7 +155,7 @@ fn labelled<'a>(
 }
 
 /// The label before the `:` at a word's end.
-fn label_of(word: &[u8]) -> Option<&[u8]>
+pub(crate) fn label_of(word: &[u8]) -> Option<&[u8]>
     ensures label { option_map text_seen result ≡ label_of word.now }
 {
     match word {

@@ -109,7 +109,7 @@ fn continue_name(bytes: &[u8]) -> bool
 }
 
 /// Whether a word can be a label: a letter or `_`, then letters, digits and `_`, 32 characters at most.
-pub(crate) fn is_name(word: &[u8]) -> bool
+pub fn is_name(word: &[u8]) -> bool
     ensures name { result ≡ is_name word.now }
 {
     match word {

@@ -1,0 +1,144 @@
+-- What helps where a line of a text has a fault, in words.
+use Rattle.std.specs.Prelude.{◌≡◌, ◌≢◌, ℕ, ◌==◌, List, [], ◌∷◌, ◌++◌, codes, Option, Some, None, if◌then◌else◌}
+use Rattle.std.specs.Fmt.{decimal}
+use Rattle.pm_asm.specs.Hints.{Hint}
+use Rattle.pm_asm.specs.Hints.Hint.{Characters, Labels, BeforeLabelled, Takes, Stands, Meant, Words, Ended, Named}
+use Rattle.pm_asm.specs.Hints.Hint.{Once, Reached}
+use Rattle.pm_opcode.specs.declared.operand_form.Form.{Form}
+use Rattle.pm_opcode.specs.declared.operand_form.Form.TheVariants as forms
+use Rattle.pm_opcode.specs.Table.{form_of, mnemonic_of}
+use Rattle.pm_source.specs.Line.{Keyword, Said, instruction_said, operands, short_range}
+use Rattle.pm_source.specs.Line.Flaw.{NoFlaw}
+use Rattle.pm_source.specs.Line.Keyword.{OfSegment, OfProcedure, OfExit, OfJump, OfEnd, OfBytes, Mnemonic}
+
+-- operands of a form, as a text of the assembler spells them
+abbrev pub example : Form → List ℕ
+example forms.Plain = []
+example forms.Unassigned = []
+example forms.Ub = codes "2"
+example forms.Db = codes "2"
+example forms.B = codes "5"
+example forms.UbUb = codes "2, 1"
+example forms.UbB = codes "1, 5"
+example forms.DbB = codes "1, 5"
+example forms.W = codes "500"
+example forms.Words = codes "10, 20"
+example forms.Chars = 34 ∷ codes "OK" ++ 34 ∷ []
+example forms.Typed = codes "WORDS 5"
+example forms.Sb = codes "L"
+example forms.Jumps = codes "1, 2, OTHER, ONE, TWO"
+
+-- what the operands of a form are
+abbrev pub form_text : Form → List ℕ
+form_text forms.Plain = codes "no operand"
+form_text forms.Unassigned = codes "no operand"
+form_text forms.Ub = codes "a number, 0 to 255"
+form_text forms.Db = codes "a number, 0 to 255"
+form_text forms.B = codes "a number, 0 to 32767"
+form_text forms.UbUb = codes "two numbers, 0 to 255, with a comma between"
+form_text forms.UbB = codes "a number, 0 to 255, a comma, and a number, 0 to 32767"
+form_text forms.DbB = codes "a number, 0 to 255, a comma, and a number, 0 to 32767"
+form_text forms.W = codes "a number, -32768 to 65535"
+form_text forms.Words = codes "up to 255 numbers, -32768 to 65535, with commas between"
+form_text forms.Chars = codes "a text of up to 255 bytes between double quotes"
+form_text forms.Typed = codes "REAL, STR, BOOL, SET, BYTES n or WORDS n, n being 0 to 32767"
+form_text forms.Sb = codes "a label, or ^k for the k-th line of .JUMP, counted from 0 to 59"
+form_text forms.Jumps =
+    codes "two numbers, -32768 to 32767, a label, and a label for each number from the one to the other"
+
+-- the instruction that takes more numbers than the one of an opcode in which the number stands
+abbrev pub more_numbers : ℕ → List ℕ
+more_numbers op =
+    if op == 0 then codes "LDCI" else if op == 216 then codes "LDL" else if op == 232 then codes "LDO" else codes "IND"
+
+-- an example, behind what it is one of
+abbrev pub example_text : List ℕ → Form → List ℕ
+example_text name forms.Plain = []
+example_text name forms.Unassigned = []
+example_text name form = codes ", as " ++ name ++ 32 ∷ example form
+
+abbrev pub range_text : ℕ → ℕ × ℕ → List ℕ
+range_text op range = mnemonic_of op ++ codes " takes a number, " ++ decimal range.0 ++ codes " to " ++ decimal range.1
+    ++ codes "; " ++ more_numbers op ++ codes " takes more"
+
+abbrev pub takes_by : ℕ → Option (ℕ × ℕ) → List ℕ
+takes_by op (Some range) = range_text op range
+takes_by op None =
+    mnemonic_of op ++ codes " takes " ++ form_text (form_of op) ++ example_text (mnemonic_of op) (form_of op)
+
+-- What the instructions of an opcode's name take: the number that stands in the opcode, or the operands of its form.
+unfoldable pub takes_text : ℕ → List ℕ
+takes_text op = takes_by op (short_range op)
+
+-- a mnemonic or a directive, as a text spells it
+abbrev pub keyword_text : Keyword → List ℕ
+keyword_text OfSegment = codes ".SEG"
+keyword_text OfProcedure = codes ".PROC"
+keyword_text OfExit = codes ".EXIT"
+keyword_text OfJump = codes ".JUMP"
+keyword_text OfEnd = codes ".END"
+keyword_text OfBytes = codes ".BYTE"
+keyword_text (Mnemonic op) = mnemonic_of op
+
+-- what stands behind a mnemonic or a directive
+abbrev pub taken_text : Keyword → List ℕ
+taken_text OfSegment = codes ".SEG takes a number, 0 to 15, and a name of 1 to 8 characters, as .SEG 1 HELLO"
+taken_text OfProcedure =
+    codes ".PROC takes its number, counted from 1 on in a segment, its level, -128 to 127, "
+    ++ codes "and the bytes of parameters and of locals, two a word, so both even, as .PROC 1 0 0 4"
+taken_text OfExit = codes ".EXIT takes nothing"
+taken_text OfJump = codes ".JUMP takes a label, as .JUMP L"
+taken_text OfEnd = codes ".END takes nothing"
+taken_text OfBytes = codes ".BYTE takes numbers, 0 to 255, with commas between, as .BYTE 1, 2"
+taken_text (Mnemonic op) = takes_text op
+
+-- where a line stands
+abbrev pub stands_text : Keyword → List ℕ
+stands_text OfSegment = codes ".SEG stands outside procedures, so the one before it has to end by .END"
+stands_text OfProcedure = codes ".PROC stands behind a .SEG, outside other procedures, and a later line is its .END"
+stands_text OfExit = codes ".EXIT stands in a procedure, before its first .JUMP"
+stands_text OfJump = codes ".JUMP stands in a procedure, before its .END"
+stands_text OfEnd = codes ".END stands at the end of a procedure, and behind its .EXIT, which every procedure has"
+stands_text OfBytes =
+    codes "instructions, .BYTE and labels stand in a procedure, behind .PROC and before its first .JUMP"
+stands_text (Mnemonic op) =
+    codes "instructions, .BYTE and labels stand in a procedure, behind .PROC and before its first .JUMP"
+
+-- what stands once
+abbrev pub once_text : Keyword → List ℕ
+once_text OfSegment = codes "a segment of that number is there already"
+once_text OfExit = codes ".EXIT stands once in a procedure, not again"
+once_text _ = codes "a label stands once in a procedure, not again"
+
+-- what a line is told that names neither operands nor another word
+abbrev pub fixed_text : Hint → List ℕ
+fixed_text Characters = codes "a text has tabs and the characters 32 to 126, and no others"
+fixed_text Labels = codes "a label is a letter or _, then letters, digits and _, at most 32, and a colon"
+fixed_text BeforeLabelled = codes "a label stands before an instruction or .BYTE, or alone on its line"
+fixed_text (Stands keyword) = stands_text keyword
+fixed_text Words =
+    codes "no mnemonic or directive is like it; a label has a colon behind it, a comment ; in front"
+fixed_text Named = codes "the label stands at no line of this procedure; upper and lower case differ"
+fixed_text (Once keyword) = once_text keyword
+fixed_text _ = []
+
+-- What a line is told, in words.
+unfoldable pub hint_text : Hint → List ℕ
+hint_text (Takes keyword) = taken_text keyword
+hint_text (Meant keyword) = codes "did you mean " ++ keyword_text keyword ++ codes "?"
+hint_text Ended = codes "either the code has an odd number of bytes, and one more NOP makes it even, "
+    ++ codes "or its .JUMP lines are not one for each entry, from ^0 to the greatest ^k"
+hint_text (Reached keyword) = keyword_text keyword ++ codes " reaches a label at most 127 bytes ahead; "
+    ++ codes "to go back or farther, write ^0 for the label, " ++ codes "and a line .JUMP with the label before .END"
+hint_text hint = fixed_text hint
+
+-- operands that are taken, with nothing wrong in them
+abbrev pub AreTaken : {A : Type 0} → Said A → Type 0
+AreTaken None = ⊥
+AreTaken (Some said) = said.1 ≡ NoFlaw
+
+-- The example that an instruction's hint shows is taken: of every opcode, the operands of its form's example spell one
+-- item with nothing wrong in it. That of a number in the opcode shows its range, and has none.
+abbrev pub ExamplesAreTaken : Type 0
+ExamplesAreTaken = (op : ℕ) → form_of op ≢ forms.Unassigned → short_range op ≡ None
+    → AreTaken (instruction_said (form_of op) op (operands (example (form_of op))))

@@ -1,0 +1,101 @@
+-- What helps where a line of a text has a fault.
+use Rattle.std.specs.Prelude.{ℕ, Bool, true, false, List, Option, Some, None, option_map, if◌then◌else◌}
+use Rattle.std.specs.List.{list_all}
+use Rattle.std.specs.Option.{unwrap_or}
+use Rattle.pm_asm.specs.declared.hint.Hint as code
+use Rattle.pm_asm.specs.declared.hint.Hint.TheVariants as codes
+use Rattle.pm_asm.specs.Near.{meant}
+use Rattle.pm_line.specs.Fronts.{Front, front_of, keyword_in}
+use Rattle.pm_line.specs.Views.{keyword_seen}
+use Rattle.pm_source.specs.declared.fault.AsmFault.{AsmFault}
+use Rattle.pm_source.specs.declared.fault.AsmFault.TheVariants.{Syntax, Unknown, Range, NoLabel}
+use Rattle.pm_source.specs.declared.fault.AsmFault.TheVariants.{Twice, Far, TooLong, NoMemory}
+use Rattle.pm_source.specs.Line.{Keyword, Line, is_character, line_of}
+use Rattle.pm_source.specs.Line.Keyword.{OfSegment, OfProcedure, OfExit, OfJump, OfEnd, OfBytes, Mnemonic}
+use Rattle.pm_source.specs.Line.Line.{Blank, Wrong, Strange, Says}
+use Rattle.pm_source.specs.Source.{Name}
+use Rattle.pm_source.specs.Words.{is_name}
+
+-- What a line is told.
+pub data Hint : Type 0 where
+  -- the characters that a text may have
+  Characters : Hint
+  -- what a label is
+  Labels : Hint
+  -- what a label stands before
+  BeforeLabelled : Hint
+  -- what stands behind a mnemonic or a directive
+  Takes : Keyword → Hint
+  -- where its line stands
+  Stands : Keyword → Hint
+  -- the mnemonic or directive that may be meant
+  Meant : Keyword → Hint
+  -- what the first word of a line may be
+  Words : Hint
+  -- what the code before `.END` has
+  Ended : Hint
+  -- where a label that is named stands
+  Named : Hint
+  -- what stands once
+  Once : Keyword → Hint
+  -- how far a label is reached, and what reaches any
+  Reached : Keyword → Hint
+
+abbrev pub hint_seen : code.Hint → Hint
+hint_seen codes.Characters = Characters
+hint_seen codes.Labels = Labels
+hint_seen codes.BeforeLabelled = BeforeLabelled
+hint_seen (codes.Takes keyword) = Takes (keyword_seen keyword)
+hint_seen (codes.Stands keyword) = Stands (keyword_seen keyword)
+hint_seen (codes.Meant keyword) = Meant (keyword_seen keyword)
+hint_seen codes.Words = Words
+hint_seen codes.Ended = Ended
+hint_seen codes.Named = Named
+hint_seen (codes.Once keyword) = Once (keyword_seen keyword)
+hint_seen (codes.Reached keyword) = Reached (keyword_seen keyword)
+
+-- behind a label that is a name
+abbrev pub labelled_hint : Option Keyword → Option Hint
+labelled_hint None = None
+labelled_hint (Some OfBytes) = Some (Takes OfBytes)
+labelled_hint (Some (Mnemonic op)) = Some (Takes (Mnemonic op))
+labelled_hint (Some directive) = Some BeforeLabelled
+
+-- of an ill-formed line, by its label and its mnemonic or directive
+abbrev pub ill_formed_hint : Option Name → Option Keyword → Option Hint
+ill_formed_hint None keyword = option_map Takes keyword
+ill_formed_hint (Some label) keyword = if is_name label then labelled_hint keyword else Some Labels
+
+-- a line that is well-formed is out of place; a label alone stands where a byte may
+abbrev pub syntax_hint : Front → Line → Option Hint
+syntax_hint front (Says said flaw) = Some (Stands (unwrap_or (keyword_in front) OfBytes))
+syntax_hint front Blank = None
+syntax_hint front (Wrong end) = ill_formed_hint front.label (keyword_in front)
+syntax_hint front Strange = None
+
+-- of a word that is no mnemonic and no directive, by what it may mean
+abbrev pub word_hint : Option Keyword → Hint
+word_hint None = Words
+word_hint (Some keyword) = Meant keyword
+
+-- a known word has a type word behind it that is unknown
+abbrev pub unknown_hint : List ℕ → Option Keyword → Hint
+unknown_hint word None = word_hint (meant word)
+unknown_hint word (Some keyword) = Takes keyword
+
+abbrev pub range_hint : Option Keyword → Option Hint
+range_hint None = None
+range_hint (Some OfEnd) = Some Ended
+range_hint (Some keyword) = Some (Takes keyword)
+
+-- What helps where a line has a fault, if something does.
+unfoldable pub hint_of : AsmFault → List ℕ → Option Hint
+hint_of (Syntax n) text =
+    if list_all is_character text then syntax_hint (front_of text) (line_of 1 text) else Some Characters
+hint_of (Unknown n) text = Some (unknown_hint (front_of text).word (keyword_in (front_of text)))
+hint_of (Range n) text = range_hint (keyword_in (front_of text))
+hint_of (NoLabel n) text = Some Named
+hint_of (Twice n) text = Some (Once (unwrap_or (keyword_in (front_of text)) OfBytes))
+hint_of (Far n) text = option_map Reached (keyword_in (front_of text))
+hint_of (TooLong segment) text = None
+hint_of NoMemory text = None

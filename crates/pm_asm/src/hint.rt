@@ -1,0 +1,143 @@
+//! What helps where a line of a text has a fault.
+
+ghost use Rattle.std.specs.Prelude.{◌≡◌, Some, IfOk, option_map};
+ghost use Rattle.std.specs.List.{list_all};
+ghost use Rattle.std.specs.Option.{unwrap_or};
+ghost use Rattle.pm_asm.specs.Hints.{hint_of, hint_seen, ill_formed_hint, labelled_hint, range_hint, syntax_hint};
+ghost use Rattle.pm_asm.specs.Hints.{unknown_hint};
+ghost use Rattle.pm_asm.specs.Hints.Hint.{Reached};
+ghost use Rattle.pm_line.specs.Fronts.{front_seen, keyword_in};
+ghost use Rattle.pm_line.specs.Views.{keyword_seen, line_seen};
+ghost use Rattle.pm_source.specs.Line.{is_character};
+ghost use Rattle.pm_source.specs.Line.Keyword.{OfBytes};
+
+use crate::near::meant;
+use pm_line::{Front, Keyword, Line, front_of, is_name, line};
+use pm_source::AsmFault;
+use std::alloc::{AllocError, Global};
+
+/// What a line with a fault is told.
+#[derive(Clone, Copy)]
+pub enum Hint {
+    /// The characters that a text may have.
+    Characters,
+    /// What a label is.
+    Labels,
+    /// What a label stands before.
+    BeforeLabelled,
+    /// What stands behind a mnemonic or a directive.
+    Takes(Keyword),
+    /// Where its line stands.
+    Stands(Keyword),
+    /// The mnemonic or the directive that may be meant.
+    Meant(Keyword),
+    /// What the first word of a line may be.
+    Words,
+    /// What the code before `.END` has.
+    Ended,
+    /// Where a label that is named stands.
+    Named,
+    /// What stands once.
+    Once(Keyword),
+    /// How far a label is reached, and what reaches any.
+    Reached(Keyword),
+}
+
+/// Whether all characters may stand in a text: tabs, and 32 to 126.
+fn are_characters(text: &[u8]) -> bool
+    ensures characters { result ≡ list_all is_character text.now }
+{
+    text.iter()
+        .all(|byte| *byte == b'\t' || (32..=126).contains(byte))
+}
+
+/// The mnemonic or the directive of a line; that of a byte where it has a label alone.
+fn keyword_or_byte(front: &Front<'_>) -> Keyword
+    ensures keyword { keyword_seen result ≡ unwrap_or (keyword_in (front_seen front.now)) OfBytes }
+{
+    match front.keyword() {
+        Some(keyword) => keyword,
+        None => Keyword::Bytes,
+    }
+}
+
+/// What helps behind a label that is a name.
+fn labelled_hint(keyword: Option<Keyword>) -> Option<Hint>
+    ensures hint { option_map hint_seen result ≡ labelled_hint (option_map keyword_seen keyword) }
+{
+    match keyword? {
+        keyword @ (Keyword::Bytes | Keyword::Mnemonic(_)) => Some(Hint::Takes(keyword)),
+        _ => Some(Hint::BeforeLabelled),
+    }
+}
+
+/// What helps in an ill-formed line.
+fn ill_formed_hint(front: &Front<'_>) -> Option<Hint>
+    ensures hint { option_map hint_seen result
+        ≡ ill_formed_hint (front_seen front.now).label (keyword_in (front_seen front.now)) }
+{
+    match front.label {
+        None => Some(Hint::Takes(front.keyword()?)),
+        Some(label) if is_name(label) => labelled_hint(front.keyword()),
+        Some(_) => Some(Hint::Labels),
+    }
+}
+
+/// What helps in a line that is ill-formed or out of place.
+fn syntax_hint(front: &Front<'_>, line: &Line<'_>) -> Option<Hint>
+    ensures hint { option_map hint_seen result ≡ syntax_hint (front_seen front.now) (line_seen line.now) }
+{
+    match line {
+        Line::Says(_, _) => Some(Hint::Stands(keyword_or_byte(front))),
+        Line::Wrong { .. } => ill_formed_hint(front),
+        Line::Blank | Line::Strange => None,
+    }
+}
+
+/// What helps in a line with an unknown word.
+fn unknown_hint(front: &Front<'_>) -> Hint
+    ensures hint { hint_seen result ≡ unknown_hint (front_seen front.now).word (keyword_in (front_seen front.now)) }
+{
+    match (front.keyword(), meant(front.word)) {
+        (Some(keyword), _) => Hint::Takes(keyword),
+        (None, Some(keyword)) => Hint::Meant(keyword),
+        (None, None) => Hint::Words,
+    }
+}
+
+/// What helps in a line with a number out of range, or at the end of a procedure.
+fn range_hint(front: &Front<'_>) -> Option<Hint>
+    ensures hint { option_map hint_seen result ≡ range_hint (keyword_in (front_seen front.now)) }
+{
+    match front.keyword()? {
+        Keyword::End => Some(Hint::Ended),
+        keyword => Some(Hint::Takes(keyword)),
+    }
+}
+
+/// What helps in a line with a jump that does not reach its label.
+fn far_hint(front: &Front<'_>) -> Option<Hint>
+    ensures hint { option_map hint_seen result ≡ option_map Reached (keyword_in (front_seen front.now)) }
+{
+    Some(Hint::Reached(front.keyword()?))
+}
+
+/// What helps where a line of a text has a fault, if something does: of the fault, and of the line's characters without
+/// the line feed.
+#[tactic(auto, unfolding(crate::specs::Hints::hint_of))]
+pub fn hint_of(alloc: Global, fault: AsmFault, text: &str) -> Result<Option<Hint>, AllocError>
+    ensures hint { IfOk result (λ hint. option_map hint_seen hint ≡ hint_of fault text.now) }
+{
+    let bytes = text.as_bytes();
+    let front = front_of(bytes);
+    Ok(match fault {
+        AsmFault::Syntax(_) if !are_characters(bytes) => Some(Hint::Characters),
+        AsmFault::Syntax(_) => syntax_hint(&front, &line(alloc, 1, bytes)?),
+        AsmFault::Unknown(_) => Some(unknown_hint(&front)),
+        AsmFault::Range(_) => range_hint(&front),
+        AsmFault::NoLabel(_) => Some(Hint::Named),
+        AsmFault::Twice(_) => Some(Hint::Once(keyword_or_byte(&front))),
+        AsmFault::Far(_) => far_hint(&front),
+        AsmFault::TooLong(_) | AsmFault::NoMemory => None,
+    })
+}

@@ -1,0 +1,94 @@
+//! Mnemonics and directives that a word may mean.
+
+ghost use Rattle.std.specs.Prelude.{◌≡◌, option_map};
+ghost use Rattle.std.specs.Map.{lookup};
+ghost use Rattle.pm_line.specs.Views.{keyword_seen};
+ghost use Rattle.pm_source.specs.Line.{directives};
+ghost use Rattle.pm_asm.specs.Near.{is_like, is_near, liked, liked_from, meant};
+
+use pm_line::Keyword;
+use pm_opcode::row_at;
+
+/// Whether a word is a name but for one letter: another one, one more or one less.
+#[tactic(auto, unfolding(crate::specs::Near::is_near))]
+fn is_near(word: &[u8], name: &[u8]) -> bool
+    ensures near { result ≡ is_near word.now name.now }
+{
+    match (word, name) {
+        ([], name) => name.len() <= 1,
+        (word, []) => word.len() <= 1,
+        ([a, word_rest @ ..], [b, name_rest @ ..]) => {
+            if a.eq_ignore_ascii_case(b) {
+                return is_near(word_rest, name_rest);
+            }
+            word_rest.eq_ignore_ascii_case(name_rest)
+                || word_rest.eq_ignore_ascii_case(name)
+                || word.eq_ignore_ascii_case(name_rest)
+        }
+    }
+}
+
+/// Whether a word is a name in whatever case; with `near` also but for one letter, where it has two or more.
+fn is_like(near: bool, word: &[u8], name: &[u8]) -> bool
+    ensures like { result ≡ is_like near word.now name.now }
+{
+    word.eq_ignore_ascii_case(name) || near && word.len() >= 2 && is_near(word, name)
+}
+
+/// The first opcode whose name a word is like.
+fn opcode_like(near: bool, word: &[u8]) -> Option<u8>
+    ensures opcode { result ≡ liked_from near word.now 0 256 }
+{
+    for op in 0..256u16 {
+        let op = op as u8;
+        if is_like(near, word, row_at(op).mnemonic.as_bytes()) {
+            return Some(op);
+        }
+    }
+    None
+}
+
+/// The directive that a word is like.
+#[tactic(auto, unfolding(pm_source::specs::Line::directives))]
+fn directive_like(near: bool, word: &[u8]) -> Option<Keyword>
+    ensures directive { option_map keyword_seen result ≡ lookup (is_like near word.now) directives }
+{
+    if is_like(near, word, b".SEG") {
+        Some(Keyword::Segment)
+    } else if is_like(near, word, b".PROC") {
+        Some(Keyword::Procedure)
+    } else if is_like(near, word, b".EXIT") {
+        Some(Keyword::Exit)
+    } else if is_like(near, word, b".JUMP") {
+        Some(Keyword::Jump)
+    } else if is_like(near, word, b".END") {
+        Some(Keyword::End)
+    } else if is_like(near, word, b".BYTE") {
+        Some(Keyword::Bytes)
+    } else {
+        None
+    }
+}
+
+/// The directive or the mnemonic that a word is like.
+#[tactic(auto, unfolding(crate::specs::Near::liked))]
+fn liked(near: bool, word: &[u8]) -> Option<Keyword>
+    ensures keyword { option_map keyword_seen result ≡ liked near word.now }
+{
+    match directive_like(near, word) {
+        Some(keyword) => Some(keyword),
+        None => Some(Keyword::Mnemonic(opcode_like(near, word)?)),
+    }
+}
+
+/// The directive or the mnemonic that a word may mean: the one that it is in another case, or else the first that it is
+/// but for one letter.
+#[tactic(auto, unfolding(crate::specs::Near::meant))]
+pub(crate) fn meant(word: &[u8]) -> Option<Keyword>
+    ensures keyword { option_map keyword_seen result ≡ meant word.now }
+{
+    match liked(false, word) {
+        Some(keyword) => Some(keyword),
+        None => liked(true, word),
+    }
+}

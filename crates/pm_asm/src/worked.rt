@@ -1,0 +1,16 @@
+//! What a few lines are told, computed, and the examples that are shown. The functions do nothing.
+
+ghost use Rattle.pm_asm.specs.HintTexts.{ExamplesAreTaken};
+ghost use Rattle.pm_asm.specs.WorkedHints.{WorkedHints};
+
+/// What a few lines are told.
+#[tactic(auto, using(crate::proofs::Computed::worked_hints))]
+pub fn worked_hints()
+    ensures law { WorkedHints }
+{}
+
+/// The example that is shown of an instruction's operands is taken.
+#[tactic(auto, using(crate::proofs::Examples::examples_are_taken))]
+pub fn examples_are_taken()
+    ensures law { ExamplesAreTaken }
+{}

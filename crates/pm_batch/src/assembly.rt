@@ -11,7 +11,7 @@ ghost use Rattle.pm_batch.specs.Products.{Refused, Written, product_of};
 
 use crate::batch::Made;
 use crate::refusal::Refusal;
-use pm_asm::{AsmFault, all_faults, assemble_file, assemble_listing, assemble_symbols};
+use pm_asm::{AsmFault, all_faults, assemble_file, assemble_listing, assemble_symbols, hint_of};
 use std::alloc::{AllocError, Global};
 use std::fmt::Write;
 
@@ -72,14 +72,25 @@ fn wanted(alloc: Global, text: &str, list: bool) -> Result<Result<Vec<u8>, AsmFa
     }
 }
 
-/// The line of the text that a fault names, if it names one and there is memory for it.
+/// A line that has a fault, with its number and what helps there, or what is wrong where nothing is known to help; if
+/// there is memory for that.
+fn told_line(alloc: Global, fault: AsmFault, number: usize, line: &str) -> Option<String> {
+    let shown = line.trim();
+    let told = match hint_of(alloc, fault, line) {
+        Ok(Some(hint)) => format!(in alloc; "line {number}, {shown}: {hint}"),
+        _ => format!(in alloc; "{fault}: {shown}"),
+    };
+    told.ok()
+}
+
+/// The line of the text that a fault names, as it is told, if it names one and there is memory for it.
 fn line_of(alloc: Global, text: &str, fault: AsmFault) -> Option<String> {
     let number = match fault {
         AsmFault::TooLong(_) => return None,
         fault => fault.place()?,
     };
-    let line = text.split('\n').nth(number.checked_sub(1)?)?;
-    String::from_str(alloc, line).ok()
+    let line = text.lines().nth(number.checked_sub(1)?)?;
+    told_line(alloc, fault, number, line)
 }
 
 /// Bytes that are written, or a refusal with the line of the text that it names.
@@ -157,6 +168,31 @@ fn first_refusal(faults: &[AsmFault]) -> Option<Refusal>
     }
 }
 
+/// How many of the faults of a text are told with their lines.
+const TOLD: usize = 20;
+
+/// The lines of the text that the first faults name, in ascending order, as they are told.
+fn lines_told(alloc: Global, text: &str, faults: &[AsmFault]) -> Option<String> {
+    let mut told = String::new(alloc);
+    let mut faults = faults.iter().take(TOLD);
+    let mut fault = faults.next()?;
+    for (i, line) in text.lines().enumerate() {
+        let number = i.saturating_add(1);
+        if fault.place() == Some(number) {
+            if !told.is_empty() {
+                told.push_str("\npmach: ").ok()?;
+            }
+            let more = told_line(alloc, *fault, number, line)?;
+            told.push_str(more.as_str()).ok()?;
+            let Some(next) = faults.next() else {
+                return Some(told);
+            };
+            fault = next;
+        }
+    }
+    None
+}
+
 /// The lines of all faults of the text that the input is, and why it is refused, if it is.
 pub(crate) fn find_faults(alloc: Global, input: Vec<u8>) -> Result<Made, AllocError>
     ensures made { IfOk result (λ made. product_of made ≡ made_faults input.items) }
@@ -164,9 +200,6 @@ pub(crate) fn find_faults(alloc: Global, input: Vec<u8>) -> Result<Made, AllocEr
     let text = text_in_place(alloc, input)?;
     let faults = all_faults(alloc, &text).map_err(|_| AllocError)?;
     let lines = lines_of(alloc, &faults)?;
-    let line = match faults.first() {
-        Some(fault) => line_of(alloc, &text, *fault),
-        None => None,
-    };
+    let line = lines_told(alloc, &text, &faults);
     Ok(Made::Judged(lines.into_bytes(), first_refusal(&faults), line))
 }

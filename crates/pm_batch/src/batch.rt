@@ -65,10 +65,11 @@ pub enum Made {
     Bytes(Vec<u8>),
     /// The image of a volume that is kept.
     Image(Vec<u8>),
-    /// Nothing, and why; with the line of the text that the refusal names, where that is known.
+    /// Nothing, and why; with what a terminal is told in place of the reason, where more is known: of a text of the
+    /// assembler the line that the refusal names, and what helps there.
     Refused(Refusal, Option<String>),
-    /// A text that is written on an image or on a text of the assembler, and why that is refused, if it is; with the
-    /// line of the text that the refusal names, where that is known.
+    /// A text that is written on an image or on a text of the assembler, and why that is refused, if it is; with what a
+    /// terminal is told in place of the reason, where more is known.
     Judged(Vec<u8>, Option<Refusal>, Option<String>),
     /// A text that is written, and the image of a volume that is kept.
     Saved(Vec<u8>, Vec<u8>),

@@ -54,6 +54,43 @@ fn answer(volume: Volume, reply: Reply) -> Made
     }
 }
 
+/// A copy of the name of the file that a command wants, if it names one and there is memory for it.
+fn wanted_name(alloc: Global, command: &FileCommand) -> Option<String> {
+    match command {
+        FileCommand::Get(name) | FileCommand::GetText(name) | FileCommand::Remove(name) => {
+            String::from_str(alloc, name.as_str()).ok()
+        }
+        FileCommand::Change(name, _) => String::from_str(alloc, name.as_str()).ok(),
+        _ => None,
+    }
+}
+
+/// The name of a file of the volume that is another with an ending behind it.
+fn longer_name(alloc: Global, volume: &Volume, name: &str, ending: &str) -> Option<String> {
+    let longer = format!(in alloc; "{name}{ending}").ok()?;
+    volume.find(longer.as_str())?;
+    Some(longer)
+}
+
+/// What is told where a file is not there: the one with .TEXT or .CODE behind the name, if that is there.
+fn told_missing(
+    alloc: Global,
+    volume: &Volume,
+    fault: FilerFault,
+    name: Option<String>,
+) -> Option<String> {
+    let FilerFault::Volume(VolumeFault::NoFile) = fault else {
+        return None;
+    };
+    let name = name?;
+    let text = longer_name(alloc, volume, name.as_str(), ".TEXT");
+    let longer = match text {
+        Some(longer) => longer,
+        None => longer_name(alloc, volume, name.as_str(), ".CODE")?,
+    };
+    format!(in alloc; "no file of that name; {longer} is there").ok()
+}
+
 /// Does a command on the volume that an image is, with the input's bytes where it takes them.
 pub(crate) fn file(
     alloc: Global,
@@ -67,10 +104,22 @@ pub(crate) fn file(
         Ok(volume) => volume,
         Err(fault) => return Ok(Made::Refused(Refusal::Volume(fault), None)),
     };
+    let name = wanted_name(alloc, &command);
     match apply(alloc, &mut volume, with_input(command, input)) {
         Ok(reply) => Ok(answer(volume, reply)),
         Err(FilerFault::NoMemory) => Err(AllocError),
-        Err(fault) => Ok(Made::Refused(Refusal::Filer(fault), None)),
+        Err(fault) => {
+            let told = told_missing(alloc, &volume, fault, name);
+            Ok(Made::Refused(Refusal::Filer(fault), told))
+        }
+    }
+}
+
+/// What is told where a new volume is not made, if it is not why an image is no volume.
+fn told_new(alloc: Global, fault: VolumeFault) -> Option<String> {
+    match fault {
+        VolumeFault::BadHeader => String::from_str(alloc, "a volume has 6 blocks or more").ok(),
+        _ => None,
     }
 }
 
@@ -82,7 +131,7 @@ pub(crate) fn new_volume(alloc: Global, name: &str, blocks: u16) -> Result<Made,
     match Volume::blank(alloc, name, blocks) {
         Ok(volume) => Ok(Made::Image(volume.into_bytes())),
         Err(VolumeFault::NoMemory) => Err(AllocError),
-        Err(fault) => Ok(Made::Refused(Refusal::Volume(fault), None)),
+        Err(fault) => Ok(Made::Refused(Refusal::Volume(fault), told_new(alloc, fault))),
     }
 }
 

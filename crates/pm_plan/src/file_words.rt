@@ -10,7 +10,7 @@ ghost use Rattle.pm_plan.specs.Needed.{AreGoodBefore, IsGoodSalvage, IsKindWord,
 ghost use Rattle.pm_plan.specs.Needed.{IsNameOrSlot, is_salvage, verb_needs};
 ghost use Rattle.pm_plan.specs.declared.words.WordsError.TheVariants.{NoCommand, NoMemory};
 
-use crate::words::{WordsError, flag, found, given, needed, number};
+use crate::words::{DATE, WordsError, flag, found, given, needed, number};
 use clap::ArgMatches;
 use pm_filer::kind_word;
 use std::alloc::Global;
@@ -96,7 +96,7 @@ fn part(matches: &ArgMatches<'_>, id: &str) -> Result<u8, WordsError>
 {
     match number(needed(matches, id)?) {
         Some(part @ 0..=255) => Ok(part as u8),
-        _ => Err(WordsError::Wrong("Y, M and D are numbers of decimal digits, at most 255")),
+        _ => Err(WordsError::Wrong(DATE)),
     }
 }
 

@@ -23,6 +23,9 @@ use std::{fmt, io};
 /// The most steps of a run where no limit is given.
 const LIMIT: u32 = 10_000_000;
 
+/// What is wrong with the words of a date.
+pub(crate) const DATE: &str = "Y, M and D are numbers of decimal digits, at most 255";
+
 /// What the words ask for.
 #[derive(Drop)]
 pub enum Plan {
@@ -52,6 +55,8 @@ pub enum WordsError {
     Usage(clap::Error),
     /// They are not those of a command, and this line says what may be meant.
     Tried(clap::Error, &'static str),
+    /// They are not those of a command, and a terminal is told by this line what may be meant.
+    Meant(clap::Error, &'static str),
     /// There are options, but no command.
     NoCommand,
     /// An option has no value, as in `--image=`.
@@ -69,7 +74,7 @@ pub enum WordsError {
 impl fmt::Display for WordsError {
     fn fmt<W: fmt::Write>(&self, f: &mut fmt::Formatter<W>) -> fmt::Result {
         match self {
-            WordsError::Usage(error) => write!(f, "{error}"),
+            WordsError::Usage(error) | WordsError::Meant(error, _) => write!(f, "{error}"),
             WordsError::Tried(error, line) => writeln!(f, "{error}{line}"),
             WordsError::NoCommand => f.write_str(
                 "error: no command among the words; --help lists them\n",
@@ -81,6 +86,17 @@ impl fmt::Display for WordsError {
             ),
             WordsError::NotText => f.write_str("error: a word is not UTF-8\n"),
             WordsError::NoMemory => writeln!(f, "{}", Fault::NoMemory.text()),
+        }
+    }
+}
+
+impl WordsError {
+    /// What a terminal is told beside the text: what may be meant, if that is known.
+    pub fn hint(&self) -> Option<&'static str> {
+        match self {
+            WordsError::Meant(_, line) => Some(line),
+            WordsError::Wrong(text) if *text == DATE => Some("a year is 0 to 127, as 84 for 1984"),
+            _ => None,
         }
     }
 }
@@ -284,10 +300,42 @@ fn meant_by(words: &[String]) -> Option<&'static str> {
     }
 }
 
+/// The command that may be meant by a first word that is none, if it is a verb or a name of a job in other words.
+fn command_for(word: &str) -> Option<&'static str> {
+    match word {
+        "list"
+        | "get"
+        | "put"
+        | "gettext"
+        | "puttext"
+        | "remove"
+        | "change"
+        | "krunch"
+        | "zero"
+        | "date"
+        | "new"
+        | "duplicate"
+        | "single"
+        | "repair"
+        | "check"
+        | "salvage" => { Some("it is a verb of files: pmach files --image IMAGE list") }
+        "ls" | "dir" | "cat" | "catalog" => Some("pmach files --image IMAGE list lists the files"),
+        "assemble" | "as" => Some("pmach asm <TEXT >CODE assembles"),
+        "disassemble" | "disasm" => Some("pmach dis <CODE >TEXT disassembles"),
+        _ => None,
+    }
+}
+
 /// The refusal of words by clap, with the line that says what may be meant where a word is one that it does not take.
 fn refused(error: clap::Error, words: &[String]) -> WordsError {
     let line = match error.kind() {
         ErrorKind::UnknownArgument => meant_by(words),
+        ErrorKind::InvalidSubcommand => {
+            return match words.get(1).and_then(|word| command_for(word.as_str())) {
+                Some(line) => WordsError::Meant(error, line),
+                None => WordsError::from(error),
+            };
+        }
         _ => None,
     };
     match line {

@@ -107,27 +107,81 @@ impl<R: Read> Read for Keys<R> {
     }
 }
 
-/// A writer that knows whether a line has begun, and on a terminal adds a line feed to each carriage return.
+/// What a writer does with the bytes.
+#[derive(Clone, Copy, PartialEq, Eq)]
+pub enum Lines {
+    /// It writes them as they are.
+    Plain,
+    /// It adds a line feed to each carriage return.
+    Added,
+    /// It writes none that belong to no text, and fails there.
+    TextAlone,
+}
+
+/// Why a writer failed, where that is known.
+#[derive(Clone, Copy, PartialEq, Eq)]
+pub enum Failed {
+    /// Nobody reads any more.
+    Closed,
+    /// A byte belongs to no text.
+    NoText,
+}
+
+/// Whether a byte belongs to no text: a control character but for those that move to a column or a line.
+fn is_binary(byte: u8) -> bool {
+    byte < 8 || (14..32).contains(&byte) || byte == 127
+}
+
+/// A writer that knows whether a line has begun, and what goes to a terminal.
 #[derive(Drop)]
 pub struct Lined<W> {
     inner: W,
-    adds: bool,
+    lines: Lines,
     begun: bool,
+    failed: Option<Failed>,
 }
 
 impl<W: Write> Lined<W> {
-    /// A writer that adds line feeds or not.
-    pub fn new(inner: W, adds: bool) -> Lined<W> {
+    /// A writer that does this with the bytes.
+    pub fn new(inner: W, lines: Lines) -> Lined<W> {
         Lined {
             inner,
-            adds,
+            lines,
             begun: false,
+            failed: None,
         }
+    }
+
+    /// Why it failed, where that is known.
+    pub fn failed(&self) -> Option<Failed> {
+        self.failed
     }
 
     /// Whether the last byte that was written is no line feed.
     pub fn has_begun(&self) -> bool {
         self.begun
+    }
+
+    /// Writes bytes that belong to a text.
+    fn write_text(&mut self, buf: &[u8]) -> io::Result<usize>
+        ensures bound { WritesAtMost result buf.now }
+    {
+        if buf.iter().any(|byte| is_binary(*byte)) {
+            self.failed = Some(Failed::NoText);
+            return Err(io::ErrorKind::InvalidData.into());
+        }
+        self.inner.write(buf)
+    }
+
+    /// Writes bytes in its own way.
+    fn write_some(&mut self, buf: &[u8]) -> io::Result<usize>
+        ensures bound { WritesAtMost result buf.now }
+    {
+        match self.lines {
+            Lines::Plain => self.inner.write(buf),
+            Lines::Added => self.write_lines(buf),
+            Lines::TextAlone => self.write_text(buf),
+        }
     }
 
     /// Writes up to the first carriage return, and a line feed behind it.
@@ -147,15 +201,21 @@ impl<W: Write> Lined<W> {
 
 impl<W: Write> Write for Lined<W> {
     fn write(&mut self, buf: &[u8]) -> io::Result<usize> {
-        let count = if self.adds {
-            self.write_lines(buf)?
-        } else {
-            self.inner.write(buf)?
-        };
-        if let Some(last) = buf[..count].last() {
-            self.begun = *last != b'\n' && !(self.adds && *last == b'\r');
+        match self.write_some(buf) {
+            Ok(count) => {
+                if let Some(last) = buf[..count].last() {
+                    let ends = self.lines == Lines::Added && *last == b'\r';
+                    self.begun = *last != b'\n' && !ends;
+                }
+                Ok(count)
+            }
+            Err(error) => {
+                if error.kind() == io::ErrorKind::BrokenPipe {
+                    self.failed = Some(Failed::Closed);
+                }
+                Err(error)
+            }
         }
-        Ok(count)
     }
 
     fn flush(&mut self) -> io::Result<()> {

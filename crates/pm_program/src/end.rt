@@ -2,7 +2,7 @@
 use pm_files::DiskFault;
 use pm_tool::{Exit, Outcome};
 
-/// What is wrong with paths that do not go together.
+/// What is wrong with paths or streams that do not go together.
 #[derive(Clone, Copy)]
 pub enum Conflict {
     /// An image that is to be saved is also that of another unit.
@@ -17,6 +17,8 @@ pub enum Conflict {
     FileInTheWay,
     /// A new volume would take the place of a file.
     TargetIsThere,
+    /// Bytes that are no text would go to a terminal.
+    BytesOnTerminal,
 }
 
 impl Conflict {
@@ -30,6 +32,8 @@ impl Conflict {
             Conflict::FileInTheWay =>
                 "error: a path is that of another with .pmach-new, which is taken away where that is written",
             Conflict::TargetIsThere => "error: the path of the new volume is that of a file",
+            Conflict::BytesOnTerminal =>
+                "error: these bytes are no text for a terminal; >FILE behind the command puts them into a file",
         }
     }
 }

@@ -21,12 +21,20 @@ fn exit_of(error: &WordsError) -> Exit
     }
 }
 
-/// Says what is wrong with the words. They are repeated as they are, but for what would act on a terminal.
+/// Says what is wrong with the words. They are repeated as they are; on a terminal but for what would act there, and
+/// with what may be meant.
 fn tell<R: Host + Eprint + AllocGlobal>(rt: &R, error: &WordsError) {
+    if !rt.is_terminal(Stream::Error) {
+        let _ = eprint!(rt; "{error}");
+        return;
+    }
     let _ = match format!(in rt.alloc(); "{error}") {
-        Ok(text) if rt.is_terminal(Stream::Error) => eprint!(rt; "{}", PlainLines(text.as_str())),
+        Ok(text) => eprint!(rt; "{}", PlainLines(text.as_str())),
         _ => eprint!(rt; "{error}"),
     };
+    if let Some(hint) = error.hint() {
+        let _ = eprintln!(rt; "pmach: {hint}");
+    }
 }
 
 /// Says why the words are no job, or the version. The status.
@@ -59,6 +67,9 @@ pub fn program<R: Host + Env + Input + Print + Eprint + AllocGlobal>(rt: &R) -> 
         Err(error) => return refuse(rt, &error),
     };
     let done = follow(rt, plan);
+    if done.is_silent {
+        return done.end.status();
+    }
     let manner = Manner {
         explains: rt.is_terminal(Stream::Error),
         begun: done.begun,

@@ -6,10 +6,10 @@ ghost use Rattle.pm_program.specs.Conflicts.{are_shared, conflict_of, is_other, 
 ghost use Rattle.pm_program.specs.Conflicts.{others_take_away, printer_conflict, takes_away};
 
 use crate::about::{Disks, about, disks_of};
-use crate::console::{END, ESCAPE, Keys, Lined, Prompted};
+use crate::console::{END, ESCAPE, Failed, Keys, Lined, Lines, Prompted};
 use crate::end::{Conflict, End};
 use crate::saved::{Printing, SavedOfRun, do_debug, do_files, do_run, do_salvage, do_trace};
-use pm_choices::Saving;
+use pm_choices::{AsmOutput, Saving};
 use pm_filer::FileCommand;
 use pm_files::{DiskFault, Host, HostStore, Store, Stream};
 use pm_plan::{FilesPlan, Plan, Program, RunChoices, Verb};
@@ -39,15 +39,18 @@ impl Terminals {
         }
     }
 
-    /// Those of a plan's console: its input and output are none where it has no console.
-    fn of_console(self, plan: &Plan) -> Terminals {
+    /// Whether the input is a plan's console and a terminal.
+    fn has_keys(self, plan: &Plan) -> bool {
+        matches!(plan, Plan::Run(_, _)) && self.input
+    }
+
+    /// What is done with the bytes that a plan's job writes.
+    fn lines_of(self, plan: &Plan) -> Lines {
         match plan {
-            Plan::Run(_, _) => self,
-            _ => Terminals {
-                input: false,
-                output: false,
-                error: self.error,
-            },
+            Plan::Run(_, _) if self.output => Lines::Added,
+            Plan::Asm(AsmOutput::File) if self.output => Lines::TextAlone,
+            Plan::Files(plan) if self.output && gets(&plan.verb) => Lines::TextAlone,
+            _ => Lines::Plain,
         }
     }
 
@@ -81,6 +84,14 @@ fn reads(verb: &Verb) -> bool {
     )
 }
 
+/// Whether a verb writes the bytes of a file.
+fn gets(verb: &Verb) -> bool {
+    matches!(
+        verb,
+        Verb::Command(FileCommand::Get(..) | FileCommand::GetSlot(..))
+    )
+}
+
 fn prompt_of(plan: &Plan) -> Prompt {
     match plan {
         Plan::Raw { .. } => Prompt::Once("pmach: reads hexadecimal digits; Ctrl-D ends them\n"),
@@ -107,6 +118,8 @@ pub struct Done {
     pub end: End,
     /// Whether the last line that was written has not ended.
     pub begun: bool,
+    /// Whether nothing is said of it: who read the output has closed it, as `head` does, before a terminal.
+    pub is_silent: bool,
     /// Whether the system's segment was put into the program.
     pub has_system: bool,
 }
@@ -403,20 +416,25 @@ pub fn follow<R: Host + Input + Print + Eprint + AllocGlobal>(rt: &R, plan: Plan
         return Done {
             end: End::Words(conflict),
             begun: false,
+            is_silent: false,
             has_system: false,
         };
     }
     let has_system = has_system(&plan);
-    let console = at.of_console(&plan);
-    let keys = Keys::new(rt.reader(), console.input, end_of(&plan));
-    let mut lined = Lined::new(io::writer(rt), console.output);
+    let keys = Keys::new(rt.reader(), at.has_keys(&plan), end_of(&plan));
+    let mut lined = Lined::new(io::writer(rt), at.lines_of(&plan));
     let mut source = Reader::new(prompted(rt, keys, at.prompt(&plan)));
     let mut sink = Writer::new(&mut lined);
     let end = end_of_plan(rt, store, &mut source, &mut sink, plan, at.error);
     drop(sink);
+    let end = match lined.failed() {
+        Some(Failed::NoText) => End::Words(Conflict::BytesOnTerminal),
+        _ => end,
+    };
     Done {
         end,
         begun: at.has_begun(lined.has_begun()),
+        is_silent: at.error && lined.failed() == Some(Failed::Closed),
         has_system,
     }
 }

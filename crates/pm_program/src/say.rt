@@ -32,8 +32,8 @@ impl fmt::Display for PlainLines<'_> {
     }
 }
 
-/// Why an input was refused, with the unit and the file that it is about before it, and behind it what helps, or the
-/// line of the assembler's text that is wrong.
+/// Why an input was refused, with the unit and the file that it is about before it, and behind it what helps; of a text
+/// of the assembler the lines that are wrong, with what helps there.
 #[derive(Clone, Copy)]
 struct Refused<'a> {
     refusal: Refusal,
@@ -46,11 +46,11 @@ impl fmt::Display for Refused<'_> {
         if let Some(about) = self.about {
             write!(f, "{}: ", Plain(about.as_str()))?;
         }
-        write!(f, "{}", Reason(self.refusal))?;
+        let reason = Reason(self.refusal);
         match (&self.outcome.hint, &self.outcome.line) {
-            (Some(hint), _) => write!(f, "; {hint}"),
-            (None, Some(line)) => write!(f, ": {}", Plain(line.as_str())),
-            (None, None) => Ok(()),
+            (Some(hint), _) => write!(f, "{reason}; {hint}"),
+            (None, Some(line)) => write!(f, "{}", PlainLines(line.as_str())),
+            (None, None) => write!(f, "{reason}"),
         }
     }
 }

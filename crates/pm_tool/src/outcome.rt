@@ -217,7 +217,9 @@ pub struct Outcome {
     pub refusal: Option<Refusal>,
     /// Why the run ended that the message tells of, if it tells of one.
     pub ending: Option<Ending>,
-    /// The line of the assembler's text that the refusal names, if it names one and there was memory for its text.
+    /// What a terminal is told in place of the refusal's reason, if more is known and there was memory for it: of a
+    /// text of the assembler the line that the refusal names and what helps there, of `asm --all` those of the first
+    /// faults.
     pub line: Option<String>,
     /// Where an error stopped the run that the message tells of, and on what.
     pub stopped: Option<Stopped>,

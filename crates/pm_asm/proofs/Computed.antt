@@ -1,6 +1,6 @@
 -- What a few lines are told is computed.
 use Rattle.std.proofs.Common.{refl}
-use Rattle.pm_asm.specs.HintTexts.{hint_text, takes_text}
+use Rattle.pm_asm.specs.HintTexts.{hint_text, range_text, takes_text}
 use Rattle.pm_asm.specs.Hints.{hint_of}
 use Rattle.pm_asm.specs.Near.{is_near, liked, meant}
 use Rattle.pm_asm.specs.WorkedHints.{WorkedHints}
@@ -10,7 +10,7 @@ use Rattle.pm_source.specs.Line.{directives, keyword_of, line_of}
 use Rattle.pm_source.specs.Words.{cut}
 
 pub worked_hints : WorkedHints
-unfolding hint_of hint_text takes_text is_near liked meant front_of line_of cut keyword_of directives mnemonic_of form_of groups implied
+unfolding hint_of range_text hint_text takes_text is_near liked meant front_of line_of cut keyword_of directives mnemonic_of form_of groups implied
 worked_hints = record {
   ill_formed = refl;
   out_of_place = refl;

@@ -1,6 +1,5 @@
 -- What helps where a line of a text has a fault, in words.
 use Rattle.std.specs.Prelude.{◌≡◌, ◌≢◌, ℕ, ◌==◌, List, [], ◌∷◌, ◌++◌, codes, Option, Some, None, if◌then◌else◌}
-use Rattle.std.specs.Fmt.{decimal}
 use Rattle.pm_asm.specs.Hints.{Hint}
 use Rattle.pm_asm.specs.Hints.Hint.{Characters, Labels, BeforeLabelled, Takes, Stands, Meant, Words, Ended, Named}
 use Rattle.pm_asm.specs.Hints.Hint.{Once, Reached}
@@ -46,23 +45,22 @@ form_text forms.Sb = codes "a label, or ^k for the k-th line of .JUMP, counted f
 form_text forms.Jumps =
     codes "two numbers, -32768 to 32767, a label, and a label for each number from the one to the other"
 
--- the instruction that takes more numbers than the one of an opcode in which the number stands
-abbrev pub more_numbers : ℕ → List ℕ
-more_numbers op =
-    if op == 0 then codes "LDCI" else if op == 216 then codes "LDL" else if op == 232 then codes "LDO" else codes "IND"
-
 -- an example, behind what it is one of
 abbrev pub example_text : List ℕ → Form → List ℕ
 example_text name forms.Plain = []
 example_text name forms.Unassigned = []
 example_text name form = codes ", as " ++ name ++ 32 ∷ example form
 
-abbrev pub range_text : ℕ → ℕ × ℕ → List ℕ
-range_text op range = mnemonic_of op ++ codes " takes a number, " ++ decimal range.0 ++ codes " to " ++ decimal range.1
-    ++ codes "; " ++ more_numbers op ++ codes " takes more"
+-- what an instruction takes whose number stands in the opcode, the first of its name
+unfoldable pub range_text : ℕ → List ℕ
+range_text op =
+    if op == 0 then codes "SLDC takes a number, 0 to 127; LDCI takes more"
+    else if op == 216 then codes "SLDL takes a number, 1 to 16; LDL takes more"
+    else if op == 232 then codes "SLDO takes a number, 1 to 16; LDO takes more"
+    else codes "SIND takes a number, 0 to 7; IND takes more"
 
 abbrev pub takes_by : ℕ → Option (ℕ × ℕ) → List ℕ
-takes_by op (Some range) = range_text op range
+takes_by op (Some range) = range_text op
 takes_by op None =
     mnemonic_of op ++ codes " takes " ++ form_text (form_of op) ++ example_text (mnemonic_of op) (form_of op)
 
@@ -129,7 +127,7 @@ hint_text (Meant keyword) = codes "did you mean " ++ keyword_text keyword ++ cod
 hint_text Ended = codes "either the code has an odd number of bytes, and one more NOP makes it even, "
     ++ codes "or its .JUMP lines are not one for each entry, from ^0 to the greatest ^k"
 hint_text (Reached keyword) = keyword_text keyword ++ codes " reaches a label at most 127 bytes ahead; "
-    ++ codes "to go back or farther, write ^0 for the label, " ++ codes "and a line .JUMP with the label before .END"
+    ++ codes "to go back or farther, write ^0 for the label, and a line .JUMP with the label before .END"
 hint_text hint = fixed_text hint
 
 -- operands that are taken, with nothing wrong in them

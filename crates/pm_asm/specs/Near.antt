@@ -5,16 +5,20 @@ use Rattle.std.specs.Char.{eq_ignore_ascii_case}
 use Rattle.std.specs.Map.{lookup}
 use Rattle.std.specs.Str.{str_eq_ignore_ascii_case}
 use Rattle.pm_opcode.specs.Table.{mnemonic_of}
+use Rattle.pm_source.specs.Words.{is_empty}
 use Rattle.pm_source.specs.Line.{Keyword, directives, mnemonic_keyword}
+
+-- texts whose first characters differ, each with what stands behind that, are the same but for one letter
+abbrev pub are_off : List ℕ → List ℕ → List ℕ → List ℕ → Bool
+are_off word word_rest name name_rest = str_eq_ignore_ascii_case word_rest name_rest
+    || str_eq_ignore_ascii_case word_rest name || str_eq_ignore_ascii_case word name_rest
 
 -- a word is a name but for one letter: another one, one more or one less; the case does not count
 unfoldable pub is_near : List ℕ → List ℕ → Bool
 is_near [] name = nat_le (length name) 1
-is_near (a ∷ word) [] = nat_le (length (a ∷ word)) 1
+is_near (a ∷ word) [] = is_empty word
 is_near (a ∷ word) (b ∷ name) =
-    if eq_ignore_ascii_case a b then is_near word name
-    else str_eq_ignore_ascii_case word name || str_eq_ignore_ascii_case word (b ∷ name)
-    || str_eq_ignore_ascii_case (a ∷ word) name
+    if eq_ignore_ascii_case a b then is_near word name else are_off (a ∷ word) word (b ∷ name) name
 
 -- a word is a name in whatever case, or with near also but for one letter where it has two or more
 abbrev pub is_like : Bool → List ℕ → List ℕ → Bool

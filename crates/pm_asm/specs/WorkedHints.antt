@@ -4,14 +4,15 @@ use Rattle.pm_asm.specs.HintTexts.{hint_text}
 use Rattle.pm_asm.specs.Hints.{hint_of}
 use Rattle.pm_asm.specs.Hints.Hint.{Labels, BeforeLabelled, Takes, Stands, Meant, Words, Ended, Named, Once, Reached}
 use Rattle.pm_source.specs.declared.fault.AsmFault.TheVariants.{Syntax, Unknown, Range, NoLabel, Twice, Far}
-use Rattle.pm_source.specs.Line.Keyword.{OfSegment, OfBytes, Mnemonic}
+use Rattle.pm_source.specs.Line.Keyword.{OfSegment, Mnemonic}
 
 -- Worked out by hand, by the numbers of the opcodes.
 pub record WorkedHints : Type 0 where
   -- a comma is missing
   pub ill_formed : hint_of (Syntax 3) (codes "CXP 2 1") ≡ Some (Takes (Mnemonic 205))
   pub out_of_place : hint_of (Syntax 3) (codes " NOP ; x") ≡ Some (Stands (Mnemonic 215))
-  pub label_alone : hint_of (Syntax 3) (codes "L:") ≡ Some (Stands OfBytes)
+  -- a word of no letters is the name of opcode 210; the text is that of any item
+  pub label_alone : hint_of (Syntax 3) (codes "L:") ≡ Some (Stands (Mnemonic 210))
   pub label : hint_of (Syntax 3) (codes "1L: NOP") ≡ Some Labels
   pub labelled : hint_of (Syntax 3) (codes "L: .EXIT") ≡ Some BeforeLabelled
   pub behind_label : hint_of (Syntax 3) (codes "L: ADI 5") ≡ Some (Takes (Mnemonic 130))

@@ -1,8 +1,8 @@
 //! What helps where a line of a text has a fault, in words.
 
 ghost use Rattle.std.specs.Prelude.{◌≡◌, Some};
-ghost use Rattle.pm_asm.specs.HintTexts.{example, fixed_text, form_text, hint_text, keyword_text, more_numbers};
-ghost use Rattle.pm_asm.specs.HintTexts.{once_text, stands_text, taken_text, takes_text};
+ghost use Rattle.pm_asm.specs.HintTexts.{example, fixed_text, form_text, hint_text, keyword_text};
+ghost use Rattle.pm_asm.specs.HintTexts.{example_text, once_text, range_text, stands_text, taken_text, takes_text};
 ghost use Rattle.pm_asm.specs.Hints.{hint_seen};
 ghost use Rattle.pm_line.specs.Views.{keyword_seen};
 
@@ -50,15 +50,38 @@ fn form_text(form: Form) -> &'static str
     }
 }
 
-/// The instruction that takes more numbers than the one of this opcode, whose number stands in the opcode.
-fn more_numbers(op: u8) -> &'static str
-    ensures text { result.now ≡ more_numbers op }
+/// What an instruction takes whose number stands in the opcode, the first of its name.
+#[tactic(auto, unfolding(crate::specs::HintTexts::range_text))]
+fn range_text(op: u8) -> &'static str
+    ensures text { result.now ≡ range_text op }
 {
     match op {
-        0 => "LDCI",
-        216 => "LDL",
-        232 => "LDO",
-        _ => "IND",
+        0 => "SLDC takes a number, 0 to 127; LDCI takes more",
+        216 => "SLDL takes a number, 1 to 16; LDL takes more",
+        232 => "SLDO takes a number, 1 to 16; LDO takes more",
+        _ => "SIND takes a number, 0 to 7; IND takes more",
+    }
+}
+
+/// An example of the operands of a form, behind a name.
+#[derive(Clone, Copy)]
+struct ShownExample<'a> {
+    name: &'a str,
+    form: Form,
+}
+
+impl fmt::Display for ShownExample<'_> {
+    ghost output = { λ e. Some (example_text e.name.now e.form) };
+
+    fn fmt<W: fmt::Write>(&self, f: &mut fmt::Formatter<W>) -> fmt::Result {
+        match self.form {
+            Form::Plain | Form::Unassigned => Ok(()),
+            form => {
+                let name = self.name;
+                let operands = example(form);
+                write!(f, ", as {name} {operands}")
+            }
+        }
     }
 }
 
@@ -71,22 +94,14 @@ impl fmt::Display for Operands {
 
     #[tactic(auto, unfolding(crate::specs::HintTexts::takes_text))]
     fn fmt<W: fmt::Write>(&self, f: &mut fmt::Formatter<W>) -> fmt::Result {
-        let name = row_at(self.0).mnemonic;
-        let form = form_at(self.0);
-        if let Some((least, greatest)) = short_range(self.0) {
-            let more = more_numbers(self.0);
-            return write!(
-                f,
-                "{name} takes a number, {least} to {greatest}; {more} takes more"
-            );
-        }
-        let what = form_text(form);
-        write!(f, "{name} takes {what}")?;
-        match form {
-            Form::Plain | Form::Unassigned => Ok(()),
-            form => {
-                let operands = example(form);
-                write!(f, ", as {name} {operands}")
+        let op = self.0;
+        match short_range(op) {
+            Some(_) => f.write_str(range_text(op)),
+            None => {
+                let name = row_at(op).mnemonic;
+                let form = form_at(op);
+                let what = form_text(form);
+                write!(f, "{name} takes {what}{}", ShownExample { name, form })
             }
         }
     }
@@ -174,6 +189,10 @@ fn once_text(keyword: Keyword) -> &'static str
     }
 }
 
+/// What reaches any label.
+const REACHING: &str =
+    "to go back or farther, write ^0 for the label, and a line .JUMP with the label before .END";
+
 /// What a line is told that names neither operands nor another word.
 fn fixed_text(hint: Hint) -> &'static str
     ensures text { result.now ≡ fixed_text (hint_seen hint) }
@@ -219,9 +238,10 @@ impl fmt::Display for Hint {
             }
             Hint::Reached(keyword) => {
                 let name = keyword_text(keyword);
-                write!(f, "{name} reaches a label at most 127 bytes ahead; ")?;
-                write!(f, "to go back or farther, write ^0 for the label, ")?;
-                write!(f, "and a line .JUMP with the label before .END")
+                write!(
+                    f,
+                    "{name} reaches a label at most 127 bytes ahead; {REACHING}"
+                )
             }
             hint => {
                 let text = fixed_text(hint);

@@ -4,27 +4,38 @@ ghost use Rattle.std.specs.Prelude.{◌≡◌, option_map};
 ghost use Rattle.std.specs.Map.{lookup};
 ghost use Rattle.pm_line.specs.Views.{keyword_seen};
 ghost use Rattle.pm_source.specs.Line.{directives};
-ghost use Rattle.pm_asm.specs.Near.{is_like, is_near, liked, liked_from, meant};
+ghost use Rattle.pm_asm.specs.Near.{are_off, is_like, is_near, liked, liked_from, meant};
 
 use pm_line::Keyword;
 use pm_opcode::row_at;
+
+/// Whether texts whose first characters differ, each with what stands behind that, are the same but for one letter:
+/// without both of these characters, or without either.
+fn are_off(word: &[u8], word_rest: &[u8], name: &[u8], name_rest: &[u8]) -> bool
+    ensures off { result ≡ are_off word.now word_rest.now name.now name_rest.now }
+{
+    word_rest.eq_ignore_ascii_case(name_rest)
+        || word_rest.eq_ignore_ascii_case(name)
+        || word.eq_ignore_ascii_case(name_rest)
+}
 
 /// Whether a word is a name but for one letter: another one, one more or one less.
 #[tactic(auto, unfolding(crate::specs::Near::is_near))]
 fn is_near(word: &[u8], name: &[u8]) -> bool
     ensures near { result ≡ is_near word.now name.now }
 {
-    match (word, name) {
-        ([], name) => name.len() <= 1,
-        (word, []) => word.len() <= 1,
-        ([a, word_rest @ ..], [b, name_rest @ ..]) => {
-            if a.eq_ignore_ascii_case(b) {
-                return is_near(word_rest, name_rest);
+    match word {
+        [] => name.len() <= 1,
+        [a, word_rest @ ..] => match name {
+            [] => word_rest.is_empty(),
+            [b, name_rest @ ..] => {
+                if a.eq_ignore_ascii_case(b) {
+                    is_near(word_rest, name_rest)
+                } else {
+                    are_off(word, word_rest, name, name_rest)
+                }
             }
-            word_rest.eq_ignore_ascii_case(name_rest)
-                || word_rest.eq_ignore_ascii_case(name)
-                || word.eq_ignore_ascii_case(name_rest)
-        }
+        },
     }
 }
 

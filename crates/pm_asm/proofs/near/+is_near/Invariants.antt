@@ -2,4 +2,4 @@ use Rattle.std.specs.Prelude.{length}
 use Rattle.pm_asm.proofs.near.+is_near.Given as goal
 
 abbrev pub decreases-is_near : goal.decreases-is_near
-decreases-is_near g l = length l.word.now
+decreases-is_near l = length l.word.now

@@ -7,18 +7,16 @@ pub returns-then-is_like : goal.returns-then-is_like
 returns-then-is_like c =
     let name = sym (c.as_bytes.ensures.value ∙ c.row_at.ensures.mnemonic) in
     let same = ap (is_like c.args.near c.args.word.now) name ∙ sym c.is_like.ensures.like ∙ c.if-is_like.true in
-    let small = omega (arith, c.loop-op-test.true) in
-    let found = found_here c.args.near c.args.word.now c.loop-op.op small same in
+    let found = found_here c.args.near c.args.word.now c.loop-op.op (omega (arith, c.loop-op-test.true)) same in
     record { opcode = sym (sym c.loop-op.invariant ∙ found) }
 
 pub loop-op-preserved : goal.loop-op-preserved
 loop-op-preserved c =
     let name = sym (c.as_bytes.ensures.value ∙ c.row_at.ensures.mnemonic) in
     let other = ap (is_like c.args.near c.args.word.now) name ∙ sym c.is_like.ensures.like ∙ c.if-is_like.false in
-    let small = omega (arith, c.loop-op-test.true) in
-    sym (not_here c.args.near c.args.word.now c.loop-op.op small other) ∙ c.loop-op.invariant
+    sym (not_here c.args.near c.args.word.now c.loop-op.op (omega (arith, c.loop-op-test.true)) other) ∙ c.loop-op.invariant
 
 pub returns : goal.returns
 returns c =
-    let last = omega (arith, c.loop-op-test.false, c.loop-op.auto) in
-    record { opcode = sym (sym c.loop-op.invariant ∙ nowhere c.args.near c.args.word.now c.loop-op.op last) }
+    let none = nowhere c.args.near c.args.word.now c.loop-op.op (omega (arith, c.loop-op-test.false, c.loop-op.auto)) in
+    record { opcode = sym (sym c.loop-op.invariant ∙ none) }

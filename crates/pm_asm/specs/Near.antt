@@ -3,6 +3,7 @@ use Rattle.std.specs.Prelude.{ℕ, zero, suc, ◌+◌, Bool, true, false, List, 
 use Rattle.std.specs.Prelude.{if◌then◌else◌, Option, Some, None}
 use Rattle.std.specs.Char.{eq_ignore_ascii_case}
 use Rattle.std.specs.Map.{lookup}
+use Rattle.std.specs.Option.{option_or}
 use Rattle.std.specs.Str.{str_eq_ignore_ascii_case}
 use Rattle.pm_opcode.specs.Table.{mnemonic_of}
 use Rattle.pm_source.specs.Words.{is_empty}
@@ -30,14 +31,10 @@ liked_from near word op zero = None
 liked_from near word op (suc count) =
     if is_like near word (mnemonic_of op) then Some op else liked_from near word (op + 1) count
 
-abbrev pub keyword_or : Option Keyword → Option Keyword → Option Keyword
-keyword_or (Some keyword) other = Some keyword
-keyword_or None other = other
-
 -- the directive, or else the mnemonic, that a word is like
 unfoldable pub liked : Bool → List ℕ → Option Keyword
-liked near word = keyword_or (lookup (is_like near word) directives) (mnemonic_keyword (liked_from near word 0 256))
+liked near word = option_or (lookup (is_like near word) directives) (mnemonic_keyword (liked_from near word 0 256))
 
 -- What a word may mean: what it is in another case, or else the first that it is but for one letter.
 unfoldable pub meant : List ℕ → Option Keyword
-meant word = keyword_or (liked false word) (liked true word)
+meant word = option_or (liked false word) (liked true word)

@@ -29,3 +29,4 @@ pub mod PackedLaws
 pub mod PublicLaws
 pub mod EffectLaws
 pub mod StandardEffectLaws
+pub mod CallEffectLaws

@@ -17,3 +17,4 @@ pub mod PackedLaws
 pub mod WordsLaws
 pub mod Effects
 pub mod StandardEffects
+pub mod CallEffects

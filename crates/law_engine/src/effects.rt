@@ -1,6 +1,7 @@
-//! The law that the table of what instructions take off the stack and leave there is the machine's. The functions do
+//! Laws that the table of what instructions take off the stack and leave there is the machine's. The functions do
 //! nothing.
 
+ghost use Rattle.law_engine.specs.CallEffects.{CallsAreTheMachines};
 ghost use Rattle.law_engine.specs.Effects.{EffectsAreTheMachines};
 ghost use Rattle.law_engine.specs.StandardEffects.{StandardEffectsAreTheMachines};
 
@@ -16,4 +17,12 @@ pub fn effects_are_the_machines()
 #[tactic(auto, using(crate::proofs::StandardEffectLaws::standard_effects_are_the_machines))]
 pub fn standard_effects_are_the_machines()
     ensures law { StandardEffectsAreTheMachines }
+{}
+
+/// From a call to behind the return SP moves by what the return leaves less what the call takes: the words of the
+/// parameters that the attribute table states of the procedure that is reached, and the words of the return. That is so
+/// whatever runs between, if MP and the SP that the frame keeps are at the return as the call left them.
+#[tactic(auto, using(crate::proofs::CallEffectLaws::calls_are_the_machines))]
+pub fn calls_are_the_machines()
+    ensures law { CallsAreTheMachines }
 {}

@@ -1,0 +1,43 @@
+-- The law that the words of calls and returns are the machine's.
+use Rattle.std.specs.Prelude.{◌≡◌, ℕ, ◌+◌, ◌*◌, ◌/◌, Bool, List, Option, Ok}
+use Rattle.pm_words.specs.Words.{IsMemory, word_at}
+use Rattle.pm_families.specs.declared.families.Call.{Call}
+use Rattle.pm_calls.specs.declared.frames.Table.{Table}
+use Rattle.pm_calls.specs.Places.{Parts}
+use Rattle.pm_calls.specs.Tables.{attributes}
+use Rattle.pm_calls.specs.Calls.{Reached, called, procedure_called}
+use Rattle.pm_calls.specs.Returns.{returned}
+use Rattle.pm_calls.specs.Laws.{IsCode, Reaches}
+use Rattle.pm_effects.specs.declared.effect.Effect.{Effect}
+use Rattle.pm_effects.specs.Effects.{words}
+use Rattle.law_engine.specs.Effects.{words_taken}
+use Rattle.law_engine.specs.StandardEffects.{EndsIn}
+
+-- What a procedure takes and leaves by its attribute table and by its return: the words of its parameters, of which the
+-- table states the bytes, and those of the result.
+abbrev pub procedure_words : Table → ℕ → Effect
+procedure_words table results = words (table.parameters / 2) results
+
+-- the SP of the caller that the frame at MP keeps
+abbrev pub kept_sp : Parts → ℕ
+kept_sp c = word_at c.memory (c.registers.mp + 10)
+
+-- SP moves from the call to behind the return by the table of the procedure that the call reached.
+pub record MovesByTable (before : Parts) (call : Call) (code : Option (List ℕ)) (results : ℕ) (after : Parts)
+    : Type 0 where
+  pub at : Reached
+  pub reached : Reaches before call code at
+  pub table : Table
+  pub found : attributes at.memory at.place (procedure_called call) ≡ Ok table
+  pub moves : EndsIn
+      (before.registers.sp + 2 * words_taken (procedure_words table results) before.memory before.registers.sp)
+      (procedure_words table results) after.memory after.registers
+
+-- Whatever runs between a call and a return of so many words, if MP and the SP that its frame keeps are then as the
+-- call left them.
+abbrev pub CallsAreTheMachines : Type 0
+CallsAreTheMachines =
+    (before inside leaving after : Parts) (call : Call) (code : Option (List ℕ)) (results : ℕ) (base : Bool) →
+    IsMemory before.memory → IsCode code → called before call code ≡ Ok inside →
+    leaving.registers.mp ≡ inside.registers.mp → kept_sp leaving ≡ kept_sp inside →
+    returned leaving results base ≡ Ok after → MovesByTable before call code results after

@@ -1,5 +1,6 @@
 """statements.py FILE.. | --random SEED COUNT | --damaged SEED COUNT FILE..: the statements of `pmach dis --statements`, read back by the page (docs/STATEMENTS.md) alone,
-are the instructions of `pmach dis`, procedure by procedure, each once and in order.
+are the instructions of `pmach dis`, procedure by procedure, each once and in order; and the heading of each procedure says what its table and its
+returns say.
 
 FILE is a code file. With --random so many programs are made, of single instructions and of whole expressions, by turns; with --damaged up to
 eight bytes of a file are others, so often. By hand; no part of the gate. PMACH names another program than ./pmach."""
@@ -15,7 +16,7 @@ BINARY = {"+": ("ADI", 2), "-": ("SBI", 2), "OR": ("LOR", 2), "*": ("MPI", 3), "
 SETS = {"+": "UNI", "-": "DIF", "*": "INT"}
 TYPED = {"=": "EQU", "<>": "NEQ", "<": "LES", "<=": "LEQ", ">": "GRT", ">=": "GEQ"}
 KINDS = {"str": "STR", "bool": "BOOL", "bytes": "BYTES", "words": "WORDS", "sets": "SET", "real": "REAL"}
-TOKEN = re.compile(r"""\s*(?:('(?:[^']|'')*')|("[^"]*")|(\{[^}"]*(?:"[^"]*"[^}"]*)*\})|(POP\*\d+)|(\.\.|:=|<>|<=|>=|[-+*=<>()\[\]^@,#:;.?!])|(\d+)|([A-Za-z_][A-Za-z_0-9]*))""")
+TOKEN = re.compile(r"""\s*(?:(CHR'.')|('(?:[^']|'')*')|("[^"]*")|(\{[^}"]*(?:"[^"]*"[^}"]*)*\})|(POP\*\d+)|(\.\.|:=|<>|<=|>=|[-+*=<>()\[\]^@,#:;.?!])|(\d+)|([A-Za-z_][A-Za-z_0-9]*))""")
 
 
 def run(words, given):
@@ -132,7 +133,10 @@ class Reader:
 
     def arguments(self):
         code = []
-        if self.skip("("):
+        if self.peek() == "(" and self.peek(1) == "?": # it is not known what the call takes
+            self.at += 2
+            self.eat(")")
+        elif self.skip("("):
             while True:
                 code += self.expression()[0]
                 if self.skip(".."):
@@ -179,12 +183,9 @@ class Reader:
         if word == "@":
             return "e", (self.address(), False)
         if word == "[":
-            code = self.expression()[0]
-            name = "SGS"
-            if self.skip(".."):
-                code, name = code + self.expression()[0], "SRS"
-            self.eat("]")
-            return "e", (code + [name], True)
+            return "e", (self.bracketed(), True)
+        if word.startswith("CHR'"):
+            return "e", (self.constant(ord(word[4]), 0), False)
         if word.isdigit():
             return "e", (self.constant(int(word), self.marks()), False)
         if word == "NIL":
@@ -208,6 +209,37 @@ class Reader:
         if m:
             return "e", (self.arguments() + [m[1] + " " + ", ".join(m[2][1:].split("_"))], False)
         raise SyntaxError("%s in %s" % (word, " ".join(self.tokens)))
+
+    def bracketed(self):
+        """A set behind its bracket: what makes one of operands, or a constant by its members."""
+        items, plain = [], True
+        while self.peek() != "]":
+            ends = []
+            while True:
+                before = self.at
+                ends.append(self.expression()[0])
+                own = self.tokens[before : self.at]
+                plain = plain and (own[0].isdigit() and len(own) == 1 or own[0] == "-" and len(own) == 2 and own[1].isdigit())
+                if not self.skip(".."):
+                    break
+            items.append(ends)
+            if not self.skip(","):
+                break
+        self.eat("]")
+        if items and (not plain or self.skip("!")):
+            (ends,) = items
+            return sum(ends, []) + [{1: "SGS", 2: "SRS"}[len(ends)]]
+        members = set()
+        for ends in items:
+            first, last = (int(end[0].split()[1]) for end in (ends[0], ends[-1]))
+            members |= set(range(first, last + 1))
+        count = max(members) // 16 + 1 if members else 0
+        if self.skip("#"):
+            count = int(self.next())
+        words = [sum(1 << bit for bit in range(16) if 16 * k + bit in members) for k in range(count)]
+        if count < 2:
+            return [code for n in words + [count] for code in self.constant(n, 0)]
+        return ["LDC " + ", ".join(str(word) for word in reversed(words))] + self.constant(count, 0)
 
     def chain(self):
         """A primary and what stands behind it: a value, or a place with the code of its address."""
@@ -397,7 +429,7 @@ def compared(data, told):
         m = re.match(r"  (CSP \d+|CXP 0, \d+) ; (.*)$", line)
         if m:
             names[{"load a segment": "LOADSEGMENT", "unload a segment": "UNLOADSEGMENT"}.get(m[2], m[2])] = m[1]
-    wanted, segment = {}, None
+    wanted, segment, sizes = {}, None, {}
     for line in text.split("\n"):
         if line.startswith(".SEG"):
             segment = line.split()[1]
@@ -405,21 +437,28 @@ def compared(data, told):
             key = (segment, line.split()[1])
             key = (*key, sum(k[:2] == key for k in wanted))
             wanted[key] = []
+            sizes[key] = [int(word) for word in line.split()[2:5]]
         elif line.startswith("  "):
             wanted[key].append(line[2:])
-    shown, key = {}, None
+    shown, key, headings = {}, None, {}
     for line in run(["dis", "--statements"], data)[1].split("\n"):
-        m = re.match(r"PROCEDURE (\d+) OF SEGMENT (\d+): \d+ bytes", line)
+        m = re.fullmatch(r"PROCEDURE (\d+) OF SEGMENT (\d+): level (-?\d+), (\d+) bytes of parameters, (\d+) of locals(?:, (\d+) of result)?", line)
         if m:
             key = (m[2], m[1])
             key = (*key, sum(k[:2] == key for k in shown))
             shown[key] = []
+            headings[key] = [None if n is None else int(n) for n in m.groups()[2:]]
         elif re.match(r"\d{5} ", line):
             shown[key].append(line[6:])
     if wanted.keys() != shown.keys():
         print("procedures differ: %s" % (wanted.keys() ^ shown.keys()))
         return 0, 1
     good = bad = 0
+    for key, heading in headings.items():
+        returned = {int(code.split()[1]) for code in wanted[key] if code[:4] in ("RNP ", "RBP ")}
+        if heading != sizes[key] + [2 * returned.pop() if len(returned) == 1 else None]:
+            bad += 1
+            print("the heading of %s is %s" % (key, heading))
     for key, lines in shown.items():
         code = []
         for line in lines:
@@ -505,6 +544,8 @@ def programs(seed, count):
             return e() + e() + R.choice([[], ["IXS"]]) + ["LDB"]
         if k == 9:
             return e() + e() + R.choice([["IXP 8, 2"], e()]) + ["LDP"]
+        if k == 10 and R.random() < 0.5:
+            return R.choice([e() + e() + ["LDB"] + a_number(), a_number() + e() + e() + ["IXS", "LDB"]]) + [R.choice(list(BINARY.values()))[0]]
         if k == 10:
             return a_set(d) + a_set(d) + [R.choice(["EQU SET", "LEQ SET", "GEQ SET", "NEQ SET"])]
         if k == 11:
@@ -517,9 +558,15 @@ def programs(seed, count):
             return e() + ["SLDC 0", "SLDC 0", "CLP 2"]
         return e() + ["CSP 35"]
 
+    def a_number():
+        n = R.choice([R.randrange(128), R.randrange(32, 128), 39, 92])
+        return ["SLDC %d" % n if R.random() < 0.8 else "LDCI %d" % n]
+
     def a_set(d):
         if d == 0:
-            return R.choice([["SLDC 0"], ["SLDC %d" % R.randrange(128), "SLDC 1"], ["LDCI %d" % R.randrange(128, 65536), "SLDC 1"], ["LDC " + ", ".join(str(word()) for _ in range(3)), "SLDC 3"], ["LAO 5", "LDM 4", "SLDC 4"], ["LDC 5", "SLDC 1"]])
+            return R.choice([["SLDC 0"], ["SLDC %d" % R.randrange(128), "SLDC 1"], ["LDCI %d" % R.randrange(128, 65536), "SLDC 1"], ["LDC " + ", ".join(str(word()) for _ in range(3)), "SLDC 3"], ["LAO 5", "LDM 4", "SLDC 4"], ["LDC 5", "SLDC 1"], ["SLDC 0", "SLDC 1"],
+                             ["LDC 0, %d" % word(), "SLDC 2"], ["LDC %d, 0, 65535, %d" % (word(), word()), "SLDC 4"], ["LDC 1, 2", "LDCI 2"], ["LDCI 5", "SLDC 1"],
+                             ["SLDC %d" % R.randrange(128), "SGS"], ["SLDC 1", "SLDC %d" % R.randrange(128), "SRS"], ["SLDC 3", "SLDC 4", "SLDC 2"]])
         k = R.randrange(6)
         if k < 3:
             return a_set(R.randrange(d)) + a_set(R.randrange(d)) + [R.choice(["UNI", "DIF", "INT"])]
@@ -537,7 +584,7 @@ def programs(seed, count):
         if k == 3:
             return e() + e() + ["STO"]
         if k == 4:
-            return e() + e() + R.choice([[], ["IXS"]]) + e() + ["STB"]
+            return e() + e() + R.choice([[], ["IXS"]]) + R.choice([e(), a_number()]) + ["STB"]
         if k == 5:
             return e() + e() + R.choice([["IXP 8, 2"], e()]) + e() + ["STP"]
         if k == 6:

@@ -69,7 +69,7 @@ frame_keeps m n s loaded static r inner base t is even made =
     let control = control_written moved f static r (r.sp + t.parameters) size even_f (omega (arith, room)) in
     let kept = control_kept base (with_frame m f static r t.parameters) f r.base r (r.sp + t.parameters) even_f x.1.below control in
     ap (λ ws. word_at ws (inner.mp + 10)) x.1.memory
-        ∙ ap (λ a. word_at (with_old_base base (with_frame m f static r t.parameters) f r.base) (a + 10)) at ∙ kept.sp
+    ∙ ap (λ a. word_at (with_old_base base (with_frame m f static r t.parameters) f r.base) (a + 10)) at ∙ kept.sp
 
 -- a call of a procedure of a segment that was reached
 at_moves : (c d b e : Parts) (call : Call) (code : Option (List ℕ)) (at : Reached) (results : ℕ) (base : Bool) → Reaches c call code at

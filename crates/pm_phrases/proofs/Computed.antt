@@ -6,35 +6,37 @@ use Rattle.pm_notes.specs.Names.{standard_name, standard_names, system_name, sys
 use Rattle.pm_opcode.specs.Operations.{operation_of}
 use Rattle.pm_opcode.specs.Table.{form_of, groups, implied, mnemonic_of, shape_of}
 use Rattle.pm_phrases.specs.Arithmetic.{arithmetic_alone, arithmetic_one, arithmetic_three, arithmetic_two, between}
-use Rattle.pm_phrases.specs.Arithmetic.{unary_on}
+use Rattle.pm_phrases.specs.Arithmetic.{compared, unary_on}
 use Rattle.pm_phrases.specs.Calls.{called, called_text, external_name, returned, standard_call}
 use Rattle.pm_phrases.specs.Cases.{arm_text, case_on, table_text}
 use Rattle.pm_phrases.specs.Comparisons.{compare_two, kind_text, places_compared, values_compared}
 use Rattle.pm_phrases.specs.Counts.{by_count, of_four, of_none, of_one, of_three, of_two, operation_in, plain_none}
 use Rattle.pm_phrases.specs.Counts.{plain_one, plain_two}
 use Rattle.pm_phrases.specs.Jumps.{condition_of, jump_alone, jump_one, jump_two}
-use Rattle.pm_phrases.specs.Literals.{escape, literal_alone}
+use Rattle.pm_phrases.specs.Literals.{beside, escape, literal_alone}
 use Rattle.pm_phrases.specs.Parts.{byte_one, byte_three, byte_two, field_four, field_one, field_three, field_two}
 use Rattle.pm_phrases.specs.Parts.{packed, part_stored, text_two}
 use Rattle.pm_phrases.specs.Phrases.{phrase_of, template}
 use Rattle.pm_phrases.specs.Pointers.{indexed, is_by_word, is_unnumbered, loaded, moved, pointer_one, pointer_two}
-use Rattle.pm_phrases.specs.Sets.{counted_text, one_counted, set_four, set_one, set_three, set_two, sets_joined}
+use Rattle.pm_phrases.specs.Sets.{counted_text, is_member, members_text, one_counted, set_four, set_one, set_text}
+use Rattle.pm_phrases.specs.Sets.{set_three, set_two, sets_joined}
 use Rattle.pm_phrases.specs.Shown.{place_text, stored_text, value_text}
 use Rattle.pm_phrases.specs.Spelled.{fits_opcode, has_shorter, spelling_of}
 use Rattle.pm_phrases.specs.Variables.{local_word, variable_alone, variable_one, variable_text}
 use Rattle.pm_words.specs.Words.{words_of}
-use Rattle.pm_phrases.specs.Worked.{WorkedAddresses, WorkedCalls, WorkedComparisons, WorkedJumps}
+use Rattle.pm_phrases.specs.Worked.{WorkedAddresses, WorkedCalls, WorkedCharacters, WorkedComparisons}
+use Rattle.pm_phrases.specs.Worked.{WorkedConstants, WorkedJumps}
 use Rattle.pm_phrases.specs.Worked.{WorkedLiterals, WorkedMissing, WorkedOperators, WorkedOthers}
 use Rattle.pm_phrases.specs.Worked.{WorkedParts, WorkedSets, WorkedVariables}
 
 pub worked_variables : WorkedVariables
-unfolding arithmetic_alone arithmetic_one arithmetic_three arithmetic_two arm_text between by_count byte_one byte_three byte_two called called_text
-    case_on compare_two condition_of counted_text digits escape external_name field_four field_one field_three field_two fits_opcode form_of groups
-    has_shorter implied indexed is_by_word is_unnumbered jump_alone jump_one jump_two kind_text literal_alone loaded local_word mnemonic_of moved
+unfolding arithmetic_alone arithmetic_one arithmetic_three arithmetic_two arm_text beside between by_count byte_one byte_three byte_two called called_text
+    case_on compare_two compared condition_of counted_text digits escape external_name field_four field_one field_three field_two fits_opcode form_of groups
+    has_shorter implied indexed is_by_word is_member is_unnumbered jump_alone jump_one jump_two kind_text literal_alone loaded local_word mnemonic_of moved
     of_four of_none of_one of_three of_two one_counted operation_in operation_of packed padded part_stored phrase_of place_text places_compared
     plain_none plain_one plain_two pointer_one pointer_two returned set_four set_one set_three set_two sets_joined shape_of shown_item spelling_of
     standard_call standard_name standard_names stored_text system_name system_names table_text template text_two unary_on value_text values_compared
-    variable_alone variable_one variable_text words_of
+    members_text set_text variable_alone variable_one variable_text words_of
 worked_variables = record {
   parameter = refl;
   beyond = refl;
@@ -56,13 +58,13 @@ worked_variables = record {
 }
 
 pub worked_operators : WorkedOperators
-unfolding arithmetic_alone arithmetic_one arithmetic_three arithmetic_two arm_text between by_count byte_one byte_three byte_two called called_text
-    case_on compare_two condition_of counted_text digits escape external_name field_four field_one field_three field_two fits_opcode form_of groups
-    has_shorter implied indexed is_by_word is_unnumbered jump_alone jump_one jump_two kind_text literal_alone loaded local_word mnemonic_of moved
+unfolding arithmetic_alone arithmetic_one arithmetic_three arithmetic_two arm_text beside between by_count byte_one byte_three byte_two called called_text
+    case_on compare_two compared condition_of counted_text digits escape external_name field_four field_one field_three field_two fits_opcode form_of groups
+    has_shorter implied indexed is_by_word is_member is_unnumbered jump_alone jump_one jump_two kind_text literal_alone loaded local_word mnemonic_of moved
     of_four of_none of_one of_three of_two one_counted operation_in operation_of packed padded part_stored phrase_of place_text places_compared
     plain_none plain_one plain_two pointer_one pointer_two returned set_four set_one set_three set_two sets_joined shape_of shown_item spelling_of
     standard_call standard_name standard_names stored_text system_name system_names table_text template text_two unary_on value_text values_compared
-    variable_alone variable_one variable_text words_of
+    members_text set_text variable_alone variable_one variable_text words_of
 worked_operators = record {
   from_left = refl;
   from_right = refl;
@@ -91,13 +93,13 @@ worked_operators = record {
 }
 
 pub worked_addresses : WorkedAddresses
-unfolding arithmetic_alone arithmetic_one arithmetic_three arithmetic_two arm_text between by_count byte_one byte_three byte_two called called_text
-    case_on compare_two condition_of counted_text digits escape external_name field_four field_one field_three field_two fits_opcode form_of groups
-    has_shorter implied indexed is_by_word is_unnumbered jump_alone jump_one jump_two kind_text literal_alone loaded local_word mnemonic_of moved
+unfolding arithmetic_alone arithmetic_one arithmetic_three arithmetic_two arm_text beside between by_count byte_one byte_three byte_two called called_text
+    case_on compare_two compared condition_of counted_text digits escape external_name field_four field_one field_three field_two fits_opcode form_of groups
+    has_shorter implied indexed is_by_word is_member is_unnumbered jump_alone jump_one jump_two kind_text literal_alone loaded local_word mnemonic_of moved
     of_four of_none of_one of_three of_two one_counted operation_in operation_of packed padded part_stored phrase_of place_text places_compared
     plain_none plain_one plain_two pointer_one pointer_two returned set_four set_one set_three set_two sets_joined shape_of shown_item spelling_of
     standard_call standard_name standard_names stored_text system_name system_names table_text template text_two unary_on value_text values_compared
-    variable_alone variable_one variable_text words_of
+    members_text set_text variable_alone variable_one variable_text words_of
 worked_addresses = record {
   element = refl;
   larger = refl;
@@ -127,28 +129,31 @@ worked_addresses = record {
 }
 
 pub worked_missing : WorkedMissing
-unfolding arithmetic_alone arithmetic_one arithmetic_three arithmetic_two arm_text between by_count byte_one byte_three byte_two called called_text
-    case_on compare_two condition_of counted_text digits escape external_name field_four field_one field_three field_two fits_opcode form_of groups
-    has_shorter implied indexed is_by_word is_unnumbered jump_alone jump_one jump_two kind_text literal_alone loaded local_word mnemonic_of moved
+unfolding arithmetic_alone arithmetic_one arithmetic_three arithmetic_two arm_text beside between by_count byte_one byte_three byte_two called called_text
+    case_on compare_two compared condition_of counted_text digits escape external_name field_four field_one field_three field_two fits_opcode form_of groups
+    has_shorter implied indexed is_by_word is_member is_unnumbered jump_alone jump_one jump_two kind_text literal_alone loaded local_word mnemonic_of moved
     of_four of_none of_one of_three of_two one_counted operation_in operation_of packed padded part_stored phrase_of place_text places_compared
     plain_none plain_one plain_two pointer_one pointer_two returned set_four set_one set_three set_two sets_joined shape_of shown_item spelling_of
     standard_call standard_name standard_names stored_text system_name system_names table_text template text_two unary_on value_text values_compared
-    variable_alone variable_one variable_text words_of
+    members_text set_text variable_alone variable_one variable_text words_of
 worked_missing = record {
   one = refl;
   two = refl;
   called = refl;
+  not_known = refl;
+  named_not_known = refl;
+  standard_not_known = refl;
   by_a_jump = refl;
 }
 
 pub worked_calls : WorkedCalls
-unfolding arithmetic_alone arithmetic_one arithmetic_three arithmetic_two arm_text between by_count byte_one byte_three byte_two called called_text
-    case_on compare_two condition_of counted_text digits escape external_name field_four field_one field_three field_two fits_opcode form_of groups
-    has_shorter implied indexed is_by_word is_unnumbered jump_alone jump_one jump_two kind_text literal_alone loaded local_word mnemonic_of moved
+unfolding arithmetic_alone arithmetic_one arithmetic_three arithmetic_two arm_text beside between by_count byte_one byte_three byte_two called called_text
+    case_on compare_two compared condition_of counted_text digits escape external_name field_four field_one field_three field_two fits_opcode form_of groups
+    has_shorter implied indexed is_by_word is_member is_unnumbered jump_alone jump_one jump_two kind_text literal_alone loaded local_word mnemonic_of moved
     of_four of_none of_one of_three of_two one_counted operation_in operation_of packed padded part_stored phrase_of place_text places_compared
     plain_none plain_one plain_two pointer_one pointer_two returned set_four set_one set_three set_two sets_joined shape_of shown_item spelling_of
     standard_call standard_name standard_names stored_text system_name system_names table_text template text_two unary_on value_text values_compared
-    variable_alone variable_one variable_text words_of
+    members_text set_text variable_alone variable_one variable_text words_of
 worked_calls = record {
   towers = refl;
   alone = refl;
@@ -166,13 +171,13 @@ worked_calls = record {
 }
 
 pub worked_jumps : WorkedJumps
-unfolding arithmetic_alone arithmetic_one arithmetic_three arithmetic_two arm_text between by_count byte_one byte_three byte_two called called_text
-    case_on compare_two condition_of counted_text digits escape external_name field_four field_one field_three field_two fits_opcode form_of groups
-    has_shorter implied indexed is_by_word is_unnumbered jump_alone jump_one jump_two kind_text literal_alone loaded local_word mnemonic_of moved
+unfolding arithmetic_alone arithmetic_one arithmetic_three arithmetic_two arm_text beside between by_count byte_one byte_three byte_two called called_text
+    case_on compare_two compared condition_of counted_text digits escape external_name field_four field_one field_three field_two fits_opcode form_of groups
+    has_shorter implied indexed is_by_word is_member is_unnumbered jump_alone jump_one jump_two kind_text literal_alone loaded local_word mnemonic_of moved
     of_four of_none of_one of_three of_two one_counted operation_in operation_of packed padded part_stored phrase_of place_text places_compared
     plain_none plain_one plain_two pointer_one pointer_two returned set_four set_one set_three set_two sets_joined shape_of shown_item spelling_of
     standard_call standard_name standard_names stored_text system_name system_names table_text template text_two unary_on value_text values_compared
-    variable_alone variable_one variable_text words_of
+    members_text set_text variable_alone variable_one variable_text words_of
 worked_jumps = record {
   if_not = refl;
   always = refl;
@@ -184,13 +189,13 @@ worked_jumps = record {
 }
 
 pub worked_others : WorkedOthers
-unfolding arithmetic_alone arithmetic_one arithmetic_three arithmetic_two arm_text between by_count byte_one byte_three byte_two called called_text
-    case_on compare_two condition_of counted_text digits escape external_name field_four field_one field_three field_two fits_opcode form_of groups
-    has_shorter implied indexed is_by_word is_unnumbered jump_alone jump_one jump_two kind_text literal_alone loaded local_word mnemonic_of moved
+unfolding arithmetic_alone arithmetic_one arithmetic_three arithmetic_two arm_text beside between by_count byte_one byte_three byte_two called called_text
+    case_on compare_two compared condition_of counted_text digits escape external_name field_four field_one field_three field_two fits_opcode form_of groups
+    has_shorter implied indexed is_by_word is_member is_unnumbered jump_alone jump_one jump_two kind_text literal_alone loaded local_word mnemonic_of moved
     of_four of_none of_one of_three of_two one_counted operation_in operation_of packed padded part_stored phrase_of place_text places_compared
     plain_none plain_one plain_two pointer_one pointer_two returned set_four set_one set_three set_two sets_joined shape_of shown_item spelling_of
     standard_call standard_name standard_names stored_text system_name system_names table_text template text_two unary_on value_text values_compared
-    variable_alone variable_one variable_text words_of
+    members_text set_text variable_alone variable_one variable_text words_of
 worked_others = record {
   byte = refl;
   other_segment = refl;
@@ -198,13 +203,13 @@ worked_others = record {
 }
 
 pub worked_literals : WorkedLiterals
-unfolding arithmetic_alone arithmetic_one arithmetic_three arithmetic_two arm_text between by_count byte_one byte_three byte_two called called_text
-    case_on compare_two condition_of counted_text digits escape external_name field_four field_one field_three field_two fits_opcode form_of groups
-    has_shorter implied indexed is_by_word is_unnumbered jump_alone jump_one jump_two kind_text literal_alone loaded local_word mnemonic_of moved
+unfolding arithmetic_alone arithmetic_one arithmetic_three arithmetic_two arm_text beside between by_count byte_one byte_three byte_two called called_text
+    case_on compare_two compared condition_of counted_text digits escape external_name field_four field_one field_three field_two fits_opcode form_of groups
+    has_shorter implied indexed is_by_word is_member is_unnumbered jump_alone jump_one jump_two kind_text literal_alone loaded local_word mnemonic_of moved
     of_four of_none of_one of_three of_two one_counted operation_in operation_of packed padded part_stored phrase_of place_text places_compared
     plain_none plain_one plain_two pointer_one pointer_two returned set_four set_one set_three set_two sets_joined shape_of shown_item spelling_of
     standard_call standard_name standard_names stored_text system_name system_names table_text template text_two unary_on value_text values_compared
-    variable_alone variable_one variable_text words_of
+    members_text set_text variable_alone variable_one variable_text words_of
 worked_literals = record {
   prompt = refl;
   apostrophe = refl;
@@ -217,13 +222,13 @@ worked_literals = record {
 }
 
 pub worked_comparisons : WorkedComparisons
-unfolding arithmetic_alone arithmetic_one arithmetic_three arithmetic_two arm_text between by_count byte_one byte_three byte_two called called_text
-    case_on compare_two condition_of counted_text digits escape external_name field_four field_one field_three field_two fits_opcode form_of groups
-    has_shorter implied indexed is_by_word is_unnumbered jump_alone jump_one jump_two kind_text literal_alone loaded local_word mnemonic_of moved
+unfolding arithmetic_alone arithmetic_one arithmetic_three arithmetic_two arm_text beside between by_count byte_one byte_three byte_two called called_text
+    case_on compare_two compared condition_of counted_text digits escape external_name field_four field_one field_three field_two fits_opcode form_of groups
+    has_shorter implied indexed is_by_word is_member is_unnumbered jump_alone jump_one jump_two kind_text literal_alone loaded local_word mnemonic_of moved
     of_four of_none of_one of_three of_two one_counted operation_in operation_of packed padded part_stored phrase_of place_text places_compared
     plain_none plain_one plain_two pointer_one pointer_two returned set_four set_one set_three set_two sets_joined shape_of shown_item spelling_of
     standard_call standard_name standard_names stored_text system_name system_names table_text template text_two unary_on value_text values_compared
-    variable_alone variable_one variable_text words_of
+    members_text set_text variable_alone variable_one variable_text words_of
 worked_comparisons = record {
   assigned = refl;
   strings = refl;
@@ -236,13 +241,13 @@ worked_comparisons = record {
 }
 
 pub worked_parts : WorkedParts
-unfolding arithmetic_alone arithmetic_one arithmetic_three arithmetic_two arm_text between by_count byte_one byte_three byte_two called called_text
-    case_on compare_two condition_of counted_text digits escape external_name field_four field_one field_three field_two fits_opcode form_of groups
-    has_shorter implied indexed is_by_word is_unnumbered jump_alone jump_one jump_two kind_text literal_alone loaded local_word mnemonic_of moved
+unfolding arithmetic_alone arithmetic_one arithmetic_three arithmetic_two arm_text beside between by_count byte_one byte_three byte_two called called_text
+    case_on compare_two compared condition_of counted_text digits escape external_name field_four field_one field_three field_two fits_opcode form_of groups
+    has_shorter implied indexed is_by_word is_member is_unnumbered jump_alone jump_one jump_two kind_text literal_alone loaded local_word mnemonic_of moved
     of_four of_none of_one of_three of_two one_counted operation_in operation_of packed padded part_stored phrase_of place_text places_compared
     plain_none plain_one plain_two pointer_one pointer_two returned set_four set_one set_three set_two sets_joined shape_of shown_item spelling_of
     standard_call standard_name standard_names stored_text system_name system_names table_text template text_two unary_on value_text values_compared
-    variable_alone variable_one variable_text words_of
+    members_text set_text variable_alone variable_one variable_text words_of
 worked_parts = record {
   byte_loaded = refl;
   byte_stored = refl;
@@ -260,13 +265,13 @@ worked_parts = record {
 }
 
 pub worked_sets : WorkedSets
-unfolding arithmetic_alone arithmetic_one arithmetic_three arithmetic_two arm_text between by_count byte_one byte_three byte_two called called_text
-    case_on compare_two condition_of counted_text digits escape external_name field_four field_one field_three field_two fits_opcode form_of groups
-    has_shorter implied indexed is_by_word is_unnumbered jump_alone jump_one jump_two kind_text literal_alone loaded local_word mnemonic_of moved
+unfolding arithmetic_alone arithmetic_one arithmetic_three arithmetic_two arm_text beside between by_count byte_one byte_three byte_two called called_text
+    case_on compare_two compared condition_of counted_text digits escape external_name field_four field_one field_three field_two fits_opcode form_of groups
+    has_shorter implied indexed is_by_word is_member is_unnumbered jump_alone jump_one jump_two kind_text literal_alone loaded local_word mnemonic_of moved
     of_four of_none of_one of_three of_two one_counted operation_in operation_of packed padded part_stored phrase_of place_text places_compared
     plain_none plain_one plain_two pointer_one pointer_two returned set_four set_one set_three set_two sets_joined shape_of shown_item spelling_of
     standard_call standard_name standard_names stored_text system_name system_names table_text template text_two unary_on value_text values_compared
-    variable_alone variable_one variable_text words_of
+    members_text set_text variable_alone variable_one variable_text words_of
 worked_sets = record {
   member = refl;
   member_of_words = refl;
@@ -276,10 +281,66 @@ worked_sets = record {
   no_sum = refl;
   with_words = refl;
   of_words = refl;
+  beside_two_words = refl;
+  two_words_beside = refl;
   not_adjusted =
       refl;
   before_words = refl;
   adjusted_words = refl;
   adjusted = refl;
   set_missing = refl;
+}
+
+pub worked_characters : WorkedCharacters
+unfolding arithmetic_alone arithmetic_one arithmetic_three arithmetic_two arm_text beside between by_count byte_one byte_three byte_two called called_text
+    case_on compare_two compared condition_of counted_text digits escape external_name field_four field_one field_three field_two fits_opcode form_of groups
+    has_shorter implied indexed is_by_word is_member is_unnumbered jump_alone jump_one jump_two kind_text literal_alone loaded local_word mnemonic_of moved
+    of_four of_none of_one of_three of_two one_counted operation_in operation_of packed padded part_stored phrase_of place_text places_compared
+    plain_none plain_one plain_two pointer_one pointer_two returned set_four set_one set_three set_two sets_joined shape_of shown_item spelling_of
+    standard_call standard_name standard_names stored_text system_name system_names table_text template text_two unary_on value_text values_compared
+    members_text set_text variable_alone variable_one variable_text words_of
+worked_characters = record {
+  compared = refl;
+  in_front = refl;
+  of_bytes = refl;
+  stored = refl;
+  apostrophe = refl;
+  backslash = refl;
+  below = refl;
+  above = refl;
+  far_above = refl;
+  not_shortest = refl;
+  added = refl;
+  of_words = refl;
+  bits = refl;
+}
+
+pub worked_constants : WorkedConstants
+unfolding arithmetic_alone arithmetic_one arithmetic_three arithmetic_two arm_text beside between by_count byte_one byte_three byte_two called called_text
+    case_on compare_two compared condition_of counted_text digits escape external_name field_four field_one field_three field_two fits_opcode form_of groups
+    has_shorter implied indexed is_by_word is_member is_unnumbered jump_alone jump_one jump_two kind_text literal_alone loaded local_word mnemonic_of moved
+    of_four of_none of_one of_three of_two one_counted operation_in operation_of packed padded part_stored phrase_of place_text places_compared
+    plain_none plain_one plain_two pointer_one pointer_two returned set_four set_one set_three set_two sets_joined shape_of shown_item spelling_of
+    standard_call standard_name standard_names stored_text system_name system_names table_text template text_two unary_on value_text values_compared
+    members_text set_text variable_alone variable_one variable_text words_of
+worked_constants = record {
+  two_words = refl;
+  over_words = refl;
+  one_word = refl;
+  highest = refl;
+  with_another = refl;
+  no_word = refl;
+  adjusted = refl;
+  joined = refl;
+  no_member = refl;
+  a_word_more = refl;
+  by_its_high_byte = refl;
+  word_not_shortest = refl;
+  count_not_shortest = refl;
+  one_word_in_code = refl;
+  other_count = refl;
+  made_of_one = refl;
+  made_of_range = refl;
+  made_of_longer = refl;
+  made_of_one_constant = refl;
 }

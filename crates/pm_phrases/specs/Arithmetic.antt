@@ -1,5 +1,5 @@
 -- Operations on words as integers.
-use Rattle.std.specs.Prelude.{ℕ, ◌+◌, nat_lt, if◌then◌else◌, List, ◌++◌, codes, Option, Some, None}
+use Rattle.std.specs.Prelude.{ℕ, ◌+◌, List, ◌++◌, codes, Option, Some, None}
 use Rattle.pm_families.specs.declared.families.Arithmetic.{Arithmetic}
 use Rattle.pm_families.specs.declared.families.Arithmetic.TheVariants as arithmetic
 use Rattle.pm_families.specs.declared.families.Unary.{Unary}
@@ -8,7 +8,9 @@ use Rattle.pm_code.specs.Text.{signed_text}
 use Rattle.pm_phrases.specs.declared.operand.Form.{Form}
 use Rattle.pm_phrases.specs.declared.operand.Form.TheVariants as form
 use Rattle.pm_phrases.specs.declared.spelling.Spelling.{Spelling}
-use Rattle.pm_phrases.specs.Shown.{Shown, value, value_text}
+use Rattle.pm_phrases.specs.declared.spelling.Spelling.TheVariants as spelling
+use Rattle.pm_phrases.specs.Literals.{beside}
+use Rattle.pm_phrases.specs.Shown.{Shown, constant_strength, standing, value, value_text}
 use Rattle.pm_phrases.specs.Signs.{binary_sign, binary_strength, relation_sign}
 use Rattle.pm_phrases.specs.Spelled.{marks}
 
@@ -18,13 +20,19 @@ unfoldable pub between : Shown → List ℕ → ℕ → Shown → Shown
 between a sign strength b =
     value strength (value_text a strength ++ (codes " " ++ (sign ++ (codes " " ++ value_text b (strength + 1)))))
 
--- a number with a minus is weaker
-abbrev pub constant_strength : ℕ → ℕ
-constant_strength w = if nat_lt w 32768 then 9 else 4
+-- a comparison, in which a number beside a byte may be a character
+unfoldable pub compared : Shown → List ℕ → Shown → Shown
+compared a sign b =
+    value 1 (beside b.form a 1 ++ (codes " " ++ (sign ++ (codes " " ++ beside a.form b 2))))
+
+-- a number that is not in its shortest spelling is no constant of a set, and no character
+abbrev pub constant_form : Spelling → ℕ → Form
+constant_form spelling.Shortest w = form.Constant w
+constant_form _ w = form.Value (constant_strength w)
 
 -- SLDC, LDCI, LDCN
 unfoldable pub arithmetic_alone : Spelling → Arithmetic → Option Shown
-arithmetic_alone s (arithmetic.Constant w) = Some (value (constant_strength w) (signed_text w ++ marks s))
+arithmetic_alone s (arithmetic.Constant w) = Some (standing (constant_form s w) (signed_text w ++ marks s))
 arithmetic_alone s arithmetic.Nil = Some (value 9 (codes "NIL"))
 arithmetic_alone s _ = None
 
@@ -41,7 +49,7 @@ arithmetic_one _ a = None
 
 abbrev pub words_two : Arithmetic → Shown → Shown → Option Shown
 words_two (arithmetic.OnTwo o) a b = Some (between a (binary_sign o) (binary_strength o) b)
-words_two (arithmetic.Compare r) a b = Some (between a (relation_sign r) 1 b)
+words_two (arithmetic.Compare r) a b = Some (compared a (relation_sign r) b)
 words_two _ a b = None
 
 abbrev pub unless_set : Form → Option Shown → Option Shown

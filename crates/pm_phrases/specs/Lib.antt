@@ -1,6 +1,7 @@
 pub mod Shown
 pub mod Missing
 pub mod Spelled
+pub mod Literals
 pub mod Signs
 pub mod Variables
 pub mod Arithmetic
@@ -8,7 +9,6 @@ pub mod Pointers
 pub mod Calls
 pub mod Jumps
 pub mod Cases
-pub mod Literals
 pub mod Comparisons
 pub mod Parts
 pub mod Sets

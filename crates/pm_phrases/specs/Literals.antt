@@ -1,12 +1,18 @@
 -- What stands in the code.
-use Rattle.std.specs.Prelude.{ℕ, ◌/◌, ◌%◌, Bool, false, ◌==◌, ◌&&◌, ◌||◌, nat_le, if◌then◌else◌}
-use Rattle.std.specs.Prelude.{List, [], ◌∷◌, ◌++◌, Option, Some, None}
+use Rattle.std.specs.Prelude.{ℕ, ◌/◌, ◌%◌, Bool, false, ◌==◌, ◌&&◌, ◌||◌, nat_le, nat_lt, if◌then◌else◌}
+use Rattle.std.specs.Prelude.{List, [], ◌∷◌, ◌++◌, codes, Option, Some, None}
 use Rattle.std.specs.List.{flat_map}
 use Rattle.pm_families.specs.declared.families.Literal.{Literal}
 use Rattle.pm_families.specs.declared.families.Literal.TheVariants as literal
 use Rattle.pm_code.specs.Text.{hex_digit, quoted}
+use Rattle.pm_opcode.specs.declared.operation.Operation.{Operation}
+use Rattle.pm_opcode.specs.declared.operation.Operation.TheVariants as operation
+use Rattle.pm_opcode.specs.Operations.{operation_of}
+use Rattle.pm_code.specs.Item.{Item}
+use Rattle.pm_code.specs.Item.Item.{Plain}
+use Rattle.pm_phrases.specs.declared.operand.Form.{Form}
 use Rattle.pm_phrases.specs.declared.operand.Form.TheVariants as form
-use Rattle.pm_phrases.specs.Shown.{Shown, standing}
+use Rattle.pm_phrases.specs.Shown.{Shown, standing, value_text}
 
 -- 32..126 but the apostrophe and the backslash stand for themselves between apostrophes
 abbrev pub is_own : ℕ → Bool
@@ -31,3 +37,22 @@ unfoldable pub literal_alone : List ℕ → Literal → Option Shown
 literal_alone named (literal.String start) = Some (standing form.Literal (apostrophes named))
 literal_alone named (literal.Characters start) = Some (standing form.Literal (quoted named))
 literal_alone named (literal.Words start count) = None
+
+abbrev pub words_by : Operation → List ℕ → Option (List ℕ)
+words_by (operation.Literal (literal.Words start count)) named = Some named
+words_by _ named = None
+
+-- the bytes of the words of LDC
+abbrev pub words_in : Item ℕ → Option (List ℕ)
+words_in (Plain i named) = words_by (operation_of i) named
+words_in _ = None
+
+abbrev pub character_by : Form → Shown → ℕ → List ℕ
+character_by (form.Constant c) s strength =
+    if nat_lt c 256 && is_own c then codes "CHR'" ++ c ∷ codes "'" else value_text s strength
+character_by _ s strength = value_text s strength
+
+-- Beside a byte a number is shown as the character that it may be.
+unfoldable pub beside : Form → Shown → ℕ → List ℕ
+beside form.Byte s strength = character_by s.form s strength
+beside _ s strength = value_text s strength

@@ -1,5 +1,5 @@
 -- Operands that stand for what no operand leaves, of what an operation takes.
-use Rattle.std.specs.Prelude.{List, [], ◌∷◌, ◌++◌, ◌==◌, if◌then◌else◌, codes, Option, Some, None}
+use Rattle.std.specs.Prelude.{Bool, List, [], ◌∷◌, ◌++◌, ◌==◌, if◌then◌else◌, codes, Option, Some, None}
 use Rattle.std.specs.Fmt.{decimal}
 use Rattle.pm_effects.specs.declared.effect.Share.{Share}
 use Rattle.pm_effects.specs.declared.effect.Share.TheVariants as share
@@ -24,6 +24,10 @@ if_any (Some s) = s ∷ []
 -- What is missing stands below what is there.
 abbrev pub pops_of : Missing → List Shown
 pops_of m = if_any (pop_of m.below) ++ if_any (pop_of m.top)
+
+-- What stands for operands that are not there: where it is not known what is taken, `?`.
+abbrev pub stand_ins : Bool → Missing → List Shown
+stand_ins known m = if known then pops_of m else value 9 (codes "?") ∷ []
 
 abbrev pub listed : Pops → List Shown
 listed pops.None = []

@@ -9,14 +9,12 @@ use Rattle.pm_families.specs.declared.families.Text.{Text}
 use Rattle.pm_families.specs.declared.families.Text.TheVariants as text
 use Rattle.pm_phrases.specs.declared.operand.Form.{Form}
 use Rattle.pm_phrases.specs.declared.operand.Form.TheVariants as form
+use Rattle.pm_phrases.specs.Literals.{beside}
 use Rattle.pm_phrases.specs.Shown.{Shown, place_text, standing, value, value_text}
 
--- a part of what an address leads to is its own text as a value
-abbrev pub own_text : Shown → Shown
-own_text a = value 9 a.text
-
-unfoldable pub part_stored : Shown → Shown → Shown
-part_stored a v = value 0 (a.text ++ (codes " := " ++ value_text v 0))
+-- what is stored to a part of what an address leads to, which is a byte or bits
+unfoldable pub part_stored : Form → Shown → Shown → Shown
+part_stored kind a v = value 0 (a.text ++ (codes " := " ++ beside kind v 0))
 
 abbrev pub if_character : Form → Shown → Option Shown
 if_character form.Character s = Some s
@@ -28,19 +26,20 @@ if_bits _ s = None
 
 -- LDB behind IXS
 unfoldable pub byte_one : Byte → Shown → Option Shown
-byte_one byte.Load a = if_character a.form (own_text a)
+byte_one byte.Load a = if_character a.form (standing form.Byte a.text)
 byte_one byte.Store a = None
 
 -- LDB of an address and an index; STB behind IXS
 unfoldable pub byte_two : Byte → Shown → Shown → Option Shown
-byte_two byte.Load a i = Some (value 9 (place_text a ++ (codes ".byte[" ++ (value_text i 0 ++ codes "]"))))
-byte_two byte.Store a v = if_character a.form (part_stored a v)
+byte_two byte.Load a i =
+    Some (standing form.Byte (place_text a ++ (codes ".byte[" ++ (value_text i 0 ++ codes "]"))))
+byte_two byte.Store a v = if_character a.form (part_stored form.Byte a v)
 
 -- STB
 unfoldable pub byte_three : Byte → Shown → Shown → Shown → Option Shown
 byte_three byte.Load a i v = None
 byte_three byte.Store a i v =
-    Some (value 0 (place_text a ++ (codes ".byte[" ++ (value_text i 0 ++ (codes "] := " ++ value_text v 0)))))
+    Some (value 0 (place_text a ++ (codes ".byte[" ++ (value_text i 0 ++ (codes "] := " ++ beside form.Byte v 0)))))
 
 -- IXS, SAS
 unfoldable pub text_two : Text → Shown → Shown → Shown
@@ -51,7 +50,7 @@ text_two (text.Assign n) a b =
 
 -- LDP behind IXP
 unfoldable pub field_one : Field → Shown → Option Shown
-field_one field.Load a = if_bits a.form (own_text a)
+field_one field.Load a = if_bits a.form (value 9 a.text)
 field_one _ a = None
 
 unfoldable pub packed : ℕ → ℕ → Shown → Shown → Shown
@@ -62,7 +61,7 @@ packed per_word width a i =
 -- IXP; STP behind it
 unfoldable pub field_two : Field → Shown → Shown → Option Shown
 field_two (field.Index per_word width) a i = Some (packed per_word width a i)
-field_two field.Store a v = if_bits a.form (part_stored a v)
+field_two field.Store a v = if_bits a.form (part_stored form.Bits a v)
 field_two field.Load a i = None
 
 -- LDP of an address, so many bits, from a bit on

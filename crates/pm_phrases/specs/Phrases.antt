@@ -1,5 +1,5 @@
 -- The text of an operation on its operands.
-use Rattle.std.specs.Prelude.{ℕ, List, ◌++◌, codes, Option, Some, None}
+use Rattle.std.specs.Prelude.{ℕ, Bool, List, ◌++◌, codes, Option, Some, None}
 use Rattle.std.specs.Option.{option_or}
 use Rattle.pm_code.specs.Item.{Item}
 use Rattle.pm_code.specs.Shown.{shown_item}
@@ -7,8 +7,10 @@ use Rattle.pm_phrases.specs.declared.around.Around.{Around}
 use Rattle.pm_phrases.specs.declared.around.Missing.{Missing}
 use Rattle.pm_phrases.specs.Calls.{called}
 use Rattle.pm_phrases.specs.Counts.{by_count, operation_in}
-use Rattle.pm_phrases.specs.Missing.{pops_of}
-use Rattle.pm_phrases.specs.Shown.{Shown, arguments, value}
+use Rattle.pm_phrases.specs.Literals.{words_in}
+use Rattle.pm_phrases.specs.Missing.{stand_ins}
+use Rattle.pm_phrases.specs.declared.operand.Form.TheVariants as form
+use Rattle.pm_phrases.specs.Shown.{Shown, arguments}
 
 -- The text that an item has of its own. A call has any number of operands.
 unfoldable pub template : Around → Item ℕ → List Shown → Option Shown
@@ -17,9 +19,14 @@ template around item operands = option_or (called (operation_in item) operands) 
 -- what has none is its line of the disassembly in braces, with its operands behind it
 abbrev pub or_braced : Item ℕ → List Shown → Option Shown → Shown
 or_braced item operands (Some s) = s
-or_braced item operands None = value 9 (codes "{" ++ (shown_item item ++ (codes "}" ++ arguments operands)))
+or_braced item operands None = record {
+  text = codes "{" ++ (shown_item item ++ (codes "}" ++ arguments operands));
+  form = form.Value 9;
+  words = words_in item;
+}
 
--- The text of an operation on its operands, from the first to the last, behind those that are missing.
-unfoldable pub phrase_of : Around → Item ℕ → Missing → List Shown → Shown
-phrase_of around item missing operands =
-    let all = pops_of missing ++ operands in or_braced item all (template around item all)
+-- The text of an operation on its operands, from the first to the last, behind those that are missing. Of what is not
+-- known to take so many, `?` stands for all.
+unfoldable pub phrase_of : Around → Item ℕ → Bool → Missing → List Shown → Shown
+phrase_of around item known missing operands =
+    let all = stand_ins known missing ++ operands in or_braced item all (template around item all)

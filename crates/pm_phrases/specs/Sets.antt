@@ -1,16 +1,100 @@
 -- Sets. One that stands on the stack as a set is one operand; another is its words and their count, two operands where
 -- the words are one.
-use Rattle.std.specs.Prelude.{ℕ, ◌+◌, List, ◌++◌, codes, Option, Some, None}
+use Rattle.std.specs.Prelude.{ℕ, zero, suc, ◌+◌, ◌-◌, ◌*◌, ◌/◌, ◌%◌, ◌^◌, ◌==◌, ◌&&◌, ◌||◌, nat_le, nat_lt}
+use Rattle.std.specs.Prelude.{Bool, true, false, if◌then◌else◌, length, slice_index_or}
+use Rattle.std.specs.Prelude.{List, [], ◌∷◌, ◌++◌, codes, Option, Some, None}
 use Rattle.std.specs.Fmt.{decimal}
+use Rattle.std.specs.Int.{to_le_bytes, w16}
 use Rattle.pm_families.specs.declared.families.Set.{Set}
 use Rattle.pm_families.specs.declared.families.Set.TheVariants as set
 use Rattle.pm_phrases.specs.declared.operand.Form.{Form}
 use Rattle.pm_phrases.specs.declared.operand.Form.TheVariants as form
+use Rattle.pm_phrases.specs.declared.sets.Behind.{Behind}
+use Rattle.pm_phrases.specs.declared.sets.Behind.TheVariants as behind
 use Rattle.pm_phrases.specs.Shown.{Shown, standing, value, value_text}
+
+-- ---- sets that are constants
+
+-- Whether a number is in the set of these bytes: it is bit e mod 16 of the word that stands e div 16 before the last,
+-- which is pushed last and so has the least numbers.
+unfoldable pub is_member : List ℕ → ℕ → Bool
+is_member bytes e = nat_lt (e / 8) (length bytes)
+    && (slice_index_or bytes (2 * (length bytes / 2 - (e / 16 + 1)) + e / 8 % 2) 0 / 2 ^ (e % 8) % 2 == 1)
+
+abbrev pub behind_next : Behind → Bool → Behind
+behind_next b true = behind.Member
+behind_next behind.Nothing false = behind.Nothing
+behind_next _ false = behind.Gap
+
+-- a number by what stands before it, whether it is a member, and whether the next one is: the first of several that
+-- follow one another is shown, and the last behind `..`
+abbrev pub member_text : Behind → Bool → Bool → ℕ → List ℕ
+member_text behind.Nothing true next e = decimal e
+member_text behind.Gap true next e = codes ", " ++ decimal e
+member_text behind.Member true false e = codes ".." ++ decimal e
+member_text _ _ _ e = []
+
+abbrev pub no_member : Behind
+no_member = behind.Nothing
+
+-- the members among so many numbers, from one on
+abbrev pub members_from : List ℕ → Behind → ℕ → ℕ → List ℕ
+members_from bytes before e zero = []
+members_from bytes before e (suc n) = member_text before (is_member bytes e) (is_member bytes (e + 1)) e
+    ++ members_from bytes (behind_next before (is_member bytes e)) (e + 1) n
+
+-- the count of the words, where the highest one has no member, and fewer would do
+abbrev pub count_text : List ℕ → ℕ → List ℕ
+count_text bytes n =
+    if (slice_index_or bytes 0 0 == 0) && (slice_index_or bytes 1 0 == 0) then codes "#" ++ decimal n else []
+
+-- a set of so many words by its members
+unfoldable pub members_text : List ℕ → ℕ → List ℕ
+members_text bytes n =
+    codes "[" ++ (members_from bytes no_member 0 (16 * n) ++ (codes "]" ++ count_text bytes n))
+
+abbrev pub if_counted : List ℕ → ℕ → Option (List ℕ)
+if_counted bytes n = if nat_le 2 n && (length bytes / 2 == n) then Some (members_text bytes n) else None
+
+abbrev pub constant_by : Option (List ℕ) → Form → Form → Option (List ℕ)
+constant_by (Some bytes) f (form.Constant n) = if_counted bytes n
+constant_by None (form.Constant w) (form.Constant n) =
+    if n == 1 then Some (members_text (to_le_bytes w16 w) 1) else None
+constant_by _ _ _ = None
+
+-- the set of words and their count, where both are constants: one word is a number, more are those of LDC
+abbrev pub constant_set : Shown → Shown → Option (List ℕ)
+constant_set words n = constant_by words.words words.form n.form
+
+abbrev pub or_counted : Option (List ℕ) → Shown → Shown → List ℕ
+or_counted (Some text) words n = text
+or_counted None words n = codes "SET(" ++ (value_text words 0 ++ (codes ", " ++ (value_text n 0 ++ codes ")")))
 
 -- a set of words and their count
 unfoldable pub counted_text : Shown → Shown → List ℕ
-counted_text words n = codes "SET(" ++ (value_text words 0 ++ (codes ", " ++ (value_text n 0 ++ codes ")")))
+counted_text words n = or_counted (constant_set words n) words n
+
+abbrev pub is_constant : Form → Bool
+is_constant (form.Constant w) = true
+is_constant _ = false
+
+-- Behind what makes a set of constants stands a mark, since without it the text is that of a set that is a constant.
+abbrev pub constant_mark : Form → Form → List ℕ
+constant_mark a b = if is_constant a && is_constant b then codes "!" else []
+
+abbrev pub is_no_words : Form → Bool
+is_no_words (form.Constant w) = w == 0
+is_no_words _ = false
+
+-- a set that is one operand: a count of 0 is the empty set
+unfoldable pub set_text : Shown → ℕ → List ℕ
+set_text s k = if is_no_words s.form then codes "[]" else value_text s k
+
+abbrev pub is_set : Form → Bool
+is_set (form.Set k) = true
+is_set f = is_no_words f
+
+-- ---- operations
 
 -- the sign between two sets that make a third
 abbrev pub set_sign : Set → Option (List ℕ)
@@ -29,23 +113,27 @@ joined strength a sign b = standing (form.Set strength) (a ++ (codes " " ++ (sig
 
 -- SGS, ADJ
 unfoldable pub set_one : Set → Shown → Option Shown
-set_one set.Singleton a = Some (standing (form.Set 9) (codes "[" ++ (value_text a 0 ++ codes "]")))
-set_one (set.Adjust n) a = Some (value 4 (codes "adj[" ++ (decimal n ++ (codes "] " ++ value_text a 4))))
+set_one set.Singleton a =
+    Some (standing (form.Set 9) (codes "[" ++ (value_text a 0 ++ (codes "]" ++ constant_mark a.form a.form))))
+set_one (set.Adjust n) a = Some (value 4 (codes "adj[" ++ (decimal n ++ (codes "] " ++ set_text a 4))))
 set_one _ a = None
 
-abbrev pub joined_by : ℕ → Shown → Shown → Option (List ℕ) → Form → Form → Option Shown
-joined_by k a b (Some sign) (form.Set m) (form.Set n) = Some (joined k (value_text a k) sign (value_text b (k + 1)))
-joined_by k a b _ _ _ = None
+abbrev pub joined_by : ℕ → Shown → Shown → Option (List ℕ) → Option Shown
+joined_by k a b (Some sign) = if is_set a.form && is_set b.form
+    then Some (joined k (set_text a k) sign (set_text b (k + 1)))
+    else None
+joined_by k a b None = None
 
 -- Integers have the same signs, so both have to be sets.
 unfoldable pub sets_joined : Set → Shown → Shown → Option Shown
-sets_joined o a b = joined_by (set_strength o) a b (set_sign o) a.form b.form
+sets_joined o a b = joined_by (set_strength o) a b (set_sign o)
 
 -- INN, SRS, ADJ, UNI, DIF, INT
 unfoldable pub set_two : Set → Shown → Shown → Option Shown
-set_two set.Member a b = Some (value 1 (value_text a 2 ++ (codes " IN " ++ value_text b 2)))
+set_two set.Member a b = Some (value 1 (value_text a 2 ++ (codes " IN " ++ set_text b 2)))
 set_two set.Subrange a b =
-    Some (standing (form.Set 9) (codes "[" ++ (value_text a 0 ++ (codes ".." ++ (value_text b 0 ++ codes "]")))))
+    Some (standing (form.Set 9) (codes "[" ++ (value_text a 0 ++ (codes ".."
+    ++ (value_text b 0 ++ (codes "]" ++ constant_mark a.form b.form))))))
 set_two (set.Adjust n) a b = Some (value 4 (codes "adj[" ++ (decimal n ++ (codes "] " ++ counted_text a b))))
 set_two o a b = sets_joined o a b
 
@@ -66,6 +154,7 @@ abbrev pub four_by : ℕ → Shown → Shown → Shown → Shown → Option (Lis
 four_by k a b c d (Some sign) = Some (joined k (counted_text a b) sign (counted_text c d))
 four_by k a b c d None = None
 
--- both of words
+-- both of words; beside one that stands there as a set the words of the other are two operands, and their count a third
 unfoldable pub set_four : Set → Shown → Shown → Shown → Shown → Option Shown
-set_four o a b c d = four_by (set_strength o) a b c d (set_sign o)
+set_four o a b c d =
+    if is_set a.form || is_set d.form then None else four_by (set_strength o) a b c d (set_sign o)

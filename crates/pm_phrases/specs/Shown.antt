@@ -1,18 +1,25 @@
 -- How a text stands as an operand.
-use Rattle.std.specs.Prelude.{ℕ, Bool, true, false, List, [], ◌∷◌, ◌++◌, nat_lt, if◌then◌else◌, codes}
+use Rattle.std.specs.Prelude.{ℕ, Bool, true, false, List, [], ◌∷◌, ◌++◌, nat_lt, if◌then◌else◌, codes, Option, None}
 use Rattle.std.specs.List.{flat_map}
 use Rattle.pm_phrases.specs.declared.operand.Form.{Form}
 use Rattle.pm_phrases.specs.declared.operand.Form.TheVariants as form
 
--- A text as an operand, and how it stands.
+-- A text as an operand, how it stands, and the bytes of the words in the code that it is, if it is such.
 pub record Shown : Type 0 where
   pub text : List ℕ
   pub form : Form
+  pub words : Option (List ℕ)
+
+-- a number with a minus is weaker
+abbrev pub constant_strength : ℕ → ℕ
+constant_strength w = if nat_lt w 32768 then 9 else 4
 
 -- how strongly it holds together as a value: 9 needs no brackets anywhere
 abbrev pub strength_of : Form → ℕ
 strength_of (form.Value k) = k
 strength_of (form.Set k) = k
+strength_of (form.Constant w) = constant_strength w
+strength_of form.Byte = 9
 strength_of form.Literal = 9
 strength_of form.Variable = 8
 strength_of form.Place = 8
@@ -24,6 +31,8 @@ strength_of form.Bits = 8
 abbrev pub lead_of : Form → List ℕ
 lead_of (form.Value k) = codes ""
 lead_of (form.Set k) = codes ""
+lead_of (form.Constant w) = codes ""
+lead_of form.Byte = codes ""
 lead_of form.Literal = codes ""
 lead_of form.Variable = codes "@"
 lead_of form.Place = codes "@"
@@ -35,6 +44,8 @@ lead_of form.Bits = codes "@"
 abbrev pub is_place : Form → Bool
 is_place (form.Value k) = false
 is_place (form.Set k) = false
+is_place (form.Constant w) = false
+is_place form.Byte = false
 is_place form.Literal = true
 is_place form.Variable = true
 is_place form.Place = true
@@ -61,7 +72,7 @@ unfoldable pub stored_text : Shown → List ℕ
 stored_text s = stored_by s.form s
 
 abbrev pub standing : Form → List ℕ → Shown
-standing form text = record { text = text; form = form }
+standing form text = record { text = text; form = form; words = None }
 
 abbrev pub value : ℕ → List ℕ → Shown
 value strength text = standing (form.Value strength) text

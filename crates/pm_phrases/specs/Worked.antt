@@ -25,11 +25,15 @@ words_missing n = record { below = share.Words 0; top = share.Words n }
 
 -- with all of its operands
 abbrev pub on : Item ℕ → List Shown → Shown
-on item operands = phrase_of three_parameters item (words_missing 0) operands
+on item operands = phrase_of three_parameters item true (words_missing 0) operands
 
 -- with so many words missing
 abbrev pub lacking : ℕ → Item ℕ → List Shown → Shown
-lacking n item operands = phrase_of three_parameters item (words_missing n) operands
+lacking n item operands = phrase_of three_parameters item true (words_missing n) operands
+
+-- where it is not known what is taken
+abbrev pub unknown : Item ℕ → Shown
+unknown item = phrase_of three_parameters item false (words_missing 0) []
 
 -- SLDC, SLDL, SLDO
 abbrev pub constant : ℕ → Shown
@@ -168,6 +172,9 @@ pub record WorkedMissing : Type 0 where
   pub two : (lacking 2 (coded 154 0 0) []).text ≡ codes "{STO}(POP*2)"
   pub called : (lacking 1 (coded 205 0 19) (address 85 ∷ constant 0 ∷ [])).text
       ≡ codes "FWRITESTRING(POP, @global85, 0)"
+  pub not_known : (unknown (coded 205 3 1)).text ≡ codes "CXP_3_1(?)"
+  pub named_not_known : (unknown (coded 205 0 22)).text ≡ codes "FWRITELN(?)"
+  pub standard_not_known : (unknown (coded 158 99 0)).text ≡ codes "{CSP 99}(?)"
   pub by_a_jump : (lacking 1 (Jump 161 (To 47)) []).text ≡ codes "IF NOT (POP) GOTO L00047"
 
 -- CGP, CLP, CXP, CSP
@@ -265,7 +272,7 @@ packed a i = on (coded 192 8 2) (a ∷ i ∷ [])
 pub record WorkedParts : Type 0 where
   pub byte_loaded : (byte (further 8 (word 0 (address 3))) (constant 0)).text ≡ codes "global3.0^.8.byte[0]"
   pub byte_stored : (on (coded 191 0 0) (global 5 ∷ local 4 ∷ constant 65 ∷ [])).text
-      ≡ codes "global5^.byte[local4] := 65"
+      ≡ codes "global5^.byte[local4] := CHR'A'"
   pub character_loaded : (on (coded 190 0 0) (character (address 44) (local 4) ∷ [])).text
       ≡ codes "global44.char[local4]"
   pub character_stored : (on (coded 191 0 0) (character (address 44) (local 4) ∷ local 5 ∷ [])).text
@@ -294,7 +301,7 @@ four_words n = on (coded 188 4 0) (address n ∷ [])
 -- INN, UNI, INT, DIF, ADJ
 pub record WorkedSets : Type 0 where
   pub member : (on (coded 139 0 0) (local 1 ∷ range (constant 1) (constant 9) ∷ [])).text
-      ≡ codes "param1 IN [1..9]"
+      ≡ codes "param1 IN [1..9]!"
   pub member_of_words : (on (coded 139 0 0) (local 1 ∷ four_words 7 ∷ constant 4 ∷ [])).text
       ≡ codes "param1 IN SET(load[4] global7, 4)"
   pub both : (on (coded 140 0 0) (single (local 1) ∷ single (local 2) ∷ [])).text ≡ codes "[param1] * [param2]"
@@ -308,6 +315,10 @@ pub record WorkedSets : Type 0 where
       ≡ codes "SET(load[4] global7, 4) + [param1]"
   pub of_words : (on (coded 133 0 0) (four_words 7 ∷ constant 4 ∷ four_words 9 ∷ constant 4 ∷ [])).text
       ≡ codes "SET(load[4] global7, 4) - SET(load[4] global9, 4)"
+  pub beside_two_words : (on (coded 156 0 0) (single (local 1) ∷ local 1 ∷ local 2 ∷ constant 2 ∷ [])).text
+      ≡ codes "{UNI}([param1], param1, param2, 2)"
+  pub two_words_beside : (on (coded 156 0 0) (local 1 ∷ local 2 ∷ constant 2 ∷ single (local 1) ∷ [])).text
+      ≡ codes "{UNI}(param1, param2, 2, [param1])"
   pub not_adjusted : (word 0 (on (coded 160 1 0) (single (local 1) ∷ []))).text ≡ codes "(adj[1] [param1])^"
   pub before_words : (on (coded 156 0 0) (single (local 1) ∷ four_words 7 ∷ constant 4 ∷ [])).text
       ≡ codes "[param1] + SET(load[4] global7, 4)"
@@ -316,5 +327,65 @@ pub record WorkedSets : Type 0 where
   pub adjusted : (on (coded 189 4 0) (address 7 ∷ on (coded 160 4 0) (single (local 1) ∷ []) ∷ [])).text
       ≡ codes "global7 :=[4] adj[4] [param1]"
   pub set_missing :
-      (phrase_of three_parameters (coded 139 0 0) record { below = share.Words 1; top = share.Set } []).text
+      (phrase_of three_parameters (coded 139 0 0) true record { below = share.Words 1; top = share.Set } []).text
       ≡ codes "POP IN POP SET"
+
+-- IXS and LDB
+abbrev pub letter : Shown
+letter = on (coded 190 0 0) (character (address 44) (local 4) ∷ [])
+
+-- EQUI
+abbrev pub equal : Shown → Shown → Shown
+equal a b = on (coded 195 0 0) (a ∷ b ∷ [])
+
+-- A number beside a byte.
+pub record WorkedCharacters : Type 0 where
+  pub compared : (equal letter (constant 65)).text ≡ codes "global44.char[local4] = CHR'A'"
+  pub in_front : (equal (constant 65) letter).text ≡ codes "CHR'A' = global44.char[local4]"
+  pub of_bytes : (equal (byte (global 5) (local 4)) (constant 126)).text ≡ codes "global5^.byte[local4] = CHR'~'"
+  pub stored : (on (coded 191 0 0) (character (address 44) (local 4) ∷ constant 32 ∷ [])).text
+      ≡ codes "global44.char[local4] := CHR' '"
+  pub apostrophe : (equal letter (constant 39)).text ≡ codes "global44.char[local4] = 39"
+  pub backslash : (equal letter (constant 92)).text ≡ codes "global44.char[local4] = 92"
+  pub below : (equal letter (constant 31)).text ≡ codes "global44.char[local4] = 31"
+  pub above : (equal letter (constant 127)).text ≡ codes "global44.char[local4] = 127"
+  pub far_above : (equal letter (on (coded 199 321 0) [])).text ≡ codes "global44.char[local4] = 321"
+  pub not_shortest : (equal letter (on (coded 199 65 0) [])).text ≡ codes "global44.char[local4] = 65!"
+  pub added : (add letter (constant 65)).text ≡ codes "global44.char[local4] + 65"
+  pub of_words : (equal (local 4) (constant 65)).text ≡ codes "local4 = 65"
+  pub bits : (on (coded 187 0 0) (packed (address 6) (local 4) ∷ constant 65 ∷ [])).text
+      ≡ codes "global6.packed[local4: 8 of 2 bits] := 65"
+
+-- INN and UNI with a set of words and their count
+abbrev pub member : Shown → Shown → Shown
+member words n = on (coded 139 0 0) (local 1 ∷ words ∷ n ∷ [])
+
+abbrev pub with_one : Shown → Shown → Shown
+with_one words n = on (coded 156 0 0) (words ∷ n ∷ single (local 1) ∷ [])
+
+-- LDC
+abbrev pub in_code : List ℕ → Shown
+in_code bytes = naming 179 bytes
+
+-- Sets that are constants: bits 1 and 8 of 258, and bit 0 of the word before it, which is number 16.
+pub record WorkedConstants : Type 0 where
+  pub two_words : (member (in_code (1 ∷ 0 ∷ 2 ∷ 1 ∷ [])) (constant 2)).text ≡ codes "param1 IN [1, 8, 16]"
+  pub over_words : (member (in_code (1 ∷ 0 ∷ 1 ∷ 128 ∷ [])) (constant 2)).text ≡ codes "param1 IN [0, 15..16]"
+  pub one_word : (member (constant 46) (constant 1)).text ≡ codes "param1 IN [1..3, 5]"
+  pub highest : (member (on (coded 199 49152 0) []) (constant 1)).text ≡ codes "param1 IN [14..15]"
+  pub with_another : (with_one (in_code (1 ∷ 0 ∷ 2 ∷ 1 ∷ [])) (constant 2)).text ≡ codes "[1, 8, 16] + [param1]"
+  pub no_word : (on (coded 139 0 0) (local 1 ∷ constant 0 ∷ [])).text ≡ codes "param1 IN []"
+  pub adjusted : (on (coded 160 4 0) (constant 0 ∷ [])).text ≡ codes "adj[4] []"
+  pub joined : (on (coded 156 0 0) (constant 0 ∷ single (local 1) ∷ [])).text ≡ codes "[] + [param1]"
+  pub no_member : (member (constant 0) (constant 1)).text ≡ codes "param1 IN []#1"
+  pub a_word_more : (member (in_code (0 ∷ 0 ∷ 2 ∷ 0 ∷ [])) (constant 2)).text ≡ codes "param1 IN [1]#2"
+  pub by_its_high_byte : (member (in_code (0 ∷ 1 ∷ 0 ∷ 0 ∷ [])) (constant 2)).text ≡ codes "param1 IN [24]"
+  pub word_not_shortest : (member (on (coded 199 14 0) []) (constant 1)).text ≡ codes "param1 IN SET(14!, 1)"
+  pub count_not_shortest : (member (constant 14) (on (coded 199 1 0) [])).text ≡ codes "param1 IN SET(14, 1!)"
+  pub one_word_in_code : (member (in_code (14 ∷ 0 ∷ [])) (constant 1)).text ≡ codes "param1 IN SET({LDC 14}, 1)"
+  pub other_count : (member (in_code (1 ∷ 0 ∷ 2 ∷ 1 ∷ [])) (constant 3)).text
+      ≡ codes "param1 IN SET({LDC 1, 258}, 3)"
+  pub made_of_one : (single (constant 5)).text ≡ codes "[5]!"
+  pub made_of_range : (range (constant 1) (constant 9)).text ≡ codes "[1..9]!"
+  pub made_of_longer : (single (on (coded 199 5 0) [])).text ≡ codes "[5!]"
+  pub made_of_one_constant : (range (constant 1) (local 2)).text ≡ codes "[1..param2]"

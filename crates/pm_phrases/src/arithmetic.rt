@@ -3,7 +3,8 @@
 ghost use Rattle.std.specs.Prelude.{◌≡◌, ◌<◌, IfOk};
 ghost use Rattle.pm_phrases.specs.Arithmetic as texts;
 
-use crate::operand::{Form, Phrase, Value, valued};
+use crate::literals::Beside;
+use crate::operand::{Form, Phrase, Value, standing, valued};
 use crate::signs::{binary_sign, binary_strength, relation_sign};
 use crate::spelling::{Marks, Spelling};
 use pm_code::Signed;
@@ -26,6 +27,15 @@ pub(crate) fn infixed(
     Ok(valued(text, strength))
 }
 
+/// A comparison.
+#[tactic(auto, unfolding(crate::specs::Arithmetic::compared))]
+fn compared(alloc: Global, a: &Phrase, sign: &'static str, b: &Phrase) -> Result<Phrase, AllocError>
+    ensures shown { IfOk result (λ p. p ≡ texts.compared a.now sign.now b.now) }
+{
+    let (first, second) = (Beside(b.form, a, 1), Beside(a.form, b, 2));
+    Ok(valued(format!(in alloc; "{first} {sign} {second}")?, 1))
+}
+
 #[tactic(auto, unfolding(crate::specs::Arithmetic::arithmetic_alone))]
 pub(crate) fn arithmetic_alone(
     alloc: Global,
@@ -37,27 +47,19 @@ pub(crate) fn arithmetic_alone(
     match what {
         Arithmetic::Constant(word) => {
             let text = format!(in alloc; "{}{}", Signed(word), Marks(spelling))?;
-            let strength = if word < 32768 { 9 } else { 4 };
-            Ok(Some(valued(text, strength)))
+            let form = match spelling {
+                Spelling::Shortest => Form::Constant(word),
+                _ if word < 32768 => Form::Value(9),
+                _ => Form::Value(4),
+            };
+            Ok(Some(standing(text, form)))
         }
         Arithmetic::Nil => Ok(Some(valued(format!(in alloc; "NIL")?, 9))),
         _ => Ok(None),
     }
 }
 
-#[tactic(auto, unfolding(crate::specs::Arithmetic::unary_on))]
-fn unary_on(alloc: Global, o: Unary, a: &Phrase) -> Result<Phrase, AllocError>
-    ensures shown { IfOk result (λ p. p ≡ texts.unary_on o a.now) }
-{
-    match o {
-        Unary::Absolute => Ok(valued(format!(in alloc; "ABS({})", Value(a, 0))?, 9)),
-        Unary::Negate => Ok(valued(format!(in alloc; "-({})", Value(a, 0))?, 4)),
-        Unary::Square => Ok(valued(format!(in alloc; "SQR({})", Value(a, 0))?, 9)),
-        Unary::Complement => Ok(valued(format!(in alloc; "NOT {}", Value(a, 4))?, 4)),
-    }
-}
-
-#[tactic(auto, unfolding(crate::specs::Arithmetic::arithmetic_one))]
+#[tactic(auto, unfolding(crate::specs::Arithmetic::arithmetic_one, crate::specs::Arithmetic::unary_on))]
 pub(crate) fn arithmetic_one(
     alloc: Global,
     what: Arithmetic,
@@ -65,10 +67,15 @@ pub(crate) fn arithmetic_one(
 ) -> Result<Option<Phrase>, AllocError>
     ensures shown { IfOk result (λ p. p ≡ texts.arithmetic_one what a.now) }
 {
-    match what {
-        Arithmetic::OnOne(o) => Ok(Some(unary_on(alloc, o, a)?)),
-        _ => Ok(None),
-    }
+    let Arithmetic::OnOne(o) = what else {
+        return Ok(None);
+    };
+    Ok(Some(match o {
+        Unary::Absolute => valued(format!(in alloc; "ABS({})", Value(a, 0))?, 9),
+        Unary::Negate => valued(format!(in alloc; "-({})", Value(a, 0))?, 4),
+        Unary::Square => valued(format!(in alloc; "SQR({})", Value(a, 0))?, 9),
+        Unary::Complement => valued(format!(in alloc; "NOT {}", Value(a, 4))?, 4),
+    }))
 }
 
 #[tactic(auto, unfolding(crate::specs::Arithmetic::arithmetic_two))]
@@ -86,7 +93,7 @@ pub(crate) fn arithmetic_two(
             let strength = binary_strength(o);
             Ok(Some(infixed(alloc, a, binary_sign(o), strength, b)?))
         }
-        (_, Arithmetic::Compare(r)) => Ok(Some(infixed(alloc, a, relation_sign(r), 1, b)?)),
+        (_, Arithmetic::Compare(r)) => Ok(Some(compared(alloc, a, relation_sign(r), b)?)),
         _ => Ok(None),
     }
 }

@@ -44,9 +44,13 @@ fn pop(alloc: Global, share: Share) -> Result<Option<Phrase>, AllocError>
     }
 }
 
-pub(crate) fn stand_ins(alloc: Global, what: Missing) -> Result<Pops, AllocError>
-    ensures pops { IfOk result (λ p. missing.listed p ≡ missing.pops_of what) }
+/// The operands that stand for what is missing; where it is not known what is taken, `?` for all.
+pub(crate) fn stand_ins(alloc: Global, known: bool, what: Missing) -> Result<Pops, AllocError>
+    ensures pops { IfOk result (λ p. missing.listed p ≡ missing.stand_ins known what) }
 {
+    if !known {
+        return Ok(Pops::One(valued(format!(in alloc; "?")?, 9)));
+    }
     let below = pop(alloc, what.below)?;
     let top = pop(alloc, what.top)?;
     match (below, top) {

@@ -46,26 +46,7 @@ impl fmt::Display for CalledName {
     }
 }
 
-#[tactic(auto, unfolding(crate::specs::Calls::standard_call))]
-fn standard_call(
-    alloc: Global,
-    number: u8,
-    pops: &Pops,
-    operands: &[Phrase],
-) -> Result<Option<Phrase>, AllocError>
-    ensures shown { IfOk result
-        (λ p. p ≡ texts.standard_call number (listed pops.now ++ operands.now)) }
-{
-    match standard_name(number) {
-        Some(name) => {
-            let arguments = AllArguments(pops, operands);
-            Ok(Some(valued(format!(in alloc; "{name}{arguments}")?, 9)))
-        }
-        None => Ok(None),
-    }
-}
-
-#[tactic(auto, unfolding(crate::specs::Calls::called))]
+#[tactic(auto, unfolding(crate::specs::Calls::called, crate::specs::Calls::standard_call))]
 pub(crate) fn called(
     alloc: Global,
     what: Operation,
@@ -79,7 +60,13 @@ pub(crate) fn called(
             let arguments = AllArguments(pops, operands);
             Ok(Some(valued(format!(in alloc; "{}{arguments}", CalledName(call))?, 9)))
         }
-        Operation::Standard(number) => standard_call(alloc, number, pops, operands),
+        Operation::Standard(number) => {
+            let Some(name) = standard_name(number) else {
+                return Ok(None);
+            };
+            let arguments = AllArguments(pops, operands);
+            Ok(Some(valued(format!(in alloc; "{name}{arguments}")?, 9)))
+        }
         _ => Ok(None),
     }
 }

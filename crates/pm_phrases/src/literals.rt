@@ -1,12 +1,14 @@
 //! What stands in the code.
 
-ghost use Rattle.std.specs.Prelude.{◌≡◌, ◌∷◌, ◌++◌, IfOk, Some};
+ghost use Rattle.std.specs.Prelude.{◌≡◌, ◌∷◌, ◌++◌, IfOk, Some, option_map};
 ghost use Rattle.std.specs.List.{flat_map};
+ghost use Rattle.pm_code.specs.Views.{placed_item};
 ghost use Rattle.pm_phrases.specs.Literals as texts;
 
-use crate::operand::{Form, Phrase, standing};
-use pm_code::Quoted;
+use crate::operand::{Form, Phrase, Value, standing};
+use pm_code::{Item, Quoted};
 use pm_families::Literal;
+use pm_opcode::Operation;
 use std::alloc::{AllocError, Global};
 use std::fmt;
 
@@ -85,5 +87,38 @@ pub(crate) fn literal_alone(
             Ok(Some(standing(text, Form::Literal)))
         }
         Literal::Words { .. } => Ok(None),
+    }
+}
+
+/// The bytes of the words of LDC.
+pub(crate) fn words_in(alloc: Global, item: &Item<usize>) -> Result<Option<Vec<u8>>, AllocError>
+    ensures words { IfOk result
+        (λ bytes. option_map (λ bytes. bytes.items) bytes ≡ texts.words_in (placed_item item.now)) }
+{
+    let Item::Plain(instr, named) = item else {
+        return Ok(None);
+    };
+    match Operation::of(instr) {
+        Operation::Literal(Literal::Words { .. }) => Ok(Some(named.to_vec(alloc)?)),
+        _ => Ok(None),
+    }
+}
+
+/// An operand beside something of a form, as a character where it is a number beside a byte.
+#[derive(Clone, Copy)]
+pub(crate) struct Beside<'a>(pub Form, pub &'a Phrase, pub u8);
+
+impl fmt::Display for Beside<'_> {
+    ghost output = { λ b. Some (texts.beside b.0 b.1.now b.2) };
+
+    #[tactic(auto, unfolding(crate::specs::Literals::beside))]
+    fn fmt<W: fmt::Write>(&self, f: &mut fmt::Formatter<W>) -> fmt::Result {
+        let operand = self.1;
+        match (self.0, operand.form) {
+            (Form::Byte, Form::Constant(word)) if word < 256 && is_own(word as u8) => {
+                write!(f, "CHR'{}'", char::from(word as u8))
+            }
+            _ => write!(f, "{}", Value(operand, self.2)),
+        }
     }
 }

@@ -14,6 +14,10 @@ pub enum Form {
     Value(u8),
     /// A set, and how strongly it holds together.
     Set(u8),
+    /// A number in its shortest spelling.
+    Constant(u16),
+    /// The value of a byte.
+    Byte,
     /// The variable that an address leads to.
     Variable,
     /// A word so many words behind the place that an address leads to.
@@ -35,15 +39,21 @@ pub struct Phrase {
     pub text: String,
     /// How it stands.
     pub form: Form,
+    /// The bytes of the words in the code that it is, if it is such.
+    pub(crate) words: Option<Vec<u8>>,
 }
 
 impl Model for Phrase {
-    ghost use Rattle.std.specs.Prelude.{string_bytes};
+    ghost use Rattle.std.specs.Prelude.{option_map, string_bytes};
     ghost use Rattle.pm_phrases.specs.Shown.{Shown};
 
     ghost Value = { Shown };
 
-    ghost view = { λ o. record { text = string_bytes o.text; form = o.form } };
+    ghost view = { λ o. record {
+      text = string_bytes o.text;
+      form = o.form;
+      words = option_map (λ bytes. bytes.items) o.words;
+    } };
 }
 
 /// How strongly a text of a form holds together as a value.
@@ -52,7 +62,8 @@ pub(crate) fn strength_of(form: Form) -> u8
 {
     match form {
         Form::Value(strength) | Form::Set(strength) => strength,
-        Form::Literal => 9,
+        Form::Constant(word) => { if word < 32768 { 9 } else { 4 } }
+        Form::Literal | Form::Byte => 9,
         Form::Variable | Form::Place | Form::Element | Form::Character | Form::Bits => 8,
     }
 }
@@ -62,7 +73,7 @@ fn lead_of(form: Form) -> &'static str
     ensures lead { result.now ≡ shown.lead_of form }
 {
     match form {
-        Form::Value(_) | Form::Set(_) | Form::Literal => "",
+        Form::Value(_) | Form::Set(_) | Form::Constant(_) | Form::Byte | Form::Literal => "",
         Form::Variable | Form::Place | Form::Element | Form::Character | Form::Bits => "@",
     }
 }
@@ -73,7 +84,12 @@ fn is_place(form: Form) -> bool
 {
     match form {
         Form::Variable | Form::Place | Form::Element | Form::Literal => true,
-        Form::Value(_) | Form::Set(_) | Form::Character | Form::Bits => false,
+        Form::Value(_)
+        | Form::Set(_)
+        | Form::Constant(_)
+        | Form::Byte
+        | Form::Character
+        | Form::Bits => false,
     }
 }
 
@@ -166,17 +182,18 @@ impl fmt::Display for Arguments<'_> {
     }
 }
 
-pub(crate) fn valued(text: String, strength: u8) -> Phrase
-    ensures value { result ≡ shown.value strength (string_bytes text) }
-{
-    Phrase {
-        text,
-        form: Form::Value(strength),
-    }
-}
-
 pub(crate) fn standing(text: String, form: Form) -> Phrase
     ensures standing { result ≡ shown.standing form (string_bytes text) }
 {
-    Phrase { text, form }
+    Phrase {
+        text,
+        form,
+        words: None,
+    }
+}
+
+pub(crate) fn valued(text: String, strength: u8) -> Phrase
+    ensures value { result ≡ shown.value strength (string_bytes text) }
+{
+    standing(text, Form::Value(strength))
 }

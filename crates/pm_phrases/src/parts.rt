@@ -3,17 +3,18 @@
 ghost use Rattle.std.specs.Prelude.{◌≡◌, IfOk, Some, string_bytes};
 ghost use Rattle.pm_phrases.specs.Parts as texts;
 
+use crate::literals::Beside;
 use crate::operand::{Form, Phrase, Place, Value, standing, valued};
 use pm_families::{Byte, Field, Text};
 use std::alloc::{AllocError, Global};
 
 /// What is stored to a part of what an address leads to.
 #[tactic(auto, unfolding(crate::specs::Parts::part_stored))]
-fn part_stored(alloc: Global, a: &Phrase, b: &Phrase) -> Result<Phrase, AllocError>
-    ensures shown { IfOk result (λ p. p ≡ texts.part_stored a.now b.now) }
+fn part_stored(alloc: Global, kind: Form, a: &Phrase, b: &Phrase) -> Result<Phrase, AllocError>
+    ensures shown { IfOk result (λ p. p ≡ texts.part_stored kind a.now b.now) }
 {
     let text = &a.text;
-    Ok(valued(format!(in alloc; "{text} := {}", Value(b, 0))?, 0))
+    Ok(valued(format!(in alloc; "{text} := {}", Beside(kind, b, 0))?, 0))
 }
 
 #[tactic(auto, unfolding(crate::specs::Parts::byte_one))]
@@ -23,7 +24,7 @@ pub(crate) fn byte_one(alloc: Global, what: Byte, a: &Phrase) -> Result<Option<P
     match (what, a.form) {
         (Byte::Load, Form::Character) => {
             let text = &a.text;
-            Ok(Some(valued(format!(in alloc; "{text}")?, 9)))
+            Ok(Some(standing(format!(in alloc; "{text}")?, Form::Byte)))
         }
         _ => Ok(None),
     }
@@ -41,9 +42,9 @@ pub(crate) fn byte_two(
     match (what, a.form) {
         (Byte::Load, _) => {
             let text = format!(in alloc; "{}.byte[{}]", Place(a), Value(b, 0))?;
-            Ok(Some(valued(text, 9)))
+            Ok(Some(standing(text, Form::Byte)))
         }
-        (Byte::Store, Form::Character) => Ok(Some(part_stored(alloc, a, b)?)),
+        (Byte::Store, Form::Character) => Ok(Some(part_stored(alloc, Form::Byte, a, b)?)),
         _ => Ok(None),
     }
 }
@@ -61,8 +62,8 @@ pub(crate) fn byte_three(
     match what {
         Byte::Load => Ok(None),
         Byte::Store => {
-            let text = format!(in alloc; "{}.byte[{}] := {}", Place(a), Value(b, 0), Value(c, 0))?;
-            Ok(Some(valued(text, 0)))
+            let (a, b, c) = (Place(a), Value(b, 0), Beside(Form::Byte, c, 0));
+            Ok(Some(valued(format!(in alloc; "{a}.byte[{b}] := {c}")?, 0)))
         }
     }
 }
@@ -105,22 +106,7 @@ pub(crate) fn field_one(
     }
 }
 
-#[tactic(auto, unfolding(crate::specs::Parts::packed))]
-fn packed(
-    alloc: Global,
-    per_word: u8,
-    width: u8,
-    a: &Phrase,
-    b: &Phrase,
-) -> Result<Phrase, AllocError>
-    ensures shown { IfOk result (λ p. p ≡ texts.packed per_word width a.now b.now) }
-{
-    let (a, b) = (Place(a), Value(b, 0));
-    let text = format!(in alloc; "{a}.packed[{b}: {per_word} of {width} bits]")?;
-    Ok(standing(text, Form::Bits))
-}
-
-#[tactic(auto, unfolding(crate::specs::Parts::field_two))]
+#[tactic(auto, unfolding(crate::specs::Parts::field_two, crate::specs::Parts::packed))]
 pub(crate) fn field_two(
     alloc: Global,
     what: Field,
@@ -130,8 +116,12 @@ pub(crate) fn field_two(
     ensures shown { IfOk result (λ p. p ≡ texts.field_two what a.now b.now) }
 {
     match (what, a.form) {
-        (Field::Index { per_word, width }, _) => { Ok(Some(packed(alloc, per_word, width, a, b)?)) }
-        (Field::Store, Form::Bits) => Ok(Some(part_stored(alloc, a, b)?)),
+        (Field::Index { per_word, width }, _) => {
+            let (a, b) = (Place(a), Value(b, 0));
+            let text = format!(in alloc; "{a}.packed[{b}: {per_word} of {width} bits]")?;
+            Ok(Some(standing(text, Form::Bits)))
+        }
+        (Field::Store, Form::Bits) => Ok(Some(part_stored(alloc, Form::Bits, a, b)?)),
         _ => Ok(None),
     }
 }

@@ -8,7 +8,8 @@ ghost use Rattle.pm_phrases.specs.Phrases as texts;
 use crate::around::{AllArguments, Around, Missing, Pops, stand_ins};
 use crate::calls::called;
 use crate::counts::{counted, operation_in};
-use crate::operand::{Phrase, valued};
+use crate::literals::words_in;
+use crate::operand::{Form, Phrase};
 use pm_code::Item;
 use std::alloc::{AllocError, Global};
 
@@ -29,24 +30,30 @@ fn template(
     }
 }
 
-/// The text of an operation on its operands, from the first to the last.
+/// The text of an operation on its operands, from the first to the last. Of a call that is not known to take so many,
+/// `?` stands for all.
 #[tactic(auto, unfolding(crate::specs::Phrases::phrase_of))]
 pub fn phrase(
     alloc: Global,
     around: Around,
     item: &Item<usize>,
+    known: bool,
     missing: Missing,
     operands: &[Phrase],
 ) -> Result<Phrase, AllocError>
     ensures shown { IfOk result
-        (λ p. p ≡ texts.phrase_of around (placed_item item.now) missing operands.now) }
+        (λ p. p ≡ texts.phrase_of around (placed_item item.now) known missing operands.now) }
 {
-    let pops = stand_ins(alloc, missing)?;
+    let pops = stand_ins(alloc, known, missing)?;
     match template(alloc, around, item, &pops, operands)? {
         Some(phrase) => Ok(phrase),
         None => {
             let arguments = AllArguments(&pops, operands);
-            Ok(valued(format!(in alloc; "{{{item}}}{arguments}")?, 9))
+            Ok(Phrase {
+                text: format!(in alloc; "{{{item}}}{arguments}")?,
+                form: Form::Value(9),
+                words: words_in(alloc, item)?,
+            })
         }
     }
 }

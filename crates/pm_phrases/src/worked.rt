@@ -3,7 +3,7 @@
 ghost use Rattle.pm_phrases.specs.Worked as worked;
 
 /// Texts of each family, computed.
-#[tactic(auto, using(crate::proofs::Computed::worked_variables, crate::proofs::Computed::worked_operators, crate::proofs::Computed::worked_addresses, crate::proofs::Computed::worked_missing, crate::proofs::Computed::worked_calls, crate::proofs::Computed::worked_jumps, crate::proofs::Computed::worked_others, crate::proofs::Computed::worked_literals, crate::proofs::Computed::worked_comparisons, crate::proofs::Computed::worked_parts, crate::proofs::Computed::worked_sets))]
+#[tactic(auto, using(crate::proofs::Computed::worked_variables, crate::proofs::Computed::worked_operators, crate::proofs::Computed::worked_addresses, crate::proofs::Computed::worked_missing, crate::proofs::Computed::worked_calls, crate::proofs::Computed::worked_jumps, crate::proofs::Computed::worked_others, crate::proofs::Computed::worked_literals, crate::proofs::Computed::worked_comparisons, crate::proofs::Computed::worked_parts, crate::proofs::Computed::worked_sets, crate::proofs::Computed::worked_characters, crate::proofs::Computed::worked_constants))]
 pub fn worked_texts()
     ensures variables { worked.WorkedVariables }
     ensures operators { worked.WorkedOperators }
@@ -16,4 +16,6 @@ pub fn worked_texts()
     ensures comparisons { worked.WorkedComparisons }
     ensures parts { worked.WorkedParts }
     ensures sets { worked.WorkedSets }
+    ensures characters { worked.WorkedCharacters }
+    ensures constants { worked.WorkedConstants }
 {}

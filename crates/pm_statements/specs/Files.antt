@@ -1,14 +1,17 @@
 -- The text of a code file as statements.
 use Rattle.std.specs.Prelude.{◌≡◌, ℕ, zero, suc, ◌+◌, ◌==◌, List, [], ◌∷◌, ◌++◌, nat_le, Option, Some, None}
-use Rattle.std.specs.Prelude.{codes, string_bytes, if◌then◌else◌}
-use Rattle.std.specs.Fmt.{decimal}
+use Rattle.std.specs.Prelude.{◌*◌, codes, string_bytes, if◌then◌else◌}
+use Rattle.std.specs.Fmt.{decimal, signed_decimal}
 use Rattle.pm_codefile.specs.Dictionary.{segment_in}
 use Rattle.pm_codefile.specs.Segments.{attributes_in, procedures_in}
 use Rattle.pm_codefile.specs.declared.table.Attributes.{Attributes}
 use Rattle.pm_disasm.specs.Split.{procedure_of}
-use Rattle.pm_statements.specs.Callees.{callee_of, system_callee}
+use Rattle.pm_code.specs.Program.{Procedure}
+use Rattle.pm_statements.specs.Callees.{callee_of, no_return, returns_from, system_callee}
 use Rattle.pm_statements.specs.Parts.{Known}
 use Rattle.pm_statements.specs.Texts.{procedure_statements}
+use Rattle.pm_statements.specs.declared.callees.Returns.{Returns}
+use Rattle.pm_statements.specs.declared.callees.Returns.TheVariants as returns
 use Rattle.pm_statements.specs.declared.part.Callee.{Callee}
 use Rattle.pm_statements.specs.declared.sized.SizedTable.{SizedTable}
 use Rattle.pm_statements.specs.declared.shown.ShownTable.{ShownTable}
@@ -58,16 +61,25 @@ IsSizedTable segment s = s.callee ≡ table_callee segment s.table
 abbrev pub named : ℕ → ℕ → List ℕ
 named number slot = codes "PROCEDURE " ++ (decimal number ++ (codes " OF SEGMENT " ++ decimal slot))
 
--- that line, with the bytes of parameters and of locals
-abbrev pub header : ℕ → ℕ → ℕ → ℕ → List ℕ
-header number slot parameters locals = named number slot ++ (codes ": " ++ (decimal parameters
-    ++ (codes " bytes of parameters, " ++ (decimal locals ++ codes " of locals"))))
+-- the bytes of the result, where all returns leave as many
+abbrev pub result_text : Returns → List ℕ
+result_text (returns.Of n) = codes ", " ++ (decimal (2 * n) ++ codes " of result")
+result_text _ = []
+
+-- that line, with the level, the bytes of parameters, of locals and of the result
+abbrev pub header : ℕ → Attributes → Returns → List ℕ
+header slot a r = named a.procedure slot ++ (codes ": level " ++ (signed_decimal a.level
+    ++ (codes ", " ++ (decimal a.parameters ++ (codes " bytes of parameters, " ++ (decimal a.locals
+    ++ (codes " of locals" ++ result_text r)))))))
+
+abbrev pub returns_in : Procedure → Returns
+returns_in p = returns_from no_return p.items
 
 -- A procedure by its table: that line, and behind it the lines of its statements. Where its exit code lies before its
 -- code it has none.
 unfoldable pub table_text : Known → List ℕ → Attributes → List ℕ
 table_text k segment a = if nat_le a.enter a.exit
-    then (header a.procedure k.segment a.parameters a.locals ++ procedure_statements k (procedure_of segment a))
+    then (header k.segment a (returns_in (procedure_of segment a)) ++ procedure_statements k (procedure_of segment a))
     ++ 10 ∷ []
     else named a.procedure k.segment ++ (codes ": no code" ++ 10 ∷ [])
 

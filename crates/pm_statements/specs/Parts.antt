@@ -1,5 +1,5 @@
 -- The items of code as parts of statements.
-use Rattle.std.specs.Prelude.{ℕ, ◌+◌, ◌*◌, Bool, false, ◌==◌, ◌||◌, nat_lt, if◌then◌else◌, List, [], ◌∷◌, ◌++◌}
+use Rattle.std.specs.Prelude.{ℕ, ◌+◌, ◌*◌, Bool, true, false, ◌==◌, ◌||◌, nat_lt, if◌then◌else◌, List, [], ◌∷◌, ◌++◌}
 use Rattle.std.specs.Prelude.{Option, Some, None}
 use Rattle.std.specs.Prelude.{option_map, slice_index_or}
 use Rattle.pm_families.specs.declared.families.Arithmetic.TheVariants as arithmetic
@@ -64,12 +64,13 @@ item_instruction (OneByte b) = None
 
 -- ---- parts
 
--- A part of code: an item and its place, what it takes and what it leaves.
+-- A part of code: an item and its place, what it takes and what it leaves, and whether that is known.
 pub record Part : Type 0 where
   pub item : Item ℕ
   pub place : Place
   pub takes : Takes
   pub leaves : Leaves
+  pub known : Bool
 
 -- whether something leads to it
 abbrev pub is_reached : Place → Bool
@@ -96,13 +97,21 @@ abbrev pub leaves_by : Operation → Option Effect → Leaves
 leaves_by (operation.Arithmetic (arithmetic.Constant w)) e = leaves_constant w
 leaves_by _ e = leaves_effect e
 
--- what an instruction takes and leaves
+-- a procedure that is called, or a standard one, may take what is not known here; all else that has no effect is
+-- nothing that the machine does
+abbrev pub is_known : Operation → Option Effect → Bool
+is_known (operation.Call c) None = false
+is_known (operation.Standard n) None = false
+is_known _ _ = true
+
+-- what an instruction takes and leaves, and whether that is known
 pub record Moves : Type 0 where
   pub takes : Takes
   pub leaves : Leaves
+  pub known : Bool
 
 abbrev pub moves_by : Operation → Option Effect → Moves
-moves_by o e = record { takes = takes_of e; leaves = leaves_by o e }
+moves_by o e = record { takes = takes_of e; leaves = leaves_by o e; known = is_known o e }
 
 -- a byte is nothing that the machine does
 abbrev pub moves_of : Known → Option Instr → Moves
@@ -110,7 +119,8 @@ moves_of k None = moves_by operation.Unimplemented None
 moves_of k (Some i) = moves_by (operation_of i) (effect_by k (operation_of i) i)
 
 abbrev pub part_with : Item ℕ → Place → Moves → Part
-part_with item place m = record { item = item; place = place; takes = m.takes; leaves = m.leaves }
+part_with item place m =
+    record { item = item; place = place; takes = m.takes; leaves = m.leaves; known = m.known }
 
 abbrev pub part_of : Known → Item ℕ → Place → Part
 part_of k item place = part_with item place (moves_of k (item_instruction item))

@@ -31,7 +31,7 @@ no_trees = record { lefts = []; phrases = [] }
 abbrev pub upon : Around → Part → Missing → Pile → Pile → Pile
 upon a p missing operands before = record {
   lefts = left_by p operands.lefts ∷ before.lefts;
-  phrases = phrase_of a p.item missing (reverse operands.phrases) ∷ before.phrases;
+  phrases = phrase_of a p.item p.known missing (reverse operands.phrases) ∷ before.phrases;
 }
 
 abbrev pub pile_of : Around → Forest → Pile

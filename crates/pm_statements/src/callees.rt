@@ -39,7 +39,7 @@ pub fn system_callee(number: u8) -> Option<Callee>
 
 /// What the returns of a procedure leave.
 #[derive(Clone, Copy)]
-enum Returns {
+pub(crate) enum Returns {
     /// There is none.
     NoReturn,
     /// Each leaves so many words.
@@ -90,7 +90,7 @@ fn joined(returns: Returns, words: Option<u8>) -> Returns
 }
 
 /// What the returns among items leave.
-fn returns_of(items: &[Item<usize>]) -> Returns
+pub(crate) fn returns_of(items: &[Item<usize>]) -> Returns
     ensures returns { result ≡ callees.returns_from callees.no_return (map placed_item items.now) }
 {
     let mut returns = Returns::NoReturn;

@@ -23,7 +23,14 @@ fn put_upon(
 ) -> Result<(), AllocError>
     ensures upon { OnOk result (trees.new ≡ texts.upon around part.now missing operands.now trees.old) }
 {
-    let phrase = phrase(alloc, around, part.item, missing, &operands.phrases)?;
+    let phrase = phrase(
+        alloc,
+        around,
+        part.item,
+        part.known,
+        missing,
+        &operands.phrases,
+    )?;
     trees.lefts.push(left_by(part, &operands.lefts))?;
     trees.phrases.push(phrase)?;
     Ok(())

@@ -112,6 +112,16 @@ fn leaves_by(what: Operation, effect: Option<Effect>) -> Leaves
     }
 }
 
+/// Whether it is known what an operation takes.
+fn is_known(what: Operation, effect: Option<Effect>) -> bool
+    ensures value { result ≡ parts.is_known what effect }
+{
+    match (what, effect) {
+        (Operation::Call(_) | Operation::Standard(_), None) => false,
+        _ => true,
+    }
+}
+
 /// An instruction as a part.
 fn instruction_part<'a>(
     known: &Known<'_>,
@@ -128,6 +138,7 @@ fn instruction_part<'a>(
         place,
         takes: takes_of(effect),
         leaves: leaves_by(what, effect),
+        known: is_known(what, effect),
     }
 }
 
@@ -160,6 +171,7 @@ pub fn part_of<'a>(known: &Known<'_>, item: &'a Item<usize>, place: Place) -> Pa
             place,
             takes: takes_of(None),
             leaves: Leaves::Words(0),
+            known: true,
         },
     }
 }

@@ -55,6 +55,8 @@ pub struct Part<'a> {
     pub takes: Takes,
     /// What it leaves there.
     pub leaves: Leaves,
+    /// Whether that is known.
+    pub known: bool,
 }
 
 impl<'a> Model for Part<'a> {
@@ -68,5 +70,6 @@ impl<'a> Model for Part<'a> {
       place = p.place;
       takes = p.takes;
       leaves = p.leaves;
+      known = p.known;
     } };
 }

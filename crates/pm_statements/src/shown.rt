@@ -9,6 +9,7 @@ ghost use Rattle.pm_codefile.specs.declared.table.Attributes.{Attributes};
 ghost use Rattle.pm_disasm.specs.Offsets.{IsDecoded};
 ghost use Rattle.pm_statements.specs.Files as files;
 
+use crate::callees::{Returns, returns_of};
 use crate::items::Known;
 use crate::part::Callee;
 use crate::procedure::push_procedure;
@@ -54,18 +55,38 @@ impl fmt::Display for Named {
     }
 }
 
-/// A procedure's first line: its number and slot, the bytes of its parameters and of its locals.
+/// The bytes of a procedure's result, where all of its returns leave as many.
 #[derive(Clone, Copy)]
-struct Header(Named, u16, u16);
+struct ResultText(Returns);
 
-impl fmt::Display for Header {
-    ghost output = { λ h. Some (files.header h.0.0 h.0.1 h.1 h.2) };
+impl fmt::Display for ResultText {
+    ghost output = { λ r. Some (files.result_text r.0) };
 
     fn fmt<W: fmt::Write>(&self, f: &mut fmt::Formatter<W>) -> fmt::Result {
-        let (named, parameters, locals) = (self.0, self.1, self.2);
+        match self.0 {
+            Returns::Of(words) => {
+                let bytes = 2 * u16::from(words);
+                write!(f, ", {bytes} of result")
+            }
+            Returns::NoReturn | Returns::Different => Ok(()),
+        }
+    }
+}
+
+/// A procedure's first line: its number and slot, its level, the bytes of its parameters, its locals and its result.
+#[derive(Clone, Copy)]
+struct Header(u8, Attributes, Returns);
+
+impl fmt::Display for Header {
+    ghost output = { λ h. Some (files.header h.0 h.1 h.2) };
+
+    fn fmt<W: fmt::Write>(&self, f: &mut fmt::Formatter<W>) -> fmt::Result {
+        let a = self.1;
+        let (named, result) = (Named(a.procedure, self.0), ResultText(self.2));
+        let (level, parameters, locals) = (a.level, a.parameters, a.locals);
         write!(
             f,
-            "{named}: {parameters} bytes of parameters, {locals} of locals"
+            "{named}: level {level}, {parameters} bytes of parameters, {locals} of locals{result}"
         )
     }
 }
@@ -99,13 +120,15 @@ fn push_table<'a>(
     ensures text { OnOk result (string_bytes text.new
         ≡ string_bytes text.old ++ files.table_text known.now segment.now a.now) }
 {
-    let named = Named(a.procedure, slot_of(known));
+    let slot = slot_of(known);
     if !has_code(a) {
+        let named = Named(a.procedure, slot);
         writeln!(text, "{named}: no code")?;
         return Ok(());
     }
     let procedure = code(alloc, segment, decoded, a)?;
-    let header = Header(named, a.parameters, a.locals);
+    let returns = returns_of(&procedure.items);
+    let header = Header(slot, *a, returns);
     write!(text, "{header}")?;
     push_procedure(alloc, text, known, &procedure)?;
     text.push_str("\n")?;

@@ -7,6 +7,7 @@ use Rattle.clap.specs.Words.{Row, subcommand_rows, subcommand_rows_of}
 use Rattle.clap.specs.declared.parser.matches.ArgMatches.{ArgMatches}
 use Rattle.clap.specs.declared.parser.matches.ArgMatches.TheViews.{out-ArgMatches, out-SubCommand}
 use Rattle.clap.specs.declared.parser.matches.SubCommand.{SubCommand}
+use Rattle.pm_plan.specs.Needed.{IsOnePath, IsOptional}
 
 module _ {Z : Type 0} where
   named : (below : Option (Box SubCommand Z)) (name : List ℕ) (rows : List Row)
@@ -28,3 +29,10 @@ found_below m name rows is_name are_rows = named (out-ArgMatches m).subcommand n
 -- none is found
 pub none_below : (m : ArgMatches) → None ≡ subcommand_name_of m → subcommand_rows_of m ≡ None
 none_below m is_name = unnamed (out-ArgMatches m).subcommand is_name
+
+-- where a path stands before the verb or behind it and not at both, there is none behind it or it is not empty
+pub behind_optional : (before behind : Option (List ℕ)) → IsOnePath before behind → IsOptional behind
+behind_optional None None one = absurd one
+behind_optional None (Some path) one = one
+behind_optional (Some path) None one = tt
+behind_optional (Some path) (Some other) one = absurd one

@@ -6,6 +6,7 @@ use Rattle.std.specs.Prelude.{◌==◌}
 use Rattle.std.specs.Io.KnownBytes.{Consumes, Appends, Keeps, IsAtEnd}
 use Rattle.std.proofs.KnownBytes.{Consumes-trans, Consumes-nil, Consumes-kept, Appends-trans, Appends-nil}
 use Rattle.pm_machine.specs.State.{State}
+use Rattle.pm_debug.specs.Runs.Left.{Nothing}
 use Rattle.pm_debug.specs.Session.{Session}
 use Rattle.pm_session.specs.Commands.{command_of}
 use Rattle.pm_streams.specs.declared.fault.Fault.{Fault}
@@ -292,10 +293,12 @@ first_told old new began machine fault o b failed = record {
 
 -- ---- a machine that starts, or none
 
-pub opened_is : (d : Session) (machine : State) → d.machine ≡ machine → d.breaks ≡ [] → d.watches ≡ [] → d.shows_console ≡ false → d ≡ opened machine
-opened_is d machine a b w s =
+pub opened_is : (d : Session) (machine : State) → d.machine ≡ machine → d.breaks ≡ [] → d.watches ≡ [] → d.left ≡ Nothing
+    → d.shows_console ≡ false → d ≡ opened machine
+opened_is d machine a b w l s =
     ap (λ m. record d { machine = m }) a ∙ ap (λ breaks. record d { machine = machine; breaks = breaks }) b
-    ∙ ap (λ watches. record (opened machine) { watches = watches; shows_console = d.shows_console }) w
+    ∙ ap (λ watches. record d { machine = machine; breaks = []; watches = watches }) w
+    ∙ ap (λ left. record (opened machine) { left = left; shows_console = d.shows_console }) l
     ∙ ap (λ shows. record (opened machine) { shows_console = shows }) s
 
 pub debug_done : (old new : Streams) (start : Result State Refusal) (m : State) (outcome : Outcome) → Ok m ≡ start

@@ -11,7 +11,7 @@ returns-in_err-converse-clause-broken g c =
     rw (p.1, p.2) (debug_broken _ _ _ m _ refl
     (cut_told _ _ _ m _ c.in_err-converse.ensures.cut
     (opened_is _ _ (ap (λ (m : Whole). m.state) c.new-debugger.ensures.machine) c.new-debugger.ensures.breaks c.new-debugger.ensures.watches
-    c.new-debugger.ensures.shows)))
+    c.new-debugger.ensures.left c.new-debugger.ensures.shows)))
 
 pub returns-in_err-converse-clause-prompt : goal.returns-in_err-converse-clause-prompt
 returns-in_err-converse-clause-prompt g c =
@@ -20,7 +20,7 @@ returns-in_err-converse-clause-prompt g c =
     rw p.1 (λ failed. debug_first _ _ _ m refl
     (first_told _ _ _ m _ c.in_err-converse.ensures.cut
     (opened_is _ _ (ap (λ (m : Whole). m.state) c.new-debugger.ensures.machine) c.new-debugger.ensures.breaks c.new-debugger.ensures.watches
-    c.new-debugger.ensures.shows) failed))
+    c.new-debugger.ensures.left c.new-debugger.ensures.shows) failed))
 
 pub returns-clause-done : goal.returns-clause-done
 returns-clause-done g c =
@@ -28,5 +28,5 @@ returns-clause-done g c =
     debug_done _ _ _ m _ refl
     (done_told _ _ _ m _ c.in_ok-converse.ensures.told
     (opened_is _ _ (ap (λ (m : Whole). m.state) c.new-debugger.ensures.machine) c.new-debugger.ensures.breaks c.new-debugger.ensures.watches
-    c.new-debugger.ensures.shows)
+    c.new-debugger.ensures.left c.new-debugger.ensures.shows)
     (λ unread written. search rules))

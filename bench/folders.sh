@@ -73,7 +73,7 @@ check "a name that cannot be typed" cmp <(tail -n +2 fb/B%E9%20) <(tail -n +2 fa
 files d new SHOE 100
 check "in, but for two" ends 1 "$here/examples/import.sh" fb d
 check "each is named" [ "$(grep -c 'is left out' err)" = 2 ]
-check "and why" grep -q 'filer 1 10, no new name' err
+check "and why" grep -q 'filer 1 9, another file of that name is there' err
 check "the others are there" [ "$(files d list | wc -l)" = 7 ]
 check "as text" ends 0 "$here/examples/export.sh" --text a ft
 check "the text" cmp ft/A.TEXT <(printf 'line\n  two\n')

@@ -1,7 +1,7 @@
 """debugger.py PMACH: `pmach debug` on a pseudo terminal, where a long run is made in slices of 1,000,000 steps: each answer is the one that the
 program gives for the whole in a pipe, with breakpoints and watched words round the ends of slices, for each of many counts of steps; long answers
 have many lines. Ctrl-C in `go`, `step` and `finish`, after which `on` goes on, and at the prompt, Ctrl-D, `quit`, refusals, signals, and that no
-program and no folder is left behind. With a program `rlwrap` on the path also that lines are edited and come back."""
+program and no folder is left behind."""
 import glob
 import os
 import pty

@@ -190,8 +190,9 @@ fn between_quotes(text: &[u8]) -> Option<&[u8]>
     }
 }
 
-/// The bytes that `"text"` stands for.
-pub(crate) fn text_operand(alloc: Global, text: &[u8]) -> Result<Option<Vec<u8>>, AllocError>
+/// The bytes that `"text"` stands for, quotes included in what is read: each character from 32 to 126 but `"` and `\`
+/// for itself, `\` and two lower case hexadecimal digits for one byte. `None` where it is spelled otherwise.
+pub fn text_operand(alloc: Global, text: &[u8]) -> Result<Option<Vec<u8>>, AllocError>
     ensures bytes { IfOk result (λ list. option_map (λ bytes. bytes.items) list ≡ text_operand text.now) }
 {
     match between_quotes(text) {

@@ -55,9 +55,9 @@ leaves_below c e results base h =
     omega (arith, room, at)
 
 -- the frame of a call keeps SP above the parameters
-frame_keeps : (m n : List ℕ) (s loaded static : ℕ) (r inner : Registers) (base : Bool) (t : Table) → IsMemory m → inner.mp % 2 ≡ 0
+frame_stays : (m n : List ℕ) (s loaded static : ℕ) (r inner : Registers) (base : Bool) (t : Table) → IsMemory m → inner.mp % 2 ≡ 0
     → framed m s loaded r base t static ≡ Ok (n, inner) → word_at n (inner.mp + 10) ≡ r.sp + t.parameters
-frame_keeps m n s loaded static r inner base t is even made =
+frame_stays m n s loaded static r inner base t is even made =
     let x = frame_made m n s loaded static r inner base t made in
     let f = x.0 in
     let fits = x.1.inside_memory in
@@ -85,7 +85,7 @@ at_moves c d b e call code at results base is h made mp sp done =
     let even_sizes = even_parameters at.memory at.place (procedure_called call) t.0 t.1 in
     let mp_is : x.0.1.mp ≡ d.registers.mp = ap (λ (p : Parts). p.registers.mp) same in
     let even : x.0.1.mp % 2 ≡ 0 = rw (mp_is, sym mp) back.even in
-    let keeps = frame_keeps at.memory x.0.0 at.place at.loaded l.0 c.registers x.0.1 (is_base call t.0.level) t.0 h even l.2 in
+    let keeps = frame_stays at.memory x.0.0 at.place at.loaded l.0 c.registers x.0.1 (is_base call t.0.level) t.0 h even l.2 in
     let at_d : kept_sp d ≡ c.registers.sp + t.0.parameters = sym (ap (λ (p : Parts). kept_sp p) same) ∙ keeps in
     let below = leaves_below b e results base done in
     record {

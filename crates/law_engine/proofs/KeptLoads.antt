@@ -81,11 +81,11 @@ slot_stands c d n code (Some (Some p)) none memory bytes low made = absurd (cc)
 slot_stands c d n code (Some None) none memory bytes low made = loading_stands c d n code memory bytes low made
 
 -- the row of procedure 21, where the slot's code is there
-row_keeps : (n : ℕ) (code : List ℕ) (s u : Reach) → IsMemory s.memory → word_at s.memory s.registers.sp ≡ n → placed s.places n ≡ None
+row_stays : (n : ℕ) (code : List ℕ) (s u : Reach) → IsMemory s.memory → word_at s.memory s.registers.sp ≡ n → placed s.places n ≡ None
     → slot_code n s.places s.rows s.devices ≡ Ok (Some code) → All (λ b. b < 256) code → keep_row s ≡ Ok u
     → bytes_at u.memory (s.registers.sp + 2 - length code) (length code) ≡ code
 unfolding keep_row segment_kept
-row_keeps n code s u memory slot none needed bytes made =
+row_stays n code s u memory slot none needed bytes made =
     let x = bound (pop s.memory s.registers.sp) _ u made in
     let p = popped s.memory s.registers.sp x.0 x.1 in
     let number : x.0.word ≡ n = p.word ∙ slot in
@@ -114,16 +114,16 @@ keeps_21 : (t : State) → standard_row 21 t ≡ (or_fails (keep_row (reach t)) 
 unfolding procedure_numbered procedure_row
 keeps_21 t = refl
 
-step_keeps : (s : State) (n : ℕ) (code : List ℕ) → IsMemory s.memory → placed s.places n ≡ None → IsAtKeep n s → (stepped s).1 ≡ Went
+step_stays : (s : State) (n : ℕ) (code : List ℕ) → IsMemory s.memory → placed s.places n ≡ None → IsAtKeep n s → (stepped s).1 ≡ Went
     → slot_code n s.places s.rows s.devices ≡ Ok (Some code) → All (λ b. b < 256) code
     → bytes_at (stepped s).0.memory (s.registers.sp + 2 - length code) (length code) ≡ code
-step_keeps s n code memory none h goes needed bytes =
+step_stays s n code memory none h goes needed bytes =
     let at = h.at in
     let t = past_instruction at.instr s in
     let same : stepped s ≡ settled s (or_fails (keep_row (reach t)) >>= λ u. Ok (with_reach u t)) =
     stepped_runs s at.running ∙ ap (settled s) (executes s at.instr (operation.Standard 21) at.there at.calls ∙ keeps_21 t) in
     rw same (went_keeping s t (keep_row (reach t)) (λ m. bytes_at m (s.registers.sp + 2 - length code) (length code) ≡ code) (rw same at goes)
-    (λ u made. row_keeps n code (reach t) u memory h.slot none needed bytes made))
+    (λ u made. row_stays n code (reach t) u memory h.slot none needed bytes made))
 
 -- a step that has no code to keep does not go
 row_fails : (n : ℕ) (s u : Reach) → word_at s.memory s.registers.sp ≡ n → placed s.places n ≡ None → slot_code n s.places s.rows s.devices ≡ Ok None
@@ -163,7 +163,7 @@ file_needed file n None s is memory none h goes needed bytes = absurd (step_fail
 file_needed file n (Some code) s is memory none h goes needed bytes = record {
   code = code;
   segment = is;
-  stands = step_keeps s n code memory none h goes needed bytes;
+  stands = step_stays s n code memory none h goes needed bytes;
 }
 
 pub steps_keep : (s : State) → IsMemory s.memory → StepsKeepSegments s
@@ -207,5 +207,5 @@ steps_load_what_is_there s memory n row code there some none on bytes =
           stepped_runs s at.running ∙ ap (settled s) (executes s at.instr (operation.Call (Cxp n p)) at.there at.calls) in
           rw same (went s (call_row (Cxp n p) t) (λ m. bytes_at m (s.registers.sp - length code) (length code) ≡ code) (rw same at goes)
           (λ u made. call_loads n p code t u memory bytes none needed made));
-      kept = λ at goes. step_keeps s n code memory none at goes needed bytes;
+      kept = λ at goes. step_stays s n code memory none at goes needed bytes;
     }

@@ -66,20 +66,20 @@ use Rattle.law_engine.proofs.StepLaws as disks
 
 -- ---- what a part of a row gives has the old value of a measure
 
-abbrev Keeps : {A E V : Type 0} → (A → V) → V → Result A E → Type 0
-Keeps of v (Ok x) = of x ≡ v
-Keeps of v (Err e) = Unit {0}
+abbrev Stays : {A E V : Type 0} → (A → V) → V → Result A E → Type 0
+Stays of v (Ok x) = of x ≡ v
+Stays of v (Err e) = Unit {0}
 
-then : {A B E V : Type 0} (of : B → V) (v : V) (r : Result A E) (f : A → Result B E) → ((x : A) → Keeps of v (f x)) → Keeps of v (r >>= f)
+then : {A B E V : Type 0} (of : B → V) (v : V) (r : Result A E) (f : A → Result B E) → ((x : A) → Stays of v (f x)) → Stays of v (r >>= f)
 then of v (Ok x) f h = h x
 then of v (Err e) f h = tt
 
-after : {A B E V W : Type 0} (first : A → W) (w : W) (of : B → V) (v : V) (r : Result A E) (f : A → Result B E) → Keeps first w r
-    → ((x : A) → first x ≡ w → Keeps of v (f x)) → Keeps of v (r >>= f)
+after : {A B E V W : Type 0} (first : A → W) (w : W) (of : B → V) (v : V) (r : Result A E) (f : A → Result B E) → Stays first w r
+    → ((x : A) → first x ≡ w → Stays of v (f x)) → Stays of v (r >>= f)
 after first w of v (Ok x) f k h = h x k
 after first w of v (Err e) f k h = tt
 
-lifted : {A V : Type 0} (of : A → V) (v : V) (r : Result A ExecError) → Keeps of v r → Keeps of v (or_fails r)
+lifted : {A V : Type 0} (of : A → V) (v : V) (r : Result A ExecError) → Stays of v r → Stays of v (or_fails r)
 lifted of v (Ok x) h = h
 lifted of v (Err e) h = tt
 
@@ -95,39 +95,39 @@ of_parts p = length p.places
 abbrev of_reached : Reached → ℕ
 of_reached p = length p.places
 
-at_keeps : (c : Parts) (call : Call) (at : Reached) (n : ℕ) → length at.places ≡ n → Keeps of_parts n (called_at c call at)
+at_stays : (c : Parts) (call : Call) (at : Reached) (n : ℕ) → length at.places ≡ n → Stays of_parts n (called_at c call at)
 unfolding called_at
-at_keeps c call at n h = then of_parts n (entered at.memory at.place at.loaded c.registers call) _ (λ e. h)
+at_stays c call at n h = then of_parts n (entered at.memory at.place at.loaded c.registers call) _ (λ e. h)
 
-standing_keeps : (c : Parts) (n : ℕ) (p : SegmentPlace) → Keeps of_reached (length c.places) (reach_standing c n p)
+standing_stays : (c : Parts) (n : ℕ) (p : SegmentPlace) → Stays of_reached (length c.places) (reach_standing c n p)
 unfolding reach_standing
-standing_keeps c n p = elim (cases_Bool (p.place == c.registers.seg)) [
+standing_stays c n p = elim (cases_Bool (p.place == c.registers.seg)) [
   | inl e ↦ rw e refl
   | inr e ↦ rw e (then of_reached (length c.places) (demand (nat_lt p.count 65535) StackOverflow) _ (λ h. length-set c.places n _))
 ]
 
-loading_keeps : (c : Parts) (n : ℕ) (code : List ℕ) → Keeps of_reached (length c.places) (reach_loading c n code)
+loading_stays : (c : Parts) (n : ℕ) (code : List ℕ) → Stays of_reached (length c.places) (reach_loading c n code)
 unfolding reach_loading
-loading_keeps c n code =
+loading_stays c n code =
     then of_reached (length c.places) (code_fits c.registers code) _ (λ k. length-set c.places n _)
 
-slot_keeps : (c : Parts) (call : Call) (n : ℕ) (code : Option (List ℕ)) (slot : Option (Option SegmentPlace))
-    → Keeps of_parts (length c.places) (called_slot c call n code slot)
+slot_stays : (c : Parts) (call : Call) (n : ℕ) (code : Option (List ℕ)) (slot : Option (Option SegmentPlace))
+    → Stays of_parts (length c.places) (called_slot c call n code slot)
 unfolding called_standing called_loading
-slot_keeps c call n code None = tt
-slot_keeps c call n code (Some (Some p)) = after of_reached (length c.places) of_parts (length c.places) (reach_standing c n p) _ (standing_keeps c n p)
-    (λ at h. at_keeps c call at (length c.places) h)
-slot_keeps c call n None (Some None) = tt
-slot_keeps c call n (Some code) (Some None) = after of_reached (length c.places) of_parts (length c.places) (reach_loading c n code) _ (loading_keeps c n code)
-    (λ at h. at_keeps c call at (length c.places) h)
+slot_stays c call n code None = tt
+slot_stays c call n code (Some (Some p)) = after of_reached (length c.places) of_parts (length c.places) (reach_standing c n p) _ (standing_stays c n p)
+    (λ at h. at_stays c call at (length c.places) h)
+slot_stays c call n None (Some None) = tt
+slot_stays c call n (Some code) (Some None) = after of_reached (length c.places) of_parts (length c.places) (reach_loading c n code) _ (loading_stays c n code)
+    (λ at h. at_stays c call at (length c.places) h)
 
-called_keeps : (c : Parts) (call : Call) (code : Option (List ℕ)) → Keeps of_parts (length c.places) (called c call code)
+called_stays : (c : Parts) (call : Call) (code : Option (List ℕ)) → Stays of_parts (length c.places) (called c call code)
 unfolding called
-called_keeps c (Cxp n p) code = slot_keeps c (Cxp n p) n code _
-called_keeps c (Clp p) code = at_keeps c (Clp p) (here c) (length c.places) refl
-called_keeps c (Cgp p) code = at_keeps c (Cgp p) (here c) (length c.places) refl
-called_keeps c (Cbp p) code = at_keeps c (Cbp p) (here c) (length c.places) refl
-called_keeps c (Cip p) code = at_keeps c (Cip p) (here c) (length c.places) refl
+called_stays c (Cxp n p) code = slot_stays c (Cxp n p) n code _
+called_stays c (Clp p) code = at_stays c (Clp p) (here c) (length c.places) refl
+called_stays c (Cgp p) code = at_stays c (Cgp p) (here c) (length c.places) refl
+called_stays c (Cbp p) code = at_stays c (Cbp p) (here c) (length c.places) refl
+called_stays c (Cip p) code = at_stays c (Cip p) (here c) (length c.places) refl
 
 lessened_size : (o : Option ℕ) (places : List (Option SegmentPlace)) → length (lessened o places) ≡ length places
 lessened_size None places = refl
@@ -137,54 +137,54 @@ released_size : (s : ℕ) (places : List (Option SegmentPlace)) → length (rele
 unfolding released
 released_size s places = lessened_size (position (stands_at s) places) places
 
-returned_keeps : (c : Parts) (words : ℕ) (base : Bool) → Keeps of_parts (length c.places) (returned c words base)
+returned_stays : (c : Parts) (words : ℕ) (base : Bool) → Stays of_parts (length c.places) (returned c words base)
 unfolding returned
-returned_keeps c words base =
+returned_stays c words base =
     then of_parts (length c.places) (demand (is_even c.registers.mp && nat_le (c.registers.mp + 12 + 2 * words) 65536) InvalidMemory) _ (λ h.
     then of_parts (length c.places) (demand (is_even (word_at c.memory (c.registers.mp + 10)) && nat_le (word_at c.memory (c.registers.mp + 10)) 65504)
     InvalidMemory) _ (λ k.
     then of_parts (length c.places) (demand (nat_le (c.registers.np + 2 * words) (word_at c.memory (c.registers.mp + 10))) StackOverflow) _ (λ l.
     either _ c.places (released c.registers.seg c.places) (length c.places) refl (released_size c.registers.seg c.places))))
 
-exited_keeps : (c : Parts) (p : Wanted) → Keeps of_parts (length c.places) (exited c p)
+exited_stays : (c : Parts) (p : Wanted) → Stays of_parts (length c.places) (exited c p)
 unfolding exited
-exited_keeps c p =
+exited_stays c p =
     then of_parts (length c.places) (is_wanted c.memory p c.registers.seg c.registers.jtab) _ (λ h.
     then of_parts (length c.places) (walked_unless h c.memory p c.registers.mp) _ (λ m. refl))
 
-keep_slot_keeps : (c : Parts) (n : ℕ) (code : Option (List ℕ)) (slot : Option (Option SegmentPlace))
-    → Keeps of_parts (length c.places) (keep_slot c n code slot)
+keep_slot_stays : (c : Parts) (n : ℕ) (code : Option (List ℕ)) (slot : Option (Option SegmentPlace))
+    → Stays of_parts (length c.places) (keep_slot c n code slot)
 unfolding keep_standing keep_loading
-keep_slot_keeps c n code None = tt
-keep_slot_keeps c n code (Some (Some p)) = then of_parts (length c.places) (demand (nat_lt p.keeps 65535) StackOverflow) _ (λ h. length-set c.places n _)
-keep_slot_keeps c n None (Some None) = tt
-keep_slot_keeps c n (Some code) (Some None) =
+keep_slot_stays c n code None = tt
+keep_slot_stays c n code (Some (Some p)) = then of_parts (length c.places) (demand (nat_lt p.keeps 65535) StackOverflow) _ (λ h. length-set c.places n _)
+keep_slot_stays c n None (Some None) = tt
+keep_slot_stays c n (Some code) (Some None) =
     then of_parts (length c.places) (code_fits c.registers code) _ (λ k. length-set c.places n _)
 
-kept_keeps : (c : Parts) (n : ℕ) (code : Option (List ℕ)) → Keeps of_parts (length c.places) (segment_kept c n code)
+kept_stays : (c : Parts) (n : ℕ) (code : Option (List ℕ)) → Stays of_parts (length c.places) (segment_kept c n code)
 unfolding segment_kept
-kept_keeps c n code = keep_slot_keeps c n code (slice_get c.places n)
+kept_stays c n code = keep_slot_stays c n code (slice_get c.places n)
 
-unkeep_slot_keeps : (c : Parts) (n size : ℕ) (slot : Option (Option SegmentPlace)) → Keeps of_parts (length c.places) (unkeep_slot c n size slot)
+unkeep_slot_stays : (c : Parts) (n size : ℕ) (slot : Option (Option SegmentPlace)) → Stays of_parts (length c.places) (unkeep_slot c n size slot)
 unfolding unkeep_standing
-unkeep_slot_keeps c n size None = tt
-unkeep_slot_keeps c n size (Some None) = tt
-unkeep_slot_keeps c n size (Some (Some p)) = then of_parts (length c.places) (demand (nat_lt 0 p.keeps) NoSegment) _ (λ h. length-set c.places n (less_kept p))
+unkeep_slot_stays c n size None = tt
+unkeep_slot_stays c n size (Some None) = tt
+unkeep_slot_stays c n size (Some (Some p)) = then of_parts (length c.places) (demand (nat_lt 0 p.keeps) NoSegment) _ (λ h. length-set c.places n (less_kept p))
 
-unkept_keeps : (c : Parts) (n size : ℕ) → Keeps of_parts (length c.places) (segment_unkept c n size)
+unkept_stays : (c : Parts) (n size : ℕ) → Stays of_parts (length c.places) (segment_unkept c n size)
 unfolding segment_unkept
-unkept_keeps c n size = unkeep_slot_keeps c n size (slice_get c.places n)
+unkept_stays c n size = unkeep_slot_stays c n size (slice_get c.places n)
 
 -- ---- disks
 
 abbrev of_served : Served → ℕ
 of_served s = length s.devices.disks
 
-counted : (d : disks.Disks) (r : Result Served Pause) → disks.Keeps disks.of_served d r → Keeps of_served (length d) r
+counted : (d : disks.Disks) (r : Result Served Pause) → disks.Stays disks.of_served d r → Stays of_served (length d) r
 counted d (Ok x) h = ap length h
 counted d (Err e) h = tt
 
-counted_row : (d : disks.Disks) (r : Result Served ExecError) → disks.Keeps disks.of_served d r → Keeps of_served (length d) (or_fails r)
+counted_row : (d : disks.Disks) (r : Result Served ExecError) → disks.Stays disks.of_served d r → Stays of_served (length d) (or_fails r)
 counted_row d (Ok x) h = ap length h
 counted_row d (Err e) h = tt
 
@@ -201,19 +201,19 @@ written_size Console t m d = refl
 written_size Terminal t m d = refl
 written_size (Disk k) t m d = to_disk_size k (image_at d k) t m d
 
-write_keeps : (s : Served) → Keeps of_served (length s.devices.disks) (write_row s)
+write_stays : (s : Served) → Stays of_served (length s.devices.disks) (write_row s)
 unfolding write_row
-write_keeps s = then of_served (length s.devices.disks) (or_fails (ordered s.memory s.registers.sp)) _
+write_stays s = then of_served (length s.devices.disks) (or_fails (ordered s.memory s.registers.sp)) _
     (λ o. written_size (unit_of o.unit) o.transfer s.memory s.devices)
 
-units_keep : (o : OnUnits) (s : Served) → Keeps of_served (length s.devices.disks) (units_row o s)
+units_stay : (o : OnUnits) (s : Served) → Stays of_served (length s.devices.disks) (units_row o s)
 unfolding units_row
-units_keep units.Read s = counted s.devices.disks (read_row s) (disks.read_row_keeps s)
-units_keep units.Write s = write_keeps s
-units_keep units.Time s = counted_row s.devices.disks (time_row s) (disks.time_keeps s)
-units_keep units.Busy s = counted_row s.devices.disks (busy_row s) (disks.busy_keeps s)
-units_keep units.Wait s = counted_row s.devices.disks (wait_row s) (disks.wait_keeps s)
-units_keep units.Clear s = counted_row s.devices.disks (clear_row s) (disks.clear_keeps s)
+units_stay units.Read s = counted s.devices.disks (read_row s) (disks.read_row_stays s)
+units_stay units.Write s = write_stays s
+units_stay units.Time s = counted_row s.devices.disks (time_row s) (disks.time_stays s)
+units_stay units.Busy s = counted_row s.devices.disks (busy_row s) (disks.busy_stays s)
+units_stay units.Wait s = counted_row s.devices.disks (wait_row s) (disks.wait_stays s)
+units_stay units.Clear s = counted_row s.devices.disks (clear_row s) (disks.clear_stays s)
 
 -- ---- the standard procedures
 
@@ -224,42 +224,42 @@ record Counts : Type 0 where
 abbrev of_reach : Reach → Counts
 of_reach s = record { places = length s.places; disks = length s.devices.disks }
 
-exit_keeps : (s : Reach) → Keeps of_reach (of_reach s) (exit_row s)
+exit_stays : (s : Reach) → Stays of_reach (of_reach s) (exit_row s)
 unfolding exit_row
-exit_keeps s = then of_reach (of_reach s) (pop s.memory s.registers.sp) _ (λ p.
+exit_stays s = then of_reach (of_reach s) (pop s.memory s.registers.sp) _ (λ p.
     then of_reach (of_reach s) (pop s.memory p.above) _ (λ n.
     after of_parts (length s.places) of_reach (of_reach s) (exited (standard.reach_parts s (record s.registers { sp = n.above }))
     (record { segment = n.word; procedure = p.word })) _
-    (exited_keeps (standard.reach_parts s (record s.registers { sp = n.above })) (record { segment = n.word; procedure = p.word }))
+    (exited_stays (standard.reach_parts s (record s.registers { sp = n.above })) (record { segment = n.word; procedure = p.word }))
     (λ left e. ap (λ k. record { places = k; disks = length s.devices.disks }) e)))
 
-keep_keeps : (s : Reach) → Keeps of_reach (of_reach s) (keep_row s)
+keep_stays : (s : Reach) → Stays of_reach (of_reach s) (keep_row s)
 unfolding keep_row
-keep_keeps s = then of_reach (of_reach s) (pop s.memory s.registers.sp) _ (λ n.
+keep_stays s = then of_reach (of_reach s) (pop s.memory s.registers.sp) _ (λ n.
     then of_reach (of_reach s) (slot_code n.word s.places s.rows s.devices) _ (λ code.
     after of_parts (length s.places) of_reach (of_reach s) (segment_kept (standard.reach_parts s (record s.registers { sp = n.above })) n.word code) _
-    (kept_keeps (standard.reach_parts s (record s.registers { sp = n.above })) n.word code)
+    (kept_stays (standard.reach_parts s (record s.registers { sp = n.above })) n.word code)
     (λ left e. ap (λ k. record { places = k; disks = length s.devices.disks }) e)))
 
-unkeep_keeps : (s : Reach) → Keeps of_reach (of_reach s) (unkeep_row s)
+unkeep_stays : (s : Reach) → Stays of_reach (of_reach s) (unkeep_row s)
 unfolding unkeep_row
-unkeep_keeps s = then of_reach (of_reach s) (pop s.memory s.registers.sp) _ (λ n.
+unkeep_stays s = then of_reach (of_reach s) (pop s.memory s.registers.sp) _ (λ n.
     let size = length_of (slice_get s.rows n.word) in
     after of_parts (length s.places) of_reach (of_reach s) (segment_unkept (standard.reach_parts s (record s.registers { sp = n.above })) n.word size) _
-    (unkept_keeps (standard.reach_parts s (record s.registers { sp = n.above })) n.word size)
+    (unkept_stays (standard.reach_parts s (record s.registers { sp = n.above })) n.word size)
     (λ left e. ap (λ k. record { places = k; disks = length s.devices.disks }) e))
 
-procedure_keeps : (p : Procedure) (s : Reach) → Keeps of_reach (of_reach s) (procedure_row p s)
+procedure_stays : (p : Procedure) (s : Reach) → Stays of_reach (of_reach s) (procedure_row p s)
 unfolding procedure_row
-procedure_keeps (procedure.OnMemory o) s = lifted of_reach (of_reach s) (on_memory s (memory_row o s.memory s.registers)) (
+procedure_stays (procedure.OnMemory o) s = lifted of_reach (of_reach s) (on_memory s (memory_row o s.memory s.registers)) (
     then of_reach (of_reach s) (memory_row o s.memory s.registers) _ (λ t. refl))
-procedure_keeps (procedure.OnUnits o) s =
+procedure_stays (procedure.OnUnits o) s =
     after of_served (length s.devices.disks) of_reach (of_reach s) (units_row o (served s.memory s.registers s.devices)) _
-    (units_keep o (served s.memory s.registers s.devices)) (λ t e. ap (λ k. record { places = length s.places; disks = k }) e)
-procedure_keeps procedure.Exit s = lifted of_reach (of_reach s) (exit_row s) (exit_keeps s)
-procedure_keeps procedure.Keep s = lifted of_reach (of_reach s) (keep_row s) (keep_keeps s)
-procedure_keeps procedure.Unkeep s = lifted of_reach (of_reach s) (unkeep_row s) (unkeep_keeps s)
-procedure_keeps procedure.Unimplemented s = tt
+    (units_stay o (served s.memory s.registers s.devices)) (λ t e. ap (λ k. record { places = length s.places; disks = k }) e)
+procedure_stays procedure.Exit s = lifted of_reach (of_reach s) (exit_row s) (exit_stays s)
+procedure_stays procedure.Keep s = lifted of_reach (of_reach s) (keep_row s) (keep_stays s)
+procedure_stays procedure.Unkeep s = lifted of_reach (of_reach s) (unkeep_row s) (unkeep_stays s)
+procedure_stays procedure.Unimplemented s = tt
 
 -- ---- the rows of the table
 
@@ -271,103 +271,103 @@ record Shape : Type 0 where
 abbrev shape : State → Shape
 shape s = record { rows = s.rows; places = length s.places; disks = length s.devices.disks }
 
-stack_keeps : (s : State) (r : Result (List ℕ × ℕ) ExecError) → Keeps shape (shape s) (or_fails (on_stack s r))
-stack_keeps s r = lifted shape (shape s) (on_stack s r) (then shape (shape s) r _ (λ t. refl))
+stack_stays : (s : State) (r : Result (List ℕ × ℕ) ExecError) → Stays shape (shape s) (or_fails (on_stack s r))
+stack_stays s r = lifted shape (shape s) (on_stack s r) (then shape (shape s) r _ (λ t. refl))
 
-registers_keep : (s : State) (r : Result Registers ExecError) → Keeps shape (shape s) (or_fails (on_registers s r))
-registers_keep s r = lifted shape (shape s) (on_registers s r) (then shape (shape s) r _ (λ t. refl))
+registers_stay : (s : State) (r : Result Registers ExecError) → Stays shape (shape s) (or_fails (on_registers s r))
+registers_stay s r = lifted shape (shape s) (on_registers s r) (then shape (shape s) r _ (λ t. refl))
 
 with_places : (s : State) (n : ℕ) → n ≡ length s.places → record { rows = s.rows; places = n; disks = length s.devices.disks } ≡ shape s
 with_places s n h = ap (λ k. record { rows = s.rows; places = k; disks = length s.devices.disks }) h
 
-call_keeps : (c : Call) (s : State) → Keeps shape (shape s) (call_row c s)
+call_stays : (c : Call) (s : State) → Stays shape (shape s) (call_row c s)
 unfolding call_row
-call_keeps c s = then shape (shape s) (code_needed c s.places s.rows s.devices) _ (λ code.
-    after of_parts (length s.places) shape (shape s) (called (parts s) c code) _ (called_keeps (parts s) c code) (λ p e. with_places s (length p.places) e))
+call_stays c s = then shape (shape s) (code_needed c s.places s.rows s.devices) _ (λ code.
+    after of_parts (length s.places) shape (shape s) (called (parts s) c code) _ (called_stays (parts s) c code) (λ p e. with_places s (length p.places) e))
 
-return_keeps : (r : Return) (s : State) → Keeps shape (shape s) (return_row r s)
-return_keeps r s =
+return_stays : (r : Return) (s : State) → Stays shape (shape s) (return_row r s)
+return_stays r s =
     after of_parts (length s.places) shape (shape s) (returned (parts s) (words_of_return r) (is_base_return r)) _
-    (returned_keeps (parts s) (words_of_return r) (is_base_return r)) (λ p e. with_places s (length p.places) e)
+    (returned_stays (parts s) (words_of_return r) (is_base_return r)) (λ p e. with_places s (length p.places) e)
 
-standard_keeps : (n : ℕ) (s : State) → Keeps shape (shape s) (standard_row n s)
-standard_keeps n s =
-    after of_reach (of_reach (reach s)) shape (shape s) (procedure_row (procedure_numbered n) (reach s)) _ (procedure_keeps (procedure_numbered n) (reach s))
+standard_stays : (n : ℕ) (s : State) → Stays shape (shape s) (standard_row n s)
+standard_stays n s =
+    after of_reach (of_reach (reach s)) shape (shape s) (procedure_row (procedure_numbered n) (reach s)) _ (procedure_stays (procedure_numbered n) (reach s))
     (λ t e. ap (λ (k : Counts). record { rows = s.rows; places = k.places; disks = k.disks }) e)
 
-performed_keeps : (o : Operation) (s : State) → Keeps shape (shape s) (performed o s)
-performed_keeps (operation.Arithmetic o) s = stack_keeps s (arithmetic_row o s.memory s.registers.sp s.registers.np)
-performed_keeps (operation.Variable o) s = stack_keeps s (variable_row o s.memory s.registers)
-performed_keeps (operation.Pointer o) s = stack_keeps s (pointer_row o s.memory s.registers.sp s.registers.np)
-performed_keeps (operation.Value o) s = stack_keeps s (value_row o s.memory s.registers.sp s.registers.np)
-performed_keeps (operation.Literal o) s = stack_keeps s (literal_row o s.memory s.registers.sp s.registers.np)
-performed_keeps (operation.Jump o) s = registers_keep s (jump_row o s.memory s.registers)
-performed_keeps (operation.Call o) s = lifted shape (shape s) (call_row o s) (call_keeps o s)
-performed_keeps (operation.Return o) s = lifted shape (shape s) (return_row o s) (return_keeps o s)
-performed_keeps (operation.Standard n) s = standard_keeps n s
-performed_keeps operation.Nothing s = refl
-performed_keeps operation.End s = refl
-performed_keeps operation.Unimplemented s = tt
+performed_stays : (o : Operation) (s : State) → Stays shape (shape s) (performed o s)
+performed_stays (operation.Arithmetic o) s = stack_stays s (arithmetic_row o s.memory s.registers.sp s.registers.np)
+performed_stays (operation.Variable o) s = stack_stays s (variable_row o s.memory s.registers)
+performed_stays (operation.Pointer o) s = stack_stays s (pointer_row o s.memory s.registers.sp s.registers.np)
+performed_stays (operation.Value o) s = stack_stays s (value_row o s.memory s.registers.sp s.registers.np)
+performed_stays (operation.Literal o) s = stack_stays s (literal_row o s.memory s.registers.sp s.registers.np)
+performed_stays (operation.Jump o) s = registers_stay s (jump_row o s.memory s.registers)
+performed_stays (operation.Call o) s = lifted shape (shape s) (call_row o s) (call_stays o s)
+performed_stays (operation.Return o) s = lifted shape (shape s) (return_row o s) (return_stays o s)
+performed_stays (operation.Standard n) s = standard_stays n s
+performed_stays operation.Nothing s = refl
+performed_stays operation.End s = refl
+performed_stays operation.Unimplemented s = tt
 
 -- ---- events
 
-settled_keeps : (s : State) (r : Result State Pause) → Keeps shape (shape s) r → shape (settled s r).0 ≡ shape s
-settled_keeps s (Ok t) h = h
-settled_keeps s (Err (Fails e)) h = refl
-settled_keeps s (Err Waits) h = refl
+settled_stays : (s : State) (r : Result State Pause) → Stays shape (shape s) r → shape (settled s r).0 ≡ shape s
+settled_stays s (Ok t) h = h
+settled_stays s (Err (Fails e)) h = refl
+settled_stays s (Err Waits) h = refl
 
-fetched_keeps : (s : State) (r : Result Instr ExecError) → Keeps shape (shape s) (or_fails r >>= λ i. row i s)
+fetched_stays : (s : State) (r : Result Instr ExecError) → Stays shape (shape s) (or_fails r >>= λ i. row i s)
 unfolding row
-fetched_keeps s (Err e) = tt
-fetched_keeps s (Ok i) = performed_keeps (operation_of i) (past_instruction i s)
+fetched_stays s (Err e) = tt
+fetched_stays s (Ok i) = performed_stays (operation_of i) (past_instruction i s)
 
-status_keeps : (a : Status) (s : State) → shape (at_status a s).0 ≡ shape s
+status_stays : (a : Status) (s : State) → shape (at_status a s).0 ≡ shape s
 unfolding executed
-status_keeps status.Running s = settled_keeps s (executed s) (fetched_keeps s (fetched s.memory s.registers.ipc))
-status_keeps status.Ended s = refl
-status_keeps (status.Halted e) s = refl
+status_stays status.Running s = settled_stays s (executed s) (fetched_stays s (fetched s.memory s.registers.ipc))
+status_stays status.Ended s = refl
+status_stays (status.Halted e) s = refl
 
-step_keeps : (s : State) → shape (stepped s).0 ≡ shape s
+step_stays : (s : State) → shape (stepped s).0 ≡ shape s
 unfolding stepped
-step_keeps s = status_keeps s.status s
+step_stays s = status_stays s.status s
 
 with_disks : (s : State) (n : ℕ) → n ≡ length s.devices.disks → record { rows = s.rows; places = length s.places; disks = n } ≡ shape s
 with_disks s n h = ap (λ k. record { rows = s.rows; places = length s.places; disks = k }) h
 
-mount_keeps : (p : Port) (image : List ℕ) (s : State) → shape (or_same s (mounted_at p image s.devices)) ≡ shape s
-mount_keeps Console image s = refl
-mount_keeps Terminal image s = refl
-mount_keeps Absent image s = refl
-mount_keeps Printer image s = refl
-mount_keeps Unknown image s = refl
-mount_keeps (Disk k) image s = elim (cases_Bool (is_none (image_at s.devices k))) [
+mount_stays : (p : Port) (image : List ℕ) (s : State) → shape (or_same s (mounted_at p image s.devices)) ≡ shape s
+mount_stays Console image s = refl
+mount_stays Terminal image s = refl
+mount_stays Absent image s = refl
+mount_stays Printer image s = refl
+mount_stays Unknown image s = refl
+mount_stays (Disk k) image s = elim (cases_Bool (is_none (image_at s.devices k))) [
   | inl e ↦ rw e (with_disks s _ (length-set s.devices.disks k (Some image)))
   | inr e ↦ rw e refl
 ]
 
-eject_keeps : (p : Port) (d : Devices) → length (ejected_at p d).disks ≡ length d.disks
-eject_keeps Console d = refl
-eject_keeps Terminal d = refl
-eject_keeps Absent d = refl
-eject_keeps Printer d = refl
-eject_keeps Unknown d = refl
-eject_keeps (Disk k) d = length-set d.disks k None
+eject_stays : (p : Port) (d : Devices) → length (ejected_at p d).disks ≡ length d.disks
+eject_stays Console d = refl
+eject_stays Terminal d = refl
+eject_stays Absent d = refl
+eject_stays Printer d = refl
+eject_stays Unknown d = refl
+eject_stays (Disk k) d = length-set d.disks k None
 
-next_keeps : (s : State) (e : Event) → shape (next s e) ≡ shape s
+next_stays : (s : State) (e : Event) → shape (next s e) ≡ shape s
 unfolding mounted ejected
-next_keeps s Step = step_keeps s
-next_keeps s (Key b) = refl
-next_keeps s (Poke a w) = elim (cases_Bool (is_even a)) [ inl e ↦ rw e refl | inr e ↦ rw e refl ]
-next_keeps s (Mount unit image) = mount_keeps (unit_of unit) image s
-next_keeps s (Eject unit) = with_disks s _ (eject_keeps (unit_of unit) s.devices)
+next_stays s Step = step_stays s
+next_stays s (Key b) = refl
+next_stays s (Poke a w) = elim (cases_Bool (is_even a)) [ inl e ↦ rw e refl | inr e ↦ rw e refl ]
+next_stays s (Mount unit image) = mount_stays (unit_of unit) image s
+next_stays s (Eject unit) = with_disks s _ (eject_stays (unit_of unit) s.devices)
 
-all_keep : (s : State) (es : List Event) → shape (after_all s es) ≡ shape s
-all_keep s [] = refl
-all_keep s (e ∷ es) = all_keep (next s e) es ∙ next_keeps s e
+all_stay : (s : State) (es : List Event) → shape (after_all s es) ≡ shape s
+all_stay s [] = refl
+all_stay s (e ∷ es) = all_stay (next s e) es ∙ next_stays s e
 
 pub events_keep_shape : EventsKeepShape
 events_keep_shape s es =
-    let same = all_keep s es in
+    let same = all_stay s es in
     record {
       rows = ap (λ (x : Shape). x.rows) same;
       places = ap (λ (x : Shape). x.places) same;
@@ -420,7 +420,7 @@ pub parts_there : (p : Parts) (r : Result Parts ExecError) → or_exec r ≡ Ok 
 parts_there p (Ok q) h = ap Ok (ok_same q p h)
 parts_there p (Err e) h = cc
 
-kept_by : (r : Result Parts ExecError) (p : Parts) (n : ℕ) → Keeps of_parts n r → r ≡ Ok p → length p.places ≡ n
+kept_by : (r : Result Parts ExecError) (p : Parts) (n : ℕ) → Stays of_parts n r → r ≡ Ok p → length p.places ≡ n
 kept_by (Ok q) p n k h = let same : q ≡ p = cc in ap of_parts (sym same) ∙ k
 kept_by (Err e) p n k h = cc
 
@@ -434,7 +434,7 @@ booted images unit name clock s h =
     let pair = ok_same _ b.0 p.2 in
     let same = ok_same _ s b.2 in
     let start = parts_there p.0 (called first_parts (Cxp 1 1) (segment_in f.0.1 1)) p.1 in
-    let size = kept_by (called first_parts (Cxp 1 1) (segment_in f.0.1 1)) p.0 16 (called_keeps first_parts (Cxp 1 1) (segment_in f.0.1 1)) start in
+    let size = kept_by (called first_parts (Cxp 1 1) (segment_in f.0.1 1)) p.0 16 (called_stays first_parts (Cxp 1 1) (segment_in f.0.1 1)) start in
     record {
       entry = f.0.0;
       file = f.0.1;

@@ -74,21 +74,21 @@ KeepsDevices d (Ok e) = e.disks ≡ d
 KeepsDevices d (Err e) = Unit {0}
 
 -- what a part of a row gives has the old disks
-abbrev pub Keeps : {A E : Type 0} → (A → Disks) → Disks → Result A E → Type 0
-Keeps disks d (Ok x) = disks x ≡ d
-Keeps disks d (Err e) = Unit {0}
+abbrev pub Stays : {A E : Type 0} → (A → Disks) → Disks → Result A E → Type 0
+Stays disks d (Ok x) = disks x ≡ d
+Stays disks d (Err e) = Unit {0}
 
-then : {A B E : Type 0} (disks : B → Disks) (d : Disks) (r : Result A E) (f : A → Result B E) → ((x : A) → Keeps disks d (f x)) → Keeps disks d (r >>= f)
+then : {A B E : Type 0} (disks : B → Disks) (d : Disks) (r : Result A E) (f : A → Result B E) → ((x : A) → Stays disks d (f x)) → Stays disks d (r >>= f)
 then disks d (Ok x) f h = h x
 then disks d (Err e) f h = tt
 
 -- the same where the first part has the old disks itself
-after : {A B E : Type 0} (first : A → Disks) (disks : B → Disks) (d : Disks) (r : Result A E) (f : A → Result B E) → Keeps first d r
-    → ((x : A) → first x ≡ d → Keeps disks d (f x)) → Keeps disks d (r >>= f)
+after : {A B E : Type 0} (first : A → Disks) (disks : B → Disks) (d : Disks) (r : Result A E) (f : A → Result B E) → Stays first d r
+    → ((x : A) → first x ≡ d → Stays disks d (f x)) → Stays disks d (r >>= f)
 after first disks d (Ok x) f k h = h x k
 after first disks d (Err e) f k h = tt
 
-lifted : {A : Type 0} (disks : A → Disks) (d : Disks) (r : Result A ExecError) → Keeps disks d r → Keeps disks d (or_fails r)
+lifted : {A : Type 0} (disks : A → Disks) (d : Disks) (r : Result A ExecError) → Stays disks d r → Stays disks d (or_fails r)
 lifted disks d (Ok x) h = h
 lifted disks d (Err e) h = tt
 
@@ -106,155 +106,155 @@ of_moved s = s.devices.disks
 
 -- ---- the standard procedures
 
-queue_keeps : (echo : Bool) (t : Transfer) (m : List ℕ) (d : Devices) → Keeps of_moved d.disks (from_queue echo t m d)
-queue_keeps echo t m d = elim (cases_Bool (nat_lt (length d.queue) t.count)) [ inl e ↦ rw e tt | inr e ↦ rw e refl ]
+queue_stays : (echo : Bool) (t : Transfer) (m : List ℕ) (d : Devices) → Stays of_moved d.disks (from_queue echo t m d)
+queue_stays echo t m d = elim (cases_Bool (nat_lt (length d.queue) t.count)) [ inl e ↦ rw e tt | inr e ↦ rw e refl ]
 
-disk_keeps : (o : Option (List ℕ)) (t : Transfer) (m : List ℕ) (d : Devices) → (from_disk o t m d).devices.disks ≡ d.disks
-disk_keeps None t m d = refl
-disk_keeps (Some image) t m d = elim (cases_Bool (can_move image t)) [ inl e ↦ rw e refl | inr e ↦ rw e refl ]
+disk_stays : (o : Option (List ℕ)) (t : Transfer) (m : List ℕ) (d : Devices) → (from_disk o t m d).devices.disks ≡ d.disks
+disk_stays None t m d = refl
+disk_stays (Some image) t m d = elim (cases_Bool (can_move image t)) [ inl e ↦ rw e refl | inr e ↦ rw e refl ]
 
-read_keeps : (p : Port) (t : Transfer) (m : List ℕ) (d : Devices) → Keeps of_moved d.disks (unit_read p t m d)
+read_stays : (p : Port) (t : Transfer) (m : List ℕ) (d : Devices) → Stays of_moved d.disks (unit_read p t m d)
 unfolding unit_read
-read_keeps Unknown t m d = refl
-read_keeps Absent t m d = refl
-read_keeps Printer t m d = refl
-read_keeps Console t m d = queue_keeps true t m d
-read_keeps Terminal t m d = queue_keeps false t m d
-read_keeps (Disk k) t m d = disk_keeps (image_at d k) t m d
+read_stays Unknown t m d = refl
+read_stays Absent t m d = refl
+read_stays Printer t m d = refl
+read_stays Console t m d = queue_stays true t m d
+read_stays Terminal t m d = queue_stays false t m d
+read_stays (Disk k) t m d = disk_stays (image_at d k) t m d
 
-pub read_row_keeps : (s : Served) → Keeps of_served s.devices.disks (read_row s)
+pub read_row_stays : (s : Served) → Stays of_served s.devices.disks (read_row s)
 unfolding read_row
-read_row_keeps s = then of_served s.devices.disks (or_fails (ordered s.memory s.registers.sp)) _ (λ o.
+read_row_stays s = then of_served s.devices.disks (or_fails (ordered s.memory s.registers.sp)) _ (λ o.
     after of_moved of_served s.devices.disks (unit_read (unit_of o.unit) o.transfer s.memory s.devices) _
-    (read_keeps (unit_of o.unit) o.transfer s.memory s.devices)
+    (read_stays (unit_of o.unit) o.transfer s.memory s.devices)
     (λ t e. e))
 
-pub time_keeps : (s : Served) → Keeps of_served s.devices.disks (time_row s)
+pub time_stays : (s : Served) → Stays of_served s.devices.disks (time_row s)
 unfolding time_row
-time_keeps s = then of_served s.devices.disks (pop s.memory s.registers.sp) _ (λ b.
+time_stays s = then of_served s.devices.disks (pop s.memory s.registers.sp) _ (λ b.
     then of_served s.devices.disks (pop s.memory b.above) _ (λ a. then of_served s.devices.disks (demand (is_even a.word && is_even b.word) InvalidMemory) _
     (λ h. refl)))
 
-pub busy_keeps : (s : Served) → Keeps of_served s.devices.disks (busy_row s)
+pub busy_stays : (s : Served) → Stays of_served s.devices.disks (busy_row s)
 unfolding busy_row
-busy_keeps s = then of_served s.devices.disks (pop s.memory s.registers.sp) _ (λ unit.
+busy_stays s = then of_served s.devices.disks (pop s.memory s.registers.sp) _ (λ unit.
     then of_served s.devices.disks (push s.memory unit.above s.registers.np 0) _ (λ n. refl))
 
-pub wait_keeps : (s : Served) → Keeps of_served s.devices.disks (wait_row s)
+pub wait_stays : (s : Served) → Stays of_served s.devices.disks (wait_row s)
 unfolding wait_row
-wait_keeps s = then of_served s.devices.disks (pop s.memory s.registers.sp) _ (λ unit. refl)
+wait_stays s = then of_served s.devices.disks (pop s.memory s.registers.sp) _ (λ unit. refl)
 
-cleared_keeps : (p : Port) (d : Devices) → (cleared p d).1.disks ≡ d.disks
-cleared_keeps Unknown d = refl
-cleared_keeps Absent d = refl
-cleared_keeps Printer d = refl
-cleared_keeps Console d = refl
-cleared_keeps Terminal d = refl
-cleared_keeps (Disk k) d = refl
+cleared_stays : (p : Port) (d : Devices) → (cleared p d).1.disks ≡ d.disks
+cleared_stays Unknown d = refl
+cleared_stays Absent d = refl
+cleared_stays Printer d = refl
+cleared_stays Console d = refl
+cleared_stays Terminal d = refl
+cleared_stays (Disk k) d = refl
 
-pub clear_keeps : (s : Served) → Keeps of_served s.devices.disks (clear_row s)
+pub clear_stays : (s : Served) → Stays of_served s.devices.disks (clear_row s)
 unfolding clear_row
-clear_keeps s = then of_served s.devices.disks (pop s.memory s.registers.sp) _ (λ unit. cleared_keeps (unit_of unit.word) s.devices)
+clear_stays s = then of_served s.devices.disks (pop s.memory s.registers.sp) _ (λ unit. cleared_stays (unit_of unit.word) s.devices)
 
-units_keep : (o : OnUnits) (s : Served) → o ≢ units.Write → Keeps of_served s.devices.disks (units_row o s)
+units_stay : (o : OnUnits) (s : Served) → o ≢ units.Write → Stays of_served s.devices.disks (units_row o s)
 unfolding units_row
-units_keep units.Read s other = read_row_keeps s
-units_keep units.Write s other = absurd (other refl)
-units_keep units.Time s other = lifted of_served s.devices.disks (time_row s) (time_keeps s)
-units_keep units.Busy s other = lifted of_served s.devices.disks (busy_row s) (busy_keeps s)
-units_keep units.Wait s other = lifted of_served s.devices.disks (wait_row s) (wait_keeps s)
-units_keep units.Clear s other = lifted of_served s.devices.disks (clear_row s) (clear_keeps s)
+units_stay units.Read s other = read_row_stays s
+units_stay units.Write s other = absurd (other refl)
+units_stay units.Time s other = lifted of_served s.devices.disks (time_row s) (time_stays s)
+units_stay units.Busy s other = lifted of_served s.devices.disks (busy_row s) (busy_stays s)
+units_stay units.Wait s other = lifted of_served s.devices.disks (wait_row s) (wait_stays s)
+units_stay units.Clear s other = lifted of_served s.devices.disks (clear_row s) (clear_stays s)
 
-exit_keeps : (s : Reach) → Keeps of_reach s.devices.disks (exit_row s)
+exit_stays : (s : Reach) → Stays of_reach s.devices.disks (exit_row s)
 unfolding exit_row
-exit_keeps s = then of_reach s.devices.disks (pop s.memory s.registers.sp) _ (λ p.
+exit_stays s = then of_reach s.devices.disks (pop s.memory s.registers.sp) _ (λ p.
     then of_reach s.devices.disks (pop s.memory p.above) _ (λ n.
     then of_reach s.devices.disks (exited (standard.reach_parts s (record s.registers { sp = n.above })) (record { segment = n.word; procedure = p.word })) _
     (λ left. refl)))
 
-keep_keeps : (s : Reach) → Keeps of_reach s.devices.disks (keep_row s)
+keep_stays : (s : Reach) → Stays of_reach s.devices.disks (keep_row s)
 unfolding keep_row
-keep_keeps s = then of_reach s.devices.disks (pop s.memory s.registers.sp) _ (λ n.
+keep_stays s = then of_reach s.devices.disks (pop s.memory s.registers.sp) _ (λ n.
     then of_reach s.devices.disks (slot_code n.word s.places s.rows s.devices) _ (λ code.
     then of_reach s.devices.disks (segment_kept (standard.reach_parts s (record s.registers { sp = n.above })) n.word code) _ (λ kept. refl)))
 
-unkeep_keeps : (s : Reach) → Keeps of_reach s.devices.disks (unkeep_row s)
+unkeep_stays : (s : Reach) → Stays of_reach s.devices.disks (unkeep_row s)
 unfolding unkeep_row
-unkeep_keeps s = then of_reach s.devices.disks (pop s.memory s.registers.sp) _ (λ n.
+unkeep_stays s = then of_reach s.devices.disks (pop s.memory s.registers.sp) _ (λ n.
     then of_reach s.devices.disks (segment_unkept (standard.reach_parts s (record s.registers { sp = n.above })) n.word (length_of (slice_get s.rows n.word))) _
     (λ left. refl))
 
-procedure_keeps : (p : Procedure) (s : Reach) → p ≢ procedure.OnUnits units.Write → Keeps of_reach s.devices.disks (procedure_row p s)
+procedure_stays : (p : Procedure) (s : Reach) → p ≢ procedure.OnUnits units.Write → Stays of_reach s.devices.disks (procedure_row p s)
 unfolding procedure_row
-procedure_keeps (procedure.OnMemory o) s other = lifted of_reach s.devices.disks (on_memory s (memory_row o s.memory s.registers)) (
+procedure_stays (procedure.OnMemory o) s other = lifted of_reach s.devices.disks (on_memory s (memory_row o s.memory s.registers)) (
     then of_reach s.devices.disks (memory_row o s.memory s.registers) _ (λ t. refl))
-procedure_keeps (procedure.OnUnits o) s other =
+procedure_stays (procedure.OnUnits o) s other =
     after of_served of_reach s.devices.disks (units_row o (served s.memory s.registers s.devices)) _ (
-    units_keep o (served s.memory s.registers s.devices) (λ e. other (ap procedure.OnUnits e))) (λ t e. e)
-procedure_keeps procedure.Exit s other = lifted of_reach s.devices.disks (exit_row s) (exit_keeps s)
-procedure_keeps procedure.Keep s other = lifted of_reach s.devices.disks (keep_row s) (keep_keeps s)
-procedure_keeps procedure.Unkeep s other = lifted of_reach s.devices.disks (unkeep_row s) (unkeep_keeps s)
-procedure_keeps procedure.Unimplemented s other = tt
+    units_stay o (served s.memory s.registers s.devices) (λ e. other (ap procedure.OnUnits e))) (λ t e. e)
+procedure_stays procedure.Exit s other = lifted of_reach s.devices.disks (exit_row s) (exit_stays s)
+procedure_stays procedure.Keep s other = lifted of_reach s.devices.disks (keep_row s) (keep_stays s)
+procedure_stays procedure.Unkeep s other = lifted of_reach s.devices.disks (unkeep_row s) (unkeep_stays s)
+procedure_stays procedure.Unimplemented s other = tt
 
 -- ---- the rows
 
-standard_keeps : (n : ℕ) (s : State) → procedure_numbered n ≢ procedure.OnUnits units.Write → Keeps of_state s.devices.disks (standard_row n s)
-standard_keeps n s other =
-    after of_reach of_state s.devices.disks (procedure_row (procedure_numbered n) (reach s)) _ (procedure_keeps (procedure_numbered n) (reach s) other)
+standard_stays : (n : ℕ) (s : State) → procedure_numbered n ≢ procedure.OnUnits units.Write → Stays of_state s.devices.disks (standard_row n s)
+standard_stays n s other =
+    after of_reach of_state s.devices.disks (procedure_row (procedure_numbered n) (reach s)) _ (procedure_stays (procedure_numbered n) (reach s) other)
     (λ t e. e)
 
-stack_keeps : (s : State) (r : Result (List ℕ × ℕ) ExecError) → Keeps of_state s.devices.disks (or_fails (on_stack s r))
-stack_keeps s r = lifted of_state s.devices.disks (on_stack s r) (then of_state s.devices.disks r _ (λ t. refl))
+stack_stays : (s : State) (r : Result (List ℕ × ℕ) ExecError) → Stays of_state s.devices.disks (or_fails (on_stack s r))
+stack_stays s r = lifted of_state s.devices.disks (on_stack s r) (then of_state s.devices.disks r _ (λ t. refl))
 
-registers_keep : (s : State) (r : Result Registers ExecError) → Keeps of_state s.devices.disks (or_fails (on_registers s r))
-registers_keep s r = lifted of_state s.devices.disks (on_registers s r) (then of_state s.devices.disks r _ (λ t. refl))
+registers_stay : (s : State) (r : Result Registers ExecError) → Stays of_state s.devices.disks (or_fails (on_registers s r))
+registers_stay s r = lifted of_state s.devices.disks (on_registers s r) (then of_state s.devices.disks r _ (λ t. refl))
 
-call_keeps : (c : Call) (s : State) → Keeps of_state s.devices.disks (call_row c s)
+call_stays : (c : Call) (s : State) → Stays of_state s.devices.disks (call_row c s)
 unfolding call_row
-call_keeps c s = then of_state s.devices.disks (code_needed c s.places s.rows s.devices) _ (λ code.
+call_stays c s = then of_state s.devices.disks (code_needed c s.places s.rows s.devices) _ (λ code.
     then of_state s.devices.disks (called (parts s) c code) _ (λ p. refl))
 
-return_keeps : (r : Return) (s : State) → Keeps of_state s.devices.disks (return_row r s)
-return_keeps r s = then of_state s.devices.disks (returned (parts s) (words_of_return r) (is_base_return r)) _ (λ p. refl)
+return_stays : (r : Return) (s : State) → Stays of_state s.devices.disks (return_row r s)
+return_stays r s = then of_state s.devices.disks (returned (parts s) (words_of_return r) (is_base_return r)) _ (λ p. refl)
 
-performed_keeps : (o : Operation) (s : State) → ((n : ℕ) → o ≡ operation.Standard n → procedure_numbered n ≢ procedure.OnUnits units.Write) →
-    Keeps of_state s.devices.disks (performed o s)
-performed_keeps (operation.Arithmetic o) s other = stack_keeps s (arithmetic_row o s.memory s.registers.sp s.registers.np)
-performed_keeps (operation.Variable o) s other = stack_keeps s (variable_row o s.memory s.registers)
-performed_keeps (operation.Pointer o) s other = stack_keeps s (pointer_row o s.memory s.registers.sp s.registers.np)
-performed_keeps (operation.Value o) s other = stack_keeps s (value_row o s.memory s.registers.sp s.registers.np)
-performed_keeps (operation.Literal o) s other = stack_keeps s (literal_row o s.memory s.registers.sp s.registers.np)
-performed_keeps (operation.Jump o) s other = registers_keep s (jump_row o s.memory s.registers)
-performed_keeps (operation.Call o) s other = lifted of_state s.devices.disks (call_row o s) (call_keeps o s)
-performed_keeps (operation.Return o) s other = lifted of_state s.devices.disks (return_row o s) (return_keeps o s)
-performed_keeps (operation.Standard n) s other = standard_keeps n s (other n refl)
-performed_keeps operation.Nothing s other = refl
-performed_keeps operation.End s other = refl
-performed_keeps operation.Unimplemented s other = tt
+performed_stays : (o : Operation) (s : State) → ((n : ℕ) → o ≡ operation.Standard n → procedure_numbered n ≢ procedure.OnUnits units.Write) →
+    Stays of_state s.devices.disks (performed o s)
+performed_stays (operation.Arithmetic o) s other = stack_stays s (arithmetic_row o s.memory s.registers.sp s.registers.np)
+performed_stays (operation.Variable o) s other = stack_stays s (variable_row o s.memory s.registers)
+performed_stays (operation.Pointer o) s other = stack_stays s (pointer_row o s.memory s.registers.sp s.registers.np)
+performed_stays (operation.Value o) s other = stack_stays s (value_row o s.memory s.registers.sp s.registers.np)
+performed_stays (operation.Literal o) s other = stack_stays s (literal_row o s.memory s.registers.sp s.registers.np)
+performed_stays (operation.Jump o) s other = registers_stay s (jump_row o s.memory s.registers)
+performed_stays (operation.Call o) s other = lifted of_state s.devices.disks (call_row o s) (call_stays o s)
+performed_stays (operation.Return o) s other = lifted of_state s.devices.disks (return_row o s) (return_stays o s)
+performed_stays (operation.Standard n) s other = standard_stays n s (other n refl)
+performed_stays operation.Nothing s other = refl
+performed_stays operation.End s other = refl
+performed_stays operation.Unimplemented s other = tt
 
 -- ---- a step
 
-settled_keeps : (s : State) (r : Result State Pause) → Keeps of_state s.devices.disks r → (settled s r).0.devices.disks ≡ s.devices.disks
-settled_keeps s (Ok t) h = h
-settled_keeps s (Err (Fails e)) h = refl
-settled_keeps s (Err Waits) h = refl
+settled_stays : (s : State) (r : Result State Pause) → Stays of_state s.devices.disks r → (settled s r).0.devices.disks ≡ s.devices.disks
+settled_stays s (Ok t) h = h
+settled_stays s (Err (Fails e)) h = refl
+settled_stays s (Err Waits) h = refl
 
-fetched_keeps : (s : State) (r : Result Instr ExecError) → ((i : Instr) → r ≡ Ok i → IsUnitWrite i → ⊥) →
-    Keeps of_state s.devices.disks (or_fails r >>= λ i. row i s)
+fetched_stays : (s : State) (r : Result Instr ExecError) → ((i : Instr) → r ≡ Ok i → IsUnitWrite i → ⊥) →
+    Stays of_state s.devices.disks (or_fails r >>= λ i. row i s)
 unfolding row
-fetched_keeps s (Err e) other = tt
-fetched_keeps s (Ok i) other = performed_keeps (operation_of i) (past_instruction i s) (λ n e p. other i refl (n, e, p))
+fetched_stays s (Err e) other = tt
+fetched_stays s (Ok i) other = performed_stays (operation_of i) (past_instruction i s) (λ n e p. other i refl (n, e, p))
 
-status_keeps : (a : Status) (s : State) → ((i : Instr) → fetched s.memory s.registers.ipc ≡ Ok i → IsUnitWrite i → ⊥) →
+status_stays : (a : Status) (s : State) → ((i : Instr) → fetched s.memory s.registers.ipc ≡ Ok i → IsUnitWrite i → ⊥) →
     (at_status a s).0.devices.disks ≡ s.devices.disks
 unfolding executed
-status_keeps status.Running s other = settled_keeps s (executed s) (fetched_keeps s (fetched s.memory s.registers.ipc) other)
-status_keeps status.Ended s other = refl
-status_keeps (status.Halted e) s other = refl
+status_stays status.Running s other = settled_stays s (executed s) (fetched_stays s (fetched s.memory s.registers.ipc) other)
+status_stays status.Ended s other = refl
+status_stays (status.Halted e) s other = refl
 
 pub steps_keep_disks : StepsKeepDisks
 unfolding stepped
-steps_keep_disks s other = status_keeps s.status s other
+steps_keep_disks s other = status_stays s.status s other
 
 -- ---- the stack
 
@@ -274,43 +274,43 @@ pushed_below m sp np w = elim (cases_Bool (nat_lt sp (np + 2))) [
   | inr e ↦ rw e (stored_below m (sp - 2) w)
 ]
 
-arithmetic_keeps : (o : Arithmetic) (m : List ℕ) (sp np : ℕ) → KeepsBelow m (arithmetic_row o m sp np)
+arithmetic_stays : (o : Arithmetic) (m : List ℕ) (sp np : ℕ) → KeepsBelow m (arithmetic_row o m sp np)
 unfolding arithmetic_row constant_row unary_row binary_row relation_row check_row
-arithmetic_keeps (Constant w) m sp np = pushed_below m sp np w
-arithmetic_keeps Nil m sp np = pushed_below m sp np 0
-arithmetic_keeps (OnOne o) m sp np = bound m (pop m sp) _ (λ a. pushed_below m a.above np _)
-arithmetic_keeps (OnTwo o) m sp np = bound m (pop m sp) _ (λ b. bound m (pop m b.above) _
+arithmetic_stays (Constant w) m sp np = pushed_below m sp np w
+arithmetic_stays Nil m sp np = pushed_below m sp np 0
+arithmetic_stays (OnOne o) m sp np = bound m (pop m sp) _ (λ a. pushed_below m a.above np _)
+arithmetic_stays (OnTwo o) m sp np = bound m (pop m sp) _ (λ b. bound m (pop m b.above) _
     (λ a. bound m (binary o a.word b.word) _ (λ c. pushed_below m a.above np c)))
-arithmetic_keeps (Compare o) m sp np = bound m (pop m sp) _ (λ b. bound m (pop m b.above) _ (λ a. pushed_below m a.above np _))
-arithmetic_keeps Check m sp np = bound m (pop m sp) _ (λ c. bound m (pop m c.above) _ (λ b. bound m (pop m b.above) _
+arithmetic_stays (Compare o) m sp np = bound m (pop m sp) _ (λ b. bound m (pop m b.above) _ (λ a. pushed_below m a.above np _))
+arithmetic_stays Check m sp np = bound m (pop m sp) _ (λ c. bound m (pop m c.above) _ (λ b. bound m (pop m b.above) _
     (λ a. bound m _ _ (λ h. pushed_below m a.above np a.word))))
 
-increment_keeps : (b : ℕ) (m : List ℕ) (sp np : ℕ) → KeepsBelow m (increment_row b m sp np)
+increment_stays : (b : ℕ) (m : List ℕ) (sp np : ℕ) → KeepsBelow m (increment_row b m sp np)
 unfolding increment_row
-increment_keeps b m sp np = bound m (pop m sp) _ (λ a. pushed_below m a.above np _)
+increment_stays b m sp np = bound m (pop m sp) _ (λ a. pushed_below m a.above np _)
 
-indirect_keeps : (b : ℕ) (m : List ℕ) (sp np : ℕ) → KeepsBelow m (indirect_row b m sp np)
+indirect_stays : (b : ℕ) (m : List ℕ) (sp np : ℕ) → KeepsBelow m (indirect_row b m sp np)
 unfolding indirect_row
-indirect_keeps b m sp np = bound m (pop m sp) _ (λ a. bound m (load m ((a.word + 2 * b) % 65536)) _ (λ w. pushed_below m a.above np w))
+indirect_stays b m sp np = bound m (pop m sp) _ (λ a. bound m (load m ((a.word + 2 * b) % 65536)) _ (λ w. pushed_below m a.above np w))
 
-index_keeps : (b : ℕ) (m : List ℕ) (sp np : ℕ) → KeepsBelow m (index_row b m sp np)
+index_stays : (b : ℕ) (m : List ℕ) (sp np : ℕ) → KeepsBelow m (index_row b m sp np)
 unfolding index_row
-index_keeps b m sp np = bound m (pop m sp) _ (λ i. bound m (pop m i.above) _ (λ a. pushed_below m a.above np _))
+index_stays b m sp np = bound m (pop m sp) _ (λ i. bound m (pop m i.above) _ (λ a. pushed_below m a.above np _))
 
-address_keeps : (scope : Scope) (b : ℕ) (m : List ℕ) (r : Registers) → KeepsBelow m (variable_address_row scope b m r)
+address_stays : (scope : Scope) (b : ℕ) (m : List ℕ) (r : Registers) → KeepsBelow m (variable_address_row scope b m r)
 unfolding variable_address_row
-address_keeps scope b m r = bound m (variable_at scope b m r) _ (λ x. pushed_below m r.sp r.np x)
+address_stays scope b m r = bound m (variable_at scope b m r) _ (λ x. pushed_below m r.sp r.np x)
 
-variable_keeps : (scope : Scope) (b : ℕ) (m : List ℕ) (r : Registers) → KeepsBelow m (load_row scope b m r)
+variable_stays : (scope : Scope) (b : ℕ) (m : List ℕ) (r : Registers) → KeepsBelow m (load_row scope b m r)
 unfolding load_row
-variable_keeps scope b m r = bound m (variable_at scope b m r) _ (λ x. bound m (load m x) _ (λ w. pushed_below m r.sp r.np w))
+variable_stays scope b m r = bound m (variable_at scope b m r) _ (λ x. bound m (load m x) _ (λ w. pushed_below m r.sp r.np w))
 
 pub rows_keep_below : RowsKeepBelow
 rows_keep_below = record {
-  arithmetic = arithmetic_keeps;
-  increments = increment_keeps;
-  loads = indirect_keeps;
-  indexes = index_keeps;
-  addresses = address_keeps;
-  variables = variable_keeps;
+  arithmetic = arithmetic_stays;
+  increments = increment_stays;
+  loads = indirect_stays;
+  indexes = index_stays;
+  addresses = address_stays;
+  variables = variable_stays;
 }

@@ -161,20 +161,20 @@ abbrev Gives : {A E : Type 0} → (A → Type 0) → Result A E → Type 0
 Gives p (Ok x) = p x
 Gives p (Err e) = Unit {0}
 
-abbrev Keeps : {A E V : Type 0} → (A → V) → V → Result A E → Type 0
-Keeps of v (Ok x) = of x ≡ v
-Keeps of v (Err e) = Unit {0}
+abbrev Stays : {A E V : Type 0} → (A → V) → V → Result A E → Type 0
+Stays of v (Ok x) = of x ≡ v
+Stays of v (Err e) = Unit {0}
 
-then : {A B E V : Type 0} (of : B → V) (v : V) (r : Result A E) (f : A → Result B E) → ((x : A) → Keeps of v (f x)) → Keeps of v (r >>= f)
+then : {A B E V : Type 0} (of : B → V) (v : V) (r : Result A E) (f : A → Result B E) → ((x : A) → Stays of v (f x)) → Stays of v (r >>= f)
 then of v (Ok x) f h = h x
 then of v (Err e) f h = tt
 
-after : {A B E V W : Type 0} (first : A → W) (w : W) (of : B → V) (v : V) (r : Result A E) (f : A → Result B E) → Keeps first w r
-    → ((x : A) → first x ≡ w → Keeps of v (f x)) → Keeps of v (r >>= f)
+after : {A B E V W : Type 0} (first : A → W) (w : W) (of : B → V) (v : V) (r : Result A E) (f : A → Result B E) → Stays first w r
+    → ((x : A) → first x ≡ w → Stays of v (f x)) → Stays of v (r >>= f)
 after first w of v (Ok x) f k h = h x k
 after first w of v (Err e) f k h = tt
 
-lifted : {A V : Type 0} (of : A → V) (v : V) (r : Result A ExecError) → Keeps of v r → Keeps of v (or_fails r)
+lifted : {A V : Type 0} (of : A → V) (v : V) (r : Result A ExecError) → Stays of v r → Stays of v (or_fails r)
 lifted of v (Ok x) h = h
 lifted of v (Err e) h = tt
 
@@ -193,9 +193,9 @@ of_pair t = of_registers t.1
 abbrev of_parts : Parts → Rest
 of_parts p = of_registers p.registers
 
-entered_keeps : (m : List ℕ) (s loaded : ℕ) (r : Registers) (call : Call) → Keeps of_pair (of_registers r) (entered m s loaded r call)
+entered_stays : (m : List ℕ) (s loaded : ℕ) (r : Registers) (call : Call) → Stays of_pair (of_registers r) (entered m s loaded r call)
 unfolding entered framed
-entered_keeps m s loaded r call =
+entered_stays m s loaded r call =
     then of_pair (of_registers r) (attributes m s (procedure_called call)) _ (λ t.
     then of_pair (of_registers r) (static_link call m r t.level) _ (λ static.
     then of_pair (of_registers r) (demand (nat_le (r.sp + t.parameters) 65504) InvalidMemory) _ (λ h.
@@ -203,30 +203,30 @@ entered_keeps m s loaded r call =
     (frame_top loaded r.sp t.parameters)) StackOverflow) _
     (λ k. refl))))
 
-at_keeps : (c : Parts) (call : Call) (at : Reached) → Keeps of_parts (of_parts c) (called_at c call at)
+at_stays : (c : Parts) (call : Call) (at : Reached) → Stays of_parts (of_parts c) (called_at c call at)
 unfolding called_at
-at_keeps c call at = after of_pair (of_parts c) of_parts (of_parts c) (entered at.memory at.place at.loaded c.registers call) _
-    (entered_keeps at.memory at.place at.loaded c.registers call) (λ e same. same)
+at_stays c call at = after of_pair (of_parts c) of_parts (of_parts c) (entered at.memory at.place at.loaded c.registers call) _
+    (entered_stays at.memory at.place at.loaded c.registers call) (λ e same. same)
 
-slot_keeps : (c : Parts) (call : Call) (n : ℕ) (code : Option (List ℕ)) (slot : Option (Option SegmentPlace))
-    → Keeps of_parts (of_parts c) (called_slot c call n code slot)
+slot_stays : (c : Parts) (call : Call) (n : ℕ) (code : Option (List ℕ)) (slot : Option (Option SegmentPlace))
+    → Stays of_parts (of_parts c) (called_slot c call n code slot)
 unfolding called_standing called_loading
-slot_keeps c call n code None = tt
-slot_keeps c call n code (Some (Some p)) = then of_parts (of_parts c) (reach_standing c n p) _ (λ at. at_keeps c call at)
-slot_keeps c call n None (Some None) = tt
-slot_keeps c call n (Some code) (Some None) = then of_parts (of_parts c) (reach_loading c n code) _ (λ at. at_keeps c call at)
+slot_stays c call n code None = tt
+slot_stays c call n code (Some (Some p)) = then of_parts (of_parts c) (reach_standing c n p) _ (λ at. at_stays c call at)
+slot_stays c call n None (Some None) = tt
+slot_stays c call n (Some code) (Some None) = then of_parts (of_parts c) (reach_loading c n code) _ (λ at. at_stays c call at)
 
-called_keeps : (c : Parts) (call : Call) (code : Option (List ℕ)) → Keeps of_parts (of_parts c) (called c call code)
+called_stays : (c : Parts) (call : Call) (code : Option (List ℕ)) → Stays of_parts (of_parts c) (called c call code)
 unfolding called
-called_keeps c (Cxp n p) code = slot_keeps c (Cxp n p) n code _
-called_keeps c (Clp p) code = at_keeps c (Clp p) (here c)
-called_keeps c (Cgp p) code = at_keeps c (Cgp p) (here c)
-called_keeps c (Cbp p) code = at_keeps c (Cbp p) (here c)
-called_keeps c (Cip p) code = at_keeps c (Cip p) (here c)
+called_stays c (Cxp n p) code = slot_stays c (Cxp n p) n code _
+called_stays c (Clp p) code = at_stays c (Clp p) (here c)
+called_stays c (Cgp p) code = at_stays c (Cgp p) (here c)
+called_stays c (Cbp p) code = at_stays c (Cbp p) (here c)
+called_stays c (Cip p) code = at_stays c (Cip p) (here c)
 
-returned_keeps : (c : Parts) (words : ℕ) (base : Bool) → Keeps of_parts (of_parts c) (returned c words base)
+returned_stays : (c : Parts) (words : ℕ) (base : Bool) → Stays of_parts (of_parts c) (returned c words base)
 unfolding returned
-returned_keeps c words base =
+returned_stays c words base =
     then of_parts (of_parts c) (demand (is_even c.registers.mp && nat_le (c.registers.mp + 12 + 2 * words) 65536) InvalidMemory) _ (λ h.
     then of_parts (of_parts c) (demand (is_even (word_at c.memory (c.registers.mp + 10)) && nat_le (word_at c.memory (c.registers.mp + 10)) 65504)
     InvalidMemory) _ (λ k.
@@ -245,22 +245,22 @@ record Exited : Type 0 where
 abbrev of_exited : Parts → Exited
 of_exited p = record { registers = other_registers p.registers; places = p.places }
 
-exited_keeps : (c : Parts) (p : Wanted) → Keeps of_exited (of_exited c) (exited c p)
+exited_stays : (c : Parts) (p : Wanted) → Stays of_exited (of_exited c) (exited c p)
 unfolding exited
-exited_keeps c p =
+exited_stays c p =
     then of_exited (of_exited c) (is_wanted c.memory p c.registers.seg c.registers.jtab) _ (λ h.
     then of_exited (of_exited c) (walked_unless h c.memory p c.registers.mp) _ (λ m. refl))
 
 abbrev of_kept : Parts → Registers
 of_kept p = other_registers p.registers
 
-kept_keeps : (c : Parts) (n : ℕ) (code : Option (List ℕ)) (slot : Option (Option SegmentPlace))
-    → Keeps of_kept (of_kept c) (keep_slot c n code slot)
+kept_stays : (c : Parts) (n : ℕ) (code : Option (List ℕ)) (slot : Option (Option SegmentPlace))
+    → Stays of_kept (of_kept c) (keep_slot c n code slot)
 unfolding keep_standing keep_loading
-kept_keeps c n code None = tt
-kept_keeps c n code (Some (Some p)) = then of_kept (of_kept c) (demand (nat_lt p.keeps 65535) StackOverflow) _ (λ h. refl)
-kept_keeps c n None (Some None) = tt
-kept_keeps c n (Some code) (Some None) = then of_kept (of_kept c) (code_fits c.registers code) _ (λ k. refl)
+kept_stays c n code None = tt
+kept_stays c n code (Some (Some p)) = then of_kept (of_kept c) (demand (nat_lt p.keeps 65535) StackOverflow) _ (λ h. refl)
+kept_stays c n None (Some None) = tt
+kept_stays c n (Some code) (Some None) = then of_kept (of_kept c) (code_fits c.registers code) _ (λ k. refl)
 
 record Unkept : Type 0 where
   pub memory : List ℕ
@@ -269,11 +269,11 @@ record Unkept : Type 0 where
 abbrev of_unkept : Parts → Unkept
 of_unkept p = record { memory = p.memory; registers = other_registers p.registers }
 
-unkept_keeps : (c : Parts) (n size : ℕ) (slot : Option (Option SegmentPlace)) → Keeps of_unkept (of_unkept c) (unkeep_slot c n size slot)
+unkept_stays : (c : Parts) (n size : ℕ) (slot : Option (Option SegmentPlace)) → Stays of_unkept (of_unkept c) (unkeep_slot c n size slot)
 unfolding unkeep_standing
-unkept_keeps c n size None = tt
-unkept_keeps c n size (Some None) = tt
-unkept_keeps c n size (Some (Some p)) = then of_unkept (of_unkept c) (demand (nat_lt 0 p.keeps) NoSegment) _ (λ h. refl)
+unkept_stays c n size None = tt
+unkept_stays c n size (Some None) = tt
+unkept_stays c n size (Some (Some p)) = then of_unkept (of_unkept c) (demand (nat_lt 0 p.keeps) NoSegment) _ (λ h. refl)
 
 -- ---- the standard procedures on memory
 
@@ -304,46 +304,46 @@ memory_of o t = memory_blank (memory_writes o) (in_memory o) t
 abbrev at_ipc : Registers → ℕ → Registers
 at_ipc r x = record r { ipc = x }
 
-moved_keeps : (of : List ℕ × Registers → OfMemory) (v : OfMemory) (move : List ℕ → ℕ → ℕ → ℕ → List ℕ) (m : List ℕ) (r : Registers)
-    → ((n : List ℕ) (sp : ℕ) → of (n, record r { sp = sp }) ≡ v) → Keeps of v (move_bytes_row move m r)
+moved_stays : (of : List ℕ × Registers → OfMemory) (v : OfMemory) (move : List ℕ → ℕ → ℕ → ℕ → List ℕ) (m : List ℕ) (r : Registers)
+    → ((n : List ℕ) (sp : ℕ) → of (n, record r { sp = sp }) ≡ v) → Stays of v (move_bytes_row move m r)
 unfolding move_bytes_row
-moved_keeps of v move m r h =
+moved_stays of v move m r h =
     then of v (pop m r.sp) _ (λ n. then of v (pop_place m n.above) _ (λ to. then of v (pop_place m to.above) _ (λ from.
     then of v (moved move m from.word to.word n.word) _ (λ k. h k from.above))))
 
-memory_keeps : (o : OnMemory) (m : List ℕ) (r : Registers) (x : ℕ) → Keeps (memory_of o) (memory_of o (m, r)) (memory_row o m (at_ipc r x))
+memory_stays : (o : OnMemory) (m : List ℕ) (r : Registers) (x : ℕ) → Stays (memory_of o) (memory_of o (m, r)) (memory_row o m (at_ipc r x))
 unfolding memory_row check_io_row new_row fill_row scan_row mark_row release_row push_row
-memory_keeps memory.CheckIo m r x = then (memory_of memory.CheckIo) (memory_of memory.CheckIo (m, r)) (demand (r.ioresult == 0) UserIo) _ (λ h. refl)
-memory_keeps memory.New m r x =
+memory_stays memory.CheckIo m r x = then (memory_of memory.CheckIo) (memory_of memory.CheckIo (m, r)) (demand (r.ioresult == 0) UserIo) _ (λ h. refl)
+memory_stays memory.New m r x =
     let of = memory_of memory.New in
     let v = of (m, r) in
     then of v (pop m r.sp) _ (λ n. then of v (pop m n.above) _ (λ a. then of v (store m a.word r.np) _ (λ k.
     then of v (demand (nat_le (r.np + 2 * n.word) a.above) StackOverflow) _ (λ h. refl))))
-memory_keeps memory.MoveLeft m r x = moved_keeps (memory_of memory.MoveLeft) (memory_of memory.MoveLeft (m, r)) moved_up m (at_ipc r x) (λ n sp. refl)
-memory_keeps memory.MoveRight m r x = moved_keeps (memory_of memory.MoveRight) (memory_of memory.MoveRight (m, r)) moved_down m (at_ipc r x) (λ n sp. refl)
-memory_keeps memory.Fill m r x =
+memory_stays memory.MoveLeft m r x = moved_stays (memory_of memory.MoveLeft) (memory_of memory.MoveLeft (m, r)) moved_up m (at_ipc r x) (λ n sp. refl)
+memory_stays memory.MoveRight m r x = moved_stays (memory_of memory.MoveRight) (memory_of memory.MoveRight (m, r)) moved_down m (at_ipc r x) (λ n sp. refl)
+memory_stays memory.Fill m r x =
     let of = memory_of memory.Fill in
     let v = of (m, r) in
     then of v (pop m r.sp) _ (λ ch. then of v (pop m ch.above) _ (λ n. then of v (pop_place m n.above) _ (λ p.
     then of v (filled_with m p.word n.word (ch.word % 256)) _ (λ k. refl))))
-memory_keeps memory.Scan m r x =
+memory_stays memory.Scan m r x =
     let of = memory_of memory.Scan in
     let v = of (m, r) in
     then of v (pop m r.sp) _ (λ mask. then of v (pop_place m mask.above) _ (λ p. then of v (pop m p.above) _ (λ ch. then of v (pop m ch.above) _ (λ kind.
     then of v (pop m kind.above) _ (λ limit. then of v (passed_by m p.word limit.word (ch.word % 256) (kind.word % 2 == 0)) _ (λ k.
     then of v (push m limit.above r.np k) _ (λ n. refl)))))))
-memory_keeps memory.Mark m r x =
+memory_stays memory.Mark m r x =
     let of = memory_of memory.Mark in
     let v = of (m, r) in
     then of v (pop m r.sp) _ (λ a. then of v (store m a.word r.np) _ (λ n. refl))
-memory_keeps memory.Release m r x =
+memory_stays memory.Release m r x =
     let of = memory_of memory.Release in
     let v = of (m, r) in
     then of v (pop m r.sp) _ (λ a. then of v (load m a.word) _ (λ w. then of v (demand (is_even w) InvalidMemory) _ (λ h.
     then of v (demand (nat_le w a.above) StackOverflow) _ (λ k. refl))))
-memory_keeps memory.IoResult m r x = then (memory_of memory.IoResult) (memory_of memory.IoResult (m, r)) (push m r.sp r.np r.ioresult) _ (λ n. refl)
-memory_keeps memory.Halt m r x = tt
-memory_keeps memory.FreeMemory m r x = then (memory_of memory.FreeMemory) (memory_of memory.FreeMemory (m, r)) (push m r.sp r.np ((r.sp - r.np) / 2)) _
+memory_stays memory.IoResult m r x = then (memory_of memory.IoResult) (memory_of memory.IoResult (m, r)) (push m r.sp r.np r.ioresult) _ (λ n. refl)
+memory_stays memory.Halt m r x = tt
+memory_stays memory.FreeMemory m r x = then (memory_of memory.FreeMemory) (memory_of memory.FreeMemory (m, r)) (push m r.sp r.np ((r.sp - r.np) / 2)) _
     (λ n. refl)
 
 -- ---- the standard procedures on units
@@ -381,21 +381,21 @@ read_devices d = record d { queue = []; console = [] }
 abbrev of_moved : Moved → Devices
 of_moved t = read_devices t.devices
 
-queue_keeps : (echo : Bool) (t : Transfer) (m : List ℕ) (d : Devices) → Keeps of_moved (read_devices d) (from_queue echo t m d)
-queue_keeps echo t m d = elim (cases_Bool (nat_lt (length d.queue) t.count)) [ inl e ↦ rw e tt | inr e ↦ rw e refl ]
+queue_stays : (echo : Bool) (t : Transfer) (m : List ℕ) (d : Devices) → Stays of_moved (read_devices d) (from_queue echo t m d)
+queue_stays echo t m d = elim (cases_Bool (nat_lt (length d.queue) t.count)) [ inl e ↦ rw e tt | inr e ↦ rw e refl ]
 
-disk_keeps : (o : Option (List ℕ)) (t : Transfer) (m : List ℕ) (d : Devices) → read_devices (from_disk o t m d).devices ≡ read_devices d
-disk_keeps None t m d = refl
-disk_keeps (Some image) t m d = elim (cases_Bool (can_move image t)) [ inl e ↦ rw e refl | inr e ↦ rw e refl ]
+disk_stays : (o : Option (List ℕ)) (t : Transfer) (m : List ℕ) (d : Devices) → read_devices (from_disk o t m d).devices ≡ read_devices d
+disk_stays None t m d = refl
+disk_stays (Some image) t m d = elim (cases_Bool (can_move image t)) [ inl e ↦ rw e refl | inr e ↦ rw e refl ]
 
-read_keeps : (p : Port) (t : Transfer) (m : List ℕ) (d : Devices) → Keeps of_moved (read_devices d) (unit_read p t m d)
+read_stays : (p : Port) (t : Transfer) (m : List ℕ) (d : Devices) → Stays of_moved (read_devices d) (unit_read p t m d)
 unfolding unit_read
-read_keeps Unknown t m d = refl
-read_keeps Absent t m d = refl
-read_keeps Printer t m d = refl
-read_keeps Console t m d = queue_keeps true t m d
-read_keeps Terminal t m d = queue_keeps false t m d
-read_keeps (Disk k) t m d = disk_keeps (image_at d k) t m d
+read_stays Unknown t m d = refl
+read_stays Absent t m d = refl
+read_stays Printer t m d = refl
+read_stays Console t m d = queue_stays true t m d
+read_stays Terminal t m d = queue_stays false t m d
+read_stays (Disk k) t m d = disk_stays (image_at d k) t m d
 
 record OfWritten : Type 0 where
   pub memory : List ℕ
@@ -404,62 +404,62 @@ record OfWritten : Type 0 where
 abbrev of_written : Moved → OfWritten
 of_written t = record { memory = t.memory; devices = record t.devices { disks = []; console = []; printer = [] } }
 
-to_disk_keeps : (k : ℕ) (o : Option (List ℕ)) (t : Transfer) (m : List ℕ) (d : Devices)
+to_disk_stays : (k : ℕ) (o : Option (List ℕ)) (t : Transfer) (m : List ℕ) (d : Devices)
     → of_written (to_disk k o t m d) ≡ record { memory = m; devices = record d { disks = []; console = []; printer = [] } }
-to_disk_keeps k None t m d = refl
-to_disk_keeps k (Some image) t m d = elim (cases_Bool (can_move image t)) [ inl e ↦ rw e refl | inr e ↦ rw e refl ]
+to_disk_stays k None t m d = refl
+to_disk_stays k (Some image) t m d = elim (cases_Bool (can_move image t)) [ inl e ↦ rw e refl | inr e ↦ rw e refl ]
 
-written_keeps : (p : Port) (t : Transfer) (m : List ℕ) (d : Devices)
+written_stays : (p : Port) (t : Transfer) (m : List ℕ) (d : Devices)
     → of_written (unit_written p t m d) ≡ record { memory = m; devices = record d { disks = []; console = []; printer = [] } }
 unfolding unit_written
-written_keeps Unknown t m d = refl
-written_keeps Absent t m d = refl
-written_keeps Printer t m d = refl
-written_keeps Console t m d = refl
-written_keeps Terminal t m d = refl
-written_keeps (Disk k) t m d = to_disk_keeps k (image_at d k) t m d
+written_stays Unknown t m d = refl
+written_stays Absent t m d = refl
+written_stays Printer t m d = refl
+written_stays Console t m d = refl
+written_stays Terminal t m d = refl
+written_stays (Disk k) t m d = to_disk_stays k (image_at d k) t m d
 
-units_keep : (o : OnUnits) (z : State) (m : List ℕ) (r : Registers) (x : ℕ) (d : Devices)
-    → Keeps (units_of o z) (units_of o z (served m r d)) (units_row o (served m (at_ipc r x) d))
+units_stay : (o : OnUnits) (z : State) (m : List ℕ) (r : Registers) (x : ℕ) (d : Devices)
+    → Stays (units_of o z) (units_of o z (served m r d)) (units_row o (served m (at_ipc r x) d))
 unfolding units_row read_row write_row time_row busy_row wait_row clear_row
-units_keep units.Read z m r x d =
+units_stay units.Read z m r x d =
     let of = units_of units.Read z in
     let v = of (served m r d) in
     then of v (or_fails (ordered m r.sp)) _ (λ o.
-    after of_moved (read_devices d) of v (unit_read (unit_of o.unit) o.transfer m d) _ (read_keeps (unit_of o.unit) o.transfer m d)
+    after of_moved (read_devices d) of v (unit_read (unit_of o.unit) o.transfer m d) _ (read_stays (unit_of o.unit) o.transfer m d)
     (λ t e. ap (λ (k : Devices). record { memory = []; registers = blank_registers (unit_writes units.Read z) r; devices = k }) e))
-units_keep units.Write z m r x d =
+units_stay units.Write z m r x d =
     let of = units_of units.Write z in
     let v = of (served m r d) in
     then of v (or_fails (ordered m r.sp)) _ (λ o.
     ap (λ (k : OfWritten). record { memory = k.memory; registers = blank_registers (unit_writes units.Write z) r; devices = k.devices })
-    (written_keeps (unit_of o.unit) o.transfer m d))
-units_keep units.Time z m r x d =
+    (written_stays (unit_of o.unit) o.transfer m d))
+units_stay units.Time z m r x d =
     let of = units_of units.Time z in
     let v = of (served m r d) in
     lifted of v _ (then of v (pop m r.sp) _ (λ b. then of v (pop m b.above) _ (λ a. then of v (demand (is_even a.word && is_even b.word) InvalidMemory) _
     (λ h. refl))))
-units_keep units.Busy z m r x d =
+units_stay units.Busy z m r x d =
     let of = units_of units.Busy z in
     let v = of (served m r d) in
     lifted of v _ (then of v (pop m r.sp) _ (λ unit. then of v (push m unit.above r.np 0) _ (λ n. refl)))
-units_keep units.Wait z m r x d =
+units_stay units.Wait z m r x d =
     let of = units_of units.Wait z in
     let v = of (served m r d) in
     lifted of v _ (then of v (pop m r.sp) _ (λ unit. refl))
-units_keep units.Clear z m r x d =
+units_stay units.Clear z m r x d =
     let of = units_of units.Clear z in
     let v = of (served m r d) in
     lifted of v _ (then of v (pop m r.sp) _ (λ unit.
-    ap (λ (k : Devices). record { memory = m; registers = blank_registers (unit_writes units.Clear z) r; devices = k }) (clear_keeps (unit_of unit.word))))
+    ap (λ (k : Devices). record { memory = m; registers = blank_registers (unit_writes units.Clear z) r; devices = k }) (clear_stays (unit_of unit.word))))
   where
-    clear_keeps : (p : Port) → record ((cleared p d).1) { queue = [] } ≡ record d { queue = [] }
-    clear_keeps Unknown = refl
-    clear_keeps Absent = refl
-    clear_keeps Printer = refl
-    clear_keeps Console = refl
-    clear_keeps Terminal = refl
-    clear_keeps (Disk k) = refl
+    clear_stays : (p : Port) → record ((cleared p d).1) { queue = [] } ≡ record d { queue = [] }
+    clear_stays Unknown = refl
+    clear_stays Absent = refl
+    clear_stays Printer = refl
+    clear_stays Console = refl
+    clear_stays Terminal = refl
+    clear_stays (Disk k) = refl
 
 -- a disk that UNITWRITE does not name
 written_disk : (k : ℕ) (o : Option (List ℕ)) (t : Transfer) (m : List ℕ) (d : Devices) (n : ℕ) → (n == k) ≡ false
@@ -515,16 +515,16 @@ counted_blank w mem dsk t h = ap (λ (n : ℕ). record {
 abbrev Goes : Writes → State → Result State Pause → Type 0
 Goes w s r = Gives (λ (t : State). LeavesTheRest w s (step_counted t)) r
 
-goes_all : (w : Writes) (s : State) (r : Result State Pause) → Keeps (blanked w true false) (blanked w true false s) r → w.steps ≡ true
+goes_all : (w : Writes) (s : State) (r : Result State Pause) → Stays (blanked w true false) (blanked w true false s) r → w.steps ≡ true
     → ((x : ℕ) → w.words x ≡ true) → Goes w s r
 goes_all w s (Ok t) h steps all = left_all w s (step_counted t) (counted_blank w true false t steps ∙ h) all
 goes_all w s (Err e) h steps all = tt
 
-goes_on : (w : Writes) (s : State) (r : Result State Pause) → Keeps (blanked w false false) (blanked w false false s) r → w.steps ≡ true → Goes w s r
+goes_on : (w : Writes) (s : State) (r : Result State Pause) → Stays (blanked w false false) (blanked w false false s) r → w.steps ≡ true → Goes w s r
 goes_on w s (Ok t) h steps = left_words w s (step_counted t) (counted_blank w false false t steps ∙ h)
 goes_on w s (Err e) h steps = tt
 
-goes_disks : (w : Writes) (s : State) (r : Result State Pause) → Keeps (blanked w false true) (blanked w false true s) r
+goes_disks : (w : Writes) (s : State) (r : Result State Pause) → Stays (blanked w false true) (blanked w false true s) r
     → Gives (λ (t : State). (k : ℕ) → w.disks k ≡ false → image_at t.devices k ≡ image_at s.devices k) r → w.steps ≡ true → Goes w s r
 goes_disks w s (Ok t) h disks steps = left_disks w s (step_counted t) (counted_blank w false true t steps ∙ h) disks
 goes_disks w s (Err e) h disks steps = tt
@@ -536,26 +536,26 @@ stack_goes s x r =
     let of = blanked stack_row true false in
     goes_all stack_row s _ (lifted of (of s) (on_stack (with_ipc s x) r) (then of (of s) r _ (λ t. refl))) refl (λ y. refl)
 
-jumped_keeps : (b : Bool) (m : List ℕ) (r : Registers) (offset : ℕ) (v : Registers) → other_registers r ≡ v → Keeps other_registers v (jumped b m r offset)
-jumped_keeps true m r offset v h = then other_registers v (target m r offset) _ (λ ipc. h)
-jumped_keeps false m r offset v h = h
+jumped_stays : (b : Bool) (m : List ℕ) (r : Registers) (offset : ℕ) (v : Registers) → other_registers r ≡ v → Stays other_registers v (jumped b m r offset)
+jumped_stays true m r offset v h = then other_registers v (target m r offset) _ (λ ipc. h)
+jumped_stays false m r offset v h = h
 
-jump_keeps : (o : Jump) (m : List ℕ) (r : Registers) → Keeps other_registers (other_registers r) (jump_row o m r)
+jump_stays : (o : Jump) (m : List ℕ) (r : Registers) → Stays other_registers (other_registers r) (jump_row o m r)
 unfolding jump_row short_row case_row
-jump_keeps (jump.Short Always offset) m r = jumped_keeps true m r offset (other_registers r) refl
-jump_keeps (jump.Short IfFalse offset) m r = then other_registers (other_registers r) (pop m r.sp) _ (λ a. jumped_keeps _ m _ offset (other_registers r) refl)
-jump_keeps (jump.Short IfDifferent offset) m r = then other_registers (other_registers r) (pop m r.sp) _ (λ b.
-    then other_registers (other_registers r) (pop m b.above) _ (λ a. jumped_keeps _ m _ offset (other_registers r) refl))
-jump_keeps (jump.Short IfEqual offset) m r = then other_registers (other_registers r) (pop m r.sp) _ (λ b.
-    then other_registers (other_registers r) (pop m b.above) _ (λ a. jumped_keeps _ m _ offset (other_registers r) refl))
-jump_keeps (jump.Case low high table) m r = then other_registers (other_registers r) (pop m r.sp) _ (λ a.
+jump_stays (jump.Short Always offset) m r = jumped_stays true m r offset (other_registers r) refl
+jump_stays (jump.Short IfFalse offset) m r = then other_registers (other_registers r) (pop m r.sp) _ (λ a. jumped_stays _ m _ offset (other_registers r) refl)
+jump_stays (jump.Short IfDifferent offset) m r = then other_registers (other_registers r) (pop m r.sp) _ (λ b.
+    then other_registers (other_registers r) (pop m b.above) _ (λ a. jumped_stays _ m _ offset (other_registers r) refl))
+jump_stays (jump.Short IfEqual offset) m r = then other_registers (other_registers r) (pop m r.sp) _ (λ b.
+    then other_registers (other_registers r) (pop m b.above) _ (λ a. jumped_stays _ m _ offset (other_registers r) refl))
+jump_stays (jump.Case low high table) m r = then other_registers (other_registers r) (pop m r.sp) _ (λ a.
     then other_registers (other_registers r) (case_target low high table m a.word) _ (λ ipc. refl))
 
 jump_goes : (s : State) (x : ℕ) (o : Jump) → Goes taking_row s (or_fails (on_registers (with_ipc s x) (jump_row o s.memory (at_ipc s.registers x))))
 jump_goes s x o =
     let of = blanked taking_row false false in
     goes_on taking_row s _ (lifted of (of s) (on_registers (with_ipc s x) (jump_row o s.memory (at_ipc s.registers x)))
-    (after other_registers (other_registers s.registers) of (of s) (jump_row o s.memory (at_ipc s.registers x)) _ (jump_keeps o s.memory (at_ipc s.registers x))
+    (after other_registers (other_registers s.registers) of (of s) (jump_row o s.memory (at_ipc s.registers x)) _ (jump_stays o s.memory (at_ipc s.registers x))
     (λ r e. ap (λ (k : Registers). record {
       memory = s.memory;
       registers = k;
@@ -582,7 +582,7 @@ unfolding call_row
 call_goes s x c =
     let of = blanked frame_row true false in
     goes_all frame_row s _ (lifted of (of s) _ (then of (of s) (code_needed c s.places s.rows s.devices) _ (λ code.
-    after of_parts (of_parts (parts (with_ipc s x))) of (of s) (called (parts (with_ipc s x)) c code) _ (called_keeps (parts (with_ipc s x)) c code)
+    after of_parts (of_parts (parts (with_ipc s x))) of (of s) (called (parts (with_ipc s x)) c code) _ (called_stays (parts (with_ipc s x)) c code)
     (λ p e. ap (rest_of s.status s) e)))) refl (λ y. refl)
 
 return_goes : (s : State) (x : ℕ) (r : Return) → Goes (operation_writes (operation.Return r) s) s (or_fails (return_row r (with_ipc s x)))
@@ -591,7 +591,7 @@ return_goes s x r =
     let of = blanked w true false in
     goes_all w s _ (lifted of (of s) _ (
     after of_parts (of_parts (parts (with_ipc s x))) of (of s) (returned (parts (with_ipc s x)) (words_of_return r) (is_base_return r)) _
-    (returned_keeps (parts (with_ipc s x)) (words_of_return r) (is_base_return r)) (λ p e. ap (rest_of status.Running s) e))) refl (λ y. refl)
+    (returned_stays (parts (with_ipc s x)) (words_of_return r) (is_base_return r)) (λ p e. ap (rest_of status.Running s) e))) refl (λ y. refl)
 
 -- ---- standard procedures
 
@@ -600,7 +600,7 @@ abbrev stood : Procedure → State → Result State Pause
 stood p s = procedure_row p (reach s) >>= λ t. Ok (with_reach t s)
 
 memory_blanks : (o : OnMemory) (s : State) (x : ℕ)
-    → Keeps (blanked (memory_writes o) (in_memory o) false) (blanked (memory_writes o) (in_memory o) false s) (stood (procedure.OnMemory o) (with_ipc s x))
+    → Stays (blanked (memory_writes o) (in_memory o) false) (blanked (memory_writes o) (in_memory o) false s) (stood (procedure.OnMemory o) (with_ipc s x))
 unfolding procedure_row
 memory_blanks o s x =
     let w = memory_writes o in
@@ -609,7 +609,7 @@ memory_blanks o s x =
     after of_reach (of s) of (of s) (or_fails (on_memory (reach (with_ipc s x)) (memory_row o s.memory (at_ipc s.registers x)))) _
     (lifted of_reach (of s) (on_memory (reach (with_ipc s x)) (memory_row o s.memory (at_ipc s.registers x)))
     (after (memory_of o) (memory_of o (s.memory, s.registers)) of_reach (of s) (memory_row o s.memory (at_ipc s.registers x)) _
-    (memory_keeps o s.memory s.registers x)
+    (memory_stays o s.memory s.registers x)
     (λ t e. ap (λ (k : OfMemory). record {
       memory = k.memory;
       registers = k.registers;
@@ -636,7 +636,7 @@ memory_goes memory.Halt s x = tt
 memory_goes memory.FreeMemory s x = goes_all (memory_writes memory.FreeMemory) s _ (memory_blanks memory.FreeMemory s x) refl (λ y. refl)
 
 unit_blanks : (o : OnUnits) (s : State) (x : ℕ)
-    → Keeps (blanked (unit_writes o s) (on_memory_too o) (on_disks_too o)) (blanked (unit_writes o s) (on_memory_too o) (on_disks_too o) s)
+    → Stays (blanked (unit_writes o s) (on_memory_too o) (on_disks_too o)) (blanked (unit_writes o s) (on_memory_too o) (on_disks_too o) s)
     (stood (procedure.OnUnits o) (with_ipc s x))
 unfolding procedure_row
 unit_blanks o s x =
@@ -646,7 +646,7 @@ unit_blanks o s x =
     after of_reach (of s) of (of s) (standard.on_units (reach (with_ipc s x)) (units_row o (served s.memory (at_ipc s.registers x) s.devices))) _
     (after (units_of o s) (units_of o s (served s.memory s.registers s.devices)) of_reach (of s) (units_row o (served s.memory
     (at_ipc s.registers x) s.devices)) _
-    (units_keep o s s.memory s.registers x s.devices)
+    (units_stay o s s.memory s.registers x s.devices)
     (λ t e. ap (λ (k : OfUnits). record {
       memory = k.memory;
       registers = k.registers;
@@ -692,7 +692,7 @@ exit_goes s x =
     then of_reach (of s) (pop s.memory p.above) _ (λ n.
     let c = standard.reach_parts (reach (with_ipc s x)) (record (at_ipc s.registers x) { sp = n.above }) in
     let named : Wanted = record { segment = n.word; procedure = p.word } in
-    after of_exited (of_exited c) of_reach (of s) (exited c named) _ (exited_keeps c named)
+    after of_exited (of_exited c) of_reach (of s) (exited c named) _ (exited_stays c named)
     (λ l e. ap (λ (k : Exited). record {
       memory = [];
       registers = k.registers;
@@ -714,7 +714,7 @@ keep_goes s x =
     (lifted of_reach (of s) (keep_row (reach (with_ipc s x))) (then of_reach (of s) (pop s.memory s.registers.sp) _ (λ n.
     then of_reach (of s) (slot_code n.word s.places s.rows s.devices) _ (λ code.
     let c = standard.reach_parts (reach (with_ipc s x)) (record (at_ipc s.registers x) { sp = n.above }) in
-    after of_kept (of_kept c) of_reach (of s) (segment_kept c n.word code) _ (kept_keeps c n.word code (slice_get c.places n.word))
+    after of_kept (of_kept c) of_reach (of s) (segment_kept c n.word code) _ (kept_stays c n.word code (slice_get c.places n.word))
     (λ l e. ap (λ (k : Registers). record { memory = []; registers = k; steps = 0; status = s.status; places = []; rows = s.rows; devices = s.devices }) e)))))
     (λ t e. e)) refl (λ y. refl)
 
@@ -728,7 +728,7 @@ unkeep_goes s x =
     (lifted of_reach (of s) (unkeep_row (reach (with_ipc s x))) (then of_reach (of s) (pop s.memory s.registers.sp) _ (λ n.
     let size = length_of (slice_get s.rows n.word) in
     let c = standard.reach_parts (reach (with_ipc s x)) (record (at_ipc s.registers x) { sp = n.above }) in
-    after of_unkept (of_unkept c) of_reach (of s) (segment_unkept c n.word size) _ (unkept_keeps c n.word size (slice_get c.places n.word))
+    after of_unkept (of_unkept c) of_reach (of s) (segment_unkept c n.word size) _ (unkept_stays c n.word size (slice_get c.places n.word))
     (λ l e. ap (λ (k : Unkept). record {
       memory = k.memory;
       registers = k.registers;

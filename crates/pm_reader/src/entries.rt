@@ -16,7 +16,7 @@ fn row_entries(row: &Row<'_>) -> usize
 }
 
 /// How many entries code takes.
-pub(crate) fn rows_entries(rows: &[Row<'_>]) -> usize
+pub(crate) fn entries_taken(rows: &[Row<'_>]) -> usize
     ensures entries { result ≡ entries_used (map row_seen rows.now) }
 {
     let mut most = 0;

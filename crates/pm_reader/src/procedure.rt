@@ -9,7 +9,7 @@ ghost use Rattle.pm_reader.specs.Views.{labelled_procedure};
 ghost use Rattle.pm_reader.specs.Reader.{IsCountless, current_seen};
 
 use crate::current::Current;
-use crate::entries::rows_entries;
+use crate::entries::entries_taken;
 use crate::labels::label_of;
 use crate::sizes::code_end;
 use crate::source::LabelledProcedure;
@@ -47,7 +47,7 @@ impl LabelledProcedure<'_> {
         ensures too_long { result ≡ None → IsCountless (code_end 0 (labelled_procedure self.now).code) }
     {
         let end = code_end(0, &self.code)?;
-        Some(end % 2 != 0 || self.entries.len() != rows_entries(&self.code))
+        Some(end % 2 != 0 || self.entries.len() != entries_taken(&self.code))
     }
 }
 

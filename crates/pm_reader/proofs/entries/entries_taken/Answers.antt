@@ -4,7 +4,7 @@ use Rattle.pm_line.specs.Views.{row_seen}
 use Rattle.pm_code.specs.Program.{entries_needed}
 use Rattle.pm_source.specs.Source.{entries_used, row_items}
 use Rattle.pm_reader.proofs.EntryCounts.{used-more}
-use Rattle.pm_reader.proofs.entries.rows_entries.Goals as goal
+use Rattle.pm_reader.proofs.entries.entries_taken.Goals as goal
 
 pub loop-row-preserved : goal.loop-row-preserved
 loop-row-preserved c =

@@ -1,7 +1,7 @@
 use Rattle.std.proofs.Common.{◌≡◌, drop, map, max}
 use Rattle.pm_line.specs.Views.{row_seen}
 use Rattle.pm_source.specs.Source.{entries_used}
-use Rattle.pm_reader.proofs.entries.rows_entries.Given as goal
+use Rattle.pm_reader.proofs.entries.entries_taken.Given as goal
 
 -- the entries so far and those of what is left
 abbrev pub invariant-loop-row : goal.invariant-loop-row

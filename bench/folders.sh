@@ -255,5 +255,13 @@ check "no program" ends 2 "$here/examples/profile.sh" --d4 h NONE
 check "who calls whom" [ "$("$here/examples/calls.sh" <tower | tr '\n' ',')" = "1 1 1 2 1,1 2 1 2 2,1 2 1 3 1," ]
 check "no code file" ends 2 "$here/examples/calls.sh"
 
+for script in "$here"/examples/*.sh "$here"/examples/*/*.sh; do
+    case $script in */codefile.sh | */words.sh) continue ;; esac
+    check "${script##*/} -h" ends 0 "$script" -h
+    check "${script##*/} says its head" cmp -s out <(sed -n '2,/^[^#]/{/^#/!q;s/^# \{0,1\}//;p}' "$script")
+    check "${script##*/} is silent else" [ ! -s err ]
+    [ "${script##*/}" = try.sh ] || check "${script##*/} with wrong words" ends 1 "$script" --no --such --words --here
+done
+
 echo "$passed passed, $failed failed"
 [ $failed = 0 ]

@@ -3,6 +3,12 @@
 #
 # A line for each pair, in the order of the text: segment and procedure of the caller, those of the procedure that is
 # called, and at how many places. Standard procedures are no calls. It ends with the status of `pmach dis`.
+. "$(dirname "$(readlink -f "$0")")/words.sh"
+[ $# = 0 ] || {
+    echo "usage: calls.sh <FILE" >&2
+    exit 1
+}
+[ ! -t 0 ] || echo "calls.sh: reads a code file; Ctrl-D ends it" >&2
 pmach=${PMACH:-$(dirname "$(readlink -f "$0")")/../pmach}
 { "$pmach" dis; echo "status $?"; } | awk '
     function called(segment, procedure) {

@@ -2,6 +2,12 @@
 # Brings an image of a 140 KB disk from DOS order (.dsk, .do) into block order, or back: examples/dos-order.sh <OLD >NEW
 # Each track has 16 sectors of 256 bytes. In DOS order the sectors of its eight blocks stand as 0 14 13 12 11 10 9 8 7
 # 6 5 4 3 2 1 15.
+. "$(dirname "$(readlink -f "$0")")/words.sh"
+[ $# = 0 ] || {
+    echo "usage: dos-order.sh <OLD >NEW" >&2
+    exit 1
+}
+[ ! -t 0 ] || echo "dos-order.sh: reads an image; Ctrl-D ends it" >&2
 set -e
 scratch=$(mktemp)
 trap 'rm -f "$scratch"' EXIT

@@ -14,6 +14,7 @@
 # asks for each file. Case does not count.
 #
 # An image that is refused is told, and no folder made. Status 0: all files came out.
+. "$(dirname "$(readlink -f "$0")")/words.sh"
 here=$(dirname "$(readlink -f "$0")")
 pmach=${PMACH:-$here/../pmach}
 . "$here/slots.bash"

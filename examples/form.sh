@@ -14,6 +14,7 @@
 # last 128 are no part of the disk. What looks like something else is named.
 # Nothing is guessed: a form fits where the program opens the volume in it. No file is written over.
 # Status 0: one form fits, or NEW is made; 1 wrong words, or NEW is there; 2 none fits; 3 more than one does.
+. "$(dirname "$(readlink -f "$0")")/words.sh"
 here=$(dirname "$(readlink -f "$0")")
 pmach=${PMACH:-$here/../pmach}
 scratch=$(mktemp -d)

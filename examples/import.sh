@@ -10,6 +10,7 @@
 #
 # FOLDER may be another's: only regular files in it are read, no links and nothing outside it, a date is three numbers,
 # and what LIST says is shown without its control characters.
+. "$(dirname "$(readlink -f "$0")")/words.sh"
 [ $# = 2 ] || {
     echo "usage: import.sh FOLDER IMAGE" >&2
     exit 1

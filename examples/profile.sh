@@ -4,6 +4,7 @@
 # A line for each procedure, the one with the most steps first: segment, procedure, how often it was entered, how many
 # steps stood in it (a dash where a step stands nowhere); then one for each instruction, how often it was made; then the
 # last line of the trace, whose status it ends with. Standard input is the program's console, as of `trace`.
+. "$(dirname "$(readlink -f "$0")")/words.sh"
 [ $# != 0 ] || {
     echo "usage: profile.sh --d4 IMAGE .. NAME" >&2
     exit 1

@@ -9,6 +9,7 @@
 #   PRIMES  writes the primes below 100, by a sieve
 #   HANOI   moves a tower of disks, by a procedure that calls itself and one inside it
 # PMACH names another program than ../pmach.
+. "$(dirname "$(readlink -f "$0")")/words.sh"
 set -e
 [ $# = 1 ] || {
     echo "usage: programs.sh PATH" >&2

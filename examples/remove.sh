@@ -4,6 +4,7 @@
 # = stands for any characters, and so does ?, which asks for each file. Case does not count. Each file that is removed
 # is told; one whose name cannot be typed, or is another's too, is told and left. Status 0: all that fit are removed, and
 # there was one.
+. "$(dirname "$(readlink -f "$0")")/words.sh"
 [ $# = 2 ] || {
     echo "usage: remove.sh IMAGE PATTERN" >&2
     exit 1

@@ -6,6 +6,7 @@
 # last date. Status 2: no such file, or no code file; 3: each segment stands where it has to, or two have one number, or
 # one has a number above 15, and the file stays as it is; 4: no room, and it stays as it is. PMACH names another program
 # than ../pmach.
+. "$(dirname "$(readlink -f "$0")")/words.sh"
 set -e
 [ $# = 2 ] || {
     echo "usage: renumber.sh IMAGE NAME" >&2

@@ -8,6 +8,7 @@
 # or ?count: it stands behind the files that the header counts.
 #
 # A line for each entry that is left out or doubted. Status 0: there was none; 1: wrong words; 3: there was one.
+. "$(dirname "$(readlink -f "$0")")/words.sh"
 start=1024
 [ "$1" = --second ] && start=3072 && shift
 [ $# = 2 ] && [ -r "$1" ] || {

@@ -2,6 +2,7 @@
 # Makes a small volume, by the program alone: examples/volume.sh PATH
 # The image is 40 blocks: two text files, a file of data, and free blocks between them. PMACH names another program than
 # ../pmach.
+. "$(dirname "$(readlink -f "$0")")/words.sh"
 set -e
 [ $# = 1 ] || {
     echo "usage: volume.sh PATH" >&2

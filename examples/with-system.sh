@@ -5,6 +5,7 @@
 # Status 2: no such file, or no code file; 3: its slot 0 is taken, and it stays as it is; 4: the volume has no room, and
 # stays as it is. PREFIX names the volume of titles that name none (* is that of unit 4, which holds without PREFIX);
 # PMACH another program than ../pmach.
+. "$(dirname "$(readlink -f "$0")")/words.sh"
 set -e
 [ $# = 2 ] || {
     echo "usage: with-system.sh IMAGE NAME" >&2

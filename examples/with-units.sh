@@ -8,6 +8,7 @@
 # Calls of other units stay, and are named. Status 2: no such file, or no code file; 3: it calls none of these units, or
 # no slot is free, or its text does not come to the same bytes, and it stays as it is; 4: no room, and it stays as it
 # is. PMACH names another program than ../pmach.
+. "$(dirname "$(readlink -f "$0")")/words.sh"
 set -e
 [ $# = 2 ] || {
     echo "usage: with-units.sh IMAGE NAME" >&2

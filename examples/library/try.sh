@@ -3,6 +3,7 @@
 # LIBPM_C names a libpm_c.a that is there already; else `rt lib` makes one, which checks every proof first. HEAP names
 # the kit's liblibc_c.a, else it is looked for beside rt. CC is the C compiler. Where PMACH is set, the library is also
 # compared with that program.
+. "$(dirname "$(readlink -f "$0")")/../words.sh"
 set -eu
 here=$(dirname "$(readlink -f "$0")")
 made=$(mktemp -d)

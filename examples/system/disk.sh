@@ -8,6 +8,7 @@
 #   DICE      RANDOM and KEYPRESS of a unit
 # PEOPLE and DICE call units of Apple's library, which ../with-units.sh puts in.
 # PMACH names another program than ../../pmach.
+. "$(dirname "$(readlink -f "$0")")/../words.sh"
 set -e
 [ $# = 1 ] || {
     echo "usage: disk.sh PATH" >&2

@@ -385,7 +385,7 @@ impl Trials {
     /// - `[ TEXT`: standard input without a line feed. `hex PIECES`: bytes of it. `times N TEXT`: N lines of it.
     /// - `file FILE`: what was to be standard input is a file. `set FILE PLACE PIECES` writes bytes over those of one,
     ///   and `cut FILE PLACE COUNT TO` makes one of a part. True or not: `bytes FILE PIECES`.
-    /// - `ends STATUS`: as `=`, but standard output ends with what stands above.
+    /// - `ends STATUS`: as `=`, but standard output ends with what stands above. `says STATUS`: the same of standard error.
     /// - Texts of the assembler: `before` and `behind` make what was to be standard input the first and the last lines
     ///   of each of them, and `takes LINE` and `refuses FAULT AT LINE` put between those what is to be standard input
     ///   and then LINE. True where `pmach asm` takes the text, or refuses it by that fault in line AT.
@@ -440,6 +440,7 @@ impl Trials {
             "refuses" => self.refuses(first, second),
             "bytes" => self.has_bytes(first, second),
             "ends" => Ok(self.ends(first)),
+            "says" => Ok(self.says(first)),
             _ => Ok(self.holds(word, first, second)),
         }
     }
@@ -533,6 +534,14 @@ impl Trials {
         usize::from(self.came.status) == number(status)
             && disk.out.as_slice().ends_with(self.out.as_slice())
             && disk.err.as_bytes() == self.err.as_slice()
+    }
+
+    /// Whether the last command line came to this status, and standard error ended with what the lines above say.
+    fn says(&self, status: &str) -> bool {
+        let disk = &self.came.disk;
+        usize::from(self.came.status) == number(status)
+            && disk.out.as_slice() == self.out.as_slice()
+            && disk.err.as_bytes().ends_with(self.err.as_slice())
     }
 }
 

@@ -48,6 +48,17 @@ static uint32_t run(void) { uint64_t steps; return pmach_run(&h, 100000, &steps)
 static uint32_t key(void) { return pmach_key(&h, 'x'); }
 static uint32_t mount(void) { return pmach_mount(&h, 5, image, image_len); }
 static uint32_t eject(void) { return pmach_eject(&h, 4); }
+static uint32_t faults(void) { return pmach_assemble_faults(code, code_len, OUT); }
+static uint32_t symbols(void) { return pmach_assemble_symbols(text, text_len, OUT); }
+static uint32_t names(void) { return pmach_disassemble_names(code, code_len, OUT); }
+static uint32_t listing(void) { return pmach_disassemble_list(code, code_len, OUT); }
+static uint32_t statements(void) { return pmach_disassemble_statements(code, code_len, OUT); }
+static uint32_t get_slot(void) { return pmach_get_slot(image, image_len, 1, OUT); }
+static uint32_t get_text_slot(void) { return pmach_get_text_slot(image, image_len, 2, OUT); }
+static uint32_t remove_slot(void) { return pmach_remove_slot(image, image_len, 1, OUT); }
+static uint32_t change_slot(void) { return pmach_change_slot(image, image_len, 1, (const uint8_t *)"NEW", 3, OUT); }
+static uint32_t line(void) { return pmach_line(&h, OUT); }
+static uint32_t instruction(void) { return pmach_instruction(&h, 1024, OUT); }
 
 static const struct job { const char *name; uint32_t (*call)(void); int has_machine; int partial; } jobs[] = {
     {"assemble", assemble, 0, 0}, {"disassemble", disassemble, 0, 0}, {"raw", raw, 0, 0}, {"debug", debug, 0, 0},
@@ -56,6 +67,10 @@ static const struct job { const char *name; uint32_t (*call)(void); int has_mach
     {"duplicate", duplicate, 0, 0}, {"single", single, 0, 0}, {"krunch", krunch, 0, 0}, {"repair", repair, 0, 0},
     {"check", check, 0, 0}, {"salvage", salvage, 0, 0}, {"new", start, 0, 0}, {"boot", boot, 0, 0}, {"step", step, 1, 0},
     {"run", run, 1, 1}, {"key", key, 1, 0}, {"mount", mount, 1, 0}, {"eject", eject, 1, 0},
+    {"assemble_faults", faults, 0, 0}, {"assemble_symbols", symbols, 0, 0}, {"disassemble_names", names, 0, 0},
+    {"disassemble_list", listing, 0, 0}, {"disassemble_statements", statements, 0, 0}, {"get_slot", get_slot, 0, 0},
+    {"get_text_slot", get_text_slot, 0, 0}, {"remove_slot", remove_slot, 0, 0}, {"change_slot", change_slot, 0, 0},
+    {"line", line, 1, 0}, {"instruction", instruction, 1, 0},
 };
 
 /* what the machine of a handle shows: registers, memory, both outputs; nothing of an empty one */

@@ -19,6 +19,10 @@ class Handle(ctypes.Structure):
     _fields_ = [("machine", ctypes.c_void_p)]
 
 
+class Place(ctypes.Structure):
+    _fields_ = [("segment", ctypes.c_uint8), ("procedure", ctypes.c_uint8), ("offset", ctypes.c_uint16)]
+
+
 class Shown(ctypes.Structure):
     _fields_ = [("steps", ctypes.c_uint64), ("status", ctypes.c_uint32)] + [
         (name, ctypes.c_uint16) for name in "ipc sp mp base np seg jtab ioresult".split()]
@@ -45,8 +49,19 @@ def disk(name, path):
     return job("pmach_put", blank, name, ctypes.c_uint8(2), code)[1]
 
 
+def text_of(at, call, *numbers):
+    """A text that a machine shows, in a buffer of just the length that it wants."""
+    needed, size, status = ctypes.c_size_t(), 1, 7
+    while status == 7:
+        out = ctypes.create_string_buffer(size)
+        status = getattr(LIBRARY, call)(at, *numbers, out, ctypes.c_size_t(size), ctypes.byref(needed))
+        size = needed.value
+    assert status == 0
+    return out.raw[:needed.value].decode()
+
+
 def traced(code, limit):
-    """The lines of a trace but for the instruction, and how it ended, by single steps of a machine."""
+    """The lines of a trace, and how it ended, by single steps of a machine; what else shows it agrees with each line."""
     handle, shown, top, lines = Handle(), Shown(), ctypes.c_uint16(), []
     at = ctypes.byref(handle)
     assert LIBRARY.pmach_new(at, code, ctypes.c_size_t(len(code))) == 0
@@ -55,8 +70,10 @@ def traced(code, limit):
         assert LIBRARY.pmach_registers(at, ctypes.byref(shown)) == 0
         assert LIBRARY.pmach_word(at, ctypes.c_uint16(shown.sp), ctypes.byref(top)) == 0
         word = "%05d" % top.value if shown.sp < 65504 else "-----"
-        line = "%08d %05d %05d %05d %05d %05d %s" % (
-            shown.steps, shown.ipc, shown.sp, shown.mp, shown.base, shown.np, word)
+        line = text_of(at, "pmach_line")
+        assert line == "%08d %05d %05d %05d %05d %05d %s %s" % (
+            shown.steps, shown.ipc, shown.sp, shown.mp, shown.base, shown.np, word,
+            text_of(at, "pmach_instruction", ctypes.c_uint16(shown.ipc)))
         status = LIBRARY.pmach_step(at)
         if status == 1:
             end = "waiting %d" % shown.steps
@@ -70,6 +87,19 @@ def traced(code, limit):
     LIBRARY.pmach_free(at)
     assert handle.machine is None and LIBRARY.pmach_step(at) == 8
     return lines, end
+
+
+def places(image, name, steps):
+    """Where a program stands before each of its first steps: segment, procedure and offset, one behind another."""
+    handle, place, found = Handle(), Place(), []
+    at = ctypes.byref(handle)
+    assert LIBRARY.pmach_boot(at, image, ctypes.c_size_t(len(image)), name, ctypes.c_size_t(len(name)), ctypes.c_uint32(0)) == 0
+    for _ in range(steps):
+        assert LIBRARY.pmach_place(at, ctypes.byref(place)) == 0
+        found.append("%d %d %d" % (place.segment, place.procedure, place.offset))
+        LIBRARY.pmach_step(at)
+    LIBRARY.pmach_free(at)
+    return found
 
 
 def program(pmach, *words, data):
@@ -88,6 +118,8 @@ def show():
     loads = disk(b"LOADS", os.path.join(EXAMPLES, "loads.text"))
     status, answers = job("pmach_debug", loads, b"LOADS", b"break 2 1 0\ngo 100\ndynamic 10\nstack 3\nquit\n")
     print(status, answers.decode(), sep="\n", end="")
+    print(*places(loads, b"LOADS", 3), sep=", ")
+    print(*job("pmach_get_slot", loads, ctypes.c_uint16(2)))
 
 
 def compare(pmach):
@@ -100,7 +132,9 @@ def compare(pmach):
             words = ["asm", "--list"] if listed else ["asm"]
             assert program(pmach, *words, data=text)[:2] == (status, answer), (path, listed)
         file = job("pmach_assemble", text, ctypes.c_bool(False))[1]
-        assert program(pmach, "dis", data=file)[:2] == job("pmach_disassemble", file), path
+        for call, word in ("", []), ("_names", ["--names"]), ("_list", ["--list"]), ("_statements", ["--statements"]):
+            assert program(pmach, "dis", *word, data=file)[:2] == job("pmach_disassemble" + call, file), (path, call)
+        assert program(pmach, "asm", "--symbols", data=text)[:2] == job("pmach_assemble_symbols", text), path
     random.seed(7)
     often = bytes.fromhex("000102030405828F9095C3CBD7B0A0E8F8D89E9F")
     codes = [bytes.fromhex("020382D6")]
@@ -115,7 +149,7 @@ def compare(pmach):
         assert job("pmach_raw", spelled, ctypes.c_uint32(STEPS)) == (status, trace), code.hex()
         lines, end = traced(code, STEPS)
         theirs = trace.decode().splitlines()
-        assert [line[:44] for line in theirs[:-1]] == lines and theirs[-1] == end, code.hex()
+        assert theirs[:-1] == lines and theirs[-1] == end, code.hex()
         states += len(lines)
     print("%d texts, %d programs, %d states: no difference" % (len(texts), len(codes), states))
 

@@ -2,7 +2,7 @@
 
    What every call asks of its caller, which nothing checks:
    - A pointer points to as many bytes, numbers or structs as its parameters say, also where they are none: it is never
-     null. What is written (struct pmach *, struct pmach_shown *, out, needed, steps, word) overlaps nothing else that
+     null. What is written (struct pmach *, struct pmach_shown *, struct pmach_place *, out, needed, steps, word) overlaps nothing else that
      the same call is given.
    - A struct pmach is set to {0} before its first call, and changed by these calls alone. It is not copied and used
      twice; one that is thrown away with a machine in it loses memory. It goes to one call at a time, and stays on the
@@ -30,7 +30,8 @@ enum {
     PMACH_HAS_MACHINE = 9, /* the handle has a machine already */
     PMACH_ODD_ADDRESS = 10,
     PMACH_NO_DISK = 11,
-    PMACH_NO_TEXT = 12     /* a name is not UTF-8 */
+    PMACH_NO_TEXT = 12,    /* a name is not UTF-8 */
+    PMACH_NO_PLACE = 13    /* SEG or JTAB is odd, so that the machine stands nowhere in the code */
     /* 100 + N: execution error N. 200 + N: `refused boot N`. 300 + N: 301 no disk unit, 302 a disk is there.
        400 + N: `refused volume N`. */
 };
@@ -42,8 +43,16 @@ enum {
 
 /* the code file of a text of the assembler, or with list its listing */
 uint32_t pmach_assemble(const uint8_t *text, size_t text_len, bool list, uint8_t *out, size_t out_len, size_t *needed);
-/* the text of a code file */
+/* a line for each of its faults: 2; 0 where there is none */
+uint32_t pmach_assemble_faults(const uint8_t *text, size_t text_len, uint8_t *out, size_t out_len, size_t *needed);
+/* a line for each of its procedures and labels */
+uint32_t pmach_assemble_symbols(const uint8_t *text, size_t text_len, uint8_t *out, size_t out_len, size_t *needed);
+/* the text of a code file; with the names of standard procedures; as a listing; in statements */
 uint32_t pmach_disassemble(const uint8_t *file, size_t file_len, uint8_t *out, size_t out_len, size_t *needed);
+uint32_t pmach_disassemble_names(const uint8_t *file, size_t file_len, uint8_t *out, size_t out_len, size_t *needed);
+uint32_t pmach_disassemble_list(const uint8_t *file, size_t file_len, uint8_t *out, size_t out_len, size_t *needed);
+uint32_t pmach_disassemble_statements(const uint8_t *file, size_t file_len,
+    uint8_t *out, size_t out_len, size_t *needed);
 /* the trace of bare code, which a text spells in hexadecimal digits: 0 ended, 3 an execution error, 6 limit or waiting */
 uint32_t pmach_raw(const uint8_t *text, size_t text_len, uint32_t limit, uint8_t *out, size_t out_len, size_t *needed);
 
@@ -68,6 +77,15 @@ uint32_t pmach_remove(const uint8_t *image, size_t image_len, const uint8_t *nam
     uint8_t *out, size_t out_len, size_t *needed);
 uint32_t pmach_change(const uint8_t *image, size_t image_len, const uint8_t *name, size_t name_len,
     const uint8_t *new_name, size_t new_len, uint8_t *out, size_t out_len, size_t *needed);
+/* of the file of a slot, from 1 on in the order of the list, also where its name cannot be typed or stands twice */
+uint32_t pmach_get_slot(const uint8_t *image, size_t image_len, uint16_t slot,
+    uint8_t *out, size_t out_len, size_t *needed);
+uint32_t pmach_get_text_slot(const uint8_t *image, size_t image_len, uint16_t slot,
+    uint8_t *out, size_t out_len, size_t *needed);
+uint32_t pmach_remove_slot(const uint8_t *image, size_t image_len, uint16_t slot,
+    uint8_t *out, size_t out_len, size_t *needed);
+uint32_t pmach_change_slot(const uint8_t *image, size_t image_len, uint16_t slot, const uint8_t *new_name,
+    size_t new_len, uint8_t *out, size_t out_len, size_t *needed);
 /* the last date: year 0 to 127, month 1 to 12, day 1 to 31 */
 uint32_t pmach_date(const uint8_t *image, size_t image_len, uint8_t year, uint8_t month, uint8_t day,
     uint8_t *out, size_t out_len, size_t *needed);
@@ -95,6 +113,11 @@ struct pmach_shown {
     uint64_t steps;  /* how many went or ended the program */
     uint32_t status; /* 0 it goes on, 2 it has ended, 100 + N execution error N has stopped it */
     uint16_t ipc, sp, mp, base, np, seg, jtab, ioresult;
+};
+
+struct pmach_place {
+    uint8_t segment, procedure; /* their numbers */
+    uint16_t offset;            /* bytes from where the procedure is entered, as in a disassembly */
 };
 
 /* Start on bare code, 0; or refused, and the handle stays: 9, 203 the code has more than 60,000 bytes, 5. */
@@ -127,6 +150,12 @@ uint32_t pmach_word(struct pmach *h, uint16_t address, uint16_t *word);
 /* all bytes that were written to the console, or the printer, but for the first `from`; 7 */
 uint32_t pmach_console(struct pmach *h, size_t from, uint8_t *out, size_t out_len, size_t *needed);
 uint32_t pmach_printer(struct pmach *h, size_t from, uint8_t *out, size_t out_len, size_t *needed);
+/* where the machine stands in the code; 13 */
+uint32_t pmach_place(struct pmach *h, struct pmach_place *place);
+/* the text of the instruction at an address, or .BYTE and the byte that stands there; 7; 5 */
+uint32_t pmach_instruction(struct pmach *h, uint16_t address, uint8_t *out, size_t out_len, size_t *needed);
+/* the line of `pmach trace` for the step that is made next, without a line feed; 7; 5 */
+uint32_t pmach_line(struct pmach *h, uint8_t *out, size_t out_len, size_t *needed);
 
 #ifdef __cplusplus
 }

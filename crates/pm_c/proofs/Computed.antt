@@ -13,6 +13,7 @@ worked_answers = record {
   odd_address = refl;
   no_disk = refl;
   no_text = refl;
+  no_place = refl;
   even = refl;
   odd = refl;
   job_done = refl;

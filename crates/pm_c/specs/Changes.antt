@@ -2,6 +2,7 @@
 use Rattle.std.specs.Prelude.{◌≡◌, ◌≢◌, ℕ, List, length, drop, ◌++◌, Option, None, Some}
 use Rattle.std.specs.Prelude.{Result, Ok, Err, if◌then◌else◌, nat_lt}
 use Rattle.pm_machine.specs.State.{State, Whole}
+use Rattle.pm_machine.specs.declared.code_place.CodePlace.{CodePlace}
 use Rattle.pm_machine.specs.declared.state.BootFault.{BootFault}
 use Rattle.pm_volume.specs.Directory.{image_fault}
 use Rattle.pm_volume.specs.declared.fault.VolumeFault.{VolumeFault}
@@ -12,8 +13,10 @@ use Rattle.pm_machine.specs.Steps.{stepped}
 use Rattle.pm_machine.specs.declared.state.Stop.{Stop}
 use Rattle.pm_c.specs.Codes.{image_code, status_code, stop_code}
 use Rattle.pm_c.specs.declared.held.Held.{Held}
+use Rattle.pm_c.specs.declared.lines.Place.{Place}
 use Rattle.pm_c.specs.declared.shows.Shown.{Shown}
-use Rattle.pm_c.specs.declared.status.TheConstants.{DONE, NO_DISK, NO_MACHINE, NO_MEMORY, ODD_ADDRESS, TOO_SHORT}
+use Rattle.pm_c.specs.declared.status.TheConstants.{DONE, NO_DISK, NO_MACHINE, NO_MEMORY, NO_PLACE, ODD_ADDRESS}
+use Rattle.pm_c.specs.declared.status.TheConstants.{TOO_SHORT}
 
 -- an empty handle stays empty, and the status says so; what another one holds changes so
 abbrev pub Leads : ℕ → Option Held → Option Held → (Held → Held → Type 0) → Type 0
@@ -55,7 +58,18 @@ pub record Fills (bytes : List ℕ) (status : ℕ) (old new : List ℕ) (needed 
   pub holds : new ≡ filled bytes old
   pub says : status ≡ fill_code bytes old
 
+-- the same, or for want of memory nothing
+pub record Tells (bytes : List ℕ) (status : ℕ) (old new : List ℕ) (needed : ℕ) : Type 0 where
+  pub fills : status ≢ NO_MEMORY → Fills bytes status old new needed
+  pub none : status ≡ NO_MEMORY → (new ≡ old) × (needed ≡ 0)
+
 -- ---- what is shown
+
+-- the place in the code, if there is one
+abbrev pub Places : Option CodePlace → ℕ → Place → Place → Type 0
+Places (Some p) status old new =
+    (status ≡ DONE) × (new ≡ record { segment = p.segment; procedure = p.procedure; offset = p.offset })
+Places None status old new = (status ≡ NO_PLACE) × (new ≡ old)
 
 -- the word at an address, if there is one
 abbrev pub Reads : Option ℕ → ℕ → ℕ → ℕ → Type 0

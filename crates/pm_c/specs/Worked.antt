@@ -14,7 +14,7 @@ use Rattle.pm_tool.specs.Outcomes.{exit_number}
 use Rattle.pm_tool.specs.declared.outcome.Exit.TheVariants as exits
 use Rattle.pm_c.specs.Codes.{mount_code, poke_code, start_code, status_code, stop_code, volume_code}
 use Rattle.pm_c.specs.declared.status.TheConstants.{DONE, TOO_LONG, NO_MEMORY, TOO_SHORT, NO_MACHINE, HAS_MACHINE}
-use Rattle.pm_c.specs.declared.status.TheConstants.{ODD_ADDRESS, NO_DISK, NO_TEXT}
+use Rattle.pm_c.specs.declared.status.TheConstants.{ODD_ADDRESS, NO_DISK, NO_TEXT, NO_PLACE}
 
 -- what calls answer
 pub record WorkedAnswers : Type 0 where
@@ -27,6 +27,7 @@ pub record WorkedAnswers : Type 0 where
   pub odd_address : ODD_ADDRESS ≡ 10
   pub no_disk : NO_DISK ≡ 11
   pub no_text : NO_TEXT ≡ 12
+  pub no_place : NO_PLACE ≡ 13
   -- an even address is written, an odd one is not
   pub even : poke_code 1024 ≡ 0
   pub odd : poke_code 1025 ≡ 10

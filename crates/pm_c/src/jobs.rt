@@ -33,6 +33,33 @@ pub extern "C" fn pmach_assemble(
     answer(alloc, text, Job::Asm(what), out, needed)
 }
 
+/// Gives a line for each fault of a text of the assembler: 2, or 0 where there is none.
+#[unsafe(no_mangle)]
+pub extern "C" fn pmach_assemble_faults(
+    alloc: Global,
+    text: &[u8],
+    out: &mut [u8],
+    needed: &mut usize,
+) -> u32
+    ensures answers { Answers (job_said (Job.Asm AsmOutput.Faults) text.now) result out.old out.new needed.new }
+{
+    answer(alloc, text, Job::Asm(AsmOutput::Faults), out, needed)
+}
+
+/// Gives a line for each procedure and label of a text of the assembler, `SSS PPP OOOOO NAME`: 0. 2 where the text is
+/// refused, and the answer then says why.
+#[unsafe(no_mangle)]
+pub extern "C" fn pmach_assemble_symbols(
+    alloc: Global,
+    text: &[u8],
+    out: &mut [u8],
+    needed: &mut usize,
+) -> u32
+    ensures answers { Answers (job_said (Job.Asm AsmOutput.Symbols) text.now) result out.old out.new needed.new }
+{
+    answer(alloc, text, Job::Asm(AsmOutput::Symbols), out, needed)
+}
+
 /// Gives the text of a code file: 0. 2 where the bytes are no code file, and the answer then says why.
 #[unsafe(no_mangle)]
 pub extern "C" fn pmach_disassemble(
@@ -44,6 +71,46 @@ pub extern "C" fn pmach_disassemble(
     ensures answers { Answers (job_said (Job.Dis DisOutput.Text) file.now) result out.old out.new needed.new }
 {
     answer(alloc, file, Job::Dis(DisOutput::Text), out, needed)
+}
+
+/// Gives the text of a code file with the names of the standard procedures and of the system's: as
+/// `pmach_disassemble`.
+#[unsafe(no_mangle)]
+pub extern "C" fn pmach_disassemble_names(
+    alloc: Global,
+    file: &[u8],
+    out: &mut [u8],
+    needed: &mut usize,
+) -> u32
+    ensures answers { Answers (job_said (Job.Dis DisOutput.Names) file.now) result out.old out.new needed.new }
+{
+    answer(alloc, file, Job::Dis(DisOutput::Names), out, needed)
+}
+
+/// Gives the listing of a code file, each line with its offset and its bytes: as `pmach_disassemble`.
+#[unsafe(no_mangle)]
+pub extern "C" fn pmach_disassemble_list(
+    alloc: Global,
+    file: &[u8],
+    out: &mut [u8],
+    needed: &mut usize,
+) -> u32
+    ensures answers { Answers (job_said (Job.Dis DisOutput.Listing) file.now) result out.old out.new needed.new }
+{
+    answer(alloc, file, Job::Dis(DisOutput::Listing), out, needed)
+}
+
+/// Gives a code file in statements: as `pmach_disassemble`.
+#[unsafe(no_mangle)]
+pub extern "C" fn pmach_disassemble_statements(
+    alloc: Global,
+    file: &[u8],
+    out: &mut [u8],
+    needed: &mut usize,
+) -> u32
+    ensures answers { Answers (job_said (Job.Dis DisOutput.Statements) file.now) result out.old out.new needed.new }
+{
+    answer(alloc, file, Job::Dis(DisOutput::Statements), out, needed)
 }
 
 /// Gives the trace of at most `limit` steps of bare code, which a text spells as pairs of hexadecimal digits: 0 where

@@ -33,6 +33,9 @@ pub const NO_DISK: u32 = 11;
 /// A name is no text in UTF-8.
 pub const NO_TEXT: u32 = 12;
 
+/// The machine stands nowhere in the code.
+pub const NO_PLACE: u32 = 13;
+
 /// The status of a machine's answer.
 pub(crate) fn stop_code(stop: Stop) -> u32
     ensures value { result ≡ stop_code stop }

@@ -38,8 +38,8 @@ pub(crate) fn none(code: u32, needed: &mut usize) -> u32
     code
 }
 
-// Does a command on the volume that an image is.
-fn command(
+/// Does a command on the volume that an image is.
+pub(crate) fn command(
     alloc: Global,
     image: &[u8],
     input: &[u8],

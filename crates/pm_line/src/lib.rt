@@ -1,8 +1,8 @@
 //! Lines of the assembler's text: what each says.
 //!
 //! `line` reads one line. What it answers borrows from the text: names and labels are slices of the line. `line_ends`
-//! tells alone whether it ends a procedure, and `front_of` which words stand in front of it. `text_operand` reads a text
-//! between quotes by itself.
+//! tells alone whether it ends a procedure, and `front_of` which words stand in front of it. `text_operand` reads a
+//! text between quotes by itself.
 #![tactic(auto)]
 
 mod comparison;

@@ -385,7 +385,8 @@ impl Trials {
     /// - `[ TEXT`: standard input without a line feed. `hex PIECES`: bytes of it. `times N TEXT`: N lines of it.
     /// - `file FILE`: what was to be standard input is a file. `set FILE PLACE PIECES` writes bytes over those of one,
     ///   and `cut FILE PLACE COUNT TO` makes one of a part. True or not: `bytes FILE PIECES`.
-    /// - `ends STATUS`: as `=`, but standard output ends with what stands above. `says STATUS`: the same of standard error.
+    /// - `ends STATUS`: as `=`, but standard output ends with what stands above. `says STATUS`: the same of standard
+    ///   error.
     /// - Texts of the assembler: `before` and `behind` make what was to be standard input the first and the last lines
     ///   of each of them, and `takes LINE` and `refuses FAULT AT LINE` put between those what is to be standard input
     ///   and then LINE. True where `pmach asm` takes the text, or refuses it by that fault in line AT.

@@ -24,6 +24,7 @@ made_of (batches.Dis dis.Text) input = made_dis input
 made_of (batches.Dis dis.Names) input = made_dis_names input
 made_of (batches.Dis dis.Listing) input = made_dis_list input
 made_of (batches.Dis dis.Statements) input = made_dis_statements input
+made_of (batches.Dis dis.Indented) input = made_dis_statements input
 made_of (batches.Files opened command) input = made_file opened (order_of command) input
 made_of (batches.New name blocks) input =
     made_new (blank_fault (string_bytes name) blocks) (string_bytes name) blocks

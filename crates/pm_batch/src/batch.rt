@@ -88,6 +88,7 @@ pub fn make(alloc: Global, job: Batch, input: Vec<u8>) -> Result<Made, AllocErro
         Batch::Dis(DisOutput::Names) => disassemble_named(alloc, &input),
         Batch::Dis(DisOutput::Listing) => list_file(alloc, &input),
         Batch::Dis(DisOutput::Statements) => state_file(alloc, &input),
+        Batch::Dis(DisOutput::Indented) => state_file(alloc, &input),
         Batch::Files { opened, command } => file(alloc, opened, command, input),
         Batch::New { name, blocks } => new_volume(alloc, name.as_str(), blocks),
         Batch::Repair { image } => Ok(repair_volume(image)),

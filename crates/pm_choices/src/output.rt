@@ -24,4 +24,6 @@ pub enum DisOutput {
     Listing,
     /// Its code as statements.
     Statements,
+    /// Its code as statements, each behind blanks by how deep it stands.
+    Indented,
 }

@@ -85,6 +85,8 @@ shown, _ = run([program, "run", "--d4", image, "--escape", "ECHO"], [b"a", b"\x1
 check("with --escape Ctrl-] ends the input", b"\nwaiting " in shown and b"input has ended\r\n" in shown and shown.endswith(b"[6 same]\r\n"), shown)
 shown, _ = run([program, "run", "--d4", image, "--escape", "ECHO"], [b"a", b"\x1c"])
 check("with --escape Ctrl-\\ ends with 131", shown.endswith(b"[131 same]\r\n"), shown)
+shown, _ = run([program, "trace", "--d4", image, "ECHO"], [b"a", b"\r", b"."])
+check("a trace has each key at once, and Return as 13", b" 00013 " in shown and b" 00010 " not in shown and shown.endswith(b"ended 41\r\n[0 same]\r\n"), shown)
 shown, _ = run([program, "debug", "--d4", image, "LOADS"], [b"go 1\n", b"quit\n"])
 check("the debugger prompts", b"> go 1\r\nlimit 1\r\n> quit\r\n" in shown, shown)
 shown, _ = run([program, "files", "--image", image + ".none", "list"], [])

@@ -1,7 +1,7 @@
 #!/bin/sh
-# `console.sh PROGRAM run WORDS..`: the console on a terminal. The program has each key at once, and unechoed, since the
-# machine echoes; Return is 13, and Ctrl-D ends the input. The terminal is put back whatever the end is. Ctrl-C ends with
-# status 130; with `--escape` it is a key.
+# `console.sh PROGRAM run WORDS..`, or `trace`: the console on a terminal. The program has each key at once, and
+# unechoed, since the machine echoes; Return is 13, and Ctrl-D ends the input. The terminal is put back whatever the end
+# is. Ctrl-C ends with status 130; with `--escape` it is a key.
 program=$1
 shift
 saved=$(stty -g 2>/dev/null) || exec "$program" "$@"

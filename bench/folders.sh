@@ -218,6 +218,10 @@ check "hurt, that is said" grep -q "no volume opens as dos" err
 check "hurt, its blocks" cmp two two.new
 check "hurt, its sound file" ends 0 "$PMACH" files --image two.new salvage two.saved
 check "hurt, the file's bytes" [ "$(files two.saved get B | head -c 5)" = hello ]
+check "hurt, out of the form at once" ends 3 "$here/examples/salvage.sh" --form dos twodos dosfolder
+check "hurt, of that form the file's bytes" cmp dosfolder/B <(printf hello)
+check "hurt, in no form that there is" ends 1 "$here/examples/salvage.sh" --form cpm twodos nofolder
+check "hurt, and no folder of that" [ ! -e nofolder ]
 check "hurt, behind a header" ends 0 "$here/examples/form.sh" --as 2mg-dos two.2mg two.out
 check "hurt, its blocks behind a header" cmp two two.out
 check "hurt, as what no image is" ends 2 "$here/examples/form.sh" --as cpm twodos none

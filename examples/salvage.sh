@@ -1,6 +1,7 @@
 #!/bin/bash
-# Takes the files out of an image whose directory is damaged: examples/salvage.sh [--second] IMAGE FOLDER
+# Takes the files out of an image whose directory is damaged: examples/salvage.sh [--second] [--form FORM] IMAGE FOLDER
 #
+# With --form the image is brought into blocks first, as form.sh has it: dos, swapped, 2mg-blocks and so on.
 # Nothing of the header is believed, and no entry because of another: one is taken where its name has 1 to 15
 # characters, its blocks lie behind block 5 and in the image, and its last block has 1 to 512 bytes. With --second it is
 # the copy of the directory in blocks 6 to 9. The image is not written. FOLDER is one as export.sh makes it, for
@@ -10,9 +11,17 @@
 # A line for each entry that is left out or doubted. Status 0: there was none; 1: wrong words; 3: there was one.
 . "$(dirname "$(readlink -f "$0")")/words.sh"
 start=1024
-[ "$1" = --second ] && start=3072 && shift
+form=
+while [ $# -gt 2 ]; do
+    case $1 in
+    --second) start=3072 ;;
+    --form) form=$2 && shift ;;
+    *) break ;;
+    esac
+    shift
+done
 [ $# = 2 ] && [ -r "$1" ] || {
-    echo "usage: salvage.sh [--second] IMAGE FOLDER" >&2
+    echo "usage: salvage.sh [--second] [--form FORM] IMAGE FOLDER" >&2
     exit 1
 }
 here=$(dirname "$(readlink -f "$0")")
@@ -22,6 +31,12 @@ folder=$2
 if [ -e "$folder" ]; then
     echo "salvage.sh: $folder is there already: name a new folder" >&2
     exit 1
+fi
+if [ "$form" ]; then
+    scratch=$(mktemp -d)
+    trap 'rm -rf "$scratch"' EXIT
+    "$here/form.sh" --as "$form" "$image" "$scratch/blocks" || exit 1
+    image=$scratch/blocks
 fi
 mkdir -- "$folder" || exit 1
 blocks=$(($(stat -c %s -- "$image") / 512))

@@ -5,7 +5,7 @@ use Rattle.pm_volume.specs.Headers.{blank_image}
 use Rattle.pm_volume.specs.declared.fault.VolumeFault.{VolumeFault}
 use Rattle.pm_filer.specs.Filed.{Answer, Lines, Bytes, Done, Order, ListFiles, Get, Put, Remove, Change}
 use Rattle.pm_filer.specs.Filed.{GetText, PutText, Krunch, Date, Zero, Duplicate, Single, Filed, filed}
-use Rattle.pm_filer.specs.Filed.{GetSlot, GetTextSlot, RemoveSlot, ChangeSlot}
+use Rattle.pm_filer.specs.Filed.{GetSlot, GetTextSlot, RemoveSlot, ChangeSlot, Kind, KindSlot, Copy, CopySlot}
 use Rattle.pm_filer.specs.declared.fault.FilerFault.{FilerFault}
 use Rattle.pm_check.specs.Checked.{check_text}
 use Rattle.pm_check.specs.Saving as saving
@@ -50,6 +50,10 @@ takes_input (GetSlot slot) = false
 takes_input (GetTextSlot slot) = false
 takes_input (RemoveSlot slot) = false
 takes_input (ChangeSlot slot new) = false
+takes_input (Kind name kind) = false
+takes_input (KindSlot slot kind) = false
+takes_input (Copy name from) = true
+takes_input (CopySlot slot name from) = true
 
 -- the command with the input's bytes in the place of its own
 abbrev pub with_input : Order → List ℕ → Order
@@ -69,6 +73,10 @@ with_input (GetSlot slot) input = GetSlot slot
 with_input (GetTextSlot slot) input = GetTextSlot slot
 with_input (RemoveSlot slot) input = RemoveSlot slot
 with_input (ChangeSlot slot new) input = ChangeSlot slot new
+with_input (Kind name kind) input = Kind name kind
+with_input (KindSlot slot kind) input = KindSlot slot kind
+with_input (Copy name from) input = Copy name input
+with_input (CopySlot slot name from) input = CopySlot slot name input
 
 -- a command, with the input's bytes where it takes them, on the volume that an image is
 abbrev pub made_file : Result (List ℕ) VolumeFault → Order → List ℕ → Product

@@ -29,7 +29,13 @@ pub fn open(image: Vec<u8>) -> Result<Volume, VolumeFault>
 pub(crate) fn takes_input(command: &FileCommand) -> bool
     ensures value { result ≡ takes_input (order_of command.now) }
 {
-    matches!(command, FileCommand::Put(..) | FileCommand::PutText(..))
+    matches!(
+        command,
+        FileCommand::Put(..)
+            | FileCommand::PutText(..)
+            | FileCommand::Copy(..)
+            | FileCommand::CopySlot(..)
+    )
 }
 
 /// A command with the input's bytes in the place of its own.
@@ -39,6 +45,8 @@ fn with_input(command: FileCommand, input: Vec<u8>) -> FileCommand
     match command {
         FileCommand::Put(name, kind, _) => FileCommand::Put(name, kind, input),
         FileCommand::PutText(name, _) => FileCommand::PutText(name, input),
+        FileCommand::Copy(name, _) => FileCommand::Copy(name, input),
+        FileCommand::CopySlot(slot, name, _) => FileCommand::CopySlot(slot, name, input),
         other => other,
     }
 }
@@ -60,7 +68,9 @@ fn wanted_name(alloc: Global, command: &FileCommand) -> Option<String> {
         FileCommand::Get(name) | FileCommand::GetText(name) | FileCommand::Remove(name) => {
             String::from_str(alloc, name.as_str()).ok()
         }
-        FileCommand::Change(name, _) => String::from_str(alloc, name.as_str()).ok(),
+        FileCommand::Change(name, _) | FileCommand::Kind(name, _) => {
+            String::from_str(alloc, name.as_str()).ok()
+        }
         _ => None,
     }
 }

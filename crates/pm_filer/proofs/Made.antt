@@ -1,9 +1,9 @@
 -- The changes of a volume as functions of its image.
 use Rattle.std.proofs.Common.{◌≡◌, ℕ, List, length, Ok, Err, None, true, false, refl}
-use Rattle.pm_volume.specs.Changes.{AddsFile, RemovesFile, RenamesFile, blocks_for, place_for, slot_named, slot_numbered}
+use Rattle.pm_volume.specs.Changes.{AddsFile, RemovesFile, RenamesFile, SetsKind, blocks_for, place_for, slot_named, slot_numbered}
 use Rattle.pm_volume.specs.Changes.{slot_to_rename}
 use Rattle.pm_volume.specs.Directory.{directory_of}
-use Rattle.pm_volume.specs.Made.{added, file_removed, renamed, slot_removed, slot_renamed, zeroed}
+use Rattle.pm_volume.specs.Made.{added, file_removed, kind_set, renamed, slot_kind_set, slot_removed, slot_renamed, zeroed}
 use Rattle.pm_volume.specs.Headers.{zeroed_image}
 use Rattle.pm_volume.specs.Names.{is_new_name}
 use Rattle.pm_volume.specs.declared.entry.Entry.{Entry}
@@ -55,6 +55,23 @@ pub made-slot_unrenamed : (image : List ℕ) (slot : ℕ) (to : List ℕ) (fault
 unfolding slot_renamed
 made-slot_unrenamed image slot to fault e = rw e refl
 
+pub made-kind_set : (old new name : List ℕ) (kind : ℕ) → SetsKind old new (slot_named (directory_of old) name) kind → kind_set old name kind ≡ Ok new
+unfolding kind_set
+made-kind_set old new name kind a = rw (a.found, a.image) refl
+
+pub made-kind_unset : (image name : List ℕ) (kind : ℕ) → slot_named (directory_of image) name ≡ None → kind_set image name kind ≡ Err NoFile
+unfolding kind_set
+made-kind_unset image name kind e = rw e refl
+
+pub made-slot_kind_set : (old new : List ℕ) (slot kind : ℕ) → SetsKind old new (slot_numbered (directory_of old) slot) kind →
+    slot_kind_set old slot kind ≡ Ok new
+unfolding slot_kind_set
+made-slot_kind_set old new slot kind a = rw (a.found, a.image) refl
+
+pub made-slot_kind_unset : (image : List ℕ) (slot kind : ℕ) → slot_numbered (directory_of image) slot ≡ None → slot_kind_set image slot kind ≡ Err NoFile
+unfolding slot_kind_set
+made-slot_kind_unset image slot kind e = rw e refl
+
 pub made-zeroed : (old new name : List ℕ) → is_new_name 7 name ≡ true → new ≡ zeroed_image old name → zeroed old name ≡ Ok new
 unfolding zeroed
 made-zeroed old new name good e = rw (good, e) refl
@@ -63,4 +80,15 @@ pub made-unzeroed : (image name : List ℕ) → is_new_name 7 name ≡ false →
 unfolding zeroed
 made-unzeroed image name bad = rw bad refl
 
-pub ruleset made = (made-zeroed, made-unzeroed, made-added, made-unadded, made-unremoved, made-slot_unremoved)
+pub ruleset made = (
+  made-zeroed,
+  made-unzeroed,
+  made-added,
+  made-unadded,
+  made-unremoved,
+  made-slot_unremoved,
+  made-kind_set,
+  made-kind_unset,
+  made-slot_kind_set,
+  made-slot_kind_unset,
+)

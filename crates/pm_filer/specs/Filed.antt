@@ -4,9 +4,10 @@ use Rattle.std.specs.Prelude.{if◌then◌else◌, zero, suc, slice_get}
 use Rattle.pm_volume.specs.Dates.{date_word, is_date}
 use Rattle.pm_volume.specs.declared.kinds.TheConstants.{TEXT}
 use Rattle.pm_volume.specs.Files.{file_bytes, file_named, files_of}
-use Rattle.pm_volume.specs.Directory.{directory_of}
+use Rattle.pm_volume.specs.Directory.{directory_of, image_fault}
 use Rattle.pm_volume.specs.Headers.{dated_image, last_date_of}
-use Rattle.pm_volume.specs.Made.{added, doubled, file_removed, renamed, singled, slot_removed, slot_renamed, zeroed}
+use Rattle.pm_volume.specs.Made.{added, doubled, file_removed, kind_set, renamed, singled, slot_kind_set, slot_removed}
+use Rattle.pm_volume.specs.Made.{slot_renamed, zeroed}
 use Rattle.pm_volume.specs.Packing.{krunched_image}
 use Rattle.pm_textfile.specs.Reading.{text_of_file}
 use Rattle.pm_textfile.specs.Writing.{text_fault}
@@ -56,6 +57,10 @@ pub data Order : Type 0 where
   GetTextSlot : ℕ → Order
   RemoveSlot : ℕ → Order
   ChangeSlot : ℕ → List ℕ → Order
+  Kind : List ℕ → ℕ → Order
+  KindSlot : ℕ → ℕ → Order
+  Copy : List ℕ → List ℕ → Order
+  CopySlot : ℕ → List ℕ → List ℕ → Order
 
 abbrev pub order_of : FileCommand → Order
 order_of commands.List = ListFiles
@@ -74,6 +79,10 @@ order_of (commands.GetSlot slot) = GetSlot slot
 order_of (commands.GetTextSlot slot) = GetTextSlot slot
 order_of (commands.RemoveSlot slot) = RemoveSlot slot
 order_of (commands.ChangeSlot slot new) = ChangeSlot slot (string_bytes new)
+order_of (commands.Kind name kind) = Kind (string_bytes name) kind
+order_of (commands.KindSlot slot kind) = KindSlot slot kind
+order_of (commands.Copy name image) = Copy (string_bytes name) image.items
+order_of (commands.CopySlot slot name image) = CopySlot slot (string_bytes name) image.items
 
 -- what a command answers, by its bytes
 pub data Answer : Type 0 where
@@ -122,6 +131,21 @@ abbrev pub text_written : List ℕ → List ℕ → List ℕ → Option TextFaul
 text_written image name text None = changed (added image name TEXT (text_file text) (last_date_of (directory_of image)))
 text_written image name text (Some fault) = Err (faults.Text fault)
 
+-- an image with the file of an entry, under this name, with the kind and the date of the entry, if its bytes are there
+abbrev pub copied_bytes : List ℕ → List ℕ → Entry → Option (List ℕ) → Result (List ℕ) VolumeFault
+copied_bytes image name e (Some bytes) = added image name e.kind bytes e.date
+copied_bytes image name e None = Err NoFile
+
+-- an image with a file of another image, if there is one
+abbrev pub copied : List ℕ → List ℕ → List ℕ → Option Entry → Result (List ℕ) VolumeFault
+copied image name from (Some e) = copied_bytes image name e (file_bytes from e)
+copied image name from None = Err NoFile
+
+-- an image with a file of another image of this fault or none, which comes before what else is wrong
+abbrev pub copied_from : List ℕ → List ℕ → List ℕ → Option Entry → Option VolumeFault → Result (List ℕ) VolumeFault
+copied_from image name from entry None = copied image name from entry
+copied_from image name from entry (Some fault) = Err fault
+
 -- what a command comes to; a refused one leaves the volume
 unfoldable pub filed : List ℕ → Order → Result Filed FilerFault
 filed image ListFiles = Ok (record { image = image; answer = Lines (list_text image) })
@@ -142,6 +166,11 @@ filed image (GetSlot slot) = lent image (bytes_of_file image (file_in_slot image
 filed image (GetTextSlot slot) = text_read image (bytes_of_file image (file_in_slot image slot))
 filed image (RemoveSlot slot) = changed (slot_removed image slot)
 filed image (ChangeSlot slot new) = changed (slot_renamed image slot new)
+filed image (Kind name kind) = changed (kind_set image name kind)
+filed image (KindSlot slot kind) = changed (slot_kind_set image slot kind)
+filed image (Copy name from) = changed (copied_from image name from (file_named from name) (image_fault from))
+filed image (CopySlot slot name from) =
+    changed (copied_from image name from (file_in_slot from slot) (image_fault from))
 
 -- a command may answer want of memory: one that gives bytes or text, where nothing else is wrong; and one that puts a
 -- text, whose file is made before anything is looked at
@@ -162,3 +191,7 @@ MayWantMemory (GetSlot slot) outcome = IsOk outcome
 MayWantMemory (GetTextSlot slot) outcome = IsOk outcome
 MayWantMemory (RemoveSlot slot) outcome = ⊥
 MayWantMemory (ChangeSlot slot new) outcome = ⊥
+MayWantMemory (Kind name kind) outcome = ⊥
+MayWantMemory (KindSlot slot kind) outcome = ⊥
+MayWantMemory (Copy name from) outcome = ⊥
+MayWantMemory (CopySlot slot name from) outcome = ⊥

@@ -14,8 +14,9 @@ ghost use Rattle.std.specs.Prelude.{
   OnOk,
   if◌then◌else◌,
 };
-ghost use Rattle.pm_volume.specs.Made.{added, renamed, slot_renamed, zeroed};
-ghost use Rattle.pm_volume.specs.Directory.{IsVolume, directory_of};
+ghost use Rattle.pm_volume.specs.Made.{added, kind_set, renamed, slot_kind_set, slot_renamed, zeroed};
+ghost use Rattle.pm_volume.specs.Directory.{IsVolume, directory_of, image_fault};
+ghost use Rattle.pm_volume.specs.Files.{file_named};
 ghost use Rattle.pm_volume.specs.Headers.{last_date_of};
 ghost use Rattle.pm_textfile.specs.Writing.{text_fault};
 ghost use Rattle.pm_filer.specs.Filed.{
@@ -24,6 +25,8 @@ ghost use Rattle.pm_filer.specs.Filed.{
   MayWantMemory,
   answer_of,
   bytes_of_file,
+  copied,
+  copied_from,
   file_in_slot,
   filed,
   lent,
@@ -74,6 +77,14 @@ pub enum FileCommand {
     RemoveSlot(u16),
     /// Gives the file in this slot this name; a file of its old name in another slot keeps it.
     ChangeSlot(u16, String),
+    /// Gives the first file of this name this kind (its low four bits).
+    Kind(String, u8),
+    /// Gives the file in this slot this kind; a file of its name in another slot keeps its own.
+    KindSlot(u16, u8),
+    /// Adds the first file of this name that the volume of this image has, with its kind and date.
+    Copy(String, Vec<u8>),
+    /// Adds the file in this slot of the volume of this image under this name, with its kind and date.
+    CopySlot(u16, String, Vec<u8>),
 }
 
 /// What a command answers.
@@ -125,17 +136,17 @@ fn in_slot(volume: &Volume, slot: u16) -> Option<Entry>
 }
 
 // Adds the text file of a text.
-fn put_text(alloc: Global, volume: &mut Volume, name: &str, text: &[u8]) -> Result<(), FilerFault>
+fn put_text(alloc: Global, volume: &mut Volume, name: &str, text: Vec<u8>) -> Result<(), FilerFault>
     ensures done { OnOk result
-        (text_written volume.old name.now text.now (text_fault text.now)
+        (text_written volume.old name.now text.items (text_fault text.items)
         ≡ Ok (record { image = volume.new; answer = Done })) }
     ensures volume { OnOk result (IsVolume volume.new) }
     ensures refused { IfErr result
         (λ fault. fault ≢ FilerFault.NoMemory →
-        text_written volume.old name.now text.now (text_fault text.now) ≡ Err fault) }
+        text_written volume.old name.now text.items (text_fault text.items) ≡ Err fault) }
     ensures unchanged { OnErr result (volume.new ≡ volume.old) }
 {
-    let bytes = pm_textfile::encode(alloc, text)?;
+    let bytes = pm_textfile::encode(alloc, &text)?;
     put(volume, name, TEXT, &bytes)?;
     Ok(())
 }
@@ -189,6 +200,93 @@ fn change_slot(volume: &mut Volume, slot: u16, new: &str) -> Result<(), VolumeFa
     Ok(())
 }
 
+// Gives a file another kind.
+#[tactic(auto, using(crate::proofs::Made::made))]
+fn set_kind(volume: &mut Volume, name: &str, kind: u8) -> Result<(), VolumeFault>
+    ensures done { OnOk result (kind_set volume.old name.now kind ≡ Ok volume.new) }
+    ensures volume { OnOk result (IsVolume volume.new) }
+    ensures refused { IfErr result (λ fault. kind_set volume.old name.now kind ≡ Err fault) }
+    ensures unchanged { OnErr result (volume.new ≡ volume.old) }
+{
+    volume.set_kind(name, kind)?;
+    Ok(())
+}
+
+// Gives the file in a slot another kind.
+#[tactic(auto, using(crate::proofs::Made::made))]
+fn set_slot_kind(volume: &mut Volume, slot: u16, kind: u8) -> Result<(), VolumeFault>
+    ensures done { OnOk result (slot_kind_set volume.old slot kind ≡ Ok volume.new) }
+    ensures volume { OnOk result (IsVolume volume.new) }
+    ensures refused { IfErr result (λ fault. slot_kind_set volume.old slot kind ≡ Err fault) }
+    ensures unchanged { OnErr result (volume.new ≡ volume.old) }
+{
+    volume.set_slot_kind(slot, kind)?;
+    Ok(())
+}
+
+// Adds a file of another volume with its kind and date, where there is one.
+#[tactic(auto, using(crate::proofs::Made::made))]
+fn copy(
+    volume: &mut Volume,
+    name: &str,
+    from: &Volume,
+    entry: Option<Entry>,
+) -> Result<(), VolumeFault>
+    ensures done { OnOk result (copied volume.old name.now from.now entry ≡ Ok volume.new) }
+    ensures volume { OnOk result (IsVolume volume.new) }
+    ensures refused { IfErr result (λ fault. copied volume.old name.now from.now entry ≡ Err fault) }
+    ensures unchanged { OnErr result (volume.new ≡ volume.old) }
+{
+    let entry = entry.ok_or(VolumeFault::NoFile)?;
+    let bytes = from.file(&entry).ok_or(VolumeFault::NoFile)?;
+    volume.add(name, entry.kind, bytes, entry.date)?;
+    Ok(())
+}
+
+// The volume that an image is.
+fn opened(image: Vec<u8>) -> Result<Volume, VolumeFault>
+    ensures opened { IfOk result (λ v. v ≡ image.items) }
+    ensures sound { OnOk result (image_fault image.items ≡ None) }
+    ensures refused { IfErr result (λ fault. image_fault image.items ≡ Some fault) }
+{
+    match Volume::open(image) {
+        Ok(volume) => Ok(volume),
+        Err((fault, _)) => Err(fault),
+    }
+}
+
+// Adds the first file of a name that another image has.
+fn copy_named(volume: &mut Volume, name: &str, image: Vec<u8>) -> Result<(), VolumeFault>
+    ensures done { OnOk result
+        (copied_from volume.old name.now image.items (file_named image.items name.now) (image_fault image.items)
+        ≡ Ok volume.new) }
+    ensures volume { OnOk result (IsVolume volume.new) }
+    ensures refused { IfErr result (λ fault.
+        copied_from volume.old name.now image.items (file_named image.items name.now) (image_fault image.items)
+        ≡ Err fault) }
+    ensures unchanged { OnErr result (volume.new ≡ volume.old) }
+{
+    let from = opened(image)?;
+    let entry = from.find(name);
+    copy(volume, name, &from, entry)
+}
+
+// Adds the file in a slot of another image.
+fn copy_slot(volume: &mut Volume, slot: u16, name: &str, image: Vec<u8>) -> Result<(), VolumeFault>
+    ensures done { OnOk result
+        (copied_from volume.old name.now image.items (file_in_slot image.items slot) (image_fault image.items)
+        ≡ Ok volume.new) }
+    ensures volume { OnOk result (IsVolume volume.new) }
+    ensures refused { IfErr result (λ fault.
+        copied_from volume.old name.now image.items (file_in_slot image.items slot) (image_fault image.items)
+        ≡ Err fault) }
+    ensures unchanged { OnErr result (volume.new ≡ volume.old) }
+{
+    let from = opened(image)?;
+    let entry = in_slot(&from, slot);
+    copy(volume, name, &from, entry)
+}
+
 // The answer to a command that has changed the volume.
 fn done(_changed: ()) -> Reply
     ensures done { result ≡ Reply.Done }
@@ -218,12 +316,7 @@ pub fn apply(alloc: Global, volume: &mut Volume, command: FileCommand) -> Result
         FileCommand::Remove(name) => Ok(done(volume.remove(name.as_str())?)),
         FileCommand::Change(old, new) => Ok(done(change(volume, old.as_str(), new.as_str())?)),
         FileCommand::GetText(name) => get_text(alloc, volume, volume.find(name.as_str())),
-        FileCommand::PutText(name, text) => Ok(done(put_text(
-            alloc,
-            volume,
-            name.as_str(),
-            &text,
-        )?)),
+        FileCommand::PutText(name, text) => Ok(done(put_text(alloc, volume, name.as_str(), text)?)),
         FileCommand::Krunch => Ok(done(volume.krunch())),
         FileCommand::Date(year, month, day) => {
             let date = Date { year, month, day };
@@ -237,5 +330,11 @@ pub fn apply(alloc: Global, volume: &mut Volume, command: FileCommand) -> Result
         FileCommand::GetTextSlot(slot) => get_text(alloc, volume, in_slot(volume, slot)),
         FileCommand::RemoveSlot(slot) => Ok(done(volume.remove_slot(slot)?)),
         FileCommand::ChangeSlot(slot, new) => Ok(done(change_slot(volume, slot, new.as_str())?)),
+        FileCommand::Kind(name, kind) => Ok(done(set_kind(volume, name.as_str(), kind)?)),
+        FileCommand::KindSlot(slot, kind) => Ok(done(set_slot_kind(volume, slot, kind)?)),
+        FileCommand::Copy(name, image) => Ok(done(copy_named(volume, name.as_str(), image)?)),
+        FileCommand::CopySlot(slot, name, image) => {
+            Ok(done(copy_slot(volume, slot, name.as_str(), image)?))
+        }
     }
 }

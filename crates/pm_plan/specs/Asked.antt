@@ -9,7 +9,7 @@ use Rattle.clap.specs.Words.{Row, first_of, found_of, one_of, rows_of, subcomman
 use Rattle.clap.specs.declared.parser.matches.ArgMatches.{ArgMatches}
 use Rattle.pm_filer.specs.Filed.{Order, ListFiles, Get, Put, Remove, Change, GetText}
 use Rattle.pm_filer.specs.Filed.{PutText, Krunch, Date, Zero, Duplicate, Single, GetSlot, GetTextSlot}
-use Rattle.pm_filer.specs.Filed.{RemoveSlot, ChangeSlot, order_of}
+use Rattle.pm_filer.specs.Filed.{RemoveSlot, ChangeSlot, Kind, KindSlot, Copy, CopySlot, order_of}
 use Rattle.pm_filer.specs.Listing.{kind_word}
 use Rattle.pm_choices.specs.declared.output.AsmOutput.{AsmOutput}
 use Rattle.pm_choices.specs.declared.output.AsmOutput.TheVariants as asm
@@ -141,8 +141,8 @@ abbrev pub AsksEither : List ℕ → List Row → Chosen → Type 0
 AsksEither id rows (chosen.Named name) = AsksName id rows (string_bytes name)
 AsksEither id rows (chosen.InSlot slot) = AsksSlot id rows slot
 
--- the words of a command on a volume, its verb among them; what is put is read later; beside a slot the one name of
--- change is the new one
+-- the words of a command on a volume, its verb among them; what is put or copied is read later; beside a slot the one
+-- word of change is the new name, that of kind the kind
 abbrev pub AsksOrder : List ℕ → List Row → Order → Type 0
 AsksOrder verb rows ListFiles = verb ≡ codes "list"
 AsksOrder verb rows (Get name) = (verb ≡ codes "get") × AsksName (codes "NAME") rows name
@@ -166,6 +166,15 @@ AsksOrder verb rows (GetTextSlot slot) = (verb ≡ codes "gettext") × AsksSlot 
 AsksOrder verb rows (RemoveSlot slot) = (verb ≡ codes "remove") × AsksSlot (codes "NAME") rows slot
 AsksOrder verb rows (ChangeSlot slot new) =
     (verb ≡ codes "change") × (word_found rows (codes "OLD") ≡ Some new) × AsksSlot (codes "NEW") rows slot
+AsksOrder verb rows (Kind name kind) =
+    (verb ≡ codes "kind") × (word_found rows (codes "NAME") ≡ Some name) × IsKind (word_found rows (codes "KIND")) kind
+    × (word_found rows (codes "slot") ≡ None)
+AsksOrder verb rows (KindSlot slot kind) =
+    (verb ≡ codes "kind") × IsKind (word_found rows (codes "NAME")) kind × AsksSlot (codes "KIND") rows slot
+AsksOrder verb rows (Copy name from) = (verb ≡ codes "copy") × AsksName (codes "NAME") rows name × (from ≡ [])
+AsksOrder verb rows (CopySlot slot name from) =
+    (verb ≡ codes "copy") × (word_found rows (codes "NAME") ≡ Some name)
+    × IsSpelled (word_found rows (codes "slot")) slot × (from ≡ [])
 
 abbrev pub AsksVerb : List ℕ → List Row → Verb → Type 0
 AsksVerb verb rows (verbs.Command command) = AsksOrder verb rows (order_of command)

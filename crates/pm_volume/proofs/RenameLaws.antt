@@ -28,8 +28,8 @@ slot_word d n place below =
     let at : 26 * n + (place + 1) ≡ (26 * n + place) + 1 = omega arith in
     rw (slot_byte d n place (omega arith), slot_byte d n (place + 1) (omega arith), at) refl
 
--- files in order stay so where one gets another name
-order-named : (blocks from : ℕ) (xs : List Entry) (e e' : Entry) (ys : List Entry) → ((f : ℕ) → IsSoundEntry f e → IsSoundEntry f e')
+-- files in order stay so where one is described otherwise
+pub order-named : (blocks from : ℕ) (xs : List Entry) (e e' : Entry) (ys : List Entry) → ((f : ℕ) → IsSoundEntry f e → IsSoundEntry f e')
     → e'.end ≡ e.end → AreInOrder blocks from (xs ++ e ∷ ys) → AreInOrder blocks from (xs ++ e' ∷ ys)
 unfolding AreInOrder
 order-named blocks from [] e e' ys sound end order = (sound from order.0, omega (arith, end, order.1), rw end order.2)

@@ -1,12 +1,12 @@
 -- Each change of a volume with the second copy made the same.
-use Rattle.std.proofs.Common.{◌≡◌, ◌<◌, ◌≤◌, ℕ, ◌-◌, List, [], ◌∷◌, ◌∙◌, ap, inl, length, slice_set, Some, arith}
+use Rattle.std.proofs.Common.{◌≡◌, ◌<◌, ◌≤◌, ℕ, ◌-◌, ◌%◌, List, [], ◌∷◌, ◌∙◌, ap, inl, length, slice_set, Some, arith}
 use Rattle.std.specs.List.{insert, remove}
-use Rattle.pm_volume.specs.Changes.{FitsSlot, blocks_for, new_entry, with_file, with_name, without_file}
+use Rattle.pm_volume.specs.Changes.{FitsSlot, blocks_for, new_entry, with_file, with_kind, with_name, without_file}
 use Rattle.pm_volume.specs.Copies.{mirrored}
 use Rattle.pm_volume.specs.Directory.{IsVolume, block_count, directory_of, entry_in, file_count, files_begin}
 use Rattle.pm_volume.specs.Files.{file_bytes, files_of}
 use Rattle.pm_volume.specs.Headers.{dated_image, last_date_of, new_directory, zeroed_image}
-use Rattle.pm_volume.specs.Stays.{date_span, directory_span, name_span}
+use Rattle.pm_volume.specs.Stays.{date_span, directory_span, kind_span, name_span}
 use Rattle.pm_volume.specs.Names.{name_field}
 use Rattle.pm_volume.specs.Words.{with_word_in}
 use Rattle.pm_volume.specs.declared.gap.Gap.{Gap}
@@ -16,7 +16,9 @@ use Rattle.pm_volume.proofs.CopyLaws.{Changed, Changed-mirrored, FileStays-mirro
 use Rattle.pm_volume.proofs.HeaderLaws.{IsVolume-dated, IsVolume-zeroed, begins-new, dated_first, files-dated_first, files-zeroed, length-dated}
 use Rattle.pm_volume.proofs.HeaderLaws.{length-new_directory, zeroed_first}
 use Rattle.pm_volume.proofs.ImageLaws.{directory-with}
-use Rattle.pm_volume.proofs.StayLaws.{ChangesOnly-dated, ChangesOnly-named, ChangesOnly-removed, ChangesOnly-zeroed, FilesStay-named, FilesStay-removed}
+use Rattle.pm_volume.proofs.KindLaws.{IsVolume-kinded, files-rekinded}
+use Rattle.pm_volume.proofs.StayLaws.{ChangesOnly-dated, ChangesOnly-kinded, ChangesOnly-named, ChangesOnly-removed, ChangesOnly-zeroed, FilesStay-kinded}
+use Rattle.pm_volume.proofs.StayLaws.{FilesStay-named, FilesStay-removed}
 use Rattle.pm_volume.proofs.StayLaws.{FilesStay-with_directory, removed_first}
 use Rattle.pm_volume.proofs.PlaceLaws.{IsPlaced, IsRoomFor-placed, IsVolume-added, gap_in}
 use Rattle.pm_volume.proofs.RenameLaws.{IsVolume-named, files-renamed}
@@ -76,6 +78,17 @@ module _ (image : List ℕ) (v : IsVolume image) where
       (IsVolume-named image name n v some short from to)
       (begins-stay (name_span n ∷ []) image (with_name image n name) only (inl (omega arith), tt) (inl (omega arith), tt))
       (files-renamed image name n v some short from to) (FilesStay-named image v n from to name short) only
+
+  pub Changed-kinded : (kind n : ℕ) → 1 ≤ n → n ≤ file_count (directory_of image)
+      → Changed (kind_span n ∷ []) (slice_set (files_of image) (n - 1) (record (entry_in (directory_of image) n) { kind = kind % 16 })) image
+      (mirrored (with_kind image n kind))
+  Changed-kinded kind n from to =
+      let only = ChangesOnly-kinded image v n from to kind in
+      Changed-mirrored (kind_span n ∷ []) (slice_set (files_of image) (n - 1) (record (entry_in (directory_of image) n) { kind = kind % 16 })) image
+      (with_kind image n kind) v
+      (IsVolume-kinded image n kind v from to)
+      (begins-stay (kind_span n ∷ []) image (with_kind image n kind) only (inl (omega arith), tt) (inl (omega arith), tt))
+      (files-rekinded image n kind v from to) (FilesStay-kinded image v n from to kind) only
 
   pub Changed-dated : (date : ℕ) → Changed (date_span ∷ []) (files_of image) image (dated_image image date)
   Changed-dated date =

@@ -5,16 +5,17 @@ use Rattle.std.proofs.lemmas.Bool.{cases_lt, le-leb, lt-leb}
 use Rattle.std.proofs.lemmas.List.{get_or-drop, get_or-take}
 use Rattle.std.proofs.lemmas.List.Elements.{All-weaker}
 use Rattle.std.specs.List.{All}
-use Rattle.pm_volume.specs.Changes.{with_directory, with_name, without_file, without_slot}
+use Rattle.pm_volume.specs.Changes.{kind_byte, with_directory, with_kind, with_name, without_file, without_slot}
 use Rattle.pm_volume.specs.Directory.{IsVolume, block_count, directory_of, file_count, files_begin}
 use Rattle.pm_volume.specs.Files.{file_bytes, files_of}
 use Rattle.pm_volume.specs.Headers.{last_date_of, new_directory}
-use Rattle.pm_volume.specs.Stays.{ChangesOnly, IsOutside, FileStays, FilesStay, Span, count_span, date_span, directory_span, name_span, slots_span}
+use Rattle.pm_volume.specs.Stays.{ChangesOnly, IsOutside, FileStays, FilesStay, Span, count_span, date_span, directory_span, kind_span, name_span, slots_span}
 use Rattle.pm_volume.specs.Names.{name_field}
 use Rattle.pm_volume.specs.Words.{with_word_in, written}
 use Rattle.pm_volume.specs.declared.entry.Entry.{Entry}
 use Rattle.pm_volume.proofs.DirectoryLaws.{past_directory}
 use Rattle.pm_volume.proofs.HeaderLaws.{dated_first, length-dated, length-new_directory, zeroed_first}
+use Rattle.pm_volume.proofs.KindLaws.{length-kinded}
 use Rattle.pm_volume.proofs.NameLaws.{length-name_field}
 use Rattle.pm_volume.proofs.OrderLaws.{IsWithin, all_within}
 use Rattle.pm_volume.proofs.RenameLaws.{length-named}
@@ -140,6 +141,25 @@ module _ (image : List ℕ) (v : IsVolume image) where
 
       pub FilesStay-named : FilesStay image (with_name image n name)
       FilesStay-named = FilesStay-with_directory image (written (directory_of image) (26 * n + 6) (name_field 15 name)) v length-with_name
+
+    -- another kind
+    module _ (kind : ℕ) where
+      length-with_kind : length (written (directory_of image) (26 * n + 4) (kind_byte (get_or (directory_of image) (26 * n + 4) 0) kind ∷ [])) ≡ 2048
+      length-with_kind = length-kinded (directory_of image) n kind (length-directory image v.long) from (omega (arith, v.has_directory.few))
+
+      pub ChangesOnly-kinded : ChangesOnly (kind_span n ∷ []) image (with_kind image n kind)
+      ChangesOnly-kinded =
+          let d = directory_of image in
+          let whole = length-directory image v.long in
+          let byte = kind_byte (get_or d (26 * n + 4) 0) kind ∷ [] in
+          ChangesOnly-with_directory image (written d (26 * n + 4) byte) (kind_span n ∷ []) v.long length-with_kind
+          (λ place out after below. get_written_outside d (26 * n + 4) byte (place - 1024) (omega (arith, whole, v.has_directory.few))
+          (shifted 1024 (26 * n + 4) (26 * n + 4 + 1) place after out.0))
+
+      pub FilesStay-kinded : FilesStay image (with_kind image n kind)
+      FilesStay-kinded =
+          FilesStay-with_directory image (written (directory_of image) (26 * n + 4) (kind_byte (get_or (directory_of image) (26 * n + 4) 0) kind ∷ [])) v
+          length-with_kind
 
     -- a removed file
     pub ChangesOnly-removed : ChangesOnly (removed_first (directory_of image) n) image (without_file image n)

@@ -1,7 +1,7 @@
 -- What a change makes of a volume.
 use Rattle.std.specs.Prelude.{◌≡◌, ◌==◌, ◌<◌, ◌&&◌, Bool, not, nat_le, is_some, ℕ, ◌+◌, ◌-◌, ◌*◌, ◌%◌, List, []}
-use Rattle.std.specs.Prelude.{◌∷◌, ◌++◌, length, replicate, slice_range, slice_set, Option, Some, None, Result, Ok, Err}
-use Rattle.std.specs.Prelude.{if◌then◌else◌}
+use Rattle.std.specs.Prelude.{◌∷◌, ◌++◌, length, replicate, slice_index, slice_range, slice_set, Option, Some, None}
+use Rattle.std.specs.Prelude.{Result, Ok, Err, if◌then◌else◌}
 use Rattle.std.specs.List.{find, insert, list_any, position_from, remove}
 use Rattle.std.specs.Option.{ok_or}
 pub use Rattle.pm_bytes.specs.Blocks.{blocks_for}
@@ -178,3 +178,22 @@ pub record RenamesFile (old new : List ℕ) (chosen : Option ℕ) (to : List ℕ
   pub files : files_of new
       ≡ slice_set (files_of old) (slot - 1)
       (record (entry_in (directory_of old) slot) { name = name_field LONGEST_NAME to })
+
+-- a byte with another kind in its low four bits
+abbrev pub kind_byte : ℕ → ℕ → ℕ
+kind_byte byte kind = byte - byte % 16 + kind % 16
+
+-- the image with another kind for the file in slot n: the low four bits of its kind word alone
+abbrev pub with_kind : List ℕ → ℕ → ℕ → List ℕ
+with_kind image n kind =
+    let directory = directory_of image in
+    let place = SLOT * n + ENTRY_KIND in
+    with_directory image (written directory place (kind_byte (slice_index directory place) kind ∷ []))
+
+-- the file in a slot got another kind, where one was found
+pub record SetsKind (old new : List ℕ) (chosen : Option ℕ) (kind : ℕ) : Type 0 where
+  pub slot : ℕ
+  pub found : chosen ≡ Some slot
+  pub image : new ≡ mirrored (with_kind old slot kind)
+  pub files : files_of new
+      ≡ slice_set (files_of old) (slot - 1) (record (entry_in (directory_of old) slot) { kind = kind % 16 })

@@ -2,7 +2,7 @@
 use Rattle.std.specs.Prelude.{Bool, nat_lt, ℕ, List, length, Option, Some, None, Result, Ok, Err, if◌then◌else◌}
 use Rattle.std.specs.List.{list_any}
 use Rattle.pm_volume.specs.Changes.{blocks_for, new_entry, place_for, slot_named, slot_numbered, slot_to_rename}
-use Rattle.pm_volume.specs.Changes.{with_directory, with_file, with_name, without_file}
+use Rattle.pm_volume.specs.Changes.{with_directory, with_file, with_kind, with_name, without_file}
 use Rattle.pm_volume.specs.Copies.{has_second, mirrored}
 use Rattle.pm_volume.specs.Directory.{block_count, directory_of}
 use Rattle.pm_volume.specs.Files.{files_of}
@@ -52,6 +52,18 @@ renamed image old new =
 unfoldable pub slot_renamed : List ℕ → ℕ → List ℕ → Result (List ℕ) VolumeFault
 slot_renamed image slot new =
     renamed_at image new (slot_to_rename (directory_of image) (slot_numbered (directory_of image) slot) new)
+
+abbrev pub kind_set_at : List ℕ → ℕ → Option ℕ → Result (List ℕ) VolumeFault
+kind_set_at image kind (Some slot) = Ok (mirrored (with_kind image slot kind))
+kind_set_at image kind None = Err NoFile
+
+-- the image with another kind for the first file of this name
+unfoldable pub kind_set : List ℕ → List ℕ → ℕ → Result (List ℕ) VolumeFault
+kind_set image name kind = kind_set_at image kind (slot_named (directory_of image) name)
+
+-- the image with another kind for the file in this slot
+unfoldable pub slot_kind_set : List ℕ → ℕ → ℕ → Result (List ℕ) VolumeFault
+slot_kind_set image slot kind = kind_set_at image kind (slot_numbered (directory_of image) slot)
 
 -- the image with a new directory of this name
 unfoldable pub zeroed : List ℕ → List ℕ → Result (List ℕ) VolumeFault

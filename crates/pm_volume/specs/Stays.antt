@@ -64,6 +64,10 @@ slots_span n m = record { begin = DIRECTORY + SLOT * n; end = DIRECTORY + SLOT *
 abbrev pub name_span : ℕ → Span
 name_span n = record { begin = DIRECTORY + (SLOT * n + ENTRY_NAME); end = DIRECTORY + (SLOT * n + ENTRY_LAST_BYTES) }
 
+-- the low byte of the kind word in slot n
+abbrev pub kind_span : ℕ → Span
+kind_span n = record { begin = DIRECTORY + (SLOT * n + ENTRY_KIND); end = DIRECTORY + (SLOT * n + ENTRY_KIND + 1) }
+
 -- the two block numbers in slot n
 abbrev pub places_span : ℕ → Span
 places_span n = record { begin = DIRECTORY + SLOT * n; end = DIRECTORY + (SLOT * n + ENTRY_KIND) }

@@ -7,6 +7,7 @@ ghost use Rattle.pm_volume.specs.Changes.{
   new_entry,
   with_directory,
   with_file,
+  with_kind,
   with_name,
   without_file,
 };
@@ -29,8 +30,8 @@ use crate::copies::{has_second, mirror};
 use crate::directory::write_directory;
 use crate::entry::{Entry, name_field};
 use crate::fields::{
-    DIRECTORY, DIRECTORY_END, ENTRY_NAME, HEADER_DATE, HEADER_FILES_BEGIN, PAST_DIRECTORY,
-    PAST_SECOND, SECOND, SECOND_END, SLOT,
+    DIRECTORY, DIRECTORY_END, ENTRY_KIND, ENTRY_NAME, HEADER_DATE, HEADER_FILES_BEGIN,
+    PAST_DIRECTORY, PAST_SECOND, SECOND, SECOND_END, SLOT,
 };
 use crate::gap::Gap;
 use crate::slots::{insert_slot, remove_slot};
@@ -97,6 +98,20 @@ pub(crate) fn name_file(image: &mut [u8], slot: u16, name: &[u8])
     let field = name_field(name);
     let place = SLOT * usize::from(slot) + ENTRY_NAME;
     set_bytes(&mut image[DIRECTORY..DIRECTORY_END], place, &field);
+    mirror(image);
+}
+
+// Gives the file in a slot another kind.
+pub(crate) fn type_file(image: &mut [u8], slot: u16, kind: u8)
+    requires whole { DIRECTORY_END ≤ length image.old }
+    requires from { 1 ≤ slot }
+    requires to { slot ≤ MOST_FILES }
+    ensures image { image.new ≡ mirrored (with_kind image.old slot kind) }
+{
+    let place = SLOT * usize::from(slot) + ENTRY_KIND;
+    let byte = image[DIRECTORY + place];
+    let byte = byte - byte % 16 + kind % 16;
+    set_bytes(&mut image[DIRECTORY..DIRECTORY_END], place, &[byte]);
     mirror(image);
 }
 

@@ -41,7 +41,7 @@ ghost use Rattle.pm_bytes.specs.declared.blocks.TheConstants.{BLOCK};
 
 use crate::changes::{
     add_second, date_volume, drop_second, name_file, new_entry, put_file, renew_directory,
-    take_file,
+    take_file, type_file,
 };
 use crate::copies::{Copies, are_same, has_second, is_second_good, mirror, restore};
 use crate::directory::{Entries, fault_of_directory, is_named_beside, slot_named, slot_numbered};
@@ -84,6 +84,7 @@ impl Volume {
       AddsFile,
       RemovesFile,
       RenamesFile,
+      SetsKind,
       place_for,
       slot_named,
       slot_numbered,
@@ -98,6 +99,7 @@ impl Volume {
       FilesStay,
       date_span,
       directory_span,
+      kind_span,
       name_span,
       past_span,
       second_span,
@@ -381,6 +383,43 @@ impl Volume {
         self.rename_at(there, new)
     }
 
+    /// Gives the first file of a name, whatever its case, another kind: its low four bits take the
+    /// place of those of the kind word, and nothing else changes. `NoFile`, and nothing changed,
+    /// where no file has the name.
+    pub fn set_kind(&mut self, name: &str, kind: u8) -> Result<(), VolumeFault>
+        ensures set { OnOk result (SetsKind self.old self.new (slot_named (directory_of self.old) name.now) kind) }
+        ensures volume { IsVolume self.new }
+        ensures copies { OnOk result (CopiesStay self.old self.new) }
+        ensures stay { OnOk result (FilesStay self.old self.new) }
+        ensures rest { IfSome (slot_named (directory_of self.old) name.now)
+            (λ slot. ChangesOnly (and_second (directory_of self.old) (kind_span slot ∷ [])) self.old self.new) }
+        ensures refused { IfErr result (λ fault. (fault ≡ VolumeFault.NoFile)
+            × (slot_named (directory_of self.old) name.now ≡ None)) }
+        ensures unchanged { OnErr result (self.new ≡ self.old) }
+    {
+        let first = slot_named(self.directory(), name);
+        self.set_kind_at(first, kind)
+    }
+
+    /// Gives the file in a slot of the directory another kind, as `set_kind` does; a file of the
+    /// same name in another slot keeps its own. Slots count from 1, in the order of `entries`.
+    /// `NoFile`, and nothing changed, where no file stands in it.
+    pub fn set_slot_kind(&mut self, slot: u16, kind: u8) -> Result<(), VolumeFault>
+        ensures set { OnOk result
+            (SetsKind self.old self.new (slot_numbered (directory_of self.old) slot) kind) }
+        ensures volume { IsVolume self.new }
+        ensures copies { OnOk result (CopiesStay self.old self.new) }
+        ensures stay { OnOk result (FilesStay self.old self.new) }
+        ensures rest { IfSome (slot_numbered (directory_of self.old) slot)
+            (λ slot. ChangesOnly (and_second (directory_of self.old) (kind_span slot ∷ [])) self.old self.new) }
+        ensures refused { IfErr result (λ fault. (fault ≡ VolumeFault.NoFile)
+            × (slot_numbered (directory_of self.old) slot ≡ None)) }
+        ensures unchanged { OnErr result (self.new ≡ self.old) }
+    {
+        let there = slot_numbered(self.directory(), slot);
+        self.set_kind_at(there, kind)
+    }
+
     /// Moves the files together: each, in the order of the directory, down to the end of the one
     /// before, the first to where files begin. Bad blocks (kind 1) stay. An entry gets new block
     /// numbers and nothing else; blocks that fall free keep their bytes.
@@ -564,6 +603,26 @@ impl Volume {
             return Err(VolumeFault::Duplicate);
         }
         Ok(slot)
+    }
+
+    // Gives the file in a slot another kind, where one was found.
+    fn set_kind_at(&mut self, slot: Option<u16>, kind: u8) -> Result<(), VolumeFault>
+        requires within { IfSome slot (λ slot. (1 ≤ slot) × (slot ≤ file_count (directory_of self.old))) }
+        ensures set { OnOk result (SetsKind self.old self.new slot kind) }
+        ensures volume { IsVolume self.new }
+        ensures copies { OnOk result (CopiesStay self.old self.new) }
+        ensures stay { OnOk result (FilesStay self.old self.new) }
+        ensures rest { IfSome slot
+            (λ slot. ChangesOnly (and_second (directory_of self.old) (kind_span slot ∷ [])) self.old self.new) }
+        ensures refused { IfErr result (λ fault. (fault ≡ VolumeFault.NoFile) × (slot ≡ None)) }
+        ensures unchanged { OnErr result (self.new ≡ self.old) }
+    {
+        let _ = &self.bytes;
+        let Some(slot) = slot else {
+            return Err(VolumeFault::NoFile);
+        };
+        type_file(&mut self.bytes, slot, kind);
+        Ok(())
     }
 
     // The directory's 2,048 bytes.

@@ -83,6 +83,12 @@ IsRunLimitWord true None = ⊤
 IsRunLimitWord true (Some word) = ⊥
 IsRunLimitWord false word = IsLimitWord word
 
+-- the number of a slot, where there is a word for it
+abbrev pub IsSlot : Option (List ℕ) → Option ℕ → Type 0
+IsSlot None slot = slot ≡ None
+IsSlot (Some word) None = ⊥
+IsSlot (Some word) (Some slot) = IsNumber word slot
+
 -- a kind of file: by its word in a list, or by its number
 abbrev pub IsKind : Option (List ℕ) → ℕ → Type 0
 IsKind None kind = ⊥

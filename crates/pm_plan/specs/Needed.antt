@@ -2,6 +2,7 @@
 use Rattle.std.specs.Prelude.{◌≡◌, ◌≢◌, ◌≤◌, ⊤, ℕ, Bool, true, false, List, [], ◌∷◌, ◌++◌, Option, None, Some}
 use Rattle.std.specs.Prelude.{codes, is_some, if◌then◌else◌}
 use Rattle.std.specs.Bool.{MatchBool}
+use Rattle.std.specs.Option.{option_or}
 use Rattle.std.specs.Str.{bytes_eq}
 use Rattle.clap.specs.Words.{Row, subcommand_rows_of}
 use Rattle.clap.specs.declared.parser.matches.ArgMatches.{ArgMatches}
@@ -47,6 +48,11 @@ IsNameOrSlot None (Some slot) = IsNumberWord 65535 (Some slot)
 IsNameOrSlot (Some name) (Some slot) = ⊥
 IsNameOrSlot None None = ⊥
 
+-- there is no word for a slot, or it is a number up to 65,535
+abbrev pub IsSlotWord : Option (List ℕ) → Type 0
+IsSlotWord None = ⊤
+IsSlotWord (Some word) = IsNumberUpTo 65535 word
+
 -- the words for a segment and for a procedure of it, each of which may be missing, but the first not beside the second:
 -- numbers up to 255
 abbrev pub IsCodeWords : Option (List ℕ) → Option (List ℕ) → Type 0
@@ -65,6 +71,8 @@ pub data Need : Type 0 where
   Optional : Need
   -- a kind of files
   Kind : Need
+  -- a kind of files, in whose place the word of this id is one where it is missing
+  KindOr : List ℕ → Need
   -- decimal digits that write a number up to this one
   Number : ℕ → Need
   -- the limit of `raw`, which may be missing
@@ -77,6 +85,8 @@ pub data Need : Type 0 where
   NotBeside : List ℕ → Need
   -- a name, which is missing exactly where `--slot` has a number up to 65,535
   NameOrSlot : Need
+  -- the number of a slot up to 65,535, which may be missing
+  Slot : Need
   -- the number of a segment, which may be missing, but not beside that of a procedure
   Segment : Need
 
@@ -85,12 +95,14 @@ Meets rows Word word = IsThere word
 Meets rows Given word = IsGiven word
 Meets rows Optional word = IsOptional word
 Meets rows Kind word = IsKindWord word
+Meets rows (KindOr other) word = IsKindWord (option_or word (word_found rows other))
 Meets rows (Number most) word = IsNumberWord most word
 Meets rows Limit word = IsLimitWord word
 Meets rows RunLimit word = IsRunLimitWord (is_set (word_found rows (codes "unlimited"))) word
 Meets rows NotSaved word = IsAlone (is_set (word_found rows (codes "save"))) word
 Meets rows (NotBeside other) word = IsNotBoth (is_set word) (is_set (word_found rows other))
 Meets rows NameOrSlot word = IsNameOrSlot word (word_found rows (codes "slot"))
+Meets rows Slot word = IsSlotWord word
 Meets rows Segment word = IsCodeWords word (word_found rows (codes "procedure"))
 
 -- each word is what is needed of it
@@ -161,7 +173,11 @@ verb_needs verb =
     else (if bytes_eq verb (codes "repair") then Some []
     else (if bytes_eq verb (codes "put") then Some ((codes "NAME", Word) ∷ (codes "KIND", Kind) ∷ [])
     else (if bytes_eq verb (codes "new") then Some ((codes "NAME", Word) ∷ (codes "BLOCKS", Number 65535) ∷ [])
-    else (if bytes_eq verb (codes "check") then Some [] else None))))))))))))))
+    else (if bytes_eq verb (codes "check") then Some []
+    else (if bytes_eq verb (codes "kind") then Some ((codes "NAME", Word) ∷ (codes "KIND", NameOrSlot)
+    ∷ (codes "KIND", KindOr (codes "NAME")) ∷ [])
+    else (if bytes_eq verb (codes "copy") then Some ((codes "NAME", Word) ∷ (codes "slot", Slot) ∷ [])
+    else None))))))))))))))))
 
 -- the path of an image stands before the verb or behind it, not both, and is not empty
 abbrev pub IsOnePath : Option (List ℕ) → Option (List ℕ) → Type 0

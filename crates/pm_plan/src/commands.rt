@@ -220,6 +220,37 @@ const VERBS: &[CommandRow] = &[
         ],
     ),
     (
+        "kind",
+        "Gives a file another kind",
+        &[
+            IMAGE,
+            (
+                "NAME",
+                Form::Word,
+                "The file's name, in either case; beside --slot its kind",
+            ),
+            (
+                "KIND",
+                Form::Unless("slot"),
+                "The kind, by its word in a list or its number 0 to 15; not beside --slot",
+            ),
+            SLOT,
+        ],
+    ),
+    (
+        "copy",
+        "Adds a file of the volume whose image standard input is, with its kind and date",
+        &[
+            IMAGE,
+            FILE,
+            (
+                "slot",
+                Form::Free("N"),
+                "The file's place in the list of that volume, from 1; NAME is then its new name",
+            ),
+        ],
+    ),
+    (
         "new",
         "Makes a new volume without files, in the place of what the file has",
         &[

@@ -3,17 +3,20 @@ ghost use Rattle.std.specs.Prelude.{◌≡◌, ◌≤◌, ◌↔◌, ℕ, Err, N
 ghost use Rattle.std.specs.Prelude.{SomeIff, codes, is_some, option_map, string_bytes, ◌≢◌};
 ghost use Rattle.std.specs.Str.Parse.{digits_value};
 ghost use Rattle.clap.specs.Words.{subcommand_rows_of};
-ghost use Rattle.pm_plan.specs.Asked.{AsksEither, AsksFiles, AsksSalvage, AsksVerb, IsKind, IsNumberUpTo};
+ghost use Rattle.pm_plan.specs.Asked.{AsksEither, AsksFiles, AsksSalvage, AsksVerb, IsKind, IsNumberUpTo, IsSlot};
 ghost use Rattle.pm_plan.specs.Asked.{IsNumberWord, IsPath, IsSpelled};
 ghost use Rattle.pm_plan.specs.Asked.{word_found, words_of};
 ghost use Rattle.pm_plan.specs.Needed.{AreGoodBefore, IsGoodSalvage, IsKindWord, IsThere, IsWrong, MeetAll};
-ghost use Rattle.pm_plan.specs.Needed.{IsNameOrSlot, is_salvage, verb_needs};
+ghost use Rattle.pm_plan.specs.Needed.{IsNameOrSlot, IsSlotWord, is_salvage, verb_needs};
 ghost use Rattle.pm_plan.specs.declared.words.WordsError.TheVariants.{NoCommand, NoMemory};
 
 use crate::words::{DATE, WordsError, flag, found, given, needed, number};
 use clap::ArgMatches;
 use pm_filer::kind_word;
 use std::alloc::Global;
+
+/// What is wrong with the word for a slot.
+const SLOT: &str = "the slot is a number of decimal digits, at most 65535";
 
 /// A command on the image that a file has, or a new image for it.
 #[derive(Drop)]
@@ -55,6 +58,7 @@ impl Verb {
         matches!(
             self,
             Verb::Command(FileCommand::Put(..) | FileCommand::PutText(..))
+                | Verb::Command(FileCommand::Copy(..) | FileCommand::CopySlot(..))
         )
     }
 }
@@ -101,12 +105,12 @@ fn part(matches: &ArgMatches<'_>, id: &str) -> Result<u8, WordsError>
 }
 
 /// The kind of a file. Refused where it is none.
-fn kind_of(matches: &ArgMatches<'_>) -> Result<u8, WordsError>
-    ensures value { IfOk result (λ kind. IsKind (word_found (words_of matches.now) (codes "KIND")) kind) }
-    ensures accepted { IsOk result ↔ IsKindWord (word_found (words_of matches.now) (codes "KIND")) }
-    ensures refused { IsThere (word_found (words_of matches.now) (codes "KIND")) → IfErr result IsWrong }
+fn kind_of(matches: &ArgMatches<'_>, id: &str) -> Result<u8, WordsError>
+    ensures value { IfOk result (λ kind. IsKind (word_found (words_of matches.now) id.now) kind) }
+    ensures accepted { IsOk result ↔ IsKindWord (word_found (words_of matches.now) id.now) }
+    ensures refused { IsThere (word_found (words_of matches.now) id.now) → IfErr result IsWrong }
 {
-    kind(needed(matches, "KIND")?).ok_or(WordsError::Wrong(
+    kind(needed(matches, id)?).ok_or(WordsError::Wrong(
         "KIND is none, badb, code, text, info, data, graf, foto, secd, or a number 0 to 15",
     ))
 }
@@ -127,7 +131,7 @@ fn put(alloc: Global, matches: &ArgMatches<'_>) -> Result<Verb, WordsError>
     ensures good { IsOk result → MeetAll (words_of matches.now) (verb_needs (codes "put")) }
     ensures taken { MeetAll (words_of matches.now) (verb_needs (codes "put")) → IsOkUnless result NoMemory }
 {
-    let kind = kind_of(matches)?;
+    let kind = kind_of(matches, "KIND")?;
     let name = word(alloc, matches, "NAME")?;
     Ok(Verb::Command(pm_filer::FileCommand::Put(name, kind, Vec::new(alloc))))
 }
@@ -163,9 +167,7 @@ fn name_or_slot(alloc: Global, matches: &ArgMatches<'_>, id: &str) -> Result<Cho
     match (found(matches, id), found(matches, "slot")) {
         (Some(name), None) => Ok(Chosen::Named(String::from_str(alloc, name)?)),
         (None, Some(text)) => {
-            let slot = short_number(text).ok_or(WordsError::Wrong(
-                "the slot is a number of decimal digits, at most 65535",
-            ))?;
+            let slot = short_number(text).ok_or(WordsError::Wrong(SLOT))?;
             Ok(Chosen::InSlot(slot))
         }
         (Some(_), Some(_)) => Err(WordsError::Wrong("--slot stands in place of the file's name")),
@@ -223,6 +225,49 @@ fn change(alloc: Global, matches: &ArgMatches<'_>) -> Result<Verb, WordsError>
     }))
 }
 
+/// Beside a slot the one word is the kind.
+fn set_kind(alloc: Global, matches: &ArgMatches<'_>) -> Result<Verb, WordsError>
+    ensures asked { IfOk result (λ verb. AsksVerb (codes "kind") (words_of matches.now) verb) }
+    ensures good { IsOk result → MeetAll (words_of matches.now) (verb_needs (codes "kind")) }
+    ensures taken { MeetAll (words_of matches.now) (verb_needs (codes "kind")) → IsOkUnless result NoMemory }
+{
+    use pm_filer::FileCommand;
+    let name = word(alloc, matches, "NAME")?;
+    Ok(Verb::Command(match name_or_slot(alloc, matches, "KIND")? {
+        Chosen::Named(_) => FileCommand::Kind(name, kind_of(matches, "KIND")?),
+        Chosen::InSlot(slot) => FileCommand::KindSlot(slot, kind_of(matches, "NAME")?),
+    }))
+}
+
+/// The slot that the words name, if they do. Refused where it is no number up to 65,535.
+fn slot_of(matches: &ArgMatches<'_>) -> Result<Option<u16>, WordsError>
+    ensures value { IfOk result (λ slot. IsSlot (word_found (words_of matches.now) (codes "slot")) slot) }
+    ensures accepted { IsOk result ↔ IsSlotWord (word_found (words_of matches.now) (codes "slot")) }
+    ensures refused { IfErr result IsWrong }
+{
+    let Some(text) = found(matches, "slot") else {
+        return Ok(None);
+    };
+    match short_number(text) {
+        Some(slot) => Ok(Some(slot)),
+        None => Err(WordsError::Wrong(SLOT)),
+    }
+}
+
+/// The slot is one of the volume that standard input has.
+fn copy(alloc: Global, matches: &ArgMatches<'_>) -> Result<Verb, WordsError>
+    ensures asked { IfOk result (λ verb. AsksVerb (codes "copy") (words_of matches.now) verb) }
+    ensures good { IsOk result → MeetAll (words_of matches.now) (verb_needs (codes "copy")) }
+    ensures taken { MeetAll (words_of matches.now) (verb_needs (codes "copy")) → IsOkUnless result NoMemory }
+{
+    use pm_filer::FileCommand;
+    let name = word(alloc, matches, "NAME")?;
+    Ok(Verb::Command(match slot_of(matches)? {
+        Some(slot) => FileCommand::CopySlot(slot, name, Vec::new(alloc)),
+        None => FileCommand::Copy(name, Vec::new(alloc)),
+    }))
+}
+
 fn verb_of(alloc: Global, verb: &str, words: &ArgMatches<'_>) -> Result<Verb, WordsError>
     ensures asked { IfOk result (λ asked. AsksVerb verb.now (words_of words.now) asked) }
     ensures good { IsOk result → MeetAll (words_of words.now) (verb_needs verb.now) }
@@ -246,6 +291,8 @@ fn verb_of(alloc: Global, verb: &str, words: &ArgMatches<'_>) -> Result<Verb, Wo
         "put" => return put(alloc, words),
         "new" => return new(alloc, words),
         "check" => return Ok(Verb::Check),
+        "kind" => return set_kind(alloc, words),
+        "copy" => return copy(alloc, words),
         _ => return Err(WordsError::NoCommand),
     };
     Ok(Verb::Command(command))

@@ -310,6 +310,8 @@ fn command_for(word: &str) -> Option<&'static str> {
         | "puttext"
         | "remove"
         | "change"
+        | "kind"
+        | "copy"
         | "krunch"
         | "zero"
         | "date"

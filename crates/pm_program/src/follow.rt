@@ -81,6 +81,7 @@ fn reads(verb: &Verb) -> bool {
     matches!(
         verb,
         Verb::Command(FileCommand::Put(..) | FileCommand::PutText(..))
+            | Verb::Command(FileCommand::Copy(..) | FileCommand::CopySlot(..))
     )
 }
 

@@ -71,6 +71,12 @@ fn date(rest: &str) -> io::Result<FileCommand> {
     Ok(FileCommand::Date(byte(year)?, byte(month)?, byte(day)?))
 }
 
+/// The command of another kind.
+fn kinded(alloc: Global, rest: &str) -> io::Result<FileCommand> {
+    let (file, spelled) = two(rest)?;
+    Ok(FileCommand::Kind(name(alloc, file)?, kind(spelled)?))
+}
+
 /// The command of a line, and the input that stands for its file. `program` is what the content of that name is.
 pub fn command(
     alloc: Global,
@@ -99,6 +105,7 @@ pub fn command(
             let command = FileCommand::Change(name(alloc, old)?, name(alloc, new)?);
             Ok((command, none))
         }
+        "kind" => Ok((kinded(alloc, rest)?, none)),
         "list" => Ok((FileCommand::List, none)),
         "get" => Ok((FileCommand::Get(name(alloc, rest)?), none)),
         "gettext" => Ok((FileCommand::GetText(name(alloc, rest)?), none)),
@@ -121,6 +128,7 @@ fn on_slot(alloc: Global, word: &str, rest: &str) -> io::Result<FileCommand> {
         "gettext" => Ok(FileCommand::GetTextSlot(slot)),
         "remove" => Ok(FileCommand::RemoveSlot(slot)),
         "change" => Ok(FileCommand::ChangeSlot(slot, name(alloc, new)?)),
+        "kind" => Ok(FileCommand::KindSlot(slot, kind(new)?)),
         _ => Err(unreadable()),
     }
 }

@@ -1,6 +1,6 @@
 -- Lists that grow piece by piece, as the text of a file does.
-use Rattle.std.proofs.Common.{◌≡◌, ◌<◌, ◌+◌, ◌-◌, ◌++◌, ◌∷◌, [], ◌∙◌, ℕ, suc, List, ap, append_assoc, arith, refl, sym, subst}
-use Rattle.std.proofs.Common.{Option, None, Some, IfSome}
+use Rattle.std.proofs.Common.{◌≡◌, ◌<◌, ◌+◌, ◌-◌, ◌++◌, ◌∷◌, [], ◌∙◌, ℕ, Bool, suc, List, ap, append_assoc, arith, refl, sym, subst}
+use Rattle.std.proofs.Common.{Option, Some, IfSome}
 use Rattle.pm_codefile.specs.Dictionary.{segment_in}
 use Rattle.pm_codefile.specs.Segments.{attributes_in}
 use Rattle.pm_statements.specs.Callees.{system_callee}
@@ -54,11 +54,11 @@ next_table k segment done count after before whole text h e t i =
     after before whole h (t ∙ ap (λ u. before ++ u) (sym e)) i
 
 -- that of one slot more
-pub next_text : (callees : List (Option Callee)) (file : List ℕ) (n : ℕ) (after before whole : List ℕ) → n < 16
-    → after ≡ before ++ slot_text callees n (segment_in file n) → before ++ slots_text callees file n (16 - n) ≡ whole
-    → after ++ slots_text callees file (n + 1) (16 - (n + 1)) ≡ whole
-next_text callees file n after before whole h t i =
-    next (slots_text callees file) (λ n. slot_text callees n (segment_in file n)) (λ n k. refl) n n 16 after before whole h t i
+pub next_text : (callees : List (Option Callee)) (indented : Bool) (file : List ℕ) (n : ℕ) (after before whole : List ℕ) → n < 16
+    → after ≡ before ++ slot_text callees indented n (segment_in file n) → before ++ slots_text callees indented file n (16 - n) ≡ whole
+    → after ++ slots_text callees indented file (n + 1) (16 - (n + 1)) ≡ whole
+next_text callees indented file n after before whole h t i =
+    next (slots_text callees indented file) (λ n. slot_text callees indented n (segment_in file n)) (λ n k. refl) n n 16 after before whole h t i
 
 -- what is known of what is there
 pub given : {A : Type 0} (P : A → Type 0) (o : Option A) (x : A) → o ≡ Some x → IfSome o P → P x

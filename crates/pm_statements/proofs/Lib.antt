@@ -3,6 +3,8 @@ pub mod Fair
 pub mod Labels
 pub mod Written
 pub mod Ends
+pub mod Blanks
+pub mod Spanned
 pub mod Listed
 pub mod Marked
 pub mod Called

@@ -1,28 +1,30 @@
 -- The lines of statements, one after another.
-use Rattle.std.proofs.Common.{◌≡◌, ◌≤◌, ℕ, Bool, List, [], ◌∷◌, ◌++◌, ◌+◌, drop, length, refl, sym, ap, ◌∙◌, append_assoc}
+use Rattle.std.proofs.Common.{◌≡◌, ◌<◌, ◌≤◌, ℕ, suc, Bool, List, [], ◌∷◌, ◌++◌, ◌+◌, ◌-◌, arith, drop, length, refl, sym, ap, ◌∙◌, append_assoc}
 use Rattle.std.proofs.lemmas.List.{append-nil, drop_all}
 use Rattle.pm_code.specs.Item.{Item, size}
 use Rattle.pm_phrases.specs.Shown.{Shown}
 use Rattle.pm_statements.specs.declared.left.Left.{Left}
 use Rattle.pm_statements.specs.Parts.{Known, Part, part_of, parts, place_at}
-use Rattle.pm_statements.specs.Texts.{is_call, line, lines}
+use Rattle.pm_statements.specs.Depths.{Depths, at_place}
+use Rattle.pm_statements.specs.Texts.{is_call, line, lines, two_each}
 
-pub lines_none : (behind_call : Bool) (ls : List Left) → lines behind_call ls [] ≡ []
+pub lines_none : (d : Depths) (behind_call : Bool) (ls : List Left) → lines d behind_call ls [] ≡ []
 unfolding lines
-lines_none b [] = refl
-lines_none b (l ∷ ls) = refl
+lines_none d b [] = refl
+lines_none d b (l ∷ ls) = refl
 
-pub lines_done : (behind_call : Bool) (i : ℕ) (ls : List Left) (ss : List Shown) → length ls ≤ i → lines behind_call (drop i ls) ss ≡ []
+pub lines_done : (d : Depths) (behind_call : Bool) (i : ℕ) (ls : List Left) (ss : List Shown) → length ls ≤ i
+    → lines d behind_call (drop i ls) ss ≡ []
 unfolding lines
-lines_done b i ls ss high = ap (λ l. lines b l ss) (drop_all i ls high)
+lines_done d b i ls ss high = ap (λ l. lines d b l ss) (drop_all i ls high)
 
-pub lines_step : (behind_call : Bool) (ls more : List Left) (ss rest : List Shown) (l : Left) (s : Shown) (before : List ℕ)
+pub lines_step : (d : Depths) (behind_call : Bool) (ls more : List Left) (ss rest : List Shown) (l : Left) (s : Shown) (before : List ℕ)
     → ls ≡ l ∷ more → ss ≡ s ∷ rest
-    → (before ++ line behind_call l s) ++ lines (is_call l) more rest ≡ before ++ lines behind_call ls ss
+    → (before ++ line (at_place d l.place.offset) behind_call l s) ++ lines d (is_call l) more rest ≡ before ++ lines d behind_call ls ss
 unfolding lines
-lines_step b ls more ss rest l s before e f =
-    append_assoc before (line b l s) (lines (is_call l) more rest)
-    ∙ sym (ap (λ x. before ++ lines b x ss) e ∙ ap (λ x. before ++ lines b (l ∷ more) x) f)
+lines_step d b ls more ss rest l s before e f =
+    append_assoc before (line (at_place d l.place.offset) b l s) (lines d (is_call l) more rest)
+    ∙ sym (ap (λ x. before ++ lines d b x ss) e ∙ ap (λ x. before ++ lines d b (l ∷ more) x) f)
 
 -- one part more
 pub parts_step : (k : Known) (used : List ℕ) (exit at next : ℕ) (item : Item ℕ) (items all : List (Item ℕ)) (part : Part) (front more : List Part)
@@ -41,3 +43,19 @@ parts_done k used exit at items front e = ap (λ is. front ++ parts k used exit 
 
 pub text_joined : (old middle new first second : List ℕ) → middle ≡ old ++ first → new ≡ middle ++ second → new ≡ old ++ (first ++ second)
 text_joined old middle new first second e f = f ∙ ap (λ t. t ++ second) e ∙ append_assoc old first second
+
+-- two blanks more, and behind the last ones
+pub blanks_step : (end counter : ℕ) (out new whole : List ℕ) → counter < end → new ≡ out ++ 32 ∷ 32 ∷ []
+    → out ++ two_each (end - counter) ≡ whole → new ++ two_each (end - (counter + 1)) ≡ whole
+blanks_step end counter out new whole low n i =
+    let more : end - counter ≡ suc (end - (counter + 1)) = omega (arith, low) in
+    let rest : List ℕ = two_each (end - (counter + 1)) in
+    ap (λ t. t ++ rest) n
+    ∙ append_assoc out (32 ∷ 32 ∷ []) rest
+    ∙ ap (λ (k : ℕ). out ++ two_each k) (sym more)
+    ∙ i
+
+pub blanks_done : (end counter : ℕ) (out whole : List ℕ) → end ≤ counter → out ++ two_each (end - counter) ≡ whole → out ≡ whole
+blanks_done end counter out whole high i =
+    let none : end - counter ≡ 0 = omega (arith, high) in
+    sym (append-nil out) ∙ ap (λ (k : ℕ). out ++ two_each k) (sym none) ∙ i

@@ -1,5 +1,6 @@
 -- The text of a code file as statements.
 use Rattle.std.specs.Prelude.{◌≡◌, ℕ, zero, suc, ◌+◌, ◌==◌, List, [], ◌∷◌, ◌++◌, nat_le, Option, Some, None}
+use Rattle.std.specs.Prelude.{Bool, true, false}
 use Rattle.std.specs.Prelude.{◌*◌, codes, string_bytes, if◌then◌else◌}
 use Rattle.std.specs.Fmt.{decimal, signed_decimal}
 use Rattle.pm_codefile.specs.Dictionary.{segment_in}
@@ -95,19 +96,28 @@ tables_text k segment p (suc count) =
     numbered_text k segment p (attributes_in segment p) ++ tables_text k segment (p + 1) count
 
 -- the segment of a slot, if it has one
-abbrev pub slot_text : List (Option Callee) → ℕ → Option (List ℕ) → List ℕ
-slot_text callees n None = []
-slot_text callees n (Some segment) =
-    tables_text (record { segment = n; callees = callees }) segment 1 (procedures_in segment)
+abbrev pub slot_text : List (Option Callee) → Bool → ℕ → Option (List ℕ) → List ℕ
+slot_text callees indented n None = []
+slot_text callees indented n (Some segment) = tables_text
+    (record { segment = n; callees = callees; indented = indented }) segment 1 (procedures_in segment)
 
 -- so many slots, from slot n on
-abbrev pub slots_text : List (Option Callee) → List ℕ → ℕ → ℕ → List ℕ
-slots_text callees file n zero = []
-slots_text callees file n (suc count) = slot_text callees n (segment_in file n) ++ slots_text callees file (n + 1) count
+abbrev pub slots_text : List (Option Callee) → Bool → List ℕ → ℕ → ℕ → List ℕ
+slots_text callees indented file n zero = []
+slots_text callees indented file n (suc count) =
+    slot_text callees indented n (segment_in file n) ++ slots_text callees indented file (n + 1) count
 
--- The text of a code file as statements: its segments by ascending slot.
-unfoldable pub file_statements : List ℕ → List ℕ
-file_statements file = slots_text (file_callees file) file 0 16
+-- a code file: its segments by ascending slot
+unfoldable pub file_text : Bool → List ℕ → List ℕ
+file_text indented file = slots_text (file_callees file) indented file 0 16
+
+-- The text of a code file as statements.
+abbrev pub file_statements : List ℕ → List ℕ
+file_statements file = file_text false file
+
+-- The same, where each statement stands behind blanks by its depth.
+abbrev pub indented_statements : List ℕ → List ℕ
+indented_statements file = file_text true file
 
 -- a table with the text that is shown for it in this segment
 abbrev pub IsShownTable : Known → List ℕ → ShownTable → Type 0

@@ -1,15 +1,19 @@
 -- What statements are.
 use Rattle.std.specs.Prelude.{◌≡◌, true, ℕ, zero, suc, false, List, [], ◌∷◌, ◌++◌, map, replicate, if◌then◌else◌}
-use Rattle.std.specs.Prelude.{Option, Some, None}
+use Rattle.std.specs.Prelude.{not, ◌==◌, Option, Some, None}
+use Rattle.std.specs.List.{filter}
 use Rattle.pm_code.specs.Item.{Item}
 use Rattle.pm_code.specs.Program.{Procedure}
 use Rattle.pm_effects.specs.declared.effect.Share.{Share}
 use Rattle.pm_effects.specs.declared.effect.Share.TheVariants as share
+use Rattle.pm_phrases.specs.declared.around.Around.{Around}
 use Rattle.pm_phrases.specs.declared.around.Missing.{Missing}
 use Rattle.pm_statements.specs.declared.part.Leaves.{Leaves}
 use Rattle.pm_statements.specs.declared.part.Leaves.TheVariants as leaves
 use Rattle.pm_statements.specs.declared.part.Takes.{Takes}
+use Rattle.pm_statements.specs.Depths.{Depths}
 use Rattle.pm_statements.specs.Parts.{Known, Part, is_reached, procedure_parts}
+use Rattle.pm_statements.specs.Texts.{statement_lines}
 use Rattle.pm_statements.specs.Trees.{Forest, is_none, none_missing, parts_of, statements}
 use Rattle.pm_statements.specs.Trees.Forest.{Bare, Tree}
 
@@ -130,3 +134,15 @@ EachMissesBelow (Tree p missing operands before) = MissBelow operands × EachMis
 -- operand left lies below it.
 abbrev pub MissingIsBelow : Type 0
 MissingIsBelow = (k : Known) (p : Procedure) → EachMissesBelow (statements (procedure_parts k p))
+
+-- ---- blanks
+
+-- a text without its blanks
+abbrev pub without_blanks : List ℕ → List ℕ
+without_blanks = filter (λ (c : ℕ). not (c == 32))
+
+-- Two texts of the same statements, whatever is known of depths, differ in blanks alone: no statement is lost, moved or
+-- made, and no line.
+abbrev pub DepthsAreBlanksAlone : Type 0
+DepthsAreBlanksAlone = (d e : Depths) (a : Around) (ps : List Part)
+    → without_blanks (statement_lines d a ps) ≡ without_blanks (statement_lines e a ps)

@@ -1,4 +1,5 @@
 pub mod Parts
+pub mod Depths
 pub mod Trees
 pub mod Laws
 pub mod Texts

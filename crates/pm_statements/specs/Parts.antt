@@ -26,10 +26,12 @@ use Rattle.pm_statements.specs.declared.part.Takes.{Takes}
 
 -- ---- what an item takes and leaves
 
--- what is known of procedures: the segment of the code, and a table of 256 procedures for each segment
+-- what is known of procedures: the segment of the code, and a table of 256 procedures for each segment; and whether
+-- statements stand behind blanks by their depth
 pub record Known : Type 0 where
   pub segment : ℕ
   pub callees : List (Option Callee)
+  pub indented : Bool
 
 -- where the procedure that is called stands in the table
 abbrev pub callee_index : ℕ → Call → ℕ

@@ -1,5 +1,6 @@
 -- The text of statements, and how it grows.
-use Rattle.std.specs.Prelude.{◌≡◌, ◌/◌, ℕ, Bool, true, false, not, List, [], ◌∷◌, ◌++◌, reverse, take, drop}
+use Rattle.std.specs.Prelude.{◌≡◌, ◌/◌, ℕ, zero, suc, min, Bool, true, false, not, List, [], ◌∷◌, ◌++◌, reverse}
+use Rattle.std.specs.Prelude.{take, drop}
 use Rattle.std.specs.Prelude.{◌||◌, ◌&&◌, if◌then◌else◌, codes}
 use Rattle.pm_code.specs.Program.{Procedure, code_end}
 use Rattle.pm_code.specs.Shown.{label_text, padded}
@@ -12,6 +13,7 @@ use Rattle.pm_statements.specs.declared.left.Role.{Role}
 use Rattle.pm_statements.specs.declared.left.Role.TheVariants as role
 use Rattle.pm_statements.specs.declared.part.Leaves.{Leaves}
 use Rattle.pm_statements.specs.declared.part.Place.{Place}
+use Rattle.pm_statements.specs.Depths.{Depths, at_place, depths}
 use Rattle.pm_statements.specs.Parts.{Known, Part, is_reached, labelled_places, place_at, procedure_parts}
 use Rattle.pm_statements.specs.Trees.{Count, Forest, is_full, leaves_nothing, left_by, none_missing, statements}
 use Rattle.pm_statements.specs.Trees.{takes_count}
@@ -115,26 +117,39 @@ is_call l = leaves_nothing l.leaves && has_call_role l.role
 abbrev pub is_check : Left → Bool
 is_check l = not (is_reached l.place) && has_check_role l.role
 
--- A statement on a line of its own, behind a line feed: its offset, and its phrase. A check behind a call stands on the
--- line of that.
-abbrev pub line : Bool → Left → Shown → List ℕ
-line behind_call l s =
+-- the deepest level that has blanks
+abbrev pub deepest : ℕ
+deepest = 30
+
+-- two blanks for each level
+abbrev pub two_each : ℕ → List ℕ
+two_each zero = []
+two_each (suc n) = 32 ∷ 32 ∷ two_each n
+
+abbrev pub blanks : ℕ → List ℕ
+blanks depth = two_each (min depth deepest)
+
+-- A statement on a line of its own, behind a line feed: its offset, the blanks of its depth, and its phrase. A check
+-- behind a call stands on the line of that.
+abbrev pub line : ℕ → Bool → Left → Shown → List ℕ
+line depth behind_call l s =
     if behind_call && is_check l
     then 32 ∷ value_text s 0
-    else place_lines l.place ++ (10 ∷ padded 5 l.place.offset ++ (32 ∷ push_text l.leaves ++ value_text s 0))
+    else (place_lines l.place ++ (10 ∷ padded 5 l.place.offset ++ 32 ∷ []))
+    ++ (blanks depth ++ (push_text l.leaves ++ value_text s 0))
 
 -- statements, the first one first, behind a call or not
-unfoldable pub lines : Bool → List Left → List Shown → List ℕ
-lines behind_call [] ss = []
-lines behind_call (l ∷ ls) [] = []
-lines behind_call (l ∷ ls) (s ∷ ss) = line behind_call l s ++ lines (is_call l) ls ss
+unfoldable pub lines : Depths → Bool → List Left → List Shown → List ℕ
+lines d behind_call [] ss = []
+lines d behind_call (l ∷ ls) [] = []
+lines d behind_call (l ∷ ls) (s ∷ ss) = line (at_place d l.place.offset) behind_call l s ++ lines d (is_call l) ls ss
 
-abbrev pub pile_lines : Pile → List ℕ
-pile_lines t = lines false (reverse t.lefts) (reverse t.phrases)
+abbrev pub pile_lines : Depths → Pile → List ℕ
+pile_lines d t = lines d false (reverse t.lefts) (reverse t.phrases)
 
 -- The text of statements: a line for each, behind a line feed.
-unfoldable pub statement_lines : Around → List Part → List ℕ
-statement_lines a ps = pile_lines (pile_of a (statements ps))
+unfoldable pub statement_lines : Depths → Around → List Part → List ℕ
+statement_lines d a ps = pile_lines d (pile_of a (statements ps))
 
 -- what is known around the code of a procedure
 abbrev pub around_of : Procedure → Around
@@ -144,9 +159,14 @@ around_of p = record { parameters = p.parameters / 2 }
 abbrev pub end_place : Procedure → Place
 end_place p = place_at (labelled_places p) p.exit (code_end p)
 
+-- the depths of a procedure, if they are wanted
+abbrev pub depths_if : Bool → Procedure → Depths
+depths_if wanted p = record { start = p.start; list = if wanted then depths p else [] }
+
 -- The text of a procedure's code: its statements, and the labels where it ends.
 abbrev pub procedure_statements : Known → Procedure → List ℕ
-procedure_statements k p = statement_lines (around_of p) (procedure_parts k p) ++ place_lines (end_place p)
+procedure_statements k p =
+    statement_lines (depths_if k.indented p) (around_of p) (procedure_parts k p) ++ place_lines (end_place p)
 
 -- The text that grows part by part is that of the statements.
 abbrev pub TextGrows : Type 0

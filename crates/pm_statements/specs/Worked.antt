@@ -2,11 +2,13 @@
 use Rattle.std.specs.Prelude.{◌≡◌, ℕ, true, false, List, [], ◌∷◌, map, Some, None}
 use Rattle.pm_code.specs.Item.{Item}
 use Rattle.pm_code.specs.Item.Item.{Plain, Jump}
-use Rattle.pm_code.specs.Item.Target.{To}
+use Rattle.pm_code.specs.Item.Target.{To, Through}
 use Rattle.pm_code.specs.Program.{Procedure}
 use Rattle.pm_statements.specs.declared.left.Left.{Left}
 use Rattle.pm_statements.specs.Callees.{sized}
 use Rattle.pm_statements.specs.Parts.{Known, procedure_parts}
+use Rattle.pm_statements.specs.Depths.{at_place}
+use Rattle.pm_statements.specs.Texts.{depths_if}
 use Rattle.pm_statements.specs.Trees.{lefts_of, statements}
 
 -- an instruction without an operand, and one with a byte
@@ -51,15 +53,55 @@ hanoi = record {
 
 -- of procedures 1 to 3, of the segment 0
 abbrev pub hanoi_known : Known
-hanoi_known = record { segment = 0; callees = None ∷ Some (sized 0 0) ∷ Some (sized 3 0) ∷ Some (sized 0 0) ∷ [] }
+hanoi_known = record {
+  segment = 0;
+  callees = None ∷ Some (sized 0 0) ∷ Some (sized 3 0) ∷ Some (sized 0 0) ∷ [];
+  indented = true;
+}
 
 abbrev pub hanoi_lefts : List Left
 hanoi_lefts = lefts_of (statements (procedure_parts hanoi_known hanoi))
 
+-- IF and ELSE from 0 to 11, WHILE from 11 to 19 by entry 0, REPEAT from 19 to 25 by entry 1, and at 29 a jump to 38 out
+-- of what the one at 26 leads around, to 35. FJP is 161, UJP 185, SRO 171, SLDO 1 and 2 are 232 and 233.
+abbrev pub sro : Item ℕ
+sro = with_byte 171 1
+
+abbrev pub sldo1 : Item ℕ
+sldo1 = plain 232
+
+abbrev pub nested : Procedure
+nested = record {
+  level = 0;
+  parameters = 0;
+  locals = 4;
+  start = 0;
+  items =
+      sldo1 ∷ Jump 161 (To 8) ∷ plain 1 ∷ sro ∷ Jump 185 (To 11)
+      ∷ plain 2 ∷ sro
+      ∷ sldo1 ∷ Jump 161 (To 19) ∷ plain 3 ∷ sro ∷ Jump 185 (Through 0)
+      ∷ plain 4 ∷ sro ∷ plain 233 ∷ Jump 161 (Through 1)
+      ∷ sldo1 ∷ Jump 161 (To 35) ∷ plain 233 ∷ Jump 161 (To 38) ∷ plain 5 ∷ sro ∷ plain 215
+      ∷ plain 6 ∷ sro
+      ∷ with_byte 173 0
+      ∷ [];
+  exit = 38;
+  entries = 11 ∷ 19 ∷ [];
+}
+
+abbrev pub nested_depth : ℕ → ℕ
+nested_depth at = at_place (depths_if true nested) at
+
 -- Six statements, the last one first: IF NOT .. at 18, a call of three operands at 23, CLP 3, a call again, RNP where
--- the exit code and a label are, NOP.
+-- the exit code and a label are, NOP. The depths are those of the page.
 pub record WorkedStatements : Type 0 where
   pub offsets : map (λ (l : Left). l.place.offset) hanoi_lefts ≡ 49 ∷ 47 ∷ 36 ∷ 34 ∷ 23 ∷ 18 ∷ []
   pub labels : map (λ (l : Left). l.place.has_label) hanoi_lefts ≡ false ∷ true ∷ false ∷ false ∷ false ∷ false ∷ []
   pub exits : map (λ (l : Left). l.place.is_exit) hanoi_lefts ≡ false ∷ true ∷ false ∷ false ∷ false ∷ false ∷ []
   pub parts : map (λ (l : Left). l.parts) hanoi_lefts ≡ 1 ∷ 1 ∷ 10 ∷ 1 ∷ 10 ∷ 4 ∷ []
+  pub depths : map (λ (l : Left). at_place (depths_if true hanoi) l.place.offset) hanoi_lefts
+      ≡ 0 ∷ 0 ∷ 1 ∷ 1 ∷ 1 ∷ 0 ∷ []
+  pub choice : map nested_depth (0 ∷ 1 ∷ 3 ∷ 6 ∷ 8 ∷ []) ≡ 0 ∷ 0 ∷ 1 ∷ 1 ∷ 1 ∷ []
+  pub loop : map nested_depth (11 ∷ 14 ∷ 17 ∷ []) ≡ 0 ∷ 1 ∷ 1 ∷ []
+  pub back : map nested_depth (19 ∷ 22 ∷ 25 ∷ []) ≡ 1 ∷ 1 ∷ 0 ∷ []
+  pub out : map nested_depth (28 ∷ 31 ∷ 34 ∷ 35 ∷ 38 ∷ []) ≡ 1 ∷ 1 ∷ 1 ∷ 0 ∷ 0 ∷ []

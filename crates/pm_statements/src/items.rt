@@ -11,13 +11,15 @@ use pm_families::{Arithmetic, Call};
 use pm_opcode::{Instr, Operation};
 use std::marker::Model;
 
-/// What is known of procedures.
+/// What is known of procedures, and how their statements stand.
 #[derive(Drop)]
 pub struct Known<'a> {
     /// The segment of the code.
     pub segment: u8,
     /// The procedures, 256 for each segment.
     pub callees: &'a [Option<Callee>],
+    /// Whether each statement stands behind blanks by how deep it is.
+    pub indented: bool,
 }
 
 impl<'a> Model for Known<'a> {
@@ -25,7 +27,7 @@ impl<'a> Model for Known<'a> {
 
     ghost Value = { parts.Known };
 
-    ghost view = { λ k. record { segment = k.segment; callees = k.callees.now } };
+    ghost view = { λ k. record { segment = k.segment; callees = k.callees.now; indented = k.indented } };
 }
 
 /// Where the procedure that is called stands in the table.

@@ -1,7 +1,7 @@
 //! Laws of statements. The functions do nothing.
 
-ghost use Rattle.pm_statements.specs.Laws.{LabelsStandBeforeStatements, MissingIsBelow, OperandsAreWhatIsTaken};
-ghost use Rattle.pm_statements.specs.Laws.{StatementsAreTheCode};
+ghost use Rattle.pm_statements.specs.Laws.{DepthsAreBlanksAlone, LabelsStandBeforeStatements, MissingIsBelow};
+ghost use Rattle.pm_statements.specs.Laws.{OperandsAreWhatIsTaken, StatementsAreTheCode};
 ghost use Rattle.pm_statements.specs.Texts.{TextGrows};
 
 /// The statements, each read with its operands before it, are the code.
@@ -32,4 +32,10 @@ pub fn missing_is_below()
 #[tactic(auto, using(crate::proofs::Written::text_grows))]
 pub fn text_grows()
     ensures law { TextGrows }
+{}
+
+/// How deep statements are said to stand changes blanks alone.
+#[tactic(auto, using(crate::proofs::Blanks::depths_are_blanks_alone))]
+pub fn depths_are_blanks_alone()
+    ensures law { DepthsAreBlanksAlone }
 {}

@@ -3,6 +3,7 @@
 
 mod callees;
 mod count;
+mod depths;
 mod grow;
 mod items;
 pub mod laws;
@@ -14,6 +15,7 @@ mod pile;
 mod procedure;
 mod shown;
 mod sized;
+mod spans;
 pub mod worked;
 
 pub use callees::{callee_of, system_callee};
@@ -24,4 +26,4 @@ pub use lines::push_statements;
 pub use part::{Callee, Leaves, Part, Place, Takes};
 pub use pile::Pile;
 pub use procedure::push_procedure;
-pub use shown::file;
+pub use shown::{file, indented_file};

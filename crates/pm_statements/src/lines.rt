@@ -4,6 +4,7 @@ ghost use Rattle.std.specs.Prelude.{◌≡◌, ◌++◌, false, string_bytes, On
 ghost use Rattle.pm_statements.specs.Texts as texts;
 
 use crate::count::leaves_nothing;
+use crate::depths::Depths;
 use crate::left::{Left, Role, is_reached};
 use crate::part::{Leaves, Place};
 use crate::pile::Pile;
@@ -13,9 +14,12 @@ use std::alloc::AllocError;
 use std::fmt;
 use std::fmt::Write;
 
+/// The deepest level that has blanks.
+const DEEPEST: usize = 30;
+
 /// The lines of a label and of the exit code, each behind a line feed.
 #[derive(Clone, Copy)]
-struct PlaceLines(Place);
+pub(crate) struct PlaceLines(pub(crate) Place);
 
 impl fmt::Display for PlaceLines {
     ghost output = { λ p. Some (texts.place_lines p.0) };
@@ -61,55 +65,52 @@ fn is_check(left: &Left) -> bool
     !is_reached(left.place) && matches!(left.role, Role::Check)
 }
 
-/// A statement, behind a line feed or on the line of the call before it.
-#[derive(Clone, Copy)]
-struct Line<'a> {
-    behind_call: bool,
-    left: &'a Left,
-    phrase: &'a Phrase,
-}
-
-impl fmt::Display for Line<'_> {
-    ghost output = { λ l. Some (texts.line l.behind_call l.left.now l.phrase.now) };
-
-    fn fmt<W: fmt::Write>(&self, f: &mut fmt::Formatter<W>) -> fmt::Result {
-        let left = self.left;
-        let phrase = self.phrase;
-        let text = Value(phrase, 0);
-        if self.behind_call && is_check(left) {
-            return write!(f, " {text}");
-        }
-        let labels = PlaceLines(left.place);
-        let offset = FiveDigits(left.place.offset);
-        let push = Push(left.leaves);
-        write!(f, "{labels}\n{offset} {push}{text}")
+/// Adds two blanks for each level of depth, up to thirty levels.
+#[tactic(auto, using(crate::proofs::Listed::blanks_step, crate::proofs::Listed::blanks_done))]
+fn push_blanks(out: &mut String, depth: usize) -> Result<(), AllocError>
+    ensures text { OnOk result (string_bytes out.new ≡ string_bytes out.old ++ texts.blanks depth) }
+{
+    for _ in 0..depth.min(DEEPEST) {
+        out.push_str("  ")?;
     }
+    Ok(())
 }
 
-/// Adds a statement.
+/// Adds a statement, behind a line feed or on the line of the call before it.
 fn push_line(
     out: &mut String,
+    depth: usize,
     behind_call: bool,
     left: &Left,
     phrase: &Phrase,
 ) -> Result<(), AllocError>
     ensures text { OnOk result (string_bytes out.new
-        ≡ string_bytes out.old ++ texts.line behind_call left.now phrase.now) }
+        ≡ string_bytes out.old ++ texts.line depth behind_call left.now phrase.now) }
 {
-    let line = Line {
-        behind_call,
-        left,
-        phrase,
-    };
-    write!(out, "{line}")?;
+    let text = Value(phrase, 0);
+    if behind_call && is_check(left) {
+        write!(out, " {text}")?;
+        return Ok(());
+    }
+    let labels = PlaceLines(left.place);
+    let offset = FiveDigits(left.place.offset);
+    write!(out, "{labels}\n{offset} ")?;
+    push_blanks(out, depth)?;
+    let push = Push(left.leaves);
+    write!(out, "{push}{text}")?;
     Ok(())
 }
 
 /// Adds statements.
 #[tactic(auto, using(crate::proofs::Listed::lines_none))]
-fn push_lines(out: &mut String, lefts: &[Left], phrases: &[Phrase]) -> Result<(), AllocError>
+fn push_lines(
+    out: &mut String,
+    depths: &Depths,
+    lefts: &[Left],
+    phrases: &[Phrase],
+) -> Result<(), AllocError>
     ensures text { OnOk result (string_bytes out.new
-        ≡ string_bytes out.old ++ texts.lines false lefts.now phrases.now) }
+        ≡ string_bytes out.old ++ texts.lines depths.now false lefts.now phrases.now) }
 {
     let mut behind_call = false;
     let mut rest = phrases;
@@ -117,25 +118,23 @@ fn push_lines(out: &mut String, lefts: &[Left], phrases: &[Phrase]) -> Result<()
         let Some((phrase, more)) = rest.split_first() else {
             return Ok(());
         };
-        push_line(out, behind_call, left, phrase)?;
+        let depth = depths.at_place(left.place.offset);
+        push_line(out, depth, behind_call, left, phrase)?;
         behind_call = is_call(left);
         rest = more;
     }
     Ok(())
 }
 
-/// Adds the lines of statements, each behind a line feed.
+/// Adds the lines of statements, each behind a line feed, and its text behind blanks by how deep it stands.
 #[tactic(auto, using(crate::proofs::Ends::twice_reversed))]
-pub fn push_statements(out: &mut String, statements: &Pile) -> Result<(), AllocError>
-    ensures text { OnOk result (string_bytes out.new ≡ string_bytes out.old ++ texts.pile_lines statements.now) }
+pub fn push_statements(
+    out: &mut String,
+    depths: &Depths,
+    statements: &Pile,
+) -> Result<(), AllocError>
+    ensures text { OnOk result (string_bytes out.new
+        ≡ string_bytes out.old ++ texts.pile_lines depths.now statements.now) }
 {
-    push_lines(out, &statements.lefts, &statements.phrases)
-}
-
-/// Adds the lines of a label and of the exit code, each behind a line feed.
-pub(crate) fn push_place(out: &mut String, place: Place) -> Result<(), AllocError>
-    ensures text { OnOk result (string_bytes out.new ≡ string_bytes out.old ++ texts.place_lines place) }
-{
-    write!(out, "{}", PlaceLines(place))?;
-    Ok(())
+    push_lines(out, depths, &statements.lefts, &statements.phrases)
 }

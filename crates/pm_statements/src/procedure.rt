@@ -7,14 +7,16 @@ ghost use Rattle.pm_statements.specs.Marks.{Marks};
 ghost use Rattle.pm_statements.specs.Parts as parts;
 ghost use Rattle.pm_statements.specs.Texts as texts;
 
+use crate::depths::depths_if;
 use crate::grow::statements;
 use crate::items::{Known, part_of};
-use crate::lines::{push_place, push_statements};
+use crate::lines::{PlaceLines, push_statements};
 use crate::marks::labels_of;
 use crate::part::{Part, Place};
 use pm_code::{Item, Procedure, items_end};
 use pm_phrases::Around;
 use std::alloc::{AllocError, Global};
+use std::fmt::Write;
 
 /// A place, where these have labels and the exit code begins at one.
 #[tactic(auto, using(crate::proofs::Marked::place_known))]
@@ -29,7 +31,7 @@ fn place_at(labels: &[bool], exit: usize, at: usize) -> Place
 }
 
 /// Where the item behind this one begins. No memory holds one that would begin beyond all places.
-fn behind(at: usize, item: &Item<usize>) -> Result<usize, AllocError>
+pub(crate) fn behind(at: usize, item: &Item<usize>) -> Result<usize, AllocError>
     ensures behind { IfOk result (λ next. next ≡ at + size at (placed_item item.now)) }
 {
     let Some(size) = item.size(at) else {
@@ -71,11 +73,13 @@ fn push_end(out: &mut String, labels: &[bool], procedure: &Procedure) -> Result<
     let Some(end) = items_end(procedure.start, &procedure.items) else {
         return Err(AllocError);
     };
-    push_place(out, place_at(labels, procedure.exit, end))
+    let lines = PlaceLines(place_at(labels, procedure.exit, end));
+    write!(out, "{lines}")?;
+    Ok(())
 }
 
 /// Adds the text of a procedure's code as statements: a line for each, behind a line feed, with lines for the labels
-/// and the exit code as the text of the procedure has them.
+/// and the exit code as the text of the procedure has them, and with blanks by depth if they are wanted.
 #[tactic(auto, using(crate::proofs::Listed::text_joined), unfolding(crate::specs::Texts::statement_lines))]
 pub fn push_procedure(
     alloc: Global,
@@ -91,7 +95,8 @@ pub fn push_procedure(
     };
     let labels = labels_of(alloc, procedure)?;
     let parts = parts_of(alloc, known, &labels, procedure)?;
+    let depths = depths_if(alloc, known.indented, procedure)?;
     let statements = statements(alloc, around, &parts)?;
-    push_statements(out, &statements)?;
+    push_statements(out, &depths, &statements)?;
     push_end(out, &labels, procedure)
 }

@@ -199,10 +199,11 @@ fn push_slot(
     text: &mut String,
     file: &CodeFile<'_>,
     callees: &[Option<Callee>],
+    indented: bool,
     n: u8,
 ) -> Result<(), AllocError>
     ensures text { OnOk result (string_bytes text.new
-        ≡ string_bytes text.old ++ files.slot_text callees.now n (segment_in file.now n)) }
+        ≡ string_bytes text.old ++ files.slot_text callees.now indented n (segment_in file.now n)) }
 {
     let Some(segment) = file.segment(n) else {
         return Ok(());
@@ -210,20 +211,35 @@ fn push_slot(
     let known = Known {
         segment: n,
         callees,
+        indented,
     };
     push_segment(alloc, text, &known, segment)
 }
 
-/// The text of a code file as statements: its segments by ascending slot, of each its procedures by their numbers, of
-/// each a line that names it, and a line for each statement.
-#[tactic(auto, unfolding(crate::specs::Files::file_statements))]
-pub fn file(alloc: Global, file: &CodeFile<'_>) -> Result<String, AllocError>
-    ensures text { IfOk result (λ text. string_bytes text ≡ files.file_statements file.now) }
+/// The text of a code file as statements, `indented` behind blanks by how deep they stand.
+#[tactic(auto, unfolding(crate::specs::Files::file_text))]
+fn text_as(alloc: Global, file: &CodeFile<'_>, indented: bool) -> Result<String, AllocError>
+    ensures text { IfOk result (λ text. string_bytes text ≡ files.file_text indented file.now) }
 {
     let callees = file_callees(alloc, file)?;
     let mut text = String::new(alloc);
     for n in 0..16 {
-        push_slot(alloc, &mut text, file, &callees, n)?;
+        push_slot(alloc, &mut text, file, &callees, indented, n)?;
     }
     Ok(text)
+}
+
+/// The text of a code file as statements: its segments by ascending slot, of each its procedures by their numbers, of
+/// each a line that names it, and a line for each statement.
+pub fn file(alloc: Global, file: &CodeFile<'_>) -> Result<String, AllocError>
+    ensures text { IfOk result (λ text. string_bytes text ≡ files.file_statements file.now) }
+{
+    text_as(alloc, file, false)
+}
+
+/// That text with each statement behind two blanks for each span of a jump around it.
+pub fn indented_file(alloc: Global, file: &CodeFile<'_>) -> Result<String, AllocError>
+    ensures text { IfOk result (λ text. string_bytes text ≡ files.indented_statements file.now) }
+{
+    text_as(alloc, file, true)
 }

@@ -5,5 +5,5 @@ use Rattle.pm_statements.proofs.lines.push_lines.Given as goal
 -- what is written so far, with the statements that are left, comes to the whole
 abbrev pub invariant-loop-left : goal.invariant-loop-left
 invariant-loop-left l =
-    string_bytes l.out ++ lines l.behind_call (drop l.left-index l.lefts) l.rest
-    ≡ string_bytes l.fn.out ++ lines false l.lefts l.phrases
+    string_bytes l.out ++ lines l.depths l.behind_call (drop l.left-index l.lefts) l.rest
+    ≡ string_bytes l.fn.out ++ lines l.depths false l.lefts l.phrases

@@ -1,4 +1,4 @@
-use Rattle.std.proofs.Common.{◌≡◌, ◌∙◌, ◌++◌, List, ℕ, ap, subst, string_bytes, sym}
+use Rattle.std.proofs.Common.{◌≡◌, ◌∙◌, ◌++◌, ap, subst, string_bytes, sym}
 use Rattle.std.specs.List.{AllByRecursion}
 use Rattle.pm_statements.specs.Files.{table_text}
 use Rattle.pm_statements.proofs.Filed.{given}

@@ -2,13 +2,13 @@ use Rattle.std.proofs.Common.{◌++◌, ◌∙◌, ap, arith, string_bytes}
 use Rattle.pm_codefile.specs.Dictionary.{segment_in}
 use Rattle.pm_statements.specs.Files.{slot_text}
 use Rattle.pm_statements.proofs.Filed.{next_text}
-use Rattle.pm_statements.proofs.shown.file.Goals as goal
+use Rattle.pm_statements.proofs.shown.text_as.Goals as goal
 
 pub loop-n-preserved : goal.loop-n-preserved
 loop-n-preserved c =
     let file = c.args.file.now in
     let n = c.loop-n.n in
     let before = string_bytes c.loop-n.text in
-    next_text c.in_ok-callees.callees.items file n (string_bytes c.push_slot.new.text) before _ (omega (arith, c.loop-n-test.true))
-    (c.in_ok-push_slot.ensures.text ∙ ap (λ callees. before ++ slot_text callees n (segment_in file n)) c.deref.ensures.value)
+    next_text c.in_ok-callees.callees.items c.args.indented file n (string_bytes c.push_slot.new.text) before _ (omega (arith, c.loop-n-test.true))
+    (c.in_ok-push_slot.ensures.text ∙ ap (λ callees. before ++ slot_text callees c.args.indented n (segment_in file n)) c.deref.ensures.value)
     c.loop-n.invariant

@@ -1,8 +1,8 @@
 use Rattle.std.proofs.Common.{◌≡◌, ◌-◌, ◌++◌, string_bytes}
 use Rattle.pm_statements.specs.Files.{slots_text}
-use Rattle.pm_statements.proofs.shown.file.Given as goal
+use Rattle.pm_statements.proofs.shown.text_as.Given as goal
 
 -- the text so far with the slots that are left is the whole
 abbrev pub invariant-loop-n : goal.invariant-loop-n
 invariant-loop-n l =
-    string_bytes l.text ++ slots_text l.callees.items l.file l.n (16 - l.n) ≡ slots_text l.callees.items l.file 0 16
+    string_bytes l.text ++ slots_text l.callees.items l.indented l.file l.n (16 - l.n) ≡ slots_text l.callees.items l.indented l.file 0 16

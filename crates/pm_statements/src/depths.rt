@@ -1,0 +1,149 @@
+//! How deep the code of a procedure stands.
+
+ghost use Rattle.std.specs.Prelude.{◌≡◌, ◌++◌, replicate, IfOk, OnOk};
+ghost use Rattle.pm_code.specs.Views.{placed_item, procedure_seen};
+ghost use Rattle.pm_statements.specs.Depths as depths;
+ghost use Rattle.pm_statements.specs.Texts as texts;
+
+use crate::procedure::behind;
+use crate::spans::{close_ended, open_span};
+use pm_code::{Item, JUMP, Procedure, Target, items_end};
+use std::alloc::{AllocError, Global};
+use std::marker::Model;
+
+/// A number for each byte of code, from a start on.
+#[derive(Drop)]
+pub struct Depths {
+    /// The offset of the first.
+    pub(crate) start: usize,
+    /// The numbers.
+    pub(crate) list: Vec<usize>,
+}
+
+impl Model for Depths {
+    ghost use Rattle.pm_statements.specs.Depths as depths;
+
+    ghost Value = { depths.Depths };
+
+    ghost view = { λ d. record { start = d.start; list = d.list.items } };
+}
+
+impl Depths {
+    /// That of a place; 0 where there is none.
+    pub(crate) fn at_place(&self, place: usize) -> usize
+        ensures value { result ≡ depths.at_place self.now place }
+    {
+        let list = &self.list;
+        list.get(place.saturating_sub(self.start))
+            .copied()
+            .unwrap_or(0)
+    }
+}
+
+/// Where a jump leads, if the item is one and the jump table has its entry.
+fn leads_to(entries: &[usize], item: &Item<usize>) -> Option<usize>
+    ensures value { result ≡ depths.leads_to entries.now (placed_item item.now) }
+{
+    match item {
+        Item::Jump(_, Target::To(place)) => Some(*place),
+        Item::Jump(_, Target::Through(k)) => entries.get(usize::from(*k)).copied(),
+        Item::Plain(_, _) | Item::Case { .. } | Item::OneByte(_) => None,
+    }
+}
+
+/// Where a jump leads that is made by a condition.
+fn leads_by_condition(entries: &[usize], item: &Item<usize>) -> Option<usize>
+    ensures value { result ≡ depths.leads_by_condition entries.now (placed_item item.now) }
+{
+    match item {
+        Item::Jump(op, _) if *op != JUMP => leads_to(entries, item),
+        _ => None,
+    }
+}
+
+/// Writes where a loop ends, if the jump before that leads back.
+fn add_loop(loops: &mut Vec<usize>, start: usize, at: usize, end: usize, place: Option<usize>)
+    ensures loops { loops.new.items ≡ depths.with_loop start at end place loops.old.items }
+{
+    let Some(place) = place else {
+        return;
+    };
+    if start <= place && place <= at && place - start < loops.len() {
+        loops[place - start] = end;
+    }
+}
+
+/// For each byte of a procedure's code where the loop ends that begins there, 0 where none does.
+#[tactic(auto, unfolding(crate::specs::Depths::loops_from))]
+fn loops_of(alloc: Global, procedure: &Procedure) -> Result<Depths, AllocError>
+    ensures loops { IfOk result (λ ls. ls ≡ depths.loops (procedure_seen procedure.now)) }
+{
+    let start = procedure.start;
+    let Some(end) = items_end(start, &procedure.items) else {
+        return Err(AllocError);
+    };
+    let mut loops = Vec::new(alloc);
+    loops.resize(end.saturating_sub(start), 0)?;
+    let mut at = start;
+    let items = &procedure.items;
+    for item in items {
+        let next = behind(at, item)?;
+        let place = leads_by_condition(&procedure.entries, item);
+        add_loop(&mut loops, start, at, next, place);
+        at = next;
+    }
+    Ok(Depths { start, list: loops })
+}
+
+/// Adds the depth of so many bytes.
+fn push_depth(depths: &mut Vec<usize>, count: usize, depth: usize) -> Result<(), AllocError>
+    ensures depths { OnOk result (depths.new.items ≡ depths.old.items ++ replicate count depth) }
+{
+    let Some(size) = depths.len().checked_add(count) else {
+        return Err(AllocError);
+    };
+    depths.resize(size, depth)?;
+    Ok(())
+}
+
+/// How deep each byte of a procedure's code stands.
+#[tactic(auto, unfolding(crate::specs::Depths::depths))]
+fn list_of(alloc: Global, procedure: &Procedure) -> Result<Vec<usize>, AllocError>
+    ensures depths { IfOk result (λ ds. ds.items ≡ depths.depths (procedure_seen procedure.now)) }
+{
+    let loops = loops_of(alloc, procedure)?;
+    let mut depths = Vec::new(alloc);
+    let mut ends = Vec::new(alloc);
+    let mut forward = None;
+    let mut at = procedure.start;
+    let items = &procedure.items;
+    for item in items {
+        close_ended(&mut ends, at);
+        open_span(&mut ends, at, forward)?;
+        open_span(&mut ends, at, Some(loops.at_place(at)))?;
+        let next = behind(at, item)?;
+        push_depth(&mut depths, next.saturating_sub(at), ends.len())?;
+        forward = leads_to(&procedure.entries, item);
+        at = next;
+    }
+    Ok(depths)
+}
+
+/// How deep the code of a procedure stands, if that is wanted.
+pub(crate) fn depths_if(
+    alloc: Global,
+    wanted: bool,
+    procedure: &Procedure,
+) -> Result<Depths, AllocError>
+    ensures depths { IfOk result (λ ds. ds ≡ texts.depths_if wanted (procedure_seen procedure.now)) }
+{
+    let list = if wanted {
+        list_of(alloc, procedure)?
+    } else {
+        Vec::new(alloc)
+    };
+    Ok(Depths {
+        start: procedure.start,
+        list,
+    })
+}

@@ -1,0 +1,49 @@
+//! The spans of jumps that are open at a place, each by its end.
+
+ghost use Rattle.std.specs.Prelude.{◌≡◌, reverse, OnOk};
+ghost use Rattle.pm_statements.specs.Depths as depths;
+
+use std::alloc::AllocError;
+
+/// Whether the innermost span ends at a place or before it.
+#[tactic(auto, using(crate::proofs::Ends::reverse_pushed))]
+fn has_ended(ends: &[usize], at: usize) -> bool
+    ensures value { result ≡ depths.has_ended at (reverse ends.now) }
+{
+    match ends.last() {
+        Some(end) => *end <= at,
+        None => false,
+    }
+}
+
+/// Closes the spans that end at a place or before it.
+#[tactic(auto, using(crate::proofs::Spanned::ended_before, crate::proofs::Spanned::none_ended, crate::proofs::Spanned::some_ended))]
+pub(crate) fn close_ended(ends: &mut Vec<usize>, at: usize)
+    ensures ends { reverse ends.new.items ≡ depths.open_at at (reverse ends.old.items) }
+{
+    'spans: while has_ended(ends, at) {
+        ends.truncate(ends.len() - 1);
+    }
+}
+
+/// Opens a span, if there is one, has code, and lies within those that are open.
+#[tactic(auto, using(crate::proofs::Ends::reverse_pushed))]
+pub(crate) fn open_span(
+    ends: &mut Vec<usize>,
+    at: usize,
+    end: Option<usize>,
+) -> Result<(), AllocError>
+    ensures ends { OnOk result (reverse ends.new.items ≡ depths.with_span at end (reverse ends.old.items)) }
+{
+    let Some(end) = end else {
+        return Ok(());
+    };
+    let fits = match ends.last() {
+        Some(outer) => at < end && end <= *outer,
+        None => at < end,
+    };
+    if fits {
+        ends.push(end)?;
+    }
+    Ok(())
+}

@@ -1,7 +1,7 @@
 """debugger.py PMACH: `pmach debug` on a pseudo terminal, where a long run is made in slices of 1,000,000 steps: each answer is the one that the
 program gives for the whole in a pipe, with breakpoints and watched words round the ends of slices, for each of many counts of steps; long answers
-have many lines. Ctrl-C in `go`, `step` and `finish`, after which `on` goes on, and at the prompt, Ctrl-D, `quit`, refusals, signals, and that no
-program and no folder is left behind."""
+have many lines; a command may be begun alone; the system's procedures have names. Ctrl-C in `go`, `step` and `finish`, after which `on` goes on,
+and at the prompt, Ctrl-D, `quit`, refusals, signals, and that no program and no folder is left behind."""
 import glob
 import os
 import pty
@@ -81,8 +81,10 @@ def folded(line, answer):
     """How a terminal shows an answer."""
     word = (line.split(" ") + [""])[0] if line.strip(" ") == line else line.split()[0] if line.split() else ""
     if answer == "?":
-        uses = [usage for usage in piped("LONG", ["help"])[0].split(", ") if usage.split()[0] == word]
-        return "?\n" + ("usage: " + ", ".join(uses) if uses else "help lists the commands")
+        every = piped("LONG", ["help"])[0].split(", ")
+        uses = [usage for usage in every if usage.split()[0] == word]
+        near = [usage for usage in every if word and usage.startswith(word)]
+        return "?\n" + ("usage: " + ", ".join(uses) if uses else "one of: " + ", ".join(near) if near else "help lists the commands")
     if not answer or answer.startswith("refused"):
         return answer
     if word in ("frames", "breaks", "help"):
@@ -162,7 +164,25 @@ told = same("ends, errors and waiting", [("OK", ["go 2000000", "go 2000000"]), (
             ("LONG", ["break 1 1 %d" % offsets[0], *error]), ("CHAT", ["go 4000000000", "go 4000000000", "key 65", "go 2000000"])])
 same("other lines", [("LONG", ["", "?", "step", "finish 1", "watch 1", "go", "go 5000000 5", "GO 5000000", "  go   2000000  ", "*", "r\u00e9gs", "go 5000000\\", "go\t2000000", "help",
       "break 1 1 0", "break 1 2 3", "breaks", "bytes 64960 40", "bytes $FFFF 5", "bytes 5 0", "bytes 0064960 16", "peek 64960 20", "peek 1 1", "peek 65534 9",
-      "list 20", "list 0", "frames 5", "finish 3", "step 5000000000", "on 5", "console", "console on"])])
+      "list 20", "list 0", "frames 5", "finish 3", "step 5000000000", "on 5", "console", "console on", "s 2", "st", "wa", "breakss", "key 10", "breaks"])])
+
+lines = ["go 5000000", "stack 2", "regs", "list 3", "frames 2", "breaks", "step 3000000"]
+short = ["g 5000000", " stac 2", "r", "li 3", "fr 2", "breaks", "step 3000000", "q"]
+shown, status = typed(words + ["LONG"], [line + "\n" for line in short])
+expected = prompted(lines, piped("LONG", lines))
+for line, typing in zip(lines, short):
+    expected = expected.replace("> " + line + "\n", "> " + typing + "\n")
+check("commands that are begun", (shown, status) == (expected + "> q\n", 0), (shown, expected))
+system = os.path.join(os.path.dirname(os.path.realpath(__file__)), "..", "examples/system")
+for name, path in ("SYSTEM", "/system.text"), ("GUESS", "/programs/guess.text"):
+    with open(system + path) as text:
+        made = subprocess.run([program, "asm"], input=text.read().encode(), capture_output=True, check=True)
+    with open(scratch.name + "/" + name, "wb") as code:
+        code.write(made.stdout)
+subprocess.run([program, "files", "--image", image, "put", "GUESS", "code"], input=made.stdout, check=True)
+shown, status = typed(words + ["--system", scratch.name + "/SYSTEM", "GUESS"], ["break 0 19 0\n", "go 1000\n", "where\n", "frames 2\n", "break 0 12 0\n", "quit\n"])
+told = re.findall("^(?:[0-9]+ )?0 19 0 .* ; FWRITESTRING$|^[0-9]+ 1 1 [0-9]+$", shown, re.M)
+check("the names of the system's procedures", status == 0 and len(told) == 2, shown)
 
 lines = ["console on", "go 1400000", "console 200", "console off", "go 2000000"]
 answers = piped("CHAT", lines)

@@ -108,14 +108,54 @@ instructions='{
 }'
 members='{ gsub(", ", "\n"); print }'
 
-# What may be wrong with a line whose first word this is: by `help`, how the command is used.
+# What may be wrong with a line whose first word this is: by `help`, how the command is used, or which ones begin so.
 usage='{
     for (k = split($0, usage, ", "); k > 0; k--) {
         split(usage[k], words, " ")
         if (words[1] == word) text = usage[k] (text == "" ? "" : ", ") text
+        if (word != "" && index(words[1], word) == 1) near = usage[k] (near == "" ? "" : ", ") near
     }
-    print (text == "" ? "help lists the commands" : "usage: " text)
+    print (text != "" ? "usage: " text : near != "" ? "one of: " near : "help lists the commands")
 }'
+
+# The words of the commands, by `help`, once each.
+words_of='{
+    parts = split($0, usage, ", ")
+    for (k = 1; k <= parts; k++) {
+        split(usage[k], words, " ")
+        if (!(words[1] in known)) printf "%s ", words[1]
+        known[words[1]] = 1
+    }
+}'
+
+# The command of a word: that which alone begins with it, else the word itself.
+expand() {
+    full=$1 found=0 candidate=''
+    for name in $commands; do
+        case $name in
+            "$1") return ;;
+            "$1"*) found=$((found + 1)) candidate=$name ;;
+        esac
+    done
+    [ "$found" != 1 ] || full=$candidate
+}
+
+# The names of the procedures of segment 0, each behind its number, as `dis --names` writes them behind calls of them.
+names() {
+    awk 'BEGIN {
+        print ".SEG 1 NAMES\n.PROC 1 0 0 0"
+        for (n = 0; n < 128; n++) print "CXP 0, " n
+        print ".EXIT\nRBP 0\n.END"
+    }' | "$program" asm | "$program" dis --names | awk '$1 == "CXP" && $4 == ";" { printf "%s %s ", $3, $5 }'
+}
+
+# Lines in which a segment, a procedure and an offset stand from this word on, with the name of a procedure of segment 0.
+named='BEGIN { for (n = split(names, part, " "); n > 1; n -= 2) name[part[n - 1]] = part[n] }
+{ print $0 ($at == "0" && ($(at + 1) in name) ? " ; " name[$(at + 1)] : "") }'
+show_named() {
+    [ -n "$system" ] || system=$(names 2>/dev/null)
+    awk -v at="$1" -v names="$system" "$named"
+}
 
 # An address in decimal digits.
 number() {
@@ -131,24 +171,30 @@ show() {
         bytes,??' '*) printf '%s\n' "$answer" | awk -v at="$(number "$2")" "$bytes" ;;
         peek,[0-9]*) printf '%s\n' "$answer" | awk -v at="$(number "$2")" "$words" ;;
         list,[0-9]*) printf '%s\n' "$answer" | awk "$instructions" ;;
-        frames,[0-9]* | breaks,[0-9]* | help,[a-z]*) printf '%s\n' "$answer" | awk "$members" ;;
-        *,'?') echo '?' && ask help && printf '%s\n' "$answer" | awk -v word="${1-}" "$usage" ;;
+        where,[0-9]*) printf '%s\n' "$answer" | show_named 1 ;;
+        frames,[0-9]*) printf '%s\n' "$answer" | awk "$members" | show_named 2 ;;
+        breaks,[0-9]* | help,[a-z]*) printf '%s\n' "$answer" | awk "$members" ;;
+        *,'?') echo '?' && printf '%s\n' "$usages" | awk -v word="${1-}" "$usage" ;;
         *) printf '%s\n' "$answer" ;;
     esac
 }
 
 # Answers a line. Fails where the program has ended.
 answer_line() {
+    set -- $line
+    expand "${1-}"
+    line=$full${line#*"${1-}"}
     if is_long $line; then run $line; else ask "$line"; fi || return
     show $line
 }
 
-# Whether the program has begun: then it answers an empty line by `?`. What it says in place of that is shown.
+# Whether the program has begun: then it answers `help`. What it says in place of that is shown.
 has_begun() {
-    ask '' || return
-    [ "$answer" != '?' ] || return 0
-    printf '%s\n' "$answer"
-    return 1
+    ask help || return
+    case $answer in
+        'break '*) usages=$answer commands=$(printf '%s\n' "$answer" | awk "$words_of") ;;
+        *) printf '%s\n' "$answer" && return 1 ;;
+    esac
 }
 
 # Ends the program where it has not ended, and leaves no folder.
@@ -169,7 +215,7 @@ start() {
 }
 
 # The debugger from its start to its end. Before the first prompt Ctrl-C ends it with 130.
-program=$1 folder='' process='' interrupts=0 more=yes IFS=' '
+program=$1 folder='' process='' system='' interrupts=0 more=yes IFS=' '
 shift
 set -f
 trap leave EXIT

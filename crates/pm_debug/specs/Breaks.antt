@@ -29,6 +29,14 @@ with_break b breaks =
 unfoldable pub without_break : CodePlace → List CodePlace → Result (List CodePlace) DebugRefusal
 without_break b breaks = if is_set b breaks then Ok (filter (λ c. not (is_same b c)) breaks) else Err NotSet
 
+abbrev pub is_that : CodePlace → Option CodePlace → Bool
+is_that b None = false
+is_that b (Some here) = is_same b here
+
+-- the machine stands at this place
+abbrev pub stands_at : CodePlace → State → Bool
+stands_at b s = is_that b (place_in_code s)
+
 abbrev pub is_one_of : Option CodePlace → List CodePlace → Bool
 is_one_of None breaks = false
 is_one_of (Some b) breaks = is_set b breaks

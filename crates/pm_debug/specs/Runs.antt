@@ -18,7 +18,7 @@ use Rattle.pm_debug.specs.declared.run.Depth.TheVariants as depths
 use Rattle.pm_debug.specs.declared.run.LastRun.{LastRun}
 use Rattle.pm_debug.specs.declared.run.LastRun.TheVariants as last
 use Rattle.pm_debug.specs.declared.watches.WatchedWord.{WatchedWord}
-use Rattle.pm_debug.specs.Breaks.{is_at_break}
+use Rattle.pm_debug.specs.Breaks.{is_at_break, stands_at}
 use Rattle.pm_debug.specs.Watches.{first_changed, has_changed, watched_words}
 
 -- ---- what stops a run
@@ -113,6 +113,7 @@ abbrev pub is_there : Depth → State → Bool
 is_there depths.Any s = nowhere s
 is_there (depths.Back frame) s = is_back frame s
 is_there (depths.Left frame) s = has_left frame s
+is_there (depths.Place place) s = stands_at place s
 
 -- the most steps of such a run
 abbrev pub most_steps : ℕ
@@ -125,6 +126,10 @@ gone_over breaks watches limit s = gone_to breaks watches (is_back s.registers.m
 -- all of the running procedure that is left, with its return
 abbrev pub gone_out : List CodePlace → List ℕ → ℕ → State → Gone
 gone_out breaks watches limit s = gone_to breaks watches (has_left s.registers.mp) limit s
+
+-- up to this place, before the instruction there
+abbrev pub gone_until : List CodePlace → List ℕ → CodePlace → ℕ → State → Gone
+gone_until breaks watches place limit s = gone_to breaks watches (stands_at place) limit s
 
 -- ---- runs that go on
 

@@ -1,7 +1,7 @@
 //! Breakpoints: places in the code before which a run stops.
 
 ghost use Rattle.std.specs.Prelude.{◌≡◌, Ok, IfErr, OnOk, OnErr, Err};
-ghost use Rattle.pm_debug.specs.Breaks.{is_at_break, is_same, is_set};
+ghost use Rattle.pm_debug.specs.Breaks.{is_at_break, is_same, is_set, stands_at};
 ghost use Rattle.pm_debug.specs.Breaks.{with_break, without_break};
 
 use crate::refusal::DebugRefusal;
@@ -56,6 +56,16 @@ pub(crate) fn clear(breaks: &mut Breaks, old: CodePlace) -> Result<(), DebugRefu
     }
     breaks.retain(|known| !is_same(old, *known));
     Ok(())
+}
+
+/// Whether a machine stands at a place in the code.
+pub(crate) fn stands_at(machine: &Machine, place: CodePlace) -> bool
+    ensures stands { result ≡ stands_at place machine.now.state }
+{
+    match place_in_code(machine) {
+        Some(here) => is_same(place, here),
+        None => false,
+    }
 }
 
 /// Whether a machine stands at a breakpoint.

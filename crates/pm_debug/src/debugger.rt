@@ -3,13 +3,14 @@
 ghost use Rattle.std.specs.Prelude.{◌≡◌, ◌<◌, ◌≤◌, ◌+◌, Some, [], false, Ok, Err, IfOk, IfErr, OnOk, OnErr};
 ghost use Rattle.std.specs.Borrow.{sem};
 ghost use Rattle.pm_debug.specs.Ahead.{addresses_ahead};
-ghost use Rattle.pm_debug.specs.Breaks.{with_break, without_break};
+ghost use Rattle.pm_debug.specs.Breaks.{stands_at, with_break, without_break};
 ghost use Rattle.pm_machine.specs.CodePlaces.{code_place, place_in_code};
 ghost use Rattle.pm_debug.specs.Frames.{frames};
 ghost use Rattle.pm_debug.specs.Lending.{LendsMachine};
 ghost use Rattle.pm_debug.specs.Session.{StopsShort};
 ghost use Rattle.pm_debug.specs.Refusals.{or_refused};
-ghost use Rattle.pm_debug.specs.Runs.{gone, gone_on, gone_out, gone_over, gone_to, has_left, is_back, is_there};
+ghost use Rattle.pm_debug.specs.Runs.{gone, gone_on, gone_out, gone_over, gone_to, gone_until};
+ghost use Rattle.pm_debug.specs.Runs.{has_left, is_back, is_there};
 ghost use Rattle.pm_debug.specs.Runs.{left_after, left_on, nowhere, stops_after};
 ghost use Rattle.pm_debug.specs.Runs.Left.{Nothing};
 ghost use Rattle.pm_debug.specs.declared.run.Depth.TheVariants.{Any, Back};
@@ -274,6 +275,36 @@ impl Debugger {
     {
         let depth = Depth::Left(self.machine.registers().mp);
         self.run_to(depth, limit)
+    }
+
+    /// Makes steps until the machine stands at a place in the code, before the instruction there: a segment,
+    /// a procedure and an offset, as of a breakpoint. It is not looked for before the first step. It stops
+    /// as `go` does as well, and after so many steps.
+    pub fn until(
+        &mut self,
+        segment: u8,
+        procedure: u8,
+        offset: u16,
+        limit: u64,
+    ) -> Result<(u64, BreakReason), AllocError>
+        ensures breaks { self.new.breaks ≡ self.old.breaks }
+        ensures watches { self.new.watches ≡ self.old.watches }
+        ensures shows { self.new.shows_console ≡ self.old.shows_console }
+        ensures gone { IfOk result (λ r. gone_until self.old.breaks self.old.watches
+            (code_place segment procedure offset) limit self.old.machine.state
+            ≡ record { steps = r.0; reason = r.1; machine = self.new.machine.state }) }
+        ensures left { IfOk result (λ r. self.new.left ≡ left_after
+            (depths.Place (code_place segment procedure offset)) self.old.watches self.old.machine.state r.0 r.1) }
+        ensures err { OnErr result (GaveUp (stops_after self.old.breaks self.old.watches
+            (stands_at (code_place segment procedure offset)) self.old.machine.state)
+            limit self.old.machine self.new.machine) }
+    {
+        let place = CodePlace {
+            segment,
+            procedure,
+            offset,
+        };
+        self.run_to(Depth::Place(place), limit)
     }
 
     /// Goes on with the last run, where its limit stopped it, for at most `limit` steps more, as if it had

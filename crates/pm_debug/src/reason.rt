@@ -9,8 +9,8 @@ pub enum BreakReason {
     Changed(u16),
     /// A breakpoint matches: the machine stands before the instruction there.
     Break,
-    /// The machine stands where a run over calls is to stop: the instruction is done, or the
-    /// procedure has returned.
+    /// The machine stands where the run is to stop: the instruction is done, the procedure has
+    /// returned, or the place is reached.
     There,
     /// The limit of the steps is reached.
     Limit,

@@ -1,4 +1,4 @@
-//! Runs to a breakpoint, to a watched word that has changed, or to a depth of calls.
+//! Runs to a breakpoint, to a watched word that has changed, to a depth of calls, or to a place in the code.
 
 ghost use Rattle.std.specs.Prelude.{◌≡◌, ◌+◌, ◌≤◌, List, IfOk, OnErr};
 ghost use Rattle.pm_machine.specs.Runs.{GaveUp};
@@ -7,13 +7,13 @@ ghost use Rattle.pm_debug.specs.Runs.{left_seen, left_so, stops_at};
 ghost use Rattle.pm_debug.specs.declared.watches.WatchedWord.{WatchedWord};
 ghost use Rattle.pm_debug.specs.Watches.{has_changed};
 
-use crate::breaks::is_at_break;
+use crate::breaks::{is_at_break, stands_at};
 use crate::reason::BreakReason;
 use crate::watches::{WatchedWord, first_changed};
 use pm_machine::{CodePlace, Machine, RunEnd, Status, Stop, StopTest};
 use std::alloc::AllocError;
 
-/// How far a run goes from a frame.
+/// How far a run goes from a frame, or to which place.
 #[derive(Clone, Copy)]
 pub(crate) enum Depth {
     /// To no depth: as far as its limit.
@@ -22,6 +22,8 @@ pub(crate) enum Depth {
     Back(u16),
     /// Until the frame at this address is left.
     Left(u16),
+    /// Until the machine stands at this place in the code.
+    Place(CodePlace),
 }
 
 /// What came of the last run.
@@ -42,6 +44,7 @@ fn is_there(machine: &Machine, depth: Depth) -> bool
         Depth::Any => false,
         Depth::Back(frame) => frame <= mp,
         Depth::Left(frame) => frame < mp,
+        Depth::Place(place) => stands_at(machine, place),
     }
 }
 

@@ -1,6 +1,6 @@
 """statements.py FILE.. | --random SEED COUNT | --damaged SEED COUNT FILE..: the statements of `pmach dis --statements`, read back by the page (docs/STATEMENTS.md) alone,
 are the instructions of `pmach dis`, procedure by procedure, each once and in order; and the heading of each procedure says what its table and its
-returns say.
+returns say; and `dis --indent` is that text with the blanks of the page.
 
 FILE is a code file. With --random so many programs are made, of single instructions and of whole expressions, by turns; with --damaged up to
 eight bytes of a file are others, so often. By hand; no part of the gate. PMACH names another program than ./pmach."""
@@ -419,6 +419,45 @@ def back(line, names):
     return code
 
 
+def depths(lines, entries, end):
+    """How deep each statement of a procedure stands, by the page: the spans in the order in which they begin, each if it lies within those that
+    count and go on there. The lines are offsets and texts, the entries places, and the end is where the code ends."""
+    spans, loops = [], {}
+    for k, (at, text) in enumerate(lines):
+        behind = lines[k + 1][0] if k + 1 < len(lines) else end
+        m = re.search(r"(^|IF .* )GOTO (?:L(\d{5})|\^(\d+))$", text)
+        if not m or (m[3] and int(m[3]) >= len(entries)):
+            continue
+        place = int(m[2]) if m[2] else entries[int(m[3])]
+        if place > behind:
+            spans.append((behind, 0, place))
+        elif m[1] and place <= at:
+            loops[place] = behind
+    spans += [(place, 1, behind) for place, behind in loops.items()]
+    counted = []
+    for begin, _, end in sorted(spans):
+        if begin in {at for at, _ in lines} and all(end <= other[1] for other in counted if other[0] <= begin < other[1]):
+            counted.append((begin, end))
+    return [min(30, sum(begin <= at < end for begin, end in counted)) for at, _ in lines]
+
+
+def indented(text, flat, places):
+    """How many procedures of the text of `dis --indent` are not that of `dis --statements` with the depths of the page."""
+    bad = 0 if re.sub(r"(?m)^(\d{5} ) *", r"\1", text) == flat else 1
+    for code in re.split(r"(?m)^(?=PROCEDURE )", text)[1:]:
+        m = re.match(r"PROCEDURE (\d+) OF SEGMENT (\d+): level", code)
+        if not m:
+            continue
+        shown = [(int(l[1]), l[2], l[3]) for l in re.finditer(r"(?m)^(\d{5}) ( *)(.*)$", code)]
+        labels = [int(l) for l in re.findall(r"(?m)^L(\d{5}):$", code)]
+        lines = [(at, re.sub(r" IOCHECK$", "", line)) for at, _, line in shown]
+        end = max(labels) if labels and lines and max(labels) > lines[-1][0] else 1 << 30
+        if [len(blanks) for _, blanks, _ in shown] != [2 * d for d in depths(lines, places[m[2], m[1]], end)]:
+            bad += 1
+            print("depths of procedure %s of segment %s" % m.groups())
+    return bad
+
+
 def compared(data, told):
     """How many statements of a code file are read back, and how many are not."""
     status, text = run(["dis"], data)
@@ -429,7 +468,7 @@ def compared(data, told):
         m = re.match(r"  (CSP \d+|CXP 0, \d+) ; (.*)$", line)
         if m:
             names[{"load a segment": "LOADSEGMENT", "unload a segment": "UNLOADSEGMENT"}.get(m[2], m[2])] = m[1]
-    wanted, segment, sizes = {}, None, {}
+    wanted, segment, sizes, places = {}, None, {}, {}
     for line in text.split("\n"):
         if line.startswith(".SEG"):
             segment = line.split()[1]
@@ -437,11 +476,15 @@ def compared(data, told):
             key = (segment, line.split()[1])
             key = (*key, sum(k[:2] == key for k in wanted))
             wanted[key] = []
+            places[key[:2]] = []
             sizes[key] = [int(word) for word in line.split()[2:5]]
+        elif line.startswith(".JUMP "):
+            places[key[:2]].append(int(line[7:]))
         elif line.startswith("  "):
             wanted[key].append(line[2:])
     shown, key, headings = {}, None, {}
-    for line in run(["dis", "--statements"], data)[1].split("\n"):
+    flat = run(["dis", "--statements"], data)[1]
+    for line in flat.split("\n"):
         m = re.fullmatch(r"PROCEDURE (\d+) OF SEGMENT (\d+): level (-?\d+), (\d+) bytes of parameters, (\d+) of locals(?:, (\d+) of result)?", line)
         if m:
             key = (m[2], m[1])
@@ -453,7 +496,7 @@ def compared(data, told):
     if wanted.keys() != shown.keys():
         print("procedures differ: %s" % (wanted.keys() ^ shown.keys()))
         return 0, 1
-    good = bad = 0
+    good, bad = 0, indented(run(["dis", "--indent"], data)[1], flat, places)
     for key, heading in headings.items():
         returned = {int(code.split()[1]) for code in wanted[key] if code[:4] in ("RNP ", "RBP ")}
         if heading != sizes[key] + [2 * returned.pop() if len(returned) == 1 else None]:

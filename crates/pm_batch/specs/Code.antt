@@ -5,7 +5,7 @@ use Rattle.pm_codefile.specs.declared.fault.CodeFault.{CodeFault}
 use Rattle.pm_disasm.specs.Listing.{file_listing}
 use Rattle.pm_disasm.specs.Shown.{file_text}
 use Rattle.pm_notes.specs.Lines.{with_names}
-use Rattle.pm_statements.specs.Files.{file_statements}
+use Rattle.pm_statements.specs.Files.{file_statements, indented_statements}
 use Rattle.pm_batch.specs.declared.refusal.Refusal.TheVariants as refusals
 use Rattle.pm_batch.specs.Products.{Product, Written, Refused}
 
@@ -41,3 +41,11 @@ made_statements (Some fault) file = Refused (refusals.Code fault)
 
 abbrev pub made_dis_statements : List ℕ → Product
 made_dis_statements input = made_statements (file_fault input) input
+
+-- the same behind blanks
+abbrev pub made_indented : Option CodeFault → List ℕ → Product
+made_indented None file = Written (indented_statements file)
+made_indented (Some fault) file = Refused (refusals.Code fault)
+
+abbrev pub made_dis_indented : List ℕ → Product
+made_dis_indented input = made_indented (file_fault input) input

@@ -1,6 +1,7 @@
 //! The jobs on a code file.
 ghost use Rattle.std.specs.Prelude.{◌≡◌, IfOk};
 ghost use Rattle.pm_batch.specs.Code.{made_dis, made_dis_list, made_dis_names, made_dis_statements};
+ghost use Rattle.pm_batch.specs.Code.{made_dis_indented};
 ghost use Rattle.pm_batch.specs.Products.{product_of};
 
 use crate::batch::Made;
@@ -54,5 +55,17 @@ pub(crate) fn state_file(alloc: Global, input: &[u8]) -> Result<Made, AllocError
         Err(reason) => return Ok(Made::Refused(Refusal::Code(reason), None)),
     };
     let statements = pm_statements::file(alloc, &file)?;
+    Ok(Made::Bytes(statements.into_bytes()))
+}
+
+/// The statements of the code file that the input is, each behind blanks by how deep it stands.
+pub(crate) fn indent_file(alloc: Global, input: &[u8]) -> Result<Made, AllocError>
+    ensures made { IfOk result (λ made. product_of made ≡ made_dis_indented input.now) }
+{
+    let file = match CodeFile::read(input) {
+        Ok(file) => file,
+        Err(reason) => return Ok(Made::Refused(Refusal::Code(reason), None)),
+    };
+    let statements = pm_statements::indented_file(alloc, &file)?;
     Ok(Made::Bytes(statements.into_bytes()))
 }

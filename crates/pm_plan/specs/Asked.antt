@@ -245,14 +245,19 @@ IsAsm true false true what = ⊥
 IsAsm false true true what = ⊥
 
 -- what dis writes, whether or not the words say `--names`, `--list` and `--statements`, of which one alone may stand
-abbrev pub IsDis : Bool → Bool → Bool → DisOutput → Type 0
-IsDis false false false what = what ≡ dis.Text
-IsDis true false false what = what ≡ dis.Names
-IsDis false true false what = what ≡ dis.Listing
-IsDis false false true what = what ≡ dis.Statements
-IsDis true true statements what = ⊥
-IsDis true false true what = ⊥
-IsDis false true true what = ⊥
+abbrev pub IsUnindented : Bool → Bool → Bool → DisOutput → Type 0
+IsUnindented false false false what = what ≡ dis.Text
+IsUnindented true false false what = what ≡ dis.Names
+IsUnindented false true false what = what ≡ dis.Listing
+IsUnindented false false true what = what ≡ dis.Statements
+IsUnindented true true statements what = ⊥
+IsUnindented true false true what = ⊥
+IsUnindented false true true what = ⊥
+
+-- and whether or not they say `--indent`, beside which `--statements` alone may stand
+abbrev pub IsDis : Bool → Bool → Bool → Bool → DisOutput → Type 0
+IsDis names list statements false what = IsUnindented names list statements what
+IsDis names list statements true what = (names ≡ false) × (list ≡ false) × (what ≡ dis.Indented)
 
 -- ---- all words
 
@@ -265,7 +270,7 @@ Asks command m (plans.Asm what) = (command ≡ codes "asm") × IsAsm (is_set (wo
     (is_set (word_found (words_of m) (codes "list"))) (is_set (word_found (words_of m) (codes "symbols"))) what
 Asks command m (plans.Dis what) = (command ≡ codes "dis")
     × IsDis (is_set (word_found (words_of m) (codes "names"))) (is_set (word_found (words_of m) (codes "list")))
-    (is_set (word_found (words_of m) (codes "statements"))) what
+    (is_set (word_found (words_of m) (codes "statements"))) (is_set (word_found (words_of m) (codes "indent"))) what
 Asks command m (plans.Files plan) = (command ≡ codes "files") × AsksFiles m plan
 Asks command m (plans.Run program choices) =
     (command ≡ codes "run") × AsksProgram (words_of m) program × AsksChoices (words_of m) choices

@@ -143,7 +143,8 @@ asm_needs = (codes "all", NotBeside (codes "list")) ∷ (codes "symbols", NotBes
 -- what dis needs
 abbrev pub dis_needs : List (List ℕ × Need)
 dis_needs = (codes "list", NotBeside (codes "names")) ∷ (codes "statements", NotBeside (codes "names"))
-    ∷ (codes "statements", NotBeside (codes "list")) ∷ []
+    ∷ (codes "statements", NotBeside (codes "list")) ∷ (codes "indent", NotBeside (codes "names"))
+    ∷ (codes "indent", NotBeside (codes "list")) ∷ []
 
 -- what the commands need but `files`; what is no command has none
 abbrev pub command_needs : List ℕ → Option (List (List ℕ × Need))

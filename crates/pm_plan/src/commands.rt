@@ -390,10 +390,16 @@ const STATEMENTS: WordRow = (
     "Writes the code as statements, in the terms of Pascal; not beside --names or --list",
 );
 
+const INDENT: WordRow = (
+    "indent",
+    Form::Flag,
+    "Writes the code as statements, each behind two blanks for each jump around it; not beside --names or --list",
+);
+
 const DIS: CommandRow = (
     "dis",
     "Writes the text of the code file that standard input is: its segments, procedures and items",
-    &[NAMES, OWN_LISTING, STATEMENTS],
+    &[NAMES, OWN_LISTING, STATEMENTS, INDENT],
 );
 
 const LIST: WordRow = (

@@ -229,12 +229,19 @@ fn asm_asked(matches: &ArgMatches<'_>) -> Result<Plan, WordsError>
     }
 }
 
-/// What the words of `dis` ask for. Refused where they ask for more than one of names, the listing and statements.
+/// What the words of `dis` ask for. Refused where they ask for more than one of names, the listing and statements, as
+/// which those behind blanks count.
 fn dis_asked(matches: &ArgMatches<'_>) -> Result<Plan, WordsError>
     ensures asked { IfOk result (λ plan. Asks (codes "dis") matches.now plan) }
     ensures good { IsOk result ↔ MeetEach (words_of matches.now) dis_needs }
     ensures refused { IfErr result IsWrong }
 {
+    if is_set(matches, "indent") {
+        if is_set(matches, "names") || is_set(matches, "list") {
+            return Err(WordsError::Wrong("--indent does not stand beside --names or --list"));
+        }
+        return Ok(Plan::Dis(DisOutput::Indented));
+    }
     let statements = is_set(matches, "statements");
     match (
         is_set(matches, "names"),

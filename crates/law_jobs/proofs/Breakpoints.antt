@@ -16,10 +16,10 @@ use Rattle.pm_debug.specs.declared.refusal.DebugRefusal.TheVariants.{Full}
 use Rattle.pm_debug.specs.Breaks.{is_same, is_set, with_break, without_break}
 use Rattle.pm_debug.specs.Session.{Session}
 use Rattle.pm_debug.specs.Watches.{is_watched, with_watch, without_watch}
-use Rattle.pm_session.specs.declared.commands.Command.{Command}
 use Rattle.pm_session.specs.declared.commands.Command.TheVariants as commands
-use Rattle.pm_session.specs.Answers.{after_command, session_after, with_breaks, with_watches}
-use Rattle.pm_session.specs.Commands.{command_of}
+use Rattle.pm_session.specs.Answers.{after_command, after_keys, session_after, with_breaks, with_watches}
+use Rattle.pm_session.specs.Orders.{Order, order_of}
+use Rattle.pm_session.specs.Orders.Order.{Does, Types}
 use Rattle.law_jobs.specs.Breakpoints.{BreakSetsOne, BreaksStay, ClearTakesOne, UnwatchTakesOne, WatchAddsOne, WatchesStay, is_of_breaks, is_of_watches}
 use Rattle.law_jobs.specs.Console.{after_lines}
 
@@ -33,47 +33,61 @@ broken_so : (d : Session) (r : Result (List CodePlace) DebugRefusal) → (with_b
 broken_so d (Ok breaks) = refl
 broken_so d (Err refusal) = refl
 
-breaks_stay_once : (command : Option Command) (d : Session) → is_of_breaks command ≡ false → (session_after command d).breaks ≡ d.breaks
+typed_breaks : (bytes : List ℕ) (d : Session) → (after_keys bytes d).breaks ≡ d.breaks
+unfolding after_command
+typed_breaks [] d = refl
+typed_breaks (b ∷ bytes) d = typed_breaks bytes (after_command (commands.Key b) d)
+
+breaks_stay_once : (command : Option Order) (d : Session) → is_of_breaks command ≡ false → (session_after command d).breaks ≡ d.breaks
 unfolding after_command
 breaks_stay_once None d other = refl
-breaks_stay_once (Some (commands.Break s p o)) d other = absurd (cc)
-breaks_stay_once (Some (commands.Clear s p o)) d other = absurd (cc)
-breaks_stay_once (Some (commands.Watch a)) d other = watched_so d (with_watch a d.watches)
-breaks_stay_once (Some (commands.Unwatch a)) d other = watched_so d (without_watch a d.watches)
-breaks_stay_once (Some (commands.Poke a w)) d other = refl
-breaks_stay_once (Some (commands.Key b)) d other = refl
-breaks_stay_once (Some (commands.ShowConsole shows)) d other = refl
-breaks_stay_once (Some (commands.Go n)) d other = refl
-breaks_stay_once (Some (commands.Step n)) d other = refl
-breaks_stay_once (Some (commands.Finish n)) d other = refl
-breaks_stay_once (Some (commands.On n)) d other = refl
-breaks_stay_once (Some command) d other = refl
+breaks_stay_once (Some (Does (commands.Break s p o))) d other = absurd (cc)
+breaks_stay_once (Some (Does (commands.Clear s p o))) d other = absurd (cc)
+breaks_stay_once (Some (Does (commands.Watch a))) d other = watched_so d (with_watch a d.watches)
+breaks_stay_once (Some (Does (commands.Unwatch a))) d other = watched_so d (without_watch a d.watches)
+breaks_stay_once (Some (Does (commands.Poke a w))) d other = refl
+breaks_stay_once (Some (Does (commands.Key b))) d other = refl
+breaks_stay_once (Some (Does (commands.ShowConsole shows))) d other = refl
+breaks_stay_once (Some (Does (commands.Go n))) d other = refl
+breaks_stay_once (Some (Does (commands.Step n))) d other = refl
+breaks_stay_once (Some (Does (commands.Finish n))) d other = refl
+breaks_stay_once (Some (Does (commands.Until s p o n))) d other = refl
+breaks_stay_once (Some (Does (commands.On n))) d other = refl
+breaks_stay_once (Some (Does command)) d other = refl
+breaks_stay_once (Some (Types bytes)) d other = typed_breaks bytes d
 
-watches_stay_once : (command : Option Command) (d : Session) → is_of_watches command ≡ false → (session_after command d).watches ≡ d.watches
+typed_watches : (bytes : List ℕ) (d : Session) → (after_keys bytes d).watches ≡ d.watches
+unfolding after_command
+typed_watches [] d = refl
+typed_watches (b ∷ bytes) d = typed_watches bytes (after_command (commands.Key b) d)
+
+watches_stay_once : (command : Option Order) (d : Session) → is_of_watches command ≡ false → (session_after command d).watches ≡ d.watches
 unfolding after_command
 watches_stay_once None d other = refl
-watches_stay_once (Some (commands.Break s p o)) d other = broken_so d (with_break (code_place s p o) d.breaks)
-watches_stay_once (Some (commands.Clear s p o)) d other = broken_so d (without_break (code_place s p o) d.breaks)
-watches_stay_once (Some (commands.Watch a)) d other = absurd (cc)
-watches_stay_once (Some (commands.Unwatch a)) d other = absurd (cc)
-watches_stay_once (Some (commands.Poke a w)) d other = refl
-watches_stay_once (Some (commands.Key b)) d other = refl
-watches_stay_once (Some (commands.ShowConsole shows)) d other = refl
-watches_stay_once (Some (commands.Go n)) d other = refl
-watches_stay_once (Some (commands.Step n)) d other = refl
-watches_stay_once (Some (commands.Finish n)) d other = refl
-watches_stay_once (Some (commands.On n)) d other = refl
-watches_stay_once (Some command) d other = refl
+watches_stay_once (Some (Does (commands.Break s p o))) d other = broken_so d (with_break (code_place s p o) d.breaks)
+watches_stay_once (Some (Does (commands.Clear s p o))) d other = broken_so d (without_break (code_place s p o) d.breaks)
+watches_stay_once (Some (Does (commands.Watch a))) d other = absurd (cc)
+watches_stay_once (Some (Does (commands.Unwatch a))) d other = absurd (cc)
+watches_stay_once (Some (Does (commands.Poke a w))) d other = refl
+watches_stay_once (Some (Does (commands.Key b))) d other = refl
+watches_stay_once (Some (Does (commands.ShowConsole shows))) d other = refl
+watches_stay_once (Some (Does (commands.Go n))) d other = refl
+watches_stay_once (Some (Does (commands.Step n))) d other = refl
+watches_stay_once (Some (Does (commands.Finish n))) d other = refl
+watches_stay_once (Some (Does (commands.Until s p o n))) d other = refl
+watches_stay_once (Some (Does (commands.On n))) d other = refl
+watches_stay_once (Some (Does command)) d other = refl
+watches_stay_once (Some (Types bytes)) d other = typed_watches bytes d
 
 pub breaks_stay : BreaksStay
 breaks_stay [] d none = refl
 breaks_stay (line ∷ lines) d none =
-    breaks_stay lines (session_after (command_of line) d) none.1 ∙ breaks_stay_once (command_of line) d none.0
+    breaks_stay lines (session_after (order_of line) d) none.1 ∙ breaks_stay_once (order_of line) d none.0
 
 pub watches_stay : WatchesStay
 watches_stay [] d none = refl
 watches_stay (line ∷ lines) d none =
-    watches_stay lines (session_after (command_of line) d) none.1 ∙ watches_stay_once (command_of line) d none.0
+    watches_stay lines (session_after (order_of line) d) none.1 ∙ watches_stay_once (order_of line) d none.0
 
 -- ---- one more and one less, of any values with a test of being the same
 
@@ -154,7 +168,7 @@ break_sets_one s p o d place few = go (is_set (code_place s p o) d.breaks) refl
     room = grind (arith, nat_tests)
 
     go : (b : Bool) → is_set (code_place s p o) d.breaks ≡ b
-        → is_set place (session_after (Some (commands.Break s p o)) d).breaks ≡ (is_same place (code_place s p o) || is_set place d.breaks)
+        → is_set place (session_after (Some (Does (commands.Break s p o))) d).breaks ≡ (is_same place (code_place s p o) || is_set place d.breaks)
     go true has = rw has (there is_same same_places place (code_place s p o) d.breaks has)
     go false has = rw has (rw room (one_more is_same same_places place (code_place s p o) d.breaks))
 
@@ -163,7 +177,7 @@ unfolding after_command without_break
 clear_takes_one s p o d place = go (is_set (code_place s p o) d.breaks) refl
   where
     go : (b : Bool) → is_set (code_place s p o) d.breaks ≡ b
-        → is_set place (session_after (Some (commands.Clear s p o)) d).breaks ≡ (not (is_same place (code_place s p o)) && is_set place d.breaks)
+        → is_set place (session_after (Some (Does (commands.Clear s p o))) d).breaks ≡ (not (is_same place (code_place s p o)) && is_set place d.breaks)
     go true has = rw has (one_less is_same same_places place (code_place s p o) d.breaks)
     go false has = rw has (missing is_same same_places place (code_place s p o) d.breaks has)
 
@@ -194,6 +208,6 @@ unfolding after_command without_watch
 unwatch_takes_one a d address = go (is_watched a d.watches) refl
   where
     go : (b : Bool) → is_watched a d.watches ≡ b
-        → is_watched address (session_after (Some (commands.Unwatch a)) d).watches ≡ (not (a == address) && is_watched address d.watches)
+        → is_watched address (session_after (Some (Does (commands.Unwatch a))) d).watches ≡ (not (a == address) && is_watched address d.watches)
     go true has = rw has (one_less (λ a b. b == a) same_addresses address a d.watches)
     go false has = rw has (missing (λ a b. b == a) same_addresses address a d.watches has)

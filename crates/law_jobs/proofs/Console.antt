@@ -12,16 +12,16 @@ use Rattle.pm_debug.specs.Breaks.{with_break, without_break}
 use Rattle.pm_machine.specs.CodePlaces.{code_place}
 use Rattle.pm_debug.specs.Session.{Session}
 use Rattle.pm_debug.specs.Watches.{with_watch, without_watch}
-use Rattle.pm_session.specs.declared.commands.Command.{Command}
 use Rattle.pm_session.specs.declared.commands.Command.TheVariants as commands
-use Rattle.pm_session.specs.Answers.{after_command, answer_text, session_after, with_breaks, with_watches}
-use Rattle.pm_session.specs.Commands.{command_of}
+use Rattle.pm_session.specs.Answers.{after_command, after_keys, answer_text, session_after, with_breaks, with_watches}
+use Rattle.pm_session.specs.Orders.{Order, order_of}
+use Rattle.pm_session.specs.Orders.Order.{Does, Types}
 use Rattle.pm_session.specs.Sessions.{answers, console_added, console_line, is_quit, with_feed}
 use Rattle.law_jobs.specs.Console.{ConsoleIsShown, stays_on, written_by}
 use Rattle.law_jobs.proofs.Shown.{command_made}
 
 -- the console after a command is that before it, and behind it what is shown
-written : (command : Option Command) (d : Session)
+written : (command : Option Order) (d : Session)
     → (session_after command d).machine.devices.console ≡ d.machine.devices.console ++ console_added command d
 written command d =
     let made = command_made command d in
@@ -41,24 +41,31 @@ watches_keep : (d : Session) (r : Result (List ℕ) DebugRefusal) → (with_watc
 watches_keep d (Ok watches) = refl
 watches_keep d (Err refusal) = refl
 
-still_on : (command : Option Command) (d : Session) → stays_on command ≡ true → d.shows_console ≡ true → (session_after command d).shows_console ≡ true
+typed_keep : (bytes : List ℕ) (d : Session) → (after_keys bytes d).shows_console ≡ d.shows_console
+unfolding after_command
+typed_keep [] d = refl
+typed_keep (b ∷ bytes) d = typed_keep bytes (after_command (commands.Key b) d)
+
+still_on : (command : Option Order) (d : Session) → stays_on command ≡ true → d.shows_console ≡ true → (session_after command d).shows_console ≡ true
 unfolding after_command
 still_on None d stays on = on
-still_on (Some (commands.Break s p o)) d stays on = breaks_keep d (with_break (code_place s p o) d.breaks) ∙ on
-still_on (Some (commands.Clear s p o)) d stays on = breaks_keep d (without_break (code_place s p o) d.breaks) ∙ on
-still_on (Some (commands.Watch a)) d stays on = watches_keep d (with_watch a d.watches) ∙ on
-still_on (Some (commands.Unwatch a)) d stays on = watches_keep d (without_watch a d.watches) ∙ on
-still_on (Some (commands.Poke a w)) d stays on = on
-still_on (Some (commands.Key b)) d stays on = on
-still_on (Some (commands.ShowConsole shows)) d stays on = stays
-still_on (Some (commands.Go n)) d stays on = on
-still_on (Some (commands.Step n)) d stays on = on
-still_on (Some (commands.Finish n)) d stays on = on
-still_on (Some (commands.On n)) d stays on = on
-still_on (Some command) d stays on = on
+still_on (Some (Does (commands.Break s p o))) d stays on = breaks_keep d (with_break (code_place s p o) d.breaks) ∙ on
+still_on (Some (Does (commands.Clear s p o))) d stays on = breaks_keep d (without_break (code_place s p o) d.breaks) ∙ on
+still_on (Some (Does (commands.Watch a))) d stays on = watches_keep d (with_watch a d.watches) ∙ on
+still_on (Some (Does (commands.Unwatch a))) d stays on = watches_keep d (without_watch a d.watches) ∙ on
+still_on (Some (Does (commands.Poke a w))) d stays on = on
+still_on (Some (Does (commands.Key b))) d stays on = on
+still_on (Some (Does (commands.ShowConsole shows))) d stays on = stays
+still_on (Some (Does (commands.Go n))) d stays on = on
+still_on (Some (Does (commands.Step n))) d stays on = on
+still_on (Some (Does (commands.Finish n))) d stays on = on
+still_on (Some (Does (commands.Until s p o n))) d stays on = on
+still_on (Some (Does (commands.On n))) d stays on = on
+still_on (Some (Does command)) d stays on = on
+still_on (Some (Types bytes)) d stays on = typed_keep bytes d ∙ on
 
-goes_on : (command : Option Command) → stays_on command ≡ true → is_quit command ≡ false
-goes_on (Some commands.Quit) stays = absurd (cc)
+goes_on : (command : Option Order) → stays_on command ≡ true → is_quit command ≡ false
+goes_on (Some (Does commands.Quit)) stays = absurd (cc)
 goes_on _ stays = refl
 
 -- ---- lines
@@ -67,12 +74,12 @@ shown_where_on : (b : Bool) (text : List ℕ) → b ≡ true → (if b then text
 shown_where_on true text on = refl
 shown_where_on false text on = absurd (cc)
 
-first_answered : (line : List ℕ) (lines : List (List ℕ)) (d : Session) (more : List ℕ) → d.shows_console ≡ true → is_quit (command_of line) ≡ false
-    → answers lines (session_after (command_of line) d) ≡ more
-    → answers (line ∷ lines) d ≡ (console_line (console_added (command_of line) d) ++ with_feed (answer_text (command_of line) d)) ++ more
+first_answered : (line : List ℕ) (lines : List (List ℕ)) (d : Session) (more : List ℕ) → d.shows_console ≡ true → is_quit (order_of line) ≡ false
+    → answers lines (session_after (order_of line) d) ≡ more
+    → answers (line ∷ lines) d ≡ (console_line (console_added (order_of line) d) ++ with_feed (answer_text (order_of line) d)) ++ more
 unfolding answers
 first_answered line lines d more on other e =
-    let command = command_of line in
+    let command = order_of line in
     let alone = with_feed (answer_text command d) in
     let shown = ap (λ u. u ++ alone) (shown_where_on d.shows_console (console_line (console_added command d)) on) in
     rw other (ap (λ u. u ++ answers lines (session_after command d)) shown ∙ ap (λ u. (console_line (console_added command d) ++ alone) ++ u) e)
@@ -84,7 +91,7 @@ no_lines d = refl
 pub console_is_shown : ConsoleIsShown
 console_is_shown [] d on stay = record { answered = no_lines d; whole = sym (append-nil d.machine.devices.console) }
 console_is_shown (line ∷ lines) d on stay =
-    let command = command_of line in
+    let command = order_of line in
     let rest = console_is_shown lines (session_after command d) (still_on command d stay.0 on) stay.1 in
     record {
       answered = first_answered line lines d _ on (goes_on command stay.0) rest.answered;

@@ -15,3 +15,4 @@ pub mod LineLaws
 pub mod Breakpoints
 pub mod SelectedLines
 pub mod OneRun
+pub mod Typed

@@ -9,6 +9,7 @@ use Rattle.pm_debug.specs.RunLaws.{AreOneRun}
 use Rattle.pm_debug.specs.Runs.{Gone, Left, gone_on, gone_to, is_there, left_of, left_on, left_so}
 use Rattle.pm_debug.specs.Runs.Left.{Nothing, Rest}
 use Rattle.pm_debug.specs.Session.{Session}
+use Rattle.pm_machine.specs.CodePlaces.{code_place}
 use Rattle.pm_debug.proofs.OnLaws.{runs_go_on_as_one}
 use Rattle.pm_session.specs.declared.commands.Command.{Command}
 use Rattle.pm_session.specs.declared.commands.Command.TheVariants as commands
@@ -65,6 +66,13 @@ unfolding after_command command_text
 finish_goes_on a b d small some = record {
   session = same_session (depths.Left d.machine.registers.mp) a b d small some;
   answer = ap Some (same_answer (depths.Left d.machine.registers.mp) a b d small some);
+}
+
+pub until_goes_on : (s p o : ℕ) → GoesOnAsOne (commands.Until s p o)
+unfolding after_command command_text
+until_goes_on s p o a b d small some = record {
+  session = same_session (depths.Place (code_place s p o)) a b d small some;
+  answer = ap Some (same_answer (depths.Place (code_place s p o)) a b d small some);
 }
 
 pub nothing_goes_on : NothingGoesOn

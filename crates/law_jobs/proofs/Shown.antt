@@ -3,7 +3,7 @@ use Rattle.std.proofs.Common.{◌≡◌, ◌≤◌, ℕ, zero, suc, ◌+◌, Boo
 use Rattle.std.proofs.Common.{subst, ◌∙◌, arith}
 use Rattle.std.proofs.Common.{◌==◌, ◌&&◌, not, append_assoc}
 use Rattle.std.proofs.lemmas.Bool.Decides.{nat_tests}
-use Rattle.std.specs.Prelude.{◌≢◌, replicate, if◌then◌else◌, Result, Ok, Err}
+use Rattle.std.specs.Prelude.{◌≢◌, map, replicate, if◌then◌else◌, Result, Ok, Err}
 use Rattle.pm_machine.specs.State.{State}
 use Rattle.pm_machine.specs.Events.{Event, Step, Key, Poke, after_all}
 use Rattle.pm_machine.specs.Runs.{Passes, RunOutcome, after_steps, run_from, run_until}
@@ -18,7 +18,7 @@ use Rattle.pm_machine.proofs.UntilLaws.{after_more, after_none, runs_end_so}
 use Rattle.pm_machine.specs.declared.code_place.CodePlace.{CodePlace}
 use Rattle.pm_debug.specs.declared.reason.BreakReason.TheVariants as reasons
 use Rattle.pm_debug.specs.declared.refusal.DebugRefusal.{DebugRefusal}
-use Rattle.pm_debug.specs.Breaks.{with_break, without_break}
+use Rattle.pm_debug.specs.Breaks.{stands_at, with_break, without_break}
 use Rattle.pm_machine.specs.CodePlaces.{code_place}
 use Rattle.pm_debug.specs.Runs.{Left, behind_steps, countable, gone_by, gone_on, gone_to, has_ended, has_left, is_back, is_there, later}
 use Rattle.pm_debug.specs.Runs.{nowhere, stops_after, stops_at}
@@ -26,10 +26,10 @@ use Rattle.pm_debug.specs.Runs.Left.{Nothing, Rest}
 use Rattle.pm_debug.proofs.OnLaws.{goes_on_behind}
 use Rattle.pm_debug.specs.Session.{Session}
 use Rattle.pm_debug.specs.Watches.{watched_words, with_watch, without_watch}
-use Rattle.pm_session.specs.declared.commands.Command.{Command}
 use Rattle.pm_session.specs.declared.commands.Command.TheVariants as commands
-use Rattle.pm_session.specs.Commands.{command_of}
-use Rattle.pm_session.specs.Answers.{after_command, machine_on, session_after, with_breaks, with_watches}
+use Rattle.pm_session.specs.Orders.{Order, order_of}
+use Rattle.pm_session.specs.Orders.Order.{Does, Types}
+use Rattle.pm_session.specs.Answers.{after_command, after_keys, machine_on, session_after, with_breaks, with_watches}
 use Rattle.pm_session.specs.Sessions.{answer_line, answers, is_quit, opened}
 use Rattle.law_jobs.specs.Shown.{AreEventsOf, AreEventsOfLines, AreStepsOn, GoesOn, GoesOnAfter, SessionsShowTheTable, StopsAfter}
 use Rattle.law_jobs.specs.Shown.{first_look}
@@ -134,7 +134,7 @@ on_steps breaks (Rest depth made watched) n s =
 
 -- ---- commands
 
-abbrev Made : Option Command → Session → Type 0
+abbrev Made : Option Order → Session → Type 0
 Made command d = (events : List Event) × AreEventsOf command d events × ((session_after command d).machine ≡ after_all d.machine events)
 
 kept : (d : Session) (r : Result (List CodePlace) DebugRefusal) → (with_breaks d r).machine ≡ d.machine
@@ -145,26 +145,36 @@ kept_watching : (d : Session) (r : Result (List ℕ) DebugRefusal) → (with_wat
 kept_watching d (Ok watches) = refl
 kept_watching d (Err refusal) = refl
 
-pub command_made : (command : Option Command) (d : Session) → Made command d
+-- bytes that wait are keys
+typed_events : (bytes : List ℕ) (d : Session) → (after_keys bytes d).machine ≡ after_all d.machine (map Key bytes)
+unfolding after_command
+typed_events [] d = refl
+typed_events (b ∷ bytes) d = typed_events bytes (after_command (commands.Key b) d)
+
+pub command_made : (command : Option Order) (d : Session) → Made command d
 unfolding after_command
 command_made None d = ([], refl, refl)
-command_made (Some (commands.Break s p o)) d = ([], refl, kept d (with_break (code_place s p o) d.breaks))
-command_made (Some (commands.Clear s p o)) d = ([], refl, kept d (without_break (code_place s p o) d.breaks))
-command_made (Some (commands.Watch a)) d = ([], refl, kept_watching d (with_watch a d.watches))
-command_made (Some (commands.Unwatch a)) d = ([], refl, kept_watching d (without_watch a d.watches))
-command_made (Some (commands.Poke a w)) d = (Poke a w ∷ [], refl, refl)
-command_made (Some (commands.Key b)) d = (Key b ∷ [], refl, refl)
-command_made (Some (commands.Go n)) d =
+command_made (Some (Does (commands.Break s p o))) d = ([], refl, kept d (with_break (code_place s p o) d.breaks))
+command_made (Some (Does (commands.Clear s p o))) d = ([], refl, kept d (without_break (code_place s p o) d.breaks))
+command_made (Some (Does (commands.Watch a))) d = ([], refl, kept_watching d (with_watch a d.watches))
+command_made (Some (Does (commands.Unwatch a))) d = ([], refl, kept_watching d (without_watch a d.watches))
+command_made (Some (Does (commands.Poke a w))) d = (Poke a w ∷ [], refl, refl)
+command_made (Some (Does (commands.Key b))) d = (Key b ∷ [], refl, refl)
+command_made (Some (Does (commands.Go n))) d =
     let made = gone_steps d.breaks d.watches nowhere n d.machine in
     (replicate made.0 Step, (made.0, made.1, refl), made.2 ∙ all_steps made.0 d.machine)
-command_made (Some (commands.Step n)) d =
+command_made (Some (Does (commands.Step n))) d =
     let made = gone_steps d.breaks d.watches (is_back d.machine.registers.mp) n d.machine in
     (replicate made.0 Step, (made.0, made.1, refl), made.2 ∙ all_steps made.0 d.machine)
-command_made (Some (commands.Finish n)) d =
+command_made (Some (Does (commands.Finish n))) d =
     let made = gone_steps d.breaks d.watches (has_left d.machine.registers.mp) n d.machine in
     (replicate made.0 Step, (made.0, made.1, refl), made.2 ∙ all_steps made.0 d.machine)
-command_made (Some (commands.On n)) d = on_steps d.breaks d.left n d.machine
-command_made (Some command) d = ([], refl, refl)
+command_made (Some (Does (commands.Until s p o n))) d =
+    let made = gone_steps d.breaks d.watches (stands_at (code_place s p o)) n d.machine in
+    (replicate made.0 Step, (made.0, made.1, refl), made.2 ∙ all_steps made.0 d.machine)
+command_made (Some (Does (commands.On n))) d = on_steps d.breaks d.left n d.machine
+command_made (Some (Does command)) d = ([], refl, refl)
+command_made (Some (Types bytes)) d = (map Key bytes, refl, typed_events bytes d)
 
 -- ---- lines
 
@@ -176,12 +186,12 @@ record Shows (lines : List (List ℕ)) (d : Session) : Type 0 where
   state : session.machine ≡ after_all d.machine events
   answered : (more : List (List ℕ)) → answers (lines ++ more) d ≡ answers lines d ++ answers more session
 
-answers_more : (line : List ℕ) (lines more : List (List ℕ)) (d t : Session) → is_quit (command_of line) ≡ false
-    → answers (lines ++ more) (session_after (command_of line) d) ≡ answers lines (session_after (command_of line) d) ++ answers more t
+answers_more : (line : List ℕ) (lines more : List (List ℕ)) (d t : Session) → is_quit (order_of line) ≡ false
+    → answers (lines ++ more) (session_after (order_of line) d) ≡ answers lines (session_after (order_of line) d) ++ answers more t
     → answers (line ∷ lines ++ more) d ≡ answers (line ∷ lines) d ++ answers more t
 unfolding answers
 answers_more line lines more d t on e =
-    let front = answer_line (command_of line) d in
+    let front = answer_line (order_of line) d in
     rw on (ap (λ l. front ++ l) e ∙ sym (append_assoc front _ _))
 
 no_lines : (more : List (List ℕ)) (d : Session) → answers more d ≡ answers [] d ++ answers more d
@@ -191,8 +201,8 @@ no_lines more d = refl
 shows : (lines : List (List ℕ)) (d : Session) → GoesOnAfter lines → Shows lines d
 shows [] d on = record { events = []; named = refl; session = d; state = refl; answered = λ more. no_lines more d }
 shows (line ∷ lines) d on =
-    let made = command_made (command_of line) d in
-    let rest = shows lines (session_after (command_of line) d) on.1 in
+    let made = command_made (order_of line) d in
+    let rest = shows lines (session_after (order_of line) d) on.1 in
     record {
       events = made.0 ++ rest.events;
       named = (made.0, rest.events, made.1, rest.named, refl);

@@ -8,28 +8,28 @@ use Rattle.pm_machine.specs.declared.code_place.CodePlace.{CodePlace}
 use Rattle.pm_debug.specs.Breaks.{is_same, is_set}
 use Rattle.pm_debug.specs.Session.{Session}
 use Rattle.pm_debug.specs.Watches.{is_watched}
-use Rattle.pm_session.specs.declared.commands.Command.{Command}
 use Rattle.pm_session.specs.declared.commands.Command.TheVariants as commands
 use Rattle.pm_session.specs.Answers.{session_after}
-use Rattle.pm_session.specs.Commands.{command_of}
+use Rattle.pm_session.specs.Orders.{Order, order_of}
+use Rattle.pm_session.specs.Orders.Order.{Does}
 use Rattle.law_jobs.specs.Console.{after_lines}
 
 -- the line is `break` or `clear`
-abbrev pub is_of_breaks : Option Command → Bool
-is_of_breaks (Some (commands.Break s p o)) = true
-is_of_breaks (Some (commands.Clear s p o)) = true
+abbrev pub is_of_breaks : Option Order → Bool
+is_of_breaks (Some (Does (commands.Break s p o))) = true
+is_of_breaks (Some (Does (commands.Clear s p o))) = true
 is_of_breaks other = false
 
 -- the line is `watch` or `unwatch`
-abbrev pub is_of_watches : Option Command → Bool
-is_of_watches (Some (commands.Watch a)) = true
-is_of_watches (Some (commands.Unwatch a)) = true
+abbrev pub is_of_watches : Option Order → Bool
+is_of_watches (Some (Does (commands.Watch a))) = true
+is_of_watches (Some (Does (commands.Unwatch a))) = true
 is_of_watches other = false
 
 -- none of the lines is such a command
-abbrev pub NoneIs : (Option Command → Bool) → List (List ℕ) → Type 0
+abbrev pub NoneIs : (Option Order → Bool) → List (List ℕ) → Type 0
 NoneIs test [] = ⊤
-NoneIs test (line ∷ lines) = (test (command_of line) ≡ false) × NoneIs test lines
+NoneIs test (line ∷ lines) = (test (order_of line) ≡ false) × NoneIs test lines
 
 -- lines among which there is no `break` and no `clear` leave the breakpoints, whatever steps they make
 abbrev pub BreaksStay : Type 0
@@ -43,24 +43,24 @@ WatchesStay =
 -- After `break`, where fewer than 64 are set, its place is a breakpoint, and each other place is one as before.
 abbrev pub BreakSetsOne : Type 0
 BreakSetsOne = (s p o : ℕ) (d : Session) (place : CodePlace) → length d.breaks < 64
-    → is_set place (session_after (Some (commands.Break s p o)) d).breaks
+    → is_set place (session_after (Some (Does (commands.Break s p o))) d).breaks
     ≡ (is_same place (code_place s p o) || is_set place d.breaks)
 
 -- After `clear` its place is none, and each other place is one as before.
 abbrev pub ClearTakesOne : Type 0
 ClearTakesOne = (s p o : ℕ) (d : Session) (place : CodePlace)
-    → is_set place (session_after (Some (commands.Clear s p o)) d).breaks
+    → is_set place (session_after (Some (Does (commands.Clear s p o))) d).breaks
     ≡ (not (is_same place (code_place s p o)) && is_set place d.breaks)
 
 -- After `watch` with an even address, where fewer than 64 are watched, the word there is watched, and each other as
 -- before.
 abbrev pub WatchAddsOne : Type 0
 WatchAddsOne = (a : ℕ) (d : Session) (address : ℕ) → is_even a ≡ true → length d.watches < 64
-    → is_watched address (session_after (Some (commands.Watch a)) d).watches
+    → is_watched address (session_after (Some (Does (commands.Watch a))) d).watches
     ≡ (a == address || is_watched address d.watches)
 
 -- After `unwatch` the word at its address is not watched, and each other is as before.
 abbrev pub UnwatchTakesOne : Type 0
 UnwatchTakesOne = (a : ℕ) (d : Session) (address : ℕ)
-    → is_watched address (session_after (Some (commands.Unwatch a)) d).watches
+    → is_watched address (session_after (Some (Does (commands.Unwatch a))) d).watches
     ≡ (not (a == address) && is_watched address d.watches)

@@ -2,38 +2,38 @@
 use Rattle.std.specs.Prelude.{◌≡◌, ℕ, Bool, true, false, List, [], ◌∷◌, ◌++◌, Option, Some, ⊤}
 use Rattle.std.specs.List.{flat_map}
 use Rattle.pm_debug.specs.Session.{Session}
-use Rattle.pm_session.specs.declared.commands.Command.{Command}
 use Rattle.pm_session.specs.declared.commands.Command.TheVariants as commands
 use Rattle.pm_session.specs.Answers.{answer_text, session_after}
-use Rattle.pm_session.specs.Commands.{command_of}
+use Rattle.pm_session.specs.Orders.{Order, order_of}
+use Rattle.pm_session.specs.Orders.Order.{Does}
 use Rattle.pm_session.specs.Sessions.{answers, console_added, console_line, with_feed}
 
 -- a line that is not `quit` and not `console off`
-abbrev pub stays_on : Option Command → Bool
-stays_on (Some commands.Quit) = false
-stays_on (Some (commands.ShowConsole shows)) = shows
+abbrev pub stays_on : Option Order → Bool
+stays_on (Some (Does commands.Quit)) = false
+stays_on (Some (Does (commands.ShowConsole shows))) = shows
 stays_on other = true
 
 abbrev pub StaysOn : List (List ℕ) → Type 0
 StaysOn [] = ⊤
-StaysOn (line ∷ lines) = (stays_on (command_of line) ≡ true) × StaysOn lines
+StaysOn (line ∷ lines) = (stays_on (order_of line) ≡ true) × StaysOn lines
 
 -- the session after lines
 abbrev pub after_lines : List (List ℕ) → Session → Session
 after_lines [] d = d
-after_lines (line ∷ lines) d = after_lines lines (session_after (command_of line) d)
+after_lines (line ∷ lines) d = after_lines lines (session_after (order_of line) d)
 
 -- what the commands of lines write to the console, each by itself
 abbrev pub written_by : List (List ℕ) → Session → List (List ℕ)
 written_by [] d = []
 written_by (line ∷ lines) d =
-    console_added (command_of line) d ∷ written_by lines (session_after (command_of line) d)
+    console_added (order_of line) d ∷ written_by lines (session_after (order_of line) d)
 
 -- what they are answered, each with its line feed, without the console
 abbrev pub answers_alone : List (List ℕ) → Session → List (List ℕ)
 answers_alone [] d = []
 answers_alone (line ∷ lines) d =
-    with_feed (answer_text (command_of line) d) ∷ answers_alone lines (session_after (command_of line) d)
+    with_feed (answer_text (order_of line) d) ∷ answers_alone lines (session_after (order_of line) d)
 
 -- texts, each behind the line of the bytes of the console at its place
 abbrev pub behind_console : List (List ℕ) → List (List ℕ) → List ℕ

@@ -8,3 +8,4 @@ pub mod TraceLaws
 pub mod Breakpoints
 pub mod Selections
 pub mod OneRun
+pub mod Typed

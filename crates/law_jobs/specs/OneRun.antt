@@ -5,27 +5,28 @@ use Rattle.pm_debug.specs.Runs.Left.{Nothing}
 use Rattle.pm_debug.specs.Session.{Session}
 use Rattle.pm_session.specs.declared.commands.Command.{Command}
 use Rattle.pm_session.specs.declared.commands.Command.TheVariants as commands
+use Rattle.pm_session.specs.Orders.Order.{Does}
 use Rattle.pm_session.specs.Answers.{answer_text, session_after}
 use Rattle.pm_session.specs.Texts.{refused_text}
 
 -- This command of at most a steps, and then `on` of b, leave the session that the command of at most a + b steps
 -- leaves, and `on` answers what that is answered: why it stopped, and all its steps.
 pub record IsOneRun (command : ℕ → Command) (a b : ℕ) (d : Session) : Type 0 where
-  pub session : session_after (Some (commands.On b)) (session_after (Some (command a)) d)
-      ≡ session_after (Some (command (a + b))) d
-  pub answer : answer_text (Some (commands.On b)) (session_after (Some (command a)) d)
-      ≡ answer_text (Some (command (a + b))) d
+  pub session : session_after (Some (Does (commands.On b))) (session_after (Some (Does (command a))) d)
+      ≡ session_after (Some (Does (command (a + b)))) d
+  pub answer : answer_text (Some (Does (commands.On b))) (session_after (Some (Does (command a))) d)
+      ≡ answer_text (Some (Does (command (a + b)))) d
 
 -- it is so where the command leaves something to go on with
 abbrev pub GoesOnAsOne : (ℕ → Command) → Type 0
 GoesOnAsOne command =
-    (a b : ℕ) (d : Session) → a + b ≤ 4294967295 → (session_after (Some (command a)) d).left ≢ Nothing
+    (a b : ℕ) (d : Session) → a + b ≤ 4294967295 → (session_after (Some (Does (command a))) d).left ≢ Nothing
     → IsOneRun command a b d
 
 -- `on` that is refused, and changes nothing
 pub record IsRefused (n : ℕ) (d : Session) : Type 0 where
-  pub session : session_after (Some (commands.On n)) d ≡ d
-  pub answer : answer_text (Some (commands.On n)) d ≡ Some (refused_text NothingLeft)
+  pub session : session_after (Some (Does (commands.On n))) d ≡ d
+  pub answer : answer_text (Some (Does (commands.On n))) d ≡ Some (refused_text NothingLeft)
 
 -- where nothing is left of the last run, `on` is refused
 abbrev pub NothingGoesOn : Type 0

@@ -1,24 +1,25 @@
 -- Sessions of the debugger as lists of events.
 use Rattle.std.specs.Prelude.{◌≡◌, ◌≢◌, ◌<◌, ◌≤◌, ◌+◌, ◌||◌, nat_le, nat_lt, ℕ, zero, suc, Bool, true, false}
-use Rattle.std.specs.Prelude.{List, [], ◌∷◌, ◌++◌, replicate, Option, Some, ⊤}
+use Rattle.std.specs.Prelude.{List, [], ◌∷◌, ◌++◌, map, replicate, Option, Some, ⊤}
 use Rattle.pm_machine.specs.State.{State}
 use Rattle.pm_machine.specs.Events.{Event, Step, Key, Poke, after_all}
 use Rattle.pm_machine.specs.Runs.{AllWent, after_steps}
 use Rattle.pm_machine.specs.Steps.{stepped}
 use Rattle.pm_machine.specs.declared.state.Stop.TheVariants as stop
-use Rattle.pm_debug.specs.Breaks.{is_at_break}
+use Rattle.pm_debug.specs.Breaks.{is_at_break, stands_at}
 use Rattle.pm_machine.specs.declared.code_place.CodePlace.{CodePlace}
+use Rattle.pm_machine.specs.CodePlaces.{code_place}
 use Rattle.pm_debug.specs.Runs.{Left, countable, has_ended, is_there}
 use Rattle.pm_debug.specs.Runs.Left.{Nothing, Rest}
 use Rattle.pm_debug.specs.Session.{Session}
 use Rattle.pm_debug.specs.Watches.{has_changed, watched_words}
-use Rattle.pm_session.specs.declared.commands.Command.{Command}
 use Rattle.pm_session.specs.declared.commands.Command.TheVariants as commands
 use Rattle.pm_session.specs.Answers.{session_after}
-use Rattle.pm_session.specs.Commands.{command_of}
+use Rattle.pm_session.specs.Orders.{Order, order_of}
+use Rattle.pm_session.specs.Orders.Order.{Does, Types}
 use Rattle.pm_session.specs.Sessions.{answers, is_quit, opened}
 
--- ---- the steps of `go`, `step` and `finish`
+-- ---- the steps of `go`, `step`, `finish` and `until`
 
 -- The machine goes on after each of so many steps, and the test, as of a breakpoint or of a changed word, holds before
 -- none of them from this one on: a run looks before each step but its first.
@@ -62,35 +63,41 @@ AreStepsOn breaks (Rest depth made watched) limit s events = AreStepsFrom (first
 abbrev pub has_changed_since : Session → State → Bool
 has_changed_since d s = has_changed (watched_words d.watches d.machine.memory) s.memory
 
--- The events of a command in a session, of a line that is none no events: a poke and a key are one; `go` is as many
+-- The events of a command in a session, of a line that is none no events: a poke and a key are one, and a text that is
+-- typed is a key for each of its bytes; `go` is as many
 -- steps as it makes, up to a watched word that has changed or to a breakpoint, and so are `step` and `finish`, up to
--- these or to where the machine stands in the frame of now again or above it, or above it; `on` is as many as what is
--- left of the last run makes; and all others only show, or set and clear breakpoints and watched words.
-abbrev pub AreEventsOf : Option Command → Session → List Event → Type 0
-AreEventsOf (Some (commands.Poke a w)) d events = events ≡ Poke a w ∷ []
-AreEventsOf (Some (commands.Key b)) d events = events ≡ Key b ∷ []
-AreEventsOf (Some (commands.Go n)) d events =
+-- these or to where the machine stands in the frame of now again or above it, or above it, and `until`, up to these or
+-- to its place; `on` is as many as what is left of the last run makes; and all others only show, or set and clear
+-- breakpoints and watched words.
+abbrev pub AreEventsOf : Option Order → Session → List Event → Type 0
+AreEventsOf (Some (Does (commands.Poke a w))) d events = events ≡ Poke a w ∷ []
+AreEventsOf (Some (Does (commands.Key b))) d events = events ≡ Key b ∷ []
+AreEventsOf (Some (Does (commands.Go n))) d events =
     AreStepsTo (λ s. has_changed_since d s || is_at_break d.breaks s) n d.machine events
-AreEventsOf (Some (commands.Step n)) d events =
+AreEventsOf (Some (Does (commands.Step n))) d events =
     AreStepsTo (λ s. (nat_le d.machine.registers.mp s.registers.mp || has_changed_since d s) || is_at_break d.breaks s)
     n d.machine events
-AreEventsOf (Some (commands.Finish n)) d events =
+AreEventsOf (Some (Does (commands.Finish n))) d events =
     AreStepsTo (λ s. (nat_lt d.machine.registers.mp s.registers.mp || has_changed_since d s) || is_at_break d.breaks s)
     n d.machine events
-AreEventsOf (Some (commands.On n)) d events = AreStepsOn d.breaks d.left n d.machine events
+AreEventsOf (Some (Does (commands.Until s p o n))) d events =
+    AreStepsTo (λ t. (stands_at (code_place s p o) t || has_changed_since d t) || is_at_break d.breaks t)
+    n d.machine events
+AreEventsOf (Some (Does (commands.On n))) d events = AreStepsOn d.breaks d.left n d.machine events
+AreEventsOf (Some (Types bytes)) d events = events ≡ map Key bytes
 AreEventsOf other d events = events ≡ []
 
 -- the events of lines in a session, one line after the other
 abbrev pub AreEventsOfLines : List (List ℕ) → Session → List Event → Type 0
 AreEventsOfLines [] d events = events ≡ []
 AreEventsOfLines (line ∷ lines) d events =
-    (first more : List Event) × AreEventsOf (command_of line) d first
-    × AreEventsOfLines lines (session_after (command_of line) d) more × (events ≡ first ++ more)
+    (first more : List Event) × AreEventsOf (order_of line) d first
+    × AreEventsOfLines lines (session_after (order_of line) d) more × (events ≡ first ++ more)
 
 -- none of the lines is `quit`
 abbrev pub GoesOnAfter : List (List ℕ) → Type 0
 GoesOnAfter [] = ⊤
-GoesOnAfter (line ∷ lines) = (is_quit (command_of line) ≡ false) × GoesOnAfter lines
+GoesOnAfter (line ∷ lines) = (is_quit (order_of line) ≡ false) × GoesOnAfter lines
 
 -- After these lines a session over the machine s stands at the state that their events give, and answers whatever lines
 -- follow as a session of that state does.

@@ -1,11 +1,13 @@
 //! What a session of the debugger shows is the table's.
 
+ghost use Rattle.std.specs.Prelude.{ℕ};
 ghost use Rattle.law_jobs.specs.Breakpoints.{BreakSetsOne, BreaksStay, ClearTakesOne, UnwatchTakesOne};
 ghost use Rattle.law_jobs.specs.Breakpoints.{WatchAddsOne, WatchesStay};
 ghost use Rattle.law_jobs.specs.Console.{ConsoleIsShown};
 ghost use Rattle.law_jobs.specs.OneRun.{GoesOnAsOne, NothingGoesOn};
 ghost use Rattle.law_jobs.specs.Shown.{SessionsShowTheTable};
-ghost use Rattle.pm_session.specs.declared.commands.Command.TheVariants.{Finish, Go, Step};
+ghost use Rattle.law_jobs.specs.Typed.{TypesAreKeys};
+ghost use Rattle.pm_session.specs.declared.commands.Command.TheVariants.{Finish, Go, Step, Until};
 
 /// After any lines of a session without `quit`, the machine is as the table leaves it after the steps, the keys and the
 /// pokes of these lines, in their order; and what is answered to the lines that follow is what is shown of that state.
@@ -43,11 +45,17 @@ pub fn a_command_changes_one_breakpoint()
 {}
 
 /// A `go` of at most a steps that its limit stopped, and then an `on` of at most b, leave the session that a `go` of at
-/// most a + b leaves, and the `on` is answered as this; and so of `step` and of `finish`. Where nothing is left of the
-/// last run, `on` is refused and changes nothing.
+/// most a + b leaves, and the `on` is answered as this; and so of `step`, of `finish` and of `until`. Where nothing is
+/// left of the last run, `on` is refused and changes nothing.
 pub fn runs_go_on()
     ensures go { GoesOnAsOne Go }
     ensures step { GoesOnAsOne Step }
     ensures finish { GoesOnAsOne Finish }
+    ensures until { (s p o : ℕ) → GoesOnAsOne (Until s p o) }
     ensures nothing { NothingGoesOn }
+{}
+
+/// `type "AB"` leaves the session that `key 65` and then `key 66` leave, and is answered as each of these.
+pub fn a_text_is_its_keys()
+    ensures law { TypesAreKeys }
 {}

@@ -306,6 +306,7 @@ Commands, one a line, numbers in decimal, or as $1F with at most four hexadecima
   go N           makes at most N steps
   poke A W       writes a word at an even address
   key B          lets a byte wait on the console
+  type \"TEXT\"    lets those of a text wait, as the assembler spells it
   stack N        the words on the stack, at most N
   static N       the frames by their static links, at most N
   dynamic N      the frames by their dynamic links, at most N
@@ -324,6 +325,7 @@ Commands, one a line, numbers in decimal, or as $1F with at most four hexadecima
   console off    shows it no more
   step [N]       makes one instruction, with all that it calls, by at most N steps
   finish [N]     makes what is left of the running procedure, with its return, by at most N steps
+  until S P O    makes steps up to this place; with N behind, at most so many
   on N           goes on with the last run, where its limit stopped it, by at most N steps more
   watch A        stops a run before a step where the word at an even address has changed
   unwatch A      watches it no more

@@ -1,16 +1,17 @@
 -- The answers to an input, byte by byte.
-use Rattle.std.proofs.Common.{◌≡◌, ◌∙◌, ◌+◌, ◌<◌, ap, sym, refl, arith, ℕ, Bool, true, false}
+use Rattle.std.proofs.Common.{◌≡◌, ◌∙◌, ◌+◌, ◌<◌, ◌≤◌, ap, sym, refl, arith, get_or, ℕ, suc, Bool, true, false}
 use Rattle.std.proofs.Common.{List, [], ◌∷◌, ◌++◌, length, drop, reverse, append_assoc, append-nil, Option, Some, None}
 use Rattle.std.proofs.lemmas.List.{drop_all, reverse-append, reverse-reverse}
 use Rattle.std.specs.Prelude.{◌==◌, if◌then◌else◌}
-use Rattle.std.proofs.Math.Seq.{drop-append-add}
+use Rattle.std.proofs.Math.Seq.{drop-append-add, drop-cons}
 use Rattle.pm_debug.specs.Session.{Session}
-use Rattle.pm_session.specs.declared.commands.Command.{Command}
 use Rattle.pm_session.specs.declared.commands.Command.TheVariants as commands
-use Rattle.pm_session.specs.Commands.{command_of}
+use Rattle.pm_session.specs.Orders.{Order, order_of}
+use Rattle.pm_session.specs.Orders.Order.{Does}
 use Rattle.pm_session.specs.Words.{lines_of_input, pieces_between, without_empty_end}
 use Rattle.pm_session.proofs.WordLaws.{pieces_byte, pieces_mark, pieces_none, pieces_some, with_front, with_front-byte, with_front-none}
-use Rattle.pm_session.specs.Answers.{after_command, answer_text, command_text, session_after}
+use Rattle.pm_machine.specs.Events.{Key, next}
+use Rattle.pm_session.specs.Answers.{after_command, after_keys, answer_text, command_text, session_after}
 use Rattle.pm_session.specs.Sessions.{Told, answer_line, answers, behind_quit, console_line, from_feed, is_quit, told, whole_lines}
 
 -- the answers to these lines of an input
@@ -54,21 +55,21 @@ lines_feed line c rest h =
 line_dropped : (line : List ℕ) (c : ℕ) (rest : List ℕ) → drop (length line + 1) (line ++ c ∷ rest) ≡ rest
 line_dropped line c rest = drop-append-add line (c ∷ rest) 1
 
-answers_quit : (line : List ℕ) (lines : List (List ℕ)) (d : Session) → is_quit (command_of line) ≡ true → answers (line ∷ lines) d ≡ []
+answers_quit : (line : List ℕ) (lines : List (List ℕ)) (d : Session) → is_quit (order_of line) ≡ true → answers (line ∷ lines) d ≡ []
 unfolding answers
 answers_quit line lines d q = rw q refl
 
-answers_more : (line : List ℕ) (lines : List (List ℕ)) (d : Session) → is_quit (command_of line) ≡ false
-    → answers (line ∷ lines) d ≡ answer_line (command_of line) d ++ answers lines (session_after (command_of line) d)
+answers_more : (line : List ℕ) (lines : List (List ℕ)) (d : Session) → is_quit (order_of line) ≡ false
+    → answers (line ∷ lines) d ≡ answer_line (order_of line) d ++ answers lines (session_after (order_of line) d)
 unfolding answers
 answers_more line lines d q = rw q refl
 
-behind_quit_here : (line : List ℕ) (lines : List (List ℕ)) (input : List ℕ) → is_quit (command_of line) ≡ true
+behind_quit_here : (line : List ℕ) (lines : List (List ℕ)) (input : List ℕ) → is_quit (order_of line) ≡ true
     → behind_quit (line ∷ lines) input ≡ drop (length line + 1) input
 unfolding behind_quit
 behind_quit_here line lines input q = rw q refl
 
-behind_quit_later : (line : List ℕ) (lines : List (List ℕ)) (input : List ℕ) → is_quit (command_of line) ≡ false
+behind_quit_later : (line : List ℕ) (lines : List (List ℕ)) (input : List ℕ) → is_quit (order_of line) ≡ false
     → behind_quit (line ∷ lines) input ≡ behind_quit lines (drop (length line + 1) input)
 unfolding behind_quit
 behind_quit_later line lines input q = rw q refl
@@ -86,27 +87,27 @@ nothing_more : (shows : Bool) (console : List ℕ) → (if shows then console_li
 nothing_more true console = ap console_line (drop_all (length console) console (omega arith))
 nothing_more false console = refl
 
-quit_unanswered : (command : Option Command) (d : Session) → is_quit command ≡ true → answer_line command d ≡ []
+quit_unanswered : (order : Option Order) (d : Session) → is_quit order ≡ true → answer_line order d ≡ []
 unfolding command_text after_command
-quit_unanswered (Some commands.Quit) d q = ap (λ l. l ++ []) (nothing_more d.shows_console d.machine.devices.console)
+quit_unanswered (Some (Does commands.Quit)) d q = ap (λ l. l ++ []) (nothing_more d.shows_console d.machine.devices.console)
 quit_unanswered _ d q = absurd (cc)
 
-pub answer_quit : (line : List ℕ) (d : Session) → is_quit (command_of line) ≡ true → answer_line (command_of line) d ≡ []
-answer_quit line d q = quit_unanswered (command_of line) d q
+pub answer_quit : (line : List ℕ) (d : Session) → is_quit (order_of line) ≡ true → answer_line (order_of line) d ≡ []
+answer_quit line d q = quit_unanswered (order_of line) d q
 
 -- nothing is answered to `quit` alone
-pub unanswered : (command : Option Command) (d : Session) → None ≡ answer_text command d → is_quit command ≡ true
+pub unanswered : (order : Option Order) (d : Session) → None ≡ answer_text order d → is_quit order ≡ true
 unfolding command_text
-unanswered (Some commands.Quit) d h = refl
+unanswered (Some (Does commands.Quit)) d h = refl
 unanswered _ d h = absurd (cc)
 
-pub is_answered : (command : Option Command) (d : Session) (text : List ℕ) → Some text ≡ answer_text command d → is_quit command ≡ false
+pub is_answered : (order : Option Order) (d : Session) (text : List ℕ) → Some text ≡ answer_text order d → is_quit order ≡ false
 unfolding command_text
-is_answered (Some commands.Quit) d text h = absurd (cc)
+is_answered (Some (Does commands.Quit)) d text h = absurd (cc)
 is_answered _ d text h = refl
 
 -- the line feed of `quit`
-pub told_quit : (line : List ℕ) (c : ℕ) (rest : List ℕ) (d : Session) → (c == 10) ≡ true → is_quit (command_of line) ≡ true
+pub told_quit : (line : List ℕ) (c : ℕ) (rest : List ℕ) (d : Session) → (c == 10) ≡ true → is_quit (order_of line) ≡ true
     → told_from line (c ∷ rest) d ≡ record { text = []; unread = rest }
 told_quit line c rest d h q =
     ap (λ lines. told_lines lines (line ++ c ∷ rest) d) (lines_feed line c rest h)
@@ -115,8 +116,8 @@ told_quit line c rest d h q =
     (behind_quit_here line (lines_of_input rest) (line ++ c ∷ rest) q ∙ line_dropped line c rest)
 
 -- the line feed of another line
-pub told_line : (line : List ℕ) (c : ℕ) (rest : List ℕ) (d : Session) → (c == 10) ≡ true → is_quit (command_of line) ≡ false
-    → told_from line (c ∷ rest) d ≡ after_telling (answer_line (command_of line) d) (told rest (session_after (command_of line) d))
+pub told_line : (line : List ℕ) (c : ℕ) (rest : List ℕ) (d : Session) → (c == 10) ≡ true → is_quit (order_of line) ≡ false
+    → told_from line (c ∷ rest) d ≡ after_telling (answer_line (order_of line) d) (told rest (session_after (order_of line) d))
 unfolding told
 told_line line c rest d h q =
     ap (λ lines. told_lines lines (line ++ c ∷ rest) d) (lines_feed line c rest h)
@@ -134,24 +135,24 @@ unfolding without_empty_end
 last_line_is [] h = absurd (omega arith)
 last_line_is (c ∷ line) h = ap (λ ps. without_empty_end (with_front (c ∷ line) ps)) (pieces_none 10) ∙ ap (λ l. l ∷ []) (append-nil (c ∷ line))
 
-answers_last : (line : List ℕ) (d : Session) → answers (line ∷ []) d ≡ answer_line (command_of line) d
+answers_last : (line : List ℕ) (d : Session) → answers (line ∷ []) d ≡ answer_line (order_of line) d
 unfolding answers
-answers_last line d = by_quit (is_quit (command_of line)) refl
+answers_last line d = by_quit (is_quit (order_of line)) refl
   where
-    by_quit : (q : Bool) → is_quit (command_of line) ≡ q → answers (line ∷ []) d ≡ answer_line (command_of line) d
+    by_quit : (q : Bool) → is_quit (order_of line) ≡ q → answers (line ∷ []) d ≡ answer_line (order_of line) d
     by_quit true e = answers_quit line [] d e ∙ sym (answer_quit line d e)
-    by_quit false e = answers_more line [] d e ∙ append-nil (answer_line (command_of line) d)
+    by_quit false e = answers_more line [] d e ∙ append-nil (answer_line (order_of line) d)
 
 nothing_behind : (line : List ℕ) → behind_quit (line ∷ []) (line ++ []) ≡ []
 unfolding behind_quit
-nothing_behind line = by_quit (is_quit (command_of line)) ∙ drop-append-add line [] 1
+nothing_behind line = by_quit (is_quit (order_of line)) ∙ drop-append-add line [] 1
   where
     by_quit : (q : Bool) → (if q then drop (length line + 1) (line ++ []) else drop (length line + 1) (line ++ [])) ≡ drop (length line + 1) (line ++ [])
     by_quit true = refl
     by_quit false = refl
 
 -- the end of the input, behind a line without its line feed
-pub told_last : (line : List ℕ) (d : Session) → 0 < length line → told_from line [] d ≡ record { text = answer_line (command_of line) d; unread = [] }
+pub told_last : (line : List ℕ) (d : Session) → 0 < length line → told_from line [] d ≡ record { text = answer_line (order_of line) d; unread = [] }
 told_last line d h =
     ap (λ lines. told_lines lines (line ++ []) d) (last_line_is line h)
     ∙ told_is _ _ (told_lines (line ∷ []) (line ++ []) d) (answers_last line d) (nothing_behind line)
@@ -175,3 +176,18 @@ whole_lines_feed text c h =
 pub whole_lines_byte : (text : List ℕ) (c : ℕ) → (c == 10) ≡ false → whole_lines (text ++ c ∷ []) ≡ whole_lines text
 unfolding whole_lines from_feed
 whole_lines_byte text c h = ap (λ r. reverse (from_feed r)) (reverse-append text (c ∷ [])) ∙ rw h refl
+
+-- ---- bytes that wait
+
+-- one more of them waits
+pub key_more : (bytes : List ℕ) (i : ℕ) (d t : Session) → i < length bytes → t ≡ record d { machine = next d.machine (Key (get_or bytes i 0)) }
+    → after_keys (drop i bytes) d ≡ after_keys (drop (i + 1) bytes) t
+unfolding after_command
+key_more bytes i d t inside e =
+    let one : suc i ≡ i + 1 = omega arith in
+    ap (λ bs. after_keys bs d) (drop-cons bytes i 0 inside ∙ ap (λ j. get_or bytes i 0 ∷ drop j bytes) one)
+    ∙ ap (after_keys (drop (i + 1) bytes)) (sym e)
+
+-- none is left
+pub keys_over : (bytes : List ℕ) (i : ℕ) (d : Session) → length bytes ≤ i → after_keys (drop i bytes) d ≡ d
+keys_over bytes i d over = ap (λ bs. after_keys bs d) (drop_all i bytes over)

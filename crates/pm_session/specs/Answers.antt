@@ -8,7 +8,7 @@ use Rattle.pm_machine.specs.Events.{Key, Poke, next}
 use Rattle.pm_debug.specs.Breaks.{with_break, without_break}
 use Rattle.pm_machine.specs.CodePlaces.{code_place}
 use Rattle.pm_debug.specs.Refusals.{or_refused}
-use Rattle.pm_debug.specs.Runs.{Gone, gone, gone_on, gone_out, gone_over, left_after, left_on}
+use Rattle.pm_debug.specs.Runs.{Gone, gone, gone_on, gone_out, gone_over, gone_until, left_after, left_on}
 use Rattle.pm_debug.specs.Runs.Left.{Nothing}
 use Rattle.pm_debug.specs.declared.run.Depth.{Depth}
 use Rattle.pm_debug.specs.declared.run.Depth.TheVariants as depths
@@ -26,6 +26,8 @@ use Rattle.pm_session.specs.declared.commands.Command.{Command}
 use Rattle.pm_session.specs.declared.commands.Command.TheVariants as commands
 use Rattle.pm_session.specs.declared.ending.Ending.TheVariants as endings
 use Rattle.pm_session.specs.Endings.{last_line}
+use Rattle.pm_session.specs.Orders.{Order}
+use Rattle.pm_session.specs.Orders.Order.{Does, Types}
 use Rattle.pm_session.specs.Texts.{chain_text, numbers_text, refused_text}
 use Rattle.pm_session.specs.Views.{view_text}
 
@@ -55,6 +57,10 @@ gone_text reasons.Waiting steps = last_line endings.Waiting steps
 gone_text reasons.Ended steps = last_line endings.Ended steps
 gone_text (reasons.Halted error) steps = last_line (endings.Error error) steps
 
+-- what a run is answered by
+abbrev pub run_text : Gone → Option (List ℕ)
+run_text run = Some (gone_text run.reason run.steps)
+
 -- of a run that goes on the steps of the whole, or that there is none
 abbrev pub on_text : Option Gone → List ℕ
 on_text (Some run) = gone_text run.reason run.steps
@@ -76,12 +82,11 @@ command_text (commands.Unwatch a) d = Some (done_text (without_watch a d.watches
 command_text (commands.Poke a w) d = Some (if is_even a then codes "ok" else refused_text OddAddress)
 command_text (commands.Key b) d = Some (codes "ok")
 command_text (commands.ShowConsole shows) d = Some (codes "ok")
-command_text (commands.Go n) d =
-    Some (gone_text (gone d.breaks d.watches n d.machine).reason (gone d.breaks d.watches n d.machine).steps)
-command_text (commands.Step n) d =
-    Some (gone_text (gone_over d.breaks d.watches n d.machine).reason (gone_over d.breaks d.watches n d.machine).steps)
-command_text (commands.Finish n) d =
-    Some (gone_text (gone_out d.breaks d.watches n d.machine).reason (gone_out d.breaks d.watches n d.machine).steps)
+command_text (commands.Go n) d = run_text (gone d.breaks d.watches n d.machine)
+command_text (commands.Step n) d = run_text (gone_over d.breaks d.watches n d.machine)
+command_text (commands.Finish n) d = run_text (gone_out d.breaks d.watches n d.machine)
+command_text (commands.Until s p o n) d =
+    run_text (gone_until d.breaks d.watches (code_place s p o) n d.machine)
 command_text (commands.On n) d = Some (on_text (gone_on d.breaks d.left n d.machine))
 command_text (commands.Stack n) d = Some (numbers_text (stack_words d.machine n))
 command_text (commands.Static n) d = Some (chain_text (static_chain d.machine n))
@@ -136,14 +141,23 @@ after_command (commands.Step n) d =
     after_run d (depths.Back d.machine.registers.mp) (gone_over d.breaks d.watches n d.machine)
 after_command (commands.Finish n) d =
     after_run d (depths.Left d.machine.registers.mp) (gone_out d.breaks d.watches n d.machine)
+after_command (commands.Until s p o n) d =
+    after_run d (depths.Place (code_place s p o)) (gone_until d.breaks d.watches (code_place s p o) n d.machine)
 after_command (commands.On n) d = after_on d n
 after_command other d = d
 
--- what is answered to a line, without a line feed; to one that is no command `?`
-abbrev pub answer_text : Option Command → Session → Option (List ℕ)
-answer_text None d = Some (codes "?")
-answer_text (Some command) d = command_text command d
+-- the debugger after bytes that wait on the console, as `key` lets each wait
+abbrev pub after_keys : List ℕ → Session → Session
+after_keys [] d = d
+after_keys (b ∷ bytes) d = after_keys bytes (after_command (commands.Key b) d)
 
-abbrev pub session_after : Option Command → Session → Session
+-- what is answered to a line, without a line feed; to one that asks for nothing `?`
+abbrev pub answer_text : Option Order → Session → Option (List ℕ)
+answer_text None d = Some (codes "?")
+answer_text (Some (Does command)) d = command_text command d
+answer_text (Some (Types bytes)) d = Some (codes "ok")
+
+abbrev pub session_after : Option Order → Session → Session
 session_after None d = d
-session_after (Some command) d = after_command command d
+session_after (Some (Does command)) d = after_command command d
+session_after (Some (Types bytes)) d = after_keys bytes d

@@ -88,6 +88,17 @@ point command (s ∷ p ∷ o ∷ []) =
     if nat_le s 255 && (nat_le p 255 && nat_le o 65535) then Some (command s p o) else None
 point command (s ∷ p ∷ o ∷ n ∷ more) = None
 
+-- a segment, a procedure and an offset, and a number up to this one, which stands for none as well
+abbrev pub point_or : ℕ → (ℕ → ℕ → ℕ → ℕ → Command) → Reading
+point_or most command [] = None
+point_or most command (s ∷ []) = None
+point_or most command (s ∷ p ∷ []) = None
+point_or most command (s ∷ p ∷ o ∷ []) =
+    if nat_le s 255 && (nat_le p 255 && nat_le o 65535) then Some (command s p o most) else None
+point_or most command (s ∷ p ∷ o ∷ n ∷ []) =
+    if nat_le s 255 && (nat_le p 255 && (nat_le o 65535 && nat_le n most)) then Some (command s p o n) else None
+point_or most command (s ∷ p ∷ o ∷ n ∷ m ∷ more) = None
+
 -- the commands, a row for each: its word, its numbers by the letters that stand for them, and what these come to
 unfoldable pub command_rows : List (List ℕ × List ℕ × Reading)
 command_rows =
@@ -112,6 +123,7 @@ command_rows =
     ∷ (codes "console", codes " N", one 65535 (λ n. commands.Show (views.Console n)))
     ∷ (codes "step", codes " [N]", most_or 4294967295 commands.Step)
     ∷ (codes "finish", codes " [N]", most_or 4294967295 commands.Finish)
+    ∷ (codes "until", codes " S P O [N]", point_or 4294967295 commands.Until)
     ∷ (codes "on", codes " N", one 4294967295 commands.On)
     ∷ (codes "watch", codes " A", one 65535 commands.Watch)
     ∷ (codes "unwatch", codes " A", one 65535 commands.Unwatch)
@@ -148,10 +160,10 @@ abbrev pub command_with : List ℕ → List (List ℕ) → Option (List ℕ) →
 command_with word words None = setting_with word words
 command_with word words (Some ns) = command_in command_rows word ns
 
--- a word and at most three numbers, or one word that is none
+-- a word and at most four numbers, or one word that is none
 abbrev pub in_words : List (List ℕ) → Option Command
 in_words [] = None
-in_words (word ∷ words) = command_with word words (numbers 3 words)
+in_words (word ∷ words) = command_with word words (numbers 4 words)
 
 -- the command that a line is, without its line feed; a carriage return at its end is no part of it
 unfoldable pub command_of : List ℕ → Option Command

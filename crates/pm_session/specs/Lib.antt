@@ -1,5 +1,6 @@
 pub mod Words
 pub mod Commands
+pub mod Orders
 pub mod Endings
 pub mod Texts
 pub mod Views

@@ -5,15 +5,15 @@ use Rattle.pm_machine.specs.State.{State}
 use Rattle.pm_code.specs.Text.{quoted}
 use Rattle.pm_debug.specs.Runs.Left.{Nothing}
 use Rattle.pm_debug.specs.Session.{Session}
-use Rattle.pm_session.specs.declared.commands.Command.{Command}
 use Rattle.pm_session.specs.declared.commands.Command.TheVariants as commands
-use Rattle.pm_session.specs.Commands.{command_of}
+use Rattle.pm_session.specs.Orders.{Order, order_of}
+use Rattle.pm_session.specs.Orders.Order.{Does}
 use Rattle.pm_session.specs.Words.{lines_of_input}
 use Rattle.pm_session.specs.Answers.{session_after, answer_text}
 
 -- the line is `quit`, which ends a session
-abbrev pub is_quit : Option Command → Bool
-is_quit (Some commands.Quit) = true
+abbrev pub is_quit : Option Order → Bool
+is_quit (Some (Does commands.Quit)) = true
 is_quit other = false
 
 abbrev pub with_feed : Option (List ℕ) → List ℕ
@@ -25,31 +25,31 @@ abbrev pub console_line : List ℕ → List ℕ
 console_line [] = []
 console_line (b ∷ bytes) = codes "console " ++ (quoted (b ∷ bytes) ++ 10 ∷ [])
 
--- the bytes that a command writes to the console
-abbrev pub console_added : Option Command → Session → List ℕ
-console_added command d =
-    drop (length d.machine.devices.console) (session_after command d).machine.devices.console
+-- the bytes that what a line asks for writes to the console
+abbrev pub console_added : Option Order → Session → List ℕ
+console_added order d =
+    drop (length d.machine.devices.console) (session_after order d).machine.devices.console
 
 -- what of them stands in front of the answer: after `console on` all, and else nothing
-abbrev pub console_shown : Option Command → Session → List ℕ
-console_shown command d = if d.shows_console then console_line (console_added command d) else []
+abbrev pub console_shown : Option Order → Session → List ℕ
+console_shown order d = if d.shows_console then console_line (console_added order d) else []
 
 -- the answer to a line, with its line feed, behind what is shown of the console; `quit` has none
-abbrev pub answer_line : Option Command → Session → List ℕ
-answer_line command d = console_shown command d ++ with_feed (answer_text command d)
+abbrev pub answer_line : Option Order → Session → List ℕ
+answer_line order d = console_shown order d ++ with_feed (answer_text order d)
 
 -- the answers to lines, up to the first `quit`
 unfoldable pub answers : List (List ℕ) → Session → List ℕ
 answers [] d = []
 answers (line ∷ lines) d =
-    if is_quit (command_of line) then [] else answer_line (command_of line) d
-    ++ answers lines (session_after (command_of line) d)
+    if is_quit (order_of line) then [] else answer_line (order_of line) d
+    ++ answers lines (session_after (order_of line) d)
 
 -- what of an input with these lines stands behind the first `quit`
 unfoldable pub behind_quit : List (List ℕ) → List ℕ → List ℕ
 behind_quit [] input = input
 behind_quit (line ∷ lines) input =
-    if is_quit (command_of line) then drop (length line + 1) input else behind_quit lines (drop (length line + 1) input)
+    if is_quit (order_of line) then drop (length line + 1) input else behind_quit lines (drop (length line + 1) input)
 
 -- a debugger of a machine, without breakpoints and watched words, which has made no run and does not show the console
 abbrev pub opened : State → Session

@@ -88,7 +88,8 @@ abbrev pub setting_text : List ℕ × List ℕ × Command → List ℕ
 setting_text row = row.0 ++ (32 ∷ row.1)
 
 unfoldable pub help_text : List ℕ
-help_text = parts_text (codes ", ") usage_text command_rows ++ more_parts (codes ", ") setting_text setting_rows
+help_text = parts_text (codes ", ") usage_text command_rows
+    ++ (more_parts (codes ", ") setting_text setting_rows ++ codes ", type \"TEXT\"")
 
 -- what is answered to a command that only shows
 unfoldable pub view_text : View → Session → List ℕ

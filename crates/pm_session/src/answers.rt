@@ -8,13 +8,14 @@ ghost use Rattle.pm_session.specs.Answers.{after_command, session_after, command
 ghost use Rattle.pm_debug.specs.Runs.{gone_on};
 ghost use Rattle.pm_session.specs.Answers.{after_on, gone_text, answer_text, on_text, place_text, registers_text};
 ghost use Rattle.pm_session.specs.Answers.{word_text};
-ghost use Rattle.pm_session.specs.Commands.{command_of};
+ghost use Rattle.pm_session.specs.Orders.{order_of};
 ghost use Rattle.pm_session.specs.Sessions.{answer_line, console_line, is_quit};
 ghost use Rattle.pm_session.specs.Texts.{refused_text};
 
 use crate::commands::{Command, command_of};
 use crate::ending::{Ending, LastLine};
 use crate::texts::{chain, numbers, refused};
+use crate::typed::{keys, typed};
 use crate::views::shown;
 use pm_code::Quoted;
 use pm_debug::{BreakReason, DebugRefusal, Debugger};
@@ -150,6 +151,7 @@ fn do_command(
         Command::Go(limit) => gone(alloc, debugger.go(u64::from(limit))?),
         Command::Step(limit) => gone(alloc, debugger.step_over(u64::from(limit))?),
         Command::Finish(limit) => gone(alloc, debugger.finish(u64::from(limit))?),
+        Command::Until(s, p, o, n) => gone(alloc, debugger.until(s, p, o, u64::from(n))?),
         Command::On(limit) => go_on(alloc, debugger, limit),
         Command::Stack(n) => numbers(alloc, &debugger.stack(alloc, n)?),
         Command::Static(limit) => chain(alloc, debugger.static_chain(alloc, limit)),
@@ -167,17 +169,22 @@ fn do_command(
     Ok(Some(text?))
 }
 
-/// What is answered to a line without a line feed: to one that is no command, `?`.
+/// Does what a line asks for, and gives the answer without a line feed: to a line that asks for nothing, `?`.
 fn answer_to(
     alloc: Global,
     debugger: &mut Debugger,
-    command: Option<Command>,
+    line: &[u8],
 ) -> Result<Option<String>, AllocError>
     ensures text { IfOk result (λ text.
-        option_map string_bytes text ≡ answer_text command (session_of debugger.old)) }
-    ensures session { OnOk result ((session_of debugger.new) ≡ session_after command (session_of debugger.old)) }
+        option_map string_bytes text ≡ answer_text (order_of line.now) (session_of debugger.old)) }
+    ensures session { OnOk result ((session_of debugger.new)
+        ≡ session_after (order_of line.now) (session_of debugger.old)) }
 {
-    match command {
+    if let Some(bytes) = typed(alloc, line)? {
+        keys(debugger, &bytes)?;
+        return Ok(Some(format!(in alloc; "ok")?));
+    }
+    match command_of(line) {
         Some(command) => do_command(alloc, debugger, command),
         None => Ok(Some(format!(in alloc; "?")?)),
     }
@@ -201,24 +208,24 @@ fn console_line(
     }
 }
 
-/// Does the command that a line is, without its line feed, and gives the answer, with a line feed. `quit` has none.
-/// After `console on` the line of what the command wrote to the console stands in front.
+/// Does what a line asks for, without its line feed, and gives the answer, with a line feed. `quit` has none.
+/// After `console on` the line of what it wrote to the console stands in front.
 #[tactic(auto, using(crate::proofs::SessionLaws::unanswered))]
 pub fn answer(
     alloc: Global,
     debugger: &mut Debugger,
     line: &[u8],
 ) -> Result<Option<String>, AllocError>
-    ensures quit { IfOk result (λ text. IfNone text (is_quit (command_of line.now) ≡ true)) }
-    ensures going { IfOk result (λ text. IfSome text (λ text. is_quit (command_of line.now) ≡ false)) }
+    ensures quit { IfOk result (λ text. IfNone text (is_quit (order_of line.now) ≡ true)) }
+    ensures going { IfOk result (λ text. IfSome text (λ text. is_quit (order_of line.now) ≡ false)) }
     ensures text { IfOk result (λ text. IfSome text
-        (λ text. string_bytes text ≡ answer_line (command_of line.now) (session_of debugger.old))) }
+        (λ text. string_bytes text ≡ answer_line (order_of line.now) (session_of debugger.old))) }
     ensures session { OnOk result ((session_of debugger.new)
-        ≡ session_after (command_of line.now) (session_of debugger.old)) }
+        ≡ session_after (order_of line.now) (session_of debugger.old)) }
 {
     let wanted = debugger.shows_console();
     let before = debugger.as_machine().console().len();
-    let Some(text) = answer_to(alloc, debugger, command_of(line))? else {
+    let Some(text) = answer_to(alloc, debugger, line)? else {
         return Ok(None);
     };
     let console = debugger.as_machine().console();

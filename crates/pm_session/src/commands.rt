@@ -37,6 +37,8 @@ pub enum Command {
     Step(u32),
     /// Makes what is left of the running procedure, with its return, with at most so many steps.
     Finish(u32),
+    /// Makes steps up to a place, at most so many: segment, procedure, offset and steps.
+    Until(u8, u8, u16, u32),
     /// Goes on with the last run, where its limit stopped it, for at most so many steps more.
     On(u32),
     /// Shows the words on the stack, at most so many.
@@ -198,10 +200,10 @@ fn next_word(line: &[u8]) -> Option<(&[u8], &[u8])>
     Some(word_and_rest(line))
 }
 
-/// The numbers that the words of a line are, at most three.
-fn numbers(line: &[u8]) -> Option<ArrayVec<u32, 3>>
-    ensures some { IfSome result (λ ns. numbers 3 (words_of_line line.now) ≡ Some ns.items) }
-    ensures none { IfNone result (numbers 3 (words_of_line line.now) ≡ None) }
+/// The numbers that the words of a line are, at most four.
+fn numbers(line: &[u8]) -> Option<ArrayVec<u32, 4>>
+    ensures some { IfSome result (λ ns. numbers 4 (words_of_line line.now) ≡ Some ns.items) }
+    ensures none { IfNone result (numbers 4 (words_of_line line.now) ≡ None) }
 {
     let mut numbers = ArrayVec::new();
     let mut rest = line;
@@ -209,7 +211,7 @@ fn numbers(line: &[u8]) -> Option<ArrayVec<u32, 3>>
         let Some(number) = number(word) else {
             return None;
         };
-        if numbers.len() >= 3 {
+        if numbers.len() >= 4 {
             return None;
         }
         numbers.push(number);
@@ -304,14 +306,26 @@ fn named_with_three(name: &[u8], s: u32, p: u32, o: u32) -> Option<Command>
     let command = match name {
         _ if is_text(name, "break") => Command::Break(byte(s)?, byte(p)?, word(o)?),
         _ if is_text(name, "clear") => Command::Clear(byte(s)?, byte(p)?, word(o)?),
+        _ if is_text(name, "until") => Command::Until(byte(s)?, byte(p)?, word(o)?, MOST_STEPS),
         _ => return None,
     };
     Some(command)
 }
 
-/// The command of a name and the numbers behind it, of which there are at most three.
+/// The command of a name and four numbers: a row for each.
+#[tactic(auto, unfolding(crate::specs::Commands::command_rows))]
+fn named_with_four(name: &[u8], s: u32, p: u32, o: u32, n: u32) -> Option<Command>
+    ensures command { result ≡ command_in command_rows name.now (s ∷ p ∷ o ∷ n ∷ []) }
+{
+    if !is_text(name, "until") {
+        return None;
+    }
+    Some(Command::Until(byte(s)?, byte(p)?, word(o)?, n))
+}
+
+/// The command of a name and the numbers behind it, of which there are at most four.
 fn command_named(name: &[u8], numbers: &[u32]) -> Option<Command>
-    requires few { length numbers.now ≤ 3 }
+    requires few { length numbers.now ≤ 4 }
     ensures command { result ≡ command_in command_rows name.now numbers.now }
 {
     match numbers {
@@ -319,6 +333,7 @@ fn command_named(name: &[u8], numbers: &[u32]) -> Option<Command>
         [n] => named_with_one(name, *n),
         [a, n] => named_with_two(name, *a, *n),
         [s, p, o] => named_with_three(name, *s, *p, *o),
+        [s, p, o, n] => named_with_four(name, *s, *p, *o, *n),
         _ => None,
     }
 }
@@ -352,7 +367,7 @@ fn setting(name: &[u8], line: &[u8]) -> Option<Command>
 }
 
 /// A line without the carriage return at its end.
-fn without_return(line: &[u8]) -> &[u8]
+pub(crate) fn without_return(line: &[u8]) -> &[u8]
     ensures line { result.now ≡ without_return line.now }
 {
     let Some((last, front)) = line.split_last() else {

@@ -6,6 +6,7 @@ mod commands;
 mod ending;
 mod spelled;
 mod texts;
+mod typed;
 mod views;
 
 pub use answers::answer;

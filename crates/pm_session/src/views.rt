@@ -20,8 +20,8 @@ use std::alloc::{AllocError, Global};
 /// The commands.
 const HELP: &str = concat!(
     "break S P O, clear S P O, poke A W, key B, go N, stack N, static N, dynamic N, local D B, regs, place N, trace, ",
-    "peek A N, bytes A N, where, breaks, frames N, list N, console N, step [N], finish [N], on N, watch A, ",
-    "unwatch A, watches, help, quit, console on, console off",
+    "peek A N, bytes A N, where, breaks, frames N, list N, console N, step [N], finish [N], until S P O [N], on N, ",
+    "watch A, unwatch A, watches, help, quit, console on, console off, type \"TEXT\"",
 );
 
 /// Breakpoints.

@@ -8,7 +8,7 @@ use Rattle.std.proofs.KnownBytes.{Consumes-trans, Consumes-nil, Consumes-kept, A
 use Rattle.pm_machine.specs.State.{State}
 use Rattle.pm_debug.specs.Runs.Left.{Nothing}
 use Rattle.pm_debug.specs.Session.{Session}
-use Rattle.pm_session.specs.Commands.{command_of}
+use Rattle.pm_session.specs.Orders.{order_of}
 use Rattle.pm_streams.specs.declared.fault.Fault.{Fault}
 use Rattle.pm_streams.specs.declared.fault.Fault.TheVariants as faults
 use Rattle.pm_tool.specs.declared.outcome.Exit.TheVariants as exits
@@ -92,11 +92,11 @@ module _ (old now : Streams) (line : List ℕ) (taken : ℕ) (began d : Session)
 
     module _ (feed : (c == 10) ≡ true) (sink : Outgoing) where
       -- a line is answered
-      pub talking_line : (line' : List ℕ) (d' : Session) → is_quit (command_of line) ≡ false
-          → Appends now.sink.contents sink.contents (answer_line (command_of line) d) → line' ≡ []
-          → d' ≡ session_after (command_of line) d → IsTalking old (both source sink) line' (taken + 1) began d'
+      pub talking_line : (line' : List ℕ) (d' : Session) → is_quit (order_of line) ≡ false
+          → Appends now.sink.contents sink.contents (answer_line (order_of line) d) → line' ≡ []
+          → d' ≡ session_after (order_of line) d → IsTalking old (both source sink) line' (taken + 1) began d'
       talking_line line' d' q a e s =
-          let text : List ℕ = answer_line (command_of line) d in
+          let text : List ℕ = answer_line (order_of line) d in
           record {
             read = u.read ++ c ∷ [];
             shown = u.shown ++ text;
@@ -104,19 +104,19 @@ module _ (old now : Streams) (line : List ℕ) (taken : ℕ) (began d : Session)
             reads = more_reads;
             writes = Appends-trans old.sink.contents now.sink.contents sink.contents u.shown text u.writes a;
             run = λ rest. rw (e, s) (more_run rest ∙ ap (after_telling u.shown) (told_line line c rest d feed q)
-                ∙ regroup u.shown text (told rest (session_after (command_of line) d))
-                ∙ ap (after_telling (u.shown ++ text)) (told_start rest (session_after (command_of line) d)));
+                ∙ regroup u.shown text (told rest (session_after (order_of line) d))
+                ∙ ap (after_telling (u.shown ++ text)) (told_start rest (session_after (order_of line) d)));
             prompt = ap (λ lines. (told lines began).text) (whole_lines_feed u.read c feed ∙ sym (append-nil (u.read ++ c ∷ [])))
                 ∙ ap (λ t. t.text) (more_run [] ∙ ap (after_telling u.shown) (told_line line c [] d feed q)
-                ∙ regroup u.shown text (told [] (session_after (command_of line) d)))
-                ∙ ap (λ t. (u.shown ++ text) ++ t) (told_nothing (session_after (command_of line) d)) ∙ append-nil (u.shown ++ text);
+                ∙ regroup u.shown text (told [] (session_after (order_of line) d)))
+                ∙ ap (λ t. (u.shown ++ text) ++ t) (told_nothing (session_after (order_of line) d)) ∙ append-nil (u.shown ++ text);
           }
         where
           regroup : (a b : List ℕ) (t : Told) → after_telling a (after_telling b t) ≡ after_telling (a ++ b) t
           regroup a b t = ap (λ text. record t { text = text }) (sym (append_assoc a b t.text))
 
       -- the session ends by `quit`
-      pub told_by_quit : is_quit (command_of line) ≡ true → Appends now.sink.contents sink.contents (answer_line (command_of line) d)
+      pub told_by_quit : is_quit (order_of line) ≡ true → Appends now.sink.contents sink.contents (answer_line (order_of line) d)
           → taken + 1 ≤ INPUT_LIMIT → IsAnswered old (both source sink) began
       told_by_quit q a few = record {
         read = u.read ++ c ∷ [];
@@ -132,7 +132,7 @@ module _ (old now : Streams) (line : List ℕ) (taken : ℕ) (began d : Session)
       }
 
       -- the answer could not be written
-      pub cut_answering : (fault : Fault) → AppendsFront now.sink.contents sink.contents (answer_line (command_of line) d)
+      pub cut_answering : (fault : Fault) → AppendsFront now.sink.contents sink.contents (answer_line (order_of line) d)
           → taken + 1 ≤ INPUT_LIMIT → source.failed ≡ false
           → IsCause fault false sink.failed [] → IsInterrupted old (both source sink) began fault
       cut_answering fault a few well cause = record {
@@ -142,15 +142,15 @@ module _ (old now : Streams) (line : List ℕ) (taken : ℕ) (began d : Session)
         reads = more_reads;
         writes = Appends-trans old.sink.contents now.sink.contents sink.contents u.shown a.0 u.writes a.1;
         begins = λ rest _. rw (more_run rest) (front_after u.shown a.0 (told_from line (c ∷ rest) d).text
-            (front_trans a.0 (answer_line (command_of line) d) (told_from line (c ∷ rest) d).text a.2 (answered rest (is_quit (command_of line)) refl)));
+            (front_trans a.0 (answer_line (order_of line) d) (told_from line (c ∷ rest) d).text a.2 (answered rest (is_quit (order_of line)) refl)));
         drained = λ e. cc;
         prompt = λ failed. not_failed source.failed well failed;
         cause = rw well (cause_longer fault sink.failed (u.read ++ c ∷ []) (rw more_count few) cause);
       }
         where
-          answered : (rest : List ℕ) (q : Bool) → is_quit (command_of line) ≡ q → IsFront (answer_line (command_of line) d) (told_from line (c ∷ rest) d).text
+          answered : (rest : List ℕ) (q : Bool) → is_quit (order_of line) ≡ q → IsFront (answer_line (order_of line) d) (told_from line (c ∷ rest) d).text
           answered rest true e = ((told_from line (c ∷ rest) d).text, rw (answer_quit line d e) refl)
-          answered rest false e = ((told rest (session_after (command_of line) d)).text, ap (λ t. t.text) (told_line line c rest d feed e))
+          answered rest false e = ((told rest (session_after (order_of line) d)).text, ap (λ t. t.text) (told_line line c rest d feed e))
 
   module _ (source : Incoming) (none : ReadsByte now.source.remaining source.remaining None) where
     -- the input ends behind a line feed
@@ -169,20 +169,20 @@ module _ (old now : Streams) (line : List ℕ) (taken : ℕ) (began d : Session)
 
     module _ (some : 0 < length line) (sink : Outgoing) where
       -- the last line has no line feed
-      pub told_at_last : Appends now.sink.contents sink.contents (answer_line (command_of line) d) → taken ≤ INPUT_LIMIT
+      pub told_at_last : Appends now.sink.contents sink.contents (answer_line (order_of line) d) → taken ≤ INPUT_LIMIT
           → IsAnswered old (both source sink) began
       told_at_last a few = record {
         read = u.read;
-        shown = u.shown ++ answer_line (command_of line) d;
+        shown = u.shown ++ answer_line (order_of line) d;
         ended = true;
         few = rw u.count few;
         reads = Consumes-kept old.source.remaining now.source.remaining source.remaining u.read u.reads none.0;
-        writes = Appends-trans old.sink.contents now.sink.contents sink.contents u.shown (answer_line (command_of line) d) u.writes a;
+        writes = Appends-trans old.sink.contents now.sink.contents sink.contents u.shown (answer_line (order_of line) d) u.writes a;
         all = λ rest none_left. let empty = none_left refl in rw empty (u.run [] ∙ ap (after_telling u.shown) (told_last line d some));
         drained = λ _. none.1;
       }
 
-      pub cut_at_last : (fault : Fault) → AppendsFront now.sink.contents sink.contents (answer_line (command_of line) d) → taken ≤ INPUT_LIMIT
+      pub cut_at_last : (fault : Fault) → AppendsFront now.sink.contents sink.contents (answer_line (order_of line) d) → taken ≤ INPUT_LIMIT
           → source.failed ≡ false
           → IsCause fault false sink.failed [] → IsInterrupted old (both source sink) began fault
       cut_at_last fault a few well cause = record {
@@ -193,7 +193,7 @@ module _ (old now : Streams) (line : List ℕ) (taken : ℕ) (began d : Session)
         writes = Appends-trans old.sink.contents now.sink.contents sink.contents u.shown a.0 u.writes a.1;
         begins = λ rest none_left. let empty = none_left refl in
             rw empty (subst (IsFront (u.shown ++ a.0)) (sym (ap (λ t. t.text) (u.run [] ∙ ap (after_telling u.shown) (told_last line d some))))
-            (front_after u.shown a.0 (answer_line (command_of line) d) a.2));
+            (front_after u.shown a.0 (answer_line (order_of line) d) a.2));
         drained = λ _. none.1;
         prompt = λ failed. not_failed source.failed well failed;
         cause = rw well (cause_longer fault sink.failed u.read (rw u.count few) cause);

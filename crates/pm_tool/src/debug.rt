@@ -2,7 +2,7 @@
 ghost use Rattle.std.specs.Prelude.{◌≡◌, false, true, not, [], IfOk, IfErr, OnOk, OnErr};
 ghost use Rattle.std.specs.Io.KnownBytes.{Appends};
 ghost use Rattle.pm_debug.specs.Session.{session_of};
-ghost use Rattle.pm_session.specs.Commands.{command_of};
+ghost use Rattle.pm_session.specs.Orders.{order_of};
 ghost use Rattle.pm_session.specs.Answers.{session_after};
 ghost use Rattle.pm_session.specs.Sessions.{answer_line, is_quit};
 ghost use Rattle.pm_streams.specs.Streams.{AppendsFront, IsCause, IsCounted, AreWell, both};
@@ -21,14 +21,14 @@ fn turn<W: Sink>(
     line: &[u8],
 ) -> Result<bool, Fault>
     requires well { (W.seen sink.old).failed ≡ false }
-    ensures going { IfOk result (λ going. going ≡ not (is_quit (command_of line.now))) }
+    ensures going { IfOk result (λ going. going ≡ not (is_quit (order_of line.now))) }
     ensures written { OnOk result (Appends (W.seen sink.old).contents (W.seen sink.new).contents
-        (answer_line (command_of line.now) (session_of debugger.old))) }
+        (answer_line (order_of line.now) (session_of debugger.old))) }
     ensures session { IfOk result (λ going. going ≡ true
-        → (session_of debugger.new) ≡ session_after (command_of line.now) (session_of debugger.old)) }
+        → (session_of debugger.new) ≡ session_after (order_of line.now) (session_of debugger.old)) }
     ensures well { OnOk result ((W.seen sink.new).failed ≡ false) }
     ensures front { OnErr result (AppendsFront (W.seen sink.old).contents (W.seen sink.new).contents
-        (answer_line (command_of line.now) (session_of debugger.old))) }
+        (answer_line (order_of line.now) (session_of debugger.old))) }
     ensures cause { IfErr result (λ fault. IsCause fault false (W.seen sink.new).failed []) }
 {
     let Some(text) = answer(alloc, debugger, line)? else {

@@ -7,8 +7,8 @@ pub returns-in_default-number-clause-none : goal.returns-in_default-number-claus
 returns-in_default-number-clause-none c =
     numbers_none _ _ _ _ c.words.invariant.rest c.in-Some.word.now (words_of_line c.in-Some.tail.now) (search rules) (search rules)
 
-pub returns-then-len-ge3-clause-none : goal.returns-then-len-ge3-clause-none
-returns-then-len-ge3-clause-none c =
+pub returns-then-len-ge4-clause-none : goal.returns-then-len-ge4-clause-none
+returns-then-len-ge4-clause-none c =
     numbers_too_many _ _ _ _ c.words.invariant.rest c.in-Some.word.now (words_of_line c.in-Some.tail.now) (search rules) (omega arith)
 
 pub words-preserved : goal.words-preserved

@@ -7,8 +7,8 @@ use Rattle.pm_session.proofs.commands.numbers.Given as goal
 -- the numbers so far, and those of the rest, are the line's
 abbrev pub invariant-words : goal.invariant-words
 invariant-words l = record {
-  rest : numbers 3 (words_of_line l.line) ≡ behind l.numbers.items (numbers (3 - length l.numbers.items) (words_of_line l.rest));
-  few : length l.numbers.items ≤ 3;
+  rest : numbers 4 (words_of_line l.line) ≡ behind l.numbers.items (numbers (4 - length l.numbers.items) (words_of_line l.rest));
+  few : length l.numbers.items ≤ 4;
 }
 
 abbrev pub decreases-words : goal.decreases-words

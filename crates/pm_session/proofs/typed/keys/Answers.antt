@@ -10,6 +10,8 @@ loop-byte-preserved c =
           ∙ key_more c.args.bytes.now c.loop-byte.byte-index (session_of c.loop-byte.debugger) _ c.loop-byte-test.true (search rules);
     }
 
-pub returns-clause-session : goal.returns-clause-session
-returns-clause-session c =
-    sym (c.loop-byte.invariant.session ∙ keys_over c.args.bytes.now c.loop-byte.byte-index (session_of c.loop-byte.debugger) (omega arith))
+pub returns : goal.returns
+returns c = record {
+  session =
+      sym (c.loop-byte.invariant.session ∙ keys_over c.args.bytes.now c.loop-byte.byte-index (session_of c.loop-byte.debugger) (omega arith));
+}

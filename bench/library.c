@@ -57,6 +57,11 @@ static uint32_t get_slot(void) { return pmach_get_slot(image, image_len, 1, OUT)
 static uint32_t get_text_slot(void) { return pmach_get_text_slot(image, image_len, 2, OUT); }
 static uint32_t remove_slot(void) { return pmach_remove_slot(image, image_len, 1, OUT); }
 static uint32_t change_slot(void) { return pmach_change_slot(image, image_len, 1, (const uint8_t *)"NEW", 3, OUT); }
+static uint32_t indented(void) { return pmach_disassemble_indented(code, code_len, OUT); }
+static uint32_t kind(void) { return pmach_kind(image, image_len, NAME, 5, OUT); }
+static uint32_t kind_slot(void) { return pmach_kind_slot(image, image_len, 1, 5, OUT); }
+static uint32_t copy(void) { return pmach_copy(image, image_len, NAME, image, image_len, OUT); }
+static uint32_t copy_slot(void) { return pmach_copy_slot(image, image_len, 1, (const uint8_t *)"COPY", 4, image, image_len, OUT); }
 static uint32_t line(void) { return pmach_line(&h, OUT); }
 static uint32_t instruction(void) { return pmach_instruction(&h, 1024, OUT); }
 
@@ -70,7 +75,8 @@ static const struct job { const char *name; uint32_t (*call)(void); int has_mach
     {"assemble_faults", faults, 0, 0}, {"assemble_symbols", symbols, 0, 0}, {"disassemble_names", names, 0, 0},
     {"disassemble_list", listing, 0, 0}, {"disassemble_statements", statements, 0, 0}, {"get_slot", get_slot, 0, 0},
     {"get_text_slot", get_text_slot, 0, 0}, {"remove_slot", remove_slot, 0, 0}, {"change_slot", change_slot, 0, 0},
-    {"line", line, 1, 0}, {"instruction", instruction, 1, 0},
+    {"line", line, 1, 0}, {"instruction", instruction, 1, 0}, {"disassemble_indented", indented, 0, 0}, {"kind", kind, 0, 0},
+    {"kind_slot", kind_slot, 0, 0}, {"copy", copy, 0, 0}, {"copy_slot", copy_slot, 0, 0},
 };
 
 /* what the machine of a handle shows: registers, memory, both outputs; nothing of an empty one */

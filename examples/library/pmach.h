@@ -53,6 +53,9 @@ uint32_t pmach_disassemble_names(const uint8_t *file, size_t file_len, uint8_t *
 uint32_t pmach_disassemble_list(const uint8_t *file, size_t file_len, uint8_t *out, size_t out_len, size_t *needed);
 uint32_t pmach_disassemble_statements(const uint8_t *file, size_t file_len,
     uint8_t *out, size_t out_len, size_t *needed);
+/* in statements behind blanks by their depth */
+uint32_t pmach_disassemble_indented(const uint8_t *file, size_t file_len,
+    uint8_t *out, size_t out_len, size_t *needed);
 /* the trace of bare code, which a text spells in hexadecimal digits: 0 ended, 3 an execution error, 6 limit or waiting */
 uint32_t pmach_raw(const uint8_t *text, size_t text_len, uint32_t limit, uint8_t *out, size_t out_len, size_t *needed);
 
@@ -86,6 +89,17 @@ uint32_t pmach_remove_slot(const uint8_t *image, size_t image_len, uint16_t slot
     uint8_t *out, size_t out_len, size_t *needed);
 uint32_t pmach_change_slot(const uint8_t *image, size_t image_len, uint16_t slot, const uint8_t *new_name,
     size_t new_len, uint8_t *out, size_t out_len, size_t *needed);
+/* another kind, as pmach_put's, of the first file of a name, or of the file of a slot */
+uint32_t pmach_kind(const uint8_t *image, size_t image_len, const uint8_t *name, size_t name_len, uint8_t kind,
+    uint8_t *out, size_t out_len, size_t *needed);
+uint32_t pmach_kind_slot(const uint8_t *image, size_t image_len, uint16_t slot, uint8_t kind,
+    uint8_t *out, size_t out_len, size_t *needed);
+/* the first file of a name that the volume of the image from has is added, with its kind and date; or that of a slot
+   of it, under the name */
+uint32_t pmach_copy(const uint8_t *image, size_t image_len, const uint8_t *name, size_t name_len,
+    const uint8_t *from, size_t from_len, uint8_t *out, size_t out_len, size_t *needed);
+uint32_t pmach_copy_slot(const uint8_t *image, size_t image_len, uint16_t slot, const uint8_t *name, size_t name_len,
+    const uint8_t *from, size_t from_len, uint8_t *out, size_t out_len, size_t *needed);
 /* the last date: year 0 to 127, month 1 to 12, day 1 to 31 */
 uint32_t pmach_date(const uint8_t *image, size_t image_len, uint8_t year, uint8_t month, uint8_t day,
     uint8_t *out, size_t out_len, size_t *needed);

@@ -7,6 +7,7 @@ mod buffer;
 pub mod debugger;
 pub mod disks;
 pub mod events;
+pub mod filing;
 mod handle;
 mod held;
 pub mod jobs;

@@ -1,0 +1,105 @@
+//! The kind of a file, and a file of another volume: one call each, for the first file of a name and for that of a slot.
+ghost use Rattle.std.specs.Prelude.{◌≡◌, ◌↔◌, []};
+ghost use Rattle.std.specs.Str.{IsUtf8};
+ghost use Rattle.pm_filer.specs.Filed.{Copy, CopySlot, Kind, KindSlot};
+ghost use Rattle.pm_tool.specs.Batches.{said_files};
+ghost use Rattle.pm_c.specs.Answers.{Answers};
+
+use crate::status::NO_TEXT;
+use crate::volumes::{command, none, text_of};
+use pm_filer::FileCommand;
+use std::alloc::Global;
+
+/// Gives the first file of a name a kind (its low four bits).
+#[unsafe(no_mangle)]
+pub extern "C" fn pmach_kind(
+    alloc: Global,
+    image: &[u8],
+    name: &[u8],
+    kind: u8,
+    out: &mut [u8],
+    needed: &mut usize,
+) -> u32
+    ensures answers { Answers (said_files image.now (Kind name.now kind) []) result out.old out.new needed.new }
+    ensures text { (result ≡ NO_TEXT) ↔ ¬ (IsUtf8 name.now) }
+{
+    match text_of(alloc, name) {
+        Ok(name) => command(
+            alloc,
+            image,
+            &[],
+            FileCommand::Kind(name, kind),
+            out,
+            needed,
+        ),
+        Err(code) => none(code, needed),
+    }
+}
+
+/// Gives the file of a slot a kind (its low four bits); a file of its name in another slot keeps its own.
+#[unsafe(no_mangle)]
+pub extern "C" fn pmach_kind_slot(
+    alloc: Global,
+    image: &[u8],
+    slot: u16,
+    kind: u8,
+    out: &mut [u8],
+    needed: &mut usize,
+) -> u32
+    ensures answers { Answers (said_files image.now (KindSlot slot kind) []) result out.old out.new needed.new }
+{
+    command(
+        alloc,
+        image,
+        &[],
+        FileCommand::KindSlot(slot, kind),
+        out,
+        needed,
+    )
+}
+
+/// Adds the first file of a name that the volume of the image `from` has, with its kind and date.
+#[unsafe(no_mangle)]
+pub extern "C" fn pmach_copy(
+    alloc: Global,
+    image: &[u8],
+    name: &[u8],
+    from: &[u8],
+    out: &mut [u8],
+    needed: &mut usize,
+) -> u32
+    ensures answers { Answers (said_files image.now (Copy name.now []) from.now) result out.old out.new needed.new }
+    ensures text { (result ≡ NO_TEXT) ↔ ¬ (IsUtf8 name.now) }
+{
+    match text_of(alloc, name) {
+        Ok(name) => {
+            let copy = FileCommand::Copy(name, Vec::new(alloc));
+            command(alloc, image, from, copy, out, needed)
+        }
+        Err(code) => none(code, needed),
+    }
+}
+
+/// Adds the file of a slot of the volume of the image `from` under this name, with its kind and date.
+#[unsafe(no_mangle)]
+pub extern "C" fn pmach_copy_slot(
+    alloc: Global,
+    image: &[u8],
+    slot: u16,
+    name: &[u8],
+    from: &[u8],
+    out: &mut [u8],
+    needed: &mut usize,
+) -> u32
+    ensures answers { Answers (said_files image.now (CopySlot slot name.now []) from.now)
+        result out.old out.new needed.new }
+    ensures text { (result ≡ NO_TEXT) ↔ ¬ (IsUtf8 name.now) }
+{
+    match text_of(alloc, name) {
+        Ok(name) => {
+            let copy = FileCommand::CopySlot(slot, name, Vec::new(alloc));
+            command(alloc, image, from, copy, out, needed)
+        }
+        Err(code) => none(code, needed),
+    }
+}

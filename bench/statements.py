@@ -1,6 +1,6 @@
 """statements.py FILE.. | --random SEED COUNT | --damaged SEED COUNT FILE..: the statements of `pmach dis --statements`, read back by the page (docs/STATEMENTS.md) alone,
 are the instructions of `pmach dis`, procedure by procedure, each once and in order; and the heading of each procedure says what its table and its
-returns say; and `dis --indent` is that text with the blanks of the page.
+returns say, and the lines behind it the jump table; and `dis --indent` is that text with the blanks of the page.
 
 FILE is a code file. With --random so many programs are made, of single instructions and of whole expressions, by turns; with --damaged up to
 eight bytes of a file are others, so often. By hand; no part of the gate. PMACH names another program than ./pmach."""
@@ -482,7 +482,7 @@ def compared(data, told):
             places[key[:2]].append(int(line[7:]))
         elif line.startswith("  "):
             wanted[key].append(line[2:])
-    shown, key, headings = {}, None, {}
+    shown, key, headings, tables = {}, None, {}, {}
     flat = run(["dis", "--statements"], data)[1]
     for line in flat.split("\n"):
         m = re.fullmatch(r"PROCEDURE (\d+) OF SEGMENT (\d+): level (-?\d+), (\d+) bytes of parameters, (\d+) of locals(?:, (\d+) of result)?", line)
@@ -490,13 +490,20 @@ def compared(data, told):
             key = (m[2], m[1])
             key = (*key, sum(k[:2] == key for k in shown))
             shown[key] = []
+            tables[key] = []
             headings[key] = [None if n is None else int(n) for n in m.groups()[2:]]
         elif re.match(r"\d{5} ", line):
             shown[key].append(line[6:])
+        elif re.fullmatch(r"\^%d L\d{5}" % len(tables.get(key, [])), line) and not shown[key]:
+            tables[key].append(int(line[-5:]))
     if wanted.keys() != shown.keys():
         print("procedures differ: %s" % (wanted.keys() ^ shown.keys()))
         return 0, 1
     good, bad = 0, indented(run(["dis", "--indent"], data)[1], flat, places)
+    for key, table in tables.items():
+        if table != places[key[:2]]:
+            bad += 1
+            print("the jump table of %s is %s" % (key, table))
     for key, heading in headings.items():
         returned = {int(code.split()[1]) for code in wanted[key] if code[:4] in ("RNP ", "RBP ")}
         if heading != sizes[key] + [2 * returned.pop() if len(returned) == 1 else None]:

@@ -54,7 +54,7 @@ pub(crate) fn state_file(alloc: Global, input: &[u8]) -> Result<Made, AllocError
         Ok(file) => file,
         Err(reason) => return Ok(Made::Refused(Refusal::Code(reason), None)),
     };
-    let statements = pm_statements::file(alloc, &file)?;
+    let statements = pm_statements::file(alloc, &file, false)?;
     Ok(Made::Bytes(statements.into_bytes()))
 }
 
@@ -66,6 +66,6 @@ pub(crate) fn indent_file(alloc: Global, input: &[u8]) -> Result<Made, AllocErro
         Ok(file) => file,
         Err(reason) => return Ok(Made::Refused(Refusal::Code(reason), None)),
     };
-    let statements = pm_statements::indented_file(alloc, &file)?;
+    let statements = pm_statements::file(alloc, &file, true)?;
     Ok(Made::Bytes(statements.into_bytes()))
 }

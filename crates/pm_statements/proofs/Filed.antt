@@ -4,7 +4,11 @@ use Rattle.std.proofs.Common.{Option, Some, IfSome}
 use Rattle.pm_codefile.specs.Dictionary.{segment_in}
 use Rattle.pm_codefile.specs.Segments.{attributes_in}
 use Rattle.pm_statements.specs.Callees.{system_callee}
-use Rattle.pm_statements.specs.Files.{callee_in, callees_from, numbered_text, slot_callees, slot_text, slots_callees, slots_text, system_from, tables_text}
+use Rattle.std.specs.Fmt.{decimal}
+use Rattle.std.proofs.lemmas.List.{append-nil}
+use Rattle.pm_code.specs.Shown.{label_text}
+use Rattle.pm_statements.specs.Files.{callee_in, callees_from, entry_lines, numbered_text, slot_callees, slot_text, slots_callees}
+use Rattle.pm_statements.specs.Files.{slots_text, system_from, tables_text}
 use Rattle.pm_statements.specs.Parts.{Known}
 use Rattle.pm_statements.specs.declared.part.Callee.{Callee}
 
@@ -68,3 +72,20 @@ given P o x e h = let g : IfSome (Some x) P = subst (λ k. IfSome k P) e h in g
 pub three_pieces : (t0 t1 t2 t3 a b c : List ℕ) → t1 ≡ t0 ++ a → t2 ≡ t1 ++ b → t3 ≡ t2 ++ c → t3 ≡ t0 ++ ((a ++ b) ++ c)
 three_pieces t0 t1 t2 t3 a b c e f g =
     g ∙ ap (λ t. t ++ c) (f ∙ ap (λ t. t ++ b) e ∙ append_assoc t0 a b) ∙ append_assoc t0 (a ++ b) c
+
+-- two pieces
+pub two_pieces : (t0 t1 t2 a b : List ℕ) → t1 ≡ t0 ++ a → t2 ≡ t1 ++ b → t2 ≡ t0 ++ (a ++ b)
+two_pieces t0 t1 t2 a b e f = f ∙ ap (λ t. t ++ b) e ∙ append_assoc t0 a b
+
+-- one entry of a jump table more
+pub entries_step : (k place : ℕ) (places all out new whole : List ℕ) → all ≡ place ∷ places
+    → new ≡ out ++ (10 ∷ 94 ∷ (decimal k ++ (32 ∷ label_text place)))
+    → out ++ entry_lines k all ≡ whole → new ++ entry_lines (k + 1) places ≡ whole
+entries_step k place places all out new whole e n i =
+    ap (λ t. t ++ entry_lines (k + 1) places) n
+    ∙ append_assoc out (10 ∷ 94 ∷ (decimal k ++ (32 ∷ label_text place))) (entry_lines (k + 1) places)
+    ∙ ap (λ l. out ++ entry_lines k l) (sym e)
+    ∙ i
+
+pub entries_done : (k : ℕ) (all out whole : List ℕ) → all ≡ [] → out ++ entry_lines k all ≡ whole → out ≡ whole
+entries_done k all out whole e i = sym (ap (λ l. out ++ entry_lines k l) e ∙ append-nil out) ∙ i

@@ -3,6 +3,7 @@ pub mod Fair
 pub mod Labels
 pub mod Written
 pub mod Ends
+pub mod Around
 pub mod Blanks
 pub mod Spanned
 pub mod Listed

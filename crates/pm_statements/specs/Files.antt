@@ -8,6 +8,7 @@ use Rattle.pm_codefile.specs.Segments.{attributes_in, procedures_in}
 use Rattle.pm_codefile.specs.declared.table.Attributes.{Attributes}
 use Rattle.pm_disasm.specs.Split.{procedure_of}
 use Rattle.pm_code.specs.Program.{Procedure}
+use Rattle.pm_code.specs.Shown.{label_text}
 use Rattle.pm_statements.specs.Callees.{callee_of, no_return, returns_from, system_callee}
 use Rattle.pm_statements.specs.Parts.{Known}
 use Rattle.pm_statements.specs.Texts.{procedure_statements}
@@ -73,15 +74,21 @@ header slot a r = named a.procedure slot ++ (codes ": level " ++ (signed_decimal
     ++ (codes ", " ++ (decimal a.parameters ++ (codes " bytes of parameters, " ++ (decimal a.locals
     ++ (codes " of locals" ++ result_text r)))))))
 
+-- a line for each entry of the jump table, from entry k on: `^`, its number, and the label of where it leads
+abbrev pub entry_lines : ℕ → List ℕ → List ℕ
+entry_lines k [] = []
+entry_lines k (place ∷ places) =
+    (10 ∷ 94 ∷ (decimal k ++ (32 ∷ label_text place))) ++ entry_lines (k + 1) places
+
 abbrev pub returns_in : Procedure → Returns
 returns_in p = returns_from no_return p.items
 
--- A procedure by its table: that line, and behind it the lines of its statements. Where its exit code lies before its
--- code it has none.
+-- A procedure by its table: that line, and behind it those of its jump table and of its statements. Where its exit code
+-- lies before its code it has none.
 unfoldable pub table_text : Known → List ℕ → Attributes → List ℕ
 table_text k segment a = if nat_le a.enter a.exit
-    then (header k.segment a (returns_in (procedure_of segment a)) ++ procedure_statements k (procedure_of segment a))
-    ++ 10 ∷ []
+    then ((header k.segment a (returns_in (procedure_of segment a)) ++ entry_lines 0 (procedure_of segment a).entries)
+    ++ procedure_statements k (procedure_of segment a)) ++ 10 ∷ []
     else named a.procedure k.segment ++ (codes ": no code" ++ 10 ∷ [])
 
 -- procedure p of a segment, by its number alone where it has no table

@@ -1,5 +1,6 @@
 pub mod Parts
 pub mod Depths
+pub mod Spans
 pub mod Trees
 pub mod Laws
 pub mod Texts

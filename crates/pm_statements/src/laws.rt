@@ -2,6 +2,7 @@
 
 ghost use Rattle.pm_statements.specs.Laws.{DepthsAreBlanksAlone, LabelsStandBeforeStatements, MissingIsBelow};
 ghost use Rattle.pm_statements.specs.Laws.{OperandsAreWhatIsTaken, StatementsAreTheCode};
+ghost use Rattle.pm_statements.specs.Spans.{DepthsAreSpans};
 ghost use Rattle.pm_statements.specs.Texts.{TextGrows};
 
 /// The statements, each read with its operands before it, are the code.
@@ -38,4 +39,10 @@ pub fn text_grows()
 #[tactic(auto, using(crate::proofs::Blanks::depths_are_blanks_alone))]
 pub fn depths_are_blanks_alone()
     ensures law { DepthsAreBlanksAlone }
+{}
+
+/// As deep as code stands, so many of the spans that count go on there.
+#[tactic(auto, using(crate::proofs::Around::depths_are_spans))]
+pub fn depths_are_spans()
+    ensures law { DepthsAreSpans }
 {}

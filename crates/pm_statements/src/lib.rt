@@ -26,4 +26,4 @@ pub use lines::push_statements;
 pub use part::{Callee, Leaves, Part, Place, Takes};
 pub use pile::Pile;
 pub use procedure::push_procedure;
-pub use shown::{file, indented_file};
+pub use shown::file;

@@ -14,6 +14,7 @@ use crate::items::Known;
 use crate::part::Callee;
 use crate::procedure::push_procedure;
 use crate::sized::file_callees;
+use pm_code::Label;
 use pm_codefile::{Attributes, CodeFile, attributes, procedures};
 use pm_disasm::{Decoded, code, decode_segment};
 use std::alloc::{AllocError, Global};
@@ -105,6 +106,18 @@ fn has_code(a: &Attributes) -> bool
     a.enter <= a.exit
 }
 
+/// Adds a line for each entry of a jump table, behind a line feed: its number, and where it leads.
+#[tactic(auto, using(crate::proofs::Filed::entries_done))]
+fn push_entries(out: &mut String, entries: &[usize]) -> Result<(), AllocError>
+    ensures text { OnOk result (string_bytes out.new ≡ string_bytes out.old ++ files.entry_lines 0 entries.now) }
+{
+    for k in 0..entries.len() {
+        let label = Label(entries[k]);
+        write!(out, "\n^{k} {label}")?;
+    }
+    Ok(())
+}
+
 /// Adds a procedure by its table.
 fn push_table<'a>(
     alloc: Global,
@@ -130,6 +143,7 @@ fn push_table<'a>(
     let returns = returns_of(&procedure.items);
     let header = Header(slot, *a, returns);
     write!(text, "{header}")?;
+    push_entries(text, &procedure.entries)?;
     push_procedure(alloc, text, known, &procedure)?;
     text.push_str("\n")?;
     Ok(())
@@ -216,9 +230,11 @@ fn push_slot(
     push_segment(alloc, text, &known, segment)
 }
 
-/// The text of a code file as statements, `indented` behind blanks by how deep they stand.
+/// The text of a code file as statements: its segments by ascending slot, of each its procedures by their numbers, of
+/// each a line that names it, a line for each entry of its jump table, and a line for each statement; `indented`:
+/// behind two blanks for each span of a jump around it.
 #[tactic(auto, unfolding(crate::specs::Files::file_text))]
-fn text_as(alloc: Global, file: &CodeFile<'_>, indented: bool) -> Result<String, AllocError>
+pub fn file(alloc: Global, file: &CodeFile<'_>, indented: bool) -> Result<String, AllocError>
     ensures text { IfOk result (λ text. string_bytes text ≡ files.file_text indented file.now) }
 {
     let callees = file_callees(alloc, file)?;
@@ -227,19 +243,4 @@ fn text_as(alloc: Global, file: &CodeFile<'_>, indented: bool) -> Result<String,
         push_slot(alloc, &mut text, file, &callees, indented, n)?;
     }
     Ok(text)
-}
-
-/// The text of a code file as statements: its segments by ascending slot, of each its procedures by their numbers, of
-/// each a line that names it, and a line for each statement.
-pub fn file(alloc: Global, file: &CodeFile<'_>) -> Result<String, AllocError>
-    ensures text { IfOk result (λ text. string_bytes text ≡ files.file_statements file.now) }
-{
-    text_as(alloc, file, false)
-}
-
-/// That text with each statement behind two blanks for each span of a jump around it.
-pub fn indented_file(alloc: Global, file: &CodeFile<'_>) -> Result<String, AllocError>
-    ensures text { IfOk result (λ text. string_bytes text ≡ files.indented_statements file.now) }
-{
-    text_as(alloc, file, true)
 }

@@ -3,9 +3,10 @@ use Rattle.std.specs.Prelude.{codes, map}
 use Rattle.pm_code.specs.Views.{placed_item}
 use Rattle.pm_disasm.specs.Split.{procedure_of}
 use Rattle.pm_statements.specs.Callees.{no_return, returns_from}
-use Rattle.pm_statements.specs.Files.{header, named, returns_in, table_text}
+use Rattle.pm_code.specs.Program.{Procedure}
+use Rattle.pm_statements.specs.Files.{entry_lines, header, named, returns_in, table_text}
 use Rattle.pm_statements.specs.Texts.{procedure_statements}
-use Rattle.pm_statements.proofs.Filed.{three_pieces}
+use Rattle.pm_statements.proofs.Filed.{three_pieces, two_pieces}
 use Rattle.pm_statements.proofs.shown.push_table.Goals as goal
 
 pub returns-then-not-has_code : goal.returns-then-not-has_code
@@ -33,7 +34,14 @@ returns c =
     let first : string_bytes c.write.new.self ≡ before ++ header k.segment a (returns_in (procedure_of c.args.segment.now a)) =
     c.in_ok-write.ensures.bytes ∙ ap (λ slot. before ++ header slot a c.returns_of-returns.result) c.slot_of-slot.ensures.slot
     ∙ ap (λ r. before ++ header k.segment a r) returned in
-    let second : string_bytes c.push_procedure.new.out ≡ string_bytes c.write.new.self ++ procedure_statements k (procedure_of c.args.segment.now a) =
+    let entered : string_bytes c.push_entries.new.out ≡ string_bytes c.write.new.self ++ entry_lines 0 (procedure_of c.args.segment.now a).entries =
+    c.in_ok-push_entries.ensures.text
+    ∙ ap (λ es. string_bytes c.write.new.self ++ entry_lines 0 es) c.deref-2.ensures.value
+    ∙ ap (λ (p : Procedure). string_bytes c.write.new.self ++ entry_lines 0 p.entries) c.in_ok-procedure.ensures.procedure in
+    let front : string_bytes c.push_entries.new.out ≡ before
+    ++ (header k.segment a (returns_in (procedure_of c.args.segment.now a)) ++ entry_lines 0 (procedure_of c.args.segment.now a).entries) =
+    two_pieces _ _ _ _ _ first entered in
+    let second : string_bytes c.push_procedure.new.out ≡ string_bytes c.push_entries.new.out ++ procedure_statements k (procedure_of c.args.segment.now a) =
     c.in_ok-push_procedure.ensures.text
-    ∙ ap (λ p. string_bytes c.write.new.self ++ procedure_statements k p) c.in_ok-procedure.ensures.procedure in
-    record { text = rw some (three_pieces _ _ _ _ _ _ _ first second c.in_ok-push_str.ensures.bytes) }
+    ∙ ap (λ p. string_bytes c.push_entries.new.out ++ procedure_statements k p) c.in_ok-procedure.ensures.procedure in
+    record { text = rw some (three_pieces _ _ _ _ _ _ _ front second c.in_ok-push_str.ensures.bytes) }

@@ -1,6 +1,6 @@
 use Rattle.std.proofs.Common.{◌≡◌, ◌-◌, ◌++◌, string_bytes}
 use Rattle.pm_statements.specs.Files.{slots_text}
-use Rattle.pm_statements.proofs.shown.text_as.Given as goal
+use Rattle.pm_statements.proofs.shown.file.Given as goal
 
 -- the text so far with the slots that are left is the whole
 abbrev pub invariant-loop-n : goal.invariant-loop-n

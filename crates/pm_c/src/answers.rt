@@ -5,9 +5,8 @@ ghost use Rattle.pm_tool.specs.Outcomes.{exit_number};
 ghost use Rattle.pm_c.specs.Answers.{Answers, HasAnswer, answer_of, or_told};
 
 use crate::buffer::give;
-use crate::kept::Kept;
 use crate::status::{DONE, NO_MEMORY, NO_TEXT, TOO_LONG};
-use pm_tool::{Exit, Job, Outcome, Reader, run};
+use pm_tool::{Exit, Job, Kept, Outcome, Reader, run};
 use std::alloc::{AllocError, Global};
 
 // The exit status of a job, or the status of a call that has no answer. The sink fails for want of memory alone.

@@ -11,7 +11,6 @@ pub mod filing;
 mod handle;
 mod held;
 pub mod jobs;
-mod kept;
 pub mod laws;
 pub mod lines;
 mod loose;

@@ -28,6 +28,9 @@ use Rattle.pm_plan.specs.declared.file_words.Chosen.{Chosen}
 use Rattle.pm_plan.specs.declared.file_words.Chosen.TheVariants as chosen
 use Rattle.pm_plan.specs.declared.run_words.RunChoices.{RunChoices}
 use Rattle.pm_plan.specs.declared.run_words.Program.{Program}
+use Rattle.pm_plan.specs.declared.text_words.TextFiles.{TextFiles}
+use Rattle.pm_plan.specs.declared.text_words.TextInput.{TextInput}
+use Rattle.pm_plan.specs.declared.text_words.TextInput.TheVariants as inputs
 use Rattle.pm_plan.specs.declared.words.Plan.{Plan}
 use Rattle.pm_plan.specs.declared.words.Plan.TheVariants as plans
 
@@ -259,6 +262,22 @@ abbrev pub IsDis : Bool → Bool → Bool → Bool → DisOutput → Type 0
 IsDis names list statements false what = IsUnindented names list statements what
 IsDis names list statements true what = (names ≡ false) × (list ≡ false) × (what ≡ dis.Indented)
 
+-- what asm and dis read, by the words for an image and a file: standard input, the file of a path, or the file of a
+-- name on an image
+abbrev pub IsTextInput : Option (List ℕ) → Option (List ℕ) → TextInput → Type 0
+IsTextInput image file inputs.Standard = (image ≡ None) × (file ≡ None)
+IsTextInput image file (inputs.File path) = (image ≡ None) × (file ≡ Some (string_bytes path))
+IsTextInput image file (inputs.OnImage path name) =
+    (image ≡ Some (string_bytes path)) × (file ≡ Some (string_bytes name))
+
+abbrev pub AsksTextInput : List Row → TextInput → Type 0
+AsksTextInput rows input = IsTextInput (word_found rows (codes "image")) (word_found rows (codes "FILE")) input
+
+-- what is read, and the path of the file that stands in the place of standard output
+pub record AsksTextFiles (rows : List Row) (files : TextFiles) : Type 0 where
+  pub input : AsksTextInput rows files.input
+  pub output : word_found rows (codes "output") ≡ option_map string_bytes files.output
+
 -- ---- all words
 
 -- a command and its words
@@ -266,11 +285,14 @@ abbrev pub Asks : List ℕ → ArgMatches → Plan → Type 0
 Asks command m (plans.Raw limit selection) =
     (command ≡ codes "raw") × IsLimit (word_found (words_of m) (codes "limit")) limit
     × AsksSelection (words_of m) selection
-Asks command m (plans.Asm what) = (command ≡ codes "asm") × IsAsm (is_set (word_found (words_of m) (codes "all")))
-    (is_set (word_found (words_of m) (codes "list"))) (is_set (word_found (words_of m) (codes "symbols"))) what
-Asks command m (plans.Dis what) = (command ≡ codes "dis")
+Asks command m (plans.Asm what files) = (command ≡ codes "asm")
+    × IsAsm (is_set (word_found (words_of m) (codes "all"))) (is_set (word_found (words_of m) (codes "list")))
+    (is_set (word_found (words_of m) (codes "symbols"))) what
+    × AsksTextFiles (words_of m) files
+Asks command m (plans.Dis what files) = (command ≡ codes "dis")
     × IsDis (is_set (word_found (words_of m) (codes "names"))) (is_set (word_found (words_of m) (codes "list")))
     (is_set (word_found (words_of m) (codes "statements"))) (is_set (word_found (words_of m) (codes "indent"))) what
+    × AsksTextFiles (words_of m) files
 Asks command m (plans.Files plan) = (command ≡ codes "files") × AsksFiles m plan
 Asks command m (plans.Run program choices) =
     (command ≡ codes "run") × AsksProgram (words_of m) program × AsksChoices (words_of m) choices

@@ -36,6 +36,12 @@ IsAlone true None = ⊤
 IsAlone true (Some word) = ⊥
 IsAlone false word = ⊤
 
+-- there is no word, or there is another too
+abbrev pub IsBeside : Option (List ℕ) → Option (List ℕ) → Type 0
+IsBeside None other = ⊤
+IsBeside (Some word) None = ⊥
+IsBeside (Some word) (Some other) = ⊤
+
 -- of two options without a value one at most is given
 abbrev pub IsNotBoth : Bool → Bool → Type 0
 IsNotBoth true other = other ≡ false
@@ -83,6 +89,8 @@ pub data Need : Type 0 where
   NotSaved : Need
   -- an option without a value that is not given beside this one
   NotBeside : List ℕ → Need
+  -- an option that is missing where the word of this id is
+  Beside : List ℕ → Need
   -- a name, which is missing exactly where `--slot` has a number up to 65,535
   NameOrSlot : Need
   -- the number of a slot up to 65,535, which may be missing
@@ -101,6 +109,7 @@ Meets rows Limit word = IsLimitWord word
 Meets rows RunLimit word = IsRunLimitWord (is_set (word_found rows (codes "unlimited"))) word
 Meets rows NotSaved word = IsAlone (is_set (word_found rows (codes "save"))) word
 Meets rows (NotBeside other) word = IsNotBoth (is_set word) (is_set (word_found rows other))
+Meets rows (Beside other) word = IsBeside word (word_found rows other)
 Meets rows NameOrSlot word = IsNameOrSlot word (word_found rows (codes "slot"))
 Meets rows Slot word = IsSlotWord word
 Meets rows Segment word = IsCodeWords word (word_found rows (codes "procedure"))
@@ -146,6 +155,14 @@ dis_needs = (codes "list", NotBeside (codes "names")) ∷ (codes "statements", N
     ∷ (codes "statements", NotBeside (codes "list")) ∷ (codes "indent", NotBeside (codes "names"))
     ∷ (codes "indent", NotBeside (codes "list")) ∷ []
 
+-- what asm and dis need of what they read
+abbrev pub input_needs : List (List ℕ × Need)
+input_needs = (codes "image", Optional) ∷ (codes "FILE", Optional) ∷ (codes "image", Beside (codes "FILE")) ∷ []
+
+-- what asm and dis need beside what they are to write
+abbrev pub text_files_needs : List (List ℕ × Need)
+text_files_needs = input_needs ++ ((codes "output", Optional) ∷ [])
+
 -- what the commands need but `files`; what is no command has none
 abbrev pub command_needs : List ℕ → Option (List (List ℕ × Need))
 command_needs command =
@@ -153,8 +170,8 @@ command_needs command =
     else (if bytes_eq command (codes "run") then Some (choices_needs ++ program_needs)
     else (if bytes_eq command (codes "trace") then Some (selection_needs ++ program_needs)
     else (if bytes_eq command (codes "debug") then Some program_needs
-    else (if bytes_eq command (codes "asm") then Some asm_needs
-    else (if bytes_eq command (codes "dis") then Some dis_needs else None)))))
+    else (if bytes_eq command (codes "asm") then Some (asm_needs ++ text_files_needs)
+    else (if bytes_eq command (codes "dis") then Some (dis_needs ++ text_files_needs) else None)))))
 
 -- what the verbs of files need; what is no verb has none
 abbrev pub verb_needs : List ℕ → Option (List (List ℕ × Need))

@@ -18,6 +18,10 @@ enum Form {
     Flag,
     /// It is known by its place, and has to be there where this option is not.
     Unless(&'static str),
+    /// It is known by its place, and may be missing.
+    Maybe,
+    /// It is the value of an option that may be missing and has a letter too: the letter, and the value's name.
+    Lettered(char, &'static str),
 }
 
 /// A word: its id, how it stands, and what it says.
@@ -398,10 +402,39 @@ const INDENT: WordRow = (
     "Writes the code as statements, each behind two blanks for each jump around it; not beside --names or --list",
 );
 
+/// The file that is read.
+const READ: WordRow = (
+    "FILE",
+    Form::Maybe,
+    "The file that is read, in the place of standard input; beside --image a file of that volume",
+);
+
+/// The image that has the file that is read.
+const ON_IMAGE: WordRow = (
+    "image",
+    Form::Free("PATH"),
+    "The image whose volume has the file that is read",
+);
+
+/// The file that is written.
+const WRITTEN: WordRow = (
+    "output",
+    Form::Lettered('o', "PATH"),
+    "The file that gets what is written, whole or not at all, in the place of standard output",
+);
+
 const DIS: CommandRow = (
     "dis",
-    "Writes the text of the code file that standard input is: its segments, procedures and items",
-    &[NAMES, OWN_LISTING, STATEMENTS, INDENT],
+    "Writes the text of a code file: its segments, procedures and items",
+    &[
+        NAMES,
+        OWN_LISTING,
+        STATEMENTS,
+        INDENT,
+        ON_IMAGE,
+        READ,
+        WRITTEN,
+    ],
 );
 
 const LIST: WordRow = (
@@ -424,8 +457,8 @@ const SYMBOLS: WordRow = (
 
 const ASM: CommandRow = (
     "asm",
-    "Writes the code file of the assembler's text that standard input is",
-    &[LIST, ALL, SYMBOLS],
+    "Writes the code file of a text of the assembler",
+    &[LIST, ALL, SYMBOLS, ON_IMAGE, READ, WRITTEN],
 );
 
 fn arg<'a>(alloc: Global, row: WordRow) -> Result<Arg<'a>, AllocError> {
@@ -437,6 +470,8 @@ fn arg<'a>(alloc: Global, row: WordRow) -> Result<Arg<'a>, AllocError> {
         Form::Free(value) => arg.long(id).value_name(value),
         Form::Flag => arg.long(id).action(ArgAction::SetTrue),
         Form::Unless(other) => arg.value_name(id).required_unless_present(other)?,
+        Form::Maybe => arg.value_name(id),
+        Form::Lettered(letter, value) => arg.long(id).short(letter).value_name(value),
     })
 }
 

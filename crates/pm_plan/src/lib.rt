@@ -4,10 +4,12 @@
 mod commands;
 mod file_words;
 mod run_words;
+mod text_words;
 mod trace_words;
 mod words;
 pub mod worked;
 
 pub use file_words::{FilesPlan, SalvagePlan, Verb};
 pub use run_words::{Others, Program, RunChoices};
+pub use text_words::{TextFiles, TextInput};
 pub use words::{Plan, WordsError, plan_of};

@@ -3,14 +3,15 @@ ghost use Rattle.std.specs.Prelude.{◌≡◌, ◌↔◌, Err, IfErr, IfOk, IsOk
 ghost use Rattle.std.specs.Prelude.{option_map, string_bytes, codes};
 ghost use Rattle.std.specs.Str.Parse.{digits_value};
 ghost use Rattle.clap.specs.Words.{one_of};
-ghost use Rattle.pm_plan.specs.Asked.{Asks, IsAsked, IsFlag, IsLimit, IsLimitWord, IsNumberUpTo, is_set, word_found};
-ghost use Rattle.pm_plan.specs.Asked.{words_of};
+ghost use Rattle.pm_plan.specs.Asked.{Asks, IsAsked, IsAsm, IsDis, IsFlag, IsLimit, IsLimitWord, IsNumberUpTo};
+ghost use Rattle.pm_plan.specs.Asked.{is_set, word_found, words_of};
 ghost use Rattle.pm_plan.specs.Needed.{AreAllGood, AreGood, IsOptional, IsWrong, MeetEach, asm_needs, dis_needs};
 ghost use Rattle.pm_plan.specs.declared.words.WordsError.TheVariants.{NoCommand, NoMemory, NoValue};
 
 use crate::commands::all_commands;
 use crate::file_words::{FilesPlan, SalvagePlan, files_plan, is_salvage, salvage_plan};
 use crate::run_words::{Program, RunChoices, choices_of, program_of};
+use crate::text_words::{TextFiles, text_files};
 use crate::trace_words::selection_of;
 use clap::ArgMatches;
 use clap::error::ErrorKind;
@@ -32,10 +33,10 @@ pub enum Plan {
     /// The program that standard input spells is run and traced, at most so many steps, of which the lines that are
     /// selected are written.
     Raw { limit: u32, selection: Selection },
-    /// What `asm` writes of the text that standard input is.
-    Asm(AsmOutput),
-    /// What `dis` writes of the code file that standard input is.
-    Dis(DisOutput),
+    /// What `asm` writes of the text that it reads.
+    Asm(AsmOutput, TextFiles),
+    /// What `dis` writes of the code file that it reads.
+    Dis(DisOutput, TextFiles),
     /// A command on the image that a file has, or a new image for it.
     Files(FilesPlan),
     /// A program to be run.
@@ -213,26 +214,31 @@ fn files_asked(alloc: Global, matches: &ArgMatches<'_>) -> Result<Plan, WordsErr
     }
 }
 
-/// What the words of `asm` ask for. Refused where they ask for more than one of the listing, all faults and symbols.
-fn asm_asked(matches: &ArgMatches<'_>) -> Result<Plan, WordsError>
-    ensures asked { IfOk result (λ plan. Asks (codes "asm") matches.now plan) }
+/// What `asm` is asked to write. Refused where it is more than one of the listing, all faults and symbols.
+fn asm_output(matches: &ArgMatches<'_>) -> Result<AsmOutput, WordsError>
+    ensures asked { IfOk result (IsAsm (is_set (word_found (words_of matches.now) (codes "all")))
+        (is_set (word_found (words_of matches.now) (codes "list")))
+        (is_set (word_found (words_of matches.now) (codes "symbols")))) }
     ensures good { IsOk result ↔ MeetEach (words_of matches.now) asm_needs }
     ensures refused { IfErr result IsWrong }
 {
     let symbols = is_set(matches, "symbols");
     match (is_set(matches, "all"), is_set(matches, "list"), symbols) {
-        (false, false, false) => Ok(Plan::Asm(AsmOutput::File)),
-        (false, true, false) => Ok(Plan::Asm(AsmOutput::Listing)),
-        (true, false, false) => Ok(Plan::Asm(AsmOutput::Faults)),
-        (false, false, true) => Ok(Plan::Asm(AsmOutput::Symbols)),
+        (false, false, false) => Ok(AsmOutput::File),
+        (false, true, false) => Ok(AsmOutput::Listing),
+        (true, false, false) => Ok(AsmOutput::Faults),
+        (false, false, true) => Ok(AsmOutput::Symbols),
         _ => Err(WordsError::Wrong("of --list, --all and --symbols one alone may stand")),
     }
 }
 
-/// What the words of `dis` ask for. Refused where they ask for more than one of names, the listing and statements, as
+/// What `dis` is asked to write. Refused where they ask for more than one of names, the listing and statements, as
 /// which those behind blanks count.
-fn dis_asked(matches: &ArgMatches<'_>) -> Result<Plan, WordsError>
-    ensures asked { IfOk result (λ plan. Asks (codes "dis") matches.now plan) }
+fn dis_output(matches: &ArgMatches<'_>) -> Result<DisOutput, WordsError>
+    ensures asked { IfOk result (IsDis (is_set (word_found (words_of matches.now) (codes "names")))
+        (is_set (word_found (words_of matches.now) (codes "list")))
+        (is_set (word_found (words_of matches.now) (codes "statements")))
+        (is_set (word_found (words_of matches.now) (codes "indent")))) }
     ensures good { IsOk result ↔ MeetEach (words_of matches.now) dis_needs }
     ensures refused { IfErr result IsWrong }
 {
@@ -240,7 +246,7 @@ fn dis_asked(matches: &ArgMatches<'_>) -> Result<Plan, WordsError>
         if is_set(matches, "names") || is_set(matches, "list") {
             return Err(WordsError::Wrong("--indent does not stand beside --names or --list"));
         }
-        return Ok(Plan::Dis(DisOutput::Indented));
+        return Ok(DisOutput::Indented);
     }
     let statements = is_set(matches, "statements");
     match (
@@ -248,10 +254,10 @@ fn dis_asked(matches: &ArgMatches<'_>) -> Result<Plan, WordsError>
         is_set(matches, "list"),
         statements,
     ) {
-        (false, false, false) => Ok(Plan::Dis(DisOutput::Text)),
-        (true, false, false) => Ok(Plan::Dis(DisOutput::Names)),
-        (false, true, false) => Ok(Plan::Dis(DisOutput::Listing)),
-        (false, false, true) => Ok(Plan::Dis(DisOutput::Statements)),
+        (false, false, false) => Ok(DisOutput::Text),
+        (true, false, false) => Ok(DisOutput::Names),
+        (false, true, false) => Ok(DisOutput::Listing),
+        (false, false, true) => Ok(DisOutput::Statements),
         (true, true, false) => Err(WordsError::Wrong("--names and --list do not go together")),
         _ => Err(WordsError::Wrong("of --names, --list and --statements one alone may stand")),
     }
@@ -272,8 +278,8 @@ fn plan_by(alloc: Global, command: &str, matches: &ArgMatches<'_>) -> Result<Pla
         "run" => Ok(Plan::Run(program_of(alloc, matches)?, choices_of(alloc, matches)?)),
         "trace" => Ok(Plan::Trace(program_of(alloc, matches)?, selection_of(matches)?)),
         "debug" => Ok(Plan::Debug(program_of(alloc, matches)?)),
-        "asm" => asm_asked(matches),
-        "dis" => dis_asked(matches),
+        "asm" => Ok(Plan::Asm(asm_output(matches)?, text_files(alloc, matches)?)),
+        "dis" => Ok(Plan::Dis(dis_output(matches)?, text_files(alloc, matches)?)),
         "files" => files_asked(alloc, matches),
         _ => Err(WordsError::NoCommand),
     }
@@ -295,8 +301,10 @@ fn plan_asked(alloc: Global, matches: &ArgMatches<'_>) -> Result<Plan, WordsErro
 fn meant_by(words: &[String]) -> Option<&'static str> {
     let has = |option| words.iter().any(|word| word.as_str().starts_with(option));
     match words.get(1)?.as_str() {
-        "asm" => Some("pmach asm reads standard input: pmach asm <TEXT >CODE"),
-        "dis" => Some("pmach dis reads standard input: pmach dis <CODE >TEXT"),
+        "asm" => Some(
+            "pmach asm takes one file, and what it writes behind -o: pmach asm TEXT -o CODE",
+        ),
+        "dis" => Some("pmach dis takes one file: pmach dis CODE"),
         "files" if !has("--image") => {
             Some("the image stands behind --image: pmach files --image IMAGE list")
         }
@@ -329,8 +337,8 @@ fn command_for(word: &str) -> Option<&'static str> {
         | "check"
         | "salvage" => { Some("it is a verb of files: pmach files --image IMAGE list") }
         "ls" | "dir" | "cat" | "catalog" => Some("pmach files --image IMAGE list lists the files"),
-        "assemble" | "as" => Some("pmach asm <TEXT >CODE assembles"),
-        "disassemble" | "disasm" => Some("pmach dis <CODE >TEXT disassembles"),
+        "assemble" | "as" => Some("pmach asm TEXT -o CODE assembles"),
+        "disassemble" | "disasm" => Some("pmach dis CODE disassembles"),
         _ => None,
     }
 }

@@ -17,6 +17,8 @@ pub enum Conflict {
     FileInTheWay,
     /// A new volume would take the place of a file.
     TargetIsThere,
+    /// What is written would take the place of what is read.
+    OutputIsInput,
     /// Bytes that are no text would go to a terminal.
     BytesOnTerminal,
 }
@@ -32,6 +34,8 @@ impl Conflict {
             Conflict::FileInTheWay =>
                 "error: a path is that of another with .pmach-new, which is taken away where that is written",
             Conflict::TargetIsThere => "error: the path of the new volume is that of a file",
+            Conflict::OutputIsInput =>
+                "error: the path behind --output is that of the file that is read",
             Conflict::BytesOnTerminal =>
                 "error: these bytes are no text for a terminal; >FILE behind the command puts them into a file",
         }

@@ -9,10 +9,11 @@ use crate::about::{Disks, about, disks_of};
 use crate::console::{END, ESCAPE, Failed, Keys, Lined, Lines, Prompted};
 use crate::end::{Conflict, End};
 use crate::saved::{Printing, SavedOfRun, do_debug, do_files, do_run, do_salvage, do_trace};
+use crate::texts::do_text;
 use pm_choices::{AsmOutput, Saving};
 use pm_filer::FileCommand;
 use pm_files::{DiskFault, Host, HostStore, Store, Stream};
-use pm_plan::{FilesPlan, Plan, Program, RunChoices, Verb};
+use pm_plan::{FilesPlan, Plan, Program, RunChoices, TextFiles, TextInput, Verb};
 use pm_streams::{Reader, Sink, Source, Writer};
 use pm_tool::{Job, Outcome};
 use std::alloc::Global;
@@ -48,7 +49,7 @@ impl Terminals {
     fn lines_of(self, plan: &Plan) -> Lines {
         match plan {
             Plan::Run(_, _) if self.output => Lines::Added,
-            Plan::Asm(AsmOutput::File) if self.output => Lines::TextAlone,
+            Plan::Asm(AsmOutput::File, _) if self.output => Lines::TextAlone,
             Plan::Files(plan) if self.output && gets(&plan.verb) => Lines::TextAlone,
             _ => Lines::Plain,
         }
@@ -96,8 +97,20 @@ fn gets(verb: &Verb) -> bool {
 fn prompt_of(plan: &Plan) -> Prompt {
     match plan {
         Plan::Raw { .. } => Prompt::Once("pmach: reads hexadecimal digits; Ctrl-D ends them\n"),
-        Plan::Asm(_) => Prompt::Once("pmach: reads a text of the assembler; Ctrl-D ends it\n"),
-        Plan::Dis(_) => Prompt::Once("pmach: reads a code file; Ctrl-D ends it\n"),
+        Plan::Asm(
+            _,
+            TextFiles {
+                input: TextInput::Standard,
+                ..
+            },
+        ) => Prompt::Once("pmach: reads a text of the assembler; Ctrl-D ends it\n"),
+        Plan::Dis(
+            _,
+            TextFiles {
+                input: TextInput::Standard,
+                ..
+            },
+        ) => { Prompt::Once("pmach: reads a code file; Ctrl-D ends it\n") }
         Plan::Files(plan) if reads(&plan.verb) => Prompt::Once(
             "pmach: reads the file; Ctrl-D ends it\n",
         ),
@@ -145,8 +158,12 @@ fn act<S: Store, I: Source, O: Sink>(
 {
     let job = match plan {
         Plan::Raw { limit, selection } => Job::Raw { limit, selection },
-        Plan::Asm(what) => Job::Asm(what),
-        Plan::Dis(what) => Job::Dis(what),
+        Plan::Asm(what, files) => {
+            return do_text(alloc, store, source, sink, files, true, Job::Asm(what));
+        }
+        Plan::Dis(what, files) => {
+            return do_text(alloc, store, source, sink, files, false, Job::Dis(what));
+        }
         Plan::Files(FilesPlan { path, verb }) => {
             return do_files(alloc, store, source, sink, path.as_str(), verb);
         }
@@ -356,10 +373,27 @@ fn conflict<S: Store>(store: &S, program: &Program, choices: &RunChoices) -> Opt
     None
 }
 
+/// What is wrong with the paths of `asm` or `dis`, if something is.
+fn text_conflict<S: Store>(store: &S, files: &TextFiles) -> Option<Conflict> {
+    let input = match &files.input {
+        TextInput::Standard => return None,
+        TextInput::File(path) | TextInput::OnImage { image: path, .. } => path.as_str(),
+    };
+    let output = files.output.as_ref()?.as_str();
+    if store.is_same(output, input) {
+        return Some(Conflict::OutputIsInput);
+    }
+    if store.is_beside(output, input) {
+        return Some(Conflict::FileInTheWay);
+    }
+    None
+}
+
 /// What is wrong with the paths of a plan, if something is.
 fn conflict_in<S: Store>(store: &S, plan: &Plan) -> Option<Conflict> {
     match plan {
         Plan::Run(program, choices) => conflict(store, program, choices),
+        Plan::Asm(_, files) | Plan::Dis(_, files) => text_conflict(store, files),
         Plan::Salvage(plan) if is_there(store, plan.target.as_str()) => {
             Some(Conflict::TargetIsThere)
         }

@@ -8,6 +8,8 @@ mod entry;
 mod follow;
 mod saved;
 mod say;
+mod texts;
 
 pub use entry::program;
 pub use saved::{Printing, SavedOfRun, do_debug, do_files, do_run, do_trace};
+pub use texts::do_text;

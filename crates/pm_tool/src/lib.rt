@@ -6,6 +6,7 @@ mod debug;
 mod engine;
 mod hex;
 mod hint;
+mod kept;
 mod outcome;
 mod pace;
 mod programs;
@@ -17,6 +18,7 @@ mod work;
 
 pub use engine::run;
 pub use hint::Hint;
+pub use kept::Kept;
 pub use outcome::{About, Exit, Job, OtherImages, Outcome};
 pub use pace::Pace;
 pub use pm_batch::{Reason, Refusal};

@@ -1,0 +1,69 @@
+-- What a job on a text or a code file leaves behind, where files stand in the place of its streams.
+use Rattle.std.specs.Prelude.{◌≡◌, ℕ, Bool, true, false, List, [], Option, None, Some, IfSome, string_bytes}
+use Rattle.std.specs.Io.KnownBytes.{Appends}
+use Rattle.pm_files.specs.Held.{Files, HoldsFile, Saves}
+use Rattle.pm_streams.specs.Streams.{Outgoing}
+use Rattle.pm_filer.specs.Filed.{Order, Get, GetText}
+use Rattle.pm_plan.specs.declared.text_words.TextInput.{TextInput}
+use Rattle.pm_plan.specs.declared.text_words.TextInput.TheVariants as inputs
+use Rattle.pm_program.specs.declared.texts.Got.{Got}
+use Rattle.pm_program.specs.declared.texts.Got.TheVariants as gots
+use Rattle.pm_tool.specs.Batches.{said_files}
+use Rattle.pm_tool.specs.Outcomes.{IsOutcome, Said}
+use Rattle.pm_tool.specs.declared.outcome.Exit.{Exit}
+use Rattle.pm_tool.specs.declared.outcome.Exit.TheVariants as exits
+use Rattle.pm_tool.specs.declared.outcome.Outcome.{Outcome}
+
+-- A job comes to what is said: its outcome, and all that it writes.
+abbrev pub Comes : Outcome → List ℕ → Said → Type 0
+Comes outcome bytes told = IsOutcome outcome told × (bytes ≡ told.written)
+
+-- what is written, of a job that ended well
+abbrev pub written_by : Exit → List ℕ → Option (List ℕ)
+written_by exits.Ended bytes = Some bytes
+written_by _ bytes = None
+
+-- A path holds all that a job writes, if it ended well; nothing else has changed.
+abbrev pub SavesText : Files → Files → List ℕ → Outcome → Said → Type 0
+SavesText old new path outcome told = IsOutcome outcome told × Saves old new path (written_by told.exit told.written)
+
+-- What a job writes stands behind what the output had, and no file has changed; or else it is kept under a path.
+abbrev pub Delivers : Files → Files → Option (List ℕ) → Outgoing → Outgoing → Outcome → Said → Type 0
+Delivers old new None before after outcome told =
+    IsOutcome outcome told × Appends before.contents after.contents told.written × (new ≡ old)
+Delivers old new (Some path) before after outcome told = SavesText old new path outcome told
+
+-- ---- what is read
+
+-- the command that gets the text of a file, or its bytes
+abbrev pub getting : Bool → List ℕ → Order
+getting true name = GetText name
+getting false name = Get name
+
+-- a file of the volume whose image a path holds is got, or it is refused, as that command says
+abbrev pub IsGot : Files → List ℕ → Order → Got → Type 0
+IsGot files path order (gots.Bytes bytes) = (image : List ℕ) × HoldsFile files path image
+    × ((said_files image order []).exit ≡ exits.Ended) × (bytes.items ≡ (said_files image order []).written)
+IsGot files path order (gots.Nothing outcome) = (image : List ℕ) × HoldsFile files path image
+    × ((said_files image order []).exit ≡ exits.Refused) × IsOutcome outcome (said_files image order [])
+
+-- A job is told to what was got; where that was refused it is answered, and nothing has changed.
+abbrev pub DeliversGot : Exit → Files → Files → Option (List ℕ) → Outgoing → Outgoing → Outcome → (List ℕ → Said) → Said
+    → Type 0
+DeliversGot exits.Ended old new output before after outcome text told =
+    Delivers old new output before after outcome (text told.written)
+DeliversGot _ old new output before after outcome text told =
+    IsOutcome outcome told × (after ≡ before) × (new ≡ old)
+
+-- A job is told to the input, where it is known; to the bytes that a path holds; or to what is got of an image.
+abbrev pub DeliversOf : Files → Files → Bool → TextInput → Option (List ℕ) → Option (List ℕ) → Outgoing → Outgoing
+    → Outcome → (List ℕ → Said) → Type 0
+DeliversOf old new is_text inputs.Standard output input before after outcome text =
+    IfSome input (λ bytes. Delivers old new output before after outcome (text bytes))
+DeliversOf old new is_text (inputs.File path) output input before after outcome text =
+    (bytes : List ℕ) × HoldsFile old (string_bytes path) bytes
+    × Delivers old new output before after outcome (text bytes)
+DeliversOf old new is_text (inputs.OnImage path name) output input before after outcome text =
+    (image : List ℕ) × HoldsFile old (string_bytes path) image
+    × DeliversGot (said_files image (getting is_text (string_bytes name)) []).exit old new output before after outcome
+    text (said_files image (getting is_text (string_bytes name)) [])

@@ -4,6 +4,7 @@ pub mod Held
 pub mod Listed
 pub mod Covering
 pub mod SymbolsDefined
+pub mod SymbolsDiffer
 pub mod Again
 pub mod Boundaries
 pub mod FoundTables

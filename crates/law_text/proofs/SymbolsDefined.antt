@@ -17,6 +17,7 @@ use Rattle.pm_asm.proofs.Outcomes.{assembled_is_spelled}
 use Rattle.pm_asm.proofs.SymbolPlaces.{place_after}
 use Rattle.pm_asm.specs.Assembled.{Assembles, Outcome, assembled}
 use Rattle.pm_asm.specs.Symbols.{Symbol, label_symbol, procedure_symbols, symbol_lines, symbol_text, symbols, symbols_by, symbols_from}
+use Rattle.law_text.proofs.SymbolsDiffer.{symbols_differ}
 use Rattle.law_text.specs.SymbolLaws.{IsSymbolOf, StandsBehind, SymbolsAreDefined, SymbolsAreOfTheProgram}
 
 -- ---- elements
@@ -256,4 +257,8 @@ symbols_are_of_the_program text lines h =
     let parts = told_by text lines (assembled text) h in
     let a : Assembles text parts.0.0 parts.0.1 = (assembled_is_spelled text parts.0.0 parts.0.1).0 parts.1 in
     let same = (spelled_is_faultless text a.program a.spelled).1 in
-    record { told = sym parts.2; spelled = subst (Spells text) (sym same) a.spelled }
+    record {
+      told = sym parts.2;
+      once = symbols_differ text a.program a.spelled;
+      spelled = subst (Spells text) (sym same) a.spelled;
+    }

@@ -1,6 +1,8 @@
 -- Which procedures and labels the symbols of a text have.
-use Rattle.std.specs.Prelude.{◌≡◌, ◌↔◌, ℕ, ◌+◌, List, ◌∷◌, ◌++◌, length, map, Option, Some, None, Ok}
-use Rattle.std.specs.List.{Contains}
+use Rattle.std.specs.Prelude.{◌≡◌, ◌↔◌, ℕ, ◌+◌, Bool, true, false, ◌&&◌, List, ◌∷◌, ◌++◌, length, map, nat_eq}
+use Rattle.std.specs.Prelude.{Option, Some, None, Ok}
+use Rattle.std.specs.List.{Contains, IsDistinct}
+use Rattle.std.specs.Str.{bytes_eq}
 use Rattle.pm_code.specs.Program.{Procedure}
 use Rattle.pm_source.specs.Faults.{place_of, source_of}
 use Rattle.pm_source.specs.Meaning.{Spells, ascending, found_segment}
@@ -35,9 +37,21 @@ SymbolsAreDefined =
     (ss : List SourceSegment) (x : Symbol)
     → Contains (symbols ss) x ↔ ((s : SourceSegment) × Contains ss s × IsSymbolOf s x)
 
--- The lines that are told of a text are those of the symbols of its segments, of which the text spells the program.
+-- Two symbols are of one procedure, or of one label of it, wherever they are said to stand.
+abbrev pub is_same_label : Option Name → Option Name → Bool
+is_same_label None None = true
+is_same_label (Some name) (Some other) = bytes_eq name other
+is_same_label _ _ = false
+
+abbrev pub is_same_symbol : Symbol → Symbol → Bool
+is_same_symbol x y =
+    nat_eq x.segment y.segment && (nat_eq x.procedure y.procedure && is_same_label x.label y.label)
+
+-- The lines that are told of a text are those of the symbols of its segments, none of them twice, of which the text
+-- spells the program.
 pub record AreLinesOf (text lines : List ℕ) : Type 0 where
   pub told : lines ≡ symbol_lines (symbols (source_of text))
+  pub once : IsDistinct is_same_symbol (symbols (source_of text))
   pub spelled : Spells text (map found_segment (ascending (source_of text)))
 
 abbrev pub SymbolsAreOfTheProgram : Type 0

@@ -1,26 +1,27 @@
 -- Breakpoints and watched words, by what is in them.
 use Rattle.std.proofs.Common.{◌≡◌, ◌∙◌, ◌<◌, ℕ, Bool, true, false, List, [], ◌∷◌, ◌++◌, length, Option, None, Some, Result, Ok, Err, refl, sym, ap, arith}
-use Rattle.std.specs.Prelude.{◌==◌, ◌||◌, ◌&&◌, not, filter, if◌then◌else◌, nat_lt}
+use Rattle.std.specs.Prelude.{◌==◌, ◌||◌, ◌&&◌, not, filter, if◌then◌else◌, map, nat_lt}
 use Rattle.std.specs.Cmp.{IsEquivalence}
 use Rattle.std.specs.List.{list_any}
 use Rattle.std.proofs.lemmas.Bool.Decides.{nat_tests}
 use Rattle.std.proofs.lemmas.Cmp.{nat_eq_equiv}
 use Rattle.std.proofs.lemmas.List.Folds.{list_any-append}
-use Rattle.std.proofs.lemmas.Map.Steps.{list_any_congr}
 use Rattle.std.proofs.lemmas.Map.Views.{any-filter_same}
 use Rattle.pm_words.specs.Stack.{is_even}
 use Rattle.pm_machine.specs.CodePlaces.{code_place}
 use Rattle.pm_machine.specs.declared.code_place.CodePlace.{CodePlace}
+use Rattle.pm_debug.specs.declared.breaks.Breakpoint.{Breakpoint}
 use Rattle.pm_debug.specs.declared.refusal.DebugRefusal.{DebugRefusal}
 use Rattle.pm_debug.specs.declared.refusal.DebugRefusal.TheVariants.{Full}
-use Rattle.pm_debug.specs.Breaks.{is_same, is_set, with_break, without_break}
+use Rattle.pm_debug.specs.Breaks.{breakpoint, can_be_asked, instead, is_same, is_set, with_break, without_break, word_is}
 use Rattle.pm_debug.specs.Session.{Session}
 use Rattle.pm_debug.specs.Watches.{is_watched, with_watch, without_watch}
 use Rattle.pm_session.specs.declared.commands.Command.TheVariants as commands
 use Rattle.pm_session.specs.Answers.{after_command, after_keys, session_after, with_breaks, with_watches}
 use Rattle.pm_session.specs.Orders.{Order, order_of}
 use Rattle.pm_session.specs.Orders.Order.{Does, Types}
-use Rattle.law_jobs.specs.Breakpoints.{BreakSetsOne, BreaksStay, ClearTakesOne, UnwatchTakesOne, WatchAddsOne, WatchesStay, is_of_breaks, is_of_watches}
+use Rattle.law_jobs.specs.Breakpoints.{BreakIfSetsOne, BreakSetsOne, BreaksStay, ClearTakesOne, UnwatchTakesOne, WatchAddsOne, WatchesStay, is_of_breaks}
+use Rattle.law_jobs.specs.Breakpoints.{is_of_watches}
 use Rattle.law_jobs.specs.Console.{after_lines}
 
 -- ---- lines that are of neither set
@@ -29,7 +30,7 @@ watched_so : (d : Session) (r : Result (List ℕ) DebugRefusal) → (with_watche
 watched_so d (Ok watches) = refl
 watched_so d (Err refusal) = refl
 
-broken_so : (d : Session) (r : Result (List CodePlace) DebugRefusal) → (with_breaks d r).watches ≡ d.watches
+broken_so : (d : Session) (r : Result (List Breakpoint) DebugRefusal) → (with_breaks d r).watches ≡ d.watches
 broken_so d (Ok breaks) = refl
 broken_so d (Err refusal) = refl
 
@@ -41,7 +42,7 @@ typed_breaks (b ∷ bytes) d = typed_breaks bytes (after_command (commands.Key b
 breaks_stay_once : (command : Option Order) (d : Session) → is_of_breaks command ≡ false → (session_after command d).breaks ≡ d.breaks
 unfolding after_command
 breaks_stay_once None d other = refl
-breaks_stay_once (Some (Does (commands.Break s p o))) d other = absurd (cc)
+breaks_stay_once (Some (Does (commands.Break s p o condition))) d other = absurd (cc)
 breaks_stay_once (Some (Does (commands.Clear s p o))) d other = absurd (cc)
 breaks_stay_once (Some (Does (commands.Watch a))) d other = watched_so d (with_watch a d.watches)
 breaks_stay_once (Some (Does (commands.Unwatch a))) d other = watched_so d (without_watch a d.watches)
@@ -64,7 +65,7 @@ typed_watches (b ∷ bytes) d = typed_watches bytes (after_command (commands.Key
 watches_stay_once : (command : Option Order) (d : Session) → is_of_watches command ≡ false → (session_after command d).watches ≡ d.watches
 unfolding after_command
 watches_stay_once None d other = refl
-watches_stay_once (Some (Does (commands.Break s p o))) d other = broken_so d (with_break (code_place s p o) d.breaks)
+watches_stay_once (Some (Does (commands.Break s p o condition))) d other = broken_so d (with_break (breakpoint (code_place s p o) condition) d.breaks)
 watches_stay_once (Some (Does (commands.Clear s p o))) d other = broken_so d (without_break (code_place s p o) d.breaks)
 watches_stay_once (Some (Does (commands.Watch a))) d other = absurd (cc)
 watches_stay_once (Some (Does (commands.Unwatch a))) d other = absurd (cc)
@@ -89,7 +90,7 @@ watches_stay [] d none = refl
 watches_stay (line ∷ lines) d none =
     watches_stay lines (session_after (order_of line) d) none.1 ∙ watches_stay_once (order_of line) d none.0
 
--- ---- one more and one less, of any values with a test of being the same
+-- ---- one more and one less, of any values by keys with a test of being the same
 
 or_is : (b c : Bool) → (b ≡ true → c ≡ true) → c ≡ (b || c)
 or_is true c so = so refl
@@ -105,25 +106,33 @@ and_is : (b c : Bool) → (b ≡ true → c ≡ false) → c ≡ (not b && c)
 and_is true c so = so refl
 and_is false c so = refl
 
-module _ {K : Type 0} (E : K → K → Bool) (laws : IsEquivalence E) (q x : K) (xs : List K) where
+pub any_alike : {A : Type 0} (p r : A → Bool) → ((c : A) → p c ≡ r c) → (xs : List A) → list_any p xs ≡ list_any r xs
+any_alike p r same [] = refl
+any_alike p r same (x ∷ xs) = rw (same x, any_alike p r same xs) refl
+
+module _ {A K : Type 0} (E : K → K → Bool) (laws : IsEquivalence E) (key : A → K) (q : K) (x : A) (xs : List A) where
+  -- what is asked of one key is asked of another that is the same
+  alike : E q (key x) ≡ true → list_any (λ c. E q (key c)) xs ≡ list_any (λ c. E (key x) (key c)) xs
+  alike same = any_alike (λ c. E q (key c)) (λ c. E (key x) (key c)) (λ c. laws.congr q (key x) (key c) same) xs
+
   -- what is there already
-  there : list_any (E x) xs ≡ true → list_any (E q) xs ≡ (E q x || list_any (E q) xs)
-  there has = or_is (E q x) (list_any (E q) xs) (λ same. list_any_congr laws q x xs same ∙ has)
+  there : list_any (λ c. E (key x) (key c)) xs ≡ true → list_any (λ c. E q (key c)) xs ≡ (E q (key x) || list_any (λ c. E q (key c)) xs)
+  there has = or_is (E q (key x)) (list_any (λ c. E q (key c)) xs) (λ same. alike same ∙ has)
 
   -- one more behind the others
-  one_more : list_any (E q) (xs ++ x ∷ []) ≡ (E q x || list_any (E q) xs)
-  one_more = list_any-append (E q) xs (x ∷ []) ∙ or_turned (E q x) (list_any (E q) xs)
+  one_more : list_any (λ c. E q (key c)) (xs ++ x ∷ []) ≡ (E q (key x) || list_any (λ c. E q (key c)) xs)
+  one_more = list_any-append (λ c. E q (key c)) xs (x ∷ []) ∙ or_turned (E q (key x)) (list_any (λ c. E q (key c)) xs)
 
   -- what is not there
-  missing : list_any (E x) xs ≡ false → list_any (E q) xs ≡ (not (E q x) && list_any (E q) xs)
-  missing has = and_is (E q x) (list_any (E q) xs) (λ same. list_any_congr laws q x xs same ∙ has)
+  missing : list_any (λ c. E (key x) (key c)) xs ≡ false → list_any (λ c. E q (key c)) xs ≡ (not (E q (key x)) && list_any (λ c. E q (key c)) xs)
+  missing has = and_is (E q (key x)) (list_any (λ c. E q (key c)) xs) (λ same. alike same ∙ has)
 
   -- all but one
-  one_less : list_any (E q) (filter (λ c. not (E x c)) xs) ≡ (not (E q x) && list_any (E q) xs)
-  one_less = any-filter_same (E q) (λ c. not (E x c)) (not (E q x)) same_of xs
+  one_less : list_any (λ c. E q (key c)) (filter (λ c. not (E (key x) (key c))) xs) ≡ (not (E q (key x)) && list_any (λ c. E q (key c)) xs)
+  one_less = any-filter_same (λ c. E q (key c)) (λ c. not (E (key x) (key c))) (not (E q (key x))) same_of xs
     where
-      same_of : (c : K) → E q c ≡ true → not (E x c) ≡ not (E q x)
-      same_of c is = ap not (laws.symm x c ∙ sym (laws.congr q c x is))
+      same_of : (c : A) → E q (key c) ≡ true → not (E (key x) (key c)) ≡ not (E q (key x))
+      same_of c is = ap not (laws.symm (key x) (key c) ∙ sym (laws.congr q (key c) (key x) is))
 
 -- ---- places
 
@@ -144,7 +153,7 @@ three_of a b c is = let both = and_of a (b && c) is in (both.0, and_of b c both.
 three_alike : (a b c x y z : Bool) → a ≡ x → b ≡ y → c ≡ z → (a && (b && c)) ≡ (x && (y && z))
 three_alike a b c x y z one two three = rw one (rw two (rw three refl))
 
-same_places : IsEquivalence is_same
+pub same_places : IsEquivalence is_same
 same_places = record {
   refl = λ x. three_are (x.segment == x.segment) (x.procedure == x.procedure) (x.offset == x.offset)
       (nat_eq_equiv.refl x.segment) (nat_eq_equiv.refl x.procedure) (nat_eq_equiv.refl x.offset);
@@ -160,17 +169,42 @@ same_places = record {
       (nat_eq_equiv.congr x.offset y.offset z.offset parts.1.1);
 }
 
-pub break_sets_one : BreakSetsOne
-unfolding after_command with_break
-break_sets_one s p o d place few = go (is_set (code_place s p o) d.breaks) refl
+-- one in the place of another has its place
+instead_same : (b c : Breakpoint) (q : CodePlace) → is_same q (instead b c).place ≡ is_same q c.place
+instead_same b c q = by_test (is_same b.place c.place) refl
+  where
+    by_test : (same : Bool) → is_same b.place c.place ≡ same → is_same q (if same then b else c).place ≡ is_same q c.place
+    by_test true is =
+        same_places.symm q b.place ∙ same_places.congr b.place c.place q is ∙ same_places.symm c.place q
+    by_test false is = refl
+
+instead_sets : (b : Breakpoint) (q : CodePlace) (xs : List Breakpoint) → is_set q (map (instead b) xs) ≡ is_set q xs
+instead_sets b q [] = refl
+instead_sets b q (c ∷ xs) =
+    ap (λ here. here || is_set q (map (instead b) xs)) (instead_same b c q) ∙ ap (λ more. is_same q c.place || more) (instead_sets b q xs)
+
+sets_one : (b : Breakpoint) (d : Session) (q : CodePlace) → can_be_asked b.condition ≡ true → length d.breaks < 64
+    → is_set q (with_breaks d (with_break b d.breaks)).breaks ≡ (is_same q b.place || is_set q d.breaks)
+unfolding with_break
+sets_one b d q asked few = rw asked (go (is_set b.place d.breaks) refl)
   where
     room : nat_lt (length d.breaks) 64 ≡ true
     room = grind (arith, nat_tests)
 
-    go : (b : Bool) → is_set (code_place s p o) d.breaks ≡ b
-        → is_set place (session_after (Some (Does (commands.Break s p o))) d).breaks ≡ (is_same place (code_place s p o) || is_set place d.breaks)
-    go true has = rw has (there is_same same_places place (code_place s p o) d.breaks has)
-    go false has = rw has (rw room (one_more is_same same_places place (code_place s p o) d.breaks))
+    go : (set : Bool) → is_set b.place d.breaks ≡ set
+        → is_set q
+        (with_breaks d (if set then Ok (map (instead b) d.breaks) else if nat_lt (length d.breaks) 64 then Ok (d.breaks ++ b ∷ []) else Err Full)).breaks
+        ≡ (is_same q b.place || is_set q d.breaks)
+    go true has = instead_sets b q d.breaks ∙ there is_same same_places (λ (c : Breakpoint). c.place) q b d.breaks has
+    go false has = rw room (one_more is_same same_places (λ (c : Breakpoint). c.place) q b d.breaks)
+
+pub break_sets_one : BreakSetsOne
+unfolding after_command
+break_sets_one s p o d place few = sets_one (breakpoint (code_place s p o) None) d place refl few
+
+pub break_if_sets_one : BreakIfSetsOne
+unfolding after_command
+break_if_sets_one s p o a w d place even few = sets_one (breakpoint (code_place s p o) (Some (word_is a w))) d place even few
 
 pub clear_takes_one : ClearTakesOne
 unfolding after_command without_break
@@ -178,8 +212,8 @@ clear_takes_one s p o d place = go (is_set (code_place s p o) d.breaks) refl
   where
     go : (b : Bool) → is_set (code_place s p o) d.breaks ≡ b
         → is_set place (session_after (Some (Does (commands.Clear s p o))) d).breaks ≡ (not (is_same place (code_place s p o)) && is_set place d.breaks)
-    go true has = rw has (one_less is_same same_places place (code_place s p o) d.breaks)
-    go false has = rw has (missing is_same same_places place (code_place s p o) d.breaks has)
+    go true has = rw has (one_less is_same same_places (λ (c : Breakpoint). c.place) place (breakpoint (code_place s p o) None) d.breaks)
+    go false has = rw has (missing is_same same_places (λ (c : Breakpoint). c.place) place (breakpoint (code_place s p o) None) d.breaks has)
 
 -- ---- words
 
@@ -200,8 +234,8 @@ watch_adds_one a d address even few = rw even (go (is_watched a d.watches) refl)
     go : (b : Bool) → is_watched a d.watches ≡ b
         → is_watched address (with_watches d (if b then Ok d.watches else if nat_lt (length d.watches) 64 then Ok (d.watches ++ a ∷ []) else Err Full)).watches
         ≡ (a == address || is_watched address d.watches)
-    go true has = there (λ a b. b == a) same_addresses address a d.watches has
-    go false has = rw room (one_more (λ a b. b == a) same_addresses address a d.watches)
+    go true has = there (λ a b. b == a) same_addresses (λ c. c) address a d.watches has
+    go false has = rw room (one_more (λ a b. b == a) same_addresses (λ c. c) address a d.watches)
 
 pub unwatch_takes_one : UnwatchTakesOne
 unfolding after_command without_watch
@@ -209,5 +243,5 @@ unwatch_takes_one a d address = go (is_watched a d.watches) refl
   where
     go : (b : Bool) → is_watched a d.watches ≡ b
         → is_watched address (session_after (Some (Does (commands.Unwatch a))) d).watches ≡ (not (a == address) && is_watched address d.watches)
-    go true has = rw has (one_less (λ a b. b == a) same_addresses address a d.watches)
-    go false has = rw has (missing (λ a b. b == a) same_addresses address a d.watches has)
+    go true has = rw has (one_less (λ a b. b == a) same_addresses (λ c. c) address a d.watches)
+    go false has = rw has (missing (λ a b. b == a) same_addresses (λ c. c) address a d.watches has)

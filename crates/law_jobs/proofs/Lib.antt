@@ -13,6 +13,7 @@ pub mod MachineRuns
 pub mod ToolRuns
 pub mod LineLaws
 pub mod Breakpoints
+pub mod BreakStops
 pub mod SelectedLines
 pub mod OneRun
 pub mod Typed

@@ -15,10 +15,10 @@ use Rattle.pm_machine.specs.declared.state.Stop.{Stop}
 use Rattle.pm_machine.specs.declared.state.Stop.TheVariants as stop
 use Rattle.law_engine.proofs.EventLaws.{events_go_on}
 use Rattle.pm_machine.proofs.UntilLaws.{after_more, after_none, runs_end_so}
-use Rattle.pm_machine.specs.declared.code_place.CodePlace.{CodePlace}
+use Rattle.pm_debug.specs.declared.breaks.Breakpoint.{Breakpoint}
 use Rattle.pm_debug.specs.declared.reason.BreakReason.TheVariants as reasons
 use Rattle.pm_debug.specs.declared.refusal.DebugRefusal.{DebugRefusal}
-use Rattle.pm_debug.specs.Breaks.{stands_at, with_break, without_break}
+use Rattle.pm_debug.specs.Breaks.{breakpoint, stands_at, with_break, without_break}
 use Rattle.pm_machine.specs.CodePlaces.{code_place}
 use Rattle.pm_debug.specs.Runs.{Left, behind_steps, countable, gone_by, gone_on, gone_to, has_ended, has_left, is_back, is_there, later}
 use Rattle.pm_debug.specs.Runs.{nowhere, stops_after, stops_at}
@@ -110,10 +110,10 @@ run_steps test made n s =
     (steps.0, steps.1, same ∙ steps.2)
 
 -- the test that stops a run which begins at s
-abbrev Stops : List CodePlace → List ℕ → (State → Bool) → State → State → Bool
+abbrev Stops : List Breakpoint → List ℕ → (State → Bool) → State → State → Bool
 Stops breaks watches test s = stops_at (watched_words watches s.memory) breaks test
 
-gone_steps : (breaks : List CodePlace) (watches : List ℕ) (test : State → Bool) (n : ℕ) (s : State)
+gone_steps : (breaks : List Breakpoint) (watches : List ℕ) (test : State → Bool) (n : ℕ) (s : State)
     → Makes (Stops breaks watches test s) 1 n s (gone_to breaks watches test n s).machine
 unfolding gone_to
 gone_steps breaks watches test n s = ended_steps (has_ended s.status) refl
@@ -125,7 +125,7 @@ gone_steps breaks watches test n s = ended_steps (has_ended s.status) refl
     ended_steps false e = run_steps (Stops breaks watches test s) 0 n s
 
 -- the steps of what is left of a run are events
-on_steps : (breaks : List CodePlace) (left : Left) (n : ℕ) (s : State)
+on_steps : (breaks : List Breakpoint) (left : Left) (n : ℕ) (s : State)
     → (events : List Event) × AreStepsOn breaks left n s events × (machine_on s (gone_on breaks left n s) ≡ after_all s events)
 on_steps breaks Nothing n s = ([], refl, refl)
 on_steps breaks (Rest depth made watched) n s =
@@ -137,7 +137,7 @@ on_steps breaks (Rest depth made watched) n s =
 abbrev Made : Option Order → Session → Type 0
 Made command d = (events : List Event) × AreEventsOf command d events × ((session_after command d).machine ≡ after_all d.machine events)
 
-kept : (d : Session) (r : Result (List CodePlace) DebugRefusal) → (with_breaks d r).machine ≡ d.machine
+kept : (d : Session) (r : Result (List Breakpoint) DebugRefusal) → (with_breaks d r).machine ≡ d.machine
 kept d (Ok breaks) = refl
 kept d (Err refusal) = refl
 
@@ -154,7 +154,7 @@ typed_events (b ∷ bytes) d = typed_events bytes (after_command (commands.Key b
 pub command_made : (command : Option Order) (d : Session) → Made command d
 unfolding after_command
 command_made None d = ([], refl, refl)
-command_made (Some (Does (commands.Break s p o))) d = ([], refl, kept d (with_break (code_place s p o) d.breaks))
+command_made (Some (Does (commands.Break s p o condition))) d = ([], refl, kept d (with_break (breakpoint (code_place s p o) condition) d.breaks))
 command_made (Some (Does (commands.Clear s p o))) d = ([], refl, kept d (without_break (code_place s p o) d.breaks))
 command_made (Some (Does (commands.Watch a))) d = ([], refl, kept_watching d (with_watch a d.watches))
 command_made (Some (Does (commands.Unwatch a))) d = ([], refl, kept_watching d (without_watch a d.watches))

@@ -1,4 +1,4 @@
--- Texts that are typed in a session.
+-- Texts that are typed in a session, and other lines, read.
 use Rattle.std.proofs.Common.{◌≡◌, Option, Some, refl, ap, ◌∙◌, sym, codes, ◌∷◌, []}
 use Rattle.pm_debug.specs.Session.{Session}
 use Rattle.pm_session.specs.declared.commands.Command.TheVariants as commands
@@ -7,6 +7,7 @@ use Rattle.pm_session.specs.Orders.{Order, order_of, typed}
 use Rattle.pm_session.specs.Orders.Order.{Does, Types}
 use Rattle.pm_session.specs.Answers.{after_command, answer_text, command_text, session_after}
 use Rattle.pm_session.specs.Words.{pieces_between, without_empty, without_return, words_of_line}
+use Rattle.law_jobs.specs.Breakpoints.{ConditionIsRead}
 use Rattle.law_jobs.specs.Typed.{TypesAreKeys}
 
 -- what each of the lines asks for
@@ -29,3 +30,7 @@ types_are_keys d = record {
   first = rw (text_typed, first_key) refl;
   second = rw (text_typed, second_key) refl;
 }
+
+pub condition_is_read : ConditionIsRead
+unfolding typed command_of number_behind numbers pieces_between without_empty without_return words_of_line
+condition_is_read = refl

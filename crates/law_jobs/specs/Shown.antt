@@ -7,7 +7,7 @@ use Rattle.pm_machine.specs.Runs.{AllWent, after_steps}
 use Rattle.pm_machine.specs.Steps.{stepped}
 use Rattle.pm_machine.specs.declared.state.Stop.TheVariants as stop
 use Rattle.pm_debug.specs.Breaks.{is_at_break, stands_at}
-use Rattle.pm_machine.specs.declared.code_place.CodePlace.{CodePlace}
+use Rattle.pm_debug.specs.declared.breaks.Breakpoint.{Breakpoint}
 use Rattle.pm_machine.specs.CodePlaces.{code_place}
 use Rattle.pm_debug.specs.Runs.{Left, countable, has_ended, is_there}
 use Rattle.pm_debug.specs.Runs.Left.{Nothing, Rest}
@@ -52,7 +52,7 @@ first_look zero = 1
 first_look (suc made) = 0
 
 -- so many steps of what is left of a run
-abbrev pub AreStepsOn : List CodePlace → Left → ℕ → State → List Event → Type 0
+abbrev pub AreStepsOn : List Breakpoint → Left → ℕ → State → List Event → Type 0
 AreStepsOn breaks Nothing limit s events = events ≡ []
 AreStepsOn breaks (Rest depth made watched) limit s events = AreStepsFrom (first_look made)
     (λ t. (is_there depth t || has_changed watched t.memory) || is_at_break breaks t) (countable made limit) s events

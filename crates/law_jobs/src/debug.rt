@@ -1,7 +1,8 @@
 //! Laws of runs. The functions do nothing.
 
 ghost use Rattle.pm_debug.specs.Runs.{GoIsRun};
-ghost use Rattle.pm_debug.specs.RunLaws.{ChangesAreFirst, GoStopsAtBreaks};
+ghost use Rattle.pm_debug.specs.RunLaws.{ChangesAreFirst, FalseConditionsStopNothing, GoStopsAtBreaks};
+ghost use Rattle.pm_debug.specs.RunLaws.{TrueConditionsAreNone};
 
 /// Without breakpoints and watched words a run is the machine's own: as many steps, the same state,
 /// and the reason is the last answer; but on a machine that has ended the reason is that.
@@ -22,4 +23,13 @@ pub fn changes_are_first()
 #[tactic(auto, using(pm_debug::proofs::GoLaws::go_stops_at_breaks))]
 pub fn go_stops_at_breaks()
     ensures law { GoStopsAtBreaks }
+{}
+
+/// A breakpoint whose condition does not hold after any step of a run, as it is without that breakpoint, stops nothing:
+/// the run is the same with it. One whose condition holds after each step of the run, as it is with that breakpoint but
+/// without the condition, is as this.
+#[tactic(auto, using(pm_debug::proofs::ConditionLaws::false_conditions_stop_nothing, pm_debug::proofs::ConditionLaws::true_conditions_are_none))]
+pub fn conditions_decide()
+    ensures nothing { FalseConditionsStopNothing }
+    ensures same { TrueConditionsAreNone }
 {}

@@ -1,8 +1,9 @@
 //! What a session of the debugger shows is the table's.
 
 ghost use Rattle.std.specs.Prelude.{ℕ};
-ghost use Rattle.law_jobs.specs.Breakpoints.{BreakSetsOne, BreaksStay, ClearTakesOne, UnwatchTakesOne};
-ghost use Rattle.law_jobs.specs.Breakpoints.{WatchAddsOne, WatchesStay};
+ghost use Rattle.law_jobs.specs.Breakpoints.{BreakIfSetsOne, BreakIfStopsSo, BreakSetsOne, BreakStopsThere};
+ghost use Rattle.law_jobs.specs.Breakpoints.{BreaksStay, ClearStopsNoMore, ClearTakesOne, ConditionIsRead};
+ghost use Rattle.law_jobs.specs.Breakpoints.{UnwatchTakesOne, WatchAddsOne, WatchesStay};
 ghost use Rattle.law_jobs.specs.Console.{ConsoleIsShown};
 ghost use Rattle.law_jobs.specs.OneRun.{GoesOnAsOne, NothingGoesOn};
 ghost use Rattle.law_jobs.specs.Shown.{SessionsShowTheTable};
@@ -34,14 +35,33 @@ pub fn other_lines_leave_the_breakpoints()
     ensures watches { WatchesStay }
 {}
 
-/// After `break`, where fewer than 64 are set, its place is a breakpoint, after `clear` it is none, and each other
-/// place is one exactly if it was one before; and so of the words that `watch` and `unwatch` name.
-#[tactic(auto, using(crate::proofs::Breakpoints::break_sets_one, crate::proofs::Breakpoints::clear_takes_one, crate::proofs::Breakpoints::watch_adds_one, crate::proofs::Breakpoints::unwatch_takes_one))]
+/// After `break`, where fewer than 64 are set, its place is a breakpoint, and so with a condition on a word at an even
+/// address; after `clear` it is none, and each other place is one exactly if it was one before; and so of the words
+/// that `watch` and `unwatch` name.
+#[tactic(auto, using(crate::proofs::Breakpoints::break_sets_one, crate::proofs::Breakpoints::break_if_sets_one, crate::proofs::Breakpoints::clear_takes_one, crate::proofs::Breakpoints::watch_adds_one, crate::proofs::Breakpoints::unwatch_takes_one))]
 pub fn a_command_changes_one_breakpoint()
     ensures sets { BreakSetsOne }
+    ensures sets_if { BreakIfSetsOne }
     ensures takes { ClearTakesOne }
     ensures adds { WatchAddsOne }
     ensures unwatches { UnwatchTakesOne }
+{}
+
+/// `break 1 2 3 if 4 = 5` sets the breakpoint at offset 3 of procedure 2 of segment 1, on the condition that the word
+/// at 4 is 5.
+#[tactic(auto, using(crate::proofs::Typed::condition_is_read))]
+pub fn a_condition_is_read()
+    ensures read { ConditionIsRead }
+{}
+
+/// After `break` a breakpoint stops a run wherever the machine stands at its place; after `break` with a condition only
+/// where that holds there, whatever was set at the place before; after `clear` no more; and at each other place as
+/// before.
+#[tactic(auto, using(crate::proofs::BreakStops::break_stops_there, crate::proofs::BreakStops::break_if_stops_so, crate::proofs::BreakStops::clear_stops_no_more))]
+pub fn a_breakpoint_stops_by_its_last_condition()
+    ensures always { BreakStopsThere }
+    ensures condition { BreakIfStopsSo }
+    ensures clear { ClearStopsNoMore }
 {}
 
 /// A `go` of at most a steps that its limit stopped, and then an `on` of at most b, leave the session that a `go` of at

@@ -1,6 +1,6 @@
 -- Runs that nothing stops, and runs that breakpoints alone may stop.
 use Rattle.std.proofs.Common.{◌≡◌, ◌∙◌, ap, sym, refl, subst, arith, ℕ, zero, suc, Bool, true, false, not, ◌&&◌}
-use Rattle.std.proofs.Common.{List, [], ◌∷◌, length, Option, Some, None, inl, inr}
+use Rattle.std.proofs.Common.{List, [], ◌∷◌, length, inl, inr}
 use Rattle.std.specs.Prelude.{◌==◌}
 use Rattle.std.proofs.lemmas.Bool.{cases_Bool, eqb-true}
 use Rattle.pm_machine.specs.declared.state.RunEnd.{RunEnd}
@@ -14,14 +14,13 @@ use Rattle.pm_machine.specs.Steps.{stepped}
 use Rattle.pm_machine.specs.Runs.{RunOutcome, never, run_from, run_until}
 use Rattle.pm_machine.specs.RunLaws.{EndsSo, as_outcome}
 use Rattle.pm_machine.proofs.UntilLaws.{outcome_of, runs_end_so, same_runs}
-use Rattle.pm_machine.specs.declared.code_place.CodePlace.{CodePlace}
+use Rattle.pm_debug.specs.declared.breaks.Breakpoint.{Breakpoint}
 use Rattle.pm_debug.specs.declared.reason.BreakReason.{BreakReason}
 use Rattle.pm_debug.specs.declared.reason.BreakReason.TheVariants as reasons
 use Rattle.pm_debug.specs.declared.run.Depth.{Depth}
 use Rattle.pm_debug.specs.declared.run.Depth.TheVariants as depths
 use Rattle.pm_debug.specs.declared.watches.WatchedWord.{WatchedWord}
-use Rattle.pm_debug.specs.Breaks.{is_at_break, is_one_of}
-use Rattle.pm_machine.specs.CodePlaces.{place_in_code}
+use Rattle.pm_debug.specs.Breaks.{is_at_break}
 use Rattle.pm_debug.specs.RunLaws.{GoStopsAtBreaks, break_reason, to_a_break}
 use Rattle.pm_debug.specs.Runs.{GoIsRun, Gone, answered_so, gone, gone_by, gone_to, has_ended, is_there, later, nowhere, reason_of}
 use Rattle.pm_debug.specs.Runs.{stops_after, stops_at}
@@ -31,16 +30,12 @@ and_false : (b : Bool) → b && false ≡ false
 and_false true = refl
 and_false false = refl
 
-none_matches : (p : Option CodePlace) → is_one_of p [] ≡ false
-none_matches None = refl
-none_matches (Some b) = refl
-
 -- nothing stops no run
 pub none_stop : (k : ℕ) (s : State) → later (stops_at [] [] nowhere) k s ≡ false
 unfolding first_changed
-none_stop k s = ap (λ b. not (k == 0) && b) (none_matches (place_in_code s)) ∙ and_false (not (k == 0))
+none_stop k s = and_false (not (k == 0))
 
-pub never_stops : (watched : List WatchedWord) (breaks : List CodePlace) (depth : Depth) → (length watched == 0) ≡ true → (length breaks == 0) ≡ true
+pub never_stops : (watched : List WatchedWord) (breaks : List Breakpoint) (depth : Depth) → (length watched == 0) ≡ true → (length breaks == 0) ≡ true
     → depth ≡ depths.Any → (k : ℕ) (s : State) → later (stops_at watched breaks (is_there depth)) k s ≡ false
 never_stops [] [] depth w b d k s = rw d (none_stop k s)
 never_stops [] (x ∷ breaks) depth w b d k s = absurd (omega (arith, eqb-true (length (x ∷ breaks)) 0 b))
@@ -109,14 +104,14 @@ held_later k b h = behind (not (k == 0)) b h
     behind false b h = absurd (cc)
 
 -- without watched words the reason is that of a run which breakpoints alone may stop
-break_told : (breaks : List CodePlace) (limit n count : ℕ) (s t : State) (end : RunEnd) → EndsSo (later (is_at_break breaks)) limit n s end count t
+break_told : (breaks : List Breakpoint) (limit n count : ℕ) (s t : State) (end : RunEnd) → EndsSo (later (is_at_break breaks)) limit n s end count t
     → reason_of [] breaks end t ≡ break_reason end
 unfolding first_changed
 break_told breaks limit n count s t ends.Limit h = refl
 break_told breaks limit n count s t ends.Stopped h = rw (held_later n (is_at_break breaks t) h.1) refl
 break_told breaks limit n count s t (ends.Answered a) h = refl
 
-told_so : (breaks : List CodePlace) (run : RunOutcome) → reason_of [] breaks run.end run.state ≡ break_reason run.end
+told_so : (breaks : List Breakpoint) (run : RunOutcome) → reason_of [] breaks run.end run.state ≡ break_reason run.end
     → gone_by [] breaks run ≡ to_a_break run
 told_so breaks run h = ap (λ reason. record { steps = run.count; reason = reason; machine = run.state }) h
 

@@ -4,3 +4,4 @@ pub mod AheadLaws
 pub mod GoLaws
 pub mod WatchLaws
 pub mod OnLaws
+pub mod ConditionLaws

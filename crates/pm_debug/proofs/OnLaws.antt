@@ -15,7 +15,7 @@ use Rattle.pm_machine.specs.Steps.{stepped}
 use Rattle.pm_machine.specs.Runs.{GaveUp, RunOutcome, after_steps, last_counts, on_answer, run_from}
 use Rattle.pm_machine.specs.RunLaws.{EndsSo}
 use Rattle.pm_machine.proofs.UntilLaws.{runs_end_so}
-use Rattle.pm_machine.specs.declared.code_place.CodePlace.{CodePlace}
+use Rattle.pm_debug.specs.declared.breaks.Breakpoint.{Breakpoint}
 use Rattle.pm_debug.specs.declared.reason.BreakReason.{BreakReason}
 use Rattle.pm_debug.specs.declared.reason.BreakReason.TheVariants as reasons
 use Rattle.pm_debug.specs.declared.watches.WatchedWord.{WatchedWord}
@@ -99,7 +99,7 @@ goes_on_behind test made n s = ap (λ j. run_from test j n s) (plus_none made) �
     plus_none m = omega arith
 
 -- the rest of a run, as the machine makes it
-pub gone_rest : (breaks : List CodePlace) (watched : List WatchedWord) (test : State → Bool) (made limit : ℕ) (s : State) (run : RunOutcome)
+pub gone_rest : (breaks : List Breakpoint) (watched : List WatchedWord) (test : State → Bool) (made limit : ℕ) (s : State) (run : RunOutcome)
     (reason : BreakReason) → run_from (behind_steps made (later (stops_at watched breaks test))) 0 limit s ≡ run
     → reason ≡ reason_of watched breaks run.end run.state
     → gone_from breaks watched test made limit s ≡ record { steps = made + run.count; reason = reason; machine = run.state }
@@ -111,7 +111,7 @@ gone_rest breaks watched test made limit s run reason ran told =
     as_gone steps machine reason = record { steps = steps; reason = reason; machine = machine }
 
 -- a run that begins, with the machine, the breakpoints and the watched words as they were handed to it
-pub begins : (breaks : List CodePlace) (watches : List ℕ) (test : State → Bool) (limit : ℕ) (s : State) (given : List CodePlace)
+pub begins : (breaks : List Breakpoint) (watches : List ℕ) (test : State → Bool) (limit : ℕ) (s : State) (given : List Breakpoint)
     (watched : List WatchedWord) (began : State) (outcome : Gone) → has_ended s.status ≡ false → given ≡ breaks
     → watched ≡ watched_words watches s.memory → began ≡ s
     → gone_from given watched test 0 limit began ≡ outcome → gone_to breaks watches test limit s ≡ outcome
@@ -197,7 +197,7 @@ no_went answer count test limit s t h =
     of_end ends.Stopped answer n count t e so = absurd (cc)
     of_end (ends.Answered other) answer n count t e so = λ w. so.0 (cc)
 
-told_limit : (watched : List WatchedWord) (breaks : List CodePlace) (run : RunOutcome)
+told_limit : (watched : List WatchedWord) (breaks : List Breakpoint) (run : RunOutcome)
     → ((answer : Stop) → run.end ≡ ends.Answered answer → answer ≢ stop.Went)
     → reason_of watched breaks run.end run.state ≡ reasons.Limit → run.end ≡ ends.Limit
 told_limit watched breaks run other h = by_end run.end refl h

@@ -15,7 +15,7 @@ use Rattle.pm_machine.specs.State.{State}
 use Rattle.pm_machine.specs.Runs.{AllWent, Passes, after_steps, run_until}
 use Rattle.pm_machine.specs.RunLaws.{EndsSo}
 use Rattle.pm_machine.proofs.UntilLaws.{after_none, runs_end_so}
-use Rattle.pm_machine.specs.declared.code_place.CodePlace.{CodePlace}
+use Rattle.pm_debug.specs.declared.breaks.Breakpoint.{Breakpoint}
 use Rattle.pm_debug.specs.declared.reason.BreakReason.{BreakReason}
 use Rattle.pm_debug.specs.declared.reason.BreakReason.TheVariants as reasons
 use Rattle.pm_debug.specs.declared.watches.WatchedWord.{WatchedWord}
@@ -139,7 +139,7 @@ not_at_once : (k : ℕ) (test : Bool) → (not (k == 0) && test) ≡ true → 1 
 not_at_once zero test h = absurd (cc)
 not_at_once (suc k) test h = omega arith
 
-module _ (breaks : List CodePlace) (watches : List ℕ) (test : State → Bool) (limit : ℕ) (s : State) where
+module _ (breaks : List Breakpoint) (watches : List ℕ) (test : State → Bool) (limit : ℕ) (s : State) where
   as_before : (n : ℕ) → Passes (stops_after breaks watches test s) n s → (k : ℕ) → k < n → AreAsIn s watches (after_steps k s)
   as_before n p zero below = subst (AreAsIn s watches) (after_none s) (same_state s watches)
   as_before n p (suc k) below =

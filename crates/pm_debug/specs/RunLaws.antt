@@ -1,14 +1,15 @@
 -- Laws of the debugger's runs.
-use Rattle.std.specs.Prelude.{◌≡◌, ◌≢◌, ℕ, ◌<◌, ◌≤◌, ◌+◌, Some, Bool, false, List, [], ◌∷◌, ◌++◌, All}
+use Rattle.std.specs.Prelude.{◌≡◌, ◌≢◌, ℕ, ◌<◌, ◌≤◌, ◌+◌, Some, None, Bool, false, List, [], ◌∷◌, ◌++◌, All}
 use Rattle.pm_words.specs.Words.{word_at}
 use Rattle.pm_machine.specs.declared.state.RunEnd.{RunEnd}
 use Rattle.pm_machine.specs.declared.state.RunEnd.TheVariants as ends
 use Rattle.pm_machine.specs.State.{State}
 use Rattle.pm_machine.specs.Runs.{AllWent, RunOutcome, after_steps, run_until}
 use Rattle.pm_machine.specs.declared.code_place.CodePlace.{CodePlace}
+use Rattle.pm_debug.specs.declared.breaks.Breakpoint.{Breakpoint}
 use Rattle.pm_debug.specs.declared.reason.BreakReason.{BreakReason}
 use Rattle.pm_debug.specs.declared.reason.BreakReason.TheVariants as reasons
-use Rattle.pm_debug.specs.Breaks.{is_at_break}
+use Rattle.pm_debug.specs.Breaks.{breakpoint, is_at_break, word_is}
 use Rattle.pm_debug.specs.declared.run.Depth.{Depth}
 use Rattle.pm_debug.specs.Runs.{Gone, Left, answered_so, gone, gone_on, gone_to, has_ended, is_there, later, left_of}
 use Rattle.pm_debug.specs.Runs.{left_on}
@@ -34,7 +35,7 @@ pub record StopsAtChange (watches : List ℕ) (s : State) (a steps : ℕ) (t : S
 -- what it means that a run answers that the word at an address has changed
 abbrev pub ChangesAreFirst : Type 0
 ChangesAreFirst =
-    (breaks : List CodePlace) (watches : List ℕ) (test : State → Bool) (limit : ℕ) (s : State) (a : ℕ) →
+    (breaks : List Breakpoint) (watches : List ℕ) (test : State → Bool) (limit : ℕ) (s : State) (a : ℕ) →
     (gone_to breaks watches test limit s).reason ≡ reasons.Changed a →
     StopsAtChange watches s a (gone_to breaks watches test limit s).steps (gone_to breaks watches test limit s).machine
 
@@ -50,12 +51,12 @@ to_a_break run = record { steps = run.count; reason = break_reason run.end; mach
 -- without watched words a run of at most so many steps is the run of the machine that breakpoints alone may stop
 abbrev pub GoStopsAtBreaks : Type 0
 GoStopsAtBreaks =
-    (breaks : List CodePlace) (limit : ℕ) (s : State) → has_ended s.status ≡ false →
+    (breaks : List Breakpoint) (limit : ℕ) (s : State) → has_ended s.status ≡ false →
     gone breaks [] limit s ≡ to_a_break (run_until (later (is_at_break breaks)) limit s)
 
 -- A run that its limit stopped, and what goes on from there, are one run of both limits: its steps, its reason and its
 -- machine; and what is left then is what is left of that run.
-pub record AreOneRun (breaks : List CodePlace) (watches : List ℕ) (depth : Depth) (limit more : ℕ) (s t : State)
+pub record AreOneRun (breaks : List Breakpoint) (watches : List ℕ) (depth : Depth) (limit more : ℕ) (s t : State)
     (rest : Left) : Type 0 where
   pub ran : gone_on breaks rest more t ≡ Some (gone_to breaks watches (is_there depth) (limit + more) s)
   pub left : left_on breaks rest more t
@@ -63,7 +64,33 @@ pub record AreOneRun (breaks : List CodePlace) (watches : List ℕ) (depth : Dep
 
 abbrev pub RunsGoOnAsOne : Type 0
 RunsGoOnAsOne =
-    (breaks : List CodePlace) (watches : List ℕ) (depth : Depth) (limit more : ℕ) (s : State) →
+    (breaks : List Breakpoint) (watches : List ℕ) (depth : Depth) (limit more : ℕ) (s : State) →
     limit + more ≤ 18446744073709551615 → (gone_to breaks watches (is_there depth) limit s).reason ≡ reasons.Limit →
     AreOneRun breaks watches depth limit more s (gone_to breaks watches (is_there depth) limit s).machine
     (left_of depth watches s (gone_to breaks watches (is_there depth) limit s))
+
+-- a breakpoint stands between these others
+abbrev pub among : List Breakpoint → Breakpoint → List Breakpoint → List Breakpoint
+among front b back = front ++ b ∷ back
+
+-- A breakpoint on the condition that the word at a is w, which it is after no step of the run that the others alone may
+-- stop, stops nothing: with it the run is the same.
+abbrev pub FalseConditionsStopNothing : Type 0
+FalseConditionsStopNothing =
+    (front back : List Breakpoint) (place : CodePlace) (a w : ℕ) (watches : List ℕ) (test : State → Bool)
+    (limit : ℕ) (s : State) →
+    ((k : ℕ) → 1 ≤ k → k ≤ (gone_to (front ++ back) watches test limit s).steps
+    → word_at (after_steps k s).memory a ≢ w) →
+    gone_to (among front (breakpoint place (Some (word_is a w))) back) watches test limit s
+    ≡ gone_to (front ++ back) watches test limit s
+
+-- Where that word is w after each step of the run that the same breakpoint without a condition may stop, the run is
+-- this one.
+abbrev pub TrueConditionsAreNone : Type 0
+TrueConditionsAreNone =
+    (front back : List Breakpoint) (place : CodePlace) (a w : ℕ) (watches : List ℕ) (test : State → Bool)
+    (limit : ℕ) (s : State) →
+    ((k : ℕ) → 1 ≤ k → k ≤ (gone_to (among front (breakpoint place None) back) watches test limit s).steps
+    → word_at (after_steps k s).memory a ≡ w) →
+    gone_to (among front (breakpoint place (Some (word_is a w))) back) watches test limit s
+    ≡ gone_to (among front (breakpoint place None) back) watches test limit s

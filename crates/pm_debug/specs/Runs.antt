@@ -11,6 +11,7 @@ use Rattle.pm_machine.specs.declared.state.Stop.TheVariants as stop
 use Rattle.pm_machine.specs.State.{State, Whole}
 use Rattle.pm_machine.specs.Runs.{GaveUp, Ran, RunOutcome, run_from}
 use Rattle.pm_machine.specs.declared.code_place.CodePlace.{CodePlace}
+use Rattle.pm_debug.specs.declared.breaks.Breakpoint.{Breakpoint}
 use Rattle.pm_debug.specs.declared.reason.BreakReason.{BreakReason}
 use Rattle.pm_debug.specs.declared.reason.BreakReason.TheVariants as reasons
 use Rattle.pm_debug.specs.declared.run.Depth.{Depth}
@@ -28,11 +29,11 @@ abbrev pub later : (State → Bool) → ℕ → State → Bool
 later test k s = not (k == 0) && test s
 
 -- a run stops at s: it is where a test says that it is to go, a watched word has changed, or it is at a breakpoint
-abbrev pub stops_at : List WatchedWord → List CodePlace → (State → Bool) → State → Bool
+abbrev pub stops_at : List WatchedWord → List Breakpoint → (State → Bool) → State → Bool
 stops_at watched breaks test s = (test s || has_changed watched s.memory) || is_at_break breaks s
 
 -- what stops a run that begins at this state, with these breakpoints and the words at these addresses watched
-abbrev pub stops_after : List CodePlace → List ℕ → (State → Bool) → State → ℕ → State → Bool
+abbrev pub stops_after : List Breakpoint → List ℕ → (State → Bool) → State → ℕ → State → Bool
 stops_after breaks watches test began = later (stops_at (watched_words watches began.memory) breaks test)
 
 -- ---- why it ends
@@ -54,12 +55,12 @@ changed_or (Some address) other = reasons.Changed address
 changed_or None other = other
 
 -- why a run stops before a step: for a watched word that has changed, else for a breakpoint, else for where it is to go
-abbrev pub stopped_so : List WatchedWord → List CodePlace → State → BreakReason
+abbrev pub stopped_so : List WatchedWord → List Breakpoint → State → BreakReason
 stopped_so watched breaks s =
     changed_or (first_changed watched s.memory) (if is_at_break breaks s then reasons.Break else reasons.There)
 
 -- why a run of the machine that these may stop makes no more steps
-abbrev pub reason_of : List WatchedWord → List CodePlace → RunEnd → State → BreakReason
+abbrev pub reason_of : List WatchedWord → List Breakpoint → RunEnd → State → BreakReason
 reason_of watched breaks ends.Limit s = reasons.Limit
 reason_of watched breaks ends.Stopped s = stopped_so watched breaks s
 reason_of watched breaks (ends.Answered answer) s = answered_so answer
@@ -72,19 +73,19 @@ pub record Gone : Type 0 where
   pub reason : BreakReason
   pub machine : State
 
-abbrev pub gone_by : List WatchedWord → List CodePlace → RunOutcome → Gone
+abbrev pub gone_by : List WatchedWord → List Breakpoint → RunOutcome → Gone
 gone_by watched breaks run =
     record { steps = run.count; reason = reason_of watched breaks run.end run.state; machine = run.state }
 
 -- The rest of a run that has made so many steps, of at most so many more. Before each step, but the first of the whole
 -- run, it is looked at what may stop it. The watched words are those of the state in which the whole run began.
-abbrev pub gone_from : List CodePlace → List WatchedWord → (State → Bool) → ℕ → ℕ → State → Gone
+abbrev pub gone_from : List Breakpoint → List WatchedWord → (State → Bool) → ℕ → ℕ → State → Gone
 gone_from breaks watched test made limit s =
     gone_by watched breaks (run_from (later (stops_at watched breaks test)) made limit s)
 
 -- The run of at most so many steps to a changed word, to a breakpoint, or to where a test holds. The watched words are
 -- those of the state in which it begins. On a machine that has ended there is no run, and so for no steps as well.
-unfoldable pub gone_to : List CodePlace → List ℕ → (State → Bool) → ℕ → State → Gone
+unfoldable pub gone_to : List Breakpoint → List ℕ → (State → Bool) → ℕ → State → Gone
 gone_to breaks watches test limit s =
     if has_ended s.status then record { steps = 0; reason = reasons.Ended; machine = s }
     else gone_from breaks (watched_words watches s.memory) test 0 limit s
@@ -94,7 +95,7 @@ abbrev pub nowhere : State → Bool
 nowhere s = false
 
 -- at most so many steps
-abbrev pub gone : List CodePlace → List ℕ → ℕ → State → Gone
+abbrev pub gone : List Breakpoint → List ℕ → ℕ → State → Gone
 gone breaks watches limit s = gone_to breaks watches nowhere limit s
 
 -- ---- runs over calls
@@ -120,15 +121,15 @@ abbrev pub most_steps : ℕ
 most_steps = 4294967295
 
 -- one instruction: where it is a call, all that is called
-abbrev pub gone_over : List CodePlace → List ℕ → ℕ → State → Gone
+abbrev pub gone_over : List Breakpoint → List ℕ → ℕ → State → Gone
 gone_over breaks watches limit s = gone_to breaks watches (is_back s.registers.mp) limit s
 
 -- all of the running procedure that is left, with its return
-abbrev pub gone_out : List CodePlace → List ℕ → ℕ → State → Gone
+abbrev pub gone_out : List Breakpoint → List ℕ → ℕ → State → Gone
 gone_out breaks watches limit s = gone_to breaks watches (has_left s.registers.mp) limit s
 
 -- up to this place, before the instruction there
-abbrev pub gone_until : List CodePlace → List ℕ → CodePlace → ℕ → State → Gone
+abbrev pub gone_until : List Breakpoint → List ℕ → CodePlace → ℕ → State → Gone
 gone_until breaks watches place limit s = gone_to breaks watches (stands_at place) limit s
 
 -- ---- runs that go on
@@ -162,7 +163,7 @@ abbrev pub countable : ℕ → ℕ → ℕ
 countable made limit = min limit (18446744073709551615 - made)
 
 -- the rest of the last run, of at most so many steps more; there is none where nothing is left of it
-abbrev pub gone_on : List CodePlace → Left → ℕ → State → Option Gone
+abbrev pub gone_on : List Breakpoint → Left → ℕ → State → Option Gone
 gone_on breaks Nothing limit s = None
 gone_on breaks (Rest depth made watched) limit s =
     Some (gone_from breaks watched (is_there depth) made (countable made limit) s)
@@ -171,7 +172,7 @@ abbrev pub left_behind : Depth → List WatchedWord → Gone → Left
 left_behind depth watched run = left_so depth watched run.steps run.reason
 
 -- what is left after that
-abbrev pub left_on : List CodePlace → Left → ℕ → State → Left
+abbrev pub left_on : List Breakpoint → Left → ℕ → State → Left
 left_on breaks Nothing limit s = Nothing
 left_on breaks (Rest depth made watched) limit s =
     left_behind depth watched (gone_from breaks watched (is_there depth) made (countable made limit) s)
@@ -181,7 +182,7 @@ abbrev pub behind_steps : ℕ → (ℕ → State → Bool) → ℕ → State →
 behind_steps made test k s = test (made + k) s
 
 -- the rest of the last run was given up for want of memory
-abbrev pub GaveUpOn : List CodePlace → Left → ℕ → Whole → Whole → Type 0
+abbrev pub GaveUpOn : List Breakpoint → Left → ℕ → Whole → Whole → Type 0
 GaveUpOn breaks Nothing limit m t = ⊥
 GaveUpOn breaks (Rest depth made watched) limit m t =
     GaveUp (behind_steps made (later (stops_at watched breaks (is_there depth)))) (countable made limit) m t

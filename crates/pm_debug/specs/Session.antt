@@ -2,7 +2,7 @@
 -- what is left of its last run; and whether a session shows what its commands add to the console.
 use Rattle.std.specs.Prelude.{◌≡◌, ℕ, Bool, List}
 use Rattle.pm_machine.specs.State.{State, Whole}
-use Rattle.pm_machine.specs.declared.code_place.CodePlace.{CodePlace}
+use Rattle.pm_debug.specs.declared.breaks.Breakpoint.{Breakpoint}
 use Rattle.pm_debug.specs.declared.refusal.DebugRefusal.{DebugRefusal}
 use Rattle.pm_debug.specs.declared.refusal.DebugRefusal.TheVariants.{Full, NotSet, OddAddress, NoMemory, TooDeep}
 use Rattle.pm_debug.specs.declared.refusal.DebugRefusal.TheVariants.{NothingLeft}
@@ -11,7 +11,7 @@ use Rattle.pm_debug.specs.Runs.Left.{Nothing}
 
 pub record Session : Type 0 where
   pub machine : State
-  pub breaks : List CodePlace
+  pub breaks : List Breakpoint
   pub watches : List ℕ
   pub left : Left
   pub shows_console : Bool
@@ -19,7 +19,7 @@ pub record Session : Type 0 where
 -- what a debugger is seen as: its machine with its room for input and output, and the others as they are
 pub record Debugged : Type 0 where
   pub machine : Whole
-  pub breaks : List CodePlace
+  pub breaks : List Breakpoint
   pub watches : List ℕ
   pub left : Left
   pub shows_console : Bool

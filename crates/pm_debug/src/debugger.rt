@@ -3,7 +3,7 @@
 ghost use Rattle.std.specs.Prelude.{◌≡◌, ◌<◌, ◌≤◌, ◌+◌, Some, [], false, Ok, Err, IfOk, IfErr, OnOk, OnErr};
 ghost use Rattle.std.specs.Borrow.{sem};
 ghost use Rattle.pm_debug.specs.Ahead.{addresses_ahead};
-ghost use Rattle.pm_debug.specs.Breaks.{stands_at, with_break, without_break};
+ghost use Rattle.pm_debug.specs.Breaks.{breakpoint, stands_at, with_break, without_break};
 ghost use Rattle.pm_machine.specs.CodePlaces.{code_place, place_in_code};
 ghost use Rattle.pm_debug.specs.Frames.{frames};
 ghost use Rattle.pm_debug.specs.Lending.{LendsMachine};
@@ -21,7 +21,7 @@ ghost use Rattle.pm_debug.specs.Views.{static_chain, words_from};
 ghost use Rattle.pm_debug.specs.Watches.{with_watch, without_watch};
 
 use crate::ahead::addresses_from;
-use crate::breaks::Breaks;
+use crate::breaks::{Breakpoint, Breaks, Condition};
 use crate::frames::{Frame, frames};
 use crate::reason::BreakReason;
 use crate::refusal::{DebugRefusal, refusal_of};
@@ -106,18 +106,25 @@ impl Debugger {
         machine
     }
 
-    /// Sets a breakpoint: the number of a segment, the number of a procedure, and the distance in
-    /// bytes from where the procedure is entered. One that is set already stays, also beside 64
-    /// breakpoints; `Full` for a new one beside 64.
-    pub fn set_break(&mut self, segment: u8, procedure: u8, offset: u16) -> Result<(), DebugRefusal>
+    /// Sets a breakpoint: the number of a segment, the number of a procedure, the distance in bytes from where the
+    /// procedure is entered, and what has to hold there, if anything. One that is set there already goes, and the new
+    /// one has its place in the list, also beside 64 breakpoints; `OddAddress` for a condition at an odd address, and
+    /// `Full` for a new one beside 64.
+    pub fn set_break(
+        &mut self,
+        segment: u8,
+        procedure: u8,
+        offset: u16,
+        condition: Option<Condition>,
+    ) -> Result<(), DebugRefusal>
         ensures machine { self.new.machine ≡ self.old.machine }
         ensures watches { self.new.watches ≡ self.old.watches }
         ensures left { self.new.left ≡ self.old.left }
         ensures shows { self.new.shows_console ≡ self.old.shows_console }
-        ensures set { OnOk result (with_break (code_place segment procedure offset) self.old.breaks
-            ≡ Ok self.new.breaks) }
-        ensures refused { IfErr result (λ refusal. with_break (code_place segment procedure offset) self.old.breaks
-            ≡ Err refusal) }
+        ensures set { OnOk result (with_break (breakpoint (code_place segment procedure offset) condition)
+            self.old.breaks ≡ Ok self.new.breaks) }
+        ensures refused { IfErr result (λ refusal. with_break
+            (breakpoint (code_place segment procedure offset) condition) self.old.breaks ≡ Err refusal) }
         ensures unchanged { OnErr result (self.new ≡ self.old) }
     {
         let place = CodePlace {
@@ -125,10 +132,10 @@ impl Debugger {
             procedure,
             offset,
         };
-        breaks::set(&mut self.breaks, place)
+        breaks::set(&mut self.breaks, Breakpoint { place, condition })
     }
 
-    /// Takes a breakpoint away; `NotSet` where it is not set.
+    /// Takes the breakpoint at a place away, whatever its condition; `NotSet` where there is none.
     pub fn clear_break(
         &mut self,
         segment: u8,
@@ -427,8 +434,8 @@ impl Debugger {
         place_in_code(&self.machine)
     }
 
-    /// The breakpoints, in the order in which they were set.
-    pub fn breaks(&self) -> &[CodePlace]
+    /// The breakpoints, in the order in which their places were set.
+    pub fn breaks(&self) -> &[Breakpoint]
         ensures breaks { result.now ≡ self.now.breaks }
     {
         self.breaks.as_slice()

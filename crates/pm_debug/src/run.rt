@@ -7,7 +7,7 @@ ghost use Rattle.pm_debug.specs.Runs.{left_seen, left_so, stops_at};
 ghost use Rattle.pm_debug.specs.declared.watches.WatchedWord.{WatchedWord};
 ghost use Rattle.pm_debug.specs.Watches.{has_changed};
 
-use crate::breaks::{is_at_break, stands_at};
+use crate::breaks::{Breakpoint, is_at_break, stands_at};
 use crate::reason::BreakReason;
 use crate::watches::{WatchedWord, first_changed};
 use pm_machine::{CodePlace, Machine, RunEnd, Status, Stop, StopTest};
@@ -52,7 +52,7 @@ fn is_there(machine: &Machine, depth: Depth) -> bool
 #[derive(Clone, Copy)]
 struct Stops<'a> {
     watched: &'a [WatchedWord],
-    breaks: &'a [CodePlace],
+    breaks: &'a [Breakpoint],
     depth: Depth,
     /// How many steps were made before.
     made: u64,
@@ -89,7 +89,7 @@ pub(crate) fn has_ended(status: Status) -> bool
 
 /// Why a run stops before a step: a watched word that has changed is told before a breakpoint, and
 /// this before the depth.
-fn stopped_so(watched: &[WatchedWord], breaks: &[CodePlace], machine: &Machine) -> BreakReason
+fn stopped_so(watched: &[WatchedWord], breaks: &[Breakpoint], machine: &Machine) -> BreakReason
     ensures reason { result ≡ stopped_so watched.now breaks.now machine.now.state }
 {
     match first_changed(watched, machine.memory()) {
@@ -102,7 +102,7 @@ fn stopped_so(watched: &[WatchedWord], breaks: &[CodePlace], machine: &Machine) 
 /// Why a run makes no more steps.
 fn reason_of(
     watched: &[WatchedWord],
-    breaks: &[CodePlace],
+    breaks: &[Breakpoint],
     machine: &Machine,
     end: RunEnd,
 ) -> BreakReason
@@ -133,7 +133,7 @@ pub(crate) fn last_run(depth: Depth, ran: (u64, BreakReason)) -> LastRun
 
 pub(crate) fn run(
     machine: &mut Machine,
-    breaks: &[CodePlace],
+    breaks: &[Breakpoint],
     watched: &[WatchedWord],
     depth: Depth,
     made: u64,

@@ -69,7 +69,7 @@ pub(crate) fn clear(watches: &mut Watches, old: u16) -> Result<(), DebugRefusal>
 }
 
 /// The word at an address, of which the lowest bit does not count.
-fn word_at(memory: &Memory, address: u16) -> u16
+pub(crate) fn word_at(memory: &Memory, address: u16) -> u16
     ensures word { result ≡ word_at memory.now.words address }
 {
     memory.word(address - address % 2).unwrap_or(0)

@@ -305,7 +305,8 @@ const VERBS: &[CommandRow] = &[
 /// The commands of the debugger.
 const DEBUG_HELP: &str = "\
 Commands, one a line, numbers in decimal, or as $1F with at most four hexadecimal digits:
-  break S P O    sets a breakpoint: segment, procedure, distance in bytes from its entry
+  break S P O    sets a breakpoint: segment, procedure, distance in bytes from its entry; with if A = W behind,
+                 one that stops where the word at the even address A is W; it takes the place of one there
   clear S P O    takes it away
   go N           makes at most N steps
   poke A W       writes a word at an even address

@@ -5,7 +5,7 @@ use Rattle.pm_words.specs.Stack.{is_even}
 use Rattle.pm_calls.specs.declared.registers.Registers.{Registers}
 use Rattle.pm_calls.specs.Places.{keeps_of, placed}
 use Rattle.pm_machine.specs.Events.{Key, Poke, next}
-use Rattle.pm_debug.specs.Breaks.{with_break, without_break}
+use Rattle.pm_debug.specs.Breaks.{breakpoint, with_break, without_break}
 use Rattle.pm_machine.specs.CodePlaces.{code_place}
 use Rattle.pm_debug.specs.Refusals.{or_refused}
 use Rattle.pm_debug.specs.Runs.{Gone, gone, gone_on, gone_out, gone_over, gone_until, left_after, left_on}
@@ -17,7 +17,7 @@ use Rattle.pm_debug.specs.Session.{Session}
 use Rattle.pm_trace.specs.Trace.{trace_line}
 use Rattle.pm_debug.specs.Views.{dynamic_chain, local, stack_words, static_chain}
 use Rattle.pm_debug.specs.Watches.{with_watch, without_watch}
-use Rattle.pm_machine.specs.declared.code_place.CodePlace.{CodePlace}
+use Rattle.pm_debug.specs.declared.breaks.Breakpoint.{Breakpoint}
 use Rattle.pm_debug.specs.declared.reason.BreakReason.{BreakReason}
 use Rattle.pm_debug.specs.declared.reason.BreakReason.TheVariants as reasons
 use Rattle.pm_debug.specs.declared.refusal.DebugRefusal.{DebugRefusal}
@@ -75,7 +75,8 @@ registers_text r =
 
 -- what is answered to a command, without a line feed; `quit` ends the session unanswered
 unfoldable pub command_text : Command → Session → Option (List ℕ)
-command_text (commands.Break s p o) d = Some (done_text (with_break (code_place s p o) d.breaks))
+command_text (commands.Break s p o condition) d =
+    Some (done_text (with_break (breakpoint (code_place s p o) condition) d.breaks))
 command_text (commands.Clear s p o) d = Some (done_text (without_break (code_place s p o) d.breaks))
 command_text (commands.Watch a) d = Some (done_text (with_watch a d.watches))
 command_text (commands.Unwatch a) d = Some (done_text (without_watch a d.watches))
@@ -100,7 +101,7 @@ command_text (commands.Show view) d = Some (view_text view d)
 command_text commands.Quit d = None
 
 -- the breakpoints after one was set or taken away; a refusal leaves them
-abbrev pub with_breaks : Session → Result (List CodePlace) DebugRefusal → Session
+abbrev pub with_breaks : Session → Result (List Breakpoint) DebugRefusal → Session
 with_breaks d (Ok breaks) = record d { breaks = breaks }
 with_breaks d (Err refusal) = d
 
@@ -129,7 +130,8 @@ after_on d n = record d {
 
 -- the debugger after a command; those that are not named here only show it, or end the session
 unfoldable pub after_command : Command → Session → Session
-after_command (commands.Break s p o) d = with_breaks d (with_break (code_place s p o) d.breaks)
+after_command (commands.Break s p o condition) d =
+    with_breaks d (with_break (breakpoint (code_place s p o) condition) d.breaks)
 after_command (commands.Clear s p o) d = with_breaks d (without_break (code_place s p o) d.breaks)
 after_command (commands.Watch a) d = with_watches d (with_watch a d.watches)
 after_command (commands.Unwatch a) d = with_watches d (without_watch a d.watches)

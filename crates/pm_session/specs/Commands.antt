@@ -6,6 +6,7 @@ use Rattle.std.specs.List.{list_all}
 use Rattle.std.specs.Str.{bytes_eq}
 use Rattle.std.specs.Str.Parse.{digits_value}
 use Rattle.pm_notes.specs.Names.{is_digit}
+use Rattle.pm_debug.specs.Breaks.{word_is}
 use Rattle.pm_session.specs.declared.commands.Command.{Command}
 use Rattle.pm_session.specs.declared.commands.Command.TheVariants as commands
 use Rattle.pm_session.specs.declared.commands.View.TheVariants as views
@@ -102,7 +103,7 @@ point_or most command (s ∷ p ∷ o ∷ n ∷ m ∷ more) = None
 -- the commands, a row for each: its word, its numbers by the letters that stand for them, and what these come to
 unfoldable pub command_rows : List (List ℕ × List ℕ × Reading)
 command_rows =
-    (codes "break", codes " S P O", point commands.Break)
+    (codes "break", codes " S P O", point (λ s p o. commands.Break s p o None))
     ∷ (codes "clear", codes " S P O", point commands.Clear)
     ∷ (codes "poke", codes " A W", two commands.Poke)
     ∷ (codes "key", codes " B", one 255 commands.Key)
@@ -156,11 +157,30 @@ setting_with word [] = None
 setting_with word (value ∷ []) = setting_in setting_rows word value
 setting_with word (value ∷ next ∷ more) = None
 
+-- the command of a breakpoint with a condition, by its numbers: a segment, a procedure and an offset, the address of a
+-- word, and what it is to be
+abbrev pub conditional_break : Option ℕ → Option ℕ → Option ℕ → Option ℕ → Option ℕ → Option Command
+conditional_break (Some s) (Some p) (Some o) (Some a) (Some w) =
+    if nat_le s 255 && (nat_le p 255 && (nat_le o 65535 && (nat_le a 65535 && nat_le w 65535)))
+    then Some (commands.Break s p o (Some (word_is a w))) else None
+conditional_break s p o a w = None
+
+-- the command of words behind `break`: three numbers, `if`, a number, `=`, and a number
+abbrev pub conditional : List (List ℕ) → Option Command
+conditional (s ∷ p ∷ o ∷ mark ∷ a ∷ sign ∷ w ∷ []) =
+    if bytes_eq mark (codes "if") && bytes_eq sign (codes "=")
+    then conditional_break (word_number s) (word_number p) (word_number o) (word_number a) (word_number w) else None
+conditional other = None
+
+-- the command of a word and others behind it, of which one is no number
+abbrev pub with_words : List ℕ → List (List ℕ) → Option Command
+with_words word words = if bytes_eq word (codes "break") then conditional words else setting_with word words
+
 abbrev pub command_with : List ℕ → List (List ℕ) → Option (List ℕ) → Option Command
-command_with word words None = setting_with word words
+command_with word words None = with_words word words
 command_with word words (Some ns) = command_in command_rows word ns
 
--- a word and at most four numbers, or one word that is none
+-- a word and at most four numbers, or words of which one is none
 abbrev pub in_words : List (List ℕ) → Option Command
 in_words [] = None
 in_words (word ∷ words) = command_with word words (numbers 4 words)

@@ -14,6 +14,8 @@ use Rattle.pm_debug.specs.Frames.{frames}
 use Rattle.pm_debug.specs.Session.{Session}
 use Rattle.pm_debug.specs.Views.{bytes_from, console_end, words_from}
 use Rattle.pm_machine.specs.declared.code_place.CodePlace.{CodePlace}
+use Rattle.pm_debug.specs.declared.breaks.Breakpoint.{Breakpoint}
+use Rattle.pm_debug.specs.declared.breaks.Condition.{Condition}
 use Rattle.pm_debug.specs.declared.frames.Frame.{Frame}
 use Rattle.pm_debug.specs.declared.refusal.DebugRefusal.TheVariants.{OddAddress}
 use Rattle.pm_session.specs.declared.commands.Command.{Command}
@@ -28,8 +30,16 @@ use Rattle.pm_session.specs.Texts.{chain_text, more_parts, numbers_text, parts_t
 abbrev pub point_text : CodePlace → List ℕ
 point_text b = decimal b.segment ++ (32 ∷ decimal b.procedure ++ (32 ∷ decimal b.offset))
 
-abbrev pub breaks_text : List CodePlace → List ℕ
-breaks_text breaks = parts_text (codes ", ") point_text breaks
+abbrev pub condition_text : Option Condition → List ℕ
+condition_text None = []
+condition_text (Some c) = codes " if " ++ (decimal c.address ++ (codes " = " ++ decimal c.word))
+
+-- a place, and behind it a condition, as `break` takes them
+abbrev pub break_text : Breakpoint → List ℕ
+break_text b = point_text b.place ++ condition_text b.condition
+
+abbrev pub breaks_text : List Breakpoint → List ℕ
+breaks_text breaks = parts_text (codes ", ") break_text breaks
 
 -- where the machine stands, and the instruction there
 abbrev pub where_text : Option CodePlace → State → List ℕ
@@ -89,7 +99,7 @@ setting_text row = row.0 ++ (32 ∷ row.1)
 
 unfoldable pub help_text : List ℕ
 help_text = parts_text (codes ", ") usage_text command_rows
-    ++ (more_parts (codes ", ") setting_text setting_rows ++ codes ", type \"TEXT\"")
+    ++ (more_parts (codes ", ") setting_text setting_rows ++ codes ", type \"TEXT\", break S P O if A = W")
 
 -- what is answered to a command that only shows
 unfoldable pub view_text : View → Session → List ℕ

@@ -138,7 +138,7 @@ fn do_command(
     ensures session { OnOk result ((session_of debugger.new) ≡ after_command command (session_of debugger.old)) }
 {
     let text = match command {
-        Command::Break(s, p, o) => done(alloc, debugger.set_break(s, p, o)),
+        Command::Break(s, p, o, condition) => done(alloc, debugger.set_break(s, p, o, condition)),
         Command::Clear(s, p, o) => done(alloc, debugger.clear_break(s, p, o)),
         Command::Watch(address) => done(alloc, debugger.set_watch(address)),
         Command::Unwatch(address) => done(alloc, debugger.clear_watch(address)),

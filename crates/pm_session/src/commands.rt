@@ -2,7 +2,8 @@
 ghost use Rattle.std.specs.Prelude.{◌≡◌, ◌<◌, ◌≤◌, ◌⊎◌, min, true, [], ◌∷◌, Some, None, IfSome, IfNone, length};
 ghost use Rattle.std.specs.Char.{is_ascii_hexdigit};
 ghost use Rattle.std.specs.List.{list_all};
-ghost use Rattle.pm_session.specs.Commands.{command_in, command_of, command_rows, decimal_number, hexadecimal_number};
+ghost use Rattle.pm_session.specs.Commands.{conditional_break, command_in, command_of, command_rows, conditional};
+ghost use Rattle.pm_session.specs.Commands.{decimal_number, hexadecimal_number};
 ghost use Rattle.pm_notes.specs.Names.{is_digit};
 ghost use Rattle.pm_session.specs.Commands.{number_up_to, numbers, setting_in, setting_rows, setting_with, word_number};
 ghost use Rattle.std.specs.Str.{bytes_eq};
@@ -10,6 +11,7 @@ ghost use Rattle.pm_session.specs.Words.{begins_word, words_of_line, without_ret
 
 use arrayvec::ArrayVec;
 use pm_code::magnitude;
+use pm_debug::Condition;
 
 /// The most steps of a run.
 const MOST_STEPS: u32 = 4_294_967_295;
@@ -17,8 +19,8 @@ const MOST_STEPS: u32 = 4_294_967_295;
 /// A command of the debugger.
 #[derive(Clone, Copy)]
 pub enum Command {
-    /// Sets a breakpoint: segment, procedure and offset.
-    Break(u8, u8, u16),
+    /// Sets a breakpoint: segment, procedure and offset, and its condition, if any.
+    Break(u8, u8, u16, Option<Condition>),
     /// Takes a breakpoint away.
     Clear(u8, u8, u16),
     /// Watches the word at an address.
@@ -304,7 +306,7 @@ fn named_with_three(name: &[u8], s: u32, p: u32, o: u32) -> Option<Command>
     ensures command { result ≡ command_in command_rows name.now (s ∷ p ∷ o ∷ []) }
 {
     let command = match name {
-        _ if is_text(name, "break") => Command::Break(byte(s)?, byte(p)?, word(o)?),
+        _ if is_text(name, "break") => Command::Break(byte(s)?, byte(p)?, word(o)?, None),
         _ if is_text(name, "clear") => Command::Clear(byte(s)?, byte(p)?, word(o)?),
         _ if is_text(name, "until") => Command::Until(byte(s)?, byte(p)?, word(o)?, MOST_STEPS),
         _ => return None,
@@ -366,6 +368,37 @@ fn setting(name: &[u8], line: &[u8]) -> Option<Command>
     }
 }
 
+/// The command of a breakpoint with a condition, by its numbers.
+fn conditional_break(s: u32, p: u32, o: u32, a: u32, w: u32) -> Option<Command>
+    ensures command { result ≡ conditional_break (Some s) (Some p) (Some o) (Some a) (Some w) }
+{
+    let (segment, procedure, offset) = (byte(s)?, byte(p)?, word(o)?);
+    let condition = Condition {
+        address: word(a)?,
+        word: word(w)?,
+    };
+    Some(Command::Break(segment, procedure, offset, Some(condition)))
+}
+
+/// The command of what stands behind `break`, where that is `S P O if A = W`.
+fn conditional(line: &[u8]) -> Option<Command>
+    ensures command { result ≡ conditional (words_of_line line.now) }
+{
+    let (s, rest) = next_word(line)?;
+    let (p, rest) = next_word(rest)?;
+    let (o, rest) = next_word(rest)?;
+    let (mark, rest) = next_word(rest)?;
+    let (a, rest) = next_word(rest)?;
+    let (sign, rest) = next_word(rest)?;
+    let (w, rest) = next_word(rest)?;
+    match next_word(rest) {
+        None if is_text(mark, "if") && is_text(sign, "=") => {
+            conditional_break(number(s)?, number(p)?, number(o)?, number(a)?, number(w)?)
+        }
+        _ => None,
+    }
+}
+
 /// A line without the carriage return at its end.
 pub(crate) fn without_return(line: &[u8]) -> &[u8]
     ensures line { result.now ≡ without_return line.now }
@@ -384,6 +417,7 @@ pub fn command_of(line: &[u8]) -> Option<Command>
     let (name, rest) = next_word(without_return(line))?;
     match numbers(rest) {
         Some(numbers) => command_named(name, &numbers),
+        None if is_text(name, "break") => conditional(rest),
         None => setting(name, rest),
     }
 }

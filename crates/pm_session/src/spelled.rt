@@ -1,8 +1,8 @@
-//! Places in the code, frames and bytes as text.
+//! Places in the code, breakpoints, frames and bytes as text.
 ghost use Rattle.std.specs.Prelude.{◌≡◌, Some};
-ghost use Rattle.pm_session.specs.Views.{frame_text, pair_text, point_text};
+ghost use Rattle.pm_session.specs.Views.{break_text, frame_text, pair_text, point_text};
 
-use pm_debug::Frame;
+use pm_debug::{Breakpoint, Condition, Frame};
 use pm_machine::CodePlace;
 use std::fmt;
 
@@ -20,6 +20,22 @@ impl fmt::Display for Point {
             offset,
         } = self.0;
         write!(f, "{segment} {procedure} {offset}")
+    }
+}
+
+/// A breakpoint: its place, and behind it its condition, as `break` takes them.
+#[derive(Clone, Copy)]
+pub(crate) struct BreakText(pub Breakpoint);
+
+impl fmt::Display for BreakText {
+    ghost output = { λ t. Some (break_text t.0) };
+
+    fn fmt<W: fmt::Write>(&self, f: &mut fmt::Formatter<W>) -> fmt::Result {
+        let place = Point(self.0.place);
+        match self.0.condition {
+            None => write!(f, "{place}"),
+            Some(Condition { address, word }) => write!(f, "{place} if {address} = {word}"),
+        }
     }
 }
 

@@ -9,10 +9,10 @@ ghost use Rattle.pm_session.specs.Views.{breaks_text, bytes_text, frames_text, l
 ghost use Rattle.pm_session.specs.Views.{pair_text, shown_character, view_text, where_text};
 
 use crate::commands::View;
-use crate::spelled::{FrameText, Pair, Point};
+use crate::spelled::{BreakText, FrameText, Pair, Point};
 use crate::texts::{chain, numbers, refused};
 use pm_code::Quoted;
-use pm_debug::{DebugRefusal, Debugger, Frame};
+use pm_debug::{Breakpoint, DebugRefusal, Debugger, Frame};
 use pm_disasm::Line;
 use pm_machine::{CodePlace, Machine};
 use std::alloc::{AllocError, Global};
@@ -21,19 +21,19 @@ use std::alloc::{AllocError, Global};
 const HELP: &str = concat!(
     "break S P O, clear S P O, poke A W, key B, go N, stack N, static N, dynamic N, local D B, regs, place N, trace, ",
     "peek A N, bytes A N, where, breaks, frames N, list N, console N, step [N], finish [N], until S P O [N], on N, ",
-    "watch A, unwatch A, watches, help, quit, console on, console off, type \"TEXT\"",
+    "watch A, unwatch A, watches, help, quit, console on, console off, type \"TEXT\", break S P O if A = W",
 );
 
 /// Breakpoints.
-fn breaks(alloc: Global, breaks: &[CodePlace]) -> Result<String, AllocError>
+fn breaks(alloc: Global, breaks: &[Breakpoint]) -> Result<String, AllocError>
     ensures text { IfOk result (λ text. string_bytes text ≡ breaks_text breaks.now) }
 {
     let Some((first, rest)) = breaks.split_first() else {
         return Ok(String::new(alloc));
     };
-    let mut text = format!(in alloc; "{}", Point(*first))?;
-    for place in rest {
-        write!(text, ", {}", Point(*place))?;
+    let mut text = format!(in alloc; "{}", BreakText(*first))?;
+    for known in rest {
+        write!(text, ", {}", BreakText(*known))?;
     }
     Ok(text)
 }

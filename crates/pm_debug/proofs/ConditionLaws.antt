@@ -14,17 +14,16 @@ use Rattle.pm_machine.specs.declared.state.Stop.{Stop}
 use Rattle.pm_machine.specs.declared.state.Stop.TheVariants as stop
 use Rattle.pm_machine.specs.State.{State}
 use Rattle.pm_machine.specs.Steps.{stepped}
-use Rattle.pm_machine.specs.Runs.{RunOutcome, after_steps, last_counts, on_answer, run_from, run_until}
+use Rattle.pm_machine.specs.Runs.{RunOutcome, after_steps, on_answer, run_from, run_until}
 use Rattle.pm_machine.specs.RunLaws.{EndsSo}
 use Rattle.pm_machine.proofs.UntilLaws.{runs_end_so}
-use Rattle.pm_machine.specs.declared.code_place.CodePlace.{CodePlace}
 use Rattle.pm_debug.specs.declared.breaks.Breakpoint.{Breakpoint}
 use Rattle.pm_debug.specs.declared.reason.BreakReason.TheVariants as reasons
 use Rattle.pm_debug.specs.declared.watches.WatchedWord.{WatchedWord}
 use Rattle.pm_debug.specs.Breaks.{breakpoint, is_at_break, stands_at, stops_here, word_is}
 use Rattle.pm_debug.specs.RunLaws.{FalseConditionsStopNothing, TrueConditionsAreNone, among}
-use Rattle.pm_debug.specs.Runs.{Gone, gone_by, gone_to, has_ended, later, reason_of, stops_after, stops_at}
-use Rattle.pm_debug.specs.Watches.{first_changed, has_changed, watched_words}
+use Rattle.pm_debug.specs.Runs.{Gone, gone_by, gone_to, has_ended, later, reason_of, stops_at}
+use Rattle.pm_debug.specs.Watches.{has_changed, watched_words}
 
 -- ---- tests that agree on the states of a run
 
@@ -106,10 +105,10 @@ some_made zero test h = absurd (cc)
 some_made (suc k) test h = omega arith
 
 module _ (breaks others : List Breakpoint) (watched : List WatchedWord) (test : State → Bool) (limit : ℕ) (s : State) where
-  stops : ℕ → State → Bool
+  abbrev stops : ℕ → State → Bool
   stops = later (stops_at watched breaks test)
 
-  run : RunOutcome
+  abbrev run : RunOutcome
   run = run_until stops limit s
 
   agree : Alike breaks others run.count s → Agree stops (later (stops_at watched others test)) 0 run.count s

@@ -1,5 +1,5 @@
 -- Runs that nothing stops, and runs that breakpoints alone may stop.
-use Rattle.std.proofs.Common.{◌≡◌, ◌∙◌, ap, sym, refl, subst, arith, ℕ, zero, suc, Bool, true, false, not, ◌&&◌}
+use Rattle.std.proofs.Common.{◌≡◌, ◌∙◌, ap, sym, refl, arith, ℕ, zero, suc, Bool, true, false, not, ◌&&◌}
 use Rattle.std.proofs.Common.{List, [], ◌∷◌, length, inl, inr}
 use Rattle.std.specs.Prelude.{◌==◌}
 use Rattle.std.proofs.lemmas.Bool.{cases_Bool, eqb-true}
@@ -15,16 +15,15 @@ use Rattle.pm_machine.specs.Runs.{RunOutcome, never, run_from, run_until}
 use Rattle.pm_machine.specs.RunLaws.{EndsSo, as_outcome}
 use Rattle.pm_machine.proofs.UntilLaws.{outcome_of, runs_end_so, same_runs}
 use Rattle.pm_debug.specs.declared.breaks.Breakpoint.{Breakpoint}
-use Rattle.pm_debug.specs.declared.reason.BreakReason.{BreakReason}
 use Rattle.pm_debug.specs.declared.reason.BreakReason.TheVariants as reasons
 use Rattle.pm_debug.specs.declared.run.Depth.{Depth}
 use Rattle.pm_debug.specs.declared.run.Depth.TheVariants as depths
 use Rattle.pm_debug.specs.declared.watches.WatchedWord.{WatchedWord}
 use Rattle.pm_debug.specs.Breaks.{is_at_break}
 use Rattle.pm_debug.specs.RunLaws.{GoStopsAtBreaks, break_reason, to_a_break}
-use Rattle.pm_debug.specs.Runs.{GoIsRun, Gone, answered_so, gone, gone_by, gone_to, has_ended, is_there, later, nowhere, reason_of}
+use Rattle.pm_debug.specs.Runs.{GoIsRun, Gone, answered_so, gone_by, gone_to, has_ended, is_there, later, nowhere, reason_of}
 use Rattle.pm_debug.specs.Runs.{stops_after, stops_at}
-use Rattle.pm_debug.specs.Watches.{first_changed, watched_words}
+use Rattle.pm_debug.specs.Watches.{first_changed}
 
 and_false : (b : Bool) → b && false ≡ false
 and_false true = refl

@@ -1,10 +1,10 @@
 -- Watched words that have changed, and runs that they stop.
 use Rattle.std.proofs.Common.{◌≡◌, ◌≢◌, ◌∙◌, ◌+◌, ◌<◌, ◌≤◌, ap, sym, refl, subst, arith, ℕ, zero, suc, Bool, true, false, not, ◌&&◌, ◌||◌}
-use Rattle.std.proofs.Common.{List, [], ◌∷◌, ◌++◌, length, drop, take, get_or, map, Option, Some, None, inl, inr}
+use Rattle.std.proofs.Common.{List, [], ◌∷◌, ◌++◌, length, drop, get_or, Option, Some, None}
 use Rattle.std.proofs.Math.Seq.{drop-cons}
 use Rattle.std.proofs.Common.{add-one}
 use Rattle.std.specs.Prelude.{◌==◌, All, is_some, if◌then◌else◌}
-use Rattle.std.proofs.lemmas.Bool.{cases_Bool, eqb-true}
+use Rattle.std.proofs.lemmas.Bool.{eqb-true}
 use Rattle.std.proofs.lemmas.Bool.Decides.{nat_tests}
 use Rattle.pm_words.specs.Words.{word_at}
 use Rattle.pm_machine.specs.declared.state.RunEnd.{RunEnd}
@@ -16,13 +16,12 @@ use Rattle.pm_machine.specs.Runs.{AllWent, Passes, after_steps, run_until}
 use Rattle.pm_machine.specs.RunLaws.{EndsSo}
 use Rattle.pm_machine.proofs.UntilLaws.{after_none, runs_end_so}
 use Rattle.pm_debug.specs.declared.breaks.Breakpoint.{Breakpoint}
-use Rattle.pm_debug.specs.declared.reason.BreakReason.{BreakReason}
 use Rattle.pm_debug.specs.declared.reason.BreakReason.TheVariants as reasons
 use Rattle.pm_debug.specs.declared.watches.WatchedWord.{WatchedWord}
 use Rattle.pm_debug.specs.Breaks.{is_at_break}
 use Rattle.pm_debug.specs.RunLaws.{AreAsIn, ChangesAreFirst, StopsAtChange}
-use Rattle.pm_debug.specs.Runs.{Gone, answered_so, changed_or, gone_by, gone_to, has_ended, reason_of, stopped_so, stops_after}
-use Rattle.pm_debug.specs.Watches.{first_changed, has_changed, watched_word, watched_words}
+use Rattle.pm_debug.specs.Runs.{Gone, answered_so, changed_or, gone_by, gone_to, has_ended, reason_of, stops_after}
+use Rattle.pm_debug.specs.Watches.{first_changed, has_changed, watched_words}
 
 -- ---- the first changed word, word by word
 

@@ -1,4 +1,4 @@
-use Rattle.std.proofs.Common.{rules, ◌≡◌, false}
+use Rattle.std.proofs.Common.{rules}
 use Rattle.pm_debug.proofs.OnLaws.{begins}
 use Rattle.pm_debug.proofs.debugger.Debugger.run_to.Goals as goal
 

@@ -1,4 +1,4 @@
-use Rattle.std.proofs.Common.{◌≡◌, ◌∙◌, ◌+◌, sym, length, true}
+use Rattle.std.proofs.Common.{◌≡◌, ◌+◌, length, true}
 use Rattle.std.specs.Prelude.{◌==◌}
 use Rattle.pm_debug.proofs.GoLaws.{never_stops}
 use Rattle.pm_debug.proofs.run.StopsStopTest.never_stops.Goals as goal

@@ -36,7 +36,7 @@ pub fn jumps_lead_to_symbols()
 
 /// The symbols of segments are those of their procedures and of the labels of their code, and no others: of a procedure
 /// by its number in the segment, and of a label by how far it stands behind where the program's procedure is entered.
-/// What is told of a text are the lines of the symbols of its segments, whose program it spells, and none is told twice.
+/// What is told of a text are the lines of the symbols of its segments, whose program it spells, and none twice.
 pub fn symbols_are_defined()
     ensures law { SymbolsAreDefined }
     ensures program { SymbolsAreOfTheProgram }

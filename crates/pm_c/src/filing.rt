@@ -1,4 +1,4 @@
-//! The kind of a file, and a file of another volume: one call each, for the first file of a name and for that of a slot.
+//! The kind of a file, and a file of another volume: one call each, for the first file of a name and that of a slot.
 ghost use Rattle.std.specs.Prelude.{◌≡◌, ◌↔◌, []};
 ghost use Rattle.std.specs.Str.{IsUtf8};
 ghost use Rattle.pm_filer.specs.Filed.{Copy, CopySlot, Kind, KindSlot};

@@ -74,12 +74,12 @@ find_same : (p q : Entry → Bool) (es : List Entry) → ((e : Entry) → p e �
 find_same p q [] same = refl
 find_same p q (e ∷ es) same = rw (same e, find_same p q es same) refl
 
-module _ (image name : List ℕ) (kind : ℕ) (bytes : List ℕ) (g : _) (b : IsVolumeOfBytes image) (found : place_for image name (blocks_for (length bytes)) ≡ Ok g)
-  where
+module _ (image name : List ℕ) (kind : ℕ) (bytes : List ℕ) (day : ℕ) (g : _) (b : IsVolumeOfBytes image)
+    (found : place_for image name (blocks_for (length bytes)) ≡ Ok g) (dated : day < 65536) where
     p : IsPlaced image name (blocks_for (length bytes)) g
     p = IsPlaced-from_ok image name (blocks_for (length bytes)) g found
 
-    fit : FitsSlot (new_entry g name kind (length bytes) (last_date_of (directory_of image)))
+    fit : FitsSlot (new_entry g name kind (length bytes) day)
     fit =
         let k = gap_in image name (blocks_for (length bytes)) g b.volume p in
         let r = IsRoomFor-placed image name (blocks_for (length bytes)) g b.volume p in
@@ -90,15 +90,14 @@ module _ (image name : List ℕ) (kind : ℕ) (bytes : List ℕ) (g : _) (b : Is
           first = omega (arith, k.within, k.ordered, blocks);
           end = omega (arith, k.within, r.fits, blocks);
           last_bytes = omega arith;
-          date = word_fits image b 20 (omega arith);
+          date = dated;
         }
 
     -- the file is found by its name
     pub put_found : (other : List ℕ) → is_same_name name other ≡ true
-        → file_named (mirrored (with_file image g.place (new_entry g name kind (length bytes) (last_date_of (directory_of image))) bytes)) other
-        ≡ Some (new_entry g name kind (length bytes) (last_date_of (directory_of image)))
+        → file_named (mirrored (with_file image g.place (new_entry g name kind (length bytes) day) bytes)) other
+        ≡ Some (new_entry g name kind (length bytes) day)
     put_found other same =
-        let day = last_date_of (directory_of image) in
         let e = new_entry g name kind (length bytes) day in
         let c = Changed-added image name bytes kind day g b.volume p fit in
         let own : is_named other e ≡ is_same_name name other = named-new 15 name other in
@@ -108,10 +107,9 @@ module _ (image name : List ℕ) (kind : ℕ) (bytes : List ℕ) (g : _) (b : Is
         rw c.files (found_new (is_named other) (files_of image) (g.place - 1) e (own ∙ same) none)
 
     put_given : (other : List ℕ)
-        → file_given (mirrored (with_file image g.place (new_entry g name kind (length bytes) (last_date_of (directory_of image))) bytes)) other
+        → file_given (mirrored (with_file image g.place (new_entry g name kind (length bytes) day) bytes)) other
         ≡ cond (is_same_name name other) (Some bytes) (file_given image other)
     put_given other =
-        let day = last_date_of (directory_of image) in
         let e = new_entry g name kind (length bytes) day in
         let new = mirrored (with_file image g.place e bytes) in
         let c = Changed-added image name bytes kind day g b.volume p fit in
@@ -123,13 +121,32 @@ module _ (image name : List ℕ) (kind : ℕ) (bytes : List ℕ) (g : _) (b : Is
               rw (unlike, c.files, at) (found_stays (is_named other) image new (files_of image) c.stay)
         ]
 
-pub put_is_got : PutIsGot
-unfolding filed added
-put_is_got image name kind bytes f b done other =
-    let made = changed-ok _ f done in
-    let parts = added-ok image name kind bytes (last_date_of (directory_of image)) (place_for image name (blocks_for (length bytes))) f.image made in
+-- a file that was added under a name is got under it, and every other name gives what it gave
+pub added_given : (image name : List ℕ) (kind : ℕ) (bytes : List ℕ) (day : ℕ) (new : List ℕ) → IsVolumeOfBytes image
+    → day < 65536 → added image name kind bytes day ≡ Ok new
+    → (other : List ℕ) → file_given new other ≡ cond (is_same_name name other) (Some bytes) (file_given image other)
+unfolding added
+added_given image name kind bytes day new b dated made other =
+    let parts = added-ok image name kind bytes day (place_for image name (blocks_for (length bytes))) new made in
     subst (λ new. file_given new other ≡ cond (is_same_name name other) (Some bytes) (file_given image other)) parts.2
-    (put_given image name kind bytes parts.0 b parts.1 other)
+    (put_given image name kind bytes day parts.0 b parts.1 dated other)
+
+-- and its entry is the new one, in some gap
+pub added_found : (image name : List ℕ) (kind : ℕ) (bytes : List ℕ) (day : ℕ) (new : List ℕ) → IsVolumeOfBytes image
+    → day < 65536 → added image name kind bytes day ≡ Ok new
+    → (g : _) × (file_named new name ≡ Some (new_entry g name kind (length bytes) day))
+unfolding added
+added_found image name kind bytes day new b dated made =
+    let parts = added-ok image name kind bytes day (place_for image name (blocks_for (length bytes))) new made in (
+      parts.0,
+      subst (λ new. file_named new name ≡ Some (new_entry parts.0 name kind (length bytes) day)) parts.2
+          (put_found image name kind bytes day parts.0 b parts.1 dated name (same-from_upper name name refl)),
+    )
+
+pub put_is_got : PutIsGot
+unfolding filed
+put_is_got image name kind bytes f b done other = added_given image name kind bytes (last_date_of (directory_of image))
+    f.image b (word_fits image b 20 (omega arith)) (changed-ok _ f done) other
 
 removed_given : (image name other : List ℕ) (slot : ℕ) → IsVolume image → slot_named (directory_of image) name ≡ Some slot → is_same_name name other ≡ false
     → file_given (mirrored (without_file image slot)) other ≡ file_given image other

@@ -13,3 +13,4 @@ pub mod SystemSlots
 pub mod SavedNames
 pub mod SavedFiles
 pub mod SalvagedFiles
+pub mod KindLaws

@@ -14,7 +14,7 @@ use Rattle.pm_volume.proofs.PlaceLaws.{IsPlaced-from_ok, IsRoomFor-placed, gap_i
 use Rattle.pm_filer.specs.Filed.{changed, filed}
 use Rattle.pm_filer.specs.Laws.{IsLowest, IsVolumeOfBytes, PutFindsRoom, PutIsLowest}
 use Rattle.pm_filer.specs.declared.fault.FilerFault.TheVariants as faults
-use Rattle.law_disks.proofs.GivenLaws.{added-ok, changed-ok, put_found}
+use Rattle.law_disks.proofs.GivenLaws.{added-ok, changed-ok, put_found, word_fits}
 use Rattle.law_disks.proofs.SameNames.{same-from_upper}
 
 some-same : {A : Type 0} (x y : A) → Some x ≡ Some y → x ≡ y
@@ -51,7 +51,7 @@ unfolding filed added
 put_is_lowest image name kind bytes f b done some e told =
     let day = last_date_of (directory_of image) in
     let parts = added-ok image name kind bytes day (place_for image name (blocks_for (length bytes))) f.image (changed-ok _ f done) in
-    let there = put_found image name kind bytes parts.0 b parts.1 name (same-from_upper name name refl) in
+    let there = put_found image name kind bytes day parts.0 b parts.1 (word_fits image b 20 (omega arith)) name (same-from_upper name name refl) in
     let found : file_named f.image name ≡ Some (new_entry parts.0 name kind (length bytes) day) =
     subst (λ new. file_named new name ≡ Some (new_entry parts.0 name kind (length bytes) day)) parts.2 there in
     let same : new_entry parts.0 name kind (length bytes) day ≡ e = some-same _ e (sym found ∙ told) in

@@ -96,10 +96,10 @@ new_so_far image name volume blocks fits h =
 -- ---- the entries
 
 -- each byte of a list, and what stands for one behind it, is a byte
-abbrev Small : List ℕ → Type 0
+abbrev pub Small : List ℕ → Type 0
 Small xs = (k : ℕ) → get_or xs k 0 < 256
 
-small-bytes : (xs : List ℕ) → All (λ b. b < 256) xs → Small xs
+pub small-bytes : (xs : List ℕ) → All (λ b. b < 256) xs → Small xs
 small-bytes xs h k = elim (cases_lt k (length xs)) [
   | inl inside ↦ h k 0 inside
   | inr behind ↦ let none = past xs k behind in omega (arith, none)
@@ -116,14 +116,14 @@ small-take (suc n) [] h k = omega arith
 small-take (suc n) (x ∷ xs) h zero = h 0
 small-take (suc n) (x ∷ xs) h (suc k) = small-take n xs (λ j. h (suc j)) k
 
-small-range : (xs : List ℕ) (i j : ℕ) → Small xs → Small (slice_range xs i j)
+pub small-range : (xs : List ℕ) (i j : ℕ) → Small xs → Small (slice_range xs i j)
 small-range xs i j h = small-take (j - i) (drop i xs) (λ k. let at = get_or-drop i xs k 0 in omega (arith, at, h (i + k)))
 
-record IsOfBytes (e : Entry) : Type 0 where
-  kind : e.kind < 16
-  date : e.date < 65536
+pub record IsOfBytes (e : Entry) : Type 0 where
+  pub kind : e.kind < 16
+  pub date : e.date < 65536
 
-entry-bytes : (slot : List ℕ) → Small slot → IsOfBytes (entry_of slot)
+pub entry-bytes : (slot : List ℕ) → Small slot → IsOfBytes (entry_of slot)
 unfolding entry_of word_in
 entry-bytes slot h = record { kind = omega arith; date = omega (arith, h 24, h 25) }
 

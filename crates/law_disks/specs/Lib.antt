@@ -4,3 +4,4 @@ pub mod Slots
 pub mod CheckLaws
 pub mod SystemLaws
 pub mod SalvageLaws
+pub mod Kinds

@@ -14,6 +14,7 @@ ghost use Rattle.pm_filer.specs.Laws.{
   TextIsGot,
   TextKeepsOthers,
 };
+ghost use Rattle.law_disks.specs.Kinds.{CopyIsGot, CopyKeepsKind, KindIsSet, KindKeepsNames};
 ghost use Rattle.pm_volume.specs.Laws.{DamageIsUndone, GoodImagesStay, SecondCopySaves};
 
 /// What is put under a name is got under it, in either case of letters, and every other name gives what it gave.
@@ -26,6 +27,19 @@ pub fn put_is_got()
 pub fn text_is_got()
     ensures law { TextIsGot }
     ensures others { TextKeepsOthers }
+{}
+
+/// What is copied from another volume is got under its name as it is got there, with its kind and its date, and every
+/// other name gives what it gave.
+pub fn copy_is_got()
+    ensures law { CopyIsGot }
+    ensures alike { CopyKeepsKind }
+{}
+
+/// A file that gets another kind has it, and is otherwise the file that it was; every name gives what it gave.
+pub fn kind_is_set()
+    ensures law { KindIsSet }
+    ensures names { KindKeepsNames }
 {}
 
 /// After `Change` the new name gives what the old one gave, and every name that is neither of them gives what it gave.

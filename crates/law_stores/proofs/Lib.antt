@@ -1,1 +1,2 @@
+mod FormedFiles
 mod HeldFiles

@@ -15,7 +15,7 @@ fn help_for(fault: VolumeFault) -> &'static str {
         }
         VolumeFault::TooShort => "; a volume has 6 blocks of 512 bytes or more",
         VolumeFault::BadHeader => {
-            ", or the image has another form, as DOS order: examples/form.sh IMAGE tells it, files check what is wrong"
+            ", or the image has another form: --form dos for DOS order; examples/form.sh tells it, files check the rest"
         }
         VolumeFault::BadEntry(_) | VolumeFault::TooManyFiles => {
             "; files check tells what is wrong, files salvage NEW takes the files out"

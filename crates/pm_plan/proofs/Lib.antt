@@ -1,2 +1,4 @@
 pub mod Found
+pub mod FormLaws
+pub mod InFormLaws
 pub mod Computed

@@ -31,6 +31,9 @@ use Rattle.pm_plan.specs.declared.run_words.Program.{Program}
 use Rattle.pm_plan.specs.declared.text_words.TextFiles.{TextFiles}
 use Rattle.pm_plan.specs.declared.text_words.TextInput.{TextInput}
 use Rattle.pm_plan.specs.declared.text_words.TextInput.TheVariants as inputs
+use Rattle.pm_plan.specs.Forms.{AsksForm}
+use Rattle.pm_plan.specs.declared.form.Form.{Form}
+use Rattle.pm_plan.specs.declared.words.Asked.{Asked}
 use Rattle.pm_plan.specs.declared.words.Plan.{Plan}
 use Rattle.pm_plan.specs.declared.words.Plan.TheVariants as plans
 
@@ -305,7 +308,16 @@ Asks command m (plans.Salvage plan) = (command ≡ codes "files") × AsksSalvage
 abbrev pub IsCommand : ArgMatches → List ℕ → ArgMatches → Type 0
 IsCommand m command below = subcommand_rows_of m ≡ Some (command, words_of below)
 
+-- the word for the form behind a verb, if there is one
+abbrev pub word_below : Option (List ℕ × List Row) → Option (List ℕ)
+word_below None = None
+word_below (Some behind) = word_found behind.1 (codes "form")
+
+-- the form of the images, by the words behind a command and those behind its verb
+unfoldable pub IsForm : ArgMatches → Form → Type 0
+IsForm m form = AsksForm (word_found (words_of m) (codes "form")) (word_below (subcommand_rows_of m)) form
+
 -- all words
-abbrev pub IsAsked : ArgMatches → Plan → Type 0
-IsAsked m plan =
-    (command : List ℕ) × (below : ArgMatches) × IsCommand m command below × Asks command below plan
+abbrev pub IsAsked : ArgMatches → Asked → Type 0
+IsAsked m asked = (command : List ℕ) × (below : ArgMatches) × IsCommand m command below
+    × Asks command below asked.plan × IsForm below asked.form

@@ -7,7 +7,8 @@ use Rattle.std.specs.Str.{bytes_eq}
 use Rattle.clap.specs.Words.{Row, subcommand_rows_of}
 use Rattle.clap.specs.declared.parser.matches.ArgMatches.{ArgMatches}
 use Rattle.pm_plan.specs.Asked.{IsCommand, IsKind, IsLimitWord, IsNumberUpTo, IsNumberWord, IsRunLimitWord, is_set}
-use Rattle.pm_plan.specs.Asked.{word_found, words_of}
+use Rattle.pm_plan.specs.Asked.{word_below, word_found, words_of}
+use Rattle.pm_plan.specs.Forms.{IsFormWord}
 use Rattle.pm_plan.specs.declared.words.WordsError.{WordsError}
 use Rattle.pm_plan.specs.declared.words.WordsError.TheVariants as errors
 
@@ -232,10 +233,15 @@ abbrev pub AreGood : List ℕ → ArgMatches → Type 0
 AreGood command m = MatchBool (bytes_eq command (codes "files"))
     (AreGoodFiles (words_of m) (subcommand_rows_of m)) (MeetAll (words_of m) (command_needs command))
 
--- all words are good: whatever command is found among them, its words are
+-- the word for the form of the images is good
+unfoldable pub IsGoodForm : ArgMatches → Type 0
+IsGoodForm m = IsFormWord (word_found (words_of m) (codes "form")) (word_below (subcommand_rows_of m))
+
+-- all words are good: whatever command is found among them, its words are, and that for the form is
 abbrev pub AreAllGood : ArgMatches → Type 0
 AreAllGood m = (is_some (subcommand_rows_of m) ≡ true)
     × ((command : List ℕ) (below : ArgMatches) → IsCommand m command below → AreGood command below)
+    × ((command : List ℕ) (below : ArgMatches) → IsCommand m command below → IsGoodForm below)
 
 -- a word is refused by the text that says what it has to be
 abbrev pub IsWrong : WordsError → Type 0

@@ -139,6 +139,13 @@ const IMAGE: WordRow = (
     "The file that has the volume's image",
 );
 
+/// The option `--form`, which stands there too.
+const FORM: WordRow = (
+    "form",
+    Form::Free("FORM"),
+    "The form of the images, blocks, dos or swapped: turned when read, and back when written [default: blocks]",
+);
+
 const FILE: WordRow = ("NAME", Form::Word, "The file's name, in either case");
 
 /// The file's name, or else its slot.
@@ -163,37 +170,38 @@ const KIND: WordRow = (
 const VOLUME: WordRow = ("NAME", Form::Word, "The volume's name, up to 7 characters");
 
 const VERBS: &[CommandRow] = &[
-    ("list", "Lists the files", &[IMAGE]),
+    ("list", "Lists the files", &[IMAGE, FORM]),
     (
         "get",
         "Writes a file's bytes to standard output",
-        &[IMAGE, FILE_OR_SLOT, SLOT],
+        &[IMAGE, FORM, FILE_OR_SLOT, SLOT],
     ),
     (
         "put",
         "Adds a file with the bytes of standard input",
-        &[IMAGE, FILE, KIND],
+        &[IMAGE, FORM, FILE, KIND],
     ),
     (
         "gettext",
         "Writes the text of a text file to standard output",
-        &[IMAGE, FILE_OR_SLOT, SLOT],
+        &[IMAGE, FORM, FILE_OR_SLOT, SLOT],
     ),
     (
         "puttext",
         "Adds a text file with the text of standard input",
-        &[IMAGE, FILE],
+        &[IMAGE, FORM, FILE],
     ),
     (
         "krunch",
         "Moves the files together; bad blocks stay where they are, and between them gaps may stay too",
-        &[IMAGE],
+        &[IMAGE, FORM],
     ),
     (
         "date",
         "Sets the volume's last date",
         &[
             IMAGE,
+            FORM,
             ("Y", Form::Word, "The year, 0 to 127"),
             ("M", Form::Word, "The month, 1 to 12"),
             ("D", Form::Word, "The day, 1 to 31"),
@@ -202,14 +210,19 @@ const VERBS: &[CommandRow] = &[
     (
         "zero",
         "Forgets all files and gives the volume a name",
-        &[IMAGE, VOLUME],
+        &[IMAGE, FORM, VOLUME],
     ),
-    ("remove", "Removes a file", &[IMAGE, FILE_OR_SLOT, SLOT]),
+    (
+        "remove",
+        "Removes a file",
+        &[IMAGE, FORM, FILE_OR_SLOT, SLOT],
+    ),
     (
         "change",
         "Gives a file another name",
         &[
             IMAGE,
+            FORM,
             (
                 "OLD",
                 Form::Word,
@@ -228,6 +241,7 @@ const VERBS: &[CommandRow] = &[
         "Gives a file another kind",
         &[
             IMAGE,
+            FORM,
             (
                 "NAME",
                 Form::Word,
@@ -246,6 +260,7 @@ const VERBS: &[CommandRow] = &[
         "Adds a file of the volume whose image standard input is, with its kind and date",
         &[
             IMAGE,
+            FORM,
             FILE,
             (
                 "slot",
@@ -259,6 +274,7 @@ const VERBS: &[CommandRow] = &[
         "Makes a new volume without files, in the place of what the file has",
         &[
             IMAGE,
+            FORM,
             VOLUME,
             ("BLOCKS", Form::Word, "The number of blocks, 6 to 65535"),
         ],
@@ -266,28 +282,29 @@ const VERBS: &[CommandRow] = &[
     (
         "duplicate",
         "Makes a second copy of the directory in blocks 6 to 9, which must be free",
-        &[IMAGE],
+        &[IMAGE, FORM],
     ),
     (
         "single",
         "Drops the second copy of the directory, so that blocks 6 to 9 are free",
-        &[IMAGE],
+        &[IMAGE, FORM],
     ),
     (
         "repair",
         "Puts the second copy of the directory in the place of a damaged first (refused volume 13)",
-        &[IMAGE],
+        &[IMAGE, FORM],
     ),
     (
         "check",
         "Says what is wrong with the image, line by line, whether it is a volume or not",
-        &[IMAGE],
+        &[IMAGE, FORM],
     ),
     (
         "salvage",
         "Makes a new volume of the files whose entries make sense by themselves; the image stays",
         &[
             IMAGE,
+            FORM,
             (
                 "NEWPATH",
                 Form::Word,
@@ -352,15 +369,15 @@ const RAW: CommandRow = (
 const FILES: CommandRow = (
     "files",
     "Lists, gets and changes the files of a volume",
-    &[IMAGE],
+    &[IMAGE, FORM],
 );
 
 const RUN: CommandRow = (
     "run",
     "Runs a code file of the disk on unit 4, with the standard streams as its console",
     &[
-        D4, D5, D9, D10, D11, D12, LIMIT, UNLIMITED, SYSTEM, PROGRAM, SAVE, SAVE_ALL, PRINTER,
-        ESCAPE,
+        D4, D5, D9, D10, D11, D12, FORM, LIMIT, UNLIMITED, SYSTEM, PROGRAM, SAVE, SAVE_ALL,
+        PRINTER, ESCAPE,
     ],
 );
 
@@ -368,15 +385,15 @@ const TRACE: CommandRow = (
     "trace",
     "Runs a code file of the disk on unit 4, with standard input as its console, and writes its trace",
     &[
-        D4, D5, D9, D10, D11, D12, LIMIT, UNLIMITED, SYSTEM, PROGRAM, FROM, SEGMENT, PROCEDURE,
-        CALLS, PLACES,
+        D4, D5, D9, D10, D11, D12, FORM, LIMIT, UNLIMITED, SYSTEM, PROGRAM, FROM, SEGMENT,
+        PROCEDURE, CALLS, PLACES,
     ],
 );
 
 const DEBUG: CommandRow = (
     "debug",
     "Debugs a code file of the disk on unit 4, by the commands of standard input",
-    &[D4, D5, D9, D10, D11, D12, LIMIT, SYSTEM, PROGRAM],
+    &[D4, D5, D9, D10, D11, D12, FORM, LIMIT, SYSTEM, PROGRAM],
 );
 
 const NAMES: WordRow = (

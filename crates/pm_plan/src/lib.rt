@@ -3,6 +3,8 @@
 
 mod commands;
 mod file_words;
+mod form;
+mod in_form;
 mod run_words;
 mod text_words;
 mod trace_words;
@@ -10,6 +12,8 @@ mod words;
 pub mod worked;
 
 pub use file_words::{FilesPlan, SalvagePlan, Verb};
+pub use form::Form;
+pub use in_form::InForm;
 pub use run_words::{Others, Program, RunChoices};
 pub use text_words::{TextFiles, TextInput};
-pub use words::{Plan, WordsError, plan_of};
+pub use words::{Asked, Plan, WordsError, plan_of};

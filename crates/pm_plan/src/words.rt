@@ -10,6 +10,7 @@ ghost use Rattle.pm_plan.specs.declared.words.WordsError.TheVariants.{NoCommand,
 
 use crate::commands::all_commands;
 use crate::file_words::{FilesPlan, SalvagePlan, files_plan, is_salvage, salvage_plan};
+use crate::form::{Form, form_asked};
 use crate::run_words::{Program, RunChoices, choices_of, program_of};
 use crate::text_words::{TextFiles, text_files};
 use crate::trace_words::selection_of;
@@ -47,6 +48,14 @@ pub enum Plan {
     Debug(Program),
     /// The files of an image that are saved into a new volume.
     Salvage(SalvagePlan),
+}
+
+/// What the words ask for, and on which images.
+#[derive(Drop)]
+pub struct Asked {
+    pub plan: Plan,
+    /// The form of the images that it is done on.
+    pub form: Form,
 }
 
 /// Why the words are no job.
@@ -286,15 +295,16 @@ fn plan_by(alloc: Global, command: &str, matches: &ArgMatches<'_>) -> Result<Pla
 }
 
 /// What the words ask for that clap has found.
-fn plan_asked(alloc: Global, matches: &ArgMatches<'_>) -> Result<Plan, WordsError>
-    ensures asked { IfOk result (λ plan. IsAsked matches.now plan) }
+fn plan_asked(alloc: Global, matches: &ArgMatches<'_>) -> Result<Asked, WordsError>
+    ensures asked { IfOk result (λ asked. IsAsked matches.now asked) }
     ensures taken { AreAllGood matches.now → IsOkUnless result NoMemory }
 {
     let Some((command, words)) = matches.subcommand() else {
         return Err(WordsError::NoCommand);
     };
     let plan = plan_by(alloc, command, words)?;
-    Ok(plan)
+    let form = form_asked(words)?;
+    Ok(Asked { plan, form })
 }
 
 /// What may be meant by words of a command that it does not take.
@@ -361,7 +371,7 @@ fn refused(error: clap::Error, words: &[String]) -> WordsError {
     }
 }
 
-fn parsed<'a>(alloc: Global, words: &'a [String]) -> Result<Plan, WordsError> {
+fn parsed<'a>(alloc: Global, words: &'a [String]) -> Result<Asked, WordsError> {
     let matches = match all_commands(alloc)?.try_get_matches_from(words) {
         Ok(matches) => matches,
         Err(error) => return Err(refused(error, words)),
@@ -370,12 +380,15 @@ fn parsed<'a>(alloc: Global, words: &'a [String]) -> Result<Plan, WordsError> {
 }
 
 /// What the words ask for, the program's name before them.
-pub fn plan_of(alloc: Global, args: io::Result<Args>) -> Result<Plan, WordsError> {
+pub fn plan_of(alloc: Global, args: io::Result<Args>) -> Result<Asked, WordsError> {
     let words: Vec<String> = args?.collect(alloc)?;
     if words.len() <= 1 {
-        return Ok(Plan::Raw {
-            limit: LIMIT,
-            selection: Selection::ALL,
+        return Ok(Asked {
+            plan: Plan::Raw {
+                limit: LIMIT,
+                selection: Selection::ALL,
+            },
+            form: Form::Blocks,
         });
     }
     parsed(alloc, words.as_slice())

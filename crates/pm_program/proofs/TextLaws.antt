@@ -1,5 +1,5 @@
 -- What a job on a text leaves is what is said of what it reads.
-use Rattle.std.proofs.Common.{◌≡◌, [], ℕ, false, List, Option, None, Some, refl, subst, arith, IfSome}
+use Rattle.std.proofs.Common.{◌≡◌, ◌∙◌, [], ℕ, false, List, Option, None, Some, refl, subst, arith, IfSome}
 use Rattle.std.specs.Io.KnownBytes.{Appends}
 use Rattle.pm_files.specs.Held.{Files, Saves}
 use Rattle.pm_streams.specs.Streams.{Streams}
@@ -35,13 +35,13 @@ known_written (Some input) before after outcome page text first last tells = (
     by old new e f w = subst (λ n. Appends (Some []) n (text input).written) f (subst (λ o. Appends o new (text input).written) e w)
 
 -- what is kept of a job is what is said
-pub known_text : (had : Option (List ℕ)) (old held new : Files) (path : List ℕ) (outcome : Outcome) (page : List ℕ)
-    (text : List ℕ → Said) → held ≡ old → Saves held new path (written_by outcome.exit page)
+pub known_text : (had : Option (List ℕ)) (old held new : Files) (path : List ℕ) (outcome : Outcome) (page kept : List ℕ)
+    (text : List ℕ → Said) → held ≡ old → kept ≡ page → Saves held new path (written_by outcome.exit kept)
     → IfSome had (λ input. Comes outcome page (text input)) → IfSome had (λ input. SavesText old new path outcome (text input))
-known_text None old held new path outcome page text same saves comes = tt
-known_text (Some input) old held new path outcome page text same saves comes = (
+known_text None old held new path outcome page kept text same is saves comes = tt
+known_text (Some input) old held new path outcome page kept text same is saves comes = (
   comes.0,
   subst (λ files. Saves files new path (written_by (text input).exit (text input).written)) same
-      (subst (λ bytes. Saves held new path (written_by (text input).exit bytes)) comes.1
-      (subst (λ exit. Saves held new path (written_by exit page)) comes.0.exit saves)),
+      (subst (λ bytes. Saves held new path (written_by (text input).exit bytes)) (is ∙ comes.1)
+      (subst (λ exit. Saves held new path (written_by exit kept)) comes.0.exit saves)),
 )

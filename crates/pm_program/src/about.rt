@@ -11,7 +11,7 @@ pub struct Disks {
 }
 
 /// A copy of a path, where there is one.
-fn copy_of(alloc: Global, path: &Option<String>) -> Result<Option<String>, AllocError> {
+pub(crate) fn copy_of(alloc: Global, path: &Option<String>) -> Result<Option<String>, AllocError> {
     match path {
         Some(path) => Ok(Some(String::from_str(alloc, path.as_str())?)),
         None => Ok(None),

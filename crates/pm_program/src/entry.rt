@@ -62,11 +62,11 @@ fn refuse<R: Host + Print + Eprint + AllocGlobal>(rt: &R, error: &WordsError) ->
 ///
 /// Nothing is read or written where the words are wrong: the text says why, and the status is 1.
 pub fn program<R: Host + Env + Input + Print + Eprint + AllocGlobal>(rt: &R) -> u8 {
-    let plan = match plan_of(rt.alloc(), std::env::args(rt)) {
-        Ok(plan) => plan,
+    let asked = match plan_of(rt.alloc(), std::env::args(rt)) {
+        Ok(asked) => asked,
         Err(error) => return refuse(rt, &error),
     };
-    let done = follow(rt, plan);
+    let done = follow(rt, asked);
     if done.is_silent {
         return done.end.status();
     }

@@ -5,7 +5,7 @@ ghost use Rattle.pm_plan.specs.Asked.{paths_in};
 ghost use Rattle.pm_program.specs.Conflicts.{are_shared, conflict_of, is_other, is_taken_away, names_image};
 ghost use Rattle.pm_program.specs.Conflicts.{others_take_away, printer_conflict, takes_away};
 
-use crate::about::{Disks, about, disks_of};
+use crate::about::{Disks, about, copy_of, disks_of};
 use crate::console::{END, ESCAPE, Failed, Keys, Lined, Lines, Prompted};
 use crate::end::{Conflict, End};
 use crate::saved::{Printing, SavedOfRun, do_debug, do_files, do_run, do_salvage, do_trace};
@@ -13,10 +13,12 @@ use crate::texts::do_text;
 use pm_choices::{AsmOutput, Saving};
 use pm_filer::FileCommand;
 use pm_files::{DiskFault, Host, HostStore, Store, Stream};
-use pm_plan::{FilesPlan, Plan, Program, RunChoices, TextFiles, TextInput, Verb};
+use pm_plan::{
+    Asked, FilesPlan, Form, InForm, Plan, Program, RunChoices, TextFiles, TextInput, Verb,
+};
 use pm_streams::{Reader, Sink, Source, Writer};
 use pm_tool::{Job, Outcome};
-use std::alloc::Global;
+use std::alloc::{AllocError, Global};
 use std::io;
 use std::io::{Input, Read};
 
@@ -421,33 +423,84 @@ fn end_of_job(alloc: Global, disks: &Option<Disks>, outcome: Outcome) -> End {
     End::Outcome(outcome, about)
 }
 
+/// The paths of the files of a plan that are no images: that of the system's code file, and that of the printer's file;
+/// of `asm` and `dis` that of the file that is read, and that of the file that is written.
+type OwnPaths = (Option<String>, Option<String>);
+
+/// Those of a plan.
+fn own_paths(alloc: Global, plan: &Plan) -> Result<OwnPaths, AllocError> {
+    match plan {
+        Plan::Run(program, choices) => {
+            let system = copy_of(alloc, &program.system)?;
+            Ok((system, copy_of(alloc, &choices.printer)?))
+        }
+        Plan::Trace(program, _) | Plan::Debug(program) => {
+            Ok((copy_of(alloc, &program.system)?, None))
+        }
+        Plan::Asm(_, files) | Plan::Dis(_, files) => {
+            let read = match &files.input {
+                TextInput::File(path) => Some(String::from_str(alloc, path.as_str())?),
+                TextInput::Standard | TextInput::OnImage { .. } => None,
+            };
+            Ok((read, copy_of(alloc, &files.output)?))
+        }
+        _ => Ok((None, None)),
+    }
+}
+
+/// The files of a plan, in the form of its images.
+fn in_form<S: Drop>(
+    alloc: Global,
+    store: S,
+    form: Form,
+    plan: &Plan,
+) -> Result<InForm<S>, AllocError> {
+    let (system, printer) = match form {
+        Form::Blocks => (None, None),
+        _ => own_paths(alloc, plan)?,
+    };
+    Ok(InForm {
+        store,
+        form,
+        system,
+        printer,
+        alloc,
+    })
+}
+
 /// Does the job of a plan, and answers its end: where that is told, with what a refusal is about.
 fn end_of_plan<R: Host + AllocGlobal, I: Source, O: Sink>(
     rt: &R,
-    mut store: HostStore<R>,
+    store: HostStore<R>,
     source: &mut I,
     sink: &mut O,
-    plan: Plan,
+    asked: Asked,
     is_told: bool,
 ) -> End
     requires well { AreWell (both (I.seen source.old) (O.seen sink.old)) }
 {
+    let Asked { plan, form } = asked;
     let disks = if is_told {
         disks_of(rt.alloc(), &plan)
     } else {
         None
     };
-    match act(rt.alloc(), &mut store, source, sink, plan) {
+    let mut files = match in_form(rt.alloc(), store, form, &plan) {
+        Ok(files) => files,
+        Err(_) => return End::File(DiskFault::NoMemory, None),
+    };
+    match act(rt.alloc(), &mut files, source, sink, plan) {
         Ok(outcome) => end_of_job(rt.alloc(), &disks, outcome),
-        Err(fault) => End::File(fault, store.into_refused()),
+        Err(fault) => End::File(fault, files.store.into_refused()),
     }
 }
 
 /// Does the job of a plan, with the standard streams and the files of the system.
-pub fn follow<R: Host + Input + Print + Eprint + AllocGlobal>(rt: &R, plan: Plan) -> Done {
+pub fn follow<R: Host + Input + Print + Eprint + AllocGlobal>(rt: &R, asked: Asked) -> Done {
+    let plan = &asked.plan;
     let at = Terminals::of(rt);
     let store = HostStore::new(rt);
-    if let Some(conflict) = conflict_in(&store, &plan) {
+    if let Some(conflict) = conflict_in(&store, plan) {
         return Done {
             end: End::Words(conflict),
             begun: false,
@@ -455,12 +508,12 @@ pub fn follow<R: Host + Input + Print + Eprint + AllocGlobal>(rt: &R, plan: Plan
             has_system: false,
         };
     }
-    let has_system = has_system(&plan);
-    let keys = Keys::new(rt.reader(), at.has_keys(&plan), end_of(&plan));
-    let mut lined = Lined::new(io::writer(rt), at.lines_of(&plan));
-    let mut source = Reader::new(prompted(rt, keys, at.prompt(&plan)));
+    let has_system = has_system(plan);
+    let keys = Keys::new(rt.reader(), at.has_keys(plan), end_of(plan));
+    let mut lined = Lined::new(io::writer(rt), at.lines_of(plan));
+    let mut source = Reader::new(prompted(rt, keys, at.prompt(plan)));
     let mut sink = Writer::new(&mut lined);
-    let end = end_of_plan(rt, store, &mut source, &mut sink, plan, at.error);
+    let end = end_of_plan(rt, store, &mut source, &mut sink, asked, at.error);
     drop(sink);
     let end = match lined.failed() {
         Some(Failed::NoText) => End::Words(Conflict::BytesOnTerminal),

@@ -8,4 +8,5 @@ returns-clause-asked c = (
   c.in-Some.words.now,
   found_below c.args.matches.now _ _ (search rules) (search rules),
   c.in_ok-plan.ensures.asked,
+  c.in_ok-form.ensures.asked,
 )

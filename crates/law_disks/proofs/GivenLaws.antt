@@ -76,50 +76,50 @@ find_same p q (e ∷ es) same = rw (same e, find_same p q es same) refl
 
 module _ (image name : List ℕ) (kind : ℕ) (bytes : List ℕ) (day : ℕ) (g : _) (b : IsVolumeOfBytes image)
     (found : place_for image name (blocks_for (length bytes)) ≡ Ok g) (dated : day < 65536) where
-    p : IsPlaced image name (blocks_for (length bytes)) g
-    p = IsPlaced-from_ok image name (blocks_for (length bytes)) g found
+  p : IsPlaced image name (blocks_for (length bytes)) g
+  p = IsPlaced-from_ok image name (blocks_for (length bytes)) g found
 
-    fit : FitsSlot (new_entry g name kind (length bytes) day)
-    fit =
-        let k = gap_in image name (blocks_for (length bytes)) g b.volume p in
-        let r = IsRoomFor-placed image name (blocks_for (length bytes)) g b.volume p in
-        let blocks = word_fits image b 14 (omega arith) in
-        record {
-          name = length-name_field 15 name (length-new_name 15 name p.named).1;
-          kind = omega arith;
-          first = omega (arith, k.within, k.ordered, blocks);
-          end = omega (arith, k.within, r.fits, blocks);
-          last_bytes = omega arith;
-          date = dated;
-        }
+  fit : FitsSlot (new_entry g name kind (length bytes) day)
+  fit =
+      let k = gap_in image name (blocks_for (length bytes)) g b.volume p in
+      let r = IsRoomFor-placed image name (blocks_for (length bytes)) g b.volume p in
+      let blocks = word_fits image b 14 (omega arith) in
+      record {
+        name = length-name_field 15 name (length-new_name 15 name p.named).1;
+        kind = omega arith;
+        first = omega (arith, k.within, k.ordered, blocks);
+        end = omega (arith, k.within, r.fits, blocks);
+        last_bytes = omega arith;
+        date = dated;
+      }
 
-    -- the file is found by its name
-    pub put_found : (other : List ℕ) → is_same_name name other ≡ true
-        → file_named (mirrored (with_file image g.place (new_entry g name kind (length bytes) day) bytes)) other
-        ≡ Some (new_entry g name kind (length bytes) day)
-    put_found other same =
-        let e = new_entry g name kind (length bytes) day in
-        let c = Changed-added image name bytes kind day g b.volume p fit in
-        let own : is_named other e ≡ is_same_name name other = named-new 15 name other in
-        let none : find (is_named other) (files_of image) ≡ None =
-        find_same (is_named other) (is_named name) (files_of image) (λ x. same-right _ other name (sym (upper-from_same name other same)))
-        ∙ not_there image name (blocks_for (length bytes)) g found in
-        rw c.files (found_new (is_named other) (files_of image) (g.place - 1) e (own ∙ same) none)
+  -- the file is found by its name
+  pub put_found : (other : List ℕ) → is_same_name name other ≡ true
+      → file_named (mirrored (with_file image g.place (new_entry g name kind (length bytes) day) bytes)) other
+      ≡ Some (new_entry g name kind (length bytes) day)
+  put_found other same =
+      let e = new_entry g name kind (length bytes) day in
+      let c = Changed-added image name bytes kind day g b.volume p fit in
+      let own : is_named other e ≡ is_same_name name other = named-new 15 name other in
+      let none : find (is_named other) (files_of image) ≡ None =
+      find_same (is_named other) (is_named name) (files_of image) (λ x. same-right _ other name (sym (upper-from_same name other same)))
+      ∙ not_there image name (blocks_for (length bytes)) g found in
+      rw c.files (found_new (is_named other) (files_of image) (g.place - 1) e (own ∙ same) none)
 
-    put_given : (other : List ℕ)
-        → file_given (mirrored (with_file image g.place (new_entry g name kind (length bytes) day) bytes)) other
-        ≡ cond (is_same_name name other) (Some bytes) (file_given image other)
-    put_given other =
-        let e = new_entry g name kind (length bytes) day in
-        let new = mirrored (with_file image g.place e bytes) in
-        let c = Changed-added image name bytes kind day g b.volume p fit in
-        let own : is_named other e ≡ is_same_name name other = named-new 15 name other in
-        elim (cases_Bool (is_same_name name other)) [
-          | inl same ↦ rw (same, put_found other same) (bytes-added_second image name bytes kind day g b.volume p fit)
-          | inr unlike ↦
-              let at = found_beside (is_named other) (files_of image) (g.place - 1) e (own ∙ unlike) in
-              rw (unlike, c.files, at) (found_stays (is_named other) image new (files_of image) c.stay)
-        ]
+  put_given : (other : List ℕ)
+      → file_given (mirrored (with_file image g.place (new_entry g name kind (length bytes) day) bytes)) other
+      ≡ cond (is_same_name name other) (Some bytes) (file_given image other)
+  put_given other =
+      let e = new_entry g name kind (length bytes) day in
+      let new = mirrored (with_file image g.place e bytes) in
+      let c = Changed-added image name bytes kind day g b.volume p fit in
+      let own : is_named other e ≡ is_same_name name other = named-new 15 name other in
+      elim (cases_Bool (is_same_name name other)) [
+        | inl same ↦ rw (same, put_found other same) (bytes-added_second image name bytes kind day g b.volume p fit)
+        | inr unlike ↦
+            let at = found_beside (is_named other) (files_of image) (g.place - 1) e (own ∙ unlike) in
+            rw (unlike, c.files, at) (found_stays (is_named other) image new (files_of image) c.stay)
+      ]
 
 -- a file that was added under a name is got under it, and every other name gives what it gave
 pub added_given : (image name : List ℕ) (kind : ℕ) (bytes : List ℕ) (day : ℕ) (new : List ℕ) → IsVolumeOfBytes image

@@ -130,69 +130,69 @@ given_kinded name old new (h ∷ front) e kind back stay = elim (cases_Bool (is_
 ]
 
 module _ (image name : List ℕ) (kind slot : ℕ) (v : IsVolume image) (chosen : slot_named (directory_of image) name ≡ Some slot)
-    where
-  d : List ℕ
-  d = directory_of image
+  where
+    d : List ℕ
+    d = directory_of image
 
-  front : List Entry
-  front = entries_from d 1 (slot - 1)
+    front : List Entry
+    front = entries_from d 1 (slot - 1)
 
-  file : Entry
-  file = entry_in d slot
+    file : Entry
+    file = entry_in d slot
 
-  back : List Entry
-  back = entries_from d (slot + 1) (file_count d - slot)
+    back : List Entry
+    back = entries_from d (slot + 1) (file_count d - slot)
 
-  kinded : Entry
-  kinded = record file { kind = kind % 16 }
+    kinded : Entry
+    kinded = record file { kind = kind % 16 }
 
-  within : (1 ≤ slot) × (slot < 1 + length (files_of image))
-  within = position-within (is_named name) 1 (files_of image) slot chosen
+    within : (1 ≤ slot) × (slot < 1 + length (files_of image))
+    within = position-within (is_named name) 1 (files_of image) slot chosen
 
-  last : slot ≤ file_count d
-  unfolding d
-  last = omega (arith, within.1, length-entries_from d (file_count d) 1)
+    last : slot ≤ file_count d
+    unfolding d
+    last = omega (arith, within.1, length-entries_from d (file_count d) 1)
 
-  parts : files_of image ≡ front ++ file ∷ back
-  unfolding front file back d
-  parts = files-split d slot within.0 last
+    parts : files_of image ≡ front ++ file ∷ back
+    unfolding front file back d
+    parts = files-split d slot within.0 last
 
-  length-front : length front ≡ slot - 1
-  unfolding front
-  length-front = length-entries_from d (slot - 1) 1
+    length-front : length front ≡ slot - 1
+    unfolding front
+    length-front = length-entries_from d (slot - 1) 1
 
-  after : List ℕ
-  after = mirrored (with_kind image slot kind)
+    after : List ℕ
+    after = mirrored (with_kind image slot kind)
 
-  files : files_of after ≡ front ++ kinded ∷ back
-  unfolding after kinded file d
-  files =
-      (Changed-kinded image v kind slot within.0 last).files
-      ∙ ap (λ (es : List Entry). slice_set es (slot - 1) kinded) parts
-      ∙ ap (λ (i : ℕ). slice_set (front ++ file ∷ back) i kinded) (sym length-front)
-      ∙ set-append_seam front file back kinded
+    files : files_of after ≡ front ++ kinded ∷ back
+    unfolding after kinded file d
+    files =
+        (Changed-kinded image v kind slot within.0 last).files
+        ∙ ap (λ (es : List Entry). slice_set es (slot - 1) kinded) parts
+        ∙ ap (λ (i : ℕ). slice_set (front ++ file ∷ back) i kinded) (sym length-front)
+        ∙ set-append_seam front file back kinded
 
-  place : position_from (is_named name) 1 (front ++ file ∷ back) ≡ Some (1 + length front)
-  unfolding d
-  place = ap (position_from (is_named name) 1) (sym parts) ∙ chosen
-      ∙ ap Some (let n = length-front in let from = within.0 in omega (arith, n, from))
+    place : position_from (is_named name) 1 (front ++ file ∷ back) ≡ Some (1 + length front)
+    unfolding d
+    place = ap (position_from (is_named name) 1) (sym parts) ∙ chosen
+        ∙ ap Some (let n = length-front in let from = within.0 in omega (arith, n, from))
 
-  pub kinded_found : (e : Entry) → file_named image name ≡ Some e
-      → file_named (mirrored (with_kind image slot kind)) name ≡ Some (record e { kind = kind % 16 })
-  unfolding after kinded file
-  kinded_found e found =
-      let both = found_kinded (is_named name) 1 front file kinded back place refl in
-      let own : file ≡ e = some_of file e (sym (ap (find (is_named name)) parts ∙ both.1) ∙ found) in
-      ap (find (is_named name)) files ∙ both.0 ∙ ap (λ (e : Entry). Some (record e { kind = kind % 16 })) own
+    pub kinded_found : (e : Entry) → file_named image name ≡ Some e
+        → file_named (mirrored (with_kind image slot kind)) name ≡ Some (record e { kind = kind % 16 })
+    unfolding after kinded file
+    kinded_found e found =
+        let both = found_kinded (is_named name) 1 front file kinded back place refl in
+        let own : file ≡ e = some_of file e (sym (ap (find (is_named name)) parts ∙ both.1) ∙ found) in
+        ap (find (is_named name)) files ∙ both.0 ∙ ap (λ (e : Entry). Some (record e { kind = kind % 16 })) own
 
-  pub kinded_given : (other : List ℕ)
-      → file_given (mirrored (with_kind image slot kind)) other ≡ file_given image other
-  unfolding after kinded file
-  kinded_given other =
-      let stay = subst (All (FileStays image after)) parts (Changed-kinded image v kind slot within.0 last).stay in
-      ap (λ (es : List Entry). bytes_of_file after (find (is_named other) es)) files
-      ∙ given_kinded other image after front file (kind % 16) back stay
-      ∙ sym (ap (λ (es : List Entry). bytes_of_file image (find (is_named other) es)) parts)
+    pub kinded_given : (other : List ℕ)
+        → file_given (mirrored (with_kind image slot kind)) other ≡ file_given image other
+    unfolding after kinded file
+    kinded_given other =
+        let stay = subst (All (FileStays image after)) parts (Changed-kinded image v kind slot within.0 last).stay in
+        ap (λ (es : List Entry). bytes_of_file after (find (is_named other) es)) files
+        ∙ given_kinded other image after front file (kind % 16) back stay
+        ∙ sym (ap (λ (es : List Entry). bytes_of_file image (find (is_named other) es)) parts)
 
 pub kind_is_set : KindIsSet
 unfolding filed kind_set

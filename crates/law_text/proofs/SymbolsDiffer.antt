@@ -99,10 +99,9 @@ all_from segment n m at (p ∷ ps) h =
 behind_differs : (segment n : ℕ) (x : Symbol) (ys : List Symbol) → x.procedure ≡ n → AllByRecursion (IsFrom segment (n + 1)) ys → IsOther ys x
 behind_differs segment n x [] e h = tt
 behind_differs segment n x (y ∷ ys) e h =
-    let below : x.procedure < y.procedure = omega (arith, e, h.0.from) in
-    (
+    let below : x.procedure < y.procedure = omega (arith, e, h.0.from) in (
       second_differs (nat_eq x.segment y.segment) (nat_eq x.procedure y.procedure) (is_same_label x.label y.label)
-      (below_differs x.procedure y.procedure below),
+          (below_differs x.procedure y.procedure below),
       behind_differs segment n x ys e h.1,
     )
 
@@ -145,12 +144,11 @@ all_elsewhere number (s ∷ ss) h =
 
 apart_from : (number : ℕ) (x : Symbol) (ys : List Symbol) → x.segment ≡ number → AllByRecursion (IsElsewhere number) ys → IsOther ys x
 apart_from number x [] e h = tt
-apart_from number x (y ∷ ys) e h =
-    (
-      first_differs (nat_eq x.segment y.segment) (nat_eq x.procedure y.procedure) (is_same_label x.label y.label)
+apart_from number x (y ∷ ys) e h = (
+  first_differs (nat_eq x.segment y.segment) (nat_eq x.procedure y.procedure) (is_same_label x.label y.label)
       (subst (λ k. nat_eq k y.segment ≡ false) (sym e) h.0),
-      apart_from number x ys e h.1,
-    )
+  apart_from number x ys e h.1,
+)
 
 all_apart : (number : ℕ) (xs ys : List Symbol) → AllByRecursion (IsFrom number 1) xs → AllByRecursion (IsElsewhere number) ys
     → AllByRecursion (IsOther ys) xs

@@ -74,7 +74,7 @@ module _ (t : State) where
     instead_here : (xs : List Breakpoint) → stands_at b.place t ≡ true
         → is_at_break (map (instead b) xs) t ≡ (is_set b.place xs && holds b.condition t.memory)
     instead_here [] at = refl
-    instead_here (c ∷ xs) at = one (is_same b.place c.place) refl
+    instead_here (c ∷ xs) at = one (instead_here xs at) (is_same b.place c.place) refl
       where
         both : (set held : Bool) → ((true && held) || (set && held)) ≡ held
         both true true = refl
@@ -82,15 +82,16 @@ module _ (t : State) where
         both false true = refl
         both false false = refl
 
-        one : (same : Bool) → is_same b.place c.place ≡ same
+        one : is_at_break (map (instead b) xs) t ≡ (is_set b.place xs && holds b.condition t.memory)
+            → (same : Bool) → is_same b.place c.place ≡ same
             → (stops_here t (if same then b else c) || is_at_break (map (instead b) xs) t) ≡ ((same || is_set b.place xs) && holds b.condition t.memory)
-        one true is =
+        one rest true is =
             ap (λ that. (that && holds b.condition t.memory) || is_at_break (map (instead b) xs) t) at
-            ∙ ap (λ more. (true && holds b.condition t.memory) || more) (instead_here xs at)
+            ∙ ap (λ more. (true && holds b.condition t.memory) || more) rest
             ∙ both (is_set b.place xs) (holds b.condition t.memory)
-        one false is =
+        one rest false is =
             ap (λ that. (that && holds c.condition t.memory) || is_at_break (map (instead b) xs) t) (elsewhere b.place c.place (place_in_code t) at is)
-            ∙ instead_here xs at
+            ∙ rest
 
     -- behind the others
     behind : (xs : List Breakpoint) → is_at_break (xs ++ b ∷ []) t ≡ (is_at_break xs t || (stops_here t b || false))

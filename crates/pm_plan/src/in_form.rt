@@ -48,6 +48,7 @@ fn form_at(form: Form, system: &Option<String>, printer: &Option<String>, path: 
 }
 
 /// Bytes in a form, which are those that they were where blocks stand in their order.
+#[tactic(auto, using(crate::proofs::FormLaws::turned_blocks))]
 fn into_form(alloc: Global, form: Form, bytes: Vec<u8>) -> Result<Vec<u8>, DiskFault>
     ensures value { IfOk result (λ made. made.items ≡ turned form bytes.items) }
 {
@@ -69,7 +70,7 @@ impl<S: Store> Store for InForm<S> {
 
     ghost held = { λ s. S.held s.store };
 
-    #[tactic(auto, using(crate::proofs::InFormLaws::holds_turned))]
+    #[tactic(auto, using(crate::proofs::InFormLaws::read_turned))]
     fn read(&mut self, alloc: Global, path: &str) -> Result<Vec<u8>, DiskFault> {
         let bytes = self.store.read(alloc, path)?;
         let form = form_at(self.form, &self.system, &self.printer, path);
@@ -84,7 +85,7 @@ impl<S: Store> Store for InForm<S> {
         self.store.hold(path)
     }
 
-    #[tactic(auto, using(crate::proofs::InFormLaws::puts_turned, crate::proofs::InFormLaws::puts_blocks))]
+    #[tactic(auto, using(crate::proofs::InFormLaws::put_turned, crate::proofs::InFormLaws::put_blocks))]
     fn put(&mut self, path: &str, bytes: &[u8]) -> Result<(), DiskFault> {
         match form_at(self.form, &self.system, &self.printer, path) {
             Form::Blocks => self.store.put(path, bytes),

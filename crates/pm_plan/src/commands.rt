@@ -450,6 +450,7 @@ const DIS: CommandRow = (
         STATEMENTS,
         INDENT,
         ON_IMAGE,
+        FORM,
         READ,
         WRITTEN,
     ],
@@ -476,7 +477,7 @@ const SYMBOLS: WordRow = (
 const ASM: CommandRow = (
     "asm",
     "Writes the code file of a text of the assembler",
-    &[LIST, ALL, SYMBOLS, ON_IMAGE, READ, WRITTEN],
+    &[LIST, ALL, SYMBOLS, ON_IMAGE, FORM, READ, WRITTEN],
 );
 
 fn arg<'a>(alloc: Global, row: WordRow) -> Result<Arg<'a>, AllocError> {

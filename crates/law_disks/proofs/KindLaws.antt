@@ -1,5 +1,5 @@
 -- A file that was copied from another volume, and one that got another kind.
-use Rattle.std.proofs.Common.{◌≡◌, ◌<◌, ◌≤◌, ℕ, zero, suc, ◌+◌, ◌-◌, ◌%◌, Bool, true, false, cond, List, [], ◌∷◌, ◌++◌, ◌∙◌}
+use Rattle.std.proofs.Common.{◌≡◌, ◌<◌, ◌≤◌, ℕ, zero, suc, ◌+◌, ◌-◌, ◌*◌, ◌%◌, Bool, true, false, cond, List, [], ◌∷◌, ◌++◌, ◌∙◌}
 use Rattle.std.proofs.Common.{ap, sym, refl, subst, inl, inr, length, arith, Option, Some, None, Result, Ok, Err}
 use Rattle.std.proofs.Math.Seq.{set-append_seam}
 use Rattle.std.specs.Prelude.{slice_set}
@@ -187,7 +187,7 @@ module _ (image name : List ℕ) (kind slot : ℕ) (v : IsVolume image) (chosen 
 
     pub kinded_given : (other : List ℕ)
         → file_given (mirrored (with_kind image slot kind)) other ≡ file_given image other
-    unfolding after kinded file
+    unfolding after kinded file d
     kinded_given other =
         let stay = subst (All (FileStays image after)) parts (Changed-kinded image v kind slot within.0 last).stay in
         ap (λ (es : List Entry). bytes_of_file after (find (is_named other) es)) files

@@ -246,6 +246,38 @@ check "two of one name are left" ends 1 "$here/examples/remove.sh" b DUP
 check "nothing is changed then" cmp r r2
 check "no volume to remove from" ends 2 "$here/examples/remove.sh" header =
 
+# What the program does with --form is what the scripts do beside it; and what asm and dis read of a disk is what get
+# gives. The other order is made by other means.
+"$here/examples/dos-order.sh" <po >formed
+check "the list of a disk in another order" cmp <(files po list) <(files formed --form dos list)
+check "and of swapped words" cmp <(files po list) <(files swapped --form swapped list)
+cp po plain
+seq 900 >numbers
+files plain put NUMBERS data <numbers
+files formed --form dos put NUMBERS data <numbers
+check "what is put is put in that order" cmp formed <("$here/examples/dos-order.sh" <plain)
+check "and comes back" cmp numbers <(files formed --form dos get NUMBERS)
+"$PMACH" asm "$here/examples/hanoi.text" -o tower.code
+check "a file that is written" cmp tower.code <("$PMACH" asm <"$here/examples/hanoi.text")
+chmod 640 tower.code
+"$PMACH" asm "$here/examples/hanoi.text" -o tower.code
+check "its mode stays" [ "$(stat -c %a tower.code)" = 640 ]
+files formed --form dos put HANOI code <tower.code
+files formed --form dos puttext HANOI.TEXT <"$here/examples/hanoi.text"
+check "a file of a disk as statements" cmp <("$PMACH" dis --statements tower.code) \
+    <("$PMACH" dis --statements --image formed --form dos HANOI)
+check "a text of a disk" ends 0 "$PMACH" asm --image formed --form dos HANOI.TEXT -o tower.new
+check "is that text" cmp tower.new tower.code
+echo FOO >wrong.text
+check "what is refused" ends 2 "$PMACH" asm wrong.text -o tower.new
+check "is not written" cmp tower.new tower.code
+ln -s tower.new link
+check "a link" ends 0 "$PMACH" dis tower.code -o link
+check "is followed" [ -L link -a "$(head -n 1 tower.new)" = ".SEG 1 HANOI" ]
+check "not over what is read" ends 1 "$PMACH" dis tower.code -o ./tower.code
+check "a run of it" ends 0 "$PMACH" run --form dos --d4 formed HANOI
+check "as of blocks" grep -qx "ended 402" err
+
 # A tower of three: 15 calls of procedure 2, of which 8 find no disk and take 5 steps and the others 26; 7 moves of 25.
 "$PMACH" asm <"$here/examples/hanoi.text" >tower
 files h new TOWER 40

@@ -1,2 +1,1 @@
-mod FormedFiles
 mod HeldFiles

@@ -12,8 +12,6 @@ use Rattle.pm_tool.specs.declared.outcome.Job.TheVariants as jobs
 use Rattle.pm_tool.specs.declared.outcome.Outcome.{Outcome}
 use Rattle.pm_choices.specs.declared.saving.Saving.{Saving}
 use Rattle.pm_choices.specs.declared.saving.Saving.TheVariants as savings
-use Rattle.pm_plan.specs.Forms.{turned}
-use Rattle.pm_plan.specs.declared.form.Form.{Form}
 use Rattle.pm_plan.specs.declared.file_words.Verb.{Verb}
 use Rattle.pm_plan.specs.declared.file_words.Verb.TheVariants as verbs
 
@@ -57,9 +55,3 @@ abbrev pub LeavesRun : List ℕ → String Global → ℕ → Saving → List �
 LeavesRun image name limit saving input file = (disks : List (Option (Vec ℕ Global)))
     × (images_of disks ≡ Some image ∷ None ∷ None ∷ None ∷ None ∷ None ∷ [])
     × (file ≡ left_in image (job_said (jobs.Run disks name limit saving None) input).image)
-
--- The bytes that a file has after a run on its image, which has this form: what the run leaves of the turned bytes,
--- turned.
-abbrev pub LeavesTurned : Form → List ℕ → String Global → ℕ → Saving → List ℕ → List ℕ → Type 0
-LeavesTurned form image name limit saving input file = (left : List ℕ)
-    × LeavesRun (turned form image) name limit saving input left × (file ≡ turned form left)

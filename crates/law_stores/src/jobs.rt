@@ -2,13 +2,12 @@
 
 ghost use Rattle.std.specs.Prelude.{◌≡◌, IfOk, OnErr};
 ghost use Rattle.pm_tool.specs.Said.{IsSoundExit};
-ghost use Rattle.law_stores.specs.Jobs.{LeavesRun, LeavesTurned, SavesDisk, SavesIn, StaysWhereCut, left_in, said_verb};
-ghost use Rattle.pm_plan.specs.Forms.{turned};
+ghost use Rattle.law_stores.specs.Jobs.{SavesDisk, SavesIn, LeavesRun, StaysWhereCut, left_in, said_verb};
 
 use crate::stores::OneFile;
 use pm_choices::Saving;
 use pm_files::{DiskFault, Store};
-use pm_plan::{Form, InForm, Program, Verb};
+use pm_plan::{Program, Verb};
 use pm_program::{Printing, SavedOfRun, do_files, do_run};
 use pm_streams::{Reader, Writer};
 use pm_tool::Outcome;
@@ -85,84 +84,5 @@ pub fn on_disk(
     let mut sink = Writer::new(&mut written);
     let done = do_run(alloc, &mut store, &mut source, &mut sink, program, saved);
     let file = store.read(alloc, FILE)?;
-    Ok(OnFile { done, file })
-}
-
-/// Does a verb of `files` on a file that has these bytes, with this input, where the image has this form. Afterwards
-/// the file has the bytes that the verb leaves of the turned bytes where blocks stand in their order, turned; where a
-/// job is cut short, or the file cannot be read or written, it has the bytes that it had.
-pub fn on_file_in_form(
-    alloc: Global,
-    image: Vec<u8>,
-    typed: &[u8],
-    verb: Verb,
-    form: Form,
-) -> Result<OnFile, DiskFault>
-    ensures stays { IfOk result (λ came. OnErr came.done (came.file.items ≡ image.items)) }
-    ensures cut { IfOk result (λ came. IfOk came.done (StaysWhereCut image.items came.file.items)) }
-    ensures said { IfOk result (λ came. IfOk came.done (λ outcome. IsSoundExit outcome.exit →
-        came.file.items ≡ turned form
-        (left_in (turned form image.items) (said_verb (turned form image.items) verb typed.now).image))) }
-{
-    let mut files = InForm {
-        store: OneFile {
-            path: String::from_str(alloc, FILE)?,
-            bytes: Some(image),
-            alloc,
-        },
-        form,
-        system: None,
-        printer: None,
-        alloc,
-    };
-    let mut written = Vec::new(alloc);
-    let mut source = Reader::new(typed);
-    let mut sink = Writer::new(&mut written);
-    let done = do_files(alloc, &mut files, &mut source, &mut sink, FILE, verb);
-    let file = files.store.read(alloc, FILE)?;
-    Ok(OnFile { done, file })
-}
-
-/// Runs the program of a name on a disk whose file has these bytes, with this input, at most so many steps, where the
-/// image has this form. Afterwards the file has the bytes that the run leaves of the turned bytes where blocks stand in
-/// their order, turned; where the job is cut short it has the bytes that it had.
-pub fn on_disk_in_form(
-    alloc: Global,
-    image: Vec<u8>,
-    typed: &[u8],
-    name: String,
-    limit: u64,
-    saving: Saving,
-    form: Form,
-) -> Result<OnFile, DiskFault>
-    ensures cut { IfOk result (λ came. IfOk came.done (StaysWhereCut image.items came.file.items)) }
-    ensures said { IfOk result (λ came. IfOk came.done (λ outcome. IsSoundExit outcome.exit →
-        LeavesTurned form image.items name limit saving typed.now came.file.items)) }
-{
-    let mut files = InForm {
-        store: OneFile {
-            path: String::from_str(alloc, FILE)?,
-            bytes: Some(image),
-            alloc,
-        },
-        form,
-        system: None,
-        printer: None,
-        alloc,
-    };
-    let program = Program {
-        disk: String::from_str(alloc, FILE)?,
-        others: [None, None, None, None, None],
-        name,
-        limit,
-        system: None,
-    };
-    let printing = Printing::Nowhere;
-    let saved = SavedOfRun { saving, printing };
-    let mut written = Vec::new(alloc);
-    let mut source = Reader::new(typed);
-    let mut sink = Writer::new(&mut written);
-    let done = do_run(alloc, &mut files, &mut source, &mut sink, program, saved);
-    let file = files.store.read(alloc, FILE)?;
     Ok(OnFile { done, file })
 }

@@ -255,7 +255,10 @@ echo "write fault" >"$message"
 "$pmach" asm <"$scratch/source" >/dev/full 2>"$scratch/err"
 [ $? = 4 ] && cmp -s "$scratch/err" "$message"
 result "a code file on a full device" $?
-usage "a word behind asm" asm text
+case_of "a file in the place of standard input" 0 "$scratch/code" "$nothing" asm "$scratch/source" < <(echo FOO)
+case_of "a file in the place of standard output" 0 "$nothing" "$nothing" asm -o "$scratch/other" "$scratch/source"
+cmp "$scratch/code" "$scratch/other" >/dev/null || echo "FAILED: what it has"
+usage "two words behind asm" asm text more
 usage "the listing twice" asm --list --list
 
 # code files as text
@@ -274,7 +277,7 @@ echo "write fault" >"$message"
 "$pmach" dis <"$scratch/code" >/dev/full 2>"$scratch/err"
 [ $? = 4 ] && cmp -s "$scratch/err" "$message"
 result "the text on a full device" $?
-usage "a word behind dis" dis code
+usage "two words behind dis" dis code more
 
 # the debugger
 printf '%s\n' ok "break 1" "65424 65458 65492" "65458 65492 65458" "?" >"$scratch/text"

@@ -425,13 +425,13 @@ def depths(lines, entries, end):
     spans, loops = [], {}
     for k, (at, text) in enumerate(lines):
         behind = lines[k + 1][0] if k + 1 < len(lines) else end
-        m = re.search(r"(^|IF .* )GOTO (?:L(\d{5})|\^(\d+))$", text)
+        m = re.search(r"(^|IF .* )GOTO (?:L(\d{5})|\^(\d+))$", text) or re.match(r"\{(UJP|FJP|EFJ|NFJ) (?:L(\d{5})|\^(\d+))\}", text)
         if not m or (m[3] and int(m[3]) >= len(entries)):
             continue
         place = int(m[2]) if m[2] else entries[int(m[3])]
         if place > behind:
             spans.append((behind, 0, place))
-        elif m[1] and place <= at:
+        elif m[1] not in ("", "UJP") and place <= at:
             loops[place] = behind
     spans += [(place, 1, behind) for place, behind in loops.items()]
     counted = []

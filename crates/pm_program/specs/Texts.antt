@@ -1,8 +1,8 @@
 -- What a job on a text or a code file leaves behind, where files stand in the place of its streams.
-use Rattle.std.specs.Prelude.{◌≡◌, ℕ, Bool, true, false, List, [], Option, None, Some, IfSome, string_bytes}
+use Rattle.std.specs.Prelude.{◌≡◌, ⊤, ℕ, Bool, true, false, List, [], Option, None, Some, IfSome, string_bytes}
 use Rattle.std.specs.Io.KnownBytes.{Appends}
 use Rattle.pm_files.specs.Held.{Files, HoldsFile, Saves}
-use Rattle.pm_streams.specs.Streams.{Outgoing}
+use Rattle.pm_streams.specs.Streams.{Incoming, Outgoing}
 use Rattle.pm_filer.specs.Filed.{Order, Get, GetText}
 use Rattle.pm_plan.specs.declared.text_words.TextInput.{TextInput}
 use Rattle.pm_plan.specs.declared.text_words.TextInput.TheVariants as inputs
@@ -10,8 +10,11 @@ use Rattle.pm_program.specs.declared.texts.Got.{Got}
 use Rattle.pm_program.specs.declared.texts.Got.TheVariants as gots
 use Rattle.pm_tool.specs.Batches.{said_files}
 use Rattle.pm_tool.specs.Outcomes.{IsOutcome, Said}
+use Rattle.pm_tool.specs.Said.{job_said}
 use Rattle.pm_tool.specs.declared.outcome.Exit.{Exit}
 use Rattle.pm_tool.specs.declared.outcome.Exit.TheVariants as exits
+use Rattle.pm_tool.specs.declared.outcome.Job.{Job}
+use Rattle.pm_tool.specs.declared.outcome.Job.TheVariants as jobs
 use Rattle.pm_tool.specs.declared.outcome.Outcome.{Outcome}
 
 -- A job comes to what is said: its outcome, and all that it writes.
@@ -33,7 +36,23 @@ Delivers old new None before after outcome told =
     IsOutcome outcome told × Appends before.contents after.contents told.written × (new ≡ old)
 Delivers old new (Some path) before after outcome told = SavesText old new path outcome told
 
+-- Where a path has what is written, nothing is written to the output.
+abbrev pub LeavesOutput : Option (List ℕ) → Outgoing → Outgoing → Type 0
+LeavesOutput None before after = ⊤
+LeavesOutput (Some path) before after = after ≡ before
+
 -- ---- what is read
+
+-- Where a file is read, nothing is read of the input.
+abbrev pub LeavesInput : TextInput → Incoming → Incoming → Type 0
+LeavesInput inputs.Standard before after = ⊤
+LeavesInput (inputs.File path) before after = after ≡ before
+LeavesInput (inputs.OnImage path name) before after = after ≡ before
+
+-- a job reads a text, and no code file
+abbrev pub reads_text : Job → Bool
+reads_text (jobs.Asm what) = true
+reads_text job = false
 
 -- the command that gets the text of a file, or its bytes
 abbrev pub getting : Bool → List ℕ → Order
@@ -55,15 +74,16 @@ DeliversGot exits.Ended old new output before after outcome text told =
 DeliversGot _ old new output before after outcome text told =
     IsOutcome outcome told × (after ≡ before) × (new ≡ old)
 
--- A job is told to the input, where it is known; to the bytes that a path holds; or to what is got of an image.
-abbrev pub DeliversOf : Files → Files → Bool → TextInput → Option (List ℕ) → Option (List ℕ) → Outgoing → Outgoing
-    → Outcome → (List ℕ → Said) → Type 0
-DeliversOf old new is_text inputs.Standard output input before after outcome text =
-    IfSome input (λ bytes. Delivers old new output before after outcome (text bytes))
-DeliversOf old new is_text (inputs.File path) output input before after outcome text =
+-- A job is told to the input, where it is known; to the bytes that a path holds; or to what is got of an image, a text
+-- or bytes as the job reads.
+abbrev pub DeliversOf : Files → Files → Job → TextInput → Option (List ℕ) → Option (List ℕ) → Outgoing → Outgoing
+    → Outcome → Type 0
+DeliversOf old new job inputs.Standard output input before after outcome =
+    IfSome input (λ bytes. Delivers old new output before after outcome (job_said job bytes))
+DeliversOf old new job (inputs.File path) output input before after outcome =
     (bytes : List ℕ) × HoldsFile old (string_bytes path) bytes
-    × Delivers old new output before after outcome (text bytes)
-DeliversOf old new is_text (inputs.OnImage path name) output input before after outcome text =
+    × Delivers old new output before after outcome (job_said job bytes)
+DeliversOf old new job (inputs.OnImage path name) output input before after outcome =
     (image : List ℕ) × HoldsFile old (string_bytes path) image
-    × DeliversGot (said_files image (getting is_text (string_bytes name)) []).exit old new output before after outcome
-    text (said_files image (getting is_text (string_bytes name)) [])
+    × DeliversGot (said_files image (getting (reads_text job) (string_bytes name)) []).exit old new output before after
+    outcome (job_said job) (said_files image (getting (reads_text job) (string_bytes name)) [])

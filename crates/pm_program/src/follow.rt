@@ -161,10 +161,10 @@ fn act<S: Store, I: Source, O: Sink>(
     let job = match plan {
         Plan::Raw { limit, selection } => Job::Raw { limit, selection },
         Plan::Asm(what, files) => {
-            return do_text(alloc, store, source, sink, files, true, Job::Asm(what));
+            return do_text(alloc, store, source, sink, files, Job::Asm(what));
         }
         Plan::Dis(what, files) => {
-            return do_text(alloc, store, source, sink, files, false, Job::Dis(what));
+            return do_text(alloc, store, source, sink, files, Job::Dis(what));
         }
         Plan::Files(FilesPlan { path, verb }) => {
             return do_files(alloc, store, source, sink, path.as_str(), verb);

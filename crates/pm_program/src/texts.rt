@@ -5,7 +5,9 @@ ghost use Rattle.pm_tool.specs.Said.{IsCutShort, IsSoundExit, job_said};
 ghost use Rattle.pm_program.specs.Saved.{held_at};
 ghost use Rattle.pm_filer.specs.Filed.{order_of};
 ghost use Rattle.pm_files.specs.Held.{Saves};
-ghost use Rattle.pm_program.specs.Texts.{Comes, Delivers, DeliversOf, IsGot, SavesText, getting, written_by};
+ghost use Rattle.pm_program.specs.Texts.{
+    Comes, Delivers, DeliversOf, IsGot, LeavesInput, LeavesOutput, SavesText, getting, reads_text, written_by
+};
 
 use pm_filer::FileCommand;
 use pm_files::{DiskFault, Store};
@@ -78,6 +80,8 @@ fn deliver<S: Store, I: Source, O: Sink>(
     ensures said { IfOk result (λ outcome. IsSoundExit outcome.exit → IfSome (I.seen source.old).remaining (λ input.
         Delivers (S.files store.old) (S.files store.new) (option_map string_bytes path.now)
         (O.seen sink.old) (O.seen sink.new) outcome (job_said job input))) }
+    ensures silent { LeavesOutput (option_map string_bytes path.now) (O.seen sink.old) (O.seen sink.new) }
+    ensures unwritten { OnErr result (O.seen sink.new ≡ O.seen sink.old) }
     ensures cut { IfOk result (λ outcome. IsCutShort outcome.exit → S.files store.new ≡ S.files store.old) }
     ensures held { OnOk result (S.held store.new ≡ held_at (option_map string_bytes path.now) (S.held store.old)) }
     ensures stays { OnErr result (S.files store.new ≡ S.files store.old) }
@@ -95,6 +99,13 @@ pub(crate) enum Got {
     Bytes(Vec<u8>),
     /// Nothing: the image, or the file, is refused.
     Nothing(Outcome),
+}
+
+/// Whether a job reads a text, and no code file.
+fn reads_text(job: &Job) -> bool
+    ensures text { result ≡ reads_text job.now }
+{
+    matches!(job, Job::Asm(_))
 }
 
 /// The command that gets the text of a file, or its bytes.
@@ -145,6 +156,8 @@ fn deliver_bytes<S: Store, O: Sink>(
     ensures said { IfOk result (λ outcome. IsSoundExit outcome.exit →
         Delivers (S.files store.old) (S.files store.new) (option_map string_bytes path.now)
         (O.seen sink.old) (O.seen sink.new) outcome (job_said job bytes.now)) }
+    ensures silent { LeavesOutput (option_map string_bytes path.now) (O.seen sink.old) (O.seen sink.new) }
+    ensures unwritten { OnErr result (O.seen sink.new ≡ O.seen sink.old) }
     ensures cut { IfOk result (λ outcome. IsCutShort outcome.exit → S.files store.new ≡ S.files store.old) }
     ensures held { OnOk result (S.held store.new ≡ held_at (option_map string_bytes path.now) (S.held store.old)) }
     ensures stays { OnErr result (S.files store.new ≡ S.files store.old) }
@@ -153,24 +166,27 @@ fn deliver_bytes<S: Store, O: Sink>(
     deliver(alloc, store, &mut source, sink, path, job)
 }
 
-/// Does a job on standard input, on a file in its place, or on a file of a volume, its text or its bytes; and with a
-/// file in the place of the sink, where there is one, which is held. Where the job ends well, and a file is in the
-/// place of the sink, it has all that is written, and no other file has changed; else none has, nor where one cannot be
-/// read, held or written. Neither stream may have failed before. What is written is what is said of the bytes that are
-/// read; where the file of a volume is refused, that is answered, and nothing is held or written.
+/// Does a job on standard input, on a file in its place, or on a file of a volume, its text or its bytes as the job
+/// reads; and with a file in the place of the sink, where there is one, which is held. Where the job ends well, and a
+/// file is in the place of the sink, it has all that is written, and no other file has changed; else none has, nor where
+/// one cannot be read, held or written. Neither stream may have failed before. What is written is what is said of the
+/// bytes that are read; where the file of a volume is refused, that is answered, and nothing is held or written. Of a
+/// stream in whose place a file stands nothing is read, and nothing is written to it.
 pub fn do_text<S: Store, I: Source, O: Sink>(
     alloc: Global,
     store: &mut S,
     source: &mut I,
     sink: &mut O,
     files: TextFiles,
-    is_text: bool,
     job: Job,
 ) -> Result<Outcome, DiskFault>
     requires well { AreWell (both (I.seen source.old) (O.seen sink.old)) }
     ensures said { IfOk result (λ outcome. IsSoundExit outcome.exit → DeliversOf (S.files store.old) (S.files store.new)
-        is_text files.input (option_map string_bytes files.output)
-        (I.seen source.old).remaining (O.seen sink.old) (O.seen sink.new) outcome (job_said job)) }
+        job files.input (option_map string_bytes files.output)
+        (I.seen source.old).remaining (O.seen sink.old) (O.seen sink.new) outcome) }
+    ensures unread { LeavesInput files.input (I.seen source.old) (I.seen source.new) }
+    ensures silent { LeavesOutput (option_map string_bytes files.output) (O.seen sink.old) (O.seen sink.new) }
+    ensures unwritten { OnErr result (O.seen sink.new ≡ O.seen sink.old) }
     ensures cut { IfOk result (λ outcome. IsCutShort outcome.exit → S.files store.new ≡ S.files store.old) }
     ensures held { IfOk result (λ outcome. outcome.exit ≡ Exit.Ended →
         S.held store.new ≡ held_at (option_map string_bytes files.output) (S.held store.old)) }
@@ -181,7 +197,7 @@ pub fn do_text<S: Store, I: Source, O: Sink>(
         TextInput::Standard => return deliver(alloc, store, source, sink, &output, job),
         TextInput::File(path) => store.read(alloc, path.as_str())?,
         TextInput::OnImage { image, name } => {
-            match get_file(alloc, store, image.as_str(), is_text, name)? {
+            match get_file(alloc, store, image.as_str(), reads_text(&job), name)? {
                 Got::Bytes(bytes) => bytes,
                 Got::Nothing(outcome) => return Ok(outcome),
             }

@@ -1,6 +1,6 @@
 """debugger.py PMACH: `pmach debug` on a pseudo terminal, where a long run is made in slices of 1,000,000 steps: each answer is the one that the
 program gives for the whole in a pipe, with breakpoints and watched words round the ends of slices, for each of many counts of steps; long answers
-have many lines; a command may be begun alone; the system's procedures have names. Ctrl-C in `go`, `step` and `finish`, after which `on` goes on,
+have many lines; a command may be begun alone; the system's procedures have names, and `where` has the statement. Ctrl-C in `go`, `step` and `finish`, after which `on` goes on,
 and at the prompt, Ctrl-D, `quit`, refusals, signals, and that no program and no folder is left behind."""
 import glob
 import os
@@ -44,10 +44,16 @@ def put(name, text):
     subprocess.run([program, "files", "--image", image, "put", name, "code"], input=made.stdout, check=True)
 
 
-def piped(name, lines):
-    """The lines of a session without a terminal."""
+def answers_of(name, lines):
     typed = "".join(line + "\n" for line in lines)
     return subprocess.run(words + [name], input=typed.encode(), capture_output=True, check=True).stdout.decode().split("\n")[:-1]
+
+
+def piped(name, lines):
+    """The lines of a session without a terminal, of the program that `running` names from then on."""
+    global running
+    running = name
+    return answers_of(name, lines)
 
 
 def typed(command, keys):
@@ -77,11 +83,24 @@ def typed(command, keys):
     return shown.decode().replace("\r\n", "\n"), os.waitstatus_to_exitcode(os.waitpid(child, 0)[1])
 
 
+def statements(name):
+    """The statements of a code file of the image, by segment, procedure and offset."""
+    made, place, entry = {}, None, None
+    for line in subprocess.run([program, "dis", "--statements", "--image", image, name], capture_output=True, check=True).stdout.decode().split("\n"):
+        heading = re.match("PROCEDURE ([0-9]+) OF SEGMENT ([0-9]+):", line)
+        if heading:
+            place, entry = (int(heading[2]), int(heading[1])), None
+        elif re.match("[0-9]{5} ", line):
+            entry = int(line[:5]) if entry is None else entry
+            made[(*place, int(line[:5]) - entry)] = line[6:]
+    return made
+
+
 def folded(line, answer):
     """How a terminal shows an answer."""
     word = (line.split(" ") + [""])[0] if line.strip(" ") == line else line.split()[0] if line.split() else ""
     if answer == "?":
-        every = piped("LONG", ["help"])[0].split(", ")
+        every = answers_of("LONG", ["help"])[0].split(", ")
         uses = [usage for usage in every if usage.split()[0] == word]
         near = [usage for usage in every if word and usage.startswith(word)]
         return "?\n" + ("usage: " + ", ".join(uses) if uses else "one of: " + ", ".join(near) if near else "help lists the commands")
@@ -89,6 +108,9 @@ def folded(line, answer):
         return answer
     if word in ("frames", "breaks", "help"):
         return answer.replace(", ", "\n")
+    if word == "where":
+        text = statements(running).get(tuple(int(part) for part in answer.split()[:3]))
+        return answer + ("" if text is None else "\n  " + text)
     if word == "list":
         return "".join(part if n % 2 else part.replace("; ", "\n") for n, part in enumerate(re.split('("[^"]*")', answer)))
     if word in ("bytes", "peek"):
@@ -184,6 +206,10 @@ subprocess.run([program, "files", "--image", image, "put", "GUESS", "code"], inp
 shown, status = typed(words + ["--system", scratch.name + "/SYSTEM", "GUESS"], ["break 0 19 0\n", "go 1000\n", "where\n", "frames 2\n", "break 0 12 0\n", "quit\n"])
 told = re.findall("^(?:[0-9]+ )?0 19 0 .* ; FWRITESTRING$|^[0-9]+ 1 1 [0-9]+$", shown, re.M)
 check("the names of the system's procedures", status == 0 and len(told) == 2, shown)
+with open(scratch.name + "/SYSTEM", "rb") as code:
+    listed = subprocess.run([program, "dis", "--statements"], stdin=code, capture_output=True, check=True).stdout.decode()
+first = re.search("^PROCEDURE 19 OF SEGMENT 0:.*\n(?:\\^.*\n|L.*\n)*[0-9]{5} (.*)$", listed, re.M)
+check("a statement of the system", first and " ; FWRITESTRING\n  %s\n" % first[1] in shown, (first, shown))
 
 lines = ["console on", "go 1400000", "console 200", "console off", "go 2000000"]
 answers = piped("CHAT", lines)

@@ -157,6 +157,37 @@ show_named() {
     awk -v at="$1" -v names="$system" "$named"
 }
 
+# Takes from the words of `debug` where the code of the program and that of the system stand.
+note() {
+    option='' image='' form=blocks own='' file=''
+    for word; do
+        case $option$word in
+            --d4=*) image=${word#--d4=} ;;
+            --form=*) form=${word#--form=} ;;
+            --system=*) own=${word#--system=} ;;
+            --file=*) file=$word ;;
+            --*=*) ;;
+            --) option=--file= && continue ;;
+            -*) option=$word= && continue ;;
+            *) file=$word ;;
+        esac
+        option=''
+    done
+}
+
+# Shows the statement that begins at a segment, a procedure and an offset, if one does there, as `dis --statements` has it,
+# where the first of a procedure has its offset in the segment.
+statement='/^PROCEDURE/ { stands = ($2 == p && $5 == s ":"); entry = "" }
+stands && /^[0-9]/ && entry == "" { entry = $1 }
+stands && /^[0-9]/ && $1 - entry == o { print "  " substr($0, 7); exit }'
+show_statement() {
+    if [ "$1" = 0 ] && [ -n "$own" ]; then
+        "$program" dis --statements "$own"
+    else
+        "$program" dis --statements --image "$image" --form "$form" -- "$file"
+    fi 2>/dev/null | awk -v s="$1" -v p="$2" -v o="$3" "$statement"
+}
+
 # An address in decimal digits.
 number() {
     case $1 in
@@ -171,7 +202,7 @@ show() {
         bytes,??' '*) printf '%s\n' "$answer" | awk -v at="$(number "$2")" "$bytes" ;;
         peek,[0-9]*) printf '%s\n' "$answer" | awk -v at="$(number "$2")" "$words" ;;
         list,[0-9]*) printf '%s\n' "$answer" | awk "$instructions" ;;
-        where,[0-9]*) printf '%s\n' "$answer" | show_named 1 ;;
+        where,[0-9]*) printf '%s\n' "$answer" | show_named 1 && show_statement $answer ;;
         frames,[0-9]*) printf '%s\n' "$answer" | awk "$members" | show_named 2 ;;
         breaks,[0-9]* | help,[a-z]*) printf '%s\n' "$answer" | awk "$members" ;;
         *,'?') echo '?' && printf '%s\n' "$usages" | awk -v word="${1-}" "$usage" ;;
@@ -217,6 +248,7 @@ start() {
 # The debugger from its start to its end. Before the first prompt Ctrl-C ends it with 130.
 program=$1 folder='' process='' system='' interrupts=0 more=yes IFS=' '
 shift
+note "$@"
 set -f
 trap leave EXIT
 trap 'exit 129' HUP

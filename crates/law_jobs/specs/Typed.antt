@@ -1,8 +1,11 @@
 -- Texts that are typed in a session.
-use Rattle.std.specs.Prelude.{◌≡◌, codes}
+use Rattle.std.specs.Prelude.{◌≡◌, ◌==◌, ⊤, ℕ, false, List, [], ◌∷◌, ◌++◌, Ok, Some, codes}
+use Rattle.pm_machine.specs.State.{State}
 use Rattle.pm_debug.specs.Session.{Session}
 use Rattle.pm_session.specs.Orders.{order_of}
+use Rattle.pm_session.specs.Orders.Order.{Types}
 use Rattle.pm_session.specs.Answers.{answer_text, session_after}
+use Rattle.pm_tool.specs.Said.{debugged, said_debug}
 
 -- `type "AB"` leaves the session that `key 65` and then `key 66` leave, and is answered as each of these.
 pub record IsTwoKeys (d : Session) : Type 0 where
@@ -13,3 +16,15 @@ pub record IsTwoKeys (d : Session) : Type 0 where
 
 abbrev pub TypesAreKeys : Type 0
 TypesAreKeys = (d : Session) → IsTwoKeys d
+
+-- no byte of a line ends it
+abbrev pub IsOneLine : List ℕ → Type 0
+IsOneLine [] = ⊤
+IsOneLine (c ∷ line) = ((c == 10) ≡ false) × IsOneLine line
+
+-- A debugger whose first line lets bytes wait on the console answers that by `ok`, and then as one on whose console they
+-- wait from the start on.
+abbrev pub InputIsTyped : Type 0
+InputIsTyped = (typed line input : List ℕ) (machine : State) → IsOneLine line → order_of line ≡ Some (Types typed)
+    → (debugged machine (line ++ 10 ∷ input)).written
+    ≡ codes "ok" ++ 10 ∷ (said_debug typed (Ok machine) input).written

@@ -7,7 +7,7 @@ ghost use Rattle.law_jobs.specs.Breakpoints.{UnwatchTakesOne, WatchAddsOne, Watc
 ghost use Rattle.law_jobs.specs.Console.{ConsoleIsShown};
 ghost use Rattle.law_jobs.specs.OneRun.{GoesOnAsOne, NothingGoesOn};
 ghost use Rattle.law_jobs.specs.Shown.{SessionsShowTheTable};
-ghost use Rattle.law_jobs.specs.Typed.{TypesAreKeys};
+ghost use Rattle.law_jobs.specs.Typed.{InputIsTyped, TypesAreKeys};
 ghost use Rattle.pm_session.specs.declared.commands.Command.TheVariants.{Finish, Go, Step, Until};
 
 /// After any lines of a session without `quit`, the machine is as the table leaves it after the steps, the keys and the
@@ -78,4 +78,11 @@ pub fn runs_go_on()
 /// `type "AB"` leaves the session that `key 65` and then `key 66` leave, and is answered as each of these.
 pub fn a_text_is_its_keys()
     ensures law { TypesAreKeys }
+{}
+
+/// A debugger whose first line is a `type` answers that by `ok`, and then as a debugger on whose console the bytes of
+/// that text wait from the start on, as those of the file behind `--input` do.
+#[tactic(auto, using(crate::proofs::Typed::input_is_typed))]
+pub fn an_input_is_typed()
+    ensures law { InputIsTyped }
 {}

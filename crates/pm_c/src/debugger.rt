@@ -24,7 +24,7 @@ pub extern "C" fn pmach_debug(
     out: &mut [u8],
     needed: &mut usize,
 ) -> u32
-    ensures answers { Answers (said_debug (booted (on_unit_4 image.now) name.now None) input.now)
+    ensures answers { Answers (said_debug [] (booted (on_unit_4 image.now) name.now None) input.now)
         result out.old out.new needed.new }
     ensures text { (result ≡ NO_TEXT) ↔ ¬ (IsUtf8 name.now) }
 {
@@ -39,6 +39,7 @@ pub extern "C" fn pmach_debug(
         disks: [Some(image), None, None, None, None, None],
         name,
         system: None,
+        typed: Vec::new(alloc),
     };
     answer(alloc, input, job, out, needed)
 }

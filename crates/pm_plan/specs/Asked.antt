@@ -301,7 +301,8 @@ Asks command m (plans.Run program choices) =
     (command ≡ codes "run") × AsksProgram (words_of m) program × AsksChoices (words_of m) choices
 Asks command m (plans.Trace program selection) =
     (command ≡ codes "trace") × AsksProgram (words_of m) program × AsksSelection (words_of m) selection
-Asks command m (plans.Debug program) = (command ≡ codes "debug") × AsksProgram (words_of m) program
+Asks command m (plans.Debug program typed) = (command ≡ codes "debug") × AsksProgram (words_of m) program
+    × (word_found (words_of m) (codes "input") ≡ option_map string_bytes typed)
 Asks command m (plans.Salvage plan) = (command ≡ codes "files") × AsksSalvage m plan
 
 -- the command among all words, by its name, and what is found of its words

@@ -141,6 +141,10 @@ abbrev pub choices_needs : List (List ℕ × Need)
 choices_needs = (codes "system", NotSaved) ∷ (codes "save-all", NotBeside (codes "save"))
     ∷ (codes "printer", Optional) ∷ []
 
+-- what debug needs
+abbrev pub debug_needs : List (List ℕ × Need)
+debug_needs = (codes "input", Optional) ∷ program_needs
+
 -- what raw and trace need beside their limit and their program
 abbrev pub selection_needs : List (List ℕ × Need)
 selection_needs = (codes "from", Limit) ∷ (codes "segment", Segment) ∷ []
@@ -170,7 +174,7 @@ command_needs command =
     if bytes_eq command (codes "raw") then Some ((codes "limit", Limit) ∷ selection_needs)
     else (if bytes_eq command (codes "run") then Some (choices_needs ++ program_needs)
     else (if bytes_eq command (codes "trace") then Some (selection_needs ++ program_needs)
-    else (if bytes_eq command (codes "debug") then Some program_needs
+    else (if bytes_eq command (codes "debug") then Some debug_needs
     else (if bytes_eq command (codes "asm") then Some (asm_needs ++ text_files_needs)
     else (if bytes_eq command (codes "dis") then Some (dis_needs ++ text_files_needs) else None)))))
 

@@ -390,10 +390,18 @@ const TRACE: CommandRow = (
     ],
 );
 
+const INPUT: WordRow = (
+    "input",
+    Form::Free("PATH"),
+    "The file whose bytes wait on the console from the start on",
+);
+
 const DEBUG: CommandRow = (
     "debug",
     "Debugs a code file of the disk on unit 4, by the commands of standard input",
-    &[D4, D5, D9, D10, D11, D12, FORM, LIMIT, SYSTEM, PROGRAM],
+    &[
+        D4, D5, D9, D10, D11, D12, FORM, LIMIT, SYSTEM, INPUT, PROGRAM,
+    ],
 );
 
 const NAMES: WordRow = (

@@ -44,8 +44,8 @@ pub enum Plan {
     Run(Program, RunChoices),
     /// A program whose trace is written, the lines that are selected.
     Trace(Program, Selection),
-    /// A program that is debugged.
-    Debug(Program),
+    /// A program that is debugged, and the path of the file whose bytes wait on its console, where there is one.
+    Debug(Program, Option<String>),
     /// The files of an image that are saved into a new volume.
     Salvage(SalvagePlan),
 }
@@ -286,7 +286,7 @@ fn plan_by(alloc: Global, command: &str, matches: &ArgMatches<'_>) -> Result<Pla
         }),
         "run" => Ok(Plan::Run(program_of(alloc, matches)?, choices_of(alloc, matches)?)),
         "trace" => Ok(Plan::Trace(program_of(alloc, matches)?, selection_of(matches)?)),
-        "debug" => Ok(Plan::Debug(program_of(alloc, matches)?)),
+        "debug" => Ok(Plan::Debug(program_of(alloc, matches)?, given(alloc, matches, "input")?)),
         "asm" => Ok(Plan::Asm(asm_output(matches)?, text_files(alloc, matches)?)),
         "dis" => Ok(Plan::Dis(dis_output(matches)?, text_files(alloc, matches)?)),
         "files" => files_asked(alloc, matches),

@@ -276,6 +276,14 @@ known_tells job old new files program disks system outcome from is_from tells re
     known (Some input) told =
         (disks, system, subst (λ path. ReadsEach files (paths_of path (paths_in program.others)) (images_of disks)) is_from reads, given, told)
 
+-- where the input is known, the debugger's job is said of the bytes that were read
+pub known_typed : (had : Option (List ℕ)) (files : Files) (old new : Streams) (outcome : Outcome) (program : Program)
+    (path : Option (List ℕ)) (typed : Vec ℕ Global) → IsTyped files path typed.items
+    → IfSome had (λ input. TellsOf (λ disks system. jobs.Debug disks program.name system typed) files old new outcome program input)
+    → IfSome had (λ input. TellsDebug files old new outcome program path input)
+known_typed None files old new outcome program path typed is tells = tt
+known_typed (Some input) files old new outcome program path typed is tells = (typed, is, tells)
+
 -- where the input is known, the new volume is the one that is said of the image that was read
 pub known_salvage : (before after : Streams) (old held read new : Files) (plan : SalvagePlan) (image : Vec ℕ Global)
     (outcome : Outcome) (from to : List ℕ) → from ≡ string_bytes plan.path → to ≡ string_bytes plan.target

@@ -233,9 +233,15 @@ TellsTrace files old new outcome program selection input =
     TellsOf (λ disks system. jobs.Trace disks program.name program.limit system selection) files old new outcome
     program input
 
-abbrev pub TellsDebug : Files → Streams → Streams → Outcome → Program → List ℕ → Type 0
-TellsDebug files old new outcome program input =
-    TellsOf (λ disks system. jobs.Debug disks program.name system) files old new outcome program input
+-- the bytes that a path holds, or none where there is no path
+abbrev pub IsTyped : Files → Option (List ℕ) → List ℕ → Type 0
+IsTyped files None bytes = bytes ≡ []
+IsTyped files (Some path) bytes = HoldsFile files path bytes
+
+-- a debugger, on whose machine's console the bytes wait that a path holds, if there is one
+abbrev pub TellsDebug : Files → Streams → Streams → Outcome → Program → Option (List ℕ) → List ℕ → Type 0
+TellsDebug files old new outcome program path input = (typed : Vec ℕ Global) × IsTyped files path typed.items
+    × TellsOf (λ disks system. jobs.Debug disks program.name system typed) files old new outcome program input
 
 -- The files of the image that a path holds are saved: the path of the new volume keeps the one that is said of them, if
 -- one is, and nothing else has changed.

@@ -65,11 +65,6 @@ impl Terminals {
             Prompt::Once("")
         }
     }
-
-    /// Whether a line that output has begun is one of standard error too.
-    fn has_begun(self, begun: bool) -> bool {
-        begun && self.output && self.error
-    }
 }
 
 /// What is said before input is read from a terminal.
@@ -116,7 +111,7 @@ fn prompt_of(plan: &Plan) -> Prompt {
         Plan::Files(plan) if reads(&plan.verb) => Prompt::Once(
             "pmach: reads the file; Ctrl-D ends it\n",
         ),
-        Plan::Debug(_) => Prompt::EachLine("> "),
+        Plan::Debug(..) => Prompt::EachLine("> "),
         _ => Prompt::Once(""),
     }
 }
@@ -176,7 +171,9 @@ fn act<S: Store, I: Source, O: Sink>(
         Plan::Trace(program, selection) => {
             return do_trace(alloc, store, source, sink, program, selection);
         }
-        Plan::Debug(program) => return do_debug(alloc, store, source, sink, program),
+        Plan::Debug(program, typed) => {
+            return do_debug(alloc, store, source, sink, program, typed);
+        }
         Plan::Salvage(plan) => return do_salvage(alloc, store, source, sink, plan),
     };
     Ok(pm_tool::run(alloc, source, sink, job))
@@ -345,13 +342,6 @@ fn is_taken_away<S: Store>(
         || takes_away(store, printer, program, printer)
 }
 
-/// Whether a path names a file or a folder: one names the same file as itself.
-fn is_there<S: Store>(store: &S, path: &str) -> bool
-    ensures value { IfSome (S.same store.now) (λ same. result ≡ same path.now path.now) }
-{
-    store.is_same(path, path)
-}
-
 /// What is wrong with the paths of `run`, if something is.
 fn conflict<S: Store>(store: &S, program: &Program, choices: &RunChoices) -> Option<Conflict>
     ensures value { IfSome (S.same store.now) (λ same. IfSome (S.beside store.now) (λ beside.
@@ -396,7 +386,8 @@ fn conflict_in<S: Store>(store: &S, plan: &Plan) -> Option<Conflict> {
     match plan {
         Plan::Run(program, choices) => conflict(store, program, choices),
         Plan::Asm(_, files) | Plan::Dis(_, files) => text_conflict(store, files),
-        Plan::Salvage(plan) if is_there(store, plan.target.as_str()) => {
+        // What is there is the same file as itself.
+        Plan::Salvage(plan) if store.is_same(plan.target.as_str(), plan.target.as_str()) => {
             Some(Conflict::TargetIsThere)
         }
         Plan::Salvage(plan) if store.is_beside(plan.target.as_str(), plan.path.as_str()) => {
@@ -423,8 +414,9 @@ fn end_of_job(alloc: Global, disks: &Option<Disks>, outcome: Outcome) -> End {
     End::Outcome(outcome, about)
 }
 
-/// The paths of the files of a plan that are no images: that of the system's code file, and that of the printer's file;
-/// of `asm` and `dis` that of the file that is read, and that of the file that is written.
+/// The paths of the files of a plan that are no images: that of the system's code file, and that of the printer's file,
+/// of `debug` that of the file that is typed; of `asm` and `dis` that of the file that is read, and that of the file that
+/// is written.
 type OwnPaths = (Option<String>, Option<String>);
 
 /// Those of a plan.
@@ -434,8 +426,10 @@ fn own_paths(alloc: Global, plan: &Plan) -> Result<OwnPaths, AllocError> {
             let system = copy_of(alloc, &program.system)?;
             Ok((system, copy_of(alloc, &choices.printer)?))
         }
-        Plan::Trace(program, _) | Plan::Debug(program) => {
-            Ok((copy_of(alloc, &program.system)?, None))
+        Plan::Trace(program, _) => Ok((copy_of(alloc, &program.system)?, None)),
+        Plan::Debug(program, typed) => {
+            let system = copy_of(alloc, &program.system)?;
+            Ok((system, copy_of(alloc, typed)?))
         }
         Plan::Asm(_, files) | Plan::Dis(_, files) => {
             let read = match &files.input {
@@ -521,7 +515,8 @@ pub fn follow<R: Host + Input + Print + Eprint + AllocGlobal>(rt: &R, asked: Ask
     };
     Done {
         end,
-        begun: at.has_begun(lined.has_begun()),
+        // A line that output has begun is one of standard error too.
+        begun: lined.has_begun() && at.output && at.error,
         is_silent: at.error && lined.failed() == Some(Failed::Closed),
         has_system,
     }

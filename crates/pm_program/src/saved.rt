@@ -10,7 +10,7 @@ ghost use Rattle.pm_program.specs.Saved.{SavesSaid, SavesSome};
 ghost use Rattle.pm_program.specs.Saved.{PrintsIf, SaysOf, has_run, held_at, held_by, held_each, held_paths};
 ghost use Rattle.pm_program.specs.Saved.{saved_paths};
 ghost use Rattle.pm_program.specs.Saved.{takes_lock};
-ghost use Rattle.pm_program.specs.Saved.{Reads, ReadsEach, SavesRunSaid, SavesSalvage, TellsDebug, TellsTrace};
+ghost use Rattle.pm_program.specs.Saved.{IsTyped, Reads, ReadsEach, SavesRunSaid, SavesSalvage, TellsDebug, TellsTrace};
 ghost use Rattle.pm_program.specs.Saved.{paths_of};
 ghost use Rattle.pm_tool.specs.Disks.{images_of};
 
@@ -552,30 +552,50 @@ pub fn do_trace<S: Store, I: Source, O: Sink>(
     Ok(pm_tool::run(alloc, source, sink, job))
 }
 
-/// Debugs a program, by the commands of the source. No file changes. Neither stream may have failed before. Where the
-/// input is known, what is written, answered and left unread is what is said of it and of the images that the files
-/// had, each on its unit.
+/// The bytes that wait on the console from the start on: those of a file, where there is a path.
+fn typed_of<S: Store>(
+    alloc: Global,
+    store: &mut S,
+    path: &Option<String>,
+) -> Result<Vec<u8>, DiskFault>
+    ensures bytes { IfOk result (λ bytes.
+        IsTyped (S.files store.old) (option_map string_bytes path.now) bytes.items) }
+    ensures stays { S.files store.new ≡ S.files store.old }
+    ensures held { S.held store.new ≡ S.held store.old }
+{
+    match path {
+        Some(path) => store.read(alloc, path.as_str()),
+        None => Ok(Vec::new(alloc)),
+    }
+}
+
+/// Debugs a program, by the commands of the source; the bytes of a file wait on its console, where there is a path. No
+/// file changes. Neither stream may have failed before. Where the input is known, what is written, answered and left
+/// unread is what is said of it, of these bytes and of the images that the files had, each on its unit.
 pub fn do_debug<S: Store, I: Source, O: Sink>(
     alloc: Global,
     store: &mut S,
     source: &mut I,
     sink: &mut O,
     program: Program,
+    typed: Option<String>,
 ) -> Result<Outcome, DiskFault>
     requires well { AreWell (both (I.seen source.old) (O.seen sink.old)) }
     ensures stays { S.files store.new ≡ S.files store.old }
     ensures held { S.held store.new ≡ S.held store.old }
     ensures said { IfOk result (λ outcome. IsSoundExit outcome.exit → IfSome (I.seen source.old).remaining (λ input.
         TellsDebug (S.files store.old) (both (I.seen source.old) (O.seen sink.old))
-        (both (I.seen source.new) (O.seen sink.new)) outcome program input)) }
+        (both (I.seen source.new) (O.seen sink.new)) outcome program (option_map string_bytes typed) input)) }
 {
     let disk = program.disk.as_str();
     let (disks, system) = inputs(alloc, store, disk, &program.others, &program.system)?;
+    let typed = typed_of(alloc, store, &typed)?;
     let Program { name, .. } = program;
     let job = Job::Debug {
         disks,
         name,
         system,
+        typed,
     };
     Ok(pm_tool::run(alloc, source, sink, job))
 }

@@ -6,7 +6,16 @@ ghost use Rattle.pm_program.specs.Saved.{held_at};
 ghost use Rattle.pm_filer.specs.Filed.{order_of};
 ghost use Rattle.pm_files.specs.Held.{Saves};
 ghost use Rattle.pm_program.specs.Texts.{
-    Comes, Delivers, DeliversOf, IsGot, LeavesInput, LeavesOutput, SavesText, getting, reads_text, written_by
+  Comes,
+  Delivers,
+  DeliversOf,
+  IsGot,
+  LeavesInput,
+  LeavesOutput,
+  SavesText,
+  getting,
+  reads_text,
+  written_by,
 };
 
 use pm_filer::FileCommand;
@@ -101,13 +110,6 @@ pub(crate) enum Got {
     Nothing(Outcome),
 }
 
-/// Whether a job reads a text, and no code file.
-fn reads_text(job: &Job) -> bool
-    ensures text { result ≡ reads_text job.now }
-{
-    matches!(job, Job::Asm(_))
-}
-
 /// The command that gets the text of a file, or its bytes.
 fn getting(is_text: bool, name: String) -> FileCommand
     ensures order { order_of result ≡ getting is_text (string_bytes name) }
@@ -168,10 +170,10 @@ fn deliver_bytes<S: Store, O: Sink>(
 
 /// Does a job on standard input, on a file in its place, or on a file of a volume, its text or its bytes as the job
 /// reads; and with a file in the place of the sink, where there is one, which is held. Where the job ends well, and a
-/// file is in the place of the sink, it has all that is written, and no other file has changed; else none has, nor where
-/// one cannot be read, held or written. Neither stream may have failed before. What is written is what is said of the
-/// bytes that are read; where the file of a volume is refused, that is answered, and nothing is held or written. Of a
-/// stream in whose place a file stands nothing is read, and nothing is written to it.
+/// file is in the place of the sink, it has all that is written, and no other file has changed; else none has, nor
+/// where one cannot be read, held or written. Neither stream may have failed before. What is written is what is said of
+/// the bytes that are read; where the file of a volume is refused, that is answered, and nothing is held or written. Of
+/// a stream in whose place a file stands nothing is read, and nothing is written to it.
 pub fn do_text<S: Store, I: Source, O: Sink>(
     alloc: Global,
     store: &mut S,
@@ -197,7 +199,8 @@ pub fn do_text<S: Store, I: Source, O: Sink>(
         TextInput::Standard => return deliver(alloc, store, source, sink, &output, job),
         TextInput::File(path) => store.read(alloc, path.as_str())?,
         TextInput::OnImage { image, name } => {
-            match get_file(alloc, store, image.as_str(), reads_text(&job), name)? {
+            let is_text = matches!(job, Job::Asm(_));
+            match get_file(alloc, store, image.as_str(), is_text, name)? {
                 Got::Bytes(bytes) => bytes,
                 Got::Nothing(outcome) => return Ok(outcome),
             }

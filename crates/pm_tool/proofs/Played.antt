@@ -135,7 +135,7 @@ talk_refused (talks.Run show limit) old start refusal outcome e out =
     subst (λ s. Finishes old old outcome (said_started show limit s)) e
     (done_unread old old refl (said_started show limit (Err refusal)) outcome (λ input. (Appends-nil old.sink.contents, out input, refl))
     (subst IsSoundExit (sym (out []).exit) refl))
-talk_refused talks.Session old start refusal outcome e out =
-    subst (λ s. Finishes old old outcome (said_debug s)) e
-    (done_unread old old refl (said_debug (Err refusal)) outcome (λ input. (Appends-nil old.sink.contents, out input, refl))
+talk_refused (talks.Session typed) old start refusal outcome e out =
+    subst (λ s. Finishes old old outcome (said_debug typed.items s)) e
+    (done_unread old old refl (said_debug typed.items (Err refusal)) outcome (λ input. (Appends-nil old.sink.contents, out input, refl))
     (subst IsSoundExit (sym (out []).exit) refl))

@@ -1,10 +1,14 @@
 -- How a session that is written as it goes goes on by one byte, and how it ends.
 use Rattle.std.proofs.Common.{◌≡◌, ℕ, ◌+◌, ◌<◌, ◌≤◌, List, [], ◌∷◌, ◌++◌, Option, None, Some, Result, Ok, Bool}
 use Rattle.std.proofs.Common.{true, false, length, refl, sym, ap, ◌∙◌, append_assoc, append-nil, inl, inr, arith, subst}
-use Rattle.std.proofs.lemmas.List.{length-append}
+use Rattle.std.proofs.Common.{Vec, drop, get_or, suc}
+use Rattle.std.specs.declared.alloc.Global.{Global}
+use Rattle.std.proofs.lemmas.List.{drop_all, length-append}
+use Rattle.std.proofs.Math.Seq.{drop-cons}
 use Rattle.std.specs.Prelude.{◌==◌}
 use Rattle.std.specs.Io.KnownBytes.{Consumes, Appends, Keeps, IsAtEnd}
 use Rattle.std.proofs.KnownBytes.{Consumes-trans, Consumes-nil, Consumes-kept, Appends-trans, Appends-nil}
+use Rattle.pm_machine.specs.Events.{Key, next}
 use Rattle.pm_machine.specs.State.{State}
 use Rattle.pm_debug.specs.Runs.Left.{Nothing}
 use Rattle.pm_debug.specs.Session.{Session}
@@ -17,7 +21,9 @@ use Rattle.pm_batch.specs.declared.refusal.Refusal.{Refusal}
 use Rattle.pm_streams.specs.declared.source.TheConstants.{INPUT_LIMIT}
 use Rattle.pm_session.specs.Answers.{session_after}
 use Rattle.pm_tool.specs.Outcomes.{IsOutcome, no_others}
-use Rattle.pm_tool.specs.Said.{BreaksOff, Finishes, IsSoundExit, WritesFirst, debugged, said_debug}
+use Rattle.pm_tool.specs.Said.{BreaksOff, Finishes, IsSoundExit, WritesFirst, debugged, said_debug, said_talk, typed_into}
+use Rattle.pm_tool.specs.declared.talk.Talk.{Talk}
+use Rattle.pm_tool.specs.declared.talk.Talk.TheVariants as talks
 use Rattle.pm_session.specs.Sessions.{Told, answer_line, is_quit, opened, told, whole_lines}
 use Rattle.pm_streams.specs.Streams.{Incoming, Outgoing, Streams, both, IsFront, AppendsFront, IsCause, ReadsByte, TakesNone}
 use Rattle.pm_tool.specs.Talks.{IsAnswered, IsInterrupted}
@@ -301,15 +307,22 @@ opened_is d machine a b w l s =
     ∙ ap (λ left. record (opened machine) { left = left; shows_console = d.shows_console }) l
     ∙ ap (λ shows. record (opened machine) { shows_console = shows }) s
 
-pub debug_done : (old new : Streams) (start : Result State Refusal) (m : State) (outcome : Outcome) → Ok m ≡ start
-    → Finishes old new outcome (debugged m) → Finishes old new outcome (said_debug start)
-debug_done old new start m outcome e d = subst (λ s. Finishes old new outcome (said_debug s)) e d
+-- a session over the machine that starts, with the bytes that wait, is what is said of it
+pub session_said : (talk : Talk) (start : Result State Refusal) (typed : Vec ℕ Global) (m n : State)
+    → talk ≡ talks.Session typed → Ok m ≡ start → n ≡ typed_into typed.items m → debugged n ≡ said_talk talk start
+session_said talk start typed m n t e k =
+    ap debugged k ∙ ap (λ s. said_debug typed.items s) e ∙ ap (λ t. said_talk t start) (sym t)
 
-pub debug_broken : (old new : Streams) (start : Result State Refusal) (m : State) (fault : Fault) → Ok m ≡ start
-    → BreaksOff old new fault (debugged m) → BreaksOff old new fault (said_debug start)
-debug_broken old new start m fault e b = subst (λ s. BreaksOff old new fault (said_debug s)) e b
+-- ---- bytes that wait from the start on
 
-pub debug_first : (old new : Streams) (start : Result State Refusal) (m : State) → Ok m ≡ start
-    → WritesFirst old new (λ read. (debugged m (whole_lines read)).written)
-    → WritesFirst old new (λ read. (said_debug start (whole_lines read)).written)
-debug_first old new start m e w = subst (λ s. WritesFirst old new (λ read. (said_debug s (whole_lines read)).written)) e w
+-- one more of them waits
+pub typed_more : (bytes : List ℕ) (i : ℕ) (m n : State) → i < length bytes → n ≡ next m (Key (get_or bytes i 0))
+    → typed_into (drop i bytes) m ≡ typed_into (drop (i + 1) bytes) n
+typed_more bytes i m n inside e =
+    let one : suc i ≡ i + 1 = omega arith in
+    ap (λ bs. typed_into bs m) (drop-cons bytes i 0 inside ∙ ap (λ j. get_or bytes i 0 ∷ drop j bytes) one)
+    ∙ ap (typed_into (drop (i + 1) bytes)) (sym e)
+
+-- none is left
+pub typed_over : (bytes : List ℕ) (i : ℕ) (m : State) → length bytes ≤ i → typed_into (drop i bytes) m ≡ m
+typed_over bytes i m over = ap (λ bs. typed_into bs m) (drop_all i bytes over)

@@ -2,6 +2,7 @@
 use Rattle.std.specs.Prelude.{◌≡◌, ◌⊎◌, ◌↔◌, true, false, ◌≤◌, ℕ, ◌+◌, ◌<◌, List, [], ◌∷◌, ◌++◌, Some}
 use Rattle.std.specs.Prelude.{None, Option, Result, Ok, Err, length, IfSome}
 use Rattle.std.specs.Io.KnownBytes.{Consumes, Appends, Keeps}
+use Rattle.pm_machine.specs.Events.{Key, next}
 use Rattle.pm_machine.specs.State.{State}
 use Rattle.pm_choices.specs.declared.saving.Saving.{Saving}
 use Rattle.pm_choices.specs.declared.saving.Saving.TheVariants as savings
@@ -102,15 +103,20 @@ debugged machine input = record {
   stopped = None;
 }
 
--- the session over the machine that starts, or the refusal
-abbrev pub said_debug : Result State Refusal → List ℕ → Said
-said_debug (Ok machine) input = debugged machine input
-said_debug (Err refusal) input = refused refusal input
+-- a machine on whose console these bytes wait too
+abbrev pub typed_into : List ℕ → State → State
+typed_into [] machine = machine
+typed_into (b ∷ bytes) machine = typed_into bytes (next machine (Key b))
+
+-- the session over the machine that starts, on whose console bytes wait, or the refusal
+abbrev pub said_debug : List ℕ → Result State Refusal → List ℕ → Said
+said_debug typed (Ok machine) input = debugged (typed_into typed machine) input
+said_debug typed (Err refusal) input = refused refusal input
 
 -- a machine that starts, or none, and how it is talked with
 abbrev pub said_talk : Talk → Result State Refusal → List ℕ → Said
 said_talk (talks.Run show limit) start input = said_started show limit start input
-said_talk talks.Session start input = said_debug start input
+said_talk (talks.Session typed) start input = said_debug typed.items start input
 
 -- What is said to all of the input. A program that the input spells has no console bytes; to a program of a disk the
 -- input is its console's, and to a debugger it is its commands.
@@ -131,7 +137,7 @@ shown_started show limit (Err refusal) input = []
 -- all that is shown when these bytes were read and one more is wanted
 abbrev pub shown_talk : Talk → Result State Refusal → List ℕ → List ℕ
 shown_talk (talks.Run show limit) start read = shown_started show limit start read
-shown_talk talks.Session start read = (said_debug start (whole_lines read)).written
+shown_talk (talks.Session typed) start read = (said_debug typed.items start (whole_lines read)).written
 
 -- ---- keeping to it
 

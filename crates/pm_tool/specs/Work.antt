@@ -16,7 +16,7 @@ work_of (jobs.Run disks name limit saving system) =
     works.Talk (starts.Booted disks name system) (talks.Run (Console saving) limit)
 work_of (jobs.Trace disks name limit system selection) =
     works.Talk (starts.Booted disks name system) (talks.Run (Trace selection) limit)
-work_of (jobs.Debug disks name system) = works.Talk (starts.Booted disks name system) talks.Session
+work_of (jobs.Debug disks name system typed) = works.Talk (starts.Booted disks name system) (talks.Session typed)
 work_of (jobs.Asm what) = works.Batch (batches.Asm what)
 work_of (jobs.Dis what) = works.Batch (batches.Dis what)
 work_of (jobs.Files image command) = works.Batch (batches.Files (opened_image image.items) command)

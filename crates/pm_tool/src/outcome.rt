@@ -52,11 +52,13 @@ pub enum Job {
     },
     /// A debugger of the same program, which is not run by itself: each line of the input is a command, and is answered
     /// by one line, before the next is read. The session ends behind the line of `quit`, or with the input, and the job
-    /// then ends well, whatever the machine did. The console's bytes are not shown, and none of the input is its.
+    /// then ends well, whatever the machine did. The console's bytes are not shown, and none of the input is its: the
+    /// bytes of `typed` wait on it from the start on.
     Debug {
         disks: [Option<Vec<u8>>; 6],
         name: String,
         system: Option<Vec<u8>>,
+        typed: Vec<u8>,
     },
     /// The input is a text of the assembler, each byte above 127 being character 127. The output is one of four:
     ///

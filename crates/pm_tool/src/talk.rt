@@ -8,7 +8,8 @@ ghost use Rattle.pm_tool.specs.Disks.{NamesFile, machine_at, images_of};
 ghost use Rattle.pm_tool.specs.Outcomes.{IsOutcome, SaysWhy};
 ghost use Rattle.pm_tool.specs.Run.{end_text, ended_run};
 ghost use Rattle.pm_tool.specs.Said.{BreaksOff, Finishes, WritesInTime, first_kept, others_in, others_kept};
-ghost use Rattle.pm_tool.specs.Said.{run_said, said_run, said_talk, shown_talk};
+ghost use Rattle.pm_session.specs.Sessions.{whole_lines};
+ghost use Rattle.pm_tool.specs.Said.{debugged, run_said, said_run, said_talk, shown_talk, typed_into};
 ghost use Rattle.pm_streams.specs.Streams.{AppendsFront, AreWell, IsCause, IsCounted, both};
 
 use crate::debug::converse;
@@ -26,12 +27,12 @@ use pm_volume::Disk;
 use std::alloc::{AllocError, Global};
 
 /// How a machine is talked with.
-#[derive(Clone, Copy)]
+#[derive(Drop)]
 pub(crate) enum Talk {
     /// It runs, for at most so many steps. The input is its console's.
     Run { show: Show, limit: u64 },
-    /// A debugger answers each line of the input.
-    Session,
+    /// A debugger answers each line of the input. These bytes wait on the machine's console.
+    Session { typed: Vec<u8> },
 }
 
 /// Takes away the image of the disk on a unit, where there is one.
@@ -171,6 +172,16 @@ fn do_run<R: Source, W: Sink>(
     Ok(outcome)
 }
 
+/// Lets bytes wait on a machine's console, one behind the other.
+fn type_into(machine: &mut Machine, bytes: &[u8]) -> Result<(), AllocError>
+    ensures typed { OnOk result (machine.new.state ≡ typed_into bytes.now machine.old.state) }
+{
+    for byte in bytes {
+        machine.key(*byte)?;
+    }
+    Ok(())
+}
+
 /// Lets a debugger of a machine answer the lines of the input.
 fn do_session<R: Source, W: Sink>(
     alloc: Global,
@@ -180,13 +191,13 @@ fn do_session<R: Source, W: Sink>(
 ) -> Result<Outcome, Fault>
     requires well { AreWell (both (R.seen source.old) (W.seen sink.old)) }
     ensures done { IfOk result (λ outcome. Finishes (both (R.seen source.old) (W.seen sink.old))
-        (both (R.seen source.new) (W.seen sink.new)) outcome (said_talk Talk.Session (Ok machine.state))) }
+        (both (R.seen source.new) (W.seen sink.new)) outcome (debugged machine.state)) }
     ensures told { IfOk result SaysWhy }
     ensures well { OnOk result (AreWell (both (R.seen source.new) (W.seen sink.new))) }
     ensures broken { IfErr result (λ fault. BreaksOff (both (R.seen source.old) (W.seen sink.old))
-        (both (R.seen source.new) (W.seen sink.new)) fault (said_talk Talk.Session (Ok machine.state))) }
+        (both (R.seen source.new) (W.seen sink.new)) fault (debugged machine.state)) }
     ensures prompt { OnErr result (WritesInTime (both (R.seen source.old) (W.seen sink.old))
-        (both (R.seen source.new) (W.seen sink.new)) (shown_talk Talk.Session (Ok machine.state))) }
+        (both (R.seen source.new) (W.seen sink.new)) (λ read. (debugged machine.state (whole_lines read)).written)) }
     ensures counts { IsCounted (R.seen source.old) (R.seen source.new) result }
     ensures accepted { IfOk result (λ outcome. outcome.refusal ≡ None) }
 {
@@ -221,6 +232,9 @@ pub(crate) fn do_talk<R: Source, W: Sink>(
     };
     match talk {
         Talk::Run { show, limit } => do_run(alloc, source, sink, &mut machine, show, limit),
-        Talk::Session => do_session(alloc, source, sink, machine),
+        Talk::Session { typed } => {
+            type_into(&mut machine, &typed)?;
+            do_session(alloc, source, sink, machine)
+        }
     }
 }

@@ -70,7 +70,8 @@ pub(crate) fn work_of(job: Job) -> Work
             disks,
             name,
             system,
-        } => talk(disks, name, system, Talk::Session),
+            typed,
+        } => talk(disks, name, system, Talk::Session { typed }),
         Job::Asm(what) => Work::Batch(Batch::Asm(what)),
         Job::Dis(what) => Work::Batch(Batch::Dis(what)),
         Job::Files { image, command } => {

@@ -121,6 +121,7 @@ impl Program {
             disks: disks(alloc, case, &self.work)?,
             name: name(alloc, case.value("name").unwrap_or("P"))?,
             system: self.system(alloc)?,
+            typed: Vec::new(alloc),
         };
         let mut typed = Vec::new(alloc);
         for line in case.lines.iter() {

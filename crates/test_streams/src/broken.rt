@@ -113,6 +113,7 @@ impl Tried {
                 disks,
                 name,
                 system: None,
+                typed: Vec::new(alloc),
             },
         })
     }

@@ -177,6 +177,7 @@ fn of_sessions(rt: HostRuntime) {
         disks: disks(&rt, alloc, 2, 28, &LETTERS),
         name: text(&rt, alloc, "P"),
         system: None,
+        typed: Vec::new(alloc),
     };
     tells(&rt, alloc, job, b"quit\nstack 1\n", (0, "", "", 8));
 }

@@ -14,3 +14,4 @@ pub mod SavedNames
 pub mod SavedFiles
 pub mod SalvagedFiles
 pub mod KindLaws
+pub mod FittingLaws

@@ -9,7 +9,7 @@ use Rattle.std.specs.List.{All, list_any, position_from, remove}
 use Rattle.std.specs.Prelude.{slice_get}
 use Rattle.pm_volume.specs.Changes.{files_beside, is_named_beside, slot_named, slot_numbered, slot_to_rename, with_name, without_file}
 use Rattle.pm_volume.specs.Copies.{mirrored}
-use Rattle.pm_volume.specs.Directory.{directory_of, entries_from, entry_in, file_count}
+use Rattle.pm_volume.specs.Directory.{IsVolume, directory_of, entries_from, entry_in, file_count}
 use Rattle.pm_volume.specs.Files.{file_bytes, files_of, is_named}
 use Rattle.pm_volume.specs.Stays.{FileStays}
 use Rattle.pm_volume.specs.Made.{file_removed, renamed, slot_removed, slot_renamed}
@@ -119,18 +119,34 @@ module _ (image : List ℕ) (before after : List Entry) (e : Entry) (files : fil
       let at : 1 + length before ≡ length before + 1 = omega arith in
       ap (position_from (is_named name) 1) files ∙ first_at (is_named name) 1 before e after none here ∙ ap Some at
 
-pub removal_takes_one : RemovalTakesOne
-unfolding filed slot_removed
-removal_takes_one image before after e v files =
+-- a slot is emptied
+pub record TakesOne (image : List ℕ) (before after : List Entry) : Type 0 where
+  pub new : List ℕ
+  pub made : slot_removed image (length before + 1) ≡ Ok new
+  pub volume : IsVolume new
+  pub files : files_of new ≡ before ++ after
+  pub bytes : HaveBytesOf image new (before ++ after)
+
+pub takes_one : (image : List ℕ) (before after : List Entry) (e : Entry) → IsVolume image → files_of image ≡ before ++ e ∷ after
+    → TakesOne image before after
+unfolding slot_removed
+takes_one image before after e v files =
     let c = Changed-removed image v (length before + 1) (omega arith) (last image before after e files) in
     let stay = bytes_stay image (mirrored (without_file image (length before + 1))) (files_of image) c.stay in
     let split = rw files at stay in
     record {
       new = mirrored (without_file image (length before + 1));
-      done = rw (numbered image before after e files) refl;
+      made = rw (numbered image before after e files) refl;
+      volume = c.volume;
       files = c.files ∙ rw (files, place image before after e files) (removed_at_seam before e after);
       bytes = all_beside (λ x. file_bytes (mirrored (without_file image (length before + 1))) x ≡ file_bytes image x) before e after split;
     }
+
+pub removal_takes_one : RemovalTakesOne
+unfolding filed
+removal_takes_one image before after e v files =
+    let t = takes_one image before after e v files in
+    record { new = t.new; done = rw t.made refl; files = t.files; bytes = t.bytes }
 
 pub change_names_one : ChangeNamesOne
 unfolding filed slot_renamed

@@ -5,3 +5,4 @@ pub mod CheckLaws
 pub mod SystemLaws
 pub mod SalvageLaws
 pub mod Kinds
+pub mod Fitting

@@ -1,5 +1,11 @@
 //! What a removal and another name by the slot make of the list of files.
 
+ghost use Rattle.law_disks.specs.Fitting.{
+  EqualsIsAnything,
+  PatternIsName,
+  RemovalLeavesUnfit,
+  UnfitIsRefused,
+};
 ghost use Rattle.law_disks.specs.Slots.{
   ChangeNamesOne,
   EmptySlotsAreRefused,
@@ -34,4 +40,18 @@ pub fn empty_slots_are_refused()
 /// What a name does is what the slot of the first file of that name does.
 pub fn names_are_slots()
     ensures law { NamesAreSlots }
+{}
+
+/// A pattern with `=` fits the names that are what stands before its first `=`, anything, and what stands behind that,
+/// whatever the case; a pattern without one fits the names that are the same.
+pub fn equals_is_anything()
+    ensures law { EqualsIsAnything }
+    ensures name { PatternIsName }
+{}
+
+/// Where the files that fit a pattern are removed, those that do not are left, in their order and with the bytes that
+/// they had; where none fits, it is refused as a name that is not there.
+pub fn removal_leaves_unfit()
+    ensures law { RemovalLeavesUnfit }
+    ensures refused { UnfitIsRefused }
 {}

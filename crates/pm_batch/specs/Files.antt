@@ -6,6 +6,7 @@ use Rattle.pm_volume.specs.declared.fault.VolumeFault.{VolumeFault}
 use Rattle.pm_filer.specs.Filed.{Answer, Lines, Bytes, Done, Order, ListFiles, Get, Put, Remove, Change}
 use Rattle.pm_filer.specs.Filed.{GetText, PutText, Krunch, Date, Zero, Duplicate, Single, Filed, filed}
 use Rattle.pm_filer.specs.Filed.{GetSlot, GetTextSlot, RemoveSlot, ChangeSlot, Kind, KindSlot, Copy, CopySlot}
+use Rattle.pm_filer.specs.Filed.{ListAll, ListFitting, RemoveFitting}
 use Rattle.pm_filer.specs.declared.fault.FilerFault.{FilerFault}
 use Rattle.pm_check.specs.Checked.{check_text}
 use Rattle.pm_check.specs.Saving as saving
@@ -54,6 +55,9 @@ takes_input (Kind name kind) = false
 takes_input (KindSlot slot kind) = false
 takes_input (Copy name from) = true
 takes_input (CopySlot slot name from) = true
+takes_input ListAll = false
+takes_input (ListFitting pattern) = false
+takes_input (RemoveFitting pattern) = false
 
 -- the command with the input's bytes in the place of its own
 abbrev pub with_input : Order → List ℕ → Order
@@ -77,6 +81,9 @@ with_input (Kind name kind) input = Kind name kind
 with_input (KindSlot slot kind) input = KindSlot slot kind
 with_input (Copy name from) input = Copy name input
 with_input (CopySlot slot name from) input = CopySlot slot name input
+with_input ListAll input = ListAll
+with_input (ListFitting pattern) input = ListFitting pattern
+with_input (RemoveFitting pattern) input = RemoveFitting pattern
 
 -- a command, with the input's bytes where it takes them, on the volume that an image is
 abbrev pub made_file : Result (List ℕ) VolumeFault → Order → List ℕ → Product

@@ -2,3 +2,4 @@ pub mod Widths
 pub mod Columns
 pub mod Made
 pub mod SlotLaws
+pub mod FittingLaws

@@ -18,6 +18,11 @@ slot_at image (suc before) place r is at =
     let same : before ≡ place = omega (arith, is) in
     rw same (sym (same_option r) ∙ at)
 
+-- what stands at a place of the list of files
+pub file_at : (image : List ℕ) (place n : ℕ) (r : Option Entry) → n ≡ place → option_map (λ e. e) r ≡ slice_get (files_of image) n
+    → r ≡ slice_get (files_of image) place
+file_at image place n r same at = rw (← same) (sym (same_option r) ∙ at)
+
 behind : (before after : List Entry) (e : Entry) → slice_get (before ++ e ∷ after) (length before) ≡ Some e
 behind [] after e = refl
 behind (x ∷ before) after e = behind before after e

@@ -19,7 +19,11 @@ filled padding width numeral e =
     let none : padding - padding ≡ 0 = omega arith in
     rw (none, append-nil, repeat_space, e) refl
 
--- what `{n:3}`, `{n:4}` and `{n:5}` write
+-- what `{n:2}`, `{n:3}`, `{n:4}` and `{n:5}` write
+pub right_in_two : (n : ℕ) → padded_integral (format_spec 32 0 0 2 (2 ^ 64 - 1)) false [] (decimal n) ≡ at_right 2 n
+unfolding padded_integral at_right spaces char_count
+right_in_two n = simp append-nil (filled (2 - length (decimal n) - 0 - 0) (2 - length (decimal n)) (decimal n) (omega arith))
+
 pub right_in_three : (n : ℕ) → padded_integral (format_spec 32 0 0 3 (2 ^ 64 - 1)) false [] (decimal n) ≡ at_right 3 n
 unfolding padded_integral at_right spaces char_count
 right_in_three n = simp append-nil (filled (3 - length (decimal n) - 0 - 0) (3 - length (decimal n)) (decimal n) (omega arith))

@@ -24,7 +24,8 @@ use Rattle.pm_filer.specs.declared.command.Reply.{Reply}
 use Rattle.pm_filer.specs.declared.command.Reply.TheVariants as replies
 use Rattle.pm_filer.specs.declared.fault.FilerFault.{FilerFault}
 use Rattle.pm_filer.specs.declared.fault.FilerFault.TheVariants as faults
-use Rattle.pm_filer.specs.Listing.{list_text}
+use Rattle.pm_filer.specs.Fitting.{fitting_removed}
+use Rattle.pm_filer.specs.Listing.{fitting_list_text, full_list_text, list_text}
 
 abbrev pub filer_number : FilerFault → ℕ
 filer_number (faults.Volume fault) = 1
@@ -61,6 +62,9 @@ pub data Order : Type 0 where
   KindSlot : ℕ → ℕ → Order
   Copy : List ℕ → List ℕ → Order
   CopySlot : ℕ → List ℕ → List ℕ → Order
+  ListAll : Order
+  ListFitting : List ℕ → Order
+  RemoveFitting : List ℕ → Order
 
 abbrev pub order_of : FileCommand → Order
 order_of commands.List = ListFiles
@@ -83,6 +87,9 @@ order_of (commands.Kind name kind) = Kind (string_bytes name) kind
 order_of (commands.KindSlot slot kind) = KindSlot slot kind
 order_of (commands.Copy name image) = Copy (string_bytes name) image.items
 order_of (commands.CopySlot slot name image) = CopySlot slot (string_bytes name) image.items
+order_of commands.ListAll = ListAll
+order_of (commands.ListFitting pattern) = ListFitting (string_bytes pattern)
+order_of (commands.RemoveFitting pattern) = RemoveFitting (string_bytes pattern)
 
 -- what a command answers, by its bytes
 pub data Answer : Type 0 where
@@ -171,6 +178,9 @@ filed image (KindSlot slot kind) = changed (slot_kind_set image slot kind)
 filed image (Copy name from) = changed (copied_from image name from (file_named from name) (image_fault from))
 filed image (CopySlot slot name from) =
     changed (copied_from image name from (file_in_slot from slot) (image_fault from))
+filed image ListAll = Ok (record { image = image; answer = Lines (full_list_text image) })
+filed image (ListFitting pattern) = Ok (record { image = image; answer = Lines (fitting_list_text image pattern) })
+filed image (RemoveFitting pattern) = changed (fitting_removed image pattern)
 
 -- a command may answer want of memory: one that gives bytes or text, where nothing else is wrong; and one that puts a
 -- text, whose file is made before anything is looked at
@@ -195,3 +205,6 @@ MayWantMemory (Kind name kind) outcome = ⊥
 MayWantMemory (KindSlot slot kind) outcome = ⊥
 MayWantMemory (Copy name from) outcome = ⊥
 MayWantMemory (CopySlot slot name from) outcome = ⊥
+MayWantMemory ListAll outcome = IsOk outcome
+MayWantMemory (ListFitting pattern) outcome = IsOk outcome
+MayWantMemory (RemoveFitting pattern) outcome = ⊥

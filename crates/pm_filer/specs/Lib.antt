@@ -1,3 +1,4 @@
+pub mod Fitting
 pub mod Listing
 pub mod Filed
 pub mod Laws

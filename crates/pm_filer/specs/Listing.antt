@@ -1,16 +1,18 @@
 -- The list of a volume's files, as text.
-use Rattle.std.specs.Prelude.{ℕ, ◌-◌, ◌==◌, ◌&&◌, nat_le, List, [], ◌∷◌, ◌++◌, length, replicate, map, codes, Option}
+use Rattle.std.specs.Prelude.{ℕ, ◌+◌, ◌-◌, ◌==◌, ◌&&◌, nat_le, nat_lt, List, [], ◌∷◌, ◌++◌, length, replicate, map, codes, Option}
 use Rattle.std.specs.Prelude.{Some, None, if◌then◌else◌}
 use Rattle.std.specs.Fmt.{decimal}
 use Rattle.std.specs.List.{flat_map}
 unfoldable pub use Rattle.pm_bytes.specs.Decimals.{padded}
 use Rattle.pm_volume.specs.Dates.{date_of}
+use Rattle.pm_volume.specs.Directory.{block_count, directory_of, files_begin}
 use Rattle.pm_volume.specs.Files.{files_of}
 use Rattle.pm_volume.specs.Names.{characters_of}
 use Rattle.pm_volume.specs.Space.{free_blocks, largest_gap, volume_name}
 use Rattle.pm_volume.specs.declared.entry.Entry.{Entry}
 use Rattle.pm_volume.specs.declared.kinds.TheConstants.{BAD_BLOCKS, CODE, DATA, FOTO, GRAF, INFO, SECURE, TEXT, UNTYPED}
 use Rattle.pm_volume.specs.declared.fields.TheConstants.{LONGEST_NAME}
+use Rattle.pm_filer.specs.Fitting.{fitting_files}
 
 -- a byte of a name as it is shown: a question mark for one that does not print
 abbrev pub shown_byte : ℕ → ℕ
@@ -77,3 +79,47 @@ space_line image =
 unfoldable pub list_text : List ℕ → List ℕ
 list_text image =
     printable_name (volume_name image) ++ (58 ∷ 10 ∷ (flat_map file_line (files_of image) ++ space_line image))
+
+-- ---- the list of all that the directory says
+
+-- what such a line says of a file behind its name: as ever, then the number of its kind, and the slot of its entry
+unfoldable pub full_details : ℕ → Entry → List ℕ
+full_details slot e = entry_details e ++ (32 ∷ (at_right 2 e.kind ++ (32 ∷ at_right 2 slot)))
+
+unfoldable pub full_line : ℕ → Entry → List ℕ
+full_line slot e =
+    at_left LONGEST_NAME (printable_name (characters_of e.name)) ++ (32 ∷ (full_details slot e ++ 10 ∷ []))
+
+-- the line of free blocks, from one up to another, in the columns of first block and number of blocks; none of no block
+unfoldable pub gap_line : ℕ → ℕ → List ℕ
+gap_line begin end =
+    if nat_lt begin end
+    then codes "< UNUSED >           " ++ (at_right 5 begin ++ (32 ∷ (at_right 5 (end - begin) ++ 10 ∷ []))) else []
+
+-- the lines of files from a slot on, each behind that of the free blocks before it, from a block on and up to the end
+abbrev pub full_lines : ℕ → ℕ → List Entry → ℕ → List ℕ
+full_lines slot begin [] end = gap_line begin end
+full_lines slot begin (e ∷ files) end =
+    gap_line begin e.first ++ (full_line slot e ++ full_lines (slot + 1) e.end files end)
+
+-- the list with all that the directory says
+unfoldable pub full_list_text : List ℕ → List ℕ
+full_list_text image =
+    let directory = directory_of image in
+    printable_name (volume_name image) ++ (58 ∷ 10 ∷ (full_lines 1 (files_begin directory) (files_of image)
+    (block_count directory) ++ space_line image))
+
+-- ---- the list of some files
+
+-- the last line, for so many files
+unfoldable pub some_space_line : List ℕ → ℕ → List ℕ
+some_space_line image files =
+    codes "files " ++ (decimal files ++ (codes " free " ++ (decimal (free_blocks image)
+    ++ (codes " largest " ++ (decimal (largest_gap image) ++ 10 ∷ [])))))
+
+-- the list as if the files whose names fit were all, with the free blocks that there are
+unfoldable pub fitting_list_text : List ℕ → List ℕ → List ℕ
+fitting_list_text image pattern =
+    let files = fitting_files image pattern in
+    printable_name (volume_name image) ++ (58 ∷ 10 ∷ (flat_map file_line files
+    ++ some_space_line image (length files)))

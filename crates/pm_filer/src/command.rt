@@ -36,7 +36,8 @@ ghost use Rattle.pm_filer.specs.Filed.{
 };
 
 use crate::fault::FilerFault;
-use crate::listing::list_text;
+use crate::fitting::remove_fitting;
+use crate::listing::{fitting_list_text, full_list_text, list_text};
 use pm_volume::kinds::TEXT;
 use pm_volume::{Date, Entry, Volume, VolumeFault};
 use std::alloc::Global;
@@ -85,6 +86,12 @@ pub enum FileCommand {
     Copy(String, Vec<u8>),
     /// Adds the file in this slot of the volume of this image under this name, with its kind and date.
     CopySlot(u16, String, Vec<u8>),
+    /// Lists the files with the numbers of their kinds and their slots, and the free blocks between them.
+    ListAll,
+    /// Lists the files whose names fit this pattern.
+    ListFitting(String),
+    /// Removes all files whose names fit this pattern, of which there has to be one.
+    RemoveFitting(String),
 }
 
 /// What a command answers.
@@ -296,7 +303,7 @@ fn done(_changed: ()) -> Reply
 
 /// Does a command on a volume. A refused command leaves the volume as it was.
 ///
-/// Only the list, the bytes and the text of a file, and a text to be put take memory.
+/// Only a list, the bytes and the text of a file, and a text to be put take memory.
 #[tactic(auto, unfolding(crate::specs::Filed::filed), using(crate::proofs::Made::made))]
 pub fn apply(alloc: Global, volume: &mut Volume, command: FileCommand) -> Result<Reply, FilerFault>
     ensures done { IfOk result
@@ -335,6 +342,13 @@ pub fn apply(alloc: Global, volume: &mut Volume, command: FileCommand) -> Result
         FileCommand::Copy(name, image) => Ok(done(copy_named(volume, name.as_str(), image)?)),
         FileCommand::CopySlot(slot, name, image) => {
             Ok(done(copy_slot(volume, slot, name.as_str(), image)?))
+        }
+        FileCommand::ListAll => Ok(Reply::Lines(full_list_text(alloc, volume)?)),
+        FileCommand::ListFitting(pattern) => {
+            Ok(Reply::Lines(fitting_list_text(alloc, volume, pattern.as_str())?))
+        }
+        FileCommand::RemoveFitting(pattern) => {
+            Ok(done(remove_fitting(volume, pattern.as_str())?))
         }
     }
 }

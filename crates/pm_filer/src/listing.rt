@@ -1,24 +1,34 @@
 //! The list of a volume's files, as text.
-ghost use Rattle.std.specs.Prelude.{◌≡◌, ◌++◌, Some, IfOk, OnOk, string_bytes};
+ghost use Rattle.std.specs.Prelude.{◌≡◌, ◌++◌, ◌<◌, Some, IfOk, OnOk, length, string_bytes};
 ghost use Rattle.std.specs.Option.{option_map};
 ghost use Rattle.pm_filer.specs.Listing.{
   at_right,
   date_text,
   entry_details,
   file_line,
+  fitting_list_text,
+  full_details,
+  full_line,
+  full_lines,
+  full_list_text,
+  gap_line,
   kind_text,
   kind_word,
   list_text,
   shown_byte,
   printable_name,
+  some_space_line,
   space_line,
   spaces,
 };
+ghost use Rattle.pm_filer.specs.Fitting.{fitting_files};
+ghost use Rattle.pm_volume.specs.Directory.{block_count, directory_of, files_begin};
 ghost use Rattle.pm_volume.specs.Files.{files_of};
 ghost use Rattle.std.specs.List.{flat_map};
 
+use crate::fitting::is_fitting;
 use pm_volume::fields::LONGEST_NAME;
-use pm_volume::{Date, Entry, Space, Volume, kinds};
+use pm_volume::{Copies, Date, Entry, Space, Volume, kinds};
 use std::alloc::{AllocError, Global};
 use std::fmt;
 
@@ -98,6 +108,20 @@ impl fmt::Display for Three {
     fn fmt<W: fmt::Write>(&self, f: &mut fmt::Formatter<W>) -> fmt::Result {
         let n = self.0;
         write!(f, "{n:3}")
+    }
+}
+
+/// A number at the right of two characters.
+#[derive(Clone, Copy)]
+struct Two(u16);
+
+impl fmt::Display for Two {
+    ghost output = { λ n. Some (at_right 2 n.0) };
+
+    #[tactic(auto, using(crate::proofs::Widths::right_in_two))]
+    fn fmt<W: fmt::Write>(&self, f: &mut fmt::Formatter<W>) -> fmt::Result {
+        let n = self.0;
+        write!(f, "{n:2}")
     }
 }
 
@@ -197,5 +221,124 @@ pub(crate) fn list_text(alloc: Global, volume: &Volume) -> Result<String, AllocE
     writeln!(text, ":")?;
     push_files(&mut text, volume)?;
     push_space(&mut text, volume)?;
+    Ok(text)
+}
+
+/// What such a line says of a file behind its name.
+#[derive(Clone, Copy)]
+struct FullDetails(u16, Entry);
+
+impl fmt::Display for FullDetails {
+    ghost output = { λ details. Some (full_details details.0 details.1) };
+
+    #[tactic(auto, unfolding(crate::specs::Listing::full_details))]
+    fn fmt<W: fmt::Write>(&self, f: &mut fmt::Formatter<W>) -> fmt::Result {
+        let details = Details(self.1);
+        let kind = Two(u16::from(self.1.kind));
+        let slot = Two(self.0);
+        write!(f, "{details} {kind} {slot}")
+    }
+}
+
+/// Adds the line of a file with the number of its kind, and its slot.
+#[tactic(auto, unfolding(crate::specs::Listing::full_line), using(crate::proofs::Columns::shown_length))]
+fn push_full_entry(text: &mut String, slot: u16, entry: Entry) -> Result<(), AllocError>
+    ensures text { OnOk result (string_bytes text.new ≡ string_bytes text.old ++ full_line slot entry) }
+{
+    let name = entry.characters();
+    push_name(text, name)?;
+    push_spaces(text, LONGEST_NAME.saturating_sub(name.len()))?;
+    let details = FullDetails(slot, entry);
+    writeln!(text, " {details}")?;
+    Ok(())
+}
+
+/// Adds the line of free blocks, from one up to another, where there is one.
+#[tactic(auto, unfolding(crate::specs::Listing::gap_line))]
+fn push_gap(text: &mut String, begin: u16, end: u16) -> Result<(), AllocError>
+    ensures text { OnOk result (string_bytes text.new ≡ string_bytes text.old ++ gap_line begin end) }
+{
+    if begin < end {
+        let first = Five(begin);
+        let blocks = Five(end - begin);
+        writeln!(text, "< UNUSED >           {first} {blocks}")?;
+    }
+    Ok(())
+}
+
+/// The block where files begin.
+fn first_block(volume: &Volume) -> u16
+    ensures block { result ≡ files_begin (directory_of volume.now) }
+{
+    match volume.duplicate() {
+        Copies::Single => 6,
+        Copies::Same | Copies::Differs => 10,
+    }
+}
+
+/// Adds the lines of the files, each behind that of the free blocks before it, and that of those behind the last.
+fn push_all(text: &mut String, volume: &Volume) -> Result<(), AllocError>
+    ensures text { OnOk result (string_bytes text.new ≡ string_bytes text.old
+        ++ full_lines 1 (files_begin (directory_of volume.now)) (files_of volume.now)
+        (block_count (directory_of volume.now))) }
+{
+    let mut slot = 1;
+    let mut begin = first_block(volume);
+    let mut entries = volume.entries();
+    'files: while let Some(entry) = entries.next() {
+        push_gap(text, begin, entry.first)?;
+        push_full_entry(text, slot, entry)?;
+        slot += 1;
+        begin = entry.end;
+    }
+    push_gap(text, begin, volume.blocks())
+}
+
+/// The list with all that the directory says of its files: as `list_text`, but with the number of its kind and its slot
+/// behind the line of each file, and a line for each free area, with its first block and the number of its blocks.
+#[tactic(auto, unfolding(crate::specs::Listing::full_list_text))]
+pub(crate) fn full_list_text(alloc: Global, volume: &Volume) -> Result<String, AllocError>
+    ensures text { IfOk result (λ text. string_bytes text ≡ full_list_text volume.now) }
+{
+    let mut whole = String::new(alloc);
+    push_name(&mut whole, volume.name())?;
+    writeln!(whole, ":")?;
+    push_all(&mut whole, volume)?;
+    push_space(&mut whole, volume)?;
+    Ok(whole)
+}
+
+/// Adds the lines of the files whose names fit, and says how many they are.
+fn push_fitting(text: &mut String, volume: &Volume, pattern: &str) -> Result<usize, AllocError>
+    ensures text { OnOk result (string_bytes text.new ≡ string_bytes text.old
+        ++ flat_map file_line (fitting_files volume.now pattern.now)) }
+    ensures count { IfOk result (λ count. count ≡ length (fitting_files volume.now pattern.now)) }
+{
+    let mut count = 0;
+    let mut entries = volume.entries();
+    'files: while let Some(entry) = entries.next() {
+        if is_fitting(pattern, &entry) {
+            push_entry(text, entry)?;
+            count += 1;
+        }
+    }
+    Ok(count)
+}
+
+/// The list as if the files whose names fit a pattern were all, with the free blocks that there are.
+#[tactic(auto, unfolding(crate::specs::Listing::fitting_list_text, crate::specs::Listing::some_space_line))]
+pub(crate) fn fitting_list_text(
+    alloc: Global,
+    volume: &Volume,
+    pattern: &str,
+) -> Result<String, AllocError>
+    ensures text { IfOk result (λ text. string_bytes text ≡ fitting_list_text volume.now pattern.now) }
+{
+    let mut text = String::new(alloc);
+    push_name(&mut text, volume.name())?;
+    writeln!(text, ":")?;
+    let files = push_fitting(&mut text, volume, pattern)?;
+    let Space { free, largest } = volume.space();
+    writeln!(text, "files {files} free {free} largest {largest}")?;
     Ok(text)
 }

@@ -10,6 +10,7 @@ use Rattle.clap.specs.declared.parser.matches.ArgMatches.{ArgMatches}
 use Rattle.pm_filer.specs.Filed.{Order, ListFiles, Get, Put, Remove, Change, GetText}
 use Rattle.pm_filer.specs.Filed.{PutText, Krunch, Date, Zero, Duplicate, Single, GetSlot, GetTextSlot}
 use Rattle.pm_filer.specs.Filed.{RemoveSlot, ChangeSlot, Kind, KindSlot, Copy, CopySlot, order_of}
+use Rattle.pm_filer.specs.Filed.{ListAll, ListFitting, RemoveFitting}
 use Rattle.pm_filer.specs.Listing.{kind_word}
 use Rattle.pm_choices.specs.declared.output.AsmOutput.{AsmOutput}
 use Rattle.pm_choices.specs.declared.output.AsmOutput.TheVariants as asm
@@ -153,15 +154,32 @@ abbrev pub AsksEither : List ℕ → List Row → Chosen → Type 0
 AsksEither id rows (chosen.Named name) = AsksName id rows (string_bytes name)
 AsksEither id rows (chosen.InSlot slot) = AsksSlot id rows slot
 
+-- the words name no pattern
+abbrev pub AsksNoPattern : List Row → Type 0
+AsksNoPattern rows = word_found rows (codes "matching") ≡ None
+
+-- they name this one, and whether or not an option without a value stands beside it
+abbrev pub AsksPattern : List Row → List ℕ → List ℕ → Bool → Type 0
+AsksPattern rows pattern option given =
+    (word_found rows (codes "matching") ≡ Some pattern) × (is_set (word_found rows option) ≡ given)
+
+-- the files that fit a pattern are listed: by list, or by a removal that is tried without its being done
+abbrev pub ListsFitting : List ℕ → List Row → List ℕ → Type 0
+ListsFitting verb rows pattern =
+    ((verb ≡ codes "list") × AsksPattern rows pattern (codes "all") false)
+    ⊎ ((verb ≡ codes "remove") × AsksPattern rows pattern (codes "dry-run") true)
+
 -- the words of a command on a volume, its verb among them; what is put or copied is read later; beside a slot the one
 -- word of change is the new name, that of kind the kind
 abbrev pub AsksOrder : List ℕ → List Row → Order → Type 0
-AsksOrder verb rows ListFiles = verb ≡ codes "list"
+AsksOrder verb rows ListFiles =
+    (verb ≡ codes "list") × (is_set (word_found rows (codes "all")) ≡ false) × AsksNoPattern rows
 AsksOrder verb rows (Get name) = (verb ≡ codes "get") × AsksName (codes "NAME") rows name
 AsksOrder verb rows (Put name kind bytes) =
     (verb ≡ codes "put") × (word_found rows (codes "NAME") ≡ Some name) × IsKind (word_found rows (codes "KIND")) kind
     × (bytes ≡ [])
-AsksOrder verb rows (Remove name) = (verb ≡ codes "remove") × AsksName (codes "NAME") rows name
+AsksOrder verb rows (Remove name) =
+    (verb ≡ codes "remove") × AsksName (codes "NAME") rows name × AsksNoPattern rows
 AsksOrder verb rows (Change old new) =
     (verb ≡ codes "change") × (word_found rows (codes "OLD") ≡ Some old) × AsksName (codes "NEW") rows new
 AsksOrder verb rows (GetText name) = (verb ≡ codes "gettext") × AsksName (codes "NAME") rows name
@@ -175,7 +193,8 @@ AsksOrder verb rows Duplicate = verb ≡ codes "duplicate"
 AsksOrder verb rows Single = verb ≡ codes "single"
 AsksOrder verb rows (GetSlot slot) = (verb ≡ codes "get") × AsksSlot (codes "NAME") rows slot
 AsksOrder verb rows (GetTextSlot slot) = (verb ≡ codes "gettext") × AsksSlot (codes "NAME") rows slot
-AsksOrder verb rows (RemoveSlot slot) = (verb ≡ codes "remove") × AsksSlot (codes "NAME") rows slot
+AsksOrder verb rows (RemoveSlot slot) =
+    (verb ≡ codes "remove") × AsksSlot (codes "NAME") rows slot × AsksNoPattern rows
 AsksOrder verb rows (ChangeSlot slot new) =
     (verb ≡ codes "change") × (word_found rows (codes "OLD") ≡ Some new) × AsksSlot (codes "NEW") rows slot
 AsksOrder verb rows (Kind name kind) =
@@ -187,6 +206,11 @@ AsksOrder verb rows (Copy name from) = (verb ≡ codes "copy") × AsksName (code
 AsksOrder verb rows (CopySlot slot name from) =
     (verb ≡ codes "copy") × (word_found rows (codes "NAME") ≡ Some name)
     × IsSpelled (word_found rows (codes "slot")) slot × (from ≡ [])
+AsksOrder verb rows ListAll =
+    (verb ≡ codes "list") × (is_set (word_found rows (codes "all")) ≡ true) × AsksNoPattern rows
+AsksOrder verb rows (ListFitting pattern) = ListsFitting verb rows pattern
+AsksOrder verb rows (RemoveFitting pattern) =
+    (verb ≡ codes "remove") × AsksPattern rows pattern (codes "dry-run") false
 
 abbrev pub AsksVerb : List ℕ → List Row → Verb → Type 0
 AsksVerb verb rows (verbs.Command command) = AsksOrder verb rows (order_of command)

@@ -55,6 +55,18 @@ IsNameOrSlot None (Some slot) = IsNumberWord 65535 (Some slot)
 IsNameOrSlot (Some name) (Some slot) = ⊥
 IsNameOrSlot None None = ⊥
 
+-- there is a name, or else the number of a slot, or else a pattern
+abbrev pub IsNameSlotOrPattern : Option (List ℕ) → Option (List ℕ) → Option (List ℕ) → Type 0
+IsNameSlotOrPattern name slot None = IsNameOrSlot name slot
+IsNameSlotOrPattern None None (Some pattern) = ⊤
+IsNameSlotOrPattern None (Some slot) (Some pattern) = ⊥
+IsNameSlotOrPattern (Some name) slot (Some pattern) = ⊥
+
+-- where an option without a value is given, there is this word
+abbrev pub IsWith : Bool → Option (List ℕ) → Type 0
+IsWith true other = IsThere other
+IsWith false other = ⊤
+
 -- there is no word for a slot, or it is a number up to 65,535
 abbrev pub IsSlotWord : Option (List ℕ) → Type 0
 IsSlotWord None = ⊤
@@ -94,6 +106,12 @@ pub data Need : Type 0 where
   Beside : List ℕ → Need
   -- a name, which is missing exactly where `--slot` has a number up to 65,535
   NameOrSlot : Need
+  -- the same, which is missing too where `--matching` has a pattern; of the three there is one
+  NameSlotOrPattern : Need
+  -- an option that is missing where this one without a value is given
+  Without : List ℕ → Need
+  -- an option without a value that stands beside this one alone
+  With : List ℕ → Need
   -- the number of a slot up to 65,535, which may be missing
   Slot : Need
   -- the number of a segment, which may be missing, but not beside that of a procedure
@@ -112,6 +130,10 @@ Meets rows NotSaved word = IsAlone (is_set (word_found rows (codes "save"))) wor
 Meets rows (NotBeside other) word = IsNotBoth (is_set word) (is_set (word_found rows other))
 Meets rows (Beside other) word = IsBeside word (word_found rows other)
 Meets rows NameOrSlot word = IsNameOrSlot word (word_found rows (codes "slot"))
+Meets rows NameSlotOrPattern word =
+    IsNameSlotOrPattern word (word_found rows (codes "slot")) (word_found rows (codes "matching"))
+Meets rows (Without other) word = IsAlone (is_set (word_found rows other)) word
+Meets rows (With other) word = IsWith (is_set word) (word_found rows other)
 Meets rows Slot word = IsSlotWord word
 Meets rows Segment word = IsCodeWords word (word_found rows (codes "procedure"))
 
@@ -181,9 +203,10 @@ command_needs command =
 -- what the verbs of files need; what is no verb has none
 abbrev pub verb_needs : List ℕ → Option (List (List ℕ × Need))
 verb_needs verb =
-    if bytes_eq verb (codes "list") then Some []
+    if bytes_eq verb (codes "list") then Some ((codes "matching", Without (codes "all")) ∷ [])
     else (if bytes_eq verb (codes "get") then Some ((codes "NAME", NameOrSlot) ∷ [])
-    else (if bytes_eq verb (codes "remove") then Some ((codes "NAME", NameOrSlot) ∷ [])
+    else (if bytes_eq verb (codes "remove") then Some ((codes "NAME", NameSlotOrPattern)
+    ∷ (codes "dry-run", With (codes "matching")) ∷ [])
     else (if bytes_eq verb (codes "change") then Some ((codes "OLD", Word) ∷ (codes "NEW", NameOrSlot) ∷ [])
     else (if bytes_eq verb (codes "gettext") then Some ((codes "NAME", NameOrSlot) ∷ [])
     else (if bytes_eq verb (codes "puttext") then Some ((codes "NAME", Word) ∷ [])

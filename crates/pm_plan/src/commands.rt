@@ -170,7 +170,24 @@ const KIND: WordRow = (
 const VOLUME: WordRow = ("NAME", Form::Word, "The volume's name, up to 7 characters");
 
 const VERBS: &[CommandRow] = &[
-    ("list", "Lists the files", &[IMAGE, FORM]),
+    (
+        "list",
+        "Lists the files",
+        &[
+            IMAGE,
+            FORM,
+            (
+                "all",
+                Form::Flag,
+                "Says the number of each kind and the slot too, and which blocks are free; not beside --matching",
+            ),
+            (
+                "matching",
+                Form::Free("PATTERN"),
+                "Lists the files whose names fit the pattern, in which = stands for any characters",
+            ),
+        ],
+    ),
     (
         "get",
         "Writes a file's bytes to standard output",
@@ -214,8 +231,27 @@ const VERBS: &[CommandRow] = &[
     ),
     (
         "remove",
-        "Removes a file",
-        &[IMAGE, FORM, FILE_OR_SLOT, SLOT],
+        "Removes a file, or all whose names fit a pattern",
+        &[
+            IMAGE,
+            FORM,
+            (
+                "NAME",
+                Form::Maybe,
+                "The file's name, in either case; not beside --slot or --matching",
+            ),
+            SLOT,
+            (
+                "matching",
+                Form::Free("PATTERN"),
+                "Removes the files whose names fit the pattern, in which = stands for any characters",
+            ),
+            (
+                "dry-run",
+                Form::Flag,
+                "Lists the files that --matching would remove, and removes none",
+            ),
+        ],
     ),
     (
         "change",

@@ -10,7 +10,7 @@ ghost use Rattle.pm_plan.specs.Needed.{AreGoodBefore, IsGoodSalvage, IsKindWord,
 ghost use Rattle.pm_plan.specs.Needed.{IsNameOrSlot, IsSlotWord, is_salvage, verb_needs};
 ghost use Rattle.pm_plan.specs.declared.words.WordsError.TheVariants.{NoCommand, NoMemory};
 
-use crate::words::{DATE, WordsError, flag, found, given, needed, number};
+use crate::words::{DATE, WordsError, flag, found, given, is_set, needed, number};
 use clap::ArgMatches;
 use pm_filer::kind_word;
 use std::alloc::Global;
@@ -199,12 +199,62 @@ fn get_text(alloc: Global, matches: &ArgMatches<'_>) -> Result<Verb, WordsError>
     }))
 }
 
+/// The files are listed: all, all with what else the directory says, or those that fit a pattern.
+fn list(alloc: Global, matches: &ArgMatches<'_>) -> Result<Verb, WordsError>
+    ensures asked { IfOk result (λ verb. AsksVerb (codes "list") (words_of matches.now) verb) }
+    ensures good { IsOk result → MeetAll (words_of matches.now) (verb_needs (codes "list")) }
+    ensures taken { MeetAll (words_of matches.now) (verb_needs (codes "list")) → IsOkUnless result NoMemory }
+{
+    use pm_filer::FileCommand;
+    match (found(matches, "matching"), is_set(matches, "all")) {
+        (None, false) => Ok(Verb::Command(FileCommand::List)),
+        (None, true) => Ok(Verb::Command(FileCommand::ListAll)),
+        (Some(pattern), false) => {
+            let pattern = String::from_str(alloc, pattern)?;
+            Ok(Verb::Command(FileCommand::ListFitting(pattern)))
+        }
+        (Some(_), true) => Err(WordsError::Wrong("--all does not stand beside --matching")),
+    }
+}
+
+/// The files that fit a pattern are removed, or listed in place of that.
+fn remove_fitting(
+    alloc: Global,
+    matches: &ArgMatches<'_>,
+    pattern: &str,
+) -> Result<Verb, WordsError>
+    requires pattern { word_found (words_of matches.now) (codes "matching") ≡ Some pattern.now }
+    ensures asked { IfOk result (λ verb. AsksVerb (codes "remove") (words_of matches.now) verb) }
+    ensures good { IsOk result → MeetAll (words_of matches.now) (verb_needs (codes "remove")) }
+    ensures taken { MeetAll (words_of matches.now) (verb_needs (codes "remove")) → IsOkUnless result NoMemory }
+{
+    use pm_filer::FileCommand;
+    if found(matches, "NAME").is_some() || found(matches, "slot").is_some() {
+        return Err(WordsError::Wrong(
+            "--matching stands in place of the file's name and of --slot",
+        ));
+    }
+    let pattern = String::from_str(alloc, pattern)?;
+    let command = if is_set(matches, "dry-run") {
+        FileCommand::ListFitting(pattern)
+    } else {
+        FileCommand::RemoveFitting(pattern)
+    };
+    Ok(Verb::Command(command))
+}
+
 fn remove(alloc: Global, matches: &ArgMatches<'_>) -> Result<Verb, WordsError>
     ensures asked { IfOk result (λ verb. AsksVerb (codes "remove") (words_of matches.now) verb) }
     ensures good { IsOk result → MeetAll (words_of matches.now) (verb_needs (codes "remove")) }
     ensures taken { MeetAll (words_of matches.now) (verb_needs (codes "remove")) → IsOkUnless result NoMemory }
 {
     use pm_filer::FileCommand;
+    if let Some(pattern) = found(matches, "matching") {
+        return remove_fitting(alloc, matches, pattern);
+    }
+    if is_set(matches, "dry-run") {
+        return Err(WordsError::Wrong("--dry-run stands beside --matching"));
+    }
     Ok(Verb::Command(match name_or_slot(alloc, matches, "NAME")? {
         Chosen::Named(name) => FileCommand::Remove(name),
         Chosen::InSlot(slot) => FileCommand::RemoveSlot(slot),
@@ -276,7 +326,7 @@ fn verb_of(alloc: Global, verb: &str, words: &ArgMatches<'_>) -> Result<Verb, Wo
 {
     use pm_filer::FileCommand;
     let command = match verb {
-        "list" => FileCommand::List,
+        "list" => return list(alloc, words),
         "get" => return get(alloc, words),
         "remove" => return remove(alloc, words),
         "change" => return change(alloc, words),

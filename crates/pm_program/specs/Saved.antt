@@ -6,6 +6,7 @@ use Rattle.pm_files.specs.Held.{Files, HoldsFile, Saves, Locks, Puts, held_too}
 use Rattle.pm_filer.specs.Filed.{Order, ListFiles, Get, Put, Remove, Change, GetText}
 use Rattle.pm_filer.specs.Filed.{PutText, Krunch, Date, Zero, Duplicate, Single, GetSlot, GetTextSlot}
 use Rattle.pm_filer.specs.Filed.{RemoveSlot, ChangeSlot, Kind, KindSlot, Copy, CopySlot, order_of}
+use Rattle.pm_filer.specs.Filed.{ListAll, ListFitting, RemoveFitting}
 use Rattle.pm_volume.specs.Headers.{blank_fault}
 use Rattle.pm_tool.specs.Batches.{said_check, said_files, said_new, said_repair, said_salvage}
 use Rattle.pm_tool.specs.Disks.{images_of}
@@ -128,6 +129,9 @@ may_change (Kind name kind) = true
 may_change (KindSlot slot kind) = true
 may_change (Copy name from) = true
 may_change (CopySlot slot name from) = true
+may_change ListAll = false
+may_change (ListFitting pattern) = false
+may_change (RemoveFitting pattern) = true
 
 -- a verb holds its file before it reads it: each that may write the file
 abbrev pub takes_lock : Verb → Bool

@@ -51,6 +51,7 @@ fn takes_lock(verb: &Verb) -> bool
         verb,
         Verb::Command(FileCommand::List | FileCommand::Get(_) | FileCommand::GetText(_))
             | Verb::Command(FileCommand::GetSlot(_) | FileCommand::GetTextSlot(_))
+            | Verb::Command(FileCommand::ListAll | FileCommand::ListFitting(_))
             | Verb::Check
     )
 }

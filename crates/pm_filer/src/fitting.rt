@@ -1,0 +1,124 @@
+//! Patterns of names, and the files that fit one.
+ghost use Rattle.std.specs.Prelude.{◌≡◌, ◌==◌, ◌<◌, Ok, Err, IfErr, IfSome, OnErr, OnOk, length, slice_get};
+ghost use Rattle.std.specs.List.{list_any, position};
+ghost use Rattle.pm_volume.specs.Directory.{IsVolume};
+ghost use Rattle.pm_volume.specs.Files.{files_of};
+ghost use Rattle.pm_volume.specs.Made.{slot_removed};
+ghost use Rattle.pm_filer.specs.Fitting.{changed_or, fits, fitting_removed, is_around, is_fitting, is_fitting_there};
+ghost use Rattle.pm_filer.specs.Fitting.{without_first, without_fitting};
+
+use pm_volume::{Entry, Volume, VolumeFault, is_same_name};
+
+/// Whether a name begins and ends with these, in either case, with any characters between them, or none.
+fn is_around(begin: &[u8], end: &[u8], name: &[u8]) -> bool
+    ensures around { result ≡ is_around begin.now end.now name.now }
+{
+    let Some(rest) = name.len().checked_sub(end.len()) else {
+        return false;
+    };
+    begin.len() <= rest
+        && is_same_name(begin, &name[..begin.len()])
+        && is_same_name(end, &name[rest..])
+}
+
+/// The place of the first `=` of a pattern.
+fn first_equals(pattern: &[u8]) -> Option<usize>
+    ensures place { result ≡ position (λ c. c == 61) pattern.now }
+    ensures within { IfSome result (λ place. place < length pattern.now) }
+{
+    pattern.iter().position(|c| *c == b'=')
+}
+
+/// Whether a name fits a pattern, in either case: it begins with what stands before the first `=` of the pattern, and
+/// ends with what stands behind that, with any characters between them, or none. A pattern without `=` is the name.
+#[tactic(auto, unfolding(crate::specs::Fitting::fits))]
+pub fn fits(pattern: &str, name: &[u8]) -> bool
+    ensures fits { result ≡ fits pattern.now name.now }
+{
+    let pattern = pattern.as_bytes();
+    match first_equals(pattern) {
+        Some(place) => is_around(&pattern[..place], &pattern[place + 1..], name),
+        None => is_same_name(pattern, name),
+    }
+}
+
+/// Whether the name of a file fits a pattern.
+pub(crate) fn is_fitting(pattern: &str, entry: &Entry) -> bool
+    ensures fits { result ≡ is_fitting pattern.now entry.now }
+{
+    fits(pattern, entry.characters())
+}
+
+/// Whether the name of a file of a volume fits a pattern.
+fn has_fitting(volume: &Volume, pattern: &str) -> bool
+    ensures some { result ≡ list_any (is_fitting pattern.now) (files_of volume.now) }
+{
+    volume.entries().any(|entry| is_fitting(pattern, &entry))
+}
+
+/// The file behind so many others.
+fn file_behind(volume: &Volume, before: u16) -> Option<Entry>
+    ensures file { result ≡ slice_get (files_of volume.now) before }
+{
+    volume.entries().nth(usize::from(before))
+}
+
+/// Whether a file stands behind so many others, and its name fits.
+fn is_fitting_behind(volume: &Volume, pattern: &str, before: u16) -> bool
+    ensures there { result ≡ is_fitting_there pattern.now (slice_get (files_of volume.now) before) }
+{
+    match file_behind(volume, before) {
+        Some(entry) => is_fitting(pattern, &entry),
+        None => false,
+    }
+}
+
+/// Removes the file in a slot, if there is one.
+fn remove_there(volume: &mut Volume, slot: u16)
+    ensures removed { volume.new ≡ changed_or volume.old (slot_removed volume.old slot) }
+    ensures volume { IsVolume volume.old → IsVolume volume.new }
+{
+    match volume.remove_slot(slot) {
+        Ok(()) => {}
+        Err(_) => {}
+    }
+}
+
+/// Removes the file behind so many others, if its name fits.
+fn remove_if_fitting(volume: &mut Volume, pattern: &str, before: u16)
+    requires low { before < 65535 }
+    ensures removed { volume.new ≡ without_fitting pattern.now before volume.old }
+    ensures volume { IsVolume volume.old → IsVolume volume.new }
+{
+    if is_fitting_behind(volume, pattern, before) {
+        remove_there(volume, before + 1);
+    }
+}
+
+/// Removes those of the first so many files whose names fit, the last of them first.
+fn remove_first(volume: &mut Volume, pattern: &str, count: u16)
+    ensures removed { volume.new ≡ without_first pattern.now count volume.old }
+    ensures volume { IsVolume volume.old → IsVolume volume.new }
+{
+    let mut before = count;
+    'slots: while before > 0 {
+        before -= 1;
+        remove_if_fitting(volume, pattern, before);
+    }
+}
+
+/// Removes all files whose names fit a pattern. Refused by `NoFile`, and nothing changed, where there is none.
+#[tactic(auto, unfolding(crate::specs::Fitting::fitting_removed))]
+pub(crate) fn remove_fitting(volume: &mut Volume, pattern: &str) -> Result<(), VolumeFault>
+    ensures removed { OnOk result (fitting_removed volume.old pattern.now ≡ Ok volume.new) }
+    ensures volume { IsVolume volume.old → IsVolume volume.new }
+    ensures refused { IfErr result (λ fault. fitting_removed volume.old pattern.now ≡ Err fault) }
+    ensures unchanged { OnErr result (volume.new ≡ volume.old) }
+{
+    if !has_fitting(volume, pattern) {
+        return Err(VolumeFault::NoFile);
+    }
+    let count = volume.entries().count();
+    remove_first(volume, pattern, count as u16);
+    Ok(())
+}

@@ -15,3 +15,4 @@ pub mod SavedFiles
 pub mod SalvagedFiles
 pub mod KindLaws
 pub mod FittingLaws
+pub mod FormLaws

@@ -1,5 +1,5 @@
 //! Laws of what is told and saved of an image. The functions do nothing.
-ghost use Rattle.law_disks.specs.CheckLaws.{GoodImagesOpen, SharedBlocks};
+ghost use Rattle.law_disks.specs.CheckLaws.{FormIsNoted, GoodImagesOpen, SharedBlocks};
 ghost use Rattle.law_disks.specs.SalvageLaws.{EntriesAreSaved};
 
 /// An image opens as a volume exactly if no fault of it is told.
@@ -20,4 +20,11 @@ pub fn shared_blocks()
 #[tactic(auto, using(crate::proofs::SalvagedFiles::entries_are_saved))]
 pub fn entries_are_saved()
     ensures law { EntriesAreSaved }
+{}
+
+/// The form that is told where an image is refused is the first that `check` notes of it; where none is told, it notes
+/// none.
+#[tactic(auto, using(crate::proofs::FormLaws::form_is_noted))]
+pub fn form_is_noted()
+    ensures law { FormIsNoted }
 {}

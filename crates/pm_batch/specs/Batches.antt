@@ -25,7 +25,7 @@ made_of (batches.Dis dis.Names) input = made_dis_names input
 made_of (batches.Dis dis.Listing) input = made_dis_list input
 made_of (batches.Dis dis.Statements) input = made_dis_statements input
 made_of (batches.Dis dis.Indented) input = made_dis_indented input
-made_of (batches.Files opened command) input = made_file opened (order_of command) input
+made_of (batches.Files opened form command) input = made_file opened (order_of command) input
 made_of (batches.New name blocks) input =
     made_new (blank_fault (string_bytes name) blocks) (string_bytes name) blocks
 made_of (batches.Repair image) input = made_volume (repaired image.items)
@@ -41,7 +41,7 @@ reads_file (Err fault) order = false
 abbrev pub reads_input : Batch → Bool
 reads_input (batches.Asm what) = true
 reads_input (batches.Dis what) = true
-reads_input (batches.Files opened command) = reads_file opened (order_of command)
+reads_input (batches.Files opened form command) = reads_file opened (order_of command)
 reads_input (batches.New name blocks) = false
 reads_input (batches.Repair image) = false
 reads_input (batches.Check image) = false

@@ -7,6 +7,7 @@ use crate::assembly::{assemble, find_faults, list_symbols};
 use crate::code::{disassemble, disassemble_named, indent_file, list_file, state_file};
 use crate::files::{check_image, file, new_volume, repair_volume, salvage_image, takes_input};
 use crate::refusal::Refusal;
+use pm_check::Form;
 use pm_choices::{AsmOutput, DisOutput};
 use pm_filer::FileCommand;
 use pm_volume::{Volume, VolumeFault};
@@ -19,9 +20,10 @@ pub enum Batch {
     Asm(AsmOutput),
     /// What `dis` writes of a code file.
     Dis(DisOutput),
-    /// A command on a volume; an image that is none is refused.
+    /// A command on a volume; an image that is none is refused, and the form that it has is told.
     Files {
         opened: Result<Volume, VolumeFault>,
+        form: Option<Form>,
         command: FileCommand,
     },
     /// A new volume of this name and so many blocks.
@@ -51,7 +53,11 @@ impl Batch {
     {
         match self {
             Batch::Asm(_) | Batch::Dis(_) => true,
-            Batch::Files { opened, command } => opened.is_ok() && takes_input(command),
+            Batch::Files {
+                opened,
+                command,
+                ..
+            } => opened.is_ok() && takes_input(command),
             Batch::New { .. } | Batch::Repair { .. } | Batch::Check { .. } => false,
             Batch::Salvage { .. } => false,
         }
@@ -89,9 +95,13 @@ pub fn make(alloc: Global, job: Batch, input: Vec<u8>) -> Result<Made, AllocErro
         Batch::Dis(DisOutput::Listing) => list_file(alloc, &input),
         Batch::Dis(DisOutput::Statements) => state_file(alloc, &input),
         Batch::Dis(DisOutput::Indented) => indent_file(alloc, &input),
-        Batch::Files { opened, command } => file(alloc, opened, command, input),
+        Batch::Files {
+            opened,
+            form,
+            command,
+        } => file(alloc, opened, form, command, input),
         Batch::New { name, blocks } => new_volume(alloc, name.as_str(), blocks),
-        Batch::Repair { image } => Ok(repair_volume(image)),
+        Batch::Repair { image } => Ok(repair_volume(alloc, image)),
         Batch::Check { image } => check_image(alloc, image),
         Batch::Salvage { image, second } => salvage_image(alloc, &image, second),
     }

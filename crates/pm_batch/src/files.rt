@@ -11,6 +11,7 @@ ghost use Rattle.pm_check.specs.Saving.{salvaged};
 
 use crate::batch::Made;
 use crate::refusal::Refusal;
+use pm_check::{Form, form_seen};
 use pm_filer::{FileCommand, FilerFault, Reply, apply};
 use pm_volume::{Volume, VolumeFault};
 use std::alloc::{AllocError, Global};
@@ -101,10 +102,41 @@ fn told_missing(
     format!(in alloc; "no file of that name; {longer} is there").ok()
 }
 
+/// What is told of an image whose first bytes are those of no volume, where the form is known that it has.
+fn told_form(alloc: Global, fault: VolumeFault, form: Option<Form>) -> Option<String> {
+    let help = match (fault, form?) {
+        (VolumeFault::BadEntry(_) | VolumeFault::TooManyFiles, _) => return None,
+        (VolumeFault::PastEnd | VolumeFault::FirstCopyBad(_), _) => return None,
+        (_, Form::Dos) =>
+            "the image has the form dos, its sectors in the order of DOS: --form dos takes it as it is",
+        (_, Form::Swapped) => {
+            "the image has the form swapped, the bytes of each word: --form swapped takes it as it is"
+        }
+        (_, Form::FrontBlocks | Form::FrontDos | Form::FrontSwapped) => {
+            "a header stands before the image's blocks: examples/form.sh IMAGE NEW makes one without it"
+        }
+    };
+    String::from_str(alloc, help).ok()
+}
+
+/// What is told behind what is wrong with an image that is no volume: its form, where that is known, or what takes its
+/// files out.
+fn told_checked(alloc: Global, fault: VolumeFault, form: Option<Form>) -> Option<String> {
+    match fault {
+        VolumeFault::BadEntry(_) | VolumeFault::TooManyFiles | VolumeFault::PastEnd => {
+            let help =
+                "files salvage NEW, with the same image, makes a volume NEW of the files whose entries make sense";
+            String::from_str(alloc, help).ok()
+        }
+        _ => told_form(alloc, fault, form),
+    }
+}
+
 /// Does a command on the volume that an image is, with the input's bytes where it takes them.
 pub(crate) fn file(
     alloc: Global,
     opened: Result<Volume, VolumeFault>,
+    form: Option<Form>,
     command: FileCommand,
     input: Vec<u8>,
 ) -> Result<Made, AllocError>
@@ -112,7 +144,10 @@ pub(crate) fn file(
 {
     let mut volume = match opened {
         Ok(volume) => volume,
-        Err(fault) => return Ok(Made::Refused(Refusal::Volume(fault), None)),
+        Err(fault) => {
+            let told = told_form(alloc, fault, form);
+            return Ok(Made::Refused(Refusal::Volume(fault), told));
+        }
     };
     let name = wanted_name(alloc, &command);
     match apply(alloc, &mut volume, with_input(command, input)) {
@@ -146,12 +181,15 @@ pub(crate) fn new_volume(alloc: Global, name: &str, blocks: u16) -> Result<Made,
 }
 
 /// An image as a volume, its first copy repaired where it alone is damaged.
-pub(crate) fn repair_volume(image: Vec<u8>) -> Made
+pub(crate) fn repair_volume(alloc: Global, image: Vec<u8>) -> Made
     ensures made { product_of result ≡ made_volume (repaired image.items) }
 {
     match Volume::repair(image) {
         Ok(repaired) => Made::Image(repaired.into_bytes()),
-        Err((fault, _)) => Made::Refused(Refusal::Volume(fault), None),
+        Err((fault, image)) => {
+            let told = told_form(alloc, fault, form_seen(&image));
+            Made::Refused(Refusal::Volume(fault), told)
+        }
     }
 }
 
@@ -160,11 +198,15 @@ pub(crate) fn check_image(alloc: Global, image: Vec<u8>) -> Result<Made, AllocEr
     ensures made { IfOk result (λ made. product_of made ≡ made_check image.items) }
 {
     let text = pm_check::check(alloc, &image)?;
-    let refusal = match open(image) {
-        Ok(_) => None,
-        Err(fault) => Some(Refusal::Volume(fault)),
+    let form = form_seen(&image);
+    let (refusal, told) = match open(image) {
+        Ok(_) => (None, None),
+        Err(fault) => (
+            Some(Refusal::Volume(fault)),
+            told_checked(alloc, fault, form),
+        ),
     };
-    Ok(Made::Judged(text.into_bytes(), refusal, None))
+    Ok(Made::Judged(text.into_bytes(), refusal, told))
 }
 
 /// The files of an image in a new volume, and what is said of each.

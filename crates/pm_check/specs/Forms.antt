@@ -1,12 +1,13 @@
 -- Other forms of images: where a form has the directory's header, and what a header is there.
-use Rattle.std.specs.Prelude.{ℕ, ◌+◌, ◌*◌, ◌/◌, ◌%◌, ◌==◌, ◌&&◌, ◌||◌, Bool, true, false, nat_le, nat_lt, List}
-use Rattle.std.specs.Prelude.{[], ◌∷◌, ◌++◌, codes, length, slice_index, slice_range, take, if◌then◌else◌}
+use Rattle.std.specs.Prelude.{ℕ, ◌+◌, ◌*◌, ◌/◌, ◌%◌, ◌==◌, ◌&&◌, ◌||◌, Bool, true, false, nat_le, nat_lt, List, Option}
+use Rattle.std.specs.Prelude.{Some, None, [], ◌∷◌, ◌++◌, codes, length, slice_index, slice_range, take, if◌then◌else◌}
 use Rattle.std.specs.Str.{bytes_eq}
 use Rattle.pm_bytes.specs.Words.{word_in}
 use Rattle.pm_volume.specs.declared.fields.TheConstants.{DIRECTORY, HEADER_BLOCKS, HEADER_FILES, HEADER_FILES_BEGIN}
 use Rattle.pm_volume.specs.declared.fields.TheConstants.{LONGEST_VOLUME_NAME, MOST_FILES, PAST_DIRECTORY, PAST_SECOND}
 use Rattle.pm_volume.specs.declared.fields.TheConstants.{SLOT}
 use Rattle.pm_bytes.specs.declared.blocks.TheConstants.{BLOCK}
+use Rattle.pm_check.specs.declared.note.Form.{Form}
 use Rattle.pm_check.specs.declared.note.Form.TheVariants.{Dos, Swapped, FrontBlocks, FrontDos, FrontSwapped}
 use Rattle.pm_check.specs.declared.note.Note.{Note}
 use Rattle.pm_check.specs.declared.note.Note.TheVariants as notes
@@ -94,3 +95,19 @@ form_notes image =
     note_if (is_in_sectors image 0 (length image)) (notes.Form Dos)
     ++ (note_if (is_swapped image 0 (length image)) (notes.Form Swapped)
     ++ (if has_front image then front_notes image else []))
+
+-- ---- the form that is told where an image is refused
+
+-- the first form behind such a header that fits
+unfoldable pub front_form : List ℕ → Option Form
+front_form image =
+    if is_in_blocks image (front_begin image) (front_size image) then Some FrontBlocks
+    else (if is_in_sectors image (front_begin image) (front_size image) then Some FrontDos
+    else (if is_swapped image (front_begin image) (front_size image) then Some FrontSwapped else None))
+
+-- the first of the forms that fits
+unfoldable pub form_seen : List ℕ → Option Form
+form_seen image =
+    if is_in_sectors image 0 (length image) then Some Dos
+    else (if is_swapped image 0 (length image) then Some Swapped
+    else (if has_front image then front_form image else None))

@@ -4,7 +4,9 @@ ghost use Rattle.std.specs.Bool.{OnTrue};
 ghost use Rattle.pm_volume.specs.declared.fields.TheConstants.{SLOT};
 ghost use Rattle.pm_check.specs.Forms.{
   form_notes,
+  form_seen,
   front_begin,
+  front_form,
   front_notes,
   front_size,
   has_front,
@@ -188,4 +190,40 @@ pub fn push_forms(notes: &mut Vec<Note>, image: &[u8]) -> Result<(), AllocError>
         push_front(notes, image)?;
     }
     Ok(())
+}
+
+// The first form behind a header of an image's file that fits.
+#[tactic(auto, unfolding(crate::specs::Forms::front_form))]
+fn front_form(image: &[u8]) -> Option<Form>
+    requires room { 64 ≤ length image.now }
+    ensures form { result ≡ front_form image.now }
+{
+    let begin = long(image, 24);
+    let size = front_size(image);
+    if is_in_blocks(image, begin, size) {
+        Some(Form::FrontBlocks)
+    } else if is_in_sectors(image, begin, size) {
+        Some(Form::FrontDos)
+    } else if is_swapped(image, begin, size) {
+        Some(Form::FrontSwapped)
+    } else {
+        None
+    }
+}
+
+/// The form in which an image has the header of a directory, if it is another than blocks in their order: the first
+/// that `check` notes.
+#[tactic(auto, unfolding(crate::specs::Forms::form_seen))]
+pub fn form_seen(image: &[u8]) -> Option<Form>
+    ensures form { result ≡ form_seen image.now }
+{
+    if is_in_sectors(image, 0, image.len()) {
+        Some(Form::Dos)
+    } else if is_swapped(image, 0, image.len()) {
+        Some(Form::Swapped)
+    } else if has_front(image) {
+        front_form(image)
+    } else {
+        None
+    }
 }

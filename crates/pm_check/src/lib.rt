@@ -14,4 +14,6 @@ mod rules;
 mod saving;
 
 pub use checked::check;
+pub use forms::form_seen;
+pub use note::Form;
 pub use saving::{Salvaged, salvage};

@@ -8,6 +8,7 @@ use Rattle.pm_tool.specs.declared.talk.Talk.TheVariants as talks
 use Rattle.pm_tool.specs.declared.work.Work.{Work}
 use Rattle.pm_tool.specs.declared.work.Work.TheVariants as works
 use Rattle.pm_batch.specs.Files.{opened_image}
+use Rattle.pm_check.specs.Forms.{form_seen}
 
 -- what a job has to do: to talk with a machine, or to turn bytes into bytes
 abbrev pub work_of : Job → Work
@@ -19,7 +20,8 @@ work_of (jobs.Trace disks name limit system selection) =
 work_of (jobs.Debug disks name system typed) = works.Talk (starts.Booted disks name system) (talks.Session typed)
 work_of (jobs.Asm what) = works.Batch (batches.Asm what)
 work_of (jobs.Dis what) = works.Batch (batches.Dis what)
-work_of (jobs.Files image command) = works.Batch (batches.Files (opened_image image.items) command)
+work_of (jobs.Files image command) =
+    works.Batch (batches.Files (opened_image image.items) (form_seen image.items) command)
 work_of (jobs.New name blocks) = works.Batch (batches.New name blocks)
 work_of (jobs.Repair image) = works.Batch (batches.Repair image)
 work_of (jobs.Check image) = works.Batch (batches.Check image)

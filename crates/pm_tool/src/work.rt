@@ -7,6 +7,7 @@ use crate::programs::Start;
 use crate::steps::Show;
 use crate::talk::Talk;
 use pm_batch::{Batch, open};
+use pm_check::form_seen;
 use pm_choices::Selection;
 
 /// A job, by its shape.
@@ -75,8 +76,13 @@ pub(crate) fn work_of(job: Job) -> Work
         Job::Asm(what) => Work::Batch(Batch::Asm(what)),
         Job::Dis(what) => Work::Batch(Batch::Dis(what)),
         Job::Files { image, command } => {
+            let form = form_seen(&image);
             let opened = open(image);
-            Work::Batch(Batch::Files { opened, command })
+            Work::Batch(Batch::Files {
+                opened,
+                form,
+                command,
+            })
         }
         Job::New { name, blocks } => Work::Batch(Batch::New { name, blocks }),
         Job::Repair { image } => Work::Batch(Batch::Repair { image }),

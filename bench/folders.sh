@@ -205,6 +205,67 @@ check "is named by its length" grep -q 'length of .nib' err
 check "a disk of DOS 3.3" ends 2 "$here/examples/form.sh" dos33.dsk
 check "is named as one" grep -q 'DOS 3.3' err
 
+# words whose high byte comes first: of the directory, of its second copy, and of a code file's dictionary
+turn() { python3 -c '
+import sys
+b = bytearray(open(sys.argv[1], "rb").read())
+begins = [1024, 3072] if b[1026] == 10 else [1024]
+places = []
+for slot in range(1, 1 + b[1040]):
+    entry = 1024 + 26 * slot
+    block = 512 * (b[entry] + 256 * b[entry + 1])
+    if b[entry + 4] == 2:
+        places += [block + k for k in [*range(0, 64, 2), *range(192, 288, 2)]]
+for begin in begins:
+    places += [begin + k for k in (0, 2, 4, 14, 16, 18, 20)]
+    for slot in range(1, 78):
+        places += [begin + 26 * slot + k for k in (0, 2, 4, 22, 24)]
+for k in places:
+    b[k], b[k + 1] = b[k + 1], b[k]
+sys.stdout.buffer.write(b)' "$1"; }
+for copies in one two; do
+    files $copies.big new BIG 60
+    [ $copies = one ] || files $copies.big duplicate
+    files $copies.big date 84 12 1
+    seq 300 | files $copies.big put CODE code
+    printf 'hi\n' | files $copies.big puttext A.TEXT
+    turn $copies.big >$copies.turned
+    check "the high byte first, $copies" ends 0 "$here/examples/form.sh" $copies.turned
+    check "is told, $copies" grep -q '^big BIG: files 2 ' out
+    check "the low byte first again, $copies" ends 0 "$here/examples/form.sh" $copies.turned $copies.low
+    check "the same volume, $copies" cmp $copies.big $copies.low
+    check "and back, $copies" ends 0 "$here/examples/form.sh" --back $copies.turned $copies.low $copies.back
+    check "the same image, $copies" cmp $copies.turned $copies.back
+done
+
+# what is named where no volume opens
+files hurt12 new HURT 280
+for name in A B C D; do echo $name | files hurt12 put $name data; done
+byte hurt12 $((1024 + 6)) 00
+"$here/examples/dos-order.sh" <hurt12 >hurt12.dos
+check "no header in any form" ends 2 "$here/examples/form.sh" hurt12.dos
+check "what takes the files out is named" grep -q 'as dos 4 files make sense: examples/salvage.sh --form dos' err
+check "and takes them" ends 0 "$here/examples/salvage.sh" --form dos hurt12.dos f12
+check "with their bytes" cmp f12/C <(echo C)
+
+# lines of other systems
+files ends.img new ENDS 60
+printf 'one\n  two\n\nfour\n' >ends.lf
+sed 's/$/\r/' ends.lf >ends.crlf
+tr '\n' '\r' <ends.lf >ends.cr
+files ends.img puttext A.TEXT <ends.lf
+for ends in crlf cr; do
+    check "out with $ends" ends 0 "$here/examples/export.sh" --text --ends $ends ends.img ends.$ends.out
+    check "each line with $ends" cmp ends.$ends.out/A.TEXT ends.$ends
+    files ends.$ends.img new ENDS 60
+    check "in with $ends" ends 0 "$here/examples/import.sh" --ends $ends ends.$ends.out ends.$ends.img
+    check "as lines, $ends" cmp <(files ends.$ends.img gettext A.TEXT) ends.lf
+    check "once more with $ends" ends 0 "$here/examples/import.sh" --ends $ends ends.$ends.out ends.$ends.img
+done
+check "other ends" ends 1 "$here/examples/export.sh" --text --ends vax ends.img none
+check "ends of bytes" ends 1 "$here/examples/export.sh" --ends crlf ends.img none
+check "other ends in" ends 1 "$here/examples/import.sh" --ends vax ends.cr.out ends.img
+
 # a hurt volume opens in no form: the one that is named is made all the same
 files two new TWO 280
 printf 'hi\n' | files two puttext A.TEXT

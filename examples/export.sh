@@ -1,9 +1,12 @@
 #!/bin/bash
-# Takes every file of a volume out into a new folder: examples/export.sh [--text] [--only PATTERN] IMAGE FOLDER
+# Takes every file of a volume out into a new folder:
+#
+#     examples/export.sh [--text [--ends crlf|cr]] [--only PATTERN] IMAGE FOLDER
 #
 # Each file comes byte for byte, by its slot of the directory, so that two files of one name and names that cannot be
 # typed come too. With --text a text file comes as its text, where it can be read as one; puttext makes a text file of
-# that again, though not always of the same bytes.
+# that again, though not always of the same bytes. Its lines end with byte 10, with --ends crlf with 13 and 10, and with
+# --ends cr with 13.
 #
 # FOLDER/LIST begins with a line `volume NAME BLOCKS DATE`, and has a line for each file with tabs between: the file's
 # name in the folder, its name in the volume, its kind, its date, text or bytes, its slot. In both names each byte
@@ -19,10 +22,12 @@ here=$(dirname "$(readlink -f "$0")")
 pmach=${PMACH:-$here/../pmach}
 . "$here/slots.bash"
 read_pattern =
+ends=lf
 [ "$1" = --text ] && as_text=yes && shift
+[ "$as_text" ] && [ "$1" = --ends ] && ends=$2 && shift 2
 [ "$1" = --only ] && [ $# -gt 2 ] && read_pattern "$2" && shift 2
-[ $# = 2 ] || {
-    echo "usage: export.sh [--text] [--only PATTERN] IMAGE FOLDER" >&2
+[ $# = 2 ] && [[ $ends = lf || $ends = crlf || $ends = cr ]] || {
+    echo "usage: export.sh [--text [--ends crlf|cr]] [--only PATTERN] IMAGE FOLDER" >&2
     exit 1
 }
 image=$1
@@ -49,7 +54,8 @@ for ((slot = 1; slot <= $(word 16); slot++)); do
         if [ -z "${names[${name^^}]}" ] && [[ $name != *%* ]] &&
             "$pmach" files --image "$image" gettext -- "$name" </dev/null >"$folder/$host%%text" 2>/dev/null; then
             how=text
-            mv -- "$folder/$host%%text" "$folder/$host"
+            end_lines "$ends" <"$folder/$host%%text" >"$folder/$host"
+            rm -f -- "$folder/$host%%text"
         else
             rm -f -- "$folder/$host%%text"
             echo "export.sh: slot $slot, $name: comes as bytes, since it cannot be had as a text" >&2

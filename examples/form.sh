@@ -8,11 +8,13 @@
 #     examples/form.sh --back IMAGE BLOCKS NEW the volume BLOCKS in the form of IMAGE as NEW, with its header and what
 #                                              stands behind its blocks; BLOCKS has as many bytes as the volume there
 #
-# A form is an order: blocks, dos (the sectors of a 140 KB disk in DOS order) or swapped (the two bytes of each word), and
-# has 2mg- in front where the image begins with a header of that kind, whose words say where the blocks begin and end, and
+# A form is an order: blocks, dos (the sectors of a 140 KB disk in DOS order), swapped (the two bytes of each word) or big
+# (the two bytes of each word of the directory and of the dictionaries of code files, as machines have it whose high byte
+# comes first; texts are as ever, and the code in a code file stays as it is), and has 2mg- in front where the image begins with a header of that kind, whose words say where the blocks begin and end, and
 # dc42- where it begins with one of DiskCopy 4.2, whose sum is looked at, and made anew by --back. Of 143,488 bytes the
 # last 128 are no part of the disk. What looks like something else is named.
-# Nothing is guessed: a form fits where the program opens the volume in it. No file is written over.
+# Nothing is guessed: a form fits where the program opens the volume in it. Where none does, the one is named in which most
+# entries of a directory make sense, for salvage.sh. No file is written over.
 # Status 0: one form fits, or NEW is made; 1 wrong words, or NEW is there; 2 none fits; 3 more than one does.
 . "$(dirname "$(readlink -f "$0")")/words.sh"
 here=$(dirname "$(readlink -f "$0")")
@@ -61,6 +63,18 @@ foreign() {
     esac 2>/dev/null
 }
 
+# What takes the files out where no volume opens: the form in which most entries of a directory make sense.
+nearest() {
+    local order count most=0 best=
+    for order in blocks dos swapped big; do
+        [ -s "$scratch/$order" ] || continue
+        count=$("$pmach" files --image "$scratch/$order" salvage "$scratch/$order.saved" </dev/null 2>/dev/null |
+            awk '$1 == "files" { print $2 }')
+        [ "${count:-0}" -gt "$most" ] && most=$count best=$order
+    done
+    [ ! "$best" ] || echo "; as $front$best $most files make sense: examples/salvage.sh --form $front$best IMAGE FOLDER"
+}
+
 # Where the blocks begin, and how many bytes they have: of the whole image, or as a header says.
 place() {
     begin=0 size=$(stat -c %s -- "$image") front=
@@ -79,12 +93,51 @@ place() {
     begin=$at size=$length front=2mg-
 }
 
+# turned PLACE COUNT PLACES: so many bytes of standard input, from a place on, with the two bytes of the words at these
+# places exchanged; the places are a list of awk's conditions on the place p in these bytes
+turned() {
+    # shellcheck disable=SC2059 # bytes
+    printf "$(tail -c +$(($1 + 1)) | head -c "$2" | od -An -v -tu1 -w2 | awk '{
+        p = 2 * (NR - 1)
+        if ('"$3"') printf "\\x%02x\\x%02x", $2, $1
+        else printf NF == 1 ? "\\x%02x" : "\\x%02x\\x%02x", $1, $2
+    }')"
+}
+
+# The words of a directory: of the header those at 0 to 4 and 14 to 20, of an entry those at 0 to 4, 22 and 24. The words
+# of a dictionary: where each segment begins and how long it is, its kind, its text, and its numbers.
+directory_words='p < 2028 && (p % 26 < 6 || (p < 26 ? p >= 14 && p < 22 : p % 26 >= 22))'
+dictionary_words='p < 64 || p >= 192 && p < 288'
+
+# turn_part FILE PLACE COUNT PLACES: turns it in its file
+turn_part() {
+    turned "$2" "$3" "$4" <"$1" >"$scratch/turned" &&
+        dd if="$scratch/turned" of="$1" bs=512 seek=$(($2 / 512)) conv=notrunc 2>/dev/null
+}
+
+# turn_words FROM TO: turns the words of the directories and dictionaries. One of FROM and TO has the low byte first, and
+# tells where the files are.
+turn_words() {
+    local slot kind block low
+    [ "$(stat -c %s -- "$1")" -ge 3072 ] && cp -- "$1" "$2" && turn_part "$2" 1024 2048 "$directory_words" || return
+    low=$2
+    [ "$(od -An -tu1 -j1027 -N1 -- "$1" | tr -d ' ')" != 0 ] || low=$1
+    read -r -d '' -a entry < <(od -An -v -tu2 -w2 --endian=little -j1024 -N2048 -- "$low" | tr -s ' \n' ' ')
+    [ "${entry[1]}" != 10 ] || turn_part "$2" 3072 2048 "$directory_words"
+    for ((slot = 1; slot <= entry[8] && slot <= 77; slot++)); do
+        kind=$((entry[13 * slot + 2] % 16)) block=${entry[13 * slot]}
+        [ "$kind" != 2 ] || [ $((512 * block + 512)) -gt "$(stat -c %s -- "$2")" ] ||
+            turn_part "$2" $((512 * block)) 512 "$dictionary_words"
+    done
+}
+
 # in_order ORDER FROM TO: from this order into blocks, or back
 in_order() {
     case $1 in
     blocks) cat -- "$2" >"$3" ;;
     dos) [ "$(stat -c %s -- "$2")" = 143360 ] && "$here/dos-order.sh" <"$2" >"$3" ;;
     swapped) dd if="$2" of="$3" conv=swab 2>/dev/null ;;
+    big) turn_words "$2" "$3" ;;
     esac
 }
 
@@ -93,7 +146,7 @@ look() {
     forms=()
     tail -c +$((begin + 1)) "$image" | head -c "$size" >"$scratch/part"
     local order
-    for order in blocks dos swapped; do
+    for order in blocks dos swapped big; do
         in_order $order "$scratch/part" "$scratch/$order" || continue
         "$pmach" files --image "$scratch/$order" list </dev/null >"$scratch/$order.list" 2>/dev/null && forms+=("$order")
     done
@@ -138,7 +191,7 @@ elif [ $# = 1 ] || [ ${#forms[@]} != 1 ]; then
         echo "$front$order $(head -n 1 "$scratch/$order.list") $(tail -n 1 "$scratch/$order.list")"
     done
 fi
-[ ${#forms[@]} != 0 ] || stop 2 "$image is no volume in any of these forms$(foreign)"
+[ ${#forms[@]} != 0 ] || stop 2 "$image is no volume in any of these forms$(foreign)$(nearest)"
 [ ${#forms[@]} = 1 ] || stop 3 "more than one form fits: --as says which"
 [ $# != 1 ] || exit 0
 if [ "$back" ]; then

@@ -1,5 +1,5 @@
 #!/bin/bash
-# Puts a folder that export.sh made into a volume: examples/import.sh FOLDER IMAGE
+# Puts a folder that export.sh made into a volume: examples/import.sh [--ends crlf|cr] FOLDER IMAGE
 #
 # The image has to be there (pmach files --image IMAGE new NAME BLOCKS). Files without a date come before all others,
 # since a file gets the volume's last date, and else in the order of FOLDER/LIST. The volume's last date is then the one
@@ -8,11 +8,15 @@
 # A file that is refused is named with the refusal, and the others go on. One that stands there with the same bytes
 # already is not put again, so the same command may be given twice. Status 0: all files are in the volume.
 #
+# With --ends the lines of the texts end with bytes 13 and 10, or with 13, as in files of other systems.
+#
 # FOLDER may be another's: only regular files in it are read, no links and nothing outside it, a date is three numbers,
 # and what LIST says is shown without its control characters.
 . "$(dirname "$(readlink -f "$0")")/words.sh"
-[ $# = 2 ] || {
-    echo "usage: import.sh FOLDER IMAGE" >&2
+ends=lf
+[ "$1" = --ends ] && ends=$2 && shift 2
+[ $# = 2 ] && [[ $ends = lf || $ends = crlf || $ends = cr ]] || {
+    echo "usage: import.sh [--ends crlf|cr] FOLDER IMAGE" >&2
     exit 1
 }
 pmach=${PMACH:-$(dirname "$(readlink -f "$0")")/../pmach}
@@ -48,11 +52,21 @@ why() {
     esac
 }
 
+# text_of FILE: a text, whose lines end with byte 10
+text_of() {
+    case $ends in
+        lf) cat -- "$1" ;;
+        crlf) sed 's/\r$//' <"$1" ;;
+        cr) tr '\r' '\n' <"$1" ;;
+    esac
+}
+
 # is_there HOW NAME FILE: whether the volume has this file with these bytes
 is_there() {
     local verb=get
     [ "$1" = text ] && verb=gettext
-    "$pmach" files --image "$image" $verb -- "$2" </dev/null 2>/dev/null | cmp -s - "$3"
+    if [ "$1" = text ]; then text_of "$3"; else cat -- "$3"; fi |
+        cmp -s - <("$pmach" files --image "$image" $verb -- "$2" </dev/null 2>/dev/null)
 }
 
 # is_file HOST: whether it is the name of a regular file in the folder
@@ -75,7 +89,7 @@ put_one() {
         status=1
     fi
     if [ "$5" = text ]; then
-        said=$("$pmach" files --image "$image" puttext -- "$name" <"$folder/$1" 2>&1) && return
+        said=$(text_of "$folder/$1" | "$pmach" files --image "$image" puttext -- "$name" 2>&1) && return
     else
         said=$("$pmach" files --image "$image" put -- "$name" "$3" <"$folder/$1" 2>&1) && return
     fi

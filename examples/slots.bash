@@ -80,3 +80,12 @@ fits() {
     read -r -p "$name? " answer
     [[ $answer = [yY]* ]]
 }
+
+# end_lines ENDS: standard input, whose lines end with byte 10, with these ends: lf, crlf or cr
+end_lines() {
+    case $1 in
+        lf) cat ;;
+        crlf) awk '{ printf "%s\r\n", $0 }' ;;
+        cr) tr '\n' '\r' ;;
+    esac
+}

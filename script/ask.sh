@@ -1,16 +1,6 @@
 #!/bin/sh
 # `ask.sh files WORDS..`, on a terminal: asks before a verb forgets the files that an image has. Status 1: no.
-path='' verb='' option=''
-for word; do
-    case $option,$word in
-        --image,*) path=$word option='' ;;
-        --slot,*) option='' ;;
-        ,--image | ,--slot) option=$word ;;
-        ,--image=*) path=${word#--image=} ;;
-        ,files | ,-*) ;;
-        *) [ -n "$verb" ] || verb=$word ;;
-    esac
-done
+. "$(dirname "$0")/words.sh"
 case $verb in
     new | zero) [ -s "$path" ] || exit 0 ;;
     *) exit 0 ;;

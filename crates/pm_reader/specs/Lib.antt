@@ -3,3 +3,4 @@ pub mod Views
 pub mod Named
 pub mod Reader
 pub mod Each
+pub mod Counts

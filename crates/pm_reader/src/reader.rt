@@ -10,13 +10,17 @@ ghost use Rattle.pm_source.specs.Faults as faults;
 ghost use Rattle.pm_source.specs.Faults.{after, after_line, closed, ends, is_again, is_in_place};
 ghost use Rattle.pm_source.specs.Faults.{is_miscounted, line_faults, procedure_count, start};
 ghost use Rattle.pm_reader.specs.Views.{labelled_segments};
+ghost use Rattle.pm_reader.specs.Counts.{AreCounts};
 ghost use Rattle.pm_reader.specs.Each.{first_in};
 ghost use Rattle.pm_reader.specs.Firsts.{IsFirstOf};
 ghost use Rattle.pm_source.specs.declared.fault.AsmFault.TheVariants.{NoMemory};
 ghost use Rattle.pm_reader.specs.Reader.{reader_seen, Answers, IsCountless, open_end};
 
+use crate::counts::Counts;
 use crate::current::Current;
+use crate::entries::entries_taken;
 use crate::noted::note;
+use crate::sizes::code_end;
 use crate::source::{Entry, LabelledSegment};
 use pm_line::{Flaw, Line, Row, Statement, line};
 use pm_source::AsmFault;
@@ -304,6 +308,33 @@ impl<'a> Reader<'a> {
     {
         let line = line(alloc, number, part).map_err(|_| AsmFault::NoMemory)?;
         self.step(alloc, number, line, ends_later)
+    }
+
+    /// Reads a line, by its number, and takes in what it says, whatever is wrong in it.
+    pub(crate) fn take_line(
+        &mut self,
+        alloc: Global,
+        number: usize,
+        part: &'a [u8],
+    ) -> Result<(), AllocError>
+        ensures taken { OnOk result (reader_seen self.new
+            ≡ after_line (reader_seen self.old) (line_of number part.now)) }
+    {
+        let line = line(alloc, number, part)?;
+        self.take(alloc, line)
+    }
+
+    /// What an end of a procedure would count here; none where no procedure goes on, or memory cannot hold its code.
+    pub(crate) fn counts(&self) -> Option<Counts>
+        ensures counts { IfSome result (AreCounts (reader_seen self.now)) }
+    {
+        let Current { procedure, .. } = self.current.as_ref()?;
+        Some(Counts {
+            procedure: last_count(&self.segments).checked_add(1)?,
+            bytes: code_end(0, &procedure.code)?,
+            entries: procedure.entries.len(),
+            taken: entries_taken(&procedure.code),
+        })
     }
 
     /// Reads a line, by its number and whether a later line ends a procedure, notes its first fault, and takes in what

@@ -1,18 +1,20 @@
 //! A text's lines, read in order.
 
-ghost use Rattle.std.specs.Prelude.{◌≡◌, ℕ, [], nat_lt, drop, IfOk, IfErr, OnOk};
+ghost use Rattle.std.specs.Prelude.{◌≡◌, ℕ, [], nat_lt, drop, IfOk, IfErr, IfSome, OnOk};
 ghost use Rattle.std.specs.List.{list_any};
-ghost use Rattle.pm_source.specs.Faults.{ends, faults_of_lines, lines_of, source_of};
+ghost use Rattle.pm_source.specs.Faults.{after_lines, ends, faults_of_lines, lines_of, source_of, start};
+ghost use Rattle.pm_reader.specs.Counts.{AreCounts};
 ghost use Rattle.pm_reader.specs.Each.{firsts_of_lines};
 ghost use Rattle.pm_reader.specs.Firsts.{IsFirstOf};
 ghost use Rattle.pm_source.specs.declared.fault.AsmFault.TheVariants.{NoMemory};
 ghost use Rattle.pm_reader.specs.Views.{labelled_segments};
 
+use crate::counts::Counts;
 use crate::reader::Reader;
 use crate::source::LabelledSegment;
 use pm_line::line_ends;
 use pm_source::AsmFault;
-use std::alloc::Global;
+use std::alloc::{AllocError, Global};
 
 /// How many lines there are up to the last one that ends a procedure.
 fn until_last_end(text: &str) -> usize
@@ -67,4 +69,18 @@ pub fn faults_of_lines(alloc: Global, text: &str) -> Result<Vec<AsmFault>, AsmFa
         reader.note_line(alloc, number, part.as_bytes(), number < until, &mut found)?;
     }
     Ok(found)
+}
+
+/// What an `.END` behind a text counts, whatever is wrong in its lines. None where no procedure goes on there, or
+/// memory cannot hold its code. An error is want of memory.
+pub fn counts_of(alloc: Global, text: &str) -> Result<Option<Counts>, AllocError>
+    ensures counts { IfOk result (λ counts. IfSome counts (AreCounts (after_lines start (lines_of text.now)))) }
+{
+    let mut reader = Reader::new(alloc);
+    let mut number = 0;
+    for part in text.lines() {
+        number += 1;
+        reader.take_line(alloc, number, part.as_bytes())?;
+    }
+    Ok(reader.counts())
 }

@@ -2,6 +2,7 @@
 use Rattle.std.proofs.Common.{refl}
 use Rattle.pm_asm.specs.HintTexts.{hint_text, range_text, takes_text}
 use Rattle.pm_asm.specs.Hints.{hint_of}
+use Rattle.pm_asm.specs.Marks.{WorkedMarks, mark_line, mark_of}
 use Rattle.pm_asm.specs.Near.{is_near, liked, meant}
 use Rattle.pm_asm.specs.WorkedHints.{WorkedHints}
 use Rattle.pm_line.specs.Fronts.{front_of}
@@ -31,4 +32,29 @@ worked_hints = record {
   range_told = refl;
   nothing_told = refl;
   name_told = refl;
+  odd = refl;
+  counted = refl;
+}
+
+pub worked_marks : WorkedMarks
+unfolding mark_of mark_line front_of cut keyword_of directives mnemonic_of
+worked_marks = record {
+  operands = refl;
+  behind_label = refl;
+  without_operands = refl;
+  comment = refl;
+  comment_at_once = refl;
+  label = refl;
+  labelled = refl;
+  word = refl;
+  word_behind_label = refl;
+  line = refl;
+  number = refl;
+  again = refl;
+  end = refl;
+  strange = refl;
+  unknown = refl;
+  blanks = refl;
+  tabs = refl;
+  at_once = refl;
 }

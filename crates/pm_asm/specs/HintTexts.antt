@@ -1,8 +1,9 @@
 -- What helps where a line of a text has a fault, in words.
 use Rattle.std.specs.Prelude.{◌≡◌, ◌≢◌, ℕ, ◌==◌, List, [], ◌∷◌, ◌++◌, codes, Option, Some, None, if◌then◌else◌}
+use Rattle.std.specs.Fmt.{decimal}
 use Rattle.pm_asm.specs.Hints.{Hint}
 use Rattle.pm_asm.specs.Hints.Hint.{Characters, Labels, BeforeLabelled, Takes, Stands, Meant, Words, Ended, Named}
-use Rattle.pm_asm.specs.Hints.Hint.{Once, Reached}
+use Rattle.pm_asm.specs.Hints.Hint.{Once, Reached, Odd, Counted}
 use Rattle.pm_opcode.specs.declared.operand_form.Form.{Form}
 use Rattle.pm_opcode.specs.declared.operand_form.Form.TheVariants as forms
 use Rattle.pm_opcode.specs.Table.{form_of, mnemonic_of}
@@ -120,12 +121,20 @@ fixed_text Named = codes "the label stands at no line of this procedure; upper a
 fixed_text (Once keyword) = once_text keyword
 fixed_text _ = []
 
+-- how many `.JUMP` lines there are, and how many the code takes
+abbrev pub counts_text : ℕ → ℕ → List ℕ
+counts_text entries taken = decimal entries ++ codes "; its code takes " ++ decimal taken ++ codes ", from ^0 on"
+
 -- What a line is told, in words.
 unfoldable pub hint_text : Hint → List ℕ
 hint_text (Takes keyword) = taken_text keyword
 hint_text (Meant keyword) = codes "did you mean " ++ keyword_text keyword ++ codes "?"
 hint_text Ended = codes "either the code has an odd number of bytes, and one more NOP makes it even, "
     ++ codes "or its .JUMP lines are not one for each entry, from ^0 to the greatest ^k"
+hint_text (Odd procedure bytes) = codes ".PROC " ++ decimal procedure ++ codes " has an odd number of bytes, "
+    ++ decimal bytes ++ codes ": a NOP before .END makes it even"
+hint_text (Counted procedure entries taken) =
+    codes ".JUMP lines of .PROC " ++ decimal procedure ++ codes ": " ++ counts_text entries taken
 hint_text (Reached keyword) = keyword_text keyword ++ codes " reaches a label at most 127 bytes ahead; "
     ++ codes "to go back or farther, write ^0 for the label, and a line .JUMP with the label before .END"
 hint_text hint = fixed_text hint

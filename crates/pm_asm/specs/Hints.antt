@@ -1,5 +1,5 @@
 -- What helps where a line of a text has a fault.
-use Rattle.std.specs.Prelude.{ℕ, Bool, true, false, List, Option, Some, None, option_map, if◌then◌else◌}
+use Rattle.std.specs.Prelude.{ℕ, ◌%◌, ◌==◌, Bool, true, false, List, Option, Some, None, option_map, if◌then◌else◌}
 use Rattle.std.specs.List.{list_all}
 use Rattle.std.specs.Option.{unwrap_or}
 use Rattle.pm_asm.specs.declared.hint.Hint as code
@@ -7,6 +7,7 @@ use Rattle.pm_asm.specs.declared.hint.Hint.TheVariants as codes
 use Rattle.pm_asm.specs.Near.{meant}
 use Rattle.pm_line.specs.Fronts.{Front, front_of, keyword_in}
 use Rattle.pm_line.specs.Views.{keyword_seen}
+use Rattle.pm_reader.specs.declared.counts.Counts.{Counts}
 use Rattle.pm_source.specs.declared.fault.AsmFault.{AsmFault}
 use Rattle.pm_source.specs.declared.fault.AsmFault.TheVariants.{Syntax, Unknown, Range, NoLabel}
 use Rattle.pm_source.specs.declared.fault.AsmFault.TheVariants.{Twice, Far, TooLong, NoMemory}
@@ -34,6 +35,10 @@ pub data Hint : Type 0 where
   Words : Hint
   -- what the code before `.END` has
   Ended : Hint
+  -- the number of a procedure, and how many bytes it has, which is odd
+  Odd : ℕ → ℕ → Hint
+  -- the number of a procedure, how many `.JUMP` lines it has, and how many its code takes
+  Counted : ℕ → ℕ → ℕ → Hint
   -- where a label that is named stands
   Named : Hint
   -- what stands once
@@ -50,6 +55,8 @@ hint_seen (codes.Stands keyword) = Stands (keyword_seen keyword)
 hint_seen (codes.Meant keyword) = Meant (keyword_seen keyword)
 hint_seen codes.Words = Words
 hint_seen codes.Ended = Ended
+hint_seen (codes.Odd procedure bytes) = Odd procedure bytes
+hint_seen (codes.Counted procedure entries taken) = Counted procedure entries taken
 hint_seen codes.Named = Named
 hint_seen (codes.Once keyword) = Once (keyword_seen keyword)
 hint_seen (codes.Reached keyword) = Reached (keyword_seen keyword)
@@ -87,6 +94,11 @@ abbrev pub range_hint : Option Keyword → Option Hint
 range_hint None = None
 range_hint (Some OfEnd) = Some Ended
 range_hint (Some keyword) = Some (Takes keyword)
+
+-- At an `.END` that is refused: by what it counts, the odd bytes first.
+abbrev pub ended_hint : Counts → Hint
+ended_hint counts = if counts.bytes % 2 == 0 then Counted counts.procedure counts.entries counts.taken
+    else Odd counts.procedure counts.bytes
 
 -- What helps where a line has a fault, if something does.
 unfoldable pub hint_of : AsmFault → List ℕ → Option Hint

@@ -10,3 +10,4 @@ pub mod Near
 pub mod Hints
 pub mod HintTexts
 pub mod WorkedHints
+pub mod Marks

@@ -1,8 +1,9 @@
 -- What a few lines are told, computed.
 use Rattle.std.specs.Prelude.{◌≡◌, codes, Some}
 use Rattle.pm_asm.specs.HintTexts.{hint_text}
-use Rattle.pm_asm.specs.Hints.{hint_of}
+use Rattle.pm_asm.specs.Hints.{ended_hint, hint_of}
 use Rattle.pm_asm.specs.Hints.Hint.{Labels, BeforeLabelled, Takes, Stands, Meant, Words, Ended, Named, Once, Reached}
+use Rattle.pm_asm.specs.Hints.Hint.{Odd, Counted}
 use Rattle.pm_source.specs.declared.fault.AsmFault.TheVariants.{Syntax, Unknown, Range, NoLabel, Twice, Far}
 use Rattle.pm_source.specs.Line.Keyword.{OfSegment, Mnemonic}
 
@@ -31,3 +32,6 @@ pub record WorkedHints : Type 0 where
   pub range_told : hint_text (Takes (Mnemonic 216)) ≡ codes "SLDL takes a number, 1 to 16; LDL takes more"
   pub nothing_told : hint_text (Takes (Mnemonic 130)) ≡ codes "ADI takes no operand"
   pub name_told : hint_text (Meant (Mnemonic 130)) ≡ codes "did you mean ADI?"
+  -- bytes that are odd are told before entries
+  pub odd : ended_hint (record { procedure = 2; bytes = 5; entries = 0; taken = 3 }) ≡ Odd 2 5
+  pub counted : ended_hint (record { procedure = 1; bytes = 4; entries = 1; taken = 3 }) ≡ Counted 1 1 3

@@ -3,8 +3,8 @@
 ghost use Rattle.std.specs.Prelude.{◌≡◌, Some, IfOk, option_map};
 ghost use Rattle.std.specs.List.{list_all};
 ghost use Rattle.std.specs.Option.{unwrap_or};
-ghost use Rattle.pm_asm.specs.Hints.{hint_of, hint_seen, ill_formed_hint, labelled_hint, range_hint, syntax_hint};
-ghost use Rattle.pm_asm.specs.Hints.{unknown_hint};
+ghost use Rattle.pm_asm.specs.Hints.{ended_hint, hint_of, hint_seen, ill_formed_hint, labelled_hint, range_hint};
+ghost use Rattle.pm_asm.specs.Hints.{syntax_hint, unknown_hint};
 ghost use Rattle.pm_asm.specs.Hints.Hint.{Reached};
 ghost use Rattle.pm_line.specs.Fronts.{front_seen, keyword_in};
 ghost use Rattle.pm_line.specs.Views.{keyword_seen, line_seen};
@@ -13,6 +13,7 @@ ghost use Rattle.pm_source.specs.Line.Keyword.{OfBytes};
 
 use crate::near::meant;
 use pm_line::{Front, Keyword, Line, front_of, is_name, line};
+use pm_reader::Counts;
 use pm_source::AsmFault;
 use std::alloc::{AllocError, Global};
 
@@ -35,6 +36,10 @@ pub enum Hint {
     Words,
     /// What the code before `.END` has.
     Ended,
+    /// The number of a procedure, and how many bytes it has, which is odd.
+    Odd { procedure: usize, bytes: usize },
+    /// The number of a procedure, how many `.JUMP` lines it has, and how many its code takes.
+    Counted(usize, usize, usize),
     /// Where a label that is named stands.
     Named,
     /// What stands once.
@@ -120,6 +125,23 @@ fn far_hint(front: &Front<'_>) -> Option<Hint>
     ensures hint { option_map hint_seen result ≡ option_map Reached (keyword_in (front_seen front.now)) }
 {
     Some(Hint::Reached(front.keyword()?))
+}
+
+/// What helps at an `.END` that is refused, by what it counts.
+pub fn ended_hint(counts: Counts) -> Hint
+    ensures hint { hint_seen result ≡ ended_hint counts }
+{
+    let Counts {
+        procedure,
+        bytes,
+        entries,
+        taken,
+    } = counts;
+    if bytes % 2 != 0 {
+        Hint::Odd { procedure, bytes }
+    } else {
+        Hint::Counted(procedure, entries, taken)
+    }
 }
 
 /// What helps where a line of a text has a fault, if something does: of the fault, and of the line's characters without

@@ -1,7 +1,7 @@
 //! What helps where a line of a text has a fault, in words.
 
 ghost use Rattle.std.specs.Prelude.{◌≡◌, Some};
-ghost use Rattle.pm_asm.specs.HintTexts.{example, fixed_text, form_text, hint_text, keyword_text};
+ghost use Rattle.pm_asm.specs.HintTexts.{counts_text, example, fixed_text, form_text, hint_text, keyword_text};
 ghost use Rattle.pm_asm.specs.HintTexts.{example_text, once_text, range_text, stands_text, taken_text, takes_text};
 ghost use Rattle.pm_asm.specs.Hints.{hint_seen};
 ghost use Rattle.pm_line.specs.Views.{keyword_seen};
@@ -215,6 +215,22 @@ fn fixed_text(hint: Hint) -> &'static str
     }
 }
 
+/// How many `.JUMP` lines there are, and how many the code takes.
+#[derive(Clone, Copy)]
+struct ShownCounts {
+    entries: usize,
+    taken: usize,
+}
+
+impl fmt::Display for ShownCounts {
+    ghost output = { λ c. Some (counts_text c.entries c.taken) };
+
+    fn fmt<W: fmt::Write>(&self, f: &mut fmt::Formatter<W>) -> fmt::Result {
+        let (entries, taken) = (self.entries, self.taken);
+        write!(f, "{entries}; its code takes {taken}, from ^0 on")
+    }
+}
+
 impl fmt::Display for Hint {
     ghost output = { λ hint. Some (hint_text (hint_seen hint)) };
 
@@ -235,6 +251,14 @@ impl fmt::Display for Hint {
                     f,
                     "or its .JUMP lines are not one for each entry, from ^0 to the greatest ^k"
                 )
+            }
+            Hint::Odd { procedure, bytes } => {
+                write!(f, ".PROC {procedure} has an odd number of bytes, ")?;
+                write!(f, "{bytes}: a NOP before .END makes it even")
+            }
+            Hint::Counted(procedure, entries, taken) => {
+                let counts = ShownCounts { entries, taken };
+                write!(f, ".JUMP lines of .PROC {procedure}: {counts}")
             }
             Hint::Reached(keyword) => {
                 let name = keyword_text(keyword);

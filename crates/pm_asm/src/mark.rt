@@ -1,0 +1,135 @@
+//! Where a line of a text that has a fault is marked.
+
+ghost use Rattle.std.specs.Prelude.{◌≡◌, ◌<◌, ◌≤◌, IfOk, IfSome, drop, length, map, option_map, position};
+ghost use Rattle.std.specs.Prelude.{string_bytes};
+ghost use Rattle.pm_asm.specs.Hints.{hint_seen};
+ghost use Rattle.pm_asm.specs.Marks.{below, has_more, mark_line, mark_of, operands_place, place_from, stops};
+ghost use Rattle.pm_asm.specs.Marks.{word_place};
+
+use crate::hint::Hint;
+use pm_line::{Keyword, front_of};
+use std::alloc::{AllocError, Global};
+
+/// A character that is looked for.
+#[derive(Clone, Copy)]
+enum Stop {
+    /// One that is no blank.
+    Solid,
+    /// What ends a word: a blank, or what begins a comment.
+    WordEnd,
+    /// One that no text may have.
+    Strange,
+}
+
+/// Whether a character is one of these.
+fn stops(stop: Stop, byte: u8) -> bool
+    ensures value { result ≡ stops stop byte }
+{
+    match stop {
+        Stop::Solid => byte != b' ' && byte != b'\t',
+        Stop::WordEnd => byte == b' ' || byte == b'\t' || byte == b';',
+        Stop::Strange => byte != b'\t' && !(32..=126).contains(&byte),
+    }
+}
+
+/// How many characters stand before the first of these.
+fn found(stop: Stop, text: &[u8]) -> Option<usize>
+    ensures place { result ≡ position (stops stop) text.now }
+    ensures within { IfSome result (λ n. n < length text.now) }
+{
+    text.iter().position(|byte| stops(stop, *byte))
+}
+
+/// The place of the first of these from a place on, or of the end.
+fn place_from(stop: Stop, text: &[u8], at: usize) -> usize
+    ensures place { result ≡ place_from stop text.now at }
+    ensures within { result ≤ length text.now }
+{
+    let behind = text.split_at(at.min(text.len())).1;
+    match found(stop, behind) {
+        Some(count) => at + count,
+        None => text.len(),
+    }
+}
+
+/// The place of the mnemonic or directive.
+fn word_place(text: &[u8]) -> usize
+    ensures place { result ≡ word_place text.now }
+    ensures within { result ≤ length text.now }
+{
+    let first = place_from(Stop::Solid, text, 0);
+    match front_of(text).label {
+        None => first,
+        Some(_) => place_from(Stop::Solid, text, place_from(Stop::WordEnd, text, first)),
+    }
+}
+
+/// Whether something stands from a place on that is no comment.
+fn has_more(text: &[u8], at: usize) -> bool
+    ensures more { result ≡ has_more (drop at text.now) }
+{
+    match text.split_at(at.min(text.len())).1 {
+        [first, ..] => *first != b';',
+        [] => false,
+    }
+}
+
+/// The place of the operands, or behind the mnemonic or directive where there are none.
+fn operands_place(text: &[u8]) -> usize
+    ensures place { result ≡ operands_place text.now }
+    ensures within { result ≤ length text.now }
+{
+    let end = place_from(Stop::WordEnd, text, word_place(text));
+    let next = place_from(Stop::Solid, text, end);
+    if has_more(text, next) { next } else { end }
+}
+
+/// Where a line of a text is marked that is told this: how many of its characters stand before the place.
+#[tactic(auto, unfolding(crate::specs::Marks::mark_of))]
+pub fn mark_of(hint: Option<Hint>, text: &str) -> usize
+    ensures place { result ≡ mark_of (option_map hint_seen hint) text.now }
+    ensures within { result ≤ length text.now }
+{
+    let bytes = text.as_bytes();
+    match hint {
+        Some(Hint::Characters) => place_from(Stop::Strange, bytes, 0),
+        Some(Hint::BeforeLabelled | Hint::Meant(_) | Hint::Words) => word_place(bytes),
+        Some(Hint::Ended | Hint::Odd { .. } | Hint::Counted(..)) => word_place(bytes),
+        Some(Hint::Takes(_) | Hint::Named | Hint::Reached(_) | Hint::Once(Keyword::Segment)) =>
+            operands_place(bytes),
+        Some(Hint::Labels | Hint::Stands(_) | Hint::Once(_)) | None => place_from(
+            Stop::Solid,
+            bytes,
+            0,
+        ),
+    }
+}
+
+/// What stands below a character that stands before a mark.
+fn below(byte: u8) -> char
+    ensures value { result ≡ below byte }
+{
+    if byte == b'\t' { '\t' } else { ' ' }
+}
+
+/// What stands below characters that stand before a mark.
+fn line_below(alloc: Global, before: &[u8]) -> Result<String, AllocError>
+    ensures line { IfOk result (λ line. string_bytes line ≡ map below before.now) }
+{
+    let mut line = String::new(alloc);
+    for byte in before {
+        line.push(below(*byte))?;
+    }
+    Ok(line)
+}
+
+/// The line below a line, with a mark below a place of it: a tab stands below a tab, and else a blank.
+#[tactic(auto, unfolding(crate::specs::Marks::mark_line))]
+pub fn mark_line(alloc: Global, text: &str, place: usize) -> Result<String, AllocError>
+    ensures line { IfOk result (λ line. string_bytes line ≡ mark_line text.now place) }
+{
+    let bytes = text.as_bytes();
+    let mut line = line_below(alloc, bytes.split_at(place.min(bytes.len())).0)?;
+    line.push('^')?;
+    Ok(line)
+}

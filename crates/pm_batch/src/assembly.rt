@@ -11,7 +11,10 @@ ghost use Rattle.pm_batch.specs.Products.{Refused, Written, product_of};
 
 use crate::batch::Made;
 use crate::refusal::Refusal;
-use pm_asm::{AsmFault, all_faults, assemble_file, assemble_listing, assemble_symbols, hint_of};
+use pm_asm::{
+    AsmFault, Hint, all_faults, assemble_file, assemble_listing, assemble_symbols, counts_of,
+    ended_hint, hint_of, mark_line, mark_of,
+};
 use std::alloc::{AllocError, Global};
 use std::fmt::Write;
 
@@ -72,13 +75,45 @@ fn wanted(alloc: Global, text: &str, list: bool) -> Result<Result<Vec<u8>, AsmFa
     }
 }
 
-/// A line that has a fault, with its number and what helps there, or what is wrong where nothing is known to help; if
-/// there is memory for that.
-fn told_line(alloc: Global, fault: AsmFault, number: usize, line: &str) -> Option<String> {
-    let shown = line.trim();
-    let told = match hint_of(alloc, fault, line) {
-        Ok(Some(hint)) => format!(in alloc; "line {number}, {shown}: {hint}"),
-        _ => format!(in alloc; "{fault}: {shown}"),
+/// What stands in a text before the line of this number.
+fn before_line(text: &str, number: usize) -> Option<&str> {
+    let mut line: usize = 1;
+    for (place, byte) in text.bytes().enumerate() {
+        if line == number {
+            return text.get(..place);
+        }
+        if byte == b'\n' {
+            line = line.saturating_add(1);
+        }
+    }
+    None
+}
+
+/// What helps at an `.END` that is refused, in the line of this number, if its procedure can be counted.
+fn hint_at_end(alloc: Global, text: &str, number: usize) -> Option<Hint> {
+    match counts_of(alloc, before_line(text, number)?) {
+        Ok(Some(counts)) => Some(ended_hint(counts)),
+        _ => None,
+    }
+}
+
+/// A line of a text that has a fault: its number, with what helps there, or what is wrong where nothing is known to
+/// help; below that the line, and below that its mark; if there is memory for that.
+fn told_line(
+    alloc: Global,
+    text: &str,
+    fault: AsmFault,
+    number: usize,
+    line: &str,
+) -> Option<String> {
+    let hint = match hint_of(alloc, fault, line).ok()? {
+        Some(Hint::Ended) => Some(hint_at_end(alloc, text, number).unwrap_or(Hint::Ended)),
+        hint => hint,
+    };
+    let mark = mark_line(alloc, line, mark_of(hint, line)).ok()?;
+    let told = match hint {
+        Some(hint) => format!(in alloc; "line {number}: {hint}\n    {line}\n    {mark}"),
+        None => format!(in alloc; "{fault}\n    {line}\n    {mark}"),
     };
     told.ok()
 }
@@ -90,7 +125,7 @@ fn line_of(alloc: Global, text: &str, fault: AsmFault) -> Option<String> {
         fault => fault.place()?,
     };
     let line = text.lines().nth(number.checked_sub(1)?)?;
-    told_line(alloc, fault, number, line)
+    told_line(alloc, text, fault, number, line)
 }
 
 /// Bytes that are written, or a refusal with the line of the text that it names.
@@ -182,7 +217,7 @@ fn lines_told(alloc: Global, text: &str, faults: &[AsmFault]) -> Option<String> 
             if !told.is_empty() {
                 told.push_str("\npmach: ").ok()?;
             }
-            let more = told_line(alloc, *fault, number, line)?;
+            let more = told_line(alloc, text, *fault, number, line)?;
             told.push_str(more.as_str()).ok()?;
             let Some(next) = faults.next() else {
                 return Some(told);

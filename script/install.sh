@@ -19,7 +19,7 @@ stop() {
 # All files that are installed: from where, and to where below PREFIX.
 files() {
     echo "pmach bin/pmach"
-    for part in ask console debugger files install words; do
+    for part in ask console debugger files install watched words; do
         echo "script/$part.sh lib/pmach/$part.sh"
     done
     echo "$program lib/pmach/$which/pmach"

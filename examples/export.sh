@@ -42,7 +42,9 @@ status=0
 read_directory "$image" 1024
 echo "volume $(spelled '' "${directory[@]:7:${directory[6]}}") $(word 14) $(date_of "$(word 20)")" >"$folder/LIST"
 declare -A names
-for ((slot = 1; slot <= $(word 16); slot++)); do
+count=$(word 16)
+for ((slot = 1; slot <= count; slot++)); do
+    far $((slot - 1)) "$count"
     read_slot $slot
     fits || continue
     how=bytes

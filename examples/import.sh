@@ -107,10 +107,14 @@ put_all() {
         [ "$name" ] || continue
         [ "$1" = dated ] && [ "$date" = 000-00-00 ] && continue
         [ "$1" = undated ] && [ "$date" != 000-00-00 ] && continue
+        far "$put" "$count"
         put_one "$host" "$name" "$kind" "$date" "$how"
+        put=$((put + 1))
     done <"$folder/LIST"
 }
 
+put=0
+count=$(($(wc -l <"$folder/LIST") - 1))
 put_all undated
 put_all dated
 read -r _ _ _ date <"$folder/LIST"

@@ -5,6 +5,8 @@ import os
 import re
 import textwrap
 
+import messages
+
 TOP = os.path.join(os.path.dirname(os.path.abspath(__file__)), "..")
 PAGE = os.path.join(TOP, "INDEX.md")
 HEAD = """# Index
@@ -13,6 +15,13 @@ Each public call, by crate as in crates.txt, and there by type or module: in bra
 `requires` those of its conditions; with empty ones it promises to return, and nothing else. A line of its own is a law,
 with the words that stand above it in the source; `worked_..` are computed values. What serves tests alone is counted at
 the end. Made by `bench/index.py`.
+"""
+MESSAGES = """
+## Messages
+
+Each refusal, and what a terminal is told of it: behind it may stand what is known of the case. Of `asm` these are the
+sentences where nothing is known that helps in the line.
+
 """
 SUMS = """
 ## Counts
@@ -132,6 +141,7 @@ def page():
         if agree:
             replays.append("%s command lines" % agree.group(1))
     replays = "The gate replays: %s." % ", ".join(replays)
+    made.append(MESSAGES + messages.table())
     return "".join(made) + SUMS % (*sums, textwrap.fill(replays, 120))
 
 

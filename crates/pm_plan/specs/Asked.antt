@@ -1,6 +1,6 @@
 -- Which words give which job. What clap finds of the words of a command it keeps in rows, each under an id; the command
 -- behind it, or the verb, stands apart, with its name and rows of its own.
-use Rattle.std.specs.Prelude.{◌≡◌, ◌≤◌, ◌⊎◌, ⊤, ℕ, Bool, true, false, List, [], ◌∷◌, Option, String}
+use Rattle.std.specs.Prelude.{◌≡◌, ◌≤◌, ◌⊎◌, ◌||◌, ⊤, ℕ, Bool, true, false, List, [], ◌∷◌, Option, String}
 use Rattle.std.specs.Prelude.{None, Some, map, option_map, string_bytes, codes}
 use Rattle.std.specs.declared.alloc.Global.{Global}
 use Rattle.std.specs.Str.{bytes_eq}
@@ -227,11 +227,12 @@ IsPath None (Some behind) path = path ≡ behind
 IsPath None None path = ⊥
 IsPath (Some before) (Some behind) path = ⊥
 
--- the words of files, with its verb and the words behind that
+-- the words of files, with its verb and the words behind that, and the path of the file that stands in the place of
+-- standard output
 abbrev pub AsksFiles : ArgMatches → FilesPlan → Type 0
 AsksFiles m plan = (verb : List ℕ) × (rows : List Row) × (subcommand_rows_of m ≡ Some (verb, rows))
     × IsPath (word_found (words_of m) (codes "image")) (word_found rows (codes "image")) (string_bytes plan.path)
-    × AsksVerb verb rows plan.verb
+    × AsksVerb verb rows plan.verb × (word_found rows (codes "output") ≡ option_map string_bytes plan.output)
 
 -- the same with the verb salvage, which names a new volume too
 abbrev pub AsksSalvage : ArgMatches → SalvagePlan → Type 0
@@ -342,7 +343,16 @@ word_below (Some behind) = word_found behind.1 (codes "form")
 unfoldable pub IsForm : ArgMatches → Form → Type 0
 IsForm m form = AsksForm (word_found (words_of m) (codes "form")) (word_below (subcommand_rows_of m)) form
 
+-- whether the option `--quiet` stands behind a verb
+abbrev pub is_quiet_below : Option (List ℕ × List Row) → Bool
+is_quiet_below None = false
+is_quiet_below (Some behind) = is_set (word_found behind.1 (codes "quiet"))
+
+-- whether nothing is to be said, by the words behind a command and those behind its verb
+unfoldable pub is_quiet : ArgMatches → Bool
+is_quiet m = is_set (word_found (words_of m) (codes "quiet")) || is_quiet_below (subcommand_rows_of m)
+
 -- all words
 abbrev pub IsAsked : ArgMatches → Asked → Type 0
 IsAsked m asked = (command : List ℕ) × (below : ArgMatches) × IsCommand m command below
-    × Asks command below asked.plan × IsForm below asked.form
+    × Asks command below asked.plan × IsForm below asked.form × (asked.is_quiet ≡ is_quiet below)

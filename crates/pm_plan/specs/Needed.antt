@@ -237,7 +237,7 @@ abbrev pub AreGoodBefore : List Row → Option (List ℕ × List Row) → Type 0
 AreGoodBefore rows None = ⊥
 AreGoodBefore rows (Some behind) =
     IsOnePath (word_found rows (codes "image")) (word_found behind.1 (codes "image"))
-    × MeetAll behind.1 (verb_needs behind.0)
+    × IsOptional (word_found behind.1 (codes "output")) × MeetAll behind.1 (verb_needs behind.0)
 
 -- whether a verb is salvage
 abbrev pub is_salvage : Option (List ℕ × List Row) → Bool

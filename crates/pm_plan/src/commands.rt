@@ -191,7 +191,7 @@ const VERBS: &[CommandRow] = &[
     (
         "get",
         "Writes a file's bytes to standard output",
-        &[IMAGE, FORM, FILE_OR_SLOT, SLOT],
+        &[IMAGE, FORM, FILE_OR_SLOT, SLOT, WRITTEN],
     ),
     (
         "put",
@@ -201,7 +201,7 @@ const VERBS: &[CommandRow] = &[
     (
         "gettext",
         "Writes the text of a text file to standard output",
-        &[IMAGE, FORM, FILE_OR_SLOT, SLOT],
+        &[IMAGE, FORM, FILE_OR_SLOT, SLOT, WRITTEN],
     ),
     (
         "puttext",
@@ -546,9 +546,17 @@ fn args<'a>(alloc: Global, rows: &[WordRow]) -> Result<Vec<Arg<'a>>, AllocError>
     Ok(args)
 }
 
+/// The option that each command has.
+const QUIET: WordRow = (
+    "quiet",
+    Form::Flag,
+    "Says nothing on standard error; the status tells",
+);
+
 fn command_of<'a>(alloc: Global, row: CommandRow) -> Result<Command<'a>, AllocError> {
     let (name, about, words) = row;
-    let words = args(alloc, words)?;
+    let mut words = args(alloc, words)?;
+    words.push(arg(alloc, QUIET)?)?;
     Command::new(alloc, name).about(about).args(words)
 }
 

@@ -25,6 +25,8 @@ pub struct FilesPlan {
     pub path: String,
     /// What is to be done.
     pub verb: Verb,
+    /// The path of the file that gets what is written, in the place of standard output.
+    pub output: Option<String>,
 }
 
 /// The files of an image that are saved into a new volume.
@@ -52,6 +54,15 @@ pub enum Verb {
 }
 
 impl Verb {
+    /// Whether the command writes the bytes of a file.
+    pub fn gets(&self) -> bool {
+        use pm_filer::FileCommand;
+        matches!(
+            self,
+            Verb::Command(FileCommand::Get(..) | FileCommand::GetSlot(..))
+        )
+    }
+
     /// Whether the command reads standard input.
     pub fn reads(&self) -> bool {
         use pm_filer::FileCommand;
@@ -377,8 +388,9 @@ pub fn files_plan(alloc: Global, matches: &ArgMatches<'_>) -> Result<FilesPlan, 
     let before = given(alloc, matches, "image")?;
     let behind = given(alloc, words, "image")?;
     let path = path_of(before, behind)?;
+    let output = given(alloc, words, "output")?;
     let verb = verb_of(alloc, verb, words)?;
-    Ok(FilesPlan { path, verb })
+    Ok(FilesPlan { path, verb, output })
 }
 
 /// Whether the verb of `files` is `salvage`, which has words of its own.

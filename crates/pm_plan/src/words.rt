@@ -2,9 +2,9 @@
 ghost use Rattle.std.specs.Prelude.{◌≡◌, ◌↔◌, Err, IfErr, IfOk, IsOk, IsOkUnless, None, Some, SomeIff, [], false};
 ghost use Rattle.std.specs.Prelude.{option_map, string_bytes, codes};
 ghost use Rattle.std.specs.Str.Parse.{digits_value};
-ghost use Rattle.clap.specs.Words.{one_of};
+ghost use Rattle.clap.specs.Words.{one_of, subcommand_rows_of};
 ghost use Rattle.pm_plan.specs.Asked.{Asks, IsAsked, IsAsm, IsDis, IsFlag, IsLimit, IsLimitWord, IsNumberUpTo};
-ghost use Rattle.pm_plan.specs.Asked.{is_set, word_found, words_of};
+ghost use Rattle.pm_plan.specs.Asked.{is_quiet, is_quiet_below, is_set, word_found, words_of};
 ghost use Rattle.pm_plan.specs.Needed.{AreAllGood, AreGood, IsOptional, IsWrong, MeetEach, asm_needs, dis_needs};
 ghost use Rattle.pm_plan.specs.declared.words.WordsError.TheVariants.{NoCommand, NoMemory, NoValue};
 
@@ -56,6 +56,8 @@ pub struct Asked {
     pub plan: Plan,
     /// The form of the images that it is done on.
     pub form: Form,
+    /// Whether nothing is said on standard error.
+    pub is_quiet: bool,
 }
 
 /// Why the words are no job.
@@ -294,6 +296,24 @@ fn plan_by(alloc: Global, command: &str, matches: &ArgMatches<'_>) -> Result<Pla
     }
 }
 
+/// Whether `--quiet` stands behind a verb.
+fn is_quiet_below(matches: &ArgMatches<'_>) -> bool
+    ensures value { result ≡ is_quiet_below (subcommand_rows_of matches.now) }
+{
+    match matches.subcommand() {
+        Some((_, words)) => is_set(words, "quiet"),
+        None => false,
+    }
+}
+
+/// Whether nothing is to be said, by the words of a command and those of its verb.
+#[tactic(auto, unfolding(crate::specs::Asked::is_quiet))]
+fn is_quiet(matches: &ArgMatches<'_>) -> bool
+    ensures value { result ≡ is_quiet matches.now }
+{
+    is_set(matches, "quiet") || is_quiet_below(matches)
+}
+
 /// What the words ask for that clap has found.
 fn plan_asked(alloc: Global, matches: &ArgMatches<'_>) -> Result<Asked, WordsError>
     ensures asked { IfOk result (λ asked. IsAsked matches.now asked) }
@@ -304,7 +324,12 @@ fn plan_asked(alloc: Global, matches: &ArgMatches<'_>) -> Result<Asked, WordsErr
     };
     let plan = plan_by(alloc, command, words)?;
     let form = form_asked(words)?;
-    Ok(Asked { plan, form })
+    let is_quiet = is_quiet(words);
+    Ok(Asked {
+        plan,
+        form,
+        is_quiet,
+    })
 }
 
 /// What may be meant by words of a command that it does not take.
@@ -389,6 +414,7 @@ pub fn plan_of(alloc: Global, args: io::Result<Args>) -> Result<Asked, WordsErro
                 selection: Selection::ALL,
             },
             form: Form::Blocks,
+            is_quiet: false,
         });
     }
     parsed(alloc, words.as_slice())

@@ -9,4 +9,5 @@ returns-clause-asked c = (
   found_below c.args.matches.now _ _ (search rules) (search rules),
   c.in_ok-plan.ensures.asked,
   c.in_ok-form.ensures.asked,
+  c.is_quiet-is_quiet.ensures.value,
 )

@@ -1,3 +1,4 @@
 pub mod Saved
 pub mod Texts
 pub mod Conflicts
+pub mod Got

@@ -48,6 +48,7 @@ fn refuse<R: Host + Print + Eprint + AllocGlobal>(rt: &R, error: &WordsError) ->
                     explains: false,
                     begun: false,
                     has_system: false,
+                    is_silent: false,
                 };
                 say(rt, &end, manner);
                 end.status()
@@ -67,13 +68,11 @@ pub fn program<R: Host + Env + Input + Print + Eprint + AllocGlobal>(rt: &R) -> 
         Err(error) => return refuse(rt, &error),
     };
     let done = follow(rt, asked);
-    if done.is_silent {
-        return done.end.status();
-    }
     let manner = Manner {
         explains: rt.is_terminal(Stream::Error),
         begun: done.begun,
         has_system: done.has_system,
+        is_silent: done.is_silent,
     };
     say(rt, &done.end, manner);
     done.end.status()

@@ -8,10 +8,10 @@ ghost use Rattle.pm_program.specs.Conflicts.{others_take_away, printer_conflict,
 use crate::about::{Disks, about, copy_of, disks_of};
 use crate::console::{END, ESCAPE, Failed, Keys, Lined, Lines, Prompted};
 use crate::end::{Conflict, End};
+use crate::got::do_get;
 use crate::saved::{Printing, SavedOfRun, do_debug, do_files, do_run, do_salvage, do_trace};
 use crate::texts::do_text;
 use pm_choices::{AsmOutput, Saving};
-use pm_filer::FileCommand;
 use pm_files::{DiskFault, Host, HostStore, Store, Stream};
 use pm_plan::{
     Asked, FilesPlan, Form, InForm, Plan, Program, RunChoices, TextFiles, TextInput, Verb,
@@ -34,11 +34,12 @@ struct Terminals {
 }
 
 impl Terminals {
-    fn of<R: Host>(rt: &R) -> Terminals {
+    /// Where nothing is to be said, standard error is as if it were none.
+    fn of<R: Host>(rt: &R, is_quiet: bool) -> Terminals {
         Terminals {
             input: rt.is_terminal(Stream::Input),
             output: rt.is_terminal(Stream::Output),
-            error: rt.is_terminal(Stream::Error),
+            error: !is_quiet && rt.is_terminal(Stream::Error),
         }
     }
 
@@ -52,7 +53,7 @@ impl Terminals {
         match plan {
             Plan::Run(_, _) if self.output => Lines::Added,
             Plan::Asm(AsmOutput::File, _) if self.output => Lines::TextAlone,
-            Plan::Files(plan) if self.output && gets(&plan.verb) => Lines::TextAlone,
+            Plan::Files(plan) if self.output && plan.verb.gets() => Lines::TextAlone,
             _ => Lines::Plain,
         }
     }
@@ -74,23 +75,6 @@ enum Prompt {
     EachLine(&'static str),
 }
 
-/// Whether a verb reads standard input.
-fn reads(verb: &Verb) -> bool {
-    matches!(
-        verb,
-        Verb::Command(FileCommand::Put(..) | FileCommand::PutText(..))
-            | Verb::Command(FileCommand::Copy(..) | FileCommand::CopySlot(..))
-    )
-}
-
-/// Whether a verb writes the bytes of a file.
-fn gets(verb: &Verb) -> bool {
-    matches!(
-        verb,
-        Verb::Command(FileCommand::Get(..) | FileCommand::GetSlot(..))
-    )
-}
-
 fn prompt_of(plan: &Plan) -> Prompt {
     match plan {
         Plan::Raw { .. } => Prompt::Once("pmach: reads hexadecimal digits; Ctrl-D ends them\n"),
@@ -108,7 +92,7 @@ fn prompt_of(plan: &Plan) -> Prompt {
                 ..
             },
         ) => { Prompt::Once("pmach: reads a code file; Ctrl-D ends it\n") }
-        Plan::Files(plan) if reads(&plan.verb) => Prompt::Once(
+        Plan::Files(plan) if plan.verb.reads() => Prompt::Once(
             "pmach: reads the file; Ctrl-D ends it\n",
         ),
         Plan::Debug(..) => Prompt::EachLine("> "),
@@ -129,7 +113,8 @@ pub struct Done {
     pub end: End,
     /// Whether the last line that was written has not ended.
     pub begun: bool,
-    /// Whether nothing is said of it: who read the output has closed it, as `head` does, before a terminal.
+    /// Whether nothing is said of it: the words ask for that, or who read the output has closed it, as `head` does,
+    /// before a terminal.
     pub is_silent: bool,
     /// Whether the system's segment was put into the program.
     pub has_system: bool,
@@ -140,6 +125,32 @@ fn has_system(plan: &Plan) -> bool {
     match plan {
         Plan::Run(program, _) => program.system.is_some(),
         _ => false,
+    }
+}
+
+/// Does a verb of `files`; a command's output becomes the file of the plan's path, if it has one.
+fn act_on_files<S: Store, I: Source, O: Sink>(
+    alloc: Global,
+    store: &mut S,
+    source: &mut I,
+    sink: &mut O,
+    plan: FilesPlan,
+) -> Result<Outcome, DiskFault>
+    requires well { AreWell (both (I.seen source.old) (O.seen sink.old)) }
+{
+    let FilesPlan { path, verb, output } = plan;
+    match (verb, output) {
+        (Verb::Command(command), Some(output)) => {
+            do_get(
+                alloc,
+                store,
+                source,
+                path.as_str(),
+                output.as_str(),
+                command,
+            )
+        }
+        (verb, _) => do_files(alloc, store, source, sink, path.as_str(), verb),
     }
 }
 
@@ -161,9 +172,7 @@ fn act<S: Store, I: Source, O: Sink>(
         Plan::Dis(what, files) => {
             return do_text(alloc, store, source, sink, files, Job::Dis(what));
         }
-        Plan::Files(FilesPlan { path, verb }) => {
-            return do_files(alloc, store, source, sink, path.as_str(), verb);
-        }
+        Plan::Files(plan) => return act_on_files(alloc, store, source, sink, plan),
         Plan::Run(program, choices) => {
             let saved = saved_of(store, choices);
             return do_run(alloc, store, source, sink, program, saved);
@@ -367,11 +376,17 @@ fn conflict<S: Store>(store: &S, program: &Program, choices: &RunChoices) -> Opt
 
 /// What is wrong with the paths of `asm` or `dis`, if something is.
 fn text_conflict<S: Store>(store: &S, files: &TextFiles) -> Option<Conflict> {
-    let input = match &files.input {
-        TextInput::Standard => return None,
-        TextInput::File(path) | TextInput::OnImage { image: path, .. } => path.as_str(),
-    };
-    let output = files.output.as_ref()?.as_str();
+    match &files.input {
+        TextInput::Standard => None,
+        TextInput::File(path) | TextInput::OnImage { image: path, .. } => {
+            output_conflict(store, path.as_str(), &files.output)
+        }
+    }
+}
+
+/// What is wrong with the path of the file that is written, if there is one, beside that of the one that is read.
+fn output_conflict<S: Store>(store: &S, input: &str, output: &Option<String>) -> Option<Conflict> {
+    let output = output.as_ref()?.as_str();
     if store.is_same(output, input) {
         return Some(Conflict::OutputIsInput);
     }
@@ -386,6 +401,7 @@ fn conflict_in<S: Store>(store: &S, plan: &Plan) -> Option<Conflict> {
     match plan {
         Plan::Run(program, choices) => conflict(store, program, choices),
         Plan::Asm(_, files) | Plan::Dis(_, files) => text_conflict(store, files),
+        Plan::Files(plan) => output_conflict(store, plan.path.as_str(), &plan.output),
         // What is there is the same file as itself.
         Plan::Salvage(plan) if store.is_same(plan.target.as_str(), plan.target.as_str()) => {
             Some(Conflict::TargetIsThere)
@@ -414,9 +430,9 @@ fn end_of_job(alloc: Global, disks: &Option<Disks>, outcome: Outcome) -> End {
     End::Outcome(outcome, about)
 }
 
-/// The paths of the files of a plan that are no images: that of the system's code file, and that of the printer's file,
-/// of `debug` that of the file that is typed; of `asm` and `dis` that of the file that is read, and that of the file that
-/// is written.
+/// The paths of the files of a plan that are no images: that of the system's code file, and that of the printer's file
+/// or, of `debug`, of the file that is typed; of `asm` and `dis` that of the file that is read; and that of the file of
+/// `--output`.
 type OwnPaths = (Option<String>, Option<String>);
 
 /// Those of a plan.
@@ -438,6 +454,7 @@ fn own_paths(alloc: Global, plan: &Plan) -> Result<OwnPaths, AllocError> {
             };
             Ok((read, copy_of(alloc, &files.output)?))
         }
+        Plan::Files(plan) => Ok((None, copy_of(alloc, &plan.output)?)),
         _ => Ok((None, None)),
     }
 }
@@ -473,7 +490,7 @@ fn end_of_plan<R: Host + AllocGlobal, I: Source, O: Sink>(
 ) -> End
     requires well { AreWell (both (I.seen source.old) (O.seen sink.old)) }
 {
-    let Asked { plan, form } = asked;
+    let Asked { plan, form, .. } = asked;
     let disks = if is_told {
         disks_of(rt.alloc(), &plan)
     } else {
@@ -492,13 +509,14 @@ fn end_of_plan<R: Host + AllocGlobal, I: Source, O: Sink>(
 /// Does the job of a plan, with the standard streams and the files of the system.
 pub fn follow<R: Host + Input + Print + Eprint + AllocGlobal>(rt: &R, asked: Asked) -> Done {
     let plan = &asked.plan;
-    let at = Terminals::of(rt);
+    let is_quiet = asked.is_quiet;
+    let at = Terminals::of(rt, is_quiet);
     let store = HostStore::new(rt);
     if let Some(conflict) = conflict_in(&store, plan) {
         return Done {
             end: End::Words(conflict),
             begun: false,
-            is_silent: false,
+            is_silent: is_quiet,
             has_system: false,
         };
     }
@@ -517,7 +535,7 @@ pub fn follow<R: Host + Input + Print + Eprint + AllocGlobal>(rt: &R, asked: Ask
         end,
         // A line that output has begun is one of standard error too.
         begun: lined.has_begun() && at.output && at.error,
-        is_silent: at.error && lined.failed() == Some(Failed::Closed),
+        is_silent: is_quiet || at.error && lined.failed() == Some(Failed::Closed),
         has_system,
     }
 }

@@ -6,10 +6,12 @@ mod console;
 mod end;
 mod entry;
 mod follow;
+mod got;
 mod saved;
 mod say;
 mod texts;
 
 pub use entry::program;
+pub use got::do_get;
 pub use saved::{Printing, SavedOfRun, do_debug, do_files, do_run, do_trace};
 pub use texts::do_text;

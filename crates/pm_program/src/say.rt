@@ -1,4 +1,6 @@
 //! What the program says on standard error at its end.
+ghost use Rattle.std.specs.Prelude.{◌≡◌, true, []};
+
 use crate::end::End;
 use pm_tool::{Ending, Outcome, Reason, Refusal, RunReason, Whereabouts};
 use std::fmt;
@@ -55,9 +57,12 @@ impl fmt::Display for Refused<'_> {
     }
 }
 
-/// The message of an end. It may be empty.
-fn message(end: &End) -> &str {
+/// The message of an end; none where nothing is to be said. It may be empty.
+fn message(end: &End, is_silent: bool) -> &str
+    ensures silent { is_silent ≡ true → result.now ≡ [] }
+{
     match end {
+        _ if is_silent => "",
         End::Outcome(outcome, _) => outcome.text(),
         End::File(fault, _) => fault.fault().text(),
         End::Words(conflict) => conflict.text(),
@@ -123,11 +128,13 @@ pub struct Manner {
     pub begun: bool,
     /// Whether the system's segment was put into the program.
     pub has_system: bool,
+    /// Whether nothing is written.
+    pub is_silent: bool,
 }
 
 /// Says on standard error what the program came to, where there is something to say.
 pub fn say<R: Eprint>(rt: &R, end: &End, manner: Manner) {
-    let message = message(end);
+    let message = message(end, manner.is_silent);
     if message.is_empty() {
         return;
     }

@@ -55,7 +55,7 @@ fn keep<S: Store>(store: &mut S, path: &str, exit: Exit, bytes: &[u8]) -> Result
 /// Does a job whose output is the file of a path, which is held: where the job ends well the file has all that is
 /// written, and else no file has changed. The source may not have failed before.
 #[tactic(auto, using(crate::proofs::TextLaws::cut_keeps_none))]
-fn into_file<S: Store, I: Source>(
+pub(crate) fn into_file<S: Store, I: Source>(
     alloc: Global,
     store: &mut S,
     source: &mut I,

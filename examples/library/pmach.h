@@ -2,8 +2,8 @@
 
    What every call asks of its caller, which nothing checks:
    - A pointer points to as many bytes, numbers or structs as its parameters say, also where they are none: it is never
-     null. What is written (struct pmach *, struct pmach_shown *, struct pmach_place *, out, needed, steps, word) overlaps nothing else that
-     the same call is given.
+     null. What is written (struct pmach *, struct pmach_shown *, struct pmach_place *, out, needed, steps, word, address)
+     overlaps nothing else that the same call is given.
    - A struct pmach is set to {0} before its first call, and changed by these calls alone. It is not copied and used
      twice; one that is thrown away with a machine in it loses memory. It goes to one call at a time, and stays on the
      thread that made its machine.
@@ -20,9 +20,17 @@
 extern "C" {
 #endif
 
-/* What the calls answer. 1, 2, 3 and 6 have the meaning that stands at the call. */
+#define PMACH_VERSION_TEXT "0.1"
+
+/* What the calls answer: pmach_sentence says each in words. */
 enum {
+    PMACH_VERSION = 1,     /* of this header, as pmach_version says that of the library */
     PMACH_DONE = 0,        /* done; of a step and a run: the machine goes on */
+    PMACH_WAITING = 1,     /* the machine waits for console bytes */
+    PMACH_ENDED = 2,       /* the program has come to its end */
+    PMACH_REFUSED = 2,     /* a job is refused, and its answer says why */
+    PMACH_FAILED = 3,      /* an execution error stopped the program of a job */
+    PMACH_STOPPED = 6,     /* the program of a job came to its limit, or waits for console bytes */
     PMACH_TOO_LONG = 4,    /* the input of a job has more than 16,777,216 bytes */
     PMACH_NO_MEMORY = 5,   /* no memory, and nothing changed; of a run: it stands after the steps that went */
     PMACH_TOO_SHORT = 7,   /* out is too short: nothing was written to it, and *needed says how many bytes it wants */
@@ -31,10 +39,20 @@ enum {
     PMACH_ODD_ADDRESS = 10,
     PMACH_NO_DISK = 11,
     PMACH_NO_TEXT = 12,    /* a name is not UTF-8 */
-    PMACH_NO_PLACE = 13    /* SEG or JTAB is odd, so that the machine stands nowhere in the code */
+    PMACH_NO_PLACE = 13,   /* SEG or JTAB is odd, so that the machine stands nowhere in the code */
+    PMACH_NO_KIND = 14,    /* no file has a kind above 15 */
+    PMACH_AT_BREAK = 15,   /* the run has come to a breakpoint */
+    PMACH_CHANGED = 16     /* a watched word has changed */
     /* 100 + N: execution error N. 200 + N: `refused boot N`. 300 + N: 301 no disk unit, 302 a disk is there.
-       400 + N: `refused volume N`. */
+       400 + N: `refused volume N`. 500 + N: 501 too many breakpoints or watched words, 502 not set, 503 odd address. */
 };
+
+/* The words of an answer, an empty text where it is none: 0; 7. Of the message of a job the number is that of a volume
+   for `refused volume N` and `refused filer 1 N`, that of a start for `refused boot N`, and 600 + N for `refused asm N`,
+   700 + N for `refused code N`, 800 + N for `refused filer 2 N`. */
+uint32_t pmach_sentence(uint32_t status, uint8_t *out, size_t out_len, size_t *needed);
+/* The version of the library, 100 times its first number and its second: PMACH_VERSION is that of this header. */
+uint32_t pmach_version(void);
 
 /* ---- whole jobs: bytes in, an answer out
    The answer goes to the front of out, and *needed is its length. 0 it is done; 2 it is refused, and the answer is the
@@ -71,7 +89,7 @@ uint32_t pmach_get(const uint8_t *image, size_t image_len, const uint8_t *name, 
     uint8_t *out, size_t out_len, size_t *needed);
 uint32_t pmach_get_text(const uint8_t *image, size_t image_len, const uint8_t *name, size_t name_len,
     uint8_t *out, size_t out_len, size_t *needed);
-/* kind: 2 code, 3 text, 5 data, as docs/FILES.md has them; only its low four bits count */
+/* kind: 2 code, 3 text, 5 data, as docs/FILES.md has them; 14 above 15 */
 uint32_t pmach_put(const uint8_t *image, size_t image_len, const uint8_t *name, size_t name_len,
     uint8_t kind, const uint8_t *bytes, size_t bytes_len, uint8_t *out, size_t out_len, size_t *needed);
 uint32_t pmach_put_text(const uint8_t *image, size_t image_len, const uint8_t *name, size_t name_len,
@@ -157,7 +175,22 @@ uint32_t pmach_mount(struct pmach *h, uint8_t unit, const uint8_t *image, size_t
 uint32_t pmach_eject(struct pmach *h, uint8_t unit);
 uint32_t pmach_ejected(struct pmach *h, uint8_t *out, size_t out_len, size_t *needed);
 
-/* These change nothing. 0; 8 and nothing is shown. */
+/* ---- a session of the debugger on that machine, with its breakpoints, watched words and last run */
+
+/* A line of the debugger done, such as `where`, without a line feed: 0; 8; and 5, by which the machine is freed, since
+   nothing is known of it, and the handle is empty. pmach_answer gives what the program writes in answer, with its line
+   feed, until the next line is done: 0; 7; 8. */
+uint32_t pmach_command(struct pmach *h, const uint8_t *line, size_t line_len);
+uint32_t pmach_answer(struct pmach *h, uint8_t *out, size_t out_len, size_t *needed);
+/* A breakpoint at an offset of a procedure of a segment, or a watched word at an even address, set, or with on false
+   taken away: 0; 501 beside 64 others; 502 it is not set; 503 an odd address; 8. */
+uint32_t pmach_break(struct pmach *h, uint8_t segment, uint8_t procedure, uint16_t offset, bool on);
+uint32_t pmach_watch(struct pmach *h, uint16_t address, bool on);
+/* As pmach_run, but up to a breakpoint, 15, or to a watched word that has changed, 16, and *address is its address:
+   before each step but the first. */
+uint32_t pmach_go(struct pmach *h, uint64_t limit, uint64_t *steps, uint16_t *address);
+
+/* ---- These change nothing. 0; 8 and nothing is shown. */
 uint32_t pmach_registers(struct pmach *h, struct pmach_shown *shown);
 /* the word at an address; 10 at an odd one */
 uint32_t pmach_word(struct pmach *h, uint16_t address, uint16_t *word);

@@ -14,6 +14,15 @@ worked_answers = record {
   no_disk = refl;
   no_text = refl;
   no_place = refl;
+  no_kind = refl;
+  at_break = refl;
+  changed = refl;
+  waiting = refl;
+  ended = refl;
+  refused = refl;
+  failed = refl;
+  stopped = refl;
+  version = refl;
   even = refl;
   odd = refl;
   job_done = refl;
@@ -31,6 +40,12 @@ worked_stops = record {
   running = refl;
   has_ended = refl;
   has_halted = refl;
+  limit = refl;
+  waits = refl;
+  comes_to_its_end = refl;
+  at_breakpoint = refl;
+  word_changed = refl;
+  fails = refl;
 }
 
 pub worked_errors : WorkedErrors
@@ -70,4 +85,7 @@ worked_refusals = record {
   none = refl;
   first_copy = refl;
   occupied = refl;
+  too_many = refl;
+  not_set = refl;
+  odd_word = refl;
 }

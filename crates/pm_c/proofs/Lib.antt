@@ -1,4 +1,6 @@
 pub mod Computed
 mod LooseValues
+pub mod SentenceLaws
+pub mod SessionLaws
 pub mod StatusLaws
 mod Values

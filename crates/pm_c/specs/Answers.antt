@@ -2,7 +2,7 @@
 use Rattle.std.specs.Prelude.{◌≡◌, ◌≢◌, ◌⊎◌, ℕ, List, ◌++◌, Option, None, Some, length, if◌then◌else◌, nat_lt}
 use Rattle.pm_tool.specs.Outcomes.{Said, exit_number}
 use Rattle.pm_c.specs.Changes.{filled}
-use Rattle.pm_c.specs.declared.status.TheConstants.{NO_MEMORY, NO_TEXT, TOO_LONG, TOO_SHORT}
+use Rattle.pm_c.specs.declared.status.TheConstants.{NO_KIND, NO_MEMORY, NO_TEXT, TOO_LONG, TOO_SHORT}
 
 -- the image that is to be kept, where there is one, and else what is written and behind it the message
 abbrev pub or_told : Option (List ℕ) → List ℕ → List ℕ
@@ -35,3 +35,9 @@ pub record Answered (told : Said) (status : ℕ) (old new : List ℕ) (needed : 
 pub record Answers (told : Said) (status : ℕ) (old new : List ℕ) (needed : ℕ) : Type 0 where
   pub answer : HasAnswer status → Answered told status old new needed
   pub none : NoAnswer status → (new ≡ old) × (needed ≡ 0)
+
+-- the kind is above 15, and nothing is done
+pub record RefusesKind (status : ℕ) (old new : List ℕ) (needed : ℕ) : Type 0 where
+  pub says : status ≡ NO_KIND
+  pub same : new ≡ old
+  pub none : needed ≡ 0

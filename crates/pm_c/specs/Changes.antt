@@ -1,6 +1,7 @@
 -- What a call on a handle does to the machine in it.
 use Rattle.std.specs.Prelude.{◌≡◌, ◌≢◌, ℕ, List, length, drop, ◌++◌, Option, None, Some}
-use Rattle.std.specs.Prelude.{Result, Ok, Err, if◌then◌else◌, nat_lt}
+use Rattle.std.specs.Prelude.{[], Result, Ok, Err, if◌then◌else◌, nat_lt, string_bytes}
+use Rattle.pm_debug.specs.Session.{Debugged, session_of}
 use Rattle.pm_machine.specs.State.{State, Whole}
 use Rattle.pm_machine.specs.declared.code_place.CodePlace.{CodePlace}
 use Rattle.pm_machine.specs.declared.state.BootFault.{BootFault}
@@ -11,6 +12,7 @@ use Rattle.pm_machine.specs.Events.{Eject, Mount, next}
 use Rattle.pm_machine.specs.Runs.{Ran}
 use Rattle.pm_machine.specs.Steps.{stepped}
 use Rattle.pm_machine.specs.declared.state.Stop.{Stop}
+use Rattle.pm_session.specs.Sessions.{opened}
 use Rattle.pm_c.specs.Codes.{image_code, status_code, stop_code}
 use Rattle.pm_c.specs.declared.held.Held.{Held}
 use Rattle.pm_c.specs.declared.lines.Place.{Place}
@@ -24,9 +26,13 @@ Leads status None new P = (status ≡ NO_MACHINE) × (new ≡ None)
 Leads status (Some m) None P = ⊥
 Leads status (Some m) (Some n) P = P m n
 
--- the machine changes so, and the disk that was taken out stays
+-- the debugger of the machine changes so, and nothing beside it
+abbrev pub ChangesDebugger : (Debugged → Debugged → Type 0) → Held → Held → Type 0
+ChangesDebugger P m n = P m.debugger n.debugger × (n ≡ record m { debugger = n.debugger })
+
+-- the machine changes so, and nothing beside it: the breakpoints, the watched words and the rest of the last run stay
 abbrev pub ChangesMachine : (Whole → Whole → Type 0) → Held → Held → Type 0
-ChangesMachine P m n = P m.machine n.machine × (n.ejected ≡ m.ejected)
+ChangesMachine P = ChangesDebugger (λ d e. P d.machine e.machine × (e ≡ record d { machine = e.machine }))
 
 -- one step, and the status of its answer
 abbrev pub StepsTo : ℕ → Whole → Whole → Type 0
@@ -40,9 +46,17 @@ RunsTo limit count status m n = (stop : Stop) × Ran limit m.state count stop n.
 abbrev pub Looks : (Held → Type 0) → Held → Held → Type 0
 Looks P m n = P m × (n ≡ m)
 
--- a handle holds a machine that starts so, out of which no disk was taken
+-- a machine that starts so, with a session that begins, out of which no disk was taken
+pub record Started (start : Result State BootFault) (m : Held) : Type 0 where
+  pub starts : start ≡ Ok m.debugger.machine.state
+  pub session : session_of m.debugger ≡ opened m.debugger.machine.state
+  pub ejected : m.ejected ≡ None
+  pub answer : string_bytes m.answer ≡ []
+
+-- a handle holds such a machine
 abbrev pub Holds : Option Held → Result State BootFault → Type 0
-Holds held start = (m : Whole) × (held ≡ Some (record { machine = m; ejected = None })) × (start ≡ Ok m.state)
+Holds None start = ⊥
+Holds (Some m) start = Started start m
 
 -- ---- bytes for a buffer of the caller's
 
@@ -110,8 +124,9 @@ Takes None status m n = (status ≡ NO_DISK) × (n.ejected ≡ m.ejected)
 Takes (Some image) status m n = (status ≡ DONE) × (n.ejected ≡ Some image)
 
 pub record Ejects (unit status : ℕ) (m n : Held) : Type 0 where
-  pub takes : Takes (ejected_image unit m.machine.state.devices) status m n
-  pub event : n.machine.state ≡ next m.machine.state (Eject unit)
+  pub takes : Takes (ejected_image unit m.debugger.machine.state.devices) status m n
+  pub event : n.debugger.machine.state ≡ next m.debugger.machine.state (Eject unit)
+  pub same : n ≡ record m { debugger = record m.debugger { machine = n.debugger.machine }; ejected = n.ejected }
 
 -- an image is given to a buffer, if there is one
 abbrev pub GivesImage : Option (List ℕ) → ℕ → List ℕ → List ℕ → ℕ → Type 0

@@ -1,11 +1,28 @@
--- Laws of the statuses, and of buffers.
-use Rattle.std.specs.Prelude.{◌≡◌, ◌≢◌, ◌↔◌, ℕ, List, length, None, IsOk}
+-- Laws of the statuses, of buffers and of sessions.
+use Rattle.std.specs.Prelude.{◌≡◌, ◌≢◌, ◌↔◌, ℕ, ◌+◌, List, [], ◌∷◌, ◌++◌, length, Option, None, IsOk}
+use Rattle.std.specs.Prelude.{is_some, true, codes, if◌then◌else◌}
 use Rattle.pm_volume.specs.Directory.{image_fault}
 use Rattle.pm_units.specs.Devices.{Devices, mounted}
 use Rattle.pm_machine.specs.Boot.{boot_start}
 use Rattle.pm_machine.specs.declared.state.Stop.{Stop}
+use Rattle.pm_machine.specs.State.{State}
+use Rattle.pm_machine.specs.declared.state.BootFault.{BootFault}
+use Rattle.pm_debug.specs.Session.{Session}
+use Rattle.pm_debug.specs.declared.reason.BreakReason.{BreakReason}
+use Rattle.pm_debug.specs.declared.refusal.DebugRefusal.TheVariants.{Full, NotSet, OddAddress}
+use Rattle.pm_debug.specs.Refusals.{number_of as refusal_number}
+use Rattle.pm_units.specs.Devices.{mount_number}
+use Rattle.pm_units.specs.declared.ports.MountFault.{MountFault}
+use Rattle.pm_volume.specs.Faults.{number_of as volume_number}
+use Rattle.pm_volume.specs.declared.fault.VolumeFault.{VolumeFault}
+use Rattle.pm_volume.specs.declared.fault.VolumeFault.TheVariants.{NoMemory}
+use Rattle.pm_session.specs.Answers.{session_after}
+use Rattle.pm_session.specs.Orders.{order_of}
+use Rattle.pm_session.specs.Sessions.{answers, is_quit, opened}
+use Rattle.pm_c.specs.Sentences.{sentence}
+use Rattle.pm_c.specs.Sessions.{go_code, line_answer}
 use Rattle.pm_c.specs.Changes.{fill_code, filled}
-use Rattle.pm_c.specs.Codes.{image_code, on_unit_4, program_code, stop_code}
+use Rattle.pm_c.specs.Codes.{boot_code, image_code, on_unit_4, program_code, stop_code}
 use Rattle.pm_c.specs.declared.status.TheConstants.{DONE, NO_MACHINE, NO_MEMORY, TOO_SHORT}
 
 -- a buffer that is too short stays, and one of the length that is wanted then has just the bytes
@@ -30,3 +47,28 @@ MountIsTold =
 -- what a machine answers has never the status of a call that was not made
 abbrev pub AnswersAreApart : Type 0
 AnswersAreApart = (stop : Stop) → (stop_code stop ≢ NO_MEMORY) × (stop_code stop ≢ NO_MACHINE)
+
+-- the number has a sentence
+abbrev pub IsTold : ℕ → Type 0
+IsTold status = is_some (sentence status) ≡ true
+
+-- so has each answer of a machine, of a run of its debugger, of a start, of a unit, of a volume and of a breakpoint
+pub record AnswersAreTold : Type 0 where
+  pub stops : (stop : Stop) → IsTold (stop_code stop)
+  pub runs : (reason : BreakReason) → IsTold (go_code reason)
+  pub starts : (fault : BootFault) → IsTold (boot_code fault)
+  pub mounts : (fault : MountFault) → IsTold (300 + mount_number fault)
+  pub volumes : (fault : VolumeFault) → fault ≢ NoMemory → IsTold (400 + volume_number fault)
+  pub full : IsTold (500 + refusal_number Full)
+  pub not_set : IsTold (500 + refusal_number NotSet)
+  pub odd_address : IsTold (500 + refusal_number OddAddress)
+
+-- a line and those behind it are a session of the program: its answer, and but behind `quit` the answers to the others
+-- of the session that it leaves; a line that is no command is asked for again
+pub record LinesAreASession : Type 0 where
+  pub answers : (line : List ℕ) (lines : List (List ℕ)) (d : Session) →
+      answers (line ∷ lines) d
+      ≡ line_answer line d ++ (if is_quit (order_of line) then [] else answers lines (session_after (order_of line) d))
+  pub no_command : (s : State) → line_answer (codes "no") (opened s) ≡ codes "?" ++ (10 ∷ [])
+  pub quits : (s : State) → line_answer (codes "quit") (opened s) ≡ []
+  pub takes_a_break : (s : State) → line_answer (codes "break 2 1 0") (opened s) ≡ codes "ok" ++ (10 ∷ [])

@@ -1,5 +1,5 @@
 -- The numbers that programs in C see, computed: each row of the header with its number, worked out by hand.
-use Rattle.std.specs.Prelude.{◌≡◌, Some, None, Err}
+use Rattle.std.specs.Prelude.{◌≡◌, ℕ, List, Some, None, Result, Err}
 use Rattle.pm_words.specs.declared.error.ExecError.TheVariants.{InvalidIndex, NoSegment, NoProcedure, StackOverflow}
 use Rattle.pm_words.specs.declared.error.ExecError.TheVariants.{DivideByZero, InvalidMemory, SystemIo, UserIo}
 use Rattle.pm_words.specs.declared.error.ExecError.TheVariants.{Unimplemented, StringTooLong, Halt}
@@ -7,14 +7,21 @@ use Rattle.pm_volume.specs.declared.fault.VolumeFault.TheVariants.{NotBlocks, To
 use Rattle.pm_volume.specs.declared.fault.VolumeFault.TheVariants.{TooManyFiles, PastEnd, NoRoom, DirectoryFull}
 use Rattle.pm_volume.specs.declared.fault.VolumeFault.TheVariants.{Duplicate, BadName, NoFile, FirstCopyBad, Occupied}
 use Rattle.pm_units.specs.declared.ports.MountFault.TheVariants.{NoUnit, Taken}
+use Rattle.pm_debug.specs.declared.breaks.Breakpoint.{Breakpoint}
+use Rattle.pm_debug.specs.declared.reason.BreakReason.TheVariants as reasons
+use Rattle.pm_debug.specs.declared.refusal.DebugRefusal.{DebugRefusal}
+use Rattle.pm_debug.specs.declared.refusal.DebugRefusal.TheVariants as debugs
 use Rattle.pm_machine.specs.declared.state.BootFault.TheVariants as boot
 use Rattle.pm_machine.specs.declared.state.Status.TheVariants as status
 use Rattle.pm_machine.specs.declared.state.Stop.TheVariants as stop
 use Rattle.pm_tool.specs.Outcomes.{exit_number}
 use Rattle.pm_tool.specs.declared.outcome.Exit.TheVariants as exits
+use Rattle.pm_c.specs.Sessions.{go_code, set_code}
 use Rattle.pm_c.specs.Codes.{mount_code, poke_code, start_code, status_code, stop_code, volume_code}
 use Rattle.pm_c.specs.declared.status.TheConstants.{DONE, TOO_LONG, NO_MEMORY, TOO_SHORT, NO_MACHINE, HAS_MACHINE}
 use Rattle.pm_c.specs.declared.status.TheConstants.{ODD_ADDRESS, NO_DISK, NO_TEXT, NO_PLACE}
+use Rattle.pm_c.specs.declared.status.TheConstants.{NO_KIND, AT_BREAK, CHANGED, WAITING, ENDED, REFUSED}
+use Rattle.pm_c.specs.declared.status.TheConstants.{FAILED, STOPPED, VERSION}
 
 -- what calls answer
 pub record WorkedAnswers : Type 0 where
@@ -28,6 +35,15 @@ pub record WorkedAnswers : Type 0 where
   pub no_disk : NO_DISK ≡ 11
   pub no_text : NO_TEXT ≡ 12
   pub no_place : NO_PLACE ≡ 13
+  pub no_kind : NO_KIND ≡ 14
+  pub at_break : AT_BREAK ≡ 15
+  pub changed : CHANGED ≡ 16
+  pub waiting : WAITING ≡ 1
+  pub ended : ENDED ≡ 2
+  pub refused : REFUSED ≡ 2
+  pub failed : FAILED ≡ 3
+  pub stopped : STOPPED ≡ 6
+  pub version : VERSION ≡ 1
   -- an even address is written, an odd one is not
   pub even : poke_code 1024 ≡ 0
   pub odd : poke_code 1025 ≡ 10
@@ -46,6 +62,13 @@ pub record WorkedStops : Type 0 where
   pub running : status_code status.Running ≡ 0
   pub has_ended : status_code status.Ended ≡ 2
   pub has_halted : status_code (status.Halted InvalidIndex) ≡ 101
+  -- a run of the debugger
+  pub limit : go_code reasons.Limit ≡ 0
+  pub waits : go_code reasons.Waiting ≡ 1
+  pub comes_to_its_end : go_code reasons.Ended ≡ 2
+  pub at_breakpoint : go_code reasons.Break ≡ 15
+  pub word_changed : go_code (reasons.Changed 1024) ≡ 16
+  pub fails : go_code (reasons.Halted StackOverflow) ≡ 104
 
 -- a start that is refused by an execution error: 100 and its number
 pub record WorkedErrors : Type 0 where
@@ -61,7 +84,10 @@ pub record WorkedErrors : Type 0 where
   pub string : start_code (Err (boot.Exec StringTooLong)) ≡ 113
   pub halt : start_code (Err (boot.Exec Halt)) ≡ 114
 
--- what is refused beside that: programs from 200 on, units from 300 on, volumes from 400 on
+abbrev breaks_code : Result (List Breakpoint) DebugRefusal → ℕ
+breaks_code = set_code
+
+-- what is refused beside that: programs from 200 on, units from 300 on, volumes from 400 on, breakpoints from 500 on
 pub record WorkedRefusals : Type 0 where
   pub no_file : start_code (Err boot.NoFile) ≡ 201
   pub not_code : start_code (Err boot.NotCode) ≡ 202
@@ -83,3 +109,6 @@ pub record WorkedRefusals : Type 0 where
   pub none : volume_code (Some NoFile) 0 ≡ 411
   pub first_copy : volume_code (Some (FirstCopyBad 3)) 0 ≡ 413
   pub occupied : volume_code (Some Occupied) 0 ≡ 414
+  pub too_many : breaks_code (Err debugs.Full) ≡ 501
+  pub not_set : breaks_code (Err debugs.NotSet) ≡ 502
+  pub odd_word : breaks_code (Err debugs.OddAddress) ≡ 503

@@ -49,7 +49,7 @@ pub extern "C" fn pmach_mount(alloc: Global, handle: &mut Handle, unit: u8, imag
         return NO_MACHINE;
     };
     let mut held = held;
-    let code = mount(alloc, &mut held.machine, unit, image);
+    let code = mount(alloc, held.debugger.machine(), unit, image);
     *handle = Handle::of(held);
     code
 }
@@ -57,7 +57,7 @@ pub extern "C" fn pmach_mount(alloc: Global, handle: &mut Handle, unit: u8, imag
 fn eject(held: &mut Held, unit: u8) -> u32
     ensures ejects { Ejects unit result held.old held.new }
 {
-    match held.machine.eject(unit) {
+    match held.debugger.machine().eject(unit) {
         Some(disk) => {
             held.ejected = Some(disk);
             DONE

@@ -31,13 +31,13 @@ pub extern "C" fn pmach_step(alloc: Global, handle: &mut Handle) -> u32
         result ≢ NO_MEMORY → StepsTo result m n)) }
     ensures err { result ≡ NO_MEMORY → handle.new.held ≡ handle.old.held }
     ensures wanted { Leads result handle.old.held handle.new.held (λ m _.
-        result ≡ NO_MEMORY → WantsMemory m.machine) }
+        result ≡ NO_MEMORY → WantsMemory m.debugger.machine) }
 {
     let Some(held) = taken(alloc, handle) else {
         return NO_MACHINE;
     };
     let mut held = held;
-    let code = step_code(&mut held.machine);
+    let code = step_code(held.debugger.machine());
     *handle = Handle::of(held);
     code
 }
@@ -74,7 +74,7 @@ pub extern "C" fn pmach_run(alloc: Global, handle: &mut Handle, limit: u64, step
         return NO_MACHINE;
     };
     let mut held = held;
-    let code = run_code(&mut held.machine, limit, steps);
+    let code = run_code(held.debugger.machine(), limit, steps);
     *handle = Handle::of(held);
     code
 }
@@ -87,13 +87,13 @@ pub extern "C" fn pmach_key(alloc: Global, handle: &mut Handle, byte: u8) -> u32
         (result ≡ DONE) × (n.state ≡ next m.state (Key byte)))) }
     ensures err { result ≡ NO_MEMORY → handle.new.held ≡ handle.old.held }
     ensures full { Leads result handle.old.held handle.new.held (λ m _.
-        result ≡ NO_MEMORY → m.machine.room.queue ≡ 0) }
+        result ≡ NO_MEMORY → m.debugger.machine.room.queue ≡ 0) }
 {
     let Some(held) = taken(alloc, handle) else {
         return NO_MACHINE;
     };
     let mut held = held;
-    let code = match held.machine.key(byte) {
+    let code = match held.debugger.machine().key(byte) {
         Ok(()) => DONE,
         Err(_) => NO_MEMORY,
     };
@@ -111,7 +111,7 @@ pub extern "C" fn pmach_poke(alloc: Global, handle: &mut Handle, address: u16, w
         return NO_MACHINE;
     };
     let mut held = held;
-    let code = if held.machine.poke(address, word) {
+    let code = if held.debugger.machine().poke(address, word) {
         DONE
     } else {
         ODD_ADDRESS

@@ -1,16 +1,16 @@
 //! The kind of a file, and a file of another volume: one call each, for the first file of a name and that of a slot.
-ghost use Rattle.std.specs.Prelude.{◌≡◌, ◌↔◌, []};
+ghost use Rattle.std.specs.Prelude.{◌≡◌, ◌<◌, ◌≤◌, ◌↔◌, []};
 ghost use Rattle.std.specs.Str.{IsUtf8};
 ghost use Rattle.pm_filer.specs.Filed.{Copy, CopySlot, Kind, KindSlot};
 ghost use Rattle.pm_tool.specs.Batches.{said_files};
-ghost use Rattle.pm_c.specs.Answers.{Answers};
+ghost use Rattle.pm_c.specs.Answers.{Answers, RefusesKind};
 
-use crate::status::NO_TEXT;
+use crate::status::{NO_KIND, NO_TEXT};
 use crate::volumes::{command, none, text_of};
 use pm_filer::FileCommand;
 use std::alloc::Global;
 
-/// Gives the first file of a name a kind (its low four bits).
+/// Gives the first file of a name a kind. 14 where that is above 15, before all else.
 #[unsafe(no_mangle)]
 pub extern "C" fn pmach_kind(
     alloc: Global,
@@ -20,9 +20,14 @@ pub extern "C" fn pmach_kind(
     out: &mut [u8],
     needed: &mut usize,
 ) -> u32
-    ensures answers { Answers (said_files image.now (Kind name.now kind) []) result out.old out.new needed.new }
-    ensures text { (result ≡ NO_TEXT) ↔ ¬ (IsUtf8 name.now) }
+    ensures answers { kind ≤ 15 → Answers (said_files image.now (Kind name.now kind) [])
+        result out.old out.new needed.new }
+    ensures text { kind ≤ 15 → ((result ≡ NO_TEXT) ↔ ¬ (IsUtf8 name.now)) }
+    ensures kind { 15 < kind → RefusesKind result out.old out.new needed.new }
 {
+    if kind > 15 {
+        return none(NO_KIND, needed);
+    }
     match text_of(alloc, name) {
         Ok(name) => command(
             alloc,
@@ -36,7 +41,7 @@ pub extern "C" fn pmach_kind(
     }
 }
 
-/// Gives the file of a slot a kind (its low four bits); a file of its name in another slot keeps its own.
+/// Gives the file of a slot a kind; a file of its name in another slot keeps its own. 14 where the kind is above 15.
 #[unsafe(no_mangle)]
 pub extern "C" fn pmach_kind_slot(
     alloc: Global,
@@ -46,8 +51,13 @@ pub extern "C" fn pmach_kind_slot(
     out: &mut [u8],
     needed: &mut usize,
 ) -> u32
-    ensures answers { Answers (said_files image.now (KindSlot slot kind) []) result out.old out.new needed.new }
+    ensures answers { kind ≤ 15 → Answers (said_files image.now (KindSlot slot kind) [])
+        result out.old out.new needed.new }
+    ensures kind { 15 < kind → RefusesKind result out.old out.new needed.new }
 {
+    if kind > 15 {
+        return none(NO_KIND, needed);
+    }
     command(
         alloc,
         image,

@@ -1,11 +1,12 @@
 //! What stands behind a handle.
 
-use pm_machine::Machine;
+use pm_debug::Debugger;
 use pm_volume::Disk;
 
-/// A machine, and the disk that was taken out of it last.
+/// A machine with its debugger, the disk that was taken out of it last, and the answer to the last line of a session.
 #[derive(Drop)]
 pub struct Held {
-    pub(crate) machine: Machine,
+    pub(crate) debugger: Debugger,
     pub(crate) ejected: Option<Disk>,
+    pub(crate) answer: String,
 }

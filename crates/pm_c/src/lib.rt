@@ -14,6 +14,8 @@ pub mod jobs;
 pub mod laws;
 pub mod lines;
 mod loose;
+pub mod sentences;
+pub mod session;
 pub mod shows;
 pub mod slots;
 pub mod starts;

@@ -43,13 +43,17 @@ pub extern "C" fn pmach_line(
     needed: &mut usize,
 ) -> u32
     ensures looks { Leads result handle.old.held handle.new.held (Looks (λ m.
-        Tells (trace_line m.machine.state) result out.old out.new needed.new)) }
+        Tells (trace_line m.debugger.machine.state) result out.old out.new needed.new)) }
     ensures same { handle.old.held ≡ None → out.new ≡ out.old }
 {
     let Some(held) = taken(alloc, handle) else {
         return NO_MACHINE;
     };
-    let code = tell(pm_trace::trace_line(alloc, &held.machine), out, needed);
+    let code = tell(
+        pm_trace::trace_line(alloc, held.debugger.as_machine()),
+        out,
+        needed,
+    );
     *handle = Handle::of(held);
     code
 }
@@ -64,13 +68,13 @@ pub extern "C" fn pmach_instruction(
     needed: &mut usize,
 ) -> u32
     ensures looks { Leads result handle.old.held handle.new.held (Looks (λ m.
-        Tells (line_text m.machine.state.memory address) result out.old out.new needed.new)) }
+        Tells (line_text m.debugger.machine.state.memory address) result out.old out.new needed.new)) }
     ensures same { handle.old.held ≡ None → out.new ≡ out.old }
 {
     let Some(held) = taken(alloc, handle) else {
         return NO_MACHINE;
     };
-    let text = pm_disasm::line(alloc, held.machine.memory(), address);
+    let text = pm_disasm::line(alloc, held.debugger.as_machine().memory(), address);
     let code = tell(text, out, needed);
     *handle = Handle::of(held);
     code
@@ -97,13 +101,13 @@ fn locate(machine: &Machine, place: &mut Place) -> u32
 #[unsafe(no_mangle)]
 pub extern "C" fn pmach_place(alloc: Global, handle: &mut Handle, place: &mut Place) -> u32
     ensures looks { Leads result handle.old.held handle.new.held (Looks (λ m.
-        Places (place_in_code m.machine.state) result place.old place.new)) }
+        Places (place_in_code m.debugger.machine.state) result place.old place.new)) }
     ensures same { handle.old.held ≡ None → place.new ≡ place.old }
 {
     let Some(held) = taken(alloc, handle) else {
         return NO_MACHINE;
     };
-    let code = locate(&held.machine, place);
+    let code = locate(held.debugger.as_machine(), place);
     *handle = Handle::of(held);
     code
 }

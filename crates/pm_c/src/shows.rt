@@ -50,13 +50,13 @@ fn show(machine: &Machine, shown: &mut Shown)
 #[unsafe(no_mangle)]
 pub extern "C" fn pmach_registers(alloc: Global, handle: &mut Handle, shown: &mut Shown) -> u32
     ensures looks { Leads result handle.old.held handle.new.held (Looks (λ m. (result ≡ DONE) ×
-        (shown.new ≡ shown_of m.machine.state))) }
+        (shown.new ≡ shown_of m.debugger.machine.state))) }
     ensures same { handle.old.held ≡ None → shown.new ≡ shown.old }
 {
     let Some(held) = taken(alloc, handle) else {
         return NO_MACHINE;
     };
-    show(&held.machine, shown);
+    show(held.debugger.as_machine(), shown);
     *handle = Handle::of(held);
     DONE
 }
@@ -83,13 +83,13 @@ pub extern "C" fn pmach_word(
     word: &mut u16,
 ) -> u32
     ensures looks { Leads result handle.old.held handle.new.held (Looks (λ m.
-        Reads (word_read m.machine.state.memory address) result word.old word.new)) }
+        Reads (word_read m.debugger.machine.state.memory address) result word.old word.new)) }
     ensures same { handle.old.held ≡ None → word.new ≡ word.old }
 {
     let Some(held) = taken(alloc, handle) else {
         return NO_MACHINE;
     };
-    let code = read(&held.machine, address, word);
+    let code = read(held.debugger.as_machine(), address, word);
     *handle = Handle::of(held);
     code
 }
@@ -116,13 +116,17 @@ pub extern "C" fn pmach_console(
     needed: &mut usize,
 ) -> u32
     ensures looks { Leads result handle.old.held handle.new.held (Looks (λ m.
-        Fills (drop from m.machine.state.devices.console) result out.old out.new needed.new)) }
+        Fills (drop from m.debugger.machine.state.devices.console) result out.old out.new needed.new)) }
     ensures same { handle.old.held ≡ None → out.new ≡ out.old }
 {
     let Some(held) = taken(alloc, handle) else {
         return NO_MACHINE;
     };
-    let code = give(behind(held.machine.console(), from), out, needed);
+    let code = give(
+        behind(held.debugger.as_machine().console(), from),
+        out,
+        needed,
+    );
     *handle = Handle::of(held);
     code
 }
@@ -137,13 +141,17 @@ pub extern "C" fn pmach_printer(
     needed: &mut usize,
 ) -> u32
     ensures looks { Leads result handle.old.held handle.new.held (Looks (λ m.
-        Fills (drop from m.machine.state.devices.printer) result out.old out.new needed.new)) }
+        Fills (drop from m.debugger.machine.state.devices.printer) result out.old out.new needed.new)) }
     ensures same { handle.old.held ≡ None → out.new ≡ out.old }
 {
     let Some(held) = taken(alloc, handle) else {
         return NO_MACHINE;
     };
-    let code = give(behind(held.machine.printer(), from), out, needed);
+    let code = give(
+        behind(held.debugger.as_machine().printer(), from),
+        out,
+        needed,
+    );
     *handle = Handle::of(held);
     code
 }

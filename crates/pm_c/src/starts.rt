@@ -1,5 +1,5 @@
 //! How a machine starts.
-ghost use Rattle.std.specs.Prelude.{◌≡◌, ◌≢◌, ◌↔◌, Some, None, is_some, true};
+ghost use Rattle.std.specs.Prelude.{◌≡◌, ◌≢◌, ◌↔◌, Ok, Some, None, is_some, true};
 ghost use Rattle.std.specs.Str.{IsUtf8};
 ghost use Rattle.pm_machine.specs.Start.{raw_start};
 ghost use Rattle.pm_machine.specs.Boot.{boot_start};
@@ -10,6 +10,7 @@ use crate::disks::volume_of;
 use crate::handle::{Handle, taken};
 use crate::held::Held;
 use crate::status::{DONE, HAS_MACHINE, NO_MEMORY, NO_TEXT, boot_code, volume_code};
+use pm_debug::Debugger;
 use pm_machine::Machine;
 use std::alloc::Global;
 
@@ -30,13 +31,13 @@ fn is_full(alloc: Global, handle: &mut Handle) -> bool
 // Puts a machine behind an empty handle.
 fn put(alloc: Global, handle: &mut Handle, machine: Machine) -> u32
     requires empty { handle.old.held ≡ None }
-    ensures put { result ≢ NO_MEMORY → (result ≡ DONE) ×
-        (handle.new.held ≡ Some (record { machine = machine; ejected = None })) }
+    ensures put { result ≢ NO_MEMORY → (result ≡ DONE) × Holds handle.new.held (Ok machine.state) }
     ensures err { result ≡ NO_MEMORY → handle.new.held ≡ None }
 {
     let held = Held {
-        machine,
+        debugger: Debugger::new(machine),
         ejected: None,
+        answer: String::new(alloc),
     };
     match Box::new(alloc, held) {
         Ok(held) => {

@@ -6,8 +6,26 @@ ghost use Rattle.pm_volume.specs.Faults.{number_of};
 use pm_machine::{BootFault, Status, Stop};
 use pm_volume::VolumeFault;
 
+/// The version 0.1 of the library, which is that of the program.
+pub const VERSION: u32 = 1;
+
 /// It is done. Of a step and a run: the machine goes on.
 pub const DONE: u32 = 0;
+
+/// The machine waits for console bytes.
+pub const WAITING: u32 = 1;
+
+/// The program has come to its end.
+pub const ENDED: u32 = 2;
+
+/// A job is refused, and its answer says why.
+pub const REFUSED: u32 = 2;
+
+/// An execution error stopped the program of a job.
+pub const FAILED: u32 = 3;
+
+/// The program of a job came to the limit of its steps, or waits for console bytes.
+pub const STOPPED: u32 = 6;
 
 /// The input of a job is too long.
 pub const TOO_LONG: u32 = 4;
@@ -36,15 +54,24 @@ pub const NO_TEXT: u32 = 12;
 /// The machine stands nowhere in the code.
 pub const NO_PLACE: u32 = 13;
 
+/// No file has a kind above 15.
+pub const NO_KIND: u32 = 14;
+
+/// A run has come to a breakpoint.
+pub const AT_BREAK: u32 = 15;
+
+/// A watched word has changed.
+pub const CHANGED: u32 = 16;
+
 /// The status of a machine's answer.
 pub(crate) fn stop_code(stop: Stop) -> u32
     ensures value { result ≡ stop_code stop }
     ensures other { result ≢ NO_MEMORY }
 {
     match stop {
-        Stop::Went => 0,
-        Stop::Waiting => 1,
-        Stop::Ended => 2,
+        Stop::Went => DONE,
+        Stop::Waiting => WAITING,
+        Stop::Ended => ENDED,
         Stop::Halted(error) => 100 + u32::from(error.number()),
     }
 }
@@ -54,8 +81,8 @@ pub(crate) fn status_code(status: Status) -> u32
     ensures value { result ≡ status_code status }
 {
     match status {
-        Status::Running => 0,
-        Status::Ended => 2,
+        Status::Running => DONE,
+        Status::Ended => ENDED,
         Status::Halted(error) => 100 + u32::from(error.number()),
     }
 }

@@ -1,14 +1,15 @@
 //! The jobs on volumes: one call each. An image is looked at and never changed: the answer of a change is the new one.
-ghost use Rattle.std.specs.Prelude.{◌≡◌, ◌≢◌, ◌⊎◌, ◌↔◌, [], IfOk, IfErr, OnOk, string_bytes};
+ghost use Rattle.std.specs.Prelude.{◌≡◌, ◌≢◌, ◌<◌, ◌≤◌, ◌⊎◌, ◌↔◌, [], IfOk, IfErr, OnOk};
+ghost use Rattle.std.specs.Prelude.{string_bytes};
 ghost use Rattle.std.specs.Str.{IsUtf8};
 ghost use Rattle.pm_volume.specs.Headers.{blank_fault};
 ghost use Rattle.pm_filer.specs.Filed.{Change, Date, Duplicate, Get, GetText, Krunch, ListFiles};
 ghost use Rattle.pm_filer.specs.Filed.{Put, PutText, Remove, Single, Zero, order_of};
 ghost use Rattle.pm_tool.specs.Batches.{said_check, said_files, said_new, said_repair, said_salvage};
-ghost use Rattle.pm_c.specs.Answers.{Answers};
+ghost use Rattle.pm_c.specs.Answers.{Answers, RefusesKind};
 
 use crate::answers::answer;
-use crate::status::{NO_MEMORY, NO_TEXT};
+use crate::status::{NO_KIND, NO_MEMORY, NO_TEXT};
 use pm_filer::FileCommand;
 use pm_tool::Job;
 use std::alloc::Global;
@@ -101,7 +102,8 @@ pub extern "C" fn pmach_get_text(
     }
 }
 
-/// Adds a file of a name, a kind (its low four bits) and these bytes, with the volume's last date.
+/// Adds a file of a name, a kind and these bytes, with the volume's last date. 14 where the kind is above 15, before
+/// all else.
 #[unsafe(no_mangle)]
 pub extern "C" fn pmach_put(
     alloc: Global,
@@ -112,10 +114,14 @@ pub extern "C" fn pmach_put(
     out: &mut [u8],
     needed: &mut usize,
 ) -> u32
-    ensures answers { Answers (said_files image.now (Put name.now kind []) bytes.now)
+    ensures answers { kind ≤ 15 → Answers (said_files image.now (Put name.now kind []) bytes.now)
         result out.old out.new needed.new }
-    ensures text { (result ≡ NO_TEXT) ↔ ¬ (IsUtf8 name.now) }
+    ensures text { kind ≤ 15 → ((result ≡ NO_TEXT) ↔ ¬ (IsUtf8 name.now)) }
+    ensures kind { 15 < kind → RefusesKind result out.old out.new needed.new }
 {
+    if kind > 15 {
+        return none(NO_KIND, needed);
+    }
     match text_of(alloc, name) {
         Ok(name) => {
             let put = FileCommand::Put(name, kind, Vec::new(alloc));

@@ -1,0 +1,33 @@
+-- The laws of a session behind a handle.
+use Rattle.std.proofs.Common.{◌≡◌, ℕ, List, [], ◌∷◌, ◌++◌, Bool, true, false, refl}
+use Rattle.std.specs.Prelude.{if◌then◌else◌}
+use Rattle.pm_debug.specs.Session.{Session}
+use Rattle.pm_debug.specs.Breaks.{with_break}
+use Rattle.pm_session.specs.Answers.{command_text, session_after}
+use Rattle.pm_session.specs.Commands.{command_of, command_rows, number_behind, numbers}
+use Rattle.pm_session.specs.Orders.{order_of, typed}
+use Rattle.pm_session.specs.Words.{pieces_between, without_empty, without_return, words_of_line}
+use Rattle.pm_session.specs.Sessions.{answer_line, answers, is_quit}
+use Rattle.pm_c.specs.Laws.{LinesAreASession}
+
+parted : (quits : Bool) (text rest : List ℕ)
+    → (if quits then [] else (text ++ rest)) ≡ (if quits then [] else text) ++ (if quits then [] else rest)
+parted true text rest = refl
+parted false text rest = refl
+
+one_line : (line : List ℕ) (lines : List (List ℕ)) (d : Session)
+    → answers (line ∷ lines) d ≡ (if is_quit (order_of line) then [] else answer_line (order_of line) d)
+    ++ (if is_quit (order_of line) then [] else answers lines (session_after (order_of line) d))
+unfolding answers
+one_line line lines d =
+    parted (is_quit (order_of line)) (answer_line (order_of line) d) (answers lines (session_after (order_of line) d))
+
+pub lines_are_a_session : LinesAreASession
+unfolding typed without_return command_of words_of_line without_empty pieces_between numbers command_rows number_behind
+    command_text with_break
+lines_are_a_session = record {
+  answers = λ line lines d. one_line line lines d;
+  no_command = λ s. refl;
+  quits = λ s. refl;
+  takes_a_break = λ s. refl;
+}

@@ -1,0 +1,89 @@
+-- The sentences of the numbers that calls answer, and of those in the messages of jobs.
+use Rattle.std.specs.Prelude.{ℕ, List, [], ◌∷◌, ◌==◌, codes, Option, Some, None}
+use Rattle.std.specs.Map.{lookup}
+use Rattle.std.specs.Option.{option_or}
+
+-- of what calls, machines, starts and units answer
+unfoldable pub call_sentences : List (ℕ × List ℕ)
+call_sentences =
+    (0, codes "done; of a step and a run: the machine goes on") ∷
+    (1, codes "the machine waits for console bytes") ∷
+    (2, codes "refused; of a machine: the program has come to its end") ∷
+    (3, codes "an execution error stopped the program") ∷
+    (4, codes "the input is too long") ∷
+    (5, codes "out of memory") ∷
+    (6, codes "the limit of the steps, or the program waits for a key") ∷
+    (7, codes "the buffer is too short") ∷
+    (8, codes "the handle has no machine") ∷
+    (9, codes "the handle has a machine already") ∷
+    (10, codes "odd address") ∷
+    (11, codes "no disk is there") ∷
+    (12, codes "the name is no text in UTF-8") ∷
+    (13, codes "the machine stands nowhere in the code") ∷
+    (14, codes "no file has a kind above 15") ∷
+    (15, codes "the run has come to a breakpoint") ∷
+    (16, codes "a watched word has changed") ∷
+    (101, codes "invalid index") ∷
+    (102, codes "no segment or bad code file") ∷
+    (103, codes "procedure not present at exit time") ∷
+    (104, codes "stack overflow") ∷
+    (106, codes "divide by zero") ∷
+    (107, codes "invalid memory reference") ∷
+    (109, codes "system I/O error") ∷
+    (110, codes "user I/O error") ∷
+    (111, codes "unimplemented instruction") ∷
+    (113, codes "string too long") ∷
+    (114, codes "halt or breakpoint") ∷
+    (201, codes "no such file") ∷
+    (202, codes "not a code file") ∷
+    (203, codes "bad code file") ∷
+    (301, codes "no disk unit") ∷
+    (302, codes "a disk is mounted there") ∷
+    []
+
+-- of volumes, of what stops a run of the debugger, and of texts of the assembler, code files and text files
+unfoldable pub file_sentences : List (ℕ × List ℕ)
+file_sentences =
+    (401, codes "the image is not made of whole blocks") ∷
+    (402, codes "the image has no room for a directory") ∷
+    (403, codes "the directory's header is damaged") ∷
+    (404, codes "an entry of the directory is damaged") ∷
+    (405, codes "the directory names too many files") ∷
+    (406, codes "a file or the volume passes the end") ∷
+    (407, codes "no gap is large enough") ∷
+    (408, codes "the directory is full") ∷
+    (409, codes "a file of that name is there") ∷
+    (410, codes "not a name") ∷
+    (411, codes "no file of that name") ∷
+    (413, codes "the first copy of the directory is damaged, the second is good") ∷
+    (414, codes "a file stands where the second copy would") ∷
+    (501, codes "too many breakpoints or watched words") ∷
+    (502, codes "not set") ∷
+    (503, codes "odd address") ∷
+    (601, codes "the line is ill-formed or out of place") ∷
+    (602, codes "the line has an unknown mnemonic, directive or type word") ∷ (
+      603,
+      codes "the line has a number out of range, or ends code of an odd length or with a wrong number of jump entries",
+    ) ∷
+    (604, codes "the line names a label that its procedure does not have") ∷
+    (605, codes "the line says a segment, a label or the exit code again") ∷
+    (606, codes "the line jumps backward, or more than 127 bytes forward") ∷
+    (607, codes "the segment has more than 60,000 bytes") ∷
+    (701, codes "the file has no dictionary") ∷
+    (702, codes "the segment of the slot passes the end of the file") ∷
+    (703, codes "the length of the slot is odd") ∷
+    (801, codes "the file has no header") ∷
+    (803, codes "the line does not fit in a page") ∷
+    (804, codes "the byte cannot stand in a text file") ∷
+    []
+
+unfoldable pub file_sentence : ℕ → Option (List ℕ)
+file_sentence n = lookup (λ m. m == n) file_sentences
+
+unfoldable pub sentence : ℕ → Option (List ℕ)
+sentence n = option_or (lookup (λ m. m == n) call_sentences) (file_sentence n)
+
+-- of a number that no call answers there is none
+abbrev pub or_nothing : Option (List ℕ) → List ℕ
+or_nothing None = []
+or_nothing (Some text) = text

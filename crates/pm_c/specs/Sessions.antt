@@ -1,0 +1,105 @@
+-- What calls on a handle do to the session of its debugger.
+use Rattle.std.specs.Prelude.{◌≡◌, ◌≢◌, ℕ, ◌+◌, Bool, List, [], Option, None, Some, Result, Ok, Err, if◌then◌else◌}
+use Rattle.std.specs.Prelude.{string_bytes}
+use Rattle.pm_words.specs.Errors.{number_of as error_number}
+use Rattle.pm_machine.specs.Runs.{GaveUp}
+use Rattle.pm_machine.specs.declared.code_place.CodePlace.{CodePlace}
+use Rattle.pm_debug.specs.Breaks.{breakpoint, with_break, without_break}
+use Rattle.pm_debug.specs.Refusals.{number_of}
+use Rattle.pm_debug.specs.Runs.{Gone, gone, nowhere, stops_after}
+use Rattle.pm_debug.specs.Session.{Debugged, Session, session_of}
+use Rattle.pm_debug.specs.Watches.{with_watch, without_watch}
+use Rattle.pm_debug.specs.declared.breaks.Breakpoint.{Breakpoint}
+use Rattle.pm_debug.specs.declared.refusal.DebugRefusal.{DebugRefusal}
+use Rattle.pm_debug.specs.declared.reason.BreakReason.{BreakReason}
+use Rattle.pm_debug.specs.declared.reason.BreakReason.TheVariants as reasons
+use Rattle.pm_debug.specs.declared.run.Depth.TheVariants.{Any}
+use Rattle.pm_session.specs.Answers.{after_run, session_after, with_breaks, with_watches}
+use Rattle.pm_session.specs.Orders.{order_of}
+use Rattle.pm_session.specs.Sessions.{answer_line, is_quit}
+use Rattle.pm_c.specs.declared.held.Held.{Held}
+use Rattle.pm_c.specs.declared.status.TheConstants.{AT_BREAK, CHANGED, DONE, NO_MACHINE, NO_MEMORY}
+
+-- as Leads, but for want of memory the machine is gone
+abbrev pub LeadsOrEnds : ℕ → Option Held → Option Held → (Held → Held → Type 0) → Type 0
+LeadsOrEnds status None new P = (status ≡ NO_MACHINE) × (new ≡ None)
+LeadsOrEnds status (Some m) None P = status ≡ NO_MEMORY
+LeadsOrEnds status (Some m) (Some n) P = P m n
+
+-- what the program writes in answer to a line; `quit` has no answer
+abbrev pub line_answer : List ℕ → Session → List ℕ
+line_answer line d = if is_quit (order_of line) then [] else answer_line (order_of line) d
+
+-- a line is done: the session is that behind it, its answer is kept, and nothing else changes
+pub record Commands (line : List ℕ) (status : ℕ) (m n : Held) : Type 0 where
+  pub done : status ≡ DONE
+  pub session : session_of n.debugger ≡ session_after (order_of line) (session_of m.debugger)
+  pub answer : string_bytes n.answer ≡ line_answer line (session_of m.debugger)
+  pub ejected : n.ejected ≡ m.ejected
+
+-- ---- what stops a run
+
+-- of what is set or taken away: 500 and the number of the refusal
+abbrev pub set_code : {A : Type 0} → Result A DebugRefusal → ℕ
+set_code (Ok after) = DONE
+set_code (Err refusal) = 500 + number_of refusal
+
+-- a breakpoint without a condition is set, or taken away
+abbrev pub breaks_after : Bool → CodePlace → List Breakpoint → Result (List Breakpoint) DebugRefusal
+breaks_after on place breaks =
+    if on then with_break (breakpoint place None) breaks else without_break place breaks
+
+abbrev pub watches_after : Bool → ℕ → List ℕ → Result (List ℕ) DebugRefusal
+watches_after on address watches = if on then with_watch address watches else without_watch address watches
+
+-- the breakpoints are those behind it, or it is refused and they stay; the machine stays
+pub record SetsBreaks (after : Result (List Breakpoint) DebugRefusal) (status : ℕ) (d e : Debugged) : Type 0 where
+  pub says : status ≡ set_code after
+  pub session : session_of e ≡ with_breaks (session_of d) after
+  pub machine : e.machine ≡ d.machine
+
+-- the watched words so; where one was added or taken away, nothing is left of the last run
+pub record SetsWatches (after : Result (List ℕ) DebugRefusal) (status : ℕ) (d e : Debugged) : Type 0 where
+  pub says : status ≡ set_code after
+  pub session : session_of e ≡ with_watches (session_of d) after
+  pub machine : e.machine ≡ d.machine
+
+-- ---- runs up to a breakpoint or a changed word
+
+-- of why such a run ended; it is not to stop anywhere else
+abbrev pub go_code : BreakReason → ℕ
+go_code reasons.Limit = 0
+go_code reasons.There = 0
+go_code reasons.Waiting = 1
+go_code reasons.Ended = 2
+go_code reasons.Break = AT_BREAK
+go_code (reasons.Changed address) = CHANGED
+go_code (reasons.Halted error) = 100 + error_number error
+
+-- the address of the word that changed, and else what stood there
+abbrev pub changed_at : BreakReason → ℕ → ℕ
+changed_at (reasons.Changed address) old = address
+changed_at reasons.Limit old = old
+changed_at reasons.There old = old
+changed_at reasons.Waiting old = old
+changed_at reasons.Ended old = old
+changed_at reasons.Break old = old
+changed_at (reasons.Halted error) old = old
+
+-- the run of `go`, and what is told of it
+pub record GoesSo (run : Gone) (steps status was address : ℕ) (d e : Debugged) : Type 0 where
+  pub counts : steps ≡ run.steps
+  pub says : status ≡ go_code run.reason
+  pub word : address ≡ changed_at run.reason was
+  pub session : session_of e ≡ after_run (session_of d) Any run
+
+-- it gave up for want of memory, behind the steps that went; of what is left of it nothing is said
+pub record GoesShort (limit : ℕ) (d e : Debugged) : Type 0 where
+  pub gave_up : GaveUp (stops_after d.breaks d.watches nowhere d.machine.state) limit d.machine e.machine
+  pub same : e ≡ record d { machine = e.machine; left = e.left }
+
+-- a run of at most limit steps, or what is left of it for want of memory
+pub record Goes (limit steps status was address : ℕ) (d e : Debugged) : Type 0 where
+  pub went : status ≢ NO_MEMORY → GoesSo (gone d.breaks d.watches limit d.machine.state) steps status was address d e
+  pub short : status ≡ NO_MEMORY → GoesShort limit d e
+  pub none : status ≡ NO_MEMORY → (steps ≡ 0) × (address ≡ was)

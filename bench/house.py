@@ -12,7 +12,9 @@
                     crates/test_page/stdin is a copy, one behind another
     the cases       of examples/conformance/bare.txt, of which crates/test_cases/data/bare.txt is a copy
     the segment     of examples/system/system.text, of which crates/test_trials/data/system.text is a copy
-    the header      examples/library/pmach.h, whose numbers of answers are those that crates/pm_c/specs/Worked.antt has
+    the header      examples/library/pmach.h, whose numbers of answers are those that crates/pm_c/specs/Worked.antt has, and
+                    whose calls, with the types of their parameters, are the exports of crates/pm_c/src
+    the sentences   of crates/pm_c/src/sentences.rt, which are those of the faults and errors that they tell
     names           that docs/PROMISES.md, docs/ARCHITECTURE.md, docs/DECISIONS.md and the sections of definitions have and
                     the source, or the crates beside, have not; and paths and sections that the pages name
     the index       INDEX.md, which index.py makes of the source
@@ -174,6 +176,34 @@ worked = re.findall(r"^  pub \w+ : ([A-Z_]+) ≡ (\d+)$", "\n".join(lines("crate
 header = re.findall(r"^    PMACH_([A-Z_]+) = (\d+)", "\n".join(lines("examples/library/pmach.h")), re.M)
 for name, number in sorted(set(worked) ^ set(header)):
     tell("header", "%s is %s in %s alone" % (name, number, "Worked.antt" if (name, number) in worked else "pmach.h"))
+
+IN_C = {"&[u8]": ["const uint8_t *", "size_t"], "&mut [u8]": ["uint8_t *", "size_t"], "&mut usize": ["size_t *"],
+        "&mut Handle": ["struct pmach *"], "&mut Shown": ["struct pmach_shown *"], "&mut Place": ["struct pmach_place *"],
+        "&mut u64": ["uint64_t *"], "&mut u16": ["uint16_t *"], "Global": [], "usize": ["size_t"], "bool": ["bool"],
+        "u8": ["uint8_t"], "u16": ["uint16_t"], "u32": ["uint32_t"], "u64": ["uint64_t"]}
+exports, prototypes = {}, {}
+for path in glob.glob("crates/pm_c/src/*.rt"):
+    for name, given, answer in re.findall(r'pub extern "C" fn (\w+)\(([^)]*)\)( -> \w+)?', "\n".join(lines(path))):
+        types = [part.split(":")[1].strip() for part in given.split(",") if part.strip()]
+        exports[name] = (answer.strip("-> "), sum((IN_C[type_] for type_ in types), []))
+text = re.sub(r"/\*.*?\*/", "", "\n".join(lines("examples/library/pmach.h")), flags=re.S)
+for answer, name, given in re.findall(r"(\w+) (pmach_\w+)\(([^)]*)\);", text):
+    types = [re.sub(r"\w+$", "", " ".join(part.split())).rstrip() for part in given.split(",") if part != "void"]
+    prototypes[name] = ({"uint32_t": "u32", "void": ""}[answer], types)
+for name in sorted(set(exports) | set(prototypes)):
+    if exports.get(name) != prototypes.get(name):
+        tell("header", "%s is %s in crates/pm_c and %s in pmach.h" % (name, exports.get(name), prototypes.get(name)))
+
+told = dict(re.findall(r'^ +(\d+) => Some\(\s*"(.*)",?$', "\n".join(lines("crates/pm_c/src/sentences.rt")).replace("),\n", "\n"), re.M))
+FAULTS = ((100, "pm_words/src/error"), (200, "pm_machine/src/state"), (300, "pm_units/src/ports"), (400, "pm_volume/src/fault"),
+          (500, "pm_debug/src/refusal"), (600, "pm_source/src/fault"), (700, "pm_codefile/src/fault"), (800, "pm_textfile/src/fault"))
+for first, path in FAULTS:
+    for number, text in re.findall(r'/// (\d+): [^#]*?#\[error\("(.*)"\)\]', "\n".join(lines("crates/%s.rt" % path))):
+        said = told.get(str(first + int(number)))
+        text = re.sub(r"^(entry) \{0\}", r"an \1", text)
+        text = re.sub(r"(?:the )?\b(line|segment|slot|byte)( at)? \{0\}", r"the \1", text)
+        if said is not None and said.rstrip('",') != text:
+            tell("sentence", "%d says %s where crates/%s.rt says %s" % (first + int(number), said, path, text))
 
 known = set()
 for path in glob.glob("crates/*/src/**/*.rt", recursive=True):

@@ -64,19 +64,36 @@ static uint32_t copy(void) { return pmach_copy(image, image_len, NAME, image, im
 static uint32_t copy_slot(void) { return pmach_copy_slot(image, image_len, 1, (const uint8_t *)"COPY", 4, image, image_len, OUT); }
 static uint32_t line(void) { return pmach_line(&h, OUT); }
 static uint32_t instruction(void) { return pmach_instruction(&h, 1024, OUT); }
+static uint32_t command(void) {
+    uint32_t status = pmach_command(&h, (const uint8_t *)"frames 9", 8);
+    return status ? status : pmach_answer(&h, OUT);
+}
+static uint32_t set_break(void) { return pmach_break(&h, 1, 2, 0, true); }
+static uint32_t watch(void) { return pmach_watch(&h, 65000, true); }
+static uint32_t go(void) { uint64_t steps; uint16_t at; return pmach_go(&h, 100000, &steps, &at); }
+static uint32_t sentence(void) { return pmach_sentence(8, OUT); }
+static uint32_t console(void) { return pmach_console(&h, 0, OUT); }
+static uint32_t printer(void) { return pmach_printer(&h, 0, OUT); }
+static uint32_t ejected(void) { uint32_t status = pmach_eject(&h, 4); return status ? status : pmach_ejected(&h, OUT); }
+static uint32_t poke(void) { return pmach_poke(&h, 65000, 7); }
+static uint32_t place(void) { struct pmach_place p; return pmach_place(&h, &p); }
 
-static const struct job { const char *name; uint32_t (*call)(void); int has_machine; int partial; } jobs[] = {
-    {"assemble", assemble, 0, 0}, {"disassemble", disassemble, 0, 0}, {"raw", raw, 0, 0}, {"debug", debug, 0, 0},
-    {"volume", volume, 0, 0}, {"list", list, 0, 0}, {"get", get, 0, 0}, {"get_text", get_text, 0, 0}, {"put", put, 0, 0},
-    {"put_text", put_text, 0, 0}, {"remove", take, 0, 0}, {"change", change, 0, 0}, {"date", date, 0, 0}, {"zero", zero, 0, 0},
-    {"duplicate", duplicate, 0, 0}, {"single", single, 0, 0}, {"krunch", krunch, 0, 0}, {"repair", repair, 0, 0},
-    {"check", check, 0, 0}, {"salvage", salvage, 0, 0}, {"new", start, 0, 0}, {"boot", boot, 0, 0}, {"step", step, 1, 0},
-    {"run", run, 1, 1}, {"key", key, 1, 0}, {"mount", mount, 1, 0}, {"eject", eject, 1, 0},
-    {"assemble_faults", faults, 0, 0}, {"assemble_symbols", symbols, 0, 0}, {"disassemble_names", names, 0, 0},
-    {"disassemble_list", listing, 0, 0}, {"disassemble_statements", statements, 0, 0}, {"get_slot", get_slot, 0, 0},
-    {"get_text_slot", get_text_slot, 0, 0}, {"remove_slot", remove_slot, 0, 0}, {"change_slot", change_slot, 0, 0},
-    {"line", line, 1, 0}, {"instruction", instruction, 1, 0}, {"disassemble_indented", indented, 0, 0}, {"kind", kind, 0, 0},
-    {"kind_slot", kind_slot, 0, 0}, {"copy", copy, 0, 0}, {"copy_slot", copy_slot, 0, 0},
+/* partial: for want of memory it may stand behind steps that went; ends: it has no machine then */
+static const struct job { const char *name; uint32_t (*call)(void); int has_machine; int partial; int ends; } jobs[] = {
+    {"assemble", assemble, 0, 0, 0}, {"disassemble", disassemble, 0, 0, 0}, {"raw", raw, 0, 0, 0}, {"debug", debug, 0, 0, 0},
+    {"volume", volume, 0, 0, 0}, {"list", list, 0, 0, 0}, {"get", get, 0, 0, 0}, {"get_text", get_text, 0, 0, 0}, {"put", put, 0, 0, 0},
+    {"put_text", put_text, 0, 0, 0}, {"remove", take, 0, 0, 0}, {"change", change, 0, 0, 0}, {"date", date, 0, 0, 0}, {"zero", zero, 0, 0, 0},
+    {"duplicate", duplicate, 0, 0, 0}, {"single", single, 0, 0, 0}, {"krunch", krunch, 0, 0, 0}, {"repair", repair, 0, 0, 0},
+    {"check", check, 0, 0, 0}, {"salvage", salvage, 0, 0, 0}, {"new", start, 0, 0, 0}, {"boot", boot, 0, 0, 0}, {"step", step, 1, 0, 0},
+    {"run", run, 1, 1, 0}, {"key", key, 1, 0, 0}, {"mount", mount, 1, 0, 0}, {"eject", eject, 1, 0, 0},
+    {"assemble_faults", faults, 0, 0, 0}, {"assemble_symbols", symbols, 0, 0, 0}, {"disassemble_names", names, 0, 0, 0},
+    {"disassemble_list", listing, 0, 0, 0}, {"disassemble_statements", statements, 0, 0, 0}, {"get_slot", get_slot, 0, 0, 0},
+    {"get_text_slot", get_text_slot, 0, 0, 0}, {"remove_slot", remove_slot, 0, 0, 0}, {"change_slot", change_slot, 0, 0, 0},
+    {"line", line, 1, 0, 0}, {"instruction", instruction, 1, 0, 0}, {"disassemble_indented", indented, 0, 0, 0}, {"kind", kind, 0, 0, 0},
+    {"kind_slot", kind_slot, 0, 0, 0}, {"copy", copy, 0, 0, 0}, {"copy_slot", copy_slot, 0, 0, 0}, {"command", command, 1, 1, 1},
+    {"break", set_break, 1, 0, 0}, {"watch", watch, 1, 0, 0}, {"go", go, 1, 1, 0}, {"sentence", sentence, 0, 0, 0},
+    {"console", console, 1, 0, 0}, {"printer", printer, 1, 0, 0}, {"ejected", ejected, 1, 0, 0}, {"poke", poke, 1, 0, 0},
+    {"place", place, 1, 0, 0},
 };
 
 /* what the machine of a handle shows: registers, memory, both outputs; nothing of an empty one */
@@ -126,9 +143,56 @@ static int refuse(const struct job *job, long k, uint32_t usual, const uint8_t *
     for (size_t i = 0; i < ROOM; i++) if (out[i] != 0xA5) { fail(job, k, "the buffer is written"); break; }
     if (memcmp(image, kept, image_len)) fail(job, k, "the image is written");
     if (!job->partial && (shown(after) != n || memcmp(before, after, n))) fail(job, k, "the machine has changed");
+    if (job->ends && shown(after)) fail(job, k, "the machine is still there");
     if (job->partial) ready(job);
     if (job->call() != usual || needed != wanted_len || memcmp(out, wanted, wanted_len)) fail(job, k, "made again it answers something else");
     return 1;
+}
+
+/* each answer of the header, by a call that has to give it */
+static void answers(void) {
+    static uint8_t long_text[(1 << 24) + 1];
+    const uint8_t odd_name[] = {255}, hex[] = "02 03 82 D7", error[] = "9B";
+    uint64_t steps;
+    uint16_t word, at;
+    uint8_t unit = 5;
+#define EXPECT(number, call) do { uint32_t got = (call); \
+    if (got != (number)) { printf("WRONG %s is answered by %lu\n", #call, (unsigned long)got); wrong++; } } while (0)
+    pmach_free(&h);
+    EXPECT(PMACH_VERSION, pmach_version());
+    for (uint32_t n = PMACH_DONE; n <= PMACH_CHANGED; n++)
+        if (pmach_sentence(n, OUT) || needed == 0) { printf("WRONG %lu has no sentence\n", (unsigned long)n); wrong++; }
+    uint32_t (*const on_empty[])(void) = {step, run, key, mount, eject, line, instruction, command, set_break, watch, go, console,
+        printer, ejected, poke, place};
+    for (size_t k = 0; k < sizeof on_empty / sizeof *on_empty; k++) EXPECT(PMACH_NO_MACHINE, on_empty[k]());
+    EXPECT(PMACH_NO_MACHINE, pmach_word(&h, 1024, &word));
+    EXPECT(PMACH_NO_MACHINE, pmach_answer(&h, OUT));
+    EXPECT(PMACH_NO_MACHINE, pmach_registers(&h, &(struct pmach_shown){0}));
+    EXPECT(PMACH_TOO_LONG, pmach_assemble(long_text, sizeof long_text, false, OUT));
+    EXPECT(PMACH_TOO_SHORT, pmach_list(image, image_len, out, 0, &needed));
+    EXPECT(PMACH_NO_TEXT, pmach_get(image, image_len, odd_name, 1, OUT));
+    EXPECT(PMACH_NO_KIND, pmach_put(image, image_len, NAME, 16, text, text_len, OUT));
+    EXPECT(PMACH_NO_KIND, pmach_kind(image, image_len, NAME, 16, OUT));
+    EXPECT(PMACH_NO_KIND, pmach_kind_slot(image, image_len, 1, 255, OUT));
+    EXPECT(PMACH_REFUSED, pmach_assemble(odd_name, 1, false, OUT));
+    EXPECT(PMACH_STOPPED, pmach_raw(hex, 11, 1, OUT));
+    EXPECT(PMACH_FAILED, pmach_raw(error, 2, 9, OUT));
+    EXPECT(PMACH_DONE, start());
+    EXPECT(PMACH_HAS_MACHINE, boot());
+    EXPECT(PMACH_ODD_ADDRESS, pmach_word(&h, 1025, &word));
+    EXPECT(PMACH_ODD_ADDRESS, pmach_poke(&h, 1025, 7));
+    EXPECT(PMACH_NO_DISK, pmach_eject(&h, unit));
+    EXPECT(503, pmach_watch(&h, 1025, true));
+    EXPECT(502, pmach_break(&h, 1, 1, 0, false));
+    EXPECT(PMACH_DONE, pmach_watch(&h, 65490, true));
+    EXPECT(PMACH_CHANGED, pmach_go(&h, 9, &steps, &at));
+    EXPECT(65490, at);
+    pmach_free(&h);
+    EXPECT(PMACH_DONE, boot());
+    EXPECT(PMACH_DONE, set_break());
+    EXPECT(PMACH_AT_BREAK, go());
+    EXPECT(PMACH_ENDED, run());
+    pmach_free(&h);
 }
 
 int main(int argc, char **argv) {
@@ -153,7 +217,7 @@ int main(int argc, char **argv) {
         memcpy(wanted, out, wanted_len);
         for (long k = 1; refuse(&jobs[j], k, usual, wanted, wanted_len, kept); k++) allocations++;
     }
-    pmach_free(&h);
+    answers();
     printf("%ld calls, %ld allocations refused, %ld wrong\n", calls, allocations, wrong);
     return wrong != 0;
 }

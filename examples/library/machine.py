@@ -73,6 +73,18 @@ def show():
     status, answers = pmach.told("debug", loads, b"LOADS", b"break 2 1 0\ngo 100\ndynamic 10\nstack 3\nquit\n")
     print(status, answers.decode(), sep="\n", end="")
     print(*places(loads, b"LOADS", 3), sep=", ")
+    with pmach.Machine.boot(loads, b"LOADS") as machine:
+        machine.set_break(2, 1, 0)
+        print(*machine.go(100), machine.command("where"))
+        print(machine.command("breaks"), machine.command("no"), repr(machine.command("quit")), sep=", ")
+        machine.set_break(2, 1, 0, False)
+        print(machine.call("break", 2, 1, 0, False), machine.command("console on"))
+    with pmach.Machine.raw(bytes.fromhex("020382D6")) as machine:
+        machine.watch(65490)
+        print(*machine.go(100), machine.instruction(machine.registers().ipc), machine.call("watch", 65491, True))
+    for status in 8, 404, 502, 602:
+        print(status, pmach.sentence(status))
+    print(pmach.CALLS["version"](), *pmach.told("put", loads, b"NEW", 16, b""))
     print(*pmach.told("get_slot", loads, 2))
 
 

@@ -1,7 +1,7 @@
 """The p-machine from Python, by the library's own header: every call of pmach.h with its prototype, and a class of machines.
 
     import pmach
-    pmach.load("./pm_c.so")                      # docs/LIBRARY.md has the command that makes it
+    pmach.load("out/unproved/libpm_c.a")         # which `./pmach --library` makes
     code = pmach.job("assemble", text, False)    # the bytes of the answer; Refused where it is refused
     with pmach.Machine.raw(bytes.fromhex("020382D6")) as machine:
         while machine.step() == 0:
@@ -12,6 +12,8 @@ and `needed`, which are made here: bytes, numbers, True or False."""
 import ctypes
 import os
 import re
+import subprocess
+import tempfile
 
 NUMBERS = {"bool": ctypes.c_bool, "size_t": ctypes.c_size_t, "uint8_t": ctypes.c_uint8, "uint16_t": ctypes.c_uint16,
            "uint32_t": ctypes.c_uint32, "uint64_t": ctypes.c_uint64}
@@ -40,7 +42,7 @@ class Refused(Exception):
     """A call that was not done: its status, and the message of the program where it is a job's."""
 
     def __init__(self, call, status, message=b""):
-        super().__init__("%s: status %d%s" % (call, status, ", " + message.decode("ascii", "replace") if message else ""))
+        super().__init__("%s: status %d, %s" % (call, status, message.decode("ascii", "replace") or sentence(status)))
         self.status, self.message = status, message
 
 
@@ -49,7 +51,7 @@ def prototypes(header):
     text = re.sub(r"/\*.*?\*/", "", header, flags=re.S)
     for answer, name, given in re.findall(r"(\w+) pmach_(\w+)\(([^)]*)\);", text):
         types = []
-        for word in (re.sub(r"\s+", " ", part).strip() for part in given.split(",")):
+        for word in (re.sub(r"\s+", " ", part).strip() for part in given.split(",") if part != "void"):
             kind, star, _ = re.fullmatch(r"(?:const )?((?:struct )?\w+) (\*?)(\w+)", word).groups()
             if not star:
                 types.append(NUMBERS[kind])
@@ -60,10 +62,19 @@ def prototypes(header):
         yield name, NUMBERS.get(answer), types
 
 
+def shared(archive):
+    """The shared library of an archive that has all that it calls, made by the C compiler; its file is taken away again."""
+    with tempfile.TemporaryDirectory() as folder:
+        made = os.path.join(folder, "pm_c.so")
+        subprocess.run([os.environ.get("CC", "cc"), "-shared", "-o", made, "-Wl,--whole-archive", archive,
+                        "-Wl,--no-whole-archive"], check=True)
+        return ctypes.CDLL(made)
+
+
 def load(library, header=None):
-    """Takes the shared library into use, by the prototypes of the header, which is the one beside this file."""
+    """Takes a shared library into use, or an archive, by the prototypes of the header, which is the one beside this file."""
     path = header or os.path.join(os.path.dirname(os.path.abspath(__file__)), "pmach.h")
-    loaded = ctypes.CDLL(os.path.abspath(library))
+    loaded = shared(library) if library.endswith(".a") else ctypes.CDLL(os.path.abspath(library))
     with open(path, encoding="utf-8") as file:
         for name, answer, types in prototypes(file.read()):
             call = getattr(loaded, "pmach_" + name)
@@ -85,6 +96,11 @@ def told(call, *given):
         status = CALLS[call](*words, out, size, ctypes.byref(needed))
         size = needed.value
     return status, out.raw[:needed.value]
+
+
+def sentence(status):
+    """The words of a status."""
+    return told("sentence", status)[1].decode()
 
 
 def job(call, *given):
@@ -149,6 +165,24 @@ class Machine:
         """The image of the disk that is taken out of a unit."""
         self.done("eject", unit)
         return self.told("ejected")
+
+    def command(self, line):
+        """What the debugger of the program answers to a line, without its last line feed."""
+        line = line.encode()
+        self.done("command", line, len(line))
+        return self.told("answer").decode()[:-1]
+
+    def set_break(self, segment, procedure, offset, on=True):
+        self.done("break", segment, procedure, offset, on)
+
+    def watch(self, address, on=True):
+        self.done("watch", address, on)
+
+    def go(self, limit):
+        """At most so many steps up to a breakpoint, 15, or a watched word that has changed, 16: the status, how many counted,
+        and the address of that word."""
+        steps, address = ctypes.c_uint64(), ctypes.c_uint16()
+        return self.call("go", limit, ctypes.byref(steps), ctypes.byref(address)), steps.value, address.value
 
     def registers(self):
         shown = Shown()

@@ -77,6 +77,15 @@ break 1
 65424 65458 65492
 65458 65492 65458
 1 1 0, 2 1 0, 1 1 3
+15 1 0 2 1 0 RBP 0
+2 1 0, ?, ''
+502 ok
+16 1 65490 SLDC 3 503
+8 the handle has no machine
+404 an entry of the directory is damaged
+502 not set
+602 the line has an unknown mnemonic, directive or type word
+1 14 b''
 2 b'refused filer 1 11'
 END
 python3 "$here/machine.py" "$made/pm_c.so" >"$made/said"

@@ -8,7 +8,7 @@ unfoldable pub call_sentences : List (ℕ × List ℕ)
 call_sentences =
     (0, codes "done; of a step and a run: the machine goes on") ∷
     (1, codes "the machine waits for console bytes") ∷
-    (2, codes "refused; of a machine: the program has come to its end") ∷
+    (2, codes "the program has come to its end, or the job is refused") ∷
     (3, codes "an execution error stopped the program") ∷
     (4, codes "the input is too long") ∷
     (5, codes "out of memory") ∷

@@ -56,7 +56,7 @@ fn sentence(status: u32) -> Option<&'static str>
     match status {
         0 => Some("done; of a step and a run: the machine goes on"),
         1 => Some("the machine waits for console bytes"),
-        2 => Some("refused; of a machine: the program has come to its end"),
+        2 => Some("the program has come to its end, or the job is refused"),
         3 => Some("an execution error stopped the program"),
         4 => Some("the input is too long"),
         5 => Some("out of memory"),

@@ -7,7 +7,7 @@ COMMAND is run once for each case of bare code in crates/test_cases/data/bare.ca
 hexadecimal digits, and --limit N behind its words, of steps. It writes a trace in the form of README.md on standard
 output. A case belongs to the last of the steps below that one of its instructions wants, as they stand one
 behind another. Each step has a line: how many of its cases are the same, and the first that is not, with its bytes and
-the last line that is wanted. With --state the last line alone is compared, and not the digest of the whole trace; with
+the last lines, that which is wanted and that which was made. With --state the last line alone is compared, and not the digest of the whole trace; with
 --step the cases of one step. --list says how many cases each step opens. The status is 1 where a case differs."""
 import concurrent.futures
 import os
@@ -108,15 +108,15 @@ def cases():
             yield rows["case"], bytes(code), rows.get("limit", "100"), rows["end"], rows.get("trace")
 
 
-def is_same(command, state, case):
-    """Whether a machine ends as a case says, and by the same trace."""
+def ran(command, state, case):
+    """Whether a machine ends as a case says, and by the same trace; and its last line."""
     _, code, limit, end, trace = case
     try:
         made = subprocess.run(command + ["--limit", limit], input=code.hex(" ").upper().encode(), capture_output=True, timeout=60).stdout
     except subprocess.TimeoutExpired:
-        return False
-    lines = made.decode("ascii", "replace").split("\n")
-    return lines[-2:-1] == [end] and (state or trace is None or digest(made) == trace)
+        return False, "nothing within a minute"
+    last = "".join(made.decode("ascii", "replace").split("\n")[-2:-1])
+    return last == end and (state or trace is None or digest(made) == trace), last
 
 
 def main(state, only, command):
@@ -131,12 +131,14 @@ def main(state, only, command):
         if only and only != number:
             continue
         with concurrent.futures.ThreadPoolExecutor(os.cpu_count()) as pool:
-            same = list(pool.map(lambda case: is_same(command, state, case), these))
-        print("%2d %-30s %5d of %d" % (number, name, sum(same), len(these)))
-        differing += len(these) - sum(same)
-        for (title, code, _, end, _), good in zip(these, same):
+            made = list(pool.map(lambda case: ran(command, state, case), these))
+        same = sum(good for good, _ in made)
+        print("%2d %-30s %5d of %d" % (number, name, same, len(these)))
+        differing += len(these) - same
+        for (title, code, _, end, _), (good, last) in zip(these, made):
             if not good:
                 print("   first: %s\n     code %s\n     wanted %s" % (title, code.hex(" ").upper(), end))
+                print("     made   %s" % (last if last != end else "the same end, but another trace: hold.py shows lines"))
                 break
     sys.exit(1 if differing else 0)
 

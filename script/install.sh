@@ -1,7 +1,8 @@
 #!/bin/sh
 # `install.sh --install PREFIX` puts the program, proved if it is built so, with this script's neighbours, man page,
-# completions, examples and pages below PREFIX, each file by a rename; from then on no clone is needed. `install.sh
-# --uninstall PREFIX` takes these away, and no other file. The list of them is PREFIX/lib/pmach/installed.
+# completions, examples and pages below PREFIX, each file by a rename; from then on no clone is needed. Where the library
+# is built, proved or not, it goes there too, with its header and a file for pkg-config. `install.sh --uninstall PREFIX`
+# takes these away, and no other file. The list of them is PREFIX/lib/pmach/installed.
 # Status 1: wrong words, or a file is in the way that no --install put there; nothing was changed. Status 70: it failed.
 script=$(dirname "$(readlink -f "$0")")
 here=$(dirname "$script")
@@ -23,6 +24,7 @@ files() {
         echo "script/$part.sh lib/pmach/$part.sh"
     done
     echo "$program lib/pmach/$which/pmach"
+    [ -z "$library" ] || echo "examples/library/pmach.h include/pmach.h"
     (cd "$here" && find share -type f) | sed 's/.*/& &/'
     (cd "$here" && find README.md INDEX.md docs examples -type f ! -name '*.pyc') | sed 's|.*|& share/doc/pmach/&|'
 }
@@ -31,6 +33,7 @@ files() {
 others() {
     [ "$which" = proved ] || echo lib/pmach/not-proved.txt
     echo share/doc/pmach/pmach
+    [ -z "$library" ] || printf '%s\n' lib/libpm_c.a lib/pkgconfig/pmach.pc
 }
 
 # The folders above the paths on standard input, each behind those that it stands in.
@@ -86,8 +89,26 @@ write_not_proved() {
         "'pmach --install PREFIX' put the proved one here" >"$1"
 }
 
-# Which program is installed: the proved one, or one without a proof, which is built where it is not there.
+# The library, with what it calls for memory, which is the kit's and stands beside the one that rt makes.
+write_library() {
+    [ "$made" = proved ] || { copy "$here/$library" "$1" && return; }
+    kit=$(dirname "$(rt doc </dev/null)") &&
+        printf '%s\n' "CREATE $1" "ADDLIB $here/$library" "ADDLIB $kit/c/liblibc_c.a" SAVE END | "$kit/toolchain/bin/llvm-ar" -M
+}
+
+# What pkg-config is told of it.
+write_config() {
+    version=$(sed -n 's/^#define PMACH_VERSION_TEXT "\(.*\)"/\1/p' "$here/examples/library/pmach.h")
+    printf '%s\n' "prefix=$prefix" "Name: pmach" "Description: the p-machine of UCSD Pascal version II, $made" \
+        "Version: $version" 'Cflags: -I"${prefix}/include"' 'Libs: -L"${prefix}/lib" -lpm_c' >"$1"
+}
+
+# Which program is installed: the proved one, or one without a proof, which is built where it is not there. And which
+# library, if one is there.
 choose() {
+    library=crates/pm_c/out/libpm_c.a made=proved
+    [ -f "$here/$library" ] || library=out/unproved/libpm_c.a made='not proved'
+    [ -f "$here/$library" ] || library=''
     program=crates/pmach/out/pmach which=proved
     [ ! -x "$here/$program" ] || return 0
     program=out/unproved/pmach which=unproved
@@ -123,6 +144,9 @@ put_all() {
     done || exit
     [ "$which" = proved ] || put lib/pmach/not-proved.txt write_not_proved
     put share/doc/pmach/pmach ln -s ../../../bin/pmach
+    [ -z "$library" ] || {
+        mkdir -p "$prefix/lib/pkgconfig" && put lib/libpm_c.a write_library && put lib/pkgconfig/pmach.pc write_config
+    }
     comm -13 "$scratch/new" "$scratch/old" | take_away || exit
     comm -13 "$scratch/folders" "$scratch/old-folders" | sort -r | take_away
     sort -r "$scratch/folders" >"$scratch/both"

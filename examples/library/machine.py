@@ -56,6 +56,20 @@ def places(image, name, steps):
     return found
 
 
+LINES = """help|regs|where|break 2 1 0|breaks|go 100|on 5|list 5|frames 9|stack 4|static 9|dynamic 9|local 0 1|watch 65000|watches
+poke 65000 7|go 50|step|finish 20|until 1 1 3 50|peek 1024 4|bytes 1024 4|console on|type "AB"|key 67|console 10|trace|place 1
+unwatch 65000|unwatch 65000|clear 2 1 0|break 1 1 3 if 65000 = 7|go 4000|console off|no command|watch 1025|go 9""".replace("\n", "|").split("|")
+
+
+def session(image, name):
+    """Lines of the debugger one by one, behind a handle: as many as are answered as the same lines at once, by the job."""
+    with pmach.Machine.boot(image, name) as machine:
+        each = [machine.command(line) for line in LINES]
+    status, answers = pmach.told("debug", image, name, "".join(line + "\n" for line in LINES).encode())
+    assert status == 0 and answers.decode() == "".join(answer + "\n" for answer in each)
+    return len(each)
+
+
 def program(path, *words, data):
     ran = subprocess.run([path, *words], input=data, capture_output=True)
     return ran.returncode, ran.stdout, ran.stderr
@@ -79,6 +93,7 @@ def show():
         print(machine.command("breaks"), machine.command("no"), repr(machine.command("quit")), sep=", ")
         machine.set_break(2, 1, 0, False)
         print(machine.call("break", 2, 1, 0, False), machine.command("console on"))
+    print(session(loads, b"LOADS"), "lines")
     with pmach.Machine.raw(bytes.fromhex("020382D6")) as machine:
         machine.watch(65490)
         print(*machine.go(100), machine.instruction(machine.registers().ipc), machine.call("watch", 65491, True))

@@ -15,6 +15,8 @@ if [ -z "${LIBPM_C:-}" ]; then
 fi
 heap=${HEAP:-$(dirname "$(readlink -f "$(command -v rt)")")/../c/liblibc_c.a}
 
+echo "the library $LIBPM_C"
+
 same() {
     if diff "$made/wanted" "$made/said"; then
         echo "$1: as wanted"
@@ -80,6 +82,7 @@ break 1
 15 1 0 2 1 0 RBP 0
 2 1 0, ?, ''
 502 ok
+37 lines
 16 1 65490 SLDC 3 503
 8 the handle has no machine
 404 an entry of the directory is damaged

@@ -13,7 +13,8 @@
     the cases       of examples/conformance/bare.txt, of which crates/test_cases/data/bare.txt is a copy
     the segment     of examples/system/system.text, of which crates/test_trials/data/system.text is a copy
     the header      examples/library/pmach.h, whose numbers of answers are those that crates/pm_c/specs/Worked.antt has, and
-                    whose calls, with the types of their parameters, are the exports of crates/pm_c/src
+                    whose calls, with the types of their parameters, are the exports of crates/pm_c/src; its version is that of
+                    the program
     the sentences   of crates/pm_c/src/sentences.rt, which are those of the faults and errors that they tell
     names           that docs/PROMISES.md, docs/ARCHITECTURE.md, docs/DECISIONS.md and the sections of definitions have and
                     the source, or the crates beside, have not; and paths and sections that the pages name
@@ -176,6 +177,11 @@ worked = re.findall(r"^  pub \w+ : ([A-Z_]+) ≡ (\d+)$", "\n".join(lines("crate
 header = re.findall(r"^    PMACH_([A-Z_]+) = (\d+)", "\n".join(lines("examples/library/pmach.h")), re.M)
 for name, number in sorted(set(worked) ^ set(header)):
     tell("header", "%s is %s in %s alone" % (name, number, "Worked.antt" if (name, number) in worked else "pmach.h"))
+
+version = re.search(r'^const VERSION: &str = "(\d+)\.(\d+)";', "\n".join(lines("crates/pm_plan/src/commands.rt")), re.M).groups()
+if '#define PMACH_VERSION_TEXT "%s.%s"' % version not in lines("examples/library/pmach.h") or \
+        ("VERSION", str(100 * int(version[0]) + int(version[1]))) not in header:
+    tell("header", "pmach.h has not the version %s.%s of crates/pm_plan/src/commands.rt" % version)
 
 IN_C = {"&[u8]": ["const uint8_t *", "size_t"], "&mut [u8]": ["uint8_t *", "size_t"], "&mut usize": ["size_t *"],
         "&mut Handle": ["struct pmach *"], "&mut Shown": ["struct pmach_shown *"], "&mut Place": ["struct pmach_place *"],

@@ -12,4 +12,5 @@ for call in $(grep -o '\bpmach_[a-z_]*(' "$here/../examples/library/pmach.h"); d
 done
 ${CC:-cc} -std=c99 -Wall -Wextra -Werror -O1 -I"$here/../examples/library" -Wl,--wrap=malloc -Wl,--wrap=realloc \
     "$here/library.c" "${LIBPM_C:-$here/../crates/pm_c/out/libpm_c.a}" "$heap" -o "$made/library"
+echo "the library ${LIBPM_C:-$here/../crates/pm_c/out/libpm_c.a}"
 "$made/library" "$here/../examples/hanoi.text"

@@ -152,7 +152,7 @@ static int refuse(const struct job *job, long k, uint32_t usual, const uint8_t *
 /* each answer of the header, by a call that has to give it */
 static void answers(void) {
     static uint8_t long_text[(1 << 24) + 1];
-    const uint8_t odd_name[] = {255}, hex[] = "02 03 82 D7", error[] = "9B";
+    const uint8_t odd_name[] = {255}, hex[] = "02 03 82 D7", error[] = "9B", returns[] = {173, 0};
     uint64_t steps;
     uint16_t word, at;
     uint8_t unit = 5;
@@ -187,6 +187,11 @@ static void answers(void) {
     EXPECT(PMACH_DONE, pmach_watch(&h, 65490, true));
     EXPECT(PMACH_CHANGED, pmach_go(&h, 9, &steps, &at));
     EXPECT(65490, at);
+    pmach_free(&h);
+    EXPECT(PMACH_DONE, pmach_new(&h, returns, 2));
+    EXPECT(PMACH_DONE, pmach_poke(&h, 65496, 1025)); /* MSJTAB of its frame, to which RNP returns */
+    EXPECT(PMACH_ENDED, step());
+    EXPECT(PMACH_NO_PLACE, place());
     pmach_free(&h);
     EXPECT(PMACH_DONE, boot());
     EXPECT(PMACH_DONE, set_break());

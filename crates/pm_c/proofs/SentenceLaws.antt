@@ -1,5 +1,5 @@
 -- Each answer has a sentence.
-use Rattle.std.proofs.Common.{◌≡◌, ◌≢◌, ℕ, ◌+◌, refl}
+use Rattle.std.proofs.Common.{◌≢◌, ◌+◌, refl}
 use Rattle.pm_words.specs.Errors.{number_of}
 use Rattle.pm_words.specs.declared.error.ExecError.{ExecError}
 use Rattle.pm_words.specs.declared.error.ExecError.TheVariants as errors

@@ -1,5 +1,5 @@
 -- Laws of the statuses, of buffers and of sessions.
-use Rattle.std.specs.Prelude.{◌≡◌, ◌≢◌, ◌↔◌, ℕ, ◌+◌, List, [], ◌∷◌, ◌++◌, length, Option, None, IsOk}
+use Rattle.std.specs.Prelude.{◌≡◌, ◌≢◌, ◌↔◌, ℕ, ◌+◌, List, [], ◌∷◌, ◌++◌, length, None, IsOk}
 use Rattle.std.specs.Prelude.{is_some, true, codes, if◌then◌else◌}
 use Rattle.pm_volume.specs.Directory.{image_fault}
 use Rattle.pm_units.specs.Devices.{Devices, mounted}

@@ -3,12 +3,12 @@ use Rattle.std.proofs.Common.{◌≡◌, ℕ, List, [], ◌∷◌, ◌++◌, Boo
 use Rattle.std.specs.Prelude.{if◌then◌else◌}
 use Rattle.pm_debug.specs.Session.{Session}
 use Rattle.pm_debug.specs.Breaks.{with_break}
-use Rattle.pm_session.specs.Answers.{command_text, session_after}
+use Rattle.pm_session.specs.Answers.{after_command, command_text, session_after}
 use Rattle.pm_session.specs.Commands.{command_of, command_rows, number_behind, numbers}
 use Rattle.pm_session.specs.Orders.{order_of, typed}
 use Rattle.pm_session.specs.Words.{pieces_between, without_empty, without_return, words_of_line}
 use Rattle.pm_session.specs.Sessions.{answer_line, answers, is_quit}
-use Rattle.pm_c.specs.Laws.{LinesAreASession}
+use Rattle.pm_c.specs.Laws.{CallsAreLines, LinesAreASession}
 
 parted : (quits : Bool) (text rest : List ℕ)
     → (if quits then [] else (text ++ rest)) ≡ (if quits then [] else text) ++ (if quits then [] else rest)
@@ -30,4 +30,14 @@ lines_are_a_session = record {
   no_command = λ s. refl;
   quits = λ s. refl;
   takes_a_break = λ s. refl;
+}
+
+pub calls_are_lines : CallsAreLines
+unfolding after_command
+calls_are_lines = record {
+  sets = λ s p o d. refl;
+  clears = λ s p o d. refl;
+  watches = λ a d. refl;
+  unwatches = λ a d. refl;
+  goes = λ n d. refl;
 }

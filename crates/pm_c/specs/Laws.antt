@@ -1,12 +1,15 @@
 -- Laws of the statuses, of buffers and of sessions.
 use Rattle.std.specs.Prelude.{◌≡◌, ◌≢◌, ◌↔◌, ℕ, ◌+◌, List, [], ◌∷◌, ◌++◌, length, None, IsOk}
-use Rattle.std.specs.Prelude.{is_some, true, codes, if◌then◌else◌}
+use Rattle.std.specs.Prelude.{is_some, false, true, codes, if◌then◌else◌}
 use Rattle.pm_volume.specs.Directory.{image_fault}
 use Rattle.pm_units.specs.Devices.{Devices, mounted}
 use Rattle.pm_machine.specs.Boot.{boot_start}
 use Rattle.pm_machine.specs.declared.state.Stop.{Stop}
 use Rattle.pm_machine.specs.State.{State}
 use Rattle.pm_machine.specs.declared.state.BootFault.{BootFault}
+use Rattle.pm_machine.specs.CodePlaces.{code_place}
+use Rattle.pm_debug.specs.Runs.{gone}
+use Rattle.pm_debug.specs.declared.run.Depth.TheVariants.{Any}
 use Rattle.pm_debug.specs.Session.{Session}
 use Rattle.pm_debug.specs.declared.reason.BreakReason.{BreakReason}
 use Rattle.pm_debug.specs.declared.refusal.DebugRefusal.TheVariants.{Full, NotSet, OddAddress}
@@ -16,11 +19,12 @@ use Rattle.pm_units.specs.declared.ports.MountFault.{MountFault}
 use Rattle.pm_volume.specs.Faults.{number_of as volume_number}
 use Rattle.pm_volume.specs.declared.fault.VolumeFault.{VolumeFault}
 use Rattle.pm_volume.specs.declared.fault.VolumeFault.TheVariants.{NoMemory}
-use Rattle.pm_session.specs.Answers.{session_after}
+use Rattle.pm_session.specs.declared.commands.Command.TheVariants as commands
+use Rattle.pm_session.specs.Answers.{after_command, after_run, session_after, with_breaks, with_watches}
 use Rattle.pm_session.specs.Orders.{order_of}
 use Rattle.pm_session.specs.Sessions.{answers, is_quit, opened}
 use Rattle.pm_c.specs.Sentences.{sentence}
-use Rattle.pm_c.specs.Sessions.{go_code, line_answer}
+use Rattle.pm_c.specs.Sessions.{breaks_after, go_code, line_answer, watches_after}
 use Rattle.pm_c.specs.Changes.{fill_code, filled}
 use Rattle.pm_c.specs.Codes.{boot_code, image_code, on_unit_4, program_code, stop_code}
 use Rattle.pm_c.specs.declared.status.TheConstants.{DONE, NO_MACHINE, NO_MEMORY, TOO_SHORT}
@@ -72,3 +76,16 @@ pub record LinesAreASession : Type 0 where
   pub no_command : (s : State) → line_answer (codes "no") (opened s) ≡ codes "?" ++ (10 ∷ [])
   pub quits : (s : State) → line_answer (codes "quit") (opened s) ≡ []
   pub takes_a_break : (s : State) → line_answer (codes "break 2 1 0") (opened s) ≡ codes "ok" ++ (10 ∷ [])
+
+-- a call that sets what stops a run, or that makes one, leaves the session that a line of the debugger leaves
+pub record CallsAreLines : Type 0 where
+  pub sets : (s p o : ℕ) (d : Session) →
+      with_breaks d (breaks_after true (code_place s p o) d.breaks) ≡ after_command (commands.Break s p o None) d
+  pub clears : (s p o : ℕ) (d : Session) →
+      with_breaks d (breaks_after false (code_place s p o) d.breaks) ≡ after_command (commands.Clear s p o) d
+  pub watches : (a : ℕ) (d : Session) →
+      with_watches d (watches_after true a d.watches) ≡ after_command (commands.Watch a) d
+  pub unwatches : (a : ℕ) (d : Session) →
+      with_watches d (watches_after false a d.watches) ≡ after_command (commands.Unwatch a) d
+  pub goes : (n : ℕ) (d : Session) →
+      after_run d Any (gone d.breaks d.watches n d.machine) ≡ after_command (commands.Go n) d

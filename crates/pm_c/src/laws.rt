@@ -1,6 +1,6 @@
 //! Laws of the statuses, of buffers and of sessions. The functions do nothing.
-ghost use Rattle.pm_c.specs.Laws.{AnswersAreApart, AnswersAreTold, LinesAreASession, MountIsTold, StartIsTold};
-ghost use Rattle.pm_c.specs.Laws.{WantedLengthIsEnough};
+ghost use Rattle.pm_c.specs.Laws.{AnswersAreApart, AnswersAreTold, CallsAreLines, LinesAreASession};
+ghost use Rattle.pm_c.specs.Laws.{MountIsTold, StartIsTold, WantedLengthIsEnough};
 
 /// A buffer that is too short stays, and one of the length that is wanted then has just the bytes.
 #[tactic(auto, using(crate::proofs::StatusLaws::wanted_length_is_enough))]
@@ -19,8 +19,10 @@ pub fn answers_are_told()
     ensures told { AnswersAreTold }
 {}
 
-/// The answers to lines, one behind the other, are those that the program's debugger writes to them as its input.
-#[tactic(auto, using(crate::proofs::SessionLaws::lines_are_a_session))]
+/// The answers to lines, one behind the other, are those that the program's debugger writes to them as its input; and
+/// what a call sets or runs leaves the session that such a line leaves.
+#[tactic(auto, using(crate::proofs::SessionLaws::lines_are_a_session, crate::proofs::SessionLaws::calls_are_lines))]
 pub fn lines_are_a_session()
     ensures law { LinesAreASession }
+    ensures calls { CallsAreLines }
 {}

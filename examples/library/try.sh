@@ -58,6 +58,20 @@ same 'C'
 
 $cc -shared -o "$made/pm_c.so" -Wl,--whole-archive "$LIBPM_C" -Wl,--no-whole-archive "$heap"
 
+# the first steps from C, and from Python
+cat >"$made/wanted" <<'END'
+00000000 01024 65492 65492 65492 01028 65492 SLDC 2
+00000001 01025 65490 65492 65492 01028 00002 SLDC 3
+00000002 01026 65488 65492 65492 01028 00003 ADI
+00000003 01027 65490 65492 65492 01028 00005 XIT
+2: the program has come to its end, or the job is refused
+END
+$cc -std=c99 -Wall -Wextra -Werror -I"$here" "$here/first.c" "$LIBPM_C" "$heap" -o "$made/first"
+"$made/first" >"$made/said"
+same 'first steps in C'
+python3 "$here/first.py" "$made/pm_c.so" >"$made/said"
+same 'first steps in Python'
+
 # the trace and the session are those of README.md
 cat >"$made/wanted" <<'END'
 2 b'refused asm 2 1'

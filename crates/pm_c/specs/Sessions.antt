@@ -30,7 +30,7 @@ LeadsOrEnds status (Some m) (Some n) P = P m n
 abbrev pub line_answer : List ℕ → Session → List ℕ
 line_answer line d = if is_quit (order_of line) then [] else answer_line (order_of line) d
 
--- a line is done: the session is that behind it, its answer is kept, and nothing else changes
+-- a line is done: the session is that behind it, its answer is kept, and the disk that was taken out stays
 pub record Commands (line : List ℕ) (status : ℕ) (m n : Held) : Type 0 where
   pub done : status ≡ DONE
   pub session : session_of n.debugger ≡ session_after (order_of line) (session_of m.debugger)

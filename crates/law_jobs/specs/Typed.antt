@@ -22,8 +22,8 @@ abbrev pub IsOneLine : List ℕ → Type 0
 IsOneLine [] = ⊤
 IsOneLine (c ∷ line) = ((c == 10) ≡ false) × IsOneLine line
 
--- A debugger whose first line lets bytes wait on the console answers that by `ok`, and then as one on whose console they
--- wait from the start on.
+-- A debugger whose first line lets bytes wait on the console answers that by `ok`, and then as one on whose console
+-- they wait from the start on.
 abbrev pub InputIsTyped : Type 0
 InputIsTyped = (typed line input : List ℕ) (machine : State) → IsOneLine line → order_of line ≡ Some (Types typed)
     → (debugged machine (line ++ 10 ∷ input)).written

@@ -12,16 +12,21 @@ ghost use Rattle.std.specs.Prelude.{
   IsOk,
   OnErr,
   OnOk,
+  false,
+  true,
   if◌then◌else◌,
 };
 ghost use Rattle.pm_volume.specs.Made.{added, kind_set, renamed, slot_kind_set, slot_renamed, zeroed};
 ghost use Rattle.pm_volume.specs.Directory.{IsVolume, directory_of, image_fault};
 ghost use Rattle.pm_volume.specs.Files.{file_named};
-ghost use Rattle.pm_volume.specs.Headers.{last_date_of};
+ghost use Rattle.pm_volume.specs.Dates.{date_word, is_date};
+ghost use Rattle.pm_volume.specs.Headers.{dated_image, last_date_of};
+ghost use Rattle.pm_filer.specs.Listing.{fitting_list_text};
 ghost use Rattle.pm_textfile.specs.Writing.{text_fault};
 ghost use Rattle.pm_filer.specs.Filed.{
   Done,
   Filed,
+  Lines,
   MayWantMemory,
   answer_of,
   bytes_of_file,
@@ -294,6 +299,28 @@ fn copy_slot(volume: &mut Volume, slot: u16, name: &str, image: Vec<u8>) -> Resu
     copy(volume, name, &from, entry)
 }
 
+// Sets the volume's last date.
+fn set_date(volume: &mut Volume, year: u8, month: u8, day: u8) -> Result<(), FilerFault>
+    ensures good { OnOk result (is_date year month day ≡ true) }
+    ensures dated { OnOk result (volume.new ≡ dated_image volume.old (date_word year month day)) }
+    ensures volume { OnOk result (IsVolume volume.new) }
+    ensures refused { IfErr result (λ fault. (fault ≡ FilerFault.BadDate) × (is_date year month day ≡ false)) }
+    ensures unchanged { OnErr result (volume.new ≡ volume.old) }
+{
+    let date = Date { year, month, day };
+    let word = date.word().ok_or(FilerFault::BadDate)?;
+    volume.set_date(word);
+    Ok(())
+}
+
+// The list of the files whose names fit a pattern.
+fn list_fitting(alloc: Global, volume: &Volume, pattern: &str) -> Result<Reply, FilerFault>
+    ensures lines { IfOk result (λ reply. answer_of reply ≡ Lines (fitting_list_text volume.now pattern.now)) }
+    ensures memory { IfErr result (λ fault. fault ≡ FilerFault.NoMemory) }
+{
+    Ok(Reply::Lines(fitting_list_text(alloc, volume, pattern)?))
+}
+
 // The answer to a command that has changed the volume.
 fn done(_changed: ()) -> Reply
     ensures done { result ≡ Reply.Done }
@@ -325,11 +352,7 @@ pub fn apply(alloc: Global, volume: &mut Volume, command: FileCommand) -> Result
         FileCommand::GetText(name) => get_text(alloc, volume, volume.find(name.as_str())),
         FileCommand::PutText(name, text) => Ok(done(put_text(alloc, volume, name.as_str(), text)?)),
         FileCommand::Krunch => Ok(done(volume.krunch())),
-        FileCommand::Date(year, month, day) => {
-            let date = Date { year, month, day };
-            let word = date.word().ok_or(FilerFault::BadDate)?;
-            Ok(done(volume.set_date(word)))
-        }
+        FileCommand::Date(year, month, day) => Ok(done(set_date(volume, year, month, day)?)),
         FileCommand::Zero(name) => Ok(done(forget(volume, name.as_str())?)),
         FileCommand::Duplicate => Ok(done(volume.add_duplicate()?)),
         FileCommand::Single => Ok(done(volume.drop_duplicate())),
@@ -344,11 +367,7 @@ pub fn apply(alloc: Global, volume: &mut Volume, command: FileCommand) -> Result
             Ok(done(copy_slot(volume, slot, name.as_str(), image)?))
         }
         FileCommand::ListAll => Ok(Reply::Lines(full_list_text(alloc, volume)?)),
-        FileCommand::ListFitting(pattern) => {
-            Ok(Reply::Lines(fitting_list_text(alloc, volume, pattern.as_str())?))
-        }
-        FileCommand::RemoveFitting(pattern) => {
-            Ok(done(remove_fitting(volume, pattern.as_str())?))
-        }
+        FileCommand::ListFitting(pattern) => list_fitting(alloc, volume, pattern.as_str()),
+        FileCommand::RemoveFitting(pattern) => Ok(done(remove_fitting(volume, pattern.as_str())?)),
     }
 }

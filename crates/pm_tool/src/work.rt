@@ -1,5 +1,7 @@
 //! The two shapes of jobs.
 ghost use Rattle.std.specs.Prelude.{◌≡◌};
+ghost use Rattle.pm_batch.specs.Files.{opened_image};
+ghost use Rattle.pm_check.specs.Forms.{form_seen};
 ghost use Rattle.pm_tool.specs.Work.{work_of};
 
 use crate::outcome::Job;
@@ -9,6 +11,7 @@ use crate::talk::Talk;
 use pm_batch::{Batch, open};
 use pm_check::form_seen;
 use pm_choices::Selection;
+use pm_filer::FileCommand;
 
 /// A job, by its shape.
 #[derive(Drop)]
@@ -47,6 +50,19 @@ fn traced(limit: u64, selection: Selection) -> Work
     Work::Raw { limit, selection }
 }
 
+/// A command on the volume that an image is, whose form is told where it is none.
+fn files(image: Vec<u8>, command: FileCommand) -> Work
+    ensures work { result ≡ Work.Batch (Batch.Files (opened_image image.items) (form_seen image.items) command) }
+{
+    let form = form_seen(&image);
+    let opened = open(image);
+    Work::Batch(Batch::Files {
+        opened,
+        form,
+        command,
+    })
+}
+
 /// What a job has to do.
 pub(crate) fn work_of(job: Job) -> Work
     ensures work { result ≡ work_of job }
@@ -75,15 +91,7 @@ pub(crate) fn work_of(job: Job) -> Work
         } => talk(disks, name, system, Talk::Session { typed }),
         Job::Asm(what) => Work::Batch(Batch::Asm(what)),
         Job::Dis(what) => Work::Batch(Batch::Dis(what)),
-        Job::Files { image, command } => {
-            let form = form_seen(&image);
-            let opened = open(image);
-            Work::Batch(Batch::Files {
-                opened,
-                form,
-                command,
-            })
-        }
+        Job::Files { image, command } => files(image, command),
         Job::New { name, blocks } => Work::Batch(Batch::New { name, blocks }),
         Job::Repair { image } => Work::Batch(Batch::Repair { image }),
         Job::Check { image } => Work::Batch(Batch::Check { image }),

@@ -67,7 +67,8 @@ def sentences():
     told.append(("code 1", whole))
     add("code", code, [name for name in code[1] if code[1][name] != 1], lambda name: behind)
     add("asm", faults("crates/pm_source/src/fault.rt"), [])
-    add("system", faults("crates/pm_system/src/fault.rt"), [])
+    help_of_system = arms(reason, "help_of_system")
+    add("system", faults("crates/pm_system/src/fault.rt"), [], lambda name: help_of_system.get(name, ""))
     return told
 
 

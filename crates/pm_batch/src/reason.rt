@@ -3,6 +3,7 @@ use crate::refusal::Refusal;
 use pm_codefile::CodeFault;
 use pm_filer::FilerFault;
 use pm_machine::BootFault;
+use pm_system::SystemFault;
 use pm_textfile::TextFault;
 use pm_volume::VolumeFault;
 use std::fmt;
@@ -55,6 +56,16 @@ fn help_of_text(fault: TextFault) -> &'static str {
     }
 }
 
+/// What helps where the system's segment is not put in.
+fn help_of_system(fault: SystemFault) -> &'static str {
+    match fault {
+        SystemFault::NoCode(_) => "; asm of examples/system/system.text makes one",
+        SystemFault::NoSegment => "; asm of examples/system/system.text makes a file with one",
+        SystemFault::Volume(fault) => help_of_command(fault),
+        _ => "",
+    }
+}
+
 /// Why a command on a volume is refused.
 #[derive(Clone, Copy)]
 struct Unfiled(FilerFault);
@@ -91,6 +102,9 @@ impl fmt::Display for Reason {
             Refusal::Boot(BootFault::Exec(error)) => {
                 write!(f, "execution error at the first call: {error}")
             }
+            Refusal::Boot(BootFault::NoFile) => f.write_str(
+                "no such file: files list shows the names",
+            ),
             Refusal::Boot(BootFault::NotCode) => f.write_str(
                 "not a code file: files list shows its kind, files put NAME code adds one",
             ),
@@ -110,7 +124,10 @@ impl fmt::Display for Reason {
                 )
             }
             Refusal::Asm(fault) => write!(f, "{fault}"),
-            Refusal::System(fault) => write!(f, "{fault}"),
+            Refusal::System(fault) => {
+                let help = help_of_system(fault);
+                write!(f, "{fault}{help}")
+            }
         }
     }
 }

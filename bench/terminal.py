@@ -54,8 +54,10 @@ def run(words, keys):
             key = keys.pop(0)
             if isinstance(key, bytes):
                 os.write(terminal, key)
-            else:  # a signal for the front alone
-                os.kill(int(subprocess.check_output(["pgrep", "-P", str(child)]).split()[0]), key)
+            else:  # a signal for the front alone, or, below 0, for the program alone
+                front = subprocess.check_output(["pgrep", "-P", str(child)]).split()[0].decode()
+                process = front if key > 0 else subprocess.check_output(["pgrep", "-P", front]).split()[0]
+                os.kill(int(process), abs(key))
     os.waitpid(child, 0)
     seen.append(shown)
     return shown, seen
@@ -67,9 +69,12 @@ def check(name, holds, shown):
     failed += 0 if holds else 1
 
 
-for number, status in (signal.SIGTERM, b"143"), (signal.SIGHUP, b"129"):
+for number, status in (signal.SIGTERM, b"143"), (signal.SIGHUP, b"129"), (signal.SIGINT, b"130"), (signal.SIGQUIT, b"131"):
     shown, _ = run([program, "run", "--d4", image, "ECHO"], [b"a", number])
     check("signal %d to the front alone ends it" % number, shown == b"a[%s same]\r\n" % status, shown)
+for number, status in (signal.SIGTERM, b"143"), (signal.SIGKILL, b"137"):
+    shown, _ = run([program, "run", "--d4", image, "ECHO"], [b"a", -number])
+    check("signal %d to the program alone ends it" % number, shown.startswith(b"a") and shown.endswith(b"[%s same]\r\n" % status), shown)
 shown, seen = run([program, "run", "--d4", image, "ECHO"], [b"a", b"b", b"."])
 check("each key comes back at once, and once", [len(x) for x in seen] == [0, 1, 2, len(shown)] and shown.startswith(b"ab."), (shown, seen))
 check("the message has a line of its own, and the terminal is as before", shown == b"ab.\r\nended 41\r\n[0 same]\r\n", shown)

@@ -267,6 +267,13 @@ printf '%s\n' ".SEG 1 LOADS" ".PROC 1 0 0 0" "  CXP 2, 1" "  CXP 3, 1" ".EXIT" "
     ".SEG 2 FIRST" ".PROC 1 0 0 4" ".EXIT" "  RBP 0" ".END" \
     ".SEG 3 SECOND" ".PROC 1 0 0 8" ".EXIT" "  RBP 0" ".END" >"$scratch/text"
 case_of "the text of a code file" 0 "$scratch/text" "$nothing" dis <"$scratch/code"
+case_of "a file of a volume into a file" 0 "$nothing" "$nothing" files --image "$programs" get LOADS -o "$scratch/other" </dev/null
+cmp -s "$scratch/code" "$scratch/other"
+result "which it is, whole" $?
+case_of "a refusal without a word" 2 "$nothing" "$nothing" files --image "$programs" get NONE -o "$scratch/other" --quiet </dev/null
+cmp -s "$scratch/code" "$scratch/other"
+result "which leaves the file" $?
+case_of "a limit without a word" 6 "$nothing" "$nothing" run --quiet --limit 1 --d4 "$programs" LOADS </dev/null
 echo "refused code 1" >"$message"
 case_of "500 bytes are no code file" 2 "$nothing" "$message" dis < <(head -c 500 "$scratch/code")
 echo "refused code 2 1" >"$message"

@@ -248,6 +248,43 @@ check "what takes the files out is named" grep -q 'as dos 4 files make sense: ex
 check "and takes them" ends 0 "$here/examples/salvage.sh" --form dos hurt12.dos f12
 check "with their bytes" cmp f12/C <(echo C)
 
+# what the front says of `files` on a terminal: notes first, so many faults, and what makes a text file
+terminal() {
+    python3 -c '
+import os, pty, sys
+ours, theirs = pty.openpty()
+if (child := os.fork()) == 0:
+    for k in (1, 2):
+        os.dup2(theirs, k)
+    os.execv(sys.argv[1], sys.argv[1:])
+os.close(theirs)
+try:
+    while part := os.read(ours, 4096):
+        os.write(1, part.replace(b"\r\n", b"\n"))
+except OSError:
+    pass
+sys.exit(os.waitstatus_to_exitcode(os.waitpid(child, 0)[1]))' "$here/script/files.sh" "$PMACH" files "$@"
+}
+files told.img new TOLD 280
+printf 'a line\n' >told.text
+terminal --image told.img put A.TEXT text <told.text >told.out 2>&1
+check "a plain text is told" grep -q 'puttext makes one' told.out
+terminal --image told.img put B.TEXT data <told.text >told.out 2>&1
+check "data is not" [ ! -s told.out ]
+files told.img puttext C.TEXT <told.text
+files told.img get C.TEXT >told.file
+terminal put --form blocks --image told.img D.TEXT text <told.file >told.out 2>&1
+check "a text file is not" [ ! -s told.out ]
+byte told.img $((1024 + 16)) 44
+terminal --image told.img check <told.text >told.out
+check "the status of check" [ $? = 2 ]
+check "twenty notes, and how many more" [ "$(sed -n 21p told.out)" = "and 1996 notes more" ]
+check "then faults" grep -q '^slot 5 name has 0 characters' told.out
+check "and how many more" grep -q '^and [0-9]* faults more$' told.out
+check "then how many there are" grep -q '^faults [0-9]*$' told.out
+check "and why it is refused" [ "$(tail -n 2 told.out | head -n 1)" = "refused volume 4 5" ]
+check "a pipe has all" [ "$(files told.img check 2>/dev/null | grep -c ^note)" = 2016 ]
+
 # lines of other systems
 files ends.img new ENDS 60
 printf 'one\n  two\n\nfour\n' >ends.lf

@@ -14,6 +14,7 @@ import re
 import subprocess
 import sys
 import tempfile
+import time
 
 HERE = os.path.dirname(os.path.abspath(__file__))
 EXAMPLES = os.path.dirname(HERE)
@@ -523,6 +524,23 @@ def write(folder, pages):
             file.write(text)
 
 
+class Far:
+    """How many pages are made, on a terminal, once that takes two seconds; below the cursor, and gone at the end."""
+
+    def __init__(self, count):
+        self.count, self.began, self.said = count, time.monotonic(), False
+
+    def say(self, done):
+        if sys.stderr.isatty() and time.monotonic() >= self.began + 2:
+            sys.stderr.write("\x1b[J\nsite.sh: %d of %d\x1b[A\r" % (done, self.count))
+            sys.stderr.flush()
+            self.said = True
+
+    def end(self):
+        if self.said:
+            sys.stderr.write("\x1b[J")
+
+
 def main():
     words = argparse.ArgumentParser(prog="site.sh", description=__doc__, formatter_class=argparse.RawDescriptionHelpFormatter)
     words.exit_on_error = False
@@ -547,8 +565,13 @@ def main():
     with tempfile.TemporaryDirectory() as scratch:
         disk = Disk(given.image, scratch)
         pages = {"index.html": index(disk, given.image, given.run)}
-        for entry in disk.files:
-            pages[entry.page] = file_page(disk, entry)
+        far = Far(len(disk.files))
+        try:
+            for done, entry in enumerate(disk.files):
+                far.say(done)
+                pages[entry.page] = file_page(disk, entry)
+        finally:
+            far.end()
         if given.run:
             typed = b""
             if given.input:

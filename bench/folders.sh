@@ -248,6 +248,35 @@ check "what takes the files out is named" grep -q 'as dos 4 files make sense: ex
 check "and takes them" ends 0 "$here/examples/salvage.sh" --form dos hurt12.dos f12
 check "with their bytes" cmp f12/C <(echo C)
 
+# a full directory, a volume of 33 MB, and images that are longer and shorter than their volume
+files full new FULL 1600
+for ((n = 1; n <= 77; n++)); do seq $n $((9 * n)) | files full put FILE$n data; done
+check "77 files out" ends 0 "$here/examples/export.sh" full ffull
+files full2 new FULL 1600
+check "77 files in" ends 0 "$here/examples/import.sh" ffull full2
+check "77 files out again" ends 0 "$here/examples/export.sh" full2 ffull2
+check "the same 77 files" diff -r ffull ffull2
+echo x >ffull/ONEMORE && printf 'ONEMORE\tONEMORE\tdata\t000-00-00\tbytes\t78\n' >>ffull/LIST
+check "one more" ends 1 "$here/examples/import.sh" ffull full2
+check "is left out, and why" grep -q 'ONEMORE is left out: refused filer 1 8, the directory is full' err
+files large new LARGE 65535
+seq 1000000 | files large put BIG data
+check "out of 33 MB" ends 0 "$here/examples/export.sh" large flarge
+check "the file there" cmp flarge/BIG <(seq 1000000)
+{ cat a && head -c 5120 /dev/zero; } >longer
+check "an image that is longer" cmp <(files longer list) <(files a list)
+{ cat a && printf x; } >byte.more
+check "by a byte" ends 2 "$PMACH" files --image byte.more list
+check "no volume in any form" ends 2 "$here/examples/form.sh" byte.more
+check "but its files are named" grep -q 'as blocks 7 files make sense' err
+check "and come out" ends 0 "$here/examples/salvage.sh" byte.more fbyte
+check "as they were" diff -r -x LIST fa fbyte
+head -c 5120 a >shorter
+check "an image that is shorter" ends 2 "$PMACH" files --image shorter list
+check "gives what it has" ends 3 "$here/examples/salvage.sh" shorter fshorter
+check "whole files alone" cmp fshorter/DUP fa/DUP
+check "and no cut one" [ ! -e fshorter/BIG ]
+
 # what the front says of `files` on a terminal: notes first, so many faults, and what makes a text file
 terminal() {
     python3 -c '

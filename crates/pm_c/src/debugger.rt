@@ -1,5 +1,5 @@
 //! The debugger on a program of a disk.
-ghost use Rattle.std.specs.Prelude.{◌≡◌, ◌≢◌, ◌↔◌, None};
+ghost use Rattle.std.specs.Prelude.{◌≡◌, ◌≢◌, ◌↔◌, [], None};
 ghost use Rattle.std.specs.Str.{IsUtf8};
 ghost use Rattle.pm_tool.specs.Disks.{booted};
 ghost use Rattle.pm_tool.specs.Said.{said_debug};

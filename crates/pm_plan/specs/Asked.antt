@@ -324,8 +324,9 @@ Asks command m (plans.Dis what files) = (command ≡ codes "dis")
 Asks command m (plans.Files plan) = (command ≡ codes "files") × AsksFiles m plan
 Asks command m (plans.Run program choices) =
     (command ≡ codes "run") × AsksProgram (words_of m) program × AsksChoices (words_of m) choices
-Asks command m (plans.Trace program selection) =
+Asks command m (plans.Trace program selection output) =
     (command ≡ codes "trace") × AsksProgram (words_of m) program × AsksSelection (words_of m) selection
+    × (word_found (words_of m) (codes "output") ≡ option_map string_bytes output)
 Asks command m (plans.Debug program typed) = (command ≡ codes "debug") × AsksProgram (words_of m) program
     × (word_found (words_of m) (codes "input") ≡ option_map string_bytes typed)
 Asks command m (plans.Salvage plan) = (command ≡ codes "files") × AsksSalvage m plan

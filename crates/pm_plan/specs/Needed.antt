@@ -171,6 +171,10 @@ debug_needs = (codes "input", Optional) ∷ program_needs
 abbrev pub selection_needs : List (List ℕ × Need)
 selection_needs = (codes "from", Limit) ∷ (codes "segment", Segment) ∷ []
 
+-- what trace needs
+abbrev pub trace_needs : List (List ℕ × Need)
+trace_needs = (codes "output", Optional) ∷ (selection_needs ++ program_needs)
+
 -- what asm needs
 abbrev pub asm_needs : List (List ℕ × Need)
 asm_needs = (codes "all", NotBeside (codes "list")) ∷ (codes "symbols", NotBeside (codes "list"))
@@ -195,7 +199,7 @@ abbrev pub command_needs : List ℕ → Option (List (List ℕ × Need))
 command_needs command =
     if bytes_eq command (codes "raw") then Some ((codes "limit", Limit) ∷ selection_needs)
     else (if bytes_eq command (codes "run") then Some (choices_needs ++ program_needs)
-    else (if bytes_eq command (codes "trace") then Some (selection_needs ++ program_needs)
+    else (if bytes_eq command (codes "trace") then Some trace_needs
     else (if bytes_eq command (codes "debug") then Some debug_needs
     else (if bytes_eq command (codes "asm") then Some (asm_needs ++ text_files_needs)
     else (if bytes_eq command (codes "dis") then Some (dis_needs ++ text_files_needs) else None)))))

@@ -422,7 +422,7 @@ const TRACE: CommandRow = (
     "Runs a code file of the disk on unit 4, with standard input as its console, and writes its trace",
     &[
         D4, D5, D9, D10, D11, D12, FORM, LIMIT, UNLIMITED, SYSTEM, PROGRAM, FROM, SEGMENT,
-        PROCEDURE, CALLS, PLACES,
+        PROCEDURE, CALLS, PLACES, WRITTEN,
     ],
 );
 

@@ -42,8 +42,9 @@ pub enum Plan {
     Files(FilesPlan),
     /// A program to be run.
     Run(Program, RunChoices),
-    /// A program whose trace is written, the lines that are selected.
-    Trace(Program, Selection),
+    /// A program whose trace is written, the lines that are selected, and the path of the file that gets it in the
+    /// place of standard output, where there is one.
+    Trace(Program, Selection, Option<String>),
     /// A program that is debugged, and the path of the file whose bytes wait on its console, where there is one.
     Debug(Program, Option<String>),
     /// The files of an image that are saved into a new volume.
@@ -287,7 +288,11 @@ fn plan_by(alloc: Global, command: &str, matches: &ArgMatches<'_>) -> Result<Pla
             selection: selection_of(matches)?,
         }),
         "run" => Ok(Plan::Run(program_of(alloc, matches)?, choices_of(alloc, matches)?)),
-        "trace" => Ok(Plan::Trace(program_of(alloc, matches)?, selection_of(matches)?)),
+        "trace" => Ok(Plan::Trace(
+            program_of(alloc, matches)?,
+            selection_of(matches)?,
+            given(alloc, matches, "output")?,
+        )),
         "debug" => Ok(Plan::Debug(program_of(alloc, matches)?, given(alloc, matches, "input")?)),
         "asm" => Ok(Plan::Asm(asm_output(matches)?, text_files(alloc, matches)?)),
         "dis" => Ok(Plan::Dis(dis_output(matches)?, text_files(alloc, matches)?)),

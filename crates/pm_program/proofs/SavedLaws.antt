@@ -14,7 +14,11 @@ use Rattle.pm_tool.specs.declared.outcome.Exit.TheVariants as exits
 use Rattle.pm_tool.specs.declared.outcome.Job.{Job}
 use Rattle.pm_tool.specs.declared.outcome.Outcome.{Outcome}
 use Rattle.pm_program.specs.Saved.{SavesEach, SavesFront, SavesFrontSaid, SavesRun, SavesRunSaid, SavesSaid, SavesSalvage}
-use Rattle.pm_program.specs.Saved.{SavesTold, PrintsIf, Reads, images_said}
+use Rattle.pm_files.specs.declared.fault.DiskFault.{DiskFault}
+use Rattle.pm_program.specs.Saved.{TellsTrace, TracesTo}
+use Rattle.pm_program.specs.Texts.{SavesText}
+use Rattle.pm_choices.specs.declared.selection.Selection.{Selection}
+use Rattle.pm_program.specs.Saved.{IsTyped, PrintsIf, Reads, SavesTold, TellsDebug, images_said}
 use Rattle.pm_program.specs.Saved.{ReadsEach, SaysOf, TellsOf, first_image, has_run, saved_paths, next_images, paths_of}
 use Rattle.pm_program.specs.declared.saved.SavedOfRun.{SavedOfRun}
 use Rattle.pm_choices.specs.declared.saving.Saving.{Saving}
@@ -275,6 +279,44 @@ known_tells job old new files program disks system outcome from is_from tells re
     known None told = tt
     known (Some input) told =
         (disks, system, subst (λ path. ReadsEach files (paths_of path (paths_in program.others)) (images_of disks)) is_from reads, given, told)
+
+-- where the input is known, a trace that the output took is what is said, and one that a path has got
+pub known_traces : (had : Option (List ℕ)) (old new : Files) (path : Option (List ℕ)) (before after : Streams) (outcome : Outcome)
+    (program : Program) (selection : Selection) → path ≡ None → new ≡ old
+    → IfSome had (λ input. TellsTrace old before after outcome program selection input)
+    → IfSome had (λ input. TracesTo old new path before after outcome program selection input)
+known_traces None old new path before after outcome program selection e same tells = tt
+known_traces (Some input) old new path before after outcome program selection e same tells =
+    subst (λ p. TracesTo old new p before after outcome program selection input) (sym e) (tells, same)
+
+kept_trace : (had : Option (List ℕ)) (old read new : Files) (path : Option (List ℕ)) (to : List ℕ) (before after : Streams)
+    (outcome : Outcome) (program : Program) (selection : Selection) (disks : List (Option (Vec ℕ Global)))
+    (system : Option (Vec ℕ Global)) (from : List ℕ) → path ≡ Some to → read ≡ old → from ≡ string_bytes program.disk
+    → ReadsEach old (paths_of from (paths_in program.others)) (images_of disks)
+    → Reads old (option_map string_bytes program.system) (option_map vec_items system)
+    → IfSome had (λ input. SavesText read new to outcome (job_said (jobs.Trace disks program.name program.limit system selection) input))
+    → IfSome had (λ input. TracesTo old new path before after outcome program selection input)
+kept_trace None old read new path to before after outcome program selection disks system from e same is_from reads given saves = tt
+kept_trace (Some input) old read new path to before after outcome program selection disks system from e same is_from reads given saves =
+    subst (λ p. TracesTo old new p before after outcome program selection input) (sym e) (
+      disks,
+      system,
+      subst (λ p. ReadsEach old (paths_of p (paths_in program.others)) (images_of disks)) is_from reads,
+      given,
+      subst (λ files. SavesText files new to outcome (job_said (jobs.Trace disks program.name program.limit system selection) input)) same saves,
+    )
+
+pub kept_traces : (r : Result Outcome DiskFault) (had : Option (List ℕ)) (old read new : Files) (path : Option (List ℕ)) (to : List ℕ)
+    (before after : Streams) (program : Program) (selection : Selection) (disks : List (Option (Vec ℕ Global)))
+    (system : Option (Vec ℕ Global)) (from : List ℕ) → path ≡ Some to → read ≡ old → from ≡ string_bytes program.disk
+    → ReadsEach old (paths_of from (paths_in program.others)) (images_of disks)
+    → Reads old (option_map string_bytes program.system) (option_map vec_items system)
+    → IfOk r (λ outcome. IsSoundExit outcome.exit → IfSome had (λ input.
+    SavesText read new to outcome (job_said (jobs.Trace disks program.name program.limit system selection) input)))
+    → IfOk r (λ outcome. IsSoundExit outcome.exit → IfSome had (λ input. TracesTo old new path before after outcome program selection input))
+kept_traces (Err fault) had old read new path to before after program selection disks system from e same is_from reads given saves = tt
+kept_traces (Ok outcome) had old read new path to before after program selection disks system from e same is_from reads given saves =
+    λ sound. kept_trace had old read new path to before after outcome program selection disks system from e same is_from reads given (saves sound)
 
 -- where the input is known, the debugger's job is said of the bytes that were read
 pub known_typed : (had : Option (List ℕ)) (files : Files) (old new : Streams) (outcome : Outcome) (program : Program)

@@ -14,11 +14,11 @@ pub cut_keeps_none : (exit : Exit) (bytes : List ℕ) → is_sound_exit exit ≡
 cut_keeps_none exits.Ended bytes cut = absurd (grind (arith, cut))
 cut_keeps_none exits.Usage bytes cut = refl
 cut_keeps_none exits.Refused bytes cut = refl
-cut_keeps_none exits.ExecutionError bytes cut = refl
+cut_keeps_none exits.ExecutionError bytes cut = absurd (grind (arith, cut))
 cut_keeps_none exits.ReadFault bytes cut = refl
 cut_keeps_none exits.WriteFault bytes cut = refl
 cut_keeps_none exits.NoMemory bytes cut = refl
-cut_keeps_none exits.Stopped bytes cut = refl
+cut_keeps_none exits.Stopped bytes cut = absurd (grind (arith, cut))
 
 -- what a list took that was empty is all that was written
 pub known_written : (had : Option (List ℕ)) (before after : Streams) (outcome : Outcome) (page : List ℕ)

@@ -24,6 +24,7 @@ use Rattle.pm_choices.specs.declared.selection.Selection.{Selection}
 use Rattle.pm_plan.specs.declared.file_words.SalvagePlan.{SalvagePlan}
 use Rattle.pm_plan.specs.declared.file_words.Verb.{Verb}
 use Rattle.pm_plan.specs.declared.file_words.Verb.TheVariants as verbs
+use Rattle.pm_program.specs.Texts.{SavesText}
 use Rattle.pm_program.specs.declared.saved.SavedOfRun.{SavedOfRun}
 use Rattle.pm_plan.specs.Asked.{paths_in}
 use Rattle.pm_program.specs.declared.saved.Printing.{Printing}
@@ -236,6 +237,17 @@ abbrev pub TellsTrace : Files → Streams → Streams → Outcome → Program �
 TellsTrace files old new outcome program selection input =
     TellsOf (λ disks system. jobs.Trace disks program.name program.limit system selection) files old new outcome
     program input
+
+-- A trace is written behind what the output had, and no file has changed; or it is kept under a path.
+abbrev pub TracesTo : Files → Files → Option (List ℕ) → Streams → Streams → Outcome → Program → Selection → List ℕ
+    → Type 0
+TracesTo old new None before after outcome program selection input =
+    TellsTrace old before after outcome program selection input × (new ≡ old)
+TracesTo old new (Some path) before after outcome program selection input =
+    (disks : List (Option (Vec ℕ Global))) × (system : Option (Vec ℕ Global))
+    × ReadsEach old (paths_of (string_bytes program.disk) (paths_in program.others)) (images_of disks)
+    × Reads old (option_map string_bytes program.system) (option_map vec_items system)
+    × SavesText old new path outcome (job_said (jobs.Trace disks program.name program.limit system selection) input)
 
 -- the bytes that a path holds, or none where there is no path
 abbrev pub IsTyped : Files → Option (List ℕ) → List ℕ → Type 0

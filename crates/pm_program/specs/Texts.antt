@@ -21,12 +21,14 @@ use Rattle.pm_tool.specs.declared.outcome.Outcome.{Outcome}
 abbrev pub Comes : Outcome → List ℕ → Said → Type 0
 Comes outcome bytes told = IsOutcome outcome told × (bytes ≡ told.written)
 
--- what is written, of a job that ended well
+-- what is written, of a job that was done: that has ended well, or whose program has run, however that ended
 abbrev pub written_by : Exit → List ℕ → Option (List ℕ)
 written_by exits.Ended bytes = Some bytes
+written_by exits.ExecutionError bytes = Some bytes
+written_by exits.Stopped bytes = Some bytes
 written_by _ bytes = None
 
--- A path holds all that a job writes, if it ended well; nothing else has changed.
+-- A path holds all that a job writes, if it was done; nothing else has changed.
 abbrev pub SavesText : Files → Files → List ℕ → Outcome → Said → Type 0
 SavesText old new path outcome told = IsOutcome outcome told × Saves old new path (written_by told.exit told.written)
 

@@ -37,7 +37,7 @@ fn paths_of(alloc: Global, program: &Program) -> Result<Disks, AllocError> {
 /// The paths of the disks of a plan, if it is one of a program and there is memory for them.
 pub fn disks_of(alloc: Global, plan: &Plan) -> Option<Disks> {
     match plan {
-        Plan::Run(program, _) | Plan::Trace(program, _) | Plan::Debug(program, _) => {
+        Plan::Run(program, _) | Plan::Trace(program, ..) | Plan::Debug(program, _) => {
             paths_of(alloc, program).ok()
         }
         _ => None,

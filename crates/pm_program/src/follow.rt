@@ -43,11 +43,6 @@ impl Terminals {
         }
     }
 
-    /// Whether the input is a plan's console and a terminal.
-    fn has_keys(self, plan: &Plan) -> bool {
-        matches!(plan, Plan::Run(_, _)) && self.input
-    }
-
     /// What is done with the bytes that a plan's job writes.
     fn lines_of(self, plan: &Plan) -> Lines {
         match plan {
@@ -177,8 +172,8 @@ fn act<S: Store, I: Source, O: Sink>(
             let saved = saved_of(store, choices);
             return do_run(alloc, store, source, sink, program, saved);
         }
-        Plan::Trace(program, selection) => {
-            return do_trace(alloc, store, source, sink, program, selection);
+        Plan::Trace(program, selection, output) => {
+            return do_trace(alloc, store, source, sink, program, selection, output);
         }
         Plan::Debug(program, typed) => {
             return do_debug(alloc, store, source, sink, program, typed);
@@ -351,6 +346,13 @@ fn is_taken_away<S: Store>(
         || takes_away(store, printer, program, printer)
 }
 
+/// Whether a path names a file or a folder: one names the same file as itself.
+fn is_there<S: Store>(store: &S, path: &str) -> bool
+    ensures value { IfSome (S.same store.now) (λ same. result ≡ same path.now path.now) }
+{
+    store.is_same(path, path)
+}
+
 /// What is wrong with the paths of `run`, if something is.
 fn conflict<S: Store>(store: &S, program: &Program, choices: &RunChoices) -> Option<Conflict>
     ensures value { IfSome (S.same store.now) (λ same. IfSome (S.beside store.now) (λ beside.
@@ -396,28 +398,39 @@ fn output_conflict<S: Store>(store: &S, input: &str, output: &Option<String>) ->
     None
 }
 
+/// What is wrong with the path of the file that gets a trace, if something is.
+fn trace_conflict<S: Store>(
+    store: &S,
+    program: &Program,
+    output: &Option<String>,
+) -> Option<Conflict> {
+    let path = output.as_ref()?.as_str();
+    if store.is_same(path, program.disk.as_str())
+        || is_other(store, path, &program.others)
+        || names_image(store, path, &program.system)
+    {
+        return Some(Conflict::OutputIsInput);
+    }
+    if takes_away_at(store, path, program, &None) {
+        return Some(Conflict::FileInTheWay);
+    }
+    None
+}
+
 /// What is wrong with the paths of a plan, if something is.
 fn conflict_in<S: Store>(store: &S, plan: &Plan) -> Option<Conflict> {
     match plan {
         Plan::Run(program, choices) => conflict(store, program, choices),
         Plan::Asm(_, files) | Plan::Dis(_, files) => text_conflict(store, files),
         Plan::Files(plan) => output_conflict(store, plan.path.as_str(), &plan.output),
-        // What is there is the same file as itself.
-        Plan::Salvage(plan) if store.is_same(plan.target.as_str(), plan.target.as_str()) => {
+        Plan::Trace(program, _, output) => trace_conflict(store, program, output),
+        Plan::Salvage(plan) if is_there(store, plan.target.as_str()) => {
             Some(Conflict::TargetIsThere)
         }
         Plan::Salvage(plan) if store.is_beside(plan.target.as_str(), plan.path.as_str()) => {
             Some(Conflict::FileInTheWay)
         }
         _ => None,
-    }
-}
-
-/// The byte that ends the input of a plan's console.
-fn end_of(plan: &Plan) -> u8 {
-    match plan {
-        Plan::Run(_, choices) if choices.escape => ESCAPE,
-        _ => END,
     }
 }
 
@@ -442,10 +455,9 @@ fn own_paths(alloc: Global, plan: &Plan) -> Result<OwnPaths, AllocError> {
             let system = copy_of(alloc, &program.system)?;
             Ok((system, copy_of(alloc, &choices.printer)?))
         }
-        Plan::Trace(program, _) => Ok((copy_of(alloc, &program.system)?, None)),
-        Plan::Debug(program, typed) => {
+        Plan::Trace(program, _, other) | Plan::Debug(program, other) => {
             let system = copy_of(alloc, &program.system)?;
-            Ok((system, copy_of(alloc, typed)?))
+            Ok((system, copy_of(alloc, other)?))
         }
         Plan::Asm(_, files) | Plan::Dis(_, files) => {
             let read = match &files.input {
@@ -521,7 +533,12 @@ pub fn follow<R: Host + Input + Print + Eprint + AllocGlobal>(rt: &R, asked: Ask
         };
     }
     let has_system = has_system(plan);
-    let keys = Keys::new(rt.reader(), at.has_keys(plan), end_of(plan));
+    let end = match plan {
+        Plan::Run(_, choices) if choices.escape => ESCAPE,
+        _ => END,
+    };
+    let has_keys = at.input && matches!(plan, Plan::Run(_, _));
+    let keys = Keys::new(rt.reader(), has_keys, end);
     let mut lined = Lined::new(io::writer(rt), at.lines_of(plan));
     let mut source = Reader::new(prompted(rt, keys, at.prompt(plan)));
     let mut sink = Writer::new(&mut lined);

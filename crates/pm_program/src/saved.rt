@@ -10,10 +10,12 @@ ghost use Rattle.pm_program.specs.Saved.{SavesSaid, SavesSome};
 ghost use Rattle.pm_program.specs.Saved.{PrintsIf, SaysOf, has_run, held_at, held_by, held_each, held_paths};
 ghost use Rattle.pm_program.specs.Saved.{saved_paths};
 ghost use Rattle.pm_program.specs.Saved.{takes_lock};
-ghost use Rattle.pm_program.specs.Saved.{IsTyped, Reads, ReadsEach, SavesRunSaid, SavesSalvage, TellsDebug, TellsTrace};
+ghost use Rattle.pm_program.specs.Saved.{IsTyped, Reads, ReadsEach, SavesRunSaid, SavesSalvage, TellsDebug, TracesTo};
 ghost use Rattle.pm_program.specs.Saved.{paths_of};
+ghost use Rattle.pm_program.specs.Texts.{LeavesOutput};
 ghost use Rattle.pm_tool.specs.Disks.{images_of};
 
+use crate::texts::into_file;
 use pm_choices::{Saving, Selection};
 use pm_files::{DiskFault, Store};
 use pm_plan::{Others, Program, SalvagePlan, Verb};
@@ -522,9 +524,10 @@ pub fn do_run<S: Store, I: Source, O: Sink>(
     save_run(alloc, store, sink, disk.as_str(), &others, &saved, &outcome).and(Ok(outcome))
 }
 
-/// Writes the trace of a program, the lines that are selected. No file changes. Neither stream may have failed before.
-/// Where the input is known, what is written, answered and left unread is what is said of it and of the images that the
-/// files had, each on its unit.
+/// Writes the trace of a program, the lines that are selected, to the sink, and no file changes; or, where there is a
+/// path, into its file, which is held, whole where the program has run, and nothing to the sink. Neither stream may
+/// have failed before. Where the input is known, what is written, answered and left unread is what is said of it and of
+/// the images that the files had, each on its unit.
 pub fn do_trace<S: Store, I: Source, O: Sink>(
     alloc: Global,
     store: &mut S,
@@ -532,13 +535,18 @@ pub fn do_trace<S: Store, I: Source, O: Sink>(
     sink: &mut O,
     program: Program,
     selection: Selection,
+    output: Option<String>,
 ) -> Result<Outcome, DiskFault>
     requires well { AreWell (both (I.seen source.old) (O.seen sink.old)) }
-    ensures stays { S.files store.new ≡ S.files store.old }
-    ensures held { S.held store.new ≡ S.held store.old }
     ensures said { IfOk result (λ outcome. IsSoundExit outcome.exit → IfSome (I.seen source.old).remaining (λ input.
-        TellsTrace (S.files store.old) (both (I.seen source.old) (O.seen sink.old))
-        (both (I.seen source.new) (O.seen sink.new)) outcome program selection input)) }
+        TracesTo (S.files store.old) (S.files store.new) (option_map string_bytes output)
+        (both (I.seen source.old) (O.seen sink.old)) (both (I.seen source.new) (O.seen sink.new))
+        outcome program selection input)) }
+    ensures silent { LeavesOutput (option_map string_bytes output) (O.seen sink.old) (O.seen sink.new) }
+    ensures unwritten { OnErr result (O.seen sink.new ≡ O.seen sink.old) }
+    ensures cut { IfOk result (λ outcome. IsCutShort outcome.exit → S.files store.new ≡ S.files store.old) }
+    ensures held { OnOk result (S.held store.new ≡ held_at (option_map string_bytes output) (S.held store.old)) }
+    ensures stays { OnErr result (S.files store.new ≡ S.files store.old) }
 {
     let disk = program.disk.as_str();
     let (disks, system) = inputs(alloc, store, disk, &program.others, &program.system)?;
@@ -550,7 +558,10 @@ pub fn do_trace<S: Store, I: Source, O: Sink>(
         system,
         selection,
     };
-    Ok(pm_tool::run(alloc, source, sink, job))
+    match output {
+        Some(path) => into_file(alloc, store, source, path.as_str(), job),
+        None => Ok(pm_tool::run(alloc, source, sink, job)),
+    }
 }
 
 /// The bytes that wait on the console from the start on: those of a file, where there is a path.

@@ -37,7 +37,7 @@ fn into_memory<I: Source>(alloc: Global, source: &mut I, job: Job) -> (Outcome, 
     (outcome, bytes)
 }
 
-/// Makes what a job has written the file of a path, if it ended well. `NoMemory` where there was none to keep all that
+/// Makes what a job has written the file of a path, if it was done. `NoMemory` where there was none to keep all that
 /// it wrote.
 fn keep<S: Store>(store: &mut S, path: &str, exit: Exit, bytes: &[u8]) -> Result<(), DiskFault>
     ensures kept { OnOk result (Saves (S.files store.old) (S.files store.new) path.now (written_by exit bytes.now)) }
@@ -45,14 +45,14 @@ fn keep<S: Store>(store: &mut S, path: &str, exit: Exit, bytes: &[u8]) -> Result
     ensures stays { OnErr result (S.files store.new ≡ S.files store.old) }
 {
     match exit {
-        Exit::Ended => store.put(path, bytes),
+        Exit::Ended | Exit::ExecutionError | Exit::Stopped => store.put(path, bytes),
         // Nothing but want of memory keeps a list from growing.
         Exit::WriteFault => Err(DiskFault::NoMemory),
         _ => Ok(()),
     }
 }
 
-/// Does a job whose output is the file of a path, which is held: where the job ends well the file has all that is
+/// Does a job whose output is the file of a path, which is held: where the job is done the file has all that is
 /// written, and else no file has changed. The source may not have failed before.
 #[tactic(auto, using(crate::proofs::TextLaws::cut_keeps_none))]
 pub(crate) fn into_file<S: Store, I: Source>(
@@ -108,6 +108,13 @@ pub(crate) enum Got {
     Bytes(Vec<u8>),
     /// Nothing: the image, or the file, is refused.
     Nothing(Outcome),
+}
+
+/// Whether a job reads a text, and no code file.
+fn reads_text(job: &Job) -> bool
+    ensures text { result ≡ reads_text job.now }
+{
+    matches!(job, Job::Asm(_))
 }
 
 /// The command that gets the text of a file, or its bytes.
@@ -199,8 +206,7 @@ pub fn do_text<S: Store, I: Source, O: Sink>(
         TextInput::Standard => return deliver(alloc, store, source, sink, &output, job),
         TextInput::File(path) => store.read(alloc, path.as_str())?,
         TextInput::OnImage { image, name } => {
-            let is_text = matches!(job, Job::Asm(_));
-            match get_file(alloc, store, image.as_str(), is_text, name)? {
+            match get_file(alloc, store, image.as_str(), reads_text(&job), name)? {
                 Got::Bytes(bytes) => bytes,
                 Got::Nothing(outcome) => return Ok(outcome),
             }

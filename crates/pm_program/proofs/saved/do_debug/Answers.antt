@@ -7,7 +7,9 @@ use Rattle.pm_program.proofs.SavedLaws.{known_tells, known_typed}
 use Rattle.pm_program.proofs.saved.do_debug.Goals as goal
 
 pub returns-clause-said : goal.returns-clause-said
-returns-clause-said g c = λ sound. known_typed _ _ _ _ _ _ _ c.in_ok-typed.typed
+returns-clause-said g c = λ sound. known_typed (g.I.Source.seen c.args.source.now).remaining (g.S.Store.files c.args.store.now)
+    (both (g.I.Source.seen c.args.source.now) (g.O.Sink.seen c.args.sink.now)) (both (g.I.Source.seen c.run.new.source) (g.O.Sink.seen c.run.new.sink))
+    c.run.result c.args.program (option_map string_bytes c.args.typed) c.in_ok-typed.typed
     (subst (λ files. IsTyped files (option_map string_bytes c.args.typed) c.in_ok-typed.typed.items)
     c.in_ok-disks.ensures.stays c.in_ok-typed.ensures.bytes)
     (known_tells

@@ -98,6 +98,8 @@ if len(sys.argv) > 2:
     command = f"{front} trace --d4 {image} --limit 30000000 LOOP"
     shown, status = run(f"{command} >out")
     check("a trace to a file is watched, its terminal put back", b" MB\x1b[A" in shown and is_cleared(shown) and status == 6, shown[-200:], status)
+    shown, status = run(f"{command} -o kept")
+    check("behind -o the time alone is told", b"\x1b[K0:02\x1b[A\r" in shown and is_cleared(shown) and status == 6, shown[-200:], status)
     shown, status = run(f"{command} | cat >out")
     check("in a pipe nothing is said", b"\x1b" not in shown, shown[-200:], status)
     shown, status = run(f"{command} --quiet >out")

@@ -1,8 +1,9 @@
 #!/bin/sh
-# `watched.sh PROGRAM WORDS..`, where standard output is a file and standard error a terminal: does the command, and says
-# meanwhile, from the third second on, how long it has run and how much the file has. That stands below the cursor, so that
-# what the program says comes where it would, and is gone when it ends. While the program waits, or another command has the
-# terminal, nothing is said. The program knows no clock; its status, and what ends it, are as without.
+# `watched.sh PROGRAM WORDS..`, where a file is written and standard error is a terminal: does the command, and says
+# meanwhile, from the third second on, how long it has run and, where standard output is the file, how much that has. It
+# stands below the cursor, so that what the program says comes where it would, and is gone when it ends. While the program
+# waits, or another command has the terminal, nothing is said. The program knows no clock; its status, and what ends it,
+# are as without.
 { command exec 3<&0; } 2>/dev/null || exec "$@"
 "$@" <&3 3<&- &
 process=$!
@@ -50,7 +51,9 @@ tick() {
     while sleep 1 </dev/null >/dev/null 2>&1 & wait $!; do
         seconds=$((seconds + 1))
         if [ "$seconds" -ge 2 ] && is_working; then
-            printf '\n\033[K%d:%02d %s\033[A\r' $((seconds / 60)) $((seconds % 60)) "$(size "/proc/$process/fd/1")"
+            had=''
+            [ ! -f "/proc/$process/fd/1" ] || had=" $(size "/proc/$process/fd/1")"
+            printf '\n\033[K%d:%02d%s\033[A\r' $((seconds / 60)) $((seconds % 60)) "$had"
             said=yes
         else
             clear_below

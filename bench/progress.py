@@ -97,6 +97,8 @@ if len(sys.argv) > 2:
     front, image = os.path.abspath(os.path.join(here, "..", sys.argv[1])), os.path.join(here, sys.argv[2])
     command = f"{front} trace --d4 {image} --limit 30000000 LOOP"
     shown, status = run(f"{command} >out")
+    if not shown:  # a fast program on a fast disk
+        shown, status = run(f"{command.replace('30000000', '90000000')} >out")
     check("a trace to a file is watched, its terminal put back", b" MB\x1b[A" in shown and is_cleared(shown) and status == 6, shown[-200:], status)
     shown, status = run(f"{command} -o kept")
     check("behind -o the time alone is told", b"\x1b[K0:02\x1b[A\r" in shown and is_cleared(shown) and status == 6, shown[-200:], status)

@@ -187,7 +187,7 @@ told = same("ends, errors and waiting", [("OK", ["go 2000000", "go 2000000"]), (
 same("other lines", [("LONG", ["", "?", "step", "finish 1", "watch 1", "go", "go 5000000 5", "GO 5000000", "  go   2000000  ", "*", "r\u00e9gs", "go 5000000\\", "go\t2000000", "help",
       "break 1 1 0", "break 1 2 3", "breaks", "bytes 64960 40", "bytes $FFFF 5", "bytes 5 0", "bytes 0064960 16", "peek 64960 20", "peek 1 1", "peek 65534 9",
       "list 20", "list 0", "frames 5", "finish 3", "step 5000000000", "on 5", "console", "console on", "s 2", "st", "wa", "breakss", 'type "A', 'type "A" ', "key 10",
-      "until 1 1 2", "until 1 1 0 2000000", "on 3", "break 1 1 0 if 2000 = 0", "breaks"])])
+      "until 1 1 %d" % here, "until 1 1 0 2000000", "on 3", "break 1 1 0 if 2000 = 0", "breaks"])])
 
 lines = ["go 5000000", "stack 2", "regs", "list 3", "frames 2", "breaks", "until 1 1 2 3000000"]
 short = ["g 5000000", " stac 2", "r", "li 3", "fr 2", "breaks", "unt 1 1 2 3000000", "q"]

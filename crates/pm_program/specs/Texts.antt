@@ -1,7 +1,7 @@
 -- What a job on a text or a code file leaves behind, where files stand in the place of its streams.
 use Rattle.std.specs.Prelude.{◌≡◌, ⊤, ℕ, Bool, true, false, List, [], Option, None, Some, IfSome, string_bytes}
 use Rattle.std.specs.Io.KnownBytes.{Appends}
-use Rattle.pm_files.specs.Held.{Files, HoldsFile, Saves}
+use Rattle.pm_files.specs.Held.{Files, HoldsFile, Locks, Saves}
 use Rattle.pm_streams.specs.Streams.{Incoming, Outgoing}
 use Rattle.pm_filer.specs.Filed.{Order, Get, GetText}
 use Rattle.pm_plan.specs.declared.text_words.TextInput.{TextInput}
@@ -42,6 +42,11 @@ Delivers old new (Some path) before after outcome told = SavesText old new path 
 abbrev pub LeavesOutput : Option (List ℕ) → Outgoing → Outgoing → Type 0
 LeavesOutput None before after = ⊤
 LeavesOutput (Some path) before after = after ≡ before
+
+-- Where no path has what is written, no file changes, and none is held.
+abbrev pub LeavesFiles : Option (List ℕ) → Files → Files → Locks → Locks → Type 0
+LeavesFiles None old new before after = (new ≡ old) × (after ≡ before)
+LeavesFiles (Some path) old new before after = ⊤
 
 -- ---- what is read
 

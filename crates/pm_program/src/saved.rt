@@ -12,7 +12,7 @@ ghost use Rattle.pm_program.specs.Saved.{saved_paths};
 ghost use Rattle.pm_program.specs.Saved.{takes_lock};
 ghost use Rattle.pm_program.specs.Saved.{IsTyped, Reads, ReadsEach, SavesRunSaid, SavesSalvage, TellsDebug, TracesTo};
 ghost use Rattle.pm_program.specs.Saved.{paths_of};
-ghost use Rattle.pm_program.specs.Texts.{LeavesOutput};
+ghost use Rattle.pm_program.specs.Texts.{LeavesFiles, LeavesOutput};
 ghost use Rattle.pm_tool.specs.Disks.{images_of};
 
 use crate::texts::into_file;
@@ -543,6 +543,8 @@ pub fn do_trace<S: Store, I: Source, O: Sink>(
         (both (I.seen source.old) (O.seen sink.old)) (both (I.seen source.new) (O.seen sink.new))
         outcome program selection input)) }
     ensures silent { LeavesOutput (option_map string_bytes output) (O.seen sink.old) (O.seen sink.new) }
+    ensures alone { LeavesFiles (option_map string_bytes output) (S.files store.old) (S.files store.new)
+        (S.held store.old) (S.held store.new) }
     ensures unwritten { OnErr result (O.seen sink.new ≡ O.seen sink.old) }
     ensures cut { IfOk result (λ outcome. IsCutShort outcome.exit → S.files store.new ≡ S.files store.old) }
     ensures held { OnOk result (S.held store.new ≡ held_at (option_map string_bytes output) (S.held store.old)) }

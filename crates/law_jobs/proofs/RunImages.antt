@@ -7,7 +7,7 @@ use Rattle.pm_machine.specs.Start.{devices_with}
 use Rattle.pm_machine.specs.State.{State}
 use Rattle.pm_machine.specs.declared.state.BootFault.{BootFault}
 use Rattle.pm_units.specs.Devices.{Devices, ejected_image, unit_of}
-use Rattle.pm_choices.specs.declared.saving.Saving.{Saving}
+use Rattle.pm_jobs.specs.declared.saving.Saving.{Saving}
 use Rattle.pm_tool.specs.Disks.{booted_unless, first_disk_fault, images_with, started}
 use Rattle.law_jobs.specs.ToolLaws.{ImagesAreOfTheirUnits, SavingChangesNothing, SayTheSame}
 use Rattle.pm_tool.specs.Run.{Run, run_of}

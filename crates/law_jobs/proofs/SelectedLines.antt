@@ -12,9 +12,9 @@ use Rattle.pm_machine.specs.declared.code_place.CodePlace.{CodePlace}
 use Rattle.pm_machine.specs.State.{State}
 use Rattle.pm_trace.specs.Selected.{front, is_at_call, is_selected, shown_line, stands_in}
 use Rattle.pm_trace.specs.Trace.{trace_line}
-use Rattle.pm_choices.specs.declared.selection.Code.{Code}
-use Rattle.pm_choices.specs.declared.selection.Code.TheVariants as codes
-use Rattle.pm_choices.specs.declared.selection.Selection.{Selection}
+use Rattle.pm_jobs.specs.declared.selection.Code.{Code}
+use Rattle.pm_jobs.specs.declared.selection.Code.TheVariants as codes
+use Rattle.pm_jobs.specs.declared.selection.Selection.{Selection}
 use Rattle.law_jobs.specs.Selections.{AskedLinesAreShown, CallsByNumber, IsAskedFor, IsIn, OtherLinesAreNot, StandsThere}
 
 both : (a b : Bool) → (a && b) ≡ true → (a ≡ true) × (b ≡ true)

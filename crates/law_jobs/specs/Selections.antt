@@ -6,9 +6,9 @@ use Rattle.pm_words.specs.Words.{word_at}
 use Rattle.pm_machine.specs.State.{State}
 use Rattle.pm_trace.specs.Trace.{trace_line}
 use Rattle.pm_trace.specs.Selected.{front, is_at_call, is_call_or_return, shown_line}
-use Rattle.pm_choices.specs.declared.selection.Code.{Code}
-use Rattle.pm_choices.specs.declared.selection.Code.TheVariants as codes
-use Rattle.pm_choices.specs.declared.selection.Selection.{Selection}
+use Rattle.pm_jobs.specs.declared.selection.Code.{Code}
+use Rattle.pm_jobs.specs.declared.selection.Code.TheVariants as codes
+use Rattle.pm_jobs.specs.declared.selection.Selection.{Selection}
 
 -- The step that a machine makes next stands in the code that is asked for: the low byte of the word at SEG is the
 -- number of the segment, that of the word at JTAB the number of the procedure, and both addresses are even. Where any

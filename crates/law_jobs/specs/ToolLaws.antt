@@ -5,11 +5,11 @@ use Rattle.pm_machine.specs.Events.{Event, Step, Key, Poke, Mount, Eject, after_
 use Rattle.pm_machine.specs.Runs.{Ran}
 use Rattle.pm_machine.specs.declared.state.Stop.{Stop}
 use Rattle.pm_machine.specs.declared.state.Stop.TheVariants.{Went, Waiting, Ended, Halted}
-use Rattle.pm_choices.specs.declared.saving.Saving.{Saving}
-use Rattle.pm_choices.specs.declared.saving.Saving.TheVariants as savings
+use Rattle.pm_jobs.specs.declared.saving.Saving.{Saving}
+use Rattle.pm_jobs.specs.declared.saving.Saving.TheVariants as savings
 use Rattle.pm_session.specs.declared.ending.Ending.TheVariants as endings
 use Rattle.pm_tool.specs.Disks.{booted}
-use Rattle.pm_choices.specs.declared.output.AsmOutput.TheVariants as asm
+use Rattle.pm_jobs.specs.declared.output.AsmOutput.TheVariants as asm
 use Rattle.pm_tool.specs.Run.{Run, ended_run, run_of}
 use Rattle.pm_tool.specs.declared.outcome.Exit.TheVariants as exits
 use Rattle.pm_tool.specs.declared.outcome.Job.TheVariants as jobs

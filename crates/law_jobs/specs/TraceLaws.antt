@@ -2,8 +2,8 @@
 use Rattle.std.specs.Prelude.{◌≡◌, ◌⊎◌, ℕ, false, List, [], ◌∷◌, ◌++◌}
 use Rattle.pm_machine.specs.State.{State}
 use Rattle.pm_trace.specs.Trace.{trace_line}
-use Rattle.pm_choices.specs.declared.selection.Code.TheVariants as code
-use Rattle.pm_choices.specs.declared.selection.Selection.{Selection}
+use Rattle.pm_jobs.specs.declared.selection.Code.TheVariants as code
+use Rattle.pm_jobs.specs.declared.selection.Selection.{Selection}
 use Rattle.pm_trace.specs.Selected.{shown_line}
 
 -- where every line is selected, and nothing is put in front of it, each is shown as it is

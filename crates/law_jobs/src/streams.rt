@@ -1,7 +1,7 @@
 //! Laws of streams. The functions do nothing.
 ghost use Rattle.std.specs.Prelude.{◌≡◌};
 
-use pm_streams::INPUT_LIMIT;
+use pm_jobs::INPUT_LIMIT;
 
 /// An input has at most 16,777,216 bytes.
 pub fn input_is_bounded()

@@ -11,8 +11,8 @@ use Rattle.pm_tool.specs.declared.outcome.Job.TheVariants as jobs
 use Rattle.pm_tool.specs.declared.outcome.Outcome.{Outcome}
 use Rattle.pm_program.specs.Saved.{SavesEach, SavesRun, SavesRunSaid, SavesSaid, SavesTold, PrintsIf, Reads, ReadsEach}
 use Rattle.pm_program.specs.Saved.{first_image, has_run, saved_paths, next_images}
-use Rattle.pm_choices.specs.declared.saving.Saving.{Saving}
-use Rattle.pm_choices.specs.declared.saving.Saving.TheVariants as savings
+use Rattle.pm_jobs.specs.declared.saving.Saving.{Saving}
+use Rattle.pm_jobs.specs.declared.saving.Saving.TheVariants as savings
 use Rattle.pm_plan.specs.Asked.{paths_in}
 use Rattle.pm_program.specs.declared.saved.Printing.TheVariants as printings
 use Rattle.pm_plan.specs.declared.file_words.Verb.{Verb}

@@ -10,8 +10,8 @@ use Rattle.pm_tool.specs.Outcomes.{Said}
 use Rattle.pm_tool.specs.Said.{IsCutShort, job_said}
 use Rattle.pm_tool.specs.declared.outcome.Job.TheVariants as jobs
 use Rattle.pm_tool.specs.declared.outcome.Outcome.{Outcome}
-use Rattle.pm_choices.specs.declared.saving.Saving.{Saving}
-use Rattle.pm_choices.specs.declared.saving.Saving.TheVariants as savings
+use Rattle.pm_jobs.specs.declared.saving.Saving.{Saving}
+use Rattle.pm_jobs.specs.declared.saving.Saving.TheVariants as savings
 use Rattle.pm_plan.specs.declared.file_words.Verb.{Verb}
 use Rattle.pm_plan.specs.declared.file_words.Verb.TheVariants as verbs
 

@@ -5,11 +5,10 @@ ghost use Rattle.pm_tool.specs.Said.{IsSoundExit};
 ghost use Rattle.law_stores.specs.Jobs.{SavesDisk, SavesIn, LeavesRun, StaysWhereCut, left_in, said_verb};
 
 use crate::stores::OneFile;
-use pm_choices::Saving;
 use pm_files::{DiskFault, Store};
+use pm_jobs::{Reader, Saving, Writer};
 use pm_plan::{Program, Verb};
 use pm_program::{Printing, SavedOfRun, do_files, do_run};
-use pm_streams::{Reader, Writer};
 use pm_tool::Outcome;
 use std::alloc::Global;
 

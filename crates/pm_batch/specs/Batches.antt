@@ -1,7 +1,7 @@
 -- Jobs that turn bytes into bytes: what each makes of its input, and which read it.
 use Rattle.std.specs.Prelude.{ℕ, Bool, true, false, List, Result, Ok, Err, string_bytes}
-use Rattle.pm_choices.specs.declared.output.AsmOutput.TheVariants as asm
-use Rattle.pm_choices.specs.declared.output.DisOutput.TheVariants as dis
+use Rattle.pm_jobs.specs.declared.output.AsmOutput.TheVariants as asm
+use Rattle.pm_jobs.specs.declared.output.DisOutput.TheVariants as dis
 use Rattle.pm_volume.specs.Copies.{repaired}
 use Rattle.pm_volume.specs.Headers.{blank_fault}
 use Rattle.pm_volume.specs.declared.fault.VolumeFault.{VolumeFault}

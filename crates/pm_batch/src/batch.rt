@@ -8,8 +8,8 @@ use crate::code::{disassemble, disassemble_named, indent_file, list_file, state_
 use crate::files::{check_image, file, new_volume, repair_volume, salvage_image, takes_input};
 use crate::refusal::Refusal;
 use pm_check::Form;
-use pm_choices::{AsmOutput, DisOutput};
 use pm_filer::FileCommand;
+use pm_jobs::{AsmOutput, DisOutput};
 use pm_volume::{Volume, VolumeFault};
 use std::alloc::{AllocError, Global};
 

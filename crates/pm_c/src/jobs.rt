@@ -1,6 +1,6 @@
 //! The jobs on texts and code: one call each.
 ghost use Rattle.std.specs.Prelude.{if◌then◌else◌};
-ghost use Rattle.pm_choices.specs.declared.selection.TheConstants.Selection.{ALL};
+ghost use Rattle.pm_jobs.specs.declared.selection.TheConstants.Selection.{ALL};
 ghost use Rattle.pm_tool.specs.Said.{job_said};
 ghost use Rattle.pm_c.specs.Answers.{Answers};
 

@@ -1,6 +1,6 @@
 -- What a job would say of a file that could not be read or written.
-use Rattle.pm_streams.specs.declared.fault.Fault.{Fault}
-use Rattle.pm_streams.specs.declared.fault.Fault.TheVariants as faults
+use Rattle.pm_jobs.specs.declared.fault.Fault.{Fault}
+use Rattle.pm_jobs.specs.declared.fault.Fault.TheVariants as faults
 use Rattle.pm_files.specs.declared.fault.DiskFault.{DiskFault}
 use Rattle.pm_files.specs.declared.fault.DiskFault.TheVariants as disk
 

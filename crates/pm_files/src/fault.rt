@@ -2,7 +2,7 @@
 ghost use Rattle.std.specs.Prelude.{◌≡◌};
 ghost use Rattle.pm_files.specs.Faults.{fault_of};
 
-use pm_streams::Fault;
+use pm_jobs::Fault;
 use std::alloc::AllocError;
 use std::io;
 use std::io::ErrorKind;

@@ -12,15 +12,15 @@ use Rattle.pm_filer.specs.Filed.{PutText, Krunch, Date, Zero, Duplicate, Single,
 use Rattle.pm_filer.specs.Filed.{RemoveSlot, ChangeSlot, Kind, KindSlot, Copy, CopySlot, order_of}
 use Rattle.pm_filer.specs.Filed.{ListAll, ListFitting, RemoveFitting}
 use Rattle.pm_filer.specs.Listing.{kind_word}
-use Rattle.pm_choices.specs.declared.output.AsmOutput.{AsmOutput}
-use Rattle.pm_choices.specs.declared.output.AsmOutput.TheVariants as asm
-use Rattle.pm_choices.specs.declared.output.DisOutput.{DisOutput}
-use Rattle.pm_choices.specs.declared.output.DisOutput.TheVariants as dis
-use Rattle.pm_choices.specs.declared.saving.Saving.{Saving}
-use Rattle.pm_choices.specs.declared.saving.Saving.TheVariants as savings
-use Rattle.pm_choices.specs.declared.selection.Code.{Code}
-use Rattle.pm_choices.specs.declared.selection.Code.TheVariants as code
-use Rattle.pm_choices.specs.declared.selection.Selection.{Selection}
+use Rattle.pm_jobs.specs.declared.output.AsmOutput.{AsmOutput}
+use Rattle.pm_jobs.specs.declared.output.AsmOutput.TheVariants as asm
+use Rattle.pm_jobs.specs.declared.output.DisOutput.{DisOutput}
+use Rattle.pm_jobs.specs.declared.output.DisOutput.TheVariants as dis
+use Rattle.pm_jobs.specs.declared.saving.Saving.{Saving}
+use Rattle.pm_jobs.specs.declared.saving.Saving.TheVariants as savings
+use Rattle.pm_jobs.specs.declared.selection.Code.{Code}
+use Rattle.pm_jobs.specs.declared.selection.Code.TheVariants as code
+use Rattle.pm_jobs.specs.declared.selection.Selection.{Selection}
 use Rattle.pm_plan.specs.declared.file_words.FilesPlan.{FilesPlan}
 use Rattle.pm_plan.specs.declared.file_words.SalvagePlan.{SalvagePlan}
 use Rattle.pm_plan.specs.declared.file_words.Verb.{Verb}

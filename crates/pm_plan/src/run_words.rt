@@ -9,7 +9,7 @@ ghost use Rattle.pm_plan.specs.declared.words.WordsError.TheVariants.{NoMemory};
 use crate::file_words::word;
 use crate::words::{WordsError, flag, found, given, is_set, limit_of};
 use clap::ArgMatches;
-use pm_choices::Saving;
+use pm_jobs::Saving;
 use std::alloc::Global;
 
 /// The files that have the images of the disks on the units 5, 9, 10, 11 and 12, in their order.

@@ -6,7 +6,7 @@ ghost use Rattle.pm_plan.specs.Needed.{IsCodeWords, IsWrong, MeetEach, selection
 
 use crate::words::{WordsError, flag, found, number};
 use clap::ArgMatches;
-use pm_choices::{Code, Selection};
+use pm_jobs::{Code, Selection};
 
 /// The number of a segment or a procedure. `None` where a word is no number up to 255.
 fn small(text: &str) -> Option<u8>

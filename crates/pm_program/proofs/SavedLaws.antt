@@ -7,7 +7,7 @@ use Rattle.std.specs.Result.{result_and}
 use Rattle.std.specs.declared.alloc.Global.{Global}
 use Rattle.pm_files.specs.Held.{Files, HoldsFile, Saves, Puts}
 use Rattle.pm_tool.specs.Outcomes.{Said, IsOutcome, is_sound_exit, no_others}
-use Rattle.pm_streams.specs.Streams.{Streams}
+use Rattle.pm_jobs.specs.Streams.{Streams}
 use Rattle.pm_tool.specs.Said.{job_said, IsCutShort, IsSoundExit, Tells, TellsAll}
 use Rattle.pm_tool.specs.declared.outcome.Exit.{Exit}
 use Rattle.pm_tool.specs.declared.outcome.Exit.TheVariants as exits
@@ -17,11 +17,11 @@ use Rattle.pm_program.specs.Saved.{SavesEach, SavesFront, SavesFrontSaid, SavesR
 use Rattle.pm_files.specs.declared.fault.DiskFault.{DiskFault}
 use Rattle.pm_program.specs.Saved.{TellsTrace, TracesTo}
 use Rattle.pm_program.specs.Texts.{SavesText}
-use Rattle.pm_choices.specs.declared.selection.Selection.{Selection}
+use Rattle.pm_jobs.specs.declared.selection.Selection.{Selection}
 use Rattle.pm_program.specs.Saved.{IsTyped, PrintsIf, Reads, SavesTold, TellsDebug, images_said}
 use Rattle.pm_program.specs.Saved.{ReadsEach, SaysOf, TellsOf, first_image, has_run, saved_paths, next_images, paths_of}
 use Rattle.pm_program.specs.declared.saved.SavedOfRun.{SavedOfRun}
-use Rattle.pm_choices.specs.declared.saving.Saving.{Saving}
+use Rattle.pm_jobs.specs.declared.saving.Saving.{Saving}
 use Rattle.pm_plan.specs.Asked.{paths_in}
 use Rattle.pm_plan.specs.declared.run_words.Program.{Program}
 use Rattle.pm_tool.specs.Disks.{images_of}

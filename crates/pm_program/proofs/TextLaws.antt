@@ -2,7 +2,7 @@
 use Rattle.std.proofs.Common.{◌≡◌, ◌∙◌, [], ℕ, false, List, Option, None, Some, refl, subst, arith, IfSome}
 use Rattle.std.specs.Io.KnownBytes.{Appends}
 use Rattle.pm_files.specs.Held.{Files, Saves}
-use Rattle.pm_streams.specs.Streams.{Streams}
+use Rattle.pm_jobs.specs.Streams.{Streams}
 use Rattle.pm_tool.specs.Outcomes.{Said, is_sound_exit}
 use Rattle.pm_tool.specs.Said.{Tells}
 use Rattle.pm_tool.specs.declared.outcome.Exit.{Exit}

@@ -5,8 +5,8 @@ use Rattle.std.specs.Prelude.{option_map, string_bytes}
 use Rattle.std.specs.Prelude.{if◌then◌else◌}
 use Rattle.pm_program.specs.declared.end.Conflict.{Conflict}
 use Rattle.pm_program.specs.declared.end.Conflict.TheVariants as conflicts
-use Rattle.pm_choices.specs.declared.saving.Saving.{Saving}
-use Rattle.pm_choices.specs.Savings.{has_first, has_others}
+use Rattle.pm_jobs.specs.declared.saving.Saving.{Saving}
+use Rattle.pm_jobs.specs.Savings.{has_first, has_others}
 use Rattle.pm_plan.specs.Asked.{paths_in}
 use Rattle.pm_plan.specs.declared.run_words.RunChoices.{RunChoices}
 use Rattle.pm_plan.specs.declared.run_words.Program.{Program}

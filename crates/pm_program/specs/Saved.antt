@@ -11,16 +11,16 @@ use Rattle.pm_volume.specs.Headers.{blank_fault}
 use Rattle.pm_tool.specs.Batches.{said_check, said_files, said_new, said_repair, said_salvage}
 use Rattle.pm_tool.specs.Disks.{images_of}
 use Rattle.pm_tool.specs.Outcomes.{Said, no_others}
-use Rattle.pm_streams.specs.Streams.{Streams}
+use Rattle.pm_jobs.specs.Streams.{Streams}
 use Rattle.pm_tool.specs.Said.{Tells, job_said}
 use Rattle.pm_tool.specs.declared.outcome.Exit.{Exit}
 use Rattle.pm_tool.specs.declared.outcome.Exit.TheVariants as exits
 use Rattle.pm_tool.specs.declared.outcome.Job.{Job}
 use Rattle.pm_tool.specs.declared.outcome.Job.TheVariants as jobs
 use Rattle.pm_tool.specs.declared.outcome.Outcome.{Outcome}
-use Rattle.pm_choices.specs.declared.saving.Saving.{Saving}
-use Rattle.pm_choices.specs.declared.saving.Saving.TheVariants as savings
-use Rattle.pm_choices.specs.declared.selection.Selection.{Selection}
+use Rattle.pm_jobs.specs.declared.saving.Saving.{Saving}
+use Rattle.pm_jobs.specs.declared.saving.Saving.TheVariants as savings
+use Rattle.pm_jobs.specs.declared.selection.Selection.{Selection}
 use Rattle.pm_plan.specs.declared.file_words.SalvagePlan.{SalvagePlan}
 use Rattle.pm_plan.specs.declared.file_words.Verb.{Verb}
 use Rattle.pm_plan.specs.declared.file_words.Verb.TheVariants as verbs

@@ -2,7 +2,7 @@
 use Rattle.std.specs.Prelude.{◌≡◌, ⊤, ℕ, Bool, true, false, List, [], Option, None, Some, IfSome, string_bytes}
 use Rattle.std.specs.Io.KnownBytes.{Appends}
 use Rattle.pm_files.specs.Held.{Files, HoldsFile, Locks, Saves}
-use Rattle.pm_streams.specs.Streams.{Incoming, Outgoing}
+use Rattle.pm_jobs.specs.Streams.{Incoming, Outgoing}
 use Rattle.pm_filer.specs.Filed.{Order, Get, GetText}
 use Rattle.pm_plan.specs.declared.text_words.TextInput.{TextInput}
 use Rattle.pm_plan.specs.declared.text_words.TextInput.TheVariants as inputs

@@ -1,6 +1,6 @@
 //! A plan is followed: its streams, its files, its job.
 ghost use Rattle.std.specs.Prelude.{◌≡◌, IfSome, Some, option_map, string_bytes};
-ghost use Rattle.pm_streams.specs.Streams.{AreWell, both};
+ghost use Rattle.pm_jobs.specs.Streams.{AreWell, both};
 ghost use Rattle.pm_plan.specs.Asked.{paths_in};
 ghost use Rattle.pm_program.specs.Conflicts.{are_shared, conflict_of, is_other, is_taken_away, names_image};
 ghost use Rattle.pm_program.specs.Conflicts.{others_take_away, printer_conflict, takes_away};
@@ -11,12 +11,11 @@ use crate::end::{Conflict, End};
 use crate::got::do_get;
 use crate::saved::{Printing, SavedOfRun, do_debug, do_files, do_run, do_salvage, do_trace};
 use crate::texts::do_text;
-use pm_choices::{AsmOutput, Saving};
 use pm_files::{DiskFault, Host, HostStore, Store, Stream};
+use pm_jobs::{AsmOutput, Reader, Saving, Sink, Source, Writer};
 use pm_plan::{
     Asked, FilesPlan, Form, InForm, Plan, Program, RunChoices, TextFiles, TextInput, Verb,
 };
-use pm_streams::{Reader, Sink, Source, Writer};
 use pm_tool::{Job, Outcome};
 use std::alloc::{AllocError, Global};
 use std::io;

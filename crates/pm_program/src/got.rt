@@ -8,7 +8,7 @@ ghost use Rattle.pm_program.specs.Saved.{held_at};
 use crate::texts::into_file;
 use pm_filer::FileCommand;
 use pm_files::{DiskFault, Store};
-use pm_streams::Source;
+use pm_jobs::Source;
 use pm_tool::{Job, Outcome};
 use std::alloc::Global;
 

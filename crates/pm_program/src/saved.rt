@@ -3,7 +3,7 @@ ghost use Rattle.std.specs.Prelude.{◌≡◌, ◌∷◌, false, IfOk, IfSome, O
 ghost use Rattle.std.specs.Prelude.{vec_items};
 ghost use Rattle.pm_tool.specs.Said.{IsCutShort, IsSoundExit};
 ghost use Rattle.pm_files.specs.Held.{Saves, Puts, held_too};
-ghost use Rattle.pm_streams.specs.Streams.{AreWell, both};
+ghost use Rattle.pm_jobs.specs.Streams.{AreWell, both};
 ghost use Rattle.pm_plan.specs.Asked.{paths_in};
 ghost use Rattle.pm_program.specs.Saved.{SavesAt, SavesEach, SavesFront, SavesFrontSaid, SavesRun};
 ghost use Rattle.pm_program.specs.Saved.{SavesSaid, SavesSome};
@@ -16,10 +16,9 @@ ghost use Rattle.pm_program.specs.Texts.{LeavesFiles, LeavesOutput};
 ghost use Rattle.pm_tool.specs.Disks.{images_of};
 
 use crate::texts::into_file;
-use pm_choices::{Saving, Selection};
 use pm_files::{DiskFault, Store};
+use pm_jobs::{Saving, Selection, Sink, Source, write_all};
 use pm_plan::{Others, Program, SalvagePlan, Verb};
-use pm_streams::{Sink, Source, write_all};
 use pm_tool::{Exit, Job, OtherImages, Outcome};
 use std::alloc::Global;
 use std::io::ErrorKind;

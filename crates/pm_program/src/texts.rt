@@ -1,6 +1,6 @@
 //! Jobs on texts and code files: what is read, and where it is written.
 ghost use Rattle.std.specs.Prelude.{◌≡◌, false, IfOk, IfSome, None, OnErr, OnOk, Some, option_map, string_bytes};
-ghost use Rattle.pm_streams.specs.Streams.{AreWell, both};
+ghost use Rattle.pm_jobs.specs.Streams.{AreWell, both};
 ghost use Rattle.pm_tool.specs.Said.{IsCutShort, IsSoundExit, job_said};
 ghost use Rattle.pm_program.specs.Saved.{held_at};
 ghost use Rattle.pm_filer.specs.Filed.{order_of};
@@ -20,8 +20,8 @@ ghost use Rattle.pm_program.specs.Texts.{
 
 use pm_filer::FileCommand;
 use pm_files::{DiskFault, Store};
+use pm_jobs::{Reader, Sink, Source};
 use pm_plan::{TextFiles, TextInput};
-use pm_streams::{Reader, Sink, Source};
 use pm_tool::{Exit, Job, Kept, Outcome};
 use std::alloc::Global;
 

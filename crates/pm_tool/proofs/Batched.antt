@@ -1,15 +1,15 @@
 -- Jobs that turn bytes into bytes: their input was read, all or none, and what they make is written.
 use Rattle.std.proofs.Common.{◌≡◌, ◌≤◌, ℕ, List, [], None, Some, Bool, true, false, length, refl, sym, arith, subst}
 use Rattle.std.specs.Io.KnownBytes.{Appends, Consumes}
-use Rattle.pm_streams.specs.declared.fault.Fault.{Fault}
-use Rattle.pm_streams.specs.declared.source.TheConstants.{INPUT_LIMIT}
+use Rattle.pm_jobs.specs.declared.fault.Fault.{Fault}
+use Rattle.pm_jobs.specs.declared.source.TheConstants.{INPUT_LIMIT}
 use Rattle.pm_tool.specs.declared.outcome.Outcome.{Outcome}
 use Rattle.pm_tool.specs.Batches.{IsInput, said_making}
 use Rattle.pm_tool.specs.Outcomes.{Said, IsOutcome}
 use Rattle.pm_batch.specs.Products.{Product, Written, Image, Refused, Judged, Saved}
 use Rattle.pm_tool.specs.Products.{said_product}
 use Rattle.pm_tool.specs.Said.{BreaksOff, Finishes, IsSoundExit}
-use Rattle.pm_streams.specs.Streams.{Incoming, Streams, both, AppendsFront, IsCause}
+use Rattle.pm_jobs.specs.Streams.{Incoming, Streams, both, AppendsFront, IsCause}
 use Rattle.pm_tool.proofs.ReadWhole.{broken_unwritten, broken_writing, done_whole}
 use Rattle.pm_tool.proofs.Unread.{broken_unread, consumes_none, done_unread}
 

@@ -10,16 +10,16 @@ use Rattle.pm_machine.specs.Steps.{stepped}
 use Rattle.pm_machine.specs.Events.{Key, next}
 use Rattle.pm_machine.specs.declared.state.Stop.TheVariants.{Went, Waiting, Ended, Halted}
 use Rattle.pm_session.specs.declared.ending.Ending.TheVariants as endings
-use Rattle.pm_streams.specs.declared.fault.Fault.{Fault}
-use Rattle.pm_streams.specs.declared.fault.Fault.TheVariants as faults
-use Rattle.pm_streams.specs.declared.source.TheConstants.{INPUT_LIMIT}
+use Rattle.pm_jobs.specs.declared.fault.Fault.{Fault}
+use Rattle.pm_jobs.specs.declared.fault.Fault.TheVariants as faults
+use Rattle.pm_jobs.specs.declared.source.TheConstants.{INPUT_LIMIT}
 use Rattle.pm_tool.specs.declared.steps.Show.{Show}
 use Rattle.pm_tool.specs.Run.{after_showing, ended_run, shown_of, shown_by, run_of, ComesToEnd, StopsShort}
-use Rattle.pm_streams.specs.Streams.{Incoming, Outgoing, Streams, both, IsFront, AppendsFront, AppendsBut, IsCause, ReadsByte, TakesNone}
-use Rattle.pm_streams.proofs.Pages.{but_none, but_grown, but_turned, but_front, but_lost, but_cleared}
+use Rattle.pm_jobs.specs.Streams.{Incoming, Outgoing, Streams, both, IsFront, AppendsFront, AppendsBut, IsCause, ReadsByte, TakesNone}
+use Rattle.pm_jobs.proofs.Pages.{but_none, but_grown, but_turned, but_front, but_lost, but_cleared}
 use Rattle.pm_tool.proofs.ReadWhole.{not_failed}
 use Rattle.pm_tool.proofs.Runs.{run_of-goes, run_of-waits, run_of-stuck, run_of-none}
-use Rattle.pm_streams.proofs.Transfers.{cause_longer, front_trans}
+use Rattle.pm_jobs.proofs.Transfers.{cause_longer, front_trans}
 
 -- A run of at most limit steps from began, as far as it was made: bytes were keyed, and what was shown was written but for the page. It goes on as a run of at
 -- most n steps from m.

@@ -5,7 +5,7 @@ use Rattle.std.proofs.KnownBytes.{Appends-nil}
 use Rattle.pm_machine.specs.State.{State}
 use Rattle.pm_session.specs.declared.ending.Ending.{Ending}
 use Rattle.pm_session.specs.declared.ending.Ending.TheVariants as endings
-use Rattle.pm_streams.specs.declared.fault.Fault.{Fault}
+use Rattle.pm_jobs.specs.declared.fault.Fault.{Fault}
 use Rattle.pm_tool.specs.declared.outcome.Outcome.{Outcome}
 use Rattle.pm_batch.specs.declared.refusal.Refusal.{Refusal}
 use Rattle.pm_tool.specs.declared.steps.Show.{Show}
@@ -15,11 +15,11 @@ use Rattle.pm_tool.specs.Run.{Run, end_text, ended_run, run_of, ComesToEnd, Stop
 use Rattle.pm_tool.specs.declared.talk.Talk.{Talk}
 use Rattle.pm_tool.specs.declared.talk.Talk.TheVariants as talks
 use Rattle.pm_tool.specs.Said.{said_debug, said_run, said_started, said_talk, IsSoundExit, Finishes, BreaksOff}
-use Rattle.pm_streams.specs.Streams.{Outgoing, Streams, both, IsFront, AppendsBut, AppendsFront, IsCause}
+use Rattle.pm_jobs.specs.Streams.{Outgoing, Streams, both, IsFront, AppendsBut, AppendsFront, IsCause}
 use Rattle.pm_tool.proofs.Unread.{done_unread}
 use Rattle.pm_tool.proofs.ReadWhole.{if_known, tells_known}
-use Rattle.pm_streams.proofs.Pages.{but_all, but_front, but_grown}
-use Rattle.pm_streams.proofs.Transfers.{cause_longer, front_trans}
+use Rattle.pm_jobs.proofs.Pages.{but_all, but_front, but_grown}
+use Rattle.pm_jobs.proofs.Transfers.{cause_longer, front_trans}
 
 said_written : (show : Show) (run : Run) → (said_run show run).written ≡ run.shown ++ end_text show run.ending run.machine.steps
 said_written (Trace selection) run = refl

@@ -6,9 +6,9 @@ use Rattle.pm_machine.specs.Steps.{stepped}
 use Rattle.pm_machine.specs.Runs.{AllWent, after_steps}
 use Rattle.pm_machine.specs.Quick.{QuickSteps}
 use Rattle.pm_machine.specs.declared.state.Stop.TheVariants.{Went}
-use Rattle.pm_choices.specs.declared.saving.Saving.{Saving}
-use Rattle.pm_choices.specs.declared.selection.Selection.{Selection}
-use Rattle.pm_streams.specs.Streams.{Streams}
+use Rattle.pm_jobs.specs.declared.saving.Saving.{Saving}
+use Rattle.pm_jobs.specs.declared.selection.Selection.{Selection}
+use Rattle.pm_jobs.specs.Streams.{Streams}
 use Rattle.pm_tool.specs.declared.steps.Show.{Show}
 use Rattle.pm_tool.specs.declared.steps.Show.TheVariants.{Trace, Console}
 use Rattle.pm_tool.specs.Run.{Unshown, shown_of}

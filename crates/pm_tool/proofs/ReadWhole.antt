@@ -3,17 +3,17 @@ use Rattle.std.proofs.Common.{◌≡◌, ℕ, List, [], ◌∷◌, ◌++◌, Opt
 use Rattle.std.proofs.Common.{true, false, refl, sym, ap, ◌∙◌, append-nil, subst, IfSome, IfErr}
 use Rattle.std.specs.Io.KnownBytes.{Consumes, Appends, Keeps, IsAtEnd}
 use Rattle.std.proofs.KnownBytes.{Appends-nil}
-use Rattle.pm_choices.specs.declared.selection.Selection.{Selection}
-use Rattle.pm_streams.specs.declared.fault.Fault.{Fault}
+use Rattle.pm_jobs.specs.declared.selection.Selection.{Selection}
+use Rattle.pm_jobs.specs.declared.fault.Fault.{Fault}
 use Rattle.pm_tool.specs.declared.work.Work.{Work}
 use Rattle.pm_tool.specs.declared.outcome.Outcome.{Outcome}
 use Rattle.pm_tool.specs.Hex.{hex_spelled}
 use Rattle.pm_tool.specs.Outcomes.{Said, IsOutcome}
 use Rattle.pm_tool.specs.declared.steps.Show.TheVariants.{Trace}
-use Rattle.pm_streams.proofs.Transfers.{cause_longer}
+use Rattle.pm_jobs.proofs.Transfers.{cause_longer}
 use Rattle.pm_tool.specs.Disks.{loaded}
 use Rattle.pm_tool.specs.Said.{said_started, said_work, IsSoundExit, Tells, TellsAll, Finishes, BreaksOff}
-use Rattle.pm_streams.specs.Streams.{Incoming, Streams, both, IsFront, AppendsFront, IsCause, ReadsAll}
+use Rattle.pm_jobs.specs.Streams.{Incoming, Streams, both, IsFront, AppendsFront, IsCause, ReadsAll}
 
 -- where the input is known, it is what was read and what is left
 pub tells_known : (old new : Streams) (read : List ℕ) → Consumes old.source.remaining new.source.remaining read → (outcome : Outcome) (text : List ℕ → Said)

@@ -13,24 +13,24 @@ use Rattle.pm_machine.specs.State.{State}
 use Rattle.pm_debug.specs.Runs.Left.{Nothing}
 use Rattle.pm_debug.specs.Session.{Session}
 use Rattle.pm_session.specs.Orders.{order_of}
-use Rattle.pm_streams.specs.declared.fault.Fault.{Fault}
-use Rattle.pm_streams.specs.declared.fault.Fault.TheVariants as faults
+use Rattle.pm_jobs.specs.declared.fault.Fault.{Fault}
+use Rattle.pm_jobs.specs.declared.fault.Fault.TheVariants as faults
 use Rattle.pm_tool.specs.declared.outcome.Exit.TheVariants as exits
 use Rattle.pm_tool.specs.declared.outcome.Outcome.{Outcome}
 use Rattle.pm_batch.specs.declared.refusal.Refusal.{Refusal}
-use Rattle.pm_streams.specs.declared.source.TheConstants.{INPUT_LIMIT}
+use Rattle.pm_jobs.specs.declared.source.TheConstants.{INPUT_LIMIT}
 use Rattle.pm_session.specs.Answers.{session_after}
 use Rattle.pm_tool.specs.Outcomes.{IsOutcome, no_others}
 use Rattle.pm_tool.specs.Said.{BreaksOff, Finishes, IsSoundExit, WritesFirst, debugged, said_debug, said_talk, typed_into}
 use Rattle.pm_tool.specs.declared.talk.Talk.{Talk}
 use Rattle.pm_tool.specs.declared.talk.Talk.TheVariants as talks
 use Rattle.pm_session.specs.Sessions.{Told, answer_line, is_quit, opened, told, whole_lines}
-use Rattle.pm_streams.specs.Streams.{Incoming, Outgoing, Streams, both, IsFront, AppendsFront, IsCause, ReadsByte, TakesNone}
+use Rattle.pm_jobs.specs.Streams.{Incoming, Outgoing, Streams, both, IsFront, AppendsFront, IsCause, ReadsByte, TakesNone}
 use Rattle.pm_tool.specs.Talks.{IsAnswered, IsInterrupted}
 use Rattle.pm_tool.proofs.ReadWhole.{if_known, not_failed, tells_known}
 use Rattle.pm_session.proofs.SessionLaws.{after_telling, answer_quit, told_byte, told_from, told_last, told_line, told_none, told_nothing}
 use Rattle.pm_session.proofs.SessionLaws.{told_quit, told_start, whole_lines_byte, whole_lines_feed, whole_lines_none}
-use Rattle.pm_streams.proofs.Transfers.{cause_longer, front_after, front_trans}
+use Rattle.pm_jobs.proofs.Transfers.{cause_longer, front_after, front_trans}
 
 -- a session as far as it went: bytes were read, answers were written, and the last line has these bytes so far
 pub record IsTalking (old now : Streams) (line : List ℕ) (taken : ℕ) (began d : Session) : Type 0 where

@@ -2,11 +2,11 @@
 use Rattle.std.proofs.Common.{◌≡◌, ℕ, List, [], Option, Some, false, sym, ◌∙◌, arith, subst}
 use Rattle.std.specs.Io.KnownBytes.{Consumes, Appends, Keeps}
 use Rattle.std.proofs.KnownBytes.{Consumes-nil}
-use Rattle.pm_streams.specs.declared.fault.Fault.{Fault}
+use Rattle.pm_jobs.specs.declared.fault.Fault.{Fault}
 use Rattle.pm_tool.specs.declared.outcome.Outcome.{Outcome}
 use Rattle.pm_tool.specs.Outcomes.{Said, IsOutcome}
 use Rattle.pm_tool.specs.Said.{BreaksOff, Finishes, IsSoundExit}
-use Rattle.pm_streams.specs.Streams.{Streams, AppendsFront, IsCause}
+use Rattle.pm_jobs.specs.Streams.{Streams, AppendsFront, IsCause}
 use Rattle.pm_tool.proofs.ReadWhole.{if_known}
 
 pub consumes_none : (had : Option (List ℕ)) → Consumes had had []

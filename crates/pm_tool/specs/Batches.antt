@@ -4,7 +4,7 @@ use Rattle.pm_volume.specs.Copies.{repaired}
 use Rattle.pm_volume.specs.declared.fault.VolumeFault.{VolumeFault}
 use Rattle.pm_filer.specs.Filed.{Order}
 use Rattle.pm_check.specs.Saving.{salvaged}
-use Rattle.pm_streams.specs.Streams.{ReadsAll}
+use Rattle.pm_jobs.specs.Streams.{ReadsAll}
 use Rattle.pm_batch.specs.declared.batch.Batch.{Batch}
 use Rattle.pm_batch.specs.Batches.{made_of, reads_file, reads_input}
 use Rattle.pm_batch.specs.Files.{made_check, made_file, made_new, made_salvage, made_volume, opened_image}

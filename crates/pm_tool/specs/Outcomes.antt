@@ -2,9 +2,9 @@
 use Rattle.std.specs.Prelude.{◌≡◌, ℕ, Bool, true, false, List, [], ◌∷◌, Option}
 use Rattle.std.specs.Prelude.{None, Some, vec_items, option_map, string_bytes}
 use Rattle.pm_machine.specs.State.{State}
-use Rattle.pm_streams.specs.Faults.{fault_text}
-use Rattle.pm_streams.specs.declared.fault.Fault.{Fault}
-use Rattle.pm_streams.specs.declared.fault.Fault.TheVariants as faults
+use Rattle.pm_jobs.specs.Faults.{fault_text}
+use Rattle.pm_jobs.specs.declared.fault.Fault.{Fault}
+use Rattle.pm_jobs.specs.declared.fault.Fault.TheVariants as faults
 use Rattle.pm_batch.specs.Refusals.{is_want, refusal_text}
 use Rattle.pm_batch.specs.declared.refusal.Refusal.{Refusal}
 use Rattle.pm_tool.specs.declared.outcome.Exit.{Exit}

@@ -4,10 +4,10 @@ use Rattle.std.specs.Prelude.{None, Option, Result, Ok, Err, length, IfSome}
 use Rattle.std.specs.Io.KnownBytes.{Consumes, Appends, Keeps}
 use Rattle.pm_machine.specs.Events.{Key, next}
 use Rattle.pm_machine.specs.State.{State}
-use Rattle.pm_choices.specs.declared.saving.Saving.{Saving}
-use Rattle.pm_choices.specs.declared.saving.Saving.TheVariants as savings
+use Rattle.pm_jobs.specs.declared.saving.Saving.{Saving}
+use Rattle.pm_jobs.specs.declared.saving.Saving.TheVariants as savings
 use Rattle.pm_units.specs.Devices.{Devices, ejected_image}
-use Rattle.pm_streams.specs.declared.fault.Fault.{Fault}
+use Rattle.pm_jobs.specs.declared.fault.Fault.{Fault}
 use Rattle.pm_tool.specs.declared.outcome.Exit.{Exit}
 use Rattle.pm_tool.specs.declared.outcome.Exit.TheVariants as exits
 use Rattle.pm_tool.specs.declared.outcome.Job.{Job}
@@ -15,7 +15,7 @@ use Rattle.pm_tool.specs.declared.work.Work.{Work}
 use Rattle.pm_tool.specs.declared.work.Work.TheVariants as works
 use Rattle.pm_tool.specs.declared.outcome.Outcome.{Outcome}
 use Rattle.pm_batch.specs.declared.refusal.Refusal.{Refusal}
-use Rattle.pm_streams.specs.declared.source.TheConstants.{INPUT_LIMIT}
+use Rattle.pm_jobs.specs.declared.source.TheConstants.{INPUT_LIMIT}
 use Rattle.pm_tool.specs.declared.talk.Talk.{Talk}
 use Rattle.pm_tool.specs.declared.talk.Talk.TheVariants as talks
 use Rattle.pm_tool.specs.Batches.{said_batch}
@@ -30,7 +30,7 @@ use Rattle.pm_tool.specs.Stops.{stop_of}
 use Rattle.pm_session.specs.Endings.{last_line}
 use Rattle.pm_session.specs.Sessions.{answers, behind_quit, opened, whole_lines}
 use Rattle.pm_session.specs.Words.{lines_of_input}
-use Rattle.pm_streams.specs.Streams.{Streams, IsFront, IsCause, CountsOn}
+use Rattle.pm_jobs.specs.Streams.{Streams, IsFront, IsCause, CountsOn}
 
 -- ---- the jobs
 

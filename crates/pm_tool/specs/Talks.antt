@@ -2,10 +2,10 @@
 use Rattle.std.specs.Prelude.{◌≡◌, ◌≤◌, ℕ, Bool, true, List, [], ◌++◌, length}
 use Rattle.std.specs.Io.KnownBytes.{Appends, Consumes, IsAtEnd}
 use Rattle.pm_debug.specs.Session.{Session}
-use Rattle.pm_streams.specs.declared.fault.Fault.{Fault}
-use Rattle.pm_streams.specs.declared.source.TheConstants.{INPUT_LIMIT}
+use Rattle.pm_jobs.specs.declared.fault.Fault.{Fault}
+use Rattle.pm_jobs.specs.declared.source.TheConstants.{INPUT_LIMIT}
 use Rattle.pm_session.specs.Sessions.{told, whole_lines}
-use Rattle.pm_streams.specs.Streams.{Streams, IsCause, IsFront}
+use Rattle.pm_jobs.specs.Streams.{Streams, IsCause, IsFront}
 
 -- The session is over: these bytes were read, and these were written. Where it ended with the input, none are left.
 pub record IsAnswered (old new : Streams) (began : Session) : Type 0 where

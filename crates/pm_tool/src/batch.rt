@@ -7,11 +7,11 @@ ghost use Rattle.pm_tool.specs.Batches.{IsInput, said_batch};
 ghost use Rattle.pm_tool.specs.Outcomes.{IsOutcome, SaysWhy};
 ghost use Rattle.pm_tool.specs.Products.{said_product};
 ghost use Rattle.pm_tool.specs.Said.{BreaksOff, Finishes};
-ghost use Rattle.pm_streams.specs.Streams.{AppendsFront, AreWell, IsCause, IsCounted, both};
+ghost use Rattle.pm_jobs.specs.Streams.{AppendsFront, AreWell, IsCause, IsCounted, both};
 
 use crate::outcome::{Exit, Outcome, conclude, refuse_line};
 use pm_batch::{Batch, Made, make};
-use pm_streams::{Fault, Sink, Source, read_all, write_all};
+use pm_jobs::{Fault, Sink, Source, read_all, write_all};
 use std::alloc::Global;
 
 /// The whole input of a job that reads it; of another nothing is read.

@@ -5,12 +5,12 @@ ghost use Rattle.pm_debug.specs.Session.{session_of};
 ghost use Rattle.pm_session.specs.Orders.{order_of};
 ghost use Rattle.pm_session.specs.Answers.{session_after};
 ghost use Rattle.pm_session.specs.Sessions.{answer_line, is_quit};
-ghost use Rattle.pm_streams.specs.Streams.{AppendsFront, IsCause, IsCounted, AreWell, both};
+ghost use Rattle.pm_jobs.specs.Streams.{AppendsFront, IsCause, IsCounted, AreWell, both};
 ghost use Rattle.pm_tool.specs.Talks.{IsAnswered, IsInterrupted};
 
 use pm_debug::Debugger;
+use pm_jobs::{Fault, Sink, Source, next_byte, write_all};
 use pm_session::answer;
-use pm_streams::{Fault, Sink, Source, next_byte, write_all};
 use std::alloc::Global;
 
 /// Answers one line: whether the session goes on.

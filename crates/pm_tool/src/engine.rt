@@ -6,7 +6,7 @@ ghost use Rattle.pm_tool.specs.Outcomes.{SaysWhy, fault_exit, no_others, outcome
 ghost use Rattle.pm_tool.specs.Said.{job_said, said_started, IsSoundExit, IsCutShort, Finishes};
 ghost use Rattle.pm_tool.specs.Said.{BreaksOff, TellsAll, TellsFront, IsPrompt, FailsExactly, CountsExactly};
 ghost use Rattle.pm_tool.specs.Work.{work_of};
-ghost use Rattle.pm_streams.specs.Streams.{AreWell, IsCounted, both};
+ghost use Rattle.pm_jobs.specs.Streams.{AreWell, IsCounted, both};
 
 use crate::batch::do_batch;
 use crate::outcome::{Exit, Job, Outcome};
@@ -14,8 +14,7 @@ use crate::programs::Start;
 use crate::steps::Show;
 use crate::talk::{Talk, do_talk};
 use crate::work::{Work, work_of};
-use pm_choices::Selection;
-use pm_streams::{Fault, Nothing, Sink, Source, read_all};
+use pm_jobs::{Fault, Nothing, Selection, Sink, Source, read_all};
 use std::alloc::Global;
 
 /// Writes the trace of the program that the input spells.

@@ -7,10 +7,9 @@ ghost use Rattle.pm_tool.specs.Outcomes.{no_others, outcome_text, refused};
 use crate::hint::Hint;
 use crate::stopped::Stopped;
 use pm_batch::Refusal;
-use pm_choices::{AsmOutput, DisOutput, Saving, Selection};
 use pm_filer::FileCommand;
+use pm_jobs::{AsmOutput, DisOutput, Fault, Saving, Selection};
 use pm_session::Ending;
-use pm_streams::Fault;
 use std::alloc::{AllocError, Global};
 
 /// What is to be done.

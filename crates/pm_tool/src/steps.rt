@@ -3,13 +3,12 @@ ghost use Rattle.std.specs.Prelude.{◌≡◌, false, true, [], ◌++◌, drop, 
 ghost use Rattle.std.specs.Io.KnownBytes.{Appends};
 ghost use Rattle.pm_machine.specs.Steps.{stepped};
 ghost use Rattle.pm_tool.specs.Run.{ComesToEnd, StopsShort, Unshown, is_console, shown_by};
-ghost use Rattle.pm_streams.specs.Streams.{AppendsBut, AppendsFront, IsCause, IsCounted, AreWell, both};
+ghost use Rattle.pm_jobs.specs.Streams.{AppendsBut, AppendsFront, IsCause, IsCounted, AreWell, both};
 
 use crate::pace::Pace;
-use pm_choices::{Saving, Selection};
+use pm_jobs::{Fault, Saving, Selection, Sink, Source, next_byte, write_all};
 use pm_machine::{Machine, Stop};
 use pm_session::Ending;
-use pm_streams::{Fault, Sink, Source, next_byte, write_all};
 use pm_trace::Lines;
 use std::alloc::{AllocError, Global};
 

@@ -10,7 +10,7 @@ ghost use Rattle.pm_tool.specs.Run.{end_text, ended_run};
 ghost use Rattle.pm_tool.specs.Said.{BreaksOff, Finishes, WritesInTime, first_kept, others_in, others_kept};
 ghost use Rattle.pm_session.specs.Sessions.{whole_lines};
 ghost use Rattle.pm_tool.specs.Said.{debugged, run_said, said_run, said_talk, shown_talk, typed_into};
-ghost use Rattle.pm_streams.specs.Streams.{AppendsFront, AreWell, IsCause, IsCounted, both};
+ghost use Rattle.pm_jobs.specs.Streams.{AppendsFront, AreWell, IsCause, IsCounted, both};
 
 use crate::debug::converse;
 use crate::outcome::{Exit, OtherImages, Outcome, no_images, refuse_for};
@@ -18,11 +18,10 @@ use crate::pace::Quick;
 use crate::programs::{Start, start_on};
 use crate::steps::{Show, drive};
 use crate::stopped::stopped_at;
-use pm_choices::Saving;
 use pm_debug::Debugger;
+use pm_jobs::{Fault, Saving, Sink, Source, write_all};
 use pm_machine::Machine;
 use pm_session::{Ending, LastLine};
-use pm_streams::{Fault, Sink, Source, write_all};
 use pm_volume::Disk;
 use std::alloc::{AllocError, Global};
 

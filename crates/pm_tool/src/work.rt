@@ -10,8 +10,8 @@ use crate::steps::Show;
 use crate::talk::Talk;
 use pm_batch::{Batch, open};
 use pm_check::form_seen;
-use pm_choices::Selection;
 use pm_filer::FileCommand;
+use pm_jobs::Selection;
 
 /// A job, by its shape.
 #[derive(Drop)]

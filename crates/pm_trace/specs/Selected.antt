@@ -13,9 +13,9 @@ use Rattle.pm_code.specs.Shown.{padded}
 use Rattle.pm_machine.specs.declared.code_place.CodePlace.{CodePlace}
 use Rattle.pm_machine.specs.CodePlaces.{place_in_code}
 use Rattle.pm_trace.specs.Trace.{trace_line}
-use Rattle.pm_choices.specs.declared.selection.Code.{Code}
-use Rattle.pm_choices.specs.declared.selection.Code.TheVariants as codes_of
-use Rattle.pm_choices.specs.declared.selection.Selection.{Selection}
+use Rattle.pm_jobs.specs.declared.selection.Code.{Code}
+use Rattle.pm_jobs.specs.declared.selection.Code.TheVariants as codes_of
+use Rattle.pm_jobs.specs.declared.selection.Selection.{Selection}
 
 -- a place stands in the code that is asked for; what stands nowhere stands in no segment
 abbrev pub stands_in : Code → Option CodePlace → Bool

@@ -7,7 +7,7 @@ use crate::Tracer;
 use crate::depth::depth;
 use crate::place::add_place;
 use crate::selected::is_selected;
-use pm_choices::Selection;
+use pm_jobs::Selection;
 use pm_machine::{Machine, place_in_code};
 use std::alloc::{AllocError, Global};
 

@@ -4,7 +4,7 @@ ghost use Rattle.std.specs.Prelude.{◌≡◌};
 ghost use Rattle.pm_trace.specs.Selected.{is_at_call, is_call_or_return, is_selected, stands_in};
 ghost use Rattle.pm_machine.specs.CodePlaces.{place_in_code};
 
-use pm_choices::{Code, Selection};
+use pm_jobs::{Code, Selection};
 use pm_machine::{CodePlace, Machine, place_in_code};
 use pm_opcode::row_at;
 

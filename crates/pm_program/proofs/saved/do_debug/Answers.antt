@@ -2,7 +2,7 @@ use Rattle.std.proofs.Common.{rules, subst}
 use Rattle.std.specs.Prelude.{option_map, string_bytes}
 use Rattle.pm_tool.specs.declared.outcome.Job.TheVariants as jobs
 use Rattle.pm_program.specs.Saved.{IsTyped}
-use Rattle.pm_streams.specs.Streams.{both}
+use Rattle.pm_jobs.specs.Streams.{both}
 use Rattle.pm_program.proofs.SavedLaws.{known_tells, known_typed}
 use Rattle.pm_program.proofs.saved.do_debug.Goals as goal
 

@@ -1,4 +1,4 @@
-use Rattle.pm_streams.specs.Streams.{both}
+use Rattle.pm_jobs.specs.Streams.{both}
 use Rattle.pm_program.proofs.SavedLaws.{known_saves_said}
 use Rattle.pm_program.proofs.saved.do_files.Goals as goal
 

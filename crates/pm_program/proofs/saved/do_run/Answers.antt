@@ -1,6 +1,6 @@
 use Rattle.pm_plan.specs.Asked.{paths_in}
 use Rattle.std.proofs.Common.{◌≡◌, IfSome, string_bytes, rules}
-use Rattle.pm_streams.specs.Streams.{both}
+use Rattle.pm_jobs.specs.Streams.{both}
 use Rattle.pm_tool.specs.Said.{IsCutShort, IsSoundExit}
 use Rattle.pm_program.specs.Saved.{SavesFrontSaid, SavesRun, SavesRunSaid, SavesSome, saved_paths}
 use Rattle.pm_program.proofs.SavedLaws.{and_err, and_ok, cut_run, front_from, known_front_said}

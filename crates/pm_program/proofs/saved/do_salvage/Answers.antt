@@ -1,5 +1,5 @@
 use Rattle.std.proofs.Common.{rules}
-use Rattle.pm_streams.specs.Streams.{both}
+use Rattle.pm_jobs.specs.Streams.{both}
 use Rattle.pm_program.proofs.SavedLaws.{known_salvage}
 use Rattle.pm_program.proofs.saved.do_salvage.Goals as goal
 

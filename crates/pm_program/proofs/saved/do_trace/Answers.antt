@@ -1,7 +1,7 @@
 use Rattle.std.proofs.Common.{rules}
 use Rattle.std.specs.Prelude.{option_map, string_bytes}
 use Rattle.pm_tool.specs.declared.outcome.Job.TheVariants as jobs
-use Rattle.pm_streams.specs.Streams.{both}
+use Rattle.pm_jobs.specs.Streams.{both}
 use Rattle.pm_program.proofs.SavedLaws.{kept_traces, known_tells, known_traces}
 use Rattle.pm_program.proofs.saved.do_trace.Goals as goal
 

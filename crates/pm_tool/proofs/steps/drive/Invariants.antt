@@ -1,6 +1,6 @@
 use Rattle.std.proofs.Common.{◌≡◌, ◌+◌, ◌-◌, ◌≤◌, false}
-use Rattle.pm_streams.specs.Streams.{CountsOn, both}
-use Rattle.pm_streams.specs.declared.source.TheConstants.{INPUT_LIMIT}
+use Rattle.pm_jobs.specs.Streams.{CountsOn, both}
+use Rattle.pm_jobs.specs.declared.source.TheConstants.{INPUT_LIMIT}
 use Rattle.pm_tool.proofs.Driven.{IsUnderWay}
 use Rattle.pm_tool.proofs.steps.drive.Given as goal
 

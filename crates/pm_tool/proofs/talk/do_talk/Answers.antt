@@ -6,7 +6,7 @@ use Rattle.pm_tool.proofs.Played.{talk_refused}
 use Rattle.pm_tool.proofs.Talked.{session_said}
 use Rattle.pm_tool.specs.Disks.{machine_at}
 use Rattle.pm_tool.specs.Said.{BreaksOff}
-use Rattle.pm_streams.specs.Streams.{both}
+use Rattle.pm_jobs.specs.Streams.{both}
 use Rattle.pm_tool.proofs.talk.do_talk.Goals as goal
 
 pub returns-in_err-machine-clause-broken : goal.returns-in_err-machine-clause-broken

@@ -2,8 +2,8 @@
 use Rattle.std.proofs.Common.{◌≡◌, ℕ, List, [], ◌++◌, Option, refl, sym, ap, ◌∙◌, append_assoc, append-nil}
 use Rattle.std.specs.Io.KnownBytes.{Appends}
 use Rattle.std.proofs.KnownBytes.{Appends-trans, Appends-nil}
-use Rattle.pm_streams.specs.Streams.{IsFront, AppendsFront, AppendsBut}
-use Rattle.pm_streams.proofs.Transfers.{front_trans, front_after}
+use Rattle.pm_jobs.specs.Streams.{IsFront, AppendsFront, AppendsBut}
+use Rattle.pm_jobs.proofs.Transfers.{front_trans, front_after}
 
 pub but_none : (old : Option (List ℕ)) → AppendsBut old old [] []
 but_none old = ([], Appends-nil old, refl)

@@ -4,10 +4,10 @@ use Rattle.std.proofs.Common.{arith}
 use Rattle.std.proofs.lemmas.List.{take-append-drop}
 use Rattle.std.specs.Io.KnownBytes.{Appends}
 use Rattle.std.proofs.KnownBytes.{Appends-trans, Appends-nil}
-use Rattle.pm_streams.specs.declared.fault.Fault.{Fault}
-use Rattle.pm_streams.specs.declared.fault.Fault.TheVariants as faults
-use Rattle.pm_streams.specs.declared.source.TheConstants.{INPUT_LIMIT}
-use Rattle.pm_streams.specs.Streams.{AppendsFront, IsCause, IsFront}
+use Rattle.pm_jobs.specs.declared.fault.Fault.{Fault}
+use Rattle.pm_jobs.specs.declared.fault.Fault.TheVariants as faults
+use Rattle.pm_jobs.specs.declared.source.TheConstants.{INPUT_LIMIT}
+use Rattle.pm_jobs.specs.Streams.{AppendsFront, IsCause, IsFront}
 
 -- rest is still to be written, and what stands before it is
 pub record Written (old new : Option (List ℕ)) (bytes rest : List ℕ) : Type 0 where

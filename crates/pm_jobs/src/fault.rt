@@ -1,6 +1,6 @@
 //! Why a job is broken off.
 ghost use Rattle.std.specs.Prelude.{◌≡◌};
-ghost use Rattle.pm_streams.specs.Faults.{fault_text};
+ghost use Rattle.pm_jobs.specs.Faults.{fault_text};
 
 use std::alloc::AllocError;
 
@@ -29,7 +29,7 @@ impl Fault {
 }
 
 impl From<AllocError> for Fault {
-    ghost use Rattle.pm_streams.specs.declared.fault.Fault.TheVariants.{NoMemory};
+    ghost use Rattle.pm_jobs.specs.declared.fault.Fault.TheVariants.{NoMemory};
 
     ghost from_gives = { λ _ fault. fault ≡ NoMemory };
 

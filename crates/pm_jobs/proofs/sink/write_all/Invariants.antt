@@ -1,6 +1,6 @@
 use Rattle.std.proofs.Common.{◌≡◌, false, length}
-use Rattle.pm_streams.proofs.Transfers.{Written}
-use Rattle.pm_streams.proofs.sink.write_all.Given as goal
+use Rattle.pm_jobs.proofs.Transfers.{Written}
+use Rattle.pm_jobs.proofs.sink.write_all.Given as goal
 
 abbrev pub invariant-writing : goal.invariant-writing
 invariant-writing g l = record {

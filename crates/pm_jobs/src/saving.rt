@@ -1,6 +1,6 @@
 //! Which images a run saves.
 ghost use Rattle.std.specs.Prelude.{◌≡◌};
-ghost use Rattle.pm_choices.specs.Savings.{has_first, has_others};
+ghost use Rattle.pm_jobs.specs.Savings.{has_first, has_others};
 
 /// Which images are saved as a program left them.
 #[derive(Clone, Copy)]

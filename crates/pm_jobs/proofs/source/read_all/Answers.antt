@@ -2,7 +2,7 @@ use Rattle.std.proofs.Common.{rules, ◌++◌, take, inr, arith, refl}
 use Rattle.std.proofs.lemmas.List.{length-append, length-take}
 use Rattle.std.proofs.lemmas.Result.{err_from_is_err_and}
 use Rattle.std.proofs.KnownBytes.{Consumes-trans}
-use Rattle.pm_streams.proofs.source.read_all.Goals as goal
+use Rattle.pm_jobs.proofs.source.read_all.Goals as goal
 
 pub returns-then-count-len-clause-cause : goal.returns-then-count-len-clause-cause
 returns-then-count-len-clause-cause g c =

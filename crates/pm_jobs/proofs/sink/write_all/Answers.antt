@@ -1,6 +1,6 @@
 use Rattle.std.proofs.Common.{rules}
-use Rattle.pm_streams.proofs.Transfers.{Written-more}
-use Rattle.pm_streams.proofs.sink.write_all.Goals as goal
+use Rattle.pm_jobs.proofs.Transfers.{Written-more}
+use Rattle.pm_jobs.proofs.sink.write_all.Goals as goal
 
 pub writing-preserved : goal.writing-preserved
 writing-preserved g c = record {

@@ -1,7 +1,7 @@
 -- Which images a run saves.
 use Rattle.std.specs.Prelude.{Bool, true, false}
-use Rattle.pm_choices.specs.declared.saving.Saving.{Saving}
-use Rattle.pm_choices.specs.declared.saving.Saving.TheVariants as savings
+use Rattle.pm_jobs.specs.declared.saving.Saving.{Saving}
+use Rattle.pm_jobs.specs.declared.saving.Saving.TheVariants as savings
 
 -- the image of unit 4 is saved
 abbrev pub has_first : Saving → Bool

@@ -2,7 +2,7 @@
 ghost use Rattle.std.specs.Prelude.{◌≡◌, ⊤, Bool, Option, false, ◌||◌, List, ℕ, is_err, OnOk, IfErr};
 ghost use Rattle.std.specs.Io.{WritesAtMost};
 ghost use Rattle.std.specs.Io.KnownBytes.{WriteAppends, Appends};
-ghost use Rattle.pm_streams.specs.Streams.{Outgoing, took_nothing, AppendsFront};
+ghost use Rattle.pm_jobs.specs.Streams.{Outgoing, took_nothing, AppendsFront};
 
 use crate::fault::Fault;
 use std::io;

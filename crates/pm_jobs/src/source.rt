@@ -2,8 +2,8 @@
 ghost use Rattle.std.specs.Prelude.{◌≡◌, ⊤, Bool, Option, false, ◌||◌, List, ℕ, is_err, OnOk, OnErr, IfErr, IfOk};
 ghost use Rattle.std.specs.Io.{ReadsAtMost};
 ghost use Rattle.std.specs.Io.KnownBytes.{ReadConsumes, Consumes, Keeps};
-ghost use Rattle.pm_streams.specs.Streams.{Incoming, ReadsAll, ReadsByte, IsCause, Counts, CountsByte, IsCounted};
-ghost use Rattle.pm_streams.specs.Streams.{TakesByte, TakesNone};
+ghost use Rattle.pm_jobs.specs.Streams.{Incoming, ReadsAll, ReadsByte, IsCause, Counts, CountsByte, IsCounted};
+ghost use Rattle.pm_jobs.specs.Streams.{TakesByte, TakesNone};
 
 use crate::fault::Fault;
 use std::alloc::Global;

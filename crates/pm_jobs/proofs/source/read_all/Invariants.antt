@@ -1,7 +1,7 @@
 use Rattle.std.proofs.Common.{◌≡◌, ◌+◌, ◌-◌, ◌≤◌, false, length, vec_len}
 use Rattle.std.specs.Io.KnownBytes.{Consumes}
-use Rattle.pm_streams.specs.Streams.{CountsOn}
-use Rattle.pm_streams.proofs.source.read_all.Given as goal
+use Rattle.pm_jobs.specs.Streams.{CountsOn}
+use Rattle.pm_jobs.proofs.source.read_all.Given as goal
 
 abbrev pub invariant-reading : goal.invariant-reading
 invariant-reading g l = record {

@@ -1,7 +1,7 @@
 -- Why jobs are broken off, in words.
 use Rattle.std.specs.Prelude.{ℕ, List, codes}
-use Rattle.pm_streams.specs.declared.fault.Fault.{Fault}
-use Rattle.pm_streams.specs.declared.fault.Fault.TheVariants as faults
+use Rattle.pm_jobs.specs.declared.fault.Fault.{Fault}
+use Rattle.pm_jobs.specs.declared.fault.Fault.TheVariants as faults
 
 abbrev pub fault_text : Fault → List ℕ
 fault_text faults.Read = codes "read fault"

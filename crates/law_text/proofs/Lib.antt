@@ -1,3 +1,5 @@
+pub mod MeaningLaws
+pub mod ComputedMeanings
 pub mod Eachs
 pub mod ListedFile
 pub mod Held

@@ -1,7 +1,7 @@
 """debugger.py PMACH: `pmach debug` on a pseudo terminal, where a long run is made in slices of 1,000,000 steps: each answer is the one that the
 program gives for the whole in a pipe, with breakpoints and watched words round the ends of slices, for each of many counts of steps; long answers
 have many lines; a command may be begun alone; the system's procedures have names, and `where` has the statement. Ctrl-C in `go`, `step` and `finish`, after which `on` goes on,
-and at the prompt, Ctrl-D, `quit`, refusals, signals, and that no program and no folder is left behind."""
+and at the prompt, Ctrl-D, `quit`, refusals, signals, `run --debug`, and that no program and no folder is left behind."""
 import glob
 import os
 import pty
@@ -33,6 +33,9 @@ SLOW = (".SEG 1 SLOW\n.PROC 1 0 0 4\nCLP 2\nhere: UJP ^0\nNOP\n.EXIT\nRBP 0\n.JU
 CHAT = (".SEG 1 CHAT\n.PROC 1 0 0 4\nouter: LDCI 500\nSRO 1\n" + ROUND + "SLDC 1\nLPA \"x\"\nSLDC 0\nSLDC 1\nSLDC 0\nSLDC 0\nCSP 6\n" +
         "SLDO 2\nSLDC 1\nADI\nSRO 2\nSLDO 2\nSLDC 60\nEQUI\nFJP ^1\nSLDC 1\nLDCI 2000\nSLDC 0\nSLDC 1\nSLDC 0\nSLDC 0\nCSP 5\n" +
         ".EXIT\nRBP 0\n.JUMP again\n.JUMP outer\n.END\n")
+# Each byte that is typed is read; 33 divides by zero, and behind 120 comes an endless loop.
+ASK = (".SEG 1 ASK\n.PROC 1 0 0 4\nagain: SLDC 1\nLDCI 2000\nSLDC 0\nSLDC 1\nSLDC 0\nSLDC 0\nCSP 5\nSLDC 1\nLDCI 2000\nSLDC 0\nLDB\nSLDC 33\nSBI\nDVI\n"
+       "SRO 1\nLDCI 2000\nSLDC 0\nLDB\nSLDC 120\nEQUI\nFJP ^0\nhere: UJP ^1\n.EXIT\nRBP 0\n.JUMP again\n.JUMP here\n.END\n")
 OK = '.SEG 1 OK\n.PROC 1 0 0 0\nSLDC 1\nLPA "OK"\nSLDC 0\nSLDC 2\nSLDC 0\nSLDC 0\nCSP 6\nNOP\n.EXIT\nRBP 0\n.END\n'
 
 
@@ -150,7 +153,7 @@ def same(name, sessions):
 
 
 subprocess.run([program, "files", "--image", image, "new", "WORK", "60"], check=True)
-for name, text in ("LONG", LONG), ("SLOW", SLOW), ("CHAT", CHAT), ("OK", OK):
+for name, text in ("LONG", LONG), ("SLOW", SLOW), ("CHAT", CHAT), ("ASK", ASK), ("OK", OK):
     put(name, text)
 base = int(piped("LONG", ["dynamic 1"])[0])
 start = int(piped("LONG", ["regs"])[0].split()[1])
@@ -239,6 +242,30 @@ shown, status = typed(words + ["LONG"], ["go 1\n", END])
 check("Ctrl-D at the prompt", (shown, status) == ("> go 1\nlimit 1\n> ", 0), shown)
 shown, status = typed(words + ["LONG"], ["go 1\n", "go 2000000", END, END])
 check("Ctrl-D within a line", (shown, status) == ("> go 1\nlimit 1\n> go 2000000limit 2000000\n", 0), shown)
+
+resumed = [program, "run", "--debug", "--unlimited", "--d4", image]
+again = "pmach: the run is made again, up to its end or Ctrl-C\n"
+lines = ["regs", "console 9"]
+for name, text, more, keys, end in (("an error", "ab!", [], ["a", "b", "!"], 3), ("an error behind keys that come at once", "ab!", [], ["ab!cd"], 3),
+                                    ("Ctrl-C while it waits", "ab", [], ["ab", INT], 130), ("Ctrl-C before any key", "", [], [INT], 130),
+                                    ("Ctrl-\\ with --escape", "a\\03\\04", ["--escape"], ["a\x03\x04", "\x1c"], 130),
+                                    ("--save and the printer left out", "ab!", ["--save", "--printer", scratch.name + "/printed"], ["ab!"], 3)):
+    answers = piped("ASK", ['type "%s"' % text, "go 4000000000", "where"] + lines)[1:]
+    shown, status = typed(resumed + more + ["ASK"], keys + [line + "\n" for line in lines + ["quit"]])
+    stands = "%s\n%s\n" % (answers[0], folded("where", answers[1]))
+    check("run --debug: " + name, status == end and shown.endswith(again + stands + prompted(lines, answers[2:]) + "> quit\n"), (shown, status))
+shown, status = typed(resumed + ["ASK"], ["ax", INT, INT, "go 9\n", END])
+made = re.search("\n%s\\^C\nlimit ([0-9]+)\n" % again, shown)
+answers = made and piped("ASK", ['type "ax"', "go %s" % made[1], "where"])
+check("run --debug: Ctrl-C in a loop, and again", made and status == 130 and shown.endswith("%s\n%s\n> go 9\nlimit 9\n> " % (answers[1], folded("where", answers[2]))), shown)
+shown, status = typed(resumed + ["ASK"], ["ab", END])
+check("run --debug: Ctrl-D ends the input", shown.startswith("ab\nwaiting ") and again not in shown and status == 6, (shown, status))
+shown, status = typed(resumed + ["--", "NONE"], [])
+check("run --debug: a refusal at the start", shown.startswith("refused boot 1\n") and status == 2, (shown, status))
+ends = [typed(resumed + ["ASK"], keys + [number]) for keys in (["ab"], ["ab!"]) for number in (signal.SIGTERM, signal.SIGHUP)]
+check("run --debug: signals", [end[1] for end in ends] == [143, 129] * 2, ends)
+piece = subprocess.run(resumed + ["ASK"], stdin=subprocess.DEVNULL, capture_output=True)
+check("run --debug: no terminal", (piece.returncode, piece.stdout, piece.stderr) == (1, b"", b"pmach: run --debug wants a terminal\n"), piece)
 
 shown, status = typed(words + ["NONE"], [])
 check("a refusal at the start", shown.startswith("refused boot 1\npmach: ") and status == 2, (shown, status))

@@ -2,6 +2,8 @@
 # `debugger.sh PROGRAM debug WORDS..`: the debugger on a terminal, where Ctrl-C ends a run and not the session, and long
 # answers have many lines. The program knows no signals, and the lines that it reads tell all that it does. It stands
 # behind two pipes, and a run of more steps than these is begun with so many, and goes on with so many, as `on` goes on.
+# With `--replay FOLDER STATUS` in front it begins where a run ended so, of which FOLDER has the bytes that were typed, and
+# ends with that status.
 slice=1000000
 
 # Where the shell has rlwrap, lines are edited, and those before come back.
@@ -10,6 +12,8 @@ case ${TERM:-dumb},$1 in
     *) ! command -v rlwrap >/dev/null 2>&1 || exec rlwrap -C pmach "$0" --edited "$@" ;;
 esac
 [ "$1" != --edited ] || shift
+replayed='' ended=0
+[ "$1" != --replay ] || { replayed=$2 ended=$3 && shift 3; }
 
 # Reads a line of the program's into `answer`, in parts where Ctrl-C comes between. Fails where the program has ended.
 hear() {
@@ -36,9 +40,9 @@ ask() {
     return 1
 }
 
-# Prompts, or goes to a new line, where the program itself would prompt.
+# Prompts, goes to a new line, or tells, where the program itself would prompt.
 say() {
-    [ ! -t 2 ] || printf '%b' "$1" >&2
+    [ "$quiet" = yes ] || [ ! -t 2 ] || printf '%b' "$1" >&2
 }
 
 # Ctrl-C, which is seen between two slices.
@@ -59,11 +63,15 @@ read_line() {
     [ -n "$line" ]
 }
 
-# Whether words are a run of more than a slice, with its steps without leading zeros. All else is passed on whole.
+# Whether words are a run of more than a slice, with its steps without leading zeros, and the words in front of them. All
+# else is passed on whole.
 is_long() {
-    case $#,${1-} in
+    begun=${1-}
+    case $#,$begun in
         1,step | 1,finish) steps=4294967295 ;;
         2,go | 2,step | 2,finish | 2,on) steps=${2#"${2%%[!0]*}"} ;;
+        4,until) begun="$*" steps=4294967295 ;;
+        5,until) begun="$1 $2 $3 $4" steps=${5#"${5%%[!0]*}"} ;;
         *) return 1 ;;
     esac
     case $steps in
@@ -74,15 +82,49 @@ is_long() {
 
 # Makes a run in slices, as long as each ends by its limit. The last answer is that of the whole.
 run() {
-    ask "$1 $slice" || return
-    while steps=$((steps - slice)) && [ "$steps" -gt 0 ] && [ "$interrupts" = 0 ]; do
+    next=$slice
+    ask "$begun $next" || return
+    while steps=$((steps - next)) && [ "$steps" -gt 0 ] && [ "$interrupts" = 0 ]; do
         case $answer in
             'limit '*) ;;
             *) return 0 ;;
         esac
-        [ "$steps" -ge "$slice" ] || slice=$steps
-        ask "on $slice" || return
+        [ "$steps" -ge "$next" ] || next=$steps
+        ask "on $next" || return
     done
+}
+
+# Makes the steps of a run again, and where it waits gives it the next of the bytes in words, up to where it ends, where it
+# waits and no byte is left, or to Ctrl-C. `answer` is its last line then.
+play() {
+    made=0
+    while ask "go $slice"; do
+        case $answer in
+            'refused '* | '?') return 1 ;;
+        esac
+        made=$((made + ${answer##* }))
+        case $answer,$#,$interrupts in
+            limit*,0) ;;
+            waiting*,0,*) break ;;
+            waiting*) ask "key $1" && shift || return ;;
+            *) break ;;
+        esac
+    done
+    answer="${answer% *} $made"
+}
+
+# Begins where the run ended, and says where that is.
+replay() {
+    [ "$ended" != 130 ] || say '\n'
+    say 'pmach: the run is made again, up to its end or Ctrl-C\n'
+    play $(od -An -v -tu1 "$replayed/typed" | tr '\n' ' ') || return
+    rm -rf "$replayed"
+    replayed=''
+    printf '%s\n' "$answer"
+    case $ended,$answer in
+        3,ended* | 3,waiting*) say 'pmach: an image is not what it was, or a file of the system\n' ;;
+    esac
+    ask where && show where
 }
 
 # What is made of long answers: bytes, 16 a line, as pairs of digits and as characters, behind the address of the first;
@@ -157,15 +199,16 @@ show_named() {
     awk -v at="$1" -v names="$system" "$named"
 }
 
-# Takes from the words of `debug` where the code of the program and that of the system stand.
+# Takes from the words of `debug` where the code of the program and that of the system stand, and whether it is quiet.
 note() {
-    option='' image='' form=blocks own='' file=''
+    option='' image='' form=blocks own='' file='' quiet=no
     for word; do
         case $option$word in
             --d4=*) image=${word#--d4=} ;;
             --form=*) form=${word#--form=} ;;
             --system=*) own=${word#--system=} ;;
             --file=*) file=$word ;;
+            --quiet) quiet=yes ;;
             --*=*) ;;
             --) option=--file= && continue ;;
             -*) option=$word= && continue ;;
@@ -232,6 +275,7 @@ has_begun() {
 leave() {
     [ -z "$process" ] || kill "$process" 2>/dev/null
     [ -z "$folder" ] || rm -rf "$folder"
+    [ -z "$replayed" ] || rm -rf "$replayed"
 }
 
 # Starts the program, which ignores Ctrl-C as this shell does just then, behind pipes, whose names go as soon as both ends
@@ -256,6 +300,7 @@ trap 'exit 131' QUIT
 trap 'exit 143' TERM
 trap '' INT
 if ! start "$@"; then
+    [ -z "$replayed" ] || exit "$ended"
     leave
     trap - INT
     exec "$program" "$@"
@@ -264,6 +309,7 @@ trap '' PIPE
 trap 'exit 130' INT
 has_begun || more=no
 trap interrupt INT
+[ "$more" = no ] || [ -z "$replayed" ] || replay || more=no
 while [ "$more" = yes ] && read_line && answer_line; do :; done
 exec 3>&-
 while hear; do printf '%s\n' "$answer"; done
@@ -271,4 +317,5 @@ trap '' INT
 wait "$process"
 status=$?
 process=''
+[ "$status" != 0 ] || status=$ended
 exit "$status"

@@ -20,7 +20,7 @@ stop() {
 # All files that are installed: from where, and to where below PREFIX.
 files() {
     echo "pmach bin/pmach"
-    for part in ask console debugger files install watched words; do
+    for part in ask console debugger files install resume watched words; do
         echo "script/$part.sh lib/pmach/$part.sh"
     done
     echo "$program lib/pmach/$which/pmach"

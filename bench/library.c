@@ -58,6 +58,7 @@ static uint32_t get_text_slot(void) { return pmach_get_text_slot(image, image_le
 static uint32_t remove_slot(void) { return pmach_remove_slot(image, image_len, 1, OUT); }
 static uint32_t change_slot(void) { return pmach_change_slot(image, image_len, 1, (const uint8_t *)"NEW", 3, OUT); }
 static uint32_t indented(void) { return pmach_disassemble_indented(code, code_len, OUT); }
+static uint32_t blocks(void) { return pmach_disassemble_blocks(code, code_len, OUT); }
 static uint32_t kind(void) { return pmach_kind(image, image_len, NAME, 5, OUT); }
 static uint32_t kind_slot(void) { return pmach_kind_slot(image, image_len, 1, 5, OUT); }
 static uint32_t copy(void) { return pmach_copy(image, image_len, NAME, image, image_len, OUT); }
@@ -93,7 +94,7 @@ static const struct job { const char *name; uint32_t (*call)(void); int has_mach
     {"kind_slot", kind_slot, 0, 0, 0}, {"copy", copy, 0, 0, 0}, {"copy_slot", copy_slot, 0, 0, 0}, {"command", command, 1, 1, 1},
     {"break", set_break, 1, 0, 0}, {"watch", watch, 1, 0, 0}, {"go", go, 1, 1, 0}, {"sentence", sentence, 0, 0, 0},
     {"console", console, 1, 0, 0}, {"printer", printer, 1, 0, 0}, {"ejected", ejected, 1, 0, 0}, {"poke", poke, 1, 0, 0},
-    {"place", place, 1, 0, 0},
+    {"place", place, 1, 0, 0}, {"disassemble_blocks", blocks, 0, 0, 0},
 };
 
 /* what the machine of a handle shows: registers, memory, both outputs; nothing of an empty one */

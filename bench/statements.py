@@ -1,6 +1,7 @@
 """statements.py FILE.. | --random SEED COUNT | --damaged SEED COUNT FILE..: the statements of `pmach dis --statements`, read back by the page (docs/STATEMENTS.md) alone,
 are the instructions of `pmach dis`, procedure by procedure, each once and in order; and the heading of each procedure says what its table and its
-returns say, and the lines behind it the jump table; and `dis --indent` is that text with the blanks of the page.
+returns say, and the lines behind it the jump table; and `dis --indent` is that text with the blanks of the page, and `dis --blocks` is read back to it
+by its words alone.
 
 FILE is a code file. With --random so many programs are made, of single instructions and of whole expressions, by turns; with --damaged up to
 eight bytes of a file are others, so often. By hand; no part of the gate. PMACH names another program than ./pmach."""
@@ -458,6 +459,79 @@ def indented(text, flat, places):
     return bad
 
 
+def flat_again(code):
+    """The lines of a procedure of `dis --blocks` as the flat text has them: each statement, and where the jump of a word leads. None, where the words
+    do not close each other, or a line is not as deep as they say."""
+    shown, opened = [], []
+    lines = [l for l in code.split("\n") if re.match(r"\d{5} |      ", l)]
+    offsets = [int(l[:5]) for l in lines if l[0] != " "] + [None]
+    done = 0 # statements
+    for line in lines:
+        text, at = line[6:].lstrip(" "), offsets[done]
+        depth = (len(line) - 6 - len(text)) // 2
+        word = next((w for w, end in (("IF", " THEN"), ("WHILE", " DO"), ("UNTIL", "")) if text.startswith(w + " ") and text.endswith(end)
+                     and not re.search(r"GOTO (L\d{5}|\^\d+)$", text)), None)
+        word = word or (text if text in ("ELSE", "END", "REPEAT") else None)
+        if line[0] == " ":
+            if word == "END" and opened and opened[-1][0] in ("IF", "ELSE"):
+                shown[opened.pop()[1]][2] = at
+            elif word != "REPEAT":
+                return None
+            if depth != min(30, len(opened)):
+                return None
+            if word == "REPEAT":
+                opened.append(("REPEAT", at))
+            continue
+        done += 1
+        here, behind = [at, text, None], offsets[done]
+        if word in ("IF", "WHILE"):
+            here[1] = text[len(word) + 1 : -5 if word == "IF" else -3]
+        elif word == "UNTIL":
+            if not opened or opened[-1][0] != "REPEAT":
+                return None
+            here[1:] = [text[6:], opened.pop()[1]]
+        elif word == "ELSE":
+            if not opened or opened[-1][0] != "IF":
+                return None
+            shown[opened.pop()[1]][2] = behind
+            here[1] = ""
+        elif word == "END":
+            if not opened or opened[-1][0] != "WHILE":
+                return None
+            where = opened.pop()[1]
+            shown[where][2], here[1:] = behind, ["", shown[where][0]]
+        if depth != min(30, len(opened)):
+            return None
+        if word in ("IF", "WHILE", "ELSE"):
+            opened.append((word, len(shown)))
+        shown.append(here + [word])
+    return None if opened else shown
+
+
+def blocked(text, flat, places):
+    """How many procedures of the text of `dis --blocks` are not those of `dis --statements`."""
+    bad = 0
+    for code, plain in zip(*[re.split(r"(?m)^(?=PROCEDURE )", t)[1:] for t in (text, flat)]):
+        m = re.match(r"PROCEDURE (\d+) OF SEGMENT (\d+): level", code)
+        rest = [[l for l in t.split("\n") if not re.match(r"\d{5} |      ", l)] for t in (code, plain)]
+        shown = flat_again(code) if m else []
+        told = [[int(l[1]), l[2]] for l in re.finditer(r"(?m)^(\d{5}) (.*)$", plain)]
+        right = shown is not None and rest[0] == rest[1] and len(shown) == len(told)
+        for (at, words, place, word), (offset, line) in zip(shown or [], told) if right else []:
+            right = right and at == offset
+            if word is None:
+                right = right and words == line
+                continue
+            jump = re.fullmatch(r"(.*)GOTO (?:L(\d{5})|\^(\d+))", line)
+            leads = jump and (int(jump[2]) if jump[2] else places[m[2], m[1]][int(jump[3])])
+            wanted = {"IF NOT (%s) " % words, "IF %s " % words[5:-1] if words[:5] == "NOT (" and words[-1:] == ")" else ""}
+            right = bool(right and jump and (leads == place or place is None and leads > at) and (jump[1] in wanted if words else jump[1] == ""))
+        if not right:
+            bad += 1
+            print("blocks of %s" % code.split("\n")[0])
+    return bad
+
+
 def compared(data, told):
     """How many statements of a code file are read back, and how many are not."""
     status, text = run(["dis"], data)
@@ -499,7 +573,7 @@ def compared(data, told):
     if wanted.keys() != shown.keys():
         print("procedures differ: %s" % (wanted.keys() ^ shown.keys()))
         return 0, 1
-    good, bad = 0, indented(run(["dis", "--indent"], data)[1], flat, places)
+    good, bad = 0, indented(run(["dis", "--indent"], data)[1], flat, places) + blocked(run(["dis", "--blocks"], data)[1], flat, places)
     for key, table in tables.items():
         if table != places[key[:2]]:
             bad += 1

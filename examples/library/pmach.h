@@ -74,6 +74,8 @@ uint32_t pmach_disassemble_statements(const uint8_t *file, size_t file_len,
 /* in statements behind blanks by their depth */
 uint32_t pmach_disassemble_indented(const uint8_t *file, size_t file_len,
     uint8_t *out, size_t out_len, size_t *needed);
+/* in statements in blocks */
+uint32_t pmach_disassemble_blocks(const uint8_t *file, size_t file_len, uint8_t *out, size_t out_len, size_t *needed);
 /* the trace of bare code, which a text spells in hexadecimal digits: 0 ended, 3 an execution error, 6 limit or waiting */
 uint32_t pmach_raw(const uint8_t *text, size_t text_len, uint32_t limit, uint8_t *out, size_t out_len, size_t *needed);
 

@@ -10,7 +10,8 @@ use Rattle.pm_check.specs.Saving.{salvaged}
 use Rattle.pm_batch.specs.declared.batch.Batch.{Batch}
 use Rattle.pm_batch.specs.declared.batch.Batch.TheVariants as batches
 use Rattle.pm_batch.specs.Assembly.{made_asm, made_faults, made_symbols}
-use Rattle.pm_batch.specs.Code.{made_dis, made_dis_indented, made_dis_list, made_dis_names, made_dis_statements}
+use Rattle.pm_batch.specs.Code.{made_dis, made_dis_blocks, made_dis_indented, made_dis_list, made_dis_names}
+use Rattle.pm_batch.specs.Code.{made_dis_statements}
 use Rattle.pm_batch.specs.Files.{made_check, made_file, made_new, made_salvage, made_volume, takes_input}
 use Rattle.pm_batch.specs.Products.{Product}
 
@@ -25,6 +26,7 @@ made_of (batches.Dis dis.Names) input = made_dis_names input
 made_of (batches.Dis dis.Listing) input = made_dis_list input
 made_of (batches.Dis dis.Statements) input = made_dis_statements input
 made_of (batches.Dis dis.Indented) input = made_dis_indented input
+made_of (batches.Dis dis.Blocks) input = made_dis_blocks input
 made_of (batches.Files opened form command) input = made_file opened (order_of command) input
 made_of (batches.New name blocks) input =
     made_new (blank_fault (string_bytes name) blocks) (string_bytes name) blocks

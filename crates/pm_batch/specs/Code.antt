@@ -5,7 +5,7 @@ use Rattle.pm_codefile.specs.declared.fault.CodeFault.{CodeFault}
 use Rattle.pm_disasm.specs.Listing.{file_listing}
 use Rattle.pm_disasm.specs.Shown.{file_text}
 use Rattle.pm_notes.specs.Lines.{with_names}
-use Rattle.pm_statements.specs.Files.{file_statements, indented_statements}
+use Rattle.pm_statements.specs.Files.{block_statements, file_statements, indented_statements}
 use Rattle.pm_batch.specs.declared.refusal.Refusal.TheVariants as refusals
 use Rattle.pm_batch.specs.Products.{Product, Written, Refused}
 
@@ -49,3 +49,11 @@ made_indented (Some fault) file = Refused (refusals.Code fault)
 
 abbrev pub made_dis_indented : List ℕ → Product
 made_dis_indented input = made_indented (file_fault input) input
+
+-- and in blocks
+abbrev pub made_blocks : Option CodeFault → List ℕ → Product
+made_blocks None file = Written (block_statements file)
+made_blocks (Some fault) file = Refused (refusals.Code fault)
+
+abbrev pub made_dis_blocks : List ℕ → Product
+made_dis_blocks input = made_blocks (file_fault input) input

@@ -4,7 +4,7 @@ ghost use Rattle.pm_batch.specs.Batches.{made_of, reads_input};
 ghost use Rattle.pm_batch.specs.Products.{product_of};
 
 use crate::assembly::{assemble, find_faults, list_symbols};
-use crate::code::{disassemble, disassemble_named, indent_file, list_file, state_file};
+use crate::code::{block_file, disassemble, disassemble_named, indent_file, list_file, state_file};
 use crate::files::{check_image, file, new_volume, repair_volume, salvage_image, takes_input};
 use crate::refusal::Refusal;
 use pm_check::Form;
@@ -95,6 +95,7 @@ pub fn make(alloc: Global, job: Batch, input: Vec<u8>) -> Result<Made, AllocErro
         Batch::Dis(DisOutput::Listing) => list_file(alloc, &input),
         Batch::Dis(DisOutput::Statements) => state_file(alloc, &input),
         Batch::Dis(DisOutput::Indented) => indent_file(alloc, &input),
+        Batch::Dis(DisOutput::Blocks) => block_file(alloc, &input),
         Batch::Files {
             opened,
             form,

@@ -1,12 +1,13 @@
 //! The jobs on a code file.
 ghost use Rattle.std.specs.Prelude.{◌≡◌, IfOk};
 ghost use Rattle.pm_batch.specs.Code.{made_dis, made_dis_list, made_dis_names, made_dis_statements};
-ghost use Rattle.pm_batch.specs.Code.{made_dis_indented};
+ghost use Rattle.pm_batch.specs.Code.{made_dis_blocks, made_dis_indented};
 ghost use Rattle.pm_batch.specs.Products.{product_of};
 
 use crate::batch::Made;
 use crate::refusal::Refusal;
 use pm_codefile::CodeFile;
+use pm_statements::Layout;
 use std::alloc::{AllocError, Global};
 
 /// The text of the code file that the input is.
@@ -54,7 +55,7 @@ pub(crate) fn state_file(alloc: Global, input: &[u8]) -> Result<Made, AllocError
         Ok(file) => file,
         Err(reason) => return Ok(Made::Refused(Refusal::Code(reason), None)),
     };
-    let statements = pm_statements::file(alloc, &file, false)?;
+    let statements = pm_statements::file(alloc, &file, Layout::Flat)?;
     Ok(Made::Bytes(statements.into_bytes()))
 }
 
@@ -66,6 +67,18 @@ pub(crate) fn indent_file(alloc: Global, input: &[u8]) -> Result<Made, AllocErro
         Ok(file) => file,
         Err(reason) => return Ok(Made::Refused(Refusal::Code(reason), None)),
     };
-    let statements = pm_statements::file(alloc, &file, true)?;
+    let statements = pm_statements::file(alloc, &file, Layout::Indented)?;
+    Ok(Made::Bytes(statements.into_bytes()))
+}
+
+/// The statements of the code file that the input is, in blocks.
+pub(crate) fn block_file(alloc: Global, input: &[u8]) -> Result<Made, AllocError>
+    ensures made { IfOk result (λ made. product_of made ≡ made_dis_blocks input.now) }
+{
+    let file = match CodeFile::read(input) {
+        Ok(file) => file,
+        Err(reason) => return Ok(Made::Refused(Refusal::Code(reason), None)),
+    };
+    let statements = pm_statements::file(alloc, &file, Layout::Blocks)?;
     Ok(Made::Bytes(statements.into_bytes()))
 }

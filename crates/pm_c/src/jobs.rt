@@ -126,6 +126,19 @@ pub extern "C" fn pmach_disassemble_indented(
     answer(alloc, file, Job::Dis(DisOutput::Indented), out, needed)
 }
 
+/// Gives a code file in statements in blocks: as `pmach_disassemble`.
+#[unsafe(no_mangle)]
+pub extern "C" fn pmach_disassemble_blocks(
+    alloc: Global,
+    file: &[u8],
+    out: &mut [u8],
+    needed: &mut usize,
+) -> u32
+    ensures answers { Answers (job_said (Job.Dis DisOutput.Blocks) file.now) result out.old out.new needed.new }
+{
+    answer(alloc, file, Job::Dis(DisOutput::Blocks), out, needed)
+}
+
 /// Gives the trace of at most `limit` steps of bare code, which a text spells as pairs of hexadecimal digits: 0 where
 /// the program ended, 3 where an execution error stopped it, 6 at the limit and where it waits for console bytes. 2
 /// where the text spells no program, and the answer then says why.

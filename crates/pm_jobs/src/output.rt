@@ -26,4 +26,6 @@ pub enum DisOutput {
     Statements,
     /// Its code as statements, each behind blanks by how deep it stands.
     Indented,
+    /// Its code as statements in blocks.
+    Blocks,
 }

@@ -286,9 +286,15 @@ IsUnindented true false true what = ⊥
 IsUnindented false true true what = ⊥
 
 -- and whether or not they say `--indent`, beside which `--statements` alone may stand
-abbrev pub IsDis : Bool → Bool → Bool → Bool → DisOutput → Type 0
-IsDis names list statements false what = IsUnindented names list statements what
-IsDis names list statements true what = (names ≡ false) × (list ≡ false) × (what ≡ dis.Indented)
+abbrev pub IsUnblocked : Bool → Bool → Bool → Bool → DisOutput → Type 0
+IsUnblocked names list statements false what = IsUnindented names list statements what
+IsUnblocked names list statements true what = (names ≡ false) × (list ≡ false) × (what ≡ dis.Indented)
+
+-- and `--blocks`, which does not stand beside that either
+abbrev pub IsDis : Bool → Bool → Bool → Bool → Bool → DisOutput → Type 0
+IsDis names list statements indent false what = IsUnblocked names list statements indent what
+IsDis names list statements indent true what =
+    (names ≡ false) × (list ≡ false) × (indent ≡ false) × (what ≡ dis.Blocks)
 
 -- what asm and dis read, by the words for an image and a file: standard input, the file of a path, or the file of a
 -- name on an image
@@ -319,7 +325,8 @@ Asks command m (plans.Asm what files) = (command ≡ codes "asm")
     × AsksTextFiles (words_of m) files
 Asks command m (plans.Dis what files) = (command ≡ codes "dis")
     × IsDis (is_set (word_found (words_of m) (codes "names"))) (is_set (word_found (words_of m) (codes "list")))
-    (is_set (word_found (words_of m) (codes "statements"))) (is_set (word_found (words_of m) (codes "indent"))) what
+    (is_set (word_found (words_of m) (codes "statements"))) (is_set (word_found (words_of m) (codes "indent")))
+    (is_set (word_found (words_of m) (codes "blocks"))) what
     × AsksTextFiles (words_of m) files
 Asks command m (plans.Files plan) = (command ≡ codes "files") × AsksFiles m plan
 Asks command m (plans.Run program choices) =

@@ -184,7 +184,8 @@ asm_needs = (codes "all", NotBeside (codes "list")) ∷ (codes "symbols", NotBes
 abbrev pub dis_needs : List (List ℕ × Need)
 dis_needs = (codes "list", NotBeside (codes "names")) ∷ (codes "statements", NotBeside (codes "names"))
     ∷ (codes "statements", NotBeside (codes "list")) ∷ (codes "indent", NotBeside (codes "names"))
-    ∷ (codes "indent", NotBeside (codes "list")) ∷ []
+    ∷ (codes "indent", NotBeside (codes "list")) ∷ (codes "blocks", NotBeside (codes "names"))
+    ∷ (codes "blocks", NotBeside (codes "list")) ∷ (codes "blocks", NotBeside (codes "indent")) ∷ []
 
 -- what asm and dis need of what they read
 abbrev pub input_needs : List (List ℕ × Need)

@@ -464,6 +464,12 @@ const INDENT: WordRow = (
     "Writes the code as statements, each behind two blanks for each jump around it; not beside --names or --list",
 );
 
+const BLOCKS: WordRow = (
+    "blocks",
+    Form::Flag,
+    "Writes the code as statements in blocks of IF, ELSE, WHILE and REPEAT; not beside --names, --list or --indent",
+);
+
 /// The file that is read.
 const READ: WordRow = (
     "FILE",
@@ -493,6 +499,7 @@ const DIS: CommandRow = (
         OWN_LISTING,
         STATEMENTS,
         INDENT,
+        BLOCKS,
         ON_IMAGE,
         FORM,
         READ,

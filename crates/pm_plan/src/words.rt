@@ -244,15 +244,22 @@ fn asm_output(matches: &ArgMatches<'_>) -> Result<AsmOutput, WordsError>
 }
 
 /// What `dis` is asked to write. Refused where they ask for more than one of names, the listing and statements, as
-/// which those behind blanks count.
+/// which those behind blanks and in blocks count; and for both of these.
 fn dis_output(matches: &ArgMatches<'_>) -> Result<DisOutput, WordsError>
     ensures asked { IfOk result (IsDis (is_set (word_found (words_of matches.now) (codes "names")))
         (is_set (word_found (words_of matches.now) (codes "list")))
         (is_set (word_found (words_of matches.now) (codes "statements")))
-        (is_set (word_found (words_of matches.now) (codes "indent")))) }
+        (is_set (word_found (words_of matches.now) (codes "indent")))
+        (is_set (word_found (words_of matches.now) (codes "blocks")))) }
     ensures good { IsOk result ↔ MeetEach (words_of matches.now) dis_needs }
     ensures refused { IfErr result IsWrong }
 {
+    if is_set(matches, "blocks") {
+        if is_set(matches, "names") || is_set(matches, "list") || is_set(matches, "indent") {
+            return Err(WordsError::Wrong("--blocks does not stand beside --names, --list or --indent"));
+        }
+        return Ok(DisOutput::Blocks);
+    }
     if is_set(matches, "indent") {
         if is_set(matches, "names") || is_set(matches, "list") {
             return Err(WordsError::Wrong("--indent does not stand beside --names or --list"));

@@ -4,11 +4,10 @@ use Rattle.std.specs.Prelude.{not, ◌==◌, ◌&&◌, reverse}
 use Rattle.std.proofs.lemmas.List.Elements.{filter-append}
 use Rattle.pm_phrases.specs.Shown.{Shown, value_text}
 use Rattle.pm_code.specs.Shown.{padded}
-use Rattle.pm_statements.specs.declared.left.Left.{Left}
+use Rattle.pm_trees.specs.declared.left.Left.{Left}
 use Rattle.pm_statements.specs.Depths.{Depths, at_place}
 use Rattle.pm_statements.specs.Laws.{DepthsAreBlanksAlone, without_blanks}
-use Rattle.pm_statements.specs.Texts.{blanks, is_call, is_check, line, lines, pile_of, place_lines, push_text, statement_lines, two_each}
-use Rattle.pm_statements.specs.Trees.{statements}
+use Rattle.pm_statements.specs.Texts.{blanks, is_call, is_check, line, lines, place_lines, push_text, two_each}
 
 split : (x y : List ℕ) → without_blanks (x ++ y) ≡ without_blanks x ++ without_blanks y
 split x y = filter-append (λ (c : ℕ). not (c == 32)) x y
@@ -51,7 +50,5 @@ lines_alone d e b (l ∷ ls) (s ∷ ss) =
     ∙ sym (split (line j b l s) (lines e (is_call l) ls ss))
 
 pub depths_are_blanks_alone : DepthsAreBlanksAlone
-unfolding statement_lines
-depths_are_blanks_alone d e a ps =
-    let t = pile_of a (statements ps) in
+depths_are_blanks_alone d e t =
     lines_alone d e false (reverse t.lefts) (reverse t.phrases)

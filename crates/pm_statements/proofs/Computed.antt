@@ -3,7 +3,7 @@ use Rattle.std.proofs.Common.{refl}
 use Rattle.pm_opcode.specs.Operations.{operation_of}
 use Rattle.pm_opcode.specs.Table.{form_of, groups, implied, shape_of}
 use Rattle.pm_statements.specs.Depths.{depths, depths_from, loops_from}
-use Rattle.pm_statements.specs.Trees.{left_by, set_count, share_count, statements, takes_count, words_count}
+use Rattle.pm_trees.specs.Trees.{left_by, set_count, share_count, statements, takes_count, words_count}
 use Rattle.pm_statements.specs.Worked.{WorkedStatements}
 
 pub worked_statements : WorkedStatements

@@ -1,5 +1,5 @@
 -- Lists that grow piece by piece, as the text of a file does.
-use Rattle.std.proofs.Common.{◌≡◌, ◌<◌, ◌+◌, ◌-◌, ◌++◌, ◌∷◌, [], ◌∙◌, ℕ, Bool, suc, List, ap, append_assoc, arith, refl, sym, subst}
+use Rattle.std.proofs.Common.{◌≡◌, ◌<◌, ◌+◌, ◌-◌, ◌++◌, ◌∷◌, [], ◌∙◌, ℕ, suc, List, ap, append_assoc, arith, refl, sym, subst}
 use Rattle.std.proofs.Common.{Option, Some, IfSome}
 use Rattle.pm_codefile.specs.Dictionary.{segment_in}
 use Rattle.pm_codefile.specs.Segments.{attributes_in}
@@ -9,8 +9,9 @@ use Rattle.std.proofs.lemmas.List.{append-nil}
 use Rattle.pm_code.specs.Shown.{label_text}
 use Rattle.pm_statements.specs.Files.{callee_in, callees_from, entry_lines, numbered_text, slot_callees, slot_text, slots_callees}
 use Rattle.pm_statements.specs.Files.{slots_text, system_from, tables_text}
-use Rattle.pm_statements.specs.Parts.{Known}
-use Rattle.pm_statements.specs.declared.part.Callee.{Callee}
+use Rattle.pm_trees.specs.Parts.{Known}
+use Rattle.pm_trees.specs.declared.items.Layout.{Layout}
+use Rattle.pm_trees.specs.declared.part.Callee.{Callee}
 
 -- a list of pieces, of which the next one is there
 next : {A : Type 0} (all : ℕ → ℕ → List A) (piece : ℕ → List A) → ((n k : ℕ) → all n (suc k) ≡ piece n ++ all (n + 1) k)
@@ -58,11 +59,11 @@ next_table k segment done count after before whole text h e t i =
     after before whole h (t ∙ ap (λ u. before ++ u) (sym e)) i
 
 -- that of one slot more
-pub next_text : (callees : List (Option Callee)) (indented : Bool) (file : List ℕ) (n : ℕ) (after before whole : List ℕ) → n < 16
-    → after ≡ before ++ slot_text callees indented n (segment_in file n) → before ++ slots_text callees indented file n (16 - n) ≡ whole
-    → after ++ slots_text callees indented file (n + 1) (16 - (n + 1)) ≡ whole
-next_text callees indented file n after before whole h t i =
-    next (slots_text callees indented file) (λ n. slot_text callees indented n (segment_in file n)) (λ n k. refl) n n 16 after before whole h t i
+pub next_text : (callees : List (Option Callee)) (layout : Layout) (file : List ℕ) (n : ℕ) (after before whole : List ℕ) → n < 16
+    → after ≡ before ++ slot_text callees layout n (segment_in file n) → before ++ slots_text callees layout file n (16 - n) ≡ whole
+    → after ++ slots_text callees layout file (n + 1) (16 - (n + 1)) ≡ whole
+next_text callees layout file n after before whole h t i =
+    next (slots_text callees layout file) (λ n. slot_text callees layout n (segment_in file n)) (λ n k. refl) n n 16 after before whole h t i
 
 -- what is known of what is there
 pub given : {A : Type 0} (P : A → Type 0) (o : Option A) (x : A) → o ≡ Some x → IfSome o P → P x

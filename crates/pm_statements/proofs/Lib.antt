@@ -1,8 +1,3 @@
-pub mod Grown
-pub mod Fair
-pub mod Labels
-pub mod Written
-pub mod Ends
 pub mod Around
 pub mod Blanks
 pub mod Spanned
@@ -10,5 +5,6 @@ pub mod Listed
 pub mod Marked
 pub mod Called
 pub mod Computed
-pub mod First
+pub mod Blocked
+pub mod Stripped
 pub mod Filed

@@ -3,8 +3,8 @@ use Rattle.std.proofs.Common.{◌≡◌, ◌<◌, ◌≤◌, ℕ, suc, Bool, Lis
 use Rattle.std.proofs.lemmas.List.{append-nil, drop_all}
 use Rattle.pm_code.specs.Item.{Item, size}
 use Rattle.pm_phrases.specs.Shown.{Shown}
-use Rattle.pm_statements.specs.declared.left.Left.{Left}
-use Rattle.pm_statements.specs.Parts.{Known, Part, part_of, parts, place_at}
+use Rattle.pm_trees.specs.declared.left.Left.{Left}
+use Rattle.pm_trees.specs.Parts.{Known, Part, part_of, parts, place_at}
 use Rattle.pm_statements.specs.Depths.{Depths, at_place}
 use Rattle.pm_statements.specs.Texts.{is_call, line, lines, two_each}
 

@@ -7,7 +7,7 @@ use Rattle.pm_code.specs.Item.{Item}
 use Rattle.pm_code.specs.Program.{is_among, item_places}
 use Rattle.pm_code.specs.Shown.{named_places}
 use Rattle.pm_statements.specs.Marks.{Marks, has}
-use Rattle.pm_statements.specs.Parts.{place_at}
+use Rattle.pm_trees.specs.Parts.{place_at}
 
 pub or_false : (b : Bool) → (b || false) ≡ b
 or_false true = refl

@@ -3,7 +3,7 @@ use Rattle.std.proofs.Common.{◌≡◌, ◌<◌, ◌+◌, ◌-◌, ◌++◌, �
 use Rattle.std.proofs.Common.{replicate, reverse, sym, take}
 use Rattle.std.proofs.lemmas.List.{append-nil, length-reverse}
 use Rattle.pm_code.specs.Item.{Item, size}
-use Rattle.pm_statements.proofs.Ends.{reverse_without}
+use Rattle.pm_trees.proofs.Ends.{reverse_without}
 use Rattle.pm_statements.specs.Depths.{Depths, at_place, depths_from, has_ended, leads_by_condition, leads_to, loops_from, open_at, opened, with_loop}
 
 pub ended_closes : (at : ℕ) (ends : List ℕ) → has_ended at ends ≡ true → open_at at (drop 1 ends) ≡ open_at at ends

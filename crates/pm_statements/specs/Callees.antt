@@ -10,7 +10,7 @@ use Rattle.pm_code.specs.Item.Item.{Plain}
 use Rattle.pm_code.specs.Program.{Procedure}
 use Rattle.pm_statements.specs.declared.callees.Returns.{Returns}
 use Rattle.pm_statements.specs.declared.callees.Returns.TheVariants as returns
-use Rattle.pm_statements.specs.declared.part.Callee.{Callee}
+use Rattle.pm_trees.specs.declared.part.Callee.{Callee}
 
 abbrev pub sized : ℕ → ℕ → Callee
 sized parameters results = record { parameters = parameters; results = results }

@@ -1,6 +1,5 @@
 -- The text of a code file as statements.
 use Rattle.std.specs.Prelude.{◌≡◌, ℕ, zero, suc, ◌+◌, ◌==◌, List, [], ◌∷◌, ◌++◌, nat_le, Option, Some, None}
-use Rattle.std.specs.Prelude.{Bool, true, false}
 use Rattle.std.specs.Prelude.{◌*◌, codes, string_bytes, if◌then◌else◌}
 use Rattle.std.specs.Fmt.{decimal, signed_decimal}
 use Rattle.pm_codefile.specs.Dictionary.{segment_in}
@@ -10,11 +9,13 @@ use Rattle.pm_disasm.specs.Split.{procedure_of}
 use Rattle.pm_code.specs.Program.{Procedure}
 use Rattle.pm_code.specs.Shown.{label_text}
 use Rattle.pm_statements.specs.Callees.{callee_of, no_return, returns_from, system_callee}
-use Rattle.pm_statements.specs.Parts.{Known}
-use Rattle.pm_statements.specs.Texts.{procedure_statements}
+use Rattle.pm_trees.specs.Parts.{Known}
+use Rattle.pm_statements.specs.Bodies.{procedure_statements}
 use Rattle.pm_statements.specs.declared.callees.Returns.{Returns}
 use Rattle.pm_statements.specs.declared.callees.Returns.TheVariants as returns
-use Rattle.pm_statements.specs.declared.part.Callee.{Callee}
+use Rattle.pm_trees.specs.declared.items.Layout.{Layout}
+use Rattle.pm_trees.specs.declared.items.Layout.TheVariants as layouts
+use Rattle.pm_trees.specs.declared.part.Callee.{Callee}
 use Rattle.pm_statements.specs.declared.sized.SizedTable.{SizedTable}
 use Rattle.pm_statements.specs.declared.shown.ShownTable.{ShownTable}
 
@@ -103,28 +104,32 @@ tables_text k segment p (suc count) =
     numbered_text k segment p (attributes_in segment p) ++ tables_text k segment (p + 1) count
 
 -- the segment of a slot, if it has one
-abbrev pub slot_text : List (Option Callee) → Bool → ℕ → Option (List ℕ) → List ℕ
-slot_text callees indented n None = []
-slot_text callees indented n (Some segment) = tables_text
-    (record { segment = n; callees = callees; indented = indented }) segment 1 (procedures_in segment)
+abbrev pub slot_text : List (Option Callee) → Layout → ℕ → Option (List ℕ) → List ℕ
+slot_text callees layout n None = []
+slot_text callees layout n (Some segment) = tables_text
+    (record { segment = n; callees = callees; layout = layout }) segment 1 (procedures_in segment)
 
 -- so many slots, from slot n on
-abbrev pub slots_text : List (Option Callee) → Bool → List ℕ → ℕ → ℕ → List ℕ
-slots_text callees indented file n zero = []
-slots_text callees indented file n (suc count) =
-    slot_text callees indented n (segment_in file n) ++ slots_text callees indented file (n + 1) count
+abbrev pub slots_text : List (Option Callee) → Layout → List ℕ → ℕ → ℕ → List ℕ
+slots_text callees layout file n zero = []
+slots_text callees layout file n (suc count) =
+    slot_text callees layout n (segment_in file n) ++ slots_text callees layout file (n + 1) count
 
 -- a code file: its segments by ascending slot
-unfoldable pub file_text : Bool → List ℕ → List ℕ
-file_text indented file = slots_text (file_callees file) indented file 0 16
+unfoldable pub file_text : Layout → List ℕ → List ℕ
+file_text layout file = slots_text (file_callees file) layout file 0 16
 
 -- The text of a code file as statements.
 abbrev pub file_statements : List ℕ → List ℕ
-file_statements file = file_text false file
+file_statements file = file_text layouts.Flat file
 
 -- The same, where each statement stands behind blanks by its depth.
 abbrev pub indented_statements : List ℕ → List ℕ
-indented_statements file = file_text true file
+indented_statements file = file_text layouts.Indented file
+
+-- The same in blocks.
+abbrev pub block_statements : List ℕ → List ℕ
+block_statements file = file_text layouts.Blocks file
 
 -- a table with the text that is shown for it in this segment
 abbrev pub IsShownTable : Known → List ℕ → ShownTable → Type 0

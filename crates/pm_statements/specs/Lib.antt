@@ -1,9 +1,10 @@
-pub mod Parts
 pub mod Depths
 pub mod Spans
-pub mod Trees
 pub mod Laws
 pub mod Texts
+pub mod Leading
+pub mod BlockLines
+pub mod Bodies
 pub mod Marks
 pub mod Callees
 pub mod Worked

@@ -4,12 +4,13 @@ use Rattle.pm_code.specs.Item.{Item}
 use Rattle.pm_code.specs.Item.Item.{Plain, Jump}
 use Rattle.pm_code.specs.Item.Target.{To, Through}
 use Rattle.pm_code.specs.Program.{Procedure}
-use Rattle.pm_statements.specs.declared.left.Left.{Left}
+use Rattle.pm_trees.specs.declared.items.Layout.TheVariants as layout
+use Rattle.pm_trees.specs.declared.left.Left.{Left}
 use Rattle.pm_statements.specs.Callees.{sized}
-use Rattle.pm_statements.specs.Parts.{Known, procedure_parts}
+use Rattle.pm_trees.specs.Parts.{Known, procedure_parts}
 use Rattle.pm_statements.specs.Depths.{at_place}
-use Rattle.pm_statements.specs.Texts.{depths_if}
-use Rattle.pm_statements.specs.Trees.{lefts_of, statements}
+use Rattle.pm_statements.specs.Bodies.{depths_if}
+use Rattle.pm_trees.specs.Trees.{lefts_of, statements}
 
 -- an instruction without an operand, and one with a byte
 abbrev pub plain : ℕ → Item ℕ
@@ -56,7 +57,7 @@ abbrev pub hanoi_known : Known
 hanoi_known = record {
   segment = 0;
   callees = None ∷ Some (sized 0 0) ∷ Some (sized 3 0) ∷ Some (sized 0 0) ∷ [];
-  indented = true;
+  layout = layout.Flat;
 }
 
 abbrev pub hanoi_lefts : List Left

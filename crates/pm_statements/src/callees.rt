@@ -4,7 +4,7 @@ ghost use Rattle.std.specs.Prelude.{◌≡◌, map};
 ghost use Rattle.pm_code.specs.Views.{placed_item, procedure_seen};
 ghost use Rattle.pm_statements.specs.Callees as callees;
 
-use crate::part::Callee;
+use pm_trees::Callee;
 use pm_code::{Item, Procedure};
 use pm_families::Return;
 use pm_opcode::Operation;

@@ -3,7 +3,7 @@
 ghost use Rattle.std.specs.Prelude.{◌≡◌, ◌++◌, replicate, IfOk, OnOk};
 ghost use Rattle.pm_code.specs.Views.{placed_item, procedure_seen};
 ghost use Rattle.pm_statements.specs.Depths as depths;
-ghost use Rattle.pm_statements.specs.Texts as texts;
+ghost use Rattle.pm_statements.specs.Bodies as bodies;
 
 use crate::procedure::behind;
 use crate::spans::{close_ended, open_span};
@@ -135,7 +135,7 @@ pub(crate) fn depths_if(
     wanted: bool,
     procedure: &Procedure,
 ) -> Result<Depths, AllocError>
-    ensures depths { IfOk result (λ ds. ds ≡ texts.depths_if wanted (procedure_seen procedure.now)) }
+    ensures depths { IfOk result (λ ds. ds ≡ bodies.depths_if wanted (procedure_seen procedure.now)) }
 {
     let list = if wanted {
         list_of(alloc, procedure)?

@@ -1,39 +1,7 @@
-//! Laws of statements. The functions do nothing.
+//! Laws of the text of statements. The functions do nothing.
 
-ghost use Rattle.pm_statements.specs.Laws.{DepthsAreBlanksAlone, LabelsStandBeforeStatements, MissingIsBelow};
-ghost use Rattle.pm_statements.specs.Laws.{OperandsAreWhatIsTaken, StatementsAreTheCode};
+ghost use Rattle.pm_statements.specs.Laws.{DepthsAreBlanksAlone};
 ghost use Rattle.pm_statements.specs.Spans.{DepthsAreSpans};
-ghost use Rattle.pm_statements.specs.Texts.{TextGrows};
-
-/// The statements, each read with its operands before it, are the code.
-#[tactic(auto, using(crate::proofs::Grown::statements_are_the_code))]
-pub fn statements_are_the_code()
-    ensures law { StatementsAreTheCode }
-{}
-
-/// Each part of a statement takes all that its operands leave, and what it is shown to miss.
-#[tactic(auto, using(crate::proofs::Fair::operands_are_what_is_taken))]
-pub fn operands_are_what_is_taken()
-    ensures law { OperandsAreWhatIsTaken }
-{}
-
-/// In no statement something leads to another part than the first.
-#[tactic(auto, using(crate::proofs::Labels::labels_stand_before_statements))]
-pub fn labels_stand_before_statements()
-    ensures law { LabelsStandBeforeStatements }
-{}
-
-/// What a statement pops was on the stack before it.
-#[tactic(auto, using(crate::proofs::First::missing_is_below))]
-pub fn missing_is_below()
-    ensures law { MissingIsBelow }
-{}
-
-/// The text that grows part by part is that of the statements.
-#[tactic(auto, using(crate::proofs::Written::text_grows))]
-pub fn text_grows()
-    ensures law { TextGrows }
-{}
 
 /// How deep statements are said to stand changes blanks alone.
 #[tactic(auto, using(crate::proofs::Blanks::depths_are_blanks_alone))]

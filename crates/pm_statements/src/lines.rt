@@ -3,11 +3,8 @@
 ghost use Rattle.std.specs.Prelude.{◌≡◌, ◌++◌, false, string_bytes, OnOk, Some};
 ghost use Rattle.pm_statements.specs.Texts as texts;
 
-use crate::count::leaves_nothing;
+use pm_trees::{Leaves, Left, Pile, Place, Role, is_reached, leaves_nothing};
 use crate::depths::Depths;
-use crate::left::{Left, Role, is_reached};
-use crate::part::{Leaves, Place};
-use crate::pile::Pile;
 use pm_code::{FiveDigits, Label};
 use pm_phrases::{Phrase, Value};
 use std::alloc::AllocError;
@@ -38,7 +35,7 @@ impl fmt::Display for PlaceLines {
 
 /// What stands before a statement that leaves something.
 #[derive(Clone, Copy)]
-struct Push(Leaves);
+pub(crate) struct Push(pub(crate) Leaves);
 
 impl fmt::Display for Push {
     ghost output = { λ p. Some (texts.push_text p.0) };
@@ -52,14 +49,14 @@ impl fmt::Display for Push {
 }
 
 /// Whether a statement is a call.
-fn is_call(left: &Left) -> bool
+pub(crate) fn is_call(left: &Left) -> bool
     ensures value { result ≡ texts.is_call left.now }
 {
     leaves_nothing(left.leaves) && matches!(left.role, Role::Call)
 }
 
 /// Whether a statement is a check of input and output to which nothing leads.
-fn is_check(left: &Left) -> bool
+pub(crate) fn is_check(left: &Left) -> bool
     ensures value { result ≡ texts.is_check left.now }
 {
     !is_reached(left.place) && matches!(left.role, Role::Check)
@@ -67,7 +64,7 @@ fn is_check(left: &Left) -> bool
 
 /// Adds two blanks for each level of depth, up to thirty levels.
 #[tactic(auto, using(crate::proofs::Listed::blanks_step, crate::proofs::Listed::blanks_done))]
-fn push_blanks(out: &mut String, depth: usize) -> Result<(), AllocError>
+pub(crate) fn push_blanks(out: &mut String, depth: usize) -> Result<(), AllocError>
     ensures text { OnOk result (string_bytes out.new ≡ string_bytes out.old ++ texts.blanks depth) }
 {
     for _ in 0..depth.min(DEEPEST) {
@@ -127,7 +124,7 @@ fn push_lines(
 }
 
 /// Adds the lines of statements, each behind a line feed, and its text behind blanks by how deep it stands.
-#[tactic(auto, using(crate::proofs::Ends::twice_reversed))]
+#[tactic(auto, using(pm_trees::proofs::Ends::twice_reversed))]
 pub fn push_statements(
     out: &mut String,
     depths: &Depths,

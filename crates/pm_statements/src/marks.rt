@@ -4,7 +4,7 @@ ghost use Rattle.std.specs.Prelude.{◌≡◌, ◌<◌, ◌==◌, ◌||◌, ℕ,
 ghost use Rattle.pm_code.specs.Program.{is_among, item_places, target_places};
 ghost use Rattle.pm_code.specs.Shown.{named_places};
 ghost use Rattle.pm_code.specs.Views.{placed_item, placed_target, procedure_seen};
-ghost use Rattle.pm_statements.specs.Parts.{labelled_places};
+ghost use Rattle.pm_trees.specs.Parts.{labelled_places};
 ghost use Rattle.pm_statements.specs.Marks.{Marks, has};
 
 use pm_code::{Item, Procedure, Target};

@@ -3,16 +3,18 @@
 ghost use Rattle.std.specs.Prelude.{◌≡◌, ◌+◌, ◌++◌, ℕ, List, string_bytes, IfOk, OnOk};
 ghost use Rattle.pm_code.specs.Item.{size};
 ghost use Rattle.pm_code.specs.Views.{placed_item, procedure_seen};
+ghost use Rattle.pm_statements.specs.Bodies as bodies;
 ghost use Rattle.pm_statements.specs.Marks.{Marks};
-ghost use Rattle.pm_statements.specs.Parts as parts;
+ghost use Rattle.pm_trees.specs.Parts as parts;
 ghost use Rattle.pm_statements.specs.Texts as texts;
 
+use crate::block_lines::push_block_lines;
 use crate::depths::depths_if;
-use crate::grow::statements;
-use crate::items::{Known, part_of};
+use pm_trees::{Known, Layout, Part, Pile, Place, part_of, statements};
+use crate::leading::stretches;
 use crate::lines::{PlaceLines, push_statements};
 use crate::marks::labels_of;
-use crate::part::{Part, Place};
+use pm_blocks::blocks;
 use pm_code::{Item, Procedure, items_end};
 use pm_phrases::Around;
 use std::alloc::{AllocError, Global};
@@ -68,7 +70,7 @@ fn parts_of<'a>(
 fn push_end(out: &mut String, labels: &[bool], procedure: &Procedure) -> Result<(), AllocError>
     requires labels { Marks labels.now (parts.labelled_places (procedure_seen procedure.now)) }
     ensures text { OnOk result (string_bytes out.new
-        ≡ string_bytes out.old ++ texts.place_lines (texts.end_place (procedure_seen procedure.now))) }
+        ≡ string_bytes out.old ++ texts.place_lines (bodies.end_place (procedure_seen procedure.now))) }
 {
     let Some(end) = items_end(procedure.start, &procedure.items) else {
         return Err(AllocError);
@@ -78,9 +80,65 @@ fn push_end(out: &mut String, labels: &[bool], procedure: &Procedure) -> Result<
     Ok(())
 }
 
+/// Adds statements by depth, or as they are.
+fn push_flat(
+    alloc: Global,
+    out: &mut String,
+    indented: bool,
+    procedure: &Procedure,
+    statements: &Pile,
+) -> Result<(), AllocError>
+    ensures text { OnOk result (string_bytes out.new ≡ string_bytes out.old
+        ++ texts.pile_lines (bodies.depths_if indented (procedure_seen procedure.now)) statements.now) }
+{
+    let depths = depths_if(alloc, indented, procedure)?;
+    push_statements(out, &depths, statements)
+}
+
+/// Adds statements in blocks; as they are, where these blocks would say other jumps.
+#[tactic(auto, using(pm_trees::proofs::Ends::twice_reversed), unfolding(crate::specs::Bodies::body))]
+fn push_blocks(
+    alloc: Global,
+    out: &mut String,
+    procedure: &Procedure,
+    statements: &Pile,
+) -> Result<(), AllocError>
+    ensures text { OnOk result (string_bytes out.new ≡ string_bytes out.old
+        ++ bodies.body Layout.Blocks (procedure_seen procedure.now) statements.now) }
+{
+    let Some(end) = items_end(procedure.start, &procedure.items) else {
+        return Err(AllocError);
+    };
+    let (lefts, phrases) = (&statements.lefts, &statements.phrases);
+    let stretches = stretches(alloc, &procedure.entries, end, lefts, phrases)?;
+    match blocks(alloc, &stretches)? {
+        Some(lines) => push_block_lines(alloc, out, &lines, lefts, phrases),
+        None => push_flat(alloc, out, false, procedure, statements),
+    }
+}
+
+/// Adds statements as they are to stand.
+#[tactic(auto, unfolding(crate::specs::Bodies::body))]
+fn push_body(
+    alloc: Global,
+    out: &mut String,
+    layout: Layout,
+    procedure: &Procedure,
+    statements: &Pile,
+) -> Result<(), AllocError>
+    ensures text { OnOk result (string_bytes out.new ≡ string_bytes out.old
+        ++ bodies.body layout (procedure_seen procedure.now) statements.now) }
+{
+    match layout {
+        Layout::Flat => push_flat(alloc, out, false, procedure, statements),
+        Layout::Indented => push_flat(alloc, out, true, procedure, statements),
+        Layout::Blocks => push_blocks(alloc, out, procedure, statements),
+    }
+}
+
 /// Adds the text of a procedure's code as statements: a line for each, behind a line feed, with lines for the labels
-/// and the exit code as the text of the procedure has them, and with blanks by depth if they are wanted.
-#[tactic(auto, using(crate::proofs::Listed::text_joined), unfolding(crate::specs::Texts::statement_lines))]
+/// and the exit code as the text of the procedure has them, and by depth or in blocks if that is wanted.
+#[tactic(auto, using(crate::proofs::Listed::text_joined))]
 pub fn push_procedure(
     alloc: Global,
     out: &mut String,
@@ -88,15 +146,14 @@ pub fn push_procedure(
     procedure: &Procedure,
 ) -> Result<(), AllocError>
     ensures text { OnOk result (string_bytes out.new
-        ≡ string_bytes out.old ++ texts.procedure_statements known.now (procedure_seen procedure.now)) }
+        ≡ string_bytes out.old ++ bodies.procedure_statements known.now (procedure_seen procedure.now)) }
 {
     let around = Around {
         parameters: procedure.parameters / 2,
     };
     let labels = labels_of(alloc, procedure)?;
     let parts = parts_of(alloc, known, &labels, procedure)?;
-    let depths = depths_if(alloc, known.indented, procedure)?;
     let statements = statements(alloc, around, &parts)?;
-    push_statements(out, &depths, &statements)?;
+    push_body(alloc, out, known.layout, procedure, &statements)?;
     push_end(out, &labels, procedure)
 }

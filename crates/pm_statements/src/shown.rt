@@ -10,8 +10,7 @@ ghost use Rattle.pm_disasm.specs.Offsets.{IsDecoded};
 ghost use Rattle.pm_statements.specs.Files as files;
 
 use crate::callees::{Returns, returns_of};
-use crate::items::Known;
-use crate::part::Callee;
+use pm_trees::{Callee, Known, Layout};
 use crate::procedure::push_procedure;
 use crate::sized::file_callees;
 use pm_code::Label;
@@ -213,11 +212,11 @@ fn push_slot(
     text: &mut String,
     file: &CodeFile<'_>,
     callees: &[Option<Callee>],
-    indented: bool,
+    layout: Layout,
     n: u8,
 ) -> Result<(), AllocError>
     ensures text { OnOk result (string_bytes text.new
-        ≡ string_bytes text.old ++ files.slot_text callees.now indented n (segment_in file.now n)) }
+        ≡ string_bytes text.old ++ files.slot_text callees.now layout n (segment_in file.now n)) }
 {
     let Some(segment) = file.segment(n) else {
         return Ok(());
@@ -225,22 +224,21 @@ fn push_slot(
     let known = Known {
         segment: n,
         callees,
-        indented,
+        layout,
     };
     push_segment(alloc, text, &known, segment)
 }
 
 /// The text of a code file as statements: its segments by ascending slot, of each its procedures by their numbers, of
-/// each a line that names it, a line for each entry of its jump table, and a line for each statement; `indented`:
-/// behind two blanks for each span of a jump around it.
+/// each a line that names it, a line for each entry of its jump table, and its statements as they are to stand.
 #[tactic(auto, unfolding(crate::specs::Files::file_text))]
-pub fn file(alloc: Global, file: &CodeFile<'_>, indented: bool) -> Result<String, AllocError>
-    ensures text { IfOk result (λ text. string_bytes text ≡ files.file_text indented file.now) }
+pub fn file(alloc: Global, file: &CodeFile<'_>, layout: Layout) -> Result<String, AllocError>
+    ensures text { IfOk result (λ text. string_bytes text ≡ files.file_text layout file.now) }
 {
     let callees = file_callees(alloc, file)?;
     let mut text = String::new(alloc);
     for n in 0..16 {
-        push_slot(alloc, &mut text, file, &callees, indented, n)?;
+        push_slot(alloc, &mut text, file, &callees, layout, n)?;
     }
     Ok(text)
 }

@@ -7,10 +7,10 @@ ghost use Rattle.pm_codefile.specs.Segments.{attributes_in};
 ghost use Rattle.pm_codefile.specs.declared.table.Attributes.{Attributes};
 ghost use Rattle.pm_disasm.specs.Offsets.{IsDecoded};
 ghost use Rattle.pm_statements.specs.Files as files;
-ghost use Rattle.pm_statements.specs.declared.part.Callee.{Callee};
+ghost use Rattle.pm_trees.specs.declared.part.Callee.{Callee};
 
 use crate::callees::{callee_of, system_callee};
-use crate::part::Callee;
+use pm_trees::Callee;
 use pm_codefile::{Attributes, CodeFile, attributes};
 use pm_disasm::{Decoded, code, decode_segment};
 use std::alloc::{AllocError, Global};

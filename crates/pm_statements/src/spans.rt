@@ -6,7 +6,7 @@ ghost use Rattle.pm_statements.specs.Depths as depths;
 use std::alloc::AllocError;
 
 /// Whether the innermost span ends at a place or before it.
-#[tactic(auto, using(crate::proofs::Ends::reverse_pushed))]
+#[tactic(auto, using(pm_trees::proofs::Ends::reverse_pushed))]
 fn has_ended(ends: &[usize], at: usize) -> bool
     ensures value { result ≡ depths.has_ended at (reverse ends.now) }
 {
@@ -27,7 +27,7 @@ pub(crate) fn close_ended(ends: &mut Vec<usize>, at: usize)
 }
 
 /// Opens a span, if there is one, has code, and lies within those that are open.
-#[tactic(auto, using(crate::proofs::Ends::reverse_pushed))]
+#[tactic(auto, using(pm_trees::proofs::Ends::reverse_pushed))]
 pub(crate) fn open_span(
     ends: &mut Vec<usize>,
     at: usize,

@@ -1,9 +1,9 @@
 use Rattle.std.proofs.Common.{◌≡◌, ◌+◌, ◌++◌, ◌∷◌, [], ℕ, List, Bool, false, slice_index_or, drop, string_bytes, sym, ap, ◌∙◌}
 use Rattle.std.proofs.lemmas.List.{append-nil, drop_more, nil_from_length}
 use Rattle.pm_phrases.specs.Shown.{Shown}
-use Rattle.pm_statements.specs.declared.left.Left.{Left}
-use Rattle.pm_statements.specs.declared.left.Role.TheVariants as role
-use Rattle.pm_statements.specs.declared.part.Leaves.TheVariants as leaves
+use Rattle.pm_trees.specs.declared.left.Left.{Left}
+use Rattle.pm_trees.specs.declared.left.Role.TheVariants as role
+use Rattle.pm_trees.specs.declared.part.Leaves.TheVariants as leaves
 use Rattle.pm_statements.specs.Depths.{at_place}
 use Rattle.pm_statements.specs.Texts.{line, lines}
 use Rattle.pm_statements.proofs.Listed.{lines_done, lines_none, lines_step}

@@ -1,7 +1,7 @@
 use Rattle.std.proofs.Common.{◌≡◌, ◌≤◌, ◌+◌, ◌++◌, ◌∷◌, ℕ, drop, length, map, sym, ap, subst, ◌∙◌}
 use Rattle.std.proofs.lemmas.List.{drop_all, drop_more}
 use Rattle.pm_code.specs.Views.{placed_item, procedure_seen}
-use Rattle.pm_statements.specs.Parts.{labelled_places, part_of, parts}
+use Rattle.pm_trees.specs.Parts.{labelled_places, part_of, parts}
 use Rattle.pm_statements.proofs.Listed.{parts_done, parts_step}
 use Rattle.pm_statements.proofs.procedure.parts_of.Goals as goal
 

@@ -1,6 +1,6 @@
 use Rattle.std.proofs.Common.{◌≡◌, ◌++◌, drop, map}
 use Rattle.pm_code.specs.Views.{placed_item, procedure_seen}
-use Rattle.pm_statements.specs.Parts.{labelled_places, parts, procedure_parts}
+use Rattle.pm_trees.specs.Parts.{labelled_places, parts, procedure_parts}
 use Rattle.pm_statements.proofs.procedure.parts_of.Given as goal
 
 -- the parts so far, with those of the items that are left, are all

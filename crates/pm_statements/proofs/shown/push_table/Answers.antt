@@ -5,7 +5,7 @@ use Rattle.pm_disasm.specs.Split.{procedure_of}
 use Rattle.pm_statements.specs.Callees.{no_return, returns_from}
 use Rattle.pm_code.specs.Program.{Procedure}
 use Rattle.pm_statements.specs.Files.{entry_lines, header, named, returns_in, table_text}
-use Rattle.pm_statements.specs.Texts.{procedure_statements}
+use Rattle.pm_statements.specs.Bodies.{procedure_statements}
 use Rattle.pm_statements.proofs.Filed.{three_pieces, two_pieces}
 use Rattle.pm_statements.proofs.shown.push_table.Goals as goal
 

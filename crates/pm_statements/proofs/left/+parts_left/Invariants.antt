@@ -1,5 +1,0 @@
-use Rattle.std.specs.Prelude.{length}
-use Rattle.pm_statements.proofs.left.+parts_left.Given as goal
-
-abbrev pub decreases-parts_left : goal.decreases-parts_left
-decreases-parts_left l = length l.lefts.now

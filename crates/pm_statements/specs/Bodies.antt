@@ -1,0 +1,45 @@
+-- The text of a procedure's code, by how its statements stand.
+use Rattle.std.specs.Prelude.{◌/◌, ℕ, Bool, true, false, List, [], ◌++◌, reverse, if◌then◌else◌, Option, Some, None}
+use Rattle.pm_blocks.specs.Blocks.{blocks}
+use Rattle.pm_blocks.specs.declared.line.Line.{Line}
+use Rattle.pm_code.specs.Program.{Procedure, code_end}
+use Rattle.pm_phrases.specs.declared.around.Around.{Around}
+use Rattle.pm_statements.specs.BlockLines.{block_lines}
+use Rattle.pm_statements.specs.Depths.{Depths, depths}
+use Rattle.pm_statements.specs.Leading.{stretches}
+use Rattle.pm_trees.specs.Parts.{Known, labelled_places, place_at, procedure_parts}
+use Rattle.pm_trees.specs.Piles.{Pile, pile_of}
+use Rattle.pm_statements.specs.Texts.{pile_lines, place_lines}
+use Rattle.pm_trees.specs.Trees.{statements}
+use Rattle.pm_trees.specs.declared.items.Layout.{Layout}
+use Rattle.pm_trees.specs.declared.items.Layout.TheVariants as layout
+use Rattle.pm_trees.specs.declared.part.Place.{Place}
+
+-- what is known around the code of a procedure
+abbrev pub around_of : Procedure → Around
+around_of p = record { parameters = p.parameters / 2 }
+
+-- the place where the code of a procedure ends
+abbrev pub end_place : Procedure → Place
+end_place p = place_at (labelled_places p) p.exit (code_end p)
+
+-- the depths of a procedure, if they are wanted
+abbrev pub depths_if : Bool → Procedure → Depths
+depths_if wanted p = record { start = p.start; list = if wanted then depths p else [] }
+
+-- statements in blocks, if there are such; else as they are
+abbrev pub in_blocks : Procedure → Pile → Option (List Line) → List ℕ
+in_blocks p t None = pile_lines (depths_if false p) t
+in_blocks p t (Some xs) = block_lines 0 false xs (reverse t.lefts) (reverse t.phrases)
+
+-- The text of a procedure's statements: a line for each, behind a line feed.
+unfoldable pub body : Layout → Procedure → Pile → List ℕ
+body layout.Flat p t = pile_lines (depths_if false p) t
+body layout.Indented p t = pile_lines (depths_if true p) t
+body layout.Blocks p t =
+    in_blocks p t (blocks (stretches p.entries (code_end p) (reverse t.lefts) (reverse t.phrases)))
+
+-- The text of a procedure's code: its statements, and the labels where it ends.
+abbrev pub procedure_statements : Known → Procedure → List ℕ
+procedure_statements k p =
+    body k.layout p (pile_of (around_of p) (statements (procedure_parts k p))) ++ place_lines (end_place p)

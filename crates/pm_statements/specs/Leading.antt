@@ -1,0 +1,50 @@
+-- Where statements lead.
+use Rattle.std.specs.Prelude.{ℕ, Bool, false, ◌==◌, if◌then◌else◌, List, [], ◌∷◌, slice_get, Option, Some, None}
+use Rattle.pm_blocks.specs.declared.statement.Leads.{Leads}
+use Rattle.pm_blocks.specs.declared.statement.Leads.TheVariants as leads
+use Rattle.pm_blocks.specs.declared.statement.Statement.{Statement}
+use Rattle.pm_code.specs.declared.item.Target.{Target}
+use Rattle.pm_code.specs.declared.item.Target.TheVariants as targets
+use Rattle.pm_families.specs.declared.families.Condition.{Condition}
+use Rattle.pm_families.specs.declared.families.Condition.TheVariants as condition
+use Rattle.pm_phrases.specs.declared.operand.Form.{Form}
+use Rattle.pm_phrases.specs.declared.operand.Form.TheVariants as form
+use Rattle.pm_phrases.specs.Shown.{Shown}
+use Rattle.pm_trees.specs.declared.left.Left.{Left}
+use Rattle.pm_trees.specs.declared.left.Role.{Role}
+use Rattle.pm_trees.specs.declared.left.Role.TheVariants as role
+
+-- the place of a target, if the jump table has its entry
+abbrev pub place_in : List ℕ → Target ℕ → Option ℕ
+place_in entries (targets.To place) = Some place
+place_in entries (targets.Through k) = slice_get entries k
+
+-- whether a text is that of a statement, and not a line of the disassembly in braces
+abbrev pub is_sentence : Form → Bool
+is_sentence (form.Value strength) = strength == 0
+is_sentence _ = false
+
+abbrev pub leads_to : Condition → Form → Option ℕ → Leads
+leads_to c f None = leads.Nowhere
+leads_to condition.Always f (Some place) = leads.Always place
+leads_to c f (Some place) = if is_sentence f then leads.ByCondition place else leads.Nowhere
+
+abbrev pub leads_by : List ℕ → Role → Form → Leads
+leads_by entries (role.Jump c target) f = leads_to c f (place_in entries target)
+leads_by entries _ f = leads.Nowhere
+
+-- where the next statement begins; where the code ends, if there is none
+abbrev pub next_place : ℕ → List Left → ℕ
+next_place end [] = end
+next_place end (l ∷ ls) = l.place.offset
+
+abbrev pub stretch : List ℕ → ℕ → Left → Shown → Statement
+stretch entries behind l s =
+    record { at = l.place.offset; behind = behind; leads = leads_by entries l.role s.form }
+
+-- The stretches of statements, the first one first, of code that ends at a place.
+unfoldable pub stretches : List ℕ → ℕ → List Left → List Shown → List Statement
+stretches entries end [] ss = []
+stretches entries end (l ∷ ls) [] = []
+stretches entries end (l ∷ ls) (s ∷ ss) =
+    stretch entries (next_place end ls) l s ∷ stretches entries end ls ss

@@ -1,0 +1,181 @@
+//! Statements in blocks as lines.
+
+ghost use Rattle.std.specs.Prelude.{◌≡◌, ◌++◌, drop, false, string_bytes, OnOk};
+ghost use Rattle.pm_statements.specs.BlockLines as texts;
+
+use crate::conditions::push_condition;
+use crate::leading::behind_first;
+use pm_trees::Left;
+use crate::lines::{PlaceLines, Push, is_call, is_check, push_blanks};
+use pm_blocks::{Line, Word};
+use pm_code::FiveDigits;
+use pm_phrases::{Phrase, Value};
+use std::alloc::{AllocError, Global};
+use std::fmt::Write;
+
+/// Adds a statement by its word, without its offset.
+#[tactic(auto, unfolding(crate::specs::BlockLines::word_text))]
+fn push_word(
+    alloc: Global,
+    out: &mut String,
+    word: Word,
+    left: &Left,
+    phrase: &Phrase,
+) -> Result<(), AllocError>
+    ensures text { OnOk result (string_bytes out.new
+        ≡ string_bytes out.old ++ texts.word_text word left.now phrase.now) }
+{
+    let text = phrase.text.as_str();
+    match word {
+        Word::Plain(_) => {
+            let push = Push(left.leaves);
+            let value = Value(phrase, 0);
+            write!(out, "{push}{value}")?;
+        }
+        Word::If => {
+            out.push_str("IF ")?;
+            push_condition(alloc, out, left.role, text)?;
+            out.push_str(" THEN")?;
+        }
+        Word::While => {
+            out.push_str("WHILE ")?;
+            push_condition(alloc, out, left.role, text)?;
+            out.push_str(" DO")?;
+        }
+        Word::Until => {
+            out.push_str("UNTIL ")?;
+            push_condition(alloc, out, left.role, text)?;
+        }
+        Word::Else => out.push_str("ELSE")?,
+        Word::EndWhile => out.push_str("END")?,
+        Word::Repeat | Word::End => (),
+    }
+    Ok(())
+}
+
+/// Adds a statement by its word, behind a line feed or on the line of the call before it.
+fn push_worded(
+    alloc: Global,
+    out: &mut String,
+    depth: usize,
+    behind_call: bool,
+    word: Word,
+    left: &Left,
+    phrase: &Phrase,
+) -> Result<(), AllocError>
+    ensures text { OnOk result (string_bytes out.new
+        ≡ string_bytes out.old ++ texts.worded_line depth behind_call word left.now phrase.now) }
+{
+    if behind_call && is_check(left) {
+        let text = Value(phrase, 0);
+        write!(out, " {text}")?;
+        return Ok(());
+    }
+    let labels = PlaceLines(left.place);
+    let offset = FiveDigits(left.place.offset);
+    write!(out, "{labels}\n{offset} ")?;
+    push_blanks(out, depth)?;
+    push_word(alloc, out, word, left, phrase)
+}
+
+/// Adds the first of some statements, if there is one.
+fn push_first(
+    alloc: Global,
+    out: &mut String,
+    depth: usize,
+    behind_call: bool,
+    word: Word,
+    lefts: &[Left],
+    phrases: &[Phrase],
+) -> Result<(), AllocError>
+    ensures text { OnOk result (string_bytes out.new
+        ≡ string_bytes out.old ++ texts.first_line depth behind_call word lefts.now phrases.now) }
+{
+    let Some((left, _)) = lefts.split_first() else {
+        return Ok(());
+    };
+    let Some((phrase, _)) = phrases.split_first() else {
+        return Ok(());
+    };
+    push_worded(alloc, out, depth, behind_call, word, left, phrase)
+}
+
+/// What stands in a line of no statement.
+fn extra_text(word: Word) -> &'static str
+    ensures text { result.now ≡ texts.extra_text word }
+{
+    match word {
+        Word::Repeat => "REPEAT",
+        Word::End => "END",
+        _ => "",
+    }
+}
+
+/// Adds a line that stands for no statement, or the first of some statements.
+fn push_block_line(
+    alloc: Global,
+    out: &mut String,
+    depth: usize,
+    behind_call: bool,
+    word: Word,
+    lefts: &[Left],
+    phrases: &[Phrase],
+) -> Result<(), AllocError>
+    ensures text { OnOk result (string_bytes out.new
+        ≡ string_bytes out.old ++ texts.block_line depth behind_call word lefts.now phrases.now) }
+{
+    if word.is_extra() {
+        out.push_str("\n      ")?;
+        push_blanks(out, depth)?;
+        out.push_str(extra_text(word))?;
+        return Ok(());
+    }
+    push_first(alloc, out, depth, behind_call, word, lefts, phrases)
+}
+
+/// Whether a line is a call.
+fn calls_at(word: Word, lefts: &[Left]) -> bool
+    ensures value { result ≡ texts.calls_at word lefts.now }
+{
+    match lefts.split_first() {
+        Some((left, _)) => !word.is_extra() && is_call(left),
+        None => false,
+    }
+}
+
+/// What follows the statement of a line, if it is one.
+fn behind_word<T>(word: Word, list: &[T]) -> &[T]
+    ensures rest { result.now ≡ drop (texts.statements_at word) list.now }
+{
+    if word.is_extra() { list } else { behind_first(list) }
+}
+
+/// Adds lines, each of a word, and their statements.
+pub(crate) fn push_block_lines(
+    alloc: Global,
+    out: &mut String,
+    lines: &[Line],
+    lefts: &[Left],
+    phrases: &[Phrase],
+) -> Result<(), AllocError>
+    ensures text { OnOk result (string_bytes out.new
+        ≡ string_bytes out.old ++ texts.block_lines 0 false lines.now lefts.now phrases.now) }
+{
+    let mut depth = 0;
+    let mut behind_call = false;
+    let mut statements = lefts;
+    let mut texts = phrases;
+    for line in lines {
+        let word = line.word;
+        let own = word.depth_at(depth);
+        push_block_line(alloc, out, own, behind_call, word, statements, texts)?;
+        let Some(more) = word.depth_behind(depth) else {
+            return Err(AllocError);
+        };
+        depth = more;
+        behind_call = calls_at(word, statements);
+        statements = behind_word(word, statements);
+        texts = behind_word(word, texts);
+    }
+    Ok(())
+}

@@ -1,0 +1,108 @@
+//! Where statements lead.
+
+ghost use Rattle.std.specs.Prelude.{◌≡◌, drop, IfOk};
+ghost use Rattle.pm_statements.specs.Leading as leading;
+
+use pm_trees::{Left, Role};
+use pm_blocks::{Leads, Statement};
+use pm_code::Target;
+use pm_families::Condition;
+use pm_phrases::{Form, Phrase};
+use std::alloc::{AllocError, Global};
+
+/// The place of a target, if the jump table has its entry.
+fn place_in(entries: &[usize], target: Target<usize>) -> Option<usize>
+    ensures place { result ≡ leading.place_in entries.now target }
+{
+    match target {
+        Target::To(place) => Some(place),
+        Target::Through(k) => entries.get(usize::from(k)).copied(),
+    }
+}
+
+/// Whether a text is that of a statement, and not a line of the disassembly in braces.
+fn is_sentence(form: Form) -> bool
+    ensures value { result ≡ leading.is_sentence form }
+{
+    match form {
+        Form::Value(strength) => strength == 0,
+        _ => false,
+    }
+}
+
+/// Where a jump leads that is made on a condition.
+fn leads_to(condition: Condition, form: Form, place: Option<usize>) -> Leads
+    ensures leads { result ≡ leading.leads_to condition form place }
+{
+    let Some(place) = place else {
+        return Leads::Nowhere;
+    };
+    match condition {
+        Condition::Always => Leads::Always(place),
+        Condition::IfFalse | Condition::IfDifferent | Condition::IfEqual => {
+            if is_sentence(form) {
+                Leads::ByCondition(place)
+            } else {
+                Leads::Nowhere
+            }
+        }
+    }
+}
+
+/// Where a statement leads.
+fn leads_by(entries: &[usize], role: Role, phrase: &Phrase) -> Leads
+    ensures leads { result ≡ leading.leads_by entries.now role phrase.now.form }
+{
+    match role {
+        Role::Jump(condition, target) => leads_to(condition, phrase.form, place_in(entries, target)),
+        Role::Call | Role::Check | Role::Other => Leads::Nowhere,
+    }
+}
+
+/// Where the next statement begins; where the code ends, if there is none.
+fn next_place(end: usize, lefts: &[Left]) -> usize
+    ensures place { result ≡ leading.next_place end lefts.now }
+{
+    match lefts.split_first() {
+        Some((next, _)) => next.place.offset,
+        None => end,
+    }
+}
+
+/// A list without its first item.
+pub(crate) fn behind_first<T>(list: &[T]) -> &[T]
+    ensures rest { result.now ≡ drop 1 list.now }
+{
+    match list.split_first() {
+        Some((_, rest)) => rest,
+        None => list,
+    }
+}
+
+/// The stretches of statements, of code that ends at a place.
+pub(crate) fn stretches(
+    alloc: Global,
+    entries: &[usize],
+    end: usize,
+    lefts: &[Left],
+    phrases: &[Phrase],
+) -> Result<Vec<Statement>, AllocError>
+    ensures stretches { IfOk result (λ ss. ss.items ≡ leading.stretches entries.now end lefts.now phrases.now) }
+{
+    let mut list = Vec::new(alloc);
+    let mut rest = phrases;
+    let mut more = lefts;
+    for left in lefts {
+        let Some((phrase, others)) = rest.split_first() else {
+            return Ok(list);
+        };
+        more = behind_first(more);
+        list.push(Statement {
+            at: left.place.offset,
+            behind: next_place(end, more),
+            leads: leads_by(entries, left.role, phrase),
+        })?;
+        rest = others;
+    }
+    Ok(list)
+}

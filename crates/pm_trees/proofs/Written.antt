@@ -1,0 +1,131 @@
+-- The text that grows is that of the statements.
+use Rattle.std.proofs.Common.{◌≡◌, ◌≤◌, ℕ, zero, suc, Bool, true, false, List, [], ◌∷◌, drop, length, refl, sym, ap, ◌∙◌, arith}
+use Rattle.std.specs.Prelude.{◌||◌, if◌then◌else◌}
+use Rattle.pm_phrases.specs.declared.around.Around.{Around}
+use Rattle.pm_phrases.specs.declared.around.Missing.{Missing}
+use Rattle.pm_phrases.specs.Shown.{Shown}
+use Rattle.pm_trees.specs.declared.left.Left.{Left}
+use Rattle.pm_trees.specs.Parts.{Part, is_reached}
+use Rattle.pm_trees.specs.Trees.{Forest, Count, Growing, back, before_part, behind, closed, front, grown, grown_all, grown_by}
+use Rattle.pm_trees.specs.Trees.{is_full, leaves_nothing, left_by}
+use Rattle.pm_trees.specs.Trees.{leaves_of, lefts_of, none_missing, statements, takes_count}
+use Rattle.pm_trees.specs.Trees.Forest.{Bare, Tree}
+use Rattle.pm_trees.specs.Piles.{Pile, Texts, TextGrows, added, added_all, added_by, after, before_text, closed_texts, last_of, leaves_left, no_trees}
+use Rattle.pm_trees.specs.Piles.{pile_of, rest_of, upon}
+
+-- ---- two lists side by side
+
+consed : Left → Shown → Pile → Pile
+consed l s t = record { lefts = l ∷ t.lefts; phrases = s ∷ t.phrases }
+
+pile_front : (a : Around) (k : ℕ) (f : Forest) → last_of k (pile_of a f) ≡ pile_of a (front k f)
+unfolding consed
+pile_front a zero f = refl
+pile_front a (suc k) Bare = refl
+pile_front a (suc k) (Tree p m o before) = ap (consed _ _) (pile_front a k before)
+
+pile_back : (a : Around) (k : ℕ) (f : Forest) → rest_of k (pile_of a f) ≡ pile_of a (back k f)
+pile_back a zero f = refl
+pile_back a (suc k) Bare = refl
+pile_back a (suc k) (Tree p m o before) = pile_back a k before
+
+lefts_same : (a : Around) (f : Forest) → (pile_of a f).lefts ≡ lefts_of f
+lefts_same a Bare = refl
+lefts_same a (Tree p m o before) =
+    ap (λ o. left_by p o ∷ (pile_of a before).lefts) (lefts_same a o)
+    ∙ ap (λ b. left_by p (lefts_of o) ∷ b) (lefts_same a before)
+
+leaves_same : (a : Around) (f : Forest) → leaves_left (pile_of a f).lefts ≡ leaves_of f
+unfolding left_by
+leaves_same a Bare = refl
+leaves_same a (Tree p m o before) = ap (λ l. p.leaves ∷ l) (leaves_same a before)
+
+pile_behind : (a : Around) (f before : Forest) → after (pile_of a f) (pile_of a before) ≡ pile_of a (behind f before)
+unfolding consed
+pile_behind a Bare before = refl
+pile_behind a (Tree p m o more) before = ap (consed _ _) (pile_behind a more before)
+
+-- ---- how they grow
+
+abbrev texts_of : Around → Growing → Texts
+texts_of a g = record { done = pile_of a g.done; pending = pile_of a g.pending }
+
+closed_as : (a : Around) (g : Growing) → closed_texts (texts_of a g) ≡ texts_of a (closed g)
+closed_as a g = ap (λ (t : Pile). record { done = t; pending = no_trees }) (pile_behind a g.pending g.done)
+
+before_as : (a : Around) (p : Part) (g : Growing) → before_text p (texts_of a g) ≡ texts_of a (before_part p g)
+before_as a p g =
+    ap (λ ls. if is_reached p.place || is_full ls then closed_texts (texts_of a g) else texts_of a g) (lefts_same a g.pending)
+    ∙ by (is_reached p.place || is_full (lefts_of g.pending))
+  where
+    by : (b : Bool) → (if b then closed_texts (texts_of a g) else texts_of a g) ≡ texts_of a (if b then closed g else g)
+    by true = closed_as a g
+    by false = refl
+
+-- what was added, by the trees that are taken and those that stay
+abbrev added_with : Around → Part → Missing → Pile → Pile → Pile → Texts
+added_with a p m done o r =
+    if leaves_nothing p.leaves then record { done = upon a p m o (after r done); pending = no_trees }
+    else if none_missing m then record { done = done; pending = upon a p m o r }
+    else record { done = after r done; pending = upon a p m o no_trees }
+
+added_grown : (a : Around) (p : Part) (c : Count) (g : Growing) → added_by a p c (texts_of a g) ≡ texts_of a (grown_by p c g)
+added_grown a p c g =
+    ap (λ o. added_with a p c.missing (pile_of a g.done) o (rest_of c.trees (pile_of a g.pending))) (pile_front a c.trees g.pending)
+    ∙ ap (λ r. added_with a p c.missing (pile_of a g.done) (pile_of a (front c.trees g.pending)) r) (pile_back a c.trees g.pending)
+    ∙ by (leaves_nothing p.leaves) (none_missing c.missing)
+  where
+    by : (x y : Bool)
+        → (if x then record {
+          done = upon a p c.missing (pile_of a (front c.trees g.pending)) (after (pile_of a (back c.trees g.pending)) (pile_of a g.done));
+          pending = no_trees;
+        }
+        else if y then record {
+          done = pile_of a g.done;
+          pending = upon a p c.missing (pile_of a (front c.trees g.pending)) (pile_of a (back c.trees g.pending));
+        }
+        else record {
+          done = after (pile_of a (back c.trees g.pending)) (pile_of a g.done);
+          pending = upon a p c.missing (pile_of a (front c.trees g.pending)) no_trees;
+        })
+        ≡ texts_of a (if x then record { done = Tree p c.missing (front c.trees g.pending) (behind (back c.trees g.pending) g.done); pending = Bare }
+        else if y then record { done = g.done; pending = Tree p c.missing (front c.trees g.pending) (back c.trees g.pending) }
+        else record { done = behind (back c.trees g.pending) g.done; pending = Tree p c.missing (front c.trees g.pending) Bare })
+    by true y = ap (λ (t : Pile). record { done = upon a p c.missing (pile_of a (front c.trees g.pending)) t; pending = no_trees })
+        (pile_behind a (back c.trees g.pending) g.done)
+    by false true = refl
+    by false false = ap (λ (t : Pile). record { done = t; pending = upon a p c.missing (pile_of a (front c.trees g.pending)) no_trees })
+        (pile_behind a (back c.trees g.pending) g.done)
+
+added_as : (a : Around) (p : Part) (g : Growing) → added a p (texts_of a g) ≡ texts_of a (grown p g)
+added_as a p g =
+    ap (λ l. added_by a p (takes_count p.takes l) (texts_of a g)) (leaves_same a g.pending)
+    ∙ added_grown a p (takes_count p.takes (leaves_of g.pending)) g
+
+all_as : (a : Around) (ps : List Part) (g : Growing) → added_all a ps (texts_of a g) ≡ texts_of a (grown_all ps g)
+unfolding added_all
+all_as a [] g = refl
+all_as a (p ∷ ps) g =
+    ap (λ t. added_all a ps (added a p t)) (before_as a p g)
+    ∙ ap (added_all a ps) (added_as a p (before_part p g))
+    ∙ all_as a ps (grown p (before_part p g))
+
+pub text_grows : TextGrows
+unfolding statements
+text_grows a ps =
+    let g : Growing = record { done = Bare; pending = Bare } in
+    ap (λ t. (closed_texts t).done) (all_as a ps g) ∙ ap (λ t. t.done) (closed_as a (grown_all ps g))
+
+-- ---- a step of the loop
+
+pub added_none : (a : Around) (i : ℕ) (ps : List Part) (t : Texts) → length ps ≤ i → added_all a (drop i ps) t ≡ t
+unfolding added_all
+added_none a zero [] t high = refl
+added_none a zero (p ∷ ps) t high = absurd (omega (arith, high))
+added_none a (suc i) [] t high = refl
+added_none a (suc i) (p ∷ ps) t high = added_none a i ps t (omega (arith, high))
+
+pub added_step : (a : Around) (p : Part) (ps more : List Part) (t : Texts) → ps ≡ p ∷ more
+    → added_all a more (added a p (before_text p t)) ≡ added_all a ps t
+unfolding added_all
+added_step a p ps more t e = sym (ap (λ l. added_all a l t) e)

@@ -1,0 +1,134 @@
+-- What statements are.
+use Rattle.std.specs.Prelude.{◌≡◌, true, ℕ, zero, suc, false, List, [], ◌∷◌, ◌++◌, map, replicate, if◌then◌else◌}
+use Rattle.std.specs.Prelude.{not, ◌==◌, Option, Some, None}
+use Rattle.std.specs.List.{filter}
+use Rattle.pm_code.specs.Item.{Item}
+use Rattle.pm_code.specs.Program.{Procedure}
+use Rattle.pm_effects.specs.declared.effect.Share.{Share}
+use Rattle.pm_effects.specs.declared.effect.Share.TheVariants as share
+use Rattle.pm_phrases.specs.declared.around.Missing.{Missing}
+use Rattle.pm_trees.specs.declared.part.Leaves.{Leaves}
+use Rattle.pm_trees.specs.declared.part.Leaves.TheVariants as leaves
+use Rattle.pm_trees.specs.declared.part.Takes.{Takes}
+use Rattle.pm_trees.specs.Parts.{Known, Part, is_reached, procedure_parts}
+use Rattle.pm_trees.specs.Piles.{Pile}
+use Rattle.pm_trees.specs.Trees.{Forest, is_none, none_missing, parts_of, statements}
+use Rattle.pm_trees.specs.Trees.Forest.{Bare, Tree}
+
+abbrev pub items_of : Forest → List (Item ℕ)
+items_of f = map (λ (p : Part). p.item) (parts_of f)
+
+-- The statements of a procedure, each read with its operands before it, are its code: every item once, in order.
+abbrev pub StatementsAreTheCode : Type 0
+StatementsAreTheCode = (k : Known) (p : Procedure) → items_of (statements (procedure_parts k p)) ≡ p.items
+
+-- ---- what operands leave on the stack
+
+-- a word, a word that is known, a set of words that are not counted
+pub data Entry : Type 0 where
+  AWord : Entry
+  AConstant : ℕ → Entry
+  ASet : Entry
+
+abbrev pub entries : Leaves → List Entry
+entries (leaves.Words n) = replicate n AWord
+entries (leaves.Constant c) = AConstant c ∷ []
+entries leaves.Set = ASet ∷ []
+
+-- what trees leave, the top first
+abbrev pub entries_of : Forest → List Entry
+entries_of Bare = []
+entries_of (Tree p missing operands before) = entries p.leaves ++ entries_of before
+
+-- What is still wanted when a stack was taken from, and what is left of it.
+pub record Rest : Type 0 where
+  pub wanted : Share
+  pub stack : List Entry
+
+-- so many words off a stack; a set does not come apart
+unfoldable pub off_words : ℕ → List Entry → Option Rest
+off_words zero es = Some (record { wanted = share.Words 0; stack = es })
+off_words (suc n) [] = Some (record { wanted = share.Words (suc n); stack = [] })
+off_words (suc n) (AWord ∷ es) = off_words n es
+off_words (suc n) (AConstant c ∷ es) = off_words n es
+off_words (suc n) (ASet ∷ es) = None
+
+-- a set off a stack: one as a whole, or a count and so many words
+abbrev pub off_set : List Entry → Option Rest
+off_set [] = Some (record { wanted = share.Set; stack = [] })
+off_set (ASet ∷ es) = Some (record { wanted = share.Words 0; stack = es })
+off_set (AConstant c ∷ es) = off_words c es
+off_set (AWord ∷ es) = None
+
+abbrev pub off_share : Share → List Entry → Option Rest
+off_share (share.Words n) es = off_words n es
+off_share share.Set es = off_set es
+
+-- where nothing is left of the stack
+abbrev pub missing_of : Share → Share → List Entry → Option Missing
+missing_of top below [] = Some (record { top = top; below = below })
+missing_of top below (e ∷ es) = None
+
+abbrev pub missing_below : Option Rest → Option Missing
+missing_below None = None
+missing_below (Some l) = missing_of (share.Words 0) l.wanted l.stack
+
+abbrev pub missing_then : Share → Option Rest → Option Missing
+missing_then below None = None
+missing_then below (Some l) =
+    if is_none l.wanted then missing_below (off_share below l.stack) else missing_of l.wanted below l.stack
+
+-- what is missing when all of a stack was taken; none, where not all of it is
+unfoldable pub missing_from : Takes → List Entry → Option Missing
+missing_from w es = missing_then w.below (off_share w.top es)
+
+-- Each part takes all that its operands leave, and what is said to be missing.
+abbrev pub TakesItsOperands : Forest → Type 0
+TakesItsOperands Bare = Unit {0}
+TakesItsOperands (Tree p missing operands before) =
+    (missing_from p.takes (entries_of operands) ≡ Some missing) × TakesItsOperands operands × TakesItsOperands before
+
+abbrev pub OperandsAreWhatIsTaken : Type 0
+OperandsAreWhatIsTaken = (k : Known) (p : Procedure) → TakesItsOperands (statements (procedure_parts k p))
+
+-- ---- labels
+
+abbrev pub AreUnreached : List Part → Type 0
+AreUnreached [] = Unit {0}
+AreUnreached (p ∷ ps) = (is_reached p.place ≡ false) × AreUnreached ps
+
+abbrev pub AreInOne : List Part → Type 0
+AreInOne [] = Unit {0}
+AreInOne (p ∷ ps) = AreUnreached ps
+
+-- In no statement something leads to another part than the first.
+abbrev pub AreReachedAtTheFront : Forest → Type 0
+AreReachedAtTheFront Bare = Unit {0}
+AreReachedAtTheFront (Tree p missing operands before) =
+    AreInOne (parts_of operands ++ p ∷ []) × AreReachedAtTheFront before
+
+abbrev pub LabelsStandBeforeStatements : Type 0
+LabelsStandBeforeStatements = (k : Known) (p : Procedure) → AreReachedAtTheFront (statements (procedure_parts k p))
+
+-- ---- what is missing
+
+-- nothing is missing in any of these trees
+abbrev pub AreWhole : Forest → Type 0
+AreWhole Bare = Unit {0}
+AreWhole (Tree p missing operands before) = (none_missing missing ≡ true) × AreWhole operands × AreWhole before
+
+-- of trees that stand one upon another nothing is missing but in the lowest one, and there in its lowest operand
+abbrev pub MissBelow : Forest → Type 0
+MissBelow Bare = Unit {0}
+MissBelow (Tree p missing operands Bare) = MissBelow operands
+MissBelow (Tree p missing operands (Tree q more others before)) =
+    (none_missing missing ≡ true) × AreWhole operands × MissBelow (Tree q more others before)
+
+abbrev pub EachMissesBelow : Forest → Type 0
+EachMissesBelow Bare = Unit {0}
+EachMissesBelow (Tree p missing operands before) = MissBelow operands × EachMissesBelow before
+
+-- What a statement takes that none of its operands leaves was on the stack before the statement: nothing that an
+-- operand left lies below it.
+abbrev pub MissingIsBelow : Type 0
+MissingIsBelow = (k : Known) (p : Procedure) → EachMissesBelow (statements (procedure_parts k p))

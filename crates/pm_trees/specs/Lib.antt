@@ -1,0 +1,4 @@
+pub mod Parts
+pub mod Trees
+pub mod Piles
+pub mod Laws

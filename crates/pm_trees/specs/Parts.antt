@@ -1,0 +1,147 @@
+-- The items of code as parts of statements.
+use Rattle.std.specs.Prelude.{ℕ, ◌+◌, ◌*◌, Bool, true, false, ◌==◌, ◌||◌, nat_lt, if◌then◌else◌, List, [], ◌∷◌, ◌++◌}
+use Rattle.std.specs.Prelude.{Option, Some, None}
+use Rattle.std.specs.Prelude.{option_map, slice_index_or}
+use Rattle.pm_families.specs.declared.families.Arithmetic.TheVariants as arithmetic
+use Rattle.pm_families.specs.declared.families.Call.{Call}
+use Rattle.pm_families.specs.declared.families.Call.TheVariants as call
+use Rattle.pm_opcode.specs.declared.instr.Instr.{Instr}
+use Rattle.pm_opcode.specs.declared.operation.Operation.{Operation}
+use Rattle.pm_opcode.specs.declared.operation.Operation.TheVariants as operation
+use Rattle.pm_opcode.specs.Operations.{operation_of}
+use Rattle.pm_code.specs.Item.{Item, case_opcode, size}
+use Rattle.pm_code.specs.Item.Item.{Plain, Jump, Case, OneByte}
+use Rattle.pm_code.specs.Program.{Procedure, is_among}
+use Rattle.pm_code.specs.Shown.{named_places}
+use Rattle.pm_effects.specs.declared.effect.Share.{Share}
+use Rattle.pm_effects.specs.declared.effect.Share.TheVariants as share
+use Rattle.pm_effects.specs.declared.effect.Effect.{Effect}
+use Rattle.pm_effects.specs.Effects.{words}
+use Rattle.pm_effects.specs.History.{instruction_effect}
+use Rattle.pm_trees.specs.declared.items.Layout.{Layout}
+use Rattle.pm_trees.specs.declared.part.Callee.{Callee}
+use Rattle.pm_trees.specs.declared.part.Leaves.{Leaves}
+use Rattle.pm_trees.specs.declared.part.Leaves.TheVariants as leaves
+use Rattle.pm_trees.specs.declared.part.Place.{Place}
+use Rattle.pm_trees.specs.declared.part.Takes.{Takes}
+
+-- ---- what an item takes and leaves
+
+-- what is known of procedures: the segment of the code, and a table of 256 procedures for each segment; and how
+-- statements stand
+pub record Known : Type 0 where
+  pub segment : ℕ
+  pub callees : List (Option Callee)
+  pub layout : Layout
+
+-- where the procedure that is called stands in the table
+abbrev pub callee_index : ℕ → Call → ℕ
+callee_index segment (call.Clp p) = 256 * segment + p
+callee_index segment (call.Cgp p) = 256 * segment + p
+callee_index segment (call.Cbp p) = 256 * segment + p
+callee_index segment (call.Cip p) = 256 * segment + p
+callee_index segment (call.Cxp s p) = 256 * s + p
+
+abbrev pub callee_effect : Callee → Effect
+callee_effect c = words c.parameters c.results
+
+-- of a procedure that is called
+abbrev pub call_effect : Known → Call → Option Effect
+call_effect k c = option_map callee_effect (slice_index_or k.callees (callee_index k.segment c) None)
+
+-- of a call by what is known of procedures, of another instruction by the table of instructions
+abbrev pub effect_by : Known → Operation → Instr → Option Effect
+effect_by k (operation.Call c) i = call_effect k c
+effect_by k _ i = instruction_effect i
+
+-- an instruction of an opcode alone
+abbrev pub bare_instruction : ℕ → Instr
+bare_instruction op = record { op = op; a = 0; b = 0; c = 0; long = false; start = 0; count = 0; len = 0 }
+
+-- the instruction of an item, without the places that it names
+abbrev pub item_instruction : Item ℕ → Option Instr
+item_instruction (Plain i named) = Some i
+item_instruction (Jump op target) = Some (bare_instruction op)
+item_instruction (Case low high otherwise places) = Some (bare_instruction case_opcode)
+item_instruction (OneByte b) = None
+
+-- ---- parts
+
+-- A part of code: an item and its place, what it takes and what it leaves, and whether that is known.
+pub record Part : Type 0 where
+  pub item : Item ℕ
+  pub place : Place
+  pub takes : Takes
+  pub leaves : Leaves
+  pub known : Bool
+
+-- whether something leads to it
+abbrev pub is_reached : Place → Bool
+is_reached p = p.has_label || p.is_exit
+
+-- what is not known takes and leaves nothing
+abbrev pub takes_of : Option Effect → Takes
+takes_of None = record { top = share.Words 0; below = share.Words 0 }
+takes_of (Some e) = record { top = e.top; below = e.below }
+
+abbrev pub leaves_share : Share → Leaves
+leaves_share (share.Words n) = leaves.Words n
+leaves_share share.Set = leaves.Set
+
+abbrev pub leaves_effect : Option Effect → Leaves
+leaves_effect None = leaves.Words 0
+leaves_effect (Some e) = leaves_share e.leaves
+
+-- a constant that may count the words of a set
+abbrev pub leaves_constant : ℕ → Leaves
+leaves_constant w = if nat_lt w 256 then leaves.Constant w else leaves.Words 1
+
+abbrev pub leaves_by : Operation → Option Effect → Leaves
+leaves_by (operation.Arithmetic (arithmetic.Constant w)) e = leaves_constant w
+leaves_by _ e = leaves_effect e
+
+-- a procedure that is called, or a standard one, may take what is not known here; all else that has no effect is
+-- nothing that the machine does
+abbrev pub is_known : Operation → Option Effect → Bool
+is_known (operation.Call c) None = false
+is_known (operation.Standard n) None = false
+is_known _ _ = true
+
+-- what an instruction takes and leaves, and whether that is known
+pub record Moves : Type 0 where
+  pub takes : Takes
+  pub leaves : Leaves
+  pub known : Bool
+
+abbrev pub moves_by : Operation → Option Effect → Moves
+moves_by o e = record { takes = takes_of e; leaves = leaves_by o e; known = is_known o e }
+
+-- a byte is nothing that the machine does
+abbrev pub moves_of : Known → Option Instr → Moves
+moves_of k None = moves_by operation.Unimplemented None
+moves_of k (Some i) = moves_by (operation_of i) (effect_by k (operation_of i) i)
+
+abbrev pub part_with : Item ℕ → Place → Moves → Part
+part_with item place m =
+    record { item = item; place = place; takes = m.takes; leaves = m.leaves; known = m.known }
+
+abbrev pub part_of : Known → Item ℕ → Place → Part
+part_of k item place = part_with item place (moves_of k (item_instruction item))
+
+-- a place, where these have a label and the exit code begins at one
+abbrev pub place_at : List ℕ → ℕ → ℕ → Place
+place_at used exit at = record { offset = at; has_label = is_among used at; is_exit = exit == at }
+
+-- the items from an offset on
+abbrev pub parts : Known → List ℕ → ℕ → ℕ → List (Item ℕ) → List Part
+parts k used exit at [] = []
+parts k used exit at (item ∷ items) =
+    part_of k item (place_at used exit at) ∷ parts k used exit (at + size at item) items
+
+-- the places that have a label
+abbrev pub labelled_places : Procedure → List ℕ
+labelled_places p = named_places p.items ++ p.entries
+
+-- The parts of a procedure, with labels where its text has them.
+abbrev pub procedure_parts : Known → Procedure → List Part
+procedure_parts k p = parts k (labelled_places p) p.exit p.start p.items

@@ -1,0 +1,94 @@
+-- Trees as phrases, and how they grow.
+use Rattle.std.specs.Prelude.{◌≡◌, ◌/◌, ℕ, zero, suc, min, Bool, true, false, not, List, [], ◌∷◌, ◌++◌, reverse}
+use Rattle.std.specs.Prelude.{take, drop}
+use Rattle.std.specs.Prelude.{◌||◌, ◌&&◌, if◌then◌else◌, codes}
+use Rattle.pm_code.specs.Program.{Procedure, code_end}
+use Rattle.pm_code.specs.Shown.{label_text, padded}
+use Rattle.pm_phrases.specs.declared.around.Around.{Around}
+use Rattle.pm_phrases.specs.declared.around.Missing.{Missing}
+use Rattle.pm_phrases.specs.Phrases.{phrase_of}
+use Rattle.pm_phrases.specs.Shown.{Shown, value_text}
+use Rattle.pm_trees.specs.declared.left.Left.{Left}
+use Rattle.pm_trees.specs.declared.left.Role.{Role}
+use Rattle.pm_trees.specs.declared.left.Role.TheVariants as role
+use Rattle.pm_trees.specs.declared.part.Leaves.{Leaves}
+use Rattle.pm_trees.specs.declared.part.Place.{Place}
+use Rattle.pm_trees.specs.Parts.{Known, Part, is_reached, labelled_places, place_at, procedure_parts}
+use Rattle.pm_trees.specs.Trees.{Count, Forest, is_full, leaves_nothing, left_by, none_missing, statements}
+use Rattle.pm_trees.specs.Trees.{takes_count}
+use Rattle.pm_trees.specs.Trees.Forest.{Bare, Tree}
+
+-- ---- trees as phrases
+
+-- Trees as their phrases, and what is seen of each, the last one first.
+pub record Pile : Type 0 where
+  pub lefts : List Left
+  pub phrases : List Shown
+
+abbrev pub no_trees : Pile
+no_trees = record { lefts = []; phrases = [] }
+
+-- a part behind its operands, upon other trees
+abbrev pub upon : Around → Part → Missing → Pile → Pile → Pile
+upon a p missing operands before = record {
+  lefts = left_by p operands.lefts ∷ before.lefts;
+  phrases = phrase_of a p.item p.known missing (reverse operands.phrases) ∷ before.phrases;
+}
+
+abbrev pub pile_of : Around → Forest → Pile
+pile_of a Bare = no_trees
+pile_of a (Tree p missing operands before) = upon a p missing (pile_of a operands) (pile_of a before)
+
+-- the last trees, so many of them, and those before
+abbrev pub last_of : ℕ → Pile → Pile
+last_of k t = record { lefts = take k t.lefts; phrases = take k t.phrases }
+
+abbrev pub rest_of : ℕ → Pile → Pile
+rest_of k t = record { lefts = drop k t.lefts; phrases = drop k t.phrases }
+
+-- trees behind others
+abbrev pub after : Pile → Pile → Pile
+after more before = record { lefts = more.lefts ++ before.lefts; phrases = more.phrases ++ before.phrases }
+
+-- ---- how they grow
+
+-- the statements that are done, and the trees that something may yet take
+pub record Texts : Type 0 where
+  pub done : Pile
+  pub pending : Pile
+
+abbrev pub leaves_left : List Left → List Leaves
+leaves_left [] = []
+leaves_left (l ∷ ls) = l.leaves ∷ leaves_left ls
+
+abbrev pub closed_texts : Texts → Texts
+closed_texts t = record { done = after t.pending t.done; pending = no_trees }
+
+abbrev pub added_by : Around → Part → Count → Texts → Texts
+added_by a p c t =
+    if leaves_nothing p.leaves
+    then record {
+      done = upon a p c.missing (last_of c.trees t.pending) (after (rest_of c.trees t.pending) t.done);
+      pending = no_trees;
+    }
+    else if none_missing c.missing
+    then record { done = t.done; pending = upon a p c.missing (last_of c.trees t.pending) (rest_of c.trees t.pending) }
+    else record {
+      done = after (rest_of c.trees t.pending) t.done;
+      pending = upon a p c.missing (last_of c.trees t.pending) no_trees;
+    }
+
+abbrev pub added : Around → Part → Texts → Texts
+added a p t = added_by a p (takes_count p.takes (leaves_left t.pending.lefts)) t
+
+abbrev pub before_text : Part → Texts → Texts
+before_text p t = if is_reached p.place || is_full t.pending.lefts then closed_texts t else t
+
+unfoldable pub added_all : Around → List Part → Texts → Texts
+added_all a [] t = t
+added_all a (p ∷ ps) t = added_all a ps (added a p (before_text p t))
+
+-- The text that grows part by part is that of the statements.
+abbrev pub TextGrows : Type 0
+TextGrows = (a : Around) (ps : List Part)
+    → (closed_texts (added_all a ps (record { done = no_trees; pending = no_trees }))).done ≡ pile_of a (statements ps)

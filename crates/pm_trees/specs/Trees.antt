@@ -1,0 +1,237 @@
+-- Code as statements: each a tree of which the nodes are parts of the code.
+use Rattle.std.specs.Prelude.{ℕ, zero, suc, ◌+◌, ◌-◌, Bool, true, false, not, List, [], ◌∷◌, ◌++◌, drop, ◌==◌, ◌||◌}
+use Rattle.std.specs.Prelude.{◌&&◌, nat_le, nat_lt, if◌then◌else◌, Option, Some, None}
+use Rattle.pm_opcode.specs.declared.operation.Operation.{Operation}
+use Rattle.pm_opcode.specs.declared.operation.Operation.TheVariants as operation
+use Rattle.pm_opcode.specs.Operations.{operation_of}
+use Rattle.pm_code.specs.Item.{Item, Target}
+use Rattle.pm_code.specs.Item.Item.{Plain, Jump}
+use Rattle.pm_code.specs.Item.Target.{To, Through}
+use Rattle.pm_code.specs.declared.item.Target as told
+use Rattle.pm_code.specs.declared.item.Target.TheVariants as targets
+use Rattle.pm_families.specs.declared.families.Condition.{Condition}
+use Rattle.pm_effects.specs.declared.effect.Share.{Share}
+use Rattle.pm_effects.specs.declared.effect.Share.TheVariants as share
+use Rattle.pm_phrases.specs.declared.around.Missing.{Missing}
+use Rattle.pm_phrases.specs.Jumps.{condition_of}
+use Rattle.pm_trees.specs.declared.left.Left.{Left}
+use Rattle.pm_trees.specs.declared.left.Role.{Role}
+use Rattle.pm_trees.specs.declared.left.Role.TheVariants as role
+use Rattle.pm_trees.specs.declared.part.Leaves.{Leaves}
+use Rattle.pm_trees.specs.declared.part.Leaves.TheVariants as leaves
+use Rattle.pm_trees.specs.declared.part.Place.{Place}
+use Rattle.pm_trees.specs.declared.part.Takes.{Takes}
+use Rattle.pm_trees.specs.Parts.{Part, is_reached}
+
+-- Trees side by side, the last one first: a part, what it takes that no operand leaves, its operands, and the trees
+-- before it.
+pub data Forest : Type 0 where
+  Bare : Forest
+  Tree : Part → Missing → Forest → Forest → Forest
+
+-- the parts in the order in which they are done: operands from left to right, then what takes them
+abbrev pub parts_of : Forest → List Part
+parts_of Bare = []
+parts_of (Tree p missing operands before) = parts_of before ++ (parts_of operands ++ p ∷ [])
+
+-- trees behind other trees
+abbrev pub behind : Forest → Forest → Forest
+behind Bare before = before
+behind (Tree p missing operands more) before = Tree p missing operands (behind more before)
+
+-- ---- operands
+
+-- the last trees, so many of them, and those before
+abbrev pub front : ℕ → Forest → Forest
+front zero f = Bare
+front (suc k) Bare = Bare
+front (suc k) (Tree p missing operands before) = Tree p missing operands (front k before)
+
+abbrev pub back : ℕ → Forest → Forest
+back zero f = f
+back (suc k) Bare = Bare
+back (suc k) (Tree p missing operands before) = back k before
+
+-- what each tree leaves
+abbrev pub leaves_of : Forest → List Leaves
+leaves_of Bare = []
+leaves_of (Tree p missing operands before) = p.leaves ∷ leaves_of before
+
+-- ---- what is seen of a tree: what its part leaves, where its first part stands, and how many parts it has
+
+-- a tree of more parts than this is a statement, even if it leaves something
+abbrev pub most_parts : ℕ
+most_parts = 100
+
+-- how many parts; one more than the most stands for all that are more
+abbrev pub capped : ℕ → ℕ
+capped n = if nat_lt most_parts n then suc most_parts else n
+
+abbrev pub parts_left : List Left → ℕ
+parts_left [] = 0
+parts_left (l ∷ ls) = capped (l.parts + parts_left ls)
+
+-- the place of the first of these trees; this one, where there is none
+abbrev pub first_place : Place → List Left → Place
+first_place place [] = place
+first_place place (l ∷ ls) = first_place l.place ls
+
+-- a call, the check of input and output, a jump, or something else
+abbrev pub operation_role : Operation → Role
+operation_role (operation.Call c) = role.Call
+operation_role (operation.Standard n) = if n == 0 then role.Check else role.Call
+operation_role _ = role.Other
+
+-- where it leads, as the code has it
+abbrev pub target_told : Target ℕ → told.Target ℕ
+target_told (To place) = targets.To place
+target_told (Through k) = targets.Through k
+
+abbrev pub jump_role : Option Condition → told.Target ℕ → Role
+jump_role None target = role.Other
+jump_role (Some c) target = role.Jump c target
+
+abbrev pub role_of : Item ℕ → Role
+role_of (Plain i named) = operation_role (operation_of i)
+role_of (Jump op target) = jump_role (condition_of op) (target_told target)
+role_of _ = role.Other
+
+-- a part behind its operands
+unfoldable pub left_by : Part → List Left → Left
+left_by p operands = record {
+  leaves = p.leaves;
+  place = first_place p.place operands;
+  parts = capped (suc (parts_left operands));
+  role = role_of p.item;
+}
+
+abbrev pub lefts_of : Forest → List Left
+lefts_of Bare = []
+lefts_of (Tree p missing operands before) = left_by p (lefts_of operands) ∷ lefts_of before
+
+-- whether the last tree has too many parts for an operand
+abbrev pub is_full : List Left → Bool
+is_full [] = false
+is_full (l ∷ ls) = nat_lt most_parts l.parts
+
+-- ---- how many trees are operands
+
+-- how many words, none of a set, of which the count is not known
+abbrev pub words_left : Leaves → ℕ
+words_left (leaves.Words n) = n
+words_left (leaves.Constant c) = 1
+words_left leaves.Set = 0
+
+abbrev pub is_set : Leaves → Bool
+is_set (leaves.Words n) = false
+is_set (leaves.Constant c) = false
+is_set leaves.Set = true
+
+abbrev pub is_operand : ℕ → Leaves → Bool
+is_operand n l = not (n == 0) && (not (is_set l) && nat_le (words_left l) n)
+
+-- how many trees are taken, and what is missing
+pub record CountWords : Type 0 where
+  pub trees : ℕ
+  pub missing : ℕ
+
+pub record CountShare : Type 0 where
+  pub trees : ℕ
+  pub missing : Share
+
+pub record Count : Type 0 where
+  pub trees : ℕ
+  pub missing : Missing
+
+abbrev pub one_more : CountWords → CountWords
+one_more c = record { trees = suc c.trees; missing = c.missing }
+
+-- As many of the last trees as leave no more than so many words.
+unfoldable pub words_count : ℕ → List Leaves → CountWords
+words_count n [] = record { trees = 0; missing = n }
+words_count n (l ∷ ls) =
+    if is_operand n l then one_more (words_count (n - words_left l) ls) else record { trees = 0; missing = n }
+
+abbrev pub as_share : CountWords → CountShare
+as_share c = record { trees = c.trees; missing = share.Words c.missing }
+
+abbrev pub no_set : CountShare
+no_set = record { trees = 0; missing = share.Set }
+
+-- words and their count, where all of them are there
+abbrev pub counted : CountWords → CountShare
+counted c = if c.missing == 0 then as_share (one_more c) else no_set
+
+-- a set: a tree that leaves one, or words and a constant that counts them
+unfoldable pub set_count : List Leaves → CountShare
+set_count [] = no_set
+set_count (leaves.Words n ∷ ls) = no_set
+set_count (leaves.Constant c ∷ ls) = counted (words_count c ls)
+set_count (leaves.Set ∷ ls) = record { trees = 1; missing = share.Words 0 }
+
+unfoldable pub share_count : Share → List Leaves → CountShare
+share_count (share.Words n) ls = as_share (words_count n ls)
+share_count share.Set ls = set_count ls
+
+abbrev pub is_none : Share → Bool
+is_none (share.Words n) = n == 0
+is_none share.Set = false
+
+abbrev pub none_missing : Missing → Bool
+none_missing t = is_none t.top && is_none t.below
+
+-- what is below it; nothing, where something is missing
+abbrev pub then_count : CountShare → Share → CountShare → Count
+then_count t below u =
+    if is_none t.missing
+    then record { trees = t.trees + u.trees; missing = record { top = share.Words 0; below = u.missing } }
+    else record { trees = t.trees; missing = record { top = t.missing; below = below } }
+
+unfoldable pub takes_count : Takes → List Leaves → Count
+takes_count w ls =
+    let t = share_count w.top ls in
+    then_count t w.below (share_count w.below (drop t.trees ls))
+
+-- ---- statements
+
+-- Statements that are done, and behind them the trees that something may yet take.
+pub record Growing : Type 0 where
+  pub done : Forest
+  pub pending : Forest
+
+-- what is pending becomes statements
+abbrev pub closed : Growing → Growing
+closed g = record { done = behind g.pending g.done; pending = Bare }
+
+abbrev pub leaves_nothing : Leaves → Bool
+leaves_nothing l = not (is_set l) && words_left l == 0
+
+-- A part that leaves no word is a statement, and all before it are too. Where something is missing, all that stays is.
+abbrev pub grown_by : Part → Count → Growing → Growing
+grown_by p c g =
+    if leaves_nothing p.leaves
+    then record {
+      done = Tree p c.missing (front c.trees g.pending) (behind (back c.trees g.pending) g.done);
+      pending = Bare;
+    }
+    else if none_missing c.missing
+    then record { done = g.done; pending = Tree p c.missing (front c.trees g.pending) (back c.trees g.pending) }
+    else record {
+      done = behind (back c.trees g.pending) g.done;
+      pending = Tree p c.missing (front c.trees g.pending) Bare;
+    }
+
+abbrev pub grown : Part → Growing → Growing
+grown p g = grown_by p (takes_count p.takes (leaves_of g.pending)) g
+
+-- what is reached from elsewhere, or stands behind a tree of too many parts, finds nothing pending
+abbrev pub before_part : Part → Growing → Growing
+before_part p g = if is_reached p.place || is_full (lefts_of g.pending) then closed g else g
+
+abbrev pub grown_all : List Part → Growing → Growing
+grown_all [] g = g
+grown_all (p ∷ ps) g = grown_all ps (grown p (before_part p g))
+
+-- The statements of a stretch of code, the last one first.
+unfoldable pub statements : List Part → Forest
+statements ps = (closed (grown_all ps (record { done = Bare; pending = Bare }))).done

@@ -1,0 +1,191 @@
+//! How many trees are operands.
+
+ghost use Rattle.std.specs.Prelude.{◌≡◌, ◌≤◌, ◌+◌, length, reverse};
+ghost use Rattle.pm_trees.specs.Piles.{leaves_left};
+ghost use Rattle.pm_trees.specs.Trees as trees;
+
+use crate::left::Left;
+use crate::part::{Leaves, Takes};
+use pm_effects::Share;
+use pm_phrases::Missing;
+
+/// How many words, none of a set, of which the count is not known.
+fn words_left(leaves: Leaves) -> u16
+    ensures value { result ≡ trees.words_left leaves }
+{
+    match leaves {
+        Leaves::Words(n) => n,
+        Leaves::Constant(_) => 1,
+        Leaves::Set => 0,
+    }
+}
+
+/// Whether it is a set.
+fn is_set(leaves: Leaves) -> bool
+    ensures value { result ≡ trees.is_set leaves }
+{
+    match leaves {
+        Leaves::Words(_) | Leaves::Constant(_) => false,
+        Leaves::Set => true,
+    }
+}
+
+/// Whether a tree that leaves this may be taken, where so many words are wanted.
+fn is_operand(words: u16, leaves: Leaves) -> bool
+    ensures value { result ≡ trees.is_operand words leaves }
+{
+    words != 0 && !is_set(leaves) && words_left(leaves) <= words
+}
+
+/// How many trees are taken, and how many words are missing.
+#[derive(Clone, Copy)]
+pub(crate) struct CountWords {
+    pub trees: usize,
+    pub missing: u16,
+}
+
+/// As many of the last trees as leave no more than so many words.
+#[tactic(auto, using(crate::proofs::Ends::reverse_pushed, crate::proofs::Ends::operand_fits), unfolding(crate::specs::Trees::words_count))]
+pub(crate) fn count_words(operands: &[Left], words: u16) -> CountWords
+    ensures trees { result.trees ≡ (trees.words_count words (leaves_left (reverse operands.now))).trees }
+    ensures missing { result.missing ≡ (trees.words_count words (leaves_left (reverse operands.now))).missing }
+    ensures few { result.trees ≤ length operands.now }
+{
+    let Some((last, before)) = operands.split_last() else {
+        return CountWords {
+            trees: 0,
+            missing: words,
+        };
+    };
+    let leaves = last.leaves;
+    if !is_operand(words, leaves) {
+        return CountWords {
+            trees: 0,
+            missing: words,
+        };
+    }
+    let more = count_words(before, words - words_left(leaves));
+    CountWords {
+        trees: more.trees + 1,
+        missing: more.missing,
+    }
+}
+
+/// How many trees are taken, and what is missing.
+#[derive(Clone, Copy)]
+pub(crate) struct CountShare {
+    pub trees: usize,
+    pub missing: Share,
+}
+
+/// A set: a tree that leaves one, or words and a constant that counts them.
+#[tactic(auto, using(crate::proofs::Ends::reverse_pushed), unfolding(crate::specs::Trees::set_count))]
+fn count_set(operands: &[Left]) -> CountShare
+    ensures trees { result.trees ≡ (trees.set_count (leaves_left (reverse operands.now))).trees }
+    ensures missing { result.missing ≡ (trees.set_count (leaves_left (reverse operands.now))).missing }
+    ensures few { result.trees ≤ length operands.now }
+{
+    let none = CountShare {
+        trees: 0,
+        missing: Share::Set,
+    };
+    let Some((last, before)) = operands.split_last() else {
+        return none;
+    };
+    match last.leaves {
+        Leaves::Words(_) => none,
+        Leaves::Set => CountShare {
+            trees: 1,
+            missing: Share::Words(0),
+        },
+        Leaves::Constant(count) => {
+            let words = count_words(before, u16::from(count));
+            if words.missing != 0 {
+                return none;
+            }
+            CountShare {
+                trees: words.trees + 1,
+                missing: Share::Words(0),
+            }
+        }
+    }
+}
+
+/// How many of the last trees are taken as a share.
+#[tactic(auto, unfolding(crate::specs::Trees::share_count))]
+fn count_share(operands: &[Left], share: Share) -> CountShare
+    ensures trees { result.trees ≡ (trees.share_count share (leaves_left (reverse operands.now))).trees }
+    ensures missing { result.missing ≡ (trees.share_count share (leaves_left (reverse operands.now))).missing }
+    ensures few { result.trees ≤ length operands.now }
+{
+    match share {
+        Share::Words(words) => {
+            let count = count_words(operands, words);
+            CountShare {
+                trees: count.trees,
+                missing: Share::Words(count.missing),
+            }
+        }
+        Share::Set => count_set(operands),
+    }
+}
+
+/// How many trees are taken, and what of it is missing.
+#[derive(Clone, Copy)]
+pub(crate) struct Count {
+    pub trees: usize,
+    pub missing: Missing,
+}
+
+/// Whether it is no word.
+fn is_none(share: Share) -> bool
+    ensures value { result ≡ trees.is_none share }
+{
+    match share {
+        Share::Words(words) => words == 0,
+        Share::Set => false,
+    }
+}
+
+/// How many of the last trees a part takes.
+#[tactic(auto, using(crate::proofs::Ends::reverse_without, crate::proofs::Ends::leaves_dropped), unfolding(crate::specs::Trees::takes_count))]
+pub(crate) fn count_takes(operands: &[Left], takes: Takes) -> Count
+    ensures trees { result.trees ≡ (trees.takes_count takes (leaves_left (reverse operands.now))).trees }
+    ensures missing { result.missing ≡ (trees.takes_count takes (leaves_left (reverse operands.now))).missing }
+    ensures few { result.trees ≤ length operands.now }
+{
+    let top = count_share(operands, takes.top);
+    if !is_none(top.missing) {
+        let missing = Missing {
+            top: top.missing,
+            below: takes.below,
+        };
+        return Count {
+            trees: top.trees,
+            missing,
+        };
+    }
+    let below = count_share(&operands[..operands.len() - top.trees], takes.below);
+    let missing = Missing {
+        top: Share::Words(0),
+        below: below.missing,
+    };
+    Count {
+        trees: top.trees + below.trees,
+        missing,
+    }
+}
+
+/// Whether nothing is missing.
+pub(crate) fn none_missing(missing: Missing) -> bool
+    ensures value { result ≡ trees.none_missing missing }
+{
+    is_none(missing.top) && is_none(missing.below)
+}
+
+/// Whether a part leaves nothing.
+pub fn leaves_nothing(leaves: Leaves) -> bool
+    ensures value { result ≡ trees.leaves_nothing leaves }
+{
+    !is_set(leaves) && words_left(leaves) == 0
+}

@@ -1,0 +1,190 @@
+//! Items as parts of statements.
+
+ghost use Rattle.std.specs.Prelude.{◌≡◌, Some};
+ghost use Rattle.pm_code.specs.Views.{placed_item};
+ghost use Rattle.pm_trees.specs.Parts as parts;
+
+use crate::part::{Callee, Leaves, Part, Place, Takes};
+use pm_code::{CASE_JUMP, Item};
+use pm_effects::{Effect, Share, instruction_effect};
+use pm_families::{Arithmetic, Call};
+use pm_opcode::{Instr, Operation};
+use std::marker::Model;
+
+/// How statements stand.
+#[derive(Clone, Copy, Drop)]
+pub enum Layout {
+    /// Each at the front of its line.
+    Flat,
+    /// Each behind blanks by how deep it is.
+    Indented,
+    /// In blocks.
+    Blocks,
+}
+
+/// What is known of procedures, and how their statements stand.
+#[derive(Drop)]
+pub struct Known<'a> {
+    /// The segment of the code.
+    pub segment: u8,
+    /// The procedures, 256 for each segment.
+    pub callees: &'a [Option<Callee>],
+    /// How their statements stand.
+    pub layout: Layout,
+}
+
+impl<'a> Model for Known<'a> {
+    ghost use Rattle.pm_trees.specs.Parts as parts;
+
+    ghost Value = { parts.Known };
+
+    ghost view = { λ k. record { segment = k.segment; callees = k.callees.now; layout = k.layout } };
+}
+
+/// Where the procedure that is called stands in the table.
+fn callee_index(segment: u8, what: Call) -> usize
+    ensures value { result ≡ parts.callee_index segment what }
+{
+    let (segment, procedure) = match what {
+        Call::Clp(p) | Call::Cgp(p) | Call::Cbp(p) | Call::Cip(p) => (segment, p),
+        Call::Cxp(s, p) => (s, p),
+    };
+    256 * usize::from(segment) + usize::from(procedure)
+}
+
+/// What a call takes and leaves.
+fn call_effect(known: &Known<'_>, what: Call) -> Option<Effect>
+    ensures value { result ≡ parts.call_effect known.now what }
+{
+    let index = callee_index(known.segment, what);
+    if index >= known.callees.len() {
+        return None;
+    }
+    match known.callees[index] {
+        None => None,
+        Some(callee) => Some(Effect {
+            top: Share::Words(u16::from(callee.parameters)),
+            below: Share::Words(0),
+            leaves: Share::Words(u16::from(callee.results)),
+        }),
+    }
+}
+
+/// What an instruction takes and leaves, where that is known.
+fn effect_by(known: &Known<'_>, what: Operation, instr: &Instr) -> Option<Effect>
+    ensures value { result ≡ parts.effect_by known.now what instr.now }
+{
+    match what {
+        Operation::Call(what) => call_effect(known, what),
+        _ => instruction_effect(instr),
+    }
+}
+
+/// What is taken, where an effect is known.
+fn takes_of(effect: Option<Effect>) -> Takes
+    ensures value { result ≡ parts.takes_of effect }
+{
+    match effect {
+        None => Takes {
+            top: Share::Words(0),
+            below: Share::Words(0),
+        },
+        Some(effect) => Takes {
+            top: effect.top,
+            below: effect.below,
+        },
+    }
+}
+
+/// What is left, where an effect is known.
+fn leaves_effect(effect: Option<Effect>) -> Leaves
+    ensures value { result ≡ parts.leaves_effect effect }
+{
+    match effect {
+        None => Leaves::Words(0),
+        Some(effect) => match effect.leaves {
+            Share::Words(n) => Leaves::Words(n),
+            Share::Set => Leaves::Set,
+        },
+    }
+}
+
+/// What an operation leaves.
+fn leaves_by(what: Operation, effect: Option<Effect>) -> Leaves
+    ensures value { result ≡ parts.leaves_by what effect }
+{
+    match what {
+        Operation::Arithmetic(Arithmetic::Constant(word)) => {
+            if word < 256 {
+                Leaves::Constant(word as u8)
+            } else {
+                Leaves::Words(1)
+            }
+        }
+        _ => leaves_effect(effect),
+    }
+}
+
+/// Whether it is known what an operation takes.
+fn is_known(what: Operation, effect: Option<Effect>) -> bool
+    ensures value { result ≡ parts.is_known what effect }
+{
+    match (what, effect) {
+        (Operation::Call(_) | Operation::Standard(_), None) => false,
+        _ => true,
+    }
+}
+
+/// An instruction as a part.
+fn instruction_part<'a>(
+    known: &Known<'_>,
+    item: &'a Item<usize>,
+    place: Place,
+    instr: &Instr,
+) -> Part<'a>
+    ensures part { result ≡ parts.part_with (placed_item item.now) place (parts.moves_of known.now (Some instr.now)) }
+{
+    let what = Operation::of(instr);
+    let effect = effect_by(known, what, instr);
+    Part {
+        item,
+        place,
+        takes: takes_of(effect),
+        leaves: leaves_by(what, effect),
+        known: is_known(what, effect),
+    }
+}
+
+/// An instruction of an opcode alone.
+pub(crate) fn bare_instruction(op: u8) -> Instr
+    ensures value { result ≡ parts.bare_instruction op }
+{
+    Instr {
+        op,
+        a: 0,
+        b: 0,
+        c: 0,
+        long: false,
+        start: 0,
+        count: 0,
+        len: 0,
+    }
+}
+
+/// An item as a part of statements.
+pub fn part_of<'a>(known: &Known<'_>, item: &'a Item<usize>, place: Place) -> Part<'a>
+    ensures part { result ≡ parts.part_of known.now (placed_item item.now) place }
+{
+    match item {
+        Item::Plain(instr, _) => instruction_part(known, item, place, instr),
+        Item::Jump(op, _) => instruction_part(known, item, place, &bare_instruction(*op)),
+        Item::Case { .. } => instruction_part(known, item, place, &bare_instruction(CASE_JUMP)),
+        Item::OneByte(_) => Part {
+            item,
+            place,
+            takes: takes_of(None),
+            leaves: Leaves::Words(0),
+            known: true,
+        },
+    }
+}

@@ -14,10 +14,12 @@ use Rattle.pm_debug.specs.declared.breaks.Breakpoint.{Breakpoint}
 use Rattle.pm_debug.specs.declared.refusal.DebugRefusal.{DebugRefusal}
 use Rattle.pm_debug.specs.declared.refusal.DebugRefusal.TheVariants.{Full}
 use Rattle.pm_debug.specs.Breaks.{breakpoint, can_be_asked, instead, is_same, is_set, with_break, without_break, word_is}
+use Rattle.pm_debug.specs.Passes.{Passed}
+use Rattle.pm_debug.specs.Runs.{gone_on}
 use Rattle.pm_debug.specs.Session.{Session}
 use Rattle.pm_debug.specs.Watches.{is_watched, with_watch, without_watch}
 use Rattle.pm_session.specs.declared.commands.Command.TheVariants as commands
-use Rattle.pm_session.specs.Answers.{after_command, after_keys, session_after, with_breaks, with_watches}
+use Rattle.pm_session.specs.Answers.{after_command, after_keys, after_on, passing_on, session_after, with_breaks, with_watches}
 use Rattle.pm_session.specs.Orders.{Order, order_of}
 use Rattle.pm_session.specs.Orders.Order.{Does, Types}
 use Rattle.law_jobs.specs.Breakpoints.{BreakIfSetsOne, BreakSetsOne, BreaksStay, ClearTakesOne, UnwatchTakesOne, WatchAddsOne, WatchesStay, is_of_breaks}
@@ -39,6 +41,14 @@ unfolding after_command
 typed_breaks [] d = refl
 typed_breaks (b ∷ bytes) d = typed_breaks bytes (after_command (commands.Key b) d)
 
+on_breaks : (d : Session) (p : Option Passed) → (after_on d p).breaks ≡ d.breaks
+on_breaks d None = refl
+on_breaks d (Some p) = refl
+
+on_watches : (d : Session) (p : Option Passed) → (after_on d p).watches ≡ d.watches
+on_watches d None = refl
+on_watches d (Some p) = refl
+
 breaks_stay_once : (command : Option Order) (d : Session) → is_of_breaks command ≡ false → (session_after command d).breaks ≡ d.breaks
 unfolding after_command
 breaks_stay_once None d other = refl
@@ -53,7 +63,7 @@ breaks_stay_once (Some (Does (commands.Go n))) d other = refl
 breaks_stay_once (Some (Does (commands.Step n))) d other = refl
 breaks_stay_once (Some (Does (commands.Finish n))) d other = refl
 breaks_stay_once (Some (Does (commands.Until s p o n))) d other = refl
-breaks_stay_once (Some (Does (commands.On n))) d other = refl
+breaks_stay_once (Some (Does (commands.On n))) d other = on_breaks d (passing_on d n (gone_on d.breaks d.left n d.machine))
 breaks_stay_once (Some (Does command)) d other = refl
 breaks_stay_once (Some (Types bytes)) d other = typed_breaks bytes d
 
@@ -76,7 +86,7 @@ watches_stay_once (Some (Does (commands.Go n))) d other = refl
 watches_stay_once (Some (Does (commands.Step n))) d other = refl
 watches_stay_once (Some (Does (commands.Finish n))) d other = refl
 watches_stay_once (Some (Does (commands.Until s p o n))) d other = refl
-watches_stay_once (Some (Does (commands.On n))) d other = refl
+watches_stay_once (Some (Does (commands.On n))) d other = on_watches d (passing_on d n (gone_on d.breaks d.left n d.machine))
 watches_stay_once (Some (Does command)) d other = refl
 watches_stay_once (Some (Types bytes)) d other = typed_watches bytes d
 

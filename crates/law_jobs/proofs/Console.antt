@@ -10,10 +10,12 @@ use Rattle.pm_debug.specs.declared.breaks.Breakpoint.{Breakpoint}
 use Rattle.pm_debug.specs.declared.refusal.DebugRefusal.{DebugRefusal}
 use Rattle.pm_debug.specs.Breaks.{breakpoint, with_break, without_break}
 use Rattle.pm_machine.specs.CodePlaces.{code_place}
+use Rattle.pm_debug.specs.Passes.{Passed}
+use Rattle.pm_debug.specs.Runs.{gone_on}
 use Rattle.pm_debug.specs.Session.{Session}
 use Rattle.pm_debug.specs.Watches.{with_watch, without_watch}
 use Rattle.pm_session.specs.declared.commands.Command.TheVariants as commands
-use Rattle.pm_session.specs.Answers.{after_command, after_keys, answer_text, session_after, with_breaks, with_watches}
+use Rattle.pm_session.specs.Answers.{after_command, after_keys, after_on, answer_text, passing_on, session_after, with_breaks, with_watches}
 use Rattle.pm_session.specs.Orders.{Order, order_of}
 use Rattle.pm_session.specs.Orders.Order.{Does, Types}
 use Rattle.pm_session.specs.Sessions.{answers, console_added, console_line, is_quit, with_feed}
@@ -41,6 +43,10 @@ watches_keep : (d : Session) (r : Result (List ℕ) DebugRefusal) → (with_watc
 watches_keep d (Ok watches) = refl
 watches_keep d (Err refusal) = refl
 
+on_keeps : (d : Session) (p : Option Passed) → (after_on d p).shows_console ≡ d.shows_console
+on_keeps d None = refl
+on_keeps d (Some p) = refl
+
 typed_keep : (bytes : List ℕ) (d : Session) → (after_keys bytes d).shows_console ≡ d.shows_console
 unfolding after_command
 typed_keep [] d = refl
@@ -60,7 +66,7 @@ still_on (Some (Does (commands.Go n))) d stays on = on
 still_on (Some (Does (commands.Step n))) d stays on = on
 still_on (Some (Does (commands.Finish n))) d stays on = on
 still_on (Some (Does (commands.Until s p o n))) d stays on = on
-still_on (Some (Does (commands.On n))) d stays on = on
+still_on (Some (Does (commands.On n))) d stays on = on_keeps d (passing_on d n (gone_on d.breaks d.left n d.machine)) ∙ on
 still_on (Some (Does command)) d stays on = on
 still_on (Some (Types bytes)) d stays on = typed_keep bytes d ∙ on
 

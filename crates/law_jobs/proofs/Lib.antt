@@ -15,5 +15,6 @@ pub mod LineLaws
 pub mod Breakpoints
 pub mod BreakStops
 pub mod SelectedLines
+pub mod PassRuns
 pub mod OneRun
 pub mod Typed

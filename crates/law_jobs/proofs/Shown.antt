@@ -1,5 +1,5 @@
 -- Each command of a session leaves the machine as its events do.
-use Rattle.std.proofs.Common.{◌≡◌, ◌≤◌, ℕ, zero, suc, ◌+◌, Bool, true, false, List, [], ◌∷◌, ◌++◌, Option, Some, None, refl, sym, ap}
+use Rattle.std.proofs.Common.{◌≡◌, ◌≤◌, ℕ, zero, suc, ◌+◌, ◌-◌, Bool, true, false, List, [], ◌∷◌, ◌++◌, Option, Some, None, refl, sym, ap}
 use Rattle.std.proofs.Common.{subst, ◌∙◌, arith}
 use Rattle.std.proofs.Common.{◌==◌, ◌&&◌, not, append_assoc}
 use Rattle.std.proofs.lemmas.Bool.Decides.{nat_tests}
@@ -20,18 +20,24 @@ use Rattle.pm_debug.specs.declared.reason.BreakReason.TheVariants as reasons
 use Rattle.pm_debug.specs.declared.refusal.DebugRefusal.{DebugRefusal}
 use Rattle.pm_debug.specs.Breaks.{breakpoint, stands_at, with_break, without_break}
 use Rattle.pm_machine.specs.CodePlaces.{code_place}
-use Rattle.pm_debug.specs.Runs.{Left, behind_steps, countable, gone_by, gone_on, gone_to, has_ended, has_left, is_back, is_there, later}
+use Rattle.pm_debug.specs.declared.run.Depth.{Depth}
+use Rattle.pm_debug.specs.declared.run.Depth.TheVariants as depths
+use Rattle.pm_debug.specs.declared.watches.WatchedWord.{WatchedWord}
+use Rattle.pm_debug.specs.Passes.{all_passed, counted, gone_past, left_past}
+use Rattle.pm_debug.specs.Runs.{Gone, Left, behind_steps, countable, gone, gone_by, gone_from, gone_on, gone_out, gone_over, gone_to, gone_until}
+use Rattle.pm_debug.specs.Runs.{has_ended, has_left, is_back, is_there, later, left_behind, left_of}
 use Rattle.pm_debug.specs.Runs.{nowhere, stops_after, stops_at}
-use Rattle.pm_debug.specs.Runs.Left.{Nothing, Rest}
+use Rattle.pm_debug.specs.Runs.Left.{AtBreak, Nothing, Rest}
 use Rattle.pm_debug.proofs.OnLaws.{goes_on_behind}
 use Rattle.pm_debug.specs.Session.{Session}
 use Rattle.pm_debug.specs.Watches.{watched_words, with_watch, without_watch}
 use Rattle.pm_session.specs.declared.commands.Command.TheVariants as commands
 use Rattle.pm_session.specs.Orders.{Order, order_of}
 use Rattle.pm_session.specs.Orders.Order.{Does, Types}
-use Rattle.pm_session.specs.Answers.{after_command, after_keys, machine_on, session_after, with_breaks, with_watches}
+use Rattle.pm_session.specs.Answers.{after_command, after_keys, after_on, passing, passing_on, session_after, with_breaks, with_watches}
 use Rattle.pm_session.specs.Sessions.{answer_line, answers, is_quit, opened}
-use Rattle.law_jobs.specs.Shown.{AreEventsOf, AreEventsOfLines, AreStepsOn, GoesOn, GoesOnAfter, SessionsShowTheTable, StopsAfter}
+use Rattle.law_jobs.specs.Shown.{AreEventsOf, AreEventsOfLines, AreStepsBehind, AreStepsOfBegun, AreStepsOfRun, AreStepsOn, AreStepsPast}
+use Rattle.law_jobs.specs.Shown.{GoesOn, GoesOnAfter, SessionsShowTheTable, StopsAfter}
 use Rattle.law_jobs.specs.Shown.{first_look}
 use Rattle.law_jobs.specs.Shown.StopsAfter.{rests, all, breaks_there, stops}
 
@@ -124,13 +130,75 @@ gone_steps breaks watches test n s = ended_steps (has_ended s.status) refl
     ended_steps true e = (0, rests e, after_none s)
     ended_steps false e = run_steps (Stops breaks watches test s) 0 n s
 
+-- ---- breakpoints that are passed over
+
+-- the steps behind a breakpoint are events
+once_past : (breaks : List Breakpoint) (watched : List WatchedWord) (depth : Depth) (made most : ℕ) (s : State)
+    → (events : List Event) × AreStepsPast (is_there depth s) (stops_at watched breaks (is_there depth)) (most - made) s events
+    × ((gone_past breaks watched depth made most s).machine ≡ after_all s events)
+once_past breaks watched depth made most s = by_place (is_there depth s)
+  where
+    by_place : (b : Bool) → (events : List Event) × AreStepsPast b (stops_at watched breaks (is_there depth)) (most - made) s events
+        × ((if b then record { steps = made; reason = reasons.There; machine = s }
+        else counted made (gone_from breaks watched (is_there depth) 0 (most - made) s)).machine ≡ after_all s events)
+    by_place true = ([], refl, refl)
+    by_place false =
+        let steps = run_steps (stops_at watched breaks (is_there depth)) 0 (most - made) s in
+        (replicate steps.0 Step, (steps.0, steps.1, refl), steps.2 ∙ all_steps steps.0 s)
+
+all_past : (breaks : List Breakpoint) (most passes : ℕ) (left : Left) (run : Gone)
+    → (events : List Event) × AreStepsBehind breaks most passes left run.machine events
+    × ((all_passed breaks most passes left run).run.machine ≡ after_all run.machine events)
+unfolding all_passed
+all_past breaks most zero left run = ([], refl, refl)
+all_past breaks most (suc passes) Nothing run = ([], refl, refl)
+all_past breaks most (suc passes) (Rest depth made watched) run = ([], refl, refl)
+all_past breaks most (suc passes) (AtBreak depth made watched) run =
+    let one = once_past breaks watched depth made most run.machine in
+    let rest = all_past breaks most passes (left_past breaks (AtBreak depth made watched) most run.machine)
+    (gone_past breaks watched depth made most run.machine) in (
+      one.0 ++ rest.0,
+      (one.0, rest.0, one.1, rest.1, refl),
+      rest.2 ∙ ap (λ m. after_all m rest.0) one.2 ∙ sym (events_go_on run.machine one.0 rest.0),
+    )
+
+-- a run whose steps are these events, behind the breakpoints that it passes over
+abbrev MakesAll : Session → ℕ → Left → Gone → (List Event → Type 0) → Type 0
+MakesAll d most left run Up =
+    (events : List Event) × AreStepsOfRun d most left run Up events
+    × ((all_passed d.breaks most d.passes left run).run.machine ≡ after_all d.machine events)
+
+passing_events : (d : Session) (most : ℕ) (left : Left) (run : Gone) (Up : List Event → Type 0) (first : List Event) → Up first
+    → run.machine ≡ after_all d.machine first → MakesAll d most left run Up
+passing_events d most left run Up first up at =
+    let behind = all_past d.breaks most d.passes left run in (
+      first ++ behind.0,
+      (first, behind.0, up, behind.1, refl),
+      behind.2 ∙ ap (λ m. after_all m behind.0) at ∙ sym (events_go_on d.machine first behind.0),
+    )
+
+begun_events : (d : Session) (depth : Depth) (n : ℕ)
+    → (events : List Event) × AreStepsOfBegun d depth n (gone_to d.breaks d.watches (is_there depth) n d.machine)
+    (stops_at (watched_words d.watches d.machine.memory) d.breaks (is_there depth)) events
+    × ((passing d depth n (gone_to d.breaks d.watches (is_there depth) n d.machine)).run.machine ≡ after_all d.machine events)
+begun_events d depth n =
+    let made = gone_steps d.breaks d.watches (is_there depth) n d.machine in
+    passing_events d n _ (gone_to d.breaks d.watches (is_there depth) n d.machine) _ (replicate made.0 Step) (made.0, made.1, refl)
+    (made.2 ∙ all_steps made.0 d.machine)
+
 -- the steps of what is left of a run are events
-on_steps : (breaks : List Breakpoint) (left : Left) (n : ℕ) (s : State)
-    → (events : List Event) × AreStepsOn breaks left n s events × (machine_on s (gone_on breaks left n s) ≡ after_all s events)
-on_steps breaks Nothing n s = ([], refl, refl)
-on_steps breaks (Rest depth made watched) n s =
-    let steps = run_steps (stops_at watched breaks (is_there depth)) made (countable made n) s in
-    (replicate steps.0 Step, (steps.0, steps.1, refl), steps.2 ∙ all_steps steps.0 s)
+on_events : (d : Session) (left : Left) (n : ℕ) → d.left ≡ left
+    → (events : List Event) × AreStepsOn d left n events
+    × ((after_on d (passing_on d n (gone_on d.breaks d.left n d.machine))).machine ≡ after_all d.machine events)
+unfolding passing_events
+on_events d Nothing n e = ([], refl, rw e refl)
+on_events d (AtBreak depth made watched) n e = ([], refl, rw e refl)
+on_events d (Rest depth made watched) n e =
+    let run = gone_from d.breaks watched (is_there depth) made (countable made n) d.machine in
+    let steps = run_steps (stops_at watched d.breaks (is_there depth)) made (countable made n) d.machine in
+    let all = passing_events d (made + countable made n) (left_behind depth watched run) run _ (replicate steps.0 Step) (steps.0, steps.1, refl)
+    (steps.2 ∙ all_steps steps.0 d.machine) in
+    (all.0, all.1, rw e all.2)
 
 -- ---- commands
 
@@ -160,19 +228,12 @@ command_made (Some (Does (commands.Watch a))) d = ([], refl, kept_watching d (wi
 command_made (Some (Does (commands.Unwatch a))) d = ([], refl, kept_watching d (without_watch a d.watches))
 command_made (Some (Does (commands.Poke a w))) d = (Poke a w ∷ [], refl, refl)
 command_made (Some (Does (commands.Key b))) d = (Key b ∷ [], refl, refl)
-command_made (Some (Does (commands.Go n))) d =
-    let made = gone_steps d.breaks d.watches nowhere n d.machine in
-    (replicate made.0 Step, (made.0, made.1, refl), made.2 ∙ all_steps made.0 d.machine)
-command_made (Some (Does (commands.Step n))) d =
-    let made = gone_steps d.breaks d.watches (is_back d.machine.registers.mp) n d.machine in
-    (replicate made.0 Step, (made.0, made.1, refl), made.2 ∙ all_steps made.0 d.machine)
-command_made (Some (Does (commands.Finish n))) d =
-    let made = gone_steps d.breaks d.watches (has_left d.machine.registers.mp) n d.machine in
-    (replicate made.0 Step, (made.0, made.1, refl), made.2 ∙ all_steps made.0 d.machine)
-command_made (Some (Does (commands.Until s p o n))) d =
-    let made = gone_steps d.breaks d.watches (stands_at (code_place s p o)) n d.machine in
-    (replicate made.0 Step, (made.0, made.1, refl), made.2 ∙ all_steps made.0 d.machine)
-command_made (Some (Does (commands.On n))) d = on_steps d.breaks d.left n d.machine
+command_made (Some (Does (commands.Go n))) d = begun_events d depths.Any n
+command_made (Some (Does (commands.Step n))) d = begun_events d (depths.Back d.machine.registers.mp) n
+command_made (Some (Does (commands.Finish n))) d = begun_events d (depths.Left d.machine.registers.mp) n
+command_made (Some (Does (commands.Until s p o n))) d = begun_events d (depths.Place (code_place s p o)) n
+command_made (Some (Does (commands.On n))) d = on_events d d.left n refl
+command_made (Some (Does (commands.Ignore k))) d = ([], refl, refl)
 command_made (Some (Does command)) d = ([], refl, refl)
 command_made (Some (Types bytes)) d = (map Key bytes, refl, typed_events bytes d)
 

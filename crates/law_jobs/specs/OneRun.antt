@@ -1,7 +1,7 @@
 -- Runs of a session that go on.
-use Rattle.std.specs.Prelude.{◌≡◌, ◌≢◌, ◌≤◌, ℕ, ◌+◌, Some}
+use Rattle.std.specs.Prelude.{◌≡◌, ◌≤◌, ℕ, ◌+◌, Some, true, false}
 use Rattle.pm_debug.specs.declared.refusal.DebugRefusal.TheVariants.{NothingLeft}
-use Rattle.pm_debug.specs.Runs.Left.{Nothing}
+use Rattle.pm_debug.specs.Runs.{has_rest}
 use Rattle.pm_debug.specs.Session.{Session}
 use Rattle.pm_session.specs.declared.commands.Command.{Command}
 use Rattle.pm_session.specs.declared.commands.Command.TheVariants as commands
@@ -20,14 +20,14 @@ pub record IsOneRun (command : ℕ → Command) (a b : ℕ) (d : Session) : Type
 -- it is so where the command leaves something to go on with
 abbrev pub GoesOnAsOne : (ℕ → Command) → Type 0
 GoesOnAsOne command =
-    (a b : ℕ) (d : Session) → a + b ≤ 4294967295 → (session_after (Some (Does (command a))) d).left ≢ Nothing
-    → IsOneRun command a b d
+    (a b : ℕ) (d : Session) → a + b ≤ 4294967295
+    → has_rest (session_after (Some (Does (command a))) d).left ≡ true → IsOneRun command a b d
 
 -- `on` that is refused, and changes nothing
 pub record IsRefused (n : ℕ) (d : Session) : Type 0 where
   pub session : session_after (Some (Does (commands.On n))) d ≡ d
   pub answer : answer_text (Some (Does (commands.On n))) d ≡ Some (refused_text NothingLeft)
 
--- where nothing is left of the last run, `on` is refused
+-- where nothing is left to go on with, `on` is refused
 abbrev pub NothingGoesOn : Type 0
-NothingGoesOn = (n : ℕ) (d : Session) → d.left ≡ Nothing → IsRefused n d
+NothingGoesOn = (n : ℕ) (d : Session) → has_rest d.left ≡ false → IsRefused n d

@@ -1,5 +1,5 @@
 -- Sessions of the debugger as lists of events.
-use Rattle.std.specs.Prelude.{◌≡◌, ◌≢◌, ◌<◌, ◌≤◌, ◌+◌, ◌||◌, nat_le, nat_lt, ℕ, zero, suc, Bool, true, false}
+use Rattle.std.specs.Prelude.{◌≡◌, ◌≢◌, ◌<◌, ◌≤◌, ◌+◌, ◌-◌, ◌||◌, nat_le, nat_lt, ℕ, zero, suc, Bool, true, false}
 use Rattle.std.specs.Prelude.{List, [], ◌∷◌, ◌++◌, map, replicate, Option, Some, ⊤}
 use Rattle.pm_machine.specs.State.{State}
 use Rattle.pm_machine.specs.Events.{Event, Step, Key, Poke, after_all}
@@ -8,9 +8,14 @@ use Rattle.pm_machine.specs.Steps.{stepped}
 use Rattle.pm_machine.specs.declared.state.Stop.TheVariants as stop
 use Rattle.pm_debug.specs.Breaks.{is_at_break, stands_at}
 use Rattle.pm_debug.specs.declared.breaks.Breakpoint.{Breakpoint}
+use Rattle.pm_debug.specs.declared.run.Depth.{Depth}
 use Rattle.pm_machine.specs.CodePlaces.{code_place}
-use Rattle.pm_debug.specs.Runs.{Left, countable, has_ended, is_there}
-use Rattle.pm_debug.specs.Runs.Left.{Nothing, Rest}
+use Rattle.pm_debug.specs.declared.run.Depth.TheVariants as depths
+use Rattle.pm_debug.specs.declared.watches.WatchedWord.{WatchedWord}
+use Rattle.pm_debug.specs.Passes.{gone_past, left_past}
+use Rattle.pm_debug.specs.Runs.{Gone, Left, countable, gone, gone_from, gone_out, gone_over, gone_until, has_ended}
+use Rattle.pm_debug.specs.Runs.{is_there, left_behind, left_of, stops_at}
+use Rattle.pm_debug.specs.Runs.Left.{AtBreak, Nothing, Rest}
 use Rattle.pm_debug.specs.Session.{Session}
 use Rattle.pm_debug.specs.Watches.{has_changed, watched_words}
 use Rattle.pm_session.specs.declared.commands.Command.TheVariants as commands
@@ -51,11 +56,49 @@ abbrev pub first_look : ℕ → ℕ
 first_look zero = 1
 first_look (suc made) = 0
 
--- so many steps of what is left of a run
-abbrev pub AreStepsOn : List Breakpoint → Left → ℕ → State → List Event → Type 0
-AreStepsOn breaks Nothing limit s events = events ≡ []
-AreStepsOn breaks (Rest depth made watched) limit s events = AreStepsFrom (first_look made)
-    (λ t. (is_there depth t || has_changed watched t.memory) || is_at_break breaks t) (countable made limit) s events
+-- ---- breakpoints that are passed over
+
+-- the steps of a run that passes over the breakpoint at s: none, where it is to go no further; else as many as a run
+-- that begins there makes
+abbrev pub AreStepsPast : Bool → (State → Bool) → ℕ → State → List Event → Type 0
+AreStepsPast true test limit s events = events ≡ []
+AreStepsPast false test limit s events = AreStepsTo test limit s events
+
+-- the steps of a run of at most so many, which ended at s, behind each of the breakpoints that it passes over
+abbrev pub AreStepsBehind : List Breakpoint → ℕ → ℕ → Left → State → List Event → Type 0
+AreStepsBehind breaks most zero left s events = events ≡ []
+AreStepsBehind breaks most (suc passes) Nothing s events = events ≡ []
+AreStepsBehind breaks most (suc passes) (Rest depth made watched) s events = events ≡ []
+AreStepsBehind breaks most (suc passes) (AtBreak depth made watched) s events =
+    (first more : List Event)
+    × AreStepsPast (is_there depth s) (stops_at watched breaks (is_there depth)) (most - made) s first
+    × AreStepsBehind breaks most passes (left_past breaks (AtBreak depth made watched) most s)
+    (gone_past breaks watched depth made most s).machine more × (events ≡ first ++ more)
+
+-- the steps of a run up to where it ended so, and those behind the breakpoints that it passes over
+abbrev pub AreStepsOfRun : Session → ℕ → Left → Gone → (List Event → Type 0) → List Event → Type 0
+AreStepsOfRun d most left run Up events =
+    (first more : List Event) × Up first × AreStepsBehind d.breaks most d.passes left run.machine more
+    × (events ≡ first ++ more)
+
+-- the steps of a run that begins, and is to go so far
+abbrev pub AreStepsOfBegun : Session → Depth → ℕ → Gone → (State → Bool) → List Event → Type 0
+AreStepsOfBegun d depth limit run test events =
+    AreStepsOfRun d limit (left_of depth d.watches d.machine run) run (AreStepsTo test limit d.machine) events
+
+-- the run that is left
+abbrev pub rest_of : Session → Depth → ℕ → List WatchedWord → ℕ → Gone
+rest_of d depth made watched limit = gone_from d.breaks watched (is_there depth) made (countable made limit) d.machine
+
+-- the steps of what is left of a run
+abbrev pub AreStepsOn : Session → Left → ℕ → List Event → Type 0
+AreStepsOn d Nothing limit events = events ≡ []
+AreStepsOn d (AtBreak depth made watched) limit events = events ≡ []
+AreStepsOn d (Rest depth made watched) limit events =
+    AreStepsOfRun d (made + countable made limit) (left_behind depth watched (rest_of d depth made watched limit))
+    (rest_of d depth made watched limit) (AreStepsFrom (first_look made)
+    (λ t. (is_there depth t || has_changed watched t.memory) || is_at_break d.breaks t) (countable made limit)
+    d.machine) events
 
 -- ---- sessions
 
@@ -65,25 +108,27 @@ has_changed_since d s = has_changed (watched_words d.watches d.machine.memory) s
 
 -- The events of a command in a session, of a line that is none no events: a poke and a key are one, and a text that is
 -- typed is a key for each of its bytes; `go` is as many
--- steps as it makes, up to a watched word that has changed or to a breakpoint, and so are `step` and `finish`, up to
--- these or to where the machine stands in the frame of now again or above it, or above it, and `until`, up to these or
--- to its place; `on` is as many as what is left of the last run makes; and all others only show, or set and clear
--- breakpoints and watched words.
+-- steps as it makes, up to a watched word that has changed or to a breakpoint, and behind each that it passes over; so
+-- are `step` and `finish`, up to these or to where the machine stands in the frame of now again or above it, or above
+-- it, and `until`, up to these or to its place; `on` is as many as what is left of the last run makes; and all others
+-- only show, or set and clear breakpoints and watched words, and say how many are passed over.
 abbrev pub AreEventsOf : Option Order → Session → List Event → Type 0
 AreEventsOf (Some (Does (commands.Poke a w))) d events = events ≡ Poke a w ∷ []
 AreEventsOf (Some (Does (commands.Key b))) d events = events ≡ Key b ∷ []
 AreEventsOf (Some (Does (commands.Go n))) d events =
-    AreStepsTo (λ s. has_changed_since d s || is_at_break d.breaks s) n d.machine events
+    AreStepsOfBegun d depths.Any n (gone d.breaks d.watches n d.machine)
+    (λ s. has_changed_since d s || is_at_break d.breaks s) events
 AreEventsOf (Some (Does (commands.Step n))) d events =
-    AreStepsTo (λ s. (nat_le d.machine.registers.mp s.registers.mp || has_changed_since d s) || is_at_break d.breaks s)
-    n d.machine events
+    AreStepsOfBegun d (depths.Back d.machine.registers.mp) n (gone_over d.breaks d.watches n d.machine)
+    (λ s. (nat_le d.machine.registers.mp s.registers.mp || has_changed_since d s) || is_at_break d.breaks s) events
 AreEventsOf (Some (Does (commands.Finish n))) d events =
-    AreStepsTo (λ s. (nat_lt d.machine.registers.mp s.registers.mp || has_changed_since d s) || is_at_break d.breaks s)
-    n d.machine events
+    AreStepsOfBegun d (depths.Left d.machine.registers.mp) n (gone_out d.breaks d.watches n d.machine)
+    (λ s. (nat_lt d.machine.registers.mp s.registers.mp || has_changed_since d s) || is_at_break d.breaks s) events
 AreEventsOf (Some (Does (commands.Until s p o n))) d events =
-    AreStepsTo (λ t. (stands_at (code_place s p o) t || has_changed_since d t) || is_at_break d.breaks t)
-    n d.machine events
-AreEventsOf (Some (Does (commands.On n))) d events = AreStepsOn d.breaks d.left n d.machine events
+    AreStepsOfBegun d (depths.Place (code_place s p o)) n
+    (gone_until d.breaks d.watches (code_place s p o) n d.machine)
+    (λ t. (stands_at (code_place s p o) t || has_changed_since d t) || is_at_break d.breaks t) events
+AreEventsOf (Some (Does (commands.On n))) d events = AreStepsOn d d.left n events
 AreEventsOf (Some (Types bytes)) d events = events ≡ map Key bytes
 AreEventsOf other d events = events ≡ []
 

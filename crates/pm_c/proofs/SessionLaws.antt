@@ -1,8 +1,11 @@
 -- The laws of a session behind a handle.
-use Rattle.std.proofs.Common.{◌≡◌, ℕ, List, [], ◌∷◌, ◌++◌, Bool, true, false, refl}
+use Rattle.std.proofs.Common.{◌≡◌, ℕ, List, [], ◌∷◌, ◌++◌, Bool, true, false, refl, sym}
 use Rattle.std.specs.Prelude.{if◌then◌else◌}
 use Rattle.pm_debug.specs.Session.{Session}
 use Rattle.pm_debug.specs.Breaks.{with_break}
+use Rattle.pm_debug.specs.Runs.{gone}
+use Rattle.pm_debug.specs.declared.run.Depth.TheVariants.{Any}
+use Rattle.pm_session.proofs.SessionLaws.{after_none}
 use Rattle.pm_session.specs.Answers.{after_command, command_text, session_after}
 use Rattle.pm_session.specs.Commands.{command_of, command_rows, number_behind, numbers}
 use Rattle.pm_session.specs.Orders.{order_of, typed}
@@ -39,5 +42,5 @@ calls_are_lines = record {
   clears = λ s p o d. refl;
   watches = λ a d. refl;
   unwatches = λ a d. refl;
-  goes = λ n d. refl;
+  goes = λ n d none. sym (after_none d Any n (gone d.breaks d.watches n d.machine) none);
 }

@@ -77,7 +77,8 @@ pub record LinesAreASession : Type 0 where
   pub quits : (s : State) → line_answer (codes "quit") (opened s) ≡ []
   pub takes_a_break : (s : State) → line_answer (codes "break 2 1 0") (opened s) ≡ codes "ok" ++ (10 ∷ [])
 
--- a call that sets what stops a run, or that makes one, leaves the session that a line of the debugger leaves
+-- a call that sets what stops a run, or that makes one, leaves the session that a line of the debugger leaves, of a run
+-- where no breakpoints are passed over
 pub record CallsAreLines : Type 0 where
   pub sets : (s p o : ℕ) (d : Session) →
       with_breaks d (breaks_after true (code_place s p o) d.breaks) ≡ after_command (commands.Break s p o None) d
@@ -87,5 +88,5 @@ pub record CallsAreLines : Type 0 where
       with_watches d (watches_after true a d.watches) ≡ after_command (commands.Watch a) d
   pub unwatches : (a : ℕ) (d : Session) →
       with_watches d (watches_after false a d.watches) ≡ after_command (commands.Unwatch a) d
-  pub goes : (n : ℕ) (d : Session) →
+  pub goes : (n : ℕ) (d : Session) → d.passes ≡ 0 →
       after_run d Any (gone d.breaks d.watches n d.machine) ≡ after_command (commands.Go n) d

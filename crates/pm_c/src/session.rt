@@ -147,10 +147,10 @@ fn go_code(debugger: &mut Debugger, limit: u64, steps: &mut u64, address: &mut u
     }
 }
 
-/// At most `limit` steps, as `go` of the session: up to a breakpoint, 15, or to a watched word that has changed, 16, of
-/// which `address` is the address, and is not written else. At the limit 0, and what else ends a run as `pmach_run`
-/// tells it; `steps` is how many counted. 8 where the handle is empty. 5 where there is no memory: the machine stands
-/// after the steps that went, and `steps` is 0 then.
+/// At most `limit` steps, as `go` of the session where nothing is ignored: up to a breakpoint, 15, or to a watched word
+/// that has changed, 16, of which `address` is the address, and is not written else. At the limit 0, and what else ends
+/// a run as `pmach_run` tells it; `steps` is how many counted. 8 where the handle is empty. 5 where there is no memory:
+/// the machine stands after the steps that went, and `steps` is 0 then.
 #[unsafe(no_mangle)]
 pub extern "C" fn pmach_go(
     alloc: Global,

@@ -8,3 +8,4 @@ pub mod Runs
 pub mod RunLaws
 pub mod Session
 pub mod Lending
+pub mod Passes

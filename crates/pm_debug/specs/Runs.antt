@@ -134,15 +134,24 @@ gone_until breaks watches place limit s = gone_to breaks watches (stands_at plac
 
 -- ---- runs that go on
 
--- What is left of the last run: nothing, where it did not end by its limit; else how far it goes, how many steps it has
--- made, and the watched words as they were when it began.
+-- What is left of the last run: its rest, where its limit stopped it; where a breakpoint stopped it, that it stands
+-- there; each with how far it goes, how many steps it has made, and the watched words as they were when it began; else
+-- nothing.
 pub data Left : Type 0 where
   Nothing : Left
   Rest : Depth → ℕ → List WatchedWord → Left
+  AtBreak : Depth → ℕ → List WatchedWord → Left
 
--- the run is over, or its limit stopped it
+-- something is left to go on with
+abbrev pub has_rest : Left → Bool
+has_rest Nothing = false
+has_rest (Rest depth made watched) = true
+has_rest (AtBreak depth made watched) = false
+
+-- the run is over, or its limit or a breakpoint stopped it
 abbrev pub left_so : Depth → List WatchedWord → ℕ → BreakReason → Left
 left_so depth watched steps reasons.Limit = Rest depth steps watched
+left_so depth watched steps reasons.Break = AtBreak depth steps watched
 left_so depth watched steps other = Nothing
 
 -- what is left of a run that began at this state, with the words at these addresses watched
@@ -156,6 +165,7 @@ left_of depth watches began run = left_after depth watches began run.steps run.r
 abbrev pub left_seen : LastRun → List WatchedWord → Left
 left_seen last.Over watched = Nothing
 left_seen (last.AtLimit depth steps) watched = Rest depth steps watched
+left_seen (last.AtBreak depth steps) watched = AtBreak depth steps watched
 
 -- the steps of a run are counted up to the greatest number of 64 bits: of so many asked for, those that it may make
 -- behind those that it has made
@@ -165,6 +175,7 @@ countable made limit = min limit (18446744073709551615 - made)
 -- the rest of the last run, of at most so many steps more; there is none where nothing is left of it
 abbrev pub gone_on : List Breakpoint → Left → ℕ → State → Option Gone
 gone_on breaks Nothing limit s = None
+gone_on breaks (AtBreak depth made watched) limit s = None
 gone_on breaks (Rest depth made watched) limit s =
     Some (gone_from breaks watched (is_there depth) made (countable made limit) s)
 
@@ -174,6 +185,7 @@ left_behind depth watched run = left_so depth watched run.steps run.reason
 -- what is left after that
 abbrev pub left_on : List Breakpoint → Left → ℕ → State → Left
 left_on breaks Nothing limit s = Nothing
+left_on breaks (AtBreak depth made watched) limit s = AtBreak depth made watched
 left_on breaks (Rest depth made watched) limit s =
     left_behind depth watched (gone_from breaks watched (is_there depth) made (countable made limit) s)
 
@@ -184,6 +196,7 @@ behind_steps made test k s = test (made + k) s
 -- the rest of the last run was given up for want of memory
 abbrev pub GaveUpOn : List Breakpoint → Left → ℕ → Whole → Whole → Type 0
 GaveUpOn breaks Nothing limit m t = ⊥
+GaveUpOn breaks (AtBreak depth made watched) limit m t = ⊥
 GaveUpOn breaks (Rest depth made watched) limit m t =
     GaveUp (behind_steps made (later (stops_at watched breaks (is_there depth)))) (countable made limit) m t
 

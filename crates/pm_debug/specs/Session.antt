@@ -1,19 +1,20 @@
 -- A debugger: its machine; its breakpoints and the addresses of its watched words, in the order in which they were set;
--- what is left of its last run; and whether a session shows what its commands add to the console.
-use Rattle.std.specs.Prelude.{◌≡◌, ℕ, Bool, List}
+-- what is left of its last run; over how many breakpoints its runs may pass; and whether a session shows what its
+-- commands add to the console.
+use Rattle.std.specs.Prelude.{◌≡◌, ℕ, Bool, List, None}
 use Rattle.pm_machine.specs.State.{State, Whole}
 use Rattle.pm_debug.specs.declared.breaks.Breakpoint.{Breakpoint}
 use Rattle.pm_debug.specs.declared.refusal.DebugRefusal.{DebugRefusal}
 use Rattle.pm_debug.specs.declared.refusal.DebugRefusal.TheVariants.{Full, NotSet, OddAddress, NoMemory, TooDeep}
 use Rattle.pm_debug.specs.declared.refusal.DebugRefusal.TheVariants.{NothingLeft}
-use Rattle.pm_debug.specs.Runs.{GaveUpOn, Left}
-use Rattle.pm_debug.specs.Runs.Left.{Nothing}
+use Rattle.pm_debug.specs.Runs.{GaveUpOn, Left, gone_on}
 
 pub record Session : Type 0 where
   pub machine : State
   pub breaks : List Breakpoint
   pub watches : List ℕ
   pub left : Left
+  pub passes : ℕ
   pub shows_console : Bool
 
 -- what a debugger is seen as: its machine with its room for input and output, and the others as they are
@@ -22,6 +23,7 @@ pub record Debugged : Type 0 where
   pub breaks : List Breakpoint
   pub watches : List ℕ
   pub left : Left
+  pub passes : ℕ
   pub shows_console : Bool
 
 abbrev pub session_of : Debugged → Session
@@ -30,12 +32,13 @@ session_of d = record {
   breaks = d.breaks;
   watches = d.watches;
   left = d.left;
+  passes = d.passes;
   shows_console = d.shows_console;
 }
 
--- the last run does not go on: nothing is left of it and nothing changes, or there is no memory
+-- the last run does not go on: it has no rest and nothing changes, or there is no memory
 abbrev pub StopsShort : DebugRefusal → ℕ → Debugged → Debugged → Type 0
-StopsShort NothingLeft limit d e = (d.left ≡ Nothing) × (e ≡ d)
+StopsShort NothingLeft limit d e = (gone_on d.breaks d.left limit d.machine.state ≡ None) × (e ≡ d)
 StopsShort NoMemory limit d e = GaveUpOn d.breaks d.left limit d.machine e.machine
 StopsShort Full limit d e = ⊥
 StopsShort NotSet limit d e = ⊥

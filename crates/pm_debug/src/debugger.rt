@@ -1,6 +1,7 @@
 //! The debugger.
 
-ghost use Rattle.std.specs.Prelude.{◌≡◌, ◌<◌, ◌≤◌, ◌+◌, Some, [], false, Ok, Err, IfOk, IfErr, OnOk, OnErr};
+ghost use Rattle.std.specs.Prelude.{◌≡◌, ◌<◌, ◌≤◌, ◌+◌, Some, None, [], false, Ok, Err};
+ghost use Rattle.std.specs.Prelude.{IfOk, IfErr, IfSome, IfNone, OnOk, OnErr};
 ghost use Rattle.std.specs.Borrow.{sem};
 ghost use Rattle.pm_debug.specs.Ahead.{addresses_ahead};
 ghost use Rattle.pm_debug.specs.Breaks.{breakpoint, stands_at, with_break, without_break};
@@ -8,6 +9,7 @@ ghost use Rattle.pm_machine.specs.CodePlaces.{code_place, place_in_code};
 ghost use Rattle.pm_debug.specs.Frames.{frames};
 ghost use Rattle.pm_debug.specs.Lending.{LendsMachine};
 ghost use Rattle.pm_debug.specs.Session.{StopsShort};
+ghost use Rattle.pm_debug.specs.Passes.{GaveUpPast, left_past, made_of, passed};
 ghost use Rattle.pm_debug.specs.Refusals.{or_refused};
 ghost use Rattle.pm_debug.specs.Runs.{gone, gone_on, gone_out, gone_over, gone_to, gone_until};
 ghost use Rattle.pm_debug.specs.Runs.{has_left, is_back, is_there};
@@ -25,7 +27,7 @@ use crate::breaks::{Breakpoint, Breaks, Condition};
 use crate::frames::{Frame, frames};
 use crate::reason::BreakReason;
 use crate::refusal::{DebugRefusal, refusal_of};
-use crate::run::{Depth, LastRun, has_ended, last_run, run};
+use crate::run::{Depth, LastRun, has_ended, last_run, run, run_past};
 use crate::views::{DYNAMIC_LINK, STATIC_LINK, chain, words_at};
 use crate::watches::{WatchedWords, Watches, watched_words};
 use crate::{breaks, watches};
@@ -36,9 +38,9 @@ use std::alloc::{AllocError, Global};
 use std::marker::Model;
 
 /// A machine, the breakpoints and the watched words at which a run of it stops, what is left of its last
-/// run, and whether a session shows what its commands add to the console, seen as the state of the
-/// machine, the lists of the breakpoints and of the watched addresses, and these. What it shows is the
-/// state as it is, whatever was shown, written or run before.
+/// run, over how many breakpoints its runs may pass, and whether a session shows what its commands add to
+/// the console, seen as the state of the machine, the lists of the breakpoints and of the watched
+/// addresses, and these. What it shows is the state as it is, whatever was shown, written or run before.
 #[derive(Drop)]
 pub struct Debugger {
     machine: Machine,
@@ -46,6 +48,7 @@ pub struct Debugger {
     watches: Watches,
     last_run: LastRun,
     watched: WatchedWords,
+    passes: u32,
     shows_console: bool,
 }
 
@@ -60,6 +63,7 @@ impl Model for Debugger {
       breaks = d.breaks.items;
       watches = d.watches.items;
       left = left_seen d.last_run d.watched.items;
+      passes = d.passes;
       shows_console = d.shows_console;
     } };
 }
@@ -71,6 +75,7 @@ impl Debugger {
         ensures breaks { result.breaks ≡ [] }
         ensures watches { result.watches ≡ [] }
         ensures left { result.left ≡ Nothing }
+        ensures passes { result.passes ≡ 0 }
         ensures shows { result.shows_console ≡ false }
     {
         Debugger {
@@ -79,6 +84,7 @@ impl Debugger {
             watches: ArrayVec::new(),
             last_run: LastRun::Over,
             watched: ArrayVec::new(),
+            passes: 0,
             shows_console: false,
         }
     }
@@ -120,6 +126,7 @@ impl Debugger {
         ensures machine { self.new.machine ≡ self.old.machine }
         ensures watches { self.new.watches ≡ self.old.watches }
         ensures left { self.new.left ≡ self.old.left }
+        ensures passes { self.new.passes ≡ self.old.passes }
         ensures shows { self.new.shows_console ≡ self.old.shows_console }
         ensures set { OnOk result (with_break (breakpoint (code_place segment procedure offset) condition)
             self.old.breaks ≡ Ok self.new.breaks) }
@@ -145,6 +152,7 @@ impl Debugger {
         ensures machine { self.new.machine ≡ self.old.machine }
         ensures watches { self.new.watches ≡ self.old.watches }
         ensures left { self.new.left ≡ self.old.left }
+        ensures passes { self.new.passes ≡ self.old.passes }
         ensures shows { self.new.shows_console ≡ self.old.shows_console }
         ensures cleared { OnOk result (without_break (code_place segment procedure offset) self.old.breaks
             ≡ Ok self.new.breaks) }
@@ -168,6 +176,7 @@ impl Debugger {
         ensures machine { self.new.machine ≡ self.old.machine }
         ensures breaks { self.new.breaks ≡ self.old.breaks }
         ensures left { OnOk result (self.new.left ≡ Nothing) }
+        ensures passes { self.new.passes ≡ self.old.passes }
         ensures shows { self.new.shows_console ≡ self.old.shows_console }
         ensures set { OnOk result (with_watch address self.old.watches ≡ Ok self.new.watches) }
         ensures refused { IfErr result (λ refusal. with_watch address self.old.watches ≡ Err refusal) }
@@ -184,6 +193,7 @@ impl Debugger {
         ensures machine { self.new.machine ≡ self.old.machine }
         ensures breaks { self.new.breaks ≡ self.old.breaks }
         ensures left { OnOk result (self.new.left ≡ Nothing) }
+        ensures passes { self.new.passes ≡ self.old.passes }
         ensures shows { self.new.shows_console ≡ self.old.shows_console }
         ensures cleared { OnOk result (without_watch address self.old.watches ≡ Ok self.new.watches) }
         ensures refused { IfErr result (λ refusal. without_watch address self.old.watches ≡ Err refusal) }
@@ -201,11 +211,19 @@ impl Debugger {
         self.shows_console = shows;
     }
 
+    /// Lets the runs pass over so many breakpoints from now on, each of which `pass` passes over.
+    pub fn set_passes(&mut self, passes: u32)
+        ensures set { self.new ≡ record self.old { passes = passes } }
+    {
+        self.passes = passes;
+    }
+
     // Makes a run of at most `limit` steps.
     #[tactic(auto, unfolding(crate::specs::Runs::gone_to), using(crate::proofs::OnLaws::gave_up_first))]
     fn run_to(&mut self, depth: Depth, limit: u64) -> Result<(u64, BreakReason), AllocError>
         ensures breaks { self.new.breaks ≡ self.old.breaks }
         ensures watches { self.new.watches ≡ self.old.watches }
+        ensures passes { self.new.passes ≡ self.old.passes }
         ensures shows { self.new.shows_console ≡ self.old.shows_console }
         ensures gone { IfOk result (λ r.
             gone_to self.old.breaks self.old.watches (is_there depth) limit self.old.machine.state
@@ -235,6 +253,7 @@ impl Debugger {
     pub fn go(&mut self, limit: u64) -> Result<(u64, BreakReason), AllocError>
         ensures breaks { self.new.breaks ≡ self.old.breaks }
         ensures watches { self.new.watches ≡ self.old.watches }
+        ensures passes { self.new.passes ≡ self.old.passes }
         ensures shows { self.new.shows_console ≡ self.old.shows_console }
         ensures gone { IfOk result (λ r. gone self.old.breaks self.old.watches limit self.old.machine.state
             ≡ record { steps = r.0; reason = r.1; machine = self.new.machine.state }) }
@@ -253,6 +272,7 @@ impl Debugger {
     pub fn step_over(&mut self, limit: u64) -> Result<(u64, BreakReason), AllocError>
         ensures breaks { self.new.breaks ≡ self.old.breaks }
         ensures watches { self.new.watches ≡ self.old.watches }
+        ensures passes { self.new.passes ≡ self.old.passes }
         ensures shows { self.new.shows_console ≡ self.old.shows_console }
         ensures gone { IfOk result (λ r. gone_over self.old.breaks self.old.watches limit self.old.machine.state
             ≡ record { steps = r.0; reason = r.1; machine = self.new.machine.state }) }
@@ -271,6 +291,7 @@ impl Debugger {
     pub fn finish(&mut self, limit: u64) -> Result<(u64, BreakReason), AllocError>
         ensures breaks { self.new.breaks ≡ self.old.breaks }
         ensures watches { self.new.watches ≡ self.old.watches }
+        ensures passes { self.new.passes ≡ self.old.passes }
         ensures shows { self.new.shows_console ≡ self.old.shows_console }
         ensures gone { IfOk result (λ r. gone_out self.old.breaks self.old.watches limit self.old.machine.state
             ≡ record { steps = r.0; reason = r.1; machine = self.new.machine.state }) }
@@ -296,6 +317,7 @@ impl Debugger {
     ) -> Result<(u64, BreakReason), AllocError>
         ensures breaks { self.new.breaks ≡ self.old.breaks }
         ensures watches { self.new.watches ≡ self.old.watches }
+        ensures passes { self.new.passes ≡ self.old.passes }
         ensures shows { self.new.shows_console ≡ self.old.shows_console }
         ensures gone { IfOk result (λ r. gone_until self.old.breaks self.old.watches
             (code_place segment procedure offset) limit self.old.machine.state
@@ -324,6 +346,7 @@ impl Debugger {
     pub fn go_on(&mut self, limit: u64) -> Result<(u64, BreakReason), DebugRefusal>
         ensures breaks { self.new.breaks ≡ self.old.breaks }
         ensures watches { self.new.watches ≡ self.old.watches }
+        ensures passes { self.new.passes ≡ self.old.passes }
         ensures shows { self.new.shows_console ≡ self.old.shows_console }
         ensures gone { IfOk result (λ r. gone_on self.old.breaks self.old.left limit self.old.machine.state
             ≡ Some (record { steps = r.0; reason = r.1; machine = self.new.machine.state })) }
@@ -332,7 +355,7 @@ impl Debugger {
         ensures refused { IfErr result (λ refusal. StopsShort refusal limit self.old self.new) }
     {
         match self.last_run {
-            LastRun::Over => Err(DebugRefusal::NothingLeft),
+            LastRun::Over | LastRun::AtBreak(..) => Err(DebugRefusal::NothingLeft),
             LastRun::AtLimit(depth, made) => {
                 let most = limit.min(u64::MAX - made);
                 let machine = &mut self.machine;
@@ -341,6 +364,38 @@ impl Debugger {
                 Ok(ran)
             }
         }
+    }
+
+    /// Passes over the breakpoint that stopped the last run, where passes are left, of which it takes one: the run
+    /// goes on as if no breakpoint were there, up to `most` steps in all, and stops at the next; or at once, where it
+    /// is to go no further. None, and nothing changes, where no breakpoint stopped it or no pass is left.
+    #[tactic(auto, unfolding(crate::specs::Passes::passed))]
+    pub fn pass(&mut self, most: u64) -> Result<Option<(u64, BreakReason)>, AllocError>
+        ensures breaks { self.new.breaks ≡ self.old.breaks }
+        ensures watches { self.new.watches ≡ self.old.watches }
+        ensures shows { self.new.shows_console ≡ self.old.shows_console }
+        ensures gone { IfOk result (λ found. IfSome found (λ r.
+            passed self.old.breaks self.old.passes self.old.left most self.old.machine.state
+            ≡ Some (record { steps = r.0; reason = r.1; machine = self.new.machine.state }))) }
+        ensures left { IfOk result (λ found. IfSome found (λ r.
+            self.new.left ≡ left_past self.old.breaks self.old.left most self.old.machine.state)) }
+        ensures passes { IfOk result (λ found. IfSome found (λ r. self.old.passes ≡ self.new.passes + 1)) }
+        ensures none { IfOk result (λ found. IfNone found
+            (passed self.old.breaks self.old.passes self.old.left most self.old.machine.state ≡ None)) }
+        ensures same { IfOk result (λ found. IfNone found (self.new ≡ self.old)) }
+        ensures err { OnErr result (GaveUpPast self.old.breaks self.old.left most self.old.machine self.new.machine) }
+    {
+        let LastRun::AtBreak(depth, made) = self.last_run else {
+            return Ok(None);
+        };
+        if self.passes == 0 {
+            return Ok(None);
+        }
+        self.passes -= 1;
+        let machine = &mut self.machine;
+        let ran = run_past(machine, &self.breaks, &self.watched, depth, made, most)?;
+        self.last_run = last_run(depth, ran);
+        Ok(Some(ran))
     }
 
     /// The words on the stack from SP up, at most `n`, and none from 65,504 on. None of them want no memory.
@@ -446,6 +501,23 @@ impl Debugger {
         ensures watches { result.now ≡ self.now.watches }
     {
         self.watches.as_slice()
+    }
+
+    /// How many more breakpoints the runs pass over.
+    pub fn passes(&self) -> u32
+        ensures passes { result ≡ self.now.passes }
+    {
+        self.passes
+    }
+
+    /// The steps that the last run has made, where its limit or a breakpoint stopped it; else none.
+    pub fn made(&self) -> u64
+        ensures made { result ≡ made_of self.now.left }
+    {
+        match self.last_run {
+            LastRun::Over => 0,
+            LastRun::AtLimit(_, made) | LastRun::AtBreak(_, made) => made,
+        }
     }
 
     /// Whether a session shows what its commands add to the console.

@@ -1,7 +1,8 @@
 //! Runs to a breakpoint, to a watched word that has changed, to a depth of calls, or to a place in the code.
 
-ghost use Rattle.std.specs.Prelude.{◌≡◌, ◌+◌, ◌≤◌, List, IfOk, OnErr};
+ghost use Rattle.std.specs.Prelude.{◌≡◌, ◌+◌, ◌-◌, ◌≤◌, List, IfOk, OnErr};
 ghost use Rattle.pm_machine.specs.Runs.{GaveUp};
+ghost use Rattle.pm_debug.specs.Passes.{gone_past};
 ghost use Rattle.pm_debug.specs.Runs.{behind_steps, gone_from, has_ended, is_there, later, reason_of, stopped_so};
 ghost use Rattle.pm_debug.specs.Runs.{left_seen, left_so, stops_at};
 ghost use Rattle.pm_debug.specs.declared.watches.WatchedWord.{WatchedWord};
@@ -33,6 +34,8 @@ pub(crate) enum LastRun {
     Over,
     /// Its limit stopped it: how far it goes, and how many steps it has made.
     AtLimit(Depth, u64),
+    /// A breakpoint stopped it: the same.
+    AtBreak(Depth, u64),
 }
 
 /// Whether a machine stands where a run is to stop by its depth.
@@ -59,6 +62,7 @@ struct Stops<'a> {
 }
 
 impl StopTest for Stops<'_> {
+    ghost use Rattle.pm_debug.specs.Passes.{gone_past};
     ghost use Rattle.pm_debug.specs.Runs.{behind_steps, is_there, later, stops_at};
 
     ghost stops = { λ t. behind_steps t.made (later (stops_at t.watched.now t.breaks.now (is_there t.depth))) };
@@ -117,12 +121,13 @@ fn reason_of(
     }
 }
 
-/// What comes of a run that ended so: its limit stopped it, or it is over.
+/// What comes of a run that ended so: its limit or a breakpoint stopped it, or it is over.
 pub(crate) fn last_run(depth: Depth, ran: (u64, BreakReason)) -> LastRun
     ensures left { (watched : List WatchedWord) → left_seen result watched ≡ left_so depth watched ran.0 ran.1 }
 {
     match ran {
         (steps, BreakReason::Limit) => LastRun::AtLimit(depth, steps),
+        (steps, BreakReason::Break) => LastRun::AtBreak(depth, steps),
         _ => LastRun::Over,
     }
 }
@@ -130,7 +135,6 @@ pub(crate) fn last_run(depth: Depth, ran: (u64, BreakReason)) -> LastRun
 /// Makes the rest of a run that has made so many steps, of at most `limit` more, and stops before that
 /// where a watched word is another than when the run began, at a breakpoint, or where the depth is
 /// reached. The steps that are counted are those of the whole run.
-
 pub(crate) fn run(
     machine: &mut Machine,
     breaks: &[Breakpoint],
@@ -142,6 +146,7 @@ pub(crate) fn run(
     requires counts { made + limit ≤ 18446744073709551615 }
     ensures gone { IfOk result (λ r. gone_from breaks.now watched.now (is_there depth) made limit machine.old.state
         ≡ record { steps = r.0; reason = r.1; machine = machine.new.state }) }
+    ensures within { IfOk result (λ r. r.0 ≤ made + limit) }
     ensures err { OnErr result (GaveUp
         (behind_steps made (later (stops_at watched.now breaks.now (is_there depth))))
         limit machine.old machine.new) }
@@ -154,4 +159,28 @@ pub(crate) fn run(
     };
     let (steps, end) = machine.run_until(limit, &test)?;
     Ok((made + steps, reason_of(watched, breaks, machine, end)))
+}
+
+/// Passes over the breakpoint at which a run stands that has made so many steps, and makes the rest of it, up to `most`
+/// steps in all; none, where it stands where it is to go.
+#[tactic(auto, using(crate::proofs::OnLaws::gave_up_first))]
+pub(crate) fn run_past(
+    machine: &mut Machine,
+    breaks: &[Breakpoint],
+    watched: &[WatchedWord],
+    depth: Depth,
+    made: u64,
+    most: u64,
+) -> Result<(u64, BreakReason), AllocError>
+    ensures gone { IfOk result (λ r. gone_past breaks.now watched.now depth made most machine.old.state
+        ≡ record { steps = r.0; reason = r.1; machine = machine.new.state }) }
+    ensures err { OnErr result (GaveUp (later (stops_at watched.now breaks.now (is_there depth)))
+        (most - made) machine.old machine.new) }
+{
+    if is_there(machine, depth) {
+        return Ok((made, BreakReason::There));
+    }
+    let rest = most.saturating_sub(made);
+    let (steps, reason) = run(machine, breaks, watched, depth, 0, rest)?;
+    Ok((made + steps, reason))
 }

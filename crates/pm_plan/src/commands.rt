@@ -375,7 +375,7 @@ Commands, one a line, numbers in decimal, or as $1F with at most four hexadecima
   peek A N       at most N words of memory from an even address on
   bytes A N      at most N bytes of memory, in hexadecimal digits and as characters
   where          segment, procedure and offset of IPC, as break takes them, and the instruction
-  breaks         the breakpoints
+  breaks         the breakpoints, and behind them how many more are passed over
   frames N       the frames by their dynamic links, each with where it returns to, at most N
   list N         the next N instructions, each behind its offset
   console N      the last N bytes of the console, as the assembler spells a text
@@ -385,6 +385,7 @@ Commands, one a line, numbers in decimal, or as $1F with at most four hexadecima
   finish [N]     makes what is left of the running procedure, with its return, by at most N steps
   until S P O    makes steps up to this place; with N behind, at most so many
   on N           goes on with the last run, where its limit stopped it, by at most N steps more
+  ignore K       lets runs pass over K breakpoints that would stop them
   watch A        stops a run before a step where the word at an even address has changed
   unwatch A      watches it no more
   watches        the addresses of the watched words

@@ -1,9 +1,15 @@
 -- The answers to an input, byte by byte.
-use Rattle.std.proofs.Common.{◌≡◌, ◌∙◌, ◌+◌, ◌<◌, ◌≤◌, ap, sym, refl, arith, get_or, ℕ, suc, Bool, true, false}
+use Rattle.std.proofs.Common.{◌≡◌, ◌∙◌, ◌+◌, ◌<◌, ◌≤◌, ap, sym, refl, arith, get_or, ℕ, zero, suc, Bool, true, false}
 use Rattle.std.proofs.Common.{List, [], ◌∷◌, ◌++◌, length, drop, reverse, append_assoc, append-nil, Option, Some, None}
 use Rattle.std.proofs.lemmas.List.{drop_all, reverse-append, reverse-reverse}
 use Rattle.std.specs.Prelude.{◌==◌, if◌then◌else◌}
 use Rattle.std.proofs.Math.Seq.{drop-append-add, drop-cons}
+use Rattle.pm_debug.specs.declared.breaks.Breakpoint.{Breakpoint}
+use Rattle.pm_debug.specs.declared.run.Depth.{Depth}
+use Rattle.pm_debug.specs.declared.watches.WatchedWord.{WatchedWord}
+use Rattle.pm_debug.specs.Passes.{Passed, all_passed, gone_past, left_past, passed}
+use Rattle.pm_debug.specs.Runs.{Gone, Left, left_of}
+use Rattle.pm_debug.specs.Runs.Left.{AtBreak, Nothing, Rest}
 use Rattle.pm_debug.specs.Session.{Session}
 use Rattle.pm_session.specs.declared.commands.Command.TheVariants as commands
 use Rattle.pm_session.specs.Orders.{Order, order_of}
@@ -11,7 +17,7 @@ use Rattle.pm_session.specs.Orders.Order.{Does}
 use Rattle.pm_session.specs.Words.{lines_of_input, pieces_between, without_empty_end}
 use Rattle.pm_session.proofs.WordLaws.{pieces_byte, pieces_mark, pieces_none, pieces_some, with_front, with_front-byte, with_front-none}
 use Rattle.pm_machine.specs.Events.{Key, next}
-use Rattle.pm_session.specs.Answers.{after_command, after_keys, answer_text, command_text, session_after}
+use Rattle.pm_session.specs.Answers.{after_command, after_keys, after_passing, after_run, answer_text, command_text, passing, session_after}
 use Rattle.pm_session.specs.Sessions.{Told, answer_line, answers, behind_quit, console_line, from_feed, is_quit, told, whole_lines}
 
 -- the answers to these lines of an input
@@ -176,6 +182,54 @@ whole_lines_feed text c h =
 pub whole_lines_byte : (text : List ℕ) (c : ℕ) → (c == 10) ≡ false → whole_lines (text ++ c ∷ []) ≡ whole_lines text
 unfolding whole_lines from_feed
 whole_lines_byte text c h = ap (λ r. reverse (from_feed r)) (reverse-append text (c ∷ [])) ∙ rw h refl
+
+-- ---- runs that pass over breakpoints
+
+-- one more of them
+pub pass_more : (breaks : List Breakpoint) (most p q : ℕ) (left : Left) (run next : Gone) → passed breaks p left most run.machine ≡ Some next
+    → p ≡ q + 1 → all_passed breaks most p left run ≡ all_passed breaks most q (left_past breaks left most run.machine) next
+unfolding all_passed
+pass_more breaks most zero q left run next h e = absurd (cc)
+pass_more breaks most (suc p) q Nothing run next h e = absurd (cc)
+pass_more breaks most (suc p) q (Rest depth made watched) run next h e = absurd (cc)
+pass_more breaks most (suc p) q (AtBreak depth made watched) run next h e =
+    let same : p ≡ q = omega (arith, e) in
+    let is : gone_past breaks watched depth made most run.machine ≡ next = cc in
+    ap (λ n. all_passed breaks most n (left_past breaks (AtBreak depth made watched) most run.machine)
+    (gone_past breaks watched depth made most run.machine)) same
+    ∙ ap (all_passed breaks most q (left_past breaks (AtBreak depth made watched) most run.machine)) is
+
+-- none is left, or none stopped the run
+pub pass_over : (breaks : List Breakpoint) (most p : ℕ) (left : Left) (run : Gone) → passed breaks p left most run.machine ≡ None
+    → all_passed breaks most p left run ≡ record { run = run; left = left; passes = p }
+unfolding all_passed
+pass_over breaks most zero left run h = refl
+pass_over breaks most (suc p) Nothing run h = refl
+pass_over breaks most (suc p) (Rest depth made watched) run h = refl
+pass_over breaks most (suc p) (AtBreak depth made watched) run h = absurd (cc)
+
+-- ---- runs that pass over none
+
+pub all_passed-none : (breaks : List Breakpoint) (most : ℕ) (left : Left) (run : Gone)
+    → all_passed breaks most 0 left run ≡ record { run = run; left = left; passes = 0 }
+unfolding all_passed
+all_passed-none breaks most left run = refl
+
+-- the session behind such a run is that which stops at the first
+pub after_none : (d : Session) (depth : Depth) (most : ℕ) (run : Gone) → d.passes ≡ 0 → after_passing d (passing d depth most run) ≡ after_run d depth run
+unfolding all_passed
+after_none d depth most run none = by_passes d.passes none
+  where
+    by_passes : (passes : ℕ) → passes ≡ 0
+        → after_passing d (all_passed d.breaks most passes (left_of depth d.watches d.machine run) run)
+        ≡ record d { machine = run.machine; left = left_of depth d.watches d.machine run; passes = passes }
+    by_passes zero none = refl
+    by_passes (suc passes) none = absurd (omega (arith, none))
+
+pub passing_none : (d : Session) (depth : Depth) (most : ℕ) (run : Gone) → d.passes ≡ 0 → (passing d depth most run).run ≡ run
+passing_none d depth most run none =
+    ap (λ passes. (all_passed d.breaks most passes (left_of depth d.watches d.machine run) run).run) none
+    ∙ ap (λ (p : Passed). p.run) (all_passed-none d.breaks most (left_of depth d.watches d.machine run) run)
 
 -- ---- bytes that wait
 

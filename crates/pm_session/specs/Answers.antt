@@ -8,7 +8,8 @@ use Rattle.pm_machine.specs.Events.{Key, Poke, next}
 use Rattle.pm_debug.specs.Breaks.{breakpoint, with_break, without_break}
 use Rattle.pm_machine.specs.CodePlaces.{code_place}
 use Rattle.pm_debug.specs.Refusals.{or_refused}
-use Rattle.pm_debug.specs.Runs.{Gone, gone, gone_on, gone_out, gone_over, gone_until, left_after, left_on}
+use Rattle.pm_debug.specs.Passes.{Passed, all_passed, most_on}
+use Rattle.pm_debug.specs.Runs.{Gone, gone, gone_on, gone_out, gone_over, gone_until, left_after, left_of, left_on}
 use Rattle.pm_debug.specs.Runs.Left.{Nothing}
 use Rattle.pm_debug.specs.declared.run.Depth.{Depth}
 use Rattle.pm_debug.specs.declared.run.Depth.TheVariants as depths
@@ -57,13 +58,27 @@ gone_text reasons.Waiting steps = last_line endings.Waiting steps
 gone_text reasons.Ended steps = last_line endings.Ended steps
 gone_text (reasons.Halted error) steps = last_line (endings.Error error) steps
 
+-- a run that ended so
+abbrev pub ran_to : ℕ → BreakReason → State → Gone
+ran_to steps reason s = record { steps = steps; reason = reason; machine = s }
+
+-- a run that goes so far, of at most so many steps, behind the breakpoints that it passes over
+abbrev pub passing : Session → Depth → ℕ → Gone → Passed
+passing d depth most run = all_passed d.breaks most d.passes (left_of depth d.watches d.machine run) run
+
+-- and so the rest of the last run, of at most so many steps more
+abbrev pub passing_on : Session → ℕ → Option Gone → Option Passed
+passing_on d n (Some run) =
+    Some (all_passed d.breaks (most_on d.left n) d.passes (left_on d.breaks d.left n d.machine) run)
+passing_on d n None = None
+
 -- what a run is answered by
-abbrev pub run_text : Gone → Option (List ℕ)
-run_text run = Some (gone_text run.reason run.steps)
+abbrev pub run_text : Passed → Option (List ℕ)
+run_text p = Some (gone_text p.run.reason p.run.steps)
 
 -- of a run that goes on the steps of the whole, or that there is none
-abbrev pub on_text : Option Gone → List ℕ
-on_text (Some run) = gone_text run.reason run.steps
+abbrev pub on_text : Option Passed → List ℕ
+on_text (Some p) = gone_text p.run.reason p.run.steps
 on_text None = refused_text NothingLeft
 
 unfoldable pub registers_text : Registers → List ℕ
@@ -83,12 +98,15 @@ command_text (commands.Unwatch a) d = Some (done_text (without_watch a d.watches
 command_text (commands.Poke a w) d = Some (if is_even a then codes "ok" else refused_text OddAddress)
 command_text (commands.Key b) d = Some (codes "ok")
 command_text (commands.ShowConsole shows) d = Some (codes "ok")
-command_text (commands.Go n) d = run_text (gone d.breaks d.watches n d.machine)
-command_text (commands.Step n) d = run_text (gone_over d.breaks d.watches n d.machine)
-command_text (commands.Finish n) d = run_text (gone_out d.breaks d.watches n d.machine)
-command_text (commands.Until s p o n) d =
-    run_text (gone_until d.breaks d.watches (code_place s p o) n d.machine)
-command_text (commands.On n) d = Some (on_text (gone_on d.breaks d.left n d.machine))
+command_text (commands.Go n) d = run_text (passing d depths.Any n (gone d.breaks d.watches n d.machine))
+command_text (commands.Step n) d =
+    run_text (passing d (depths.Back d.machine.registers.mp) n (gone_over d.breaks d.watches n d.machine))
+command_text (commands.Finish n) d =
+    run_text (passing d (depths.Left d.machine.registers.mp) n (gone_out d.breaks d.watches n d.machine))
+command_text (commands.Until s p o n) d = run_text (passing d (depths.Place (code_place s p o)) n
+    (gone_until d.breaks d.watches (code_place s p o) n d.machine))
+command_text (commands.On n) d = Some (on_text (passing_on d n (gone_on d.breaks d.left n d.machine)))
+command_text (commands.Ignore k) d = Some (codes "ok")
 command_text (commands.Stack n) d = Some (numbers_text (stack_words d.machine n))
 command_text (commands.Static n) d = Some (chain_text (static_chain d.machine n))
 command_text (commands.Dynamic n) d = Some (chain_text (dynamic_chain d.machine n))
@@ -117,16 +135,14 @@ after_run d depth run = record d {
   left = left_after depth d.watches d.machine run.steps run.reason;
 }
 
--- the machine after a run that goes on, or as it was
-abbrev pub machine_on : State → Option Gone → State
-machine_on s (Some run) = run.machine
-machine_on s None = s
+-- the debugger after a run that has passed over breakpoints
+abbrev pub after_passing : Session → Passed → Session
+after_passing d p = record d { machine = p.run.machine; left = p.left; passes = p.passes }
 
-abbrev pub after_on : Session → ℕ → Session
-after_on d n = record d {
-  machine = machine_on d.machine (gone_on d.breaks d.left n d.machine);
-  left = left_on d.breaks d.left n d.machine;
-}
+-- the debugger after a run that goes on; it is as it was where there is none
+abbrev pub after_on : Session → Option Passed → Session
+after_on d (Some p) = after_passing d p
+after_on d None = d
 
 -- the debugger after a command; those that are not named here only show it, or end the session
 unfoldable pub after_command : Command → Session → Session
@@ -138,14 +154,16 @@ after_command (commands.Unwatch a) d = with_watches d (without_watch a d.watches
 after_command (commands.Poke a w) d = record d { machine = next d.machine (Poke a w) }
 after_command (commands.Key b) d = record d { machine = next d.machine (Key b) }
 after_command (commands.ShowConsole shows) d = record d { shows_console = shows }
-after_command (commands.Go n) d = after_run d depths.Any (gone d.breaks d.watches n d.machine)
-after_command (commands.Step n) d =
-    after_run d (depths.Back d.machine.registers.mp) (gone_over d.breaks d.watches n d.machine)
-after_command (commands.Finish n) d =
-    after_run d (depths.Left d.machine.registers.mp) (gone_out d.breaks d.watches n d.machine)
-after_command (commands.Until s p o n) d =
-    after_run d (depths.Place (code_place s p o)) (gone_until d.breaks d.watches (code_place s p o) n d.machine)
-after_command (commands.On n) d = after_on d n
+after_command (commands.Go n) d =
+    after_passing d (passing d depths.Any n (gone d.breaks d.watches n d.machine))
+after_command (commands.Step n) d = after_passing d
+    (passing d (depths.Back d.machine.registers.mp) n (gone_over d.breaks d.watches n d.machine))
+after_command (commands.Finish n) d = after_passing d
+    (passing d (depths.Left d.machine.registers.mp) n (gone_out d.breaks d.watches n d.machine))
+after_command (commands.Until s p o n) d = after_passing d
+    (passing d (depths.Place (code_place s p o)) n (gone_until d.breaks d.watches (code_place s p o) n d.machine))
+after_command (commands.On n) d = after_on d (passing_on d n (gone_on d.breaks d.left n d.machine))
+after_command (commands.Ignore k) d = record d { passes = k }
 after_command other d = d
 
 -- the debugger after bytes that wait on the console, as `key` lets each wait

@@ -126,6 +126,7 @@ command_rows =
     ∷ (codes "finish", codes " [N]", most_or 4294967295 commands.Finish)
     ∷ (codes "until", codes " S P O [N]", point_or 4294967295 commands.Until)
     ∷ (codes "on", codes " N", one 4294967295 commands.On)
+    ∷ (codes "ignore", codes " K", one 4294967295 commands.Ignore)
     ∷ (codes "watch", codes " A", one 65535 commands.Watch)
     ∷ (codes "unwatch", codes " A", one 65535 commands.Unwatch)
     ∷ (codes "watches", [], alone (commands.Show views.Watches))

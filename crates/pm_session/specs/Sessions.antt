@@ -53,7 +53,8 @@ behind_quit (line ∷ lines) input =
 
 -- a debugger of a machine, without breakpoints and watched words, which has made no run and does not show the console
 abbrev pub opened : State → Session
-opened machine = record { machine = machine; breaks = []; watches = []; left = Nothing; shows_console = false }
+opened machine =
+    record { machine = machine; breaks = []; watches = []; left = Nothing; passes = 0; shows_console = false }
 
 -- the answers to an input, and what of it is left unread
 pub record Told : Type 0 where

@@ -1,6 +1,6 @@
 -- What the commands answer that show the memory, the code, the breakpoints, the watched words, the frames, the console
 -- and the commands.
-use Rattle.std.specs.Prelude.{ℕ, ◌+◌, ◌/◌, ◌%◌, ◌&&◌, nat_le, List, [], ◌∷◌, ◌++◌, map, Option, Some, None}
+use Rattle.std.specs.Prelude.{ℕ, zero, suc, ◌+◌, ◌/◌, ◌%◌, ◌&&◌, nat_le, List, [], ◌∷◌, ◌++◌, map, Option, Some, None}
 use Rattle.std.specs.Prelude.{if◌then◌else◌, codes}
 use Rattle.std.specs.Fmt.{decimal}
 use Rattle.pm_words.specs.Stack.{minus}
@@ -40,6 +40,12 @@ break_text b = point_text b.place ++ condition_text b.condition
 
 abbrev pub breaks_text : List Breakpoint → List ℕ
 breaks_text breaks = parts_text (codes ", ") break_text breaks
+
+-- how many breakpoints are passed over, as `ignore` takes it, behind those that are set; nothing where it is none
+abbrev pub passes_text : List Breakpoint → ℕ → List ℕ
+passes_text breaks zero = []
+passes_text [] (suc passes) = codes "ignore " ++ decimal (suc passes)
+passes_text (b ∷ breaks) (suc passes) = codes ", ignore " ++ decimal (suc passes)
 
 -- where the machine stands, and the instruction there
 abbrev pub where_text : Option CodePlace → State → List ℕ
@@ -106,7 +112,7 @@ unfoldable pub view_text : View → Session → List ℕ
 view_text (views.Peek a n) d = chain_text (words_from d.machine a n)
 view_text (views.Bytes a n) d = bytes_text (bytes_from d.machine a n)
 view_text views.Where d = where_text (place_in_code d.machine) d.machine
-view_text views.Breaks d = breaks_text d.breaks
+view_text views.Breaks d = breaks_text d.breaks ++ passes_text d.breaks d.passes
 view_text views.Watches d = numbers_text d.watches
 view_text (views.Frames n) d = frames_text (frames d.machine n)
 view_text (views.Ahead n) d = list_text (place_in_code d.machine) d.machine (addresses_ahead d.machine n)

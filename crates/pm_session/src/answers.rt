@@ -1,13 +1,15 @@
 //! What the debugger answers to a line.
 ghost use Rattle.std.specs.Prelude.{◌≡◌, ◌++◌, ◌∷◌, [], drop, false, true, IfOk, IfNone, IfSome, OnOk};
 ghost use Rattle.std.specs.Prelude.{option_map, string_bytes, codes, if◌then◌else◌};
+ghost use Rattle.pm_debug.specs.Passes.{all_passed};
 ghost use Rattle.pm_debug.specs.Session.{session_of};
+ghost use Rattle.pm_calls.specs.Places.{keeps_of, placed};
 ghost use Rattle.pm_words.specs.Stack.{is_even};
 ghost use Rattle.pm_machine.specs.Events.{Key, Poke, next};
 ghost use Rattle.pm_session.specs.Answers.{after_command, session_after, command_text, done_text};
 ghost use Rattle.pm_debug.specs.Runs.{gone_on};
-ghost use Rattle.pm_session.specs.Answers.{after_on, gone_text, answer_text, on_text, place_text, registers_text};
-ghost use Rattle.pm_session.specs.Answers.{word_text};
+ghost use Rattle.pm_session.specs.Answers.{after_on, after_passing, gone_text, answer_text, on_text, passing_on};
+ghost use Rattle.pm_session.specs.Answers.{place_text, ran_to, registers_text, word_text};
 ghost use Rattle.pm_session.specs.Orders.{order_of};
 ghost use Rattle.pm_session.specs.Sessions.{answer_line, console_line, is_quit};
 ghost use Rattle.pm_session.specs.Texts.{refused_text};
@@ -19,7 +21,7 @@ use crate::typed::{keys, typed};
 use crate::views::shown;
 use pm_code::Quoted;
 use pm_debug::{BreakReason, DebugRefusal, Debugger};
-use pm_machine::Registers;
+use pm_machine::{Machine, Registers};
 use pm_trace::trace_line;
 use std::alloc::{AllocError, Global};
 
@@ -61,11 +63,56 @@ fn gone(alloc: Global, gone: (u64, BreakReason)) -> Result<String, AllocError>
     format!(in alloc; "{last}")
 }
 
-/// Where a segment stands, for how many calls, and how many times the program keeps it.
-fn place(alloc: Global, place: Option<(u16, u16)>, keeps: Option<u16>) -> Result<String, AllocError>
-    ensures text { IfOk result (λ text. string_bytes text ≡ place_text place keeps) }
+/// Passes over breakpoints behind a run of at most `most` steps, as long as one stops it and passes are left: how many
+/// steps it has made then, and why no more.
+#[tactic(auto, using(crate::proofs::SessionLaws::pass_more, crate::proofs::SessionLaws::pass_over))]
+fn pass(
+    debugger: &mut Debugger,
+    first: (u64, BreakReason),
+    most: u64,
+) -> Result<(u64, BreakReason), AllocError>
+    ensures passed { IfOk result (λ r. all_passed debugger.old.breaks most debugger.old.passes debugger.old.left
+        (ran_to first.0 first.1 debugger.old.machine.state) ≡ record {
+          run = ran_to r.0 r.1 debugger.new.machine.state;
+          left = debugger.new.left;
+          passes = debugger.new.passes;
+        }) }
+    ensures breaks { debugger.new.breaks ≡ debugger.old.breaks }
+    ensures watches { debugger.new.watches ≡ debugger.old.watches }
+    ensures shows { debugger.new.shows_console ≡ debugger.old.shows_console }
 {
-    match (place, keeps) {
+    let mut ran = first;
+    'passes: while let Some(next) = debugger.pass(most)? {
+        ran = next;
+    }
+    Ok(ran)
+}
+
+/// Why a run of at most `limit` steps ended, behind the breakpoints that it passes over, and after how many steps.
+fn told(
+    alloc: Global,
+    ran: (u64, BreakReason),
+    limit: u32,
+    debugger: &mut Debugger,
+) -> Result<String, AllocError>
+    ensures text { IfOk result (λ text.
+        let p = all_passed debugger.old.breaks limit debugger.old.passes debugger.old.left
+        (ran_to ran.0 ran.1 debugger.old.machine.state) in
+        string_bytes text ≡ gone_text p.run.reason p.run.steps) }
+    ensures session { OnOk result ((session_of debugger.new) ≡ after_passing (session_of debugger.old)
+        (all_passed debugger.old.breaks limit debugger.old.passes debugger.old.left
+        (ran_to ran.0 ran.1 debugger.old.machine.state))) }
+{
+    let ran = pass(debugger, ran, u64::from(limit))?;
+    gone(alloc, ran)
+}
+
+/// Where a segment stands, for how many calls, and how many times the program keeps it.
+fn place(alloc: Global, machine: &Machine, n: u8) -> Result<String, AllocError>
+    ensures text { IfOk result (λ text. string_bytes text
+        ≡ place_text (placed machine.now.state.places n) (keeps_of machine.now.state.places n)) }
+{
+    match (machine.place(n), machine.keeps(n)) {
         (Some((at, count)), Some(keeps)) => numbers(alloc, &[at, count, keeps]),
         _ => format!(in alloc; "none"),
     }
@@ -116,11 +163,16 @@ fn key(debugger: &mut Debugger, byte: u8) -> Result<(), AllocError>
 /// Goes on with the last run: why it ended, or that nothing is left of it.
 fn go_on(alloc: Global, debugger: &mut Debugger, limit: u32) -> Result<String, AllocError>
     ensures text { IfOk result (λ text. string_bytes text
-        ≡ on_text (gone_on debugger.old.breaks debugger.old.left limit debugger.old.machine.state)) }
-    ensures session { OnOk result ((session_of debugger.new) ≡ after_on (session_of debugger.old) limit) }
+        ≡ on_text (passing_on (session_of debugger.old) limit
+        (gone_on debugger.old.breaks debugger.old.left limit debugger.old.machine.state))) }
+    ensures session { OnOk result ((session_of debugger.new) ≡ after_on (session_of debugger.old)
+        (passing_on (session_of debugger.old) limit
+        (gone_on debugger.old.breaks debugger.old.left limit debugger.old.machine.state))) }
 {
+    let made = debugger.made();
+    let more = u64::from(limit).min(u64::MAX - made);
     match debugger.go_on(u64::from(limit)) {
-        Ok(run) => gone(alloc, run),
+        Ok(ran) => gone(alloc, pass(debugger, ran, made + more)?),
         Err(DebugRefusal::NoMemory) => Err(AllocError),
         Err(refusal) => refused(alloc, refusal),
     }
@@ -148,20 +200,20 @@ fn do_command(
             done(alloc, Ok(()))
         }
         Command::ShowConsole(shows) => done(alloc, Ok(debugger.set_shows_console(shows))),
-        Command::Go(limit) => gone(alloc, debugger.go(u64::from(limit))?),
-        Command::Step(limit) => gone(alloc, debugger.step_over(u64::from(limit))?),
-        Command::Finish(limit) => gone(alloc, debugger.finish(u64::from(limit))?),
-        Command::Until(s, p, o, n) => gone(alloc, debugger.until(s, p, o, u64::from(n))?),
+        Command::Go(n) => told(alloc, debugger.go(u64::from(n))?, n, debugger),
+        Command::Step(n) => told(alloc, debugger.step_over(u64::from(n))?, n, debugger),
+        Command::Finish(n) => told(alloc, debugger.finish(u64::from(n))?, n, debugger),
+        Command::Until(s, p, o, n) => {
+            told(alloc, debugger.until(s, p, o, u64::from(n))?, n, debugger)
+        }
         Command::On(limit) => go_on(alloc, debugger, limit),
+        Command::Ignore(passes) => done(alloc, Ok(debugger.set_passes(passes))),
         Command::Stack(n) => numbers(alloc, &debugger.stack(alloc, n)?),
         Command::Static(limit) => chain(alloc, debugger.static_chain(alloc, limit)),
         Command::Dynamic(limit) => chain(alloc, debugger.dynamic_chain(alloc, limit)),
         Command::Local(depth, b) => word(alloc, debugger.local(depth, b)),
         Command::Registers => registers(alloc, debugger.machine().registers()),
-        Command::Place(n) => {
-            let machine = debugger.machine();
-            place(alloc, machine.place(n), machine.keeps(n))
-        }
+        Command::Place(n) => place(alloc, debugger.as_machine(), n),
         Command::Trace => trace_line(alloc, debugger.as_machine()),
         Command::Show(view) => shown(alloc, debugger, view),
         Command::Quit => return Ok(None),

@@ -43,6 +43,8 @@ pub enum Command {
     Until(u8, u8, u16, u32),
     /// Goes on with the last run, where its limit stopped it, for at most so many steps more.
     On(u32),
+    /// Lets the runs pass over so many breakpoints.
+    Ignore(u32),
     /// Shows the words on the stack, at most so many.
     Stack(u16),
     /// Shows the static chain, at most so many frames.
@@ -72,7 +74,7 @@ pub enum View {
     Bytes(u16, u16),
     /// Where the machine stands in the code.
     Where,
-    /// The breakpoints.
+    /// The breakpoints, and how many more are passed over.
     Breaks,
     /// The addresses of the watched words.
     Watches,
@@ -271,6 +273,7 @@ fn named_with_one(name: &[u8], n: u32) -> Option<Command>
         _ if is_text(name, "step") => Command::Step(n),
         _ if is_text(name, "finish") => Command::Finish(n),
         _ if is_text(name, "on") => Command::On(n),
+        _ if is_text(name, "ignore") => Command::Ignore(n),
         _ if is_text(name, "stack") => Command::Stack(word(n)?),
         _ if is_text(name, "static") => Command::Static(word(n)?),
         _ if is_text(name, "dynamic") => Command::Dynamic(word(n)?),

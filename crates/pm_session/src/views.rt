@@ -6,7 +6,7 @@ ghost use Rattle.pm_debug.specs.Views.{ShowsChain};
 ghost use Rattle.pm_debug.specs.declared.frames.Frame.{Frame};
 ghost use Rattle.pm_session.specs.Texts.{parts_text};
 ghost use Rattle.pm_session.specs.Views.{breaks_text, bytes_text, frames_text, list_text, offset_at};
-ghost use Rattle.pm_session.specs.Views.{pair_text, shown_character, view_text, where_text};
+ghost use Rattle.pm_session.specs.Views.{pair_text, passes_text, shown_character, view_text, where_text};
 
 use crate::commands::View;
 use crate::spelled::{BreakText, FrameText, Pair, Point};
@@ -21,7 +21,7 @@ use std::alloc::{AllocError, Global};
 const HELP: &str = concat!(
     "break S P O, clear S P O, poke A W, key B, go N, stack N, static N, dynamic N, local D B, regs, place N, trace, ",
     "peek A N, bytes A N, where, breaks, frames N, list N, console N, step [N], finish [N], until S P O [N], on N, ",
-    "watch A, unwatch A, watches, help, quit, console on, console off, type \"TEXT\", break S P O if A = W",
+    "ignore K, watch A, unwatch A, watches, help, quit, console on, console off, type \"TEXT\", break S P O if A = W",
 );
 
 /// Breakpoints.
@@ -34,6 +34,18 @@ fn breaks(alloc: Global, breaks: &[Breakpoint]) -> Result<String, AllocError>
     let mut text = format!(in alloc; "{}", BreakText(*first))?;
     for known in rest {
         write!(text, ", {}", BreakText(*known))?;
+    }
+    Ok(text)
+}
+
+/// Breakpoints, and how many are passed over, if any.
+fn breaks_and_passes(alloc: Global, known: &[Breakpoint], passes: u32) -> Result<String, AllocError>
+    ensures text { IfOk result (λ text. string_bytes text ≡ breaks_text known.now ++ passes_text known.now passes) }
+{
+    let mut text = breaks(alloc, known)?;
+    if passes != 0 {
+        let comma = if known.is_empty() { "" } else { ", " };
+        write!(text, "{comma}ignore {passes}")?;
     }
     Ok(text)
 }
@@ -169,7 +181,7 @@ pub(crate) fn shown(alloc: Global, debugger: &Debugger, view: View) -> Result<St
         View::Peek(address, n) => chain(alloc, debugger.words(alloc, address, n)),
         View::Bytes(address, n) => bytes(alloc, debugger.bytes(address, n)),
         View::Where => standing(alloc, debugger.place_in_code(), machine),
-        View::Breaks => breaks(alloc, debugger.breaks()),
+        View::Breaks => breaks_and_passes(alloc, debugger.breaks(), debugger.passes()),
         View::Watches => numbers(alloc, debugger.watches()),
         View::Frames(limit) => frames(alloc, debugger.frames(alloc, limit)),
         View::Ahead(n) => {

@@ -300,11 +300,12 @@ first_told old new began machine fault o b failed = record {
 -- ---- a machine that starts, or none
 
 pub opened_is : (d : Session) (machine : State) → d.machine ≡ machine → d.breaks ≡ [] → d.watches ≡ [] → d.left ≡ Nothing
-    → d.shows_console ≡ false → d ≡ opened machine
-opened_is d machine a b w l s =
+    → d.passes ≡ 0 → d.shows_console ≡ false → d ≡ opened machine
+opened_is d machine a b w l p s =
     ap (λ m. record d { machine = m }) a ∙ ap (λ breaks. record d { machine = machine; breaks = breaks }) b
     ∙ ap (λ watches. record d { machine = machine; breaks = []; watches = watches }) w
-    ∙ ap (λ left. record (opened machine) { left = left; shows_console = d.shows_console }) l
+    ∙ ap (λ left. record (opened machine) { left = left; passes = d.passes; shows_console = d.shows_console }) l
+    ∙ ap (λ passes. record (opened machine) { passes = passes; shows_console = d.shows_console }) p
     ∙ ap (λ shows. record (opened machine) { shows_console = shows }) s
 
 -- a session over the machine that starts, with the bytes that wait, is what is said of it

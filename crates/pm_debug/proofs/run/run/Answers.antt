@@ -10,3 +10,8 @@ overflow_add-result c =
 
 pub returns-clause-gone : goal.returns-clause-gone
 returns-clause-gone c = gone_rest _ _ _ _ _ _ _ _ c.in_ok-steps.ensures.run c.reason_of.ensures.reason
+
+pub returns-clause-within : goal.returns-clause-within
+returns-clause-within c =
+    let few = within _ _ _ _ _ _ c.in_ok-steps.ensures.run in
+    omega (arith, few)

@@ -10,7 +10,7 @@ returns-in_err-converse-clause-broken g c =
     let m = c.args.machine.state in
     rw (p.1, p.2) (cut_told _ _ _ m _ c.in_err-converse.ensures.cut
     (opened_is _ _ (ap (λ (m : Whole). m.state) c.new-debugger.ensures.machine) c.new-debugger.ensures.breaks c.new-debugger.ensures.watches
-    c.new-debugger.ensures.left c.new-debugger.ensures.shows))
+    c.new-debugger.ensures.left c.new-debugger.ensures.passes c.new-debugger.ensures.shows))
 
 pub returns-in_err-converse-clause-prompt : goal.returns-in_err-converse-clause-prompt
 returns-in_err-converse-clause-prompt g c =
@@ -18,12 +18,12 @@ returns-in_err-converse-clause-prompt g c =
     let m = c.args.machine.state in
     rw p.1 (λ failed. first_told _ _ _ m _ c.in_err-converse.ensures.cut
     (opened_is _ _ (ap (λ (m : Whole). m.state) c.new-debugger.ensures.machine) c.new-debugger.ensures.breaks c.new-debugger.ensures.watches
-    c.new-debugger.ensures.left c.new-debugger.ensures.shows) failed)
+    c.new-debugger.ensures.left c.new-debugger.ensures.passes c.new-debugger.ensures.shows) failed)
 
 pub returns-clause-done : goal.returns-clause-done
 returns-clause-done g c =
     let m = c.args.machine.state in
     done_told _ _ _ m _ c.in_ok-converse.ensures.told
     (opened_is _ _ (ap (λ (m : Whole). m.state) c.new-debugger.ensures.machine) c.new-debugger.ensures.breaks c.new-debugger.ensures.watches
-    c.new-debugger.ensures.left c.new-debugger.ensures.shows)
+    c.new-debugger.ensures.left c.new-debugger.ensures.passes c.new-debugger.ensures.shows)
     (λ unread written. search rules)

@@ -1,0 +1,18 @@
+use Rattle.std.proofs.Common.{◌≡◌}
+use Rattle.pm_debug.specs.Passes.{all_passed}
+use Rattle.pm_session.specs.Answers.{ran_to}
+use Rattle.pm_session.proofs.answers.pass.Given as goal
+
+-- what the run comes to that has passed over some is what that of the beginning comes to
+abbrev pub invariant-passes : goal.invariant-passes
+invariant-passes l = record {
+  passed : all_passed l.fn.debugger.breaks l.most l.fn.debugger.passes l.fn.debugger.left
+      (ran_to l.fn.first.0 l.fn.first.1 l.fn.debugger.machine.state)
+      ≡ all_passed l.debugger.breaks l.most l.debugger.passes l.debugger.left (ran_to l.ran.0 l.ran.1 l.debugger.machine.state);
+  breaks : l.debugger.breaks ≡ l.fn.debugger.breaks;
+  watches : l.debugger.watches ≡ l.fn.debugger.watches;
+  shows : l.debugger.shows_console ≡ l.fn.debugger.shows_console;
+}
+
+abbrev pub decreases-passes : goal.decreases-passes
+decreases-passes l = l.debugger.passes

@@ -61,9 +61,9 @@ use Rattle.pm_machine.specs.Rows.{on_registers}
 use Rattle.pm_code.specs.Item.{IsItem, IsNear, IsPlain, Item, Target, item_bytes, jump_byte, size}
 use Rattle.pm_code.specs.Item.Item.{Plain, Jump as JumpItem, Case, OneByte}
 use Rattle.pm_code.specs.Item.Target.{To, Through}
-use Rattle.pm_statements.specs.Parts.{Part, bare_instruction}
-use Rattle.pm_statements.specs.Trees.{Forest, parts_of}
-use Rattle.pm_statements.specs.Trees.Forest.{Bare, Tree}
+use Rattle.pm_trees.specs.Parts.{Part, bare_instruction}
+use Rattle.pm_trees.specs.Trees.{Forest, parts_of}
+use Rattle.pm_trees.specs.Trees.Forest.{Bare, Tree}
 use Rattle.law_text.specs.Meaning.{DoesAsSaid, Done, Halts, StandFrom, StandThere, StatementsDoWhatTheySay, behind_parts, distance, done_said}
 use Rattle.law_text.specs.Meaning.{ipc_behind, item_operation, jump_item_said, jump_said, leads_said, memory_behind, operation_at}
 use Rattle.law_text.specs.Meaning.{store_said, store_through_said, values_said, written_said}

@@ -30,9 +30,9 @@ use Rattle.pm_machine.specs.declared.state.Status.TheVariants as status
 use Rattle.pm_machine.specs.State.{State}
 use Rattle.pm_machine.specs.Runs.{after_steps}
 use Rattle.pm_phrases.specs.declared.around.Missing.{Missing}
-use Rattle.pm_statements.specs.Parts.{Part, bare_instruction}
-use Rattle.pm_statements.specs.Trees.{Forest, parts_of}
-use Rattle.pm_statements.specs.Trees.Forest.{Bare, Tree}
+use Rattle.pm_trees.specs.Parts.{Part, bare_instruction}
+use Rattle.pm_trees.specs.Trees.{Forest, parts_of}
+use Rattle.pm_trees.specs.Trees.Forest.{Bare, Tree}
 
 -- ---- what is said
 

@@ -8,9 +8,10 @@ use Rattle.pm_code.specs.Item.Item.{Plain, Jump}
 use Rattle.pm_code.specs.Item.Target.{To, Through}
 use Rattle.pm_phrases.specs.declared.around.Missing.{Missing}
 use Rattle.pm_effects.specs.declared.effect.Share.TheVariants as share
-use Rattle.pm_statements.specs.Parts.{Part, bare_instruction, part_of, place_at}
-use Rattle.pm_statements.specs.Trees.{Forest}
-use Rattle.pm_statements.specs.Trees.Forest.{Bare, Tree}
+use Rattle.pm_trees.specs.Parts.{Part, bare_instruction, part_of, place_at}
+use Rattle.pm_trees.specs.declared.items.Layout.TheVariants as layout
+use Rattle.pm_trees.specs.Trees.{Forest}
+use Rattle.pm_trees.specs.Trees.Forest.{Bare, Tree}
 use Rattle.law_text.specs.Meaning.{Done, Said, statement_said}
 use Rattle.law_text.specs.Meaning.Done.{GoesOn, Jumps, Writes}
 use Rattle.law_text.specs.Meaning.Said.{Fails, Gives, Unsaid}
@@ -31,7 +32,7 @@ worked_state = record {
 }
 
 abbrev pub the_part : Item ℕ → Part
-the_part item = part_of (record { segment = 1; callees = []; indented = false }) item (place_at [] 0 10)
+the_part item = part_of (record { segment = 1; callees = []; layout = layout.Flat }) item (place_at [] 0 10)
 
 abbrev pub nothing_missing : Missing
 nothing_missing = record { top = share.Words 0; below = share.Words 0 }

@@ -256,7 +256,9 @@ fn dis_output(matches: &ArgMatches<'_>) -> Result<DisOutput, WordsError>
 {
     if is_set(matches, "blocks") {
         if is_set(matches, "names") || is_set(matches, "list") || is_set(matches, "indent") {
-            return Err(WordsError::Wrong("--blocks does not stand beside --names, --list or --indent"));
+            return Err(WordsError::Wrong(
+                "--blocks does not stand beside --names, --list or --indent",
+            ));
         }
         return Ok(DisOutput::Blocks);
     }

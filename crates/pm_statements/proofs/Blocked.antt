@@ -1,10 +1,10 @@
 -- Stretches and lines of blocks, one after another.
 use Rattle.std.proofs.Common.{◌≡◌, ℕ, Bool, List, [], ◌∷◌, ◌++◌, append_assoc, drop, refl, sym, ap, ◌∙◌}
 use Rattle.std.proofs.lemmas.List.{append-nil}
-use Rattle.pm_blocks.specs.declared.line.Line.{Line}
-use Rattle.pm_blocks.specs.declared.statement.Leads.{Leads}
-use Rattle.pm_blocks.specs.declared.statement.Statement.{Statement}
-use Rattle.pm_blocks.specs.Lines.{depth_at, depth_behind}
+use Rattle.pm_trees.specs.declared.line.Line.{Line}
+use Rattle.pm_trees.specs.declared.statement.Leads.{Leads}
+use Rattle.pm_trees.specs.declared.statement.Statement.{Statement}
+use Rattle.pm_trees.specs.Lines.{depth_at, depth_behind}
 use Rattle.pm_phrases.specs.Shown.{Shown}
 use Rattle.pm_trees.specs.declared.left.Left.{Left}
 use Rattle.pm_statements.specs.BlockLines.{block_line, block_lines, calls_at, statements_at}

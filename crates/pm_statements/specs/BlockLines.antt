@@ -2,10 +2,10 @@
 use Rattle.std.specs.Prelude.{ℕ, Bool, false, ◌==◌, ◌-◌, ◌&&◌, if◌then◌else◌, codes}
 use Rattle.std.specs.Prelude.{List, [], ◌∷◌, ◌++◌, drop, length, take}
 use Rattle.std.specs.List.{ends_with, starts_with}
-use Rattle.pm_blocks.specs.Lines.{depth_at, depth_behind, is_extra}
-use Rattle.pm_blocks.specs.declared.line.Line.{Line}
-use Rattle.pm_blocks.specs.declared.line.Word.{Word}
-use Rattle.pm_blocks.specs.declared.line.Word.TheVariants as word
+use Rattle.pm_trees.specs.Lines.{depth_at, depth_behind, is_extra}
+use Rattle.pm_trees.specs.declared.line.Line.{Line}
+use Rattle.pm_trees.specs.declared.line.Word.{Word}
+use Rattle.pm_trees.specs.declared.line.Word.TheVariants as word
 use Rattle.pm_code.specs.Shown.{padded, target_text}
 use Rattle.pm_code.specs.Views.{placed_target}
 use Rattle.pm_families.specs.declared.families.Condition.TheVariants as condition

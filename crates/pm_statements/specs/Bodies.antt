@@ -1,7 +1,7 @@
 -- The text of a procedure's code, by how its statements stand.
 use Rattle.std.specs.Prelude.{◌/◌, ℕ, Bool, true, false, List, [], ◌++◌, reverse, if◌then◌else◌, Option, Some, None}
-use Rattle.pm_blocks.specs.Blocks.{blocks}
-use Rattle.pm_blocks.specs.declared.line.Line.{Line}
+use Rattle.pm_trees.specs.Blocks.{blocks}
+use Rattle.pm_trees.specs.declared.line.Line.{Line}
 use Rattle.pm_code.specs.Program.{Procedure, code_end}
 use Rattle.pm_phrases.specs.declared.around.Around.{Around}
 use Rattle.pm_statements.specs.BlockLines.{block_lines}

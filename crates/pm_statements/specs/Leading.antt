@@ -1,8 +1,8 @@
 -- Where statements lead.
 use Rattle.std.specs.Prelude.{ℕ, Bool, false, ◌==◌, if◌then◌else◌, List, [], ◌∷◌, slice_get, Option, Some, None}
-use Rattle.pm_blocks.specs.declared.statement.Leads.{Leads}
-use Rattle.pm_blocks.specs.declared.statement.Leads.TheVariants as leads
-use Rattle.pm_blocks.specs.declared.statement.Statement.{Statement}
+use Rattle.pm_trees.specs.declared.statement.Leads.{Leads}
+use Rattle.pm_trees.specs.declared.statement.Leads.TheVariants as leads
+use Rattle.pm_trees.specs.declared.statement.Statement.{Statement}
 use Rattle.pm_code.specs.declared.item.Target.{Target}
 use Rattle.pm_code.specs.declared.item.Target.TheVariants as targets
 use Rattle.pm_families.specs.declared.families.Condition.{Condition}

@@ -5,11 +5,10 @@ ghost use Rattle.pm_statements.specs.BlockLines as texts;
 
 use crate::conditions::push_condition;
 use crate::leading::behind_first;
-use pm_trees::Left;
 use crate::lines::{PlaceLines, Push, is_call, is_check, push_blanks};
-use pm_blocks::{Line, Word};
 use pm_code::FiveDigits;
 use pm_phrases::{Phrase, Value};
+use pm_trees::{Left, Line, Word};
 use std::alloc::{AllocError, Global};
 use std::fmt::Write;
 
@@ -147,7 +146,11 @@ fn calls_at(word: Word, lefts: &[Left]) -> bool
 fn behind_word<T>(word: Word, list: &[T]) -> &[T]
     ensures rest { result.now ≡ drop (texts.statements_at word) list.now }
 {
-    if word.is_extra() { list } else { behind_first(list) }
+    if word.is_extra() {
+        list
+    } else {
+        behind_first(list)
+    }
 }
 
 /// Adds lines, each of a word, and their statements.

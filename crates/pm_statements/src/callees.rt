@@ -4,10 +4,10 @@ ghost use Rattle.std.specs.Prelude.{◌≡◌, map};
 ghost use Rattle.pm_code.specs.Views.{placed_item, procedure_seen};
 ghost use Rattle.pm_statements.specs.Callees as callees;
 
-use pm_trees::Callee;
 use pm_code::{Item, Procedure};
 use pm_families::Return;
 use pm_opcode::Operation;
+use pm_trees::Callee;
 
 /// A procedure that takes and leaves so many words.
 fn sized(parameters: u8, results: u8) -> Callee

@@ -3,8 +3,8 @@
 ghost use Rattle.std.specs.Prelude.{◌≡◌, ◌++◌, string_bytes, OnOk};
 ghost use Rattle.pm_statements.specs.BlockLines as texts;
 
-use pm_trees::Role;
 use pm_families::Condition;
+use pm_trees::Role;
 use std::alloc::{AllocError, Global};
 
 /// A text without another one in front, if that stands there.

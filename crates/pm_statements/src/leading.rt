@@ -3,11 +3,10 @@
 ghost use Rattle.std.specs.Prelude.{◌≡◌, drop, IfOk};
 ghost use Rattle.pm_statements.specs.Leading as leading;
 
-use pm_trees::{Left, Role};
-use pm_blocks::{Leads, Statement};
 use pm_code::Target;
 use pm_families::Condition;
 use pm_phrases::{Form, Phrase};
+use pm_trees::{Leads, Left, Role, Statement};
 use std::alloc::{AllocError, Global};
 
 /// The place of a target, if the jump table has its entry.
@@ -54,7 +53,11 @@ fn leads_by(entries: &[usize], role: Role, phrase: &Phrase) -> Leads
     ensures leads { result ≡ leading.leads_by entries.now role phrase.now.form }
 {
     match role {
-        Role::Jump(condition, target) => leads_to(condition, phrase.form, place_in(entries, target)),
+        Role::Jump(condition, target) => leads_to(
+            condition,
+            phrase.form,
+            place_in(entries, target),
+        ),
         Role::Call | Role::Check | Role::Other => Leads::Nowhere,
     }
 }

@@ -17,6 +17,6 @@ pub mod worked;
 
 pub use callees::{callee_of, system_callee};
 pub use lines::push_statements;
-pub use procedure::push_procedure;
 pub use pm_trees::{Known, Layout};
+pub use procedure::push_procedure;
 pub use shown::file;

@@ -3,10 +3,10 @@
 ghost use Rattle.std.specs.Prelude.{◌≡◌, ◌++◌, false, string_bytes, OnOk, Some};
 ghost use Rattle.pm_statements.specs.Texts as texts;
 
-use pm_trees::{Leaves, Left, Pile, Place, Role, is_reached, leaves_nothing};
 use crate::depths::Depths;
 use pm_code::{FiveDigits, Label};
 use pm_phrases::{Phrase, Value};
+use pm_trees::{Leaves, Left, Pile, Place, Role, is_reached, leaves_nothing};
 use std::alloc::AllocError;
 use std::fmt;
 use std::fmt::Write;

@@ -10,13 +10,12 @@ ghost use Rattle.pm_statements.specs.Texts as texts;
 
 use crate::block_lines::push_block_lines;
 use crate::depths::depths_if;
-use pm_trees::{Known, Layout, Part, Pile, Place, part_of, statements};
 use crate::leading::stretches;
 use crate::lines::{PlaceLines, push_statements};
 use crate::marks::labels_of;
-use pm_blocks::blocks;
 use pm_code::{Item, Procedure, items_end};
 use pm_phrases::Around;
+use pm_trees::{Known, Layout, Part, Pile, Place, blocks, part_of, statements};
 use std::alloc::{AllocError, Global};
 use std::fmt::Write;
 

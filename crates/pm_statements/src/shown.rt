@@ -10,12 +10,12 @@ ghost use Rattle.pm_disasm.specs.Offsets.{IsDecoded};
 ghost use Rattle.pm_statements.specs.Files as files;
 
 use crate::callees::{Returns, returns_of};
-use pm_trees::{Callee, Known, Layout};
 use crate::procedure::push_procedure;
 use crate::sized::file_callees;
 use pm_code::Label;
 use pm_codefile::{Attributes, CodeFile, attributes, procedures};
 use pm_disasm::{Decoded, code, decode_segment};
+use pm_trees::{Callee, Known, Layout};
 use std::alloc::{AllocError, Global};
 use std::fmt;
 use std::fmt::Write;

@@ -10,9 +10,9 @@ ghost use Rattle.pm_statements.specs.Files as files;
 ghost use Rattle.pm_trees.specs.declared.part.Callee.{Callee};
 
 use crate::callees::{callee_of, system_callee};
-use pm_trees::Callee;
 use pm_codefile::{Attributes, CodeFile, attributes};
 use pm_disasm::{Decoded, code, decode_segment};
+use pm_trees::Callee;
 use std::alloc::{AllocError, Global};
 
 /// A procedure's table, and what it takes and leaves.

@@ -4,3 +4,9 @@ pub mod Labels
 pub mod Written
 pub mod Ends
 pub mod First
+pub mod Lists
+pub mod Closing
+pub mod Growing
+pub mod BlockEnds
+pub mod Computed
+pub mod Read

@@ -2,3 +2,8 @@ pub mod Parts
 pub mod Trees
 pub mod Piles
 pub mod Laws
+pub mod Backs
+pub mod Blocks
+pub mod Lines
+pub mod Reading
+pub mod Worked

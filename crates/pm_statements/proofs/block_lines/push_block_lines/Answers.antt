@@ -1,8 +1,8 @@
 use Rattle.std.proofs.Common.{◌≡◌, ◌+◌, ◌++◌, ◌∷◌, ◌∙◌, ℕ, List, ap, drop, slice_index_or, string_bytes, sym}
 use Rattle.std.proofs.lemmas.List.{drop_all, drop_more}
-use Rattle.pm_blocks.specs.declared.line.Line.{Line}
-use Rattle.pm_blocks.specs.declared.line.Word.TheVariants as word
-use Rattle.pm_blocks.specs.declared.statement.Leads.TheVariants as leads
+use Rattle.pm_trees.specs.declared.line.Line.{Line}
+use Rattle.pm_trees.specs.declared.line.Word.TheVariants as word
+use Rattle.pm_trees.specs.declared.statement.Leads.TheVariants as leads
 use Rattle.pm_statements.specs.BlockLines.{block_line}
 use Rattle.pm_statements.proofs.Blocked.{block_done, block_step}
 use Rattle.pm_statements.proofs.block_lines.push_block_lines.Goals as goal

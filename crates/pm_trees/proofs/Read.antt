@@ -1,0 +1,223 @@
+-- Blocks are read back to their statements.
+use Rattle.std.proofs.Common.{◌≡◌, ◌<◌, ℕ, Bool, true, false, not, List, [], ◌∷◌, ◌++◌, Some, append_assoc, arith, map, refl, sym, ap, ◌∙◌}
+use Rattle.std.specs.Prelude.{◌==◌, ◌&&◌, nat_le, nat_lt, if◌then◌else◌, option_map}
+use Rattle.std.proofs.lemmas.Bool.{and_parts}
+use Rattle.std.proofs.lemmas.Bool.Decides.{nat_tests}
+use Rattle.std.proofs.lemmas.List.{append-nil}
+use Rattle.pm_trees.specs.declared.block.Block.{Block}
+use Rattle.pm_trees.specs.declared.block.Kind.{Kind}
+use Rattle.pm_trees.specs.declared.block.Kind.TheVariants as kind
+use Rattle.pm_trees.specs.declared.line.Line.{Line}
+use Rattle.pm_trees.specs.declared.statement.Leads.{Leads}
+use Rattle.pm_trees.specs.declared.statement.Leads.TheVariants as leads
+use Rattle.pm_trees.specs.declared.line.Word.TheVariants as word
+use Rattle.pm_trees.specs.declared.statement.Statement.{Statement}
+use Rattle.pm_trees.specs.Backs.{loops_at}
+use Rattle.pm_trees.specs.Blocks.{all_end, always_word, begins_loop, code_end, condition_word, end_here}
+use Rattle.pm_trees.specs.Blocks.{end_line, end_lines, ends_here, ends_if, ends_repeat, ends_while, fits}
+use Rattle.pm_trees.specs.Blocks.{is_empty, is_if, is_loop, is_repeat_from, is_while_from, line_of}
+use Rattle.pm_trees.specs.Blocks.{lines_from, open_after, open_around, open_at, open_behind, repeat_lines}
+use Rattle.pm_trees.specs.Blocks.{with_repeat, word_by, word_of}
+use Rattle.pm_trees.specs.Reading.{Reading, ended, expanded, closed, opened, read, said, statement_of, turned}
+
+abbrev kinds : List Block → List Kind
+kinds bs = map (λ (b : Block). b.kind) bs
+
+-- where a choice or a WHILE that is open ends; what REPEAT opens says nothing of its end
+abbrev with_end : Kind → ℕ → List ℕ → List ℕ
+with_end kind.If end ends = end ∷ ends
+with_end kind.Else end ends = end ∷ ends
+with_end (kind.While place) end ends = end ∷ ends
+with_end (kind.Repeat place) end ends = ends
+
+abbrev ends_of : List Block → List ℕ
+ends_of [] = []
+ends_of (b ∷ bs) = with_end b.kind b.end (ends_of bs)
+
+-- lines, read in blocks, say these statements, and where the blocks end
+abbrev Says : List Line → List Block → List Statement → Type 0
+Says ls bs ss = read ls (kinds bs) ≡ Some (record { statements = ss; ends = ends_of bs })
+
+-- ---- what ends
+
+one_end : (at end : ℕ) (k : Kind) (bs : List Block) (ls : List Line) (ss : List Statement) → (not (is_loop k) && end == at) ≡ true
+    → Says ls bs ss → read (end_line at k ++ ls) (k ∷ kinds bs) ≡ Some (record { statements = ss; ends = with_end k end (ends_of bs) })
+one_end at end kind.If bs ls ss e h =
+    let same : at ≡ end = grind (arith, nat_tests, e) in
+    ap (option_map (closed (record { word = word.End; at = at; behind = at }))) h
+    ∙ ap (λ (n : ℕ). Some (record { statements = ss; ends = n ∷ ends_of bs })) same
+one_end at end kind.Else bs ls ss e h =
+    let same : at ≡ end = grind (arith, nat_tests, e) in
+    ap (option_map (closed (record { word = word.End; at = at; behind = at }))) h
+    ∙ ap (λ (n : ℕ). Some (record { statements = ss; ends = n ∷ ends_of bs })) same
+one_end at end (kind.While place) bs ls ss e h = absurd (grind (arith, e))
+one_end at end (kind.Repeat place) bs ls ss e h = absurd (grind (arith, e))
+
+ends_read : (at : ℕ) (bs : List Block) (ls : List Line) (ss : List Statement) → end_here at bs ≡ true
+    → Says ls (open_at at bs) ss → Says (end_lines at bs ++ ls) bs ss
+ends_read at [] ls ss e h = h
+ends_read at (b ∷ bs) ls ss e h = by (nat_le b.end at) (ends_read at bs ls ss) e h
+  where
+    by : (x : Bool) → (end_here at bs ≡ true → Says ls (open_at at bs) ss → Says (end_lines at bs ++ ls) bs ss)
+        → (if x then ends_here at b && end_here at bs else true) ≡ true
+        → Says ls (if x then open_at at bs else b ∷ bs) ss
+        → Says ((if x then end_line at b.kind ++ end_lines at bs else []) ++ ls) (b ∷ bs) ss
+    by true more f g =
+        let parts = and_parts (ends_here at b) (end_here at bs) f in
+        ap (λ l. read l (kinds (b ∷ bs))) (append_assoc (end_line at b.kind) (end_lines at bs) ls)
+        ∙ one_end at b.end b.kind bs (end_lines at bs ++ ls) ss parts.0 (more parts.1 g)
+    by false more f g = g
+
+-- ---- a loop that begins
+
+repeat_read : (limit at end : ℕ) (bs : List Block) (ls : List Line) (ss : List Statement)
+    → Says ls (with_repeat limit at end bs) ss → Says (repeat_lines limit at end bs ++ ls) bs ss
+repeat_read limit at end bs ls ss h = by (begins_loop limit at end bs) h
+  where
+    by : (x : Bool) → Says ls (if x then record { kind = kind.Repeat at; end = end } ∷ bs else bs) ss
+        → Says ((if x then record { word = word.Repeat; at = at; behind = at } ∷ [] else []) ++ ls) bs ss
+    by true g = g
+    by false g = g
+
+-- ---- a statement, behind which lines say others
+
+until_kind : (at behind place end : ℕ) (k : Kind) (bs : List Block) (ls : List Line) (ss : List Statement)
+    → (is_repeat_from place k && end == behind) ≡ true → Says ls bs ss
+    → read (record { word = word.Until; at = at; behind = behind } ∷ ls) (k ∷ kinds bs)
+    ≡ Some (record { statements = record { at = at; behind = behind; leads = leads.ByCondition place } ∷ ss; ends = with_end k end (ends_of bs) })
+until_kind at behind place end kind.If bs ls ss e h = absurd (grind (arith, e))
+until_kind at behind place end kind.Else bs ls ss e h = absurd (grind (arith, e))
+until_kind at behind place end (kind.While p) bs ls ss e h = absurd (grind (arith, e))
+until_kind at behind place end (kind.Repeat p) bs ls ss e h =
+    let parts = and_parts (p == place) (end == behind) e in
+    let same : p ≡ place = grind (arith, nat_tests, parts.0) in
+    ap (option_map (said (record { at = at; behind = behind; leads = leads.ByCondition p }))) h
+    ∙ ap (λ (n : ℕ). Some (record { statements = record { at = at; behind = behind; leads = leads.ByCondition n } ∷ ss; ends = ends_of bs })) same
+
+until_read : (at behind place : ℕ) (bs : List Block) (ls : List Line) (ss : List Statement) → ends_repeat place behind bs ≡ true
+    → Says ls (open_behind word.Until (record { at = at; behind = behind; leads = leads.ByCondition place }) bs) ss
+    → Says (record { word = word.Until; at = at; behind = behind } ∷ ls) bs (record { at = at; behind = behind; leads = leads.ByCondition place } ∷ ss)
+until_read at behind place [] ls ss e h = absurd (grind (arith, e))
+until_read at behind place (b ∷ bs) ls ss e h = until_kind at behind place b.end b.kind bs ls ss e h
+
+while_kind : (at behind place end : ℕ) (k : Kind) (bs : List Block) (ls : List Line) (ss : List Statement)
+    → (is_while_from place k && end == behind) ≡ true → Says ls bs ss
+    → read (record { word = word.EndWhile; at = at; behind = behind } ∷ ls) (k ∷ kinds bs)
+    ≡ Some (record { statements = record { at = at; behind = behind; leads = leads.Always place } ∷ ss; ends = with_end k end (ends_of bs) })
+while_kind at behind place end kind.If bs ls ss e h = absurd (grind (arith, e))
+while_kind at behind place end kind.Else bs ls ss e h = absurd (grind (arith, e))
+while_kind at behind place end (kind.Repeat p) bs ls ss e h = absurd (grind (arith, e))
+while_kind at behind place end (kind.While p) bs ls ss e h =
+    let parts = and_parts (p == place) (end == behind) e in
+    let same : p ≡ place = grind (arith, nat_tests, parts.0) in
+    let there : behind ≡ end = grind (arith, nat_tests, parts.1) in
+    ap (option_map (ended (record { at = at; behind = behind; leads = leads.Always p }) behind)) h
+    ∙ ap (λ (n : ℕ). Some (record { statements = record { at = at; behind = behind; leads = leads.Always n } ∷ ss; ends = behind ∷ ends_of bs })) same
+    ∙ ap (λ (n : ℕ). Some (record { statements = record { at = at; behind = behind; leads = leads.Always place } ∷ ss; ends = n ∷ ends_of bs })) there
+
+while_read : (at behind place : ℕ) (bs : List Block) (ls : List Line) (ss : List Statement) → ends_while place behind bs ≡ true
+    → Says ls (open_behind word.EndWhile (record { at = at; behind = behind; leads = leads.Always place }) bs) ss
+    → Says (record { word = word.EndWhile; at = at; behind = behind } ∷ ls) bs (record { at = at; behind = behind; leads = leads.Always place } ∷ ss)
+while_read at behind place [] ls ss e h = absurd (grind (arith, e))
+while_read at behind place (b ∷ bs) ls ss e h = while_kind at behind place b.end b.kind bs ls ss e h
+
+else_kind : (at behind place end : ℕ) (k : Kind) (bs : List Block) (ls : List Line) (ss : List Statement)
+    → (is_if k && end == behind) ≡ true → Says ls (record { kind = kind.Else; end = place } ∷ bs) ss
+    → read (record { word = word.Else; at = at; behind = behind } ∷ ls) (k ∷ kinds bs)
+    ≡ Some (record { statements = record { at = at; behind = behind; leads = leads.Always place } ∷ ss; ends = with_end k end (ends_of bs) })
+else_kind at behind place end kind.Else bs ls ss e h = absurd (grind (arith, e))
+else_kind at behind place end (kind.While p) bs ls ss e h = absurd (grind (arith, e))
+else_kind at behind place end (kind.Repeat p) bs ls ss e h = absurd (grind (arith, e))
+else_kind at behind place end kind.If bs ls ss e h =
+    let there : behind ≡ end = grind (arith, nat_tests, e) in
+    ap (turned (record { word = word.Else; at = at; behind = behind })) h
+    ∙ ap (λ (n : ℕ). Some (record { statements = record { at = at; behind = behind; leads = leads.Always place } ∷ ss; ends = n ∷ ends_of bs })) there
+
+else_read : (limit at behind place : ℕ) (bs : List Block) (ls : List Line) (ss : List Statement) → ends_if limit place behind bs ≡ true
+    → Says ls (open_behind word.Else (record { at = at; behind = behind; leads = leads.Always place }) bs) ss
+    → Says (record { word = word.Else; at = at; behind = behind } ∷ ls) bs (record { at = at; behind = behind; leads = leads.Always place } ∷ ss)
+else_read limit at behind place [] ls ss e h = absurd (grind (arith, e))
+else_read limit at behind place (b ∷ bs) ls ss e h =
+    else_kind at behind place b.end b.kind bs ls ss (and_parts (is_if b.kind && b.end == behind) (fits limit place bs) e).0 h
+
+condition_read : (limit again at behind place : ℕ) (bs : List Block) (ls : List Line) (ss : List Statement)
+    → Says ls (open_behind (condition_word limit again behind place bs) (record { at = at; behind = behind; leads = leads.ByCondition place }) bs) ss
+    → Says (record { word = condition_word limit again behind place bs; at = at; behind = behind } ∷ ls) bs
+    (record { at = at; behind = behind; leads = leads.ByCondition place } ∷ ss)
+condition_read limit again at behind place bs ls ss h = by (nat_lt behind place && fits limit place bs) (again == place) (ends_repeat place behind bs) refl h
+  where
+    by : (x y z : Bool) → ends_repeat place behind bs ≡ z
+        → Says ls (open_behind (if x then (if y then word.While else word.If) else if z then word.Until else word.Plain (leads.ByCondition place))
+        (record { at = at; behind = behind; leads = leads.ByCondition place }) bs) ss
+        → Says (record {
+          word = if x then (if y then word.While else word.If) else if z then word.Until else word.Plain (leads.ByCondition place);
+          at = at;
+          behind = behind;
+        } ∷ ls) bs (record { at = at; behind = behind; leads = leads.ByCondition place } ∷ ss)
+    by true true z e g = ap (opened (record { word = word.While; at = at; behind = behind })) g
+    by true false z e g = ap (opened (record { word = word.If; at = at; behind = behind })) g
+    by false y true e g = until_read at behind place bs ls ss e g
+    by false y false e g = ap (option_map (said (record { at = at; behind = behind; leads = leads.ByCondition place }))) g
+
+always_read : (limit at behind place : ℕ) (bs : List Block) (ls : List Line) (ss : List Statement)
+    → Says ls (open_behind (always_word limit behind place bs) (record { at = at; behind = behind; leads = leads.Always place }) bs) ss
+    → Says (record { word = always_word limit behind place bs; at = at; behind = behind } ∷ ls) bs
+    (record { at = at; behind = behind; leads = leads.Always place } ∷ ss)
+always_read limit at behind place bs ls ss h =
+    by (ends_while place behind bs) (nat_lt behind place && ends_if limit place behind bs) refl refl h
+  where
+    by : (x y : Bool) → ends_while place behind bs ≡ x → (nat_lt behind place && ends_if limit place behind bs) ≡ y
+        → Says ls (open_behind (if x then word.EndWhile else if y then word.Else else word.Plain (leads.Always place))
+        (record { at = at; behind = behind; leads = leads.Always place }) bs) ss
+        → Says (record {
+          word = if x then word.EndWhile else if y then word.Else else word.Plain (leads.Always place);
+          at = at;
+          behind = behind;
+        } ∷ ls) bs (record { at = at; behind = behind; leads = leads.Always place } ∷ ss)
+    by true y e f g = while_read at behind place bs ls ss e g
+    by false true e f g =
+        else_read limit at behind place bs ls ss (and_parts (nat_lt behind place) (ends_if limit place behind bs) f).1 g
+    by false false e f g = ap (option_map (said (record { at = at; behind = behind; leads = leads.Always place }))) g
+
+word_read : (limit again at behind : ℕ) (to : Leads) (bs : List Block) (ls : List Line) (ss : List Statement)
+    → Says ls (open_behind (word_by limit again behind to bs) (record { at = at; behind = behind; leads = to }) bs) ss
+    → Says (record { word = word_by limit again behind to bs; at = at; behind = behind } ∷ ls) bs
+    (record { at = at; behind = behind; leads = to } ∷ ss)
+word_read limit again at behind leads.Nowhere bs ls ss h =
+    ap (option_map (said (record { at = at; behind = behind; leads = leads.Nowhere }))) h
+word_read limit again at behind (leads.ByCondition place) bs ls ss h = condition_read limit again at behind place bs ls ss h
+word_read limit again at behind (leads.Always place) bs ls ss h = always_read limit at behind place bs ls ss h
+
+-- ---- all
+
+none_left : (bs : List Block) → is_empty bs ≡ true → Says [] bs []
+none_left [] e = refl
+none_left (b ∷ bs) e = absurd (grind (arith, e))
+
+lines_read : (limit : ℕ) (all : List Statement) (bs : List Block) (ss : List Statement) → all_end limit all bs ss ≡ true
+    → Says (lines_from limit all bs ss) bs ss
+unfolding all_end lines_from
+lines_read limit all bs [] e =
+    let parts = and_parts (end_here limit bs) (is_empty (open_at limit bs)) e in
+    ap (λ l. read l (kinds bs)) (sym (append-nil (end_lines limit bs)))
+    ∙ ends_read limit bs [] [] parts.0 (none_left (open_at limit bs) parts.1)
+lines_read limit all bs (s ∷ ss) e =
+    let here = loops_at all s.at in
+    let next = open_after limit here s bs in
+    let parts = and_parts (end_here s.at bs) (all_end limit all next ss) e in
+    let rest = lines_from limit all next ss in
+    let line = line_of (word_of limit here s bs) s in
+    let front = end_lines s.at bs in
+    let around = open_at s.at bs in
+    let loop = repeat_lines limit s.at here.by_condition around in
+    ap (λ l. read l (kinds bs)) (append_assoc (front ++ loop) (line ∷ []) rest ∙ append_assoc front loop (line ∷ rest))
+    ∙ ends_read s.at bs (loop ++ line ∷ rest) (s ∷ ss) parts.0
+    (repeat_read limit s.at here.by_condition around (line ∷ rest) (s ∷ ss)
+    (word_read limit here.always s.at s.behind s.leads (open_around limit here s bs) rest ss
+    (lines_read limit all next ss parts.1)))
+
+-- Where each block ends as its jump says, the lines say the statements.
+pub read_back : (ss : List Statement) → all_end (code_end ss) ss [] ss ≡ true
+    → expanded (lines_from (code_end ss) ss [] ss) ≡ Some ss
+unfolding expanded
+read_back ss e = ap (option_map (λ (r : Reading). r.statements)) (lines_read (code_end ss) ss [] ss e)

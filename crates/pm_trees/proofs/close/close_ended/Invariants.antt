@@ -1,0 +1,13 @@
+use Rattle.std.proofs.Common.{◌≡◌, ◌++◌, length, reverse}
+use Rattle.std.specs.Prelude.{◌&&◌}
+use Rattle.pm_trees.specs.Blocks.{end_here, end_lines, open_at}
+use Rattle.pm_trees.proofs.Closing.{Closing}
+use Rattle.pm_trees.proofs.close.close_ended.Given as goal
+
+-- what was closed, with what is still to be closed, is all
+abbrev pub invariant-ended : goal.invariant-ended
+invariant-ended l =
+    Closing l.at l.here l.lines.items (reverse l.nest.items) l.fn.lines.items (reverse l.fn.nest.items)
+
+abbrev pub decreases-ended : goal.decreases-ended
+decreases-ended l = length l.nest.items

@@ -1,0 +1,133 @@
+//! Statements that lead back.
+
+ghost use Rattle.std.specs.Prelude.{◌≡◌, ◌<◌, ◌==◌, ℕ, List, length, if◌then◌else◌, IfOk, OnOk};
+ghost use Rattle.pm_trees.specs.Backs as backs;
+ghost use Rattle.pm_trees.specs.declared.statement.Statement.{Statement};
+
+use crate::statement::{Leads, Statement};
+use std::alloc::{AllocError, Global};
+
+/// How a statement leads to another place.
+#[derive(Clone, Copy, Drop)]
+pub enum Way {
+    /// By a condition.
+    ByCondition,
+    /// Always.
+    Always,
+}
+
+/// Where the last statements end that lead back to a place; 0 where none does.
+#[derive(Clone, Copy, Drop)]
+pub struct Loops {
+    /// The last one by a condition.
+    pub by_condition: usize,
+    /// The last one that always does.
+    pub always: usize,
+}
+
+/// A place that is not behind this one.
+fn back_to(place: usize, at: usize) -> Option<usize>
+    ensures place { result ≡ backs.back_to place at }
+{
+    if place <= at { Some(place) } else { None }
+}
+
+/// Where a statement leads that way, if that is itself or lies before it.
+fn back_place(way: Way, leads: Leads, at: usize) -> Option<usize>
+    ensures place { result ≡ backs.back_place way leads at }
+{
+    match (way, leads) {
+        (Way::ByCondition, Leads::ByCondition(place)) => back_to(place, at),
+        (Way::Always, Leads::Always(place)) => back_to(place, at),
+        _ => None,
+    }
+}
+
+/// Makes room for a place.
+#[tactic(auto, using(crate::proofs::BlockEnds::has_more))]
+fn make_room(ends: &mut Vec<usize>, place: usize) -> Result<(), AllocError>
+    ensures same { OnOk result ((p : ℕ) → backs.written ends.new.items p ≡ backs.written ends.old.items p) }
+    ensures room { OnOk result (place < length ends.new.items) }
+{
+    let Some(size) = place.checked_add(1) else {
+        return Err(AllocError);
+    };
+    if ends.len() < size {
+        ends.resize(size, 0)?;
+    }
+    Ok(())
+}
+
+/// Writes an end for a place.
+#[tactic(auto, using(crate::proofs::BlockEnds::has_set))]
+fn set_end(ends: &mut Vec<usize>, place: usize, end: usize) -> Result<(), AllocError>
+    ensures set { OnOk result ((p : ℕ) → backs.written ends.new.items p
+        ≡ (if place == p then end else backs.written ends.old.items p)) }
+{
+    make_room(ends, place)?;
+    ends[place] = end;
+    Ok(())
+}
+
+/// Writes the end of a statement for the place to which it leads back, if it does.
+fn add_end(ends: &mut Vec<usize>, back: Option<usize>, behind: usize) -> Result<(), AllocError>
+    ensures added { OnOk result ((p : ℕ) → backs.written ends.new.items p
+        ≡ backs.later_end p (backs.written ends.old.items p) back behind) }
+{
+    match back {
+        Some(place) => set_end(ends, place, behind),
+        None => Ok(()),
+    }
+}
+
+/// For each place where the last statement ends that leads back to it that way.
+fn ends_of(alloc: Global, way: Way, statements: &[Statement]) -> Result<Vec<usize>, AllocError>
+    ensures ends { IfOk result (λ ends. backs.AreEnds ends.items way statements.now) }
+{
+    let mut ends = Vec::new(alloc);
+    for statement in statements {
+        let back = back_place(way, statement.leads, statement.at);
+        add_end(&mut ends, back, statement.behind)?;
+    }
+    Ok(ends)
+}
+
+/// The end that is written for a place.
+fn end_at(ends: &[usize], place: usize) -> usize
+    ensures end { result ≡ backs.written ends.now place }
+{
+    ends.get(place).copied().unwrap_or(0)
+}
+
+/// For each place where the last statements end that lead back to it.
+#[derive(Drop)]
+pub(crate) struct Backs {
+    /// The last ones by a condition.
+    by_condition: Vec<usize>,
+    /// The last ones that always do.
+    always: Vec<usize>,
+}
+
+impl Backs {
+    ghost use Rattle.pm_trees.specs.Backs.{IsOf};
+
+    /// Those of statements.
+    pub(crate) fn of(alloc: Global, statements: &[Statement]) -> Result<Backs, AllocError>
+        ensures of { IfOk result (λ backs. IsOf backs statements.now) }
+    {
+        Ok(Backs {
+            by_condition: ends_of(alloc, Way::ByCondition, statements)?,
+            always: ends_of(alloc, Way::Always, statements)?,
+        })
+    }
+
+    /// The loops that begin at a place.
+    pub(crate) fn loops_at(&self, place: usize) -> Loops
+        ensures loops { (all : List Statement) → IsOf self.now all → result ≡ backs.loops_at all place }
+    {
+        Loops {
+            by_condition: end_at(&self.by_condition, place),
+            always: end_at(&self.always, place),
+        }
+    }
+}

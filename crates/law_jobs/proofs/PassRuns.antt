@@ -375,6 +375,7 @@ module _ (d : Session) (depth : Depth) where
     | inl ended ↦ let no = no_run a ended in absurd (cc)
     | inr going ↦
         ap (λ p. goes d depth watched p b) (passing_is a going)
-        ∙ goes_on d depth watched d.passes 0 a b d.machine (inl refl) (omega (arith, small)) (ap (λ (p : Passed). has_rest p.left) (sym (passing_is a going)) ∙ some)
+        ∙ goes_on d depth watched d.passes 0 a b d.machine (inl refl) (omega (arith, small))
+        (ap (λ (p : Passed). has_rest p.left) (sym (passing_is a going)) ∙ some)
         ∙ ap Some (sym (passing_is (a + b) going))
   ]

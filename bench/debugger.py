@@ -192,6 +192,10 @@ same("other lines", [("LONG", ["", "?", "step", "finish 1", "watch 1", "go", "go
       "list 20", "list 0", "frames 5", "finish 3", "step 5000000000", "on 5", "console", "console on", "s 2", "st", "wa", "breakss", 'type "A', 'type "A" ', "key 10",
       "until 1 1 %d" % here, "until 1 1 0 2000000", "on 3", "break 1 1 0 if 2000 = 0", "breaks"])])
 
+told = same("breakpoints that are passed over", [("LONG", rounds(39999) + ["break 1 1 %d" % offsets[50], "ignore %d" % passes, "go 2000003", "breaks", "regs", "go 1200000", "breaks"])
+            for passes in (0, 1, 19999, 20000, 39999, 4294967295)])
+check("some were left, and some were not", "limit 2000003" in told and any("ignore" in answer for answer in told) and "1 1 %d" % offsets[50] in told, told)
+
 lines = ["go 5000000", "stack 2", "regs", "list 3", "frames 2", "breaks", "until 1 1 2 3000000"]
 short = ["g 5000000", " stac 2", "r", "li 3", "fr 2", "breaks", "unt 1 1 2 3000000", "q"]
 shown, status = typed(words + ["LONG"], [line + "\n" for line in short])

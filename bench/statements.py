@@ -334,12 +334,13 @@ class Reader:
         if word == "IF":
             self.next()
             if self.peek() == "NOT" and self.peek(1) == "(":
-                self.next()
-                self.next()
+                begun = self.at
+                self.at += 2
                 code = self.expression()[0]
                 self.eat(")")
-                self.eat("GOTO")
-                return code + ["FJP " + self.target()]
+                if self.skip("GOTO"):
+                    return code + ["FJP " + self.target()]
+                self.at = begun # NOT of the left one of two
             a = self.expression(2)[0]
             sign = self.next()
             b = self.expression(2)[0]

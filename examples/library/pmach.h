@@ -188,8 +188,8 @@ uint32_t pmach_answer(struct pmach *h, uint8_t *out, size_t out_len, size_t *nee
    taken away: 0; 501 beside 64 others; 502 it is not set; 503 an odd address; 8. */
 uint32_t pmach_break(struct pmach *h, uint8_t segment, uint8_t procedure, uint16_t offset, bool on);
 uint32_t pmach_watch(struct pmach *h, uint16_t address, bool on);
-/* As pmach_run, but up to a breakpoint, 15, or to a watched word that has changed, 16, and *address is its address:
-   before each step but the first. */
+/* As pmach_run, but up to a breakpoint, 15, whatever a line `ignore` said, or to a watched word that has changed, 16,
+   and *address is its address: before each step but the first. */
 uint32_t pmach_go(struct pmach *h, uint64_t limit, uint64_t *steps, uint16_t *address);
 
 /* ---- These change nothing. 0; 8 and nothing is shown. */

@@ -30,3 +30,4 @@ pub mod PublicLaws
 pub mod EffectLaws
 pub mod StandardEffectLaws
 pub mod CallEffectLaws
+pub mod StoreRows

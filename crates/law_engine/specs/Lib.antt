@@ -18,3 +18,4 @@ pub mod WordsLaws
 pub mod Effects
 pub mod StandardEffects
 pub mod CallEffects
+pub mod StoreLaws

@@ -13,8 +13,8 @@
     the cases       of examples/conformance/bare.txt, of which crates/test_cases/data/bare.txt is a copy
     the segment     of examples/system/system.text, of which crates/test_trials/data/system.text is a copy
     the header      examples/library/pmach.h, whose numbers of answers are those that crates/pm_c/specs/Worked.antt has, and
-                    whose calls, with the types of their parameters, are the exports of crates/pm_c/src; its version is that of
-                    the program
+                    whose calls, with the types of their parameters, are the exports of crates/pm_c/src, each called by its tests;
+                    its version is that of the program
     the sentences   of crates/pm_c/src/sentences.rt, which are those of the faults and errors that they tell
     names           that docs/PROMISES.md, docs/ARCHITECTURE.md, docs/DECISIONS.md and the sections of definitions have and
                     the source, or the crates beside, have not; and paths and sections that the pages name
@@ -130,7 +130,7 @@ for pattern, most in (("crates/*/src/**/*.rt", 120), ("crates/*/specs/**/*.antt"
 
 NUMBERS = r"\b(65_?492|65_?502|65_?504|60_?000|172|185)\b"
 for path in sorted(glob.glob("crates/*/src/**/*.rt", recursive=True)):
-    if re.search(r"(layout|fields|worked|tests|table)\.rt$", path) or path.startswith("crates/test_"):
+    if re.search(r"(layout|fields|worked|tests|table|calls/\w+)\.rt$", path) or path.startswith("crates/test_"):
         continue
     for number, line in enumerate(lines(path)):
         if re.search(NUMBERS, line.split("//")[0]) and not re.match(r"\s*(const|pub const|pub\(crate\) const)", line):
@@ -199,6 +199,10 @@ for answer, name, given in re.findall(r"(\w+) (pmach_\w+)\(([^)]*)\);", text):
 for name in sorted(set(exports) | set(prototypes)):
     if exports.get(name) != prototypes.get(name):
         tell("header", "%s is %s in crates/pm_c and %s in pmach.h" % (name, exports.get(name), prototypes.get(name)))
+made = "\n".join("\n".join(lines(path)) for path in glob.glob("crates/pm_c/src/calls/*.rt"))
+for name in sorted(exports):
+    if not re.search(r"\b%s[(,]" % name, made):
+        tell("header", "%s is called by no test of crates/pm_c/src/calls" % name)
 
 told = dict(re.findall(r'^ +(\d+) => Some\(\s*"(.*)",?$', "\n".join(lines("crates/pm_c/src/sentences.rt")).replace("),\n", "\n"), re.M))
 FAULTS = ((100, "pm_words/src/error"), (200, "pm_machine/src/state"), (300, "pm_units/src/ports"), (400, "pm_volume/src/fault"),

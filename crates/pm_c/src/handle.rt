@@ -27,8 +27,8 @@ impl Model for Handle {
 }
 
 impl Handle {
-    // A handle without a machine.
-    fn empty() -> Handle
+    /// A handle without a machine.
+    pub(crate) fn empty() -> Handle
         ensures none { result.held ≡ None }
     {
         Handle {

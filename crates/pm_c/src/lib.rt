@@ -4,6 +4,8 @@
 
 mod answers;
 mod buffer;
+#[cfg(test)]
+mod calls;
 pub mod debugger;
 pub mod disks;
 pub mod events;

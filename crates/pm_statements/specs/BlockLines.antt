@@ -41,6 +41,9 @@ word_text word.While l s = codes "WHILE " ++ (condition_text l.role s.text ++ co
 word_text word.Until l s = codes "UNTIL " ++ condition_text l.role s.text
 word_text word.Else l s = codes "ELSE"
 word_text word.EndWhile l s = codes "END"
+word_text word.Case l s = codes "CASE"
+word_text word.Leave l s = codes "LEAVE"
+word_text word.EndCase l s = codes "END " ++ value_text s 0
 word_text word.Repeat l s = []
 word_text word.End l s = []
 

@@ -29,8 +29,12 @@ leads_to c f None = leads.Nowhere
 leads_to condition.Always f (Some place) = leads.Always place
 leads_to c f (Some place) = if is_sentence f then leads.ByCondition place else leads.Nowhere
 
+abbrev pub leads_by_value : Form → Leads
+leads_by_value f = if is_sentence f then leads.ByValue else leads.Nowhere
+
 abbrev pub leads_by : List ℕ → Role → Form → Leads
 leads_by entries (role.Jump c target) f = leads_to c f (place_in entries target)
+leads_by entries role.Case f = leads_by_value f
 leads_by entries _ f = leads.Nowhere
 
 -- where the next statement begins; where the code ends, if there is none

@@ -8,9 +8,27 @@ use crate::leading::behind_first;
 use crate::lines::{PlaceLines, Push, is_call, is_check, push_blanks};
 use pm_code::FiveDigits;
 use pm_phrases::{Phrase, Value};
-use pm_trees::{Left, Line, Word};
+use pm_trees::{Left, Line, Role, Word};
 use std::alloc::{AllocError, Global};
 use std::fmt::Write;
+
+/// Adds a condition between two texts.
+fn push_between(
+    alloc: Global,
+    out: &mut String,
+    front: &str,
+    role: Role,
+    text: &str,
+    tail: &str,
+) -> Result<(), AllocError>
+    ensures text { OnOk result (string_bytes out.new
+        ≡ string_bytes out.old ++ (front.now ++ (texts.condition_text role text.now ++ tail.now))) }
+{
+    out.push_str(front)?;
+    push_condition(alloc, out, role, text)?;
+    out.push_str(tail)?;
+    Ok(())
+}
 
 /// Adds a statement by its word, without its offset.
 #[tactic(auto, unfolding(crate::specs::BlockLines::word_text))]
@@ -31,22 +49,20 @@ fn push_word(
             let value = Value(phrase, 0);
             write!(out, "{push}{value}")?;
         }
-        Word::If => {
-            out.push_str("IF ")?;
-            push_condition(alloc, out, left.role, text)?;
-            out.push_str(" THEN")?;
-        }
-        Word::While => {
-            out.push_str("WHILE ")?;
-            push_condition(alloc, out, left.role, text)?;
-            out.push_str(" DO")?;
-        }
+        Word::If => push_between(alloc, out, "IF ", left.role, text, " THEN")?,
+        Word::While => push_between(alloc, out, "WHILE ", left.role, text, " DO")?,
         Word::Until => {
             out.push_str("UNTIL ")?;
             push_condition(alloc, out, left.role, text)?;
         }
         Word::Else => out.push_str("ELSE")?,
         Word::EndWhile => out.push_str("END")?,
+        Word::Case => out.push_str("CASE")?,
+        Word::Leave => out.push_str("LEAVE")?,
+        Word::EndCase => {
+            let value = Value(phrase, 0);
+            write!(out, "END {value}")?;
+        }
         Word::Repeat | Word::End => (),
     }
     Ok(())

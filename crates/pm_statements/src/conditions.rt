@@ -51,7 +51,7 @@ pub(crate) fn push_condition(
             out.push_str(without_tail(rest, tail.as_str()))?;
             out.push_str(")")?;
         }
-        Role::Call | Role::Check | Role::Other => out.push_str(text)?,
+        Role::Call | Role::Check | Role::Case | Role::Other => out.push_str(text)?,
     }
     Ok(())
 }

@@ -48,6 +48,17 @@ fn leads_to(condition: Condition, form: Form, place: Option<usize>) -> Leads
     }
 }
 
+/// Where a statement leads that leads by a value.
+fn leads_by_value(form: Form) -> Leads
+    ensures leads { result ≡ leading.leads_by_value form }
+{
+    if is_sentence(form) {
+        Leads::ByValue
+    } else {
+        Leads::Nowhere
+    }
+}
+
 /// Where a statement leads.
 fn leads_by(entries: &[usize], role: Role, phrase: &Phrase) -> Leads
     ensures leads { result ≡ leading.leads_by entries.now role phrase.now.form }
@@ -58,6 +69,7 @@ fn leads_by(entries: &[usize], role: Role, phrase: &Phrase) -> Leads
             phrase.form,
             place_in(entries, target),
         ),
+        Role::Case => leads_by_value(phrase.form),
         Role::Call | Role::Check | Role::Other => Leads::Nowhere,
     }
 }

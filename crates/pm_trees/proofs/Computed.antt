@@ -19,5 +19,11 @@ worked_blocks = record {
   last = refl;
   beyond = refl;
   crossing = refl;
+  case = refl;
+  case_in_loop = refl;
+  out_of_case = refl;
+  twice_to_case = refl;
+  crossing_case = refl;
+  else_to_case = refl;
   between = refl;
 }

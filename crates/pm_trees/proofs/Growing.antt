@@ -19,14 +19,14 @@ growing_none all = record { lines = refl; right = refl }
 
 -- one statement more
 pub growing_step : (all : List Statement) (right here next : Bool) (ls more : List Line) (bs new : List Block) (s : Statement) (ss now : List Statement)
-    (loops : Loops) → Growing all right ls bs now → now ≡ s ∷ ss → loops ≡ loops_at all s.at
+    (loops : Loops) → Growing all right ls bs now → now ≡ s ∷ ss → loops ≡ loops_at all s
     → more ≡ ls ++ statement_lines (code_end all) loops s bs → new ≡ open_after (code_end all) loops s bs
     → here ≡ end_here s.at bs → next ≡ (right && here) → Growing all next more new ss
 unfolding all_end lines_from
 growing_step all right here next ls more bs new s ss now loops g e f m n h k =
     let limit : ℕ = code_end all in
-    let own : List Line = statement_lines limit (loops_at all s.at) s bs in
-    let after : List Block = open_after limit (loops_at all s.at) s bs in
+    let own : List Line = statement_lines limit (loops_at all s) s bs in
+    let after : List Block = open_after limit (loops_at all s) s bs in
     let there : new ≡ after = n ∙ ap (λ (l : Loops). open_after limit l s bs) f in
     record {
       lines =

@@ -11,21 +11,23 @@ use Rattle.pm_trees.specs.declared.line.Word.TheVariants as word
 use Rattle.pm_trees.specs.declared.statement.Leads.{Leads}
 use Rattle.pm_trees.specs.declared.statement.Leads.TheVariants as leads
 use Rattle.pm_trees.specs.declared.statement.Statement.{Statement}
-use Rattle.pm_trees.specs.Backs.{loops_at}
+use Rattle.pm_trees.specs.Backs.{loops_at, place_of}
 
 -- ---- blocks that are open, the innermost first
 
-abbrev pub is_loop : Kind → Bool
-is_loop kind.If = false
-is_loop kind.Else = false
-is_loop (kind.While place) = true
-is_loop (kind.Repeat place) = true
+-- whether its last statement closes it
+abbrev pub closes_itself : Kind → Bool
+closes_itself kind.If = false
+closes_itself kind.Else = false
+closes_itself (kind.While place) = true
+closes_itself (kind.Repeat place) = true
+closes_itself (kind.Case place) = true
 
 -- Whether a block up to an end lies within the innermost one; within the code, where none is open. The statement that
--- closes a loop is in no block within the loop.
+-- closes a loop or a CASE is in no block within that.
 abbrev pub fits : ℕ → ℕ → List Block → Bool
 fits limit end [] = nat_le end limit
-fits limit end (b ∷ bs) = if is_loop b.kind then nat_lt end b.end else nat_le end b.end
+fits limit end (b ∷ bs) = if closes_itself b.kind then nat_lt end b.end else nat_le end b.end
 
 -- ---- what ends at a place, or before it
 
@@ -41,15 +43,15 @@ open_at at (b ∷ bs) = if nat_le b.end at then open_at at bs else b ∷ bs
 
 -- a line for the end of a choice
 abbrev pub end_line : ℕ → Kind → List Line
-end_line at k = if is_loop k then [] else record { word = word.End; at = at; behind = at } ∷ []
+end_line at k = if closes_itself k then [] else record { word = word.End; at = at; behind = at } ∷ []
 
 abbrev pub end_lines : ℕ → List Block → List Line
 end_lines at [] = []
 end_lines at (b ∷ bs) = if nat_le b.end at then end_line at b.kind ++ end_lines at bs else []
 
--- a choice ends right there, and a loop by its own statement
+-- a choice ends right there, and all else by its own statement
 abbrev pub ends_here : ℕ → Block → Bool
-ends_here at b = not (is_loop b.kind) && b.end == at
+ends_here at b = not (closes_itself b.kind) && b.end == at
 
 -- whether all that end there end so
 abbrev pub end_here : ℕ → List Block → Bool
@@ -84,6 +86,14 @@ abbrev pub is_repeat_from : ℕ → Kind → Bool
 is_repeat_from place (kind.Repeat p) = p == place
 is_repeat_from place _ = false
 
+abbrev pub is_case : Kind → Bool
+is_case (kind.Case place) = true
+is_case _ = false
+
+abbrev pub is_case_to : ℕ → Kind → Bool
+is_case_to place (kind.Case p) = p == place
+is_case_to place _ = false
+
 -- whether the innermost block is the loop from that place, and ends there
 abbrev pub ends_while : ℕ → ℕ → List Block → Bool
 ends_while place behind [] = false
@@ -92,6 +102,16 @@ ends_while place behind (b ∷ bs) = is_while_from place b.kind && b.end == behi
 abbrev pub ends_repeat : ℕ → ℕ → List Block → Bool
 ends_repeat place behind [] = false
 ends_repeat place behind (b ∷ bs) = is_repeat_from place b.kind && b.end == behind
+
+-- whether it is what is done by a value, up to that statement, and ends there
+abbrev pub ends_case : ℕ → ℕ → List Block → Bool
+ends_case place behind [] = false
+ends_case place behind (b ∷ bs) = is_case_to place b.kind && b.end == behind
+
+-- whether it is what is done by a value, and ends at a place
+abbrev pub leaves_case : ℕ → List Block → Bool
+leaves_case place [] = false
+leaves_case place (b ∷ bs) = is_case b.kind && b.end == place
 
 -- whether it is what is done if a condition holds, and ends there, where what is done else fits into the next one
 abbrev pub ends_if : ℕ → ℕ → ℕ → List Block → Bool
@@ -106,36 +126,58 @@ condition_word limit again behind place bs =
     else if ends_repeat place behind bs then word.Until
     else word.Plain (leads.ByCondition place)
 
--- of one that leads always: back to the condition of the innermost loop, or forward from the end of a choice
-abbrev pub always_word : ℕ → ℕ → ℕ → List Block → Word
-always_word limit behind place bs =
+-- Whether what lies between a statement and the one to which it leads is a block that fits. That one leads by a value,
+-- and ends at a place, or at 0 where it does not lead so.
+abbrev pub begins_case : ℕ → ℕ → ℕ → ℕ → List Block → Bool
+begins_case limit end behind place bs = nat_lt behind place && (nat_lt place end && fits limit end bs)
+
+-- Of one that leads always: back to the condition of the innermost loop, forward from the end of a choice, behind the
+-- innermost block, that is done by a value, or to the end of such a one.
+abbrev pub always_word : ℕ → ℕ → ℕ → ℕ → List Block → Word
+always_word limit end behind place bs =
     if ends_while place behind bs then word.EndWhile
     else if nat_lt behind place && ends_if limit place behind bs then word.Else
+    else if leaves_case place bs then word.Leave
+    else if begins_case limit end behind place bs then word.Case
     else word.Plain (leads.Always place)
 
-abbrev pub word_by : ℕ → ℕ → ℕ → Leads → List Block → Word
-word_by limit again behind leads.Nowhere bs = word.Plain leads.Nowhere
-word_by limit again behind (leads.ByCondition place) bs = condition_word limit again behind place bs
-word_by limit again behind (leads.Always place) bs = always_word limit behind place bs
+-- of one that leads by a value
+abbrev pub value_word : ℕ → ℕ → List Block → Word
+value_word at behind bs = if ends_case at behind bs then word.EndCase else word.Plain leads.ByValue
 
--- where it leads; 0 for nowhere
-abbrev pub place_of : Leads → ℕ
-place_of leads.Nowhere = 0
-place_of (leads.ByCondition place) = place
-place_of (leads.Always place) = place
+abbrev pub word_by : ℕ → Loops → ℕ → ℕ → Leads → List Block → Word
+word_by limit here at behind leads.Nowhere bs = word.Plain leads.Nowhere
+word_by limit here at behind (leads.ByCondition place) bs = condition_word limit here.always behind place bs
+word_by limit here at behind (leads.Always place) bs = always_word limit here.by_value behind place bs
+word_by limit here at behind leads.ByValue bs = value_word at behind bs
 
 abbrev pub without_first : List Block → List Block
 without_first [] = []
 without_first (b ∷ bs) = bs
 
--- what is open behind a statement
-abbrev pub open_behind : Word → Statement → List Block → List Block
-open_behind word.If s bs = record { kind = kind.If; end = place_of s.leads } ∷ bs
-open_behind word.While s bs = record { kind = kind.While s.at; end = place_of s.leads } ∷ bs
-open_behind word.Else s bs = record { kind = kind.Else; end = place_of s.leads } ∷ without_first bs
-open_behind word.EndWhile s bs = without_first bs
-open_behind word.Until s bs = without_first bs
-open_behind _ s bs = bs
+-- whether a statement closes the innermost block
+abbrev pub closes_one : Word → Bool
+closes_one word.Else = true
+closes_one word.EndWhile = true
+closes_one word.Until = true
+closes_one word.EndCase = true
+closes_one _ = false
+
+-- the block that it opens; it may lead to a statement that leads by a value and ends at a place
+abbrev pub opened_by : ℕ → Word → Statement → Option Block
+opened_by end word.If s = Some (record { kind = kind.If; end = place_of s.leads })
+opened_by end word.Else s = Some (record { kind = kind.Else; end = place_of s.leads })
+opened_by end word.While s = Some (record { kind = kind.While s.at; end = place_of s.leads })
+opened_by end word.Case s = Some (record { kind = kind.Case (place_of s.leads); end = end })
+opened_by end _ s = None
+
+abbrev pub with_opened : Option Block → List Block → List Block
+with_opened None bs = bs
+with_opened (Some b) bs = b ∷ bs
+
+-- what is open behind it
+abbrev pub open_behind : ℕ → Word → Statement → List Block → List Block
+open_behind end word s bs = with_opened (opened_by end word s) (if closes_one word then without_first bs else bs)
 
 -- ---- lines
 
@@ -144,7 +186,7 @@ abbrev pub open_around : ℕ → Loops → Statement → List Block → List Blo
 open_around limit here s bs = with_repeat limit s.at here.by_condition (open_at s.at bs)
 
 abbrev pub word_of : ℕ → Loops → Statement → List Block → Word
-word_of limit here s bs = word_by limit here.always s.behind s.leads (open_around limit here s bs)
+word_of limit here s bs = word_by limit here s.at s.behind s.leads (open_around limit here s bs)
 
 abbrev pub line_of : Word → Statement → Line
 line_of w s = record { word = w; at = s.at; behind = s.behind }
@@ -155,13 +197,13 @@ statement_lines limit here s bs = (end_lines s.at bs ++ repeat_lines limit s.at 
     ++ line_of (word_of limit here s bs) s ∷ []
 
 abbrev pub open_after : ℕ → Loops → Statement → List Block → List Block
-open_after limit here s bs = open_behind (word_of limit here s bs) s (open_around limit here s bs)
+open_after limit here s bs = open_behind here.by_value (word_of limit here s bs) s (open_around limit here s bs)
 
 -- the lines of statements, of all of these, behind which the code ends
 unfoldable pub lines_from : ℕ → List Statement → List Block → List Statement → List Line
 lines_from limit all bs [] = end_lines limit bs
-lines_from limit all bs (s ∷ ss) = statement_lines limit (loops_at all s.at) s bs
-    ++ lines_from limit all (open_after limit (loops_at all s.at) s bs) ss
+lines_from limit all bs (s ∷ ss) = statement_lines limit (loops_at all s) s bs
+    ++ lines_from limit all (open_after limit (loops_at all s) s bs) ss
 
 abbrev pub is_empty : List Block → Bool
 is_empty [] = true
@@ -171,7 +213,7 @@ is_empty (b ∷ bs) = false
 unfoldable pub all_end : ℕ → List Statement → List Block → List Statement → Bool
 all_end limit all bs [] = end_here limit bs && is_empty (open_at limit bs)
 all_end limit all bs (s ∷ ss) =
-    end_here s.at bs && all_end limit all (open_after limit (loops_at all s.at) s bs) ss
+    end_here s.at bs && all_end limit all (open_after limit (loops_at all s) s bs) ss
 
 -- the place behind the last statement
 abbrev pub end_behind : ℕ → List Statement → ℕ

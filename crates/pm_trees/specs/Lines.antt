@@ -14,6 +14,7 @@ abbrev pub depth_at : Word → ℕ → ℕ
 depth_at word.Else blocks = blocks - 1
 depth_at word.EndWhile blocks = blocks - 1
 depth_at word.Until blocks = blocks - 1
+depth_at word.EndCase blocks = blocks - 1
 depth_at word.End blocks = blocks - 1
 depth_at _ blocks = blocks
 
@@ -22,7 +23,9 @@ abbrev pub depth_behind : Word → ℕ → ℕ
 depth_behind word.If blocks = blocks + 1
 depth_behind word.While blocks = blocks + 1
 depth_behind word.Repeat blocks = blocks + 1
+depth_behind word.Case blocks = blocks + 1
 depth_behind word.EndWhile blocks = blocks - 1
 depth_behind word.Until blocks = blocks - 1
+depth_behind word.EndCase blocks = blocks - 1
 depth_behind word.End blocks = blocks - 1
 depth_behind _ blocks = blocks

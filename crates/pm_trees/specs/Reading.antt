@@ -1,7 +1,5 @@
 -- Lines in blocks, read back by their brackets alone.
 use Rattle.std.specs.Prelude.{◌≡◌, ℕ, List, [], ◌∷◌, Option, Some, None, option_map}
-use Rattle.pm_trees.specs.declared.block.Kind.{Kind}
-use Rattle.pm_trees.specs.declared.block.Kind.TheVariants as kind
 use Rattle.pm_trees.specs.declared.line.Line.{Line}
 use Rattle.pm_trees.specs.declared.line.Word.{Word}
 use Rattle.pm_trees.specs.declared.line.Word.TheVariants as word
@@ -9,8 +7,16 @@ use Rattle.pm_trees.specs.declared.statement.Leads.{Leads}
 use Rattle.pm_trees.specs.declared.statement.Leads.TheVariants as leads
 use Rattle.pm_trees.specs.declared.statement.Statement.{Statement}
 
--- The statements of lines, and of each choice and WHILE that is open before them the place where it ends, the innermost
--- first.
+-- what lines have opened, a loop where it begins
+pub data Bracket : Type 0 where
+  AnIf : Bracket
+  AnElse : Bracket
+  AWhile : ℕ → Bracket
+  ARepeat : ℕ → Bracket
+  ACase : Bracket
+
+-- The statements of lines, and of each choice and WHILE that is open before them the place where it ends, of each CASE
+-- that where its last statement begins and that where it ends, the innermost first.
 pub record Reading : Type 0 where
   pub statements : List Statement
   pub ends : List ℕ
@@ -47,31 +53,58 @@ abbrev pub turned : Line → Option Reading → Option Reading
 turned l None = None
 turned l (Some r) = turned_to l r.statements r.ends
 
+-- CASE leads to the last statement of its block
+abbrev pub entered_to : Line → List Statement → List ℕ → Option Reading
+entered_to l ss (last ∷ end ∷ ends) =
+    Some (record { statements = statement_of l (leads.Always last) ∷ ss; ends = ends })
+entered_to l ss _ = None
+
+abbrev pub entered : Line → Option Reading → Option Reading
+entered l None = None
+entered l (Some r) = entered_to l r.statements r.ends
+
+-- LEAVE to its end
+abbrev pub left_to : Line → List Statement → List ℕ → Option Reading
+left_to l ss (last ∷ end ∷ ends) =
+    Some (record { statements = statement_of l (leads.Always end) ∷ ss; ends = last ∷ end ∷ ends })
+left_to l ss _ = None
+
+abbrev pub left : Line → Option Reading → Option Reading
+left l None = None
+left l (Some r) = left_to l r.statements r.ends
+
+-- END CASE is that last statement
+abbrev pub decided : Line → Reading → Reading
+decided l r = record { statements = statement_of l leads.ByValue ∷ r.statements; ends = l.at ∷ l.behind ∷ r.ends }
+
 -- END says where a choice ends
 abbrev pub closed : Line → Reading → Reading
 closed l r = record { statements = r.statements; ends = l.at ∷ r.ends }
 
 -- a line, in blocks that are open, before lines that are read in others
-abbrev pub read_line : Word → Line → List Kind → (List Kind → Option Reading) → Option Reading
+abbrev pub read_line : Word → Line → List Bracket → (List Bracket → Option Reading) → Option Reading
 read_line (word.Plain to) l ks rest = option_map (said (statement_of l to)) (rest ks)
-read_line word.If l ks rest = opened l (rest (kind.If ∷ ks))
-read_line word.While l ks rest = opened l (rest (kind.While l.at ∷ ks))
-read_line word.Repeat l ks rest = rest (kind.Repeat l.at ∷ ks)
-read_line word.Else l (kind.If ∷ ks) rest = turned l (rest (kind.Else ∷ ks))
-read_line word.End l (kind.If ∷ ks) rest = option_map (closed l) (rest ks)
-read_line word.End l (kind.Else ∷ ks) rest = option_map (closed l) (rest ks)
-read_line word.EndWhile l (kind.While place ∷ ks) rest =
+read_line word.If l ks rest = opened l (rest (AnIf ∷ ks))
+read_line word.While l ks rest = opened l (rest (AWhile l.at ∷ ks))
+read_line word.Repeat l ks rest = rest (ARepeat l.at ∷ ks)
+read_line word.Case l ks rest = entered l (rest (ACase ∷ ks))
+read_line word.Leave l (ACase ∷ ks) rest = left l (rest (ACase ∷ ks))
+read_line word.Else l (AnIf ∷ ks) rest = turned l (rest (AnElse ∷ ks))
+read_line word.End l (AnIf ∷ ks) rest = option_map (closed l) (rest ks)
+read_line word.End l (AnElse ∷ ks) rest = option_map (closed l) (rest ks)
+read_line word.EndWhile l (AWhile place ∷ ks) rest =
     option_map (ended (statement_of l (leads.Always place)) l.behind) (rest ks)
-read_line word.Until l (kind.Repeat place ∷ ks) rest =
+read_line word.Until l (ARepeat place ∷ ks) rest =
     option_map (said (statement_of l (leads.ByCondition place))) (rest ks)
+read_line word.EndCase l (ACase ∷ ks) rest = option_map (decided l) (rest ks)
 read_line _ l ks rest = None
 
 -- where the lines end no block is open
-abbrev pub read_end : List Kind → Option Reading
+abbrev pub read_end : List Bracket → Option Reading
 read_end [] = Some (record { statements = []; ends = [] })
 read_end (k ∷ ks) = None
 
-abbrev pub read : List Line → List Kind → Option Reading
+abbrev pub read : List Line → List Bracket → Option Reading
 read [] ks = read_end ks
 read (l ∷ ls) ks = read_line l.word l ks (read ls)
 

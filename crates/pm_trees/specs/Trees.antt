@@ -5,7 +5,7 @@ use Rattle.pm_opcode.specs.declared.operation.Operation.{Operation}
 use Rattle.pm_opcode.specs.declared.operation.Operation.TheVariants as operation
 use Rattle.pm_opcode.specs.Operations.{operation_of}
 use Rattle.pm_code.specs.Item.{Item, Target}
-use Rattle.pm_code.specs.Item.Item.{Plain, Jump}
+use Rattle.pm_code.specs.Item.Item.{Plain, Jump, Case}
 use Rattle.pm_code.specs.Item.Target.{To, Through}
 use Rattle.pm_code.specs.declared.item.Target as told
 use Rattle.pm_code.specs.declared.item.Target.TheVariants as targets
@@ -94,6 +94,7 @@ jump_role (Some c) target = role.Jump c target
 abbrev pub role_of : Item ℕ → Role
 role_of (Plain i named) = operation_role (operation_of i)
 role_of (Jump op target) = jump_role (condition_of op) (target_told target)
+role_of (Case low high otherwise places) = role.Case
 role_of _ = role.Other
 
 -- a part behind its operands

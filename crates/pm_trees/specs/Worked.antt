@@ -25,6 +25,9 @@ when place = leads.ByCondition place
 abbrev pub to : ℕ → Leads
 to place = leads.Always place
 
+abbrev pub by : Leads
+by = leads.ByValue
+
 abbrev pub plain : Word
 plain = word.Plain leads.Nowhere
 
@@ -58,6 +61,26 @@ pub record WorkedBlocks : Type 0 where
   -- one block does not begin in another and end behind it
   pub crossing : words_of (when 3 ∷ when 4 ∷ on ∷ on ∷ on ∷ [])
       ≡ Some (word.If ∷ word.Plain (when 4) ∷ plain ∷ word.End ∷ plain ∷ plain ∷ [])
+  -- 1 leads to 6, which leads to 2 or 4 by a value; 3 and 5 lead behind it
+  pub case : words_of (on ∷ to 6 ∷ on ∷ to 7 ∷ on ∷ to 7 ∷ by ∷ on ∷ [])
+      ≡ Some (plain ∷ word.Case ∷ plain ∷ word.Leave ∷ plain ∷ word.Leave ∷ word.EndCase ∷ plain ∷ [])
+  -- in a loop, the next one right behind the first
+  pub case_in_loop : words_of (when 8 ∷ to 3 ∷ to 4 ∷ by ∷ to 6 ∷ to 7 ∷ by ∷ to 0 ∷ on ∷ [])
+      ≡ Some (word.While ∷ word.Case ∷ word.Leave ∷ word.EndCase ∷ word.Case ∷ word.Leave ∷ word.EndCase
+      ∷ word.EndWhile ∷ plain ∷ [])
+  -- a choice in it; 2 leads out of that and of the CASE, 4 out of the CASE and farther
+  pub out_of_case : words_of (to 6 ∷ when 3 ∷ to 7 ∷ on ∷ to 8 ∷ to 7 ∷ by ∷ on ∷ on ∷ [])
+      ≡ Some (word.Case ∷ word.If ∷ word.Plain (to 7) ∷ word.End ∷ plain ∷ word.Plain (to 8) ∷ word.Leave
+      ∷ word.EndCase ∷ plain ∷ plain ∷ [])
+  -- 0 and 1 lead to the same, of which the first one alone opens a block; none leads over nothing
+  pub twice_to_case : words_of (to 3 ∷ to 3 ∷ on ∷ by ∷ to 5 ∷ by ∷ [])
+      ≡ Some (word.Case ∷ word.Plain (to 3) ∷ plain ∷ word.EndCase ∷ word.Plain (to 5) ∷ word.Plain by ∷ [])
+  -- it does not begin in a choice and end behind it
+  pub crossing_case : words_of (when 3 ∷ to 4 ∷ on ∷ on ∷ by ∷ on ∷ [])
+      ≡ Some (word.If ∷ word.Plain (to 4) ∷ plain ∷ word.End ∷ plain ∷ word.Plain by ∷ plain ∷ [])
+  -- the end of a choice is ELSE, wherever it leads
+  pub else_to_case : words_of (when 2 ∷ to 3 ∷ on ∷ by ∷ on ∷ [])
+      ≡ Some (word.If ∷ word.Else ∷ plain ∷ word.End ∷ word.Plain by ∷ plain ∷ [])
   -- no statement begins at 3, where a choice would end
   pub between : option_map (map (λ (l : Line). l.word)) (blocks (
       record { at = 0; behind = 1; leads = when 3 }

@@ -1,4 +1,4 @@
-//! Statements that lead back.
+//! Statements that lead back, or by a value.
 
 ghost use Rattle.std.specs.Prelude.{◌≡◌, ◌<◌, ◌==◌, ℕ, List, length, if◌then◌else◌, IfOk, OnOk};
 ghost use Rattle.pm_trees.specs.Backs as backs;
@@ -14,15 +14,20 @@ pub enum Way {
     ByCondition,
     /// Always.
     Always,
+    /// To one of several places, by a value.
+    ByValue,
 }
 
-/// Where the last statements end that lead back to a place; 0 where none does.
+/// Where the last statements end that lead back to where a statement begins, or by a value from where it leads; 0 where
+/// none does.
 #[derive(Clone, Copy, Drop)]
 pub struct Loops {
     /// The last one by a condition.
     pub by_condition: usize,
     /// The last one that always does.
     pub always: usize,
+    /// The last one by a value.
+    pub by_value: usize,
 }
 
 /// A place that is not behind this one.
@@ -32,13 +37,14 @@ fn back_to(place: usize, at: usize) -> Option<usize>
     if place <= at { Some(place) } else { None }
 }
 
-/// Where a statement leads that way, if that is itself or lies before it.
+/// Where a statement leads that way, if that is itself or lies before it; where it begins, if it leads by a value.
 fn back_place(way: Way, leads: Leads, at: usize) -> Option<usize>
     ensures place { result ≡ backs.back_place way leads at }
 {
     match (way, leads) {
         (Way::ByCondition, Leads::ByCondition(place)) => back_to(place, at),
         (Way::Always, Leads::Always(place)) => back_to(place, at),
+        (Way::ByValue, Leads::ByValue) => Some(at),
         _ => None,
     }
 }
@@ -80,7 +86,7 @@ fn add_end(ends: &mut Vec<usize>, back: Option<usize>, behind: usize) -> Result<
     }
 }
 
-/// For each place where the last statement ends that leads back to it that way.
+/// For each place where the last statement ends that leads back to it that way, or from it by a value.
 fn ends_of(alloc: Global, way: Way, statements: &[Statement]) -> Result<Vec<usize>, AllocError>
     ensures ends { IfOk result (λ ends. backs.AreEnds ends.items way statements.now) }
 {
@@ -99,13 +105,25 @@ fn end_at(ends: &[usize], place: usize) -> usize
     ends.get(place).copied().unwrap_or(0)
 }
 
-/// For each place where the last statements end that lead back to it.
+/// Where a statement leads; 0 for nowhere, or by a value.
+pub(crate) fn place_of(leads: Leads) -> usize
+    ensures place { result ≡ backs.place_of leads }
+{
+    match leads {
+        Leads::Nowhere | Leads::ByValue => 0,
+        Leads::ByCondition(place) | Leads::Always(place) => place,
+    }
+}
+
+/// For each place where the last statements end that lead back to it, or from it by a value.
 #[derive(Drop)]
 pub(crate) struct Backs {
     /// The last ones by a condition.
     by_condition: Vec<usize>,
     /// The last ones that always do.
     always: Vec<usize>,
+    /// The last ones by a value.
+    by_value: Vec<usize>,
 }
 
 impl Backs {
@@ -118,16 +136,18 @@ impl Backs {
         Ok(Backs {
             by_condition: ends_of(alloc, Way::ByCondition, statements)?,
             always: ends_of(alloc, Way::Always, statements)?,
+            by_value: ends_of(alloc, Way::ByValue, statements)?,
         })
     }
 
-    /// The loops that begin at a place.
-    pub(crate) fn loops_at(&self, place: usize) -> Loops
-        ensures loops { (all : List Statement) → IsOf self.now all → result ≡ backs.loops_at all place }
+    /// The loops that begin where a statement does, and the CASE to which it leads.
+    pub(crate) fn loops_at(&self, statement: &Statement) -> Loops
+        ensures loops { (all : List Statement) → IsOf self.now all → result ≡ backs.loops_at all statement.now }
     {
         Loops {
-            by_condition: end_at(&self.by_condition, place),
-            always: end_at(&self.always, place),
+            by_condition: end_at(&self.by_condition, statement.at),
+            always: end_at(&self.always, statement.at),
+            by_value: end_at(&self.by_value, place_of(statement.leads)),
         }
     }
 }

@@ -14,6 +14,8 @@ pub enum Kind {
     While(usize),
     /// A loop that ends with its condition, from a place on.
     Repeat(usize),
+    /// What is done by a value, up to behind the statement at a place that leads there.
+    Case(usize),
 }
 
 /// A block, and the place behind it.
@@ -25,13 +27,13 @@ pub struct Block {
     pub end: usize,
 }
 
-/// Whether it is a loop.
-pub(crate) fn is_loop(kind: Kind) -> bool
-    ensures value { result ≡ blocks.is_loop kind }
+/// Whether its last statement closes it.
+pub(crate) fn closes_itself(kind: Kind) -> bool
+    ensures value { result ≡ blocks.closes_itself kind }
 {
     match kind {
         Kind::If | Kind::Else => false,
-        Kind::While(_) | Kind::Repeat(_) => true,
+        Kind::While(_) | Kind::Repeat(_) | Kind::Case(_) => true,
     }
 }
 
@@ -43,7 +45,7 @@ pub(crate) fn fits(limit: usize, end: usize, nest: &[Block]) -> bool
     let Some(outer) = nest.last() else {
         return end <= limit;
     };
-    if is_loop(outer.kind) {
+    if closes_itself(outer.kind) {
         end < outer.end
     } else {
         end <= outer.end

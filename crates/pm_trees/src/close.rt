@@ -3,7 +3,7 @@
 ghost use Rattle.std.specs.Prelude.{◌≡◌, ◌++◌, reverse, IfOk, OnOk};
 ghost use Rattle.pm_trees.specs.Blocks as blocks;
 
-use crate::block::{Block, Kind, is_loop};
+use crate::block::{Block, Kind, closes_itself};
 use crate::line::{Line, Word};
 use std::alloc::AllocError;
 
@@ -22,14 +22,14 @@ fn has_ended(nest: &[Block], at: usize) -> bool
 fn ends_here(block: Block, at: usize) -> bool
     ensures value { result ≡ blocks.ends_here at block }
 {
-    !is_loop(block.kind) && block.end == at
+    !closes_itself(block.kind) && block.end == at
 }
 
 /// Adds a line for the end of a choice.
 fn push_end(lines: &mut Vec<Line>, kind: Kind, at: usize) -> Result<(), AllocError>
     ensures lines { OnOk result (lines.new.items ≡ lines.old.items ++ blocks.end_line at kind) }
 {
-    if !is_loop(kind) {
+    if !closes_itself(kind) {
         lines.push(Line {
             word: Word::End,
             at,

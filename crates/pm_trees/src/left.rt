@@ -21,6 +21,8 @@ pub enum Role {
     Check,
     /// A jump, when it is taken and where it leads.
     Jump(Condition, Target<usize>),
+    /// A jump by a value.
+    Case,
     /// Something else.
     Other,
 }
@@ -114,7 +116,8 @@ fn role_of(item: &Item<usize>) -> Role
         Item::Plain(instr, _) => operation_role(Operation::of(instr)),
         Item::Jump(op, Target::To(place)) => jump_role(condition_of(*op), Target::To(*place)),
         Item::Jump(op, Target::Through(k)) => jump_role(condition_of(*op), Target::Through(*k)),
-        Item::Case { .. } | Item::OneByte(_) => Role::Other,
+        Item::Case { .. } => Role::Case,
+        Item::OneByte(_) => Role::Other,
     }
 }
 

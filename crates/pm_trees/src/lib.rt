@@ -1,5 +1,5 @@
 //! Code as statements: each a tree of operations on their operands, with its phrase; and statements, each of which may
-//! lead to another place, in blocks: IF, ELSE, WHILE and REPEAT.
+//! lead to another place, in blocks: IF, ELSE, WHILE, REPEAT and CASE.
 #![tactic(auto)]
 
 mod backs;

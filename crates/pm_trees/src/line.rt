@@ -19,6 +19,12 @@ pub enum Word {
     Repeat,
     /// The condition by which a loop ends.
     Until,
+    /// The statement that leads to the end of what is done by a value.
+    Case,
+    /// One that leads behind that.
+    Leave,
+    /// The statement at its end, that leads by the value.
+    EndCase,
     /// The end of a choice, no statement.
     End,
 }
@@ -50,8 +56,11 @@ impl Word {
         ensures depth { result ≡ lines.depth_at self blocks }
     {
         match self {
-            Word::Else | Word::EndWhile | Word::Until | Word::End => blocks.saturating_sub(1),
-            Word::Plain(_) | Word::If | Word::While | Word::Repeat => blocks,
+            Word::Else | Word::EndWhile | Word::Until | Word::EndCase | Word::End => {
+                blocks.saturating_sub(1)
+            }
+            Word::Plain(_) | Word::If | Word::While | Word::Repeat | Word::Case | Word::Leave =>
+                blocks,
         }
     }
 
@@ -60,9 +69,11 @@ impl Word {
         ensures depth { IfSome result (λ depth. depth ≡ lines.depth_behind self blocks) }
     {
         match self {
-            Word::If | Word::While | Word::Repeat => blocks.checked_add(1),
-            Word::EndWhile | Word::Until | Word::End => Some(blocks.saturating_sub(1)),
-            Word::Plain(_) | Word::Else => Some(blocks),
+            Word::If | Word::While | Word::Repeat | Word::Case => blocks.checked_add(1),
+            Word::EndWhile | Word::Until | Word::EndCase | Word::End => {
+                Some(blocks.saturating_sub(1))
+            }
+            Word::Plain(_) | Word::Else | Word::Leave => Some(blocks),
         }
     }
 }

@@ -39,13 +39,13 @@ fn add(
 {
     let right = close_ended(lines, nest, statement.at)?;
     open_repeat(lines, nest, limit, statement.at, here.by_condition)?;
-    let word = word_by(limit, here.always, statement, nest);
+    let word = word_by(limit, here, statement, nest);
     lines.push(Line {
         word,
         at: statement.at,
         behind: statement.behind,
     })?;
-    open_behind(nest, word, statement)?;
+    open_behind(nest, here.by_value, word, statement)?;
     Ok(right)
 }
 
@@ -84,7 +84,7 @@ fn try_blocks(alloc: Global, statements: &[Statement]) -> Result<Tried, AllocErr
     let mut nest = Vec::new(alloc);
     let mut so_far = true;
     for statement in statements {
-        let here = backs.loops_at(statement.at);
+        let here = backs.loops_at(statement);
         let ends_right = add(&mut lines, &mut nest, limit, here, statement)?;
         so_far = both(so_far, ends_right);
     }

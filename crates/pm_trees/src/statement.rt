@@ -9,6 +9,8 @@ pub enum Leads {
     ByCondition(usize),
     /// To a place, always.
     Always(usize),
+    /// To one of several places, by a value.
+    ByValue,
 }
 
 /// A statement.

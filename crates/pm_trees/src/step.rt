@@ -3,6 +3,7 @@
 ghost use Rattle.std.specs.Prelude.{◌≡◌, ◌++◌, reverse, IfOk, OnOk};
 ghost use Rattle.pm_trees.specs.Blocks as blocks;
 
+use crate::backs::{Loops, place_of};
 use crate::block::{Block, Kind, fits};
 use crate::line::{Line, Word};
 use crate::statement::{Leads, Statement};
@@ -63,6 +64,31 @@ fn ends_repeat(nest: &[Block], place: usize, behind: usize) -> bool
     }
 }
 
+/// Whether it is what is done by a value, up to the statement at a place, and ends at another.
+#[tactic(auto, using(crate::proofs::Lists::reverse_pushed))]
+fn ends_case(nest: &[Block], place: usize, behind: usize) -> bool
+    ensures value { result ≡ blocks.ends_case place behind (reverse nest.now) }
+{
+    match nest.last() {
+        Some(block) => match block.kind {
+            Kind::Case(to) => to == place && block.end == behind,
+            _ => false,
+        },
+        None => false,
+    }
+}
+
+/// Whether it is what is done by a value, and ends at a place.
+#[tactic(auto, using(crate::proofs::Lists::reverse_pushed))]
+fn leaves_case(nest: &[Block], place: usize) -> bool
+    ensures value { result ≡ blocks.leaves_case place (reverse nest.now) }
+{
+    match nest.last() {
+        Some(block) => matches!(block.kind, Kind::Case(_)) && block.end == place,
+        None => false,
+    }
+}
+
 /// Whether it is what is done if a condition holds, and ends at a place, where what is done else fits.
 #[tactic(auto, using(crate::proofs::Lists::reverse_pushed))]
 fn ends_if(nest: &[Block], limit: usize, end: usize, behind: usize) -> bool
@@ -93,38 +119,45 @@ fn condition_word(limit: usize, again: usize, behind: usize, place: usize, nest:
     }
 }
 
-/// The word of a statement that leads always.
-fn always_word(limit: usize, behind: usize, place: usize, nest: &[Block]) -> Word
-    ensures word { result ≡ blocks.always_word limit behind place (reverse nest.now) }
+/// The word of a statement that leads always, to one that leads by a value and ends at a place, or at 0.
+fn always_word(limit: usize, end: usize, behind: usize, place: usize, nest: &[Block]) -> Word
+    ensures word { result ≡ blocks.always_word limit end behind place (reverse nest.now) }
 {
     if ends_while(nest, place, behind) {
         Word::EndWhile
     } else if behind < place && ends_if(nest, limit, place, behind) {
         Word::Else
+    } else if leaves_case(nest, place) {
+        Word::Leave
+    } else if behind < place && place < end && fits(limit, end, nest) {
+        Word::Case
     } else {
         Word::Plain(Leads::Always(place))
     }
 }
 
-/// The word of a statement, where the last one that leads back to it always ends at a place.
-pub(crate) fn word_by(limit: usize, again: usize, statement: &Statement, nest: &[Block]) -> Word
-    ensures word { result
-        ≡ blocks.word_by limit again statement.now.behind statement.now.leads (reverse nest.now) }
+/// The word of a statement that leads by a value.
+fn value_word(at: usize, behind: usize, nest: &[Block]) -> Word
+    ensures word { result ≡ blocks.value_word at behind (reverse nest.now) }
 {
-    match statement.leads {
-        Leads::Nowhere => Word::Plain(Leads::Nowhere),
-        Leads::ByCondition(place) => condition_word(limit, again, statement.behind, place, nest),
-        Leads::Always(place) => always_word(limit, statement.behind, place, nest),
+    if ends_case(nest, at, behind) {
+        Word::EndCase
+    } else {
+        Word::Plain(Leads::ByValue)
     }
 }
 
-/// Where a statement leads; 0 for nowhere.
-fn place_of(leads: Leads) -> usize
-    ensures place { result ≡ blocks.place_of leads }
+/// The word of a statement, where these loops begin, and this CASE stands where it leads.
+pub(crate) fn word_by(limit: usize, here: Loops, statement: &Statement, nest: &[Block]) -> Word
+    ensures word { result
+        ≡ blocks.word_by limit here statement.now.at statement.now.behind statement.now.leads (reverse nest.now) }
 {
-    match leads {
-        Leads::Nowhere => 0,
-        Leads::ByCondition(place) | Leads::Always(place) => place,
+    let behind = statement.behind;
+    match statement.leads {
+        Leads::Nowhere => Word::Plain(Leads::Nowhere),
+        Leads::ByCondition(place) => condition_word(limit, here.always, behind, place, nest),
+        Leads::Always(place) => always_word(limit, here.by_value, behind, place, nest),
+        Leads::ByValue => value_word(statement.at, behind, nest),
     }
 }
 
@@ -136,34 +169,58 @@ fn close_one(nest: &mut Vec<Block>)
     nest.pop();
 }
 
-/// Closes and opens the blocks that a statement of a word ends and begins.
+/// Whether a statement of a word closes the innermost block.
+fn closes_one(word: Word) -> bool
+    ensures value { result ≡ blocks.closes_one word }
+{
+    matches!(
+        word,
+        Word::Else | Word::EndWhile | Word::Until | Word::EndCase
+    )
+}
+
+/// The block that a statement of a word opens, a CASE up to a place.
+fn opened_by(case_end: usize, word: Word, statement: &Statement) -> Option<Block>
+    ensures block { result ≡ blocks.opened_by case_end word statement.now }
+{
+    let end = place_of(statement.leads);
+    match word {
+        Word::If => Some(Block {
+            kind: Kind::If,
+            end,
+        }),
+        Word::Else => Some(Block {
+            kind: Kind::Else,
+            end,
+        }),
+        Word::While => Some(Block {
+            kind: Kind::While(statement.at),
+            end,
+        }),
+        Word::Case => Some(Block {
+            kind: Kind::Case(end),
+            end: case_end,
+        }),
+        _ => None,
+    }
+}
+
+/// Closes and opens the blocks that a statement of a word ends and begins, a CASE up to a place.
 #[tactic(auto, using(crate::proofs::Lists::reverse_pushed))]
 pub(crate) fn open_behind(
     nest: &mut Vec<Block>,
+    case_end: usize,
     word: Word,
     statement: &Statement,
 ) -> Result<(), AllocError>
     ensures nest { OnOk result (reverse nest.new.items
-        ≡ blocks.open_behind word statement.now (reverse nest.old.items)) }
+        ≡ blocks.open_behind case_end word statement.now (reverse nest.old.items)) }
 {
-    let end = place_of(statement.leads);
-    if matches!(word, Word::Else | Word::EndWhile | Word::Until) {
+    if closes_one(word) {
         close_one(nest);
     }
-    match word {
-        Word::If => nest.push(Block {
-            kind: Kind::If,
-            end,
-        })?,
-        Word::Else => nest.push(Block {
-            kind: Kind::Else,
-            end,
-        })?,
-        Word::While => nest.push(Block {
-            kind: Kind::While(statement.at),
-            end,
-        })?,
-        Word::Plain(_) | Word::EndWhile | Word::Until | Word::Repeat | Word::End => (),
+    if let Some(block) = opened_by(case_end, word, statement) {
+        nest.push(block)?;
     }
     Ok(())
 }

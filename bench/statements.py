@@ -472,7 +472,9 @@ def flat_again(code):
         depth = (len(line) - 6 - len(text)) // 2
         word = next((w for w, end in (("IF", " THEN"), ("WHILE", " DO"), ("UNTIL", "")) if text.startswith(w + " ") and text.endswith(end)
                      and not re.search(r"GOTO (L\d{5}|\^\d+)$", text)), None)
-        word = word or (text if text in ("ELSE", "END", "REPEAT") else None)
+        word = word or (text if text in ("ELSE", "END", "REPEAT", "CASE", "LEAVE") else None)
+        if text.startswith("END CASE "):
+            word = "END CASE"
         if line[0] == " ":
             if word == "END" and opened and opened[-1][0] in ("IF", "ELSE"):
                 shown[opened.pop()[1]][2] = at
@@ -501,11 +503,28 @@ def flat_again(code):
                 return None
             where = opened.pop()[1]
             shown[where][2], here[1:] = behind, ["", shown[where][0]]
+        elif word == "LEAVE":
+            if not opened or opened[-1][0] != "CASE":
+                return None
+            here[1] = ""
+            shown[opened[-1][1]][-1].append(here)
+        elif word == "END CASE":
+            if not opened or opened[-1][0] != "CASE":
+                return None
+            where = shown[opened.pop()[1]]
+            where[2], here[1] = at, text[4:]
+            for jump in where.pop():
+                jump[2] = behind
+            word = None
         if depth != min(30, len(opened)):
             return None
-        if word in ("IF", "WHILE", "ELSE"):
+        if word in ("IF", "WHILE", "ELSE", "CASE"):
             opened.append((word, len(shown)))
-        shown.append(here + [word])
+        here.append(word)
+        if word == "CASE":
+            here[1] = ""
+            here.append([])
+        shown.append(here)
     return None if opened else shown
 
 
@@ -729,12 +748,36 @@ def programs(seed, count):
             return e() + e() + ["SLDC 0", "SLDC 0", "CLP 2", "CSP 9"]
         return e() + ["LDM 3"]
 
+    labels = iter(range(1 << 40))
+
+    def within(d):
+        """Statements in blocks as the compiler makes them, and now and then a jump out of one."""
+        if d == 0:
+            return R.choice([["SLDC 1", "SRO 2"], ["SLDO 2", "STL 1"], ["CLP 3"], ["UJP last"], ["SLDO 1", "FJP last"]])
+        n, body = next(labels), lambda: within(d - 1) + (within(0) if R.random() < 0.3 else [])
+        value = ["SLDO %d" % R.randrange(1, 17)]
+        k = R.randrange(5)
+        if k == 0:
+            return value + ["FJP o%d" % n] + body() + ["o%d:" % n]
+        if k == 1:
+            return value + ["FJP s%d" % n] + body() + ["UJP o%d" % n, "s%d:" % n] + body() + ["o%d:" % n]
+        arms, otherwise = R.randrange(4), R.random() < 0.5
+        code = value + ["UJP x%d" % n]
+        for arm in range(arms + otherwise):
+            code += ["a%d_%d:" % (n, arm)] + body() + (["UJP o%d" % n] if R.random() < 0.9 else [])
+        table = ["a%d_%d" % (n, R.randrange(arms)) for _ in range(R.randrange(1, 5))] if arms else []
+        low = R.choice([0, 1, -1, 32767 - len(table)])
+        code += ["x%d:" % n, "XJP " + ", ".join([str(low), str(low + len(table) - 1), "a%d_%d" % (n, arms) if otherwise else "o%d" % n] + table)]
+        return code + (["NOP"] if R.random() < 0.1 else []) + ["o%d:" % n]
+
     tail = ".JUMP here\n.JUMP last\n.END\n.PROC 2 1 6 4\n NOP\n.EXIT\n RNP 1\n NOP\n.END\n.PROC 3 1 2 4\n.EXIT\n RNP 0\n.END\n"
     ends = [tail, ".JUMP here\n" + tail[tail.index(".END"):], tail[tail.index(".END"):]]
     for number in range(count):
-        body = []
-        while len(body) < 28:
-            body += whole() if number % 2 else [single()]
+        body = within(R.randrange(1, 4)) if number % 3 == 2 else []
+        if body and R.random() < 0.5:
+            body = ["SLDO 1", "FJP last"] + body + ["UJP ^0"]
+        while number % 3 < 2 and len(body) < 28:
+            body += whole() if number % 3 else [single()]
         source = ".SEG 1 R\n.PROC 1 0 4 40\nhere:\n" + "".join("  %s\n" % line for line in body) + "last:\n.EXIT\n  RBP 0\n"
         for pad in ("", "  NOP\n"):
             made = [run_bytes(source + pad + end) for end in ends]

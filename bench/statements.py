@@ -3,7 +3,7 @@ are the instructions of `pmach dis`, procedure by procedure, each once and in or
 returns say, and the lines behind it the jump table; and `dis --indent` is that text with the blanks of the page, and `dis --blocks` is read back to it
 by its words alone.
 
-FILE is a code file. With --random so many programs are made, of single instructions and of whole expressions, by turns; with --damaged up to
+FILE is a code file. With --random so many programs are made, of single instructions, of whole expressions and of blocks, by turns; with --damaged up to
 eight bytes of a file are others, so often. By hand; no part of the gate. PMACH names another program than ./pmach."""
 import os
 import random
@@ -756,7 +756,7 @@ def programs(seed, count):
             return R.choice([["SLDC 1", "SRO 2"], ["SLDO 2", "STL 1"], ["CLP 3"], ["UJP last"], ["SLDO 1", "FJP last"]])
         n, body = next(labels), lambda: within(d - 1) + (within(0) if R.random() < 0.3 else [])
         value = ["SLDO %d" % R.randrange(1, 17)]
-        k = R.randrange(5)
+        k = R.randrange(6)
         if k == 0:
             return value + ["FJP o%d" % n] + body() + ["o%d:" % n]
         if k == 1:
@@ -773,7 +773,9 @@ def programs(seed, count):
     tail = ".JUMP here\n.JUMP last\n.END\n.PROC 2 1 6 4\n NOP\n.EXIT\n RNP 1\n NOP\n.END\n.PROC 3 1 2 4\n.EXIT\n RNP 0\n.END\n"
     ends = [tail, ".JUMP here\n" + tail[tail.index(".END"):], tail[tail.index(".END"):]]
     for number in range(count):
-        body = within(R.randrange(1, 4)) if number % 3 == 2 else []
+        body = []
+        while number % 3 == 2 and (not body or R.random() < 0.6):
+            body += within(R.randrange(1, 4))
         if body and R.random() < 0.5:
             body = ["SLDO 1", "FJP last"] + body + ["UJP ^0"]
         while number % 3 < 2 and len(body) < 28:

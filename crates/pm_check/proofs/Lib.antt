@@ -3,3 +3,5 @@ pub mod Names
 pub mod SavingSteps
 pub mod Saves
 pub mod ContentLaws
+pub mod HeadedLaws
+pub mod OrderLaws

@@ -9,3 +9,5 @@ pub mod Naming
 pub mod Report
 pub mod Saving
 pub mod Contents
+pub mod Headed
+pub mod Orders

@@ -1,4 +1,3 @@
 pub mod Found
-pub mod FormLaws
 pub mod InFormLaws
 pub mod Computed

@@ -1,10 +1,12 @@
 -- What files hold where images have another form: all but those of two paths are turned.
-use Rattle.std.specs.Prelude.{ℕ, Bool, false, ◌||◌, List, Option, None, Some, option_map, if◌then◌else◌}
+use Rattle.std.specs.Prelude.{◌≡◌, ◌⊎◌, ℕ, Bool, false, ◌||◌, List, [], Option, None, Some, option_map, if◌then◌else◌}
 use Rattle.std.specs.Str.{bytes_eq}
-use Rattle.pm_files.specs.Held.{Files}
-use Rattle.pm_plan.specs.Forms.{turned}
+use Rattle.pm_files.specs.Held.{Files, HoldsFile, Puts}
+use Rattle.pm_plan.specs.Forms.{volume_of}
+use Rattle.pm_check.specs.Headed.{filed, volume_in}
 use Rattle.pm_plan.specs.declared.form.Form.{Form}
 use Rattle.pm_plan.specs.declared.form.Form.TheVariants as forms
+use Rattle.pm_check.specs.declared.order.Order.TheVariants as orders
 
 -- a path is this one, if there is one
 abbrev pub is_path : List ℕ → Option (List ℕ) → Bool
@@ -13,10 +15,24 @@ is_path path (Some one) = bytes_eq path one
 
 -- the form of a path's file: the system's code file and the printer's file are no images
 abbrev pub form_at : Form → Option (List ℕ) → Option (List ℕ) → List ℕ → Form
-form_at form system printer path = if is_path path system || is_path path printer then forms.Blocks else form
+form_at form system printer path = if is_path path system || is_path path printer then forms.In orders.Blocks else form
 
 -- the files, with the blocks of each image in their order
 abbrev pub in_form : Form → Option (List ℕ) → Option (List ℕ) → Files → Files
 in_form form system printer None = None
 in_form form system printer (Some files) =
-    Some (λ path. option_map (turned (form_at form system printer path)) (files path))
+    Some (λ path. option_map (volume_of (form_at form system printer path)) (files path))
+
+-- ---- files of kind .2mg
+
+-- what was read of a path: its bytes, or none where no file was there
+abbrev pub IsFound : Files → List ℕ → List ℕ → Type 0
+IsFound files path file = (file ≡ []) ⊎ HoldsFile files path file
+
+-- A path holds the file of a volume now, in the place of the one that was found, and each other path what it held; and
+-- what is read of that file is the volume.
+pub record PutsVolume (old new : Files) (path volume : List ℕ) : Type 0 where
+  pub before : List ℕ
+  pub found : IsFound old path before
+  pub puts : Puts old new path (filed before volume)
+  pub back : volume_in (filed before volume) ≡ volume

@@ -143,7 +143,7 @@ const IMAGE: WordRow = (
 const FORM: WordRow = (
     "form",
     Form::Free("FORM"),
-    "The form of the images, blocks, dos or swapped: turned when read, and back when written [default: blocks]",
+    "The form of the images, blocks, dos, swapped or 2mg: turned when read, and back when written [default: blocks]",
 );
 
 const FILE: WordRow = ("NAME", Form::Word, "The file's name, in either case");

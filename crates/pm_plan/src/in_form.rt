@@ -1,12 +1,14 @@
-//! Files of which the images have another form: they are turned where they are read, and turned back where they are
-//! written.
-ghost use Rattle.std.specs.Prelude.{◌≡◌, Bool, IfOk, Some, option_map, string_bytes};
-ghost use Rattle.pm_plan.specs.Forms.{turned};
-ghost use Rattle.pm_plan.specs.InForm.{form_at, in_form, is_path};
+//! Files of which the images have another form: what is read of them is a volume in blocks, and what is written is
+//! brought back into the form.
+ghost use Rattle.std.specs.Prelude.{◌≡◌, Bool, IfOk, OnErr, OnOk, Some, option_map, string_bytes};
+ghost use Rattle.pm_plan.specs.Forms.{volume_of};
+ghost use Rattle.pm_plan.specs.InForm.{IsFound, PutsVolume, form_at, in_form, is_path};
 
 use crate::form::Form;
-use pm_files::{DiskFault, Store};
+use pm_check::{Order, filed, volume_in};
+use pm_files::{DiskFault, IMAGE_LIMIT, Store};
 use std::alloc::Global;
+use std::io::ErrorKind;
 
 /// The files of a store, whose images have this form. Two files are no images, and stay as they are: those whose paths
 /// are spelled as that of the system's code file and as that of the printer's file, or of what else a job reads and
@@ -41,21 +43,55 @@ fn form_at(form: Form, system: &Option<String>, printer: &Option<String>, path: 
         (option_map string_bytes printer.now) path.now }
 {
     if is_path(path, system) || is_path(path, printer) {
-        Form::Blocks
+        Form::In(Order::Blocks)
     } else {
         form
     }
 }
 
-/// Bytes in a form, which are those that they were where blocks stand in their order.
-#[tactic(auto, using(crate::proofs::FormLaws::turned_blocks))]
-fn into_form(alloc: Global, form: Form, bytes: Vec<u8>) -> Result<Vec<u8>, DiskFault>
-    ensures value { IfOk result (λ made. made.items ≡ turned form bytes.items) }
+/// The volume in a file of a form, its blocks in their order.
+#[tactic(auto, using(pm_check::proofs::OrderLaws::turned_blocks))]
+fn volume_of(alloc: Global, form: Form, file: Vec<u8>) -> Result<Vec<u8>, DiskFault>
+    ensures value { IfOk result (λ volume. volume.items ≡ volume_of form file.items) }
 {
     match form {
-        Form::Blocks => Ok(bytes),
-        form => Ok(form.turned(alloc, bytes.as_slice())?),
+        Form::In(Order::Blocks) => Ok(file),
+        Form::In(order) => Ok(order.turned(alloc, file.as_slice())?),
+        Form::Headed => Ok(volume_in(alloc, file.as_slice())?),
     }
+}
+
+/// The bytes of a path's file, none where there is no file.
+fn found<S: Store>(store: &mut S, alloc: Global, path: &str) -> Result<Vec<u8>, DiskFault>
+    ensures stays { S.files store.new ≡ S.files store.old }
+    ensures held { S.held store.new ≡ S.held store.old }
+    ensures value { IfOk result (λ file. IsFound (S.files store.old) path.now file.items) }
+{
+    match store.read(alloc, path) {
+        Err(DiskFault::Read(ErrorKind::NotFound)) => Ok(Vec::new(alloc)),
+        done => done,
+    }
+}
+
+/// Writes a volume into a file of kind .2mg: what stands around the blocks of the file that is there stays where it has
+/// as many; else the file is a new one.
+#[tactic(auto, using(crate::proofs::InFormLaws::puts_volume))]
+fn put_headed<S: Store>(
+    store: &mut S,
+    alloc: Global,
+    path: &str,
+    volume: &[u8],
+) -> Result<(), DiskFault>
+    ensures puts { OnOk result (PutsVolume (S.files store.old) (S.files store.new) path.now volume.now) }
+    ensures held { S.held store.new ≡ S.held store.old }
+    ensures stays { OnErr result (S.files store.new ≡ S.files store.old) }
+{
+    if volume.len() > IMAGE_LIMIT {
+        return Err(DiskFault::TooLong);
+    }
+    let old = found(store, alloc, path)?;
+    let file = filed(alloc, old.as_slice(), volume)?;
+    store.put(path, file.as_slice())
 }
 
 impl<S: Store> Store for InForm<S> {
@@ -70,11 +106,11 @@ impl<S: Store> Store for InForm<S> {
 
     ghost held = { λ s. S.held s.store };
 
-    #[tactic(auto, using(crate::proofs::InFormLaws::read_turned))]
+    #[tactic(auto, using(crate::proofs::InFormLaws::read_volume))]
     fn read(&mut self, alloc: Global, path: &str) -> Result<Vec<u8>, DiskFault> {
         let bytes = self.store.read(alloc, path)?;
         let form = form_at(self.form, &self.system, &self.printer, path);
-        into_form(alloc, form, bytes)
+        volume_of(alloc, form, bytes)
     }
 
     fn prepare(&mut self, path: &str) -> Result<(), DiskFault> {
@@ -85,14 +121,15 @@ impl<S: Store> Store for InForm<S> {
         self.store.hold(path)
     }
 
-    #[tactic(auto, using(crate::proofs::InFormLaws::put_turned, crate::proofs::InFormLaws::put_blocks))]
+    #[tactic(auto, using(crate::proofs::InFormLaws::put_turned, crate::proofs::InFormLaws::put_blocks, crate::proofs::InFormLaws::put_volume))]
     fn put(&mut self, path: &str, bytes: &[u8]) -> Result<(), DiskFault> {
         match form_at(self.form, &self.system, &self.printer, path) {
-            Form::Blocks => self.store.put(path, bytes),
-            form => {
-                let turned = form.turned(self.alloc, bytes)?;
+            Form::In(Order::Blocks) => self.store.put(path, bytes),
+            Form::In(order) => {
+                let turned = order.turned(self.alloc, bytes)?;
                 self.store.put(path, turned.as_slice())
             }
+            Form::Headed => put_headed(&mut self.store, self.alloc, path, bytes),
         }
     }
 

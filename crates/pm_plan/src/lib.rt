@@ -14,6 +14,7 @@ pub mod worked;
 pub use file_words::{FilesPlan, SalvagePlan, Verb};
 pub use form::Form;
 pub use in_form::InForm;
+pub use pm_check::Order;
 pub use run_words::{Others, Program, RunChoices};
 pub use text_words::{TextFiles, TextInput};
 pub use words::{Asked, Plan, WordsError, plan_of};

@@ -16,6 +16,7 @@ use crate::text_words::{TextFiles, text_files};
 use crate::trace_words::selection_of;
 use clap::ArgMatches;
 use clap::error::ErrorKind;
+use pm_check::Order;
 use pm_jobs::{AsmOutput, DisOutput, Fault, Selection};
 use std::alloc::{AllocError, Global};
 use std::env::Args;
@@ -426,7 +427,7 @@ pub fn plan_of(alloc: Global, args: io::Result<Args>) -> Result<Asked, WordsErro
                 limit: LIMIT,
                 selection: Selection::ALL,
             },
-            form: Form::Blocks,
+            form: Form::In(Order::Blocks),
             is_quiet: false,
         });
     }

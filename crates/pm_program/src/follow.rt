@@ -14,7 +14,7 @@ use crate::texts::do_text;
 use pm_files::{DiskFault, Host, HostStore, Store, Stream};
 use pm_jobs::{AsmOutput, Reader, Saving, Sink, Source, Writer};
 use pm_plan::{
-    Asked, FilesPlan, Form, InForm, Plan, Program, RunChoices, TextFiles, TextInput, Verb,
+    Asked, FilesPlan, Form, InForm, Order, Plan, Program, RunChoices, TextFiles, TextInput, Verb,
 };
 use pm_tool::{Job, Outcome};
 use std::alloc::{AllocError, Global};
@@ -478,7 +478,7 @@ fn in_form<S: Drop>(
     plan: &Plan,
 ) -> Result<InForm<S>, AllocError> {
     let (system, printer) = match form {
-        Form::Blocks => (None, None),
+        Form::In(Order::Blocks) => (None, None),
         _ => own_paths(alloc, plan)?,
     };
     Ok(InForm {

@@ -1,31 +1,31 @@
 -- An image that is turned twice is the image.
-use Rattle.std.proofs.Common.{arith, ◌≡◌, ◌∙◌, ◌+◌, ◌-◌, ◌*◌, ◌/◌, ◌%◌, ◌<◌, ℕ, Bool, true, false, List, [], ◌∷◌, ◌++◌}
+use Rattle.std.proofs.Common.{arith, ◌≡◌, ◌∙◌, ◌+◌, ◌*◌, ◌/◌, ◌%◌, ◌<◌, ℕ, true, List, [], ◌∷◌, ◌++◌}
 use Rattle.std.proofs.Common.{length, map, refl, sym, ap, eqb, ltb}
 use Rattle.std.specs.Prelude.{slice_index}
 use Rattle.std.specs.List.{range_with_len}
-use Rattle.std.proofs.lemmas.Bool.{agree_below_at, cond_both, cond-true, cond-false, eqb-true, lt-ltb, le-ltb, ltb-true, ltb-false}
+use Rattle.std.proofs.lemmas.Bool.{agree_below_at, cond_both, cond-true, cond-false, eqb-true, lt-ltb, ltb-true}
 use Rattle.std.proofs.lemmas.List.FromFn.{length-map-range_with_len, get_or-map-range_with_len, fill_by_all}
 use Rattle.std.proofs.lemmas.List.FromFn.{map-range_with_len_more}
-use Rattle.pm_plan.specs.Forms.{WorkedForms, other_sector, place_in, place_in_track, place_in_word, turned, turned_front}
-use Rattle.pm_plan.specs.declared.form.Form.{Form}
-use Rattle.pm_plan.specs.declared.form.Form.TheVariants as forms
+use Rattle.pm_check.specs.Orders.{WorkedOrders, other_sector, place_in, place_in_track, place_in_word, turned, turned_front}
+use Rattle.pm_check.specs.declared.order.Order.{Order}
+use Rattle.pm_check.specs.declared.order.Order.TheVariants as orders
 
 -- the front of no bytes, and that of one byte more
-pub front_none : (form : Form) (image : List ℕ) → [] ≡ turned_front form image 0
+pub front_none : (order : Order) (image : List ℕ) → [] ≡ turned_front order image 0
 unfolding turned_front
-front_none form image = refl
+front_none order image = refl
 
-pub front_more : (form : Form) (image made : List ℕ) (place from : ℕ) → made ≡ turned_front form image place
-    → from ≡ place_in form (length image) place
-    → made ++ (slice_index image from ∷ []) ≡ turned_front form image (place + 1)
+pub front_more : (order : Order) (image made : List ℕ) (place from : ℕ) → made ≡ turned_front order image place
+    → from ≡ place_in order (length image) place
+    → made ++ (slice_index image from ∷ []) ≡ turned_front order image (place + 1)
 unfolding turned_front
-front_more form image made place from whole value =
+front_more order image made place from whole value =
     rw (whole, value) (sym (map-range_with_len_more _ 0 place place (omega arith)))
 
 -- its length stays
-pub turned_size : (form : Form) (image : List ℕ) → length (turned form image) ≡ length image
+pub turned_size : (order : Order) (image : List ℕ) → length (turned order image) ≡ length image
 unfolding turned turned_front
-turned_size form image = length-map-range_with_len _ 0 (length image)
+turned_size order image = length-map-range_with_len _ 0 (length image)
 
 -- a sector of a track is one of it, and the other of the other is the sector
 sector_inside : (sector : ℕ) → sector < 16 → other_sector sector < 16
@@ -73,47 +73,47 @@ word_inside : (place words : ℕ) → place < words * 2 → place_in_word place 
 word_inside place words inside = omega (arith, inside)
 
 -- a place of it is one of it
-pub place_inside : (form : Form) (size place : ℕ) → place < size → place_in form size place < size
-place_inside forms.Blocks size place inside = inside
-place_inside forms.Dos size place inside = cond_both (ltb place (size / 4096 * 4096)) _ _ (λ there. there < size)
+pub place_inside : (order : Order) (size place : ℕ) → place < size → place_in order size place < size
+place_inside orders.Blocks size place inside = inside
+place_inside orders.Dos size place inside = cond_both (ltb place (size / 4096 * 4096)) _ _ (λ there. there < size)
     (λ is. let here = track_inside place (size / 4096) (ltb-true _ _ is) in omega (arith, here)) (λ is. inside)
-place_inside forms.Swapped size place inside = cond_both (ltb place (size / 2 * 2)) _ _ (λ there. there < size)
+place_inside orders.Swapped size place inside = cond_both (ltb place (size / 2 * 2)) _ _ (λ there. there < size)
     (λ is. let here = word_inside place (size / 2) (ltb-true _ _ is) in omega (arith, here)) (λ is. inside)
 
 -- and the place of that is the place
-pub place_back : (form : Form) (size place : ℕ) → place < size → place_in form size (place_in form size place) ≡ place
-place_back forms.Blocks size place inside = refl
-place_back forms.Dos size place inside =
-    cond_both (ltb place (size / 4096 * 4096)) _ _ (λ there. place_in forms.Dos size there ≡ place)
+pub place_back : (order : Order) (size place : ℕ) → place < size → place_in order size (place_in order size place) ≡ place
+place_back orders.Blocks size place inside = refl
+place_back orders.Dos size place inside =
+    cond_both (ltb place (size / 4096 * 4096)) _ _ (λ there. place_in orders.Dos size there ≡ place)
     (λ is. cond-true _ _ _ (lt-ltb _ _ (track_inside place (size / 4096) (ltb-true _ _ is))) ∙ track_back place)
     (λ is. cond-false _ _ _ is)
-place_back forms.Swapped size place inside =
-    cond_both (ltb place (size / 2 * 2)) _ _ (λ there. place_in forms.Swapped size there ≡ place)
+place_back orders.Swapped size place inside =
+    cond_both (ltb place (size / 2 * 2)) _ _ (λ there. place_in orders.Swapped size there ≡ place)
     (λ is. cond-true _ _ _ (lt-ltb _ _ (word_inside place (size / 2) (ltb-true _ _ is))) ∙ word_back place)
     (λ is. cond-false _ _ _ is)
 
 -- the byte at a place of it
-turned_at : (form : Form) (image : List ℕ) (place : ℕ) → place < length image
-    → slice_index (turned form image) place ≡ slice_index image (place_in form (length image) place)
+turned_at : (order : Order) (image : List ℕ) (place : ℕ) → place < length image
+    → slice_index (turned order image) place ≡ slice_index image (place_in order (length image) place)
 unfolding turned turned_front
-turned_at form image place inside = get_or-map-range_with_len _ 0 (length image) place place 0 inside (omega arith)
+turned_at order image place inside = get_or-map-range_with_len _ 0 (length image) place place 0 inside (omega arith)
 
 -- the image is turned by its length
-turned_over : (form : Form) (image : List ℕ) (size : ℕ) → size ≡ length image
-    → map (λ place. slice_index image (place_in form size place)) (range_with_len 0 size) ≡ turned form image
+turned_over : (order : Order) (image : List ℕ) (size : ℕ) → size ≡ length image
+    → map (λ place. slice_index image (place_in order size place)) (range_with_len 0 size) ≡ turned order image
 unfolding turned turned_front
-turned_over form image size is = rw is refl
+turned_over order image size is = rw is refl
 
-pub turned_back : (form : Form) (image : List ℕ) → turned form (turned form image) ≡ image
-turned_back form image = sym (fill_by_all (λ place. slice_index (turned form image) (place_in form (length image) place))
-    image (length image) 0 refl at ∙ turned_over form (turned form image) (length image) (sym (turned_size form image)))
+pub turned_back : (order : Order) (image : List ℕ) → turned order (turned order image) ≡ image
+turned_back order image = sym (fill_by_all (λ place. slice_index (turned order image) (place_in order (length image) place))
+    image (length image) 0 refl at ∙ turned_over order (turned order image) (length image) (sym (turned_size order image)))
   where
     at : (place : ℕ) → place < length image
-        → slice_index image place ≡ slice_index (turned form image) (place_in form (length image) place)
-    at place inside = sym (turned_at form image (place_in form (length image) place)
-        (place_inside form (length image) place inside) ∙ ap (slice_index image) (place_back form (length image) place inside))
+        → slice_index image place ≡ slice_index (turned order image) (place_in order (length image) place)
+    at place inside = sym (turned_at order image (place_in order (length image) place)
+        (place_inside order (length image) place inside) ∙ ap (slice_index image) (place_back order (length image) place inside))
 
-pub turned_blocks : (image : List ℕ) → turned forms.Blocks image ≡ image
+pub turned_blocks : (image : List ℕ) → turned orders.Blocks image ≡ image
 unfolding turned turned_front
 turned_blocks image =
     sym (fill_by_all (λ place. slice_index image place) image (length image) 0 refl (λ place inside. refl))
@@ -124,21 +124,21 @@ table_worked : map other_sector (range_with_len 0 16)
 unfolding other_sector
 table_worked = refl
 
-places_worked : map (place_in forms.Dos 8192) (0 ∷ 255 ∷ 256 ∷ 1025 ∷ 3840 ∷ 4352 ∷ 8191 ∷ [])
+places_worked : map (place_in orders.Dos 8192) (0 ∷ 255 ∷ 256 ∷ 1025 ∷ 3840 ∷ 4352 ∷ 8191 ∷ [])
     ≡ 0 ∷ 255 ∷ 3584 ∷ 2817 ∷ 3840 ∷ 7680 ∷ 8191 ∷ []
 unfolding other_sector
 places_worked = refl
 
-behind_worked : map (place_in forms.Dos 4864) (256 ∷ 4096 ∷ 4352 ∷ 4863 ∷ []) ≡ 3584 ∷ 4096 ∷ 4352 ∷ 4863 ∷ []
+behind_worked : map (place_in orders.Dos 4864) (256 ∷ 4096 ∷ 4352 ∷ 4863 ∷ []) ≡ 3584 ∷ 4096 ∷ 4352 ∷ 4863 ∷ []
 unfolding other_sector
 behind_worked = refl
 
-words_worked : turned forms.Swapped (1 ∷ 2 ∷ 3 ∷ 4 ∷ 5 ∷ []) ≡ 2 ∷ 1 ∷ 4 ∷ 3 ∷ 5 ∷ []
+words_worked : turned orders.Swapped (1 ∷ 2 ∷ 3 ∷ 4 ∷ 5 ∷ []) ≡ 2 ∷ 1 ∷ 4 ∷ 3 ∷ 5 ∷ []
 unfolding turned turned_front
 words_worked = refl
 
-pub worked_forms : WorkedForms
-worked_forms = record {
+pub worked_orders : WorkedOrders
+worked_orders = record {
   back = turned_back;
   size = turned_size;
   table = table_worked;

@@ -1,6 +1,6 @@
 use Rattle.std.proofs.Common.{◌≡◌}
-use Rattle.pm_plan.specs.Forms.{turned_front}
-use Rattle.pm_plan.proofs.form.Form.turned.Given as goal
+use Rattle.pm_check.specs.Orders.{turned_front}
+use Rattle.pm_check.proofs.order.Order.turned.Given as goal
 
 -- the bytes so far, each from its place
 abbrev pub invariant-loop-place : goal.invariant-loop-place

@@ -1,7 +1,6 @@
-use Rattle.std.proofs.Common.{◌≡◌, ◌∙◌, rules}
-use Rattle.pm_plan.specs.Forms.{turned, turned_front}
-use Rattle.pm_plan.proofs.FormLaws.{front_more, front_none}
-use Rattle.pm_plan.proofs.form.Form.turned.Goals as goal
+use Rattle.std.proofs.Common.{◌∙◌}
+use Rattle.pm_check.proofs.OrderLaws.{front_more, front_none}
+use Rattle.pm_check.proofs.order.Order.turned.Goals as goal
 
 pub loop-place-init : goal.loop-place-init
 loop-place-init c = record { whole = c.new-made.ensures.items ∙ front_none _ _ }

@@ -1,0 +1,113 @@
+-- Files of kind .2mg: a header that says where the blocks begin, how many bytes they have and in which order they
+-- stand,
+-- the blocks, and what stands behind them.
+use Rattle.std.specs.Prelude.{◌≡◌, ◌≤◌, ◌<◌, ℕ, ◌+◌, ◌*◌, ◌/◌, ◌%◌, ◌==◌, ◌&&◌, Bool, nat_le, nat_lt, codes}
+use Rattle.std.specs.Prelude.{List, [], ◌∷◌, ◌++◌}
+use Rattle.std.specs.Prelude.{Option, None, Some, drop, length, option_map, replicate, slice_range, take, if◌then◌else◌}
+use Rattle.std.specs.Str.{bytes_eq}
+use Rattle.pm_bytes.specs.Words.{word_in, written}
+use Rattle.pm_check.specs.Orders.{turned}
+use Rattle.pm_check.specs.declared.headed.Span.{Span}
+use Rattle.pm_check.specs.declared.order.Order.{Order}
+use Rattle.pm_check.specs.declared.order.Order.TheVariants as orders
+
+-- four bytes of a header, the low one first
+unfoldable pub long_in : List ℕ → ℕ → ℕ
+long_in header place = word_in header place + 65536 * word_in header (place + 2)
+
+-- how many bytes the blocks have: those at 28 say it, or where these are 0 as many blocks as those at 20
+unfoldable pub size_in : List ℕ → ℕ
+size_in header = if long_in header 28 == 0 then 512 * long_in header 20 else long_in header 28
+
+-- the order of a number, which stands at 12: 0 is that of DOS, 1 blocks in their order
+abbrev pub order_of : ℕ → Option Order
+order_of number = if number == 0 then Some orders.Dos else (if number == 1 then Some orders.Blocks else None)
+
+-- whether 32 bytes are the front of a header that fits a file of so many bytes: it begins with 2IMG, and the blocks,
+-- which begin where the bytes at 24 say, lie behind byte 51 and in the file
+unfoldable pub fits : List ℕ → ℕ → Bool
+fits header count =
+    bytes_eq (take 4 header) (codes "2IMG") && (nat_le 52 (long_in header 24) && (nat_lt 0 (size_in header)
+    && nat_le (long_in header 24 + size_in header) count))
+
+-- what such a header says
+abbrev pub span_in : List ℕ → Option Span
+span_in header = option_map (λ order. record { begin = long_in header 24; size = size_in header; order = order })
+    (order_of (long_in header 12))
+
+-- if it fits a file of so many bytes
+abbrev pub span_fitting : List ℕ → ℕ → Option Span
+span_fitting header count = if fits header count then span_in header else None
+
+-- what the header of a file says, if it has one that fits
+unfoldable pub span_of : List ℕ → Option Span
+span_of file = if nat_lt (length file) 64 then None else span_fitting (take 32 file) (length file)
+
+-- blocks that lie behind byte 51 of a file of so many bytes, and in it
+abbrev pub Lies : ℕ → Span → Type 0
+Lies count span = (52 ≤ span.begin) × (span.begin + span.size ≤ count)
+
+-- the volume in a file, its blocks in their order; no bytes where the file has no such header
+abbrev pub volume_at : Option Span → List ℕ → List ℕ
+volume_at None file = []
+volume_at (Some span) file = turned span.order (slice_range file span.begin (span.begin + span.size))
+
+unfoldable pub volume_in : List ℕ → List ℕ
+volume_in file = volume_at (span_of file) file
+
+-- the four bytes of a number, the low one first
+abbrev pub long_bytes : ℕ → List ℕ
+long_bytes number = number % 256 ∷ number / 256 % 256 ∷ number / 65536 % 256 ∷ number / 16777216 % 256 ∷ []
+
+-- the header of a new file: 2IMG, PMCH for who made it, its 64 bytes, version 1, blocks in their order, no flags; how
+-- many blocks there are, where they begin, and how many bytes they have; and zeros
+unfoldable pub plain_header : ℕ → List ℕ
+plain_header size =
+    (50 ∷ 73 ∷ 77 ∷ 71 ∷ 80 ∷ 77 ∷ 67 ∷ 72 ∷ 64 ∷ 0 ∷ 1 ∷ 0 ∷ 1 ∷ 0 ∷ 0 ∷ 0 ∷ 0 ∷ 0 ∷ 0 ∷ 0 ∷ [])
+    ++ (long_bytes (size / 512) ++ (long_bytes 64 ++ (long_bytes size ++ replicate 32 0)))
+
+unfoldable pub new_file : List ℕ → List ℕ
+new_file volume = plain_header (length volume) ++ volume
+
+-- the file of a volume in the place of an old one: where that has as many bytes of blocks, all that stands around them
+-- stays; else there is a new header
+abbrev pub filed_at : Option Span → List ℕ → List ℕ → List ℕ
+filed_at None old volume = new_file volume
+filed_at (Some span) old volume =
+    if span.size == length volume then written old span.begin (turned span.order volume) else new_file volume
+
+unfoldable pub filed : List ℕ → List ℕ → List ℕ
+filed old volume = filed_at (span_of old) old volume
+
+-- ---- laws
+
+-- a file of kind .2mg: its header says an order, blocks, where they begin and how many bytes they have, each below 256
+abbrev pub example : ℕ → ℕ → ℕ → ℕ → List ℕ → List ℕ
+example order blocks begin size rest =
+    50 ∷ 73 ∷ 77 ∷ 71 ∷ 1 ∷ 2 ∷ 3 ∷ 4 ∷ 64 ∷ 0 ∷ 1 ∷ 0 ∷ order ∷ 0 ∷ 0 ∷ 0 ∷ 5 ∷ 6 ∷ 7 ∷ 8 ∷ blocks ∷ 0 ∷ 0 ∷ 0
+    ∷ begin ∷ 0 ∷ 0 ∷ 0 ∷ size ∷ 0 ∷ 0 ∷ 0 ∷ 9 ∷ 9 ∷ 9 ∷ 9 ∷ 9 ∷ 9 ∷ 9 ∷ 9 ∷ 9 ∷ 9 ∷ 9 ∷ 9 ∷ 9 ∷ 9 ∷ 9 ∷ 9
+    ∷ 9 ∷ 9 ∷ 9 ∷ 9 ∷ 9 ∷ 9 ∷ 9 ∷ 9 ∷ 9 ∷ 9 ∷ 9 ∷ 9 ∷ 9 ∷ 9 ∷ 9 ∷ 9 ∷ rest
+
+-- What is filed is read back. Where the file that is there has as many bytes of blocks its length stays, and all that
+-- stands before and behind them. Headers of both orders, one that says blocks, and four that do not fit; and a file
+-- with other blocks.
+pub record WorkedHeaders : Type 0 where
+  pub back : (old volume : List ℕ) → length volume < 4294967296 → volume_in (filed old volume) ≡ volume
+  pub size : (old volume : List ℕ) (span : Span) → span_of old ≡ Some span → span.size ≡ length volume
+      → length (filed old volume) ≡ length old
+  pub front : (old volume : List ℕ) (span : Span) → span_of old ≡ Some span → span.size ≡ length volume
+      → take span.begin (filed old volume) ≡ take span.begin old
+  pub tail : (old volume : List ℕ) (span : Span) → span_of old ≡ Some span → span.size ≡ length volume
+      → drop (span.begin + span.size) (filed old volume) ≡ drop (span.begin + span.size) old
+  pub dos : span_of (example 0 0 64 4 (1 ∷ 2 ∷ 3 ∷ 4 ∷ 5 ∷ []))
+      ≡ Some (record { begin = 64; size = 4; order = orders.Dos })
+  pub blocks : span_of (example 1 7 66 3 (1 ∷ 2 ∷ 3 ∷ 4 ∷ 5 ∷ []))
+      ≡ Some (record { begin = 66; size = 3; order = orders.Blocks })
+  pub counted : span_of (example 1 1 65 0 (replicate 513 0))
+      ≡ Some (record { begin = 65; size = 512; order = orders.Blocks })
+  pub other_order : span_of (example 2 0 64 4 (1 ∷ 2 ∷ 3 ∷ 4 ∷ 5 ∷ [])) ≡ None
+  pub too_early : span_of (example 1 0 51 4 (1 ∷ 2 ∷ 3 ∷ 4 ∷ 5 ∷ [])) ≡ None
+  pub too_long : span_of (example 1 0 64 6 (1 ∷ 2 ∷ 3 ∷ 4 ∷ 5 ∷ [])) ≡ None
+  pub empty : span_of (example 1 0 64 0 (1 ∷ 2 ∷ 3 ∷ 4 ∷ 5 ∷ [])) ≡ None
+  pub changed : filed (example 1 7 66 3 (1 ∷ 2 ∷ 3 ∷ 4 ∷ 5 ∷ 6 ∷ [])) (33 ∷ 44 ∷ 55 ∷ [])
+      ≡ example 1 7 66 3 (1 ∷ 2 ∷ 33 ∷ 44 ∷ 55 ∷ 6 ∷ [])

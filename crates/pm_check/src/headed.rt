@@ -1,0 +1,173 @@
+//! Files of kind .2mg: a header that says where the blocks begin, how many bytes they have and in which order they
+//! stand.
+ghost use Rattle.std.specs.Prelude.{◌≡◌, ◌+◌, ◌≤◌, ◌<◌, IfOk, IfSome, length};
+ghost use Rattle.pm_bytes.specs.Words.{written};
+ghost use Rattle.pm_check.specs.Headed.{Lies, filed, fits, long_bytes, long_in, new_file, order_of, size_in};
+ghost use Rattle.pm_check.specs.Headed.{span_fitting, span_of, volume_in};
+
+use crate::order::Order;
+use pm_bytes::{BLOCK, set_bytes, word};
+use std::alloc::{AllocError, Global};
+
+/// How many bytes a header has.
+const HEADER: usize = 64;
+
+/// The first bytes of a new header: its letters and those of who made it, how many bytes it has, version 1, blocks in
+/// their order, and no flags.
+const FRONT: [u8; 20] = [
+    50, 73, 77, 71, 80, 77, 67, 72, 64, 0, 1, 0, 1, 0, 0, 0, 0, 0, 0, 0,
+];
+
+/// What a header says of the blocks behind it.
+#[derive(Clone, Copy)]
+pub struct Span {
+    /// Where they begin.
+    pub begin: usize,
+    /// How many bytes they have.
+    pub size: usize,
+    /// The order in which they stand.
+    pub order: Order,
+}
+
+/// Four bytes of a header, the low one first.
+#[tactic(auto, unfolding(crate::specs::Headed::long_in))]
+fn long(header: &[u8], place: usize) -> usize
+    requires room { place + 4 ≤ length header.now }
+    ensures long { result ≡ long_in header.now place }
+    ensures most { result < 4294967296 }
+{
+    usize::from(word(header, place)) + 65536 * usize::from(word(header, place + 2))
+}
+
+/// How many bytes the blocks have.
+#[tactic(auto, unfolding(crate::specs::Headed::size_in))]
+fn size_in(header: &[u8]) -> usize
+    requires room { 32 ≤ length header.now }
+    ensures size { result ≡ size_in header.now }
+    ensures most { result < 2199023255552 }
+{
+    let size = long(header, 28);
+    if size == 0 {
+        BLOCK * long(header, 20)
+    } else {
+        size
+    }
+}
+
+/// The order of a number.
+fn order_of(number: usize) -> Option<Order>
+    ensures value { result ≡ order_of number }
+{
+    match number {
+        0 => Some(Order::Dos),
+        1 => Some(Order::Blocks),
+        _ => None,
+    }
+}
+
+/// Whether 32 bytes are the front of a header that fits a file of so many bytes.
+#[tactic(auto, unfolding(crate::specs::Headed::fits))]
+fn fits(header: &[u8], count: usize) -> bool
+    requires room { length header.now ≡ 32 }
+    ensures value { result ≡ fits header.now count }
+{
+    let begin = long(header, 24);
+    let size = size_in(header);
+    &header[..4] == b"2IMG".as_slice() && 52 <= begin && 0 < size && begin + size <= count
+}
+
+/// What a header says whose first 32 bytes these are, if it fits a file of so many bytes.
+fn span_from(header: &[u8], count: usize) -> Option<Span>
+    requires room { length header.now ≡ 32 }
+    ensures value { result ≡ span_fitting header.now count }
+{
+    if !fits(header, count) {
+        return None;
+    }
+    let order = order_of(long(header, 12))?;
+    Some(Span {
+        begin: long(header, 24),
+        size: size_in(header),
+        order,
+    })
+}
+
+/// What the header of a file says, if it has one that fits.
+#[tactic(auto, unfolding(crate::specs::Headed::span_of), using(crate::proofs::HeadedLaws::span_lies, crate::proofs::HeadedLaws::front_size))]
+fn span_of(file: &[u8]) -> Option<Span>
+    ensures value { result ≡ span_of file.now }
+    ensures inside { IfSome (span_of file.now) (Lies (length file.now)) }
+{
+    if file.len() < HEADER {
+        return None;
+    }
+    span_from(&file[..32], file.len())
+}
+
+/// The volume in a file, its blocks in their order. No bytes where the file has no such header. An error is want of
+/// memory.
+#[tactic(auto, unfolding(crate::specs::Headed::volume_in))]
+pub fn volume_in(alloc: Global, file: &[u8]) -> Result<Vec<u8>, AllocError>
+    ensures volume { IfOk result (λ made. made.items ≡ volume_in file.now) }
+{
+    match span_of(file) {
+        Some(span) => span
+            .order
+            .turned(alloc, &file[span.begin..span.begin + span.size]),
+        None => Ok(Vec::new(alloc)),
+    }
+}
+
+/// The four bytes of a number, the low one first.
+fn long_bytes(number: usize) -> [u8; 4]
+    ensures bytes { result ≡ long_bytes number }
+{
+    [
+        (number % 256) as u8,
+        (number / 256 % 256) as u8,
+        (number / 65536 % 256) as u8,
+        (number / 16777216 % 256) as u8,
+    ]
+}
+
+/// A new file for a volume.
+#[tactic(auto, unfolding(crate::specs::Headed::new_file, crate::specs::Headed::plain_header))]
+fn new_file(alloc: Global, volume: &[u8]) -> Result<Vec<u8>, AllocError>
+    ensures file { IfOk result (λ file. file.items ≡ new_file volume.now) }
+{
+    let mut file = Vec::new(alloc);
+    file.extend_from_slice(&FRONT)?;
+    file.extend_from_slice(&long_bytes(volume.len() / BLOCK))?;
+    file.extend_from_slice(&long_bytes(HEADER))?;
+    file.extend_from_slice(&long_bytes(volume.len()))?;
+    file.extend_from_slice(&[0; 32])?;
+    file.extend_from_slice(volume)?;
+    Ok(file)
+}
+
+/// A file with other blocks: what stands around them stays.
+fn exchanged(alloc: Global, file: &[u8], begin: usize, blocks: &[u8]) -> Result<Vec<u8>, AllocError>
+    requires room { begin + length blocks.now ≤ length file.now }
+    ensures file { IfOk result (λ made. made.items ≡ written file.now begin blocks.now) }
+{
+    let mut made = Vec::new(alloc);
+    made.extend_from_slice(file)?;
+    set_bytes(made.as_mut_slice(), begin, blocks);
+    Ok(made)
+}
+
+/// The file of a volume, in the place of an old one: header and all else that stands around the blocks of that one stay
+/// where they have as many bytes. Else the volume has a new header. An error is want of memory.
+#[tactic(auto, unfolding(crate::specs::Headed::filed), using(crate::proofs::OrderLaws::turned_size, crate::proofs::HeadedLaws::filed_back))]
+pub fn filed(alloc: Global, old: &[u8], volume: &[u8]) -> Result<Vec<u8>, AllocError>
+    ensures file { IfOk result (λ file. file.items ≡ filed old.now volume.now) }
+    ensures back { length volume.now < 4294967296 → volume_in (filed old.now volume.now) ≡ volume.now }
+{
+    match span_of(old) {
+        Some(span) if span.size == volume.len() => {
+            let blocks = span.order.turned(alloc, volume)?;
+            exchanged(alloc, old, span.begin, blocks.as_slice())
+        }
+        _ => new_file(alloc, volume),
+    }
+}

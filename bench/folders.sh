@@ -405,6 +405,85 @@ check "not over what is read" ends 1 "$PMACH" dis tower.code -o ./tower.code
 check "a run of it" ends 0 "$PMACH" run --form dos --d4 formed HANOI
 check "as of blocks" grep -qx "ended 402" err
 
+# The 28 images of a shoebox, made from a seed: by its number what each is, and what has to come of it.
+python3 "$here/bench/shoebox.py" box "${SEED:-28}"
+# each NUMBER COMMAND..: the command, with the number of a slot behind it, gives each file that has to come of an image
+each() {
+    local file number=$1
+    shift
+    for file in box/"$number".d/*; do
+        "$@" "${file##*/}" 2>/dev/null | cmp -s - "$file" || return
+    done
+}
+slot() { files "${@:1:$#-1}" get --slot "${*: -1}"; }
+lines() { files "${@:1:$#-1}" gettext --slot "${*: -1}"; }
+named() { files "${@:1:$#-1}" get "FILE$((${*: -1} - 1))"; }
+form() { ends 0 "$here/examples/form.sh" "box/$1" "box/$1.new" && [ ! -s err ]; }
+# refused NUMBER VOLUME-FAULT: it opens as no volume, for that reason
+refused() { ends 2 "$PMACH" files --image "box/$1" list && [ "$(head -n 1 err)" = "refused volume $2" ]; }
+
+check "image 1, blocks in their order" each 1 slot box/1
+check "image 2, the order of DOS" each 2 slot box/2 --form dos
+check "image 3, exchanged bytes" each 3 slot box/3 --form swapped
+check "image 4, the high byte first: form.sh" form 4
+check "image 4, its files" each 4 slot box/4.new
+check "image 5, .2mg of blocks, a comment behind them" each 5 slot box/5 --form 2mg
+check "image 6, .2mg in the order of DOS, a long header" each 6 slot box/6 --form 2mg
+for number in 1 5 6; do
+    [ $number = 1 ] && form=blocks || form=2mg
+    cp box/$number more.$number
+    seq 700 | files more.$number --form $form put MORE data
+    check "image $number, a file more" cmp <(seq 700) <(files more.$number --form $form get MORE)
+    check "image $number, the others are there" each $number slot more.$number --form $form
+done
+check "image 5, its header, its comment and the blocks" cmp more.5 \
+    <(head -c 64 box/5 && cat more.1 && printf 'a comment')
+check "image 6, its header and the blocks" cmp more.6 <(head -c 70 box/6 && "$here/examples/dos-order.sh" <more.1)
+check "image 7, DiskCopy 4.2, a sound sum: form.sh" form 7
+check "image 7, its files" each 7 slot box/7.new
+check "image 8, 128 bytes more: form.sh" form 8
+check "image 8, its files" each 8 slot box/8.new
+check "image 9, 77 files" each 9 slot box/9
+check "image 9, into a folder" ends 0 "$here/examples/export.sh" box/9 box/9.out
+check "image 9, all of them" [ "$(ls box/9.out | wc -l)" = 78 ]
+check "image 10, 33 MB" each 10 slot box/10
+check "image 11, names that cannot be typed" each 11 slot box/11
+check "image 11, into a folder" ends 0 "$here/examples/export.sh" box/11 box/11.out
+check "image 11, all of them" [ "$(find box/11.out -type f | wc -l)" = 18 ]
+check "image 12, a text of few lines" each 12 lines box/12
+check "image 13, a text of pages" each 13 lines box/13
+check "image 14, a text without lines" each 14 lines box/14
+check "image 15, a text without its header" ends 2 "$PMACH" files --image box/15 gettext A.TEXT
+check "image 15, its bytes" each 15 slot box/15
+check "image 16, a text of all marks" each 16 lines box/16
+check "image 17, an entry is hurt" refused 17 '4 5'
+check "image 17, the others" ends 0 "$PMACH" files --image box/17 salvage box/17.new
+check "image 17, their bytes" each 17 named box/17.new
+check "image 18, the same in the order of DOS" ends 0 "$PMACH" files --image box/18 --form dos salvage box/18.new
+check "image 18, the others" each 18 named box/18.new --form dos
+check "image 19, the same behind a header" ends 0 "$PMACH" files --image box/19 --form 2mg salvage box/19.new
+check "image 19, the others" each 19 named box/19.new --form 2mg
+check "image 20, the first directory is hurt" refused 20 13
+check "image 20, mended" ends 0 "$PMACH" files --image box/20 repair
+check "image 20, its files" each 20 slot box/20
+check "image 21, two files share blocks" ends 0 "$PMACH" files --image box/21 salvage box/21.new
+check "image 21, is told" grep -q '^slot 2 taken as FILE1, doubted, shares blocks with slot 1$' out
+check "image 21, the others" each 21 named box/21.new
+check "image 22, longer than its volume" each 22 slot box/22
+check "image 23, cut" refused 23 6
+check "image 23, what it has" ends 0 "$PMACH" files --image box/23 salvage box/23.new
+check "image 23, their bytes" each 23 named box/23.new
+check "image 24, a byte more" refused 24 1
+check "image 24, its files" ends 0 "$PMACH" files --image box/24 salvage box/24.new
+check "image 24, their bytes" each 24 named box/24.new
+number=25
+for other in "DOS 3.3" ProDOS Macintosh .nib; do
+    check "image $number, $other" ends 2 "$here/examples/form.sh" box/$number
+    check "image $number, is named" grep -q "it .*$other" err
+    check "image $number, is no volume" refused $number 3
+    number=$((number + 1))
+done
+
 # A tower of three: 15 calls of procedure 2, of which 8 find no disk and take 5 steps and the others 26; 7 moves of 25.
 "$PMACH" asm <"$here/examples/hanoi.text" >tower
 files h new TOWER 40

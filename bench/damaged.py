@@ -98,7 +98,8 @@ def in_form(front, order, data, sound):
     else:
         turned = data
     if front == "2mg-":
-        head = b"2IMGTEST" + (64).to_bytes(2, "little") + b"\1\0\1" + bytes(7) + (280).to_bytes(4, "little")
+        said = b"\0" if order == "dos" else b"\1"
+        head = b"2IMGTEST" + (64).to_bytes(2, "little") + b"\1\0" + said + bytes(7) + (280).to_bytes(4, "little")
         return head + (64).to_bytes(4, "little") + len(turned).to_bytes(4, "little") + bytes(32) + turned
     if front == "dc42-":
         head = b"\4SHOE" + bytes(59) + len(turned).to_bytes(4, "big") + bytes(4)
@@ -130,11 +131,11 @@ def got(names):
         told.append(said)
         if status == 0:
             return taken("hurt", names, form), told
-        if word := re.search(r"--form (\w+) takes it", said):
+        if word := re.search(r"--form (\w+) (?:takes|goes by) it", said):
             form = ("--form", word[1])
         elif "files salvage NEW" in said:
             files("hurt", *form, "salvage", "saved")
-            return taken("saved", names), told
+            return taken("saved", names, form), told
         elif "files repair" in said:
             files("hurt", *form, "repair")
         elif "examples/form.sh" in said:

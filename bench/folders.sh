@@ -463,7 +463,7 @@ check "image 18, the same in the order of DOS" ends 0 "$PMACH" files --image box
 check "image 18, the others" each 18 named box/18.new --form dos
 check "image 19, the same behind a header" ends 0 "$PMACH" files --image box/19 --form 2mg salvage box/19.new
 check "image 19, the others" each 19 named box/19.new --form 2mg
-check "image 20, the first directory is hurt" refused 20 13
+check "image 20, the first directory is hurt" refused 20 '13 4'
 check "image 20, mended" ends 0 "$PMACH" files --image box/20 repair
 check "image 20, its files" each 20 slot box/20
 check "image 21, two files share blocks" ends 0 "$PMACH" files --image box/21 salvage box/21.new

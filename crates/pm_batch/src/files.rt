@@ -113,10 +113,15 @@ fn told_form(alloc: Global, fault: VolumeFault, form: Option<Form>) -> Option<St
             "the image has the form swapped, the bytes of each word: --form swapped takes it as it is"
         }
         (_, Form::FrontBlocks | Form::FrontDos | Form::FrontSwapped) => {
-            "a header stands before the image's blocks: examples/form.sh IMAGE NEW makes one without it"
+            "a header is before the image's blocks: --form 2mg goes by it, examples/form.sh IMAGE NEW takes it away"
         }
     };
     String::from_str(alloc, help).ok()
+}
+
+/// What a terminal is told in place of why an image is no volume: its form, where that is known.
+pub fn form_told(alloc: Global, fault: VolumeFault, image: &[u8]) -> Option<String> {
+    told_form(alloc, fault, form_seen(image))
 }
 
 /// What is told behind what is wrong with an image that is no volume: its form, where that is known, or what takes its

@@ -9,6 +9,6 @@ mod reason;
 mod refusal;
 
 pub use batch::{Batch, Made, make};
-pub use files::open;
+pub use files::{form_told, open};
 pub use reason::Reason;
 pub use refusal::Refusal;

@@ -6,8 +6,9 @@ use Rattle.std.specs.Prelude.{replicate, slice_range}
 use Rattle.std.proofs.lemmas.Bool.{and_from, and_parts, cond_both, cond-true, cond-false, eq-eqb, eqb-true, leb-true, le-leb, le-ltb, lt-ltb, ne_eqb}
 use Rattle.std.proofs.lemmas.List.{append_assoc, drop_at, length-take-le, take_all, take-append-le, take-take, take_at}
 use Rattle.pm_bytes.specs.Words.{word_in, written}
-use Rattle.pm_check.specs.Headed.{Lies, WorkedHeaders, example, filed, filed_at, fits, long_bytes, long_in, new_file}
-use Rattle.pm_check.specs.Headed.{order_of, plain_header, size_in, span_fitting, span_in, span_of, volume_at, volume_in}
+use Rattle.pm_check.specs.Forms.{front_size, long_in}
+use Rattle.pm_check.specs.Headed.{Lies, WorkedHeaders, example, filed, filed_at, fits, long_bytes, new_file}
+use Rattle.pm_check.specs.Headed.{order_of, plain_header, span_fitting, span_in, span_of, volume_at, volume_in}
 use Rattle.pm_check.specs.Orders.{turned, turned_front}
 use Rattle.pm_check.proofs.OrderLaws.{turned_back, turned_blocks, turned_size}
 use Rattle.pm_check.specs.declared.headed.Span.{Span}
@@ -23,8 +24,8 @@ of_header : (header : List ℕ) (count : ℕ) → fits header count ≡ true →
 unfolding fits
 of_header header count fit =
     let a = and_parts _ _ fit in let b = and_parts _ _ a.1 in let c = and_parts _ _ b.1 in
-    of_order (order_of (long_in header 12)) (long_in header 24) (size_in header) count
-    (leb-true 52 (long_in header 24) b.0) (leb-true (long_in header 24 + size_in header) count c.1)
+    of_order (order_of (long_in header 12)) (long_in header 24) (front_size header) count
+    (leb-true 52 (long_in header 24) b.0) (leb-true (long_in header 24 + front_size header) count c.1)
 
 -- so do those of a header that fits
 pub span_lies : (file : List ℕ) → IfSome (span_of file) (Lies (length file))
@@ -36,8 +37,8 @@ span_lies file = cond_both (ltb (length file) 64) None (span_fitting (take 32 fi
     (λ fit. of_header (take 32 file) (length file) fit) (λ unfit. tt))
 
 -- the first 32 bytes are there
-pub front_size : (file : List ℕ) → 64 ≤ length file → length (take 32 file) ≡ 32
-front_size file long = length-take-le 32 file (omega (arith, long))
+pub front_of_32 : (file : List ℕ) → 64 ≤ length file → length (take 32 file) ≡ 32
+front_of_32 file long = length-take-le 32 file (omega (arith, long))
 
 -- ---- other blocks in a file
 
@@ -116,8 +117,8 @@ order_said n = refl
 not_none : (n : ℕ) → 0 < n → {said : ℕ} → said ≡ n → said ≡ 0 → ⊥
 not_none n some same none = omega (arith, same, none, some)
 
-size_is : (n : ℕ) → 0 < n → n < 4294967296 → size_in (new_front n) ≡ n
-unfolding size_in
+size_is : (n : ℕ) → 0 < n → n < 4294967296 → front_size (new_front n) ≡ n
+unfolding front_size
 size_is n some small = cond-false (eqb (long_in (new_front n) 28) 0) (512 * long_in (new_front n) 20) (long_in (new_front n) 28)
     (ne_eqb (long_in (new_front n) 28) 0 (not_none n some (size_said n small)))
     ∙ size_said n small
@@ -142,7 +143,7 @@ unfolding new_file plain_header
 new_blocks volume = take_all ((64 + length volume) - 64) volume (omega arith)
 
 empty_back : volume_in (new_file []) ≡ []
-unfolding volume_in span_of new_file plain_header fits size_in long_in word_in
+unfolding volume_in span_of new_file plain_header fits front_size long_in word_in
 empty_back = refl
 
 -- it has the volume
@@ -219,38 +220,38 @@ module _ (old volume : List ℕ) (span : Span) (is : span_of old ≡ Some span) 
 -- ---- worked out
 
 dos_worked : span_of (example 0 0 64 4 (1 ∷ 2 ∷ 3 ∷ 4 ∷ 5 ∷ [])) ≡ Some (record { begin = 64; size = 4; order = orders.Dos })
-unfolding span_of fits size_in long_in word_in
+unfolding span_of fits front_size long_in word_in
 dos_worked = refl
 
 blocks_worked : span_of (example 1 7 66 3 (1 ∷ 2 ∷ 3 ∷ 4 ∷ 5 ∷ []))
     ≡ Some (record { begin = 66; size = 3; order = orders.Blocks })
-unfolding span_of fits size_in long_in word_in
+unfolding span_of fits front_size long_in word_in
 blocks_worked = refl
 
 counted_worked : span_of (example 1 1 65 0 (replicate 513 0))
     ≡ Some (record { begin = 65; size = 512; order = orders.Blocks })
-unfolding span_of fits size_in long_in word_in
+unfolding span_of fits front_size long_in word_in
 counted_worked = refl
 
 other_order_worked : span_of (example 2 0 64 4 (1 ∷ 2 ∷ 3 ∷ 4 ∷ 5 ∷ [])) ≡ None
-unfolding span_of fits size_in long_in word_in
+unfolding span_of fits front_size long_in word_in
 other_order_worked = refl
 
 too_early_worked : span_of (example 1 0 51 4 (1 ∷ 2 ∷ 3 ∷ 4 ∷ 5 ∷ [])) ≡ None
-unfolding span_of fits size_in long_in word_in
+unfolding span_of fits front_size long_in word_in
 too_early_worked = refl
 
 too_long_worked : span_of (example 1 0 64 6 (1 ∷ 2 ∷ 3 ∷ 4 ∷ 5 ∷ [])) ≡ None
-unfolding span_of fits size_in long_in word_in
+unfolding span_of fits front_size long_in word_in
 too_long_worked = refl
 
 empty_worked : span_of (example 1 0 64 0 (1 ∷ 2 ∷ 3 ∷ 4 ∷ 5 ∷ [])) ≡ None
-unfolding span_of fits size_in long_in word_in
+unfolding span_of fits front_size long_in word_in
 empty_worked = refl
 
 changed_worked : filed (example 1 7 66 3 (1 ∷ 2 ∷ 3 ∷ 4 ∷ 5 ∷ 6 ∷ [])) (33 ∷ 44 ∷ 55 ∷ [])
     ≡ example 1 7 66 3 (1 ∷ 2 ∷ 33 ∷ 44 ∷ 55 ∷ 6 ∷ [])
-unfolding filed span_of fits size_in long_in word_in written turned turned_front
+unfolding filed span_of fits front_size long_in word_in written turned turned_front
 changed_worked = refl
 
 pub worked_headers : WorkedHeaders

@@ -1,23 +1,15 @@
 -- Files of kind .2mg: a header that says where the blocks begin, how many bytes they have and in which order they
--- stand,
--- the blocks, and what stands behind them.
+-- stand, the blocks, and what stands behind them.
 use Rattle.std.specs.Prelude.{◌≡◌, ◌≤◌, ◌<◌, ℕ, ◌+◌, ◌*◌, ◌/◌, ◌%◌, ◌==◌, ◌&&◌, Bool, nat_le, nat_lt, codes}
 use Rattle.std.specs.Prelude.{List, [], ◌∷◌, ◌++◌}
 use Rattle.std.specs.Prelude.{Option, None, Some, drop, length, option_map, replicate, slice_range, take, if◌then◌else◌}
 use Rattle.std.specs.Str.{bytes_eq}
-use Rattle.pm_bytes.specs.Words.{word_in, written}
+use Rattle.pm_bytes.specs.Words.{written}
+use Rattle.pm_check.specs.Forms.{front_begin, front_size, long_in}
 use Rattle.pm_check.specs.Orders.{turned}
 use Rattle.pm_check.specs.declared.headed.Span.{Span}
 use Rattle.pm_check.specs.declared.order.Order.{Order}
 use Rattle.pm_check.specs.declared.order.Order.TheVariants as orders
-
--- four bytes of a header, the low one first
-unfoldable pub long_in : List ℕ → ℕ → ℕ
-long_in header place = word_in header place + 65536 * word_in header (place + 2)
-
--- how many bytes the blocks have: those at 28 say it, or where these are 0 as many blocks as those at 20
-unfoldable pub size_in : List ℕ → ℕ
-size_in header = if long_in header 28 == 0 then 512 * long_in header 20 else long_in header 28
 
 -- the order of a number, which stands at 12: 0 is that of DOS, 1 blocks in their order
 abbrev pub order_of : ℕ → Option Order
@@ -27,12 +19,12 @@ order_of number = if number == 0 then Some orders.Dos else (if number == 1 then 
 -- which begin where the bytes at 24 say, lie behind byte 51 and in the file
 unfoldable pub fits : List ℕ → ℕ → Bool
 fits header count =
-    bytes_eq (take 4 header) (codes "2IMG") && (nat_le 52 (long_in header 24) && (nat_lt 0 (size_in header)
-    && nat_le (long_in header 24 + size_in header) count))
+    bytes_eq (take 4 header) (codes "2IMG") && (nat_le 52 (front_begin header) && (nat_lt 0 (front_size header)
+    && nat_le (front_begin header + front_size header) count))
 
 -- what such a header says
 abbrev pub span_in : List ℕ → Option Span
-span_in header = option_map (λ order. record { begin = long_in header 24; size = size_in header; order = order })
+span_in header = option_map (λ order. record { begin = front_begin header; size = front_size header; order = order })
     (order_of (long_in header 12))
 
 -- if it fits a file of so many bytes

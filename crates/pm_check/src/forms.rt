@@ -122,9 +122,9 @@ fn is_in_sectors(image: &[u8], begin: usize, size: usize) -> bool
     size == SECTORS && has_heading(image, begin + SECTORS_HEADING, 280, false)
 }
 
-// Four bytes, the low one first.
+/// Four bytes, the low one first.
 #[tactic(auto, unfolding(crate::specs::Forms::long_in))]
-fn long(image: &[u8], place: usize) -> usize
+pub(crate) fn long(image: &[u8], place: usize) -> usize
     requires room { place + 4 ≤ length image.now }
     ensures long { result ≡ long_in image.now place }
     ensures most { result < 4294967296 }
@@ -132,10 +132,10 @@ fn long(image: &[u8], place: usize) -> usize
     usize::from(word(image, place)) + 65536 * usize::from(word(image, place + 2))
 }
 
-// How many bytes the blocks behind a header of an image's file have.
+/// How many bytes the blocks behind a header of an image's file have.
 #[tactic(auto, unfolding(crate::specs::Forms::front_size))]
-fn front_size(image: &[u8]) -> usize
-    requires room { 64 ≤ length image.now }
+pub(crate) fn front_size(image: &[u8]) -> usize
+    requires room { 32 ≤ length image.now }
     ensures size { result ≡ front_size image.now }
     ensures most { result < 2199023255552 }
 {

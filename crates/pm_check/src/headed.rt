@@ -2,11 +2,12 @@
 //! stand.
 ghost use Rattle.std.specs.Prelude.{◌≡◌, ◌+◌, ◌≤◌, ◌<◌, IfOk, IfSome, length};
 ghost use Rattle.pm_bytes.specs.Words.{written};
-ghost use Rattle.pm_check.specs.Headed.{Lies, filed, fits, long_bytes, long_in, new_file, order_of, size_in};
-ghost use Rattle.pm_check.specs.Headed.{span_fitting, span_of, volume_in};
+ghost use Rattle.pm_check.specs.Headed.{Lies, filed, fits, long_bytes, new_file, order_of, span_fitting, span_of};
+ghost use Rattle.pm_check.specs.Headed.{volume_in};
 
+use crate::forms::{front_size, long};
 use crate::order::Order;
-use pm_bytes::{BLOCK, set_bytes, word};
+use pm_bytes::{BLOCK, set_bytes};
 use std::alloc::{AllocError, Global};
 
 /// How many bytes a header has.
@@ -29,31 +30,6 @@ pub struct Span {
     pub order: Order,
 }
 
-/// Four bytes of a header, the low one first.
-#[tactic(auto, unfolding(crate::specs::Headed::long_in))]
-fn long(header: &[u8], place: usize) -> usize
-    requires room { place + 4 ≤ length header.now }
-    ensures long { result ≡ long_in header.now place }
-    ensures most { result < 4294967296 }
-{
-    usize::from(word(header, place)) + 65536 * usize::from(word(header, place + 2))
-}
-
-/// How many bytes the blocks have.
-#[tactic(auto, unfolding(crate::specs::Headed::size_in))]
-fn size_in(header: &[u8]) -> usize
-    requires room { 32 ≤ length header.now }
-    ensures size { result ≡ size_in header.now }
-    ensures most { result < 2199023255552 }
-{
-    let size = long(header, 28);
-    if size == 0 {
-        BLOCK * long(header, 20)
-    } else {
-        size
-    }
-}
-
 /// The order of a number.
 fn order_of(number: usize) -> Option<Order>
     ensures value { result ≡ order_of number }
@@ -72,7 +48,7 @@ fn fits(header: &[u8], count: usize) -> bool
     ensures value { result ≡ fits header.now count }
 {
     let begin = long(header, 24);
-    let size = size_in(header);
+    let size = front_size(header);
     &header[..4] == b"2IMG".as_slice() && 52 <= begin && 0 < size && begin + size <= count
 }
 
@@ -87,13 +63,13 @@ fn span_from(header: &[u8], count: usize) -> Option<Span>
     let order = order_of(long(header, 12))?;
     Some(Span {
         begin: long(header, 24),
-        size: size_in(header),
+        size: front_size(header),
         order,
     })
 }
 
 /// What the header of a file says, if it has one that fits.
-#[tactic(auto, unfolding(crate::specs::Headed::span_of), using(crate::proofs::HeadedLaws::span_lies, crate::proofs::HeadedLaws::front_size))]
+#[tactic(auto, unfolding(crate::specs::Headed::span_of), using(crate::proofs::HeadedLaws::span_lies, crate::proofs::HeadedLaws::front_of_32))]
 fn span_of(file: &[u8]) -> Option<Span>
     ensures value { result ≡ span_of file.now }
     ensures inside { IfSome (span_of file.now) (Lies (length file.now)) }

@@ -468,7 +468,7 @@ const INDENT: WordRow = (
 const BLOCKS: WordRow = (
     "blocks",
     Form::Flag,
-    "Writes the code as statements in blocks of IF, ELSE, WHILE and REPEAT; not beside --names, --list or --indent",
+    "Writes the code as statements in blocks: IF, ELSE, WHILE, REPEAT, CASE; not beside --names, --list or --indent",
 );
 
 /// The file that is read.

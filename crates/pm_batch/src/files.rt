@@ -102,8 +102,9 @@ fn told_missing(
     format!(in alloc; "no file of that name; {longer} is there").ok()
 }
 
-/// What is told of an image whose first bytes are those of no volume, where the form is known that it has.
-fn told_form(alloc: Global, fault: VolumeFault, form: Option<Form>) -> Option<String> {
+/// What is told of an image whose first bytes are those of no volume, where the form is known that it has; nothing where
+/// there is no memory for it.
+pub fn form_told(alloc: Global, fault: VolumeFault, form: Option<Form>) -> Option<String> {
     let help = match (fault, form?) {
         (VolumeFault::BadEntry(_) | VolumeFault::TooManyFiles, _) => return None,
         (VolumeFault::PastEnd | VolumeFault::FirstCopyBad(_), _) => return None,
@@ -119,11 +120,6 @@ fn told_form(alloc: Global, fault: VolumeFault, form: Option<Form>) -> Option<St
     String::from_str(alloc, help).ok()
 }
 
-/// What a terminal is told in place of why an image is no volume: its form, where that is known.
-pub fn form_told(alloc: Global, fault: VolumeFault, image: &[u8]) -> Option<String> {
-    told_form(alloc, fault, form_seen(image))
-}
-
 /// What is told behind what is wrong with an image that is no volume: its form, where that is known, or what takes its
 /// files out.
 fn told_checked(alloc: Global, fault: VolumeFault, form: Option<Form>) -> Option<String> {
@@ -133,7 +129,7 @@ fn told_checked(alloc: Global, fault: VolumeFault, form: Option<Form>) -> Option
                 "files salvage NEW, with the same image, makes a volume NEW of the files whose entries make sense";
             String::from_str(alloc, help).ok()
         }
-        _ => told_form(alloc, fault, form),
+        _ => form_told(alloc, fault, form),
     }
 }
 
@@ -150,7 +146,7 @@ pub(crate) fn file(
     let mut volume = match opened {
         Ok(volume) => volume,
         Err(fault) => {
-            let told = told_form(alloc, fault, form);
+            let told = form_told(alloc, fault, form);
             return Ok(Made::Refused(Refusal::Volume(fault), told));
         }
     };
@@ -192,7 +188,7 @@ pub(crate) fn repair_volume(alloc: Global, image: Vec<u8>) -> Made
     match Volume::repair(image) {
         Ok(repaired) => Made::Image(repaired.into_bytes()),
         Err((fault, image)) => {
-            let told = told_form(alloc, fault, form_seen(&image));
+            let told = form_told(alloc, fault, form_seen(&image));
             Made::Refused(Refusal::Volume(fault), told)
         }
     }

@@ -44,26 +44,24 @@ pub fn disks_of(alloc: Global, plan: &Plan) -> Option<Disks> {
     }
 }
 
-/// The path of the file that a refusal is about.
-pub fn path_of(disks: &Disks, about: About) -> Option<&str> {
-    let path = match about {
-        About::Unit(4) => disks.paths[0].as_ref()?,
-        About::Unit(5) => disks.paths[1].as_ref()?,
-        About::Unit(9) => disks.paths[2].as_ref()?,
-        About::Unit(10) => disks.paths[3].as_ref()?,
-        About::Unit(11) => disks.paths[4].as_ref()?,
-        About::Unit(_) => disks.paths[5].as_ref()?,
-        About::System => disks.system.as_ref()?,
+/// A unit and its path.
+fn on_unit(alloc: Global, disks: &Disks, unit: u8) -> Option<String> {
+    let path = match unit {
+        4 => disks.paths[0].as_ref()?,
+        5 => disks.paths[1].as_ref()?,
+        9 => disks.paths[2].as_ref()?,
+        10 => disks.paths[3].as_ref()?,
+        11 => disks.paths[4].as_ref()?,
+        _ => disks.paths[5].as_ref()?,
     };
-    Some(path.as_str())
+    format!(in alloc; "unit {unit}: {path}").ok()
 }
 
 /// The file that a refusal is about: its unit and its path, or the path of the system's code file. `None` where there
 /// is no memory for the text.
 pub fn about(alloc: Global, disks: &Disks, about: About) -> Option<String> {
-    let path = path_of(disks, about)?;
     match about {
-        About::Unit(unit) => format!(in alloc; "unit {unit}: {path}").ok(),
-        About::System => String::from_str(alloc, path).ok(),
+        About::Unit(unit) => on_unit(alloc, disks, unit),
+        About::System => copy_of(alloc, &disks.system).ok()?,
     }
 }

@@ -5,7 +5,7 @@ ghost use Rattle.pm_plan.specs.Asked.{paths_in};
 ghost use Rattle.pm_program.specs.Conflicts.{are_shared, conflict_of, is_other, is_taken_away, names_image};
 ghost use Rattle.pm_program.specs.Conflicts.{others_take_away, printer_conflict, takes_away};
 
-use crate::about::{Disks, about, copy_of, disks_of, path_of};
+use crate::about::{Disks, about, copy_of, disks_of};
 use crate::console::{END, ESCAPE, Failed, Keys, Lined, Lines, Prompted};
 use crate::end::{Conflict, End};
 use crate::got::do_get;
@@ -16,7 +16,7 @@ use pm_jobs::{AsmOutput, Reader, Saving, Sink, Source, Writer};
 use pm_plan::{
     Asked, FilesPlan, Form, InForm, Order, Plan, Program, RunChoices, TextFiles, TextInput, Verb,
 };
-use pm_tool::{Job, Outcome, Refusal, form_told};
+use pm_tool::{Job, Outcome};
 use std::alloc::{AllocError, Global};
 use std::io;
 use std::io::{Input, Read};
@@ -433,23 +433,12 @@ fn conflict_in<S: Store>(store: &S, plan: &Plan) -> Option<Conflict> {
     }
 }
 
-/// The end of a job that was done, with what its refusal is about; of a program's image that is no volume, which is
-/// read again, also its form, where that is known.
-fn end_of_job<S: Store>(
-    alloc: Global,
-    files: &mut S,
-    disks: &Option<Disks>,
-    mut outcome: Outcome,
-) -> End {
-    let (Some(disks), Some(file)) = (disks, outcome.about) else {
-        return End::Outcome(outcome, None);
+/// The end of a job that was done, with what its refusal is about.
+fn end_of_job(alloc: Global, disks: &Option<Disks>, outcome: Outcome) -> End {
+    let about = match (disks, outcome.about) {
+        (Some(disks), Some(file)) => about(alloc, disks, file),
+        _ => None,
     };
-    if let (Some(path), Some(Refusal::Volume(fault))) = (path_of(disks, file), outcome.refusal) {
-        if let Ok(image) = files.read(alloc, path) {
-            outcome.line = form_told(alloc, fault, image.as_slice());
-        }
-    }
-    let about = about(alloc, disks, file);
     End::Outcome(outcome, about)
 }
 
@@ -523,7 +512,7 @@ fn end_of_plan<R: Host + AllocGlobal, I: Source, O: Sink>(
         Err(_) => return End::File(DiskFault::NoMemory, None),
     };
     match act(rt.alloc(), &mut files, source, sink, plan) {
-        Ok(outcome) => end_of_job(rt.alloc(), &mut files, &disks, outcome),
+        Ok(outcome) => end_of_job(rt.alloc(), &disks, outcome),
         Err(fault) => End::File(fault, files.store.into_refused()),
     }
 }

@@ -8,7 +8,8 @@ ghost use Rattle.pm_tool.specs.Hex.{hex_spelled};
 use crate::hex;
 use crate::hint::{Hint, hint_for};
 use crate::outcome::About;
-use pm_batch::Refusal;
+use pm_batch::{Refusal, form_told};
+use pm_check::{Form, form_seen};
 use pm_machine::{BootFault, Machine};
 use pm_system::{SystemFault, put_system};
 use pm_volume::{Volume, VolumeFault};
@@ -36,9 +37,14 @@ pub(crate) struct NoStart {
     pub refusal: Refusal,
     /// Which file that is about, where it is one.
     pub about: Option<About>,
+    /// What a terminal is told in place of the refusal, if something is.
+    pub line: Option<String>,
     /// What helps, if something does.
     pub hint: Option<Hint>,
 }
+
+/// The place of an image that is no volume, its fault, and the form that it has, where that is known.
+type BadImage = (usize, VolumeFault, Option<Form>);
 
 /// The unit of the disk at a place: 4, 5, 9, 10, 11 or 12.
 fn unit_at(place: usize) -> u8
@@ -65,7 +71,7 @@ fn system_about(fault: SystemFault) -> About
 }
 
 /// The volume that the image at a place is, where there is one.
-fn volume_of(image: Option<Vec<u8>>, place: usize) -> Result<Option<Volume>, (usize, VolumeFault)>
+fn volume_of(image: Option<Vec<u8>>, place: usize) -> Result<Option<Volume>, BadImage>
     ensures volume { IfOk result (λ volume. volume ≡ option_map vec_items image) }
     ensures sound { OnOk result (disk_fault (option_map vec_items image) ≡ None) }
     ensures fault { IfErr result (λ bad. disk_fault (option_map vec_items image) ≡ Some bad.1) }
@@ -75,13 +81,13 @@ fn volume_of(image: Option<Vec<u8>>, place: usize) -> Result<Option<Volume>, (us
         None => Ok(None),
         Some(image) => match Volume::open(image) {
             Ok(volume) => Ok(Some(volume)),
-            Err((fault, _)) => Err((place, fault)),
+            Err((fault, image)) => Err((place, fault, form_seen(&image))),
         },
     }
 }
 
-/// The volumes that the images are, or the place of the first that is none, and its fault.
-fn volumes_of(disks: [Option<Vec<u8>>; 6]) -> Result<[Option<Volume>; 6], (usize, VolumeFault)>
+/// The volumes that the images are, or the first that is none.
+fn volumes_of(disks: [Option<Vec<u8>>; 6]) -> Result<[Option<Volume>; 6], BadImage>
     ensures volumes { IfOk result (λ volumes. volumes ≡ images_of disks) }
     ensures sound { OnOk result (first_disk_fault (images_of disks) ≡ None) }
     ensures all { OnOk result (first_bad 0 (images_of disks) ≡ None) }
@@ -144,6 +150,7 @@ fn no_start(refusal: Refusal, about: About, hint: Option<Hint>) -> NoStart
     NoStart {
         refusal,
         about,
+        line: None,
         hint,
     }
 }
@@ -163,9 +170,11 @@ fn boot(
 {
     let volumes = match volumes_of(disks) {
         Ok(volumes) => volumes,
-        Err((place, fault)) => {
+        Err((place, fault, form)) => {
             let unit = unit_at(place);
-            return Ok(Err(no_start(Refusal::Volume(fault), About::Unit(unit), None)));
+            let mut none = no_start(Refusal::Volume(fault), About::Unit(unit), None);
+            none.line = form_told(alloc, fault, form);
+            return Ok(Err(none));
         }
     };
     let volumes = match with_system(alloc, volumes, name, system) {
@@ -194,6 +203,7 @@ fn no_bare_start(refusal: Refusal) -> NoStart
     NoStart {
         refusal,
         about: None,
+        line: None,
         hint: None,
     }
 }

@@ -227,7 +227,7 @@ pub(crate) fn do_talk<R: Source, W: Sink>(
 {
     let mut machine = match start_on(alloc, start)? {
         Ok(machine) => machine,
-        Err(none) => return Ok(refuse_for(alloc, none.refusal, None, none.about, none.hint)?),
+        Err(none) => return Ok(refuse_for(alloc, none.refusal, none.line, none.about, none.hint)?),
     };
     match talk {
         Talk::Run { show, limit } => do_run(alloc, source, sink, &mut machine, show, limit),

@@ -102,8 +102,8 @@ fn told_missing(
     format!(in alloc; "no file of that name; {longer} is there").ok()
 }
 
-/// What is told of an image whose first bytes are those of no volume, where the form is known that it has; nothing where
-/// there is no memory for it.
+/// What is told of an image whose first bytes are those of no volume, where its form is known; nothing where there is
+/// no memory for it.
 pub fn form_told(alloc: Global, fault: VolumeFault, form: Option<Form>) -> Option<String> {
     let help = match (fault, form?) {
         (VolumeFault::BadEntry(_) | VolumeFault::TooManyFiles, _) => return None,

@@ -20,7 +20,7 @@ pub use engine::run;
 pub use hint::Hint;
 pub use kept::Kept;
 pub use outcome::{About, Exit, Job, OtherImages, Outcome};
-pub use pace::Pace;
+pub use pace::{Pace, Quick};
 pub use pm_batch::{Reason, Refusal};
 pub use pm_jobs::{AsmOutput, Code, DisOutput, Reader, Saving, Selection, Sink, Source, Writer};
 pub use pm_session::Ending;

@@ -12,7 +12,7 @@ pub trait Pace {
 
 /// The machine's quick way.
 #[derive(Clone, Copy)]
-pub(crate) struct Quick;
+pub struct Quick;
 
 impl Pace for Quick {
     fn quick_steps(&mut self, machine: &mut Machine, limit: u64) -> u64 {

@@ -1,6 +1,6 @@
 //! Runs and traces are made the quick way.
 use pm_machine::{BootFault, Machine};
-use pm_tool::{Ending, Pace, Reader, Saving, Selection, Show, Writer, drive};
+use pm_tool::{Ending, Pace, Quick, Reader, Saving, Selection, Show, Writer, drive};
 use std::alloc::Global;
 use std::process::Abort;
 
@@ -62,4 +62,12 @@ fn runs_go_quickly(rt: HostRuntime) -> Result<(), BootFault> {
 #[test]
 fn traces_go_quickly(rt: HostRuntime) -> Result<(), BootFault> {
     makes(&rt, rt.alloc(), Show::Trace(Selection::ALL), 1000, 1000)
+}
+
+/// The pace of the program is the machine's quick way.
+#[test]
+fn quick_is_quick(rt: HostRuntime) -> Result<(), BootFault> {
+    let mut machine = Machine::raw(rt.alloc(), &WHILE)?;
+    assert_eq!(rt; Quick.quick_steps(&mut machine, 1000), 1000);
+    Ok(())
 }

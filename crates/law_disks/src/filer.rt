@@ -1,19 +1,7 @@
 //! Laws of commands, and of what a second copy of the directory is good for. The functions do nothing.
-ghost use Rattle.pm_filer.specs.Laws.{
-  ChangeKeepsOthers,
-  KrunchKeepsFree,
-  KrunchLeavesOneGap,
-  NamesAreKept,
-  NewNameGives,
-  PutFindsRoom,
-  PutIsGot,
-  PutIsLowest,
-  RemovalKeepsOthers,
-  SlotsCountFiles,
-  SlotsEnd,
-  TextIsGot,
-  TextKeepsOthers,
-};
+ghost use Rattle.pm_filer.specs.Laws.{ChangeKeepsOthers, KrunchKeepsFree, KrunchLeavesOneGap, NamesAreKept};
+ghost use Rattle.pm_filer.specs.Laws.{NewNameGives, PutFindsRoom, PutIsGot, PutIsLowest, RemovalKeepsOthers};
+ghost use Rattle.pm_filer.specs.Laws.{SlotsCountFiles, SlotsEnd, TextIsGot, TextKeepsOthers};
 ghost use Rattle.law_disks.specs.Kinds.{CopyIsGot, CopyKeepsKind, KindIsSet, KindKeepsNames};
 ghost use Rattle.pm_volume.specs.Laws.{DamageIsUndone, GoodImagesStay, SecondCopySaves};
 

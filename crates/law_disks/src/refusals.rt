@@ -1,13 +1,7 @@
 //! Which refusal is told where several hold: the first in its order.
 
-ghost use Rattle.law_disks.specs.Refusals.{
-  ChangesTellFirst,
-  DirectoriesTellFirst,
-  DoublingTellsFirst,
-  EntriesTellFirst,
-  ImagesTellFirst,
-  PutsTellFirst,
-};
+ghost use Rattle.law_disks.specs.Refusals.{ChangesTellFirst, DirectoriesTellFirst, DoublingTellsFirst};
+ghost use Rattle.law_disks.specs.Refusals.{EntriesTellFirst, ImagesTellFirst, PutsTellFirst};
 
 /// A new file is refused for its name, then for a file of that name, then for 77 files, and then for want of room.
 #[tactic(auto, using(crate::proofs::RefusalLaws::puts_tell_first))]

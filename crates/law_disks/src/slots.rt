@@ -1,18 +1,8 @@
 //! What a removal and another name by the slot make of the list of files.
 
-ghost use Rattle.law_disks.specs.Fitting.{
-  EqualsIsAnything,
-  PatternIsName,
-  RemovalLeavesUnfit,
-  UnfitIsRefused,
-};
-ghost use Rattle.law_disks.specs.Slots.{
-  ChangeNamesOne,
-  EmptySlotsAreRefused,
-  NamesAreSlots,
-  RemovalTakesOne,
-  SlotChangesTellFirst,
-};
+ghost use Rattle.law_disks.specs.Fitting.{EqualsIsAnything, PatternIsName, RemovalLeavesUnfit, UnfitIsRefused};
+ghost use Rattle.law_disks.specs.Slots.{ChangeNamesOne, EmptySlotsAreRefused, NamesAreSlots, RemovalTakesOne};
+ghost use Rattle.law_disks.specs.Slots.{SlotChangesTellFirst};
 
 /// A file that is removed by its slot is missing from the list, and every other one, also of its name, stands there in
 /// the order and with the bytes that it had.

@@ -1,12 +1,7 @@
 //! Laws of calls, returns and keeps. The functions do nothing.
 
-ghost use Rattle.pm_calls.specs.Laws.{
-  KeptWordsAreWatched,
-  LoadedCodeStands,
-  ReturnGivesBack,
-  ReturnGivesPlacesBack,
-  UnkeepGivesBack,
-};
+ghost use Rattle.pm_calls.specs.Laws.{KeptWordsAreWatched, LoadedCodeStands, ReturnGivesBack, ReturnGivesPlacesBack};
+ghost use Rattle.pm_calls.specs.Laws.{UnkeepGivesBack};
 
 /// A return of its call's kind, a base return after a base call and else a normal one, gives the
 /// caller's registers back right after the call: all but SP, which leaves the parameters behind and

@@ -1,13 +1,7 @@
 //! Laws of moves and scans. The functions do nothing.
 
-ghost use Rattle.law_engine.specs.ProcedureLaws.{
-  MoveLeftCopies,
-  MoveLeftRepeats,
-  MoveRightCopies,
-  MoveRightRepeats,
-  MovesStayInside,
-  ScansStopFirst,
-};
+ghost use Rattle.law_engine.specs.ProcedureLaws.{MoveLeftCopies, MoveLeftRepeats, MoveRightCopies, MoveRightRepeats};
+ghost use Rattle.law_engine.specs.ProcedureLaws.{MovesStayInside, ScansStopFirst};
 
 /// MOVELEFT copies its bytes, where none is written before it is read.
 #[tactic(auto, using(crate::proofs::MoveLaws::move_left_copies))]

@@ -1,15 +1,7 @@
 //! Laws of sets, fields and strings, by which the rows hang together. The functions do nothing.
 
-ghost use Rattle.pm_values.specs.Laws.{
-  IntersectionCommutes,
-  OtherBitsStay,
-  PartsUnite,
-  SetIsItsTest,
-  StoredIsLoaded,
-  StringsAreOrdered,
-  SubsetIsOfNumbers,
-  UnionCommutes,
-};
+ghost use Rattle.pm_values.specs.Laws.{IntersectionCommutes, OtherBitsStay, PartsUnite, SetIsItsTest, StoredIsLoaded};
+ghost use Rattle.pm_values.specs.Laws.{StringsAreOrdered, SubsetIsOfNumbers, UnionCommutes};
 
 /// A set made by a test has the numbers within its words that pass it, and no others.
 #[tactic(auto, using(pm_values::proofs::MemberLaws::set_is_its_test))]

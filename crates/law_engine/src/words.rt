@@ -1,12 +1,7 @@
 //! Laws of the memory. The functions do nothing.
 
-ghost use Rattle.law_engine.specs.WordsLaws.{
-  BytesAreCopied,
-  BytesAreWritten,
-  MovesAreCopies,
-  WordIsWritten,
-  WordsAreTheirBytes,
-};
+ghost use Rattle.law_engine.specs.WordsLaws.{BytesAreCopied, BytesAreWritten, MovesAreCopies, WordIsWritten};
+ghost use Rattle.law_engine.specs.WordsLaws.{WordsAreTheirBytes};
 
 /// A word is its two bytes, the low one at its even address.
 pub fn words_are_their_bytes()

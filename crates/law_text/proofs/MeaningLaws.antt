@@ -61,7 +61,8 @@ use Rattle.pm_machine.specs.Rows.{on_registers}
 use Rattle.pm_code.specs.Item.{IsItem, IsNear, IsPlain, Item, Target, item_bytes, jump_byte, size}
 use Rattle.pm_code.specs.Item.Item.{Plain, Jump as JumpItem, Case, OneByte}
 use Rattle.pm_code.specs.Item.Target.{To, Through}
-use Rattle.pm_trees.specs.Parts.{Part, bare_instruction}
+use Rattle.pm_opcode.specs.Standing.{bare}
+use Rattle.pm_trees.specs.Parts.{Part}
 use Rattle.pm_trees.specs.Trees.{Forest, parts_of}
 use Rattle.pm_trees.specs.Trees.Forest.{Bare, Tree}
 use Rattle.law_text.specs.Meaning.{DoesAsSaid, Done, Halts, StandFrom, StandThere, StatementsDoWhatTheySay, behind_parts, distance, done_said}
@@ -468,7 +469,7 @@ plain_fetched s origin at i named stack even plain h =
     }
 
 abbrev jump_instruction : ℕ → ℕ → Target ℕ → Instr
-jump_instruction at op goal = record (bare_instruction op) { a = distance (at + 2) goal }
+jump_instruction at op goal = record (bare op) { a = distance (at + 2) goal }
 
 -- the byte of a jump is the low byte of its distance, and stands for it
 jump_low : (at : ℕ) (goal : Target ℕ) → IsNear (at + 2) goal → distance (at + 2) goal % 256 ≡ jump_byte (at + 2) goal
@@ -1043,7 +1044,7 @@ jump_of (JumpItem op goal) (jump.Short c offset) s u origin at i ws ready count 
     let m = u.memory in
     let r = past.registers in
     let above = s.registers.sp in
-    let operand : offset ≡ distance (at + 2) goal = offset_is (shape_of op) (record (bare_instruction op) { a = distance (at + 2) goal }) c offset same in
+    let operand : offset ≡ distance (at + 2) goal = offset_is (shape_of op) (record (bare op) { a = distance (at + 2) goal }) c offset same in
     let ipc : r.ipc ≡ (origin + (at + 2)) % 65536 = ap (λ (q : Registers). (q.ipc + i.len) % 65536) h.registers ∙ next_ipc origin at i.len
     ∙ ap (λ n. (origin + (at + n)) % 65536) bytes in
     let leads = leads_agrees s m r origin at above goal h.memory (ap (λ (q : Registers). q.jtab) h.registers) ipc is.2 in

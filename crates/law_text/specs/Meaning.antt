@@ -30,7 +30,8 @@ use Rattle.pm_machine.specs.declared.state.Status.TheVariants as status
 use Rattle.pm_machine.specs.State.{State}
 use Rattle.pm_machine.specs.Runs.{after_steps}
 use Rattle.pm_phrases.specs.declared.around.Missing.{Missing}
-use Rattle.pm_trees.specs.Parts.{Part, bare_instruction}
+use Rattle.pm_opcode.specs.Standing.{bare}
+use Rattle.pm_trees.specs.Parts.{Part}
 use Rattle.pm_trees.specs.Trees.{Forest, parts_of}
 use Rattle.pm_trees.specs.Trees.Forest.{Bare, Tree}
 
@@ -138,7 +139,7 @@ distance next (Through k) = 65526 - 2 * k
 
 abbrev pub item_operation : ℕ → Item ℕ → Operation
 item_operation at (Plain i named) = operation_of i
-item_operation at (JumpItem op target) = operation_of (record (bare_instruction op) { a = distance (at + 2) target })
+item_operation at (JumpItem op target) = operation_of (record (bare op) { a = distance (at + 2) target })
 item_operation at other = operation.Unimplemented
 
 abbrev pub operation_at : Part → Operation

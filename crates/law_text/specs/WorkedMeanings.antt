@@ -8,7 +8,8 @@ use Rattle.pm_code.specs.Item.Item.{Plain, Jump}
 use Rattle.pm_code.specs.Item.Target.{To, Through}
 use Rattle.pm_phrases.specs.declared.around.Missing.{Missing}
 use Rattle.pm_effects.specs.declared.effect.Share.TheVariants as share
-use Rattle.pm_trees.specs.Parts.{Part, bare_instruction, part_of, place_at}
+use Rattle.pm_opcode.specs.Standing.{bare}
+use Rattle.pm_trees.specs.Parts.{Part, part_of, place_at}
 use Rattle.pm_trees.specs.declared.items.Layout.TheVariants as layout
 use Rattle.pm_trees.specs.Trees.{Forest}
 use Rattle.pm_trees.specs.Trees.Forest.{Bare, Tree}
@@ -39,11 +40,11 @@ nothing_missing = record { top = share.Words 0; below = share.Words 0 }
 
 -- an operation without an operand in the code, on operands
 abbrev pub on : ℕ → Forest → Forest
-on op operands = Tree (the_part (Plain (bare_instruction op) [])) nothing_missing operands Bare
+on op operands = Tree (the_part (Plain (bare op) [])) nothing_missing operands Bare
 
 -- behind another operand
 abbrev pub then_on : ℕ → Forest → Forest → Forest
-then_on op operands before = Tree (the_part (Plain (bare_instruction op) [])) nothing_missing operands before
+then_on op operands before = Tree (the_part (Plain (bare op) [])) nothing_missing operands before
 
 -- SLDO 1, 2, 3 and 4 are 232 to 235, SLDL 1 and 2 are 216 and 217
 abbrev pub global1 : Forest
@@ -54,7 +55,7 @@ global2 = on 233 Bare
 
 -- SRO b is 171, STO 154, FJP 161, UJP 185
 abbrev pub store_global : ℕ → Part
-store_global b = the_part (Plain (record (bare_instruction 171) { a = b }) [])
+store_global b = the_part (Plain (record (bare 171) { a = b }) [])
 
 -- of code in a segment that begins at 1000
 abbrev pub said : Part → Forest → Said Done
@@ -78,7 +79,7 @@ pub record WorkedMeanings : Type 0 where
   -- GOTO ^0: the entry at 46 has 16, so 16 below it
   pub by_entry : said (the_part (Jump 185 (Through 0))) Bare ≡ Gives (Jumps 30)
   -- local2^ := 5: the word at 6 is written whatever stands there, SLDC 5 is 5
-  pub through : said (the_part (Plain (bare_instruction 154) [])) (then_on 5 Bare (on 217 Bare))
+  pub through : said (the_part (Plain (bare 154) [])) (then_on 5 Bare (on 217 Bare))
       ≡ Gives (Writes 6 5)
   -- global1 := local2^: what it reads is on the free stack
   pub free : said (store_global 1) (on 248 (on 217 Bare)) ≡ Unsaid

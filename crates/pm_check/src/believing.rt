@@ -1,16 +1,8 @@
 //! Which entries of a directory make sense, each by itself.
 ghost use Rattle.std.specs.Prelude.{◌≡◌, ◌+◌, ◌≤◌, ◌++◌, IfOk, OnOk, [], length};
 ghost use Rattle.pm_volume.specs.declared.fields.TheConstants.{DIRECTORY_SIZE, MOST_FILES};
-ghost use Rattle.pm_check.specs.Believing.{
-  is_empty,
-  left_from,
-  left_of,
-  placed,
-  sharing,
-  taken_from,
-  taken_with,
-  why_left,
-};
+ghost use Rattle.pm_check.specs.Believing.{is_empty, left_from, left_of, placed, sharing, taken_from, taken_with};
+ghost use Rattle.pm_check.specs.Believing.{why_left};
 
 use crate::finding::SlotFinding;
 use crate::notes::shares;

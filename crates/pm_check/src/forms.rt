@@ -2,24 +2,9 @@
 ghost use Rattle.std.specs.Prelude.{◌≡◌, ◌+◌, ◌≤◌, ◌<◌, ◌++◌, OnOk, length};
 ghost use Rattle.std.specs.Bool.{OnTrue};
 ghost use Rattle.pm_volume.specs.declared.fields.TheConstants.{SLOT};
-ghost use Rattle.pm_check.specs.Forms.{
-  form_notes,
-  form_seen,
-  front_begin,
-  front_form,
-  front_notes,
-  front_size,
-  has_front,
-  has_heading,
-  heading_length,
-  heading_word,
-  is_heading,
-  is_in_blocks,
-  is_in_sectors,
-  is_swapped,
-  long_in,
-  note_if,
-};
+ghost use Rattle.pm_check.specs.Forms.{form_notes, form_seen, front_begin, front_form, front_notes, front_size};
+ghost use Rattle.pm_check.specs.Forms.{has_front, has_heading, heading_length, heading_word, is_heading};
+ghost use Rattle.pm_check.specs.Forms.{is_in_blocks, is_in_sectors, is_swapped, long_in, note_if};
 
 use crate::note::{Form, Note};
 use pm_bytes::{BLOCK, word};

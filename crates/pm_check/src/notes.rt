@@ -2,24 +2,9 @@
 ghost use Rattle.std.specs.Prelude.{◌≡◌, ◌-◌, ◌≤◌, ◌++◌, IfOk, OnOk, length};
 ghost use Rattle.pm_volume.specs.Directory.{entry_in};
 ghost use Rattle.pm_volume.specs.declared.fields.TheConstants.{DIRECTORY_END, DIRECTORY_SIZE, MOST_FILES, SECOND_END};
-ghost use Rattle.pm_check.specs.Notes.{
-  copies_notes,
-  copy_notes,
-  differing,
-  differing_from,
-  differs,
-  directory_notes,
-  header_name,
-  image_notes,
-  is_good_second,
-  is_plain,
-  notes_from,
-  pair_notes,
-  pairs_from,
-  second_notes,
-  shares,
-  slot_notes,
-};
+ghost use Rattle.pm_check.specs.Notes.{copies_notes, copy_notes, differing, differing_from, differs, directory_notes};
+ghost use Rattle.pm_check.specs.Notes.{header_name, image_notes, is_good_second, is_plain, notes_from, pair_notes};
+ghost use Rattle.pm_check.specs.Notes.{pairs_from, second_notes, shares, slot_notes};
 ghost use Rattle.pm_check.specs.Rules.{slot_count};
 
 use crate::forms::{push_forms, push_note};

@@ -1,17 +1,8 @@
 //! The rules of a volume that an image breaks, each looked at by itself.
 ghost use Rattle.std.specs.Prelude.{◌≡◌, ◌≤◌, ◌++◌, IfOk, OnOk, length};
 ghost use Rattle.pm_volume.specs.declared.fields.TheConstants.{DIRECTORY_SIZE, MOST_FILES};
-ghost use Rattle.pm_check.specs.Rules.{
-  directory_findings,
-  findings_from,
-  found_if,
-  has_wrong_last,
-  header_findings,
-  image_findings,
-  is_out_of_order,
-  slot_count,
-  slot_findings,
-};
+ghost use Rattle.pm_check.specs.Rules.{directory_findings, findings_from, found_if, has_wrong_last, header_findings};
+ghost use Rattle.pm_check.specs.Rules.{image_findings, is_out_of_order, slot_count, slot_findings};
 
 use crate::finding::{Finding, SlotFinding};
 use pm_bytes::{BLOCK, word};

@@ -1,34 +1,9 @@
 //! A code file by its slots.
 
-ghost use Rattle.std.specs.Prelude.{
-  ◌≡◌,
-  ◌+◌,
-  ◌*◌,
-  ◌%◌,
-  ◌<◌,
-  ◌≤◌,
-  ◌↔◌,
-  ℕ,
-  length,
-  option_map,
-  slice_range,
-  IfOk,
-  IfErr,
-  IfSome,
-  IsOk,
-  OnOk,
-  None,
-  Some,
-};
-ghost use Rattle.pm_codefile.specs.Dictionary.{
-  IsCodeFile,
-  IsFirstCodeFault,
-  file_fault,
-  first_slot_fault,
-  segment_in,
-  slot_fault,
-  slot_in,
-};
+ghost use Rattle.std.specs.Prelude.{◌≡◌, ◌+◌, ◌*◌, ◌%◌, ◌<◌, ◌≤◌, ◌↔◌, ℕ, length, option_map, slice_range, IfOk};
+ghost use Rattle.std.specs.Prelude.{IfErr, IfSome, IsOk, OnOk, None, Some};
+ghost use Rattle.pm_codefile.specs.Dictionary.{IsCodeFile, IsFirstCodeFault, file_fault, first_slot_fault};
+ghost use Rattle.pm_codefile.specs.Dictionary.{segment_in, slot_fault, slot_in};
 ghost use Rattle.pm_bytes.specs.declared.blocks.TheConstants.{BLOCK};
 
 use crate::fault::CodeFault;

@@ -1,24 +1,7 @@
 //! Writing code files.
 
-ghost use Rattle.std.specs.Prelude.{
-  All,
-  ◌≡◌,
-  ◌+◌,
-  ◌-◌,
-  ◌*◌,
-  ◌%◌,
-  ◌<◌,
-  ◌≤◌,
-  ◌++◌,
-  length,
-  replicate,
-  slice_index_or,
-  sum,
-  ℕ,
-  [],
-  IfOk,
-  OnOk,
-};
+ghost use Rattle.std.specs.Prelude.{All, ◌≡◌, ◌+◌, ◌-◌, ◌*◌, ◌%◌, ◌<◌, ◌≤◌, ◌++◌, length, replicate, slice_index_or};
+ghost use Rattle.std.specs.Prelude.{sum, ℕ, [], IfOk, OnOk};
 ghost use Rattle.byteorder.specs.Endian.{little_bytes};
 ghost use Rattle.pm_codefile.specs.Layout.{blocks_for, layout, name_for, names_for};
 ghost use Rattle.pm_codefile.specs.Layout.{in_blocks, block_padding, slot_pair, pairs};

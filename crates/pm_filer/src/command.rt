@@ -1,21 +1,6 @@
 //! Commands, and what they answer.
-ghost use Rattle.std.specs.Prelude.{
-  ◌≡◌,
-  ◌≢◌,
-  Ok,
-  Err,
-  Some,
-  None,
-  IfOk,
-  IfErr,
-  IsErrOf,
-  IsOk,
-  OnErr,
-  OnOk,
-  false,
-  true,
-  if◌then◌else◌,
-};
+ghost use Rattle.std.specs.Prelude.{◌≡◌, ◌≢◌, Ok, Err, Some, None, IfOk, IfErr, IsErrOf, IsOk, OnErr, OnOk, false};
+ghost use Rattle.std.specs.Prelude.{true, if◌then◌else◌};
 ghost use Rattle.pm_volume.specs.Made.{added, kind_set, renamed, slot_kind_set, slot_renamed, zeroed};
 ghost use Rattle.pm_volume.specs.Directory.{IsVolume, directory_of, image_fault};
 ghost use Rattle.pm_volume.specs.Files.{file_named};
@@ -23,22 +8,8 @@ ghost use Rattle.pm_volume.specs.Dates.{date_word, is_date};
 ghost use Rattle.pm_volume.specs.Headers.{dated_image, last_date_of};
 ghost use Rattle.pm_filer.specs.Listing.{fitting_list_text};
 ghost use Rattle.pm_textfile.specs.Writing.{text_fault};
-ghost use Rattle.pm_filer.specs.Filed.{
-  Done,
-  Filed,
-  Lines,
-  MayWantMemory,
-  answer_of,
-  bytes_of_file,
-  copied,
-  copied_from,
-  file_in_slot,
-  filed,
-  lent,
-  order_of,
-  text_read,
-  text_written,
-};
+ghost use Rattle.pm_filer.specs.Filed.{Done, Filed, Lines, MayWantMemory, answer_of, bytes_of_file, copied};
+ghost use Rattle.pm_filer.specs.Filed.{copied_from, file_in_slot, filed, lent, order_of, text_read, text_written};
 
 use crate::fault::FilerFault;
 use crate::fitting::remove_fitting;

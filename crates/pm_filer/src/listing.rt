@@ -1,26 +1,10 @@
 //! The list of a volume's files, as text.
 ghost use Rattle.std.specs.Prelude.{◌≡◌, ◌++◌, ◌<◌, Some, IfOk, OnOk, length, string_bytes};
 ghost use Rattle.std.specs.Option.{option_map};
-ghost use Rattle.pm_filer.specs.Listing.{
-  at_right,
-  date_text,
-  entry_details,
-  file_line,
-  fitting_list_text,
-  full_details,
-  full_line,
-  full_lines,
-  full_list_text,
-  gap_line,
-  kind_text,
-  kind_word,
-  list_text,
-  shown_byte,
-  printable_name,
-  some_space_line,
-  space_line,
-  spaces,
-};
+ghost use Rattle.pm_filer.specs.Listing.{at_right, date_text, entry_details, file_line, fitting_list_text};
+ghost use Rattle.pm_filer.specs.Listing.{full_details, full_line, full_lines, full_list_text, gap_line, kind_text};
+ghost use Rattle.pm_filer.specs.Listing.{kind_word, list_text, shown_byte, printable_name, some_space_line};
+ghost use Rattle.pm_filer.specs.Listing.{space_line, spaces};
 ghost use Rattle.pm_filer.specs.Fitting.{fitting_files};
 ghost use Rattle.pm_volume.specs.Directory.{block_count, directory_of, files_begin};
 ghost use Rattle.pm_volume.specs.Files.{files_of};

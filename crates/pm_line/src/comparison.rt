@@ -8,7 +8,7 @@ ghost use Rattle.pm_source.specs.Line.{sized_comparison, sized_type_words, type_
 ghost use Rattle.pm_line.specs.Views.{flaw_seen, labelled_item, range_flaw, said_seen, texts_seen};
 
 use crate::counted::only;
-use crate::instruction::{bare, instruction, plain};
+use crate::instruction::{instruction, plain};
 use crate::item::Flaw;
 use crate::operand::number_operand;
 use crate::words::words;
@@ -65,7 +65,7 @@ fn sized_comparison<'a>(
     ensures item { said_seen labelled_item result ≡ sized_comparison op (texts_seen others.now) sized }
 {
     let Some(sized) = sized else {
-        return Some((plain(alloc, bare(op)), Flaw::UnknownType));
+        return Some((plain(alloc, Instr::bare(op)), Flaw::UnknownType));
     };
     let size = only(others)?;
     let (size, in_range) = number_operand(size)?;
@@ -73,7 +73,7 @@ fn sized_comparison<'a>(
         a: u16::from(sized),
         b: size.value,
         long: size.long,
-        ..bare(op)
+        ..Instr::bare(op)
     };
     Some((plain(alloc, instr), flaw_of(in_range)))
 }
@@ -92,7 +92,16 @@ fn comparison<'a>(alloc: Global, op: u8, words: &[&'a [u8]]) -> Option<(Item<&'a
         return None;
     }
     let a = u16::from(plain_type);
-    Some((plain(alloc, Instr { a, ..bare(op) }), Flaw::NoFlaw))
+    Some((
+        plain(
+            alloc,
+            Instr {
+                a,
+                ..Instr::bare(op)
+            },
+        ),
+        Flaw::NoFlaw,
+    ))
 }
 
 #[tactic(auto, using(crate::proofs::Counts::no_comparison))]

@@ -4,7 +4,7 @@
 //! counts are in range.
 
 ghost use Rattle.std.specs.Prelude.{◌≡◌, ◌<◌, ◌≤◌, ◌+◌, option_map, IfOk, IfSome};
-ghost use Rattle.pm_source.specs.Line.{bare, bare_instruction, byte_and_number, byte_operand, case_jump};
+ghost use Rattle.pm_source.specs.Line.{bare_instruction, byte_and_number, byte_operand, case_jump};
 ghost use Rattle.pm_source.specs.Line.{instruction, many_words, one_jump, one_long_number, one_number, one_text};
 ghost use Rattle.pm_source.specs.Line.{plain, short_instruction, short_range, two_bytes, word_operand};
 ghost use Rattle.pm_line.specs.Views.{labelled_item, operand_seen, texts_seen};
@@ -21,22 +21,6 @@ use std::alloc::{AllocError, Global};
 
 /// An operand that may be ill-formed, with whether it is in range; and a want of memory.
 pub(crate) type Operand<T> = Result<Option<(T, bool)>, AllocError>;
-
-/// An instruction without operands.
-pub(crate) fn bare(op: u8) -> Instr
-    ensures instr { result ≡ bare op }
-{
-    Instr {
-        op,
-        a: 0,
-        b: 0,
-        c: 0,
-        long: false,
-        start: 0,
-        count: 0,
-        len: 0,
-    }
-}
 
 /// An item that names no bytes.
 pub(crate) fn plain<'a>(alloc: Global, instr: Instr) -> Item<&'a [u8]>
@@ -75,7 +59,7 @@ fn short_instruction<'a>(
     let value = stored(256, n) as u8;
     let in_range = value >= least && is_within(0, u32::from(greatest), n);
     let op = if in_range { op + (value - least) } else { op };
-    Some((plain(alloc, bare(op)), in_range))
+    Some((plain(alloc, Instr::bare(op)), in_range))
 }
 
 /// An instruction without operands, or one whose number stands in its opcode.
@@ -88,7 +72,7 @@ fn bare_instruction<'a>(alloc: Global, op: u8, texts: &[&'a [u8]]) -> Option<(It
     if !texts.is_empty() {
         return None;
     }
-    Some((plain(alloc, bare(op)), true))
+    Some((plain(alloc, Instr::bare(op)), true))
 }
 
 #[tactic(auto, using(crate::proofs::Counts::no_byte))]
@@ -98,7 +82,16 @@ fn one_byte<'a>(alloc: Global, op: u8, texts: &[&'a [u8]]) -> Option<(Item<&'a [
     let text = only(texts)?;
     let (byte, in_range) = byte_operand(text)?;
     let a = u16::from(byte);
-    Some((plain(alloc, Instr { a, ..bare(op) }), in_range))
+    Some((
+        plain(
+            alloc,
+            Instr {
+                a,
+                ..Instr::bare(op)
+            },
+        ),
+        in_range,
+    ))
 }
 
 #[tactic(auto, using(crate::proofs::Counts::no_word))]
@@ -107,7 +100,16 @@ fn one_word<'a>(alloc: Global, op: u8, texts: &[&'a [u8]]) -> Option<(Item<&'a [
 {
     let text = only(texts)?;
     let (a, in_range) = word_operand(text)?;
-    Some((plain(alloc, Instr { a, ..bare(op) }), in_range))
+    Some((
+        plain(
+            alloc,
+            Instr {
+                a,
+                ..Instr::bare(op)
+            },
+        ),
+        in_range,
+    ))
 }
 
 #[tactic(auto, using(crate::proofs::Counts::no_long_number))]
@@ -119,7 +121,7 @@ fn one_long_number<'a>(alloc: Global, op: u8, texts: &[&'a [u8]]) -> Option<(Ite
     let instr = Instr {
         a: n.value,
         long: n.long,
-        ..bare(op)
+        ..Instr::bare(op)
     };
     Some((plain(alloc, instr), in_range))
 }
@@ -134,7 +136,7 @@ fn two_bytes<'a>(alloc: Global, op: u8, texts: &[&'a [u8]]) -> Option<(Item<&'a 
     let instr = Instr {
         a: u16::from(a),
         b: u16::from(b),
-        ..bare(op)
+        ..Instr::bare(op)
     };
     Some((plain(alloc, instr), first_good && second_good))
 }
@@ -150,7 +152,7 @@ fn byte_and_number<'a>(alloc: Global, op: u8, texts: &[&'a [u8]]) -> Option<(Ite
         a: u16::from(a),
         b: b.value,
         long: b.long,
-        ..bare(op)
+        ..Instr::bare(op)
     };
     Some((plain(alloc, instr), first_good && second_good))
 }
@@ -167,12 +169,12 @@ fn one_text<'a>(alloc: Global, op: u8, texts: &[&'a [u8]]) -> Operand<Item<&'a [
         return Ok(None);
     };
     if bytes.len() > 255 {
-        return Ok(Some((plain(alloc, bare(op)), false)));
+        return Ok(Some((plain(alloc, Instr::bare(op)), false)));
     }
     let instr = Instr {
         a: bytes.len() as u16,
         count: bytes.len() as u32,
-        ..bare(op)
+        ..Instr::bare(op)
     };
     Ok(Some((Item::Plain(instr, bytes), true)))
 }
@@ -185,12 +187,12 @@ fn many_words<'a>(alloc: Global, op: u8, texts: &[&'a [u8]]) -> Operand<Item<&'a
         return Ok(None);
     };
     if words.len() > 255 {
-        return Ok(Some((plain(alloc, bare(op)), false)));
+        return Ok(Some((plain(alloc, Instr::bare(op)), false)));
     }
     let instr = Instr {
         a: words.len() as u16,
         count: 2 * words.len() as u32,
-        ..bare(op)
+        ..Instr::bare(op)
     };
     let bytes = flat_words(alloc, &words)?;
     Ok(Some((Item::Plain(instr, bytes), in_range)))

@@ -1,11 +1,12 @@
 -- Jumps.
-use Rattle.std.specs.Prelude.{ℕ, false, List, ◌++◌, codes, Option, Some, None}
+use Rattle.std.specs.Prelude.{ℕ, List, ◌++◌, codes, Option, Some, None}
 use Rattle.pm_families.specs.declared.families.Condition.{Condition}
 use Rattle.pm_families.specs.declared.families.Condition.TheVariants as condition
 use Rattle.pm_families.specs.declared.families.Jump.TheVariants as jump
 use Rattle.pm_opcode.specs.declared.operation.Operation.{Operation}
 use Rattle.pm_opcode.specs.declared.operation.Operation.TheVariants as operation
 use Rattle.pm_opcode.specs.Operations.{operation_of}
+use Rattle.pm_opcode.specs.Standing.{bare}
 use Rattle.pm_code.specs.Item.{Target}
 use Rattle.pm_code.specs.Shown.{target_text}
 use Rattle.pm_phrases.specs.Shown.{Shown, value, value_text}
@@ -16,8 +17,7 @@ condition_in _ = None
 
 -- when the jump of an opcode is taken
 unfoldable pub condition_of : ℕ → Option Condition
-condition_of op =
-    condition_in (operation_of record { op = op; a = 0; b = 0; c = 0; long = false; start = 0; count = 0; len = 0 })
+condition_of op = condition_in (operation_of (bare op))
 
 abbrev pub alone_on : Target ℕ → Option Condition → Option Shown
 alone_on target (Some condition.Always) = Some (value 0 (codes "GOTO " ++ target_text target))

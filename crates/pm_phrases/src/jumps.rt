@@ -15,17 +15,7 @@ use std::alloc::{AllocError, Global};
 fn condition_of(op: u8) -> Option<Condition>
     ensures condition { result ≡ texts.condition_of op }
 {
-    let jump = Instr {
-        op,
-        a: 0,
-        b: 0,
-        c: 0,
-        long: false,
-        start: 0,
-        count: 0,
-        len: 0,
-    };
-    match Operation::of(&jump) {
+    match Operation::of(&Instr::bare(op)) {
         Operation::Jump(Jump::Short(condition, _)) => Some(condition),
         _ => None,
     }

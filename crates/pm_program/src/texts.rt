@@ -5,18 +5,8 @@ ghost use Rattle.pm_tool.specs.Said.{IsCutShort, IsSoundExit, job_said};
 ghost use Rattle.pm_program.specs.Saved.{held_at};
 ghost use Rattle.pm_filer.specs.Filed.{order_of};
 ghost use Rattle.pm_files.specs.Held.{Saves};
-ghost use Rattle.pm_program.specs.Texts.{
-  Comes,
-  Delivers,
-  DeliversOf,
-  IsGot,
-  LeavesInput,
-  LeavesOutput,
-  SavesText,
-  getting,
-  reads_text,
-  written_by,
-};
+ghost use Rattle.pm_program.specs.Texts.{Comes, Delivers, DeliversOf, IsGot, LeavesInput, LeavesOutput, SavesText};
+ghost use Rattle.pm_program.specs.Texts.{getting, reads_text, written_by};
 
 use pm_filer::FileCommand;
 use pm_files::{DiskFault, Store};

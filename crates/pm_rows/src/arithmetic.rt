@@ -4,14 +4,8 @@ ghost use Rattle.std.specs.Prelude.{◌≡◌};
 ghost use Rattle.pm_words.specs.Watch.{WatchStays};
 ghost use Rattle.pm_words.specs.Top.{MovesTop};
 ghost use Rattle.pm_rows.specs.Integers.{unary, binary, relation};
-ghost use Rattle.pm_rows.specs.Arithmetic.{
-  arithmetic_row,
-  binary_row,
-  check_row,
-  constant_row,
-  relation_row,
-  unary_row,
-};
+ghost use Rattle.pm_rows.specs.Arithmetic.{arithmetic_row, binary_row, check_row, constant_row, relation_row};
+ghost use Rattle.pm_rows.specs.Arithmetic.{unary_row};
 
 use pm_families::{Arithmetic, Binary, Relation, Unary};
 use pm_words::{ExecError, Memory, Top};

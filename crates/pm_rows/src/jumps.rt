@@ -2,16 +2,8 @@
 
 ghost use Rattle.std.specs.Prelude.{◌≡◌, ◌<◌, IfOk};
 ghost use Rattle.pm_opcode.specs.Spelling.{rank, signed_byte};
-ghost use Rattle.pm_rows.specs.Jumps.{
-  OnlySpAndIpcDiffer,
-  case_row,
-  case_target,
-  entry_target,
-  jump_row,
-  jumped,
-  short_row,
-  target,
-};
+ghost use Rattle.pm_rows.specs.Jumps.{OnlySpAndIpcDiffer, case_row, case_target, entry_target, jump_row, jumped};
+ghost use Rattle.pm_rows.specs.Jumps.{short_row, target};
 
 use pm_calls::ValidRegisters;
 use pm_families::{Condition, Jump};

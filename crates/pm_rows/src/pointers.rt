@@ -3,16 +3,8 @@
 ghost use Rattle.std.specs.Prelude.{◌≡◌, ◌+◌, ◌*◌, ◌%◌};
 ghost use Rattle.pm_words.specs.Watch.{WatchStays};
 ghost use Rattle.pm_words.specs.Top.{MovesTop};
-ghost use Rattle.pm_rows.specs.Pointers.{
-  increment_row,
-  index_row,
-  indirect_row,
-  load_words_row,
-  move_row,
-  pointer_row,
-  store_indirect_row,
-  store_words_row,
-};
+ghost use Rattle.pm_rows.specs.Pointers.{increment_row, index_row, indirect_row, load_words_row, move_row};
+ghost use Rattle.pm_rows.specs.Pointers.{pointer_row, store_indirect_row, store_words_row};
 
 use pm_families::Pointer;
 use pm_words::layout::HIGHEST_WORD;

@@ -9,6 +9,7 @@ use Rattle.pm_codefile.specs.Segments.{◌>>=◌}
 use Rattle.pm_opcode.specs.declared.operand_form.Form.{Form}
 use Rattle.pm_opcode.specs.declared.operand_form.Form.TheVariants as forms
 use Rattle.pm_opcode.specs.declared.instr.Instr.{Instr}
+pub use Rattle.pm_opcode.specs.Standing.{bare}
 use Rattle.pm_opcode.specs.Table.{form_of, mnemonic_of}
 use Rattle.pm_opcode.specs.Spelling.{spelled_word, jump_count}
 use Rattle.pm_code.specs.Item.{Item, Target}
@@ -128,10 +129,6 @@ all_operands operand (text ∷ texts) = do
   x ← operand text
   more ← all_operands operand texts
   Some (x.0 ∷ more.0, x.1 && more.1)
-
--- An instruction without operands, by its opcode.
-abbrev pub bare : ℕ → Instr
-bare op = record { op = op; a = 0; b = 0; c = 0; long = false; start = 0; count = 0; len = 0 }
 
 abbrev pub plain : Instr → Item Name
 plain i = Plain i []

@@ -5,22 +5,9 @@ ghost use Rattle.pm_words.specs.Watch.{WatchStays};
 ghost use Rattle.pm_words.specs.Stack.{Changes, Leaves};
 ghost use Rattle.pm_words.specs.Top.{Pops};
 ghost use Rattle.pm_words.specs.Words.{moved_up, moved_down};
-ghost use Rattle.pm_stdproc.specs.MemoryRows.{
-  check_io_row,
-  fill_row,
-  filled_with,
-  is_positive,
-  mark_row,
-  memory_row,
-  move_bytes_row,
-  moved,
-  new_row,
-  passed_by,
-  pop_place,
-  push_row,
-  release_row,
-  scan_row,
-};
+ghost use Rattle.pm_stdproc.specs.MemoryRows.{check_io_row, fill_row, filled_with, is_positive, mark_row, memory_row};
+ghost use Rattle.pm_stdproc.specs.MemoryRows.{move_bytes_row, moved, new_row, passed_by, pop_place, push_row};
+ghost use Rattle.pm_stdproc.specs.MemoryRows.{release_row, scan_row};
 
 use crate::procedures::OnMemory;
 use pm_calls::ValidRegisters;

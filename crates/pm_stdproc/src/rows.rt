@@ -9,17 +9,8 @@ ghost use Rattle.pm_stdproc.specs.Procedures.{devices_reached, exit_row, keep_ro
 ghost use Rattle.pm_stdproc.specs.Procedures.{procedure_row, unkeep_row, reach_of};
 ghost use Rattle.pm_stdproc.specs.declared.loads.SlotRow.{SlotRow};
 ghost use Rattle.pm_stdproc.specs.declared.procedures.Procedure.TheVariants.{Unkeep};
-ghost use Rattle.pm_stdproc.specs.UnitRows.{
-  busy_row,
-  clear_row,
-  Serves,
-  ordered,
-  read_row,
-  time_row,
-  units_row,
-  wait_row,
-  write_row,
-};
+ghost use Rattle.pm_stdproc.specs.UnitRows.{busy_row, clear_row, Serves, ordered, read_row, time_row, units_row};
+ghost use Rattle.pm_stdproc.specs.UnitRows.{wait_row, write_row};
 
 use crate::loads::{SlotRows, length_of, slot_code};
 use crate::memory_rows::{self, pop_place};

@@ -1,21 +1,6 @@
 //! Reading text files.
 
-ghost use Rattle.std.specs.Prelude.{
-  ◌≡◌,
-  ◌↔◌,
-  [],
-  ◌∷◌,
-  ◌++◌,
-  ◌<◌,
-  ◌≤◌,
-  ℕ,
-  List,
-  length,
-  IfErr,
-  IfOk,
-  IsErrOf,
-  OnOk,
-};
+ghost use Rattle.std.specs.Prelude.{◌≡◌, ◌↔◌, [], ◌∷◌, ◌++◌, ◌<◌, ◌≤◌, ℕ, List, length, IfErr, IfOk, IsErrOf, OnOk};
 ghost use Rattle.pm_textfile.specs.Reading.{text_from, text_of_file};
 
 use crate::PAGE;

@@ -1,41 +1,11 @@
 //! Writing text files.
 
-ghost use Rattle.std.specs.Prelude.{
-  ◌≡◌,
-  ◌==◌,
-  ◌+◌,
-  ◌-◌,
-  [],
-  ◌∷◌,
-  ◌++◌,
-  ◌<◌,
-  ◌≤◌,
-  ◌^◌,
-  ◌≢◌,
-  ℕ,
-  List,
-  length,
-  replicate,
-  None,
-  Some,
-  IfErr,
-  IfOk,
-  OnOk,
-};
+ghost use Rattle.std.specs.Prelude.{◌≡◌, ◌==◌, ◌+◌, ◌-◌, [], ◌∷◌, ◌++◌, ◌<◌, ◌≤◌, ◌^◌, ◌≢◌, ℕ, List, length};
+ghost use Rattle.std.specs.Prelude.{replicate, None, Some, IfErr, IfOk, OnOk};
 ghost use Rattle.std.specs.List.{prefix_len};
 ghost use Rattle.pm_textfile.specs.Reading.{text_of_file};
-ghost use Rattle.pm_textfile.specs.Writing.{
-  IsFirstTextFault,
-  TextLine,
-  Writes,
-  coded,
-  completed,
-  indentation,
-  stands_for_itself,
-  line_fault,
-  line_length,
-  text_fault,
-};
+ghost use Rattle.pm_textfile.specs.Writing.{IsFirstTextFault, TextLine, Writes, coded, completed, indentation};
+ghost use Rattle.pm_textfile.specs.Writing.{stands_for_itself, line_fault, line_length, text_fault};
 ghost use Rattle.pm_textfile.specs.Laying.{laid, text_file};
 
 use crate::PAGE;

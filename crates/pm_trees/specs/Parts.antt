@@ -9,6 +9,7 @@ use Rattle.pm_opcode.specs.declared.instr.Instr.{Instr}
 use Rattle.pm_opcode.specs.declared.operation.Operation.{Operation}
 use Rattle.pm_opcode.specs.declared.operation.Operation.TheVariants as operation
 use Rattle.pm_opcode.specs.Operations.{operation_of}
+use Rattle.pm_opcode.specs.Standing.{bare}
 use Rattle.pm_code.specs.Item.{Item, case_opcode, size}
 use Rattle.pm_code.specs.Item.Item.{Plain, Jump, Case, OneByte}
 use Rattle.pm_code.specs.Program.{Procedure, is_among}
@@ -54,15 +55,11 @@ abbrev pub effect_by : Known → Operation → Instr → Option Effect
 effect_by k (operation.Call c) i = call_effect k c
 effect_by k _ i = instruction_effect i
 
--- an instruction of an opcode alone
-abbrev pub bare_instruction : ℕ → Instr
-bare_instruction op = record { op = op; a = 0; b = 0; c = 0; long = false; start = 0; count = 0; len = 0 }
-
 -- the instruction of an item, without the places that it names
 abbrev pub item_instruction : Item ℕ → Option Instr
 item_instruction (Plain i named) = Some i
-item_instruction (Jump op target) = Some (bare_instruction op)
-item_instruction (Case low high otherwise places) = Some (bare_instruction case_opcode)
+item_instruction (Jump op target) = Some (bare op)
+item_instruction (Case low high otherwise places) = Some (bare case_opcode)
 item_instruction (OneByte b) = None
 
 -- ---- parts

@@ -155,30 +155,14 @@ fn instruction_part<'a>(
     }
 }
 
-/// An instruction of an opcode alone.
-pub(crate) fn bare_instruction(op: u8) -> Instr
-    ensures value { result ≡ parts.bare_instruction op }
-{
-    Instr {
-        op,
-        a: 0,
-        b: 0,
-        c: 0,
-        long: false,
-        start: 0,
-        count: 0,
-        len: 0,
-    }
-}
-
 /// An item as a part of statements.
 pub fn part_of<'a>(known: &Known<'_>, item: &'a Item<usize>, place: Place) -> Part<'a>
     ensures part { result ≡ parts.part_of known.now (placed_item item.now) place }
 {
     match item {
         Item::Plain(instr, _) => instruction_part(known, item, place, instr),
-        Item::Jump(op, _) => instruction_part(known, item, place, &bare_instruction(*op)),
-        Item::Case { .. } => instruction_part(known, item, place, &bare_instruction(CASE_JUMP)),
+        Item::Jump(op, _) => instruction_part(known, item, place, &Instr::bare(*op)),
+        Item::Case { .. } => instruction_part(known, item, place, &Instr::bare(CASE_JUMP)),
         Item::OneByte(_) => Part {
             item,
             place,

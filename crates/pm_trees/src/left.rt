@@ -6,11 +6,10 @@ ghost use Rattle.pm_phrases.specs.Jumps.{condition_of};
 ghost use Rattle.pm_trees.specs.Parts.{is_reached};
 ghost use Rattle.pm_trees.specs.Trees as trees;
 
-use crate::items::bare_instruction;
 use crate::part::{Leaves, Part, Place};
 use pm_code::{Item, Target};
 use pm_families::{Condition, Jump};
-use pm_opcode::Operation;
+use pm_opcode::{Instr, Operation};
 
 /// What the operation of a tree is.
 #[derive(Clone, Copy, Drop)]
@@ -92,7 +91,7 @@ fn operation_role(what: Operation) -> Role
 fn condition_of(op: u8) -> Option<Condition>
     ensures condition { result ≡ condition_of op }
 {
-    match Operation::of(&bare_instruction(op)) {
+    match Operation::of(&Instr::bare(op)) {
         Operation::Jump(Jump::Short(condition, _)) => Some(condition),
         _ => None,
     }

@@ -3,16 +3,8 @@
 ghost use Rattle.std.specs.Prelude.{◌≡◌, ◌+◌, ◌<◌, ◌≤◌, ◌++◌, drop, length, vec_capacity, vec_len, Ok, OnOk, OnErr};
 ghost use Rattle.pm_words.specs.Watch.{WatchStays};
 ghost use Rattle.pm_units.specs.Devices.{HasPlace, cleared, image_at};
-ghost use Rattle.pm_units.specs.Transfers.{
-  Transfers,
-  can_move,
-  from_disk,
-  from_queue,
-  named_bytes,
-  unit_read,
-  to_disk,
-  unit_written,
-};
+ghost use Rattle.pm_units.specs.Transfers.{Transfers, can_move, from_disk, from_queue, named_bytes, unit_read};
+ghost use Rattle.pm_units.specs.Transfers.{to_disk, unit_written};
 
 use crate::ports::Port;
 use crate::trap::Trap;

@@ -1,23 +1,7 @@
 //! The units: disks, the console, the printer, and the clock.
 
-ghost use Rattle.std.specs.Prelude.{
-  ◌≡◌,
-  ◌+◌,
-  ◌++◌,
-  [],
-  ◌∷◌,
-  length,
-  replicate,
-  None,
-  Some,
-  Ok,
-  Err,
-  IfErr,
-  IfSome,
-  OnOk,
-  OnErr,
-  option_map,
-};
+ghost use Rattle.std.specs.Prelude.{◌≡◌, ◌+◌, ◌++◌, [], ◌∷◌, length, replicate, None, Some, Ok, Err, IfErr, IfSome};
+ghost use Rattle.std.specs.Prelude.{OnOk, OnErr, option_map};
 ghost use Rattle.pm_units.specs.Devices.{HasPlace, code_in, code_on, ejected, ejected_image, image_on, mounted};
 
 use crate::ports::{MountFault, Port, unit_of};

@@ -3,19 +3,9 @@
 ghost use Rattle.std.specs.Prelude.{◌≡◌, IfOk};
 ghost use Rattle.pm_words.specs.Watch.{WatchStays};
 ghost use Rattle.pm_words.specs.Stack.{IsStack, Changes};
-ghost use Rattle.pm_values.specs.Comparisons.{
-  compare_booleans_row,
-  compare_bytes_row,
-  compare_row,
-  compare_sets_row,
-  compare_strings_row,
-  compare_words_row,
-  holds,
-  holds_of_sets,
-  is_equality,
-  is_of_sets,
-  is_subset,
-};
+ghost use Rattle.pm_values.specs.Comparisons.{compare_booleans_row, compare_bytes_row, compare_row, compare_sets_row};
+ghost use Rattle.pm_values.specs.Comparisons.{compare_strings_row, compare_words_row, holds, holds_of_sets};
+ghost use Rattle.pm_values.specs.Comparisons.{is_equality, is_of_sets, is_subset};
 
 use crate::sets::{take_set, word_or_zero};
 use crate::strings::characters;

@@ -4,16 +4,8 @@ ghost use Rattle.std.specs.Prelude.{◌≡◌, ◌+◌, ◌≤◌, IfOk, Err};
 ghost use Rattle.pm_words.specs.Watch.{WatchStays};
 ghost use Rattle.pm_words.specs.Stack.{IsStack, Changes, demand};
 ghost use Rattle.pm_words.specs.declared.error.ExecError.TheVariants.{InvalidIndex};
-ghost use Rattle.pm_values.specs.Fields.{
-  field_of,
-  index_field_row,
-  is_field,
-  load_byte_row,
-  load_field_row,
-  store_byte_row,
-  store_field_row,
-  with_field,
-};
+ghost use Rattle.pm_values.specs.Fields.{field_of, index_field_row, is_field, load_byte_row, load_field_row};
+ghost use Rattle.pm_values.specs.Fields.{store_byte_row, store_field_row, with_field};
 
 use crate::stack::push_words;
 use pm_words::stack::{load, pop, push, store};

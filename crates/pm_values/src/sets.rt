@@ -1,45 +1,15 @@
 //! Sets on the stack.
 
-ghost use Rattle.std.specs.Prelude.{
-  ◌≡◌,
-  ◌%◌,
-  ◌≤◌,
-  ◌+◌,
-  ◌*◌,
-  ◌&&◌,
-  ◌∷◌,
-  ℕ,
-  IfOk,
-  IsOk,
-  MatchResult,
-  Ok,
-  Err,
-  length,
-  [],
-  nat_le,
-  slice_index,
-};
+ghost use Rattle.std.specs.Prelude.{◌≡◌, ◌%◌, ◌≤◌, ◌+◌, ◌*◌, ◌&&◌, ◌∷◌, ℕ, IfOk, IsOk, MatchResult, Ok, Err, length};
+ghost use Rattle.std.specs.Prelude.{[], nat_le, slice_index};
 ghost use Rattle.pm_words.specs.Watch.{WatchStays};
 ghost use Rattle.pm_words.specs.Stack.{IsStack, Changes};
 ghost use Rattle.pm_words.specs.Words.{with_words, words_at};
 ghost use Rattle.pm_values.specs.Several.{push_words};
 ghost use Rattle.pm_values.specs.Combinations.{count_of, test_of, combined_word};
-ghost use Rattle.pm_values.specs.Sets.{
-  adjust_row,
-  bits_from,
-  with_length,
-  difference_row,
-  in_set_row,
-  intersect_row,
-  interval,
-  is_member,
-  pop_set,
-  set_of,
-  singleton_row,
-  subrange_row,
-  two_sets_row,
-  union_row,
-};
+ghost use Rattle.pm_values.specs.Sets.{adjust_row, bits_from, with_length, difference_row, in_set_row, intersect_row};
+ghost use Rattle.pm_values.specs.Sets.{interval, is_member, pop_set, set_of, singleton_row, subrange_row};
+ghost use Rattle.pm_values.specs.Sets.{two_sets_row, union_row};
 ghost use Rattle.pm_words.specs.declared.layout.TheConstants.{STACK_END};
 
 use crate::stack::push_words;

@@ -1,29 +1,15 @@
 //! Changes of an image: files put in, taken out and renamed, and new headers.
 
 ghost use Rattle.std.specs.Prelude.{◌≡◌, ◌+◌, ◌<◌, ◌≤◌, ◌*◌, length};
-ghost use Rattle.pm_volume.specs.Changes.{
-  FitsSlot,
-  blocks_for,
-  new_entry,
-  with_directory,
-  with_file,
-  with_kind,
-  with_name,
-  without_file,
-};
+ghost use Rattle.pm_volume.specs.Changes.{FitsSlot, blocks_for, new_entry, with_directory, with_file, with_kind};
+ghost use Rattle.pm_volume.specs.Changes.{with_name, without_file};
 ghost use Rattle.pm_volume.specs.Copies.{has_second, mirrored};
 ghost use Rattle.pm_volume.specs.Directory.{directory_of, file_count};
 ghost use Rattle.pm_volume.specs.Headers.{new_directory};
 ghost use Rattle.pm_volume.specs.Made.{begun_at, singled};
 ghost use Rattle.pm_volume.specs.Words.{with_word_in, zeros};
-ghost use Rattle.pm_volume.specs.declared.fields.TheConstants.{
-  DIRECTORY_END,
-  HEADER_DATE,
-  LONGEST_NAME,
-  LONGEST_VOLUME_NAME,
-  MOST_FILES,
-  PAST_SECOND,
-};
+ghost use Rattle.pm_volume.specs.declared.fields.TheConstants.{DIRECTORY_END, HEADER_DATE, LONGEST_NAME};
+ghost use Rattle.pm_volume.specs.declared.fields.TheConstants.{LONGEST_VOLUME_NAME, MOST_FILES, PAST_SECOND};
 ghost use Rattle.pm_bytes.specs.declared.blocks.TheConstants.{BLOCK};
 
 use crate::copies::{has_second, mirror};

@@ -5,16 +5,8 @@ ghost use Rattle.std.specs.List.{list_any};
 ghost use Rattle.pm_volume.specs.Changes.{is_named_beside, slot_named, slot_numbered};
 ghost use Rattle.pm_volume.specs.Files.{is_named};
 ghost use Rattle.pm_volume.specs.Headers.{new_directory};
-ghost use Rattle.pm_volume.specs.Directory.{
-  block_count,
-  directory_fault,
-  entries_from,
-  entry_in,
-  file_count,
-  files_begin,
-  files_in,
-  is_header,
-};
+ghost use Rattle.pm_volume.specs.Directory.{block_count, directory_fault, entries_from, entry_in, file_count};
+ghost use Rattle.pm_volume.specs.Directory.{files_begin, files_in, is_header};
 ghost use Rattle.pm_volume.specs.Entries.{entries_fault};
 ghost use Rattle.pm_volume.specs.declared.fields.TheConstants.{DIRECTORY_SIZE, LONGEST_VOLUME_NAME, MOST_FILES};
 

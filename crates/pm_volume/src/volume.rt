@@ -1,42 +1,12 @@
 //! Volumes: images whose directory is sound.
 
-ghost use Rattle.std.specs.Prelude.{
-  ◌≡◌,
-  ◌≢◌,
-  ◌↔◌,
-  ◌+◌,
-  ◌≤◌,
-  [],
-  ◌∷◌,
-  length,
-  slice_index,
-  slice_range,
-  unwrap_or,
-  Err,
-  None,
-  Ok,
-  Some,
-  IfErr,
-  IfOk,
-  IfSome,
-  IsOk,
-  IsTrue,
-  OnOk,
-  OnErr,
-  true,
-  false,
-  ℕ,
-};
+ghost use Rattle.std.specs.Prelude.{◌≡◌, ◌≢◌, ◌↔◌, ◌+◌, ◌≤◌, [], ◌∷◌, length, slice_index, slice_range, unwrap_or};
+ghost use Rattle.std.specs.Prelude.{Err, None, Ok, Some, IfErr, IfOk, IfSome, IsOk, IsTrue, OnOk, OnErr, true, false};
+ghost use Rattle.std.specs.Prelude.{ℕ};
 ghost use Rattle.pm_volume.specs.Changes.{blocks_for};
 ghost use Rattle.pm_volume.specs.Directory.{directory_of, file_count, image_fault};
-ghost use Rattle.pm_volume.specs.declared.fields.TheConstants.{
-  DIRECTORY_SIZE,
-  HEADER_DATE,
-  HEADER_NAME,
-  LONGEST_NAME,
-  LONGEST_VOLUME_NAME,
-  MOST_FILES,
-};
+ghost use Rattle.pm_volume.specs.declared.fields.TheConstants.{DIRECTORY_SIZE, HEADER_DATE, HEADER_NAME};
+ghost use Rattle.pm_volume.specs.declared.fields.TheConstants.{LONGEST_NAME, LONGEST_VOLUME_NAME, MOST_FILES};
 ghost use Rattle.pm_bytes.specs.declared.blocks.TheConstants.{BLOCK};
 
 use crate::changes::{
@@ -78,32 +48,14 @@ impl Model for Volume {
 }
 
 impl Volume {
-    ghost use Rattle.pm_volume.specs.Changes.{
-      added_spans,
-      removed_spans,
-      AddsFile,
-      RemovesFile,
-      RenamesFile,
-      SetsKind,
-      place_for,
-      slot_named,
-      slot_numbered,
-      slot_to_rename,
-    };
+    ghost use Rattle.pm_volume.specs.Changes.{added_spans, removed_spans, AddsFile, RemovesFile, RenamesFile};
+    ghost use Rattle.pm_volume.specs.Changes.{SetsKind, place_for, slot_named, slot_numbered, slot_to_rename};
     ghost use Rattle.pm_volume.specs.Copies.{HasCopies, CopiesStay, and_second, repaired};
     ghost use Rattle.pm_volume.specs.declared.copies.Copies.TheVariants as copies;
     ghost use Rattle.pm_volume.specs.Made.{doubled, is_occupied, singled};
     ghost use Rattle.pm_volume.specs.Headers.{blank_fault, blank_image, dated_image, zeroed_image};
-    ghost use Rattle.pm_volume.specs.Stays.{
-      ChangesOnly,
-      FilesStay,
-      date_span,
-      directory_span,
-      kind_span,
-      name_span,
-      past_span,
-      second_span,
-    };
+    ghost use Rattle.pm_volume.specs.Stays.{ChangesOnly, FilesStay, date_span, directory_span, kind_span, name_span};
+    ghost use Rattle.pm_volume.specs.Stays.{past_span, second_span};
     ghost use Rattle.pm_volume.specs.Packing.{Krunches, krunched_image};
     ghost use Rattle.pm_volume.specs.Names.{is_new_name};
     ghost use Rattle.pm_volume.specs.Directory.{IsVolume, block_count};

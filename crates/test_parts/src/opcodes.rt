@@ -3,25 +3,13 @@ use pm_families::{Call, Condition, Jump, Scope, Variable};
 use pm_opcode::{Encode, Form, Instr, Operation, encode, form_at, implied_number};
 use std::test::Fail;
 
-const NOTHING: Instr = Instr {
-    op: 0,
-    a: 0,
-    b: 0,
-    c: 0,
-    long: false,
-    start: 0,
-    count: 0,
-    len: 0,
-};
-
 /// An instruction of an opcode with these operands.
 fn of(op: u8, [a, b, c]: [u16; 3]) -> Instr {
     Instr {
-        op,
         a,
         b,
         c,
-        ..NOTHING
+        ..Instr::bare(op)
     }
 }
 

@@ -10,7 +10,7 @@ ghost use Rattle.pm_volume.specs.Directory.{files_begin, files_in, is_header};
 ghost use Rattle.pm_volume.specs.Entries.{entries_fault};
 ghost use Rattle.pm_volume.specs.declared.fields.TheConstants.{DIRECTORY_SIZE, LONGEST_VOLUME_NAME, MOST_FILES};
 
-use crate::entry::{Entry, volume_name_field};
+use crate::entry::{Entry, name_field};
 use crate::fault::VolumeFault;
 use crate::fields::{
     HEADER_BLOCKS, HEADER_DATE, HEADER_FILES, HEADER_FILES_BEGIN, HEADER_NAME, LONGEST_VOLUME_NAME,
@@ -145,10 +145,10 @@ pub(crate) fn write_directory(directory: &mut [u8], past: u16, name: &[u8], bloc
     requires short { length name.now ≤ LONGEST_VOLUME_NAME }
     ensures directory { directory.new ≡ new_directory past name.now blocks date }
 {
-    let field = volume_name_field(name);
+    let field = name_field(name);
     clear_all(directory);
     set_word(directory, HEADER_FILES_BEGIN, past);
-    set_bytes(directory, HEADER_NAME, &field);
+    set_bytes(directory, HEADER_NAME, &field[..LONGEST_VOLUME_NAME + 1]);
     set_word(directory, HEADER_BLOCKS, blocks);
     set_word(directory, HEADER_DATE, date);
 }

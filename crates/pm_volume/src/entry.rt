@@ -116,25 +116,13 @@ pub(crate) fn is_new_name(most: usize, name: &[u8]) -> bool
         && name.iter().all(|c| 33 <= *c && *c <= 126 && *c != b':')
 }
 
-// A new name in its field, raised.
+// A new name in its field, raised. That of a volume has the first eight bytes of it.
 #[tactic(auto, unfolding(crate::specs::Names::name_field))]
 pub(crate) fn name_field(name: &[u8]) -> [u8; 16]
     requires short { length name.now ≤ LONGEST_NAME }
     ensures field { result ≡ name_field LONGEST_NAME name.now }
 {
     let mut field = [0; 16];
-    field[0] = name.len() as u8;
-    raise_into(&mut field[1..], name);
-    field
-}
-
-// A new name of a volume in its field, raised.
-#[tactic(auto, unfolding(crate::specs::Names::name_field))]
-pub(crate) fn volume_name_field(name: &[u8]) -> [u8; 8]
-    requires short { length name.now ≤ LONGEST_VOLUME_NAME }
-    ensures field { result ≡ name_field LONGEST_VOLUME_NAME name.now }
-{
-    let mut field = [0; 8];
     field[0] = name.len() as u8;
     raise_into(&mut field[1..], name);
     field

@@ -1,4 +1,5 @@
 use Rattle.pm_volume.specs.Headers.{new_directory}
+use Rattle.pm_volume.proofs.NameLaws.{cut-name_field}
 use Rattle.pm_volume.proofs.directory.write_directory.Goals as goal
 
 pub returns : goal.returns
@@ -12,7 +13,8 @@ returns c =
             c.set_word.ensures.written,
             c.clear_all.ensures.cleared,
             c.requires.whole,
-            c.volume_name_field-field.ensures.field,
+            c.name_field-field.ensures.field,
+            cut-name_field c.args.name.now c.requires.short,
           )
           at c.set_word-3.ensures.written;
     }

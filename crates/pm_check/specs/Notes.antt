@@ -89,14 +89,14 @@ unfoldable pub is_good_second : List ℕ → ℕ → Bool
 is_good_second second blocks =
     (files_begin second == PAST_SECOND) && (length (directory_findings second blocks) == 0)
 
--- how a second copy is, and in which slots it differs
-abbrev pub copy_notes : Bool → List ℕ → List ℕ → List Note
-copy_notes good d second =
-    (if good then notes.SecondGood else notes.SecondDamaged) ∷ differing_from d second 0 78
+-- how a second copy is
+abbrev pub copy_note : Bool → Note
+copy_note good = if good then notes.SecondGood else notes.SecondDamaged
 
--- a second copy is there where the first says so, or where it is good
+-- that, and in which slots it differs; a second copy is there where the first says so, or where it is good
 unfoldable pub second_notes : Bool → List ℕ → List ℕ → List Note
-second_notes good d second = if (files_begin d == PAST_SECOND) || good then copy_notes good d second else []
+second_notes good d second =
+    if (files_begin d == PAST_SECOND) || good then copy_note good ∷ differing_from d second 0 78 else []
 
 -- that of an image, where it is long enough
 unfoldable pub copies_notes : List ℕ → List Note

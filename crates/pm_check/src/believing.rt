@@ -60,34 +60,15 @@ fn why_left(lowest: u16, blocks: u16, entry: &Entry) -> Option<SlotFinding>
 fn push_left(
     left: &mut Vec<Left>,
     slot: u16,
-    is_empty: bool,
+    entry: &Entry,
     why: Option<SlotFinding>,
 ) -> Result<(), AllocError>
-    ensures more { OnOk result (left.new.items ≡ left.old.items ++ left_of slot is_empty why) }
+    ensures more { OnOk result (left.new.items ≡ left.old.items ++ left_of slot (is_empty entry.now) why) }
 {
     match why {
-        Some(finding) if !is_empty => Ok(left.push(Left { slot, finding })?),
+        Some(finding) if !is_empty(entry) => Ok(left.push(Left { slot, finding })?),
         _ => Ok(()),
     }
-}
-
-/// The entries that are left out, by their slots.
-pub fn left_out(
-    alloc: Global,
-    directory: &[u8],
-    lowest: u16,
-    blocks: u16,
-) -> Result<Vec<Left>, AllocError>
-    requires whole { length directory.now ≡ DIRECTORY_SIZE }
-    ensures left { IfOk result (λ left. left.items ≡ left_from directory.now lowest blocks 1 77) }
-{
-    let mut left = Vec::new(alloc);
-    for n in 1..78 {
-        let entry = entry_at(directory, n);
-        let why = why_left(lowest, blocks, &entry);
-        push_left(&mut left, n, is_empty(&entry), why)?;
-    }
-    Ok(left)
 }
 
 // Puts a file in its place among others in the order of their first blocks.
@@ -118,23 +99,27 @@ fn push_taken(
     }
 }
 
-/// The files that are taken, in the order of their first blocks.
-pub fn taken_files(
+/// The files that are taken, in the order of their first blocks, and the entries that are left out, by their slots.
+pub fn taken_and_left(
     alloc: Global,
     directory: &[u8],
     lowest: u16,
     blocks: u16,
-) -> Result<Vec<Taken>, AllocError>
+) -> Result<(Vec<Taken>, Vec<Left>), AllocError>
     requires whole { length directory.now ≡ DIRECTORY_SIZE }
-    ensures taken { IfOk result (λ taken. taken.items ≡ taken_from directory.now lowest blocks 1 77 []) }
-    ensures few { IfOk result (λ taken. length taken.items ≤ 77) }
+    ensures taken { IfOk result (λ both. both.0.items ≡ taken_from directory.now lowest blocks 1 77 []) }
+    ensures few { IfOk result (λ both. length both.0.items ≤ 77) }
+    ensures left { IfOk result (λ both. both.1.items ≡ left_from directory.now lowest blocks 1 77) }
 {
     let mut taken = Vec::new(alloc);
+    let mut left = Vec::new(alloc);
     for n in 1..78 {
         let entry = entry_at(directory, n);
-        push_taken(&mut taken, n, entry, why_left(lowest, blocks, &entry))?;
+        let why = why_left(lowest, blocks, &entry);
+        push_left(&mut left, n, &entry, why)?;
+        push_taken(&mut taken, n, entry, why)?;
     }
-    Ok(taken)
+    Ok((taken, left))
 }
 
 /// The first of these files that has a block of another one in common with it.

@@ -2,7 +2,7 @@
 ghost use Rattle.std.specs.Prelude.{◌≡◌, ◌-◌, ◌≤◌, ◌++◌, IfOk, OnOk, length};
 ghost use Rattle.pm_volume.specs.Directory.{entry_in};
 ghost use Rattle.pm_volume.specs.declared.fields.TheConstants.{DIRECTORY_END, DIRECTORY_SIZE, MOST_FILES, SECOND_END};
-ghost use Rattle.pm_check.specs.Notes.{copies_notes, copy_notes, differing, differing_from, differs, directory_notes};
+ghost use Rattle.pm_check.specs.Notes.{copies_notes, copy_note, differing, differing_from, differs, directory_notes};
 ghost use Rattle.pm_check.specs.Notes.{header_name, image_notes, is_good_second, is_plain, notes_from, pair_notes};
 ghost use Rattle.pm_check.specs.Notes.{pairs_from, second_notes, shares, slot_notes};
 ghost use Rattle.pm_check.specs.Rules.{slot_count};
@@ -144,26 +144,18 @@ fn push_differing(notes: &mut Vec<Note>, directory: &[u8], other: &[u8]) -> Resu
     Ok(())
 }
 
-// Adds how a second copy is, and in which slots it differs.
-fn push_copy(
-    notes: &mut Vec<Note>,
-    directory: &[u8],
-    second: &[u8],
-    is_good: bool,
-) -> Result<(), AllocError>
-    requires whole { length directory.now ≡ DIRECTORY_SIZE }
-    requires second_whole { length second.now ≡ DIRECTORY_SIZE }
-    ensures more { OnOk result (notes.new.items ≡ notes.old.items ++ copy_notes is_good directory.now second.now) }
+// How a second copy is.
+fn copy_note(is_good: bool) -> Note
+    ensures note { result ≡ copy_note is_good }
 {
     if is_good {
-        notes.push(Note::SecondGood)?;
+        Note::SecondGood
     } else {
-        notes.push(Note::SecondDamaged)?;
+        Note::SecondDamaged
     }
-    push_differing(notes, directory, second)
 }
 
-// Adds the notes of a second copy, where there is one.
+// Adds how a second copy is, and in which slots it differs, where there is one.
 #[tactic(auto, unfolding(crate::specs::Notes::second_notes))]
 fn push_second(
     notes: &mut Vec<Note>,
@@ -175,10 +167,11 @@ fn push_second(
     requires second_whole { length second.now ≡ DIRECTORY_SIZE }
     ensures more { OnOk result (notes.new.items ≡ notes.old.items ++ second_notes is_good directory.now second.now) }
 {
-    if word(directory, HEADER_FILES_BEGIN) == PAST_SECOND || is_good {
-        push_copy(notes, directory, second, is_good)?;
+    if word(directory, HEADER_FILES_BEGIN) != PAST_SECOND && !is_good {
+        return Ok(());
     }
-    Ok(())
+    notes.push(copy_note(is_good))?;
+    push_differing(notes, directory, second)
 }
 
 // Whether a second copy breaks no rule in an image of so many blocks, and says itself that it is one.

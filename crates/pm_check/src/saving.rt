@@ -1,9 +1,9 @@
 //! The volume that is saved of an image.
 ghost use Rattle.std.specs.List.Sorted.{IsPermutation};
 ghost use Rattle.std.specs.Prelude.{◌≡◌, ◌≢◌, ◌∷◌, ◌++◌, ◌≤◌, Ok, Err, IfOk, IfErr, OnOk, length, string_bytes};
-ghost use Rattle.pm_volume.specs.Names.{characters_of};
 ghost use Rattle.pm_volume.specs.declared.fault.VolumeFault.{VolumeFault};
 ghost use Rattle.pm_volume.specs.declared.fields.TheConstants.{DIRECTORY_SIZE};
+ghost use Rattle.pm_volume.specs.Names.{characters_of};
 ghost use Rattle.pm_check.specs.Believing.{blocks_of};
 ghost use Rattle.pm_check.specs.Contents.{HasFilesOf, believed, believed_of, content_in, contents_of, contents_taken};
 ghost use Rattle.pm_check.specs.Contents.{entries_taken};
@@ -12,7 +12,7 @@ ghost use Rattle.pm_check.specs.Report.{taken_line};
 ghost use Rattle.pm_check.specs.Saving.{IsSaved, bytes_of, image_blocks, room_for, salvaged, saved, saved_by};
 ghost use Rattle.pm_check.specs.Saving.{saved_from, saved_one};
 
-use crate::believing::{Left, Taken, left_out, sharing, taken_files};
+use crate::believing::{Left, Taken, sharing, taken_and_left};
 use crate::naming::{free_name, volume_name};
 use crate::notes::header_name;
 use crate::report::{Doubt, counted, doubt_of, push_all_left, push_last, push_taken};
@@ -171,10 +171,7 @@ fn save_by(
     let Ok(name) = volume_name(alloc, header_name(directory)) else {
         return Err(VolumeFault::NoMemory);
     };
-    let Ok(taken) = taken_files(alloc, directory, lowest, blocks) else {
-        return Err(VolumeFault::NoMemory);
-    };
-    let Ok(left) = left_out(alloc, directory, lowest, blocks) else {
+    let Ok((taken, left)) = taken_and_left(alloc, directory, lowest, blocks) else {
         return Err(VolumeFault::NoMemory);
     };
     let count = word(directory, HEADER_FILES);

@@ -1,10 +1,12 @@
-use Rattle.std.proofs.Common.{◌≡◌, ◌≤◌, ◌-◌, ◌+◌, [], length}
-use Rattle.pm_check.specs.Believing.{taken_from}
-use Rattle.pm_check.proofs.believing.taken_files.Given as goal
+use Rattle.std.proofs.Common.{◌≡◌, ◌≤◌, ◌-◌, ◌+◌, ◌++◌, [], length}
+use Rattle.pm_check.specs.Believing.{left_from, taken_from}
+use Rattle.pm_check.proofs.believing.taken_and_left.Given as goal
 
--- those in the slots that are left, put among those that are taken so far, are all; there is one at most of each slot
+-- those in the slots that are left, put among those that are taken so far, are all; there is one at most of each slot;
+-- those that are left out so far with those in the slots that are left are all
 abbrev pub invariant-loop-n : goal.invariant-loop-n
 invariant-loop-n l = record {
   rest : taken_from l.directory l.lowest l.blocks l.n (78 - l.n) l.taken.items ≡ taken_from l.directory l.lowest l.blocks 1 77 [];
   few : length l.taken.items + 1 ≤ l.n;
+  left : l.left.items ++ left_from l.directory l.lowest l.blocks l.n (78 - l.n) ≡ left_from l.directory l.lowest l.blocks 1 77;
 }

@@ -1,7 +1,7 @@
 //! The names of the procedures that instructions call by number.
 
-ghost use Rattle.std.specs.Prelude.{◌≡◌, option_map};
-ghost use Rattle.pm_notes.specs.Names.{name_called, number_in, standard_called, standard_name};
+ghost use Rattle.std.specs.Prelude.{◌≡◌, option_and_then, option_map};
+ghost use Rattle.pm_notes.specs.Names.{behind, name_called, number_in, standard_called, standard_name};
 ghost use Rattle.pm_notes.specs.Names.{system_called, system_name};
 
 /// The name of a standard procedure that the machine has, by its number; those that load and unload a segment have
@@ -84,14 +84,19 @@ pub(crate) fn number_in(digits: &[u8]) -> Option<u8>
     }
 }
 
+/// The number that stands alone behind these characters at the front of a line.
+fn number_behind(front: &[u8], line: &[u8]) -> Option<u8>
+    ensures number { result ≡ option_and_then number_in (behind front.now line.now) }
+{
+    number_in(line.strip_prefix(front)?)
+}
+
 /// The name of the standard procedure that a line calls.
 #[tactic(auto, unfolding(crate::specs::Names::standard_called))]
 fn standard_called(line: &[u8]) -> Option<&'static str>
     ensures name { option_map (λ name. name.now) result ≡ standard_called line.now }
 {
-    let digits = line.strip_prefix(b"  CSP ")?;
-    let number = number_in(digits)?;
-    standard_name(number)
+    standard_name(number_behind(b"  CSP ", line)?)
 }
 
 /// The name of the system's procedure that a line calls.
@@ -99,9 +104,7 @@ fn standard_called(line: &[u8]) -> Option<&'static str>
 fn system_called(line: &[u8]) -> Option<&'static str>
     ensures name { option_map (λ name. name.now) result ≡ system_called line.now }
 {
-    let digits = line.strip_prefix(b"  CXP 0, ")?;
-    let number = number_in(digits)?;
-    system_name(number)
+    system_name(number_behind(b"  CXP 0, ", line)?)
 }
 
 /// The name of the procedure that a line calls, if that has one.

@@ -1,5 +1,5 @@
 -- What a command makes of a volume, and what it answers.
-use Rattle.std.specs.Prelude.{ℕ, List, Option, Some, None, Result, Ok, Err, IsOk, ⊤, string_bytes, nat_lt, length}
+use Rattle.std.specs.Prelude.{◌≡◌, ℕ, List, Option, Some, None, Result, Ok, Err, IsOk, ⊤, string_bytes, nat_lt, length}
 use Rattle.std.specs.Prelude.{if◌then◌else◌, zero, suc, slice_get}
 use Rattle.pm_volume.specs.Dates.{date_word, is_date}
 use Rattle.pm_volume.specs.declared.kinds.TheConstants.{TEXT}
@@ -106,6 +106,14 @@ answer_of replies.Done = Done
 pub record Filed : Type 0 where
   pub image : List ℕ
   pub answer : Answer
+
+-- what a call that changes nothing answers is what it comes to; it may want memory where nothing else is wrong
+abbrev pub Looks : List ℕ → Result Reply FilerFault → Result Filed FilerFault → Type 0
+Looks image (Ok reply) read = read ≡ Ok (record { image = image; answer = answer_of reply })
+Looks image (Err faults.NoMemory) read = IsOk read
+Looks image (Err (faults.Volume fault)) read = read ≡ Err (faults.Volume fault)
+Looks image (Err (faults.Text fault)) read = read ≡ Err (faults.Text fault)
+Looks image (Err faults.BadDate) read = read ≡ Err faults.BadDate
 
 -- a change that the volume makes or refuses
 abbrev pub changed : Result (List ℕ) VolumeFault → Result Filed FilerFault

@@ -1,6 +1,7 @@
 //! Commands, and what they answer.
-ghost use Rattle.std.specs.Prelude.{◌≡◌, ◌≢◌, Ok, Err, Some, None, IfOk, IfErr, IsErrOf, IsOk, OnErr, OnOk, false};
+ghost use Rattle.std.specs.Prelude.{◌≡◌, ◌≢◌, ◌×◌, Ok, Err, Some, None, IfOk, IfErr, IsErrOf, OnErr, OnOk, false};
 ghost use Rattle.std.specs.Prelude.{true, if◌then◌else◌};
+ghost use Rattle.pm_volume.specs.declared.fault.VolumeFault.TheVariants.{NoFile};
 ghost use Rattle.pm_volume.specs.Made.{added, kind_set, renamed, slot_kind_set, slot_renamed, zeroed};
 ghost use Rattle.pm_volume.specs.Directory.{IsVolume, directory_of, image_fault};
 ghost use Rattle.pm_volume.specs.Files.{file_named};
@@ -8,7 +9,7 @@ ghost use Rattle.pm_volume.specs.Dates.{date_word, is_date};
 ghost use Rattle.pm_volume.specs.Headers.{dated_image, last_date_of};
 ghost use Rattle.pm_filer.specs.Listing.{fitting_list_text};
 ghost use Rattle.pm_textfile.specs.Writing.{text_fault};
-ghost use Rattle.pm_filer.specs.Filed.{Done, Filed, Lines, MayWantMemory, answer_of, bytes_of_file, copied};
+ghost use Rattle.pm_filer.specs.Filed.{Done, Filed, Lines, Looks, MayWantMemory, answer_of, bytes_of_file, copied};
 ghost use Rattle.pm_filer.specs.Filed.{copied_from, file_in_slot, filed, lent, order_of, text_read, text_written};
 
 use crate::fault::FilerFault;
@@ -81,31 +82,28 @@ pub enum Reply {
     Done,
 }
 
-// The bytes of a file, where there is one.
-fn get(alloc: Global, volume: &Volume, entry: Option<Entry>) -> Result<Reply, FilerFault>
-    ensures done { IfOk result
-        (λ reply. lent volume.now (bytes_of_file volume.now entry)
-        ≡ Ok (record { image = volume.now; answer = answer_of reply })) }
-    ensures refused { IfErr result
-        (λ fault. fault ≢ FilerFault.NoMemory → lent volume.now (bytes_of_file volume.now entry) ≡ Err fault) }
-    ensures memory { IsErrOf result FilerFault.NoMemory → IsOk (lent volume.now (bytes_of_file volume.now entry)) }
+// Where the bytes of a file stand, where there is one.
+fn bytes_of_file(volume: &Volume, entry: Option<Entry>) -> Result<&[u8], VolumeFault>
+    ensures bytes { IfOk result (λ bytes. bytes_of_file volume.now entry ≡ Some bytes.now) }
+    ensures none { IfErr result (λ fault. (fault ≡ NoFile) × (bytes_of_file volume.now entry ≡ None)) }
 {
     let entry = entry.ok_or(VolumeFault::NoFile)?;
-    let bytes = volume.file(&entry).ok_or(VolumeFault::NoFile)?;
+    volume.file(&entry).ok_or(VolumeFault::NoFile)
+}
+
+// The bytes of a file, where there is one.
+fn get(alloc: Global, volume: &Volume, entry: Option<Entry>) -> Result<Reply, FilerFault>
+    ensures looks { Looks volume.now result (lent volume.now (bytes_of_file volume.now entry)) }
+{
+    let bytes = bytes_of_file(volume, entry)?;
     Ok(Reply::Bytes(bytes.to_vec(alloc)?))
 }
 
 // The text of a text file, where there is one.
 fn get_text(alloc: Global, volume: &Volume, entry: Option<Entry>) -> Result<Reply, FilerFault>
-    ensures done { IfOk result
-        (λ reply. text_read volume.now (bytes_of_file volume.now entry)
-        ≡ Ok (record { image = volume.now; answer = answer_of reply })) }
-    ensures refused { IfErr result
-        (λ fault. fault ≢ FilerFault.NoMemory → text_read volume.now (bytes_of_file volume.now entry) ≡ Err fault) }
-    ensures memory { IsErrOf result FilerFault.NoMemory → IsOk (text_read volume.now (bytes_of_file volume.now entry)) }
+    ensures looks { Looks volume.now result (text_read volume.now (bytes_of_file volume.now entry)) }
 {
-    let entry = entry.ok_or(VolumeFault::NoFile)?;
-    let bytes = volume.file(&entry).ok_or(VolumeFault::NoFile)?;
+    let bytes = bytes_of_file(volume, entry)?;
     let text = pm_textfile::decode(alloc, bytes)?;
     Ok(Reply::Bytes(text))
 }

@@ -34,41 +34,8 @@ impl fmt::Display for KindName {
     }
 }
 
-/// A comparison of values on the stack.
-#[tactic(auto, unfolding(crate::specs::Comparisons::values_compared))]
-fn values_compared(
-    alloc: Global,
-    name: KindName,
-    r: Relation,
-    a: &Phrase,
-    b: &Phrase,
-) -> Result<Phrase, AllocError>
-    ensures shown { IfOk result
-        (λ p. p ≡ texts.values_compared (texts.kind_text name.spelling name.kind) r a.now b.now) }
-{
-    let sign = relation_sign(r);
-    let text = format!(in alloc; "{name} {} {sign} {}", Value(a, 2), Value(b, 2))?;
-    Ok(valued(text, 1))
-}
-
-/// A comparison of what two addresses lead to.
-#[tactic(auto, unfolding(crate::specs::Comparisons::places_compared))]
-fn places_compared(
-    alloc: Global,
-    name: KindName,
-    r: Relation,
-    a: &Phrase,
-    b: &Phrase,
-) -> Result<Phrase, AllocError>
-    ensures shown { IfOk result
-        (λ p. p ≡ texts.places_compared (texts.kind_text name.spelling name.kind) r a.now b.now) }
-{
-    let sign = relation_sign(r);
-    let text = format!(in alloc; "{name} {} {sign} {}", Place(a), Place(b))?;
-    Ok(valued(text, 1))
-}
-
-#[tactic(auto, unfolding(crate::specs::Comparisons::compare_two))]
+/// A comparison of values on the stack, or of what two addresses lead to.
+#[tactic(auto, unfolding(crate::specs::Comparisons::compare_two, crate::specs::Comparisons::values_compared, crate::specs::Comparisons::places_compared))]
 pub(crate) fn compare_two(
     alloc: Global,
     spelling: Spelling,
@@ -80,8 +47,15 @@ pub(crate) fn compare_two(
     ensures shown { IfOk result (λ p. p ≡ texts.compare_two spelling r kind a.now b.now) }
 {
     let name = KindName { kind, spelling };
+    let sign = relation_sign(r);
     match kind {
-        Kind::Real | Kind::Boolean | Kind::Set => values_compared(alloc, name, r, a, b),
-        Kind::String | Kind::Bytes(_) | Kind::Words(_) => places_compared(alloc, name, r, a, b),
+        Kind::Real | Kind::Boolean | Kind::Set => {
+            let text = format!(in alloc; "{name} {} {sign} {}", Value(a, 2), Value(b, 2))?;
+            Ok(valued(text, 1))
+        }
+        Kind::String | Kind::Bytes(_) | Kind::Words(_) => {
+            let text = format!(in alloc; "{name} {} {sign} {}", Place(a), Place(b))?;
+            Ok(valued(text, 1))
+        }
     }
 }

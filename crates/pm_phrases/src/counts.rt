@@ -3,10 +3,9 @@
 ghost use Rattle.std.specs.Prelude.{◌≡◌, ◌∷◌, ◌++◌, IfOk};
 ghost use Rattle.pm_code.specs.Views.{placed_item};
 ghost use Rattle.pm_phrases.specs.Counts as texts;
-ghost use Rattle.pm_phrases.specs.Missing.{listed};
 
 use crate::arithmetic::{arithmetic_alone, arithmetic_one, arithmetic_three, arithmetic_two};
-use crate::around::{Around, Pops};
+use crate::around::Around;
 use crate::calls::returned;
 use crate::cases::{Table, case_on};
 use crate::comparisons::compare_two;
@@ -18,7 +17,7 @@ use crate::parts::{
 };
 use crate::pointers::{pointer_one, pointer_two};
 use crate::sets::{set_four, set_one, set_three, set_two};
-use crate::spelling::spelling_of;
+use crate::spelling::operation_and_spelling;
 use crate::variables::{variable_alone, variable_one};
 use pm_code::Item;
 use pm_families::Value;
@@ -34,8 +33,7 @@ fn plain_none(
 ) -> Result<Option<Phrase>, AllocError>
     ensures shown { IfOk result (λ p. p ≡ texts.plain_none around i.now named.now) }
 {
-    let what = Operation::of(i);
-    let spelling = spelling_of(i, what);
+    let (what, spelling) = operation_and_spelling(i);
     match what {
         Operation::Arithmetic(what) => arithmetic_alone(alloc, spelling, what),
         Operation::Variable(what) => variable_alone(alloc, around, spelling, what),
@@ -54,8 +52,7 @@ fn plain_one(
 ) -> Result<Option<Phrase>, AllocError>
     ensures shown { IfOk result (λ p. p ≡ texts.plain_one around i.now a.now) }
 {
-    let what = Operation::of(i);
-    let spelling = spelling_of(i, what);
+    let (what, spelling) = operation_and_spelling(i);
     match what {
         Operation::Arithmetic(what) => arithmetic_one(alloc, what, a),
         Operation::Variable(what) => variable_one(alloc, around, spelling, what, a),
@@ -71,8 +68,7 @@ fn plain_one(
 fn plain_two(alloc: Global, i: &Instr, a: &Phrase, b: &Phrase) -> Result<Option<Phrase>, AllocError>
     ensures shown { IfOk result (λ p. p ≡ texts.plain_two i.now a.now b.now) }
 {
-    let what = Operation::of(i);
-    let spelling = spelling_of(i, what);
+    let (what, spelling) = operation_and_spelling(i);
     match what {
         Operation::Arithmetic(what) => arithmetic_two(alloc, what, a, b),
         Operation::Pointer(what) => pointer_two(alloc, spelling, what, a, b),
@@ -111,12 +107,12 @@ fn of_one(
         Item::Plain(i, _) => plain_one(alloc, around, i, a),
         Item::Jump(op, target) => jump_one(alloc, *op, target, a),
         Item::Case {
-            low,
-            high,
+            low: least,
+            high: greatest,
             otherwise,
             places,
         } => {
-            let (low, high) = (*low, *high);
+            let (low, high) = (*least, *greatest);
             let table = Table { low, high, places };
             Ok(Some(case_on(alloc, &table, otherwise, a)?))
         }
@@ -191,7 +187,7 @@ fn of_four(
 }
 
 #[tactic(auto, unfolding(crate::specs::Counts::by_count))]
-fn by_count(
+pub(crate) fn by_count(
     alloc: Global,
     around: Around,
     item: &Item<usize>,
@@ -211,7 +207,7 @@ fn by_count(
 }
 
 #[tactic(auto, unfolding(crate::specs::Counts::by_count))]
-fn behind_one(
+pub(crate) fn behind_one(
     alloc: Global,
     around: Around,
     item: &Item<usize>,
@@ -231,7 +227,7 @@ fn behind_one(
 }
 
 #[tactic(auto, unfolding(crate::specs::Counts::by_count))]
-fn behind_two(
+pub(crate) fn behind_two(
     alloc: Global,
     around: Around,
     item: &Item<usize>,
@@ -247,23 +243,5 @@ fn behind_two(
         [c] => of_three(alloc, item, a, b, c),
         [c, d] => of_four(alloc, item, a, b, c, d),
         _ => Ok(None),
-    }
-}
-
-/// The text of an item by the number of its operands, behind those that stand for what is missing.
-pub(crate) fn counted(
-    alloc: Global,
-    around: Around,
-    item: &Item<usize>,
-    pops: &Pops,
-    operands: &[Phrase],
-) -> Result<Option<Phrase>, AllocError>
-    ensures shown { IfOk result
-        (λ p. p ≡ texts.by_count around (placed_item item.now) (listed pops.now ++ operands.now)) }
-{
-    match pops {
-        Pops::None => by_count(alloc, around, item, operands),
-        Pops::One(p) => behind_one(alloc, around, item, p, operands),
-        Pops::Two(p, q) => behind_two(alloc, around, item, p, q, operands),
     }
 }

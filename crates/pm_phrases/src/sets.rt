@@ -193,28 +193,7 @@ pub(crate) fn set_one(alloc: Global, what: Set, a: &Phrase) -> Result<Option<Phr
     }
 }
 
-/// Two sets that stand on the stack as sets.
-#[tactic(auto, unfolding(crate::specs::Sets::sets_joined))]
-fn sets_joined(
-    alloc: Global,
-    what: Set,
-    a: &Phrase,
-    b: &Phrase,
-) -> Result<Option<Phrase>, AllocError>
-    ensures shown { IfOk result (λ p. p ≡ texts.sets_joined what a.now b.now) }
-{
-    match (set_sign(what), a.form, b.form) {
-        (Some(sign), Form::Set(_) | Form::Constant(0), Form::Set(_) | Form::Constant(0)) => {
-            let strength = set_strength(what);
-            let (a, b) = (SetText(a, strength), SetText(b, strength + 1));
-            let text = format!(in alloc; "{a} {sign} {b}")?;
-            Ok(Some(standing(text, Form::Set(strength))))
-        }
-        _ => Ok(None),
-    }
-}
-
-#[tactic(auto, unfolding(crate::specs::Sets::set_two))]
+#[tactic(auto, unfolding(crate::specs::Sets::set_two, crate::specs::Sets::sets_joined))]
 pub(crate) fn set_two(
     alloc: Global,
     what: Set,
@@ -237,37 +216,20 @@ pub(crate) fn set_two(
             let text = format!(in alloc; "adj[{n}] {}", Counted(a, b))?;
             Ok(Some(valued(text, 4)))
         }
-        _ => sets_joined(alloc, what, a, b),
+        _ => match (set_sign(what), a.form, b.form) {
+            (Some(sign), Form::Set(_) | Form::Constant(0), Form::Set(_) | Form::Constant(0)) => {
+                let strength = set_strength(what);
+                let (a, b) = (SetText(a, strength), SetText(b, strength + 1));
+                let text = format!(in alloc; "{a} {sign} {b}")?;
+                Ok(Some(standing(text, Form::Set(strength))))
+            }
+            _ => Ok(None),
+        },
     }
 }
 
-/// A set that stands on the stack as one, beside one of words and their count.
-#[tactic(auto, unfolding(crate::specs::Sets::one_counted))]
-fn one_counted(
-    alloc: Global,
-    what: Set,
-    a: &Phrase,
-    b: &Phrase,
-    c: &Phrase,
-) -> Result<Option<Phrase>, AllocError>
-    ensures shown { IfOk result (λ p. p ≡ texts.one_counted what a.now b.now c.now) }
-{
-    match (set_sign(what), a.form, c.form) {
-        (Some(sign), Form::Set(_), _) => {
-            let strength = set_strength(what);
-            let text = format!(in alloc; "{} {sign} {}", Value(a, strength), Counted(b, c))?;
-            Ok(Some(standing(text, Form::Set(strength))))
-        }
-        (Some(sign), _, Form::Set(_)) => {
-            let strength = set_strength(what);
-            let text = format!(in alloc; "{} {sign} {}", Counted(a, b), Value(c, strength + 1))?;
-            Ok(Some(standing(text, Form::Set(strength))))
-        }
-        _ => Ok(None),
-    }
-}
-
-#[tactic(auto, unfolding(crate::specs::Sets::set_three))]
+/// Of two sets one stands on the stack as a set, beside one of words and their count.
+#[tactic(auto, unfolding(crate::specs::Sets::set_three, crate::specs::Sets::one_counted))]
 pub(crate) fn set_three(
     alloc: Global,
     what: Set,
@@ -282,7 +244,23 @@ pub(crate) fn set_three(
             let text = format!(in alloc; "{} IN {}", Value(a, 2), Counted(b, c))?;
             Ok(Some(valued(text, 1)))
         }
-        _ => one_counted(alloc, what, a, b, c),
+        _ => match (set_sign(what), a.form, c.form) {
+            (Some(sign), Form::Set(_), _) => {
+                let strength = set_strength(what);
+                let text = format!(in alloc; "{} {sign} {}", Value(a, strength), Counted(b, c))?;
+                Ok(Some(standing(text, Form::Set(strength))))
+            }
+            (Some(sign), _, Form::Set(_)) => {
+                let strength = set_strength(what);
+                let text = format!(in alloc;
+                    "{} {sign} {}",
+                    Counted(a, b),
+                    Value(c, strength + 1)
+                )?;
+                Ok(Some(standing(text, Form::Set(strength))))
+            }
+            _ => Ok(None),
+        },
     }
 }
 

@@ -24,24 +24,19 @@ fn local_word(around: Around, number: u16) -> &'static str
 
 /// A variable by its scope and number, with the marks of a spelling.
 #[derive(Clone, Copy)]
-struct Named {
-    around: Around,
-    scope: Scope,
-    number: u16,
-    spelling: Spelling,
-}
+struct Named(Around, Scope, u16, Spelling);
 
 impl fmt::Display for Named {
-    ghost output = { λ n. Some (texts.variable_text n.around n.scope n.number n.spelling) };
+    ghost output = { λ n. Some (texts.variable_text n.0 n.1 n.2 n.3) };
 
     #[tactic(auto, unfolding(crate::specs::Variables::variable_text))]
     fn fmt<W: fmt::Write>(&self, f: &mut fmt::Formatter<W>) -> fmt::Result {
-        let number = self.number;
-        let marks = Marks(self.spelling);
-        match self.scope {
+        let Named(around, scope, number, spelling) = *self;
+        let marks = Marks(spelling);
+        match scope {
             Scope::Global => write!(f, "global{number}{marks}"),
             Scope::Local => {
-                let word = local_word(self.around, number);
+                let word = local_word(around, number);
                 write!(f, "{word}{number}{marks}")
             }
             Scope::Intermediate(links) => write!(f, "up{links}_{number}{marks}"),
@@ -60,21 +55,11 @@ pub(crate) fn variable_alone(
 {
     match what {
         Variable::Address(scope, number) => {
-            let name = Named {
-                around,
-                scope,
-                number,
-                spelling,
-            };
+            let name = Named(around, scope, number, spelling);
             Ok(Some(standing(format!(in alloc; "{name}")?, Form::Variable)))
         }
         Variable::Load(scope, number) => {
-            let name = Named {
-                around,
-                scope,
-                number,
-                spelling,
-            };
+            let name = Named(around, scope, number, spelling);
             Ok(Some(valued(format!(in alloc; "{name}")?, 9)))
         }
         Variable::Store(_, _) => Ok(None),
@@ -93,12 +78,7 @@ pub(crate) fn variable_one(
 {
     match what {
         Variable::Store(scope, number) => {
-            let name = Named {
-                around,
-                scope,
-                number,
-                spelling,
-            };
+            let name = Named(around, scope, number, spelling);
             Ok(Some(valued(format!(in alloc; "{name} := {}", Value(a, 0))?, 0)))
         }
         _ => Ok(None),

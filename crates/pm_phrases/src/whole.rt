@@ -7,7 +7,7 @@ ghost use Rattle.pm_phrases.specs.Phrases as texts;
 
 use crate::around::{AllArguments, Around, Missing, Pops, stand_ins};
 use crate::calls::called;
-use crate::counts::{counted, operation_in};
+use crate::counts::{behind_one, behind_two, by_count, operation_in};
 use crate::literals::words_in;
 use crate::operand::{Form, Phrase};
 use pm_code::Item;
@@ -18,15 +18,19 @@ fn template(
     alloc: Global,
     around: Around,
     item: &Item<usize>,
-    pops: &Pops,
-    operands: &[Phrase],
+    arguments: AllArguments<'_>,
 ) -> Result<Option<Phrase>, AllocError>
     ensures shown { IfOk result
-        (λ p. p ≡ texts.template around (placed_item item.now) (listed pops.now ++ operands.now)) }
+        (λ p. p ≡ texts.template around (placed_item item.now) (listed arguments.0.now ++ arguments.1.now)) }
 {
+    let AllArguments(pops, operands) = arguments;
     match called(alloc, operation_in(item), pops, operands)? {
         Some(call) => Ok(Some(call)),
-        None => counted(alloc, around, item, pops, operands),
+        None => match pops {
+            Pops::None => by_count(alloc, around, item, operands),
+            Pops::One(p) => behind_one(alloc, around, item, p, operands),
+            Pops::Two(p, q) => behind_two(alloc, around, item, p, q, operands),
+        },
     }
 }
 
@@ -45,10 +49,10 @@ pub fn phrase(
         (λ p. p ≡ texts.phrase_of around (placed_item item.now) known missing operands.now) }
 {
     let pops = stand_ins(alloc, known, missing)?;
-    match template(alloc, around, item, &pops, operands)? {
+    let arguments = AllArguments(&pops, operands);
+    match template(alloc, around, item, arguments)? {
         Some(phrase) => Ok(phrase),
         None => {
-            let arguments = AllArguments(&pops, operands);
             Ok(Phrase {
                 text: format!(in alloc; "{{{item}}}{arguments}")?,
                 form: Form::Value(9),

@@ -3,6 +3,7 @@
 ghost use Rattle.std.specs.Prelude.{◌≡◌, ◌++◌, OnOk};
 ghost use Rattle.pm_trace.specs.Selected.{column, place_columns};
 
+use crate::digits::column;
 use pm_machine::CodePlace;
 use std::alloc::AllocError;
 
@@ -15,24 +16,6 @@ fn number_column(number: u8) -> [u8; 4]
     [b'0' + tens / 10, b'0' + tens % 10, b'0' + number % 10, b' ']
 }
 
-/// An offset in five digits, with a blank behind it.
-#[tactic(auto, using(crate::proofs::Zeros::five_digits))]
-fn offset_column(offset: u16) -> [u8; 6]
-    ensures digits { result ≡ column 5 offset }
-{
-    let tens = offset / 10;
-    let hundreds = tens / 10;
-    let thousands = hundreds / 10;
-    [
-        b'0' + (thousands / 10) as u8,
-        b'0' + (thousands % 10) as u8,
-        b'0' + (hundreds % 10) as u8,
-        b'0' + (tens % 10) as u8,
-        b'0' + (offset % 10) as u8,
-        b' ',
-    ]
-}
-
 /// Adds a place in columns; dashes where it is none.
 pub(crate) fn add_place(page: &mut Vec<u8>, place: Option<CodePlace>) -> Result<(), AllocError>
     ensures columns { OnOk result (page.new.items ≡ page.old.items ++ place_columns place) }
@@ -42,6 +25,6 @@ pub(crate) fn add_place(page: &mut Vec<u8>, place: Option<CodePlace>) -> Result<
     };
     page.extend_from_slice(&number_column(place.segment))?;
     page.extend_from_slice(&number_column(place.procedure))?;
-    page.extend_from_slice(&offset_column(place.offset))?;
+    page.extend_from_slice(&column(place.offset))?;
     Ok(())
 }

@@ -91,21 +91,17 @@ impl Tracer {
         if add_short(page, memory.bytes(), usize::from(address))? {
             return Ok(());
         }
-        self.add_text(page, memory, address)
+        self.add_text(page, &Line::new(memory, address))
     }
 
-    // Adds the text of what stands at an address, whatever its operands.
+    // Adds the text of a line, whatever the operands of its instruction.
     #[inline(never)]
-    fn add_text(
-        &mut self,
-        page: &mut Vec<u8>,
-        memory: &Memory,
-        address: u16,
-    ) -> Result<(), AllocError>
-        ensures text { OnOk result (page.new.items ≡ page.old.items ++ line_text memory.now.words address) }
+    fn add_text(&mut self, page: &mut Vec<u8>, line: &Line<'_>) -> Result<(), AllocError>
+        ensures text { OnOk result
+            (page.new.items ≡ page.old.items ++ line_text line.now.memory.now.words line.now.address) }
     {
         self.text.clear();
-        write!(self.text, "{}", Line::new(memory, address))?;
+        write!(self.text, "{line}")?;
         page.extend_from_slice(self.text.as_bytes())
     }
 }

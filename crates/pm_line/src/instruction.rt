@@ -5,7 +5,7 @@
 
 ghost use Rattle.std.specs.Prelude.{◌≡◌, ◌<◌, ◌≤◌, ◌+◌, option_map, IfOk, IfSome};
 ghost use Rattle.pm_source.specs.Line.{bare_instruction, byte_and_number, byte_operand, case_jump};
-ghost use Rattle.pm_source.specs.Line.{instruction, many_words, one_jump, one_long_number, one_number, one_text};
+ghost use Rattle.pm_source.specs.Line.{bare, instruction, many_words, one_jump, one_long_number, one_number, one_text};
 ghost use Rattle.pm_source.specs.Line.{plain, short_instruction, short_range, two_bytes, word_operand};
 ghost use Rattle.pm_line.specs.Views.{labelled_item, operand_seen, texts_seen};
 
@@ -27,6 +27,14 @@ pub(crate) fn plain<'a>(alloc: Global, instr: Instr) -> Item<&'a [u8]>
     ensures item { labelled_item result ≡ plain instr }
 {
     Item::Plain(instr, Vec::new(alloc))
+}
+
+/// An item with one number, as byte or word.
+fn with_number<'a>(alloc: Global, op: u8, a: u16) -> Item<&'a [u8]>
+    ensures item { labelled_item result ≡ plain (record (bare op) { a = a }) }
+{
+    let bare = Instr::bare(op);
+    plain(alloc, Instr { a, ..bare })
 }
 
 /// The least and the greatest number that the opcodes of one name stand for, for the first of these opcodes.
@@ -81,17 +89,7 @@ fn one_byte<'a>(alloc: Global, op: u8, texts: &[&'a [u8]]) -> Option<(Item<&'a [
 {
     let text = only(texts)?;
     let (byte, in_range) = byte_operand(text)?;
-    let a = u16::from(byte);
-    Some((
-        plain(
-            alloc,
-            Instr {
-                a,
-                ..Instr::bare(op)
-            },
-        ),
-        in_range,
-    ))
+    Some((with_number(alloc, op, u16::from(byte)), in_range))
 }
 
 #[tactic(auto, using(crate::proofs::Counts::no_word))]
@@ -99,17 +97,8 @@ fn one_word<'a>(alloc: Global, op: u8, texts: &[&'a [u8]]) -> Option<(Item<&'a [
     ensures item { operand_seen labelled_item result ≡ one_number word_operand op (texts_seen texts.now) }
 {
     let text = only(texts)?;
-    let (a, in_range) = word_operand(text)?;
-    Some((
-        plain(
-            alloc,
-            Instr {
-                a,
-                ..Instr::bare(op)
-            },
-        ),
-        in_range,
-    ))
+    let (word, in_range) = word_operand(text)?;
+    Some((with_number(alloc, op, word), in_range))
 }
 
 #[tactic(auto, using(crate::proofs::Counts::no_long_number))]

@@ -38,26 +38,6 @@ struct Stored<'a> {
     procedure: u8,
 }
 
-/// What stands before the bytes of a line: the slot in two digits, the procedure in three, the offset in five.
-#[derive(Clone, Copy)]
-struct Columns {
-    slot: u8,
-    procedure: u8,
-    at: usize,
-}
-
-impl fmt::Display for Columns {
-    ghost output = { λ c. Some (padded 2 c.slot ++ (32 ∷ padded 3 c.procedure ++ (32 ∷ padded 5 c.at))) };
-
-    #[tactic(auto, using(pm_code::proofs::Digits::padded_written))]
-    fn fmt<W: fmt::Write>(&self, f: &mut fmt::Formatter<W>) -> fmt::Result {
-        let slot = self.slot;
-        let procedure = self.procedure;
-        let at = self.at;
-        write!(f, "{slot:02} {procedure:03} {at:05}")
-    }
-}
-
 /// A hexadecimal digit.
 fn upper_digit(value: u8) -> u8
     requires digit { value < 16 }
@@ -77,6 +57,26 @@ fn push_pairs(text: &mut String, bytes: &[u8]) -> Result<(), AllocError>
         text.push(char::from(upper_digit(byte % 16)))?;
     }
     Ok(())
+}
+
+/// What stands before the bytes of a line: the slot in two digits, the procedure in three, the offset in five.
+#[derive(Clone, Copy)]
+struct Columns {
+    slot: u8,
+    procedure: u8,
+    at: usize,
+}
+
+impl fmt::Display for Columns {
+    ghost output = { λ c. Some (padded 2 c.slot ++ (32 ∷ padded 3 c.procedure ++ (32 ∷ padded 5 c.at))) };
+
+    #[tactic(auto, using(pm_code::proofs::Digits::padded_written))]
+    fn fmt<W: fmt::Write>(&self, f: &mut fmt::Formatter<W>) -> fmt::Result {
+        let slot = self.slot;
+        let procedure = self.procedure;
+        let at = self.at;
+        write!(f, "{slot:02} {procedure:03} {at:05}")
+    }
 }
 
 /// Adds the line of so many bytes from an offset on, up to what they are, which a line feed ends.

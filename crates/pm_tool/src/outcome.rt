@@ -266,19 +266,9 @@ impl Outcome {
         ensures refusal { result.refusal ≡ None }
         ensures stopped { result.stopped ≡ None }
     {
-        Outcome {
-            exit: Exit::Ended,
-            message: String::new(alloc),
-            image: Some(image),
-            others: no_images(),
-            printer: Vec::new(alloc),
-            refusal: None,
-            ending: None,
-            line: None,
-            stopped: None,
-            about: None,
-            hint: None,
-        }
+        let mut outcome = Outcome::plain(alloc, Exit::Ended, String::new(alloc));
+        outcome.image = Some(image);
+        outcome
     }
 
     /// What is said of it, with no line feed at the end: its message, or the text of a fault, which takes no memory.

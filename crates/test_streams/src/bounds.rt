@@ -1,6 +1,7 @@
 //! The most input that a job takes.
 use crate::blanks::Blanks;
-use pm_tool::{Job, Reader, Selection, Writer, run};
+use crate::streams::raw;
+use pm_tool::{Reader, Writer, run};
 use std::alloc::Global;
 use std::process::Abort;
 
@@ -10,15 +11,7 @@ fn reads_blanks(rt: &impl Abort, alloc: Global, count: usize, told: (u8, &str, &
     let mut written = Vec::new(alloc);
     let mut source = Reader::new(Blanks { left: count });
     let mut sink = Writer::new(&mut written);
-    let outcome = run(
-        alloc,
-        &mut source,
-        &mut sink,
-        Job::Raw {
-            limit: 0,
-            selection: Selection::ALL,
-        },
-    );
+    let outcome = run(alloc, &mut source, &mut sink, raw(0));
     assert_eq!(rt; outcome.exit.number(), status);
     assert_eq!(rt; outcome.text(), message);
     assert_eq!(rt; written.as_slice(), text.as_bytes());

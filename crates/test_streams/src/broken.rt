@@ -3,6 +3,7 @@
 ghost use Rattle.std.specs.Prelude.{◌≡◌, length, sum};
 
 use crate::recorder::{Call, Kind, Manner, Recorded, recorded_run};
+use crate::streams::raw;
 use pm_tool::{Job, Saving, Selection};
 use pm_volume::Volume;
 use std::alloc::{AllocError, Global};
@@ -91,10 +92,7 @@ impl Tried {
         let name = String::from_str(alloc, "P")?;
         let disks = [Some(image.to_vec(alloc)?), None, None, None, None, None];
         Ok(match self {
-            Tried::Addition => Job::Raw {
-                limit: 100,
-                selection: Selection::ALL,
-            },
+            Tried::Addition => raw(100),
             Tried::Letters | Tried::Echo | Tried::Exits => Job::Run {
                 disks,
                 name,

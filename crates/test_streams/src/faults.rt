@@ -1,6 +1,6 @@
 //! Streams that fail at each of their calls in turn.
-use crate::streams::{Full, ShortReader, ShortWriter};
-use pm_tool::{Job, Outcome, Reader, Selection, Sink, Source, Writer, run};
+use crate::streams::{Full, ShortReader, ShortWriter, raw};
+use pm_tool::{Outcome, Reader, Sink, Source, Writer, run};
 use std::alloc::Global;
 use std::process::Abort;
 use test_parts::programs::{ADDITION, ADDITION_TRACE};
@@ -32,19 +32,10 @@ fn read_run(alloc: Global, good: usize) -> Ran {
         good,
     });
     let mut sink = Writer::new(&mut written);
-    let outcome = run(
-        alloc,
-        &mut source,
-        &mut sink,
-        Job::Raw {
-            limit: 100,
-            selection: Selection::ALL,
-        },
-    );
-    let failed = (source.failed(), sink.failed());
+    let outcome = run(alloc, &mut source, &mut sink, raw(100));
     Ran {
         outcome,
-        failed,
+        failed: (source.failed(), sink.failed()),
         written,
     }
 }
@@ -58,19 +49,10 @@ fn write_run(alloc: Global, good: usize, full: Full) -> Ran {
     };
     let mut source = Reader::new(ADDITION.as_bytes());
     let mut sink = Writer::new(&mut writer);
-    let outcome = run(
-        alloc,
-        &mut source,
-        &mut sink,
-        Job::Raw {
-            limit: 100,
-            selection: Selection::ALL,
-        },
-    );
-    let failed = (source.failed(), sink.failed());
+    let outcome = run(alloc, &mut source, &mut sink, raw(100));
     Ran {
         outcome,
-        failed,
+        failed: (source.failed(), sink.failed()),
         written: writer.bytes,
     }
 }

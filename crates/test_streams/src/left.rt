@@ -3,8 +3,9 @@
 ghost use Rattle.std.specs.Prelude.{◌≡◌, length, sum};
 
 use crate::jobs::{Told, job_run, tells};
+use crate::streams::raw;
 use pm_filer::FileCommand;
-use pm_tool::{AsmOutput, DisOutput, Job, Saving, Selection};
+use pm_tool::{AsmOutput, DisOutput, Job, Saving};
 use std::alloc::Global;
 use std::process::Abort;
 use test_parts::programs::{ADDITION, ADDITION_TRACE, ECHO, LETTERS};
@@ -17,22 +18,15 @@ fn text(rt: &impl Abort, alloc: Global, text: &str) -> String {
 #[test]
 fn of_bytes_and_texts(rt: HostRuntime) {
     let alloc = rt.alloc();
-    let raw = Job::Raw {
-        limit: 100,
-        selection: Selection::ALL,
-    };
     tells(
         &rt,
         alloc,
-        raw,
+        raw(100),
         ADDITION.as_bytes(),
         (0, "", ADDITION_TRACE, 0),
     );
-    let raw = Job::Raw {
-        limit: 100,
-        selection: Selection::ALL,
-    };
-    tells(&rt, alloc, raw, b"0G 02", (2, "refused hex 1", "", 0));
+    let told = (2, "refused hex 1", "", 0);
+    tells(&rt, alloc, raw(100), b"0G 02", told);
     for what in [AsmOutput::File, AsmOutput::Listing] {
         tells(
             &rt,

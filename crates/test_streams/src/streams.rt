@@ -1,4 +1,5 @@
 //! A reader and a writer that move one byte at a time and fail once.
+use pm_tool::{Job, Selection};
 use std::io;
 use std::io::{ErrorKind, Read, Write};
 
@@ -64,4 +65,10 @@ impl Write for ShortWriter {
     fn flush(&mut self) -> io::Result<()> {
         Ok(())
     }
+}
+
+/// The job that runs bare code for so many steps and traces each.
+pub(crate) fn raw(limit: u64) -> Job {
+    let selection = Selection::ALL;
+    Job::Raw { limit, selection }
 }

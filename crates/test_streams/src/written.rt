@@ -1,7 +1,8 @@
 //! What is written when. No clause can say it, since a sink knows no steps.
 use crate::broken::{COMMANDS, Tried, image};
 use crate::recorder::{Call, Kind, Manner, Recorded, recorded_run};
-use pm_tool::{Job, Saving, Selection};
+use crate::streams::raw;
+use pm_tool::{Job, Saving};
 use std::alloc::Global;
 use std::process::Abort;
 use std::test::Fail;
@@ -83,15 +84,7 @@ fn is_page(rt: &impl Abort, call: &Call) {
 /// 3,000 steps are two pages of 1,261 lines, and the rest with the last line.
 #[test]
 fn traces_are_written_in_pages(rt: HostRuntime) {
-    let ran = recorded_run(
-        rt.alloc(),
-        Job::Raw {
-            limit: 3000,
-            selection: Selection::ALL,
-        },
-        b"B9 FE 02 00",
-        WELL,
-    );
+    let ran = recorded_run(rt.alloc(), raw(3000), b"B9 FE 02 00", WELL);
     ran.is(&rt, 6, "", (false, false));
     assert_eq!(rt; ran.written.len(), 3000 * LINE + 11);
     let Some((last, pages)) = ran.calls.split_last() else {

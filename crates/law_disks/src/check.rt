@@ -1,17 +1,17 @@
 //! Laws of what is told and saved of an image. The functions do nothing.
-ghost use Rattle.law_disks.specs.CheckLaws.{FormIsNoted, GoodImagesOpen, SharedBlocks};
+ghost use Rattle.law_disks.specs.CheckLaws as laws;
 ghost use Rattle.law_disks.specs.SalvageLaws.{EntriesAreSaved};
 
 /// An image opens as a volume exactly if no fault of it is told.
 #[tactic(auto, using(crate::proofs::RuleLaws::good_images_open))]
 pub fn good_images_open()
-    ensures law { GoodImagesOpen }
+    ensures law { laws.GoodImagesOpen }
 {}
 
 /// Two files are told to share blocks exactly if there is a block that both have.
 #[tactic(auto, using(crate::proofs::RuleLaws::shared_blocks))]
 pub fn shared_blocks()
-    ensures law { SharedBlocks }
+    ensures law { laws.SharedBlocks }
 {}
 
 /// The files of a volume that is saved of an image are those of the entries that could stand by themselves, one for
@@ -26,5 +26,5 @@ pub fn entries_are_saved()
 /// none.
 #[tactic(auto, using(crate::proofs::FormLaws::form_is_noted))]
 pub fn form_is_noted()
-    ensures law { FormIsNoted }
+    ensures law { laws.FormIsNoted }
 {}

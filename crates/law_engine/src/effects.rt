@@ -1,7 +1,7 @@
 //! Laws that the table of what instructions take off the stack and leave there is the machine's. The functions do
 //! nothing.
 
-ghost use Rattle.law_engine.specs.CallEffects.{CallsAreTheMachines};
+ghost use Rattle.law_engine.specs.CallEffects as calls;
 ghost use Rattle.law_engine.specs.Effects.{EffectsAreTheMachines};
 ghost use Rattle.law_engine.specs.StandardEffects.{StandardEffectsAreTheMachines};
 
@@ -24,5 +24,5 @@ pub fn standard_effects_are_the_machines()
 /// whatever runs between, if MP and the SP that the frame keeps are at the return as the call left them.
 #[tactic(auto, using(crate::proofs::CallEffectLaws::calls_are_the_machines))]
 pub fn calls_are_the_machines()
-    ensures law { CallsAreTheMachines }
+    ensures law { calls.CallsAreTheMachines }
 {}

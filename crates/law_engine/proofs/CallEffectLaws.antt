@@ -1,13 +1,12 @@
 -- Where SP stands behind a call and its return.
-use Rattle.std.proofs.Common.{◌≡◌, ◌<◌, ◌≤◌, ℕ, ◌+◌, ◌-◌, ◌*◌, ◌/◌, ◌%◌, ◌==◌, ◌&&◌, Bool, true, false, not, nat_lt, nat_le}
-use Rattle.std.proofs.Common.{List, length, Option, Some, None, Result, Ok, Err, refl, sym, ap, ◌∙◌, subst, arith}
+use Rattle.std.proofs.Common.{◌≡◌, ◌<◌, ◌≤◌, ℕ, ◌+◌, ◌-◌, ◌*◌, ◌/◌, ◌%◌, ◌==◌, ◌&&◌, Bool, not, nat_lt, nat_le}
+use Rattle.std.proofs.Common.{List, length, Option, Some, None, Ok, refl, sym, ap, ◌∙◌, arith}
 use Rattle.std.specs.Prelude.{slice_get}
 use Rattle.std.proofs.lemmas.Bool.{and_parts}
 use Rattle.std.proofs.lemmas.Bool.Decides.{nat_tests}
-use Rattle.pm_words.specs.declared.error.ExecError.{ExecError}
 use Rattle.pm_words.specs.declared.error.ExecError.TheVariants.{InvalidMemory, NoSegment, StackOverflow, Unimplemented}
 use Rattle.pm_words.specs.Words.{IsMemory, copied, word_at}
-use Rattle.pm_words.specs.Stack.{◌>>=◌, demand, is_even, load, minus}
+use Rattle.pm_words.specs.Stack.{◌>>=◌, is_even, load, minus}
 use Rattle.pm_words.proofs.RangeLaws.{IsMemory-copied}
 use Rattle.pm_families.specs.declared.families.Call.{Call}
 use Rattle.pm_families.specs.declared.families.Call.TheVariants.{Clp, Cgp, Cbp, Cip, Cxp}
@@ -21,7 +20,7 @@ use Rattle.pm_calls.specs.Calls.{Reached, called, called_at, called_loading, cal
 use Rattle.pm_calls.specs.Calls.{procedure_called, reach_loading, reach_standing, with_frame, with_old_base}
 use Rattle.pm_calls.specs.Returns.{returned}
 use Rattle.pm_calls.specs.Laws.{IsCode, Reaches, ReachesSlot}
-use Rattle.pm_calls.proofs.ReturnLaws.{IsFramed, bound, control_kept, control_written, frame_made, loading_memory, low_before, ok_same, passed}
+use Rattle.pm_calls.proofs.ReturnLaws.{bound, control_kept, control_written, frame_made, loading_memory, low_before, ok_same, passed}
 use Rattle.pm_calls.proofs.ReturnLaws.{return_read, standing_memory}
 use Rattle.law_engine.specs.CallEffects.{CallsAreTheMachines, MovesByTable, kept_sp}
 

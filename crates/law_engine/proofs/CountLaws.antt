@@ -1,6 +1,5 @@
 -- No place is for no call and no keep.
-use Rattle.std.proofs.Common.{◌≡◌, ◌<◌, inl, inr, ℕ, ◌+◌, ◌-◌, ◌||◌, nat_lt, List, [], ◌∷◌, replicate}
-use Rattle.std.proofs.Common.{Option, Some, None, arith}
+use Rattle.std.proofs.Common.{◌≡◌, ◌<◌, inl, inr, ℕ, ◌+◌, ◌-◌, ◌||◌, nat_lt, List, [], ◌∷◌, replicate, Option, Some, None, arith}
 use Rattle.std.specs.Prelude.{slice_get, slice_set, slice_index_or, option_and_then, position}
 use Rattle.std.specs.List.{All}
 use Rattle.std.proofs.lemmas.Bool.Decides.{nat_tests}
@@ -14,7 +13,7 @@ use Rattle.pm_calls.specs.Calls.{code_fits}
 use Rattle.pm_calls.specs.Keeps.{keep_loading, keep_slot, keep_standing, less_kept, segment_kept, segment_unkept, unkeep_slot, unkeep_standing}
 use Rattle.pm_stdproc.specs.Loads.{length_of, slot_code}
 use Rattle.pm_calls.specs.Returns.{one_call_less, lessened, released, stands_at}
-use Rattle.pm_stdproc.specs.Procedures.{Reach, exit_row, keep_row, on_memory, procedure_numbered, procedure_row, unkeep_row}
+use Rattle.pm_stdproc.specs.Procedures.{Reach, keep_row, procedure_numbered, procedure_row, unkeep_row}
 use Rattle.pm_stdproc.specs.Procedures as standard
 use Rattle.pm_stdproc.specs.declared.procedures.Procedure.{Procedure}
 use Rattle.pm_stdproc.specs.declared.procedures.Procedure.TheVariants as procedure
@@ -23,8 +22,7 @@ use Rattle.pm_machine.specs.Events.{Event, after_all, next}
 use Rattle.pm_machine.specs.Procedures.{reach}
 use Rattle.pm_machine.specs.Rows.{past_instruction}
 use Rattle.law_engine.specs.Shapes.{IsCounted, MachinesCountCalls}
-use Rattle.law_engine.proofs.Places.{Holds, Places, after, boot_holds, raw_holds, lifted, next_holds, of_parts, of_reach, procedure_holds}
-use Rattle.law_engine.proofs.Places.{standard_holds, then}
+use Rattle.law_engine.proofs.Places.{Holds, Places, after, boot_holds, raw_holds, lifted, next_holds, of_parts, of_reach, procedure_holds, standard_holds, then}
 
 abbrev AreCounted : Places → Type 0
 AreCounted places = All IsCounted places

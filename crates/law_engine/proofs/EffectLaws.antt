@@ -1,16 +1,16 @@
 -- Where SP stands behind each row.
 use Rattle.std.proofs.Common.{◌≡◌, ◌<◌, ◌≤◌, ◌⊎◌, inl, inr, ℕ, ◌+◌, ◌-◌, ◌*◌, ◌/◌, ◌%◌, ◌&&◌, ◌||◌, ◌==◌, Bool, true, false, not, max, min}
-use Rattle.std.proofs.Common.{cond, nat_lt, nat_le, List, [], ◌∷◌, ◌++◌, length, take, drop, get_or, Result, Ok, Err, refl, sym, ap, ◌∙◌, subst, arith}
-use Rattle.std.specs.Prelude.{reverse, int_lt, Option, Some, None}
-use Rattle.std.proofs.lemmas.Bool.{and_parts, cases_Bool}
+use Rattle.std.proofs.Common.{cond, nat_lt, nat_le, List, [], ◌∷◌, ◌++◌, length, take, drop, get_or, Result, Ok, Err, refl, sym, ap, ◌∙◌, arith}
+use Rattle.std.specs.Prelude.{int_lt}
+use Rattle.std.proofs.lemmas.Bool.{cases_Bool}
 use Rattle.std.proofs.lemmas.Bool.Decides.{nat_tests}
 use Rattle.std.proofs.lemmas.List.{append_assoc, get_or-append_right, length-take-le}
 use Rattle.pm_words.specs.declared.error.ExecError.{ExecError}
 use Rattle.pm_words.specs.declared.error.ExecError.TheVariants.{InvalidIndex, InvalidMemory, StackOverflow, StringTooLong, Unimplemented}
 use Rattle.pm_words.specs.declared.stack.Popped.{Popped}
 use Rattle.pm_words.specs.Signed.{signed}
-use Rattle.pm_words.specs.Words.{IsMemory, byte_at, with_words, word_at, words_at}
-use Rattle.pm_words.specs.Stack.{◌>>=◌, IsStack, demand, is_even, lies_in_memory, load, pop, push, store, words_lie_in_memory}
+use Rattle.pm_words.specs.Words.{IsMemory, byte_at, with_words, word_at}
+use Rattle.pm_words.specs.Stack.{◌>>=◌, demand, is_even, lies_in_memory, load, pop, push, store, words_lie_in_memory}
 use Rattle.pm_families.specs.declared.families.Arithmetic.{Arithmetic}
 use Rattle.pm_families.specs.declared.families.Arithmetic.TheVariants as arithmetic
 use Rattle.pm_families.specs.declared.families.Variable.{Variable}
@@ -38,8 +38,7 @@ use Rattle.pm_values.specs.Comparisons.{are_words, compare_booleans_row, compare
 use Rattle.pm_values.specs.Comparisons.{compare_words_row, is_equality, is_of_sets}
 use Rattle.pm_values.specs.Fields.{index_field_row, is_field, load_byte_row, load_field_row, store_byte_row, store_field_row}
 use Rattle.pm_values.specs.Sets.{StackSet, adjust_row, difference_row, in_set_row, intersect_row, interval, is_member, pop_set, set_of, singleton_row}
-use Rattle.pm_values.specs.Sets.{subrange_row, two_sets_row}
-use Rattle.pm_values.specs.Sets.{union_row, with_length}
+use Rattle.pm_values.specs.Sets.{subrange_row, two_sets_row, union_row, with_length}
 use Rattle.pm_values.specs.Several.{push_words}
 use Rattle.pm_values.specs.Strings.{assign_row, index_string_row, source_at, string_at}
 use Rattle.pm_values.proofs.SetLaws.{length-set_from}
@@ -53,10 +52,8 @@ use Rattle.pm_rows.specs.Variables.{load_row, store_row, variable_address_row, v
 use Rattle.law_engine.proofs.StoredWords.{popped}
 use Rattle.pm_effects.specs.declared.effect.Share.{Share}
 use Rattle.pm_effects.specs.declared.effect.Share.TheVariants as share
-use Rattle.pm_effects.specs.declared.effect.Effect.{Effect}
-use Rattle.pm_effects.specs.Effects.{arithmetic_effect, variable_effect, pointer_effect, literal_effect}
-use Rattle.pm_effects.specs.Effects.{value_effect, jump_effect, set_effect, field_effect, compare_effect}
-use Rattle.law_engine.specs.Effects.{EffectsAreTheMachines, EndsAt, LeavesSpAt, Moves, MovesIf, words_of, words_taken}
+use Rattle.pm_effects.specs.Effects.{arithmetic_effect, variable_effect, pointer_effect, literal_effect, value_effect, jump_effect, set_effect, compare_effect}
+use Rattle.law_engine.specs.Effects.{EffectsAreTheMachines, EndsAt, LeavesSpAt, Moves, MovesIf, words_taken}
 
 -- ---- steps of a row
 

@@ -26,7 +26,7 @@ use Rattle.pm_calls.specs.Returns.{released, returned}
 use Rattle.pm_units.specs.Traps.{Pause, Fails, Waits, or_fails}
 use Rattle.pm_units.specs.Devices.{Devices, mounted}
 use Rattle.pm_stdproc.specs.UnitRows.{served, units_row}
-use Rattle.pm_stdproc.specs.Procedures.{Reach, exit_row, keep_row, on_memory, procedure_numbered, procedure_row, unkeep_row}
+use Rattle.pm_stdproc.specs.Procedures.{Reach, exit_row, on_memory, procedure_numbered, procedure_row}
 use Rattle.pm_stdproc.specs.Procedures as standard
 use Rattle.pm_stdproc.specs.MemoryRows.{memory_row}
 use Rattle.pm_units.specs.declared.ports.MountFault.{MountFault}

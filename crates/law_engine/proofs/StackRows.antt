@@ -37,8 +37,7 @@ use Rattle.pm_values.specs.Comparisons.{are_words, compare_booleans_row, compare
 use Rattle.pm_values.specs.Comparisons.{compare_words_row, is_equality, is_of_sets}
 use Rattle.pm_values.specs.Fields.{index_field_row, is_field, load_byte_row, load_field_row}
 use Rattle.pm_values.specs.Sets.{StackSet, adjust_row, difference_row, in_set_row, intersect_row, interval, is_member, pop_set, set_of, singleton_row}
-use Rattle.pm_values.specs.Sets.{subrange_row, two_sets_row}
-use Rattle.pm_values.specs.Sets.{union_row, with_length}
+use Rattle.pm_values.specs.Sets.{subrange_row, two_sets_row, union_row, with_length}
 use Rattle.pm_values.specs.Several.{push_words}
 use Rattle.pm_values.specs.Strings.{index_string_row, string_at}
 use Rattle.pm_values.proofs.SetLaws.{length-set_from}
@@ -49,8 +48,7 @@ use Rattle.pm_rows.specs.Pointers.{increment_row, index_row, indirect_row, load_
 use Rattle.pm_rows.specs.Values.{field_row, set_row, value_row}
 use Rattle.pm_rows.specs.Variables.{load_row, store_row, variable_address_row, variable_at, variable_row}
 use Rattle.law_engine.specs.StackLaws.{Pushed, StackRowsWriteWhatTheyPush, WritesWhatItPushes, a_set, pushed_by_literal, pushed_by_pointer, pushed_by_set}
-use Rattle.law_engine.specs.StackLaws.{pushed_by_value, pushed_by_variable}
-use Rattle.law_engine.specs.StackLaws.{so_many, stores}
+use Rattle.law_engine.specs.StackLaws.{pushed_by_value, pushed_by_variable, so_many, stores}
 use Rattle.law_engine.proofs.StoredWords.{popped}
 
 -- ---- steps of a row

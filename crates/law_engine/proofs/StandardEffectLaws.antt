@@ -1,7 +1,7 @@
 -- Where SP stands behind each standard procedure.
 use Rattle.std.proofs.Common.{◌≡◌, ◌<◌, ◌≤◌, ◌⊎◌, inl, inr, ℕ, ◌+◌, ◌-◌, ◌*◌, ◌/◌, ◌%◌, ◌==◌, ◌&&◌}
 use Rattle.std.proofs.Common.{Bool, true, false, nat_lt, nat_le, List, Result, Ok, Err, refl, sym, ap, ◌∙◌, subst, arith}
-use Rattle.std.specs.Prelude.{Option, Some, None, if◌then◌else◌}
+use Rattle.std.specs.Prelude.{Option, if◌then◌else◌}
 use Rattle.std.proofs.lemmas.Bool.{cases_Bool}
 use Rattle.std.proofs.lemmas.Bool.Decides.{nat_tests}
 use Rattle.pm_words.specs.declared.error.ExecError.{ExecError}
@@ -27,7 +27,7 @@ use Rattle.pm_stdproc.specs.UnitRows.{Served, busy_row, clear_row, ordered, read
 use Rattle.law_engine.proofs.StoredWords.{popped}
 use Rattle.pm_effects.specs.declared.effect.Effect.{Effect}
 use Rattle.pm_effects.specs.Effects.{standard_effect, words}
-use Rattle.law_engine.specs.Effects.{words_of, words_taken}
+use Rattle.law_engine.specs.Effects.{words_taken}
 use Rattle.law_engine.specs.StandardEffects.{AllOk, EndsIn, StandardEffectsAreTheMachines, memory_effect, procedure_effect, units_effect}
 
 -- ---- numbers

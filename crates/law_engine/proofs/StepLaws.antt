@@ -27,7 +27,7 @@ use Rattle.pm_units.specs.Traps.{Pause, Fails, Waits, or_fails}
 use Rattle.pm_units.specs.Devices.{Devices, cleared, image_at, unit_of}
 use Rattle.pm_units.specs.Transfers.{Moved, can_move, from_disk, from_queue, unit_read}
 use Rattle.pm_stdproc.specs.UnitRows.{Served, busy_row, clear_row, ordered, read_row, served, time_row, units_row, wait_row}
-use Rattle.pm_stdproc.specs.Procedures.{Reach, exit_row, keep_row, on_memory, on_units, procedure_numbered, procedure_row, unkeep_row}
+use Rattle.pm_stdproc.specs.Procedures.{Reach, exit_row, keep_row, on_memory, procedure_numbered, procedure_row, unkeep_row}
 use Rattle.pm_stdproc.specs.Procedures as standard
 use Rattle.pm_stdproc.specs.MemoryRows.{memory_row}
 use Rattle.pm_units.specs.declared.ports.Port.{Port}

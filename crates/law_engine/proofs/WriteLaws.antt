@@ -21,8 +21,7 @@ use Rattle.pm_calls.specs.Places.{Parts}
 use Rattle.pm_calls.specs.Calls.{Reached, called, called_at, called_loading, called_slot, called_standing}
 use Rattle.pm_calls.specs.Links.{static_link}
 use Rattle.pm_calls.specs.Tables.{attributes}
-use Rattle.pm_calls.specs.Calls.{frame_top, framed, is_base, kept_below, procedure_called}
-use Rattle.pm_calls.specs.Calls.{entered, here, reach_loading, reach_standing, code_fits}
+use Rattle.pm_calls.specs.Calls.{frame_top, framed, is_base, kept_below, procedure_called, entered, here, reach_loading, reach_standing, code_fits}
 use Rattle.pm_calls.specs.Exits.{exited, is_wanted, walked_unless}
 use Rattle.pm_calls.specs.Keeps.{keep_loading, keep_slot, keep_standing, segment_kept, segment_unkept, unkeep_slot, unkeep_standing}
 use Rattle.pm_stdproc.specs.Loads.{length_of, slot_code}
@@ -59,9 +58,8 @@ use Rattle.pm_machine.specs.Rows.{fetched, on_registers, on_stack, performed, ro
 use Rattle.pm_machine.specs.Steps.{at_status, executed, settled, step_counted, stepped}
 use Rattle.pm_rows.specs.Values.{value_row}
 use Rattle.pm_rows.specs.Variables.{variable_row}
-use Rattle.law_engine.specs.Writes.{EventsLeaveTheRest, LeavesTheRest, Writes, disk_named, event_writes, frame_row, is_disk, instruction_writes}
-use Rattle.law_engine.specs.Writes.{memory_writes, nothing, operation_writes, outcome_writes, procedure_writes, stack_row, step_alone, step_writes}
-use Rattle.law_engine.specs.Writes.{taking_row, unit_writes}
+use Rattle.law_engine.specs.Writes.{EventsLeaveTheRest, LeavesTheRest, Writes, disk_named, event_writes, frame_row, is_disk, instruction_writes, memory_writes}
+use Rattle.law_engine.specs.Writes.{nothing, operation_writes, outcome_writes, procedure_writes, stack_row, step_alone, step_writes, taking_row, unit_writes}
 use Rattle.pm_stdproc.specs.declared.procedures.OnMemory.{OnMemory}
 use Rattle.pm_stdproc.specs.declared.procedures.OnMemory.TheVariants as memory
 use Rattle.pm_stdproc.specs.declared.rows.Order.{Order}

@@ -1,7 +1,6 @@
 -- The law that the words of the standard procedures are the machine's. EXIT, and the two that keep a segment and let it
 -- go, leave SP elsewhere.
 use Rattle.std.specs.Prelude.{◌≡◌, ℕ, ◌+◌, ◌*◌, List, Option, Some, None, Result, Ok, Err}
-use Rattle.pm_words.specs.Words.{word_at}
 use Rattle.pm_calls.specs.declared.registers.Registers.{Registers}
 use Rattle.pm_stdproc.specs.declared.procedures.OnMemory.{OnMemory}
 use Rattle.pm_stdproc.specs.declared.procedures.OnMemory.TheVariants as memory

@@ -1,7 +1,6 @@
 //! Laws of where loaded code stands.
 
-ghost use Rattle.law_engine.specs.Loads.{BootsLoadSegment, StepsKeepSegments, StepsLoadSegments};
-ghost use Rattle.law_engine.specs.Loads.{StepsLoadWhatIsThere};
+ghost use Rattle.law_engine.specs.Loads.{BootsLoadSegment, StepsKeepSegments, StepsLoadSegments, StepsLoadWhatIsThere};
 
 use crate::shapes::machines_hold_words;
 use pm_machine::Machine;

@@ -3,8 +3,7 @@ use Rattle.std.proofs.Common.{◌≡◌, ◌==◌, true, Some, refl, sym, ap, �
 use Rattle.std.specs.Prelude.{option_map}
 use Rattle.std.proofs.lemmas.Bool.Decides.{nat_tests}
 use Rattle.pm_codefile.specs.Dictionary.{segment_in}
-use Rattle.pm_code.specs.Program.{segment_numbered}
-use Rattle.pm_code.specs.Program.{segment_bytes}
+use Rattle.pm_code.specs.Program.{segment_numbered, segment_bytes}
 use Rattle.pm_source.proofs.Spelled.{spelled_is_faultless}
 use Rattle.pm_machine.specs.Boot.{code_file}
 use Rattle.law_jobs.specs.Loaded.{AssembledIsAccepted, AssembledIsFound}

@@ -7,7 +7,6 @@ use Rattle.std.proofs.lemmas.Bool.Decides.{nat_tests}
 use Rattle.std.proofs.lemmas.Cmp.{nat_eq_equiv}
 use Rattle.std.proofs.lemmas.List.Folds.{list_any-append}
 use Rattle.std.proofs.lemmas.Map.Views.{any-filter_same}
-use Rattle.pm_words.specs.Stack.{is_even}
 use Rattle.pm_machine.specs.CodePlaces.{code_place}
 use Rattle.pm_machine.specs.declared.code_place.CodePlace.{CodePlace}
 use Rattle.pm_debug.specs.declared.breaks.Breakpoint.{Breakpoint}
@@ -24,7 +23,6 @@ use Rattle.pm_session.specs.Orders.{Order, order_of}
 use Rattle.pm_session.specs.Orders.Order.{Does, Types}
 use Rattle.law_jobs.specs.Breakpoints.{BreakIfSetsOne, BreakSetsOne, BreaksStay, ClearTakesOne, UnwatchTakesOne, WatchAddsOne, WatchesStay, is_of_breaks}
 use Rattle.law_jobs.specs.Breakpoints.{is_of_watches}
-use Rattle.law_jobs.specs.Console.{after_lines}
 
 -- ---- lines that are of neither set
 

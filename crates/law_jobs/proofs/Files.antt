@@ -3,8 +3,7 @@ use Rattle.std.proofs.Common.{◌≡◌, ℕ, false, nat_lt, List, None, Ok, ap,
 use Rattle.std.specs.Prelude.{option_map}
 use Rattle.std.proofs.lemmas.Bool.Decides.{nat_tests}
 use Rattle.pm_codefile.specs.Dictionary.{file_fault, segment_in}
-use Rattle.pm_code.specs.Program.{segment_numbered}
-use Rattle.pm_code.specs.Program.{segment_bytes}
+use Rattle.pm_code.specs.Program.{segment_numbered, segment_bytes}
 use Rattle.pm_asm.proofs.Fitting.{short_fits}
 use Rattle.law_text.proofs.Held.{file_holds_program, file_is_accepted}
 use Rattle.pm_source.proofs.Programs.{spelled_is_program}

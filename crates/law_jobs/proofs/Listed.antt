@@ -4,8 +4,7 @@ use Rattle.std.specs.Prelude.{option_map}
 use Rattle.std.proofs.lemmas.Bool.{cases_Bool}
 use Rattle.pm_words.specs.Words.{IsMemory, bytes_at}
 use Rattle.pm_codefile.specs.Dictionary.{segment_in}
-use Rattle.pm_code.specs.Program.{segment_numbered}
-use Rattle.pm_code.specs.Program.{Segment, segment_bytes}
+use Rattle.pm_code.specs.Program.{segment_numbered, Segment, segment_bytes}
 use Rattle.law_text.proofs.Listed.{listing_is_segment}
 use Rattle.pm_machine.specs.State.{State}
 use Rattle.law_engine.specs.Loads.{StandsBelow}

@@ -1,5 +1,5 @@
 -- Runs of a session that go on.
-use Rattle.std.proofs.Common.{◌≡◌, ◌≤◌, ℕ, ◌+◌, Bool, true, false, Option, Some, None, refl, ap}
+use Rattle.std.proofs.Common.{◌≡◌, ◌≤◌, ℕ, ◌+◌, true, false, Option, Some, None, refl, ap}
 use Rattle.pm_debug.specs.declared.run.Depth.{Depth}
 use Rattle.pm_debug.specs.declared.run.Depth.TheVariants as depths
 use Rattle.pm_debug.specs.Passes.{Passed}

@@ -20,9 +20,9 @@ use Rattle.pm_debug.specs.declared.reason.BreakReason.TheVariants as reasons
 use Rattle.pm_debug.specs.declared.run.Depth.{Depth}
 use Rattle.pm_debug.specs.declared.watches.WatchedWord.{WatchedWord}
 use Rattle.pm_debug.specs.Breaks.{is_at_break}
-use Rattle.pm_debug.specs.Passes.{Passed, all_passed, counted, gone_past, left_past, most_on}
-use Rattle.pm_debug.specs.Runs.{Gone, Left, answered_so, behind_steps, changed_or, countable, gone_by, gone_from, gone_on, gone_to, has_ended, has_rest}
-use Rattle.pm_debug.specs.Runs.{is_there, later, left_behind, left_of, left_on, left_so, reason_of, stops_at}
+use Rattle.pm_debug.specs.Passes.{Passed, all_passed, counted}
+use Rattle.pm_debug.specs.Runs.{Gone, answered_so, behind_steps, changed_or, countable, gone_by, gone_from, gone_on, gone_to, has_ended, has_rest}
+use Rattle.pm_debug.specs.Runs.{is_there, later, left_behind, left_so, reason_of, stops_at}
 use Rattle.pm_debug.specs.Runs.Left.{AtBreak, Nothing, Rest}
 use Rattle.pm_debug.specs.Session.{Session}
 use Rattle.pm_debug.specs.Watches.{first_changed, watched_words}

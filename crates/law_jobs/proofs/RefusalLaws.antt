@@ -1,15 +1,12 @@
 -- The first fault of a text is told.
-use Rattle.std.proofs.Common.{◌≡◌, ◌⊎◌, inl, inr, ◌+◌, if◌then◌else◌, Bool, true, false, not, ◌&&◌, ◌||◌, List, [], ◌++◌}
-use Rattle.std.proofs.Common.{refl, ap, ◌∙◌}
+use Rattle.std.proofs.Common.{◌≡◌, ◌⊎◌, inl, inr, ◌+◌, if◌then◌else◌, Bool, true, false, not, ◌&&◌, ◌||◌, List, [], ◌++◌, refl, ap, ◌∙◌}
 use Rattle.std.specs.List.{list_any}
-use Rattle.pm_source.specs.Faults.{all_label_faults, ends, faults, faults_of_lines, is_again, is_begin, is_far}
-use Rattle.pm_source.specs.Faults.{is_in_place, is_miscounted}
-use Rattle.pm_source.specs.Faults.{is_out_of_range, is_unknown, is_unknown_target, only_if, source_of}
+use Rattle.pm_source.specs.Faults.{all_label_faults, ends, faults, faults_of_lines, is_again, is_begin, is_far, is_in_place, is_miscounted, is_out_of_range}
+use Rattle.pm_source.specs.Faults.{is_unknown, is_unknown_target, only_if, source_of}
 use Rattle.pm_source.specs.Words.{is_empty}
 use Rattle.pm_source.specs.declared.fault.AsmFault.{AsmFault}
 use Rattle.pm_source.specs.declared.fault.AsmFault.TheVariants.{Syntax, Unknown, Range, NoLabel, Twice, Far}
-use Rattle.law_jobs.specs.Refusals.{BeginsWith, IsPlaced, JumpsTellFirst, LinesTellFirst}
-use Rattle.law_jobs.specs.Refusals.{TextsTellFirst}
+use Rattle.law_jobs.specs.Refusals.{BeginsWith, IsPlaced, JumpsTellFirst, LinesTellFirst, TextsTellFirst}
 
 first : (a : Bool) (w : AsmFault) (rest : List AsmFault) → a ≡ true → BeginsWith w (only_if a w ++ rest)
 first a w rest h = (rest, ap (λ k. only_if k w ++ rest) h)

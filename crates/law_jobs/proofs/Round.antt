@@ -5,8 +5,7 @@ use Rattle.std.specs.Prelude.{◌==◌, if◌then◌else◌}
 use Rattle.std.specs.List.{AllByRecursion, AllZip}
 use Rattle.pm_codefile.specs.Layout.{layout}
 use Rattle.pm_code.specs.Laws.{IsSameSegment}
-use Rattle.pm_code.specs.Program.{segment_numbered}
-use Rattle.pm_code.specs.Program.{Procedure, Segment, AreInstructions, FitSlots}
+use Rattle.pm_code.specs.Program.{segment_numbered, Procedure, Segment, AreInstructions, FitSlots}
 use Rattle.law_text.proofs.ShownFile.{program_is_shown}
 use Rattle.pm_code.specs.Image.{bytes_of_segment, file_of, joined_bytes, name_of_segment, slots_of}
 use Rattle.law_jobs.specs.RoundTrip.{ShownFileIsSpelled}

@@ -15,7 +15,7 @@ use Rattle.pm_trace.specs.Trace.{trace_line}
 use Rattle.pm_jobs.specs.declared.selection.Code.{Code}
 use Rattle.pm_jobs.specs.declared.selection.Code.TheVariants as codes
 use Rattle.pm_jobs.specs.declared.selection.Selection.{Selection}
-use Rattle.law_jobs.specs.Selections.{AskedLinesAreShown, CallsByNumber, IsAskedFor, IsIn, OtherLinesAreNot, StandsThere}
+use Rattle.law_jobs.specs.Selections.{AskedLinesAreShown, CallsByNumber, IsAskedFor, OtherLinesAreNot, StandsThere}
 
 both : (a b : Bool) → (a && b) ≡ true → (a ≡ true) × (b ≡ true)
 both true b is = (refl, is)

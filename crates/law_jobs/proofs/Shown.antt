@@ -1,6 +1,5 @@
 -- Each command of a session leaves the machine as its events do.
-use Rattle.std.proofs.Common.{◌≡◌, ◌≤◌, ℕ, zero, suc, ◌+◌, ◌-◌, Bool, true, false, List, [], ◌∷◌, ◌++◌, Option, Some, None, refl, sym, ap}
-use Rattle.std.proofs.Common.{subst, ◌∙◌, arith}
+use Rattle.std.proofs.Common.{◌≡◌, ◌≤◌, ℕ, zero, suc, ◌+◌, ◌-◌, Bool, true, false, List, [], ◌∷◌, ◌++◌, Option, Some, None, refl, sym, ap, subst, ◌∙◌, arith}
 use Rattle.std.proofs.Common.{◌==◌, ◌&&◌, not, append_assoc}
 use Rattle.std.proofs.lemmas.Bool.Decides.{nat_tests}
 use Rattle.std.specs.Prelude.{◌≢◌, map, replicate, if◌then◌else◌, Result, Ok, Err}
@@ -18,15 +17,14 @@ use Rattle.pm_machine.proofs.UntilLaws.{after_more, after_none, runs_end_so}
 use Rattle.pm_debug.specs.declared.breaks.Breakpoint.{Breakpoint}
 use Rattle.pm_debug.specs.declared.reason.BreakReason.TheVariants as reasons
 use Rattle.pm_debug.specs.declared.refusal.DebugRefusal.{DebugRefusal}
-use Rattle.pm_debug.specs.Breaks.{breakpoint, stands_at, with_break, without_break}
+use Rattle.pm_debug.specs.Breaks.{breakpoint, with_break, without_break}
 use Rattle.pm_machine.specs.CodePlaces.{code_place}
 use Rattle.pm_debug.specs.declared.run.Depth.{Depth}
 use Rattle.pm_debug.specs.declared.run.Depth.TheVariants as depths
 use Rattle.pm_debug.specs.declared.watches.WatchedWord.{WatchedWord}
 use Rattle.pm_debug.specs.Passes.{all_passed, counted, gone_past, left_past}
-use Rattle.pm_debug.specs.Runs.{Gone, Left, behind_steps, countable, gone, gone_by, gone_from, gone_on, gone_out, gone_over, gone_to, gone_until}
-use Rattle.pm_debug.specs.Runs.{has_ended, has_left, is_back, is_there, later, left_behind, left_of}
-use Rattle.pm_debug.specs.Runs.{nowhere, stops_after, stops_at}
+use Rattle.pm_debug.specs.Runs.{Gone, Left, behind_steps, countable, gone_by, gone_from, gone_on, gone_to, has_ended, is_there, later, left_behind, stops_after}
+use Rattle.pm_debug.specs.Runs.{stops_at}
 use Rattle.pm_debug.specs.Runs.Left.{AtBreak, Nothing, Rest}
 use Rattle.pm_debug.proofs.OnLaws.{goes_on_behind}
 use Rattle.pm_debug.specs.Session.{Session}
@@ -36,9 +34,8 @@ use Rattle.pm_session.specs.Orders.{Order, order_of}
 use Rattle.pm_session.specs.Orders.Order.{Does, Types}
 use Rattle.pm_session.specs.Answers.{after_command, after_keys, after_on, passing, passing_on, session_after, with_breaks, with_watches}
 use Rattle.pm_session.specs.Sessions.{answer_line, answers, is_quit, opened}
-use Rattle.law_jobs.specs.Shown.{AreEventsOf, AreEventsOfLines, AreStepsBehind, AreStepsOfBegun, AreStepsOfRun, AreStepsOn, AreStepsPast}
-use Rattle.law_jobs.specs.Shown.{GoesOn, GoesOnAfter, SessionsShowTheTable, StopsAfter}
-use Rattle.law_jobs.specs.Shown.{first_look}
+use Rattle.law_jobs.specs.Shown.{AreEventsOf, AreEventsOfLines, AreStepsBehind, AreStepsOfBegun, AreStepsOfRun, AreStepsOn, AreStepsPast, GoesOn, GoesOnAfter}
+use Rattle.law_jobs.specs.Shown.{SessionsShowTheTable, StopsAfter, first_look}
 use Rattle.law_jobs.specs.Shown.StopsAfter.{rests, all, breaks_there, stops}
 
 -- ---- steps of a run

@@ -1,15 +1,14 @@
 -- Texts that are typed in a session, and other lines, read.
-use Rattle.std.proofs.Common.{◌≡◌, Option, Some, refl, ap, ◌∙◌, sym, codes, ◌∷◌, [], List, ℕ, ◌++◌, append_assoc, append-nil, subst, false}
+use Rattle.std.proofs.Common.{◌≡◌, Some, refl, ap, ◌∙◌, sym, codes, ◌∷◌, [], List, ℕ, ◌++◌, append_assoc, append-nil, false}
 use Rattle.pm_machine.specs.Events.{Key, next}
 use Rattle.pm_machine.specs.State.{State}
 use Rattle.pm_debug.specs.Session.{Session}
 use Rattle.pm_session.specs.declared.commands.Command.TheVariants as commands
 use Rattle.pm_session.specs.Commands.{command_of, command_rows, number_behind, numbers}
-use Rattle.pm_session.specs.Orders.{Order, order_of, typed}
+use Rattle.pm_session.specs.Orders.{order_of, typed}
 use Rattle.pm_session.specs.Orders.Order.{Does, Types}
-use Rattle.pm_session.specs.Answers.{after_command, after_keys, answer_text, command_text, session_after}
-use Rattle.pm_session.specs.Sessions.{answer_line, answers, is_quit, opened, told}
-use Rattle.pm_session.specs.Words.{lines_of_input}
+use Rattle.pm_session.specs.Answers.{after_command, after_keys, command_text, session_after}
+use Rattle.pm_session.specs.Sessions.{answer_line, is_quit, opened, told}
 use Rattle.pm_session.proofs.SessionLaws.{told_byte, told_from, told_line, told_start}
 use Rattle.pm_tool.specs.Said.{debugged, typed_into}
 use Rattle.pm_session.specs.Words.{pieces_between, without_empty, without_return, words_of_line}

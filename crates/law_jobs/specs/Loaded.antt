@@ -6,8 +6,7 @@ use Rattle.pm_volume.specs.declared.entry.Entry.{Entry}
 use Rattle.pm_volume.specs.Files.{file_bytes, file_named}
 use Rattle.pm_codefile.specs.Dictionary.{file_fault}
 use Rattle.pm_units.specs.Devices.{image_on, unit_of}
-use Rattle.pm_code.specs.Program.{segment_numbered}
-use Rattle.pm_code.specs.Program.{Segment}
+use Rattle.pm_code.specs.Program.{segment_numbered, Segment}
 use Rattle.pm_code.specs.Image.{listed_bytes, listed_segment, listing}
 use Rattle.pm_source.specs.Meaning.{Spells}
 use Rattle.pm_asm.specs.Assembled.{assembled}

@@ -1,5 +1,5 @@
 -- Which lines of a trace are shown, by the words of the memory and the numbers of the opcodes.
-use Rattle.std.specs.Prelude.{◌≡◌, ◌≤◌, ℕ, zero, suc, ◌%◌, ◌==◌, Bool, true, List, [], ◌∷◌, ◌++◌, map, ⊤}
+use Rattle.std.specs.Prelude.{◌≡◌, ◌≤◌, ℕ, zero, suc, ◌%◌, ◌==◌, true, List, [], ◌∷◌, ◌++◌, map, ⊤}
 use Rattle.std.specs.List.{list_any}
 use Rattle.pm_opcode.specs.Table.{mnemonic_of}
 use Rattle.pm_words.specs.Words.{word_at}

@@ -10,14 +10,13 @@ use Rattle.pm_source.specs.declared.fault.AsmFault.{AsmFault}
 use Rattle.pm_source.specs.declared.fault.AsmFault.TheVariants.{NoLabel, Far}
 use Rattle.pm_source.specs.Faults as faults
 use Rattle.pm_source.specs.Faults.{Places, all_label_faults, code_faults, entries_faults, faults_of_lines, is_far, is_unknown_label, is_unknown_target}
-use Rattle.pm_source.specs.Faults.{item_faults, items_faults, label_faults, label_faults_from, lines_from, lines_of, only_if, source_end, source_of}
+use Rattle.pm_source.specs.Faults.{item_faults, items_faults, label_faults, label_faults_from, lines_from, only_if, source_end, source_of}
 use Rattle.pm_source.specs.Words.{Cut, cut, is_empty, is_name, words}
 use Rattle.pm_source.specs.Source.{Name, Row, Source, SourceSegment, Statement, entry_statement, head_statements, statements, statements_from}
 use Rattle.pm_source.specs.Source.Row.{Items, Exit}
 use Rattle.pm_source.specs.Source.Statement.{Code, Entry, End}
-use Rattle.pm_source.specs.Line.{Keyword, Line, Operand, Said, checked, code_said, ends_procedure, entry_operands, items_said, keyword_of}
-use Rattle.pm_source.specs.Line.{is_character, label_of, uncommented, label_operand, labelled, labelled_by, line_by}
-use Rattle.pm_source.specs.Line.{line_of, line_of_words, no_operands, numeral_operand}
+use Rattle.pm_source.specs.Line.{Keyword, Line, Operand, Said, checked, code_said, ends_procedure, entry_operands, items_said, keyword_of, is_character}
+use Rattle.pm_source.specs.Line.{label_of, uncommented, label_operand, labelled, labelled_by, line_by, line_of, line_of_words, no_operands, numeral_operand}
 use Rattle.pm_source.specs.Line.{procedure_operands, said, saying, segment_operands, size_operand, slot_operand, spoken}
 use Rattle.pm_source.specs.Line.Keyword.{OfSegment, OfProcedure, OfExit, OfJump, OfEnd, OfBytes, Mnemonic}
 use Rattle.pm_source.specs.Line.Line.{Blank, Wrong, Strange, Says}

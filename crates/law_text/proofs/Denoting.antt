@@ -11,18 +11,14 @@ use Rattle.std.proofs.lemmas.List.Folds.{list_all-append}
 use Rattle.std.proofs.lemmas.Bool.{eqb-true}
 use Rattle.std.proofs.lemmas.Bool.Decides.{nat_tests}
 use Rattle.pm_code.specs.Item.{Item, size}
-use Rattle.pm_code.specs.Program.{segment_numbered}
-use Rattle.pm_code.specs.Program.{Procedure, Segment, AreItems, AscendFrom, FitSlots, IsSegment, code_end}
-use Rattle.pm_code.specs.Program.{segment_bytes}
+use Rattle.pm_code.specs.Program.{segment_numbered, Procedure, Segment, AreItems, AscendFrom, FitSlots, IsSegment, code_end, segment_bytes}
 use Rattle.pm_code.specs.Shown.{entry_line, joined, named_places, padded, shown_item}
 use Rattle.pm_code.proofs.ItemBytes.{AreBytes}
 use Rattle.pm_code.proofs.Laid.{are_segment_bytes}
 use Rattle.pm_source.specs.Denoted.{Denoted, ArePlacedFrom, ListingDenotesSegments, ListingIsRead, bytes_of_lines, denoted}
 use Rattle.pm_source.specs.Denoted.{denoted_line, denoted_program, line_by_words, line_value, of_segment, pairs_value}
-use Rattle.pm_code.specs.Image.{Listed, StandFrom, bytes_of_segment, listed_attributes, listed_bytes}
-use Rattle.pm_code.specs.Image.{listed_dictionary, listed_entries, listed_items}
-use Rattle.pm_code.specs.Image.{listed_line, listed_lines, listed_procedure, listed_procedures, listed_segment}
-use Rattle.pm_code.specs.Image.{listing, pairs_text, upper_digit}
+use Rattle.pm_code.specs.Image.{Listed, StandFrom, bytes_of_segment, listed_attributes, listed_bytes, listed_dictionary, listed_entries, listed_items}
+use Rattle.pm_code.specs.Image.{listed_line, listed_lines, listed_procedure, listed_procedures, listed_segment, listing, pairs_text, upper_digit}
 use Rattle.pm_source.specs.Line.{is_character}
 use Rattle.pm_source.specs.Words.{cut, ends_word}
 use Rattle.law_text.proofs.Cutting.{and_turned, first_cut, word_characters}

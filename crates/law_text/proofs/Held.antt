@@ -15,9 +15,8 @@ use Rattle.pm_codefile.specs.ReadBack.{ReadsBack, begin_of}
 use Rattle.pm_codefile.proofs.ReadBack.{layout-reads_back}
 use Rattle.pm_codefile.proofs.Written.{slice_range-right}
 use Rattle.pm_code.specs.Laws.{Holds}
-use Rattle.pm_code.specs.Program.{segment_numbered}
-use Rattle.pm_code.specs.Program.{Procedure, Segment, IsProcedure, IsSegment, FitSlots, is_name_character, jtab_of}
-use Rattle.pm_code.specs.Program.{procedures_end, segment_bytes}
+use Rattle.pm_code.specs.Program.{segment_numbered, Procedure, Segment, IsProcedure, IsSegment, FitSlots, is_name_character, jtab_of, procedures_end}
+use Rattle.pm_code.specs.Program.{segment_bytes}
 use Rattle.pm_code.specs.Laws.{name_of}
 use Rattle.pm_code.proofs.Laid.{length-segment}
 use Rattle.pm_code.specs.Image.{bytes_of_segment, file_of, joined_bytes, name_of_segment, slots_of}

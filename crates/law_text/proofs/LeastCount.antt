@@ -7,8 +7,7 @@ use Rattle.pm_codefile.specs.declared.table.Attributes.{Attributes}
 use Rattle.pm_code.specs.Item.{Item, Target, IsNear, IsItem, size}
 use Rattle.pm_code.specs.Item.Item.{Plain, Jump, Case, OneByte}
 use Rattle.pm_code.specs.Item.Target.{To, Through}
-use Rattle.pm_code.specs.Program.{Procedure, AreItems, AreInstructions, code_end, is_among, item_places}
-use Rattle.pm_code.specs.Program.{entries_for, entries_used, entries_needed}
+use Rattle.pm_code.specs.Program.{Procedure, AreItems, AreInstructions, code_end, is_among, item_places, entries_for, entries_used, entries_needed}
 use Rattle.pm_disasm.specs.Split.{Part, parts, is_allowed, is_allowed_item, leads, written, written_as, ends_of}
 use Rattle.pm_disasm.specs.Split.{code_with, procedure_with, fits, least_from, with_count, procedure_of}
 use Rattle.pm_disasm.specs.Laws.{StandsIn, attributes_of, IsShownAs, ProcedureIsShown}

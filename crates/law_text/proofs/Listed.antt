@@ -2,14 +2,11 @@
 use Rattle.std.proofs.Common.{◌≡◌, ℕ, ◌+◌, ◌*◌, List, [], ◌∷◌, ◌++◌, length, reverse, refl, sym, ap, ◌∙◌, subst, arith, append_assoc}
 use Rattle.std.proofs.lemmas.List.{length-reverse}
 use Rattle.pm_code.specs.Item.{Item, item_bytes, size}
-use Rattle.pm_code.specs.Program.{Procedure, FollowFrom, code_bytes, code_of, code_end, end_of, jtab_of, back_to}
-use Rattle.pm_code.specs.Program.{entry_bytes}
-use Rattle.pm_code.specs.Program.{attribute_bytes, procedure_bytes, procedures_bytes, procedures_end}
-use Rattle.pm_code.specs.Program.{dictionary_bytes}
+use Rattle.pm_code.specs.Program.{Procedure, FollowFrom, code_bytes, code_of, code_end, end_of, jtab_of, back_to, entry_bytes, attribute_bytes, procedure_bytes}
+use Rattle.pm_code.specs.Program.{procedures_bytes, procedures_end, dictionary_bytes}
 use Rattle.pm_code.proofs.Sizes.{length-item}
-use Rattle.pm_code.specs.Image.{Listed, listed_items, listed_entries, listed_attributes, listed_dictionary}
-use Rattle.pm_code.specs.Image.{listed_procedure}
-use Rattle.pm_code.specs.Image.{listed_procedures, listed_bytes, StandFrom, ListingIsSegment, ListingIsPlaced}
+use Rattle.pm_code.specs.Image.{Listed, listed_items, listed_entries, listed_attributes, listed_dictionary, listed_procedure, listed_procedures, listed_bytes}
+use Rattle.pm_code.specs.Image.{StandFrom, ListingIsSegment, ListingIsPlaced}
 
 append_nil : {A : Type 0} (xs : List A) → xs ++ [] ≡ xs
 append_nil [] = refl

@@ -3,8 +3,7 @@ use Rattle.std.proofs.Common.{◌≡◌, [], refl, sym, ap, subst, ◌∙◌, Op
 use Rattle.std.specs.Prelude.{option_map}
 use Rattle.std.specs.Option.{unwrap_or}
 use Rattle.pm_codefile.specs.Dictionary.{segment_in}
-use Rattle.pm_code.specs.Program.{segment_numbered}
-use Rattle.pm_code.specs.Program.{Segment, segment_bytes}
+use Rattle.pm_code.specs.Program.{segment_numbered, Segment, segment_bytes}
 use Rattle.pm_asm.proofs.Fitting.{short_fits}
 use Rattle.pm_source.specs.Denoted.{ArePlacedFrom, denoted, denoted_bytes, of_segment}
 use Rattle.pm_code.specs.Image.{bytes_of_segment}

@@ -1,7 +1,6 @@
 -- Statements do what their text says.
-use Rattle.std.proofs.Common.{◌≡◌, ◌≢◌, ◌<◌, ◌≤◌, inl, inr, ℕ, zero, suc, ◌+◌, ◌-◌, ◌*◌, ◌/◌, ◌%◌, ◌&&◌, ◌==◌, Bool, true, false, not}
-use Rattle.std.proofs.Common.{cond, drop, set, append-nil, nat_lt, List, [], ◌∷◌, ◌++◌, length}
-use Rattle.std.proofs.Common.{get_or, Result, Ok, Err, refl, sym, ap, ◌∙◌, subst, arith, length-append}
+use Rattle.std.proofs.Common.{◌≡◌, ◌≢◌, ◌<◌, ◌≤◌, inl, inr, ℕ, zero, suc, ◌+◌, ◌-◌, ◌*◌, ◌/◌, ◌%◌, ◌&&◌, ◌==◌, Bool, true, false, not, cond, drop, set}
+use Rattle.std.proofs.Common.{append-nil, nat_lt, List, [], ◌∷◌, ◌++◌, length, get_or, Result, Ok, Err, refl, sym, ap, ◌∙◌, subst, arith, length-append}
 use Rattle.std.specs.Prelude.{int_le, Option, Some, None}
 use Rattle.std.proofs.lemmas.Bool.{cases_Bool}
 use Rattle.std.proofs.lemmas.Bool.Decides.{nat_tests}
@@ -69,9 +68,8 @@ use Rattle.law_text.specs.Meaning.{DoesAsSaid, Done, Halts, StandFrom, StandTher
 use Rattle.law_text.specs.Meaning.{ipc_behind, item_operation, jump_item_said, jump_said, leads_said, memory_behind, operation_at}
 use Rattle.law_text.specs.Meaning.{store_said, store_through_said, values_said, written_said}
 use Rattle.law_text.specs.Meaning.Done.{Writes, Jumps, GoesOn}
-use Rattle.law_text.specs.Meaning.{Said, arithmetic_said, as_said, check_said, frame_there, frame_up, is_free, on_none, on_one, on_three, on_two}
-use Rattle.law_text.specs.Meaning.{pointer_said, then_said, value_said, variable_said, variable_there, word_there}
-use Rattle.law_text.specs.Meaning.{IsLike}
+use Rattle.law_text.specs.Meaning.{Said, arithmetic_said, as_said, check_said, frame_there, frame_up, is_free, on_none, on_one, on_three, on_two, pointer_said}
+use Rattle.law_text.specs.Meaning.{then_said, value_said, variable_said, variable_there, word_there, IsLike}
 use Rattle.law_text.specs.Meaning.Said.{Gives, Fails, Unsaid}
 
 -- ---- what is said and what a row gives

@@ -20,8 +20,7 @@ use Rattle.pm_code.specs.Shown.{level_text, segment_line, words_text}
 use Rattle.law_text.proofs.Held.{file_holds_program}
 use Rattle.pm_code.proofs.Slotted.{name_short}
 use Rattle.law_text.specs.NotesLaws.{NativeCodeIsTold, OtherNumbersAreTold, OwnSegmentsAreUntold}
-use Rattle.pm_notes.specs.Marks.{is_native, is_unquoted, kind_name, kind_names, kind_told, note_on}
-use Rattle.pm_notes.specs.Marks.{other_number, slot_note, slot_said}
+use Rattle.pm_notes.specs.Marks.{is_native, is_unquoted, kind_name, kind_names, kind_told, note_on, other_number, slot_note, slot_said}
 use Rattle.pm_notes.specs.Names.{name_called, standard_called, system_called}
 use Rattle.law_text.proofs.Unquoted.{decimal_unquoted, level_unquoted, name_unquoted, unquoted_append}
 

@@ -6,8 +6,7 @@ use Rattle.std.proofs.lemmas.Bool.{and_from, eq-eqb, eqb-true, true≢false}
 use Rattle.pm_code.specs.Item.{Item, Target, item_bytes, size}
 use Rattle.pm_code.specs.Item.Item.{Plain, Jump, Case, OneByte}
 use Rattle.pm_code.specs.Item.Target.{To, Through}
-use Rattle.pm_code.specs.Program.{code_bytes, end_of, boundaries, is_among, IsIn, AreItems, AreInstructions}
-use Rattle.pm_code.specs.Program.{NamesWithin, item_places, entries_needed}
+use Rattle.pm_code.specs.Program.{code_bytes, end_of, boundaries, is_among, IsIn, AreItems, AreInstructions, NamesWithin, item_places, entries_needed}
 use Rattle.pm_disasm.specs.Split.{Front, Part, part_of, bytes_after_first, taken, parts, is_allowed}
 use Rattle.pm_disasm.specs.Split.{is_allowed_item, leads, written_as, written, ends_of, items_in}
 use Rattle.pm_code.proofs.Sizes.{length-code}

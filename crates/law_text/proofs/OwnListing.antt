@@ -10,8 +10,7 @@ use Rattle.pm_codefile.specs.Segments.{attributes_in, procedures_in}
 use Rattle.pm_code.specs.Image.{Listed, StandFrom, listed_attributes, listed_bytes, listed_dictionary, listed_entries, listed_items}
 use Rattle.pm_code.specs.Image.{listed_line, listed_lines, listed_procedure, listed_procedures, listed_segment}
 use Rattle.pm_code.specs.Item.{Item, size}
-use Rattle.pm_code.specs.Program.{IsProcedure, Procedure, code_end, dictionary_bytes}
-use Rattle.pm_code.specs.Program.{entry_bytes, jtab_of, procedures_end, segment_bytes}
+use Rattle.pm_code.specs.Program.{IsProcedure, Procedure, code_end, dictionary_bytes, entry_bytes, jtab_of, procedures_end, segment_bytes}
 use Rattle.pm_code.specs.Shown.{entry_line, joined, shown_item}
 use Rattle.pm_code.proofs.Laid.{dictionary_reversed, length-jtabs}
 use Rattle.law_text.proofs.Listed.{listing_is_placed, listing_is_segment}

@@ -7,8 +7,7 @@ use Rattle.std.proofs.lemmas.List.{reverse-append, reverse-reverse}
 use Rattle.std.proofs.lemmas.Bool.{and_parts, cases_lt, eq-eqb, leb-true}
 use Rattle.std.proofs.lemmas.Bool.Decides.{nat_tests}
 use Rattle.pm_codefile.specs.Dictionary.{segment_in, slot_in}
-use Rattle.pm_code.specs.Program.{Segment, IsSegment, FitSlots, AscendFrom, is_name_character, is_segment_name}
-use Rattle.pm_code.specs.Program.{segment_bytes}
+use Rattle.pm_code.specs.Program.{Segment, IsSegment, FitSlots, AscendFrom, is_name_character, is_segment_name, segment_bytes}
 use Rattle.pm_disasm.specs.Shown.{cut, file_text, or_mark}
 use Rattle.pm_code.specs.Shown.{joined, procedures_lines, program_text, segment_line}
 use Rattle.pm_code.specs.Laws.{name_of}

@@ -4,8 +4,7 @@ use Rattle.std.specs.List.{AllByRecursion}
 use Rattle.std.proofs.lemmas.List.{length-append, length-reverse}
 use Rattle.std.proofs.lemmas.Grind.{common_steps}
 use Rattle.pm_opcode.specs.Spelling.{pad_byte, flip, is_odd, spelled_word}
-use Rattle.pm_code.specs.Item.{Item, size, item_bytes, table_place, table_words, case_opcode, jump_opcode}
-use Rattle.pm_code.specs.Item.{jump_byte}
+use Rattle.pm_code.specs.Item.{Item, size, item_bytes, table_place, table_words, case_opcode, jump_opcode, jump_byte}
 use Rattle.pm_code.specs.Item.Item.{Plain, Jump, Case, OneByte}
 use Rattle.pm_code.specs.Program.{Procedure, FollowFrom, attribute_bytes, code_bytes, code_end, code_of}
 use Rattle.pm_code.specs.Program.{end_of, entry_bytes, jtab_of, procedure_bytes, procedures_bytes}

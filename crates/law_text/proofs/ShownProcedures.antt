@@ -12,10 +12,9 @@ use Rattle.pm_code.specs.Item.Item.{Plain, Jump, Case, OneByte}
 use Rattle.pm_code.specs.Item.Target.{To, Through}
 use Rattle.pm_code.specs.Program.{Procedure, IsProcedure, is_among, IsIn, boundaries, end_of, code_end, AreItems}
 use Rattle.pm_code.specs.Program.{NamesWithin, item_places, places_of, entries_needed, entries_used}
-use Rattle.pm_code.specs.Shown.{label_text, level_text, words_text, named_places, code_lines, entry_line}
-use Rattle.pm_code.specs.Shown.{procedure_lines}
+use Rattle.pm_code.specs.Shown.{label_text, level_text, words_text, named_places, code_lines, entry_line, procedure_lines}
 use Rattle.pm_source.specs.Source as source
-use Rattle.pm_source.specs.Source.{Name, Row, Source, Statement, IsSource, entry_statement, head_statements, items_of}
+use Rattle.pm_source.specs.Source.{Name, Row, Source, Statement, IsSource, entry_statement, head_statements}
 use Rattle.pm_source.specs.Source.Statement.{Begin, Code, Entry, End}
 use Rattle.pm_source.specs.Faults.{Places, place_of}
 use Rattle.pm_source.specs.Meaning.{Means, IsNearFrom, AreNear, MeansProcedure}

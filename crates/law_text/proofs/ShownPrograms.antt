@@ -10,10 +10,9 @@ use Rattle.std.proofs.lemmas.List.{length-append}
 use Rattle.std.proofs.lemmas.Bool.{eqb-true}
 use Rattle.std.proofs.lemmas.Bool.Decides.{nat_tests}
 use Rattle.pm_code.specs.Program as program
-use Rattle.pm_code.specs.Program.{Procedure, IsProcedure, IsSegment, IsProgram, FitSlots, AscendFrom, FollowFrom}
+use Rattle.pm_code.specs.Program.{Procedure, IsProcedure, IsSegment, FitSlots, AscendFrom}
 use Rattle.pm_code.specs.Program.{code_end, dictionary_bytes, procedures_bytes, procedures_end, segment_bytes}
-use Rattle.pm_code.specs.Shown.{joined, procedure_lines, procedures_lines, segment_line, segments_lines}
-use Rattle.pm_code.specs.Shown.{program_text}
+use Rattle.pm_code.specs.Shown.{joined, procedure_lines, procedures_lines, segment_line, segments_lines, program_text}
 use Rattle.pm_source.specs.Words.{cut}
 use Rattle.pm_source.specs.Source.{Source, SourceSegment, Statement, IsSource, head_statements, statements_from, statements}
 use Rattle.pm_source.specs.Source.Statement.{Segment, End}

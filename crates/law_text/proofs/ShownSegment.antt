@@ -7,10 +7,8 @@ use Rattle.std.proofs.lemmas.Bool.{le-ltb}
 use Rattle.pm_codefile.specs.declared.table.Attributes.{Attributes}
 use Rattle.pm_codefile.specs.Dictionary.{word_in}
 use Rattle.pm_codefile.specs.Segments.{attributes_in, procedures_in}
-use Rattle.pm_code.specs.Program.{Procedure, Segment, IsProcedure, IsSegment, AreInstructions, FollowFrom, back_to}
-use Rattle.pm_code.specs.Program.{dictionary_bytes}
-use Rattle.pm_code.specs.Program.{entry_bytes, jtab_of, procedure_bytes, procedures_bytes, procedures_end}
-use Rattle.pm_code.specs.Program.{segment_bytes}
+use Rattle.pm_code.specs.Program.{Procedure, Segment, IsProcedure, IsSegment, AreInstructions, FollowFrom, back_to, dictionary_bytes, entry_bytes, jtab_of}
+use Rattle.pm_code.specs.Program.{procedure_bytes, procedures_bytes, procedures_end, segment_bytes}
 use Rattle.pm_disasm.specs.Split.{procedure_of}
 use Rattle.pm_disasm.specs.Shown.{missing_line, table_lines_or, tables_lines}
 use Rattle.pm_code.specs.Shown.{procedure_lines, procedures_lines}

@@ -16,8 +16,7 @@ use Rattle.pm_code.specs.Item.{Item, Target, IsItem, IsPlain, IsCase, case_opcod
 use Rattle.pm_code.specs.Item.Item.{Plain, Jump, Case, OneByte}
 use Rattle.pm_code.specs.Program.{is_name_character, is_segment_name}
 use Rattle.pm_code.specs.Text.{operands_text, operand_texts, signed_text}
-use Rattle.pm_code.specs.Shown.{words_text, label_text, target_text, level_text, shown_item, item_operands}
-use Rattle.pm_code.specs.Shown.{entry_line}
+use Rattle.pm_code.specs.Shown.{words_text, label_text, target_text, level_text, shown_item, item_operands, entry_line}
 use Rattle.pm_source.specs.Words.{cut, words}
 use Rattle.pm_source.specs.Source.{Name, Statement}
 use Rattle.pm_source.specs.Source.Row.{Items, Exit}

@@ -1,16 +1,13 @@
 -- Where the procedures of a segment and its dictionary are found.
-use Rattle.std.proofs.Common.{◌≡◌, ℕ, ◌+◌, List, [], ◌∷◌, ◌++◌, length, map, drop, reverse}
-use Rattle.std.proofs.Common.{sym, ap, ◌∙◌, arith, append_assoc, drop-drop}
+use Rattle.std.proofs.Common.{◌≡◌, ℕ, ◌+◌, List, [], ◌∷◌, ◌++◌, length, map, drop, reverse, sym, ap, ◌∙◌, arith, append_assoc, drop-drop}
 use Rattle.std.specs.List.{AllByRecursion}
 use Rattle.std.proofs.Math.Seq.{drop-append_seam}
-use Rattle.pm_code.specs.Program.{Procedure, Segment, IsProcedure, IsSegment, FollowFrom}
-use Rattle.pm_code.specs.Program.{dictionary_bytes, jtab_of, procedure_bytes, procedures_bytes}
+use Rattle.pm_code.specs.Program.{Procedure, Segment, IsProcedure, IsSegment, FollowFrom, dictionary_bytes, jtab_of, procedure_bytes, procedures_bytes}
 use Rattle.pm_code.specs.Program.{procedures_end, segment_bytes}
 use Rattle.pm_disasm.specs.Laws.{StandsIn}
 use Rattle.pm_disasm.proofs.Stored.{Table}
 use Rattle.pm_code.proofs.ItemBytes.{AreBytes}
-use Rattle.pm_code.proofs.Laid.{dictionary_reversed, length-jtabs, length-procedure, length-procedures}
-use Rattle.pm_code.proofs.Laid.{length-segment}
+use Rattle.pm_code.proofs.Laid.{dictionary_reversed, length-jtabs, length-procedure, length-procedures, length-segment}
 
 -- each procedure stands there
 abbrev pub AllStand : List ℕ → ℕ → List Procedure → Type 0

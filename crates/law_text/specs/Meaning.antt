@@ -1,7 +1,6 @@
 -- What a statement does, in the terms of its text, and the law that the machine does so.
-use Rattle.std.specs.Prelude.{◌≡◌, ℕ, zero, suc, ◌+◌, ◌-◌, ◌*◌, ◌%◌, ◌<◌, ◌≤◌, ◌==◌, ◌&&◌, Bool, false, not}
-use Rattle.std.specs.Prelude.{nat_le, nat_lt, true}
-use Rattle.std.specs.Prelude.{List, [], ◌∷◌, length, Result, Ok, Err, if◌then◌else◌, int_le}
+use Rattle.std.specs.Prelude.{◌≡◌, ℕ, zero, suc, ◌+◌, ◌-◌, ◌*◌, ◌%◌, ◌<◌, ◌≤◌, ◌==◌, ◌&&◌, Bool, false, not, nat_le}
+use Rattle.std.specs.Prelude.{nat_lt, true, List, [], ◌∷◌, length, Result, Ok, Err, if◌then◌else◌, int_le}
 use Rattle.pm_words.specs.declared.error.ExecError.{ExecError}
 use Rattle.pm_words.specs.declared.error.ExecError.TheVariants.{InvalidIndex, InvalidMemory, NoSegment}
 use Rattle.pm_words.specs.Words.{byte_at, word_at, with_word}

@@ -1,5 +1,5 @@
 -- What statements say that they do, as it was worked out by hand.
-use Rattle.std.specs.Prelude.{◌≡◌, ℕ, false, [], ◌∷◌}
+use Rattle.std.specs.Prelude.{◌≡◌, ℕ, [], ◌∷◌}
 use Rattle.pm_words.specs.declared.error.ExecError.TheVariants.{DivideByZero, InvalidMemory}
 use Rattle.pm_machine.specs.declared.state.Status.TheVariants as status
 use Rattle.pm_machine.specs.State.{State}

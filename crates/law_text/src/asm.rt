@@ -1,6 +1,5 @@
 //! Laws of what assembling gives. The functions do nothing.
-ghost use Rattle.pm_asm.specs.Assembled.{AssembledIsListed};
-ghost use Rattle.pm_asm.specs.Assembled.{AssembledIsSpelled, RefusedSpellsNothing};
+ghost use Rattle.pm_asm.specs.Assembled.{AssembledIsListed, AssembledIsSpelled, RefusedSpellsNothing};
 ghost use Rattle.pm_asm.specs.Each.{FirstOfAll};
 ghost use Rattle.pm_asm.specs.Symbols.{JumpsLeadToSymbols};
 ghost use Rattle.law_text.specs.SymbolLaws.{SymbolsAreDefined, SymbolsAreOfTheProgram};

@@ -3,9 +3,8 @@ ghost use Rattle.pm_source.specs.Denoted.{ListingDenotesSegments, ListingIsRead}
 ghost use Rattle.law_text.specs.Same.{BaseSaysNothing, BlankSaysNothing, BlanksSayNothing};
 ghost use Rattle.law_text.specs.Same.{CommentSaysNothing, EndBlankSaysNothing, FaultsAscend, LineFaultsAscend};
 ghost use Rattle.law_text.specs.Same.{NumberWithoutZero, NumbersSayValues, ZeroSaysNothing};
-ghost use Rattle.pm_source.specs.Laws.{FaultlessIsSaid, FaultlessIsSpelled};
-ghost use Rattle.pm_source.specs.Laws.{FoundIsFaultless, LabelsFound, SaidIsFaultless, SpelledIsFaultless};
-ghost use Rattle.pm_source.specs.Laws.{SpelledIsProgram};
+ghost use Rattle.pm_source.specs.Laws.{FaultlessIsSaid, FaultlessIsSpelled, FoundIsFaultless, LabelsFound};
+ghost use Rattle.pm_source.specs.Laws.{SaidIsFaultless, SpelledIsFaultless, SpelledIsProgram};
 
 /// The characters of a program's listing, read back, denote its lines: of each its segment, procedure, offset and
 /// bytes. The bytes that they denote for a segment are the segment, and each line names the offset at which its bytes

@@ -1,5 +1,5 @@
 -- The examples that hints show are taken.
-use Rattle.std.proofs.Common.{◌≡◌, ◌≢◌, ℕ, List, [], refl, subst, sym, None}
+use Rattle.std.proofs.Common.{◌≡◌, ◌≢◌, ℕ, [], refl, subst, sym, None}
 use Rattle.pm_asm.specs.HintTexts.{AreTaken, ExamplesAreTaken, example}
 use Rattle.pm_opcode.specs.declared.operand_form.Form.{Form}
 use Rattle.pm_opcode.specs.declared.operand_form.Form.TheVariants as forms

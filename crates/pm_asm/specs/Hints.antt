@@ -1,5 +1,5 @@
 -- What helps where a line of a text has a fault.
-use Rattle.std.specs.Prelude.{ℕ, ◌%◌, ◌==◌, Bool, true, false, List, Option, Some, None, option_map, if◌then◌else◌}
+use Rattle.std.specs.Prelude.{ℕ, ◌%◌, ◌==◌, List, Option, Some, None, option_map, if◌then◌else◌}
 use Rattle.std.specs.List.{list_all}
 use Rattle.std.specs.Option.{unwrap_or}
 use Rattle.pm_asm.specs.declared.hint.Hint as code
@@ -12,7 +12,7 @@ use Rattle.pm_source.specs.declared.fault.AsmFault.{AsmFault}
 use Rattle.pm_source.specs.declared.fault.AsmFault.TheVariants.{Syntax, Unknown, Range, NoLabel}
 use Rattle.pm_source.specs.declared.fault.AsmFault.TheVariants.{Twice, Far, TooLong, NoMemory}
 use Rattle.pm_source.specs.Line.{Keyword, Line, is_character, line_of}
-use Rattle.pm_source.specs.Line.Keyword.{OfSegment, OfProcedure, OfExit, OfJump, OfEnd, OfBytes, Mnemonic}
+use Rattle.pm_source.specs.Line.Keyword.{OfEnd, OfBytes, Mnemonic}
 use Rattle.pm_source.specs.Line.Line.{Blank, Wrong, Strange, Says}
 use Rattle.pm_source.specs.Source.{Name}
 use Rattle.pm_source.specs.Words.{is_name}

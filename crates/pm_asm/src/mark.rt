@@ -1,7 +1,6 @@
 //! Where a line of a text that has a fault is marked.
 
-ghost use Rattle.std.specs.Prelude.{◌≡◌, ◌<◌, ◌≤◌, IfOk, IfSome, drop, length, map, option_map, position};
-ghost use Rattle.std.specs.Prelude.{string_bytes};
+ghost use Rattle.std.specs.Prelude.{◌≡◌, ◌<◌, ◌≤◌, IfOk, IfSome, drop, length, map, option_map, position, string_bytes};
 ghost use Rattle.pm_asm.specs.Hints.{hint_seen};
 ghost use Rattle.pm_asm.specs.Marks.{below, has_more, mark_line, mark_of, operands_place, place_from, stops};
 ghost use Rattle.pm_asm.specs.Marks.{word_place};

@@ -4,8 +4,7 @@ ghost use Rattle.pm_filer.specs.Filed.{answer_of, order_of};
 ghost use Rattle.pm_volume.specs.Copies.{repaired};
 ghost use Rattle.pm_volume.specs.Headers.{blank_fault};
 ghost use Rattle.pm_batch.specs.Files.{answered, made_check, made_file, made_new, made_salvage, made_volume};
-ghost use Rattle.pm_batch.specs.Files.{opened_image};
-ghost use Rattle.pm_batch.specs.Files.{takes_input, with_input};
+ghost use Rattle.pm_batch.specs.Files.{opened_image, takes_input, with_input};
 ghost use Rattle.pm_batch.specs.Products.{product_of};
 ghost use Rattle.pm_check.specs.Saving.{salvaged};
 

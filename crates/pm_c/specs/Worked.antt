@@ -19,9 +19,8 @@ use Rattle.pm_tool.specs.declared.outcome.Exit.TheVariants as exits
 use Rattle.pm_c.specs.Sessions.{go_code, set_code}
 use Rattle.pm_c.specs.Codes.{mount_code, poke_code, start_code, status_code, stop_code, volume_code}
 use Rattle.pm_c.specs.declared.status.TheConstants.{DONE, TOO_LONG, NO_MEMORY, TOO_SHORT, NO_MACHINE, HAS_MACHINE}
-use Rattle.pm_c.specs.declared.status.TheConstants.{ODD_ADDRESS, NO_DISK, NO_TEXT, NO_PLACE}
-use Rattle.pm_c.specs.declared.status.TheConstants.{NO_KIND, AT_BREAK, CHANGED, WAITING, ENDED, REFUSED}
-use Rattle.pm_c.specs.declared.status.TheConstants.{FAILED, STOPPED, VERSION}
+use Rattle.pm_c.specs.declared.status.TheConstants.{ODD_ADDRESS, NO_DISK, NO_TEXT, NO_PLACE, NO_KIND, AT_BREAK, CHANGED}
+use Rattle.pm_c.specs.declared.status.TheConstants.{WAITING, ENDED, REFUSED, FAILED, STOPPED, VERSION}
 
 -- what calls answer
 pub record WorkedAnswers : Type 0 where

@@ -1,9 +1,7 @@
 -- Items, procedures and segments that end too late to be counted.
-use Rattle.std.proofs.Common.{◌≡◌, ◌+◌, ◌*◌, ◌<◌, ◌≤◌, ℕ, List, [], ◌∷◌, map, length, arith, ap}
-use Rattle.std.specs.List.{AllByRecursion}
+use Rattle.std.proofs.Common.{◌≡◌, ◌+◌, ◌*◌, ◌<◌, ◌≤◌, ℕ, List, [], ◌∷◌, map, arith}
 use Rattle.pm_code.specs.Item.{Item, size}
 use Rattle.pm_code.specs.Program.{FollowFrom, Procedure, end_of, jtab_of, procedures_end}
-use Rattle.pm_code.proofs.Sizes.{length-code}
 
 pub end_after : {P : Type 0} (at : ℕ) (items : List (Item P)) → at ≤ end_of at items
 end_after at [] = omega arith

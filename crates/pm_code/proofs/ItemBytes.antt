@@ -9,8 +9,7 @@ use Rattle.pm_opcode.specs.declared.operand_form.Form.{Form}
 use Rattle.pm_opcode.specs.declared.operand_form.Form.TheVariants as forms
 use Rattle.pm_opcode.specs.declared.instr.Instr.{Instr}
 use Rattle.pm_opcode.specs.Spelling.{spelled_operands, spelled_word, spelled_number, pad_byte, flip, is_odd, is_sized, is_unsized, in_range}
-use Rattle.pm_code.specs.Item.{Item, Target, IsItem, IsNear, IsByte, item_bytes, size, names_place, jump_opcode, jump_byte}
-use Rattle.pm_code.specs.Item.{table_place, table_words}
+use Rattle.pm_code.specs.Item.{Item, Target, IsItem, IsNear, IsByte, item_bytes, size, names_place, jump_opcode, jump_byte, table_place, table_words}
 use Rattle.pm_code.specs.Item.Item.{Plain, Jump, Case, OneByte}
 use Rattle.pm_code.specs.Item.Target.{To, Through}
 use Rattle.pm_code.specs.Program.{AreItems, back_to, code_bytes, entry_bytes}

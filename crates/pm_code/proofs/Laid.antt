@@ -1,14 +1,10 @@
 -- Where the procedures of a segment and its dictionary stand.
-use Rattle.std.proofs.Common.{◌≡◌, ◌<◌, ◌≤◌, ℕ, ◌+◌, ◌-◌, ◌*◌, List, [], ◌∷◌, ◌++◌, length, map, drop, reverse}
-use Rattle.std.proofs.Common.{refl, sym, ap, ◌∙◌, subst, arith, append_assoc, length-append, drop-drop}
+use Rattle.std.proofs.Common.{◌≡◌, ◌<◌, ◌≤◌, ℕ, ◌+◌, ◌-◌, ◌*◌, List, [], ◌∷◌, ◌++◌, length, map, reverse, refl, sym, ap, ◌∙◌, subst, arith, length-append}
 use Rattle.std.specs.List.{AllByRecursion}
-use Rattle.std.proofs.Math.Seq.{drop-append_seam}
 use Rattle.std.proofs.lemmas.List.{length-reverse, map-append, reverse-append}
 use Rattle.pm_opcode.specs.Spelling.{spelled_word}
-use Rattle.pm_code.specs.Program.{Procedure, Segment, IsProcedure, IsSegment, FollowFrom, attribute_bytes, back_to}
-use Rattle.pm_code.specs.Program.{code_end, code_of}
-use Rattle.pm_code.specs.Program.{dictionary_bytes, entry_bytes, jtab_of, procedure_bytes, procedures_bytes}
-use Rattle.pm_code.specs.Program.{procedures_end, segment_bytes}
+use Rattle.pm_code.specs.Program.{Procedure, Segment, IsProcedure, IsSegment, FollowFrom, attribute_bytes, back_to, code_end, code_of, dictionary_bytes}
+use Rattle.pm_code.specs.Program.{entry_bytes, jtab_of, procedure_bytes, procedures_bytes, procedures_end, segment_bytes}
 use Rattle.pm_code.proofs.Sizes.{length-code}
 use Rattle.pm_code.proofs.Stored.{length-entry_bytes}
 use Rattle.pm_code.proofs.ItemBytes.{AreBytes, join_bytes, word_bytes, are_code_bytes, are_entry_bytes}

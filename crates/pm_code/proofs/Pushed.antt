@@ -1,13 +1,11 @@
 -- Bytes that are added one after another: those so far, with what the rest gives, are the whole.
-use Rattle.std.proofs.Common.{◌≡◌, ◌≤◌, ℕ, ◌+◌, ◌-◌, ◌*◌, List, [], ◌∷◌, ◌++◌, length, map, reverse}
-use Rattle.std.proofs.Common.{refl, sym, ap, subst, ◌∙◌, arith, append_assoc, length-append}
+use Rattle.std.proofs.Common.{◌≡◌, ◌≤◌, ℕ, ◌+◌, ◌-◌, ◌*◌, List, [], ◌∷◌, ◌++◌, length, map, reverse, sym, ap, subst, ◌∙◌, arith, append_assoc, length-append}
 use Rattle.std.specs.List.{AllByRecursion}
 use Rattle.std.proofs.lemmas.List.{length-reverse}
 use Rattle.pm_opcode.specs.Spelling.{spelled_word}
 use Rattle.pm_code.specs.Item.{Item, item_bytes, size}
-use Rattle.pm_code.specs.Program.{AreItems, FollowFrom, IsProcedure, IsSegment, Procedure, Segment, attribute_bytes, back_to}
-use Rattle.pm_code.specs.Program.{code_bytes, code_end, code_of, entry_bytes, jtab_of, procedure_bytes, procedures_bytes}
-use Rattle.pm_code.specs.Program.{dictionary_bytes, procedures_end, segment_bytes}
+use Rattle.pm_code.specs.Program.{AreItems, FollowFrom, IsProcedure, IsSegment, Procedure, Segment, attribute_bytes, back_to, code_bytes, code_end, code_of}
+use Rattle.pm_code.specs.Program.{entry_bytes, jtab_of, procedure_bytes, procedures_bytes, dictionary_bytes, procedures_end, segment_bytes}
 use Rattle.pm_code.proofs.Laid.{dictionary_reversed, ends_later, length-jtabs, length-procedure, length-procedures, length-segment}
 use Rattle.pm_code.proofs.Sizes.{length-code, length-item}
 use Rattle.pm_code.proofs.Stored.{length-entry_bytes}

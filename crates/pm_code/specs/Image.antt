@@ -4,8 +4,7 @@ use Rattle.std.specs.Prelude.{reverse, replicate, nat_lt, if◌then◌else◌, c
 use Rattle.pm_codefile.specs.Layout.{layout}
 use Rattle.pm_code.specs.Item.{Item, item_bytes, size}
 use Rattle.pm_code.specs.Program.{Procedure, Segment, FollowFrom, attribute_bytes, code_end, dictionary_bytes}
-use Rattle.pm_code.specs.Program.{entry_bytes, jtab_of, procedures_end, segment_bytes}
-use Rattle.pm_code.specs.Program.{segment_numbered}
+use Rattle.pm_code.specs.Program.{entry_bytes, jtab_of, procedures_end, segment_bytes, segment_numbered}
 use Rattle.pm_code.specs.Shown.{entry_line, padded, shown_item}
 
 abbrev pub bytes_of_segment : Option Segment → List ℕ

@@ -1,8 +1,7 @@
 -- Programs, with each place as an offset in its segment, and their bytes. A label is only a spelling of a place, so a
 -- program has none.
-use Rattle.std.specs.Prelude.{◌≡◌, ℕ, ◌+◌, ◌-◌, ◌*◌, ◌%◌, ◌<◌, ◌≤◌, Bool, true, not, List}
-use Rattle.std.specs.Prelude.{[], ◌∷◌, ◌++◌, length, reverse, max, nat_le, ◌==◌, ◌&&◌, ◌||◌, Option, Some, None}
-use Rattle.std.specs.Prelude.{if◌then◌else◌}
+use Rattle.std.specs.Prelude.{◌≡◌, ℕ, ◌+◌, ◌-◌, ◌*◌, ◌%◌, ◌<◌, ◌≤◌, Bool, true, not, List, [], ◌∷◌, ◌++◌, length}
+use Rattle.std.specs.Prelude.{reverse, max, nat_le, ◌==◌, ◌&&◌, ◌||◌, Option, Some, None, if◌then◌else◌}
 use Rattle.std.specs.List.{AllByRecursion, list_any, list_all}
 use Rattle.pm_opcode.specs.Spelling.{spelled_word}
 use Rattle.pm_code.specs.Item.{Item, Target, item_bytes, size, IsItem, is_instruction}

@@ -1,6 +1,5 @@
 -- Programs as text.
-use Rattle.std.specs.Prelude.{ℕ, zero, suc, ◌+◌, ◌-◌, Bool, List, [], ◌∷◌, ◌++◌, length, map, replicate}
-use Rattle.std.specs.Prelude.{reverse, nat_lt, ◌==◌, if◌then◌else◌, codes, Option, Some, None}
+use Rattle.std.specs.Prelude.{ℕ, ◌+◌, ◌-◌, Bool, List, [], ◌∷◌, ◌++◌, map, nat_lt, ◌==◌, if◌then◌else◌, codes}
 use Rattle.std.specs.Fmt.{decimal}
 unfoldable pub use Rattle.pm_bytes.specs.Decimals.{padded}
 use Rattle.pm_opcode.specs.Table.{mnemonic_of, form_of}
@@ -8,7 +7,7 @@ use Rattle.pm_code.specs.Text.{operands_text, operand_texts, signed_text}
 use Rattle.pm_code.specs.Item.{Item, Target, case_opcode, size}
 use Rattle.pm_code.specs.Item.Item.{Plain, Jump, Case, OneByte}
 use Rattle.pm_code.specs.Item.Target.{To, Through}
-use Rattle.pm_code.specs.Program.{Procedure, Segment, is_among, is_name_character, item_places}
+use Rattle.pm_code.specs.Program.{Procedure, Segment, is_among, item_places}
 
 -- words behind a word, each behind a space
 abbrev pub words_text : List (List ℕ) → List ℕ

@@ -1,17 +1,14 @@
 -- The text of instructions.
 use Rattle.std.specs.Prelude.{ℕ, ◌+◌, ◌-◌, ◌/◌, ◌%◌, ◌==◌, ◌&&◌, ◌||◌, nat_lt, nat_le, if◌then◌else◌, Bool, false}
-use Rattle.std.specs.Prelude.{List, [], ◌∷◌, ◌++◌, map, codes, slice_index, Option, None, Some, Result, Ok, Err}
+use Rattle.std.specs.Prelude.{List, [], ◌∷◌, ◌++◌, map, codes, Option, None, Some}
 use Rattle.std.specs.List.{flat_map}
 use Rattle.std.specs.Fmt.{decimal}
 use Rattle.pm_opcode.specs.declared.operand_form.Form.{Form}
 use Rattle.pm_opcode.specs.declared.operand_form.Form.TheVariants.{Plain, Ub, Sb, Db, B, UbB, UbUb, DbB}
 use Rattle.pm_opcode.specs.declared.operand_form.Form.TheVariants.{W, Chars, Words, Jumps, Typed, Unassigned}
 use Rattle.pm_opcode.specs.declared.instr.Instr.{Instr}
-use Rattle.pm_opcode.specs.declared.instr.Decode.{Decode}
 use Rattle.pm_opcode.specs.Table.{form_of, implied, mnemonic_of}
-use Rattle.pm_opcode.specs.Spelling.{named_by}
-use Rattle.pm_opcode.specs.Reading.{reading}
-use Rattle.pm_words.specs.Words.{bytes_of, words_of}
+use Rattle.pm_words.specs.Words.{words_of}
 
 -- a word as a signed number
 abbrev pub signed_text : ℕ → List ℕ

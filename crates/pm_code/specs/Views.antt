@@ -1,5 +1,5 @@
 -- What the values of the code stand for.
-use Rattle.std.specs.Prelude.{ℕ, List, map, Vec}
+use Rattle.std.specs.Prelude.{ℕ, List, map}
 use Rattle.pm_code.specs.declared.item.Target.{Target}
 use Rattle.pm_code.specs.declared.item.Target.TheVariants as targets
 use Rattle.pm_code.specs.declared.item.Item.{Item}

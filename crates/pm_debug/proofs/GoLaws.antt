@@ -1,6 +1,5 @@
 -- Runs that nothing stops, and runs that breakpoints alone may stop.
-use Rattle.std.proofs.Common.{◌≡◌, ◌∙◌, ap, sym, refl, arith, ℕ, zero, suc, Bool, true, false, not, ◌&&◌}
-use Rattle.std.proofs.Common.{List, [], ◌∷◌, length, inl, inr}
+use Rattle.std.proofs.Common.{◌≡◌, ◌∙◌, ap, sym, refl, arith, ℕ, zero, suc, Bool, true, false, not, ◌&&◌, List, [], ◌∷◌, length, inl, inr}
 use Rattle.std.specs.Prelude.{◌==◌}
 use Rattle.std.proofs.lemmas.Bool.{cases_Bool, eqb-true}
 use Rattle.pm_machine.specs.declared.state.RunEnd.{RunEnd}
@@ -21,8 +20,7 @@ use Rattle.pm_debug.specs.declared.run.Depth.TheVariants as depths
 use Rattle.pm_debug.specs.declared.watches.WatchedWord.{WatchedWord}
 use Rattle.pm_debug.specs.Breaks.{is_at_break}
 use Rattle.pm_debug.specs.RunLaws.{GoStopsAtBreaks, break_reason, to_a_break}
-use Rattle.pm_debug.specs.Runs.{GoIsRun, Gone, answered_so, gone_by, gone_to, has_ended, is_there, later, nowhere, reason_of}
-use Rattle.pm_debug.specs.Runs.{stops_after, stops_at}
+use Rattle.pm_debug.specs.Runs.{GoIsRun, Gone, answered_so, gone_by, gone_to, has_ended, is_there, later, nowhere, reason_of, stops_after, stops_at}
 use Rattle.pm_debug.specs.Watches.{first_changed}
 
 and_false : (b : Bool) → b && false ≡ false

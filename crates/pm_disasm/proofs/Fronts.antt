@@ -20,8 +20,7 @@ use Rattle.pm_opcode.proofs.ReadTakes.{reading_takes}
 use Rattle.pm_opcode.proofs.ReadAgain.{length-named_by}
 use Rattle.pm_words.specs.Words.{words_of}
 use Rattle.pm_words.proofs.Pairs.{length-words_of}
-use Rattle.pm_code.specs.Item.{Item, Target, IsItem, IsNear, IsByte, item_bytes, size, names_place, jump_opcode}
-use Rattle.pm_code.specs.Item.{jump_byte, table_place, table_words}
+use Rattle.pm_code.specs.Item.{Item, Target, IsItem, IsNear, IsByte, item_bytes, size, names_place, jump_opcode, jump_byte, table_place, table_words}
 use Rattle.pm_code.specs.Item.Item.{Plain, Case}
 use Rattle.pm_code.specs.Item.Target.{Through}
 use Rattle.pm_disasm.specs.Split.{Front, front, front_by, item_of, has_zero_padding, standing_at, target_of, jump_item, case_item, table_places, by_operands}

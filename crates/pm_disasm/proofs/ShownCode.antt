@@ -7,8 +7,7 @@ use Rattle.pm_codefile.specs.declared.table.Attributes.{Attributes}
 use Rattle.pm_disasm.specs.declared.counts.Reading.{Reading}
 use Rattle.pm_disasm.specs.declared.places.PlaceSet.{PlaceSet}
 use Rattle.pm_code.specs.Program.{Procedure, is_among}
-use Rattle.pm_code.specs.Shown.{code_lines, entry_line, joined, level_text, named_places, procedure_lines}
-use Rattle.pm_code.specs.Shown.{words_text}
+use Rattle.pm_code.specs.Shown.{code_lines, entry_line, joined, level_text, named_places, procedure_lines, words_text}
 use Rattle.pm_disasm.specs.Split.{entry_places, procedure_with}
 use Rattle.pm_disasm.specs.Follow.{code_lines_by, written_by}
 use Rattle.pm_disasm.specs.Chosen.{IsReading, IsTable}

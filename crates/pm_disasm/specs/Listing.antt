@@ -1,7 +1,6 @@
 -- The listing of a code file: its own bytes at their own offsets, whatever laid them out.
-use Rattle.std.specs.Prelude.{◌≡◌, ◌≤◌, ℕ, zero, suc, ◌+◌, ◌-◌, ◌*◌}
-use Rattle.std.specs.Prelude.{List, [], ◌∷◌, ◌++◌, codes, drop, length, reverse, take}
-use Rattle.std.specs.Prelude.{nat_lt, if◌then◌else◌, Option, Some, None}
+use Rattle.std.specs.Prelude.{◌≡◌, ◌≤◌, ℕ, zero, suc, ◌+◌, ◌-◌, ◌*◌, List, [], ◌∷◌, ◌++◌, codes, drop, length, reverse}
+use Rattle.std.specs.Prelude.{take, nat_lt, if◌then◌else◌, Option, Some, None}
 use Rattle.std.specs.List.{AllByRecursion}
 use Rattle.pm_codefile.specs.declared.table.Attributes.{Attributes}
 use Rattle.pm_codefile.specs.Dictionary.{segment_in}

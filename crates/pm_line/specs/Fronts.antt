@@ -1,5 +1,5 @@
 -- The words in front of a line.
-use Rattle.std.specs.Prelude.{ℕ, Bool, false, List, Option, None, Some, option_map}
+use Rattle.std.specs.Prelude.{ℕ, false, List, Option, None, Some, option_map}
 use Rattle.pm_line.specs.declared.fronts.Front as code
 use Rattle.pm_line.specs.Views.{text_seen}
 use Rattle.pm_source.specs.Line.{Keyword, keyword_of, label_of, uncommented}

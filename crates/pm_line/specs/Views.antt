@@ -26,7 +26,7 @@ use Rattle.pm_source.specs.Source.{Name}
 use Rattle.pm_source.specs.Source.Row.{Items, Exit}
 use Rattle.pm_source.specs.Source.Statement.{Segment, Begin, Code, Entry, End}
 use Rattle.pm_source.specs.Line as text
-use Rattle.pm_source.specs.Line.{Operand, Said, flat_words, pieces}
+use Rattle.pm_source.specs.Line.{Operand, Said, pieces}
 use Rattle.pm_source.specs.Line.Flaw.{NoFlaw, OutOfRange, UnknownType}
 use Rattle.pm_source.specs.Line.Line.{Blank, Wrong, Strange, Says}
 use Rattle.pm_source.specs.Line.Keyword.{OfSegment, OfProcedure, OfExit, OfJump, OfEnd, OfBytes, Mnemonic}

@@ -5,29 +5,23 @@ use Rattle.pm_code.specs.Shown.{padded, shown_item}
 use Rattle.pm_notes.specs.Names.{standard_name, standard_names, system_name, system_names}
 use Rattle.pm_opcode.specs.Operations.{operation_of}
 use Rattle.pm_opcode.specs.Table.{form_of, groups, implied, mnemonic_of, shape_of}
-use Rattle.pm_phrases.specs.Arithmetic.{arithmetic_alone, arithmetic_one, arithmetic_three, arithmetic_two, between}
-use Rattle.pm_phrases.specs.Arithmetic.{compared, unary_on}
+use Rattle.pm_phrases.specs.Arithmetic.{arithmetic_alone, arithmetic_one, arithmetic_three, arithmetic_two, between, compared, unary_on}
 use Rattle.pm_phrases.specs.Calls.{called, called_text, external_name, returned, standard_call}
 use Rattle.pm_phrases.specs.Cases.{arm_text, case_on, table_text}
 use Rattle.pm_phrases.specs.Comparisons.{compare_two, kind_text, places_compared, values_compared}
-use Rattle.pm_phrases.specs.Counts.{by_count, of_four, of_none, of_one, of_three, of_two, operation_in, plain_none}
-use Rattle.pm_phrases.specs.Counts.{plain_one, plain_two}
+use Rattle.pm_phrases.specs.Counts.{by_count, of_four, of_none, of_one, of_three, of_two, operation_in, plain_none, plain_one, plain_two}
 use Rattle.pm_phrases.specs.Jumps.{condition_of, jump_alone, jump_one, jump_two}
 use Rattle.pm_phrases.specs.Literals.{beside, escape, literal_alone}
-use Rattle.pm_phrases.specs.Parts.{byte_one, byte_three, byte_two, field_four, field_one, field_three, field_two}
-use Rattle.pm_phrases.specs.Parts.{packed, part_stored, text_two}
+use Rattle.pm_phrases.specs.Parts.{byte_one, byte_three, byte_two, field_four, field_one, field_three, field_two, packed, part_stored, text_two}
 use Rattle.pm_phrases.specs.Phrases.{phrase_of, template}
 use Rattle.pm_phrases.specs.Pointers.{indexed, is_by_word, is_unnumbered, loaded, moved, pointer_one, pointer_two}
-use Rattle.pm_phrases.specs.Sets.{counted_text, is_member, members_text, one_counted, set_four, set_one, set_text}
-use Rattle.pm_phrases.specs.Sets.{set_three, set_two, sets_joined}
+use Rattle.pm_phrases.specs.Sets.{counted_text, is_member, members_text, one_counted, set_four, set_one, set_text, set_three, set_two, sets_joined}
 use Rattle.pm_phrases.specs.Shown.{place_text, stored_text, value_text}
 use Rattle.pm_phrases.specs.Spelled.{fits_opcode, has_shorter, spelling_of}
 use Rattle.pm_phrases.specs.Variables.{local_word, variable_alone, variable_one, variable_text}
 use Rattle.pm_words.specs.Words.{words_of}
-use Rattle.pm_phrases.specs.Worked.{WorkedAddresses, WorkedCalls, WorkedCharacters, WorkedComparisons}
-use Rattle.pm_phrases.specs.Worked.{WorkedConstants, WorkedJumps}
-use Rattle.pm_phrases.specs.Worked.{WorkedLiterals, WorkedMissing, WorkedOperators, WorkedOthers}
-use Rattle.pm_phrases.specs.Worked.{WorkedParts, WorkedSets, WorkedVariables}
+use Rattle.pm_phrases.specs.Worked.{WorkedAddresses, WorkedCalls, WorkedCharacters, WorkedComparisons, WorkedConstants, WorkedJumps, WorkedLiterals}
+use Rattle.pm_phrases.specs.Worked.{WorkedMissing, WorkedOperators, WorkedOthers, WorkedParts, WorkedSets, WorkedVariables}
 
 pub worked_variables : WorkedVariables
 unfolding arithmetic_alone arithmetic_one arithmetic_three arithmetic_two arm_text beside between by_count byte_one byte_three byte_two called called_text

@@ -12,7 +12,7 @@ use std::alloc::{AllocError, Global};
 
 /// When the jump of an opcode is taken.
 #[tactic(auto, unfolding(crate::specs::Jumps::condition_of))]
-fn condition_of(op: u8) -> Option<Condition>
+pub fn condition_of(op: u8) -> Option<Condition>
     ensures condition { result ≡ texts.condition_of op }
 {
     match Operation::of(&Instr::bare(op)) {

@@ -20,5 +20,6 @@ mod whole;
 pub mod worked;
 
 pub use around::{Around, Missing};
+pub use jumps::condition_of;
 pub use operand::{Form, Phrase, Value};
 pub use whole::phrase;

@@ -1,5 +1,5 @@
 -- The first fault of each line.
-use Rattle.std.proofs.Common.{◌≡◌, ◌≢◌, ℕ, ◌+◌, ◌<◌, List, [], ◌∷◌, ◌++◌, ◌∙◌, Option, None, Some, length, get_or, ap, sym, subst, refl, append_assoc}
+use Rattle.std.proofs.Common.{◌≡◌, ◌≢◌, ℕ, ◌+◌, ◌<◌, List, [], ◌∷◌, ◌++◌, ◌∙◌, Option, None, Some, length, get_or, ap, sym, refl, append_assoc}
 use Rattle.std.specs.Option.{option_to_list}
 use Rattle.pm_source.specs.Line.{line_of}
 use Rattle.pm_source.specs.Faults.{Reading, after_line, line_faults}

@@ -5,8 +5,7 @@ use Rattle.pm_words.specs.Words.{copied}
 use Rattle.pm_words.specs.Stack.{◌>>=◌, StackRow, demand, load, pop, push, store, words_lie_in_memory}
 use Rattle.pm_families.specs.declared.families.Pointer.{Pointer}
 use Rattle.pm_families.specs.declared.families.Pointer.TheVariants.{Increment, Load, Index, Store, LoadWords}
-use Rattle.pm_families.specs.declared.families.Pointer.TheVariants.{StoreWords}
-use Rattle.pm_families.specs.declared.families.Pointer.TheVariants.{Move}
+use Rattle.pm_families.specs.declared.families.Pointer.TheVariants.{StoreWords, Move}
 
 -- INC. .., a -> .., a + 2b
 unfoldable pub increment_row : ℕ → StackRow

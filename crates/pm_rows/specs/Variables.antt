@@ -1,8 +1,9 @@
 -- The rows on variables. Variable b of a frame at f stands at f + 10 + 2b, so that variable 1 is the word behind the
 -- control words.
-use Rattle.std.specs.Prelude.{ℕ, ◌≡◌, ◌+◌, ◌*◌, ◌%◌, ◌<◌, ◌≤◌, false, length, List, Result, Ok, ⊤}
+use Rattle.std.specs.Prelude.{ℕ, ◌≡◌, ◌+◌, ◌*◌, ◌%◌, ◌<◌, ◌≤◌, false, length, List, Result, Ok, Err, ⊤}
 use Rattle.pm_words.specs.declared.error.ExecError.{ExecError}
 use Rattle.pm_words.specs.Stack.{◌>>=◌, load, pop, push, store}
+use Rattle.pm_words.specs.Top.{Ends}
 use Rattle.pm_families.specs.declared.families.Scope.{Scope}
 use Rattle.pm_families.specs.declared.families.Scope.TheVariants.{Global, Local, Intermediate}
 use Rattle.pm_families.specs.declared.families.Variable.{Variable}
@@ -49,6 +50,12 @@ unfoldable pub variable_row : Variable → List ℕ → Registers → Result (Li
 variable_row (Address scope b) m r = variable_address_row scope b m r
 variable_row (Load scope b) m r = load_row scope b m r
 variable_row (Store scope b) m r = store_row scope b m r
+
+-- a row was done that may have read its links anew, and so may watch other words: it gives the words of the new memory
+-- and SP, and NP stays; or an error with the words as they were
+abbrev pub GivesTop : Result Ends ExecError → Ends → List ℕ → List ℕ → Result (List ℕ × ℕ) ExecError → Type 0
+GivesTop (Ok top) from before after row = (row ≡ Ok (after, top.sp)) × (top.np ≡ from.np)
+GivesTop (Err e) from before after row = (row ≡ Err e) × (after ≡ before)
 
 -- where the variable of an operation stands
 abbrev pub scope_of : Variable → Scope

@@ -1,7 +1,6 @@
 //! The rows on words as integers.
 
 ghost use Rattle.std.specs.Prelude.{◌≡◌};
-ghost use Rattle.pm_words.specs.Watch.{WatchStays};
 ghost use Rattle.pm_words.specs.Top.{MovesTop};
 ghost use Rattle.pm_rows.specs.Integers.{unary, binary, relation};
 ghost use Rattle.pm_rows.specs.Arithmetic.{arithmetic_row, binary_row, check_row, constant_row, relation_row};
@@ -82,9 +81,8 @@ fn holds(operation: Relation, a: u16, b: u16) -> bool
 #[inline(always)]
 #[tactic(auto, unfolding(crate::specs::Arithmetic::constant_row), using(pm_words::proofs::WatchLaws::stays))]
 fn constant(memory: &mut Memory, top: Top, word: u16) -> Result<Top, ExecError>
-    ensures row { MovesTop result top memory.old.words memory.new.words
+    ensures row { MovesTop result top memory.old memory.new
         (constant_row word memory.old.words top.sp top.np) }
-    ensures watch { WatchStays memory.old memory.new }
 {
     let mut stack = top;
     stack.push(memory, word)?;
@@ -95,9 +93,8 @@ fn constant(memory: &mut Memory, top: Top, word: u16) -> Result<Top, ExecError>
 #[inline(always)]
 #[tactic(auto, unfolding(crate::specs::Arithmetic::unary_row), using(pm_words::proofs::WatchLaws::stays))]
 fn unary(memory: &mut Memory, top: Top, operation: Unary) -> Result<Top, ExecError>
-    ensures row { MovesTop result top memory.old.words memory.new.words
+    ensures row { MovesTop result top memory.old memory.new
         (unary_row operation memory.old.words top.sp top.np) }
-    ensures watch { WatchStays memory.old memory.new }
 {
     let mut stack = top;
     let a = stack.one(memory)?;
@@ -109,9 +106,8 @@ fn unary(memory: &mut Memory, top: Top, operation: Unary) -> Result<Top, ExecErr
 #[inline(always)]
 #[tactic(auto, unfolding(crate::specs::Arithmetic::binary_row), using(pm_words::proofs::WatchLaws::stays))]
 fn binary(memory: &mut Memory, top: Top, operation: Binary) -> Result<Top, ExecError>
-    ensures row { MovesTop result top memory.old.words memory.new.words
+    ensures row { MovesTop result top memory.old memory.new
         (binary_row operation memory.old.words top.sp top.np) }
-    ensures watch { WatchStays memory.old memory.new }
 {
     let mut stack = top;
     let (a, b) = stack.two(memory)?;
@@ -124,9 +120,8 @@ fn binary(memory: &mut Memory, top: Top, operation: Binary) -> Result<Top, ExecE
 #[inline(always)]
 #[tactic(auto, unfolding(crate::specs::Arithmetic::relation_row), using(pm_words::proofs::WatchLaws::stays))]
 fn relation(memory: &mut Memory, top: Top, operation: Relation) -> Result<Top, ExecError>
-    ensures row { MovesTop result top memory.old.words memory.new.words
+    ensures row { MovesTop result top memory.old memory.new
         (relation_row operation memory.old.words top.sp top.np) }
-    ensures watch { WatchStays memory.old memory.new }
 {
     let mut stack = top;
     let (a, b) = stack.two(memory)?;
@@ -138,8 +133,7 @@ fn relation(memory: &mut Memory, top: Top, operation: Relation) -> Result<Top, E
 #[inline(always)]
 #[tactic(auto, unfolding(crate::specs::Arithmetic::check_row), using(pm_words::proofs::WatchLaws::stays))]
 fn check(memory: &mut Memory, top: Top) -> Result<Top, ExecError>
-    ensures row { MovesTop result top memory.old.words memory.new.words (check_row memory.old.words top.sp top.np) }
-    ensures watch { WatchStays memory.old memory.new }
+    ensures row { MovesTop result top memory.old memory.new (check_row memory.old.words top.sp top.np) }
 {
     let mut stack = top;
     let c = stack.pop(memory)?;
@@ -157,9 +151,8 @@ fn check(memory: &mut Memory, top: Top) -> Result<Top, ExecError>
 #[inline(always)]
 #[tactic(auto, unfolding(crate::specs::Arithmetic::arithmetic_row), using(pm_words::proofs::WatchLaws::stays))]
 pub fn perform(memory: &mut Memory, top: Top, operation: Arithmetic) -> Result<Top, ExecError>
-    ensures row { MovesTop result top memory.old.words memory.new.words
+    ensures row { MovesTop result top memory.old memory.new
         (arithmetic_row operation memory.old.words top.sp top.np) }
-    ensures watch { WatchStays memory.old memory.new }
 {
     match operation {
         Arithmetic::Constant(word) => constant(memory, top, word),

@@ -44,9 +44,8 @@ fn put_words(memory: &mut Memory, sp: u16, words: &[u16])
 // LDC. .. -> .., the words
 #[tactic(auto, unfolding(crate::specs::Literals::words_row), using(pm_words::proofs::WatchLaws::stays))]
 fn words(memory: &mut Memory, top: Top, start: u32, count: u8) -> Result<Top, ExecError>
-    ensures row { MovesTop result top memory.old.words memory.new.words
+    ensures row { MovesTop result top memory.old memory.new
         (words_row start count memory.old.words top.sp top.np) }
-    ensures watch { WatchStays memory.old memory.new }
 {
     let (sp, np) = (top.sp(), top.np());
     let size = 2 * u16::from(count);
@@ -64,9 +63,8 @@ fn words(memory: &mut Memory, top: Top, start: u32, count: u8) -> Result<Top, Ex
 // LSA and LPA. .. -> .., address
 #[tactic(auto, unfolding(crate::specs::Literals::literal_address_row), using(pm_words::proofs::WatchLaws::stays))]
 fn address(memory: &mut Memory, top: Top, address: u16) -> Result<Top, ExecError>
-    ensures row { MovesTop result top memory.old.words memory.new.words
+    ensures row { MovesTop result top memory.old memory.new
         (literal_address_row address memory.old.words top.sp top.np) }
-    ensures watch { WatchStays memory.old memory.new }
 {
     let mut stack = top;
     stack.push(memory, address)?;
@@ -76,9 +74,8 @@ fn address(memory: &mut Memory, top: Top, address: u16) -> Result<Top, ExecError
 /// Pushes what stands in the code, and gives the new top. An error changes nothing.
 #[tactic(auto, unfolding(crate::specs::Literals::literal_row), using(pm_words::proofs::WatchLaws::stays))]
 pub fn perform(memory: &mut Memory, top: Top, operation: Literal) -> Result<Top, ExecError>
-    ensures row { MovesTop result top memory.old.words memory.new.words
+    ensures row { MovesTop result top memory.old memory.new
         (literal_row operation memory.old.words top.sp top.np) }
-    ensures watch { WatchStays memory.old memory.new }
 {
     match operation {
         Literal::String(start) => {

@@ -1,7 +1,6 @@
 //! The rows on addresses that are on the stack.
 
 ghost use Rattle.std.specs.Prelude.{◌≡◌, ◌+◌, ◌*◌, ◌%◌};
-ghost use Rattle.pm_words.specs.Watch.{WatchStays};
 ghost use Rattle.pm_words.specs.Top.{MovesTop};
 ghost use Rattle.pm_rows.specs.Pointers.{increment_row, index_row, indirect_row, load_words_row, move_row};
 ghost use Rattle.pm_rows.specs.Pointers.{pointer_row, store_indirect_row, store_words_row};
@@ -15,9 +14,8 @@ use pm_words::{ExecError, Memory, Top};
 #[inline(always)]
 #[tactic(auto, unfolding(crate::specs::Pointers::increment_row), using(pm_words::proofs::WatchLaws::stays))]
 fn increment(memory: &mut Memory, top: Top, by: u16) -> Result<Top, ExecError>
-    ensures row { MovesTop result top memory.old.words memory.new.words
+    ensures row { MovesTop result top memory.old memory.new
         (increment_row by memory.old.words top.sp top.np) }
-    ensures watch { WatchStays memory.old memory.new }
 {
     let mut stack = top;
     let a = stack.one(memory)?;
@@ -29,9 +27,8 @@ fn increment(memory: &mut Memory, top: Top, by: u16) -> Result<Top, ExecError>
 #[inline(always)]
 #[tactic(auto, unfolding(crate::specs::Pointers::indirect_row), using(pm_words::proofs::WatchLaws::stays))]
 fn indirect(memory: &mut Memory, top: Top, by: u16) -> Result<Top, ExecError>
-    ensures row { MovesTop result top memory.old.words memory.new.words
+    ensures row { MovesTop result top memory.old memory.new
         (indirect_row by memory.old.words top.sp top.np) }
-    ensures watch { WatchStays memory.old memory.new }
 {
     let mut stack = top;
     let a = stack.one(memory)?;
@@ -53,9 +50,8 @@ fn item_at(a: u16, size: u16, i: u16) -> u16
 #[inline(always)]
 #[tactic(auto, unfolding(crate::specs::Pointers::index_row), using(pm_words::proofs::WatchLaws::stays))]
 fn index(memory: &mut Memory, top: Top, size: u16) -> Result<Top, ExecError>
-    ensures row { MovesTop result top memory.old.words memory.new.words
+    ensures row { MovesTop result top memory.old memory.new
         (index_row size memory.old.words top.sp top.np) }
-    ensures watch { WatchStays memory.old memory.new }
 {
     let mut stack = top;
     let (a, i) = stack.two(memory)?;
@@ -67,9 +63,8 @@ fn index(memory: &mut Memory, top: Top, size: u16) -> Result<Top, ExecError>
 #[inline(always)]
 #[tactic(auto, unfolding(crate::specs::Pointers::store_indirect_row), using(pm_words::proofs::WatchLaws::stays))]
 fn store_indirect(memory: &mut Memory, top: Top) -> Result<Top, ExecError>
-    ensures row { MovesTop result top memory.old.words memory.new.words
+    ensures row { MovesTop result top memory.old memory.new
         (store_indirect_row memory.old.words top.sp top.np) }
-    ensures watch { WatchStays memory.old memory.new }
 {
     let mut stack = top;
     let v = stack.pop(memory)?;
@@ -81,9 +76,8 @@ fn store_indirect(memory: &mut Memory, top: Top) -> Result<Top, ExecError>
 // LDM. .., a -> .., the words
 #[tactic(auto, unfolding(crate::specs::Pointers::load_words_row), using(pm_words::proofs::WatchLaws::stays))]
 fn load_words(memory: &mut Memory, top: Top, words: u8) -> Result<Top, ExecError>
-    ensures row { MovesTop result top memory.old.words memory.new.words
+    ensures row { MovesTop result top memory.old memory.new
         (load_words_row words memory.old.words top.sp top.np) }
-    ensures watch { WatchStays memory.old memory.new }
 {
     let size = 2 * u16::from(words);
     let np = top.np();
@@ -101,9 +95,8 @@ fn load_words(memory: &mut Memory, top: Top, words: u8) -> Result<Top, ExecError
 // STM. .., a, the words -> ..
 #[tactic(auto, unfolding(crate::specs::Pointers::store_words_row), using(pm_words::proofs::WatchLaws::stays))]
 fn store_words(memory: &mut Memory, top: Top, words: u8) -> Result<Top, ExecError>
-    ensures row { MovesTop result top memory.old.words memory.new.words
+    ensures row { MovesTop result top memory.old memory.new
         (store_words_row words memory.old.words top.sp top.np) }
-    ensures watch { WatchStays memory.old memory.new }
 {
     let size = 2 * u16::from(words);
     let sp = top.sp();
@@ -121,9 +114,8 @@ fn store_words(memory: &mut Memory, top: Top, words: u8) -> Result<Top, ExecErro
 // MOV. .., to, from -> ..
 #[tactic(auto, unfolding(crate::specs::Pointers::move_row), using(pm_words::proofs::WatchLaws::stays))]
 fn move_words(memory: &mut Memory, top: Top, words: u16) -> Result<Top, ExecError>
-    ensures row { MovesTop result top memory.old.words memory.new.words
+    ensures row { MovesTop result top memory.old memory.new
         (move_row words memory.old.words top.sp top.np) }
-    ensures watch { WatchStays memory.old memory.new }
 {
     let mut stack = top;
     let from = stack.pop(memory)?;
@@ -147,9 +139,8 @@ fn move_words(memory: &mut Memory, top: Top, words: u16) -> Result<Top, ExecErro
 #[inline(always)]
 #[tactic(auto, unfolding(crate::specs::Pointers::pointer_row), using(pm_words::proofs::WatchLaws::stays))]
 pub fn perform(memory: &mut Memory, top: Top, operation: Pointer) -> Result<Top, ExecError>
-    ensures row { MovesTop result top memory.old.words memory.new.words
+    ensures row { MovesTop result top memory.old memory.new
         (pointer_row operation memory.old.words top.sp top.np) }
-    ensures watch { WatchStays memory.old memory.new }
 {
     match operation {
         Pointer::Increment(by) => increment(memory, top, by),

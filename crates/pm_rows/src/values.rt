@@ -1,7 +1,6 @@
 //! The rows on bytes, sets, strings and fields, and the typed comparisons.
 
 ghost use Rattle.std.specs.Prelude.{◌≡◌, IfOk};
-ghost use Rattle.pm_words.specs.Watch.{WatchStays};
 ghost use Rattle.pm_words.specs.Stack.{IsStack, Changes};
 ghost use Rattle.pm_words.specs.Top.{MovesTop};
 ghost use Rattle.pm_rows.specs.Values.{field_row, set_row, value_row};
@@ -12,9 +11,8 @@ use pm_words::{ExecError, Memory, Top};
 // SP and NP as numbers, as the functions of pm_values take them.
 #[tactic(auto, unfolding(crate::specs::Values::set_row), using(pm_words::proofs::WatchLaws::stays))]
 fn set(memory: &mut Memory, sp: u16, np: u16, operation: Set) -> Result<u16, ExecError>
-    ensures row { Changes result memory.old.words memory.new.words (set_row operation memory.old.words sp np) }
+    ensures row { Changes result memory.old memory.new (set_row operation memory.old.words sp np) }
     ensures stack { IsStack sp np → IfOk result (λ sp. IsStack sp np) }
-    ensures watch { WatchStays memory.old memory.new }
 {
     match operation {
         Set::Member => pm_values::in_set(memory, sp, np),
@@ -29,9 +27,8 @@ fn set(memory: &mut Memory, sp: u16, np: u16, operation: Set) -> Result<u16, Exe
 
 #[tactic(auto, unfolding(crate::specs::Values::field_row), using(pm_words::proofs::WatchLaws::stays))]
 fn field(memory: &mut Memory, sp: u16, np: u16, operation: Field) -> Result<u16, ExecError>
-    ensures row { Changes result memory.old.words memory.new.words (field_row operation memory.old.words sp np) }
+    ensures row { Changes result memory.old memory.new (field_row operation memory.old.words sp np) }
     ensures stack { IsStack sp np → IfOk result (λ sp. IsStack sp np) }
-    ensures watch { WatchStays memory.old memory.new }
 {
     match operation {
         Field::Index { per_word, width } => {
@@ -45,9 +42,8 @@ fn field(memory: &mut Memory, sp: u16, np: u16, operation: Field) -> Result<u16,
 #[inline(always)]
 #[tactic(auto, unfolding(crate::specs::Values::value_row), using(pm_words::proofs::WatchLaws::stays))]
 fn value(memory: &mut Memory, sp: u16, np: u16, operation: Value) -> Result<u16, ExecError>
-    ensures row { Changes result memory.old.words memory.new.words (value_row operation memory.old.words sp np) }
+    ensures row { Changes result memory.old memory.new (value_row operation memory.old.words sp np) }
     ensures stack { IsStack sp np → IfOk result (λ sp. IsStack sp np) }
-    ensures watch { WatchStays memory.old memory.new }
 {
     match operation {
         Value::Byte(Byte::Load) => pm_values::load_byte(memory, sp, np),
@@ -63,9 +59,8 @@ fn value(memory: &mut Memory, sp: u16, np: u16, operation: Value) -> Result<u16,
 /// Does an operation on values in memory, and gives the new top. An error changes nothing.
 #[inline(always)]
 pub fn perform(memory: &mut Memory, top: Top, operation: Value) -> Result<Top, ExecError>
-    ensures row { MovesTop result top memory.old.words memory.new.words
+    ensures row { MovesTop result top memory.old memory.new
         (value_row operation memory.old.words top.sp top.np) }
-    ensures watch { WatchStays memory.old memory.new }
 {
     let np = top.np();
     let sp = value(memory, top.sp(), np, operation)?;

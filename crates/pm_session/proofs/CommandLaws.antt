@@ -1,13 +1,10 @@
 -- Numbers of a line, digit by digit and word by word.
 use Rattle.std.proofs.Common.{◌≡◌, ◌∙◌, ◌+◌, ◌-◌, ◌*◌, ◌^◌, ◌≤◌, ◌<◌, ap, sym, refl, arith, ℕ, zero, suc, Bool, true, false, List, [], ◌∷◌, ◌++◌, length}
 use Rattle.std.proofs.Common.{append_assoc, append-nil, Option, Some, None}
-use Rattle.std.specs.Char.{digit_value}
-use Rattle.std.specs.Prelude.{min, nat_lt, if◌then◌else◌}
-use Rattle.std.specs.Str.Parse.{digits_value}
+use Rattle.std.specs.Prelude.{nat_lt, if◌then◌else◌}
 use Rattle.std.proofs.lemmas.Bool.Decides.{nat_tests}
 use Rattle.pm_notes.specs.Names.{is_digit}
-use Rattle.pm_session.specs.Commands.{number_and_numbers}
-use Rattle.pm_session.specs.Commands.{word_number, number_behind, numbers}
+use Rattle.pm_session.specs.Commands.{number_and_numbers, word_number, number_behind, numbers}
 
 -- a number that is too large stays so
 number_large : (n : ℕ) (word : List ℕ) → 4294967295 < n → number_behind n word ≡ None

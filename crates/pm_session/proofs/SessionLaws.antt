@@ -6,7 +6,6 @@ use Rattle.std.specs.Prelude.{◌==◌, if◌then◌else◌}
 use Rattle.std.proofs.Math.Seq.{drop-append-add, drop-cons}
 use Rattle.pm_debug.specs.declared.breaks.Breakpoint.{Breakpoint}
 use Rattle.pm_debug.specs.declared.run.Depth.{Depth}
-use Rattle.pm_debug.specs.declared.watches.WatchedWord.{WatchedWord}
 use Rattle.pm_debug.specs.Passes.{Passed, all_passed, gone_past, left_past, passed}
 use Rattle.pm_debug.specs.Runs.{Gone, Left, left_of}
 use Rattle.pm_debug.specs.Runs.Left.{AtBreak, Nothing, Rest}

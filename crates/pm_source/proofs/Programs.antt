@@ -5,8 +5,7 @@ use Rattle.std.specs.Prelude.{zero, suc, ◌==◌, if◌then◌else◌}
 use Rattle.std.specs.List.{AllByRecursion}
 use Rattle.std.specs.Option.{option_to_list}
 use Rattle.std.proofs.lemmas.Bool.{eqb-true}
-use Rattle.pm_code.specs.Program.{FitSlots, AscendFrom, IsProcedure, IsProgram, IsSegment, is_segment_name, jtab_of}
-use Rattle.pm_code.specs.Program.{procedures_end, segment_bytes}
+use Rattle.pm_code.specs.Program.{FitSlots, AscendFrom, IsProcedure, IsProgram, IsSegment, is_segment_name, jtab_of, procedures_end, segment_bytes}
 use Rattle.pm_source.specs.Source.{Row, Source, SourceSegment, IsSource, code_end, entry_statement, head_statements}
 use Rattle.pm_source.specs.Source.{items_of, segment_statements, statements, statements_from}
 use Rattle.pm_source.specs.Source.Row.{Items, Exit}

@@ -5,10 +5,8 @@ use Rattle.std.proofs.lemmas.List.{length-reverse}
 use Rattle.pm_opcode.specs.Spelling.{pad_byte, flip, spelling}
 use Rattle.pm_code.specs.Item.{Item, size}
 use Rattle.pm_code.specs.Item.Item.{Plain, Jump, Case, OneByte}
-use Rattle.pm_code.specs.Program.{Procedure, Segment, FollowFrom, code_of, code_end, end_of, entry_bytes}
-use Rattle.pm_code.specs.Program.{attribute_bytes}
-use Rattle.pm_code.specs.Program.{dictionary_bytes, jtab_of, procedure_bytes, procedures_bytes, procedures_end}
-use Rattle.pm_code.specs.Program.{segment_bytes}
+use Rattle.pm_code.specs.Program.{Procedure, Segment, FollowFrom, code_of, code_end, end_of, entry_bytes, attribute_bytes, dictionary_bytes, jtab_of}
+use Rattle.pm_code.specs.Program.{procedure_bytes, procedures_bytes, procedures_end, segment_bytes}
 use Rattle.pm_code.proofs.Sizes.{length-code}
 use Rattle.pm_source.specs.Source.{Row, row_items}
 use Rattle.pm_source.specs.Source as source

@@ -2,8 +2,7 @@
 use Rattle.std.specs.Prelude.{◌≡◌, ℕ, ◌+◌, ◌==◌, List, [], ◌∷◌, ◌++◌, length, map, if◌then◌else◌}
 use Rattle.std.specs.Str.Lines.{lines}
 use Rattle.std.specs.Str.Parse.{digits_value}
-use Rattle.pm_code.specs.Program.{segment_numbered}
-use Rattle.pm_code.specs.Program.{Segment, FitSlots, IsProgram}
+use Rattle.pm_code.specs.Program.{segment_numbered, Segment, FitSlots, IsProgram}
 use Rattle.pm_code.specs.Image.{Listed, bytes_of_segment, listed_segment, listing}
 use Rattle.pm_source.specs.Words.{Cut, cut}
 

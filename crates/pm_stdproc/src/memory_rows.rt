@@ -2,7 +2,7 @@
 
 ghost use Rattle.std.specs.Prelude.{◌≡◌, ◌-◌, ◌/◌, IfOk};
 ghost use Rattle.pm_words.specs.Watch.{WatchStays};
-ghost use Rattle.pm_words.specs.Stack.{Changes, Leaves};
+ghost use Rattle.pm_words.specs.Stack.{Changes, Writes};
 ghost use Rattle.pm_words.specs.Top.{Pops};
 ghost use Rattle.pm_words.specs.Words.{moved_up, moved_down};
 ghost use Rattle.pm_stdproc.specs.MemoryRows.{check_io_row, fill_row, filled_with, is_positive, mark_row, memory_row};
@@ -35,8 +35,7 @@ fn is_positive(word: u16) -> bool
 // IOCHECK.
 #[tactic(auto, unfolding(crate::specs::MemoryRows::check_io_row), using(pm_words::proofs::WatchLaws::stays))]
 fn check_io(memory: &mut Memory, registers: ValidRegisters) -> Result<ValidRegisters, ExecError>
-    ensures row { Changes result memory.old.words memory.new.words (check_io_row memory.old.words registers) }
-    ensures watch { WatchStays memory.old memory.new }
+    ensures row { Changes result memory.old memory.new (check_io_row memory.old.words registers) }
     ensures mp { IfOk result (λ r. r.mp ≡ registers.mp) }
 {
     if registers.registers().ioresult != 0 {
@@ -48,8 +47,7 @@ fn check_io(memory: &mut Memory, registers: ValidRegisters) -> Result<ValidRegis
 // NEW.
 #[tactic(auto, unfolding(crate::specs::MemoryRows::new_row), using(pm_words::proofs::WatchLaws::stays))]
 fn new(memory: &mut Memory, registers: ValidRegisters) -> Result<ValidRegisters, ExecError>
-    ensures row { Changes result memory.old.words memory.new.words (new_row memory.old.words registers) }
-    ensures watch { WatchStays memory.old memory.new }
+    ensures row { Changes result memory.old memory.new (new_row memory.old.words registers) }
     ensures mp { IfOk result (λ r. r.mp ≡ registers.mp) }
 {
     let mut stack = registers.top();
@@ -70,8 +68,7 @@ fn new(memory: &mut Memory, registers: ValidRegisters) -> Result<ValidRegisters,
 // Moves bytes one by one, the lowest first.
 #[tactic(auto, using(pm_words::proofs::WatchLaws::stays))]
 fn move_up(memory: &mut Memory, from: u16, to: u16, count: u16) -> Result<(), ExecError>
-    ensures moved { Leaves result memory.old.words memory.new.words (moved moved_up memory.old.words from to count) }
-    ensures watch { WatchStays memory.old memory.new }
+    ensures moved { Writes result memory.old memory.new (moved moved_up memory.old.words from to count) }
 {
     if !is_positive(count) || memory.copy_up(from, to, count) {
         Ok(())
@@ -83,8 +80,7 @@ fn move_up(memory: &mut Memory, from: u16, to: u16, count: u16) -> Result<(), Ex
 // Moves bytes one by one, the highest first.
 #[tactic(auto, using(pm_words::proofs::WatchLaws::stays))]
 fn move_down(memory: &mut Memory, from: u16, to: u16, count: u16) -> Result<(), ExecError>
-    ensures moved { Leaves result memory.old.words memory.new.words (moved moved_down memory.old.words from to count) }
-    ensures watch { WatchStays memory.old memory.new }
+    ensures moved { Writes result memory.old memory.new (moved moved_down memory.old.words from to count) }
 {
     if !is_positive(count) || memory.copy_down(from, to, count) {
         Ok(())
@@ -96,9 +92,8 @@ fn move_down(memory: &mut Memory, from: u16, to: u16, count: u16) -> Result<(), 
 // MOVELEFT.
 #[tactic(auto, unfolding(crate::specs::MemoryRows::move_bytes_row), using(pm_words::proofs::WatchLaws::stays))]
 fn move_left(memory: &mut Memory, registers: ValidRegisters) -> Result<ValidRegisters, ExecError>
-    ensures row { Changes result memory.old.words memory.new.words
+    ensures row { Changes result memory.old memory.new
         (move_bytes_row moved_up memory.old.words registers) }
-    ensures watch { WatchStays memory.old memory.new }
     ensures mp { IfOk result (λ r. r.mp ≡ registers.mp) }
 {
     let mut stack = registers.top();
@@ -112,9 +107,8 @@ fn move_left(memory: &mut Memory, registers: ValidRegisters) -> Result<ValidRegi
 // MOVERIGHT.
 #[tactic(auto, unfolding(crate::specs::MemoryRows::move_bytes_row), using(pm_words::proofs::WatchLaws::stays))]
 fn move_right(memory: &mut Memory, registers: ValidRegisters) -> Result<ValidRegisters, ExecError>
-    ensures row { Changes result memory.old.words memory.new.words
+    ensures row { Changes result memory.old memory.new
         (move_bytes_row moved_down memory.old.words registers) }
-    ensures watch { WatchStays memory.old memory.new }
     ensures mp { IfOk result (λ r. r.mp ≡ registers.mp) }
 {
     let mut stack = registers.top();
@@ -128,8 +122,7 @@ fn move_right(memory: &mut Memory, registers: ValidRegisters) -> Result<ValidReg
 // Fills a range with one byte.
 #[tactic(auto, using(pm_words::proofs::WatchLaws::stays))]
 fn fill_with(memory: &mut Memory, at: u16, count: u16, byte: u8) -> Result<(), ExecError>
-    ensures filled { Leaves result memory.old.words memory.new.words (filled_with memory.old.words at count byte) }
-    ensures watch { WatchStays memory.old memory.new }
+    ensures filled { Writes result memory.old memory.new (filled_with memory.old.words at count byte) }
 {
     if !is_positive(count) || memory.fill(at, count, byte) {
         Ok(())
@@ -141,8 +134,7 @@ fn fill_with(memory: &mut Memory, at: u16, count: u16, byte: u8) -> Result<(), E
 // FILLCHAR.
 #[tactic(auto, unfolding(crate::specs::MemoryRows::fill_row), using(pm_words::proofs::WatchLaws::stays))]
 fn fill(memory: &mut Memory, registers: ValidRegisters) -> Result<ValidRegisters, ExecError>
-    ensures row { Changes result memory.old.words memory.new.words (fill_row memory.old.words registers) }
-    ensures watch { WatchStays memory.old memory.new }
+    ensures row { Changes result memory.old memory.new (fill_row memory.old.words registers) }
     ensures mp { IfOk result (λ r. r.mp ≡ registers.mp) }
 {
     let mut stack = registers.top();
@@ -164,8 +156,7 @@ fn passed_by(memory: &Memory, at: u16, limit: u16, byte: u8, equal: bool) -> Res
 // SCAN.
 #[tactic(auto, unfolding(crate::specs::MemoryRows::scan_row), using(pm_words::proofs::WatchLaws::stays))]
 fn scan(memory: &mut Memory, registers: ValidRegisters) -> Result<ValidRegisters, ExecError>
-    ensures row { Changes result memory.old.words memory.new.words (scan_row memory.old.words registers) }
-    ensures watch { WatchStays memory.old memory.new }
+    ensures row { Changes result memory.old memory.new (scan_row memory.old.words registers) }
     ensures mp { IfOk result (λ r. r.mp ≡ registers.mp) }
 {
     let mut stack = registers.top();
@@ -182,8 +173,7 @@ fn scan(memory: &mut Memory, registers: ValidRegisters) -> Result<ValidRegisters
 // MARK.
 #[tactic(auto, unfolding(crate::specs::MemoryRows::mark_row), using(pm_words::proofs::WatchLaws::stays))]
 fn mark(memory: &mut Memory, registers: ValidRegisters) -> Result<ValidRegisters, ExecError>
-    ensures row { Changes result memory.old.words memory.new.words (mark_row memory.old.words registers) }
-    ensures watch { WatchStays memory.old memory.new }
+    ensures row { Changes result memory.old memory.new (mark_row memory.old.words registers) }
     ensures mp { IfOk result (λ r. r.mp ≡ registers.mp) }
 {
     let mut stack = registers.top();
@@ -195,8 +185,7 @@ fn mark(memory: &mut Memory, registers: ValidRegisters) -> Result<ValidRegisters
 // RELEASE.
 #[tactic(auto, unfolding(crate::specs::MemoryRows::release_row), using(pm_words::proofs::WatchLaws::stays))]
 fn release(memory: &mut Memory, registers: ValidRegisters) -> Result<ValidRegisters, ExecError>
-    ensures row { Changes result memory.old.words memory.new.words (release_row memory.old.words registers) }
-    ensures watch { WatchStays memory.old memory.new }
+    ensures row { Changes result memory.old memory.new (release_row memory.old.words registers) }
     ensures mp { IfOk result (λ r. r.mp ≡ registers.mp) }
 {
     let mut stack = registers.top();
@@ -218,8 +207,7 @@ fn put(
     registers: ValidRegisters,
     word: u16,
 ) -> Result<ValidRegisters, ExecError>
-    ensures row { Changes result memory.old.words memory.new.words (push_row word memory.old.words registers) }
-    ensures watch { WatchStays memory.old memory.new }
+    ensures row { Changes result memory.old memory.new (push_row word memory.old.words registers) }
     ensures mp { IfOk result (λ r. r.mp ≡ registers.mp) }
 {
     let mut stack = registers.top();
@@ -241,8 +229,7 @@ pub fn perform(
     registers: ValidRegisters,
     procedure: OnMemory,
 ) -> Result<ValidRegisters, ExecError>
-    ensures row { Changes result memory.old.words memory.new.words (memory_row procedure memory.old.words registers) }
-    ensures watch { WatchStays memory.old memory.new }
+    ensures row { Changes result memory.old memory.new (memory_row procedure memory.old.words registers) }
     ensures mp { IfOk result (λ r. r.mp ≡ registers.mp) }
 {
     match procedure {

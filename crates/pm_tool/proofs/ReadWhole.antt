@@ -1,6 +1,5 @@
 -- Jobs that read all of their input before they write.
-use Rattle.std.proofs.Common.{◌≡◌, ℕ, List, [], ◌∷◌, ◌++◌, Option, None, Some, Result, Bool}
-use Rattle.std.proofs.Common.{true, false, refl, sym, ap, ◌∙◌, append-nil, subst, IfSome, IfErr}
+use Rattle.std.proofs.Common.{◌≡◌, ℕ, List, [], ◌∷◌, ◌++◌, Option, None, Some, Result, Bool, true, false, refl, sym, ap, ◌∙◌, append-nil, subst, IfSome, IfErr}
 use Rattle.std.specs.Io.KnownBytes.{Consumes, Appends, Keeps, IsAtEnd}
 use Rattle.std.proofs.KnownBytes.{Appends-nil}
 use Rattle.pm_jobs.specs.declared.selection.Selection.{Selection}

@@ -1,7 +1,6 @@
 -- How a session that is written as it goes goes on by one byte, and how it ends.
-use Rattle.std.proofs.Common.{◌≡◌, ℕ, ◌+◌, ◌<◌, ◌≤◌, List, [], ◌∷◌, ◌++◌, Option, None, Some, Result, Ok, Bool}
-use Rattle.std.proofs.Common.{true, false, length, refl, sym, ap, ◌∙◌, append_assoc, append-nil, inl, inr, arith, subst}
-use Rattle.std.proofs.Common.{Vec, drop, get_or, suc}
+use Rattle.std.proofs.Common.{◌≡◌, ℕ, ◌+◌, ◌<◌, ◌≤◌, List, [], ◌∷◌, ◌++◌, Option, None, Some, Result, Ok, Bool, true, false, length, refl, sym, ap, ◌∙◌}
+use Rattle.std.proofs.Common.{append_assoc, append-nil, inl, inr, arith, subst, Vec, drop, get_or, suc}
 use Rattle.std.specs.declared.alloc.Global.{Global}
 use Rattle.std.proofs.lemmas.List.{drop_all, length-append}
 use Rattle.std.proofs.Math.Seq.{drop-cons}

@@ -2,14 +2,14 @@
 
 ghost use Rattle.std.specs.Prelude.{◌≡◌, reverse};
 ghost use Rattle.pm_code.specs.Views.{placed_item};
-ghost use Rattle.pm_phrases.specs.Jumps.{condition_of};
 ghost use Rattle.pm_trees.specs.Parts.{is_reached};
 ghost use Rattle.pm_trees.specs.Trees as trees;
 
 use crate::part::{Leaves, Part, Place};
 use pm_code::{Item, Target};
-use pm_families::{Condition, Jump};
-use pm_opcode::{Instr, Operation};
+use pm_families::Condition;
+use pm_opcode::Operation;
+use pm_phrases::condition_of;
 
 /// What the operation of a tree is.
 #[derive(Clone, Copy, Drop)]
@@ -83,17 +83,6 @@ fn operation_role(what: Operation) -> Role
         Operation::Standard(0) => Role::Check,
         Operation::Call(_) | Operation::Standard(_) => Role::Call,
         _ => Role::Other,
-    }
-}
-
-/// When the jump of an opcode is taken.
-#[tactic(auto, unfolding(pm_phrases::specs::Jumps::condition_of))]
-fn condition_of(op: u8) -> Option<Condition>
-    ensures condition { result ≡ condition_of op }
-{
-    match Operation::of(&Instr::bare(op)) {
-        Operation::Jump(Jump::Short(condition, _)) => Some(condition),
-        _ => None,
     }
 }
 

@@ -1,7 +1,6 @@
 //! The typed comparisons.
 
 ghost use Rattle.std.specs.Prelude.{◌≡◌, IfOk};
-ghost use Rattle.pm_words.specs.Watch.{WatchStays};
 ghost use Rattle.pm_words.specs.Stack.{IsStack, Changes};
 ghost use Rattle.pm_values.specs.Comparisons.{compare_booleans_row, compare_bytes_row, compare_row, compare_sets_row};
 ghost use Rattle.pm_values.specs.Comparisons.{compare_strings_row, compare_words_row, holds, holds_of_sets};
@@ -28,9 +27,8 @@ pub fn compare(
     relation: Relation,
     kind: Kind,
 ) -> Result<u16, ExecError>
-    ensures row { Changes result memory.old.words memory.new.words (compare_row relation kind memory.old.words sp np) }
+    ensures row { Changes result memory.old memory.new (compare_row relation kind memory.old.words sp np) }
     ensures stack { IsStack sp np → IfOk result (λ sp. IsStack sp np) }
-    ensures watch { WatchStays memory.old memory.new }
 {
     match kind {
         Kind::Real => Err(ExecError::Unimplemented),
@@ -50,10 +48,9 @@ fn compare_strings(
     np: u16,
     relation: Relation,
 ) -> Result<u16, ExecError>
-    ensures row { Changes result memory.old.words memory.new.words
+    ensures row { Changes result memory.old memory.new
         (compare_strings_row relation memory.old.words sp np) }
     ensures stack { IsStack sp np → IfOk result (λ sp. IsStack sp np) }
-    ensures watch { WatchStays memory.old memory.new }
 {
     let right = pop(memory, sp)?;
     let left = pop(memory, right.above)?;
@@ -71,10 +68,9 @@ fn compare_booleans(
     np: u16,
     relation: Relation,
 ) -> Result<u16, ExecError>
-    ensures row { Changes result memory.old.words memory.new.words
+    ensures row { Changes result memory.old memory.new
         (compare_booleans_row relation memory.old.words sp np) }
     ensures stack { IsStack sp np → IfOk result (λ sp. IsStack sp np) }
-    ensures watch { WatchStays memory.old memory.new }
 {
     let right = pop(memory, sp)?;
     let left = pop(memory, right.above)?;
@@ -92,10 +88,9 @@ fn compare_bytes(
     relation: Relation,
     count: u16,
 ) -> Result<u16, ExecError>
-    ensures row { Changes result memory.old.words memory.new.words
+    ensures row { Changes result memory.old memory.new
         (compare_bytes_row count relation memory.old.words sp np) }
     ensures stack { IsStack sp np → IfOk result (λ sp. IsStack sp np) }
-    ensures watch { WatchStays memory.old memory.new }
 {
     let right = pop(memory, sp)?;
     let left = pop(memory, right.above)?;
@@ -114,10 +109,9 @@ fn compare_words(
     relation: Relation,
     count: u16,
 ) -> Result<u16, ExecError>
-    ensures row { Changes result memory.old.words memory.new.words
+    ensures row { Changes result memory.old memory.new
         (compare_words_row count relation memory.old.words sp np) }
     ensures stack { IsStack sp np → IfOk result (λ sp. IsStack sp np) }
-    ensures watch { WatchStays memory.old memory.new }
 {
     if !is_equality(relation) {
         return Err(ExecError::Unimplemented);
@@ -136,9 +130,8 @@ fn compare_words(
 // Two sets, as sets of numbers.
 #[tactic(auto, unfolding(crate::specs::Comparisons::compare_sets_row), using(pm_words::proofs::WatchLaws::stays))]
 fn compare_sets(memory: &mut Memory, sp: u16, np: u16, relation: Relation) -> Result<u16, ExecError>
-    ensures row { Changes result memory.old.words memory.new.words (compare_sets_row relation memory.old.words sp np) }
+    ensures row { Changes result memory.old memory.new (compare_sets_row relation memory.old.words sp np) }
     ensures stack { IsStack sp np → IfOk result (λ sp. IsStack sp np) }
-    ensures watch { WatchStays memory.old memory.new }
 {
     if !is_of_sets(relation) {
         return Err(ExecError::Unimplemented);

@@ -1,7 +1,6 @@
 //! Bytes, and fields of words.
 
 ghost use Rattle.std.specs.Prelude.{◌≡◌, ◌+◌, ◌≤◌, IfOk, Err};
-ghost use Rattle.pm_words.specs.Watch.{WatchStays};
 ghost use Rattle.pm_words.specs.Stack.{IsStack, Changes, demand};
 ghost use Rattle.pm_words.specs.declared.error.ExecError.TheVariants.{InvalidIndex};
 ghost use Rattle.pm_values.specs.Fields.{field_of, index_field_row, is_field, load_byte_row, load_field_row};
@@ -15,9 +14,8 @@ use pm_words::{ExecError, Memory};
 /// there are too few words. An error changes nothing.
 #[tactic(auto, unfolding(crate::specs::Fields::load_byte_row), using(pm_words::proofs::WatchLaws::stays))]
 pub fn load_byte(memory: &mut Memory, sp: u16, np: u16) -> Result<u16, ExecError>
-    ensures row { Changes result memory.old.words memory.new.words (load_byte_row memory.old.words sp np) }
+    ensures row { Changes result memory.old memory.new (load_byte_row memory.old.words sp np) }
     ensures stack { IsStack sp np → IfOk result (λ sp. IsStack sp np) }
-    ensures watch { WatchStays memory.old memory.new }
 {
     let index = pop(memory, sp)?;
     let base = pop(memory, index.above)?;
@@ -29,9 +27,8 @@ pub fn load_byte(memory: &mut Memory, sp: u16, np: u16) -> Result<u16, ExecError
 /// gives the new SP; `InvalidMemory` where there are too few words. An error changes nothing.
 #[tactic(auto, unfolding(crate::specs::Fields::store_byte_row), using(pm_words::proofs::WatchLaws::stays))]
 pub fn store_byte(memory: &mut Memory, sp: u16, np: u16) -> Result<u16, ExecError>
-    ensures row { Changes result memory.old.words memory.new.words (store_byte_row memory.old.words sp np) }
+    ensures row { Changes result memory.old memory.new (store_byte_row memory.old.words sp np) }
     ensures stack { IsStack sp np → IfOk result (λ sp. IsStack sp np) }
-    ensures watch { WatchStays memory.old memory.new }
 {
     let value = pop(memory, sp)?;
     let index = pop(memory, value.above)?;
@@ -53,10 +50,9 @@ pub fn index_field(
     per_word: u8,
     width: u8,
 ) -> Result<u16, ExecError>
-    ensures row { Changes result memory.old.words memory.new.words
+    ensures row { Changes result memory.old memory.new
         (index_field_row per_word width memory.old.words sp np) }
     ensures stack { IsStack sp np → IfOk result (λ sp. IsStack sp np) }
-    ensures watch { WatchStays memory.old memory.new }
 {
     let index = pop(memory, sp)?;
     let base = pop(memory, index.above)?;
@@ -75,9 +71,8 @@ pub fn index_field(
 /// nothing.
 #[tactic(auto, unfolding(crate::specs::Fields::load_field_row), using(pm_words::proofs::WatchLaws::stays))]
 pub fn load_field(memory: &mut Memory, sp: u16, np: u16) -> Result<u16, ExecError>
-    ensures row { Changes result memory.old.words memory.new.words (load_field_row memory.old.words sp np) }
+    ensures row { Changes result memory.old memory.new (load_field_row memory.old.words sp np) }
     ensures stack { IsStack sp np → IfOk result (λ sp. IsStack sp np) }
-    ensures watch { WatchStays memory.old memory.new }
 {
     let lowest = pop(memory, sp)?;
     let width = pop(memory, lowest.above)?;
@@ -97,9 +92,8 @@ pub fn load_field(memory: &mut Memory, sp: u16, np: u16) -> Result<u16, ExecErro
 /// `InvalidMemory` for an odd address. An error changes nothing.
 #[tactic(auto, unfolding(crate::specs::Fields::store_field_row), using(pm_words::proofs::WatchLaws::stays))]
 pub fn store_field(memory: &mut Memory, sp: u16, np: u16) -> Result<u16, ExecError>
-    ensures row { Changes result memory.old.words memory.new.words (store_field_row memory.old.words sp np) }
+    ensures row { Changes result memory.old memory.new (store_field_row memory.old.words sp np) }
     ensures stack { IsStack sp np → IfOk result (λ sp. IsStack sp np) }
-    ensures watch { WatchStays memory.old memory.new }
 {
     let value = pop(memory, sp)?;
     let lowest = pop(memory, value.above)?;

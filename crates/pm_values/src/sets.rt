@@ -52,9 +52,8 @@ pub struct StackSet {
 /// nothing.
 #[tactic(auto, unfolding(crate::specs::Sets::in_set_row), using(pm_words::proofs::WatchLaws::stays))]
 pub fn in_set(memory: &mut Memory, sp: u16, np: u16) -> Result<u16, ExecError>
-    ensures row { Changes result memory.old.words memory.new.words (in_set_row memory.old.words sp np) }
+    ensures row { Changes result memory.old memory.new (in_set_row memory.old.words sp np) }
     ensures stack { IsStack sp np → IfOk result (λ sp. IsStack sp np) }
-    ensures watch { WatchStays memory.old memory.new }
 {
     let set = find_set(memory, sp)?;
     let value = pop(memory, set.above)?;
@@ -67,9 +66,8 @@ pub fn in_set(memory: &mut Memory, sp: u16, np: u16) -> Result<u16, ExecError>
 /// more than 255 words; then `StackOverflow`. An error changes nothing.
 #[tactic(auto, unfolding(crate::specs::Sets::intersect_row), using(pm_words::proofs::WatchLaws::stays))]
 pub fn intersect(memory: &mut Memory, sp: u16, np: u16) -> Result<u16, ExecError>
-    ensures row { Changes result memory.old.words memory.new.words (intersect_row memory.old.words sp np) }
+    ensures row { Changes result memory.old memory.new (intersect_row memory.old.words sp np) }
     ensures stack { IsStack sp np → IfOk result (λ sp. IsStack sp np) }
-    ensures watch { WatchStays memory.old memory.new }
 {
     combine(memory, sp, np, Combination::Intersection)
 }
@@ -78,9 +76,8 @@ pub fn intersect(memory: &mut Memory, sp: u16, np: u16) -> Result<u16, ExecError
 /// SP. Errors as in `intersect`; an error changes nothing.
 #[tactic(auto, unfolding(crate::specs::Sets::union_row), using(pm_words::proofs::WatchLaws::stays))]
 pub fn union(memory: &mut Memory, sp: u16, np: u16) -> Result<u16, ExecError>
-    ensures row { Changes result memory.old.words memory.new.words (union_row memory.old.words sp np) }
+    ensures row { Changes result memory.old memory.new (union_row memory.old.words sp np) }
     ensures stack { IsStack sp np → IfOk result (λ sp. IsStack sp np) }
-    ensures watch { WatchStays memory.old memory.new }
 {
     combine(memory, sp, np, Combination::Union)
 }
@@ -89,9 +86,8 @@ pub fn union(memory: &mut Memory, sp: u16, np: u16) -> Result<u16, ExecError>
 /// lower set has, and gives the new SP. Errors as in `intersect`; an error changes nothing.
 #[tactic(auto, unfolding(crate::specs::Sets::difference_row), using(pm_words::proofs::WatchLaws::stays))]
 pub fn difference(memory: &mut Memory, sp: u16, np: u16) -> Result<u16, ExecError>
-    ensures row { Changes result memory.old.words memory.new.words (difference_row memory.old.words sp np) }
+    ensures row { Changes result memory.old memory.new (difference_row memory.old.words sp np) }
     ensures stack { IsStack sp np → IfOk result (λ sp. IsStack sp np) }
-    ensures watch { WatchStays memory.old memory.new }
 {
     combine(memory, sp, np, Combination::Difference)
 }
@@ -100,9 +96,8 @@ pub fn difference(memory: &mut Memory, sp: u16, np: u16) -> Result<u16, ExecErro
 /// few words; `InvalidIndex` for a value that is not 0 to 4,079; `StackOverflow`. An error changes nothing.
 #[tactic(auto, unfolding(crate::specs::Sets::singleton_row), using(pm_words::proofs::WatchLaws::stays))]
 pub fn singleton(memory: &mut Memory, sp: u16, np: u16) -> Result<u16, ExecError>
-    ensures row { Changes result memory.old.words memory.new.words (singleton_row memory.old.words sp np) }
+    ensures row { Changes result memory.old memory.new (singleton_row memory.old.words sp np) }
     ensures stack { IsStack sp np → IfOk result (λ sp. IsStack sp np) }
-    ensures watch { WatchStays memory.old memory.new }
 {
     let value = pop(memory, sp)?;
     if value.word > LAST_MEMBER {
@@ -116,9 +111,8 @@ pub fn singleton(memory: &mut Memory, sp: u16, np: u16) -> Result<u16, ExecError
 /// `InvalidIndex` for a bound that is not 0 to 4,079; `StackOverflow`. An error changes nothing.
 #[tactic(auto, unfolding(crate::specs::Sets::subrange_row), using(pm_words::proofs::WatchLaws::stays))]
 pub fn subrange(memory: &mut Memory, sp: u16, np: u16) -> Result<u16, ExecError>
-    ensures row { Changes result memory.old.words memory.new.words (subrange_row memory.old.words sp np) }
+    ensures row { Changes result memory.old memory.new (subrange_row memory.old.words sp np) }
     ensures stack { IsStack sp np → IfOk result (λ sp. IsStack sp np) }
-    ensures watch { WatchStays memory.old memory.new }
 {
     let high = pop(memory, sp)?;
     let low = pop(memory, high.above)?;
@@ -136,9 +130,8 @@ pub fn subrange(memory: &mut Memory, sp: u16, np: u16) -> Result<u16, ExecError>
 /// 255 words; `StackOverflow`. An error changes nothing.
 #[tactic(auto, unfolding(crate::specs::Sets::adjust_row), using(pm_words::proofs::WatchLaws::stays))]
 pub fn adjust(memory: &mut Memory, sp: u16, np: u16, words: u8) -> Result<u16, ExecError>
-    ensures row { Changes result memory.old.words memory.new.words (adjust_row words memory.old.words sp np) }
+    ensures row { Changes result memory.old memory.new (adjust_row words memory.old.words sp np) }
     ensures stack { IsStack sp np → IfOk result (λ sp. IsStack sp np) }
-    ensures watch { WatchStays memory.old memory.new }
 {
     let set = find_set(memory, sp)?;
     let size = 2 * u16::from(words);
@@ -158,10 +151,9 @@ fn combine(
     np: u16,
     combination: Combination,
 ) -> Result<u16, ExecError>
-    ensures row { Changes result memory.old.words memory.new.words
+    ensures row { Changes result memory.old memory.new
         (two_sets_row (count_of combination) (test_of combination) memory.old.words sp np) }
     ensures stack { IsStack sp np → IfOk result (λ sp. IsStack sp np) }
-    ensures watch { WatchStays memory.old memory.new }
 {
     let _ = memory.bytes(); // for its first clause
     let upper = find_set(memory, sp)?;
@@ -195,12 +187,11 @@ fn combine_in_place(
     requires lower_inside { lower.above ≤ STACK_END }
     requires upper_even { upper.address % 2 ≡ 0 }
     requires upper_inside { upper.address + 2 * upper.count ≤ lower.address }
-    ensures row { Changes result memory.old.words memory.new.words (push_words memory.old.words lower.above np
+    ensures row { Changes result memory.old memory.new (push_words memory.old.words lower.above np
         (lower.count ∷ set_of lower.count (λ e. test_of combination
         (is_member (words_at memory.old.words lower.address lower.count) e)
         (is_member (words_at memory.old.words upper.address upper.count) e)))) }
     ensures stack { IsStack lower.above np → IfOk result (λ sp. IsStack sp np) }
-    ensures watch { WatchStays memory.old memory.new }
 {
     let _ = memory.bytes(); // for its first clause
     if u32::from(lower.address) < u32::from(np) + 2 {

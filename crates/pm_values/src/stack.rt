@@ -1,7 +1,6 @@
 //! Several words put on the stack at once.
 
 ghost use Rattle.std.specs.Prelude.{◌≡◌, ◌%◌, ◌≤◌, IfOk, length};
-ghost use Rattle.pm_words.specs.Watch.{WatchStays};
 ghost use Rattle.pm_words.specs.Stack.{IsStack, Changes};
 ghost use Rattle.pm_values.specs.Several.{push_words};
 
@@ -13,9 +12,8 @@ use pm_words::{ExecError, Memory};
 pub fn push_words(memory: &mut Memory, sp: u16, np: u16, words: &[u16]) -> Result<u16, ExecError>
     requires even { sp % 2 ≡ 0 }
     requires few { length words.now ≤ 256 }
-    ensures row { Changes result memory.old.words memory.new.words (push_words memory.old.words sp np words.now) }
+    ensures row { Changes result memory.old memory.new (push_words memory.old.words sp np words.now) }
     ensures stack { IsStack sp np → IfOk result (λ sp. IsStack sp np) }
-    ensures watch { WatchStays memory.old memory.new }
 {
     let _ = memory.bytes(); // for its first clause
     let size = 2 * words.len() as u16;

@@ -1,7 +1,6 @@
 //! Strings in memory.
 
 ghost use Rattle.std.specs.Prelude.{◌≡◌, ◌≤◌, IfOk, MatchResult, Ok, Err, length};
-ghost use Rattle.pm_words.specs.Watch.{WatchStays};
 ghost use Rattle.pm_words.specs.Stack.{IsStack, Changes};
 ghost use Rattle.pm_words.specs.Words.{IsMemory, byte_at};
 ghost use Rattle.pm_values.specs.Strings.{assign_row, index_string_row, string_at};
@@ -14,9 +13,8 @@ use pm_words::{ExecError, Memory};
 /// It changes nothing.
 #[tactic(auto, unfolding(crate::specs::Strings::index_string_row), using(pm_words::proofs::WatchLaws::stays))]
 pub fn index_string(memory: &mut Memory, sp: u16, np: u16) -> Result<u16, ExecError>
-    ensures row { Changes result memory.old.words memory.new.words (index_string_row memory.old.words sp np) }
+    ensures row { Changes result memory.old memory.new (index_string_row memory.old.words sp np) }
     ensures stack { IsStack sp np → IfOk result (λ sp. IsStack sp np) }
-    ensures watch { WatchStays memory.old memory.new }
 {
     let index = pop(memory, sp)?;
     let string = pop(memory, index.above)?;
@@ -32,9 +30,8 @@ pub fn index_string(memory: &mut Memory, sp: u16, np: u16) -> Result<u16, ExecEr
 /// `limit` characters; `InvalidMemory` where the destination passes the end. An error changes nothing.
 #[tactic(auto, unfolding(crate::specs::Strings::assign_row), using(pm_words::proofs::WatchLaws::stays, crate::proofs::StringLaws::strings))]
 pub fn assign(memory: &mut Memory, sp: u16, np: u16, limit: u8) -> Result<u16, ExecError>
-    ensures row { Changes result memory.old.words memory.new.words (assign_row limit memory.old.words sp np) }
+    ensures row { Changes result memory.old memory.new (assign_row limit memory.old.words sp np) }
     ensures stack { IsStack sp np → IfOk result (λ sp. IsStack sp np) }
-    ensures watch { WatchStays memory.old memory.new }
 {
     let source = pop(memory, sp)?;
     let place = pop(memory, source.above)?;

@@ -5,7 +5,8 @@ use Rattle.std.specs.Prelude.{Ok, Err, if◌then◌else◌, ◌&&◌, ◌*◌, n
 pub use Rattle.pm_bytes.specs.Steps.{◌>>=◌}
 use Rattle.pm_words.specs.declared.error.ExecError.{ExecError}
 use Rattle.pm_words.specs.declared.error.ExecError.TheVariants.{InvalidMemory, StackOverflow}
-use Rattle.pm_words.specs.Words.{word_at, with_word}
+use Rattle.pm_words.specs.Words.{Contents, word_at, with_word}
+use Rattle.pm_words.specs.Watch.{WatchStays}
 use Rattle.pm_words.specs.declared.stack.Popped.{Popped}
 use Rattle.pm_words.specs.declared.layout.TheConstants.{HIGHEST_WORD, STACK_END}
 
@@ -50,10 +51,16 @@ push m sp np w = if nat_lt sp (np + 2) then Err StackOverflow else (store m (sp 
 abbrev pub StackRow : Type 0
 StackRow = List ℕ → ℕ → ℕ → Result (List ℕ × ℕ) ExecError
 
--- a row was done: it gives the new memory and a result (SP, or the registers), or an error with the memory as it was
-abbrev pub Changes : {A : Type 0} → Result A ExecError → List ℕ → List ℕ → Result (List ℕ × A) ExecError → Type 0
-Changes (Ok x) old new row = row ≡ Ok (new, x)
+-- a row was done: it gives the words of the new memory and a result (SP, or the registers), and the watch stays; or an
+-- error with the memory as it was
+abbrev pub Changes : {A : Type 0} → Result A ExecError → Contents → Contents → Result (List ℕ × A) ExecError → Type 0
+Changes (Ok x) old new row = (row ≡ Ok (new.words, x)) × WatchStays old new
 Changes (Err e) old new row = (row ≡ Err e) × (new ≡ old)
+
+-- memory was written: its words are those of the definition, and the watch stays; or an error with the memory as it was
+abbrev pub Writes : Result (Unit {0}) ExecError → Contents → Contents → Result (List ℕ) ExecError → Type 0
+Writes (Ok x) old new done = (done ≡ Ok new.words) × WatchStays old new
+Writes (Err e) old new done = (done ≡ Err e) × (new ≡ old)
 
 -- something was done that may fail: it leaves what its definition gives, of the memory as of all that a call changes;
 -- or an error leaves what was

@@ -2,8 +2,7 @@
 //! word on its top, and NP, the top of the heap, bounds it below.
 
 ghost use Rattle.std.specs.Prelude.{◌≡◌, ℕ, IfOk};
-ghost use Rattle.pm_words.specs.Watch.{WatchStays};
-ghost use Rattle.pm_words.specs.Stack.{Changes, IsStack, Leaves, load, pop, push, store};
+ghost use Rattle.pm_words.specs.Stack.{Changes, IsStack, Writes, load, pop, push, store};
 
 use crate::layout::HIGHEST_WORD;
 use crate::{ExecError, Memory};
@@ -19,8 +18,7 @@ pub fn load(memory: &Memory, address: u16) -> Result<u16, ExecError>
 /// Writes a word at an address; `InvalidMemory`, and nothing changed, where that is odd.
 #[inline(always)]
 pub fn store(memory: &mut Memory, address: u16, word: u16) -> Result<(), ExecError>
-    ensures stored { Leaves result memory.old.words memory.new.words (store memory.old.words address word) }
-    ensures watch { WatchStays memory.old memory.new }
+    ensures stored { Writes result memory.old memory.new (store memory.old.words address word) }
 {
     if memory.set_word(address, word) {
         Ok(())
@@ -58,8 +56,7 @@ pub fn pop(memory: &Memory, sp: u16) -> Result<Popped, ExecError>
 /// would be below NP.
 #[inline(always)]
 pub fn push(memory: &mut Memory, sp: u16, np: u16, word: u16) -> Result<u16, ExecError>
-    ensures row { Changes result memory.old.words memory.new.words (push memory.old.words sp np word) }
-    ensures watch { WatchStays memory.old memory.new }
+    ensures row { Changes result memory.old memory.new (push memory.old.words sp np word) }
     ensures stack { IsStack sp np → IfOk result (λ sp. IsStack sp np) }
 {
     if u32::from(sp) < u32::from(np) + 2 {

@@ -1,4 +1,4 @@
-use Rattle.std.proofs.Common.{rules, ◌≡◌, ◌+◌, ◌-◌, ◌*◌, ◌++◌, ◌∙◌, List, ℕ, ap, arith, get_or, length, refl, reverse, sym, string_bytes, take}
+use Rattle.std.proofs.Common.{◌≡◌, ◌+◌, ◌-◌, ◌*◌, ◌++◌, ◌∙◌, List, ℕ, ap, arith, get_or, length, refl, reverse, sym, string_bytes, take}
 use Rattle.pm_code.specs.Image.{listed_entries, listed_lines}
 use Rattle.pm_code.specs.Program.{entry_bytes}
 use Rattle.pm_code.proofs.ListedMore.{entry_listed, entry_long, entry_more}

@@ -1,5 +1,4 @@
-use Rattle.std.proofs.Common.{rules, ◌≡◌, ◌≤◌, ◌+◌, ◌*◌, ◌∙◌, ◌++◌, ◌∷◌, [], ℕ, List, ap, map, reverse, length, sym, subst, string_bytes}
-use Rattle.std.proofs.Common.{append-nil}
+use Rattle.std.proofs.Common.{rules, ◌≡◌, ◌≤◌, ◌+◌, ◌*◌, ◌∙◌, ◌++◌, ◌∷◌, [], ℕ, List, ap, map, reverse, length, sym, subst, string_bytes, append-nil}
 use Rattle.std.specs.Prelude.{codes}
 use Rattle.pm_code.specs.Image.{Listed, listed_dictionary, listed_line, listed_lines, listed_procedures}
 use Rattle.pm_code.specs.Program.{dictionary_bytes, entry_bytes, jtab_of, procedures_bytes, procedures_end}

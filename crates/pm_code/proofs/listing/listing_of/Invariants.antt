@@ -1,4 +1,4 @@
-use Rattle.std.proofs.Common.{◌≡◌, ◌≤◌, ◌++◌, drop, length, string_bytes}
+use Rattle.std.proofs.Common.{◌≡◌, ◌≤◌, ◌++◌, drop, string_bytes}
 use Rattle.std.specs.List.{AllByRecursion}
 use Rattle.pm_code.specs.Image.{listing}
 use Rattle.pm_code.specs.Program.{FitSlots, IsSegment}

@@ -9,7 +9,7 @@ use Rattle.pm_source.specs.Line.{line_of}
 use Rattle.pm_source.specs.Faults.{after_line, after_lines}
 use Rattle.pm_reader.specs.Counts.{AreCounts}
 use Rattle.pm_reader.specs.Reader.{reader_seen}
-use Rattle.pm_reader.proofs.Numbering.{none_left, seen_from}
+use Rattle.pm_reader.proofs.Numbering.{none_left}
 use Rattle.pm_reader.proofs.Stepping.{said_behind}
 use Rattle.pm_reader.proofs.reading.counts_of.Goals as goal
 

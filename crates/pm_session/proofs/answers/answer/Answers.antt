@@ -1,5 +1,4 @@
 use Rattle.std.proofs.Common.{◌≡◌, string_bytes}
-use Rattle.pm_debug.specs.Session.{session_of}
 use Rattle.pm_session.specs.Orders.{order_of}
 use Rattle.pm_session.proofs.SessionLaws.{is_answered}
 use Rattle.pm_session.proofs.answers.answer.Goals as goal

@@ -2,8 +2,7 @@ use Rattle.std.proofs.Common.{arith, ap, sym, refl, ◌∙◌, Some}
 use Rattle.std.proofs.lemmas.Result.{err_from_is_err_and}
 use Rattle.std.proofs.lemmas.List.{length-set}
 use Rattle.pm_tool.specs.Disks.{first_bad, first_disk_fault, images_of}
-use Rattle.pm_tool.proofs.Opening.{place_below, place_next, fault_later, fault_here, opened_next, fault_none, opened_all}
-use Rattle.pm_tool.proofs.Opening.{place_here, place_later, place_none}
+use Rattle.pm_tool.proofs.Opening.{place_below, place_next, fault_later, fault_here, opened_next, fault_none, opened_all, place_here, place_later, place_none}
 use Rattle.pm_tool.proofs.programs.volumes_of.Goals as goal
 
 pub opening-init : goal.opening-init

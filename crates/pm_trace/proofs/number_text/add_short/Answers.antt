@@ -1,6 +1,5 @@
 use Rattle.std.proofs.Common.{arith, ◌∙◌, sym}
-use Rattle.pm_trace.proofs.ShortText.{byte_text, display_pair_text, display_text, named, named_pair}
-use Rattle.pm_trace.proofs.ShortText.{number_byte_text, plain_text, signed_byte_text, word_text}
+use Rattle.pm_trace.proofs.ShortText.{byte_text, display_pair_text, display_text, named, named_pair, number_byte_text, plain_text, signed_byte_text, word_text}
 use Rattle.pm_trace.proofs.number_text.add_short.Goals as goal
 
 pub returns-in_ok-add_plain-in-Plain : goal.returns-in_ok-add_plain-in-Plain

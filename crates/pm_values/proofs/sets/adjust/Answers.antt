@@ -23,5 +23,7 @@ returns-clause-row c =
     let room : c.args.np + 2 * c.args.words ≤ set.above = omega arith in
     let bytes : c.from-size.result ≡ c.args.words = c.from-size.ensures in
     let count : c.from-4.result ≡ c.args.words = c.from-4.ensures in
-    rw (c.in_ok-set.ensures.set, bytes) (pushed-words m _ c.resize.new.memory.words set.above c.args.np c.args.words size room
-    (rw (bytes, count) at c.resize.ensures.words))
+    rw (c.in_ok-set.ensures.set, bytes) (
+      pushed-words m _ c.resize.new.memory.words set.above c.args.np c.args.words size room (rw (bytes, count) at c.resize.ensures.words),
+      c.resize.ensures.watch,
+    )

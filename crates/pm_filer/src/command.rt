@@ -1,5 +1,5 @@
 //! Commands, and what they answer.
-ghost use Rattle.std.specs.Prelude.{◌≡◌, ◌≢◌, ◌×◌, Ok, Err, Some, None, IfOk, IfErr, IsErrOf, OnErr, OnOk, false};
+ghost use Rattle.std.specs.Prelude.{◌≡◌, ◌≢◌, Ok, Err, Some, None, IfOk, IfErr, IsErrOf, OnErr, OnOk, false};
 ghost use Rattle.std.specs.Prelude.{true, if◌then◌else◌};
 ghost use Rattle.pm_volume.specs.declared.fault.VolumeFault.TheVariants.{NoFile};
 ghost use Rattle.pm_volume.specs.Made.{added, kind_set, renamed, slot_kind_set, slot_renamed, zeroed};

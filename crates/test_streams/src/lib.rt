@@ -3,22 +3,6 @@
 #![tactic(auto)]
 
 pub mod blanks;
-#[cfg(test)]
-mod bounds;
-#[cfg(test)]
-mod broken;
-#[cfg(test)]
-mod faults;
-#[cfg(test)]
-mod jobs;
-#[cfg(test)]
-mod left;
-#[cfg(test)]
-mod pace;
 pub mod recorder;
 #[cfg(test)]
-mod sessions;
-#[cfg(test)]
-mod streams;
-#[cfg(test)]
-mod written;
+mod tests;

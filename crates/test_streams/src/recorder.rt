@@ -1,12 +1,11 @@
 //! A source and a sink that write down each call of either, of which one fails, and no other.
-ghost use Rattle.std.specs.Prelude.{◌≡◌, None, false};
 ghost use Rattle.std.specs.Io.{ReadsAtMost, WritesAtMost};
 
-use pm_tool::{Job, Outcome, Sink, Source, run};
+use pm_tool::{Job, Outcome, Reader, Sink, Source, Writer, run};
 use std::alloc::Global;
 use std::cell::RefCell;
 use std::io;
-use std::io::ErrorKind;
+use std::io::{ErrorKind, Read, Write};
 
 /// What was called.
 #[derive(Clone, Copy, Debug, PartialEq, Eq)]
@@ -87,32 +86,15 @@ impl Record {
     }
 }
 
-/// The source.
+/// What is read from.
 #[derive(Drop)]
 struct Given<'a> {
     kept: &'a RefCell<Record>,
     rest: &'a [u8],
-    failed: bool,
-    given: u64,
 }
 
-impl<'a> Given<'a> {
-    fn new(kept: &'a RefCell<Record>, rest: &'a [u8]) -> Given<'a>
-        ensures well { result.failed ≡ false }
-    {
-        Given {
-            kept,
-            rest,
-            failed: false,
-            given: 0,
-        }
-    }
-
-    fn give(&mut self, buf: &mut [u8]) -> io::Result<usize>
-        ensures bound { ReadsAtMost result buf.new }
-        ensures failed { self.new.failed ≡ self.old.failed }
-        ensures given { self.new.given ≡ self.old.given }
-    {
+impl Read for Given<'_> {
+    fn read(&mut self, buf: &mut [u8]) -> io::Result<usize> {
         let Ok(mut kept) = self.kept.try_borrow_mut() else {
             return Err(failure());
         };
@@ -122,61 +104,22 @@ impl<'a> Given<'a> {
     }
 }
 
-impl Source for Given<'_> {
-    ghost seen = { λ source. record { remaining = None; failed = source.failed; given = source.given } };
-
-    fn read(&mut self, buf: &mut [u8]) -> io::Result<usize> {
-        let outcome = self.give(buf);
-        match outcome {
-            Ok(count) => self.given = self.given.saturating_add(count as u64),
-            Err(_) => self.failed = true,
-        }
-        outcome
-    }
-
-    fn failed(&self) -> bool {
-        self.failed
-    }
-}
-
-/// The sink.
+/// What is written to.
 #[derive(Drop)]
 struct Taken<'a> {
     kept: &'a RefCell<Record>,
-    failed: bool,
 }
 
-impl<'a> Taken<'a> {
-    fn new(kept: &'a RefCell<Record>) -> Taken<'a>
-        ensures well { result.failed ≡ false }
-    {
-        Taken {
-            kept,
-            failed: false,
-        }
-    }
-
-    fn take(&self, buf: &[u8]) -> io::Result<usize>
-        ensures bound { WritesAtMost result buf.now }
-    {
+impl Write for Taken<'_> {
+    fn write(&mut self, buf: &[u8]) -> io::Result<usize> {
         match self.kept.try_borrow_mut() {
             Ok(mut kept) => kept.take(buf),
             Err(_) => Err(failure()),
         }
     }
-}
 
-impl Sink for Taken<'_> {
-    ghost seen = { λ sink. record { contents = None; failed = sink.failed } };
-
-    fn write(&mut self, buf: &[u8]) -> io::Result<usize> {
-        let outcome = self.take(buf);
-        self.failed |= !matches!(outcome, Ok(1..));
-        outcome
-    }
-
-    fn failed(&self) -> bool {
-        self.failed
+    fn flush(&mut self) -> io::Result<()> {
+        Ok(())
     }
 }
 
@@ -200,8 +143,11 @@ pub fn recorded_run(alloc: Global, job: Job, input: &[u8], manner: Manner) -> Re
         calls: Vec::new(alloc),
         written: Vec::new(alloc),
     });
-    let mut source = Given::new(&kept, input);
-    let mut sink = Taken::new(&kept);
+    let mut source = Reader::new(Given {
+        kept: &kept,
+        rest: input,
+    });
+    let mut sink = Writer::new(Taken { kept: &kept });
     let outcome = run(alloc, &mut source, &mut sink, job);
     let failed = (source.failed(), sink.failed());
     let Record { calls, written, .. } = kept.into_inner();

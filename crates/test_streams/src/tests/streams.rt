@@ -68,7 +68,7 @@ impl Write for ShortWriter {
 }
 
 /// The job that runs bare code for so many steps and traces each.
-pub(crate) fn raw(limit: u64) -> Job {
+pub(crate) fn raw(limit: u32) -> Job {
     let selection = Selection::ALL;
     Job::Raw { limit, selection }
 }

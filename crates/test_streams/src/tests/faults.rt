@@ -1,5 +1,5 @@
 //! Streams that fail at each of their calls in turn.
-use crate::streams::{Full, ShortReader, ShortWriter, raw};
+use crate::tests::streams::{Full, ShortReader, ShortWriter, raw};
 use pm_tool::{Outcome, Reader, Sink, Source, Writer, run};
 use std::alloc::Global;
 use std::process::Abort;

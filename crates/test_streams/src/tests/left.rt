@@ -2,8 +2,8 @@
 //! no body has a way out at each call: a `?` behind which images are let go is what a proof of a test costs most for.
 ghost use Rattle.std.specs.Prelude.{◌≡◌, length, sum};
 
-use crate::jobs::{Told, job_run, tells};
-use crate::streams::raw;
+use crate::tests::jobs::{Told, job_run, tells};
+use crate::tests::streams::raw;
 use pm_filer::FileCommand;
 use pm_tool::{AsmOutput, DisOutput, Job, Saving};
 use std::alloc::Global;

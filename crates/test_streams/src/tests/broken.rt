@@ -3,7 +3,7 @@
 ghost use Rattle.std.specs.Prelude.{◌≡◌, length, sum};
 
 use crate::recorder::{Call, Kind, Manner, Recorded, recorded_run};
-use crate::streams::raw;
+use crate::tests::streams::raw;
 use pm_tool::{Job, Saving, Selection};
 use pm_volume::Volume;
 use std::alloc::{AllocError, Global};

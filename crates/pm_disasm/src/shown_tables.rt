@@ -6,7 +6,7 @@ ghost use Rattle.pm_codefile.specs.declared.table.Attributes.{Attributes};
 ghost use Rattle.pm_disasm.specs.Chosen.{IsTable};
 ghost use Rattle.pm_disasm.specs.Offsets.{IsDecoded};
 ghost use Rattle.pm_code.specs.Shown.{joined};
-ghost use Rattle.pm_disasm.specs.Shown as texts;
+ghost use Rattle.pm_disasm.specs.Shown.{table_lines};
 ghost use Rattle.pm_disasm.specs.ShownTables.{IsShownTable};
 
 use crate::decoded::Decoded;
@@ -51,7 +51,7 @@ pub(crate) fn push_table_once<'a>(
     requires short { length segment.now ≤ 65534 }
     requires shown { AllByRecursion (IsShownTable segment.now) shown.old.items }
     ensures text { OnOk result (string_bytes text.new
-        ≡ string_bytes text.old ++ joined (texts.table_lines segment.now a)) }
+        ≡ string_bytes text.old ++ joined (table_lines segment.now a)) }
     ensures shown { OnOk result (AllByRecursion (IsShownTable segment.now) shown.new.items) }
 {
     if let Some(known) = text_of(shown, &a) {

@@ -41,7 +41,7 @@ pub struct Line {
 }
 
 impl Word {
-    ghost use Rattle.std.specs.Prelude.{◌≡◌, IfSome};
+    ghost use Rattle.std.specs.Prelude.{◌≡◌, ◌≤◌, IfSome, IsSome};
     ghost use Rattle.pm_trees.specs.Lines as lines;
 
     /// Whether it stands for no statement.
@@ -64,9 +64,10 @@ impl Word {
         }
     }
 
-    /// How many blocks are open behind it. None where they are more than can be counted.
+    /// How many blocks are open behind it. None exactly where they are more than can be counted.
     pub fn depth_behind(self, blocks: usize) -> Option<usize>
         ensures depth { IfSome result (λ depth. depth ≡ lines.depth_behind self blocks) }
+        ensures counted { lines.depth_behind self blocks ≤ 18446744073709551615 → IsSome result }
     {
         match self {
             Word::If | Word::While | Word::Repeat | Word::Case => blocks.checked_add(1),

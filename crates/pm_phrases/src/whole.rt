@@ -18,12 +18,12 @@ fn template(
     alloc: Global,
     around: Around,
     item: &Item<usize>,
-    arguments: AllArguments<'_>,
+    arguments: &AllArguments<'_>,
 ) -> Result<Option<Phrase>, AllocError>
     ensures shown { IfOk result
-        (λ p. p ≡ texts.template around (placed_item item.now) (listed arguments.0.now ++ arguments.1.now)) }
+        (λ p. p ≡ texts.template around (placed_item item.now) (listed arguments.now.0.now ++ arguments.now.1.now)) }
 {
-    let AllArguments(pops, operands) = arguments;
+    let AllArguments(pops, operands) = *arguments;
     match called(alloc, operation_in(item), pops, operands)? {
         Some(call) => Ok(Some(call)),
         None => match pops {
@@ -50,7 +50,7 @@ pub fn phrase(
 {
     let pops = stand_ins(alloc, known, missing)?;
     let arguments = AllArguments(&pops, operands);
-    match template(alloc, around, item, arguments)? {
+    match template(alloc, around, item, &arguments)? {
         Some(phrase) => Ok(phrase),
         None => {
             Ok(Phrase {

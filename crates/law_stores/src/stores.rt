@@ -1,6 +1,6 @@
 //! Stores of one file and of two in memory, of which a contract knows what they hold.
 
-ghost use Rattle.std.specs.Prelude.{◌≡◌, IfOk, None, Some, false, map, option_map, string_bytes, vec_items};
+ghost use Rattle.std.specs.Prelude.{◌≡◌, IfErr, IfOk, None, Some, false, map, option_map, string_bytes, vec_items};
 ghost use Rattle.std.specs.Str.{bytes_eq};
 ghost use Rattle.law_stores.specs.Told.{told, told_first};
 
@@ -19,6 +19,8 @@ pub struct OneFile {
 /// A file's bytes, copied.
 fn copied(alloc: Global, bytes: &Option<Vec<u8>>) -> Result<Vec<u8>, DiskFault>
     ensures value { IfOk result (λ copy. option_map vec_items bytes.now ≡ Some copy.items) }
+    ensures missing { IfErr result (λ fault.
+        fault ≡ DiskFault.Read ErrorKind.NotFound → option_map vec_items bytes.now ≡ None) }
 {
     match bytes {
         Some(bytes) => {

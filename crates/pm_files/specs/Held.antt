@@ -11,6 +11,11 @@ abbrev pub HoldsFile : Files → List ℕ → List ℕ → Type 0
 HoldsFile None path bytes = ⊤
 HoldsFile (Some files) path bytes = files path ≡ Some bytes
 
+-- a path holds no file
+abbrev pub HoldsNone : Files → List ℕ → Type 0
+HoldsNone None path = ⊤
+HoldsNone (Some files) path = files path ≡ None
+
 -- a path holds these bytes now, and each other path what it held
 abbrev pub Puts : Files → Files → List ℕ → List ℕ → Type 0
 Puts None new path bytes = ⊤

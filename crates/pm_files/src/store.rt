@@ -1,6 +1,6 @@
 //! Files as the program sees them: which bytes stand under which path.
-ghost use Rattle.std.specs.Prelude.{◌≡◌, ℕ, Bool, List, Option, None, IfOk, IfSome, OnOk, OnErr};
-ghost use Rattle.pm_files.specs.Held.{HoldsFile, Puts, held_too};
+ghost use Rattle.std.specs.Prelude.{◌≡◌, ℕ, Bool, List, Option, None, IfErr, IfOk, IfSome, OnOk, OnErr};
+ghost use Rattle.pm_files.specs.Held.{HoldsFile, HoldsNone, Puts, held_too};
 
 use crate::fault::DiskFault;
 use crate::host::Host;
@@ -9,6 +9,7 @@ use crate::place::{WritePath, new_path};
 use crate::replacing::replace;
 use std::alloc::Global;
 use std::fs;
+use std::io::ErrorKind;
 
 /// Files, each read whole and written whole.
 pub trait Store {
@@ -27,11 +28,13 @@ pub trait Store {
     /// The paths whose files are held, in the order in which they were taken, where they are known.
     ghost held: { Self → Option (List (List ℕ)) };
 
-    /// Reads a file of at most `IMAGE_LIMIT` bytes.
+    /// Reads a file of at most `IMAGE_LIMIT` bytes. `NotFound` only where the path holds none.
     fn read(&mut self, alloc: Global, path: &str) -> Result<Vec<u8>, DiskFault>
         ensures stays { files self.new ≡ files self.old }
         ensures held { held self.new ≡ held self.old }
-        ensures value { IfOk result (λ image. HoldsFile (files self.old) path.now image.items) };
+        ensures value { IfOk result (λ image. HoldsFile (files self.old) path.now image.items) }
+        ensures missing { IfErr result (λ fault.
+            fault ≡ DiskFault.Read ErrorKind.NotFound → HoldsNone (files self.old) path.now) };
 
     /// Takes all memory that writing a file wants.
     fn prepare(&mut self, path: &str) -> Result<(), DiskFault>

@@ -1,10 +1,11 @@
 -- What a path holds in a form.
-use Rattle.std.proofs.Common.{◌≡◌, ◌∙◌, ◌⊎◌, ℕ, List, [], Option, None, Some, Result, Ok, Err, IfOk, OnOk, Vec, ap, refl, sym, subst}
+use Rattle.std.proofs.Common.{◌≡◌, ◌∙◌, ℕ, List, [], Option, None, Some, Result, Ok, Err, IfOk, OnOk, Vec, ap, refl, sym, subst}
 use Rattle.std.proofs.Common.{option_map}
+use Rattle.std.specs.Option.{unwrap_or}
 use Rattle.std.specs.declared.alloc.Global.{Global}
-use Rattle.pm_files.specs.Held.{Files, HoldsFile, Puts}
+use Rattle.pm_files.specs.Held.{Files, HoldsFile, HoldsNone, Puts}
 use Rattle.pm_files.specs.declared.fault.DiskFault.{DiskFault}
-use Rattle.pm_plan.specs.Forms.{volume_of}
+use Rattle.pm_plan.specs.Forms.{file_of, volume_of}
 use Rattle.pm_check.specs.Headed.{filed, volume_in}
 use Rattle.pm_check.specs.Orders.{turned}
 use Rattle.pm_check.proofs.OrderLaws.{turned_back, turned_blocks}
@@ -12,7 +13,7 @@ use Rattle.pm_plan.specs.declared.form.Form.{Form}
 use Rattle.pm_plan.specs.declared.form.Form.TheVariants as forms
 use Rattle.pm_check.specs.declared.order.Order.{Order}
 use Rattle.pm_check.specs.declared.order.Order.TheVariants as orders
-use Rattle.pm_plan.specs.InForm.{IsFound, PutsVolume, form_at, in_form}
+use Rattle.pm_plan.specs.InForm.{IsFound, PutsFormed, PutsVolume, form_at, in_form}
 
 -- of a file that is read the volume is seen
 pub holds_volume : (form : Form) (system printer : Option (List ℕ)) (files : Files) (path bytes : List ℕ)
@@ -21,6 +22,22 @@ pub holds_volume : (form : Form) (system printer : Option (List ℕ)) (files : F
 holds_volume form system printer None path bytes holds = tt
 holds_volume form system printer (Some files) path bytes holds =
     ap (option_map (volume_of (form_at form system printer path))) holds
+
+-- where there is no file there is none in the form
+pub holds_none : (form : Form) (system printer : Option (List ℕ)) (files : Files) (path : List ℕ)
+    → HoldsNone files path → HoldsNone (in_form form system printer files) path
+holds_none form system printer None path none = tt
+holds_none form system printer (Some files) path none =
+    ap (option_map (volume_of (form_at form system printer path))) none
+
+-- a file that is read is what is found, and so is none where there is no file
+pub found_held : (files : Files) (path bytes : List ℕ) → HoldsFile files path bytes → IsFound files path bytes
+found_held None path bytes holds = tt
+found_held (Some files) path bytes holds = sym (ap (λ held. unwrap_or held []) holds)
+
+pub found_none : (files : Files) (path : List ℕ) → HoldsNone files path → IsFound files path []
+found_none None path none = tt
+found_none (Some files) path none = sym (ap (λ held. unwrap_or held []) none)
 
 -- a file that is written holds the volume that is in it
 pub puts_formed : (form : Form) (system printer : Option (List ℕ)) (old new : Files) (path file bytes : List ℕ)
@@ -83,3 +100,33 @@ put_volume (Ok done) form system printer old new path bytes is puts =
     puts_formed form system printer old new path (filed puts.before bytes) bytes puts.puts
     (ap (λ form. volume_of form (filed puts.before bytes)) (sym is) ∙ puts.back)
 put_volume (Err fault) form system printer old new path bytes is puts = tt
+
+-- ---- the file that is written
+
+formed : (form : Form) (old new : Files) (path file volume : List ℕ)
+    → ((files : List ℕ → Option (List ℕ)) → old ≡ Some files → file ≡ file_of form (unwrap_or (files path) []) volume)
+    → Puts old new path file → PutsFormed form old new path volume
+formed form None new path file volume is puts = tt
+formed form (Some files) new path file volume is puts = subst (Puts (Some files) new path) (is files refl) puts
+
+pub formed_turned : {A : Type 0} (r : Result A DiskFault) (form : Form) (order : Order) (old new : Files)
+    (path volume made : List ℕ) → forms.In order ≡ form → made ≡ turned order volume
+    → OnOk r (Puts old new path made) → OnOk r (PutsFormed form old new path volume)
+formed_turned (Ok done) form order old new path volume made is turns puts =
+    subst (λ form. PutsFormed form old new path volume) is
+    (formed (forms.In order) old new path made volume (λ files known. turns) puts)
+formed_turned (Err fault) form order old new path volume made is turns puts = tt
+
+pub formed_blocks : {A : Type 0} (r : Result A DiskFault) (form : Form) (old new : Files) (path volume : List ℕ)
+    → forms.In orders.Blocks ≡ form → OnOk r (Puts old new path volume) → OnOk r (PutsFormed form old new path volume)
+formed_blocks r form old new path volume is puts =
+    formed_turned r form orders.Blocks old new path volume volume is (sym (turned_blocks volume)) puts
+
+pub formed_headed : {A : Type 0} (r : Result A DiskFault) (form : Form) (old new : Files) (path volume : List ℕ)
+    → forms.Headed ≡ form → OnOk r (PutsVolume old new path volume) → OnOk r (PutsFormed form old new path volume)
+formed_headed (Ok done) form old new path volume is puts =
+    subst (λ form. PutsFormed form old new path volume) is
+    (formed forms.Headed old new path (filed puts.before volume) volume
+    (λ files known. ap (λ before. filed before volume)
+    (subst (λ files. IsFound files path puts.before) known puts.found)) puts.puts)
+formed_headed (Err fault) form old new path volume is puts = tt

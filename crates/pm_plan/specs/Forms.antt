@@ -12,6 +12,11 @@ abbrev pub volume_of : Form → List ℕ → List ℕ
 volume_of (forms.In order) file = turned order file
 volume_of forms.Headed file = volume_in file
 
+-- the file of a form that a volume is written as, in the place of an old one
+abbrev pub file_of : Form → List ℕ → List ℕ → List ℕ
+file_of (forms.In order) old volume = turned order volume
+file_of forms.Headed old volume = filed old volume
+
 -- ---- words
 
 abbrev pub form_named : List ℕ → Option Form

@@ -1,8 +1,9 @@
 -- What files hold where images have another form: all but those of two paths are turned.
-use Rattle.std.specs.Prelude.{◌≡◌, ◌⊎◌, ℕ, Bool, false, ◌||◌, List, [], Option, None, Some, option_map, if◌then◌else◌}
+use Rattle.std.specs.Prelude.{◌≡◌, ⊤, ℕ, Bool, false, ◌||◌, List, [], Option, None, Some, option_map, if◌then◌else◌}
+use Rattle.std.specs.Option.{unwrap_or}
 use Rattle.std.specs.Str.{bytes_eq}
-use Rattle.pm_files.specs.Held.{Files, HoldsFile, Puts}
-use Rattle.pm_plan.specs.Forms.{volume_of}
+use Rattle.pm_files.specs.Held.{Files, Puts}
+use Rattle.pm_plan.specs.Forms.{file_of, volume_of}
 use Rattle.pm_check.specs.Headed.{filed, volume_in}
 use Rattle.pm_plan.specs.declared.form.Form.{Form}
 use Rattle.pm_plan.specs.declared.form.Form.TheVariants as forms
@@ -23,14 +24,21 @@ in_form form system printer None = None
 in_form form system printer (Some files) =
     Some (λ path. option_map (volume_of (form_at form system printer path)) (files path))
 
--- ---- files of kind .2mg
+-- ---- files that are written
 
--- what was read of a path: its bytes, or none where no file was there
+-- what was found of a path: the bytes that it holds, none where it holds no file
 abbrev pub IsFound : Files → List ℕ → List ℕ → Type 0
-IsFound files path file = (file ≡ []) ⊎ HoldsFile files path file
+IsFound None path file = ⊤
+IsFound (Some files) path file = file ≡ unwrap_or (files path) []
 
--- A path holds the file of a volume now, in the place of the one that was found, and each other path what it held; and
--- what is read of that file is the volume.
+-- a path holds a volume as its form writes it into the file that it held, and each other path what it held
+abbrev pub PutsFormed : Form → Files → Files → List ℕ → List ℕ → Type 0
+PutsFormed form None new path volume = ⊤
+PutsFormed form (Some files) new path volume =
+    Puts (Some files) new path (file_of form (unwrap_or (files path) []) volume)
+
+-- A path holds the file of kind .2mg of a volume now, made of the one that was found, and each other path what it held;
+-- and what is read of that file is the volume.
 pub record PutsVolume (old new : Files) (path volume : List ℕ) : Type 0 where
   pub before : List ℕ
   pub found : IsFound old path before

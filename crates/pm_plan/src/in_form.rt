@@ -1,8 +1,9 @@
 //! Files of which the images have another form: what is read of them is a volume in blocks, and what is written is
 //! brought back into the form.
-ghost use Rattle.std.specs.Prelude.{◌≡◌, Bool, IfOk, OnErr, OnOk, Some, option_map, string_bytes};
+ghost use Rattle.std.specs.Prelude.{◌≡◌, Bool, IfErr, IfOk, OnErr, OnOk, Some, option_map, string_bytes};
+ghost use Rattle.pm_files.specs.Held.{Puts};
 ghost use Rattle.pm_plan.specs.Forms.{volume_of};
-ghost use Rattle.pm_plan.specs.InForm.{IsFound, PutsVolume, form_at, in_form, is_path};
+ghost use Rattle.pm_plan.specs.InForm.{IsFound, PutsFormed, PutsVolume, form_at, in_form, is_path};
 
 use crate::form::Form;
 use pm_check::{Order, filed, volume_in};
@@ -53,6 +54,7 @@ fn form_at(form: Form, system: &Option<String>, printer: &Option<String>, path: 
 #[tactic(auto, using(pm_check::proofs::OrderLaws::turned_blocks))]
 fn volume_of(alloc: Global, form: Form, file: Vec<u8>) -> Result<Vec<u8>, DiskFault>
     ensures value { IfOk result (λ volume. volume.items ≡ volume_of form file.items) }
+    ensures wants { IfErr result (λ fault. fault ≡ DiskFault.NoMemory) }
 {
     match form {
         Form::In(Order::Blocks) => Ok(file),
@@ -62,6 +64,7 @@ fn volume_of(alloc: Global, form: Form, file: Vec<u8>) -> Result<Vec<u8>, DiskFa
 }
 
 /// The bytes of a path's file, none where there is no file.
+#[tactic(auto, using(crate::proofs::InFormLaws::found_held, crate::proofs::InFormLaws::found_none))]
 fn found<S: Store>(store: &mut S, alloc: Global, path: &str) -> Result<Vec<u8>, DiskFault>
     ensures stays { S.files store.new ≡ S.files store.old }
     ensures held { S.held store.new ≡ S.held store.old }
@@ -106,7 +109,7 @@ impl<S: Store> Store for InForm<S> {
 
     ghost held = { λ s. S.held s.store };
 
-    #[tactic(auto, using(crate::proofs::InFormLaws::read_volume))]
+    #[tactic(auto, using(crate::proofs::InFormLaws::read_volume, crate::proofs::InFormLaws::holds_none))]
     fn read(&mut self, alloc: Global, path: &str) -> Result<Vec<u8>, DiskFault> {
         let bytes = self.store.read(alloc, path)?;
         let form = form_at(self.form, &self.system, &self.printer, path);
@@ -121,8 +124,24 @@ impl<S: Store> Store for InForm<S> {
         self.store.hold(path)
     }
 
-    #[tactic(auto, using(crate::proofs::InFormLaws::put_turned, crate::proofs::InFormLaws::put_blocks, crate::proofs::InFormLaws::put_volume))]
-    fn put(&mut self, path: &str, bytes: &[u8]) -> Result<(), DiskFault> {
+    #[tactic(auto, using(crate::proofs::InFormLaws::put_turned, crate::proofs::InFormLaws::put_blocks, crate::proofs::InFormLaws::put_volume, crate::proofs::InFormLaws::formed_turned, crate::proofs::InFormLaws::formed_blocks, crate::proofs::InFormLaws::formed_headed))]
+    fn put(&mut self, path: &str, bytes: &[u8]) -> Result<(), DiskFault>
+        ensures puts { OnOk result (Puts
+            (in_form self.old.form (option_map string_bytes self.old.system) (option_map string_bytes self.old.printer)
+            (S.files self.old.store))
+            (in_form self.new.form (option_map string_bytes self.new.system) (option_map string_bytes self.new.printer)
+            (S.files self.new.store)) path.now bytes.now) }
+        ensures held { S.held self.new.store ≡ S.held self.old.store }
+        ensures stays { OnErr result (
+            in_form self.new.form (option_map string_bytes self.new.system) (option_map string_bytes self.new.printer)
+            (S.files self.new.store)
+            ≡ in_form self.old.form (option_map string_bytes self.old.system) (option_map string_bytes self.old.printer)
+            (S.files self.old.store)) }
+        ensures formed { OnOk result (PutsFormed
+            (form_at self.old.form (option_map string_bytes self.old.system)
+            (option_map string_bytes self.old.printer) path.now)
+            (S.files self.old.store) (S.files self.new.store) path.now bytes.now) }
+    {
         match form_at(self.form, &self.system, &self.printer, path) {
             Form::In(Order::Blocks) => self.store.put(path, bytes),
             Form::In(order) => {

@@ -4,3 +4,4 @@ pub mod Code
 pub mod Assembly
 pub mod Files
 pub mod Batches
+pub mod Told

@@ -1,11 +1,12 @@
 //! Jobs on volumes.
-ghost use Rattle.std.specs.Prelude.{◌≡◌, IfOk};
+ghost use Rattle.std.specs.Prelude.{◌≡◌, IfOk, IfSome, Some, string_bytes};
 ghost use Rattle.pm_filer.specs.Filed.{answer_of, order_of};
 ghost use Rattle.pm_volume.specs.Copies.{repaired};
 ghost use Rattle.pm_volume.specs.Headers.{blank_fault};
 ghost use Rattle.pm_batch.specs.Files.{answered, made_check, made_file, made_new, made_salvage, made_volume};
 ghost use Rattle.pm_batch.specs.Files.{opened_image, takes_input, with_input};
 ghost use Rattle.pm_batch.specs.Products.{product_of};
+ghost use Rattle.pm_batch.specs.Told.{form_sentence, form_told, is_behind_header};
 ghost use Rattle.pm_check.specs.Saving.{salvaged};
 
 use crate::batch::Made;
@@ -101,22 +102,45 @@ fn told_missing(
     format!(in alloc; "no file of that name; {longer} is there").ok()
 }
 
-/// What is told of an image whose first bytes are those of no volume, where its form is known; nothing where there is
-/// no memory for it.
-pub fn form_told(alloc: Global, fault: VolumeFault, form: Option<Form>) -> Option<String> {
-    let help = match (fault, form?) {
-        (VolumeFault::BadEntry(_) | VolumeFault::TooManyFiles, _) => return None,
-        (VolumeFault::PastEnd | VolumeFault::FirstCopyBad(_), _) => return None,
-        (_, Form::Dos) =>
+/// Whether a fault is one behind a header that is that of a volume.
+fn is_behind_header(fault: VolumeFault) -> bool
+    ensures value { result ≡ is_behind_header fault }
+{
+    matches!(
+        fault,
+        VolumeFault::BadEntry(_)
+            | VolumeFault::TooManyFiles
+            | VolumeFault::PastEnd
+            | VolumeFault::FirstCopyBad(_)
+    )
+}
+
+/// Which form an image has, and what takes it.
+fn form_sentence(form: Form) -> &'static str
+    ensures sentence { result.now ≡ form_sentence form }
+{
+    match form {
+        Form::Dos =>
             "the image has the form dos, its sectors in the order of DOS: --form dos takes it as it is",
-        (_, Form::Swapped) => {
+        Form::Swapped => {
             "the image has the form swapped, the bytes of each word: --form swapped takes it as it is"
         }
-        (_, Form::FrontBlocks | Form::FrontDos | Form::FrontSwapped) => {
+        Form::FrontBlocks | Form::FrontDos | Form::FrontSwapped => {
             "a header is before the image's blocks: --form 2mg goes by it, examples/form.sh IMAGE NEW takes it away"
         }
-    };
-    String::from_str(alloc, help).ok()
+    }
+}
+
+/// What is told of an image whose first bytes are those of no volume, where its form is known; nothing where there is
+/// no memory for it.
+pub fn form_told(alloc: Global, fault: VolumeFault, form: Option<Form>) -> Option<String>
+    ensures told { IfSome result (λ told. form_told fault form ≡ Some (string_bytes told)) }
+{
+    let form = form?;
+    if is_behind_header(fault) {
+        return None;
+    }
+    String::from_str(alloc, form_sentence(form)).ok()
 }
 
 /// What is told behind what is wrong with an image that is no volume: its form, where that is known, or what takes its

@@ -1,0 +1,28 @@
+-- What is told on a terminal of an image that is no volume, where its form is known.
+use Rattle.std.specs.Prelude.{Bool, true, false, ℕ, List, codes, Option, Some, None, if◌then◌else◌}
+use Rattle.pm_check.specs.declared.note.Form.{Form}
+use Rattle.pm_check.specs.declared.note.Form.TheVariants as forms
+use Rattle.pm_volume.specs.declared.fault.VolumeFault.{VolumeFault}
+use Rattle.pm_volume.specs.declared.fault.VolumeFault.TheVariants as faults
+
+-- a fault behind a header that is that of a volume: the form of the image is not what is wrong
+abbrev pub is_behind_header : VolumeFault → Bool
+is_behind_header (faults.BadEntry entry) = true
+is_behind_header faults.TooManyFiles = true
+is_behind_header faults.PastEnd = true
+is_behind_header (faults.FirstCopyBad number) = true
+is_behind_header _ = false
+
+-- which form it is, and what takes it
+abbrev pub form_sentence : Form → List ℕ
+form_sentence forms.Dos =
+    codes "the image has the form dos, its sectors in the order of DOS: --form dos takes it as it is"
+form_sentence forms.Swapped =
+    codes "the image has the form swapped, the bytes of each word: --form swapped takes it as it is"
+form_sentence _ =
+    codes "a header is before the image's blocks: --form 2mg goes by it, examples/form.sh IMAGE NEW takes it away"
+
+-- what is told of a fault and of the form in which the image has a header, if there is one
+abbrev pub form_told : VolumeFault → Option Form → Option (List ℕ)
+form_told fault None = None
+form_told fault (Some form) = if is_behind_header fault then None else Some (form_sentence form)

@@ -16,10 +16,15 @@ use pm_jobs::{AsmOutput, Reader, Saving, Sink, Source, Writer};
 use pm_plan::{
     Asked, FilesPlan, Form, InForm, Order, Plan, Program, RunChoices, TextFiles, TextInput, Verb,
 };
-use pm_tool::{Job, Outcome};
+use pm_tool::{Job, Outcome, Refusal};
+use pm_volume::VolumeFault;
 use std::alloc::{AllocError, Global};
 use std::io;
 use std::io::{Input, Read};
+
+/// What a terminal is told of a file of kind .2mg in which no volume has room.
+const HEADLESS: &str =
+    "no header of kind .2mg that fits begins the file, or it says fewer than 6 blocks";
 
 /// The name of standard output's file.
 const OUTPUT: &str = "/dev/stdout";
@@ -433,8 +438,12 @@ fn conflict_in<S: Store>(store: &S, plan: &Plan) -> Option<Conflict> {
     }
 }
 
-/// The end of a job that was done, with what its refusal is about.
-fn end_of_job(alloc: Global, disks: &Option<Disks>, outcome: Outcome) -> End {
+/// The end of a job that was done, with what its refusal is about. Where an image is too short for a volume, and its
+/// form that of a header, it may be the header that is missing.
+fn end_of_job(alloc: Global, disks: &Option<Disks>, form: Form, mut outcome: Outcome) -> End {
+    if let (Form::Headed, Some(Refusal::Volume(VolumeFault::TooShort))) = (form, outcome.refusal) {
+        outcome.line = String::from_str(alloc, HEADLESS).ok();
+    }
     let about = match (disks, outcome.about) {
         (Some(disks), Some(file)) => about(alloc, disks, file),
         _ => None,
@@ -512,7 +521,7 @@ fn end_of_plan<R: Host + AllocGlobal, I: Source, O: Sink>(
         Err(_) => return End::File(DiskFault::NoMemory, None),
     };
     match act(rt.alloc(), &mut files, source, sink, plan) {
-        Ok(outcome) => end_of_job(rt.alloc(), &disks, outcome),
+        Ok(outcome) => end_of_job(rt.alloc(), &disks, form, outcome),
         Err(fault) => End::File(fault, files.store.into_refused()),
     }
 }

@@ -75,7 +75,22 @@ fn indexed(
     }
 }
 
-#[tactic(auto, unfolding(crate::specs::Pointers::pointer_two, crate::specs::Pointers::moved))]
+#[tactic(auto, unfolding(crate::specs::Pointers::moved))]
+fn moved(
+    alloc: Global,
+    spelling: Spelling,
+    number: u16,
+    a: &Phrase,
+    b: &Phrase,
+) -> Result<Phrase, AllocError>
+    ensures shown { IfOk result (λ p. p ≡ texts.moved spelling number a.now b.now) }
+{
+    let marks = Marks(spelling);
+    let text = format!(in alloc; "{} := move[{number}{marks}] {}", Place(a), Place(b))?;
+    Ok(valued(text, 0))
+}
+
+#[tactic(auto, unfolding(crate::specs::Pointers::pointer_two))]
 pub(crate) fn pointer_two(
     alloc: Global,
     spelling: Spelling,
@@ -95,11 +110,7 @@ pub(crate) fn pointer_two(
             let text = format!(in alloc; "{} :=[{n}] {}", Place(a), Value(b, 0))?;
             Ok(Some(valued(text, 0)))
         }
-        Pointer::Move(n) => {
-            let marks = Marks(spelling);
-            let text = format!(in alloc; "{} := move[{n}{marks}] {}", Place(a), Place(b))?;
-            Ok(Some(valued(text, 0)))
-        }
+        Pointer::Move(n) => Ok(Some(moved(alloc, spelling, n, a, b)?)),
         _ => Ok(None),
     }
 }

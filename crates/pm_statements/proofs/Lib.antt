@@ -6,5 +6,6 @@ pub mod Marked
 pub mod Called
 pub mod Computed
 pub mod Blocked
+pub mod BlockLabelled
 pub mod Stripped
 pub mod Filed

@@ -13,7 +13,7 @@ pub or_false : (b : Bool) → (b || false) ≡ b
 or_false true = refl
 or_false false = refl
 
-or_assoc : (a b c : Bool) → ((a || b) || c) ≡ (a || (b || c))
+pub or_assoc : (a b c : Bool) → ((a || b) || c) ≡ (a || (b || c))
 or_assoc true b c = refl
 or_assoc false b c = refl
 
@@ -41,7 +41,7 @@ has_set marks place p low = by (place == p) refl
         ap (λ (q : ℕ). has (set marks place true) q) same ∙ get_or-set_same marks place true false low
     by false e = get_or-set_other marks place p true false (λ q. absurd (grind (arith, nat_tests, e, q)))
 
-among_joined : (xs ys : List ℕ) (p : ℕ) → is_among (xs ++ ys) p ≡ (is_among xs p || is_among ys p)
+pub among_joined : (xs ys : List ℕ) (p : ℕ) → is_among (xs ++ ys) p ≡ (is_among xs p || is_among ys p)
 among_joined [] ys p = refl
 among_joined (x ∷ xs) ys p = ap (λ b. (x == p) || b) (among_joined xs ys p) ∙ sym (or_assoc (x == p) (is_among xs p) (is_among ys p))
 

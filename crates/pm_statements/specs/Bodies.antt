@@ -1,9 +1,13 @@
 -- The text of a procedure's code, by how its statements stand.
-use Rattle.std.specs.Prelude.{◌/◌, ℕ, Bool, true, false, List, [], ◌++◌, reverse, if◌then◌else◌, Option, Some, None}
+use Rattle.std.specs.Prelude.{◌/◌, ℕ, Bool, true, false, List, [], ◌++◌, map, reverse, if◌then◌else◌}
+use Rattle.std.specs.Prelude.{Option, Some, None}
 use Rattle.pm_trees.specs.Blocks.{blocks}
+use Rattle.pm_trees.specs.declared.left.Left.{Left}
 use Rattle.pm_trees.specs.declared.line.Line.{Line}
-use Rattle.pm_code.specs.Program.{Procedure, code_end}
+use Rattle.pm_code.specs.Program.{Procedure, code_end, is_among}
 use Rattle.pm_phrases.specs.declared.around.Around.{Around}
+use Rattle.pm_phrases.specs.Shown.{Shown}
+use Rattle.pm_statements.specs.BlockLabels.{relabelled, shown_places}
 use Rattle.pm_statements.specs.BlockLines.{block_lines}
 use Rattle.pm_statements.specs.Depths.{Depths, depths}
 use Rattle.pm_statements.specs.Leading.{stretches}
@@ -27,19 +31,28 @@ end_place p = place_at (labelled_places p) p.exit (code_end p)
 abbrev pub depths_if : Bool → Procedure → Depths
 depths_if wanted p = record { start = p.start; list = if wanted then depths p else [] }
 
+-- statements by depth, or as they are, and the lines of the place where they end
+abbrev pub flat : Bool → Procedure → Pile → List ℕ
+flat indented p t = pile_lines (depths_if indented p) t ++ place_lines (end_place p)
+
+-- statements in these blocks, with those labels that their text names
+abbrev pub blocks_text : Procedure → List Line → List Left → List Shown → List ℕ
+blocks_text p xs ls ss =
+    block_lines 0 false xs (map (relabelled (is_among (shown_places p xs ls))) ls) ss
+    ++ place_lines (place_at (shown_places p xs ls) p.exit (code_end p))
+
 -- statements in blocks, if there are such; else as they are
 abbrev pub in_blocks : Procedure → Pile → Option (List Line) → List ℕ
-in_blocks p t None = pile_lines (depths_if false p) t
-in_blocks p t (Some xs) = block_lines 0 false xs (reverse t.lefts) (reverse t.phrases)
+in_blocks p t None = flat false p t
+in_blocks p t (Some xs) = blocks_text p xs (reverse t.lefts) (reverse t.phrases)
 
--- The text of a procedure's statements: a line for each, behind a line feed.
+-- The text of a procedure's statements: a line for each, behind a line feed, and the lines of the place where they end.
 unfoldable pub body : Layout → Procedure → Pile → List ℕ
-body layout.Flat p t = pile_lines (depths_if false p) t
-body layout.Indented p t = pile_lines (depths_if true p) t
+body layout.Flat p t = flat false p t
+body layout.Indented p t = flat true p t
 body layout.Blocks p t =
     in_blocks p t (blocks (stretches p.entries (code_end p) (reverse t.lefts) (reverse t.phrases)))
 
--- The text of a procedure's code: its statements, and the labels where it ends.
+-- The text of a procedure's code.
 abbrev pub procedure_statements : Known → Procedure → List ℕ
-procedure_statements k p =
-    body k.layout p (pile_of (around_of p) (statements (procedure_parts k p))) ++ place_lines (end_place p)
+procedure_statements k p = body k.layout p (pile_of (around_of p) (statements (procedure_parts k p)))

@@ -4,6 +4,7 @@ pub mod Laws
 pub mod Texts
 pub mod Leading
 pub mod BlockLines
+pub mod BlockLabels
 pub mod Bodies
 pub mod Marks
 pub mod Callees

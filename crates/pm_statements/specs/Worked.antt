@@ -1,11 +1,21 @@
 -- Statements computed, as they were worked out by hand.
 use Rattle.std.specs.Prelude.{◌≡◌, ℕ, true, false, List, [], ◌∷◌, map, Some, None}
 use Rattle.pm_code.specs.Item.{Item}
-use Rattle.pm_code.specs.Item.Item.{Plain, Jump}
+use Rattle.pm_code.specs.Item.Item.{Plain, Jump, Case}
 use Rattle.pm_code.specs.Item.Target.{To, Through}
 use Rattle.pm_code.specs.Program.{Procedure}
 use Rattle.pm_trees.specs.declared.items.Layout.TheVariants as layout
+use Rattle.pm_code.specs.declared.item.Target.TheVariants as targets
+use Rattle.pm_families.specs.declared.families.Condition.TheVariants as condition
 use Rattle.pm_trees.specs.declared.left.Left.{Left}
+use Rattle.pm_trees.specs.declared.left.Role.{Role}
+use Rattle.pm_trees.specs.declared.left.Role.TheVariants as role
+use Rattle.pm_trees.specs.declared.line.Line.{Line}
+use Rattle.pm_trees.specs.declared.line.Word.{Word}
+use Rattle.pm_trees.specs.declared.line.Word.TheVariants as word
+use Rattle.pm_trees.specs.declared.part.Leaves.TheVariants as leaves
+use Rattle.pm_trees.specs.declared.statement.Leads.TheVariants as leads
+use Rattle.pm_statements.specs.BlockLabels.{shown_places}
 use Rattle.pm_statements.specs.Callees.{sized}
 use Rattle.pm_trees.specs.Parts.{Known, procedure_parts}
 use Rattle.pm_statements.specs.Depths.{at_place}
@@ -93,6 +103,29 @@ nested = record {
 abbrev pub nested_depth : ℕ → ℕ
 nested_depth at = at_place (depths_if true nested) at
 
+-- A jump table, a CASE, a choice whose jump leads to 5, and in it a jump to 9.
+abbrev pub tabled : Procedure
+tabled = record {
+  level = 0;
+  parameters = 0;
+  locals = 0;
+  start = 0;
+  items = Case 1 1 (To 7) (2 ∷ []) ∷ [];
+  exit = 9;
+  entries = 3 ∷ [];
+}
+
+abbrev pub line_with : Word → Line
+line_with w = record { word = w; at = 0; behind = 0 }
+
+abbrev pub left_with : Role → Left
+left_with r = record {
+  leaves = leaves.Words 0;
+  place = record { offset = 0; has_label = true; is_exit = false };
+  parts = 1;
+  role = r;
+}
+
 -- Six statements, the last one first: IF NOT .. at 18, a call of three operands at 23, CLP 3, a call again, RNP where
 -- the exit code and a label are, NOP. The depths are those of the page.
 pub record WorkedStatements : Type 0 where
@@ -106,3 +139,9 @@ pub record WorkedStatements : Type 0 where
   pub loop : map nested_depth (11 ∷ 14 ∷ 17 ∷ []) ≡ 0 ∷ 1 ∷ 1 ∷ []
   pub back : map nested_depth (19 ∷ 22 ∷ 25 ∷ []) ≡ 1 ∷ 1 ∷ 0 ∷ []
   pub out : map nested_depth (28 ∷ 31 ∷ 34 ∷ 35 ∷ 38 ∷ []) ≡ 1 ∷ 1 ∷ 1 ∷ 0 ∷ 0 ∷ []
+  pub named : shown_places tabled
+      (line_with word.If ∷ line_with (word.Plain leads.Nowhere) ∷ line_with (word.Plain (leads.Always 9))
+      ∷ line_with word.End ∷ line_with word.EndCase ∷ [])
+      (left_with (role.Jump condition.IfFalse (targets.To 5)) ∷ left_with role.Other
+      ∷ left_with (role.Jump condition.Always (targets.To 9)) ∷ left_with role.Case ∷ [])
+      ≡ 7 ∷ 2 ∷ 3 ∷ 9 ∷ []

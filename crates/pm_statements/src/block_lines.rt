@@ -159,7 +159,7 @@ fn calls_at(word: Word, lefts: &[Left]) -> bool
 }
 
 /// What follows the statement of a line, if it is one.
-fn behind_word<T>(word: Word, list: &[T]) -> &[T]
+pub(crate) fn behind_word<T>(word: Word, list: &[T]) -> &[T]
     ensures rest { result.now ≡ drop (texts.statements_at word) list.now }
 {
     if word.is_extra() {

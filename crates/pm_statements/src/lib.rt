@@ -1,6 +1,7 @@
 //! Code as statements: their text.
 #![tactic(auto)]
 
+mod block_labels;
 mod block_lines;
 mod callees;
 mod conditions;

@@ -37,7 +37,7 @@ fn mark(marks: &mut Vec<bool>, place: usize) -> Result<(), AllocError>
 
 /// Marks places.
 #[tactic(auto, using(crate::proofs::Marked::places_done))]
-fn mark_places(marks: &mut Vec<bool>, places: &[usize]) -> Result<(), AllocError>
+pub(crate) fn mark_places(marks: &mut Vec<bool>, places: &[usize]) -> Result<(), AllocError>
     ensures has { OnOk result ((p : ℕ) → has marks.new.items p ≡ (has marks.old.items p || is_among places.now p)) }
 {
     for place in places {
@@ -48,7 +48,7 @@ fn mark_places(marks: &mut Vec<bool>, places: &[usize]) -> Result<(), AllocError
 
 /// Marks the place that a jump leads to by a label.
 #[tactic(auto, using(crate::proofs::Marked::one_place, crate::proofs::Marked::or_false))]
-fn mark_target(marks: &mut Vec<bool>, target: Target<usize>) -> Result<(), AllocError>
+pub(crate) fn mark_target(marks: &mut Vec<bool>, target: Target<usize>) -> Result<(), AllocError>
     ensures has { OnOk result ((p : ℕ) → has marks.new.items p
         ≡ (has marks.old.items p || is_among (target_places (placed_target target)) p)) }
 {
@@ -60,7 +60,7 @@ fn mark_target(marks: &mut Vec<bool>, target: Target<usize>) -> Result<(), Alloc
 
 /// Marks the places that an item names.
 #[tactic(auto, using(crate::proofs::Marked::joined_places, crate::proofs::Marked::or_false))]
-fn mark_item(marks: &mut Vec<bool>, item: &Item<usize>) -> Result<(), AllocError>
+pub(crate) fn mark_item(marks: &mut Vec<bool>, item: &Item<usize>) -> Result<(), AllocError>
     ensures has { OnOk result ((p : ℕ) → has marks.new.items p
         ≡ (has marks.old.items p || is_among (item_places (placed_item item.now)) p)) }
 {

@@ -2,20 +2,22 @@
 
 ghost use Rattle.std.specs.Prelude.{◌≡◌, ◌+◌, ◌++◌, ℕ, List, string_bytes, IfOk, OnOk};
 ghost use Rattle.pm_code.specs.Item.{size};
+ghost use Rattle.pm_code.specs.Program.{code_end};
 ghost use Rattle.pm_code.specs.Views.{placed_item, procedure_seen};
 ghost use Rattle.pm_statements.specs.Bodies as bodies;
 ghost use Rattle.pm_statements.specs.Marks.{Marks};
 ghost use Rattle.pm_trees.specs.Parts as parts;
 ghost use Rattle.pm_statements.specs.Texts as texts;
 
+use crate::block_labels::{all_relabelled, shown_labels};
 use crate::block_lines::push_block_lines;
 use crate::depths::depths_if;
 use crate::leading::stretches;
 use crate::lines::{PlaceLines, push_statements};
 use crate::marks::labels_of;
 use pm_code::{Item, Procedure, items_end};
-use pm_phrases::Around;
-use pm_trees::{Known, Layout, Part, Pile, Place, blocks, part_of, statements};
+use pm_phrases::{Around, Phrase};
+use pm_trees::{Known, Layout, Left, Line, Part, Pile, Place, blocks, part_of, statements};
 use std::alloc::{AllocError, Global};
 use std::fmt::Write;
 
@@ -65,11 +67,11 @@ fn parts_of<'a>(
     Ok(parts)
 }
 
-/// Adds the lines of the place where a procedure's code ends.
+/// Adds the lines of the place where a procedure's code ends, where these places have labels.
 fn push_end(out: &mut String, labels: &[bool], procedure: &Procedure) -> Result<(), AllocError>
-    requires labels { Marks labels.now (parts.labelled_places (procedure_seen procedure.now)) }
-    ensures text { OnOk result (string_bytes out.new
-        ≡ string_bytes out.old ++ texts.place_lines (bodies.end_place (procedure_seen procedure.now))) }
+    ensures text { (used : List ℕ) → Marks labels.now used → OnOk result (string_bytes out.new
+        ≡ string_bytes out.old ++ texts.place_lines (parts.place_at used procedure.now.exit
+        (code_end (procedure_seen procedure.now)))) }
 {
     let Some(end) = items_end(procedure.start, &procedure.items) else {
         return Err(AllocError);
@@ -80,18 +82,41 @@ fn push_end(out: &mut String, labels: &[bool], procedure: &Procedure) -> Result<
 }
 
 /// Adds statements by depth, or as they are.
+#[tactic(auto, using(crate::proofs::Listed::text_joined))]
 fn push_flat(
     alloc: Global,
     out: &mut String,
     indented: bool,
+    labels: &[bool],
     procedure: &Procedure,
     statements: &Pile,
 ) -> Result<(), AllocError>
+    requires labels { Marks labels.now (parts.labelled_places (procedure_seen procedure.now)) }
     ensures text { OnOk result (string_bytes out.new ≡ string_bytes out.old
-        ++ texts.pile_lines (bodies.depths_if indented (procedure_seen procedure.now)) statements.now) }
+        ++ bodies.flat indented (procedure_seen procedure.now) statements.now) }
 {
     let depths = depths_if(alloc, indented, procedure)?;
-    push_statements(out, &depths, statements)
+    push_statements(out, &depths, statements)?;
+    push_end(out, labels, procedure)
+}
+
+/// Adds statements in these blocks, with those labels that their text names.
+#[tactic(auto, using(crate::proofs::BlockLabelled::text_known))]
+fn push_shown(
+    alloc: Global,
+    out: &mut String,
+    procedure: &Procedure,
+    lines: &[Line],
+    lefts: &[Left],
+    phrases: &[Phrase],
+) -> Result<(), AllocError>
+    ensures text { OnOk result (string_bytes out.new ≡ string_bytes out.old
+        ++ bodies.blocks_text (procedure_seen procedure.now) lines.now lefts.now phrases.now) }
+{
+    let labels = shown_labels(alloc, procedure, lines, lefts)?;
+    let shown = all_relabelled(alloc, &labels, lefts)?;
+    push_block_lines(alloc, out, lines, &shown, phrases)?;
+    push_end(out, &labels, procedure)
 }
 
 /// Adds statements in blocks; as they are, where these blocks would say other jumps.
@@ -99,9 +124,11 @@ fn push_flat(
 fn push_blocks(
     alloc: Global,
     out: &mut String,
+    labels: &[bool],
     procedure: &Procedure,
     statements: &Pile,
 ) -> Result<(), AllocError>
+    requires labels { Marks labels.now (parts.labelled_places (procedure_seen procedure.now)) }
     ensures text { OnOk result (string_bytes out.new ≡ string_bytes out.old
         ++ bodies.body Layout.Blocks (procedure_seen procedure.now) statements.now) }
 {
@@ -111,8 +138,8 @@ fn push_blocks(
     let (lefts, phrases) = (&statements.lefts, &statements.phrases);
     let stretches = stretches(alloc, &procedure.entries, end, lefts, phrases)?;
     match blocks(alloc, &stretches)? {
-        Some(lines) => push_block_lines(alloc, out, &lines, lefts, phrases),
-        None => push_flat(alloc, out, false, procedure, statements),
+        Some(lines) => push_shown(alloc, out, procedure, &lines, lefts, phrases),
+        None => push_flat(alloc, out, false, labels, procedure, statements),
     }
 }
 
@@ -122,22 +149,24 @@ fn push_body(
     alloc: Global,
     out: &mut String,
     layout: Layout,
+    labels: &[bool],
     procedure: &Procedure,
     statements: &Pile,
 ) -> Result<(), AllocError>
+    requires labels { Marks labels.now (parts.labelled_places (procedure_seen procedure.now)) }
     ensures text { OnOk result (string_bytes out.new ≡ string_bytes out.old
         ++ bodies.body layout (procedure_seen procedure.now) statements.now) }
 {
     match layout {
-        Layout::Flat => push_flat(alloc, out, false, procedure, statements),
-        Layout::Indented => push_flat(alloc, out, true, procedure, statements),
-        Layout::Blocks => push_blocks(alloc, out, procedure, statements),
+        Layout::Flat => push_flat(alloc, out, false, labels, procedure, statements),
+        Layout::Indented => push_flat(alloc, out, true, labels, procedure, statements),
+        Layout::Blocks => push_blocks(alloc, out, labels, procedure, statements),
     }
 }
 
-/// Adds the text of a procedure's code as statements: a line for each, behind a line feed, with lines for the labels
-/// and the exit code as the text of the procedure has them, and by depth or in blocks if that is wanted.
-#[tactic(auto, using(crate::proofs::Listed::text_joined))]
+/// Adds the text of a procedure's code as statements: a line for each, behind a line feed, by depth or in blocks if
+/// that is wanted; with lines for the exit code and the labels, as the text of the procedure has them, in blocks for
+/// those labels that the statements name.
 pub fn push_procedure(
     alloc: Global,
     out: &mut String,
@@ -153,6 +182,5 @@ pub fn push_procedure(
     let labels = labels_of(alloc, procedure)?;
     let parts = parts_of(alloc, known, &labels, procedure)?;
     let statements = statements(alloc, around, &parts)?;
-    push_body(alloc, out, known.layout, procedure, &statements)?;
-    push_end(out, &labels, procedure)
+    push_body(alloc, out, known.layout, &labels, procedure, &statements)
 }

@@ -1,5 +1,5 @@
 -- Stretches and lines of blocks, one after another.
-use Rattle.std.proofs.Common.{◌≡◌, ℕ, Bool, List, [], ◌∷◌, ◌++◌, append_assoc, drop, refl, sym, ap, ◌∙◌}
+use Rattle.std.proofs.Common.{◌≡◌, ℕ, ◌-◌, Bool, List, [], ◌∷◌, ◌++◌, append_assoc, drop, refl, sym, ap, ◌∙◌}
 use Rattle.std.proofs.lemmas.List.{append-nil}
 use Rattle.pm_trees.specs.declared.line.Line.{Line}
 use Rattle.pm_trees.specs.declared.statement.Leads.{Leads}
@@ -11,27 +11,29 @@ use Rattle.pm_statements.specs.BlockLines.{block_line, block_lines, calls_at, st
 use Rattle.pm_statements.specs.Leading.{leads_by, next_place, stretches}
 
 -- one statement more
-pub stretches_step : (entries : List ℕ) (end behind : ℕ) (to : Leads) (l : Left) (s : Shown) (ls now : List Left) (ss texts : List Shown)
-    (list new : List Statement) → now ≡ l ∷ ls → texts ≡ s ∷ ss → behind ≡ next_place end ls → to ≡ leads_by entries l.role s.form
-    → new ≡ list ++ record { at = l.place.offset; behind = behind; leads = to } ∷ []
-    → new ++ stretches entries end ls ss ≡ list ++ stretches entries end now texts
+pub stretches_step : (start : ℕ) (entries : List ℕ) (end behind : ℕ) (to : Leads) (l : Left) (s : Shown) (ls now : List Left) (ss texts : List Shown)
+    (list new : List Statement) → now ≡ l ∷ ls → texts ≡ s ∷ ss → behind ≡ next_place end ls → to ≡ leads_by start entries l.role s.form
+    → new ≡ list ++ record { at = l.place.offset - start; behind = behind - start; leads = to } ∷ []
+    → new ++ stretches start entries end ls ss ≡ list ++ stretches start entries end now texts
 unfolding stretches
-stretches_step entries end behind to l s ls now ss texts list new a b c d e =
-    ap (λ x. x ++ stretches entries end ls ss) e
-    ∙ append_assoc list (record { at = l.place.offset; behind = behind; leads = to } ∷ []) (stretches entries end ls ss)
-    ∙ ap (λ (n : ℕ). list ++ record { at = l.place.offset; behind = n; leads = to } ∷ stretches entries end ls ss) c
-    ∙ ap (λ (t : Leads). list ++ record { at = l.place.offset; behind = next_place end ls; leads = t } ∷ stretches entries end ls ss) d
-    ∙ ap (λ x. list ++ stretches entries end (l ∷ ls) x) (sym b)
-    ∙ ap (λ x. list ++ stretches entries end x texts) (sym a)
+stretches_step start entries end behind to l s ls now ss texts list new a b c d e =
+    let rest : List Statement = stretches start entries end ls ss in
+    let at : ℕ = l.place.offset - start in
+    ap (λ x. x ++ rest) e
+    ∙ append_assoc list (record { at = at; behind = behind - start; leads = to } ∷ []) rest
+    ∙ ap (λ (n : ℕ). list ++ record { at = at; behind = n - start; leads = to } ∷ rest) c
+    ∙ ap (λ (t : Leads). list ++ record { at = at; behind = next_place end ls - start; leads = t } ∷ rest) d
+    ∙ ap (λ x. list ++ stretches start entries end (l ∷ ls) x) (sym b)
+    ∙ ap (λ x. list ++ stretches start entries end x texts) (sym a)
 
-pub stretches_none : (entries : List ℕ) (end : ℕ) (ls : List Left) → stretches entries end ls [] ≡ []
+pub stretches_none : (start : ℕ) (entries : List ℕ) (end : ℕ) (ls : List Left) → stretches start entries end ls [] ≡ []
 unfolding stretches
-stretches_none entries end [] = refl
-stretches_none entries end (l ∷ ls) = refl
+stretches_none start entries end [] = refl
+stretches_none start entries end (l ∷ ls) = refl
 
-pub stretches_done : (entries : List ℕ) (end : ℕ) (ls : List Left) (ss : List Shown) → ls ≡ [] → stretches entries end ls ss ≡ []
+pub stretches_done : (start : ℕ) (entries : List ℕ) (end : ℕ) (ls : List Left) (ss : List Shown) → ls ≡ [] → stretches start entries end ls ss ≡ []
 unfolding stretches
-stretches_done entries end ls ss e = ap (λ x. stretches entries end x ss) e
+stretches_done start entries end ls ss e = ap (λ x. stretches start entries end x ss) e
 
 -- one line more
 pub block_step : (depth next : ℕ) (calls behind : Bool) (x : Line) (xs now : List Line) (ls rest : List Left) (ss texts : List Shown) (out new : List ℕ)

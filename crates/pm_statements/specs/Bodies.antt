@@ -51,7 +51,7 @@ unfoldable pub body : Layout → Procedure → Pile → List ℕ
 body layout.Flat p t = flat false p t
 body layout.Indented p t = flat true p t
 body layout.Blocks p t =
-    in_blocks p t (blocks (stretches p.entries (code_end p) (reverse t.lefts) (reverse t.phrases)))
+    in_blocks p t (blocks (stretches p.start p.entries (code_end p) (reverse t.lefts) (reverse t.phrases)))
 
 -- The text of a procedure's code.
 abbrev pub procedure_statements : Known → Procedure → List ℕ

@@ -1,5 +1,6 @@
 -- Where statements lead.
-use Rattle.std.specs.Prelude.{ℕ, Bool, false, ◌==◌, if◌then◌else◌, List, [], ◌∷◌, slice_get, Option, Some, None}
+use Rattle.std.specs.Prelude.{ℕ, ◌-◌, Bool, false, ◌==◌, nat_le, if◌then◌else◌, List, [], ◌∷◌, slice_get}
+use Rattle.std.specs.Prelude.{Option, Some, None}
 use Rattle.pm_trees.specs.declared.statement.Leads.{Leads}
 use Rattle.pm_trees.specs.declared.statement.Leads.TheVariants as leads
 use Rattle.pm_trees.specs.declared.statement.Statement.{Statement}
@@ -19,6 +20,11 @@ abbrev pub place_in : List ℕ → Target ℕ → Option ℕ
 place_in entries (targets.To place) = Some place
 place_in entries (targets.Through k) = slice_get entries k
 
+-- a place from where the code begins on, if it does not lie before that
+abbrev pub from_start : ℕ → Option ℕ → Option ℕ
+from_start start None = None
+from_start start (Some place) = if nat_le start place then Some (place - start) else None
+
 -- whether a text is that of a statement, and not a line of the disassembly in braces
 abbrev pub is_sentence : Form → Bool
 is_sentence (form.Value strength) = strength == 0
@@ -32,23 +38,27 @@ leads_to c f (Some place) = if is_sentence f then leads.ByCondition place else l
 abbrev pub leads_by_value : Form → Leads
 leads_by_value f = if is_sentence f then leads.ByValue else leads.Nowhere
 
-abbrev pub leads_by : List ℕ → Role → Form → Leads
-leads_by entries (role.Jump c target) f = leads_to c f (place_in entries target)
-leads_by entries role.Case f = leads_by_value f
-leads_by entries _ f = leads.Nowhere
+abbrev pub leads_by : ℕ → List ℕ → Role → Form → Leads
+leads_by start entries (role.Jump c target) f = leads_to c f (from_start start (place_in entries target))
+leads_by start entries role.Case f = leads_by_value f
+leads_by start entries _ f = leads.Nowhere
 
 -- where the next statement begins; where the code ends, if there is none
 abbrev pub next_place : ℕ → List Left → ℕ
 next_place end [] = end
 next_place end (l ∷ ls) = l.place.offset
 
-abbrev pub stretch : List ℕ → ℕ → Left → Shown → Statement
-stretch entries behind l s =
-    record { at = l.place.offset; behind = behind; leads = leads_by entries l.role s.form }
+-- a statement up to a place, both from where the code begins on
+abbrev pub stretch : ℕ → List ℕ → ℕ → Left → Shown → Statement
+stretch start entries behind l s = record {
+  at = l.place.offset - start;
+  behind = behind - start;
+  leads = leads_by start entries l.role s.form;
+}
 
--- The stretches of statements, the first one first, of code that ends at a place.
-unfoldable pub stretches : List ℕ → ℕ → List Left → List Shown → List Statement
-stretches entries end [] ss = []
-stretches entries end (l ∷ ls) [] = []
-stretches entries end (l ∷ ls) (s ∷ ss) =
-    stretch entries (next_place end ls) l s ∷ stretches entries end ls ss
+-- The stretches of statements, the first one first, of code that begins and ends at these places.
+unfoldable pub stretches : ℕ → List ℕ → ℕ → List Left → List Shown → List Statement
+stretches start entries end [] ss = []
+stretches start entries end (l ∷ ls) [] = []
+stretches start entries end (l ∷ ls) (s ∷ ss) =
+    stretch start entries (next_place end ls) l s ∷ stretches start entries end ls ss

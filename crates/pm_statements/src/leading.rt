@@ -19,6 +19,16 @@ fn place_in(entries: &[usize], target: Target<usize>) -> Option<usize>
     }
 }
 
+/// A place from where the code begins on, if it does not lie before that.
+fn from_start(start: usize, place: Option<usize>) -> Option<usize>
+    ensures place { result ≡ leading.from_start start place }
+{
+    match place {
+        Some(place) => place.checked_sub(start),
+        None => None,
+    }
+}
+
 /// Whether a text is that of a statement, and not a line of the disassembly in braces.
 fn is_sentence(form: Form) -> bool
     ensures value { result ≡ leading.is_sentence form }
@@ -60,15 +70,14 @@ fn leads_by_value(form: Form) -> Leads
 }
 
 /// Where a statement leads.
-fn leads_by(entries: &[usize], role: Role, phrase: &Phrase) -> Leads
-    ensures leads { result ≡ leading.leads_by entries.now role phrase.now.form }
+fn leads_by(start: usize, entries: &[usize], role: Role, phrase: &Phrase) -> Leads
+    ensures leads { result ≡ leading.leads_by start entries.now role phrase.now.form }
 {
     match role {
-        Role::Jump(condition, target) => leads_to(
-            condition,
-            phrase.form,
-            place_in(entries, target),
-        ),
+        Role::Jump(condition, target) => {
+            let place = from_start(start, place_in(entries, target));
+            leads_to(condition, phrase.form, place)
+        }
         Role::Case => leads_by_value(phrase.form),
         Role::Call | Role::Check | Role::Other => Leads::Nowhere,
     }
@@ -94,15 +103,16 @@ pub(crate) fn behind_first<T>(list: &[T]) -> &[T]
     }
 }
 
-/// The stretches of statements, of code that ends at a place.
+/// The stretches of statements, of code that begins and ends at these places.
 pub(crate) fn stretches(
     alloc: Global,
+    start: usize,
     entries: &[usize],
     end: usize,
     lefts: &[Left],
     phrases: &[Phrase],
 ) -> Result<Vec<Statement>, AllocError>
-    ensures stretches { IfOk result (λ ss. ss.items ≡ leading.stretches entries.now end lefts.now phrases.now) }
+    ensures stretches { IfOk result (λ ss. ss.items ≡ leading.stretches start entries.now end lefts.now phrases.now) }
 {
     let mut list = Vec::new(alloc);
     let mut rest = phrases;
@@ -113,9 +123,9 @@ pub(crate) fn stretches(
         };
         more = behind_first(more);
         list.push(Statement {
-            at: left.place.offset,
-            behind: next_place(end, more),
-            leads: leads_by(entries, left.role, phrase),
+            at: left.place.offset.saturating_sub(start),
+            behind: next_place(end, more).saturating_sub(start),
+            leads: leads_by(start, entries, left.role, phrase),
         })?;
         rest = others;
     }

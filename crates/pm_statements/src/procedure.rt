@@ -136,7 +136,8 @@ fn push_blocks(
         return Err(AllocError);
     };
     let (lefts, phrases) = (&statements.lefts, &statements.phrases);
-    let stretches = stretches(alloc, &procedure.entries, end, lefts, phrases)?;
+    let (start, entries) = (procedure.start, &procedure.entries);
+    let stretches = stretches(alloc, start, entries, end, lefts, phrases)?;
     match blocks(alloc, &stretches)? {
         Some(lines) => push_shown(alloc, out, procedure, &lines, lefts, phrases),
         None => push_flat(alloc, out, false, labels, procedure, statements),

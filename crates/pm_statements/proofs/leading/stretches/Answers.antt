@@ -25,7 +25,7 @@ returns-in_default c = record {
       let ls : List Left = drop c.loop-left.left-index c.args.lefts.now in
       let es = c.args.entries.now in
       sym (ap (λ t. c.loop-left.list.items ++ t)
-      (ap (λ r. stretches es c.args.end ls r) none ∙ stretches_none es c.args.end ls)
+      (ap (λ r. stretches c.args.start es c.args.end ls r) none ∙ stretches_none c.args.start es c.args.end ls)
       ∙ append-nil c.loop-left.list.items)
       ∙ c.loop-left.invariant.stretches;
 }
@@ -42,7 +42,7 @@ loop-left-preserved c =
     c.behind_first-more.ensures.rest ∙ ap (drop 1) (c.loop-left.invariant.more ∙ front) in
     record {
       stretches =
-          stretches_step c.args.entries.now c.args.end c.next_place.result c.leads_by.result l s (drop (i + 1) ls) (drop i ls)
+          stretches_step c.args.start c.args.entries.now c.args.end c.next_place.result c.leads_by.result l s (drop (i + 1) ls) (drop i ls)
           c.in-Some.others.now c.loop-left.rest.now c.loop-left.list.items c.push.new.self.items front first
           (c.next_place.ensures.place ∙ ap (next_place c.args.end) more) c.leads_by.ensures.leads c.in_ok-push.ensures.items
           ∙ c.loop-left.invariant.stretches;
@@ -54,7 +54,8 @@ returns c = record {
   stretches =
       let i : ℕ = c.loop-left.left-index in
       sym (ap (λ t. c.loop-left.list.items ++ t)
-      (stretches_done c.args.entries.now c.args.end (drop i c.args.lefts.now) c.loop-left.rest.now (drop_all i c.args.lefts.now c.loop-left-test.false))
+      (stretches_done c.args.start c.args.entries.now c.args.end (drop i c.args.lefts.now) c.loop-left.rest.now
+      (drop_all i c.args.lefts.now c.loop-left-test.false))
       ∙ append-nil c.loop-left.list.items)
       ∙ c.loop-left.invariant.stretches;
 }

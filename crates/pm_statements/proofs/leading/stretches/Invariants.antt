@@ -5,6 +5,6 @@ use Rattle.pm_statements.proofs.leading.stretches.Given as goal
 -- the stretches so far, with those of the statements that are left, are all
 abbrev pub invariant-loop-left : goal.invariant-loop-left
 invariant-loop-left l = record {
-  stretches : l.list.items ++ stretches l.entries l.end (drop l.left-index l.lefts) l.rest ≡ stretches l.entries l.end l.lefts l.phrases;
+  stretches : l.list.items ++ stretches l.start l.entries l.end (drop l.left-index l.lefts) l.rest ≡ stretches l.start l.entries l.end l.lefts l.phrases;
   more : l.more ≡ drop l.left-index l.lefts;
 }

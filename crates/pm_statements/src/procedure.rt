@@ -101,7 +101,6 @@ fn push_flat(
 }
 
 /// Adds statements in these blocks, with those labels that their text names.
-#[tactic(auto, using(crate::proofs::BlockLabelled::text_known))]
 fn push_shown(
     alloc: Global,
     out: &mut String,
@@ -116,7 +115,8 @@ fn push_shown(
     let labels = shown_labels(alloc, procedure, lines, lefts)?;
     let shown = all_relabelled(alloc, &labels, lefts)?;
     push_block_lines(alloc, out, lines, &shown, phrases)?;
-    push_end(out, &labels, procedure)
+    push_end(out, &labels, procedure)?;
+    Ok(())
 }
 
 /// Adds statements in blocks; as they are, where these blocks would say other jumps.

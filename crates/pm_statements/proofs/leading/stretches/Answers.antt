@@ -44,7 +44,8 @@ loop-left-preserved c =
       stretches =
           stretches_step c.args.start c.args.entries.now c.args.end c.next_place.result c.leads_by.result l s (drop (i + 1) ls) (drop i ls)
           c.in-Some.others.now c.loop-left.rest.now c.loop-left.list.items c.push.new.self.items front first
-          (c.next_place.ensures.place ∙ ap (next_place c.args.end) more) c.leads_by.ensures.leads c.in_ok-push.ensures.items
+          (c.next_place.ensures.place ∙ ap (next_place c.args.end) more) c.leads_by.ensures.leads
+          (rw (c.saturating_sub.ensures, c.saturating_sub-in-loop-left.ensures) at c.in_ok-push.ensures.items)
           ∙ c.loop-left.invariant.stretches;
       more = more;
     }

@@ -122,11 +122,7 @@ impl Debugger {
         offset: u16,
         condition: Option<Condition>,
     ) -> Result<(), DebugRefusal>
-        ensures machine { self.new.machine ≡ self.old.machine }
-        ensures watches { self.new.watches ≡ self.old.watches }
-        ensures left { self.new.left ≡ self.old.left }
-        ensures passes { self.new.passes ≡ self.old.passes }
-        ensures shows { self.new.shows_console ≡ self.old.shows_console }
+        ensures alone { self.new ≡ record self.old { breaks = self.new.breaks } }
         ensures set { OnOk result (with_break (breakpoint (code_place segment procedure offset) condition)
             self.old.breaks ≡ Ok self.new.breaks) }
         ensures refused { IfErr result (λ refusal. with_break
@@ -148,11 +144,7 @@ impl Debugger {
         procedure: u8,
         offset: u16,
     ) -> Result<(), DebugRefusal>
-        ensures machine { self.new.machine ≡ self.old.machine }
-        ensures watches { self.new.watches ≡ self.old.watches }
-        ensures left { self.new.left ≡ self.old.left }
-        ensures passes { self.new.passes ≡ self.old.passes }
-        ensures shows { self.new.shows_console ≡ self.old.shows_console }
+        ensures alone { self.new ≡ record self.old { breaks = self.new.breaks } }
         ensures cleared { OnOk result (without_break (code_place segment procedure offset) self.old.breaks
             ≡ Ok self.new.breaks) }
         ensures refused { IfErr result (λ refusal. without_break (code_place segment procedure offset) self.old.breaks
@@ -172,11 +164,8 @@ impl Debugger {
     /// stays, also beside 64 others; `OddAddress` for an odd address, and `Full` for a new one beside
     /// 64.
     pub fn set_watch(&mut self, address: u16) -> Result<(), DebugRefusal>
-        ensures machine { self.new.machine ≡ self.old.machine }
-        ensures breaks { self.new.breaks ≡ self.old.breaks }
+        ensures alone { self.new ≡ record self.old { watches = self.new.watches; left = self.new.left } }
         ensures left { OnOk result (self.new.left ≡ Nothing) }
-        ensures passes { self.new.passes ≡ self.old.passes }
-        ensures shows { self.new.shows_console ≡ self.old.shows_console }
         ensures set { OnOk result (with_watch address self.old.watches ≡ Ok self.new.watches) }
         ensures refused { IfErr result (λ refusal. with_watch address self.old.watches ≡ Err refusal) }
         ensures unchanged { OnErr result (self.new ≡ self.old) }
@@ -189,11 +178,8 @@ impl Debugger {
     /// Watches the word at an address no more, and leaves nothing of the last run; `NotSet` where it is
     /// not watched.
     pub fn clear_watch(&mut self, address: u16) -> Result<(), DebugRefusal>
-        ensures machine { self.new.machine ≡ self.old.machine }
-        ensures breaks { self.new.breaks ≡ self.old.breaks }
+        ensures alone { self.new ≡ record self.old { watches = self.new.watches; left = self.new.left } }
         ensures left { OnOk result (self.new.left ≡ Nothing) }
-        ensures passes { self.new.passes ≡ self.old.passes }
-        ensures shows { self.new.shows_console ≡ self.old.shows_console }
         ensures cleared { OnOk result (without_watch address self.old.watches ≡ Ok self.new.watches) }
         ensures refused { IfErr result (λ refusal. without_watch address self.old.watches ≡ Err refusal) }
         ensures unchanged { OnErr result (self.new ≡ self.old) }
@@ -220,10 +206,7 @@ impl Debugger {
     // Makes a run of at most `limit` steps.
     #[tactic(auto, unfolding(crate::specs::Runs::gone_to), using(crate::proofs::OnLaws::gave_up_first))]
     fn run_to(&mut self, depth: Depth, limit: u64) -> Result<(u64, BreakReason), AllocError>
-        ensures breaks { self.new.breaks ≡ self.old.breaks }
-        ensures watches { self.new.watches ≡ self.old.watches }
-        ensures passes { self.new.passes ≡ self.old.passes }
-        ensures shows { self.new.shows_console ≡ self.old.shows_console }
+        ensures alone { self.new ≡ record self.old { machine = self.new.machine; left = self.new.left } }
         ensures gone { IfOk result (λ r.
             gone_to self.old.breaks self.old.watches (is_there depth) limit self.old.machine.state
             ≡ record { steps = r.0; reason = r.1; machine = self.new.machine.state }) }
@@ -250,10 +233,7 @@ impl Debugger {
     /// words the first that changed is told, and before a breakpoint. A change or a breakpoint at the
     /// limit is not told. After want of memory the machine stands after the steps that went.
     pub fn go(&mut self, limit: u64) -> Result<(u64, BreakReason), AllocError>
-        ensures breaks { self.new.breaks ≡ self.old.breaks }
-        ensures watches { self.new.watches ≡ self.old.watches }
-        ensures passes { self.new.passes ≡ self.old.passes }
-        ensures shows { self.new.shows_console ≡ self.old.shows_console }
+        ensures alone { self.new ≡ record self.old { machine = self.new.machine; left = self.new.left } }
         ensures gone { IfOk result (λ r. gone self.old.breaks self.old.watches limit self.old.machine.state
             ≡ record { steps = r.0; reason = r.1; machine = self.new.machine.state }) }
         ensures left { IfOk result (λ r. self.new.left
@@ -269,10 +249,7 @@ impl Debugger {
     /// in the frame of now again, or in one above it. It stops as `go` does as well, and after so many
     /// steps.
     pub fn step_over(&mut self, limit: u64) -> Result<(u64, BreakReason), AllocError>
-        ensures breaks { self.new.breaks ≡ self.old.breaks }
-        ensures watches { self.new.watches ≡ self.old.watches }
-        ensures passes { self.new.passes ≡ self.old.passes }
-        ensures shows { self.new.shows_console ≡ self.old.shows_console }
+        ensures alone { self.new ≡ record self.old { machine = self.new.machine; left = self.new.left } }
         ensures gone { IfOk result (λ r. gone_over self.old.breaks self.old.watches limit self.old.machine.state
             ≡ record { steps = r.0; reason = r.1; machine = self.new.machine.state }) }
         ensures left { IfOk result (λ r. self.new.left
@@ -288,10 +265,7 @@ impl Debugger {
     /// Makes what is left of the running procedure, with its return: steps until the machine stands in
     /// a frame above that of now. It stops as `go` does as well, and after so many steps.
     pub fn finish(&mut self, limit: u64) -> Result<(u64, BreakReason), AllocError>
-        ensures breaks { self.new.breaks ≡ self.old.breaks }
-        ensures watches { self.new.watches ≡ self.old.watches }
-        ensures passes { self.new.passes ≡ self.old.passes }
-        ensures shows { self.new.shows_console ≡ self.old.shows_console }
+        ensures alone { self.new ≡ record self.old { machine = self.new.machine; left = self.new.left } }
         ensures gone { IfOk result (λ r. gone_out self.old.breaks self.old.watches limit self.old.machine.state
             ≡ record { steps = r.0; reason = r.1; machine = self.new.machine.state }) }
         ensures left { IfOk result (λ r. self.new.left ≡ left_after
@@ -314,10 +288,7 @@ impl Debugger {
         offset: u16,
         limit: u64,
     ) -> Result<(u64, BreakReason), AllocError>
-        ensures breaks { self.new.breaks ≡ self.old.breaks }
-        ensures watches { self.new.watches ≡ self.old.watches }
-        ensures passes { self.new.passes ≡ self.old.passes }
-        ensures shows { self.new.shows_console ≡ self.old.shows_console }
+        ensures alone { self.new ≡ record self.old { machine = self.new.machine; left = self.new.left } }
         ensures gone { IfOk result (λ r. gone_until self.old.breaks self.old.watches
             (code_place segment procedure offset) limit self.old.machine.state
             ≡ record { steps = r.0; reason = r.1; machine = self.new.machine.state }) }
@@ -343,10 +314,7 @@ impl Debugger {
     /// more, since; nothing changes then.
     #[tactic(auto, unfolding(crate::specs::Runs::gone_on))]
     pub fn go_on(&mut self, limit: u64) -> Result<(u64, BreakReason), DebugRefusal>
-        ensures breaks { self.new.breaks ≡ self.old.breaks }
-        ensures watches { self.new.watches ≡ self.old.watches }
-        ensures passes { self.new.passes ≡ self.old.passes }
-        ensures shows { self.new.shows_console ≡ self.old.shows_console }
+        ensures alone { self.new ≡ record self.old { machine = self.new.machine; left = self.new.left } }
         ensures gone { IfOk result (λ r. gone_on self.old.breaks self.old.left limit self.old.machine.state
             ≡ Some (record { steps = r.0; reason = r.1; machine = self.new.machine.state })) }
         ensures left { OnOk result (self.new.left
@@ -370,9 +338,11 @@ impl Debugger {
     /// is to go no further. None, and nothing changes, where no breakpoint stopped it or no pass is left.
     #[tactic(auto, unfolding(crate::specs::Passes::passed))]
     pub fn pass(&mut self, most: u64) -> Result<Option<(u64, BreakReason)>, AllocError>
-        ensures breaks { self.new.breaks ≡ self.old.breaks }
-        ensures watches { self.new.watches ≡ self.old.watches }
-        ensures shows { self.new.shows_console ≡ self.old.shows_console }
+        ensures alone { self.new ≡ record self.old {
+          machine = self.new.machine;
+          left = self.new.left;
+          passes = self.new.passes;
+        } }
         ensures gone { IfOk result (λ found. IfSome found (λ r.
             passed self.old.breaks self.old.passes self.old.left most self.old.machine.state
             ≡ Some (record { steps = r.0; reason = r.1; machine = self.new.machine.state }))) }

@@ -142,15 +142,15 @@ impl Store for TwoFiles {
     }
 
     fn is_same(&self, one: &str, other: &str) -> bool {
-        one == other
+        self.first.is_same(one, other)
     }
 
-    fn is_beside(&self, _path: &str, _other: &str) -> bool {
-        false
+    fn is_beside(&self, path: &str, other: &str) -> bool {
+        self.first.is_beside(path, other)
     }
 
-    fn is_folder(&self, _path: &str) -> bool {
-        false
+    fn is_folder(&self, path: &str) -> bool {
+        self.first.is_folder(path)
     }
 }
 

@@ -53,12 +53,11 @@ const INDENTED: [&str; 6] = [
     "00006 RETURN FROM BASE",
 ];
 
-const BLOCKS: [&str; 7] = [
+const BLOCKS: [&str; 6] = [
     "PROCEDURE 1 OF SEGMENT 1: level 0, 0 bytes of parameters, 0 of locals, 0 of result",
     "00000 IF global1 THEN",
     "00003   global3 := 5",
     "      END",
-    "L00006:",
     "EXIT:",
     "00006 RETURN FROM BASE",
 ];

@@ -11,3 +11,5 @@ pub mod Runs
 pub mod RunLaws
 pub mod Quick
 pub mod CodePlaces
+pub mod Written
+pub mod ReadStretches

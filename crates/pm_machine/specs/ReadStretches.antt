@@ -1,0 +1,303 @@
+-- What a step reads: the stretches of memory that the row of its instruction looks at, told of the state before it. The
+-- bytes of the instruction itself do not count, be they its opcode, its operands, words or a table of jumps in the
+-- code. A row that ends with an error names what it would read if it went on.
+use Rattle.std.specs.Prelude.{ℕ, zero, suc, ◌+◌, ◌-◌, ◌*◌, ◌/◌, ◌%◌, ◌==◌, not, Bool, true, nat_lt, ℤ, pos, negsuc}
+use Rattle.std.specs.Prelude.{◌+ℤ◌, ◌-ℤ◌, int_le}
+use Rattle.std.specs.Prelude.{List, [], ◌∷◌, ◌++◌, Option, Some, None, Result, Ok, Err, if◌then◌else◌, slice_get}
+use Rattle.std.specs.List.{list_any}
+use Rattle.pm_words.specs.declared.error.ExecError.{ExecError}
+use Rattle.pm_words.specs.Words.{byte_at, word_at}
+use Rattle.pm_words.specs.Signed.{signed}
+use Rattle.pm_words.specs.Stack.{is_even, minus}
+use Rattle.pm_families.specs.declared.families.Arithmetic.{Arithmetic}
+use Rattle.pm_families.specs.declared.families.Scope.{Scope}
+use Rattle.pm_families.specs.declared.families.Scope.TheVariants as scope
+use Rattle.pm_families.specs.declared.families.Variable.{Variable}
+use Rattle.pm_families.specs.declared.families.Variable.TheVariants as variable
+use Rattle.pm_families.specs.declared.families.Pointer.{Pointer}
+use Rattle.pm_families.specs.declared.families.Pointer.TheVariants as pointer
+use Rattle.pm_families.specs.declared.families.Value.{Value}
+use Rattle.pm_families.specs.declared.families.Value.TheVariants as value
+use Rattle.pm_families.specs.declared.families.Byte.TheVariants as byte
+use Rattle.pm_families.specs.declared.families.Kind.{Kind}
+use Rattle.pm_families.specs.declared.families.Kind.TheVariants as kind
+use Rattle.pm_families.specs.declared.families.Text.TheVariants as text
+use Rattle.pm_families.specs.declared.families.Field.TheVariants as field
+use Rattle.pm_families.specs.declared.families.Condition.{Condition}
+use Rattle.pm_families.specs.declared.families.Condition.TheVariants as condition
+use Rattle.pm_families.specs.declared.families.Jump.{Jump}
+use Rattle.pm_families.specs.declared.families.Jump.TheVariants as jump
+use Rattle.pm_families.specs.declared.families.Call.{Call}
+use Rattle.pm_families.specs.declared.families.Call.TheVariants.{Clp, Cgp, Cbp, Cip, Cxp}
+use Rattle.pm_opcode.specs.declared.instr.Instr.{Instr}
+use Rattle.pm_opcode.specs.declared.operation.Operation.{Operation}
+use Rattle.pm_opcode.specs.declared.operation.Operation.TheVariants as operation
+use Rattle.pm_opcode.specs.Operations.{operation_of}
+use Rattle.pm_effects.specs.declared.effect.Effect.{Effect}
+use Rattle.pm_effects.specs.Effects.{arithmetic_effect, condition_effect, jump_effect, pointer_effect, standard_effect}
+use Rattle.pm_effects.specs.Effects.{value_effect, variable_effect}
+use Rattle.pm_calls.specs.declared.frames.SegmentPlace.{SegmentPlace}
+use Rattle.pm_calls.specs.declared.frames.Table.{Table}
+use Rattle.pm_calls.specs.declared.registers.Registers.{Registers}
+use Rattle.pm_calls.specs.Calls.{Reached, here, procedure_called, reach_loading, reach_standing}
+use Rattle.pm_calls.specs.Exits.{control, frame_up}
+use Rattle.pm_calls.specs.Links.{level_of, up}
+use Rattle.pm_calls.specs.Places.{Parts}
+use Rattle.pm_calls.specs.Tables.{attributes, self_relative}
+use Rattle.pm_rows.specs.Variables.{variable_at}
+use Rattle.pm_stdproc.specs.declared.procedures.OnMemory.{OnMemory}
+use Rattle.pm_stdproc.specs.declared.procedures.OnMemory.TheVariants as memory
+use Rattle.pm_stdproc.specs.declared.procedures.OnUnits.{OnUnits}
+use Rattle.pm_stdproc.specs.declared.procedures.OnUnits.TheVariants as units
+use Rattle.pm_stdproc.specs.declared.procedures.Procedure.{Procedure}
+use Rattle.pm_stdproc.specs.declared.procedures.Procedure.TheVariants as procedure
+use Rattle.pm_stdproc.specs.Loads.{code_needed}
+use Rattle.pm_stdproc.specs.Procedures.{procedure_numbered}
+use Rattle.pm_stdproc.specs.UnitRows.{ordered}
+use Rattle.pm_machine.specs.Procedures.{is_base_return, parts, words_of_return}
+use Rattle.pm_machine.specs.Rows.{fetched}
+use Rattle.pm_machine.specs.State.{State}
+use Rattle.pm_machine.specs.Written.{Stretch, counted_stretch, left_by_exit, place_on_stack, stretch, touches}
+use Rattle.pm_machine.specs.Written.{transfer_written, wanted_at, word_stretch, words_taken}
+
+-- the words that are taken off the stack
+abbrev pub taken : Effect → List ℕ → ℕ → List Stretch
+taken e m sp = stretch sp (2 * words_taken e m sp) ∷ []
+
+abbrev pub taken_if : Option Effect → List ℕ → ℕ → List Stretch
+taken_if None m sp = []
+taken_if (Some e) m sp = taken e m sp
+
+-- ---- rows on the stack
+
+-- the static links of n frames from the one at a on
+unfoldable pub links_read : List ℕ → ℕ → ℕ → List Stretch
+links_read m a zero = []
+links_read m a (suc n) = word_stretch (up m a n) ++ links_read m a n
+
+-- a variable so many links up is found by those; there are at most 127
+abbrev pub frame_read : Scope → List ℕ → ℕ → List Stretch
+frame_read scope.Global m mp = []
+frame_read scope.Local m mp = []
+frame_read (scope.Intermediate n) m mp = if nat_lt 127 n then [] else links_read m mp n
+
+abbrev pub variable_read : Variable → State → List Stretch
+variable_read (variable.Address scope b) s = frame_read scope s.memory s.registers.mp
+variable_read (variable.Load scope b) s =
+    word_stretch (variable_at scope b s.memory s.registers) ++ frame_read scope s.memory s.registers.mp
+variable_read (variable.Store scope b) s =
+    taken (variable_effect (variable.Store scope b)) s.memory s.registers.sp
+    ++ frame_read scope s.memory s.registers.mp
+
+-- what an address on the stack leads to, beside the words that are taken
+abbrev pub led_to : Pointer → List ℕ → ℕ → List Stretch
+led_to (pointer.Load b) m sp = stretch ((word_at m sp + 2 * b) % 65536) 2 ∷ []
+led_to (pointer.LoadWords n) m sp = stretch (word_at m sp) (2 * n) ∷ []
+led_to (pointer.Move b) m sp = stretch (word_at m sp) (2 * b) ∷ []
+led_to o m sp = []
+
+abbrev pub pointer_read : Pointer → List ℕ → ℕ → List Stretch
+pointer_read o m sp = taken (pointer_effect o) m sp ++ led_to o m sp
+
+-- a text with its length byte
+abbrev pub text_stretch : List ℕ → ℕ → Stretch
+text_stretch m a = stretch a (1 + byte_at m a)
+
+-- the text that a word names, unless that is a character
+abbrev pub source_read : List ℕ → ℕ → List Stretch
+source_read m e = if nat_lt e 256 then [] else text_stretch m e ∷ []
+
+-- what is compared, beside the words that are taken
+abbrev pub compared_read : Kind → List ℕ → ℕ → List Stretch
+compared_read kind.Real m sp = []
+compared_read kind.Boolean m sp = []
+compared_read kind.Set m sp = []
+compared_read kind.String m sp = text_stretch m (word_at m (sp + 2)) ∷ text_stretch m (word_at m sp) ∷ []
+compared_read (kind.Bytes n) m sp = stretch (word_at m (sp + 2)) n ∷ stretch (word_at m sp) n ∷ []
+compared_read (kind.Words n) m sp = stretch (word_at m (sp + 2)) (2 * n) ∷ stretch (word_at m sp) (2 * n) ∷ []
+
+-- what values on the stack lead to; STP changes a part of a word, of which the others stay
+abbrev pub value_leads : Value → List ℕ → ℕ → List Stretch
+value_leads (value.Byte byte.Load) m sp = stretch (place_on_stack m sp) 1 ∷ []
+value_leads (value.Byte byte.Store) m sp = []
+value_leads (value.Set o) m sp = []
+value_leads (value.Text text.Index) m sp = stretch (word_at m (sp + 2)) 1 ∷ []
+value_leads (value.Text (text.Assign n)) m sp = source_read m (word_at m sp)
+value_leads (value.Field (field.Index per_word width)) m sp = []
+value_leads (value.Field field.Load) m sp = stretch (word_at m (sp + 4)) 2 ∷ []
+value_leads (value.Field field.Store) m sp = stretch (word_at m (sp + 6)) 2 ∷ []
+value_leads (value.Compare r k) m sp = compared_read k m sp
+
+abbrev pub value_read : Value → List ℕ → ℕ → List Stretch
+value_read o m sp = taken_if (value_effect o) m sp ++ value_leads o m sp
+
+-- ---- jumps
+
+-- a jump is taken
+abbrev pub is_taken : Condition → List ℕ → ℕ → Bool
+is_taken condition.Always m sp = true
+is_taken condition.IfFalse m sp = word_at m sp % 2 == 0
+is_taken condition.IfDifferent m sp = not (word_at m (sp + 2) == word_at m sp)
+is_taken condition.IfEqual m sp = word_at m (sp + 2) == word_at m sp
+
+-- the entry of the jump table by which a jump with a negative offset leads
+abbrev pub entry_read : Registers → ℕ → List Stretch
+entry_read r offset = if nat_lt offset 32768 then [] else stretch ((r.jtab + offset) % 65536) 2 ∷ []
+
+-- XJP's table is a part of it
+abbrev pub jump_read : Jump → List ℕ → Registers → List Stretch
+jump_read (jump.Short c offset) m r =
+    taken (condition_effect c) m r.sp ++ (if is_taken c m r.sp then entry_read r offset else [])
+jump_read (jump.Case low high table) m r = taken (jump_effect (jump.Case low high table)) m r.sp
+
+-- ---- calls and returns
+
+-- so many links, where that is a number from 0 to 127
+abbrev pub links_by : List ℕ → ℕ → ℤ → List Stretch
+links_by m mp (pos n) = frame_read (scope.Intermediate n) m mp
+links_by m mp (negsuc n) = []
+
+-- the level of the running procedure, and the links up from its frame
+abbrev pub inner_read : List ℕ → Registers → ℤ → List Stretch
+inner_read m r level =
+    stretch r.jtab 2 ∷ links_by m r.mp (level_of (word_at m r.jtab) -ℤ level +ℤ pos 1)
+
+abbrev pub base_read : Registers → List Stretch
+base_read r = stretch r.base 2 ∷ []
+
+-- what finds the static link of a procedure of this level
+abbrev pub static_link_read : Call → List ℕ → Registers → ℤ → List Stretch
+static_link_read (Clp p) m r level = []
+static_link_read (Cgp p) m r level = []
+static_link_read (Cbp p) m r level = base_read r
+static_link_read (Cip p) m r level = inner_read m r level
+static_link_read (Cxp n p) m r level = if int_le level (pos 0) then base_read r else inner_read m r level
+
+-- the table of procedure p of the segment at s: the words that lead there, its number with its level, where it is
+-- entered, and both sizes
+abbrev pub table_read : List ℕ → ℕ → ℕ → List Stretch
+table_read m s p =
+    let j = self_relative m (minus s (2 * p)) in
+    stretch s 2 ∷ stretch (minus s (2 * p)) 2 ∷ stretch j 2 ∷ stretch (minus j 2) 2
+    ∷ stretch (minus j 6) 2 ∷ stretch (minus j 8) 2 ∷ []
+
+-- the static link, and the parameters, which are copied
+abbrev pub entry_words : Call → List ℕ → Registers → Result Table ExecError → List Stretch
+entry_words call m r (Ok t) = stretch r.sp t.parameters ∷ static_link_read call m r t.level
+entry_words call m r (Err e) = []
+
+-- a call in the segment that was reached; its table is read in the code that is loaded for it, where that stands then
+abbrev pub reached_read : Call → Registers → Result Reached ExecError → List Stretch
+reached_read call r (Ok at) =
+    table_read at.memory at.place (procedure_called call)
+    ++ entry_words call at.memory r (attributes at.memory at.place (procedure_called call))
+reached_read call r (Err e) = []
+
+abbrev pub slot_read : Call → ℕ → Parts → Option (Option SegmentPlace) → Result (Option (List ℕ)) ExecError
+    → List Stretch
+slot_read call n c (Some (Some p)) code = reached_read call c.registers (reach_standing c n p)
+slot_read call n c (Some None) (Ok (Some code)) = reached_read call c.registers (reach_loading c n code)
+slot_read call n c (Some None) (Ok None) = []
+slot_read call n c (Some None) (Err e) = []
+slot_read call n c None code = []
+
+abbrev pub call_read : Call → State → List Stretch
+call_read (Cxp n p) s =
+    slot_read (Cxp n p) n (parts s) (slice_get s.places n) (code_needed (Cxp n p) s.places s.rows s.devices)
+call_read (Clp p) s = reached_read (Clp p) s.registers (Ok (here (parts s)))
+call_read (Cgp p) s = reached_read (Cgp p) s.registers (Ok (here (parts s)))
+call_read (Cbp p) s = reached_read (Cbp p) s.registers (Ok (here (parts s)))
+call_read (Cip p) s = reached_read (Cip p) s.registers (Ok (here (parts s)))
+
+-- five control words, the words of the result, and the old BASE of a base return
+abbrev pub return_read : ℕ → Bool → ℕ → List Stretch
+return_read n base mp =
+    stretch (mp + 2) 10 ∷ stretch (mp + 12) (2 * n) ∷ (if base then stretch (minus mp 2) 2 ∷ [] else [])
+
+-- ---- EXIT
+
+-- whether a procedure is the wanted one: its segment's highest word, and its table's
+abbrev pub asked_read : ℕ → ℕ → List Stretch
+asked_read s j = stretch s 2 ∷ stretch j 2 ∷ []
+
+-- where the procedure with its table at j is left
+abbrev pub exit_read : ℕ → Stretch
+exit_read j = stretch (minus j 4) 2
+
+-- a frame that EXIT leaves: the control words that name its caller, with the words of that
+abbrev pub left_read : List ℕ → ℕ → List Stretch
+left_read m f =
+    stretch ((f + 2) % 65536) 2 ∷ stretch ((f + 4) % 65536) 2 ∷ stretch ((f + 6) % 65536) 2
+    ∷ exit_read (control m f 4) ∷ asked_read (control m f 6) (control m f 4)
+
+-- the first n frames from the one at a on
+unfoldable pub frames_read : List ℕ → ℕ → ℕ → List Stretch
+frames_read m a zero = []
+frames_read m a (suc i) = left_read m (frame_up m a i) ++ frames_read m a i
+
+abbrev pub frames_left_read : List ℕ → ℕ → Result ℕ ExecError → List Stretch
+frames_left_read m a (Ok n) = frames_read m a n
+frames_left_read m a (Err e) = []
+
+-- beside its two words
+abbrev pub exit_leads : State → List Stretch
+exit_leads s =
+    exit_read s.registers.jtab ∷ (asked_read s.registers.seg s.registers.jtab
+    ++ frames_left_read s.memory s.registers.mp (left_by_exit (parts s) (wanted_at s.memory s.registers.sp)))
+
+-- ---- standard procedures
+
+-- all bytes that a scan may look at, by its limit, which is signed
+abbrev pub scan_stretch : ℕ → ℤ → Stretch
+scan_stretch a (pos n) = stretch a n
+scan_stretch a (negsuc n) = stretch (a - n) (n + 1)
+
+-- beside the words that are taken
+abbrev pub memory_leads : OnMemory → List ℕ → ℕ → List Stretch
+memory_leads memory.MoveLeft m sp = counted_stretch (place_on_stack m (sp + 6)) (word_at m sp)
+memory_leads memory.MoveRight m sp = counted_stretch (place_on_stack m (sp + 6)) (word_at m sp)
+memory_leads memory.Scan m sp = scan_stretch (place_on_stack m (sp + 2)) (signed (word_at m (sp + 10))) ∷ []
+memory_leads memory.Release m sp = stretch (word_at m sp) 2 ∷ []
+memory_leads o m sp = []
+
+-- UNITWRITE reads the bytes that it writes to its unit
+abbrev pub units_lead : OnUnits → List ℕ → ℕ → List Stretch
+units_lead units.Write m sp = transfer_written (ordered m sp)
+units_lead o m sp = []
+
+abbrev pub procedure_leads : Procedure → State → List Stretch
+procedure_leads (procedure.OnMemory o) s = memory_leads o s.memory s.registers.sp
+procedure_leads (procedure.OnUnits o) s = units_lead o s.memory s.registers.sp
+procedure_leads procedure.Exit s = exit_leads s
+procedure_leads procedure.Keep s = []
+procedure_leads procedure.Unkeep s = []
+procedure_leads procedure.Unimplemented s = []
+
+-- ---- a step
+
+abbrev pub operation_read : Operation → State → List Stretch
+operation_read (operation.Arithmetic o) s = taken (arithmetic_effect o) s.memory s.registers.sp
+operation_read (operation.Variable o) s = variable_read o s
+operation_read (operation.Pointer o) s = pointer_read o s.memory s.registers.sp
+operation_read (operation.Literal o) s = []
+operation_read (operation.Value o) s = value_read o s.memory s.registers.sp
+operation_read (operation.Jump o) s = jump_read o s.memory s.registers
+operation_read (operation.Call o) s = call_read o s
+operation_read (operation.Return o) s = return_read (words_of_return o) (is_base_return o) s.registers.mp
+operation_read (operation.Standard n) s =
+    taken_if (standard_effect n) s.memory s.registers.sp ++ procedure_leads (procedure_numbered n) s
+operation_read operation.Nothing s = []
+operation_read operation.End s = []
+operation_read operation.Unimplemented s = []
+
+abbrev pub instruction_read : Result Instr ExecError → State → List Stretch
+instruction_read (Ok i) s = operation_read (operation_of i) s
+instruction_read (Err e) s = []
+
+-- what the instruction at IPC reads
+unfoldable pub read : State → List Stretch
+read s = instruction_read (fetched s.memory s.registers.ipc) s
+
+-- the instruction at IPC reads one of n bytes from an address on
+abbrev pub reads : ℕ → ℕ → State → Bool
+reads a n s = list_any (touches a n) (read s)

@@ -1,12 +1,12 @@
 -- Where SP stands behind a call and its return.
-use Rattle.std.proofs.Common.{◌≡◌, ◌<◌, ◌≤◌, ℕ, ◌+◌, ◌-◌, ◌*◌, ◌/◌, ◌%◌, ◌==◌, ◌&&◌, Bool, not, nat_lt, nat_le}
+use Rattle.std.proofs.Common.{◌≡◌, ◌≤◌, ℕ, ◌+◌, ◌-◌, ◌*◌, ◌/◌, ◌%◌, ◌==◌, ◌&&◌, Bool, not, nat_lt, nat_le}
 use Rattle.std.proofs.Common.{List, length, Option, Some, None, Ok, refl, sym, ap, ◌∙◌, arith}
 use Rattle.std.specs.Prelude.{slice_get}
 use Rattle.std.proofs.lemmas.Bool.{and_parts}
 use Rattle.std.proofs.lemmas.Bool.Decides.{nat_tests}
 use Rattle.pm_words.specs.declared.error.ExecError.TheVariants.{InvalidMemory, NoSegment, StackOverflow, Unimplemented}
 use Rattle.pm_words.specs.Words.{IsMemory, copied, word_at}
-use Rattle.pm_words.specs.Stack.{◌>>=◌, is_even, load, minus}
+use Rattle.pm_words.specs.Stack.{is_even, load, minus}
 use Rattle.pm_words.proofs.RangeLaws.{IsMemory-copied}
 use Rattle.pm_families.specs.declared.families.Call.{Call}
 use Rattle.pm_families.specs.declared.families.Call.TheVariants.{Clp, Cgp, Cbp, Cip, Cxp}

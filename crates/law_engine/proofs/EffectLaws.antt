@@ -1,5 +1,5 @@
 -- Where SP stands behind each row.
-use Rattle.std.proofs.Common.{◌≡◌, ◌<◌, ◌≤◌, ◌⊎◌, inl, inr, ℕ, ◌+◌, ◌-◌, ◌*◌, ◌/◌, ◌%◌, ◌&&◌, ◌||◌, ◌==◌, Bool, true, false, not, max, min}
+use Rattle.std.proofs.Common.{◌≡◌, ◌≤◌, inl, inr, ℕ, ◌+◌, ◌-◌, ◌*◌, ◌/◌, ◌%◌, ◌&&◌, ◌||◌, ◌==◌, Bool, true, false, not, max, min}
 use Rattle.std.proofs.Common.{cond, nat_lt, nat_le, List, [], ◌∷◌, ◌++◌, length, take, drop, get_or, Result, Ok, Err, refl, sym, ap, ◌∙◌, arith}
 use Rattle.std.specs.Prelude.{int_lt}
 use Rattle.std.proofs.lemmas.Bool.{cases_Bool}
@@ -86,7 +86,7 @@ held : (b : Bool) (e : ExecError) (x : Unit {0}) → demand b e ≡ Ok x → b �
 held true e x h = refl
 held false e x h = cc
 
-fits : (np n sp : ℕ) → nat_le (np + 2 * n) sp ≡ true → 2 * n ≤ sp
+pub fits : (np n sp : ℕ) → nat_le (np + 2 * n) sp ≡ true → 2 * n ≤ sp
 fits np n sp h = let l : np + 2 * n ≤ sp = grind (arith, nat_tests) in omega (arith, l)
 
 several : (g : ℕ) (m ws : List ℕ) (sp np k : ℕ) → length ws ≡ k → sp + 2 * 0 ≡ g → EndsAt g (so_many k) (push_words m sp np ws)
@@ -95,7 +95,7 @@ several g m ws sp np k count e = step g (so_many k) (demand (nat_le (np + 2 * le
     omega (arith, room, e, count))
 
 -- the first of several words that are written
-first : (ws vs : List ℕ) (a w : ℕ) → a / 2 ≤ length ws → word_at (with_words ws a (w ∷ vs)) a ≡ w
+pub first : (ws vs : List ℕ) (a w : ℕ) → a / 2 ≤ length ws → word_at (with_words ws a (w ∷ vs)) a ≡ w
 unfolding word_at with_words
 first ws vs a w room =
     let none : a / 2 - a / 2 ≡ 0 = omega arith in
@@ -112,18 +112,18 @@ a_set g m ws sp np memory low e = step g share.Set (demand (nat_le (np + 2 * len
     rw count (omega (arith, room, e)))
 
 -- SP above a word, and above a set
-below_word : (m : List ℕ) (sp : ℕ) (p : Popped) → pop m sp ≡ Ok p → p.above ≤ 65504
+pub below_word : (m : List ℕ) (sp : ℕ) (p : Popped) → pop m sp ≡ Ok p → p.above ≤ 65504
 below_word m sp p h =
     let is = popped m sp p h in
     let room = is.room in
     let up = is.above in
     omega (arith, room, up)
 
-record IsSetOff (m : List ℕ) (sp : ℕ) (s : StackSet) : Type 0 where
-  above : s.above ≡ sp + 2 * (word_at m sp + 1)
-  below : s.above ≤ 65504
+pub record IsSetOff (m : List ℕ) (sp : ℕ) (s : StackSet) : Type 0 where
+  pub above : s.above ≡ sp + 2 * (word_at m sp + 1)
+  pub below : s.above ≤ 65504
 
-set_off : (m : List ℕ) (sp : ℕ) (s : StackSet) → pop_set m sp ≡ Ok s → IsSetOff m sp s
+pub set_off : (m : List ℕ) (sp : ℕ) (s : StackSet) → pop_set m sp ≡ Ok s → IsSetOff m sp s
 unfolding pop_set
 set_off m sp s h =
     let n = bound (pop m sp) _ s h in

@@ -77,7 +77,7 @@ off r false e h = cc
 met_at : (m : List ℕ) (p : Wanted) (a j k : ℕ) (b : Bool) → j ≡ k → met m p (frame_up m a j) ≡ Ok b → met m p (frame_up m a k) ≡ Ok b
 met_at m p a j k b e h = sym (ap (λ i. met m p (frame_up m a i)) e) ∙ h
 
-stopped_at : (m : List ℕ) (p : Wanted) (a k : ℕ) (o : Option ℕ) → stopped m p a o ≡ Ok k
+pub stopped_at : (m : List ℕ) (p : Wanted) (a k : ℕ) (o : Option ℕ) → stopped m p a o ≡ Ok k
     → (o ≡ Some k) × (b : Bool) × (met m p (frame_up m a k) ≡ Ok b)
 stopped_at m p a k None h = cc
 stopped_at m p a k (Some j) h =

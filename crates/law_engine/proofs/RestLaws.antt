@@ -67,7 +67,8 @@ frame_leaves base m f static r n x memory source target even room (inr high) =
 
 -- ---- a frame that was made, with all of its size
 
-record IsWhole (m n : List ℕ) (s loaded : ℕ) (r inner : Registers) (base : Bool) (t : Table) (static f : ℕ) : Type 0 where
+pub record IsWhole (m n : List ℕ) (s loaded : ℕ) (r inner : Registers) (base : Bool) (t : Table) (static f : ℕ) : Type 0 where
+  pub place : f ≡ frame_top loaded r.sp t.parameters - (t.locals + t.parameters + 12)
   pub source : r.sp + t.parameters ≤ 65504
   pub target : f + 12 + t.parameters ≤ 65504
   pub room : kept_below base ≤ f
@@ -77,7 +78,7 @@ record IsWhole (m n : List ℕ) (s loaded : ℕ) (r inner : Registers) (base : B
 top_low : (loaded sp parameters : ℕ) → sp + parameters ≤ 65504 → frame_top loaded sp parameters ≤ 65504
 top_low loaded sp parameters h = elim (cases_Bool (nat_lt 0 loaded)) [ inl e ↦ rw e (omega (arith, h)) | inr e ↦ rw e h ]
 
-whole_frame : (m n : List ℕ) (s loaded static : ℕ) (r inner : Registers) (base : Bool) (t : Table) →
+pub whole_frame : (m n : List ℕ) (s loaded static : ℕ) (r inner : Registers) (base : Bool) (t : Table) →
     framed m s loaded r base t static ≡ Ok (n, inner) → (f : ℕ) × IsWhole m n s loaded r inner base t static f
 unfolding framed
 whole_frame m n s loaded static r inner base t h =
@@ -92,6 +93,7 @@ whole_frame m n s loaded static r inner base t h =
     let room : r.np + kept_below base + size ≤ top = grind (arith, nat_tests, second.0) in (
       f,
       record {
+        place = refl;
         source = fits;
         target = omega (arith, room, low);
         room = omega (arith, room, low);
@@ -102,7 +104,7 @@ whole_frame m n s loaded static r inner base t h =
 
 -- ---- a return
 
-record IsReturned (d e : Parts) (words : ℕ) : Type 0 where
+pub record IsReturned (d e : Parts) (words : ℕ) : Type 0 where
   pub even : d.registers.mp % 2 ≡ 0
   pub source : d.registers.mp + 12 + 2 * words ≤ 65536
   pub target : word_at d.memory (d.registers.mp + 10) ≤ 65504
@@ -110,7 +112,7 @@ record IsReturned (d e : Parts) (words : ℕ) : Type 0 where
   pub sp : e.registers.sp ≡ word_at d.memory (d.registers.mp + 10) - 2 * words
   pub memory : e.memory ≡ copied d.memory ((d.registers.mp + 12) % 65536) (word_at d.memory (d.registers.mp + 10) - 2 * words) (2 * words)
 
-return_made : (d e : Parts) (words : ℕ) (base : Bool) → returned d words base ≡ Ok e → IsReturned d e words
+pub return_made : (d e : Parts) (words : ℕ) (base : Bool) → returned d words base ≡ Ok e → IsReturned d e words
 unfolding returned
 return_made d e words base h =
     let f = d.registers.mp in
@@ -132,7 +134,7 @@ return_made d e words base h =
     }
 
 -- a return leaves what stands outside the words that it returns
-return_leaves : (d e : Parts) (words x : ℕ) (base : Bool) → IsMemory d.memory → returned d words base ≡ Ok e →
+pub return_leaves : (d e : Parts) (words x : ℕ) (base : Bool) → IsMemory d.memory → returned d words base ≡ Ok e →
     LiesOutside e.registers.sp (2 * words) x → byte_at e.memory x ≡ byte_at d.memory x
 return_leaves d e words x base memory h out =
     let back = return_made d e words base h in

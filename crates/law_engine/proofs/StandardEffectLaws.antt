@@ -1,6 +1,6 @@
 -- Where SP stands behind each standard procedure.
-use Rattle.std.proofs.Common.{◌≡◌, ◌<◌, ◌≤◌, ◌⊎◌, inl, inr, ℕ, ◌+◌, ◌-◌, ◌*◌, ◌/◌, ◌%◌, ◌==◌, ◌&&◌}
-use Rattle.std.proofs.Common.{Bool, true, false, nat_lt, nat_le, List, Result, Ok, Err, refl, sym, ap, ◌∙◌, subst, arith}
+use Rattle.std.proofs.Common.{◌≡◌, ◌≤◌, inl, inr, ℕ, ◌+◌, ◌-◌, ◌*◌, ◌%◌, ◌==◌, ◌&&◌}
+use Rattle.std.proofs.Common.{Bool, true, false, nat_lt, nat_le, List, Result, Ok, Err, refl, sym, ap, subst, arith}
 use Rattle.std.specs.Prelude.{Option, if◌then◌else◌}
 use Rattle.std.proofs.lemmas.Bool.{cases_Bool}
 use Rattle.std.proofs.lemmas.Bool.Decides.{nat_tests}
@@ -71,7 +71,7 @@ pops : {B : Type 0} (P : B → Type 0) (g : ℕ) (m : List ℕ) (sp k : ℕ) (f 
     → ((a : Popped) → a.above + 2 * k ≡ g → AllOk P (f a)) → AllOk P (pop m sp >>= f)
 pops P g m sp k f e h = step P (pop m sp) f (λ a p. let up = (popped m sp a p).above in h a (omega (arith, e, up)))
 
-place_above : (m : List ℕ) (sp : ℕ) (p : Popped) → pop_place m sp ≡ Ok p → p.above ≡ sp + 4
+pub place_above : (m : List ℕ) (sp : ℕ) (p : Popped) → pop_place m sp ≡ Ok p → p.above ≡ sp + 4
 place_above m sp p h =
     let i = bound (pop m sp) _ p h in
     let b = bound (pop m i.0.above) _ p i.2 in
@@ -90,7 +90,7 @@ abbrev broken : Result (List ℕ × ℕ) ExecError
 broken = Err StackOverflow
 
 -- a word that was pushed, and SP above it
-pushed : (m : List ℕ) (sp np w : ℕ) (t : List ℕ × ℕ) → push m sp np w ≡ Ok t → t.1 + 2 ≡ sp
+pub pushed : (m : List ℕ) (sp np w : ℕ) (t : List ℕ × ℕ) → push m sp np w ≡ Ok t → t.1 + 2 ≡ sp
 pushed m sp np w t h = elim (cases_Bool (nat_lt sp (np + 2))) [
   | inl l ↦ refused t (rw l at h)
   | inr l ↦

@@ -31,7 +31,7 @@ then m a k (Ok x) f h = h x refl
 then m a k (Err e) f h = tt
 
 -- the second word that is popped, and the third, are those at SP + 2 and SP + 4
-word_below : (m : List ℕ) (sp : ℕ) (p q : Popped) → pop m sp ≡ Ok p → pop m p.above ≡ Ok q → (q.word ≡ word_at m (sp + 2)) × (q.above ≡ sp + 4)
+pub word_below : (m : List ℕ) (sp : ℕ) (p q : Popped) → pop m sp ≡ Ok p → pop m p.above ≡ Ok q → (q.word ≡ word_at m (sp + 2)) × (q.above ≡ sp + 4)
 word_below m sp p q h k =
     let above = (popped m sp p h).above in
     let next = popped m p.above q k in
@@ -132,7 +132,7 @@ field_stores m sp np =
     (one m a.word (with_field w r.word s.word v.word) a.above)))))))
 
 -- the characters that a word names are bytes, fewer than 256
-record AreCharacters (s : List ℕ) : Type 0 where
+pub record AreCharacters (s : List ℕ) : Type 0 where
   pub bytes : All (λ x. x < 256) s
   pub few : length s < 256
 
@@ -150,11 +150,11 @@ characters_at m s a memory small found =
       few = omega (arith, count, small);
     })
 
-word_fits : (m : List ℕ) (a : ℕ) → IsMemory m → a < 65536 → word_at m a < 65536
+pub word_fits : (m : List ℕ) (a : ℕ) → IsMemory m → a < 65536 → word_at m a < 65536
 unfolding word_at
 word_fits m a memory h = let size = memory.size in memory.fits (a / 2) 0 (omega (arith, h, size))
 
-characters : (m s : List ℕ) (e : ℕ) → IsMemory m → e < 65536 → source_at m e ≡ Ok s → AreCharacters s
+pub characters : (m s : List ℕ) (e : ℕ) → IsMemory m → e < 65536 → source_at m e ≡ Ok s → AreCharacters s
 characters m s e memory small found = elim (cases_Bool (nat_lt e 256)) [
   | inl h ↦ subst AreCharacters (ok_same _ s (sym (rw h refl) ∙ found)) (one_character e (grind (arith, nat_tests, h)))
   | inr h ↦ characters_at m s e memory (byte_at-below m e memory small) (sym (rw h refl) ∙ found)

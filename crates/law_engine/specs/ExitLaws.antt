@@ -1,28 +1,18 @@
 -- Laws of EXIT: what it leaves, and where the returns after it lead.
 use Rattle.std.specs.Prelude.{◌≡◌, ◌≢◌, ◌<◌, ◌≤◌, ◌==◌, ℕ, ◌+◌, ◌%◌, Bool, List, [], ◌∷◌, length, Result, Ok}
-use Rattle.std.specs.Prelude.{if◌then◌else◌}
 use Rattle.pm_words.specs.declared.error.ExecError.{ExecError}
 use Rattle.pm_words.specs.Words.{IsMemory, word_at}
 use Rattle.pm_words.specs.Stack.{◌>>=◌}
 use Rattle.pm_calls.specs.declared.exits.Wanted.{Wanted}
 use Rattle.pm_calls.specs.Places.{Parts}
 use Rattle.pm_calls.specs.Returns.{returned}
-use Rattle.pm_calls.specs.Exits.{control, exit_code, exited, frame_up, is_wanted, last_frame}
-
--- How many frames are left besides the running procedure: none where that is the wanted one, and else those from the
--- frame at a on up to the last one.
-abbrev pub frames_left : Bool → List ℕ → Wanted → ℕ → Result ℕ ExecError
-frames_left here m p a = if here then Ok 0 else (last_frame m p a >>= λ k. Ok (k + 1))
-
--- how many frames an EXIT leaves
-abbrev pub left_by_exit : Parts → Wanted → Result ℕ ExecError
-left_by_exit c p = do
-  here ← is_wanted c.memory p c.registers.seg c.registers.jtab
-  frames_left here c.memory p c.registers.mp
+use Rattle.pm_calls.specs.Exits.{control, exit_code, exited, frame_up, is_wanted}
+use Rattle.pm_machine.specs.Written.{ip_kept}
+pub use Rattle.pm_machine.specs.Written.{frames_left, left_by_exit}
 
 -- where the frame i callers up from MP keeps IPC
 abbrev pub saved_ip : Parts → ℕ → ℕ
-saved_ip c i = (frame_up c.memory c.registers.mp i + 8) % 65536
+saved_ip c i = ip_kept c.memory c.registers.mp i
 
 -- where the procedure that this frame keeps is left: its table is the one that the frame names
 abbrev pub saved_exit : Parts → ℕ → ℕ

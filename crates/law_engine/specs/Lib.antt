@@ -19,3 +19,7 @@ pub mod Effects
 pub mod StandardEffects
 pub mod CallEffects
 pub mod StoreLaws
+pub mod WrittenLaws
+pub mod WorkedStretches
+pub mod ReadLaws
+pub mod WorkedReads

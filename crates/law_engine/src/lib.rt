@@ -15,6 +15,7 @@ pub mod opcode;
 pub mod outputs;
 pub mod packed;
 pub mod pointers;
+pub mod reads;
 pub mod rows;
 pub mod shapes;
 pub mod stack;

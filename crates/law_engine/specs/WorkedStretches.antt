@@ -1,0 +1,97 @@
+-- Stretches computed: what small pieces name, worked out by hand. Where no address is told, the stack begins at 0.
+use Rattle.std.specs.Prelude.{◌≡◌, ℕ, pos, true, false, List, [], ◌∷◌, Some, Ok}
+use Rattle.pm_families.specs.declared.families.Byte.TheVariants as byte
+use Rattle.pm_families.specs.declared.families.Field.TheVariants as field
+use Rattle.pm_families.specs.declared.families.Kind.TheVariants as kind
+use Rattle.pm_families.specs.declared.families.Pointer.TheVariants as pointer
+use Rattle.pm_families.specs.declared.families.Relation.TheVariants as relation
+use Rattle.pm_families.specs.declared.families.Set.TheVariants as set
+use Rattle.pm_families.specs.declared.families.Text.TheVariants as text
+use Rattle.pm_families.specs.declared.families.Value.TheVariants as value
+use Rattle.pm_calls.specs.declared.frames.Table.{Table}
+use Rattle.pm_effects.specs.Effects.{words}
+use Rattle.pm_stdproc.specs.declared.procedures.OnMemory.TheVariants as memory
+use Rattle.pm_stdproc.specs.declared.procedures.OnUnits.TheVariants as units
+use Rattle.pm_machine.specs.Written.{frame_stretch, ips_written, kept_written, memory_written, pointer_written}
+use Rattle.pm_machine.specs.Written.{pushes_words, return_written, set_words, stretch, touches, units_written}
+use Rattle.pm_machine.specs.Written.{value_written, word_stretch}
+
+-- a set of one word above a set of two
+abbrev pub two_sets : List ℕ
+two_sets = 1 ∷ 7 ∷ 2 ∷ 7 ∷ 7 ∷ []
+
+-- the table of a procedure with 4 bytes of parameters and 6 of other variables
+abbrev pub table : Table
+table = record { jtab = 0; enter = 0; exit = 0; parameters = 4; locals = 6; level = pos 1 }
+
+-- which words some bytes are of
+pub record WorkedTouches : Type 0 where
+  -- five bytes from 2003 on are of the words at 2002, 2004 and 2006, and not of those at 2000 and 2008
+  pub first : touches 2002 2 (stretch 2003 5) ≡ true
+  pub last : touches 2006 2 (stretch 2003 5) ≡ true
+  pub under : touches 2000 2 (stretch 2003 5) ≡ false
+  pub over : touches 2008 2 (stretch 2003 5) ≡ false
+  -- no bytes are of no word
+  pub none : touches 2002 2 (stretch 2003 0) ≡ false
+
+pub record WorkedRows : Type 0 where
+  -- ADI takes two words at 100 and leaves one, SLDC takes none
+  pub added : pushes_words (words 2 1) [] 100 ≡ stretch 102 2 ∷ []
+  pub constant : pushes_words (words 0 1) [] 100 ≡ stretch 98 2 ∷ []
+  -- STL of the variable at 1000; STO of 9 to it; STM of two words, LDM of three, MOV of three
+  pub variable : word_stretch (Ok 1000) ≡ stretch 1000 2 ∷ []
+  pub stored : pointer_written pointer.Store (9 ∷ 1000 ∷ []) 0 ≡ stretch 1000 2 ∷ []
+  pub two_stored : pointer_written (pointer.StoreWords 2) (7 ∷ 8 ∷ 1000 ∷ []) 0 ≡ stretch 1000 4 ∷ []
+  pub three_loaded : pointer_written (pointer.LoadWords 3) [] 100 ≡ stretch 96 6 ∷ []
+  pub three_moved : pointer_written (pointer.Move 3) (500 ∷ 1000 ∷ []) 0 ≡ stretch 1000 6 ∷ []
+  -- STB of 9 to 2000 + 3, STP of 5 to four bits of the word at 1000, SAS of one character to 1000, IXS
+  pub byte : value_written (value.Byte byte.Store) (9 ∷ 3 ∷ 2000 ∷ []) 0 ≡ stretch 2003 1 ∷ []
+  pub field : value_written (value.Field field.Store) (5 ∷ 0 ∷ 4 ∷ 1000 ∷ []) 0 ≡ stretch 1000 2 ∷ []
+  pub character : value_written (value.Text (text.Assign 80)) (65 ∷ 1000 ∷ []) 0 ≡ stretch 1000 2 ∷ []
+  pub indexed : value_written (value.Text text.Index) (1 ∷ 1000 ∷ []) 0 ≡ []
+  -- UNI, INT and DIF take the five words up to 10, and leave three words there, two, and three; EQUSET leaves one
+  pub union : value_written (value.Set set.Union) two_sets 0 ≡ stretch 4 6 ∷ []
+  pub intersection : value_written (value.Set set.Intersection) two_sets 0 ≡ stretch 6 4 ∷ []
+  pub difference : value_written (value.Set set.Difference) two_sets 0 ≡ stretch 4 6 ∷ []
+  pub compared : value_written (value.Compare relation.Equal kind.Set) two_sets 0 ≡ stretch 8 2 ∷ []
+  -- INN takes the upper set and the word below it; ADJ takes that set, and leaves two words
+  pub member : value_written (value.Set set.Member) two_sets 0 ≡ stretch 4 2 ∷ []
+  pub adjusted : value_written (value.Set (set.Adjust 2)) two_sets 0 ≡ stretch 0 4 ∷ []
+  -- the set of number 40 is a count and three words; so is that from 20 to 40, and that from 40 to 20 a count alone
+  pub singleton : set_words set.Singleton (40 ∷ []) 0 ≡ 4
+  pub subrange : set_words set.Subrange (40 ∷ 20 ∷ []) 0 ≡ 4
+  pub empty : set_words set.Subrange (20 ∷ 40 ∷ []) 0 ≡ 1
+
+pub record WorkedFrames : Type 0 where
+  -- A frame under parameters that end at 104 has 22 bytes, of which 16 are written. That of a base call below 20 bytes
+  -- of code, which end at 100, has the old BASE under its 22 bytes.
+  pub frame : frame_stretch false 0 100 table ≡ stretch 82 16
+  pub base_frame : frame_stretch true 20 100 table ≡ stretch 56 18
+  -- a return of one word from a frame that keeps SP 60
+  pub returned : return_written 1 (0 ∷ 0 ∷ 0 ∷ 0 ∷ 0 ∷ 60 ∷ []) 0 ≡ stretch 58 2 ∷ []
+  -- EXIT that leaves two frames: the one at 0, and its caller's at 20
+  pub ips : ips_written (0 ∷ 20 ∷ []) 0 2 ≡ stretch 28 2 ∷ stretch 8 2 ∷ []
+  -- four bytes of code that are kept, with SP at the number of their slot
+  pub kept : kept_written 100 (Ok (Some (1 ∷ 2 ∷ 3 ∷ 4 ∷ []))) ≡ stretch 98 4 ∷ []
+
+pub record WorkedProcedures : Type 0 where
+  -- NEW of three words and MARK at address 1000, IORESULT, SCAN
+  pub new : memory_written memory.New (3 ∷ 1000 ∷ []) 0 ≡ stretch 1000 2 ∷ []
+  pub mark : memory_written memory.Mark (1000 ∷ []) 0 ≡ stretch 1000 2 ∷ []
+  pub result : memory_written memory.IoResult [] 100 ≡ stretch 98 2 ∷ []
+  pub scan : memory_written memory.Scan [] 100 ≡ stretch 110 2 ∷ []
+  -- MOVELEFT of 5 bytes to 2000 + 3, of no byte, and of -1; FILLCHAR of 5 bytes there
+  pub five : memory_written memory.MoveLeft (5 ∷ 3 ∷ 2000 ∷ []) 0 ≡ stretch 2003 5 ∷ []
+  pub none : memory_written memory.MoveLeft (0 ∷ 3 ∷ 2000 ∷ []) 0 ≡ []
+  pub below_none : memory_written memory.MoveRight (65535 ∷ 3 ∷ 2000 ∷ []) 0 ≡ []
+  pub filled : memory_written memory.Fill (65 ∷ 5 ∷ 3 ∷ 2000 ∷ []) 0 ≡ stretch 2003 5 ∷ []
+  -- UNITREAD of 512 bytes from block 3 of unit 4 to 4000 + 2, UNITBUSY, TIME to 2000 and 1000
+  pub read : units_written units.Read (0 ∷ 3 ∷ 512 ∷ 2 ∷ 4000 ∷ 4 ∷ []) 0 ≡ stretch 4002 512 ∷ []
+  pub busy : units_written units.Busy [] 100 ≡ stretch 100 2 ∷ []
+  pub time : units_written units.Time (1000 ∷ 2000 ∷ []) 0 ≡ stretch 2000 2 ∷ stretch 1000 2 ∷ []
+
+pub record WorkedStretches : Type 0 where
+  pub touches : WorkedTouches
+  pub rows : WorkedRows
+  pub frames : WorkedFrames
+  pub procedures : WorkedProcedures

@@ -1,0 +1,78 @@
+//! What EXIT reads: of the frames that it leaves, and of the tables of their procedures.
+
+ghost use Rattle.std.specs.Prelude.{◌≡◌, ◌∷◌, []};
+ghost use Rattle.pm_machine.specs.ReadStretches.{asked_read, exit_leads, exit_read, frames_read, left_read};
+ghost use Rattle.pm_machine.specs.Written.{stretch};
+ghost use Rattle.pm_access.specs.Writing.{meets};
+
+use crate::stretches::{Bytes, meets, word_at, word_in};
+use crate::written_exits::{Named, left_by_exit};
+use pm_machine::Machine;
+use pm_words::Memory;
+
+// Whether one of the bytes is of the word at an address.
+fn is_of_word_at(bytes: Bytes, address: u16) -> bool
+    ensures word { result ≡ meets bytes (stretch address 2 ∷ []) }
+{
+    meets(bytes, usize::from(address), 2)
+}
+
+// Where the procedure with its table at a place is left.
+fn exit_read(bytes: Bytes, jtab: u16) -> bool
+    ensures read { result ≡ meets bytes (exit_read jtab ∷ []) }
+{
+    is_of_word_at(bytes, jtab.wrapping_sub(4))
+}
+
+// Whether a procedure is the wanted one: its segment's highest word, and its table's.
+fn asked_read(bytes: Bytes, seg: u16, jtab: u16) -> bool
+    ensures read { result ≡ meets bytes (asked_read seg jtab) }
+{
+    is_of_word_at(bytes, seg) || is_of_word_at(bytes, jtab)
+}
+
+// A frame that EXIT leaves: the control words that name its caller, with the words of that.
+fn left_read(bytes: Bytes, memory: &Memory, frame: u16) -> bool
+    ensures read { result ≡ meets bytes (left_read memory.now.words frame) }
+{
+    let (jtab_at, seg_at) = (frame.wrapping_add(4), frame.wrapping_add(6));
+    let (jtab, seg) = (word_at(memory, jtab_at), word_at(memory, seg_at));
+    is_of_word_at(bytes, frame.wrapping_add(2))
+        || is_of_word_at(bytes, jtab_at)
+        || is_of_word_at(bytes, seg_at)
+        || exit_read(bytes, jtab)
+        || asked_read(bytes, seg, jtab)
+}
+
+// The first so many frames from a frame on.
+fn frames_read(bytes: Bytes, memory: &Memory, mp: u16, frames: u16) -> bool
+    ensures read { result ≡ meets bytes (frames_read memory.now.words mp frames) }
+{
+    let mut frame = mp;
+    let mut is_read = false;
+    for _count in 0..frames {
+        is_read = left_read(bytes, memory, frame) || is_read;
+        frame = word_at(memory, frame.wrapping_add(2));
+    }
+    is_read
+}
+
+/// EXIT from the procedure whose number is on the top, and that of its segment below, beside those two words.
+#[tactic(auto, using(crate::proofs::ReadingLaws::meets_both))]
+pub(crate) fn exit_leads(bytes: Bytes, machine: &Machine) -> bool
+    ensures read { result ≡ meets bytes (exit_leads machine.now.state) }
+{
+    let (memory, registers) = (machine.memory(), machine.registers());
+    if exit_read(bytes, registers.jtab) || asked_read(bytes, registers.seg, registers.jtab) {
+        return true;
+    }
+    let top = usize::from(registers.sp);
+    let named = Named {
+        segment: word_in(memory, top + 2),
+        procedure: word_in(memory, top),
+    };
+    match left_by_exit(machine, named) {
+        Ok(frames) => frames_read(bytes, memory, registers.mp, frames),
+        Err(_) => false,
+    }
+}

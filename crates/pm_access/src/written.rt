@@ -1,0 +1,152 @@
+//! Whether the next step writes one of so many bytes of memory.
+
+ghost use Rattle.std.specs.Prelude.{◌≡◌};
+ghost use Rattle.pm_rows.specs.Variables.{frame_of, variable_at};
+ghost use Rattle.pm_calls.specs.Links.{link};
+ghost use Rattle.pm_machine.specs.Written.{operation_written, pointer_written, return_written, variable_written};
+ghost use Rattle.pm_machine.specs.Written.{word_stretch, writes};
+ghost use Rattle.pm_machine.specs.Procedures.{words_of_return};
+ghost use Rattle.pm_access.specs.Writing.{meets};
+
+use crate::stretches::{Bytes, leaves_words, meets, word_in};
+use crate::written_calls::call_written;
+use crate::written_procedures::procedure_written;
+use crate::written_values::value_written;
+use pm_calls::Registers;
+use pm_families::{Pointer, Return, Scope, Variable};
+use pm_machine::Machine;
+use pm_opcode::{Operation, decode};
+use pm_words::stack::load;
+use pm_words::{ExecError, Memory};
+
+// The frame so many static links up from a frame.
+fn link(memory: &Memory, mp: u16, links: u8) -> Result<u16, ExecError>
+    ensures frame { result ≡ link memory.now.words mp links }
+{
+    if links > 127 {
+        return Err(ExecError::NoSegment);
+    }
+    let mut frame = mp;
+    for _count in 0..links {
+        frame = load(memory, frame)?;
+    }
+    Ok(frame)
+}
+
+// The frame that a variable stands in.
+fn frame_of(scope: Scope, memory: &Memory, registers: Registers) -> Result<u16, ExecError>
+    ensures frame { result ≡ frame_of scope memory.now.words registers }
+{
+    match scope {
+        Scope::Global => Ok(registers.base),
+        Scope::Local => Ok(registers.mp),
+        Scope::Intermediate(links) => link(memory, registers.mp, links),
+    }
+}
+
+/// Whether one of the bytes is of variable `number` of a scope.
+pub(crate) fn is_of_variable(
+    bytes: Bytes,
+    scope: Scope,
+    number: u16,
+    memory: &Memory,
+    registers: Registers,
+) -> bool
+    ensures variable { result ≡ meets bytes
+        (word_stretch (variable_at scope number memory.now.words registers)) }
+{
+    match frame_of(scope, memory, registers) {
+        Ok(frame) => {
+            let place = frame.wrapping_add(10).wrapping_add(number.wrapping_mul(2));
+            meets(bytes, usize::from(place), 2)
+        }
+        Err(_) => false,
+    }
+}
+
+// An operation on a variable of a frame.
+fn variable_written(bytes: Bytes, what: Variable, machine: &Machine) -> bool
+    ensures written { result ≡ meets bytes (variable_written what machine.now.state) }
+{
+    let (memory, registers) = (machine.memory(), machine.registers());
+    match what {
+        Variable::Store(scope, number) => is_of_variable(bytes, scope, number, memory, registers),
+        Variable::Address(_, _) | Variable::Load(_, _) => {
+            leaves_words(bytes, Operation::Variable(what), memory, registers.sp)
+        }
+    }
+}
+
+// An operation on an address that is on the stack.
+fn pointer_written(bytes: Bytes, what: Pointer, memory: &Memory, sp: u16) -> bool
+    ensures written { result ≡ meets bytes (pointer_written what memory.now.words sp) }
+{
+    let top = usize::from(sp);
+    match what {
+        Pointer::Store => meets(bytes, usize::from(word_in(memory, top + 2)), 2),
+        Pointer::StoreWords(n) => {
+            let words = 2 * usize::from(n);
+            meets(bytes, usize::from(word_in(memory, top + words)), words)
+        }
+        Pointer::Move(n) => {
+            let to = usize::from(word_in(memory, top + 2));
+            meets(bytes, to, 2 * usize::from(n))
+        }
+        _ => leaves_words(bytes, Operation::Pointer(what), memory, sp),
+    }
+}
+
+/// How many words of a result a return takes along.
+pub(crate) fn words_of_return(what: Return) -> u8
+    ensures words { result ≡ words_of_return what }
+{
+    match what {
+        Return::Normal(words) | Return::Base(words) => words,
+    }
+}
+
+// A return with so many words.
+fn return_written(bytes: Bytes, words: u8, memory: &Memory, mp: u16) -> bool
+    ensures written { result ≡ meets bytes (return_written words memory.now.words mp) }
+{
+    let words = 2 * usize::from(words);
+    let above = usize::from(word_in(memory, usize::from(mp) + 10));
+    meets(bytes, above.saturating_sub(words), words)
+}
+
+// What an operation writes.
+fn operation_written(bytes: Bytes, what: Operation, machine: &Machine) -> bool
+    ensures written { result ≡ meets bytes (operation_written what machine.now.state) }
+{
+    let (memory, registers) = (machine.memory(), machine.registers());
+    let sp = registers.sp;
+    match what {
+        Operation::Arithmetic(_) | Operation::Literal(_) => leaves_words(bytes, what, memory, sp),
+        Operation::Variable(what) => variable_written(bytes, what, machine),
+        Operation::Pointer(what) => pointer_written(bytes, what, memory, sp),
+        Operation::Value(what) => value_written(bytes, what, memory, sp),
+        Operation::Call(what) => call_written(bytes, what, machine),
+        Operation::Return(what) => return_written(
+            bytes,
+            words_of_return(what),
+            memory,
+            registers.mp,
+        ),
+        Operation::Standard(number) => procedure_written(bytes, number, machine),
+        Operation::Jump(_) | Operation::Nothing | Operation::End | Operation::Unimplemented =>
+            false,
+    }
+}
+
+/// Whether the instruction at IPC writes one of so many bytes from an address on.
+#[tactic(auto, unfolding(pm_machine::specs::Written::written, pm_machine::specs::Rows::fetched))]
+pub fn writes(machine: &Machine, address: u16, count: u32) -> bool
+    ensures writes { result ≡ writes address count machine.now.state }
+{
+    let bytes = Bytes { address, count };
+    let ipc = usize::from(machine.registers().ipc);
+    match decode(machine.memory().bytes(), ipc) {
+        Ok(instr) => operation_written(bytes, Operation::of(&instr), machine),
+        Err(_) => false,
+    }
+}

@@ -1,0 +1,110 @@
+//! What the standard procedures write.
+
+ghost use Rattle.std.specs.Prelude.{◌≡◌};
+ghost use Rattle.pm_stdproc.specs.Loads.{slot_code};
+ghost use Rattle.pm_stdproc.specs.Procedures.{procedure_numbered};
+ghost use Rattle.pm_words.specs.Words.{word_at};
+ghost use Rattle.pm_machine.specs.Written.{counted_stretch, kept_written, memory_written, procedure_written};
+ghost use Rattle.pm_machine.specs.Written.{units_written};
+ghost use Rattle.pm_access.specs.Writing.{meets, transfer_of};
+
+use crate::stretches::{Bytes, meets, place_on_stack, pushes_words, word_in, words};
+use crate::written_exits::exit_written;
+use pm_machine::Machine;
+use pm_stdproc::{OnMemory, OnUnits, Procedure, procedure_of};
+use pm_words::stack::pop;
+use pm_words::{ExecError, Memory};
+
+/// So many bytes from a place on, where the count is above 0 as a signed number.
+pub(crate) fn is_counted(bytes: Bytes, place: u16, count: u16) -> bool
+    ensures counted { result ≡ meets bytes (counted_stretch place count) }
+{
+    0 < count && count < 32768 && meets(bytes, usize::from(place), usize::from(count))
+}
+
+// A procedure on the memory.
+fn memory_written(bytes: Bytes, what: OnMemory, memory: &Memory, sp: u16) -> bool
+    ensures written { result ≡ meets bytes (memory_written what memory.now.words sp) }
+{
+    let top = usize::from(sp);
+    match what {
+        OnMemory::New => meets(bytes, usize::from(word_in(memory, top + 2)), 2),
+        OnMemory::MoveLeft | OnMemory::MoveRight => {
+            let count = word_in(memory, top);
+            is_counted(bytes, place_on_stack(memory, top + 2), count)
+        }
+        OnMemory::Fill => {
+            let count = word_in(memory, top + 2);
+            is_counted(bytes, place_on_stack(memory, top + 4), count)
+        }
+        OnMemory::Scan => pushes_words(bytes, words(6, 1), memory, sp),
+        OnMemory::Mark => meets(bytes, usize::from(word_in(memory, top)), 2),
+        OnMemory::IoResult | OnMemory::FreeMemory => {
+            pushes_words(bytes, words(0, 1), memory, sp)
+        }
+        OnMemory::CheckIo | OnMemory::Release | OnMemory::Halt => false,
+    }
+}
+
+/// The place and the count of a transfer.
+#[tactic(auto, unfolding(pm_stdproc::specs::UnitRows::ordered))]
+pub(crate) fn transfer_of(memory: &Memory, sp: u16) -> Result<(u16, u16), ExecError>
+    ensures transfer { result ≡ transfer_of memory.now.words sp }
+{
+    let mode = pop(memory, sp)?;
+    let block = pop(memory, mode.above)?;
+    let count = pop(memory, block.above)?;
+    let index = pop(memory, count.above)?;
+    let base = pop(memory, index.above)?;
+    let _unit = pop(memory, base.above)?;
+    let place = base.word.wrapping_add(index.word);
+    if u32::from(place) + u32::from(count.word) > 65536 {
+        return Err(ExecError::InvalidMemory);
+    }
+    Ok((place, count.word))
+}
+
+// A procedure on the units or the clock.
+fn units_written(bytes: Bytes, what: OnUnits, memory: &Memory, sp: u16) -> bool
+    ensures written { result ≡ meets bytes (units_written what memory.now.words sp) }
+{
+    let top = usize::from(sp);
+    match what {
+        OnUnits::Read => match transfer_of(memory, sp) {
+            Ok((place, count)) => meets(bytes, usize::from(place), usize::from(count)),
+            Err(_) => false,
+        },
+        OnUnits::Time => {
+            meets(bytes, usize::from(word_in(memory, top + 2)), 2)
+                || meets(bytes, usize::from(word_in(memory, top)), 2)
+        }
+        OnUnits::Busy => pushes_words(bytes, words(1, 1), memory, sp),
+        OnUnits::Write | OnUnits::Wait | OnUnits::Clear => false,
+    }
+}
+
+// The load of a segment that the program keeps, by the number of its slot.
+fn kept_written(bytes: Bytes, slot: u16, machine: &Machine) -> bool
+    ensures written { result ≡ meets bytes (kept_written machine.now.state.registers.sp
+        (slot_code slot machine.now.state.places machine.now.state.rows machine.now.state.devices)) }
+{
+    let end = usize::from(machine.registers().sp) + 2;
+    match machine.code_wanted(slot) {
+        Ok(Some(code)) => meets(bytes, end.saturating_sub(code.len()), code.len()),
+        Ok(None) | Err(_) => false,
+    }
+}
+
+/// The standard procedure of a number.
+pub(crate) fn procedure_written(bytes: Bytes, number: u8, machine: &Machine) -> bool
+    ensures written { result ≡ meets bytes (procedure_written (procedure_numbered number) machine.now.state) }
+{
+    let (memory, sp) = (machine.memory(), machine.registers().sp);
+    match procedure_of(number) {
+        Procedure::OnMemory(what) => memory_written(bytes, what, memory, sp),
+        Procedure::OnUnits(what) => units_written(bytes, what, memory, sp),
+        Procedure::Exit => exit_written(bytes, machine),
+        Procedure::Keep => kept_written(bytes, word_in(memory, usize::from(sp)), machine),
+        Procedure::Unkeep | Procedure::Unimplemented => false,
+    }
+}
